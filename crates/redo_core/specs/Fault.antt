@@ -1,0 +1,39 @@
+-- The fault of a log that is not sound: the least place that breaks a law, with the least law that it breaks.
+use Rattle.std.specs.Prelude.{◌≡◌, ℕ, ◌<◌, List, [], ◌∷◌, take, slice_get, Some}
+use Rattle.std.specs.List.{AllByRecursion}
+use Rattle.redo_core.specs.Sound.{Law1, Law2, Law3, Law4, Law5, KeepsLaws}
+use Rattle.redo_core.specs.declared.facts.Fact.{Fact}
+use Rattle.redo_core.specs.declared.laws.Law.{Law}
+use Rattle.redo_core.specs.declared.laws.Law.TheVariants.{OneFactPerKey, EpochBegun, SegmentBacklink, BlockBacklink, AdvanceKept}
+
+-- the fact at a place (from 0) keeps a law
+abbrev pub KeepsLaw : List Fact → ℕ → Fact → Law → Type 0
+KeepsLaw log place fact OneFactPerKey = Law1 (take place log) fact
+KeepsLaw log place fact EpochBegun = Law2 log fact
+KeepsLaw log place fact SegmentBacklink = Law3 log fact
+KeepsLaw log place fact BlockBacklink = Law4 log fact
+KeepsLaw log place fact AdvanceKept = Law5 log fact
+
+-- the laws of lower numbers
+abbrev pub lower_laws : Law → List Law
+lower_laws OneFactPerKey = []
+lower_laws EpochBegun = OneFactPerKey ∷ []
+lower_laws SegmentBacklink = OneFactPerKey ∷ EpochBegun ∷ []
+lower_laws BlockBacklink = OneFactPerKey ∷ EpochBegun ∷ SegmentBacklink ∷ []
+lower_laws AdvanceKept = OneFactPerKey ∷ EpochBegun ∷ SegmentBacklink ∷ BlockBacklink ∷ []
+
+-- the number by which a law is reported
+abbrev pub number_of : Law → ℕ
+number_of OneFactPerKey = 1
+number_of EpochBegun = 2
+number_of SegmentBacklink = 3
+number_of BlockBacklink = 4
+number_of AdvanceKept = 5
+
+-- the place (from 0) is the least that breaks a law, and the law is the least that it breaks
+pub record IsFirstFault (log : List Fact) (place : ℕ) (law : Law) : Type 0 where
+  pub fact : Fact
+  pub at_place : slice_get log place ≡ Some fact
+  pub breaks : KeepsLaw log place fact law → ⊥
+  pub lower : AllByRecursion (KeepsLaw log place fact) (lower_laws law)
+  pub before : (earlier : ℕ) (f : Fact) → earlier < place → slice_get log earlier ≡ Some f → KeepsLaws log earlier f

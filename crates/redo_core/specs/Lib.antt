@@ -1,0 +1,16 @@
+pub mod Data
+pub mod Shape
+pub mod Writing
+pub mod Sets
+pub mod Order
+pub mod CompleteEpoch
+pub mod Standing
+pub mod Linked
+pub mod Position
+pub mod PageAt
+pub mod Answer
+pub mod Sound
+pub mod Fault
+pub mod Meaning
+pub mod AtMost
+pub mod LogFront

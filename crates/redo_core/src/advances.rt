@@ -1,0 +1,62 @@
+ghost use Rattle.std.specs.Prelude.{◌≡◌, ◌<◌, ◌≤◌, IfOk, None};
+ghost use Rattle.std.specs.Result.{result_err};
+ghost use Rattle.redo_core.specs.Data.{advance_of};
+ghost use Rattle.redo_core.specs.Shape.{advance_fault, max_number};
+
+use crate::shapes::{MAX_NUMBER, ShapeFault};
+use std::marker::Model;
+
+/// An advance of the minimum read point: nothing below `point` is read any more.
+#[derive(Clone, Copy, Debug, PartialEq, Eq)]
+pub struct Advance {
+    epoch: u16,
+    point: u64,
+}
+
+impl Model for Advance {
+    ghost use Rattle.std.specs.Prelude.{◌≡◌, None};
+    ghost use Rattle.redo_core.specs.Data.{AdvanceData, advance_of};
+    ghost use Rattle.redo_core.specs.Shape.{advance_fault};
+
+    ghost Value = { AdvanceData };
+
+    ghost view = { λ a. record { epoch = a.epoch; point = a.point } };
+
+    ghost inverse = { λ a. record { epoch = a.epoch; point = a.point } };
+
+    ghost invariant = { λ a. advance_fault (advance_of a.epoch a.point) ≡ None };
+}
+
+impl Advance {
+    /// An advance, or the first fault of its shape.
+    pub fn new(epoch: u16, point: u64) -> Result<Self, ShapeFault>
+        ensures ok { IfOk result (λ a. a ≡ advance_of epoch point) }
+        ensures fault { result_err result ≡ advance_fault (advance_of epoch point) }
+    {
+        if point == 0 {
+            return Err(ShapeFault::NumberIsZero);
+        }
+        if point > MAX_NUMBER {
+            return Err(ShapeFault::TooLarge);
+        }
+        Ok(Advance { epoch, point })
+    }
+
+    /// The writer's epoch when it was made.
+    pub fn epoch(&self) -> u16
+        ensures value { result ≡ self.now.epoch }
+        ensures shape { advance_fault self.now ≡ None }
+    {
+        self.epoch
+    }
+
+    /// The point, from 1 to 2^48 - 1.
+    pub fn point(&self) -> u64
+        ensures value { result ≡ self.now.point }
+        ensures positive { 0 < result }
+        ensures bound { result ≤ max_number }
+        ensures shape { advance_fault self.now ≡ None }
+    {
+        self.point
+    }
+}

@@ -1,0 +1,39 @@
+ghost use Rattle.std.specs.Prelude.{◌≡◌};
+ghost use Rattle.redo_core.specs.Fault.{number_of};
+
+/// The five laws of a sound log, in the order in which they are looked at.
+#[derive(Clone, Copy, Debug, PartialEq, Eq)]
+pub enum Law {
+    /// Different facts have different keys.
+    OneFactPerKey,
+    /// A record's epoch has begun, and its number is above the epoch's `hi`.
+    EpochBegun,
+    /// The segment backlink is the greatest number below the record's own that is alive in its epoch.
+    SegmentBacklink,
+    /// The block backlink is the same over the records of its page.
+    BlockBacklink,
+    /// An advance's epoch has begun, and no later truncation cuts below its point.
+    AdvanceKept,
+}
+
+impl Law {
+    /// The number by which the law is reported: 1 to 5.
+    pub fn number(self) -> u8
+        ensures { result ≡ number_of self }
+    {
+        match self {
+            Law::OneFactPerKey => 1,
+            Law::EpochBegun => 2,
+            Law::SegmentBacklink => 3,
+            Law::BlockBacklink => 4,
+            Law::AdvanceKept => 5,
+        }
+    }
+}
+
+/// The least place of a log (from 1) that breaks a law, with the least law that it breaks.
+#[derive(Clone, Copy, Debug, PartialEq, Eq)]
+pub struct LawFault {
+    pub law: Law,
+    pub place: u64,
+}

@@ -1,0 +1,6 @@
+/// What a refused call hands back: the value that was moved into it, and why it was refused.
+#[derive(Debug, Drop)]
+pub struct Refused<V, F> {
+    pub value: V,
+    pub fault: F,
+}

@@ -1,0 +1,58 @@
+ghost use Rattle.std.specs.Prelude.{◌≡◌, ◌↔◌, IsTrue, IfOk};
+ghost use Rattle.std.specs.Prelude.{map};
+
+use std::alloc::AllocError;
+use std::marker::Model;
+
+/// Bytes that a redo record puts into its page, from an offset on.
+#[derive(Debug, Drop)]
+pub struct Write {
+    offset: u16,
+    bytes: Vec<u8>,
+}
+
+impl Model for Write {
+    ghost use Rattle.redo_core.specs.Data.{WriteData};
+
+    ghost Value = { WriteData };
+
+    ghost view = { λ w. record { offset = w.offset; bytes = w.bytes.items } };
+}
+
+impl Write {
+    /// A write of `bytes` from `offset` on. Whether it fits its page is the record's matter.
+    pub fn new(offset: u16, bytes: Vec<u8>) -> Self
+        ensures { result ≡ record { offset = offset; bytes = bytes.items } }
+    {
+        Write { offset, bytes }
+    }
+
+    /// The place in the page of the first byte.
+    pub fn offset(&self) -> u16
+        ensures { result ≡ self.now.offset }
+    {
+        self.offset
+    }
+
+    pub fn bytes(&self) -> &[u8]
+        ensures { result.now ≡ self.now.bytes }
+    {
+        &self.bytes
+    }
+
+    /// An equal write with memory of its own. Its only error is want of memory.
+    pub fn copy(&self) -> Result<Self, AllocError>
+        ensures { IfOk result (λ w. w ≡ self.now) }
+    {
+        Ok(Write {
+            offset: self.offset,
+            bytes: self.bytes.clone()?,
+        })
+    }
+
+    pub fn is_same(&self, other: &Write) -> bool
+        ensures { IsTrue result ↔ (self.now ≡ other.now) }
+    {
+        self.offset == other.offset && self.bytes == other.bytes
+    }
+}
