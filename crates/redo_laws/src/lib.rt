@@ -1,1 +1,88 @@
+//! The laws of what sets of facts mean, over the definitions alone: each is a function with an empty body, and its contract is
+//! the law.
+//!
+//! A part of a sound log knows its own prefix of the log (prefix), what it knows up to its anchor is final (finality), and a
+//! meaning stands for its part in every union, order and answer (congruence, order by parts, least upper bound, answers).
+//! A quorum's place is kept by every union that meets it (overlap). The other laws say that the definitions are well formed.
 #![tactic(auto)]
+
+ghost use Rattle.redo_laws.specs.OrderOfMeanings.{Congruence, OrderByParts, LeastUpperBound, Associativity, Commutativity, Idempotence};
+ghost use Rattle.redo_laws.specs.Overlap.{Overlap};
+ghost use Rattle.redo_laws.specs.Parts.{Prefix, Finality};
+ghost use Rattle.redo_laws.specs.Sample.{SampleIsSound};
+ghost use Rattle.redo_laws.specs.WellFormed.{OnePosition, OnePage, OneMeaning, OnlyMembersCount, Answers};
+
+/// Up to a linked number, a part of a sound log has every record of the log that is alive in the part's view.
+pub fn prefix()
+    ensures { Prefix }
+{}
+
+/// What is linked up to the anchor stays so in every larger part of the log, and the anchor never falls.
+pub fn finality()
+    ensures { Finality }
+{}
+
+/// Two parts of one meaning have one meaning after a union with the same facts.
+pub fn congruence()
+    ensures { Congruence }
+{}
+
+/// One meaning covers another exactly where it means a part of the log that holds a part of the other meaning.
+pub fn order_by_parts()
+    ensures { OrderByParts }
+{}
+
+/// The meaning of a union is the least meaning that is at or above both.
+pub fn least_upper_bound()
+    ensures { LeastUpperBound }
+{}
+
+/// The meaning of a union does not depend on how its parts are grouped.
+pub fn associativity()
+    ensures { Associativity }
+{}
+
+/// The meaning of a union does not depend on the order of its parts.
+pub fn commutativity()
+    ensures { Commutativity }
+{}
+
+/// A union of a set of facts with itself means what the set means.
+pub fn idempotence()
+    ensures { Idempotence }
+{}
+
+/// A meaning fixes the position and every page of each part that has it.
+pub fn answers()
+    ensures { Answers }
+{}
+
+/// Each part of a sound log has one meaning.
+pub fn one_meaning()
+    ensures { OneMeaning }
+{}
+
+/// Each part of a sound log has one complete epoch, complete point, minimum read point and anchor.
+pub fn one_position()
+    ensures { OnePosition }
+{}
+
+/// In a view whose truncations are known, each page has one image at each point.
+pub fn one_page()
+    ensures { OnePage }
+{}
+
+/// Order and repetition of facts do not matter: lists of the same facts have the same positions, pages and meanings.
+pub fn only_members_count()
+    ensures { OnlyMembersCount }
+{}
+
+/// Where a quorum of parts has reached a place, so has the union of every choice of parts that is sure to meet the quorum.
+pub fn overlap()
+    ensures { Overlap }
+{}
+
+/// A log with a fact of each kind is sound, so the laws are not empty.
+pub fn sample_is_sound()
+    ensures { SampleIsSound }
+{}

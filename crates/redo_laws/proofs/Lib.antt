@@ -1,0 +1,12 @@
+pub mod Members
+pub mod Numbers
+pub mod Log
+pub mod Views
+pub mod Deciding
+pub mod Fronts
+pub mod Meanings
+pub mod Alike
+pub mod SameSets
+pub mod Union
+pub mod Quorum
+pub mod Sampled

@@ -1,0 +1,80 @@
+-- The small log is sound.
+use Rattle.std.proofs.Common.{◌≡◌, zero, suc, ◌<◌, inl, ⊎_elim, [], ◌∷◌, refl, sym, ap, subst, arith}
+use Rattle.std.specs.List.{Contains}
+use Rattle.redo_core.specs.Data.{RecordData, CutData, AdvanceData}
+use Rattle.redo_core.specs.Sets.{records, cuts}
+use Rattle.redo_core.specs.Sound.{IsSound, KeepsLaws, SameKey, counted}
+use Rattle.redo_core.specs.declared.facts.Fact.{Fact}
+use Rattle.redo_core.specs.declared.facts.Fact.TheVariants.{Record, Cut, Advance}
+use Rattle.redo_laws.specs.Sample.{sample}
+use Rattle.redo_laws.proofs.Members.{none_in, which}
+
+r0 : RecordData
+r0 = record { epoch = 0; number = 3; back = 0; page = 7; block_back = 0; writes = [] }
+
+one_cut : (c : CutData) → Contains (counted sample) c → (c.epoch ≡ 1) × (c.lo ≡ 5) × (c.hi ≡ 20)
+unfolding counted cuts
+one_cut c h = ⊎_elim (λ e. (ap (λ x. x.epoch) (sym e), ap (λ x. x.lo) (sym e), ap (λ x. x.hi) (sym e))) (λ x. absurd (none_in c x)) (which _ [] c h)
+
+one_record : (r : RecordData) → Contains (records sample) r → r.number ≡ 3
+unfolding records
+one_record r h = ⊎_elim (λ e. ap (λ x. x.number) (sym e)) (λ x. absurd (none_in r x)) (which _ [] r h)
+
+first : KeepsLaws sample 0 (Record r0)
+unfolding r0
+first = record {
+  shape = refl;
+  law1 = λ f h k. absurd (none_in f h);
+  law2 = (λ e l m. absurd (omega arith), λ c h e. let x = (one_cut c h).0 in absurd (omega arith));
+  law3 = (inl refl, λ m h. let a : h.other.number ≡ 3 = one_record h.other h.among in let b : h.other.number ≡ m = h.number in let c : m < 3 = h.below in absurd (omega arith));
+  law4 = (inl refl, λ m h. let a : h.other.number ≡ 3 = one_record h.other h.among in let b : h.other.number ≡ m = h.number in let c : m < 3 = h.below in absurd (omega arith));
+  law5 = tt;
+}
+
+no_key_advance : (f : Fact) (a : AdvanceData) → SameKey f (Advance a) → ⊥
+no_key_advance (Record r) a k = k
+no_key_advance (Cut c) a k = k
+no_key_advance (Advance b) a k = k
+
+second : KeepsLaws sample 1 (Advance (record { epoch = 0; point = 3 }))
+second = record {
+  shape = refl;
+  law1 = λ f h k. absurd (no_key_advance f _ k);
+  law2 = tt;
+  law3 = tt;
+  law4 = tt;
+  law5 = (λ e l m. absurd (omega arith), λ c h lt. let x = (one_cut c h).1 in omega arith);
+}
+
+no_key_first : (f : Fact) (c : CutData) → f ≡ Record r0 → SameKey f (Cut c) → ⊥
+no_key_first f c e k = let t : SameKey (Record r0) (Cut c) = subst (λ x. SameKey x (Cut c)) e k in t
+
+no_key_second : (f : Fact) (a : AdvanceData) (c : CutData) → f ≡ Advance a → SameKey f (Cut c) → ⊥
+no_key_second f a c e k = let t : SameKey (Advance a) (Cut c) = subst (λ x. SameKey x (Cut c)) e k in t
+
+third : KeepsLaws sample 2 (Cut (record { epoch = 1; lo = 5; hi = 20 }))
+unfolding r0
+third =
+    let a : AdvanceData = record { epoch = 0; point = 3 } in
+    let c : CutData = record { epoch = 1; lo = 5; hi = 20 } in
+    record {
+      shape = refl;
+      law1 = λ f h k. ⊎_elim
+          (λ (e : Record r0 ≡ f). absurd (no_key_first f c (sym e) k))
+          (λ (h2 : Contains (Advance a ∷ []) f). ⊎_elim
+          (λ (e : Advance a ≡ f). absurd (no_key_second f a c (sym e) k))
+          (λ (x : Contains [] f). absurd (none_in f x))
+          (which (Advance a) [] f h2))
+          (which (Record r0) (Advance a ∷ []) f h);
+      law2 = tt;
+      law3 = tt;
+      law4 = tt;
+      law5 = tt;
+    }
+
+pub sample_sound : IsSound sample
+unfolding r0
+sample_sound zero fact e = let q : Record r0 ≡ fact = cc in subst (KeepsLaws sample 0) q first
+sample_sound (suc zero) fact e = let q : Advance (record { epoch = 0; point = 3 }) ≡ fact = cc in subst (KeepsLaws sample 1) q second
+sample_sound (suc (suc zero)) fact e = let q : Cut (record { epoch = 1; lo = 5; hi = 20 }) ≡ fact = cc in subst (KeepsLaws sample 2) q third
+sample_sound (suc (suc (suc n))) fact e = absurd (cc)

@@ -1,0 +1,5 @@
+use Rattle.redo_laws.proofs.SameSets.{same_meanings, twice}
+use Rattle.redo_laws.proofs.idempotence.Goals as goal
+
+pub returns : goal.returns
+returns c = λ x m. same_meanings _ _ m (twice x)

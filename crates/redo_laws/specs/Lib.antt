@@ -1,0 +1,5 @@
+pub mod Parts
+pub mod OrderOfMeanings
+pub mod WellFormed
+pub mod Overlap
+pub mod Sample

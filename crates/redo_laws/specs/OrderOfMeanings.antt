@@ -1,0 +1,56 @@
+-- Meanings of the parts of one log: unions, the order, least upper bounds.
+use Rattle.std.specs.Prelude.{ℕ, ◌≤◌, ◌⊎◌, ◌↔◌, List, ◌++◌}
+use Rattle.std.specs.List.{Contains}
+use Rattle.redo_core.specs.Data.{RecordData, AdvanceData}
+use Rattle.redo_core.specs.Sets.{IsPart}
+use Rattle.redo_core.specs.Standing.{IsDead}
+use Rattle.redo_core.specs.CompleteEpoch.{IsCompleteEpoch}
+use Rattle.redo_core.specs.Sound.{IsSound}
+use Rattle.redo_core.specs.Meaning.{Meaning, IsMeaning}
+use Rattle.redo_core.specs.AtMost.{IsAtMost}
+use Rattle.redo_core.specs.declared.facts.Fact.{Fact}
+
+-- Parts of one meaning have one meaning after a union with the same part.
+abbrev pub Congruence : Type 0
+Congruence =
+    (log part other more : List Fact) (m u : Meaning)
+    → IsSound log → IsPart part log → IsPart other log → IsPart more log
+    → IsMeaning part m → IsMeaning other m → IsMeaning (part ++ more) u → IsMeaning (other ++ more) u
+
+-- Meaning y covers meaning x, where k is y's complete epoch: it has all of x that is neither dead nor settled in y.
+pub record CoversAt (k : ℕ) (y x : Meaning) : Type 0 where
+  pub epoch : IsCompleteEpoch y.cuts k
+  pub cuts : IsPart x.cuts y.cuts
+  pub min : x.min ≤ y.min
+  pub waits : (a : AdvanceData) → Contains x.waits a → Contains y.waits a ⊎ ((a.epoch ≤ k) × (a.point ≤ y.min))
+  pub anchor : x.anchor ≤ y.anchor
+  pub kept : (r : RecordData) → Contains x.kept r → Contains y.kept r ⊎ (IsDead y.cuts k r.epoch r.number ⊎ ((r.number ≤ y.anchor) × (r.epoch ≤ k)))
+
+abbrev pub Covers : Meaning → Meaning → Type 0
+Covers y x = (k : ℕ) × CoversAt k y x
+
+-- Meanings, compared by themselves, are in the order of parts of the log.
+abbrev pub OrderByParts : Type 0
+OrderByParts =
+    (log part other : List Fact) (x y : Meaning)
+    → IsSound log → IsPart part log → IsPart other log → IsMeaning part x → IsMeaning other y
+    → Covers y x ↔ IsAtMost log x y
+
+-- The meaning of a union is the least that is above both.
+abbrev pub LeastUpperBound : Type 0
+LeastUpperBound =
+    (log part other : List Fact) (x y u : Meaning)
+    → IsSound log → IsPart part log → IsPart other log → IsMeaning part x → IsMeaning other y → IsMeaning (part ++ other) u
+    → IsAtMost log x u × IsAtMost log y u × ((z : Meaning) → IsAtMost log x z → IsAtMost log y z → IsAtMost log u z)
+
+-- A union's meaning does not depend on how its parts are grouped.
+abbrev pub Associativity : Type 0
+Associativity = (x y z : List Fact) (m : Meaning) → IsMeaning ((x ++ y) ++ z) m ↔ IsMeaning (x ++ (y ++ z)) m
+
+-- Nor on their order.
+abbrev pub Commutativity : Type 0
+Commutativity = (x y : List Fact) (m : Meaning) → IsMeaning (x ++ y) m ↔ IsMeaning (y ++ x) m
+
+-- Nor on how often each is taken.
+abbrev pub Idempotence : Type 0
+Idempotence = (x : List Fact) (m : Meaning) → IsMeaning (x ++ x) m ↔ IsMeaning x m

@@ -1,0 +1,24 @@
+-- What a part of a sound log knows of it.
+use Rattle.std.specs.Prelude.{ℕ, ◌≤◌, ◌↔◌, List}
+use Rattle.std.specs.List.{Contains}
+use Rattle.redo_core.specs.Data.{RecordData}
+use Rattle.redo_core.specs.Sets.{IsPart, records, cuts}
+use Rattle.redo_core.specs.Standing.{IsAlive}
+use Rattle.redo_core.specs.Linked.{IsLinked, IsLinkedRecord}
+use Rattle.redo_core.specs.Position.{Position, IsPosition}
+use Rattle.redo_core.specs.Sound.{IsSound}
+use Rattle.redo_core.specs.declared.facts.Fact.{Fact}
+
+-- Up to a linked number, the linked records of a part are the log's records that are alive in the part's view.
+abbrev pub Prefix : Type 0
+Prefix =
+    (log part : List Fact) (p : Position) (n : ℕ) (r : RecordData)
+    → IsSound log → IsPart part log → IsPosition part p → IsLinked part p.epoch n → r.number ≤ n
+    → IsLinkedRecord part p.epoch r ↔ (Contains (records log) r × IsAlive (cuts log) p.epoch r.epoch r.number)
+
+-- What is linked at or below the anchor of a part is so in every larger part, and the anchor never falls.
+abbrev pub Finality : Type 0
+Finality =
+    (log part larger : List Fact) (p q : Position)
+    → IsSound log → IsPart part larger → IsPart larger log → IsPosition part p → IsPosition larger q
+    → (p.anchor ≤ q.anchor) × ((r : RecordData) → r.number ≤ p.anchor → IsLinkedRecord part p.epoch r ↔ IsLinkedRecord larger q.epoch r)
