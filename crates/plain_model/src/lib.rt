@@ -1,1 +1,18 @@
+//! The plain model: a slow program for what a list of facts means, without state, index or order of arrival.
+//!
+//! Each call takes what its definition takes and computes it by looking through the facts: the complete epoch, standings,
+//! linked numbers, the complete point, the minimum read point, the anchor and pages, and the first fault of a log.
+//! It holds for every list of facts, sound or not. Faster programs are compared with it.
 #![tactic(auto)]
+
+mod epochs;
+mod links;
+mod points;
+mod standings;
+mod views;
+
+pub use epochs::complete_epoch;
+pub use links::{anchor, complete_point, is_linked};
+pub use points::min_point;
+pub use standings::{is_alive, standing};
+pub use views::Standing;

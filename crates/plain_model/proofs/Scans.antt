@@ -1,0 +1,76 @@
+-- Scans of a list of facts.
+use Rattle.std.proofs.Common.{◌≡◌, ◌≢◌, ℕ, zero, suc, ◌+◌, ◌<◌, ◌≤◌, ◌⊎◌, ◌↔◌, inl, inr, ⊎_elim, List, [], ◌∷◌, length, get_or, take, refl, sym, ap, ◌∙◌, subst, arith}
+use Rattle.std.specs.List.{Contains, All}
+use Rattle.std.proofs.lemmas.List.Elements.{All-contains, All-more}
+use Rattle.redo_core.specs.Data.{RecordData, CutData, AdvanceData}
+use Rattle.redo_core.specs.Sets.{records, cuts, advances}
+use Rattle.redo_core.specs.Order.{IsGreatest}
+use Rattle.redo_core.specs.CompleteEpoch.{HasCutsTo, IsCompleteEpoch}
+use Rattle.redo_core.specs.Position.{HasAdvance}
+use Rattle.redo_core.specs.declared.facts.Fact.{Fact}
+use Rattle.redo_core.specs.declared.facts.Fact.TheVariants.{Record, Cut, Advance}
+use Rattle.plain_model.proofs.Members.{record_in, cut_in, advance_in}
+use Rattle.plain_model.specs.Scanned.{HasCut, IsOther, IsUpTo}
+
+-- the element at an index
+pub item : (facts : List Fact) (i : ℕ) (f : Fact) → i < length facts → f ≡ get_or facts i f → Contains facts f
+item facts i f l e = (i, l, sym e)
+
+pub cut_item : (facts : List Fact) (i : ℕ) (f : Fact) (c : CutData) → i < length facts → f ≡ get_or facts i f → f ≡ Cut c → Contains (cuts facts) c
+cut_item facts i f c l e q = (cut_in facts c).1 (subst (Contains facts) q (item facts i f l e))
+
+pub advance_item : (facts : List Fact) (i : ℕ) (f : Fact) (a : AdvanceData) → i < length facts → f ≡ get_or facts i f → f ≡ Advance a → Contains (advances facts) a
+advance_item facts i f a l e q = (advance_in facts a).1 (subst (Contains facts) q (item facts i f l e))
+
+pub no_cut : (facts : List Fact) (e : ℕ) → All (IsOther e) facts → HasCut (cuts facts) e → ⊥
+no_cut facts e all h = All-contains (IsOther e) facts (Cut h.0) all ((cut_in facts h.0).0 h.1) h.2
+
+pub up_to : (facts : List Fact) (e p : ℕ) → All (IsUpTo e p) facts → (m : ℕ) → HasAdvance (advances facts) e m → m ≤ p
+up_to facts e p all m h = let t : h.0.point ≤ p = All-contains (IsUpTo e p) facts (Advance h.0) all ((advance_in facts h.0).0 h.1) h.2 in let q : h.0.point ≡ m = h.3 in omega arith
+
+higher_at : (e p q : ℕ) → p ≤ q → (f : Fact) → IsUpTo e p f → IsUpTo e q f
+higher_at e p q l (Record r) h = tt
+higher_at e p q l (Cut c) h = tt
+higher_at e p q l (Advance a) h = λ u. let t : a.point ≤ p = h u in omega arith
+
+pub higher : (xs : List Fact) (e p q : ℕ) → p ≤ q → All (IsUpTo e p) xs → All (IsUpTo e q) xs
+higher xs e p q l all k d u = higher_at e p q l (get_or xs k d) (all k d u)
+
+pub next_epoch : (cs : List CutData) (k : ℕ) → HasCutsTo cs k → HasCut cs (k + 1) → HasCutsTo cs (k + 1)
+next_epoch cs k has c e l m = ⊎_elim (λ (q : e ≤ k). has e l q) (λ (q : e ≡ k + 1). (c.0, c.1, c.2 ∙ sym q)) (let t : (e ≤ k) ⊎ (e ≡ k + 1) = grind arith in t)
+
+pub complete : (cs : List CutData) (k : ℕ) → HasCutsTo cs k → (HasCut cs (k + 1) → ⊥) → IsCompleteEpoch cs k
+complete cs k has missing = (inr has, λ m h. ⊎_elim (λ (q : m ≤ k). q) (λ (q : k < m). absurd (missing (h (k + 1) (omega arith) (omega arith)))) (let t : (m ≤ k) ⊎ (k < m) = grind arith in t))
+
+-- all of a whole list
+pub whole : {X : Type 0} (P : X → Type 0) (xs : List X) (i : ℕ) → length xs ≤ i → All P (take i xs) → All P xs
+whole P [] i l h k d q = absurd (omega (arith, q))
+whole P (x ∷ xs) zero l h k d q = absurd (omega (arith, l))
+whole P (x ∷ xs) (suc i) l h zero d q = h zero d (omega arith)
+whole P (x ∷ xs) (suc i) l h (suc k) d q = whole P xs i (omega (arith, l)) (λ j e r. h (suc j) e (omega (arith, r))) k d (omega (arith, q))
+
+pub one_more : (P : Fact → Type 0) (xs : List Fact) (i : ℕ) (f : Fact) → i < length xs → f ≡ get_or xs i f → All P (take i xs) → P f → All P (take (i + 1) xs)
+one_more P xs i f l e all p = All-more P xs i f l all (subst P e p)
+
+pub other_cut : (e : ℕ) (f : Fact) (c : CutData) → f ≡ Cut c → c.epoch ≢ e → IsOther e f
+other_cut e f c q ne = subst (IsOther e) (sym q) ne
+
+pub other_default : (e : ℕ) (f : Fact) → ((c : CutData) → f ≡ Cut c → ⊥) → IsOther e f
+other_default e (Record r) h = tt
+other_default e (Cut c) h = absurd (h c refl)
+other_default e (Advance a) h = tt
+
+pub up_advance : (e p : ℕ) (f : Fact) (a : AdvanceData) → f ≡ Advance a → (a.epoch ≤ e → a.point ≤ p) → IsUpTo e p f
+up_advance e p f a q h = subst (IsUpTo e p) (sym q) h
+
+pub up_default : (e p : ℕ) (f : Fact) → ((a : AdvanceData) → f ≡ Advance a → ⊥) → IsUpTo e p f
+up_default e p (Record r) h = tt
+up_default e p (Cut c) h = tt
+up_default e p (Advance a) h = absurd (h a refl)
+
+-- a step that leaves the minimum
+pub min_step : (xs : List Fact) (i : ℕ) (f : Fact) (e m n : ℕ) → i < length xs → f ≡ get_or xs i f → n ≡ m → (m ≡ 0) ⊎ HasAdvance (advances xs) e m → All (IsUpTo e m) (take i xs) → IsUpTo e m f → (let T : Type 0 = record { there : (n ≡ 0) ⊎ HasAdvance (advances xs) e n; top : All (IsUpTo e n) (take (i + 1) xs) } in T)
+min_step xs i f e m n l q same there top up = record {
+  there = subst (λ k. (k ≡ 0) ⊎ HasAdvance (advances xs) e k) (sym same) there;
+  top = subst (λ k. All (IsUpTo e k) (take (i + 1) xs)) (sym same) (one_more (IsUpTo e m) xs i f l q top up);
+}

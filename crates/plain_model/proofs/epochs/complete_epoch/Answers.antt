@@ -1,0 +1,14 @@
+use Rattle.std.proofs.Common.{◌≡◌, IsTrue, false, true, arith, refl}
+use Rattle.redo_core.specs.Sets.{cuts}
+use Rattle.plain_model.specs.Scanned.{HasCut}
+use Rattle.plain_model.proofs.Scans.{next_epoch, complete}
+use Rattle.plain_model.proofs.epochs.complete_epoch.Goals as goal
+
+pub returns : goal.returns
+returns c = complete (cuts c.args.facts.now) c.loop-epoch.epoch c.loop-epoch.invariant.has (λ h. let t : IsTrue false = c.loop-epoch-test.ensures.found.1 h in cc)
+
+pub loop-epoch-preserved : goal.loop-epoch-preserved
+loop-epoch-preserved c = record {
+  small = c.loop-epoch-test.ensures.small refl;
+  has = next_epoch (cuts c.args.facts.now) c.loop-epoch.epoch c.loop-epoch.invariant.has (c.loop-epoch-test.ensures.found.0 refl);
+}

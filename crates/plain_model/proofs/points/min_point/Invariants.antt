@@ -1,0 +1,12 @@
+use Rattle.std.proofs.Common.{take, ◌≡◌, ◌⊎◌}
+use Rattle.std.specs.List.{All}
+use Rattle.redo_core.specs.Sets.{advances}
+use Rattle.redo_core.specs.Position.{HasAdvance}
+use Rattle.plain_model.specs.Scanned.{IsUpTo}
+use Rattle.plain_model.proofs.points.min_point.Given as goal
+
+abbrev pub invariant-loop-fact : goal.invariant-loop-fact
+invariant-loop-fact l = record {
+  there : (l.min ≡ 0) ⊎ HasAdvance (advances l.facts) l.epoch l.min;
+  top : All (IsUpTo l.epoch l.min) (take l.fact-index l.facts);
+}

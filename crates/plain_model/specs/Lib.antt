@@ -1,0 +1,2 @@
+pub mod Scanned
+pub mod Stands

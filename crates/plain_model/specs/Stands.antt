@@ -1,0 +1,12 @@
+-- A record's standing in a view, as a value.
+use Rattle.std.specs.Prelude.{ℕ, List}
+use Rattle.redo_core.specs.Data.{CutData}
+use Rattle.redo_core.specs.Standing.{IsAlive, IsDead, IsWaiting}
+use Rattle.plain_model.specs.declared.views.Standing.{Standing}
+use Rattle.plain_model.specs.declared.views.Standing.TheVariants.{Waiting, Alive, Dead}
+
+-- the standing is what a record of this epoch and number has in view k
+abbrev pub StandsAs : List CutData → ℕ → ℕ → ℕ → Standing → Type 0
+StandsAs cs k epoch number Waiting = IsWaiting k epoch
+StandsAs cs k epoch number Alive = IsAlive cs k epoch number
+StandsAs cs k epoch number Dead = IsDead cs k epoch number
