@@ -1,1 +1,16 @@
+//! The text of scripts: its grammar, and its reader.
+//!
+//! A text is lines, each ended by LF, of fields between single spaces. `read_script` gives the facts and the steps of a whole
+//! script, `read_facts` those of fact lines alone. Both answer exactly what `specs/` says, and else the least bad line.
+//! The laws above them say it without the reader: which lines spell which fact or step, which lines are a script, and that the
+//! lines before the bad line begin a script, which they do no more with it.
 #![tactic(auto)]
+
+mod fact_line;
+mod fields;
+mod number;
+mod script;
+mod step_line;
+
+pub use script::{Script, ScriptError, read_facts, read_script};
+pub use step_line::StepLine;

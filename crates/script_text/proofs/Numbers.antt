@@ -1,0 +1,78 @@
+-- Digits and their value.
+use Rattle.std.proofs.Common.{◌≡◌, ℕ, ◌+◌, ◌-◌, ◌*◌, ◌^◌, ◌<◌, ◌≤◌, ◌↔◌, Bool, true, false, cond, ◌&&◌, ◌||◌, not, eqb, ltb, leb, List, [], ◌∷◌, length, get_or, drop, Option, Some, None, refl, sym, ap, ◌∙◌, arith, rules, zero, suc, ◌⊎◌, inl, inr}
+use Rattle.std.specs.Str.{all_ascii_digits}
+use Rattle.std.specs.Char.{is_ascii_digit}
+use Rattle.std.proofs.lemmas.Option.{cond_some}
+use Rattle.std.proofs.lemmas.Bool.Decides.{nat_tests}
+use Rattle.std.specs.Fmt.{decimal}
+use Rattle.std.proofs.lemmas.Str.Parse.{IsNumeralModel, numerals_by_fold}
+use Rattle.std.proofs.lemmas.Fmt.{decimal-digits_value, digits_decimal, digits_value-decimal, decimal_nonempty, first_decimal, decimal_digit}
+use Rattle.std.proofs.lemmas.Grind.{common_steps}
+use Rattle.script_text.specs.Number.{value_from, digits_of, number_of}
+
+pub model : IsNumeralModel (λ ds. all_ascii_digits ds ≡ true) (value_from 0)
+model = numerals_by_fold _ (search rules) value_from (search rules)
+
+-- a number only grows by more digits
+pub value_from-ge : (n : ℕ) (ds : List ℕ) → n ≤ value_from n ds
+value_from-ge n [] = omega arith
+value_from-ge n (c ∷ cs) = omega (arith, value_from-ge (10 * n + (c - 48)) cs)
+
+pub digits_of_undigit : (limit : ℕ) (word : List ℕ) → all_ascii_digits word ≡ false → digits_of limit word ≡ None
+unfolding digits_of
+digits_of_undigit limit word e = grind (arith, common_steps)
+
+pub digits_of_large : (limit : ℕ) (word : List ℕ) → limit < value_from 0 word → digits_of limit word ≡ None
+unfolding digits_of
+digits_of_large limit word e = grind (arith, common_steps)
+
+pub digits_of_good : (limit : ℕ) (word : List ℕ) → all_ascii_digits word ≡ true → value_from 0 word ≤ limit → digits_of limit word ≡ Some (value_from 0 word)
+unfolding digits_of
+digits_of_good limit word d l = grind (arith, common_steps)
+
+-- what a loop over the word meets at its place i
+pub undigit_at : (word : List ℕ) (i : ℕ) → i < length word → is_ascii_digit (get_or word i 0) ≡ false → all_ascii_digits (drop i word) ≡ false
+undigit_at word i lt e = grind (arith, common_steps)
+
+pub value_at : (n : ℕ) (word : List ℕ) (i : ℕ) → i < length word → value_from n (drop i word) ≡ value_from (10 * n + (get_or word i 0 - 48)) (drop (i + 1) word)
+value_at n word i lt = grind (arith, common_steps)
+
+none_or : (b : Bool) (o : Option ℕ) (n : ℕ) → cond b None o ≡ Some n → (b ≡ false) × (o ≡ Some n)
+none_or true o n e = absurd cc
+none_or false o n e = (refl, e)
+
+number_from_word : (limit n : ℕ) (word : List ℕ) → limit < 2 ^ 64 → number_of limit word ≡ Some n → (word ≡ decimal n) × (n ≤ limit)
+unfolding digits_of
+number_from_word limit n [] lt e = absurd cc
+number_from_word limit n (d ∷ ds) lt e =
+    let word : List ℕ = d ∷ ds in
+    let outer : ((eqb d 48 && ltb 0 (length ds)) ≡ false) × (digits_of limit word ≡ Some n) = none_or (eqb d 48 && ltb 0 (length ds)) (digits_of limit word) n e in
+    let parts = cond_some (all_ascii_digits word && leb (value_from 0 word) limit) (value_from 0 word) n outer.1 in
+    let all : all_ascii_digits word ≡ true = grind (arith, nat_tests, parts.0) in
+    let lead : d ≡ 48 → length word ≡ 1 = λ z. grind (arith, nat_tests, outer.0, z) in
+    let le : value_from 0 word ≤ limit = grind (arith, nat_tests, parts.0) in
+    let same = decimal-digits_value model word all (omega arith) lead (omega arith) in
+    (rw (← parts.1) (sym same), rw (← parts.1) le)
+
+zero_or_more : (n : ℕ) → (n ≡ 0) ⊎ (0 < n)
+zero_or_more zero = inl refl
+zero_or_more (suc n) = inr (omega arith)
+
+lead_of : (n : ℕ) (word : List ℕ) → n < 2 ^ 64 → word ≡ decimal n → 1 < length word → get_or word 0 0 ≡ 48 → ⊥
+lead_of n word small e long z =
+    elim (zero_or_more n) [
+      | inl none ↦ let one : decimal n ≡ 48 ∷ [] = rw none (decimal_digit 0 (omega arith)) in let len : length word ≡ 1 = rw (e, one) refl in omega arith
+      | inr more ↦ let first : 48 < get_or word 0 0 = rw e (first_decimal n more small) in omega arith
+    ]
+
+number_of_good : (limit : ℕ) (word : List ℕ) → 0 < length word → (1 < length word → get_or word 0 0 ≡ 48 → ⊥) → number_of limit word ≡ digits_of limit word
+number_of_good limit [] some lead = absurd (omega arith)
+number_of_good limit (d ∷ ds) some lead = grind (arith, nat_tests, lead)
+
+number_from_decimal : (limit n : ℕ) (word : List ℕ) → limit < 2 ^ 64 → word ≡ decimal n → n ≤ limit → number_of limit word ≡ Some n
+number_from_decimal limit n word lt e le =
+    let small : n < 2 ^ 64 = omega arith in
+    let all : all_ascii_digits word ≡ true = rw e (digits_decimal model n small) in
+    let value : value_from 0 word ≡ n = rw e (digits_value-decimal model n small) in
+    let some : 0 < length word = rw e (decimal_nonempty n small) in
+    number_of_good limit word some (lead_of n word small e) ∙ digits_of_good limit word all (omega arith) ∙ ap (λ (m : ℕ). Some m) value

@@ -1,0 +1,6 @@
+pub mod Number
+pub mod Parts
+pub mod FactLine
+pub mod StepLine
+pub mod Script
+pub mod Outcome

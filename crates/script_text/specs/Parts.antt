@@ -1,0 +1,13 @@
+-- The parts of a text, and steps that may find nothing.
+use Rattle.std.specs.Prelude.{ℕ, ◌==◌, List, Option, Some, None}
+use Rattle.std.specs.List.{slice_split}
+
+-- the parts between the bytes of that value
+abbrev pub parts_at : ℕ → List ℕ → List (List ℕ)
+parts_at separator text = slice_split (λ b. b == separator) text
+
+-- what was found, and then the next step
+infixl 10 ◌>>=◌
+abbrev pub ◌>>=◌ : {A B : Type 0} → Option A → (A → Option B) → Option B
+(Some x) >>= f = f x
+None >>= f = None
