@@ -1,0 +1,24 @@
+use crate::facts::fact_at_place;
+use named_log::LogName;
+use redo_core::Fact;
+use std::alloc::{AllocError, Global};
+
+/// The log of N records of epoch 0, an advance, a truncation at N / 2 and N records of epoch 1, for N from 2 to 1,048,576.
+/// For any other N it is empty.
+pub struct Drill<const N: u64>;
+
+impl<const N: u64> LogName for Drill<N> {
+    ghost use Rattle.drill_log.specs.DrillLog.{drill_log};
+    ghost use Rattle.drill_log.specs.Sound.{drill_sound};
+
+    ghost log = { drill_log N };
+
+    fn fact(alloc: Global, place: u64) -> Result<Option<Fact>, AllocError> {
+        if N < 2 || N > 1048576 {
+            return Ok(None);
+        }
+        fact_at_place(alloc, N, place)
+    }
+
+    ghost sound = { drill_sound N };
+}
