@@ -1,0 +1,9 @@
+pub mod State
+pub mod Means
+pub mod Shows
+pub mod HasMeaning
+pub mod Promises
+pub mod Learning
+pub mod Shedding
+pub mod Known
+pub mod Laws

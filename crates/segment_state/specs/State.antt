@@ -1,0 +1,49 @@
+-- What a segment stores.
+use Rattle.std.specs.Prelude.{◌≡◌, ℕ, ◌≤◌, List, [], ◌∷◌, ◌==◌, if◌then◌else◌}
+use Rattle.redo_core.specs.Data.{RecordData, CutData, AdvanceData}
+use Rattle.redo_core.specs.Writing.{zeros}
+
+-- an image of a page, and the point of the log that it shows
+pub record StoredImage : Type 0 where
+  pub page : ℕ
+  pub version : ℕ
+  pub bytes : List ℕ
+
+-- the stored images; a page without one is zeros, of the version `floor`
+pub record Store : Type 0 where
+  pub images : List StoredImage
+  pub floor : ℕ
+
+abbrev pub image_in : List StoredImage → ℕ → ℕ → StoredImage
+image_in [] floor page = record { page = page; version = floor; bytes = zeros }
+image_in (i ∷ is) floor page = if i.page == page then i else image_in is floor page
+
+unfoldable pub version_of : Store → ℕ → ℕ
+version_of store page = (image_in store.images store.floor page).version
+
+unfoldable pub image_of : Store → ℕ → List ℕ
+image_of store page = (image_in store.images store.floor page).bytes
+
+-- the truncations, the minimum read point, the waiting advances, the held records, the base point and the images
+pub record State : Type 0 where
+  pub cuts : List CutData
+  pub min : ℕ
+  pub waits : List AdvanceData
+  pub held : List RecordData
+  pub base : ℕ
+  pub store : Store
+
+-- nothing is stored
+abbrev pub empty_state : State
+empty_state = record { cuts = []; min = 0; waits = []; held = []; base = 0; store = record { images = []; floor = 0 } }
+
+-- truncations, minimum and waiting advances are the same
+pub record SameBook (old new : State) : Type 0 where
+  pub cuts : new.cuts ≡ old.cuts
+  pub min : new.min ≡ old.min
+  pub waits : new.waits ≡ old.waits
+
+-- base point and images are the same
+pub record SameBase (old new : State) : Type 0 where
+  pub base : new.base ≡ old.base
+  pub store : new.store ≡ old.store
