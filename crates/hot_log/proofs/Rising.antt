@@ -1,0 +1,147 @@
+-- Members of lists, and lists in rising order.
+use Rattle.std.proofs.Common.{◌≡◌, ℕ, zero, suc, ◌+◌, ◌<◌, ◌≤◌, ◌⊎◌, ◌↔◌, inl, inr, ⊎_elim, List, [], ◌∷◌, ◌++◌, length, get_or, take, drop, refl, sym, ◌∙◌, subst, arith, add-one}
+use Rattle.std.specs.List.{Contains, All, AllByRecursion, insert}
+use Rattle.std.proofs.lemmas.List.{take-append-drop}
+use Rattle.std.proofs.lemmas.List.Elements.{All-from_recursion, recursion_from_All, All-contains, Contains-append_left, Contains-append_right, Contains-append_cases}
+use Rattle.redo_core.specs.Order.{IsRising}
+
+pub none_in : {X : Type 0} (x : X) → Contains [] x → ⊥
+none_in x h = omega (arith, h.1)
+
+pub here : {X : Type 0} (x : X) (xs : List X) → Contains (x ∷ xs) x
+here x xs = (0, omega arith, refl)
+
+pub there : {X : Type 0} (x : X) (xs : List X) (y : X) → Contains xs y → Contains (x ∷ xs) y
+there x xs y h = (suc h.0, omega (arith, h.1), h.2)
+
+cases_at : {X : Type 0} (x : X) (xs : List X) (y : X) (k : ℕ) → k < length (x ∷ xs) → get_or (x ∷ xs) k y ≡ y → (x ≡ y) ⊎ Contains xs y
+cases_at x xs y zero l e = inl e
+cases_at x xs y (suc k) l e = inr (k, omega (arith, l), e)
+
+pub which : {X : Type 0} (x : X) (xs : List X) (y : X) → Contains (x ∷ xs) y → (x ≡ y) ⊎ Contains xs y
+which x xs y h = cases_at x xs y h.0 h.1 h.2
+
+pub each : {X : Type 0} (P : X → Type 0) (xs : List X) (x : X) → AllByRecursion P xs → Contains xs x → P x
+each P xs x all h = All-contains P xs x (All-from_recursion P xs all) h
+
+-- a predicate of each member
+pub all_of : {X : Type 0} (P : X → Type 0) (xs : List X) → ((x : X) → Contains xs x → P x) → AllByRecursion P xs
+all_of P [] f = tt
+all_of P (x ∷ xs) f = (f x (here x xs), all_of P xs (λ y h. f y (there x xs y h)))
+
+pub in_take : {X : Type 0} (i : ℕ) (xs : List X) (x : X) → Contains (take i xs) x → Contains xs x
+in_take i xs x h = subst (λ l. Contains l x) (take-append-drop i xs) (Contains-append_left (take i xs) (drop i xs) x h)
+
+pub in_drop : {X : Type 0} (i : ℕ) (xs : List X) (x : X) → Contains (drop i xs) x → Contains xs x
+in_drop i xs x h = subst (λ l. Contains l x) (take-append-drop i xs) (Contains-append_right (take i xs) (drop i xs) x h)
+
+-- a member stands in front of a place, or from there on
+pub side : {X : Type 0} (i : ℕ) (xs : List X) (x : X) → Contains xs x → Contains (take i xs) x ⊎ Contains (drop i xs) x
+side i xs x h = Contains-append_cases (take i xs) (drop i xs) x (subst (λ l. Contains l x) (sym (take-append-drop i xs)) h)
+
+-- the element at an index
+pub item : {X : Type 0} (xs : List X) (i : ℕ) (x : X) → i < length xs → x ≡ get_or xs i x → Contains xs x
+item xs i x l e = (i, l, sym e)
+
+pub item_drop : {X : Type 0} (xs : List X) (i : ℕ) (x : X) → i < length xs → x ≡ get_or xs i x → Contains (drop i xs) x
+item_drop [] i x l e = absurd (omega (arith, l))
+item_drop (y ∷ ys) zero x l e = (0, l, sym e)
+item_drop (y ∷ ys) (suc i) x l e = item_drop ys i x (omega (arith, l)) e
+
+-- the rest from an element on is that element and what comes after it
+rest_at : {X : Type 0} (xs : List X) (i : ℕ) (x y : X) → i < length xs → x ≡ get_or xs i x → Contains (drop i xs) y → (x ≡ y) ⊎ Contains (drop (suc i) xs) y
+rest_at [] i x y l e h = absurd (omega (arith, l))
+rest_at (z ∷ zs) zero x y l e h = ⊎_elim (λ (q : z ≡ y). inl (e ∙ q)) (λ (q : Contains zs y). inr q) (which z zs y h)
+rest_at (z ∷ zs) (suc i) x y l e h = rest_at zs i x y (omega (arith, l)) e h
+
+pub rest_from : {X : Type 0} (xs : List X) (i : ℕ) (x y : X) → i < length xs → x ≡ get_or xs i x → Contains (drop i xs) y → (x ≡ y) ⊎ Contains (drop (i + 1) xs) y
+rest_from xs i x y l e h = rw add-one (rest_at xs i x y l e h)
+
+-- what stands in front of the next place
+front_at : {X : Type 0} (xs : List X) (i : ℕ) (x y : X) → i < length xs → x ≡ get_or xs i x → Contains (take (suc i) xs) y → (x ≡ y) ⊎ Contains (take i xs) y
+front_at [] i x y l e h = absurd (omega (arith, l))
+front_at (z ∷ zs) zero x y l e h = ⊎_elim (λ (q : z ≡ y). inl (e ∙ q)) (λ (q : Contains [] y). absurd (none_in y q)) (which z [] y h)
+front_at (z ∷ zs) (suc i) x y l e h =
+    ⊎_elim
+    (λ (q : z ≡ y). inr (subst (Contains (z ∷ take i zs)) q (here z (take i zs))))
+    (λ (q : Contains (take (suc i) zs) y). ⊎_elim (λ (u : x ≡ y). inl u) (λ (u : Contains (take i zs) y). inr (there z (take i zs) y u)) (front_at zs i x y (omega (arith, l)) e q))
+    (which z (take (suc i) zs) y h)
+
+pub front_to : {X : Type 0} (xs : List X) (i : ℕ) (x y : X) → i < length xs → x ≡ get_or xs i x → Contains (take (i + 1) xs) y → (x ≡ y) ⊎ Contains (take i xs) y
+front_to xs i x y l e h = front_at xs i x y l e (subst (λ j. Contains (take j xs) y) (add-one i) h)
+
+-- the element at an index stands in front of the next place
+up_at : {X : Type 0} (xs : List X) (i : ℕ) (x : X) → i < length xs → x ≡ get_or xs i x → Contains (take (suc i) xs) x
+up_at [] i x l e = absurd (omega (arith, l))
+up_at (y ∷ ys) zero x l e = (0, omega arith, sym e)
+up_at (y ∷ ys) (suc i) x l e = there y (take (suc i) ys) x (up_at ys i x (omega (arith, l)) e)
+
+pub up_to : {X : Type 0} (xs : List X) (i : ℕ) (x : X) → i < length xs → x ≡ get_or xs i x → Contains (take (i + 1) xs) x
+up_to xs i x l e = rw add-one (up_at xs i x l e)
+
+-- nothing stands behind the last place
+pub past_end : {X : Type 0} (xs : List X) (i : ℕ) (x : X) → length xs ≤ i → Contains (drop i xs) x → ⊥
+past_end [] zero x l h = none_in x h
+past_end [] (suc i) x l h = none_in x h
+past_end (y ∷ ys) zero x l h = absurd (omega (arith, l))
+past_end (y ∷ ys) (suc i) x l h = past_end ys i x (omega (arith, l)) h
+
+pub whole : {X : Type 0} (xs : List X) (i : ℕ) (x : X) → length xs ≤ i → Contains xs x → Contains (take i xs) x
+whole xs i x l h = ⊎_elim (λ (q : Contains (take i xs) x). q) (λ (q : Contains (drop i xs) x). absurd (past_end xs i x l q)) (side i xs x h)
+
+-- in a rising list what is in front of a place is before what is behind it
+pub across : {X : Type 0} (Before : X → X → Type 0) (xs : List X) (i : ℕ) (x y : X) → IsRising Before xs → Contains (take i xs) x → Contains (drop i xs) y → Before x y
+across Before [] zero x y r h k = absurd (none_in x h)
+across Before [] (suc i) x y r h k = absurd (none_in x h)
+across Before (z ∷ zs) zero x y r h k = absurd (none_in x h)
+across Before (z ∷ zs) (suc i) x y r h k =
+    ⊎_elim
+    (λ (q : z ≡ x). subst (λ w. Before w y) q (each (Before z) zs y r.0 (in_drop i zs y k)))
+    (λ (q : Contains (take i zs) x). across Before zs i x y r.1 q k)
+    (which z (take i zs) x h)
+
+pub rising_at : {X : Type 0} (Before : X → X → Type 0) (xs : List X) (i j : ℕ) (d : X) → IsRising Before xs → i < j → j < length xs → Before (get_or xs i d) (get_or xs j d)
+rising_at Before [] i j d r l m = absurd (omega (arith, m))
+rising_at Before (x ∷ xs) i zero d r l m = absurd (omega (arith, l))
+rising_at Before (x ∷ xs) zero (suc j) d r l m = All-from_recursion (Before x) xs r.0 j d (omega (arith, m))
+rising_at Before (x ∷ xs) (suc i) (suc j) d r l m = rising_at Before xs i j d r.1 (omega (arith, l)) (omega (arith, m))
+
+-- two members of a rising list are one, or one is before the other
+pub in_order : {X : Type 0} (Before : X → X → Type 0) (xs : List X) (x y : X) → IsRising Before xs → Contains xs x → Contains xs y → (x ≡ y) ⊎ (Before x y ⊎ Before y x)
+in_order Before [] x y r h k = absurd (none_in x h)
+in_order Before (z ∷ zs) x y r h k =
+    ⊎_elim
+    (λ (q : z ≡ x). ⊎_elim
+    (λ (u : z ≡ y). inl (sym q ∙ u))
+    (λ (u : Contains zs y). inr (inl (subst (λ w. Before w y) q (each (Before z) zs y r.0 u))))
+    (which z zs y k))
+    (λ (q : Contains zs x). ⊎_elim
+    (λ (u : z ≡ y). inr (inr (subst (λ w. Before w x) u (each (Before z) zs x r.0 q))))
+    (λ (u : Contains zs y). in_order Before zs x y r.1 q u)
+    (which z zs y k))
+    (which z zs x h)
+
+pub in_insert : {X : Type 0} (xs : List X) (i : ℕ) (x y : X) → Contains (insert xs i x) y ↔ (Contains xs y ⊎ (y ≡ x))
+in_insert xs i x y = (
+  λ h. ⊎_elim
+      (λ (q : Contains (take i xs) y). inl (in_take i xs y q))
+      (λ (q : Contains (x ∷ drop i xs) y). ⊎_elim (λ (u : x ≡ y). inr (sym u)) (λ (u : Contains (drop i xs) y). inl (in_drop i xs y u)) (which x (drop i xs) y q))
+      (Contains-append_cases (take i xs) (x ∷ drop i xs) y h),
+  λ h. ⊎_elim
+      (λ (q : Contains xs y). ⊎_elim
+      (λ (u : Contains (take i xs) y). Contains-append_left (take i xs) (x ∷ drop i xs) y u)
+      (λ (u : Contains (drop i xs) y). Contains-append_right (take i xs) (x ∷ drop i xs) y (there x (drop i xs) y u))
+      (side i xs y q))
+      (λ (q : y ≡ x). Contains-append_right (take i xs) (x ∷ drop i xs) y (subst (Contains (x ∷ drop i xs)) (sym q) (here x (drop i xs))))
+      h,
+)
+
+-- a rising list with one more in its place
+pub rising_insert : {X : Type 0} (Before : X → X → Type 0) (xs : List X) (i : ℕ) (x : X) → IsRising Before xs → ((y : X) → Contains (take i xs) y → Before y x) → ((y : X) → Contains (drop i xs) y → Before x y) → IsRising Before (insert xs i x)
+rising_insert Before [] zero x r low high = (tt, tt)
+rising_insert Before [] (suc i) x r low high = (tt, tt)
+rising_insert Before (z ∷ zs) zero x r low high = (all_of (Before x) (z ∷ zs) high, r)
+rising_insert Before (z ∷ zs) (suc i) x r low high = (
+  all_of (Before z) (insert zs i x) (λ y h. ⊎_elim (λ (q : Contains zs y). each (Before z) zs y r.0 q) (λ (q : y ≡ x). subst (Before z) (sym q) (low z (here z (take i zs)))) ((in_insert zs i x y).0 h)),
+  rising_insert Before zs i x r.1 (λ y h. low y (there z (take i zs) y h)) high,
+)
