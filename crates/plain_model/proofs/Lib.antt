@@ -1,3 +1,7 @@
-pub mod Members
+pub mod Scanned
 pub mod Scans
 pub mod LinkedScans
+pub mod CountedCuts
+pub mod CountedScans
+pub mod Keys
+pub mod Laws

@@ -12,9 +12,10 @@ use Rattle.redo_core.specs.Linked.{IsLinked, Linked}
 use Rattle.redo_core.specs.Linked.Linked.{start, next}
 use Rattle.redo_core.specs.declared.facts.Fact.{Fact}
 use Rattle.redo_core.specs.declared.facts.Fact.TheVariants.{Record, Cut, Advance}
-use Rattle.plain_model.proofs.Members.{record_in, cut_in, advance_in}
+use Rattle.redo_laws.proofs.Log.{record_in, cut_in, advance_in}
 use Rattle.plain_model.proofs.Scans.{item, one_more}
-use Rattle.plain_model.specs.Scanned.{SparesIn, IsSpared, LinksNot, IsWithin, IsLinkedWithin, LinksUpTo}
+use Rattle.plain_model.specs.Helpers.{SparesIn, IsWithin, IsLinkedWithin}
+use Rattle.plain_model.proofs.Scanned.{IsSpared, LinksNot, LinksUpTo}
 
 pub record_item : (facts : List Fact) (i : ℕ) (f : Fact) (r : RecordData) → i < length facts → f ≡ get_or facts i f → f ≡ Record r → Contains (records facts) r
 record_item facts i f r l e q = (record_in facts r).1 (subst (Contains facts) q (item facts i f l e))

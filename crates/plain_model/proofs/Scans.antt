@@ -9,8 +9,9 @@ use Rattle.redo_core.specs.CompleteEpoch.{HasCutsTo, IsCompleteEpoch}
 use Rattle.redo_core.specs.Position.{HasAdvance}
 use Rattle.redo_core.specs.declared.facts.Fact.{Fact}
 use Rattle.redo_core.specs.declared.facts.Fact.TheVariants.{Record, Cut, Advance}
-use Rattle.plain_model.proofs.Members.{record_in, cut_in, advance_in}
-use Rattle.plain_model.specs.Scanned.{HasCut, IsOther, IsUpTo}
+use Rattle.redo_laws.proofs.Log.{record_in, cut_in, advance_in}
+use Rattle.plain_model.specs.Helpers.{HasCut}
+use Rattle.plain_model.proofs.Scanned.{IsOther, IsUpTo}
 
 -- the element at an index
 pub item : (facts : List Fact) (i : ℕ) (f : Fact) → i < length facts → f ≡ get_or facts i f → Contains facts f
@@ -74,3 +75,15 @@ min_step xs i f e m n l q same there top up = record {
   there = subst (λ k. (k ≡ 0) ⊎ HasAdvance (advances xs) e k) (sym same) there;
   top = subst (λ k. All (IsUpTo e k) (take (i + 1) xs)) (sym same) (one_more (IsUpTo e m) xs i f l q top up);
 }
+
+-- a fact that is no truncation, for a property of truncations alone
+pub cut_default : (P : Fact → Type 0) (f : Fact) → ((r : RecordData) → P (Record r)) → ((a : AdvanceData) → P (Advance a)) → ((c : CutData) → f ≡ Cut c → ⊥) → P f
+cut_default P (Record r) records advances h = records r
+cut_default P (Cut c) records advances h = absurd (h c refl)
+cut_default P (Advance a) records advances h = advances a
+
+-- a fact that is no record, for a property of records alone
+pub record_default : (P : Fact → Type 0) (f : Fact) → ((c : CutData) → P (Cut c)) → ((a : AdvanceData) → P (Advance a)) → ((r : RecordData) → f ≡ Record r → ⊥) → P f
+record_default P (Record r) cuts advances h = absurd (h r refl)
+record_default P (Cut c) cuts advances h = cuts c
+record_default P (Advance a) cuts advances h = advances a

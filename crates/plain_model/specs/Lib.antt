@@ -1,2 +1,4 @@
-pub mod Scanned
+pub mod Helpers
 pub mod Stands
+pub mod Chained
+pub mod FoundFault

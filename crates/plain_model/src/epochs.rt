@@ -1,7 +1,7 @@
 ghost use Rattle.std.specs.Prelude.{◌≡◌, ◌<◌, ◌↔◌, IsTrue};
 ghost use Rattle.redo_core.specs.Sets.{cuts};
 ghost use Rattle.redo_core.specs.CompleteEpoch.{IsCompleteEpoch};
-ghost use Rattle.plain_model.specs.Scanned.{HasCut};
+ghost use Rattle.plain_model.specs.Helpers.{HasCut};
 
 use redo_core::Fact;
 

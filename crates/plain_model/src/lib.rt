@@ -5,13 +5,17 @@
 //! It holds for every list of facts, sound or not. Faster programs are compared with it.
 #![tactic(auto)]
 
+mod chains;
+mod counted;
 mod epochs;
+mod faults;
 mod links;
 mod points;
 mod standings;
 mod views;
 
 pub use epochs::complete_epoch;
+pub use faults::first_fault;
 pub use links::{anchor, complete_point, is_linked};
 pub use points::min_point;
 pub use standings::{is_alive, standing};

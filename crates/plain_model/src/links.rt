@@ -1,7 +1,7 @@
 ghost use Rattle.std.specs.Prelude.{◌≡◌, ◌≤◌, ◌↔◌, IsTrue};
 ghost use Rattle.redo_core.specs.Order.{IsGreatest};
 ghost use Rattle.redo_core.specs.Linked.{IsLinked};
-ghost use Rattle.plain_model.specs.Scanned.{IsLinkedWithin};
+ghost use Rattle.plain_model.specs.Helpers.{IsLinkedWithin};
 
 use crate::standings::is_alive;
 use redo_core::Fact;

@@ -1,7 +1,7 @@
 ghost use Rattle.std.specs.Prelude.{◌↔◌, IsTrue};
 ghost use Rattle.redo_core.specs.Sets.{cuts};
 ghost use Rattle.redo_core.specs.Standing.{IsAlive};
-ghost use Rattle.plain_model.specs.Scanned.{SparesIn};
+ghost use Rattle.plain_model.specs.Helpers.{SparesIn};
 ghost use Rattle.plain_model.specs.Stands.{StandsAs};
 
 use crate::views::Standing;
@@ -38,7 +38,7 @@ pub fn is_alive(facts: &[Fact], view: u16, epoch: u16, number: u64) -> bool
 }
 
 // Whether a truncation leaves such a record alive in a view.
-fn spares(cut: &Cut, view: u16, epoch: u16, number: u64) -> bool
+pub(crate) fn spares(cut: &Cut, view: u16, epoch: u16, number: u64) -> bool
     ensures { IsTrue result ↔ SparesIn view epoch number cut.now }
 {
     if cut.epoch() == epoch {

@@ -1,6 +1,6 @@
 use Rattle.std.proofs.Common.{take}
 use Rattle.std.specs.List.{All}
-use Rattle.plain_model.specs.Scanned.{IsOther}
+use Rattle.plain_model.proofs.Scanned.{IsOther}
 use Rattle.plain_model.proofs.epochs.has_cut.Given as goal
 
 abbrev pub invariant-loop-fact : goal.invariant-loop-fact

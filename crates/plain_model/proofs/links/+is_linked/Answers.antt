@@ -3,7 +3,7 @@ use Rattle.redo_core.specs.Sets.{cuts}
 use Rattle.redo_core.specs.Linked.{IsLinked}
 use Rattle.redo_core.specs.Standing.{IsAlive}
 use Rattle.redo_core.specs.Linked.Linked.{start, next}
-use Rattle.plain_model.specs.Scanned.{LinksNot}
+use Rattle.plain_model.proofs.Scanned.{LinksNot}
 use Rattle.plain_model.proofs.Scans.{whole, one_more}
 use Rattle.plain_model.proofs.LinkedScans.{record_item, link, links_not_record, links_not_default, no_link}
 use Rattle.plain_model.proofs.links.+is_linked.Goals as goal

@@ -1,6 +1,6 @@
 use Rattle.std.proofs.Common.{take}
 use Rattle.std.specs.List.{All}
-use Rattle.plain_model.specs.Scanned.{LinksNot}
+use Rattle.plain_model.proofs.Scanned.{LinksNot}
 use Rattle.plain_model.proofs.links.+is_linked.Given as goal
 
 abbrev pub decreases-is_linked : goal.decreases-is_linked

@@ -1,7 +1,8 @@
 use Rattle.std.proofs.Common.{◌≡◌, ◌<◌, ◌≤◌, ◌⊎◌, inl, inr, ⊎_elim, IsTrue, false, true, arith, refl, sym, subst, length}
 use Rattle.redo_core.specs.Sets.{cuts}
 use Rattle.redo_core.specs.Linked.Linked.{start, next}
-use Rattle.plain_model.specs.Scanned.{IsLinkedWithin, LinksUpTo}
+use Rattle.plain_model.specs.Helpers.{IsLinkedWithin}
+use Rattle.plain_model.proofs.Scanned.{LinksUpTo}
 use Rattle.plain_model.proofs.Scans.{whole, one_more}
 use Rattle.plain_model.proofs.LinkedScans.{up_record, up_default, top_linked, up_higher, top_step, within_zero}
 use Rattle.plain_model.proofs.links.greatest_linked.Goals as goal

@@ -1,6 +1,7 @@
 use Rattle.std.proofs.Common.{take}
 use Rattle.std.specs.List.{All}
-use Rattle.plain_model.specs.Scanned.{IsLinkedWithin, LinksUpTo}
+use Rattle.plain_model.specs.Helpers.{IsLinkedWithin}
+use Rattle.plain_model.proofs.Scanned.{LinksUpTo}
 use Rattle.plain_model.proofs.links.greatest_linked.Given as goal
 
 abbrev pub invariant-loop-fact : goal.invariant-loop-fact

@@ -1,5 +1,5 @@
 use Rattle.std.proofs.Common.{◌≡◌, ◌+◌, ◌<◌, ◌≤◌, inl, inr, sym, ◌∙◌, subst, arith, refl}
-use Rattle.plain_model.specs.Scanned.{IsUpTo}
+use Rattle.plain_model.proofs.Scanned.{IsUpTo}
 use Rattle.plain_model.proofs.Scans.{up_to, higher, whole, one_more, up_advance, up_default, advance_item, min_step}
 use Rattle.plain_model.proofs.points.min_point.Goals as goal
 use Rattle.plain_model.proofs.points.min_point.Goals.{in-Advance+then-epoch+then-point-min, in-Advance+else-epoch, else-epoch-via-then-epoch+else-point-min, else-epoch-via-else-epoch, in_default}

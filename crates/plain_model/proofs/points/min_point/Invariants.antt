@@ -2,7 +2,7 @@ use Rattle.std.proofs.Common.{take, ◌≡◌, ◌⊎◌}
 use Rattle.std.specs.List.{All}
 use Rattle.redo_core.specs.Sets.{advances}
 use Rattle.redo_core.specs.Position.{HasAdvance}
-use Rattle.plain_model.specs.Scanned.{IsUpTo}
+use Rattle.plain_model.proofs.Scanned.{IsUpTo}
 use Rattle.plain_model.proofs.points.min_point.Given as goal
 
 abbrev pub invariant-loop-fact : goal.invariant-loop-fact

@@ -1,6 +1,6 @@
 use Rattle.std.proofs.Common.{take}
 use Rattle.std.specs.List.{All}
-use Rattle.plain_model.specs.Scanned.{IsSpared}
+use Rattle.plain_model.proofs.Scanned.{IsSpared}
 use Rattle.plain_model.proofs.standings.is_alive.Given as goal
 
 abbrev pub invariant-loop-fact : goal.invariant-loop-fact

@@ -1,16 +1,16 @@
--- What a scan of the facts has seen of one fact.
-use Rattle.std.specs.Prelude.{◌≡◌, ◌≢◌, ℕ, ◌<◌, ◌≤◌, List, Option, Some, None}
+-- What a scan of a list of facts has seen of one fact.
+use Rattle.std.proofs.Common.{◌≡◌, ◌≢◌, ℕ, ◌<◌, ◌≤◌, List, Option}
 use Rattle.std.specs.List.{Contains}
-use Rattle.redo_core.specs.Data.{CutData}
+use Rattle.redo_core.specs.Data.{RecordData}
 use Rattle.redo_core.specs.Sets.{cuts}
 use Rattle.redo_core.specs.Standing.{IsAlive}
 use Rattle.redo_core.specs.Linked.{IsLinked}
+use Rattle.redo_core.specs.Sound.{counted, SameKey}
 use Rattle.redo_core.specs.declared.facts.Fact.{Fact}
 use Rattle.redo_core.specs.declared.facts.Fact.TheVariants.{Record, Cut, Advance}
-
--- there is a truncation of this epoch
-abbrev pub HasCut : List CutData → ℕ → Type 0
-HasCut cs e = (c : CutData) × Contains cs c × (c.epoch ≡ e)
+use Rattle.plain_model.specs.declared.chains.Chain.{Chain}
+use Rattle.plain_model.specs.Chained.{IsBelowOn}
+use Rattle.plain_model.specs.Helpers.{SparesIn, IsLinkedWithin}
 
 -- the fact is no truncation of this epoch
 abbrev pub IsOther : ℕ → Fact → Type 0
@@ -24,10 +24,6 @@ IsUpTo epoch point (Record r) = Unit {0}
 IsUpTo epoch point (Cut c) = Unit {0}
 IsUpTo epoch point (Advance a) = a.epoch ≤ epoch → a.point ≤ point
 
--- a truncation spares a record in a view
-abbrev pub SparesIn : ℕ → ℕ → ℕ → CutData → Type 0
-SparesIn view epoch number c = (c.epoch ≡ epoch → c.hi < number) × (epoch < c.epoch → c.epoch ≤ view → number ≤ c.lo)
-
 abbrev pub IsSpared : ℕ → ℕ → ℕ → Fact → Type 0
 IsSpared view epoch number (Record r) = Unit {0}
 IsSpared view epoch number (Cut c) = SparesIn view epoch number c
@@ -39,16 +35,31 @@ LinksNot facts view number (Record r) = r.number ≡ number → IsAlive (cuts fa
 LinksNot facts view number (Cut c) = Unit {0}
 LinksNot facts view number (Advance a) = Unit {0}
 
--- the number is linked in a view and not above a limit
-abbrev pub IsWithin : Option ℕ → ℕ → Type 0
-IsWithin None number = Unit {0}
-IsWithin (Some limit) number = number ≤ limit
-
-abbrev pub IsLinkedWithin : List Fact → ℕ → Option ℕ → ℕ → Type 0
-IsLinkedWithin facts view limit number = IsLinked facts view number × IsWithin limit number
-
 -- the fact is no record that is linked above a number, up to a limit
 abbrev pub LinksUpTo : List Fact → ℕ → Option ℕ → ℕ → Fact → Type 0
 LinksUpTo facts view limit top (Record r) = IsLinkedWithin facts view limit r.number → r.number ≤ top
 LinksUpTo facts view limit top (Cut c) = Unit {0}
 LinksUpTo facts view limit top (Advance a) = Unit {0}
+
+
+-- a truncation that counts spares a record in a view
+abbrev pub IsSparedIfCounted : List Fact → ℕ → ℕ → ℕ → Fact → Type 0
+IsSparedIfCounted log view epoch number (Record r) = Unit {0}
+IsSparedIfCounted log view epoch number (Cut c) = Contains (counted log) c → SparesIn view epoch number c
+IsSparedIfCounted log view epoch number (Advance a) = Unit {0}
+
+-- a truncation that counts, of a later epoch, does not cut below a point
+abbrev pub IsAboveIfCounted : List Fact → ℕ → ℕ → Fact → Type 0
+IsAboveIfCounted log epoch point (Record r) = Unit {0}
+IsAboveIfCounted log epoch point (Cut c) = Contains (counted log) c → epoch < c.epoch → point ≤ c.lo
+IsAboveIfCounted log epoch point (Advance a) = Unit {0}
+
+-- the fact is no record below r on a chain with a number above this one
+abbrev pub IsBelowUpTo : List Fact → RecordData → Chain → ℕ → Fact → Type 0
+IsBelowUpTo log r chain top (Record s) = IsBelowOn log r chain s → s.number ≤ top
+IsBelowUpTo log r chain top (Cut c) = Unit {0}
+IsBelowUpTo log r chain top (Advance a) = Unit {0}
+
+-- the fact is this one where it has its key
+abbrev pub IsSameOfKey : Fact → Fact → Type 0
+IsSameOfKey fact f = SameKey f fact → f ≡ fact

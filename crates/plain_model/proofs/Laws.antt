@@ -1,0 +1,52 @@
+-- What a fact that keeps or breaks a law says of it.
+use Rattle.std.proofs.Common.{◌≡◌, ℕ, ◌+◌, ◌-◌, ◌<◌, ◌≤◌, ◌⊎◌, ⊎_elim, List, length, get_or, refl, sym, ap, ◌∙◌, subst, arith, Option, Some, None}
+use Rattle.std.specs.Prelude.{slice_get}
+use Rattle.std.proofs.lemmas.Option.{slice_get_read}
+use Rattle.redo_core.specs.Data.{RecordData}
+use Rattle.redo_core.specs.Order.{IsGreatest}
+use Rattle.redo_core.specs.Sound.{IsAliveBelow, KeepsLaws}
+use Rattle.redo_core.specs.Fault.{KeepsLaw, IsFirstFault}
+use Rattle.redo_core.specs.declared.facts.Fact.{Fact}
+use Rattle.redo_core.specs.declared.laws.Law.{Law}
+use Rattle.redo_core.specs.declared.laws.Law.TheVariants.{OneFactPerKey, EpochBegun, SegmentBacklink, BlockBacklink, AdvanceKept}
+use Rattle.redo_laws.proofs.Numbers.{greatest_unique}
+use Rattle.plain_model.specs.declared.chains.Chain.{Chain}
+use Rattle.plain_model.specs.Chained.{Follows}
+use Rattle.plain_model.specs.FoundFault.{FindsFault, BreaksFirst}
+
+pub same_backlink : (log : List Fact) (r : RecordData) (chain : Chain) (g b : ℕ) → IsGreatest (IsAliveBelow log r (Follows chain r)) g → b ≡ g → IsGreatest (IsAliveBelow log r (Follows chain r)) b
+same_backlink log r chain g b is e = subst (IsGreatest (IsAliveBelow log r (Follows chain r))) (sym e) is
+
+pub other_backlink : (log : List Fact) (r : RecordData) (chain : Chain) (g b : ℕ) → IsGreatest (IsAliveBelow log r (Follows chain r)) g → (b ≡ g → ⊥) → IsGreatest (IsAliveBelow log r (Follows chain r)) b → ⊥
+other_backlink log r chain g b is ne law = let P : ℕ → Type 0 = IsAliveBelow log r (Follows chain r) in ne (greatest_unique P P (λ n. (λ h. h, λ h. h)) b g law is)
+
+pub keeps_each : (log : List Fact) (place : ℕ) (f : Fact) (law : Law) → KeepsLaws log place f → KeepsLaw log place f law
+keeps_each log place f OneFactPerKey k = k.law1
+keeps_each log place f EpochBegun k = k.law2
+keeps_each log place f SegmentBacklink k = k.law3
+keeps_each log place f BlockBacklink k = k.law4
+keeps_each log place f AdvanceKept k = k.law5
+
+pub none_found : (log : List Fact) (place : ℕ) (f : Fact) (found : Option Law) → FindsFault log place f found → ((law : Law) → found ≡ Some law → ⊥) → KeepsLaws log place f
+none_found log place f None h none = h
+none_found log place f (Some law) h none = absurd (none law refl)
+
+-- the places before the first fault
+abbrev pub KeepsBefore : List Fact → ℕ → Type 0
+KeepsBefore log place = (earlier : ℕ) (f : Fact) → earlier < place → slice_get log earlier ≡ Some f → KeepsLaws log earlier f
+
+pub keeps_one_more : (log : List Fact) (place : ℕ) (f : Fact) → place < length log → f ≡ get_or log place f → KeepsBefore log place → KeepsLaws log place f → KeepsBefore log (place + 1)
+keeps_one_more log place f l e before here earlier g below at =
+    ⊎_elim
+    (λ (m : earlier < place). before earlier g m at)
+    (λ (m : earlier ≡ place).
+    let read : slice_get log place ≡ Some f = slice_get_read log (length log) place f refl l e in
+    let there : slice_get log place ≡ Some g = subst (λ k. slice_get log k ≡ Some g) m at in
+    let same : f ≡ g = cc in
+    subst (λ k. KeepsLaws log k g) (sym m) (subst (KeepsLaws log place) same here))
+    (let s : (earlier < place) ⊎ (earlier ≡ place) = grind arith in s)
+
+pub fault_at : (log : List Fact) (place : ℕ) (f : Fact) (law : Law) → place < length log → f ≡ get_or log place f → KeepsBefore log place → BreaksFirst log place f law → IsFirstFault log (place + 1 - 1) law
+fault_at log place f law l e before b =
+    let back : place ≡ place + 1 - 1 = omega arith in
+    subst (λ p. IsFirstFault log p law) back (record { fact = f; at_place = slice_get_read log (length log) place f refl l e; breaks = b.breaks; lower = b.lower; before = before })

@@ -1,0 +1,21 @@
+use Rattle.std.proofs.Common.{◌≡◌, ◌<◌, length, arith, refl}
+use Rattle.std.proofs.lemmas.Option.{slice_get_read, slice_get_within}
+use Rattle.plain_model.proofs.Laws.{keeps_each, none_found, keeps_one_more, fault_at}
+use Rattle.plain_model.proofs.faults.first_fault.Goals as goal
+
+pub loop-place-init : goal.loop-place-init
+loop-place-init c earlier f l at = absurd (omega (arith, l))
+
+pub returns-in-Some-clause-sound : goal.returns-in-Some-clause-sound
+returns-in-Some-clause-sound c =
+    let log = c.args.log.now in let place = c.loop-place.place in let fact = c.index-log-place.result in
+    (λ h. absurd (cc), λ sound. absurd (c.in-Some.ensures.breaks (keeps_each log place fact c.in-Some.law (sound place fact (slice_get_read log (length log) place fact refl c.loop-place-test.true c.index-log-place.is)))))
+
+pub returns-in-Some-clause-fault : goal.returns-in-Some-clause-fault
+returns-in-Some-clause-fault c = (omega arith, fault_at c.args.log.now c.loop-place.place c.index-log-place.result c.in-Some.law c.loop-place-test.true c.index-log-place.is c.loop-place.invariant c.in-Some.ensures)
+
+pub loop-place-preserved : goal.loop-place-preserved
+loop-place-preserved c = keeps_one_more c.args.log.now c.loop-place.place c.index-log-place.result c.loop-place-test.true c.index-log-place.is c.loop-place.invariant (none_found c.args.log.now c.loop-place.place c.index-log-place.result c.broken_law.result c.broken_law.ensures c.in_default.not-Some)
+
+pub returns-clause-sound : goal.returns-clause-sound
+returns-clause-sound c = (λ h place fact at. c.loop-place.invariant place fact (let l : place < length c.args.log.now = slice_get_within c.args.log.now place fact at in omega arith) at, λ h. refl)

@@ -1,0 +1,29 @@
+use Rattle.std.proofs.Common.{◌≡◌, ◌≤◌, ◌<◌, IsTrue, false, arith, refl, subst, sym}
+use Rattle.redo_core.specs.declared.facts.Fact.{Fact}
+use Rattle.plain_model.proofs.Scanned.{IsAboveIfCounted}
+use Rattle.plain_model.proofs.Scans.{whole, one_more, cut_default}
+use Rattle.plain_model.proofs.CountedCuts.{all_counted_above}
+use Rattle.plain_model.proofs.faults.is_spared.Goals as goal
+use Rattle.plain_model.proofs.faults.is_spared.Goals.{in-Cut+else-epoch, else-epoch-via-then-epoch+then-lo-point+else-is_counted, else-epoch-via-then-epoch+else-lo-point, else-epoch-via-else-epoch, in_default}
+
+pub returns-then-is_counted : goal.returns-then-is_counted
+returns-then-is_counted c = (
+  λ h. absurd (cc),
+  λ spared. absurd (let l : c.args.point ≤ c.in-Cut.cut.lo = spared c.in-Cut.cut (c.if-is_counted.ensures.0 refl) (omega arith) in omega arith),
+)
+
+pub loop-fact-preserved : goal.loop-fact-preserved
+loop-fact-preserved c =
+    let P : Fact → Type 0 = IsAboveIfCounted c.args.log.now c.args.epoch c.args.point in
+    one_more P c.args.log.now c.loop-fact.fact-index c.fact-item.result c.loop-fact-test.true c.fact-item.is c.loop-fact.invariant
+    (elim c.match-fact.branch [
+      | in-Cut+else-epoch w ↦ subst P (sym w.in-Cut.is) (λ h l. elim w.else-epoch.branch [
+        | else-epoch-via-then-epoch+then-lo-point+else-is_counted u ↦ absurd (let t : IsTrue false = u.if-is_counted.ensures.1 h in cc)
+        | else-epoch-via-then-epoch+else-lo-point u ↦ omega arith
+        | else-epoch-via-else-epoch u ↦ omega arith
+      ])
+      | in_default w ↦ cut_default P c.fact-item.result (λ r. tt) (λ a. tt) w.in_default.not-Cut
+    ])
+
+pub returns : goal.returns
+returns c = (λ h. all_counted_above c.args.log.now c.args.epoch c.args.point (whole (IsAboveIfCounted c.args.log.now c.args.epoch c.args.point) c.args.log.now c.loop-fact.fact-index c.loop-fact-test.false c.loop-fact.invariant), λ h. refl)

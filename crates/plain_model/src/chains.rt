@@ -1,0 +1,8 @@
+/// The two chains in which a record has a backlink.
+#[derive(Clone, Copy, Debug, PartialEq, Eq)]
+pub(crate) enum Chain {
+    /// All records of the segment.
+    Segment,
+    /// The records of one page.
+    Block,
+}
