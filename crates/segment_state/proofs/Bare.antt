@@ -1,31 +1,23 @@
 -- A truncation or an advance by itself is a little state.
-use Rattle.std.proofs.Common.{◌≡◌, ◌≢◌, ℕ, zero, suc, ◌+◌, ◌<◌, ◌≤◌, ◌⊎◌, ◌↔◌, inl, inr, ⊎_elim, List, [], ◌∷◌, ◌++◌, refl, sym, ap, ◌∙◌, subst, arith, Bool, true, false, cond}
+use Rattle.std.proofs.Common.{◌≡◌, ℕ, ◌<◌, ◌↔◌, ⊎_elim, List, [], ◌∷◌, refl, sym, subst, arith}
 use Rattle.std.specs.List.{Contains}
 use Rattle.redo_core.specs.Data.{RecordData, CutData, AdvanceData}
 use Rattle.redo_core.specs.Sets.{IsPart, SameSet, records, cuts, advances}
-use Rattle.redo_core.specs.Order.{IsGreatest, Lists}
 use Rattle.redo_core.specs.Writing.{zeros}
-use Rattle.redo_core.specs.CompleteEpoch.{HasCutsTo, IsCompleteEpoch}
-use Rattle.redo_core.specs.Standing.{IsAlive}
-use Rattle.redo_core.specs.Linked.{Linked, IsLinked, IsLinkedRecord}
 use Rattle.redo_core.specs.Position.{HasAdvance, Position, IsPosition}
-use Rattle.redo_core.specs.PageAt.{IsPageAt}
-use Rattle.redo_core.specs.Order.{BeforeByNumber}
-use Rattle.redo_core.specs.Writing.{after_records}
-use Rattle.redo_core.specs.Linked.Linked.{start, next}
+use Rattle.redo_core.specs.Linked.Linked.{start}
 use Rattle.redo_core.specs.declared.facts.Fact.{Fact}
-use Rattle.redo_core.specs.declared.facts.Fact.TheVariants.{Record, Cut, Advance}
-use Rattle.redo_laws.proofs.Members.{none_in, here, there, which}
-use Rattle.redo_laws.proofs.Log.{IsLog, cut_in, advance_in}
+use Rattle.redo_core.specs.declared.facts.Fact.TheVariants.{Cut}
+use Rattle.redo_laws.proofs.Members.{none_in, which}
 use Rattle.redo_laws.proofs.Fronts.{front_exists}
-use Rattle.segment_state.specs.State.{State, Store, empty_state, version_of, image_of}
+use Rattle.segment_state.specs.State.{State, empty_state, version_of, image_of}
 use Rattle.segment_state.specs.Means.{MeansAt, Means}
 
 -- a state without records and images
 unfoldable pub bare : List CutData → ℕ → List AdvanceData → State
 bare cs min waits = record { cuts = cs; min = min; waits = waits; held = []; base = 0; store = record { images = []; floor = 0 } }
 
-bare_version : (cs : List CutData) (n : ℕ) (ws : List AdvanceData) (g : ℕ) → version_of (bare cs n ws).store g ≡ 0
+pub bare_version : (cs : List CutData) (n : ℕ) (ws : List AdvanceData) (g : ℕ) → version_of (bare cs n ws).store g ≡ 0
 unfolding version_of bare
 bare_version cs n ws g = refl
 

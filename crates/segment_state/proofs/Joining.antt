@@ -1,33 +1,26 @@
 -- What two states know together means the union of what they mean.
-use Rattle.std.proofs.Common.{◌≡◌, ◌≢◌, ℕ, zero, suc, ◌+◌, ◌<◌, ◌≤◌, ◌⊎◌, ◌↔◌, inl, inr, ⊎_elim, List, [], ◌∷◌, ◌++◌, refl, sym, ap, ◌∙◌, subst, arith}
+use Rattle.std.proofs.Common.{◌≡◌, ℕ, ◌<◌, ◌≤◌, ◌⊎◌, ◌↔◌, inl, inr, ⊎_elim, List, ◌++◌, sym, ◌∙◌, subst, arith}
 use Rattle.std.specs.List.{Contains}
 use Rattle.redo_core.specs.Data.{RecordData, CutData, AdvanceData}
 use Rattle.redo_core.specs.Sets.{IsPart, SameSet, records, cuts, advances}
-use Rattle.redo_core.specs.Order.{IsGreatest, Lists}
-use Rattle.redo_core.specs.Writing.{zeros}
+use Rattle.redo_core.specs.Order.{IsGreatest}
 use Rattle.redo_core.specs.CompleteEpoch.{HasCutsTo, IsCompleteEpoch}
-use Rattle.redo_core.specs.Standing.{IsAlive, IsWaiting}
-use Rattle.redo_core.specs.Linked.{Linked, IsLinked, IsLinkedRecord}
+use Rattle.redo_core.specs.Standing.{IsAlive}
+use Rattle.redo_core.specs.Linked.{IsLinked, IsLinkedRecord}
 use Rattle.redo_core.specs.Position.{HasAdvance, Position, IsPosition}
 use Rattle.redo_core.specs.PageAt.{IsPageAt}
 use Rattle.redo_core.specs.Order.{BeforeByNumber}
-use Rattle.redo_core.specs.Writing.{after_records}
-use Rattle.redo_core.specs.Meaning.{Meaning, IsMeaningAt, IsMeaning, IsKept, ImageData, ImageBefore}
-use Rattle.redo_core.specs.Order.{CutBefore, AdvanceBefore, RecordBefore}
 use Rattle.redo_core.specs.declared.facts.Fact.{Fact}
-use Rattle.redo_laws.proofs.Numbers.{greatest_unique, at_greatest}
+use Rattle.redo_laws.proofs.Numbers.{greatest_unique}
 use Rattle.redo_laws.proofs.Log.{IsLog, part_records, part_cuts, part_advances, alive_within}
-use Rattle.redo_laws.proofs.Views.{has_cuts, alive_up, epoch_le, min_le, anchor_is, linked_stays, finality_law}
+use Rattle.redo_laws.proofs.Views.{has_cuts, alive_up, epoch_le, anchor_is, linked_stays, finality_law}
 use Rattle.redo_laws.proofs.Deciding.{settled_lt}
 use Rattle.redo_laws.proofs.Fronts.{front_exists}
 use Rattle.redo_laws.proofs.Meanings.{lists_as}
-use Rattle.redo_laws.proofs.Alike.{greatest_by, cuts_to_by}
+use Rattle.redo_laws.proofs.Alike.{cuts_to_by}
 use Rattle.redo_laws.proofs.Union.{left, right, both, cut_cases, record_cases, advance_cases, mattered, advance_le}
-use Rattle.segment_state.specs.State.{State, Store, version_of, image_of}
+use Rattle.segment_state.specs.State.{State, version_of, image_of}
 use Rattle.segment_state.specs.Means.{MeansAt, Means, Matters, IsFolded}
-use Rattle.segment_state.specs.Shows.{Shows, IsHeldOf}
-use Rattle.segment_state.specs.HasMeaning.{IsKeptBy, HasMeaningAt, HasMeaning}
-use Rattle.segment_state.proofs.Reading.{alive_in_facts, links_law, pages_law}
 
 -- s' is what s and t know together, where k is the complete epoch of their truncations
 pub record JoinsAt (k : ℕ) (s t s' : State) : Type 0 where

@@ -3,3 +3,9 @@ pub mod Joining
 pub mod Same
 pub mod Bare
 pub mod Lone
+pub mod Own
+pub mod OneFact
+pub mod Knowing
+pub mod Learnt
+pub mod Shed
+pub mod Chains

@@ -1,29 +1,23 @@
 -- A record by itself is a little state, and taking it is a join.
-use Rattle.std.proofs.Common.{◌≡◌, ◌≢◌, ℕ, zero, suc, ◌+◌, ◌<◌, ◌≤◌, ◌⊎◌, ◌↔◌, inl, inr, ⊎_elim, List, [], ◌∷◌, ◌++◌, refl, sym, ap, ◌∙◌, subst, arith}
+use Rattle.std.proofs.Common.{◌≡◌, ℕ, ◌<◌, ◌≤◌, ◌⊎◌, inl, inr, ⊎_elim, List, [], ◌∷◌, ◌++◌, refl, sym, subst, arith}
 use Rattle.std.specs.List.{Contains}
 use Rattle.std.proofs.lemmas.List.Elements.{Contains-append_left, Contains-append_right, Contains-append_cases}
 use Rattle.redo_core.specs.Data.{RecordData, CutData, AdvanceData}
-use Rattle.redo_core.specs.Sets.{IsPart, SameSet, records, cuts, advances}
-use Rattle.redo_core.specs.Order.{IsGreatest, Lists}
+use Rattle.redo_core.specs.Sets.{IsPart, records, cuts, advances}
 use Rattle.redo_core.specs.Writing.{zeros}
-use Rattle.redo_core.specs.CompleteEpoch.{HasCutsTo, IsCompleteEpoch}
-use Rattle.redo_core.specs.Standing.{IsAlive}
-use Rattle.redo_core.specs.Linked.{Linked, IsLinked, IsLinkedRecord}
+use Rattle.redo_core.specs.CompleteEpoch.{HasCutsTo}
 use Rattle.redo_core.specs.Position.{HasAdvance, Position, IsPosition}
 use Rattle.redo_core.specs.PageAt.{IsPageAt}
-use Rattle.redo_core.specs.Order.{BeforeByNumber}
-use Rattle.redo_core.specs.Writing.{after_records}
-use Rattle.redo_core.specs.Linked.Linked.{start, next}
+use Rattle.redo_core.specs.Linked.Linked.{start}
 use Rattle.redo_core.specs.declared.facts.Fact.{Fact}
-use Rattle.redo_core.specs.declared.facts.Fact.TheVariants.{Record, Cut, Advance}
-use Rattle.redo_laws.proofs.Members.{none_in, here, there, which}
-use Rattle.redo_laws.proofs.Numbers.{greatest_unique, at_greatest, greatest_le}
-use Rattle.redo_laws.proofs.Log.{IsLog, record_in, part_records}
+use Rattle.redo_core.specs.declared.facts.Fact.TheVariants.{Record}
+use Rattle.redo_laws.proofs.Members.{none_in, here, which}
+use Rattle.redo_laws.proofs.Log.{IsLog, record_in}
 use Rattle.redo_laws.proofs.Fronts.{front_exists}
 use Rattle.redo_laws.proofs.Alike.{greatest_by, cuts_to_by}
-use Rattle.segment_state.specs.State.{State, Store, version_of, image_of}
-use Rattle.segment_state.specs.Means.{MeansAt, Means, Matters, IsFolded}
-use Rattle.segment_state.proofs.Joining.{JoinsAt, Joins}
+use Rattle.segment_state.specs.State.{State, version_of, image_of}
+use Rattle.segment_state.specs.Means.{MeansAt, Means}
+use Rattle.segment_state.proofs.Joining.{Joins}
 use Rattle.segment_state.proofs.Joining.{join_law}
 
 -- the state of one record
@@ -49,7 +43,7 @@ has_record r = here r []
 pub part_of_log : (log : List Fact) (r : RecordData) → Contains (records log) r → IsPart (Record r ∷ []) log
 part_of_log log r h x q = ⊎_elim (λ (e : Record r ≡ x). subst (Contains log) e ((record_in log r).0 h)) (λ (y : Contains [] x). absurd (none_in x y)) (which (Record r) [] x q)
 
-lone_version : (r : RecordData) (g : ℕ) → version_of (lone r).store g ≡ 0
+pub lone_version : (r : RecordData) (g : ℕ) → version_of (lone r).store g ≡ 0
 unfolding version_of lone
 lone_version r g = refl
 

@@ -1,29 +1,29 @@
 -- A state's links and pages are those of the facts that it means.
-use Rattle.std.proofs.Common.{◌≡◌, ◌≢◌, ℕ, zero, suc, ◌+◌, ◌<◌, ◌≤◌, ◌⊎◌, ◌↔◌, inl, inr, ⊎_elim, List, [], ◌∷◌, ◌++◌, refl, sym, ap, ◌∙◌, subst, arith}
-use Rattle.std.specs.List.{Contains, AllByRecursion}
+use Rattle.std.proofs.Common.{◌≡◌, ℕ, ◌<◌, ◌≤◌, ◌⊎◌, ◌↔◌, inl, inr, ⊎_elim, List, [], ◌∷◌, ◌++◌, refl, sym, ap, ◌∙◌, subst, arith}
+use Rattle.std.specs.List.{Contains}
 use Rattle.std.proofs.lemmas.List.Elements.{Contains-append_left, Contains-append_right, Contains-append_cases}
-use Rattle.redo_core.specs.Data.{RecordData, CutData, AdvanceData}
-use Rattle.redo_core.specs.Sets.{IsPart, SameSet, records, cuts, advances}
-use Rattle.redo_core.specs.Order.{IsGreatest, IsRising, Lists}
+use Rattle.redo_core.specs.Data.{RecordData}
+use Rattle.redo_core.specs.Sets.{IsPart, SameSet, records, cuts}
+use Rattle.redo_core.specs.Order.{IsRising, Lists}
 use Rattle.redo_core.specs.Writing.{zeros, write}
-use Rattle.redo_core.specs.CompleteEpoch.{HasCutsTo, IsCompleteEpoch}
-use Rattle.redo_core.specs.Standing.{IsAlive, IsWaiting}
+use Rattle.redo_core.specs.CompleteEpoch.{HasCutsTo}
+use Rattle.redo_core.specs.Standing.{IsAlive}
 use Rattle.redo_core.specs.Linked.{Linked, IsLinked, IsLinkedRecord}
-use Rattle.redo_core.specs.Position.{HasAdvance, Position, IsPosition}
+use Rattle.redo_core.specs.Position.{Position}
 use Rattle.redo_core.specs.PageAt.{IsPageAt}
 use Rattle.redo_core.specs.Order.{BeforeByNumber}
 use Rattle.redo_core.specs.Writing.{after_records}
 use Rattle.redo_core.specs.Linked.Linked.{start, next}
 use Rattle.redo_core.specs.declared.facts.Fact.{Fact}
-use Rattle.redo_laws.proofs.Members.{none_in, here, there, which, each, lists_unique}
+use Rattle.redo_laws.proofs.Members.{here, there, each}
 use Rattle.redo_laws.proofs.Numbers.{at_greatest}
-use Rattle.redo_laws.proofs.Deciding.{all_of, Settled, settled_le, settled_lt, in_order}
+use Rattle.redo_laws.proofs.Deciding.{all_of, settled_lt, in_order}
 use Rattle.redo_laws.proofs.Log.{IsLog, part_records, part_cuts, alive_within}
-use Rattle.redo_laws.proofs.Views.{has_cuts, alive_up, alive_down, alone, alive_then, prefix_law, anchor_is}
-use Rattle.redo_laws.proofs.Meanings.{lists_as, page_exists, nat_order}
+use Rattle.redo_laws.proofs.Views.{has_cuts, alive_up, alone, alive_then, prefix_law}
+use Rattle.redo_laws.proofs.Meanings.{lists_as, nat_order}
 use Rattle.redo_laws.proofs.Fronts.{page_unique}
-use Rattle.segment_state.specs.State.{State, Store, version_of, image_of}
-use Rattle.segment_state.specs.Means.{MeansAt, Means, Matters, IsFolded}
+use Rattle.segment_state.specs.State.{State, version_of, image_of}
+use Rattle.segment_state.specs.Means.{MeansAt, IsFolded}
 use Rattle.segment_state.specs.Shows.{Shows, IsHeldOf}
 
 -- lists, one after the other

@@ -1,36 +1,32 @@
 -- A state's meaning is that of the facts that it means; a fact is a little state.
-use Rattle.std.proofs.Common.{◌≡◌, ◌≢◌, ℕ, zero, suc, ◌+◌, ◌<◌, ◌≤◌, ◌⊎◌, ◌↔◌, inl, inr, ⊎_elim, List, [], ◌∷◌, ◌++◌, refl, sym, ap, ◌∙◌, subst, arith}
+use Rattle.std.proofs.Common.{◌≡◌, ◌≢◌, ℕ, ◌<◌, ◌≤◌, ◌⊎◌, ◌↔◌, inl, inr, ⊎_elim, List, sym, ◌∙◌, subst, arith}
 use Rattle.std.specs.List.{Contains}
-use Rattle.redo_core.specs.Data.{RecordData, CutData, AdvanceData}
-use Rattle.redo_core.specs.Sets.{IsPart, SameSet, records, cuts, advances}
+use Rattle.redo_core.specs.Data.{RecordData}
+use Rattle.redo_core.specs.Sets.{SameSet, cuts}
 use Rattle.redo_core.specs.Order.{IsGreatest, Lists}
 use Rattle.redo_core.specs.Writing.{zeros}
-use Rattle.redo_core.specs.CompleteEpoch.{HasCutsTo, IsCompleteEpoch}
+use Rattle.redo_core.specs.CompleteEpoch.{HasCutsTo}
 use Rattle.redo_core.specs.Standing.{IsAlive, IsWaiting}
-use Rattle.redo_core.specs.Linked.{Linked, IsLinked, IsLinkedRecord}
-use Rattle.redo_core.specs.Position.{HasAdvance, Position, IsPosition}
+use Rattle.redo_core.specs.Linked.{Linked}
+use Rattle.redo_core.specs.Position.{Position}
 use Rattle.redo_core.specs.PageAt.{IsPageAt}
-use Rattle.redo_core.specs.Order.{BeforeByNumber}
-use Rattle.redo_core.specs.Writing.{after_records}
-use Rattle.redo_core.specs.Linked.Linked.{start, next}
 use Rattle.redo_core.specs.Meaning.{Meaning, IsMeaningAt, IsMeaning, IsKept, ImageData, ImageBefore}
 use Rattle.redo_core.specs.Order.{CutBefore, AdvanceBefore, RecordBefore}
 use Rattle.redo_core.specs.declared.facts.Fact.{Fact}
-use Rattle.redo_core.specs.declared.facts.Fact.TheVariants.{Record, Cut, Advance}
-use Rattle.redo_laws.proofs.Numbers.{greatest_unique, at_greatest}
-use Rattle.redo_laws.proofs.Log.{IsLog, part_records, part_cuts, alive_within}
-use Rattle.redo_laws.proofs.Views.{has_cuts, anchor_is}
+use Rattle.redo_laws.proofs.Numbers.{greatest_unique}
+use Rattle.redo_laws.proofs.Log.{IsLog}
+use Rattle.redo_laws.proofs.Views.{anchor_is}
 use Rattle.redo_laws.proofs.Fronts.{front_unique, same_sym}
 use Rattle.redo_laws.proofs.Meanings.{lists_as}
 use Rattle.redo_laws.proofs.Alike.{greatest_by, cuts_to_by}
-use Rattle.segment_state.specs.State.{State, Store, version_of, image_of}
+use Rattle.segment_state.specs.State.{State}
 use Rattle.segment_state.specs.Means.{MeansAt, Means, Matters, IsFolded}
-use Rattle.segment_state.specs.Shows.{Shows, IsHeldOf}
+use Rattle.segment_state.specs.Shows.{Shows}
 use Rattle.segment_state.specs.HasMeaning.{IsKeptBy, HasMeaningAt, HasMeaning}
 use Rattle.segment_state.proofs.Reading.{alive_in_facts, links_law, pages_law}
 
 -- the state's anchor is the facts'
-anchor_as : (log F : List Fact) (f : Position) (s : State) → IsLog log → MeansAt log F f s → (a : ℕ) → IsGreatest (λ n. Linked s.cuts s.held f.epoch s.base n × (n ≤ s.min)) a → a ≡ f.anchor
+pub anchor_as : (log F : List Fact) (f : Position) (s : State) → IsLog log → MeansAt log F f s → (a : ℕ) → IsGreatest (λ n. Linked s.cuts s.held f.epoch s.base n × (n ≤ s.min)) a → a ≡ f.anchor
 anchor_as log F f s l m a h =
     let am = anchor_is F f m.position in
     let le : f.anchor ≤ f.min = am.1 in let x : s.min ≡ f.min = m.same_min in
@@ -41,7 +37,7 @@ anchor_as log F f s l m a h =
     (λ (p : Linked s.cuts s.held f.epoch s.base a × (a ≤ s.min)). let b : a ≤ f.anchor = m.position.anchor.1 a (((links_law log F f s a l m).0 p.0).0, let c : a ≤ s.min = p.1 in omega arith) in omega arith)
     h.0
 
-anchor_of : (log F : List Fact) (f : Position) (s : State) → IsLog log → MeansAt log F f s → IsGreatest (λ n. Linked s.cuts s.held f.epoch s.base n × (n ≤ s.min)) f.anchor
+pub anchor_of : (log F : List Fact) (f : Position) (s : State) → IsLog log → MeansAt log F f s → IsGreatest (λ n. Linked s.cuts s.held f.epoch s.base n × (n ≤ s.min)) f.anchor
 anchor_of log F f s l m =
     let am = anchor_is F f m.position in
     let le : f.anchor ≤ f.min = am.1 in let x : s.min ≡ f.min = m.same_min in (
@@ -49,7 +45,7 @@ anchor_of log F f s l m =
       λ n h. m.position.anchor.1 n (((links_law log F f s n l m).0 h.0).0, let c : n ≤ s.min = h.1 in omega arith),
     )
 
-kept_as : (log F : List Fact) (f : Position) (s : State) → MeansAt log F f s → (r : RecordData) → IsKeptBy s f.epoch f.anchor r ↔ IsKept F f r
+pub kept_as : (log F : List Fact) (f : Position) (s : State) → MeansAt log F f s → (r : RecordData) → IsKeptBy s f.epoch f.anchor r ↔ IsKept F f r
 kept_as log F f s m r = (
   λ h.
       let b : IsWaiting f.epoch r.epoch ⊎ (IsAlive (cuts F) f.epoch r.epoch r.number × (f.anchor < r.number)) =

@@ -1,5 +1,5 @@
 -- What a state tells by itself: its position and its meaning.
-use Rattle.std.specs.Prelude.{◌≡◌, ◌≢◌, ℕ, ◌<◌, ◌≤◌, ◌⊎◌, List}
+use Rattle.std.specs.Prelude.{◌≡◌, ◌≢◌, ℕ, ◌<◌, ◌≤◌, ◌⊎◌}
 use Rattle.std.specs.List.{Contains}
 use Rattle.redo_core.specs.Data.{RecordData}
 use Rattle.redo_core.specs.Order.{IsGreatest, Lists, CutBefore, AdvanceBefore, RecordBefore}
@@ -8,7 +8,7 @@ use Rattle.redo_core.specs.Standing.{IsAlive, IsWaiting}
 use Rattle.redo_core.specs.Linked.{Linked}
 use Rattle.redo_core.specs.Position.{Position}
 use Rattle.redo_core.specs.Writing.{zeros}
-use Rattle.redo_core.specs.Meaning.{Meaning, ImageData, ImageBefore}
+use Rattle.redo_core.specs.Meaning.{Meaning, ImageBefore}
 use Rattle.segment_state.specs.State.{State}
 use Rattle.segment_state.specs.Shows.{Shows}
 

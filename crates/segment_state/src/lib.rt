@@ -1,13 +1,111 @@
 //! What a stored state of a segment means, and the laws of its changes, over the definitions alone.
 //!
 //! A segment keeps no set of what it took: `Means` says which facts its truncations, minimum, held records, base point and
-//! images stand for. A segment shows what a step does to its stored lists (`LearnsCut`, `PutsRecord`, `Discards` ..), and a law
-//! of this crate gives from that what its call promises (`TakesFact`, `KeepsMeaning`). Each law is a function with an empty body.
+//! images stand for. A segment shows what a step does to its stored lists (`LearnsCut`, `PutsRecord`, `Discards` and others),
+//! and a law of this crate gives from that what its call promises (`TakesFact`, `KeepsMeaning`). What it answers is true of the
+//! facts by the laws of links, positions, pages and meanings. Each law is a function with an empty body.
 #![tactic(auto)]
 
-ghost use Rattle.segment_state.specs.Laws.{EmptyMeansNone};
+ghost use Rattle.segment_state.specs.Laws.{EmptyMeansNone, SameLinks, SamePosition, SameAnchor, TruePages, WholeBlockChains, SameMeaning, SameKept};
+ghost use Rattle.segment_state.specs.Laws.{UnchangedExactly, TakesKnown, NoConflict, TakesRecord, TakesCut, TakesAdvance};
+ghost use Rattle.segment_state.specs.Laws.{FinalPages, AnchorPageIsFinal, CommitKeeps, FoldKeeps, DiscardKeeps, RemovalKeeps};
 
 /// A segment that stores nothing means no facts.
 pub fn empty_means_none()
     ensures { EmptyMeansNone }
+{}
+
+/// From the base point on, the numbers that the held records link are those that the facts link.
+pub fn same_links()
+    ensures { SameLinks }
+{}
+
+/// The complete epoch, complete point, minimum read point and anchor that a segment finds are those of its facts.
+pub fn same_position()
+    ensures { SamePosition }
+{}
+
+/// The complete epoch and the anchor alone, for a segment that needs no complete point.
+pub fn same_anchor()
+    ensures { SameAnchor }
+{}
+
+/// From the anchor to the complete point, an image with the held records above its version is the page of the facts.
+pub fn true_pages()
+    ensures { TruePages }
+{}
+
+/// Each block backlink leads into the image or to the record applied before it, so no read over a sound log finds a gap.
+pub fn whole_block_chains()
+    ensures { WholeBlockChains }
+{}
+
+/// The meaning computed from what a segment stores is the meaning of its facts.
+pub fn same_meaning()
+    ensures { SameMeaning }
+{}
+
+/// The records that a segment has to keep are those that its facts keep.
+pub fn same_kept()
+    ensures { SameKept }
+{}
+
+/// A fact leaves the meaning as it is exactly where the segment knows it.
+pub fn unchanged_exactly()
+    ensures { UnchangedExactly }
+{}
+
+/// A segment that knows a fact has taken it.
+pub fn takes_known()
+    ensures { TakesKnown }
+{}
+
+/// Over a sound log, no fact conflicts with what a segment stores.
+pub fn no_conflict()
+    ensures { NoConflict }
+{}
+
+/// A held record more means the record more.
+pub fn takes_record()
+    ensures { TakesRecord }
+{}
+
+/// A truncation more, with the waiting advances that it brings to count, means the truncation more.
+pub fn takes_cut()
+    ensures { TakesCut }
+{}
+
+/// An advance that counts, or waits, means the advance more.
+pub fn takes_advance()
+    ensures { TakesAdvance }
+{}
+
+/// A page at a version that some part of the log has settled is the page of every segment of the log that has settled it.
+pub fn final_pages()
+    ensures { FinalPages }
+{}
+
+/// The page that a segment shows at its anchor is settled for good.
+pub fn anchor_page_is_final()
+    ensures { AnchorPageIsFinal }
+{}
+
+/// A commit of a settled page at a version up to the anchor keeps the meaning.
+pub fn commit_keeps()
+    ensures { CommitKeeps }
+{}
+
+/// A fold of a page to the segment's own anchor keeps the meaning.
+pub fn fold_keeps()
+    ensures { FoldKeeps }
+{}
+
+/// A discard up to the anchor of records that their pages' images hold keeps the meaning.
+pub fn discard_keeps()
+    ensures { DiscardKeeps }
+{}
+
+/// A removal of dead records keeps the meaning.
+pub fn removal_keeps()
+    ensures { RemovalKeeps }
 {}

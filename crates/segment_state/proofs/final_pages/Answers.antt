@@ -1,0 +1,5 @@
+use Rattle.segment_state.proofs.Shed.{final_pages}
+use Rattle.segment_state.proofs.final_pages.Goals as goal
+
+pub returns : goal.returns
+returns c = final_pages

@@ -1,0 +1,6 @@
+use Rattle.redo_laws.proofs.Log.{log_of_sound}
+use Rattle.segment_state.proofs.Own.{anchor_law}
+use Rattle.segment_state.proofs.same_anchor.Goals as goal
+
+pub returns : goal.returns
+returns c = λ log facts p s k anchor sound. anchor_law log facts p s k anchor (log_of_sound log sound)
