@@ -1,0 +1,13 @@
+pub mod Readers
+pub mod FieldReaders
+pub mod ListReaders
+pub mod Loops
+pub mod Elements
+pub mod WriteReaders
+pub mod FactReaders
+pub mod Orders
+pub mod Epochs
+pub mod BookReaders
+pub mod SummaryReaders
+pub mod DeltaReaders
+pub mod Spellings

@@ -1,0 +1,98 @@
+-- Elements judged one after the other, each against the last, are a rising list.
+use Rattle.std.proofs.Common.{◌≡◌, ℕ, ◌+◌, ◌<◌, ◌≤◌, Bool, true, ltb, leb, eqb, List, [], ◌∷◌, refl, arith, inl, inr}
+use Rattle.std.specs.Prelude.{◌⊎◌}
+use Rattle.std.specs.List.{AllByRecursion}
+use Rattle.std.proofs.lemmas.Bool.{ltb-true, leb-true, eqb-true, lt-ltb, le-leb, eq-eqb, and_parts, and_from, or_cases, or_left, or_right, cases_lt}
+use Rattle.redo_core.specs.Data.{CutData}
+use Rattle.redo_core.specs.Order.{IsRising, PairBefore, CutBefore}
+use Rattle.redo_core.specs.Meaning.{ImageData, ImageBefore}
+use Rattle.redo_wire.specs.Places.{Place, is_above}
+use Rattle.redo_wire.proofs.ListReaders.{EachFrom}
+
+pub All-weaker : {X : Type 0} (P Q : X → Type 0) → ((x : X) → P x → Q x) → (xs : List X) → AllByRecursion P xs → AllByRecursion Q xs
+All-weaker P Q f [] h = tt
+All-weaker P Q f (x ∷ xs) h = (f x h.0, All-weaker P Q f xs h.1)
+
+pub All-both : {X : Type 0} (P Q : X → Type 0) (xs : List X) → AllByRecursion P xs → AllByRecursion Q xs → AllByRecursion (λ x. P x × Q x) xs
+All-both P Q [] h k = tt
+All-both P Q (x ∷ xs) h k = ((h.0, k.0), All-both P Q xs h.1 k.1)
+
+-- a test against the place of the element before, and the order that it tests
+pub record Tests {S A : Type 0} (above : S → A → Bool) (place : A → S) (Before : A → A → Type 0) : Type 0 where
+  pub before : (x y : A) → above (place x) y ≡ true → Before x y
+  pub passes : (x y : A) → Before x y → above (place x) y ≡ true
+  pub through : (s : S) (x y : A) → above s x ≡ true → Before x y → above s y ≡ true
+
+-- an element that passes the test and has P
+abbrev pub IsNext : {S A : Type 0} → (S → A → Bool) → (A → Type 0) → S → A → Type 0
+IsNext above P s x = (above s x ≡ true) × P x
+
+pub rising_from_each : {S A : Type 0} (above : S → A → Bool) (place : A → S) (Before : A → A → Type 0) (P : A → Type 0) → Tests above place Before
+    → (s : S) (xs : List A) → EachFrom (IsNext above P) (λ last x. place x) s xs → AllByRecursion (λ x. above s x ≡ true) xs × IsRising Before xs × AllByRecursion P xs
+rising_from_each above place Before P tests s [] h = (tt, tt, tt)
+rising_from_each above place Before P tests s (x ∷ xs) h =
+    let r = rising_from_each above place Before P tests (place x) xs h.1 in
+    let befores = All-weaker (λ y. above (place x) y ≡ true) (Before x) (λ y e. tests.before x y e) xs r.0 in
+    let aboves = All-weaker (Before x) (λ y. above s y ≡ true) (λ y b. tests.through s x y h.0.0 b) xs befores in
+    ((h.0.0, aboves), (befores, r.1), (h.0.1, r.2))
+
+pub each_from_rising : {S A : Type 0} (above : S → A → Bool) (place : A → S) (Before : A → A → Type 0) (P : A → Type 0) → Tests above place Before
+    → (s : S) (xs : List A) → AllByRecursion (λ x. above s x ≡ true) xs → IsRising Before xs → AllByRecursion P xs → EachFrom (IsNext above P) (λ last x. place x) s xs
+each_from_rising above place Before P tests s [] aboves rising all = tt
+each_from_rising above place Before P tests s (x ∷ xs) aboves rising all =
+    let passes = All-weaker (Before x) (λ y. above (place x) y ≡ true) (λ y b. tests.passes x y b) xs rising.0 in
+    ((aboves.0, all.0), each_from_rising above place Before P tests (place x) xs passes rising.1 all.1)
+
+-- ---- the orders of the wire
+
+pub cut_tests : Tests (λ last c. ltb last c.epoch) (λ c. c.epoch) CutBefore
+cut_tests = record {
+  before = λ x y e. ltb-true _ _ e;
+  passes = λ x y lt. lt-ltb _ _ lt;
+  through = λ s x y e lt. let above : s < x.epoch = ltb-true _ _ e in lt-ltb _ _ (omega arith);
+}
+
+pub image_tests : Tests (λ least p. leb least p.page) (λ p. p.page + 1) ImageBefore
+image_tests = record {
+  before = λ x y e. let least : x.page + 1 ≤ y.page = leb-true _ _ e in omega arith;
+  passes = λ x y lt. le-leb _ _ (omega arith);
+  through = λ s x y e lt. let least : s ≤ x.page = leb-true _ _ e in le-leb _ _ (omega arith);
+}
+
+pub pair_from_above : (p q : Place) → is_above p q ≡ true → PairBefore p.0 p.1 q.0 q.1
+pair_from_above p q e =
+    elim (or_cases (ltb p.0 q.0) _ e) [
+      | inl lt ↦ inl (ltb-true _ _ lt)
+      | inr both ↦ let parts = and_parts (eqb p.0 q.0) (ltb p.1 q.1) both in inr (eqb-true _ _ parts.0, ltb-true _ _ parts.1)
+    ]
+
+pub above_from_pair : (p q : Place) → PairBefore p.0 p.1 q.0 q.1 → is_above p q ≡ true
+above_from_pair p q h =
+    elim h [
+      | inl lt ↦ or_left _ _ (lt-ltb p.0 q.0 lt)
+      | inr both ↦ or_right _ _ (and_from _ _ (eq-eqb p.0 q.0 both.0) (lt-ltb p.1 q.1 both.1))
+    ]
+
+PairBefore-trans : (a b c d e f : ℕ) → PairBefore a b c d → PairBefore c d e f → PairBefore a b e f
+PairBefore-trans a b c d e f h k =
+    elim h [
+      | inl lt ↦ elim k [
+        | inl lt' ↦ inl (omega arith)
+        | inr both' ↦ inl (omega (arith, both'.0))
+      ]
+      | inr both ↦ elim k [
+        | inl lt' ↦ inl (omega (arith, both.0))
+        | inr both' ↦ inr (omega (arith, both.0, both'.0), omega (arith, both.1, both'.1))
+      ]
+    ]
+
+pub place_tests : {A : Type 0} (epoch number : A → ℕ) → Tests (λ last x. is_above last (epoch x, number x)) (λ x. (epoch x, number x)) (λ x y. PairBefore (epoch x) (number x) (epoch y) (number y))
+place_tests epoch number = record {
+  before = λ x y e. pair_from_above (epoch x, number x) (epoch y, number y) e;
+  passes = λ x y h. above_from_pair (epoch x, number x) (epoch y, number y) h;
+  through = λ s x y e h. above_from_pair s (epoch y, number y) (PairBefore-trans s.0 s.1 (epoch x) (number x) (epoch y) (number y) (pair_from_above s (epoch x, number x) e) h);
+}
+
+-- (0, 0) is below each place with a number
+pub above_zero : (epoch number : ℕ) → 0 < number → is_above (0, 0) (epoch, number) ≡ true
+above_zero epoch number pos = above_from_pair (0, 0) (epoch, number) (elim (cases_lt 0 epoch) [ inl lt ↦ inl lt | inr le ↦ inr (omega (arith, le), pos) ])

@@ -1,0 +1,68 @@
+-- Deltas: which there are, and the one spelling of each.
+use Rattle.std.specs.Prelude.{◌≡◌, ◌≢◌, ℕ, ◌<◌, ◌≤◌, ◌^◌, Bool, List, [], ◌∷◌, ◌++◌, length, nat_le, ◌||◌}
+use Rattle.std.specs.List.{AllByRecursion, flat_map}
+use Rattle.redo_core.specs.Data.{RecordData}
+use Rattle.redo_core.specs.Order.{IsRising, RecordBefore}
+use Rattle.redo_core.specs.Writing.{zeros}
+use Rattle.redo_core.specs.Meaning.{ImageData, ImageBefore}
+use Rattle.redo_wire.specs.Fields.{u16, u32, u48}
+use Rattle.redo_wire.specs.Tags.{record_tag, delta_tag}
+use Rattle.redo_wire.specs.Facts.{IsWireRecord, record_bytes}
+use Rattle.redo_wire.specs.Books.{BookData, IsBook, IsWireBook, is_long_book, book_bytes}
+
+-- the book, the base point with the pages there, and records
+pub record DeltaData : Type 0 where
+  pub book : BookData
+  pub base : ℕ
+  pub pages : List ImageData
+  pub records : List RecordData
+
+abbrev pub delta_of : BookData → ℕ → List ImageData → List RecordData → DeltaData
+delta_of book base pages records = record { book = book; base = base; pages = pages; records = records }
+
+abbrev pub image_of : ℕ → List ℕ → ImageData
+image_of page bytes = record { page = page; bytes = bytes }
+
+-- ---- which there are
+
+-- a base up to the minimum read point, pages in order and none of zeros, none at all at base 0, and records in order
+pub record IsDelta (d : DeltaData) : Type 0 where
+  pub book : IsBook d.book
+  pub base : d.base ≤ d.book.min
+  pub no_base : d.base ≡ 0 → d.pages ≡ []
+  pub pages : IsRising ImageBefore d.pages
+  pub each_page : AllByRecursion (λ p. p.bytes ≢ zeros) d.pages
+  pub records : IsRising RecordBefore d.records
+
+pub record IsWireImage (p : ImageData) : Type 0 where
+  pub page : p.page < 2 ^ 16
+  pub size : length p.bytes ≡ 4096
+
+-- Moreover its elements have the fields that their types hold, and its lists are no longer than their count fields hold.
+pub record IsWireDelta (d : DeltaData) : Type 0 where
+  pub shape : IsDelta d
+  pub book : IsWireBook d.book
+  pub each_page : AllByRecursion IsWireImage d.pages
+  pub each_record : AllByRecursion IsWireRecord d.records
+  pub page_count : length d.pages < 2 ^ 32
+  pub record_count : length d.records < 2 ^ 32
+
+-- a list is longer than its count field holds
+abbrev pub is_long_delta : DeltaData → Bool
+is_long_delta d = is_long_book d.book || nat_le 4294967296 (length d.pages) || nat_le 4294967296 (length d.records)
+
+-- ---- spelling
+
+abbrev pub image_bytes : ImageData → List ℕ
+image_bytes p = u16 p.page ++ p.bytes
+
+-- a record as an element of a list: with its tag
+abbrev pub tagged_record_bytes : RecordData → List ℕ
+tagged_record_bytes r = (record_tag ∷ []) ++ record_bytes r
+
+abbrev pub delta_bytes : DeltaData → List ℕ
+delta_bytes d = (delta_tag ∷ []) ++ book_bytes d.book ++ u48 d.base ++ u32 (length d.pages) ++ flat_map image_bytes d.pages ++ u32 (length d.records) ++ flat_map tagged_record_bytes d.records
+
+-- the bytes spell the delta
+abbrev pub SpellsDelta : DeltaData → List ℕ → Type 0
+SpellsDelta d bytes = IsWireDelta d × (bytes ≡ delta_bytes d)

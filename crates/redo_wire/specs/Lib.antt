@@ -1,0 +1,16 @@
+pub mod Faults
+pub mod Reading
+pub mod Fields
+pub mod Lists
+pub mod Outcomes
+pub mod Tags
+pub mod Places
+pub mod Facts
+pub mod FactReading
+pub mod Books
+pub mod BookReading
+pub mod Summaries
+pub mod SummaryReading
+pub mod Deltas
+pub mod DeltaReading
+pub mod Laws

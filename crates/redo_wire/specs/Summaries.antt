@@ -1,0 +1,57 @@
+-- Summaries: which there are, and the one spelling of each.
+use Rattle.std.specs.Prelude.{◌≡◌, ℕ, ◌<◌, ◌≤◌, ◌^◌, Bool, List, [], ◌∷◌, ◌++◌, length, nat_le, ◌||◌}
+use Rattle.std.specs.List.{AllByRecursion, flat_map}
+use Rattle.redo_core.specs.Shape.{max_number}
+use Rattle.redo_core.specs.Order.{IsRising, PairBefore}
+use Rattle.redo_wire.specs.declared.keys.Key.{Key}
+use Rattle.redo_wire.specs.Fields.{u16, u32, u48}
+use Rattle.redo_wire.specs.Tags.{summary_tag}
+use Rattle.redo_wire.specs.Books.{BookData, IsBook, IsWireBook, is_long_book, book_bytes}
+
+-- the book, the anchor and the keys of the records that a segment keeps
+pub record SummaryData : Type 0 where
+  pub book : BookData
+  pub anchor : ℕ
+  pub keys : List Key
+
+abbrev pub summary_of : BookData → ℕ → List Key → SummaryData
+summary_of book anchor keys = record { book = book; anchor = anchor; keys = keys }
+
+-- ---- which there are
+
+-- keys by epoch, then number
+abbrev pub KeyBefore : Key → Key → Type 0
+KeyBefore k l = PairBefore k.epoch k.number l.epoch l.number
+
+abbrev pub IsKey : Key → Type 0
+IsKey k = (0 < k.number) × (k.number ≤ max_number)
+
+-- an anchor up to the minimum read point, and keys in order
+pub record IsSummary (s : SummaryData) : Type 0 where
+  pub book : IsBook s.book
+  pub anchor : s.anchor ≤ s.book.min
+  pub keys : IsRising KeyBefore s.keys
+  pub each_key : AllByRecursion IsKey s.keys
+
+-- Moreover its elements have the fields that their types hold, and its lists are no longer than their count fields hold.
+pub record IsWireSummary (s : SummaryData) : Type 0 where
+  pub shape : IsSummary s
+  pub book : IsWireBook s.book
+  pub each_key : AllByRecursion (λ k. k.epoch < 2 ^ 16) s.keys
+  pub key_count : length s.keys < 2 ^ 32
+
+-- a list is longer than its count field holds
+abbrev pub is_long_summary : SummaryData → Bool
+is_long_summary s = is_long_book s.book || nat_le 4294967296 (length s.keys)
+
+-- ---- spelling
+
+abbrev pub key_bytes : Key → List ℕ
+key_bytes k = u16 k.epoch ++ u48 k.number
+
+abbrev pub summary_bytes : SummaryData → List ℕ
+summary_bytes s = (summary_tag ∷ []) ++ book_bytes s.book ++ u48 s.anchor ++ u32 (length s.keys) ++ flat_map key_bytes s.keys
+
+-- the bytes spell the summary
+abbrev pub SpellsSummary : SummaryData → List ℕ → Type 0
+SpellsSummary s bytes = IsWireSummary s × (bytes ≡ summary_bytes s)

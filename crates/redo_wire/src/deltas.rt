@@ -1,0 +1,343 @@
+ghost use Rattle.std.specs.Prelude.{◌≡◌, ◌↔◌, ◌⊎◌, ◌++◌, true, false, length, IfOk, IfErr, OnOk, OnErr, Ok, IsErrOf};
+ghost use Rattle.std.specs.List.{AllByRecursion, flat_map};
+ghost use Rattle.redo_wire.specs.declared.faults.WireError.{WireError};
+ghost use Rattle.redo_wire.specs.declared.faults.WireFault.TheVariants.{TooLong};
+ghost use Rattle.redo_wire.specs.Lists.{each_at};
+ghost use Rattle.redo_wire.specs.Outcomes.{Gives, Answers};
+ghost use Rattle.redo_wire.specs.Facts.{IsWireRecord};
+ghost use Rattle.redo_wire.specs.Deltas.{DeltaData, delta_of, IsDelta, IsWireImage, IsWireDelta, is_long_delta, image_bytes, tagged_record_bytes, delta_bytes, SpellsDelta};
+ghost use Rattle.redo_wire.specs.DeltaReading.{may_have, page_after, next_image_at, tagged_record_at, record_place, next_record_at, delta_part_at, delta_at, decoded_delta};
+
+use crate::books::{Book, put_book, read_book};
+use crate::facts::{put_record, read_record};
+use crate::faults::{WireError, WireFault};
+use crate::fields::{put_u32, put_u48, read_byte, read_u32, read_u48};
+use crate::images::{PageImage, put_image, read_image};
+use crate::keys::is_place_above;
+use crate::room::list_with_room;
+use crate::tags;
+use bytes::{BufMut, BytesMut};
+use redo_core::Record;
+use std::alloc::{AllocError, Global};
+use std::marker::Model;
+use std::mem::size_of;
+
+const IMAGE_SIZE: usize = size_of::<PageImage>();
+
+const RECORD_SIZE: usize = size_of::<Record>();
+
+/// What one segment sends to another: its book, a base point up to the minimum read point with the pages there, none of
+/// zeros, by number, and records by epoch and number. At base 0 there are no pages.
+#[derive(Debug, Drop)]
+pub struct Delta {
+    book: Book,
+    base: u64,
+    pages: Vec<PageImage>,
+    records: Vec<Record>,
+}
+
+impl Model for Delta {
+    ghost use Rattle.redo_wire.specs.Deltas.{DeltaData, delta_of, IsDelta};
+
+    ghost Value = { DeltaData };
+
+    ghost view = { λ d. delta_of d.book d.base d.pages.items d.records.items };
+
+    ghost invariant = { λ d. IsDelta (delta_of d.book d.base d.pages.items d.records.items) };
+}
+
+impl Delta {
+    /// A delta of a book, a base, pages and records.
+    pub fn new(book: Book, base: u64, pages: Vec<PageImage>, records: Vec<Record>) -> Self
+        requires { IsDelta (delta_of book base pages.items records.items) }
+        ensures { result ≡ delta_of book base pages.items records.items }
+    {
+        Delta {
+            book,
+            base,
+            pages,
+            records,
+        }
+    }
+
+    pub fn book(&self) -> &Book
+        ensures book { result.now ≡ self.now.book }
+        ensures shape { IsDelta self.now }
+    {
+        &self.book
+    }
+
+    /// The base point, up to the minimum read point.
+    pub fn base(&self) -> u64
+        ensures base { result ≡ self.now.base }
+        ensures shape { IsDelta self.now }
+    {
+        self.base
+    }
+
+    pub fn pages(&self) -> &[PageImage]
+        ensures pages { result.now ≡ self.now.pages }
+        ensures shape { IsDelta self.now }
+    {
+        &self.pages
+    }
+
+    pub fn records(&self) -> &[Record]
+        ensures records { result.now ≡ self.now.records }
+        ensures shape { IsDelta self.now }
+    {
+        &self.records
+    }
+
+    /// An equal delta with memory of its own. Its only error is want of memory.
+    pub fn copy(&self) -> Result<Self, AllocError>
+        ensures { IfOk result (λ d. d ≡ self.now) }
+    {
+        Ok(Delta {
+            book: self.book.copy()?,
+            base: self.base,
+            pages: copied_pages(&self.pages)?,
+            records: copied_records(&self.records)?,
+        })
+    }
+
+    /// Whether a list is longer than its count field holds.
+    fn has_long_list(&self) -> bool
+        ensures { result ≡ is_long_delta self.now }
+    {
+        self.book().has_long_list()
+            || self.pages().len() >= 4294967296
+            || self.records().len() >= 4294967296
+    }
+}
+
+fn copied_pages(pages: &Vec<PageImage>) -> Result<Vec<PageImage>, AllocError>
+    ensures { IfOk result (λ v. v.items ≡ pages.now.items) }
+{
+    let mut copied = Vec::new(*pages.allocator());
+    for image in pages {
+        copied.push(image.copy()?)?;
+    }
+    Ok(copied)
+}
+
+fn copied_records(records: &Vec<Record>) -> Result<Vec<Record>, AllocError>
+    ensures { IfOk result (λ v. v.items ≡ records.now.items) }
+{
+    let mut copied = Vec::new(*records.allocator());
+    for redo in records {
+        copied.push(redo.copy()?)?;
+    }
+    Ok(copied)
+}
+
+/// The delta that the bytes spell, all of them.
+///
+/// Errors: the first fault from front to back (never `TooLong`), or `Memory`.
+pub fn decode_delta(alloc: Global, bytes: &[u8]) -> Result<Delta, WireError>
+    // What is read is what the bytes spell.
+    ensures found { IfOk result (λ d. SpellsDelta d bytes.now) }
+
+    // What the bytes spell is read, unless memory runs out.
+    ensures spelled { (d : DeltaData) → SpellsDelta d bytes.now → Answers result (Ok d) }
+
+    // Which fault comes where they spell nothing.
+    ensures fault { Answers result (decoded_delta bytes.now) }
+{
+    whole_delta(alloc, bytes)
+}
+
+/// Appends the one spelling of the delta.
+///
+/// Errors: `TooLong`, exactly where a list is longer than its count field holds, or `Memory`. Nothing has changed then.
+pub fn encode_delta(out: &mut BytesMut, delta: &Delta) -> Result<(), WireError>
+    ensures ok { OnOk result (out.new.items ≡ out.old.items ++ delta_bytes delta.now) }
+    ensures spelled { OnOk result (SpellsDelta delta.now (delta_bytes delta.now)) }
+    ensures err { OnErr result (out.new.items ≡ out.old.items) }
+    ensures too_long { IsErrOf result (WireError.Fault TooLong) ↔ (is_long_delta delta.now ≡ true) }
+    ensures only { IfErr result (λ e. (e ≡ WireError.Fault TooLong) ⊎ (e ≡ WireError.Memory)) }
+{
+    if delta.has_long_list() {
+        return Err(WireError::Fault(WireFault::TooLong));
+    }
+    let mut text = BytesMut::new(*out.allocator());
+    put_delta(&mut text, delta)?;
+    out.extend_from_slice(text.as_slice())?;
+    Ok(())
+}
+
+// ---- reading
+
+fn read_next_image(alloc: Global, least: u32, bytes: &[u8]) -> Result<(PageImage, &[u8]), WireError>
+    ensures { Gives (λ x. (x.0, x.1.now)) result (next_image_at least bytes.now) }
+{
+    let (image, rest) = read_image(alloc, bytes)?;
+    if (image.number() as u32) < least {
+        return Err(WireError::Fault(WireFault::Order));
+    }
+    Ok((image, rest))
+}
+
+fn read_images(
+    alloc: Global,
+    count: u32,
+    bytes: &[u8],
+) -> Result<(Vec<PageImage>, &[u8]), WireError>
+    ensures { Gives (λ x. (x.0.items, x.1.now)) result (each_at next_image_at page_after count 0 bytes.now) }
+{
+    let mut images = list_with_room(alloc, count as usize, IMAGE_SIZE, bytes)?;
+    let mut least = 0;
+    let mut rest = bytes;
+    for _ in 0..count {
+        let (image, after) = read_next_image(alloc, least, rest)?;
+        least = image.number() as u32 + 1;
+        images.push(image)?;
+        rest = after;
+    }
+    Ok((images, rest))
+}
+
+#[tactic(auto, unfolding(crate::specs::DeltaReading::tagged_record_at))]
+fn read_tagged_record(alloc: Global, bytes: &[u8]) -> Result<(Record, &[u8]), WireError>
+    ensures { Gives (λ x. (x.0, x.1.now)) result (tagged_record_at bytes.now) }
+{
+    let (tag, rest) = read_byte(bytes)?;
+    if tag != tags::RECORD {
+        return Err(WireError::Fault(WireFault::UnknownTag));
+    }
+    read_record(alloc, rest)
+}
+
+fn read_next_record(
+    alloc: Global,
+    epoch: u16,
+    number: u64,
+    bytes: &[u8],
+) -> Result<(Record, &[u8]), WireError>
+    ensures { Gives (λ x. (x.0, x.1.now)) result (next_record_at (epoch, number) bytes.now) }
+{
+    let (record, rest) = read_tagged_record(alloc, bytes)?;
+    if !is_place_above(record.epoch(), record.number(), epoch, number) {
+        return Err(WireError::Fault(WireFault::Order));
+    }
+    Ok((record, rest))
+}
+
+fn read_records(alloc: Global, count: u32, bytes: &[u8]) -> Result<(Vec<Record>, &[u8]), WireError>
+    ensures { Gives (λ x. (x.0.items, x.1.now)) result (each_at next_record_at record_place count (0, 0) bytes.now) }
+{
+    let mut records = list_with_room(alloc, count as usize, RECORD_SIZE, bytes)?;
+    let mut epoch = 0;
+    let mut number = 0;
+    let mut rest = bytes;
+    for _ in 0..count {
+        let (record, after) = read_next_record(alloc, epoch, number, rest)?;
+        epoch = record.epoch();
+        number = record.number();
+        records.push(record)?;
+        rest = after;
+    }
+    Ok((records, rest))
+}
+
+fn may_have_pages(base: u64, pages: u32) -> bool
+    ensures { result ≡ may_have base pages }
+{
+    0 < base || pages == 0
+}
+
+#[tactic(auto, unfolding(crate::specs::DeltaReading::delta_part_at))]
+fn read_delta_part(alloc: Global, bytes: &[u8]) -> Result<(Delta, &[u8]), WireError>
+    ensures { Gives (λ x. (x.0, x.1.now)) result (delta_part_at bytes.now) }
+{
+    let (book, rest) = read_book(alloc, bytes)?;
+    let (base, rest) = read_u48(rest)?;
+    if base > book.min() {
+        return Err(WireError::Fault(WireFault::Shape));
+    }
+    let (page_count, rest) = read_u32(rest)?;
+    if !may_have_pages(base, page_count) {
+        return Err(WireError::Fault(WireFault::Shape));
+    }
+    let (pages, rest) = read_images(alloc, page_count, rest)?;
+    let (record_count, rest) = read_u32(rest)?;
+    let (records, rest) = read_records(alloc, record_count, rest)?;
+    Ok((
+        Delta {
+            book,
+            base,
+            pages,
+            records,
+        },
+        rest,
+    ))
+}
+
+#[tactic(auto, unfolding(crate::specs::DeltaReading::delta_at))]
+fn read_delta(alloc: Global, bytes: &[u8]) -> Result<(Delta, &[u8]), WireError>
+    ensures { Gives (λ x. (x.0, x.1.now)) result (delta_at bytes.now) }
+{
+    let (tag, rest) = read_byte(bytes)?;
+    if tag != tags::DELTA {
+        return Err(WireError::Fault(WireFault::UnknownTag));
+    }
+    read_delta_part(alloc, rest)
+}
+
+fn whole_delta(alloc: Global, bytes: &[u8]) -> Result<Delta, WireError>
+    ensures { Answers result (decoded_delta bytes.now) }
+{
+    let (delta, rest) = read_delta(alloc, bytes)?;
+    if !rest.is_empty() {
+        return Err(WireError::Fault(WireFault::Rest));
+    }
+    Ok(delta)
+}
+
+// ---- writing
+
+fn put_images(out: &mut BytesMut, images: &[PageImage]) -> Result<(), AllocError>
+    ensures ok { OnOk result (out.new.items ≡ out.old.items ++ flat_map image_bytes images.now) }
+    ensures wire { OnOk result (AllByRecursion IsWireImage images.now) }
+{
+    for image in images {
+        put_image(out, image)?;
+    }
+    Ok(())
+}
+
+fn put_tagged_record(out: &mut BytesMut, redo: &Record) -> Result<(), AllocError>
+    ensures ok { OnOk result (out.new.items ≡ out.old.items ++ tagged_record_bytes redo.now) }
+    ensures wire { OnOk result (IsWireRecord redo.now) }
+{
+    out.put_u8(tags::RECORD)?;
+    put_record(out, redo)?;
+    Ok(())
+}
+
+fn put_records(out: &mut BytesMut, records: &[Record]) -> Result<(), AllocError>
+    ensures ok { OnOk result (out.new.items ≡ out.old.items ++ flat_map tagged_record_bytes records.now) }
+    ensures wire { OnOk result (AllByRecursion IsWireRecord records.now) }
+{
+    for redo in records {
+        put_tagged_record(out, redo)?;
+    }
+    Ok(())
+}
+
+fn put_delta(out: &mut BytesMut, delta: &Delta) -> Result<(), AllocError>
+    requires { is_long_delta delta.now ≡ false }
+    ensures ok { OnOk result (out.new.items ≡ out.old.items ++ delta_bytes delta.now) }
+    ensures wire { OnOk result (IsWireDelta delta.now) }
+{
+    let pages = delta.pages();
+    let records = delta.records();
+    out.put_u8(tags::DELTA)?;
+    put_book(out, delta.book())?;
+    put_u48(out, delta.base())?;
+    put_u32(out, pages.len() as u32)?;
+    put_images(out, pages)?;
+    put_u32(out, records.len() as u32)?;
+    put_records(out, records)?;
+    Ok(())
+}

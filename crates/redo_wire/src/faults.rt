@@ -1,0 +1,67 @@
+ghost use Rattle.std.specs.Prelude.{◌≡◌};
+ghost use Rattle.redo_wire.specs.Faults.{number_of};
+ghost use Rattle.redo_wire.specs.declared.faults.WireError.TheVariants.{Memory};
+
+use std::alloc::{AllocError, AllocFailed};
+use thiserror::Error;
+
+/// Why bytes are no value, as the first fault from front to back, or why a value has no bytes.
+#[derive(Clone, Copy, Debug, PartialEq, Eq, Error)]
+pub enum WireFault {
+    #[error("the bytes end inside a field")]
+    Short,
+    #[error("a tag that may not stand here")]
+    UnknownTag,
+    #[error("a shape rule is broken")]
+    Shape,
+    #[error("an element is not above the one before it")]
+    Order,
+    #[error("bytes are left after the value")]
+    Rest,
+    /// Comes from encoding alone.
+    #[error("a list is longer than its count field holds")]
+    TooLong,
+}
+
+impl WireFault {
+    ghost use Rattle.redo_wire.specs.Faults.{number_of};
+
+    /// The number by which the fault is reported: 1 to 5 where bytes are read, 6 where a value is written.
+    pub fn number(self) -> u8
+        ensures { result ≡ number_of self }
+    {
+        match self {
+            WireFault::Short => 1,
+            WireFault::UnknownTag => 2,
+            WireFault::Shape => 3,
+            WireFault::Order => 4,
+            WireFault::Rest => 5,
+            WireFault::TooLong => 6,
+        }
+    }
+}
+
+/// Why a call of this crate failed: want of memory, or a fault of what it was given.
+#[derive(Debug, Drop, Error)]
+pub enum WireError {
+    #[error("out of memory")]
+    Memory,
+    #[error("{0}")]
+    Fault(WireFault),
+}
+
+impl From<AllocError> for WireError {
+    ghost from_gives = { λ _ e. e ≡ Memory };
+
+    fn from(_e: AllocError) -> WireError {
+        WireError::Memory
+    }
+}
+
+impl<T: Drop> From<AllocFailed<T>> for WireError {
+    ghost from_gives = { λ _ e. e ≡ Memory };
+
+    fn from(_e: AllocFailed<T>) -> WireError {
+        WireError::Memory
+    }
+}

@@ -1,0 +1,86 @@
+ghost use Rattle.std.specs.Prelude.{◌≡◌, ◌++◌, length, IfOk, OnOk};
+ghost use Rattle.redo_wire.specs.Outcomes.{Gives};
+ghost use Rattle.redo_wire.specs.Deltas.{image_of, IsWireImage, image_bytes};
+ghost use Rattle.redo_wire.specs.DeltaReading.{is_nonzero, image_at};
+
+use crate::faults::{WireError, WireFault};
+use crate::fields::{put_u16, read_bytes, read_u16};
+use bytes::{BufMut, BytesMut};
+use redo_core::Page;
+use std::alloc::{AllocError, Global};
+use std::marker::Model;
+
+/// A page's number and its bytes.
+#[derive(Debug, Drop)]
+pub struct PageImage {
+    number: u16,
+    page: Page,
+}
+
+impl Model for PageImage {
+    ghost use Rattle.redo_core.specs.Meaning.{ImageData};
+    ghost use Rattle.redo_wire.specs.Deltas.{image_of};
+
+    ghost Value = { ImageData };
+
+    ghost view = { λ p. image_of p.number p.page };
+}
+
+impl PageImage {
+    /// The image of the page of this number.
+    pub fn new(number: u16, page: Page) -> Self
+        ensures { result ≡ image_of number page }
+    {
+        PageImage { number, page }
+    }
+
+    pub fn number(&self) -> u16
+        ensures { result ≡ self.now.page }
+    {
+        self.number
+    }
+
+    pub fn page(&self) -> &Page
+        ensures { result.now ≡ self.now.bytes }
+    {
+        &self.page
+    }
+
+    /// An equal image with memory of its own. Its only error is want of memory.
+    pub fn copy(&self) -> Result<Self, AllocError>
+        ensures { IfOk result (λ p. p ≡ self.now) }
+    {
+        Ok(PageImage {
+            number: self.number,
+            page: self.page.copy()?,
+        })
+    }
+}
+
+fn has_nonzero(bytes: &[u8]) -> bool
+    ensures { result ≡ is_nonzero bytes.now }
+{
+    bytes.iter().any(|b| *b != 0)
+}
+
+#[tactic(auto, unfolding(crate::specs::DeltaReading::image_at))]
+pub fn read_image(alloc: Global, bytes: &[u8]) -> Result<(PageImage, &[u8]), WireError>
+    ensures { Gives (λ x. (x.0, x.1.now)) result (image_at bytes.now) }
+{
+    let (number, rest) = read_u16(bytes)?;
+    let (text, rest) = read_bytes(4096, rest)?;
+    if !has_nonzero(text) {
+        return Err(WireError::Fault(WireFault::Shape));
+    }
+    let page = Page::new(Vec::from_slice(alloc, text)?);
+    Ok((PageImage { number, page }, rest))
+}
+
+pub fn put_image(out: &mut BytesMut, image: &PageImage) -> Result<(), AllocError>
+    ensures ok { OnOk result (out.new.items ≡ out.old.items ++ image_bytes image.now) }
+    ensures wire { OnOk result (IsWireImage image.now) }
+{
+    put_u16(out, image.number())?;
+    out.put_slice(image.page().bytes())?;
+    Ok(())
+}

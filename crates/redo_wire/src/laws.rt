@@ -1,0 +1,44 @@
+//! What the spellings are good for. Each law is the contract of a function that does nothing.
+
+ghost use Rattle.redo_core.specs.Data.{CutData};
+ghost use Rattle.redo_core.specs.Order.{IsRising, CutBefore};
+ghost use Rattle.redo_core.specs.CompleteEpoch.{IsCompleteEpoch};
+ghost use Rattle.std.specs.Prelude.{List, ◌<◌};
+ghost use Rattle.std.specs.List.{AllByRecursion};
+ghost use Rattle.redo_wire.specs.Facts.{SpellsFact};
+ghost use Rattle.redo_wire.specs.FactReading.{decoded_fact};
+ghost use Rattle.redo_wire.specs.Summaries.{SpellsSummary};
+ghost use Rattle.redo_wire.specs.SummaryReading.{decoded_summary};
+ghost use Rattle.redo_wire.specs.Deltas.{SpellsDelta};
+ghost use Rattle.redo_wire.specs.DeltaReading.{decoded_delta};
+ghost use Rattle.redo_wire.specs.BookReading.{complete};
+ghost use Rattle.redo_wire.specs.Laws.{HasOneSpelling, HasOneValue, BeginsNoOther, ReadsSpellings};
+
+/// A fact has one spelling and a spelling one fact, none begins another, and reading finds just what is spelled.
+pub fn fact_spellings()
+    ensures one_spelling { HasOneSpelling SpellsFact }
+    ensures one_value { HasOneValue SpellsFact }
+    ensures none_begins { BeginsNoOther SpellsFact }
+    ensures reads { ReadsSpellings SpellsFact decoded_fact }
+{}
+
+/// The same of summaries.
+pub fn summary_spellings()
+    ensures one_spelling { HasOneSpelling SpellsSummary }
+    ensures one_value { HasOneValue SpellsSummary }
+    ensures none_begins { BeginsNoOther SpellsSummary }
+    ensures reads { ReadsSpellings SpellsSummary decoded_summary }
+{}
+
+/// The same of deltas.
+pub fn delta_spellings()
+    ensures one_spelling { HasOneSpelling SpellsDelta }
+    ensures one_value { HasOneValue SpellsDelta }
+    ensures none_begins { BeginsNoOther SpellsDelta }
+    ensures reads { ReadsSpellings SpellsDelta decoded_delta }
+{}
+
+/// The epoch by which reading judges waiting advances is the complete epoch of the truncations.
+pub fn judged_epoch()
+    ensures { (cs : List CutData) → IsRising CutBefore cs → AllByRecursion (λ c. 0 < c.epoch) cs → IsCompleteEpoch cs (complete cs) }
+{}
