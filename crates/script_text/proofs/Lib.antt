@@ -1,2 +1,9 @@
+pub mod Options
+pub mod Split
 pub mod Numbers
+pub mod WriteSpelling
+pub mod FactSpelling
+pub mod StepSpelling
+pub mod Scripts
+pub mod BadLines
 pub mod Loops

@@ -9,6 +9,9 @@ use Rattle.std.proofs.lemmas.Str.Parse.{IsNumeralModel, numerals_by_fold}
 use Rattle.std.proofs.lemmas.Fmt.{decimal-digits_value, digits_decimal, digits_value-decimal, decimal_nonempty, first_decimal, decimal_digit}
 use Rattle.std.proofs.lemmas.Grind.{common_steps}
 use Rattle.script_text.specs.Number.{value_from, digits_of, number_of}
+use Rattle.redo_core.specs.Shape.{max_number}
+use Rattle.script_text.specs.Laws.{NumbersAreDecimals}
+use Rattle.script_text.proofs.Split.{lacks, lacks_digits}
 
 pub model : IsNumeralModel (λ ds. all_ascii_digits ds ≡ true) (value_from 0)
 model = numerals_by_fold _ (search rules) value_from (search rules)
@@ -76,3 +79,17 @@ number_from_decimal limit n word lt e le =
     let value : value_from 0 word ≡ n = rw e (digits_value-decimal model n small) in
     let some : 0 < length word = rw e (decimal_nonempty n small) in
     number_of_good limit word some (lead_of n word small e) ∙ digits_of_good limit word all (omega arith) ∙ ap (λ (m : ℕ). Some m) value
+
+pub numbers_are_decimals : NumbersAreDecimals
+numbers_are_decimals limit n word lt = (number_from_word limit n word lt, λ h. number_from_decimal limit n word lt h.0 h.1)
+
+-- a decimal is read
+pub decimal_is_read : (limit n : ℕ) → limit < 2 ^ 64 → n ≤ limit → number_of limit (decimal n) ≡ Some n
+decimal_is_read limit n lt le = number_from_decimal limit n (decimal n) lt refl le
+
+-- a decimal has no other byte than digits
+pub lacks_decimal : (c n : ℕ) → n < 2 ^ 64 → is_ascii_digit c ≡ false → lacks c (decimal n) ≡ true
+lacks_decimal c n small pc = lacks_digits c (decimal n) (digits_decimal model n small) pc
+
+pub lacks_space : (n : ℕ) → n ≤ max_number → lacks 32 (decimal n) ≡ true
+lacks_space n le = lacks_decimal 32 n (omega arith) refl

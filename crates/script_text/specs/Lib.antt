@@ -4,3 +4,5 @@ pub mod FactLine
 pub mod StepLine
 pub mod Script
 pub mod Outcome
+pub mod Spelled
+pub mod Laws

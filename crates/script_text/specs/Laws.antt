@@ -1,0 +1,38 @@
+-- The laws that tie the reading functions to what lines and texts are.
+use Rattle.std.specs.Prelude.{◌≡◌, ℕ, ◌<◌, ◌≤◌, ◌^◌, ◌↔◌, List, Some, Ok, Err}
+use Rattle.std.specs.Fmt.{decimal}
+use Rattle.redo_core.specs.declared.facts.Fact.{Fact}
+use Rattle.script_text.specs.declared.step_line.StepLine.{StepLine}
+use Rattle.script_text.specs.Number.{number_of}
+use Rattle.script_text.specs.FactLine.{fact_of}
+use Rattle.script_text.specs.StepLine.{step_of}
+use Rattle.script_text.specs.Script.{ScriptData, most, script_of, facts_of}
+use Rattle.script_text.specs.Spelled.{SpellsFact, SpellsStep, IsFactList, IsScript, Spells, IsLeastBadLine}
+
+-- The words that are numbers are just those that decimal writes.
+abbrev pub NumbersAreDecimals : Type 0
+NumbersAreDecimals = (limit n : ℕ) (word : List ℕ) → limit < 2 ^ 64 → (number_of limit word ≡ Some n) ↔ ((word ≡ decimal n) × (n ≤ limit))
+
+-- A line is read as a fact exactly where it spells it.
+abbrev pub FactLinesAreSpelled : Type 0
+FactLinesAreSpelled = (line : List ℕ) (fact : Fact) → (fact_of line ≡ Some fact) ↔ SpellsFact line fact
+
+-- A line is read as a step exactly where it spells it.
+abbrev pub StepLinesAreSpelled : Type 0
+StepLinesAreSpelled = (facts : ℕ) (line : List ℕ) (step : StepLine) → facts ≤ most → (step_of facts line ≡ Some step) ↔ SpellsStep facts line step
+
+-- A text is read as a script exactly where its lines are that script.
+abbrev pub ScriptsAreSpelled : Type 0
+ScriptsAreSpelled = (text : List ℕ) (script : ScriptData) → (script_of text ≡ Ok script) ↔ Spells IsScript text script
+
+-- A text is read as facts exactly where its lines are those facts.
+abbrev pub FactListsAreSpelled : Type 0
+FactListsAreSpelled = (text : List ℕ) (facts : List Fact) → (facts_of text ≡ Ok facts) ↔ Spells IsFactList text facts
+
+-- The bad line of a text that is no script is the least.
+abbrev pub BadScriptLineIsLeast : Type 0
+BadScriptLineIsLeast = (text : List ℕ) (at : ℕ) → script_of text ≡ Err at → IsLeastBadLine IsScript text at
+
+-- The bad line of a text that is not fact lines alone is the least.
+abbrev pub BadFactLineIsLeast : Type 0
+BadFactLineIsLeast = (text : List ℕ) (at : ℕ) → facts_of text ≡ Err at → IsLeastBadLine IsFactList text at
