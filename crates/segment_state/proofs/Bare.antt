@@ -1,5 +1,5 @@
 -- A truncation or an advance by itself is a little state.
-use Rattle.std.proofs.Common.{◌≡◌, ℕ, ◌<◌, ◌↔◌, ⊎_elim, List, [], ◌∷◌, refl, sym, subst, arith}
+use Rattle.std.proofs.Common.{◌≡◌, ℕ, ◌<◌, ◌↔◌, ⊎_elim, List, [], ◌∷◌, refl, sym, arith}
 use Rattle.std.specs.List.{Contains}
 use Rattle.redo_core.specs.Data.{RecordData, CutData, AdvanceData}
 use Rattle.redo_core.specs.Sets.{IsPart, SameSet, records, cuts, advances}
@@ -8,8 +8,9 @@ use Rattle.redo_core.specs.Position.{HasAdvance, Position, IsPosition}
 use Rattle.redo_core.specs.Linked.Linked.{start}
 use Rattle.redo_core.specs.declared.facts.Fact.{Fact}
 use Rattle.redo_core.specs.declared.facts.Fact.TheVariants.{Cut}
-use Rattle.redo_laws.proofs.Members.{none_in, which}
+use Rattle.redo_laws.proofs.Members.{none_in}
 use Rattle.redo_laws.proofs.Fronts.{front_exists}
+use Rattle.segment_state.proofs.OneFact.{part_of, cut_no_record, cut_no_advance}
 use Rattle.segment_state.specs.State.{State, empty_state, version_of, image_of}
 use Rattle.segment_state.specs.Means.{MeansAt, Means}
 
@@ -46,14 +47,6 @@ bare_means log F f cs n ws p front none sc sm sw = record {
   };
 }
 
-no_records : (c : CutData) (r : RecordData) → Contains (records (Cut c ∷ [])) r → ⊥
-unfolding records
-no_records c r h = none_in r h
-
-no_points : (c : CutData) (a : AdvanceData) → Contains (advances (Cut c ∷ [])) a → ⊥
-unfolding advances
-no_points c a h = none_in a h
-
 own_cuts : (c : CutData) → SameSet (c ∷ []) (cuts (Cut c ∷ []))
 unfolding cuts
 own_cuts c d = (λ h. h, λ h. h)
@@ -61,13 +54,13 @@ own_cuts c d = (λ h. h, λ h. h)
 -- a truncation of the log
 pub lone_cut_means : (log : List Fact) (c : CutData) → Contains log (Cut c) → Means log (Cut c ∷ []) (bare (c ∷ []) 0 [])
 lone_cut_means log c h =
-    let f = front_exists (Cut c ∷ []) (λ r x. absurd (no_records c r x)) in
-    let m : f.0.min ≡ 0 = ⊎_elim (λ (e : f.0.min ≡ 0). e) (λ (x : HasAdvance (advances (Cut c ∷ [])) f.0.epoch f.0.min). absurd (no_points c x.0 x.1)) f.1.min.0 in (
+    let f = front_exists (Cut c ∷ []) (λ r x. absurd (cut_no_record c r x)) in
+    let m : f.0.min ≡ 0 = ⊎_elim (λ (e : f.0.min ≡ 0). e) (λ (x : HasAdvance (advances (Cut c ∷ [])) f.0.epoch f.0.min). absurd (cut_no_advance c x.0 x.1)) f.1.min.0 in (
       f.0,
       bare_means log (Cut c ∷ []) f.0 (c ∷ []) 0 []
-          (λ x q. ⊎_elim (λ (e : Cut c ≡ x). subst (Contains log) e h) (λ (y : Contains [] x). absurd (none_in x y)) (which (Cut c) [] x q))
-          f.1 (no_records c) (own_cuts c) (sym m)
-          (λ a. (λ x. absurd (none_in a x), λ x. absurd (no_points c a x.0))),
+          (part_of log (Cut c) h)
+          f.1 (cut_no_record c) (own_cuts c) (sym m)
+          (λ a. (λ x. absurd (none_in a x), λ x. absurd (cut_no_advance c a x.0))),
     )
 
 -- no facts
