@@ -1,0 +1,5 @@
+mod Choice
+mod LinkedNumbers
+mod LoadedWords
+mod Opening
+mod Steps

@@ -1,0 +1,5 @@
+pub mod FrontWord
+pub mod Rule
+pub mod Seat
+pub mod NthGreatest
+pub mod Survey

@@ -1,0 +1,53 @@
+use atomic_table::{Play, Split, TableRule};
+use named_log::LogName;
+use std::collections::LinkedList;
+use std::marker::PhantomData;
+
+/// What a seat knows: for each word the greatest that it published there or saw.
+pub(crate) type Known = LinkedList<u64>;
+
+/// A seat of the table, which has no slots.
+pub(crate) type Token = atomic_table::Seat<(), Known>;
+
+/// Each word is a front of the log, and no entry of any seat's view is above its word.
+pub struct WordsAreFronts<L> {
+    of: PhantomData<L>,
+}
+
+impl<L: LogName> TableRule<(), Known, usize> for WordsAreFronts<L> {
+    ghost use Rattle.std.specs.Prelude.{replicate};
+    ghost use Rattle.front_board.specs.Rule.{KeepsRule};
+
+    ghost holds = { λ nodes s. KeepsRule L.log s.words s.views };
+
+    ghost first = { λ nodes. replicate nodes 0 };
+}
+
+pub(crate) struct Loads<L> {
+    of: PhantomData<L>,
+}
+
+impl<L: LogName> Play<(), Known> for Loads<L> {
+    ghost use Rattle.front_board.specs.Rule.{IsLoad};
+
+    ghost then = { IsLoad L.log };
+}
+
+pub(crate) struct Raises<L> {
+    of: PhantomData<L>,
+}
+
+impl<L: LogName> Play<(), Known> for Raises<L> {
+    ghost use Rattle.front_board.specs.Rule.{IsFetchMax};
+
+    ghost then = { IsFetchMax L.log };
+}
+
+/// Both seats know what the one knew.
+pub(crate) struct Same;
+
+impl Split<Known> for Same {
+    ghost left = { λ seen. seen };
+
+    ghost right = { λ seen. seen };
+}
