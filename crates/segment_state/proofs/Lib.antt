@@ -9,3 +9,4 @@ pub mod Knowing
 pub mod Learnt
 pub mod Shed
 pub mod Chains
+pub mod Storing

@@ -5,5 +5,6 @@ pub mod HasMeaning
 pub mod Promises
 pub mod Learning
 pub mod Shedding
+pub mod Stored
 pub mod Known
 pub mod Laws

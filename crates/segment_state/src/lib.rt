@@ -9,6 +9,7 @@
 ghost use Rattle.segment_state.specs.Laws.{EmptyMeansNone, SameLinks, SamePosition, SameAnchor, TruePages, WholeBlockChains, SameMeaning, SameKept};
 ghost use Rattle.segment_state.specs.Laws.{UnchangedExactly, TakesKnown, NoConflict, TakesRecord, TakesCut, TakesAdvance};
 ghost use Rattle.segment_state.specs.Laws.{FinalPages, AnchorPageIsFinal, CommitKeeps, FoldKeeps, DiscardKeeps, RemovalKeeps};
+ghost use Rattle.segment_state.specs.Stored.{StoredImages, PutCommits};
 
 /// A segment that stores nothing means no facts.
 pub fn empty_means_none()
@@ -108,4 +109,14 @@ pub fn discard_keeps()
 /// A removal of dead records keeps the meaning.
 pub fn removal_keeps()
     ensures { RemovalKeeps }
+{}
+
+/// Among images that rise by page, a page's version and image are those of its stored image, or the floor and zeros.
+pub fn stored_images()
+    ensures { StoredImages }
+{}
+
+/// An image put in its page's place is committed, and no other page changes.
+pub fn put_commits()
+    ensures { PutCommits }
 {}
