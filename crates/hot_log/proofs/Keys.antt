@@ -56,7 +56,7 @@ split_at epoch number held place le point = record {
 }
 
 -- what stands behind the record at a place is above it
-above_it : (held : List RecordData) (place : ℕ) (x y : RecordData) → IsRising RecordBefore held → place < length held → x ≡ get_or held place x → Contains (drop place held) y → (x ≡ y) ⊎ RecordBefore x y
+pub above_it : (held : List RecordData) (place : ℕ) (x y : RecordData) → IsRising RecordBefore held → place < length held → x ≡ get_or held place x → Contains (drop place held) y → (x ≡ y) ⊎ RecordBefore x y
 above_it held place x y rising l e h =
     ⊎_elim
     (λ (q : x ≡ y). inl q)

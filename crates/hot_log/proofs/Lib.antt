@@ -1,2 +1,5 @@
 pub mod Rising
 pub mod Keys
+pub mod Views
+pub mod Chain
+pub mod Kept

@@ -79,6 +79,15 @@ up_at (y ∷ ys) (suc i) x l e = there y (take (suc i) ys) x (up_at ys i x (omeg
 pub up_to : {X : Type 0} (xs : List X) (i : ℕ) (x : X) → i < length xs → x ≡ get_or xs i x → Contains (take (i + 1) xs) x
 up_to xs i x l e = rw add-one (up_at xs i x l e)
 
+-- what stands in front of a place stands in front of the next
+take_suc : {X : Type 0} (xs : List X) (i : ℕ) (x : X) → Contains (take i xs) x → Contains (take (suc i) xs) x
+take_suc xs zero x h = absurd (none_in x h)
+take_suc [] (suc i) x h = absurd (none_in x h)
+take_suc (y ∷ ys) (suc i) x h = ⊎_elim (λ (u : y ≡ x). subst (Contains (y ∷ take (suc i) ys)) u (here y (take (suc i) ys))) (λ (u : Contains (take i ys) x). there y (take (suc i) ys) x (take_suc ys i x u)) (which y (take i ys) x h)
+
+pub take_grows : {X : Type 0} (xs : List X) (i : ℕ) (x : X) → Contains (take i xs) x → Contains (take (i + 1) xs) x
+take_grows xs i x h = rw add-one (take_suc xs i x h)
+
 -- nothing stands behind the last place
 pub past_end : {X : Type 0} (xs : List X) (i : ℕ) (x : X) → length xs ≤ i → Contains (drop i xs) x → ⊥
 past_end [] zero x l h = none_in x h

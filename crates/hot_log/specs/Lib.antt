@@ -1,2 +1,5 @@
 pub mod Held
 pub mod Putting
+pub mod Alive
+pub mod Found
+pub mod Removing

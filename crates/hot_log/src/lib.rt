@@ -1,6 +1,14 @@
-//! The redo records that a segment holds.
+//! The redo records that a segment holds, and what they link.
+//!
+//! A log holds at most one record of a key (epoch, number), in the order of the keys; another record under a held key is
+//! refused. Against a book of truncations it answers which numbers are linked from a base, the alive records of a page in
+//! order of their numbers, and the successor of a number; it removes what an image has and what is dead. Every answer is exact
+//! over every set of records, also one that no sound log has. Only `put`, `copy` and `records_of` want memory.
 #![tactic(auto)]
 
+mod links;
 mod log;
+mod removal;
+mod search;
 
 pub use log::{HotLog, Put, PutFault};

@@ -1,9 +1,16 @@
-ghost use Rattle.std.specs.Prelude.{◌≡◌, ℕ, ◌<◌, ◌≤◌, ◌↔◌, [], length, IsTrue, IfOk, IfErr, OnErr};
+ghost use Rattle.std.specs.Prelude.{◌≡◌, ℕ, ◌<◌, ◌≤◌, ◌↔◌, [], length, map, IsTrue, IfOk, IfErr, OnErr};
 ghost use Rattle.std.specs.Option.{option_copied};
 ghost use Rattle.redo_core.specs.Data.{RecordData};
+ghost use Rattle.redo_core.specs.Order.{Lists, BeforeByNumber};
+ghost use Rattle.redo_core.specs.Standing.{IsDead};
 ghost use Rattle.hot_log.specs.Held.{IsHeld, IsRecordAt, IsKeyAfter, SplitsAt, SplitsAbove, is_before};
+ghost use Rattle.hot_log.specs.Alive.{IsHeldAlive, IsHeldOf, IsLinkedFrom, IsLinkedHeld};
+ghost use Rattle.hot_log.specs.Found.{IsLeast, IsLeastRecord, IsGreatestRecord, IsOnlyRecord};
 ghost use Rattle.hot_log.specs.Putting.{Puts, RefusesPut};
+ghost use Rattle.hot_log.specs.Removing.{IsFolded, Removes};
 
+use crate::{links, removal, search};
+use epoch_book::EpochBook;
 use redo_core::{Record, Refused};
 use std::alloc::{AllocError, Global};
 use std::marker::Model;
@@ -138,6 +145,80 @@ impl HotLog {
                 fault: PutFault::Memory,
             }),
         }
+    }
+
+    /// The least alive number with this segment backlink, or None where there is none.
+    pub fn next_after(&self, book: &EpochBook, back: u64) -> Option<u64>
+        ensures { IsLeast (λ n. (r : RecordData) × IsHeldAlive book.now self.now r × (r.back ≡ back) × (r.number ≡ n)) result }
+    {
+        search::next_after(self.records(), book, back)
+    }
+
+    /// The greatest number up to a limit that is linked from a base.
+    pub fn linked_to(&self, book: &EpochBook, from: u64, limit: u64) -> u64
+        requires { from ≤ limit }
+        ensures linked { IsLinkedFrom book.now self.now from result }
+        ensures bound { result ≤ limit }
+        ensures greatest { (n : ℕ) → IsLinkedFrom book.now self.now from n → n ≤ limit → n ≤ result }
+    {
+        links::linked_to(self.records(), book, from, limit)
+    }
+
+    /// The alive record with this number, where the number is linked from a base; else None.
+    pub fn linked_record(&self, book: &EpochBook, from: u64, number: u64) -> Option<&Record>
+        ensures { IsOnlyRecord (λ r. IsLinkedHeld book.now self.now from r × (r.number ≡ number)) (option_copied result) }
+    {
+        links::linked_record(self.records(), book, from, number)
+    }
+
+    /// The last alive record of a page whose number is linked from a base and at most `limit`, or None where there is none.
+    pub fn greatest_linked_of(
+        &self,
+        book: &EpochBook,
+        page: u16,
+        from: u64,
+        limit: u64,
+    ) -> Option<&Record>
+        ensures { IsGreatestRecord (λ r. IsLinkedHeld book.now self.now from r × (r.page ≡ page) × (r.number ≤ limit)) (option_copied result) }
+    {
+        links::greatest_linked_of(self.records(), book, page, from, limit)
+    }
+
+    /// The first alive record of a page with a number above `from` and up to `to`, or None where there is none.
+    pub fn next_of(&self, book: &EpochBook, page: u16, from: u64, to: u64) -> Option<&Record>
+        ensures { IsLeastRecord (IsHeldOf book.now self.now page from to) (option_copied result) }
+    {
+        search::next_of(self.records(), book, page, from, to)
+    }
+
+    /// The alive records of a page with numbers above `from` and up to `to`, rising. Its only error is want of memory.
+    pub fn records_of(
+        &self,
+        alloc: Global,
+        book: &EpochBook,
+        page: u16,
+        from: u64,
+        to: u64,
+    ) -> Result<Vec<&Record>, AllocError>
+        ensures { IfOk result (λ v. Lists BeforeByNumber (IsHeldOf book.now self.now page from to) (map (λ x. x.now) v.items)) }
+    {
+        search::records_of(self.records(), alloc, book, page, from, to)
+    }
+
+    /// Removes the alive records of a page with numbers at most the version of its image and at most a point.
+    pub fn remove_folded(&mut self, book: &EpochBook, page: u16, version: u64, point: u64)
+        ensures removes { Removes (IsFolded book.now page version point) self.old self.new }
+        ensures form { IsHeld self.new }
+    {
+        removal::remove_folded(&mut self.records, book, page, version, point);
+    }
+
+    /// Removes the dead records.
+    pub fn remove_dead(&mut self, book: &EpochBook)
+        ensures removes { Removes (λ r. IsDead book.now.cuts book.now.complete r.epoch r.number) self.old self.new }
+        ensures form { IsHeld self.new }
+    {
+        removal::remove_dead(&mut self.records, book);
     }
 }
 
