@@ -5,3 +5,5 @@ pub mod CountedCuts
 pub mod CountedScans
 pub mod Keys
 pub mod Laws
+pub mod PageScans
+pub mod PageSteps

@@ -10,6 +10,7 @@ use Rattle.redo_core.specs.declared.facts.Fact.{Fact}
 use Rattle.redo_core.specs.declared.facts.Fact.TheVariants.{Record, Cut, Advance}
 use Rattle.plain_model.specs.declared.chains.Chain.{Chain}
 use Rattle.plain_model.specs.Chained.{IsBelowOn}
+use Rattle.plain_model.specs.PageRecords.{StandsInPage}
 use Rattle.plain_model.specs.Helpers.{SparesIn, IsLinkedWithin}
 
 -- the fact is no truncation of this epoch
@@ -63,3 +64,9 @@ IsBelowUpTo log r chain top (Advance a) = Unit {0}
 -- the fact is this one where it has its key
 abbrev pub IsSameOfKey : Fact → Fact → Type 0
 IsSameOfKey fact f = SameKey f fact → f ≡ fact
+
+-- the fact is no record of the page from a number on, unless its number is reached
+abbrev pub IsReached : List Fact → ℕ → ℕ → ℕ → ℕ → (ℕ → Type 0) → Fact → Type 0
+IsReached facts k g from q Reached (Record s) = StandsInPage facts k g q s → from ≤ s.number → Reached s.number
+IsReached facts k g from q Reached (Cut c) = Unit {0}
+IsReached facts k g from q Reached (Advance a) = Unit {0}

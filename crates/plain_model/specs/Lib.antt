@@ -2,3 +2,4 @@ pub mod Helpers
 pub mod Stands
 pub mod Chained
 pub mod FoundFault
+pub mod PageRecords
