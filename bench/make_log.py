@@ -1,0 +1,94 @@
+#!/usr/bin/env python3
+"""Writes a sound log as fact lines: records of several pages and epochs, truncations that annul records, advances.
+
+The same arguments give the same log. bench/README.md says how it is used.
+"""
+
+import argparse
+import random
+import sys
+
+GAP = 8  # numbers between the last of an epoch and the `hi` of the next
+
+
+class Writer:
+    """Keeps the chains of the records that are alive, as a database that writes redo records does."""
+
+    def __init__(self):
+        self.epoch = 0
+        self.hi = 0
+        self.number = 0
+        self.alive = []  # (number, page), rising
+        self.chains = {}  # page: its alive numbers, rising
+
+    def record(self, page):
+        """The next record of the epoch: its segment backlink and its block backlink are the last alive numbers."""
+        self.number += 1
+        chain = self.chains.setdefault(page, [])
+        back = self.alive[-1][0] if self.alive else 0
+        block_back = chain[-1] if chain else 0
+        self.alive.append((self.number, page))
+        chain.append(self.number)
+        offset = 8 * (self.number % 512)
+        return f"rec {self.epoch} {self.number} {back} {page} {block_back} {offset}:{self.number:016x}"
+
+    def truncate(self, lo):
+        """Begins the next epoch: what is above `lo` is annulled."""
+        while self.alive and self.alive[-1][0] > lo:
+            _, page = self.alive.pop()
+            self.chains[page].pop()
+        self.epoch += 1
+        self.hi = self.number + GAP
+        self.number = self.hi
+        return f"cut {self.epoch} {lo} {self.hi}"
+
+
+def shares(total, parts):
+    """The total in nearly equal parts."""
+    return [total // parts + (i < total % parts) for i in range(parts)]
+
+
+def facts(records, pages, epochs, advances):
+    writer = Writer()
+    choose = random.Random(1)
+    owed = 0
+    records_of = shares(records, epochs + 1)
+    advances_of = shares(advances, epochs + 1)
+    for epoch in range(epochs + 1):
+        count = records_of[epoch]
+        is_last = epoch == epochs
+        kept = count if is_last else count - max(1, count // 10)
+        first = writer.number + 1
+        for _ in range(count):
+            yield writer.record(choose.randrange(pages))
+        owed += advances_of[epoch]
+        if kept > 0 or is_last:
+            for i in range(owed):
+                point = first + (max(kept, 1) * (i + 1)) // (owed + 1)
+                yield f"min {epoch} {min(point, first + max(kept, 1) - 1)}"
+            owed = 0
+        if not is_last:
+            yield writer.truncate(first + kept - 1 if kept > 0 else writer.hi)
+
+
+def main():
+    parser = argparse.ArgumentParser(description=__doc__)
+    parser.add_argument("--records", type=int, required=True, help="how many records")
+    parser.add_argument("--pages", type=int, required=True, help="how many pages they are spread over, 1 to 65536")
+    parser.add_argument("--epochs", type=int, default=0, help="how many truncations, 0 to 65535")
+    parser.add_argument("--advances", type=int, default=0, help="how many advances of the minimum read point")
+    parser.add_argument("--shuffle", type=int, metavar="SEED", help="put the facts in a random order")
+    parser.add_argument("--run", action="store_true", help="end with `go` and `nodes 1`: a script without steps")
+    given = parser.parse_args()
+    if not 1 <= given.pages <= 65536 or not 0 <= given.epochs <= 65535:
+        parser.error("pages go from 1 to 65536, epochs from 0 to 65535")
+    lines = list(facts(given.records, given.pages, given.epochs, given.advances))
+    if given.shuffle is not None:
+        random.Random(given.shuffle).shuffle(lines)
+    if given.run:
+        lines += ["go", "nodes 1"]
+    sys.stdout.write("".join(line + "\n" for line in lines))
+
+
+if __name__ == "__main__":
+    main()
