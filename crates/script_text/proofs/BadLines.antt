@@ -1,19 +1,18 @@
 -- The bad line is the least: the lines before it begin a good text, and with it they begin none.
-use Rattle.std.proofs.Common.{◌≡◌, ℕ, ◌+◌, ◌-◌, ◌<◌, ◌≤◌, ◌⊎◌, inl, inr, Bool, true, false, cond, eqb, ltb, List, [], ◌∷◌, ◌++◌, length, take, Option, Some, None, Result, Ok, Err, codes, refl, sym, ap, ◌∙◌, subst, arith, append_assoc, append-nil, length-append}
+use Rattle.std.proofs.Common.{◌≡◌, ℕ, ◌+◌, ◌-◌, ◌<◌, ◌≤◌, ◌⊎◌, inl, inr, true, false, cond, eqb, ltb, List, [], ◌∷◌, ◌++◌, length, take, drop, Option, Some, None, Result, Ok, Err, codes, refl, sym, ap, ◌∙◌, subst, arith, append_assoc, length-append}
 use Rattle.std.specs.Prelude.{bytes_eq}
-use Rattle.std.proofs.Math.Seq.{take-append_seam}
-use Rattle.std.proofs.lemmas.Bool.{le-ltb, ltb-false}
+use Rattle.std.proofs.Math.Seq.{take-add, take-append_seam}
+use Rattle.std.proofs.lemmas.Bool.{ltb-false}
 use Rattle.std.proofs.lemmas.List.{append_cancel_right}
 use Rattle.redo_core.specs.declared.facts.Fact.{Fact}
 use Rattle.script_text.specs.declared.step_line.StepLine.{StepLine}
 use Rattle.script_text.specs.FactLine.{fact_of}
 use Rattle.script_text.specs.StepLine.{step_of}
 use Rattle.script_text.specs.Parts.{parts_at}
-use Rattle.script_text.specs.Script.{ScriptData, most, or_bad, with_first, with_fact, with_no_facts, lines_from, nodes_from, script_from}
+use Rattle.script_text.specs.Script.{ScriptData, most, or_bad, with_first, with_fact, with_no_facts, lines_from, nodes_from, script_from, script_of, facts_of}
 use Rattle.script_text.specs.Laws.{BadScriptLineIsLeast, BadFactLineIsLeast}
 use Rattle.script_text.specs.Spelled.{IsFactList, IsScript, Spells, Begins, IsLeastBadLine}
-use Rattle.script_text.proofs.Options.{true_is}
-use Rattle.script_text.proofs.Scripts.{end, good, bad, not_good, one_of, with_first_ok, no_facts_ok, with_fact_ok, some_left, ended, lines_next, script_go, script_next, script_is_spelled, script_is_read, fact_list_is_spelled, fact_list_is_read, scripts_are_spelled, fact_lists_are_spelled}
+use Rattle.script_text.proofs.Scripts.{end, good, bad, not_good, one_of, with_first_ok, no_facts_ok, with_fact_ok, some_left, ended, lines_next, script_next, script_is_spelled, script_is_read, fact_list_is_spelled, fact_list_is_read, scripts_are_spelled, fact_lists_are_spelled}
 use Rattle.script_text.proofs.WriteSpelling.{some_parts}
 
 -- Where a reader stops: behind the lines before, which more lines would complete, at a line that no others complete.
@@ -239,10 +238,40 @@ least {A} Is read text stop spelled is_read err s =
       none = λ x t. refused (read parts) stop x err (ap read t.1 ∙ is_read t.0 x t.2);
     }
 
-pub bad_script_line_is_least : BadScriptLineIsLeast
-bad_script_line_is_least text stop h =
+least_script_line : (text : List ℕ) (stop : ℕ) → script_of text ≡ Err stop → IsLeastBadLine IsScript text stop
+least_script_line text stop h =
     least IsScript (script_from 1) text stop (λ parts s some. script_is_spelled parts s) script_is_read h (script_stop 1 (parts_at 10 text) stop (some_parts 10 text) h)
 
-pub bad_fact_line_is_least : BadFactLineIsLeast
-bad_fact_line_is_least text stop h =
+least_fact_line : (text : List ℕ) (stop : ℕ) → facts_of text ≡ Err stop → IsLeastBadLine IsFactList text stop
+least_fact_line text stop h =
     least IsFactList (lines_from fact_of most 1) text stop fact_list_is_spelled fact_list_is_read h (lines_stop fact_of most 1 (parts_at 10 text) stop (some_parts 10 text) h)
+
+-- lines that begin a good text do so from their own beginning on
+begins_before : {A : Type 0} (Is : List (List ℕ) → A → Type 0) (lines : List (List ℕ)) (n m : ℕ) → n ≤ m → Begins Is (take m lines) → Begins Is (take n lines)
+begins_before Is lines n m le b =
+    let others : List (List ℕ) = take (m - n) (drop n lines) in
+    let sum : n + (m - n) ≡ m = omega arith in
+    let front : take m lines ≡ take n lines ++ others = ap (λ (k : ℕ). take k lines) (sym sum) ∙ take-add n (m - n) lines in
+    let all : take n lines ++ (others ++ b.0) ≡ take m lines ++ b.0 = sym (append_assoc (take n lines) others b.0) ∙ ap (λ (t : List (List ℕ)). t ++ b.0) (sym front) in
+    (others ++ b.0, b.1, subst (λ (t : List (List ℕ)). Is t b.1) (sym all) b.2)
+
+-- no bad line that is the least is below another
+not_below : {A : Type 0} (Is : List (List ℕ) → A → Type 0) (text : List ℕ) (n m : ℕ) → IsLeastBadLine Is text n → IsLeastBadLine Is text m → n < m → ⊥
+not_below Is text n m p q lt = p.bad (omega (arith, q.within)) (begins_before Is (parts_at 10 text) n (m - 1) (omega arith) q.before)
+
+apart : (n m : ℕ) → (n < m → ⊥) → (m < n → ⊥) → n ≡ m
+apart n m p q = omega (arith, p, q)
+
+-- there is one least bad line
+one_line : {A : Type 0} (Is : List (List ℕ) → A → Type 0) (text : List ℕ) (n m : ℕ) → IsLeastBadLine Is text n → IsLeastBadLine Is text m → n ≡ m
+one_line Is text n m p q = apart n m (not_below Is text n m p q) (not_below Is text m n q p)
+
+reported : {A : Type 0} (Is : List (List ℕ) → A → Type 0) (text : List ℕ) (stop : ℕ) (r : Result A ℕ) → ((x : A) → r ≡ Ok x → Spells Is text x) → ((n : ℕ) → r ≡ Err n → IsLeastBadLine Is text n) → IsLeastBadLine Is text stop → r ≡ Err stop
+reported Is text stop (Ok x) spelled found h = absurd (h.none x (spelled x refl))
+reported Is text stop (Err n) spelled found h = ap (λ (k : ℕ). Err k) (one_line Is text n stop (found n refl) h)
+
+pub bad_script_line_is_least : BadScriptLineIsLeast
+bad_script_line_is_least text stop = (least_script_line text stop, reported IsScript text stop (script_of text) (λ s. (scripts_are_spelled text s).0) (least_script_line text))
+
+pub bad_fact_line_is_least : BadFactLineIsLeast
+bad_fact_line_is_least text stop = (least_fact_line text stop, reported IsFactList text stop (facts_of text) (λ facts. (fact_lists_are_spelled text facts).0) (least_fact_line text))

@@ -1,9 +1,9 @@
 -- Fact lines are read exactly where they are spelled.
-use Rattle.std.proofs.Common.{◌≡◌, ℕ, ◌<◌, ◌≤◌, ◌^◌, ◌⊎◌, ◌↔◌, inl, inr, Bool, true, false, cond, eqb, nat_lt, List, [], ◌∷◌, ◌++◌, length, Option, Some, None, codes, refl, sym, ap, ◌∙◌, subst, arith}
+use Rattle.std.proofs.Common.{◌≡◌, ℕ, ◌≤◌, inl, inr, Bool, true, false, cond, List, [], ◌∷◌, Option, Some, None, codes, refl, sym, ap, ◌∙◌, subst, arith}
 use Rattle.std.specs.Prelude.{bytes_eq}
 use Rattle.std.specs.Fmt.{decimal}
 use Rattle.std.proofs.lemmas.Bool.Decides.{nat_tests}
-use Rattle.redo_core.specs.Data.{WriteData, RecordData, CutData, AdvanceData, record_of, cut_of, advance_of}
+use Rattle.redo_core.specs.Data.{RecordData, CutData, AdvanceData, record_of, cut_of, advance_of}
 use Rattle.redo_core.specs.Shape.{max_number, record_fault, cut_fault, advance_fault}
 use Rattle.redo_core.specs.declared.shapes.ShapeFault.{ShapeFault}
 use Rattle.redo_core.specs.declared.facts.Fact.{Fact}
@@ -14,7 +14,7 @@ use Rattle.script_text.specs.FactLine.{unless, shaped, writes_of, record_line, c
 use Rattle.script_text.specs.Laws.{FactLinesAreSpelled}
 use Rattle.script_text.specs.Spelled.{SpellsWrites, SpellsRecord, SpellsCut, SpellsAdvance, SpellsFact}
 use Rattle.script_text.proofs.Numbers.{numbers_are_decimals, decimal_is_read, lacks_space}
-use Rattle.script_text.proofs.Options.{here, some_is, bind_some, either, true_is}
+use Rattle.script_text.proofs.Options.{some_is, bind_some, either, true_is}
 use Rattle.script_text.proofs.Split.{parts_joined, joined_parts}
 use Rattle.script_text.proofs.WriteSpelling.{writes_are_spelled, writes_are_read, writes_lack_space}
 

@@ -1,18 +1,23 @@
 -- Texts are read exactly where their lines are spelled.
-use Rattle.std.proofs.Common.{◌≡◌, ℕ, zero, suc, ◌+◌, ◌-◌, ◌<◌, ◌≤◌, ◌⊎◌, ◌↔◌, inl, inr, Bool, true, false, cond, eqb, ltb, List, [], ◌∷◌, ◌++◌, length, Option, Some, None, Result, Ok, Err, codes, refl, sym, ap, ◌∙◌, subst, arith, append_assoc, length-append}
-use Rattle.std.specs.Prelude.{bytes_eq}
-use Rattle.std.specs.List.{AllZip}
+use Rattle.std.proofs.Common.{◌≡◌, ℕ, ◌+◌, ◌-◌, ◌<◌, ◌≤◌, ◌⊎◌, inl, inr, Bool, true, false, cond, eqb, ltb, List, [], ◌∷◌, ◌++◌, length, Option, Some, None, Result, Ok, Err, codes, refl, sym, ap, ◌∙◌, subst, arith, append_assoc, length-append}
+use Rattle.std.specs.Prelude.{bytes_eq, IfOk}
+use Rattle.std.specs.List.{All, AllByRecursion, AllZip}
+use Rattle.std.proofs.lemmas.List.Elements.{All-from_recursion}
+use Rattle.std.proofs.lemmas.Slice.Zip.{AllZip-long}
 use Rattle.std.proofs.lemmas.Bool.{le-ltb, ltb-false}
 use Rattle.std.proofs.lemmas.Bool.Decides.{nat_tests}
-use Rattle.std.proofs.lemmas.List.{append_cancel_right}
 use Rattle.redo_core.specs.declared.facts.Fact.{Fact}
 use Rattle.script_text.specs.declared.step_line.StepLine.{StepLine}
 use Rattle.script_text.specs.FactLine.{fact_line, fact_of}
-use Rattle.script_text.specs.StepLine.{step_of}
+use Rattle.script_text.specs.declared.step_line.StepLine.TheVariants.{Take, Front, Read}
+use Rattle.script_text.specs.StepLine.{step_of, IsInRange}
 use Rattle.script_text.specs.Parts.{parts_at}
-use Rattle.script_text.specs.Script.{ScriptData, most, or_bad, with_first, with_fact, with_no_facts, lines_from, nodes_from, script_from, script_of, facts_of}
+use Rattle.script_text.specs.Script.{ScriptData, most, or_bad, with_first, with_fact, with_no_facts, lines_from, nodes_from, script_from, script_of}
+use Rattle.script_text.specs.declared.script.Script.{Script}
+use Rattle.script_text.specs.declared.script.ScriptError.{ScriptError}
+use Rattle.script_text.specs.Outcome.{Gives, script_data}
 use Rattle.script_text.specs.Laws.{ScriptsAreSpelled, FactListsAreSpelled}
-use Rattle.script_text.specs.Spelled.{SpellsFact, SpellsStep, IsFactList, IsScript, Spells}
+use Rattle.script_text.specs.Spelled.{SpellsFact, SpellsStep, IsFactList, IsScript}
 use Rattle.script_text.proofs.FactSpelling.{fact_lines_are_spelled}
 use Rattle.script_text.proofs.StepSpelling.{step_lines_are_spelled}
 use Rattle.script_text.proofs.Options.{true_is, no_test}
@@ -263,3 +268,26 @@ scripts_are_spelled text s = (script_is_spelled (parts_at 10 text) s, λ h. ap (
 
 pub fact_lists_are_spelled : FactListsAreSpelled
 fact_lists_are_spelled text facts = (fact_list_is_spelled (parts_at 10 text) facts (some_parts 10 text), λ h. ap (lines_from fact_of most 1) h.1 ∙ fact_list_is_read h.0 facts h.2)
+
+-- ---- what a script's steps name
+
+step_in_range : (facts : ℕ) (line : List ℕ) (s : StepLine) → SpellsStep facts line s → IsInRange facts s
+step_in_range facts line (Take node fact) h = (h.2, h.3)
+step_in_range facts line (Front node) h = tt
+step_in_range facts line (Read node page point offset len) h = h.5
+
+all_in_range : (facts : ℕ) (lines : List (List ℕ)) (steps : List StepLine) → AllZip (SpellsStep facts) lines steps → AllByRecursion (IsInRange facts) steps
+all_in_range facts [] [] h = tt
+all_in_range facts [] (s ∷ ss) h = absurd h
+all_in_range facts (l ∷ ls) [] h = absurd h
+all_in_range facts (l ∷ ls) (s ∷ ss) h = (step_in_range facts l s h.0, all_in_range facts ls ss h.1)
+
+pub steps_in_range : (text : List ℕ) (s : ScriptData) → script_of text ≡ Ok s → All (IsInRange (length s.facts)) s.steps
+steps_in_range text s h =
+    let t = (scripts_are_spelled text s).0 h in
+    let as_many : length t.2.facts ≡ length s.facts = sym (AllZip-long SpellsFact t.2.facts s.facts t.2.said) in
+    subst (λ (n : ℕ). All (IsInRange n) s.steps) as_many (All-from_recursion (IsInRange (length t.2.facts)) s.steps (all_in_range (length t.2.facts) t.2.steps s.steps t.2.asked))
+
+pub read_in_range : (text : List ℕ) (r : Result Script ScriptError) → Gives script_data r (script_of text) → IfOk r (λ s. All (IsInRange (length s.facts.items)) s.steps.items)
+read_in_range text (Ok s) h = steps_in_range text (script_data s) h
+read_in_range text (Err e) h = tt

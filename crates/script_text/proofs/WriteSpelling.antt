@@ -1,5 +1,5 @@
 -- Writes are read exactly where they are spelled.
-use Rattle.std.proofs.Common.{◌≡◌, ℕ, ◌<◌, ◌≤◌, ◌^◌, ◌⊎◌, inl, inr, Bool, true, false, eqb, List, [], ◌∷◌, ◌++◌, length, Option, Some, None, Result, Ok, Err, codes, refl, sym, ap, ◌∙◌, subst, arith}
+use Rattle.std.proofs.Common.{◌≡◌, ℕ, ◌<◌, inl, inr, true, false, eqb, List, [], ◌∷◌, ◌++◌, length, Some, Result, Ok, Err, codes, refl, sym, ap, ◌∙◌, subst, arith}
 use Rattle.std.specs.Prelude.{bytes_eq}
 use Rattle.std.specs.Char.{is_ascii_digit}
 use Rattle.std.specs.Fmt.{decimal}

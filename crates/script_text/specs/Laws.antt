@@ -29,10 +29,10 @@ ScriptsAreSpelled = (text : List ℕ) (script : ScriptData) → (script_of text 
 abbrev pub FactListsAreSpelled : Type 0
 FactListsAreSpelled = (text : List ℕ) (facts : List Fact) → (facts_of text ≡ Ok facts) ↔ Spells IsFactList text facts
 
--- The bad line of a text that is no script is the least.
+-- A bad line of a script is reported exactly where it is the least.
 abbrev pub BadScriptLineIsLeast : Type 0
-BadScriptLineIsLeast = (text : List ℕ) (at : ℕ) → script_of text ≡ Err at → IsLeastBadLine IsScript text at
+BadScriptLineIsLeast = (text : List ℕ) (at : ℕ) → (script_of text ≡ Err at) ↔ IsLeastBadLine IsScript text at
 
--- The bad line of a text that is not fact lines alone is the least.
+-- A bad line of a text of facts alone is reported exactly where it is the least.
 abbrev pub BadFactLineIsLeast : Type 0
-BadFactLineIsLeast = (text : List ℕ) (at : ℕ) → facts_of text ≡ Err at → IsLeastBadLine IsFactList text at
+BadFactLineIsLeast = (text : List ℕ) (at : ℕ) → (facts_of text ≡ Err at) ↔ IsLeastBadLine IsFactList text at

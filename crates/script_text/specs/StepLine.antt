@@ -1,5 +1,5 @@
 -- The step of a line, by the line's fields, behind a number of facts.
-use Rattle.std.specs.Prelude.{ℕ, ◌+◌, ◌==◌, nat_lt, List, [], ◌∷◌, Option, Some, None, codes, bytes_eq, if◌then◌else◌}
+use Rattle.std.specs.Prelude.{ℕ, ◌+◌, ◌<◌, ◌≤◌, ◌==◌, nat_lt, List, [], ◌∷◌, Option, Some, None, codes, bytes_eq, if◌then◌else◌}
 use Rattle.redo_core.specs.Shape.{max_number}
 use Rattle.script_text.specs.declared.step_line.StepLine.{StepLine}
 use Rattle.script_text.specs.declared.step_line.StepLine.TheVariants.{Take, Front, Read}
@@ -44,3 +44,9 @@ step_line facts (word ∷ fields) =
 -- the step of a line
 abbrev pub step_of : ℕ → List ℕ → Option StepLine
 step_of facts line = step_line facts (parts_at 32 line)
+
+-- the step names one of that many facts, and bytes inside a page
+abbrev pub IsInRange : ℕ → StepLine → Type 0
+IsInRange facts (Take node fact) = (0 < fact) × (fact ≤ facts)
+IsInRange facts (Front node) = Unit {0}
+IsInRange facts (Read node page point offset len) = offset + len ≤ 4096

@@ -1,8 +1,8 @@
 //! Whole scripts.
 
-ghost use Rattle.std.specs.Prelude.{◌≡◌, ◌≤◌, ◌<◌, ◌+◌, ◌^◌, map};
+ghost use Rattle.std.specs.Prelude.{◌≡◌, ◌≤◌, ◌<◌, ◌+◌, ◌^◌, length, map, All, IfOk};
 ghost use Rattle.script_text.specs.FactLine.{fact_of};
-ghost use Rattle.script_text.specs.StepLine.{step_of};
+ghost use Rattle.script_text.specs.StepLine.{step_of, IsInRange};
 ghost use Rattle.script_text.specs.Script.{lines_from, nodes_from, script_from, script_of, facts_of, most};
 ghost use Rattle.script_text.specs.Outcome.{Gives, script_data};
 ghost use Rattle.script_text.specs.declared.script.ScriptError.TheVariants.{Memory};
@@ -151,7 +151,8 @@ fn facts(alloc: Global, lines: &[&[u8]]) -> Result<Vec<Fact>, ScriptError>
 
 /// The script that the text spells: fact lines, `go`, `nodes 1`, step lines; or its least bad line.
 pub fn read_script(alloc: Global, text: &[u8]) -> Result<Script, ScriptError>
-    ensures { Gives script_data result (script_of text.now) }
+    ensures script { Gives script_data result (script_of text.now) }
+    ensures range { IfOk result (λ s. All (IsInRange (length s.facts.items)) s.steps.items) }
 {
     let lines = parts(alloc, text, b'\n')?;
     script_lines(alloc, &lines)
