@@ -1,0 +1,7 @@
+pub mod Members
+pub mod Rising
+pub mod Places
+pub mod Scans
+pub mod Facts
+pub mod Books
+pub mod OneReason

@@ -1,0 +1,91 @@
+-- What a binary search finds in the lists of a book.
+use Rattle.std.proofs.Common.{◌≡◌, ℕ, ◌<◌, ◌≤◌, inl, inr, List, length, get_or, refl, sym, ap, ◌∙◌, subst, arith, Result, Ok, Err, IfOk, IfErr, Ordering, Less, Equal, Greater}
+use Rattle.std.specs.List.{Contains, HoldsAt}
+use Rattle.std.specs.List.Sorted.{IsSearchInRange, IsBinarySearchResult, IsNonDecreasingBy, IsPartitionPoint}
+use Rattle.std.specs.Ordering.{nat_cmp, ordering_then, ordering_index, MatchOrdering}
+use Rattle.std.proofs.lemmas.Cmp.{ranked}
+use Rattle.redo_core.specs.Data.{CutData, AdvanceData, advance_of}
+use Rattle.redo_core.specs.Order.{IsRising, PairBefore, CutBefore, AdvanceBefore}
+use Rattle.epoch_book.proofs.Rising.{rising_by}
+
+-- an order against one thing rises with it
+rank_le : (o p : Ordering) (P Q R S T U : Type 0) → MatchOrdering o P Q R → MatchOrdering p S T U → (Q → S → ⊥) → (R → S → ⊥) → (R → T → ⊥) → ordering_index o ≤ ordering_index p
+rank_le Less p P Q R S T U h k qs rs rt = omega arith
+rank_le Equal Less P Q R S T U h k qs rs rt = absurd (qs h k)
+rank_le Equal Equal P Q R S T U h k qs rs rt = omega arith
+rank_le Equal Greater P Q R S T U h k qs rs rt = omega arith
+rank_le Greater Less P Q R S T U h k qs rs rt = absurd (rs h k)
+rank_le Greater Equal P Q R S T U h k qs rs rt = absurd (rt h k)
+rank_le Greater Greater P Q R S T U h k qs rs rt = omega arith
+
+at_less : (o : Ordering) (P Q R : Type 0) → MatchOrdering o P Q R → o ≡ Less → P
+at_less o P Q R h e = subst (λ v. MatchOrdering v P Q R) e h
+
+at_equal : (o : Ordering) (P Q R : Type 0) → MatchOrdering o P Q R → o ≡ Equal → Q
+at_equal o P Q R h e = subst (λ v. MatchOrdering v P Q R) e h
+
+at_greater : (o : Ordering) (P Q R : Type 0) → MatchOrdering o P Q R → o ≡ Greater → R
+at_greater o P Q R h e = subst (λ v. MatchOrdering v P Q R) e h
+
+-- truncations by epoch
+epoch_ranked : (c : CutData) (e : ℕ) → MatchOrdering (nat_cmp c.epoch e) (c.epoch < e) (c.epoch ≡ e) (e < c.epoch)
+epoch_ranked c e = ranked c.epoch e (nat_cmp c.epoch e) refl
+
+epochs_rise : (cs : List CutData) (e : ℕ) → IsRising CutBefore cs → IsNonDecreasingBy (λ c. ordering_index (nat_cmp c.epoch e)) cs
+epochs_rise cs e r = rising_by CutBefore (λ c. ordering_index (nat_cmp c.epoch e)) cs (λ c d b. rank_le (nat_cmp c.epoch e) (nat_cmp d.epoch e) _ _ _ _ _ _ (epoch_ranked c e) (epoch_ranked d e) (λ (q : c.epoch ≡ e) (s : d.epoch < e). omega (arith, b)) (λ (q : e < c.epoch) (s : d.epoch < e). omega (arith, b)) (λ (q : e < c.epoch) (s : d.epoch ≡ e). omega (arith, b))) r
+
+pub epoch_found : (cs : List CutData) (e : ℕ) (r : Result ℕ ℕ) → IsSearchInRange r (length cs) → IsBinarySearchResult (λ c. nat_cmp c.epoch e) cs r → IfOk r (λ i. (i < length cs) × HoldsAt (λ c. c.epoch ≡ e) cs i)
+epoch_found cs e (Ok i) l h = (l, λ d. at_equal (nat_cmp (get_or cs i d).epoch e) _ _ _ (epoch_ranked (get_or cs i d) e) (h d))
+epoch_found cs e (Err i) l h = tt
+
+pub epoch_absent : (cs : List CutData) (e : ℕ) (r : Result ℕ ℕ) → IsRising CutBefore cs → IsSearchInRange r (length cs) → IsBinarySearchResult (λ c. nat_cmp c.epoch e) cs r → IfErr r (λ i. (i ≤ length cs) × IsPartitionPoint (λ c. c.epoch < e) (λ c. e < c.epoch) cs i)
+epoch_absent cs e (Ok i) rise l h = tt
+epoch_absent cs e (Err i) rise l h =
+    let parted = h (epochs_rise cs e rise) in
+    (l, (λ k d a b. at_less (nat_cmp (get_or cs k d).epoch e) _ _ _ (epoch_ranked (get_or cs k d) e) (parted.0 k d a b), λ k d a b. at_greater (nat_cmp (get_or cs k d).epoch e) _ _ _ (epoch_ranked (get_or cs k d) e) (parted.1 k d a b)))
+
+-- advances by epoch, then point
+abbrev pub pair_cmp : AdvanceData → AdvanceData → Ordering
+pair_cmp a b = ordering_then (nat_cmp a.epoch b.epoch) (nat_cmp a.point b.point)
+
+pair_at : (a b c d : ℕ) (o p : Ordering) → MatchOrdering o (a < c) (a ≡ c) (c < a) → MatchOrdering p (b < d) (b ≡ d) (d < b) → MatchOrdering (ordering_then o p) (PairBefore a b c d) ((a ≡ c) × (b ≡ d)) (PairBefore c d a b)
+pair_at a b c d Less p h k = inl h
+pair_at a b c d Equal Less h k = inr (h, k)
+pair_at a b c d Equal Equal h k = (h, k)
+pair_at a b c d Equal Greater h k = inr (sym h, k)
+pair_at a b c d Greater p h k = inl h
+
+pair_ranked : (a b : AdvanceData) → MatchOrdering (pair_cmp a b) (AdvanceBefore a b) ((a.epoch ≡ b.epoch) × (a.point ≡ b.point)) (AdvanceBefore b a)
+pair_ranked a b = pair_at a.epoch a.point b.epoch b.point (nat_cmp a.epoch b.epoch) (nat_cmp a.point b.point) (ranked a.epoch b.epoch (nat_cmp a.epoch b.epoch) refl) (ranked a.point b.point (nat_cmp a.point b.point) refl)
+
+pub same_advance : (a b : AdvanceData) → a.epoch ≡ b.epoch → a.point ≡ b.point → a ≡ b
+same_advance a b e p = ap (λ n. advance_of n a.point) e ∙ ap (λ n. advance_of b.epoch n) p
+
+pair_apart : (a b c d : ℕ) → PairBefore a b c d → PairBefore c d a b → ⊥
+pair_apart a b c d h k = grind (arith, h, k)
+
+pub advances_apart : (a b : AdvanceData) → AdvanceBefore a b → AdvanceBefore b a → ⊥
+advances_apart a b h k = pair_apart a.epoch a.point b.epoch b.point h k
+
+pair_trans : (a b c d e f : ℕ) → PairBefore a b c d → PairBefore c d e f → PairBefore a b e f
+pair_trans a b c d e f h k = grind (arith, h, k)
+
+pairs_rise : (ws : List AdvanceData) (x : AdvanceData) → IsRising AdvanceBefore ws → IsNonDecreasingBy (λ a. ordering_index (pair_cmp a x)) ws
+pairs_rise ws x r = rising_by AdvanceBefore (λ a. ordering_index (pair_cmp a x)) ws
+    (λ a b h. rank_le (pair_cmp a x) (pair_cmp b x) _ _ _ _ _ _ (pair_ranked a x) (pair_ranked b x)
+    (λ (q : (a.epoch ≡ x.epoch) × (a.point ≡ x.point)) (s : AdvanceBefore b x). pair_apart a.epoch a.point b.epoch b.point h (subst (λ p. PairBefore b.epoch b.point a.epoch p) (sym q.1) (subst (λ e. PairBefore b.epoch b.point e x.point) (sym q.0) s)))
+    (λ (q : AdvanceBefore x a) (s : AdvanceBefore b x). pair_apart a.epoch a.point b.epoch b.point h (pair_trans b.epoch b.point x.epoch x.point a.epoch a.point s q))
+    (λ (q : AdvanceBefore x a) (s : (b.epoch ≡ x.epoch) × (b.point ≡ x.point)). pair_apart a.epoch a.point b.epoch b.point h (subst (λ p. PairBefore b.epoch p a.epoch a.point) (sym s.1) (subst (λ e. PairBefore e x.point a.epoch a.point) (sym s.0) q))))
+    r
+
+pub advance_found : (ws : List AdvanceData) (x : AdvanceData) (r : Result ℕ ℕ) → IsSearchInRange r (length ws) → IsBinarySearchResult (λ a. pair_cmp a x) ws r → IfOk r (λ i. Contains ws x)
+advance_found ws x (Ok i) l h =
+    let q = at_equal (pair_cmp (get_or ws i x) x) _ _ _ (pair_ranked (get_or ws i x) x) (h x) in
+    (i, l, same_advance (get_or ws i x) x q.0 q.1)
+advance_found ws x (Err i) l h = tt
+
+pub advance_absent : (ws : List AdvanceData) (x : AdvanceData) (r : Result ℕ ℕ) → IsRising AdvanceBefore ws → IsSearchInRange r (length ws) → IsBinarySearchResult (λ a. pair_cmp a x) ws r → IfErr r (λ i. (i ≤ length ws) × IsPartitionPoint (λ a. AdvanceBefore a x) (λ a. AdvanceBefore x a) ws i)
+advance_absent ws x (Ok i) rise l h = tt
+advance_absent ws x (Err i) rise l h =
+    let parted = h (pairs_rise ws x rise) in
+    (l, (λ k d a b. at_less (pair_cmp (get_or ws k d) x) _ _ _ (pair_ranked (get_or ws k d) x) (parted.0 k d a b), λ k d a b. at_greater (pair_cmp (get_or ws k d) x) _ _ _ (pair_ranked (get_or ws k d) x) (parted.1 k d a b)))

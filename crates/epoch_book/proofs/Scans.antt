@@ -1,0 +1,74 @@
+-- Scans of a book's lists.
+use Rattle.std.proofs.Common.{◌≡◌, ℕ, zero, suc, ◌+◌, ◌<◌, ◌≤◌, ◌⊎◌, ◌↔◌, inr, ⊎_elim, List, [], ◌∷◌, length, get_or, take, refl, sym, ap, ◌∙◌, subst, arith, Result, Ok, Err, IfOk, IfErr, IsTrue}
+use Rattle.std.specs.List.{All, AllWithin, HoldsAt}
+use Rattle.std.specs.List.Sorted.{IsPartitionPoint}
+use Rattle.std.proofs.lemmas.List.Elements.{All-contains, All-more}
+use Rattle.redo_core.specs.Data.{CutData, AdvanceData}
+use Rattle.redo_core.specs.Order.{IsRising, CutBefore, IsGreatest}
+use Rattle.redo_core.specs.CompleteEpoch.{HasCutsTo, IsCompleteEpoch}
+use Rattle.redo_core.specs.Position.{HasAdvance}
+use Rattle.epoch_book.specs.Scanning.{HasCut}
+use Rattle.epoch_book.specs.Refusing.{LacksCut}
+use Rattle.std.specs.Result.{is_ok}
+use Rattle.epoch_book.proofs.Rising.{rising_at}
+
+-- all of a whole list
+pub whole : {X : Type 0} (P : X → Type 0) (xs : List X) (i : ℕ) → length xs ≤ i → All P (take i xs) → All P xs
+whole P [] i l h k d q = absurd (omega (arith, q))
+whole P (x ∷ xs) zero l h k d q = absurd (omega (arith, l))
+whole P (x ∷ xs) (suc i) l h zero d q = h zero d (omega arith)
+whole P (x ∷ xs) (suc i) l h (suc k) d q = whole P xs i (omega (arith, l)) (λ j e r. h (suc j) e (omega (arith, r))) k d (omega (arith, q))
+
+pub one_more : {X : Type 0} (P : X → Type 0) (xs : List X) (i : ℕ) (x : X) → i < length xs → x ≡ get_or xs i x → All P (take i xs) → P x → All P (take (i + 1) xs)
+one_more P xs i x l e all p = All-more P xs i x l all (subst P e p)
+
+-- the truncation at a place
+pub cut_at : (cs : List CutData) (e i : ℕ) → i < length cs → HoldsAt (λ c. c.epoch ≡ e) cs i → HasCut cs e
+cut_at [] e i l h = absurd (omega (arith, l))
+cut_at (c ∷ cs) e i l h = (get_or (c ∷ cs) i c, (i, l, same_default (c ∷ cs) i c (get_or (c ∷ cs) i c) l), h c)
+  where
+    same_default : (xs : List CutData) (k : ℕ) (d f : CutData) → k < length xs → get_or xs k f ≡ get_or xs k d
+    same_default [] k d f m = absurd (omega (arith, m))
+    same_default (x ∷ xs) zero d f m = refl
+    same_default (x ∷ xs) (suc k) d f m = same_default xs k d f (omega (arith, m))
+
+-- no truncation at a gap
+pub no_cut : (cs : List CutData) (e i : ℕ) → IsPartitionPoint (λ c. c.epoch < e) (λ c. e < c.epoch) cs i → LacksCut cs e
+no_cut cs e i gap d h q = ⊎_elim
+    (λ (l : h.0 < i). let b : (get_or cs h.0 d).epoch < e = gap.0 h.0 d (omega arith) l in let s : (get_or cs h.0 d).epoch ≡ d.epoch = ap (λ x. x.epoch) h.2 in omega arith)
+    (λ (l : i ≤ h.0). let b : e < (get_or cs h.0 d).epoch = gap.1 h.0 d l h.1 in let s : (get_or cs h.0 d).epoch ≡ d.epoch = ap (λ x. x.epoch) h.2 in omega arith)
+    (let t : (h.0 < i) ⊎ (i ≤ h.0) = grind arith in t)
+
+pub next_epoch : (cs : List CutData) (k : ℕ) → HasCutsTo cs k → HasCut cs (k + 1) → HasCutsTo cs (k + 1)
+next_epoch cs k has c e l m = ⊎_elim (λ (q : e ≤ k). has e l q) (λ (q : e ≡ k + 1). (c.0, c.1, c.2 ∙ sym q)) (let t : (e ≤ k) ⊎ (e ≡ k + 1) = grind arith in t)
+
+pub complete : (cs : List CutData) (k : ℕ) → HasCutsTo cs k → (HasCut cs (k + 1) → ⊥) → IsCompleteEpoch cs k
+complete cs k has missing = (inr has, λ m h. ⊎_elim (λ (q : m ≤ k). q) (λ (q : k < m). absurd (missing (h (k + 1) (omega arith) (omega arith)))) (let t : (m ≤ k) ⊎ (k < m) = grind arith in t))
+
+-- one advance more in the scan for the minimum
+abbrev pub IsUpTo : ℕ → ℕ → AdvanceData → Type 0
+IsUpTo epoch point a = a.epoch ≤ epoch → a.point ≤ point
+
+pub higher : (ws : List AdvanceData) (e p q : ℕ) → p ≤ q → All (IsUpTo e p) ws → All (IsUpTo e q) ws
+higher ws e p q l all k d m u = let t : (get_or ws k d).point ≤ p = all k d m u in omega arith
+
+pub greatest_of : (ws : List AdvanceData) (e min n : ℕ) → (n ≡ min) ⊎ HasAdvance ws e n → min ≤ n → All (IsUpTo e n) ws → IsGreatest (λ m. (m ≡ min) ⊎ HasAdvance ws e m) n
+greatest_of ws e min n there above top = (
+  inr there,
+  λ m h. ⊎_elim
+      (λ (q : m ≡ min). omega arith)
+      (λ (a : HasAdvance ws e m). let t : a.0.point ≤ n = All-contains (IsUpTo e n) ws a.0 top a.1 a.2 in let q : a.0.point ≡ m = a.3 in omega arith)
+      h,
+)
+
+-- the truncations before the one of an epoch
+pub before_place : (cs : List CutData) (e i : ℕ) → IsRising CutBefore cs → (i < length cs) × HoldsAt (λ c. c.epoch ≡ e) cs i → AllWithin (λ c. c.epoch < e) cs 0 i
+before_place cs e i rise at k d a b =
+    let l : (get_or cs k d).epoch < (get_or cs i d).epoch = rising_at CutBefore cs k i d d rise b at.0 in
+    let q : (get_or cs i d).epoch ≡ e = at.1 d in
+    omega arith
+
+-- whether a search finds a truncation
+pub found_cut : (cs : List CutData) (e : ℕ) (r : Result ℕ ℕ) → IfOk r (λ i. (i < length cs) × HoldsAt (λ c. c.epoch ≡ e) cs i) → IfErr r (λ i. (i ≤ length cs) × IsPartitionPoint (λ c. c.epoch < e) (λ c. e < c.epoch) cs i) → IsTrue (is_ok r) ↔ HasCut cs e
+found_cut cs e (Ok i) ok err = (λ h. cut_at cs e i ok.0 ok.1, λ h. refl)
+found_cut cs e (Err i) ok err = (λ h. absurd (cc), λ h. absurd (no_cut cs e i err.1 h.0 h.1 h.2))

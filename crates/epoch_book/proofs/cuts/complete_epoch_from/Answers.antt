@@ -1,0 +1,12 @@
+use Rattle.std.proofs.Common.{IsTrue, false, refl}
+use Rattle.epoch_book.proofs.Scans.{next_epoch, complete}
+use Rattle.epoch_book.proofs.cuts.complete_epoch_from.Goals as goal
+
+pub returns : goal.returns
+returns c = complete c.args.cuts.now c.loop-epoch.epoch c.loop-epoch.invariant.has (λ h. let t : IsTrue false = c.loop-epoch-test.ensures.found.1 h in cc)
+
+pub loop-epoch-preserved : goal.loop-epoch-preserved
+loop-epoch-preserved c = record {
+  small = c.loop-epoch-test.ensures.small refl;
+  has = next_epoch c.args.cuts.now c.loop-epoch.epoch c.loop-epoch.invariant.has (c.loop-epoch-test.ensures.found.0 refl);
+}

@@ -1,0 +1,9 @@
+use Rattle.std.proofs.Common.{◌-◌, ◌<◌}
+use Rattle.redo_core.specs.CompleteEpoch.{HasCutsTo}
+use Rattle.epoch_book.proofs.cuts.complete_epoch_from.Given as goal
+
+abbrev pub invariant-loop-epoch : goal.invariant-loop-epoch
+invariant-loop-epoch l = record { small : l.epoch < 65536; has : HasCutsTo l.cuts l.epoch }
+
+abbrev pub decreases-loop-epoch : goal.decreases-loop-epoch
+decreases-loop-epoch l = 65535 - l.epoch

@@ -1,0 +1,5 @@
+pub mod Book
+pub mod Knowing
+pub mod Learning
+pub mod Refusing
+pub mod Scanning

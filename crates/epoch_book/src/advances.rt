@@ -1,0 +1,53 @@
+ghost use Rattle.std.specs.Prelude.{◌≡◌, ℕ, ◌≤◌, ◌⊎◌, length, nat_lt, IfOk, IfErr, IfSome, IsNone};
+ghost use Rattle.std.specs.List.{All, HoldsAt, Contains, filter};
+ghost use Rattle.std.specs.List.Sorted.{IsPartitionPoint};
+ghost use Rattle.redo_core.specs.Order.{IsRising, AdvanceBefore, IsGreatest};
+ghost use Rattle.redo_core.specs.Position.{HasAdvance};
+ghost use Rattle.epoch_book.specs.Refusing.{Contradict, IsFirst};
+
+use redo_core::{Advance, Cut};
+
+// The place of an advance, or where it would go.
+pub fn place_of_advance(waits: &[Advance], advance: Advance) -> Result<usize, usize>
+    requires { IsRising AdvanceBefore waits.now }
+    ensures found { IfOk result (λ _. Contains waits.now advance) }
+    ensures absent { IfErr result (λ i. (i ≤ length waits.now)
+        × IsPartitionPoint (λ a. AdvanceBefore a advance) (λ a. AdvanceBefore advance a) waits.now i) }
+{
+    let key = (advance.epoch(), advance.point());
+    waits.binary_search_by_key(&key, |wait| (wait.epoch(), wait.point()))
+}
+
+// The least advance, by epoch and then point, that the truncation cuts below.
+pub fn first_against(waits: &[Advance], cut: Cut) -> Option<Advance>
+    requires { IsRising AdvanceBefore waits.now }
+    ensures first { IfSome result (IsFirst AdvanceBefore (λ a. Contains waits.now a × Contradict cut a)) }
+    ensures none { IsNone result → All (λ a. Contradict cut a → ⊥) waits.now }
+{
+    for wait in waits {
+        if wait.epoch() < cut.epoch() && cut.lo() < wait.point() {
+            return Some(*wait);
+        }
+    }
+    None
+}
+
+// The minimum read point once the advances of epochs up to the complete one count too.
+pub fn min_with(waits: &[Advance], complete: u16, min: u64) -> u64
+    ensures { IsGreatest (λ n. (n ≡ min) ⊎ HasAdvance waits.now complete n) result }
+{
+    let mut greatest = min;
+    for wait in waits {
+        if wait.epoch() <= complete && greatest < wait.point() {
+            greatest = wait.point();
+        }
+    }
+    greatest
+}
+
+// Leaves the advances of epochs above the complete one.
+pub fn keep_later(waits: &mut Vec<Advance>, complete: u16)
+    ensures { waits.new.items ≡ filter (λ a. nat_lt complete a.epoch) waits.old.items }
+{
+    waits.retain(|wait| complete < wait.epoch());
+}

@@ -1,0 +1,241 @@
+ghost use Rattle.std.specs.Prelude.{◌≡◌, ◌<◌, ◌≤◌, ◌⊎◌, ◌↔◌, List, [], length, IfOk, OnOk, OnErr, IfErr, IfSome, IsNone, Err as ErrOf, None};
+ghost use Rattle.std.specs.List.{Contains};
+ghost use Rattle.std.specs.List.Sorted.{IsPartitionPoint};
+ghost use Rattle.redo_core.specs.Shape.{cut_fault, advance_fault};
+ghost use Rattle.redo_core.specs.Order.{IsRising, CutBefore, AdvanceBefore};
+ghost use Rattle.redo_core.specs.CompleteEpoch.{IsCompleteEpoch};
+ghost use Rattle.redo_core.specs.Standing.{IsAlive, IsDead, IsWaiting};
+ghost use Rattle.redo_core.specs.declared.facts.Fact.TheVariants.{Cut as OfCut, Advance as OfAdvance};
+ghost use Rattle.epoch_book.specs.Book.{IsBook, book_of};
+ghost use Rattle.epoch_book.specs.Knowing.{KnowsFacts, KnowsMore};
+ghost use Rattle.epoch_book.specs.Learning.{LearnsCut, LearnsAdvance, KnowsAdvance};
+ghost use Rattle.epoch_book.specs.Refusing.{LacksCut, RefusesCut, RefusesAdvance};
+ghost use Rattle.epoch_book.specs.declared.refusals.BookRefusal.{BookRefusal as AnyRefusal};
+ghost use Rattle.epoch_book.specs.declared.refusals.BookRefusal.TheVariants.{Contradiction as ContradictionOf, Memory as MemoryOf};
+ghost use Rattle.epoch_book.specs.declared.refusals.Held.{Held as AnyHeld};
+ghost use Rattle.epoch_book.specs.declared.refusals.Learnt.TheVariants.{Known as KnownOf};
+ghost use Rattle.epoch_book.specs.declared.standing.Standing.TheVariants.{Alive as AliveOf, Dead as DeadOf, Waiting as WaitingOf};
+
+use crate::refusals::{BookRefusal, Held, Learnt};
+use crate::standing::Standing;
+use crate::{advances, cuts};
+use redo_core::{Advance, Cut};
+use std::alloc::{AllocError, Global};
+use std::marker::Model;
+
+/// The truncations and the advances that a segment knows, with the complete epoch and the minimum read point.
+#[derive(Debug, Drop)]
+pub struct EpochBook {
+    cuts: Vec<Cut>,
+    complete: u16,
+    min: u64,
+    waits: Vec<Advance>,
+}
+
+impl Model for EpochBook {
+    ghost use Rattle.epoch_book.specs.Book.{BookData, IsBook, book_of};
+
+    ghost Value = { BookData };
+
+    ghost view = { λ b. book_of b.cuts.items b.complete b.min b.waits.items };
+
+    ghost invariant = { λ b. IsBook (book_of b.cuts.items b.complete b.min b.waits.items) };
+}
+
+impl EpochBook {
+    /// A book that knows nothing: epoch 0 is complete, and the minimum read point is 0.
+    pub fn new(alloc: Global) -> Self
+        ensures empty { result ≡ book_of [] 0 0 [] }
+        ensures book { IsBook result }
+        ensures knows { KnowsFacts [] result }
+    {
+        EpochBook {
+            cuts: Vec::new(alloc),
+            complete: 0,
+            min: 0,
+            waits: Vec::new(alloc),
+        }
+    }
+
+    /// An equal book with memory of its own. Its only error is want of memory.
+    pub fn copy(&self) -> Result<Self, AllocError>
+        ensures { IfOk result (λ b. b ≡ self.now) }
+    {
+        Ok(EpochBook {
+            cuts: self.cuts.clone()?,
+            complete: self.complete,
+            min: self.min,
+            waits: self.waits.clone()?,
+        })
+    }
+
+    /// Learns a truncation. It may raise the complete epoch, by several where it closes a gap; the advances that waited for
+    /// those epochs then count.
+    ///
+    /// Errors: `OtherCut` where another truncation of its epoch is held; `Contradiction` where it is not held and cuts below
+    /// the minimum, or else below an advance of an earlier epoch that waits; `Memory`. The book is then as it was.
+    pub fn learn_cut(&mut self, cut: Cut) -> Result<Learnt, BookRefusal>
+        ensures ok { OnOk result (LearnsCut self.old cut self.new) }
+        ensures knows { OnOk result (KnowsMore self.old (OfCut cut) self.new) }
+        ensures known { IfOk result (λ learnt. (learnt ≡ KnownOf) ↔ Contains self.old.cuts cut) }
+        ensures unchanged { IfOk result (λ learnt. learnt ≡ KnownOf → self.new ≡ self.old) }
+        ensures book { IsBook self.new }
+
+        ensures err { OnErr result (self.new ≡ self.old) }
+        ensures refuses { (e : AnyRefusal) → RefusesCut self.old cut e → result ≡ ErrOf e }
+        ensures refused { IfErr result (λ e. (e ≡ MemoryOf) ⊎ RefusesCut self.old cut e) }
+        ensures memory { result ≡ ErrOf MemoryOf → LacksCut self.old.cuts cut.epoch }
+    {
+        match cuts::place_of_epoch(&self.cuts, cut.epoch()) {
+            Ok(place) => {
+                let held = self.cuts[place];
+                if held == cut {
+                    Ok(Learnt::Known)
+                } else {
+                    Err(BookRefusal::OtherCut(held))
+                }
+            }
+            Err(place) => {
+                if let Some(held) = self.against_cut(cut) {
+                    return Err(BookRefusal::Contradiction(held));
+                }
+                self.add_cut(place, cut)?;
+                Ok(Learnt::New)
+            }
+        }
+    }
+
+    // What a truncation of an epoch without one contradicts.
+    fn against_cut(&self, cut: Cut) -> Option<Held>
+        ensures some { IfSome result (λ h. LacksCut self.now.cuts cut.epoch → RefusesCut self.now cut (ContradictionOf h)) }
+        ensures none { IsNone result → (h : AnyHeld) → RefusesCut self.now cut (ContradictionOf h) → ⊥ }
+        ensures book { IsBook self.now }
+    {
+        if cut.lo() < self.min {
+            return Some(Held::Min(self.min));
+        }
+        match advances::first_against(&self.waits, cut) {
+            Some(wait) => Some(Held::Advance(wait)),
+            None => None,
+        }
+    }
+
+    fn add_cut(&mut self, place: usize, cut: Cut) -> Result<(), BookRefusal>
+        requires within { place ≤ length self.old.cuts }
+        requires gap { IsPartitionPoint (λ c. c.epoch < cut.epoch) (λ c. cut.epoch < c.epoch) self.old.cuts place }
+        requires shaped { cut_fault cut ≡ None }
+        requires fits { cut.epoch < 65536 }
+        ensures ok { OnOk result (LearnsCut self.old cut self.new) }
+        ensures err { OnErr result (self.new ≡ self.old) }
+        ensures memory { IfErr result (λ e. e ≡ MemoryOf) }
+        ensures book { IsBook self.new }
+    {
+        self.cuts.insert(place, cut)?;
+        let complete = cuts::complete_epoch_from(&self.cuts, self.complete);
+        self.min = advances::min_with(&self.waits, complete, self.min);
+        self.complete = complete;
+        advances::keep_later(&mut self.waits, complete);
+        Ok(())
+    }
+
+    /// Learns an advance. It raises the minimum read point where its epoch is known, and else it waits.
+    ///
+    /// Errors: `Contradiction`, also where it is known already, with the held truncation of the least epoch that cuts below
+    /// it; `Memory`. The book is then as it was.
+    pub fn learn_advance(&mut self, advance: Advance) -> Result<Learnt, BookRefusal>
+        ensures ok { OnOk result (LearnsAdvance self.old advance self.new) }
+        ensures knows { OnOk result (KnowsMore self.old (OfAdvance advance) self.new) }
+        ensures known { IfOk result (λ learnt. (learnt ≡ KnownOf) ↔ KnowsAdvance self.old advance) }
+        ensures unchanged { IfOk result (λ learnt. learnt ≡ KnownOf → self.new ≡ self.old) }
+        ensures book { IsBook self.new }
+
+        ensures err { OnErr result (self.new ≡ self.old) }
+        ensures refuses { (e : AnyRefusal) → RefusesAdvance self.old advance e → result ≡ ErrOf e }
+        ensures refused { IfErr result (λ e. (e ≡ MemoryOf) ⊎ RefusesAdvance self.old advance e) }
+        ensures memory { result ≡ ErrOf MemoryOf → (self.old.complete < advance.epoch) × (KnowsAdvance self.old advance → ⊥) }
+    {
+        if let Some(cut) = cuts::first_against(&self.cuts, advance) {
+            return Err(BookRefusal::Contradiction(Held::Cut(cut)));
+        }
+        if advance.epoch() > self.complete {
+            return self.add_wait(advance);
+        }
+        if advance.point() <= self.min {
+            return Ok(Learnt::Known);
+        }
+        self.min = advance.point();
+        Ok(Learnt::New)
+    }
+
+    fn add_wait(&mut self, advance: Advance) -> Result<Learnt, BookRefusal>
+        requires later { self.old.complete < advance.epoch }
+        requires shaped { advance_fault advance ≡ None }
+        ensures ok { OnOk result (LearnsAdvance self.old advance self.new) }
+        ensures known { IfOk result (λ learnt. (learnt ≡ KnownOf) ↔ Contains self.old.waits advance) }
+        ensures unchanged { IfOk result (λ learnt. learnt ≡ KnownOf → self.new ≡ self.old) }
+        ensures book { IsBook self.new }
+        ensures err { OnErr result (self.new ≡ self.old) }
+        ensures memory { IfErr result (λ e. (e ≡ MemoryOf) × (Contains self.old.waits advance → ⊥)) }
+    {
+        match advances::place_of_advance(&self.waits, advance) {
+            Ok(_) => Ok(Learnt::Known),
+            Err(place) => {
+                self.waits.insert(place, advance)?;
+                Ok(Learnt::New)
+            }
+        }
+    }
+
+    /// The greatest epoch up to which every truncation is held.
+    pub fn complete_epoch(&self) -> u16
+        ensures value { result ≡ self.now.complete }
+        ensures complete { IsCompleteEpoch self.now.cuts result }
+        ensures book { IsBook self.now }
+    {
+        self.complete
+    }
+
+    /// The greatest point of the advances of epochs up to the complete one.
+    pub fn min_point(&self) -> u64
+        ensures value { result ≡ self.now.min }
+        ensures book { IsBook self.now }
+    {
+        self.min
+    }
+
+    /// The truncations, rising by epoch.
+    pub fn cuts(&self) -> &[Cut]
+        ensures value { result.now ≡ self.now.cuts }
+        ensures rising { IsRising CutBefore self.now.cuts }
+        ensures book { IsBook self.now }
+    {
+        &self.cuts
+    }
+
+    /// The advances that wait for their epoch, rising by epoch and then by point.
+    pub fn waits(&self) -> &[Advance]
+        ensures value { result.now ≡ self.now.waits }
+        ensures rising { IsRising AdvanceBefore self.now.waits }
+        ensures book { IsBook self.now }
+    {
+        &self.waits
+    }
+
+    /// How a record of an epoch and number stands.
+    pub fn stands(&self, epoch: u16, number: u64) -> Standing
+        ensures alive { (result ≡ AliveOf) ↔ IsAlive self.now.cuts self.now.complete epoch number }
+        ensures dead { (result ≡ DeadOf) ↔ IsDead self.now.cuts self.now.complete epoch number }
+        ensures waiting { (result ≡ WaitingOf) ↔ IsWaiting self.now.complete epoch }
+        ensures complete { IsCompleteEpoch self.now.cuts self.now.complete }
+    {
+        if epoch > self.complete {
+            return Standing::Waiting;
+        }
+        let from = cuts::first_from(&self.cuts, epoch);
+        if cuts::spare(&self.cuts[from..], self.complete, epoch, number) {
+            Standing::Alive
+        } else {
+            Standing::Dead
+        }
+    }
+}

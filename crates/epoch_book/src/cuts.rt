@@ -1,0 +1,92 @@
+ghost use Rattle.std.specs.Prelude.{◌≡◌, ◌<◌, ◌≤◌, ◌↔◌, length, IsTrue, IfOk, IfErr, IfSome, IsNone};
+ghost use Rattle.std.specs.List.{All, AllWithin, HoldsAt, Contains};
+ghost use Rattle.std.specs.List.Sorted.{IsPartitionPoint};
+ghost use Rattle.redo_core.specs.Order.{IsRising, CutBefore};
+ghost use Rattle.redo_core.specs.CompleteEpoch.{HasCutsTo, IsCompleteEpoch};
+ghost use Rattle.epoch_book.specs.Refusing.{Contradict, IsFirst};
+ghost use Rattle.epoch_book.specs.Scanning.{HasCut, SparesIn};
+
+use redo_core::{Advance, Cut};
+
+// The place of the truncation of an epoch, or where one would go.
+pub fn place_of_epoch(cuts: &[Cut], epoch: u16) -> Result<usize, usize>
+    requires { IsRising CutBefore cuts.now }
+    ensures found { IfOk result (λ i. (i < length cuts.now) × HoldsAt (λ c. c.epoch ≡ epoch) cuts.now i) }
+    ensures absent { IfErr result (λ i. (i ≤ length cuts.now)
+        × IsPartitionPoint (λ c. c.epoch < epoch) (λ c. epoch < c.epoch) cuts.now i) }
+{
+    cuts.binary_search_by_key(&epoch, |cut| cut.epoch())
+}
+
+// How many truncations of earlier epochs there are: where those from the epoch on begin.
+pub fn first_from(cuts: &[Cut], epoch: u16) -> usize
+    requires { IsRising CutBefore cuts.now }
+    ensures within { result ≤ length cuts.now }
+    ensures before { AllWithin (λ c. c.epoch < epoch) cuts.now 0 result }
+{
+    match place_of_epoch(cuts, epoch) {
+        Ok(place) => place,
+        Err(place) => place,
+    }
+}
+
+fn has_epoch(cuts: &[Cut], epoch: u32) -> bool
+    requires rising { IsRising CutBefore cuts.now }
+    requires fits { All (λ c. c.epoch < 65536) cuts.now }
+    ensures found { IsTrue result ↔ HasCut cuts.now epoch }
+    ensures small { IsTrue result → epoch < 65536 }
+{
+    match u16::try_from(epoch) {
+        Ok(epoch) => place_of_epoch(cuts, epoch).is_ok(),
+        Err(_) => false,
+    }
+}
+
+// The complete epoch, where all truncations up to `from` are there.
+pub fn complete_epoch_from(cuts: &[Cut], from: u16) -> u16
+    requires rising { IsRising CutBefore cuts.now }
+    requires fits { All (λ c. c.epoch < 65536) cuts.now }
+    requires known { HasCutsTo cuts.now from }
+    ensures { IsCompleteEpoch cuts.now result }
+{
+    let mut epoch = u32::from(from);
+    while has_epoch(cuts, epoch + 1) {
+        epoch += 1;
+    }
+    epoch as u16
+}
+
+// The truncation of the least epoch that cuts below the advance.
+pub fn first_against(cuts: &[Cut], advance: Advance) -> Option<Cut>
+    requires { IsRising CutBefore cuts.now }
+    ensures first { IfSome result (IsFirst CutBefore (λ c. Contains cuts.now c × Contradict c advance)) }
+    ensures none { IsNone result → All (λ c. Contradict c advance → ⊥) cuts.now }
+{
+    for cut in cuts {
+        if advance.epoch() < cut.epoch() && cut.lo() < advance.point() {
+            return Some(*cut);
+        }
+    }
+    None
+}
+
+fn is_spared(cut: &Cut, complete: u16, epoch: u16, number: u64) -> bool
+    ensures { IsTrue result ↔ SparesIn complete epoch number cut.now }
+{
+    if cut.epoch() == epoch {
+        return cut.hi() < number;
+    }
+    cut.epoch() < epoch || cut.epoch() > complete || number <= cut.lo()
+}
+
+// Whether no truncation annuls the number of an epoch.
+pub fn spare(cuts: &[Cut], complete: u16, epoch: u16, number: u64) -> bool
+    ensures { IsTrue result ↔ All (SparesIn complete epoch number) cuts.now }
+{
+    for cut in cuts {
+        if !is_spared(cut, complete, epoch, number) {
+            return false;
+        }
+    }
+    true
+}
