@@ -10,5 +10,7 @@ mod links;
 mod log;
 mod removal;
 mod search;
+#[cfg(test)]
+mod tests;
 
 pub use log::{HotLog, Put, PutFault};
