@@ -1,4 +1,5 @@
 mod Choice
+mod Counting
 mod LinkedNumbers
 mod LoadedWords
 mod Opening

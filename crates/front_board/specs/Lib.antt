@@ -3,3 +3,4 @@ pub mod Rule
 pub mod Seat
 pub mod NthGreatest
 pub mod Survey
+pub mod Quorum
