@@ -1,17 +1,17 @@
 -- Some fronts of a drill's log.
-use Rattle.std.proofs.Common.{◌≡◌, ℕ, zero, suc, ◌+◌, ◌-◌, ◌/◌, ◌<◌, ◌≤◌, List, refl, sym, ap, subst, arith}
+use Rattle.std.proofs.Common.{◌≡◌, ℕ, zero, suc, ◌+◌, ◌-◌, ◌/◌, ◌<◌, ◌≤◌, List, sym, ap, subst, arith}
 use Rattle.std.specs.List.{Contains}
 use Rattle.redo_core.specs.Data.{CutData}
-use Rattle.redo_core.specs.Sets.{records, cuts}
+use Rattle.redo_core.specs.Sets.{cuts}
 use Rattle.redo_core.specs.CompleteEpoch.{HasCutsTo}
 use Rattle.redo_core.specs.Standing.{IsAlive}
-use Rattle.redo_core.specs.Linked.{IsLinked, Linked}
+use Rattle.redo_core.specs.Linked.{IsLinked}
 use Rattle.redo_core.specs.Linked.Linked.{start, next}
 use Rattle.redo_core.specs.LogFront.{IsLogFront}
 use Rattle.redo_core.specs.declared.facts.Fact.{Fact}
 use Rattle.drill_log.specs.DrillLog.{record_of_epoch_0, record_of_epoch_1, drill_cut, drill_log, drill_hi}
 use Rattle.drill_log.specs.Contents.{IsDrillLog, drill_contents, facts_of_drill}
-use Rattle.drill_log.specs.Remainders.{half_at_most, half_positive}
+use Rattle.drill_log.specs.Remainders.{half_at_most}
 use Rattle.drill_log.specs.Sound.{log_is}
 
 cut_epoch : (n : ℕ) (log : List Fact) → IsDrillLog n log → (c : CutData) → Contains (cuts log) c → c.epoch ≡ 1

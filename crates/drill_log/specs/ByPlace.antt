@@ -1,5 +1,5 @@
 -- A list that a function gives by place.
-use Rattle.std.proofs.Common.{◌≡◌, ℕ, zero, suc, ◌+◌, ◌<◌, ◌≤◌, ◌⊎◌, inl, inr, ⊎_elim, List, [], ◌∷◌, map, refl, sym, ap, subst, ◌∙◌, arith, le_refl, Option, Some, None}
+use Rattle.std.proofs.Common.{◌≡◌, ℕ, zero, suc, ◌+◌, ◌<◌, ◌≤◌, ◌⊎◌, ⊎_elim, map, refl, ap, subst, ◌∙◌, arith, le_refl, Some, None}
 use Rattle.std.specs.Prelude.{slice_get}
 use Rattle.std.specs.List.{Contains, range_with_len}
 use Rattle.redo_laws.proofs.Members.{none_in, here, there, which}

@@ -1,17 +1,17 @@
 -- What stands in the log of a drill.
-use Rattle.std.proofs.Common.{◌≡◌, ◌≢◌, ℕ, zero, suc, ◌+◌, ◌-◌, ◌*◌, ◌/◌, ◌<◌, ◌≤◌, ◌⊎◌, inl, inr, ⊎_elim, Bool, true, false, List, [], map, refl, sym, ap, subst, ◌∙◌, arith, Option, Some, None, cond}
-use Rattle.std.specs.Prelude.{nat_le, nat_lt, ◌==◌, slice_get, if◌then◌else◌}
+use Rattle.std.proofs.Common.{◌≡◌, ℕ, ◌+◌, ◌-◌, ◌*◌, ◌<◌, ◌≤◌, ◌⊎◌, inl, inr, ⊎_elim, true, false, List, map, refl, sym, ap, subst, ◌∙◌, arith}
+use Rattle.std.specs.Prelude.{nat_le, ◌==◌}
 use Rattle.std.specs.List.{Contains, range_with_len}
 use Rattle.std.proofs.lemmas.Bool.Decides.{nat_tests}
-use Rattle.redo_core.specs.Data.{RecordData, CutData, AdvanceData}
+use Rattle.redo_core.specs.Data.{RecordData, CutData}
 use Rattle.redo_core.specs.Sets.{records, cuts}
 use Rattle.redo_core.specs.Sound.{counted}
 use Rattle.redo_core.specs.declared.facts.Fact.{Fact}
 use Rattle.redo_core.specs.declared.facts.Fact.TheVariants.{Record, Cut, Advance}
 use Rattle.redo_laws.proofs.Log.{record_in, cut_in}
 use Rattle.drill_log.specs.FirstCuts.{first_within, some_counts}
-use Rattle.drill_log.specs.DrillLog.{record_of_epoch_0, record_of_epoch_1, drill_advance, drill_cut, drill_fact, drill_log, is_drill_size}
-use Rattle.drill_log.specs.ByPlace.{place_of, has_place, get_place, get_past}
+use Rattle.drill_log.specs.DrillLog.{record_of_epoch_0, record_of_epoch_1, drill_advance, drill_cut, drill_fact}
+use Rattle.drill_log.specs.ByPlace.{place_of, has_place}
 
 pub fact_of_epoch_0 : (n p : ℕ) → p ≤ n → drill_fact n p ≡ Record (record_of_epoch_0 p)
 unfolding drill_fact

@@ -1,5 +1,5 @@
 -- The truncations that count, each the first of its epoch.
-use Rattle.std.proofs.Common.{◌≡◌, ◌⊎◌, ⊎_elim, List, [], ◌∷◌, sym, subst, Bool, true, false, cond, not}
+use Rattle.std.proofs.Common.{◌≡◌, ⊎_elim, List, [], ◌∷◌, sym, subst, Bool, true, false, cond, not}
 use Rattle.std.specs.Prelude.{◌==◌}
 use Rattle.std.specs.List.{Contains, filter}
 use Rattle.redo_core.specs.Data.{CutData}

@@ -1,16 +1,14 @@
 -- The laws, for each kind_at of fact of a drill's log.
-use Rattle.std.proofs.Common.{◌≡◌, ◌≢◌, ℕ, zero, suc, ◌+◌, ◌-◌, ◌*◌, ◌/◌, ◌%◌, ◌<◌, ◌≤◌, ◌⊎◌, inl, inr, ⊎_elim, Bool, true, false, List, refl, sym, ap, subst, ◌∙◌, arith, Option, Some, None, cond}
-use Rattle.std.specs.Prelude.{nat_le, nat_lt, ◌==◌, if◌then◌else◌}
+use Rattle.std.proofs.Common.{◌≡◌, ℕ, ◌+◌, ◌-◌, ◌/◌, ◌%◌, ◌<◌, ◌≤◌, ◌⊎◌, inl, inr, ⊎_elim, Bool, true, false, List, refl, sym, ap, subst, ◌∙◌, arith}
+use Rattle.std.specs.Prelude.{nat_lt, ◌==◌, if◌then◌else◌}
 use Rattle.std.specs.List.{Contains}
 use Rattle.std.proofs.lemmas.Bool.Decides.{nat_tests}
-use Rattle.redo_core.specs.Data.{RecordData, CutData, AdvanceData}
-use Rattle.redo_core.specs.Sets.{records}
+use Rattle.redo_core.specs.Data.{RecordData, CutData}
 use Rattle.redo_core.specs.Order.{IsGreatest}
-use Rattle.redo_core.specs.CompleteEpoch.{HasCutsTo}
 use Rattle.redo_core.specs.Standing.{IsAlive}
 use Rattle.redo_core.specs.Sound.{counted, IsAliveBelow}
 use Rattle.redo_core.specs.declared.facts.Fact.{Fact}
-use Rattle.drill_log.specs.DrillLog.{record_of_epoch_0, record_of_epoch_1, drill_advance, drill_cut, drill_hi, last_of_page}
+use Rattle.drill_log.specs.DrillLog.{record_of_epoch_0, record_of_epoch_1, drill_cut, drill_hi, last_of_page}
 use Rattle.drill_log.specs.Remainders.{same_remainder_apart, remainder_8_below, remainder_at_most, remainder_below, last_has_page, last_is_greatest, half_at_most, half_positive}
 use Rattle.drill_log.specs.Contents.{IsDrillLog}
 

@@ -1,18 +1,18 @@
 -- The log of a drill is sound.
-use Rattle.std.proofs.Common.{◌≡◌, ◌≢◌, ℕ, zero, suc, ◌+◌, ◌-◌, ◌*◌, ◌/◌, ◌%◌, ◌<◌, ◌≤◌, ◌⊎◌, inl, inr, ⊎_elim, Bool, true, false, List, [], ◌∷◌, take, map, refl, sym, ap, subst, ◌∙◌, arith, Option, Some, None, cond}
-use Rattle.std.specs.Prelude.{nat_le, nat_lt, ◌==◌, ◌&&◌, slice_get, if◌then◌else◌}
-use Rattle.std.specs.List.{Contains, range_with_len}
+use Rattle.std.proofs.Common.{◌≡◌, ℕ, zero, suc, ◌+◌, ◌-◌, ◌*◌, ◌/◌, ◌%◌, ◌<◌, ◌≤◌, ◌⊎◌, inl, inr, ⊎_elim, true, false, List, [], ◌∷◌, take, refl, sym, ap, subst, ◌∙◌, arith, Some, None}
+use Rattle.std.specs.Prelude.{nat_le, nat_lt, ◌==◌, slice_get, if◌then◌else◌}
+use Rattle.std.specs.List.{Contains}
 use Rattle.std.proofs.lemmas.Bool.Decides.{nat_tests}
-use Rattle.redo_core.specs.Data.{RecordData, CutData, AdvanceData}
+use Rattle.redo_core.specs.Data.{RecordData, CutData}
 use Rattle.redo_core.specs.Shape.{cut_fault, advance_fault}
-use Rattle.redo_core.specs.Sets.{records, cuts}
+use Rattle.redo_core.specs.Sets.{records}
 use Rattle.redo_core.specs.Sound.{SameKey, KeepsLaws, IsSound}
 use Rattle.redo_core.specs.declared.facts.Fact.{Fact}
 use Rattle.redo_core.specs.declared.facts.Fact.TheVariants.{Record, Cut, Advance}
 use Rattle.named_log.specs.Places.{fact_at}
 use Rattle.redo_laws.proofs.Members.{none_in, here, there, which}
 use Rattle.redo_laws.proofs.Log.{record_in, cut_in}
-use Rattle.drill_log.specs.DrillLog.{record_of_epoch_0, record_of_epoch_1, drill_advance, drill_cut, drill_fact, drill_log, is_drill_size, drill_hi, last_of_page}
+use Rattle.drill_log.specs.DrillLog.{record_of_epoch_0, record_of_epoch_1, drill_advance, drill_cut, drill_fact, drill_log, drill_hi, last_of_page}
 use Rattle.drill_log.specs.Remainders.{half_at_most, half_positive}
 use Rattle.drill_log.specs.ByPlace.{get_place, get_past}
 use Rattle.drill_log.specs.Shapes.{shape}

@@ -1,10 +1,10 @@
 -- Counts over lists, and what they say of the n-th greatest.
-use Rattle.std.proofs.Common.{◌≡◌, ℕ, zero, suc, ◌+◌, ◌<◌, ◌≤◌, ◌⊎◌, inl, inr, ⊎_elim, Bool, true, false, List, [], ◌∷◌, length, slice_index, refl, arith, cond, nat_lt, le_refl}
+use Rattle.std.proofs.Common.{◌≡◌, ℕ, zero, suc, ◌+◌, ◌<◌, ◌≤◌, ◌⊎◌, ⊎_elim, Bool, true, false, List, [], ◌∷◌, length, slice_index, refl, arith, cond, nat_lt, le_refl}
 use Rattle.std.specs.Prelude.{nat_le}
 use Rattle.std.specs.List.{count_by}
 use Rattle.std.proofs.lemmas.Bool.Decides.{nat_tests}
 use Rattle.std.proofs.lemmas.List.Sums.{sum_by-cons}
-use Rattle.front_board.specs.NthGreatest.{count_above, count_reached, IsNthGreatest}
+use Rattle.front_board.specs.NthGreatest.{count_reached, IsNthGreatest}
 use Rattle.front_board.specs.Rule.{IsWithin}
 
 one_at_most : (a b : Bool) → (a ≡ true → b ≡ true) → cond a 1 0 ≤ cond b 1 0

@@ -1,13 +1,13 @@
 -- The linked numbers of a sound log are below 2^48.
-use Rattle.std.proofs.Common.{◌≡◌, ℕ, ◌<◌, ◌≤◌, ◌∙◌, List, arith, Some, None, ap}
+use Rattle.std.proofs.Common.{◌≡◌, ℕ, ◌<◌, ◌∙◌, List, arith, Some, None, ap}
 use Rattle.std.specs.List.{Contains}
 use Rattle.std.proofs.lemmas.Bool.Decides.{nat_tests}
 use Rattle.std.proofs.lemmas.Option.{slice_get-get_or}
 use Rattle.redo_core.specs.Data.{RecordData}
 use Rattle.redo_core.specs.Shape.{record_fault}
-use Rattle.redo_core.specs.Sets.{records, cuts}
+use Rattle.redo_core.specs.Sets.{records}
 use Rattle.redo_core.specs.Sound.{IsSound}
-use Rattle.redo_core.specs.Linked.{IsLinked, Linked}
+use Rattle.redo_core.specs.Linked.{IsLinked}
 use Rattle.redo_core.specs.Linked.Linked.{start, next}
 use Rattle.redo_core.specs.declared.facts.Fact.{Fact}
 use Rattle.redo_core.specs.declared.facts.Fact.TheVariants.{Record}

@@ -1,5 +1,5 @@
 -- A board at its opening: each word holds the front (0, 0), which every log has.
-use Rattle.std.proofs.Common.{◌≡◌, ℕ, zero, suc, ◌≤◌, List, [], ◌∷◌, replicate, slice_index, refl, sym, subst, le_refl, arith}
+use Rattle.std.proofs.Common.{◌≡◌, ℕ, zero, suc, List, [], ◌∷◌, replicate, slice_index, refl, sym, subst, le_refl, arith}
 use mathlib.Core.Option.{some, some-injective, some-ne-none}
 use lib.ListN.{get_elem?}
 use Rattle.redo_core.specs.Linked.Linked.{start}

@@ -1,8 +1,8 @@
 -- A step that raises one word to a front keeps the rule.
-use Rattle.std.proofs.Common.{◌≡◌, ℕ, zero, suc, ◌+◌, ◌<◌, ◌≤◌, ◌≢◌, ◌⊎◌, inl, inr, ⊎_elim, List, [], ◌∷◌, ◌++◌, length, slice_index, slice_set, max, refl, sym, subst, ap, ◌∙◌, le_refl, le_trans, arith}
+use Rattle.std.proofs.Common.{◌≡◌, ℕ, zero, suc, ◌≤◌, ◌⊎◌, ⊎_elim, List, [], ◌∷◌, length, slice_index, slice_set, max, refl, sym, subst, ◌∙◌, le_refl, le_trans, arith}
 use mathlib.Core.Option.{some}
 use lib.ListN.{get_elem?, length-set}
-use Rattle.atomic_table.specs.Table.{State, Me, Allows, Splits, keeps}
+use Rattle.atomic_table.specs.Table.{Me, Allows, Splits, keeps}
 use Rattle.atomic_table.proofs.Lists.{at_set, at_snoc, set_again}
 use Rattle.redo_core.specs.declared.facts.Fact.{Fact}
 use Rattle.front_board.specs.FrontWord.{IsFrontWord, AreFronts}

@@ -1,4 +1,4 @@
-use Rattle.std.proofs.Common.{◌≡◌, ℕ, length}
+use Rattle.std.proofs.Common.{◌≡◌, length}
 use Rattle.front_board.specs.Survey.{IsSurveyed}
 use Rattle.front_board.proofs.survey.load_all.Given as goal
 

@@ -1,4 +1,3 @@
-use Rattle.std.proofs.Common.{rules}
 use Rattle.front_board.proofs.Choice.{nth}
 use Rattle.front_board.proofs.survey.nth_greatest.Goals as goal
 

@@ -1,4 +1,4 @@
-use Rattle.std.proofs.Common.{◌≡◌, ℕ, [], replicate}
+use Rattle.std.proofs.Common.{◌≡◌, [], replicate}
 use Rattle.front_board.specs.Seat.{new_seat}
 use Rattle.front_board.proofs.board.Board.open.Given as goal
 

@@ -1,4 +1,3 @@
-use Rattle.std.proofs.Common.{rules}
 use Rattle.front_board.proofs.LinkedNumbers.{linked_below}
 use Rattle.front_board.proofs.fronts.LogFront.new.Goals as goal
 
