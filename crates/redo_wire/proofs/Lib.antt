@@ -11,3 +11,4 @@ pub mod BookReaders
 pub mod SummaryReaders
 pub mod DeltaReaders
 pub mod Spellings
+pub mod ReadFaults

@@ -1,6 +1,7 @@
 -- What spellings are good for, of any relation between values and bytes.
-use Rattle.std.specs.Prelude.{◌≡◌, ℕ, ◌<◌, ◌↔◌, List, [], ◌++◌, Result, Ok, All}
+use Rattle.std.specs.Prelude.{◌≡◌, ℕ, ◌<◌, ◌↔◌, List, [], ◌++◌, Result, Ok, Err, All}
 use Rattle.redo_wire.specs.declared.faults.WireFault.{WireFault}
+use Rattle.redo_wire.specs.declared.faults.WireFault.TheVariants.{TooLong}
 
 -- a value has one spelling
 abbrev pub HasOneSpelling : {A : Type 0} → (A → List ℕ → Type 0) → Type 0
@@ -17,3 +18,7 @@ BeginsNoOther {A} Spells = (v w : A) (x y rest : List ℕ) → Spells v x → Sp
 -- reading gives a value exactly where all of the bytes spell it
 abbrev pub ReadsSpellings : {A : Type 0} → (A → List ℕ → Type 0) → (List ℕ → Result A WireFault) → Type 0
 ReadsSpellings {A} Spells decoded = (v : A) (bytes : List ℕ) → All (λ b. b < 256) bytes → (decoded bytes ≡ Ok v) ↔ Spells v bytes
+
+-- reading never finds a list too long: that fault is of writing alone
+abbrev pub NeverTooLong : {A : Type 0} → (List ℕ → Result A WireFault) → Type 0
+NeverTooLong decoded = (bytes : List ℕ) → decoded bytes ≡ Err TooLong → ⊥

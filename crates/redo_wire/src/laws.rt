@@ -12,14 +12,16 @@ ghost use Rattle.redo_wire.specs.SummaryReading.{decoded_summary};
 ghost use Rattle.redo_wire.specs.Deltas.{SpellsDelta};
 ghost use Rattle.redo_wire.specs.DeltaReading.{decoded_delta};
 ghost use Rattle.redo_wire.specs.BookReading.{complete};
-ghost use Rattle.redo_wire.specs.Laws.{HasOneSpelling, HasOneValue, BeginsNoOther, ReadsSpellings};
+ghost use Rattle.redo_wire.specs.Laws.{HasOneSpelling, HasOneValue, BeginsNoOther, ReadsSpellings, NeverTooLong};
 
-/// A fact has one spelling and a spelling one fact, none begins another, and reading finds just what is spelled.
+/// A fact has one spelling and a spelling one fact, none begins another, reading finds just what is spelled, and
+/// never a list that is too long.
 pub fn fact_spellings()
     ensures one_spelling { HasOneSpelling SpellsFact }
     ensures one_value { HasOneValue SpellsFact }
     ensures none_begins { BeginsNoOther SpellsFact }
     ensures reads { ReadsSpellings SpellsFact decoded_fact }
+    ensures never_too_long { NeverTooLong decoded_fact }
 {}
 
 /// The same of summaries.
@@ -28,6 +30,7 @@ pub fn summary_spellings()
     ensures one_value { HasOneValue SpellsSummary }
     ensures none_begins { BeginsNoOther SpellsSummary }
     ensures reads { ReadsSpellings SpellsSummary decoded_summary }
+    ensures never_too_long { NeverTooLong decoded_summary }
 {}
 
 /// The same of deltas.
@@ -36,6 +39,7 @@ pub fn delta_spellings()
     ensures one_value { HasOneValue SpellsDelta }
     ensures none_begins { BeginsNoOther SpellsDelta }
     ensures reads { ReadsSpellings SpellsDelta decoded_delta }
+    ensures never_too_long { NeverTooLong decoded_delta }
 {}
 
 /// The epoch by which reading judges waiting advances is the complete epoch of the truncations.

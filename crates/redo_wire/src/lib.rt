@@ -25,3 +25,6 @@ pub use faults::{WireError, WireFault};
 pub use images::PageImage;
 pub use keys::Key;
 pub use summaries::{Summary, decode_summary, encode_summary};
+
+#[cfg(test)]
+mod tests;

@@ -2,6 +2,7 @@ use Rattle.redo_wire.specs.Facts.{fact_bytes, IsWireFact}
 use Rattle.redo_wire.specs.FactReading.{fact_at}
 use Rattle.redo_wire.proofs.FactReaders.{fact_reads}
 use Rattle.redo_wire.proofs.Spellings.{one_value, begins_no_other, reads_spellings}
+use Rattle.redo_wire.proofs.ReadFaults.{decoded_fact_reads}
 use Rattle.redo_wire.proofs.laws.fact_spellings.Goals as goal
 
 pub returns-clause-one_value : goal.returns-clause-one_value
@@ -12,3 +13,6 @@ returns-clause-none_begins c = begins_no_other fact_at fact_bytes IsWireFact fac
 
 pub returns-clause-reads : goal.returns-clause-reads
 returns-clause-reads c = reads_spellings fact_at fact_bytes IsWireFact fact_reads
+
+pub returns-clause-never_too_long : goal.returns-clause-never_too_long
+returns-clause-never_too_long c = decoded_fact_reads
