@@ -5,3 +5,4 @@ pub mod Scans
 pub mod Facts
 pub mod Books
 pub mod OneReason
+pub mod SoundLogs

@@ -1,10 +1,12 @@
 -- A book refuses a fact for one reason.
-use Rattle.std.proofs.Common.{◌≡◌, ℕ, ◌<◌, ◌≤◌, ◌⊎◌, ⊎_elim, List, length, get_or, refl, sym, ap, ◌∙◌, subst, arith}
+use Rattle.std.proofs.Common.{◌≡◌, ℕ, ◌<◌, ◌≤◌, ◌⊎◌, ⊎_elim, List, length, get_or, refl, sym, ap, ◌∙◌, subst, arith, Option, Some, None}
 use Rattle.std.specs.List.{Contains, HoldsAt}
+use Rattle.std.specs.Option.{MatchOption, IfSome, IsSomeAnd}
 use Rattle.redo_core.specs.Data.{CutData, AdvanceData, cut_of}
 use Rattle.redo_core.specs.Order.{CutBefore, AdvanceBefore}
 use Rattle.epoch_book.specs.Book.{BookData, IsBook}
 use Rattle.epoch_book.specs.Refusing.{Contradict, RefusesCut, RefusesAdvance}
+use Rattle.epoch_book.specs.declared.refusals.Held.{Held}
 use Rattle.epoch_book.specs.declared.refusals.Held.TheVariants.{Min, Advance, Cut}
 use Rattle.epoch_book.specs.declared.refusals.BookRefusal.{BookRefusal}
 use Rattle.epoch_book.specs.declared.refusals.BookRefusal.TheVariants.{OtherCut, Contradiction, Memory}
@@ -64,3 +66,9 @@ one_advance_refusal b a d (Contradiction (Min m)) h k = absurd k
 one_advance_refusal b a d (Contradiction (Advance x)) h k = absurd k
 one_advance_refusal b a d (Contradiction (Cut x)) h k = ap (λ w. Contradiction (Cut w)) (one_first CutBefore (λ w. Contains b.cuts w × Contradict w a) d x cuts_apart h k)
 one_advance_refusal b a d Memory h k = absurd k
+
+-- what is said of an advance is said of it as what a truncation contradicts
+pub mapped_to_held : (s : Option AdvanceData) (r : Option Held) (P : AdvanceData → Type 0) (Q : Held → Type 0) → MatchOption s (r ≡ None) (λ x. IsSomeAnd r (λ h. h ≡ Advance x)) → IfSome s P → ((x : AdvanceData) → P x → Q (Advance x)) → IfSome r Q
+mapped_to_held None r P Q e h q = subst (λ o. IfSome o Q) (sym e) tt
+mapped_to_held (Some x) None P Q e h q = absurd e
+mapped_to_held (Some x) (Some y) P Q e h q = subst Q (sym e) (q x h)

@@ -3,3 +3,4 @@ pub mod Knowing
 pub mod Learning
 pub mod Refusing
 pub mod Scanning
+pub mod SoundFacts

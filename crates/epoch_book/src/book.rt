@@ -114,10 +114,7 @@ impl EpochBook {
         if cut.lo() < self.min {
             return Some(Held::Min(self.min));
         }
-        match advances::first_against(&self.waits, cut) {
-            Some(wait) => Some(Held::Advance(wait)),
-            None => None,
-        }
+        advances::first_against(&self.waits, cut).map(Held::Advance)
     }
 
     fn add_cut(&mut self, place: usize, cut: Cut) -> Result<(), BookRefusal>

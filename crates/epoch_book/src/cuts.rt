@@ -25,8 +25,7 @@ pub fn first_from(cuts: &[Cut], epoch: u16) -> usize
     ensures before { AllWithin (λ c. c.epoch < epoch) cuts.now 0 result }
 {
     match place_of_epoch(cuts, epoch) {
-        Ok(place) => place,
-        Err(place) => place,
+        Ok(place) | Err(place) => place,
     }
 }
 

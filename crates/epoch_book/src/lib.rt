@@ -8,9 +8,14 @@
 mod advances;
 mod book;
 mod cuts;
+mod laws;
 mod refusals;
 mod standing;
 
 pub use book::EpochBook;
+pub use laws::sound_facts_are_learnt;
 pub use refusals::{BookRefusal, Held, Learnt};
 pub use standing::Standing;
+
+#[cfg(test)]
+mod tests;
