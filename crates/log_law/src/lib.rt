@@ -1,1 +1,15 @@
+//! Sound logs. `check_log` decides the five laws of a log, in n log n time, and names the least place that breaks one
+//! together with the least law that it breaks.
+//!
+//! A place breaks law 1 where an earlier fact has its key and differs, law 2 where a record's epoch has not begun or its number
+//! is not above the epoch's `hi`, laws 3 and 4 where a segment or block backlink is not the greatest alive number below the
+//! record's own, and law 5 where an advance's epoch has not begun or a later truncation cuts below its point.
 #![tactic(auto)]
+
+mod alive;
+mod check;
+mod counted;
+mod keys;
+mod links;
+
+pub use check::{CheckFault, check_log};

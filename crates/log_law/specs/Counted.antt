@@ -1,0 +1,45 @@
+-- The truncations that count in a log, as a table by epoch.
+use Rattle.std.specs.Prelude.{◌≡◌, ℕ, ◌<◌, ◌≤◌, ◌⊎◌, ◌↔◌, ◌==◌, List, [], ◌∷◌, length, slice_index, slice_index_or, Option, Some, None, if◌then◌else◌}
+use Rattle.std.specs.List.{Contains}
+use Rattle.redo_core.specs.Data.{CutData}
+use Rattle.redo_core.specs.Shape.{cut_fault}
+use Rattle.redo_core.specs.Sets.{cuts}
+use Rattle.redo_core.specs.CompleteEpoch.{HasCutsTo}
+use Rattle.redo_core.specs.Sound.{counted}
+use Rattle.redo_core.specs.declared.facts.Fact.{Fact}
+use Rattle.log_law.specs.declared.counted.CountedCuts.{CountedCuts}
+
+-- the first truncation of an epoch
+abbrev pub first_at : ℕ → List CutData → Option CutData
+first_at e [] = None
+first_at e (c ∷ cs) = if c.epoch == e then Some c else first_at e cs
+
+abbrev pub first_cut : List Fact → ℕ → Option CutData
+first_cut log e = first_at e (cuts log)
+
+-- the one, or else the other
+abbrev pub or_first : Option CutData → Option CutData → Option CutData
+or_first (Some c) other = Some c
+or_first None other = other
+
+-- the table has each epoch's first truncation in its place, and the log's truncations have their shape
+pub record IsTable (log : List Fact) (table : List (Option CutData)) : Type 0 where
+  pub len : length table ≡ 65536
+  pub at : (e : ℕ) → slice_index_or table e None ≡ first_cut log e
+  pub shapes : (c : CutData) → Contains (cuts log) c → cut_fault c ≡ None
+
+-- the epochs up to k, and no later ones, have begun
+abbrev pub IsBegun : List Fact → ℕ → Type 0
+IsBegun log k = (e : ℕ) → e < 65536 → HasCutsTo (counted log) e ↔ (e ≤ k)
+
+-- the least lo of the truncations after an epoch, or the greatest number where there is none
+pub record IsFloor (log : List Fact) (e floor : ℕ) : Type 0 where
+  pub below : (c : CutData) → Contains (counted log) c → e < c.epoch → floor ≤ c.lo
+  pub least : (floor ≡ 281474976710655) ⊎ ((c : CutData) × Contains (counted log) c × (e < c.epoch) × (c.lo ≡ floor))
+
+-- what the table and the two others say of a log
+pub record Describes (log : List Fact) (known : CountedCuts) : Type 0 where
+  pub table : IsTable log known.by_epoch.items
+  pub complete : IsBegun log known.complete
+  pub floors_len : length known.floors.items ≡ 65536
+  pub floors : (e : ℕ) → e < 65536 → IsFloor log e (slice_index known.floors.items e)

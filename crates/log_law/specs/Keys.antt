@@ -1,0 +1,35 @@
+-- The least place that breaks law 1.
+use Rattle.std.specs.Prelude.{◌≡◌, ℕ, ◌<◌, ◌==◌, ◌&&◌, Bool, List, take, slice_get, Option, Some, None}
+use Rattle.std.specs.List.{Contains}
+use Rattle.std.specs.HashMap.{get, HashMap}
+use Rattle.std.specs.declared.hash.FoldHasher.{FoldHasher}
+use Rattle.std.specs.declared.hash.BuildHasherDefault.{BuildHasherDefault}
+use Rattle.redo_core.specs.Data.{RecordData}
+use Rattle.redo_core.specs.Sound.{Law1}
+use Rattle.redo_core.specs.declared.facts.Fact.{Fact}
+use Rattle.redo_core.specs.declared.facts.Fact.TheVariants.{Record}
+
+-- the facts before a place keep law 1
+abbrev pub KeepLaw1To : List Fact → ℕ → Type 0
+KeepLaw1To log p = (q : ℕ) (f : Fact) → q < p → slice_get log q ≡ Some f → Law1 (take q log) f
+
+-- the least place that breaks law 1, or the number of facts
+pub record IsFirstOther (log : List Fact) (p : ℕ) : Type 0 where
+  pub before : KeepLaw1To log p
+  pub breaks : (f : Fact) → slice_get log p ≡ Some f → Law1 (take p log) f → ⊥
+
+abbrev pub same_pair : (ℕ × ℕ) → (ℕ × ℕ) → Bool
+same_pair x y = (x.0 == y.0) && (x.1 == y.1)
+
+abbrev pub Seen : Type 0
+Seen = HashMap (ℕ × ℕ) ℕ (BuildHasherDefault FoldHasher)
+
+-- what is kept of a key: nothing where no record before the place has it, else where such a record stands, and all are that one
+abbrev pub IsSeenAt : List Fact → ℕ → ℕ → ℕ → Option ℕ → Type 0
+IsSeenAt log place e n None = (r : RecordData) → Contains (take place log) (Record r) → r.epoch ≡ e → r.number ≡ n → ⊥
+IsSeenAt log place e n (Some p) =
+    (r : RecordData) × (p < place) × (slice_get log p ≡ Some (Record r)) × (r.epoch ≡ e) × (r.number ≡ n)
+    × ((s : RecordData) → Contains (take place log) (Record s) → s.epoch ≡ e → s.number ≡ n → s ≡ r)
+
+abbrev pub IsSeen : List Fact → ℕ → Seen → Type 0
+IsSeen log place seen = (e n : ℕ) → IsSeenAt log place e n (get same_pair seen (e, n))

@@ -1,0 +1,5 @@
+pub mod Counted
+pub mod Alive
+pub mod Links
+pub mod Keys
+pub mod Report

@@ -1,0 +1,112 @@
+ghost use Rattle.std.specs.Prelude.{◌≡◌, ◌<◌, ◌≤◌, List, [], ◌∷◌, length, reverse, IfOk, OnOk};
+ghost use Rattle.redo_core.specs.declared.facts.Fact.{Fact};
+ghost use Rattle.log_law.specs.declared.links.Item.{Item};
+ghost use Rattle.log_law.specs.Counted.{Describes};
+ghost use Rattle.log_law.specs.Alive.{stack_of, top_number, page_top, without_above, without_top, IsStack, Holds};
+
+use crate::counted::{CountedCuts, filled};
+use std::alloc::{AllocError, Global};
+
+/// A record on the stack of alive ones.
+#[derive(Clone, Copy)]
+pub(crate) struct Entry {
+    number: u64,
+    page: u16,
+    /// The greatest number of the page beneath, or 0.
+    beneath: u64,
+}
+
+/// The records of some epochs that are alive in a view, by rising number, with the greatest number of each page.
+#[derive(Drop)]
+pub(crate) struct AliveRecords {
+    view: u16,
+    entries: Vec<Entry>,
+    page_tops: Vec<u64>,
+}
+
+impl AliveRecords {
+    /// No record, in the view of epoch 0.
+    pub(crate) fn new(alloc: Global) -> Result<Self, AllocError>
+        ensures { IfOk result (λ s. IsStack s × (stack_of s ≡ []) × (s.view ≡ 0)) }
+    {
+        let page_tops = filled(alloc, 0, 65536)?;
+        Ok(AliveRecords {
+            view: 0,
+            entries: Vec::new(alloc),
+            page_tops,
+        })
+    }
+
+    /// The greatest number, or 0.
+    pub(crate) fn top(&self) -> u64
+        ensures { result ≡ top_number (stack_of self.now) }
+    {
+        match self.entries.last() {
+            Some(entry) => entry.number,
+            None => 0,
+        }
+    }
+
+    /// The greatest number of a page, or 0.
+    pub(crate) fn top_of(&self, page: u16) -> u64
+        requires { IsStack self.now }
+        ensures { result ≡ page_top page (stack_of self.now) }
+    {
+        self.page_tops[usize::from(page)]
+    }
+
+    /// Puts a record on top.
+    pub(crate) fn push(&mut self, number: u64, page: u16) -> Result<(), AllocError>
+        requires { IsStack self.old }
+        ensures stack { OnOk result (IsStack self.new) }
+        ensures top { OnOk result (stack_of self.new ≡ record { number = number; page = page; beneath = page_top page (stack_of self.old) } ∷ stack_of self.old) }
+        ensures view { self.new.view ≡ self.old.view }
+    {
+        let beneath = self.top_of(page);
+        self.entries.push(Entry {
+            number,
+            page,
+            beneath,
+        })?;
+        self.page_tops[usize::from(page)] = number;
+        Ok(())
+    }
+
+    fn pop(&mut self)
+        requires { IsStack self.old }
+        ensures stack { IsStack self.new }
+        ensures rest { stack_of self.new ≡ without_top (stack_of self.old) }
+        ensures view { self.new.view ≡ self.old.view }
+    {
+        if let Some(entry) = self.entries.pop() {
+            self.page_tops[usize::from(entry.page)] = entry.beneath;
+        }
+    }
+
+    fn pop_above(&mut self, lo: u64)
+        requires { IsStack self.old }
+        ensures stack { IsStack self.new }
+        ensures rest { stack_of self.new ≡ without_above lo (stack_of self.old) }
+        ensures view { self.new.view ≡ self.old.view }
+    {
+        while self.top() > lo {
+            self.pop();
+        }
+    }
+
+    /// Goes on to the view of a later epoch.
+    pub(crate) fn enter(&mut self, epoch: u16, cuts: &CountedCuts)
+        requires table { length cuts.now.by_epoch.items ≡ 65536 }
+        requires stack { IsStack self.old }
+        ensures stack { IsStack self.new }
+        ensures view { self.old.view ≤ epoch → self.new.view ≡ epoch }
+        ensures holds { (log : List Fact) (past : List Item) → Describes log cuts.now → Holds log past self.old → Holds log past self.new }
+    {
+        while self.view < epoch {
+            self.view += 1;
+            if let Some(cut) = cuts.at(self.view) {
+                self.pop_above(cut.lo());
+            }
+        }
+    }
+}
