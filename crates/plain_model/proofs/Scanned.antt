@@ -42,7 +42,6 @@ LinksUpTo facts view limit top (Record r) = IsLinkedWithin facts view limit r.nu
 LinksUpTo facts view limit top (Cut c) = Unit {0}
 LinksUpTo facts view limit top (Advance a) = Unit {0}
 
-
 -- a truncation that counts spares a record in a view
 abbrev pub IsSparedIfCounted : List Fact → ℕ → ℕ → ℕ → Fact → Type 0
 IsSparedIfCounted log view epoch number (Record r) = Unit {0}

@@ -1,7 +1,9 @@
--- A record's standing in a view, as a value.
+-- Standings and positions as the values that the plain program answers.
 use Rattle.std.specs.Prelude.{ℕ, List}
 use Rattle.redo_core.specs.Data.{CutData}
 use Rattle.redo_core.specs.Standing.{IsAlive, IsDead, IsWaiting}
+use Rattle.redo_core.specs.Position.{Position}
+use Rattle.plain_model.specs.declared.views.Position.{Position as Answered}
 use Rattle.plain_model.specs.declared.views.Standing.{Standing}
 use Rattle.plain_model.specs.declared.views.Standing.TheVariants.{Waiting, Alive, Dead}
 
@@ -10,3 +12,7 @@ abbrev pub StandsAs : List CutData → ℕ → ℕ → ℕ → Standing → Type
 StandsAs cs k epoch number Waiting = IsWaiting k epoch
 StandsAs cs k epoch number Alive = IsAlive cs k epoch number
 StandsAs cs k epoch number Dead = IsDead cs k epoch number
+
+-- the numbers of an answer
+abbrev pub position_of : Answered → Position
+position_of p = record { epoch = p.epoch; complete = p.complete; min = p.min; anchor = p.anchor }

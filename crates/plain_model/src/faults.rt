@@ -69,7 +69,10 @@ fn is_only_record(earlier: &[Fact], redo: &Record) -> bool
 {
     for fact in earlier {
         if let Fact::Record(other) = fact {
-            if other.epoch() == redo.epoch() && other.number() == redo.number() && !other.is_same(redo) {
+            if other.epoch() == redo.epoch()
+                && other.number() == redo.number()
+                && !other.is_same(redo)
+            {
                 return false;
             }
         }

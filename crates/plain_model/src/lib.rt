@@ -12,6 +12,7 @@ mod faults;
 mod links;
 mod pages;
 mod points;
+mod positions;
 mod standings;
 mod views;
 
@@ -20,5 +21,9 @@ pub use faults::first_fault;
 pub use links::{anchor, complete_point, is_linked};
 pub use pages::page_at;
 pub use points::min_point;
+pub use positions::position;
 pub use standings::{is_alive, standing};
-pub use views::Standing;
+pub use views::{Position, Standing};
+
+#[cfg(test)]
+mod tests;

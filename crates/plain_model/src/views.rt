@@ -8,3 +8,16 @@ pub enum Standing {
     /// It is annulled, or its number is not above the `hi` of its own epoch.
     Dead,
 }
+
+/// The numbers of a set of facts.
+#[derive(Clone, Copy, Debug, PartialEq, Eq)]
+pub struct Position {
+    /// The complete epoch.
+    pub epoch: u16,
+    /// The complete point: the greatest linked number.
+    pub complete: u64,
+    /// The minimum read point.
+    pub min: u64,
+    /// The greatest linked number that is not above the minimum read point.
+    pub anchor: u64,
+}

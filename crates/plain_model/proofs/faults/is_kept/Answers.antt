@@ -8,8 +8,7 @@ returns-then-not-is_begun-clause-law c = (λ h. absurd (cc), λ law. c.if-not-is
 
 pub returns-clause-law : goal.returns-clause-law
 returns-clause-law c =
-    let e = c.epoch-epoch.ensures.value in let p = c.point-point.ensures.value in
-    (
+    let e = c.epoch-epoch.ensures.value in let p = c.point-point.ensures.value in (
       λ t. (subst (HasCutsTo (counted c.args.log.now)) e (c.if-not-is_begun.ensures.0 refl), λ d h l. let m : c.point-point.result ≤ d.lo = c.is_spared.ensures.0 t d h (omega arith) in omega arith),
       λ law. c.is_spared.ensures.1 (λ d h l. let m : c.args.advance.now.point ≤ d.lo = law.1 d h (omega arith) in omega arith),
     )
