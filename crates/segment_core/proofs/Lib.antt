@@ -1,0 +1,3 @@
+pub mod Taking
+pub mod Chain
+pub mod Reading

@@ -1,0 +1,48 @@
+-- What a read answers, from the front and the shown page.
+use Rattle.std.proofs.Common.{◌≡◌, ℕ, ◌<◌, ◌≤◌, ◌⊎◌, inl, inr, ⊎_elim, List, [], refl, sym, ap, ◌∙◌, subst, arith}
+use Rattle.redo_core.specs.Data.{RecordData}
+use Rattle.redo_core.specs.Order.{Lists, BeforeByNumber}
+use Rattle.redo_core.specs.CompleteEpoch.{IsCompleteEpoch}
+use Rattle.redo_core.specs.Writing.{after_records, zeros}
+use Rattle.redo_core.specs.Sound.{IsSound}
+use Rattle.redo_core.specs.Position.{Position}
+use Rattle.redo_core.specs.PageAt.{IsPageAt}
+use Rattle.redo_core.specs.declared.facts.Fact.{Fact}
+use Rattle.redo_laws.proofs.Log.{log_of_sound}
+use Rattle.redo_laws.proofs.Views.{anchor_is}
+use Rattle.epoch_book.specs.Book.{BookData, IsBook}
+use Rattle.hot_log.specs.Held.{IsHeld}
+use Rattle.hot_log.specs.Alive.{IsHeldOf as IsHotOf}
+use Rattle.hot_log.proofs.Rising.{none_in}
+use Rattle.segment_state.specs.State.{State, version_of, image_of}
+use Rattle.segment_state.specs.Means.{MeansAt}
+use Rattle.segment_state.specs.Shows.{IsHeldOf, Shows}
+use Rattle.segment_state.proofs.Own.{epoch_of}
+use Rattle.segment_state.proofs.Reading.{pages_law}
+use Rattle.segment_core.specs.Answering.{state_of}
+use Rattle.segment_core.specs.Reading.{IsFrontAt, IsReadResult}
+use Rattle.segment_core.specs.declared.answers.Front.{Front}
+use Rattle.segment_core.proofs.Chain.{one_epoch}
+
+-- the listed records over zeros are the page that the state shows
+pub shown : (b : BookData) (hs : List RecordData) (page q : ℕ) (written : List RecordData) (image : List ℕ) → IsCompleteEpoch b.cuts b.complete → Lists BeforeByNumber (IsHotOf b hs page 0 q) written → image ≡ after_records zeros written → (k : ℕ) → IsCompleteEpoch b.cuts k → Shows (state_of b hs) k page q image
+unfolding version_of image_of
+shown b hs page q written image complete lists result k at =
+    subst (λ j. Shows (state_of b hs) j page q image) (one_epoch b.cuts b.complete k complete at) (record { written = written; lists = lists; result = result })
+
+-- above the complete point
+pub above : (p : Position) (front : Front) (q : ℕ) → IsFrontAt p front → front.min ≤ q → front.complete < q → (front.complete ≡ p.complete) × (p.min ≤ q) × (p.complete < q)
+above p front q at low high = (at.complete, omega (arith, at.min, low), omega (arith, at.complete, high))
+
+-- the shown page is the page of the facts, at an admissible point
+pub true_page : (log facts : List Fact) (p : Position) (s : State) (front : Front) (page q : ℕ) (image : List ℕ) → IsSound log → MeansAt log facts p s → IsFrontAt p front → front.min ≤ q → q ≤ front.complete → ((k : ℕ) → IsCompleteEpoch s.cuts k → Shows s k page q image) → ((p.min ≤ q) × (q ≤ p.complete)) × IsPageAt facts p.epoch page q image
+true_page log facts p s front page q image sound means at low high shows =
+    let l = log_of_sound log sound in
+    let least : p.min ≤ q = omega (arith, at.min, low) in
+    let most : q ≤ p.complete = omega (arith, at.complete, high) in
+    let settled : p.anchor ≤ q = omega (arith, (anchor_is facts p means.position).1, least) in
+    ((least, most), (pages_law log facts p s page q image l means settled most).0 (shows p.epoch (epoch_of log facts p s means)))
+
+-- no held records are in form
+pub none_held : IsHeld []
+none_held = record { rising = tt; shaped = λ r h. absurd (none_in r h) }

@@ -1,0 +1,13 @@
+use Rattle.std.proofs.Common.{◌≡◌, List, [], sym, subst, rules}
+use Rattle.redo_core.specs.declared.facts.Fact.{Fact as AnyFact}
+use Rattle.epoch_book.specs.Book.{book_of}
+use Rattle.segment_state.specs.State.{State, empty_state}
+use Rattle.segment_state.specs.Means.{Means}
+use Rattle.segment_state.proofs.Bare.{empty_means}
+use Rattle.segment_core.specs.Answering.{state_of}
+use Rattle.segment_core.proofs.segment.Segment.new.Goals as goal
+
+pub returns-clause-means : goal.returns-clause-means
+returns-clause-means c =
+    let same : state_of c.new.result c.new-2.result ≡ empty_state = search rules in
+    subst (λ (s : State). (log : List AnyFact) → Means log [] s) (sym same) empty_means

@@ -1,0 +1,20 @@
+-- All that a take does, over any facts and for the facts that the segment means.
+use Rattle.std.specs.Prelude.{◌≡◌, ℕ, ◌⊎◌, Result, OnOk, OnErr, IfOk, IfErr, IsErrAnd}
+use Rattle.redo_core.specs.CompleteEpoch.{IsCompleteEpoch}
+use Rattle.redo_core.specs.declared.facts.Fact.{Fact}
+use Rattle.redo_core.specs.declared.refusal.Refused.{Refused}
+use Rattle.segment_state.specs.State.{State}
+use Rattle.segment_state.specs.Promises.{TakesFact}
+use Rattle.segment_core.specs.Taking.{TellsKnown}
+use Rattle.segment_core.specs.Refusing.{Refuses}
+use Rattle.segment_core.specs.declared.answers.Taken.{Taken}
+use Rattle.segment_core.specs.declared.answers.Refusal.{Refusal}
+use Rattle.segment_core.specs.declared.answers.Refusal.TheVariants.{Memory}
+
+pub record TakesExactly (old : State) (fact : Fact) (result : Result Taken (Refused Fact Refusal)) (new : State) : Type 0 where
+  pub means : OnOk result (TakesFact old fact new)
+  pub known : IfOk result (TellsKnown old fact)
+  pub refuses : (k : ℕ) (why : Refusal) → IsCompleteEpoch old.cuts k → Refuses old k fact why → IsErrAnd result (λ e. e.fault ≡ why)
+  pub refused : IfErr result (λ e. (e.fault ≡ Memory) ⊎ ((k : ℕ) × IsCompleteEpoch old.cuts k × Refuses old k fact e.fault))
+  pub back : IfErr result (λ e. e.value ≡ fact)
+  pub unchanged : OnErr result (new ≡ old)

@@ -1,0 +1,5 @@
+pub mod Taking
+pub mod Refusing
+pub mod Reading
+pub mod Answering
+pub mod Exactly

@@ -1,0 +1,36 @@
+-- What a front and a read answer for the facts that a segment means.
+use Rattle.std.specs.Prelude.{◌≡◌, ℕ, List, Result, Ok, Err}
+use Rattle.redo_core.specs.CompleteEpoch.{IsCompleteEpoch}
+use Rattle.redo_core.specs.Position.{Position}
+use Rattle.redo_core.specs.Answer.{IsReadAnswer}
+use Rattle.redo_core.specs.Answer.ReadAnswer.{Image as OfImage, Below as OfBelow, Above as OfAbove}
+use Rattle.redo_core.specs.declared.facts.Fact.{Fact}
+use Rattle.segment_state.specs.State.{State}
+use Rattle.segment_state.specs.HasMeaning.{HasComplete}
+use Rattle.segment_core.specs.declared.answers.Front.{Front}
+use Rattle.segment_core.specs.declared.answers.ReadFault.{ReadFault}
+use Rattle.segment_core.specs.declared.answers.ReadFault.TheVariants.{Below, Above, BrokenBlockChain, Memory}
+
+-- the front of facts that stand at p
+pub record IsFrontAt (p : Position) (front : Front) : Type 0 where
+  pub epoch : front.epoch ≡ p.epoch
+  pub complete : front.complete ≡ p.complete
+  pub min : front.min ≡ p.min
+
+-- the front that the state tells by itself, over any facts
+pub record IsFrontOf (s : State) (front : Front) : Type 0 where
+  pub epoch : IsCompleteEpoch s.cuts front.epoch
+  pub complete : HasComplete s front.epoch front.complete
+  pub min : front.min ≡ s.min
+
+-- Below or Above, as the facts have it; a sound log breaks no block chain
+abbrev pub IsReadFault : List Fact → Position → ℕ → ℕ → ReadFault → Type 0
+IsReadFault facts p page q (Below min) = IsReadAnswer facts p page q (OfBelow min)
+IsReadFault facts p page q (Above complete) = IsReadAnswer facts p page q (OfAbove complete)
+IsReadFault facts p page q (BrokenBlockChain g number) = ⊥
+IsReadFault facts p page q Memory = Unit {0}
+
+-- what a read of a page at q answers
+abbrev pub IsReadResult : List Fact → Position → ℕ → ℕ → Result (List ℕ) ReadFault → Type 0
+IsReadResult facts p page q (Ok image) = IsReadAnswer facts p page q (OfImage image)
+IsReadResult facts p page q (Err fault) = IsReadFault facts p page q fault

@@ -1,0 +1,253 @@
+ghost use Rattle.std.specs.Prelude.{◌≡◌, ℕ, ◌≤◌, ◌⊎◌, ◌++◌, ◌∷◌, ◌↔◌, [], List, IfOk, OnOk, OnErr, IfErr, IsErrAnd, IsTrue, map};
+ghost use Rattle.redo_core.specs.CompleteEpoch.{IsCompleteEpoch};
+ghost use Rattle.redo_core.specs.Position.{Position};
+ghost use Rattle.redo_core.specs.Sound.{IsSound};
+ghost use Rattle.redo_core.specs.declared.facts.Fact.{Fact as AnyFact};
+ghost use Rattle.redo_core.specs.declared.facts.Fact.TheVariants.{Record as OfRecord, Cut as OfCut, Advance as OfAdvance};
+ghost use Rattle.segment_state.specs.State.{State, empty_state};
+ghost use Rattle.segment_state.specs.Means.{MeansAt, Means};
+ghost use Rattle.segment_state.specs.HasMeaning.{HasAnchor, IsSettled};
+ghost use Rattle.redo_core.specs.Writing.{after_records};
+ghost use Rattle.segment_state.specs.Shows.{Shows};
+ghost use Rattle.segment_state.specs.Promises.{TakesFact};
+ghost use Rattle.segment_core.specs.Taking.{TellsChange, TellsKnown};
+ghost use Rattle.segment_core.specs.Refusing.{Refuses, IsNotCompared, FitsSoundLog};
+ghost use Rattle.segment_core.specs.Answering.{AnswersBook, AnswersPut, refusal_of, put_refusal_of};
+ghost use Rattle.segment_core.specs.Exactly.{TakesExactly};
+ghost use Rattle.segment_core.specs.Reading.{IsFrontAt, IsFrontOf, IsReadResult};
+ghost use Rattle.segment_core.specs.declared.answers.Refusal.{Refusal as AnyRefusal};
+ghost use Rattle.segment_core.specs.declared.answers.Refusal.TheVariants.{Memory as MemoryOf};
+
+use crate::answers::{Front, ReadFault, Refusal, Taken};
+use epoch_book::{BookRefusal, EpochBook, Learnt, Standing};
+use hot_log::{HotLog, Put, PutFault};
+use redo_core::{Advance, Cut, Fact, MAX_NUMBER, Page, Record, Refused, apply};
+use std::alloc::{AllocError, Global};
+use std::marker::Model;
+
+/// A segment of a protection group: its truncations and advances, and its redo records by key.
+#[derive(Drop)]
+pub struct Segment {
+    alloc: Global,
+    book: EpochBook,
+    hot: HotLog,
+}
+
+impl Model for Segment {
+    ghost use Rattle.segment_state.specs.State.{State};
+    ghost use Rattle.epoch_book.specs.Book.{IsBook};
+    ghost use Rattle.hot_log.specs.Held.{IsHeld};
+    ghost use Rattle.segment_core.specs.Answering.{state_of};
+
+    ghost Value = { State };
+
+    ghost view = { λ s. state_of s.book s.hot };
+
+    ghost invariant = { λ s. IsBook s.book × IsHeld s.hot };
+}
+
+impl Segment {
+    /// A segment that no fact has reached.
+    pub fn new(alloc: Global) -> Self
+        ensures empty { result ≡ empty_state }
+        ensures means { (log : List AnyFact) → Means log [] result }
+    {
+        Segment {
+            alloc,
+            book: EpochBook::new(alloc),
+            hot: HotLog::new(alloc),
+        }
+    }
+
+    /// An equal segment with memory of its own. Its only error is want of memory.
+    pub fn copy(&self) -> Result<Self, AllocError>
+        ensures { IfOk result (λ s. s ≡ self.now) }
+    {
+        Ok(Segment {
+            alloc: self.alloc,
+            book: self.book.copy()?,
+            hot: self.hot.copy()?,
+        })
+    }
+
+    /// Takes one fact into the segment, and says whether that changed what the segment means.
+    ///
+    /// A record that is dead, or alive at or below the anchor, changes nothing and is not compared.
+    /// Errors: `OtherCut`, `Contradiction`, `OtherRecord`, `Memory`; the segment is then as it was, and the fact comes back.
+    pub fn take(&mut self, fact: Fact) -> Result<Taken, Refused<Fact, Refusal>>
+        // For the facts that the segment means.
+        ensures means { OnOk result (TakesFact self.old fact self.new) }
+        ensures tells { IfOk result (TellsChange self.old fact) }
+        ensures sound { IfErr result (λ e. FitsSoundLog self.old fact → e.fault ≡ MemoryOf) }
+
+        // Over any facts.
+        ensures known { IfOk result (TellsKnown self.old fact) }
+        ensures refuses { (k : ℕ) (why : AnyRefusal) → IsCompleteEpoch self.old.cuts k → Refuses self.old k fact why → IsErrAnd result (λ e. e.fault ≡ why) }
+        ensures refused { IfErr result (λ e. (e.fault ≡ MemoryOf) ⊎ ((k : ℕ) × IsCompleteEpoch self.old.cuts k × Refuses self.old k fact e.fault)) }
+        ensures back { IfErr result (λ e. e.value ≡ fact) }
+        ensures unchanged { OnErr result (self.new ≡ self.old) }
+    {
+        self.take_fact(fact)
+    }
+
+    /// The complete epoch, the complete point and the minimum read point.
+    pub fn front(&self) -> Front
+        ensures front { (log facts : List AnyFact) (p : Position) → IsSound log → MeansAt log facts p self.now → IsFrontAt p result }
+        ensures own { IsFrontOf self.now result }
+    {
+        Front {
+            epoch: self.book.complete_epoch(),
+            complete: self.hot.linked_to(&self.book, 0, MAX_NUMBER),
+            min: self.book.min_point(),
+        }
+    }
+
+    /// The greatest linked number that is not above the minimum read point.
+    pub fn anchor(&self) -> u64
+        ensures anchor { (log facts : List AnyFact) (p : Position) → IsSound log → MeansAt log facts p self.now → result ≡ p.anchor }
+        ensures own { (k : ℕ) → IsCompleteEpoch self.now.cuts k → HasAnchor self.now k result }
+    {
+        self.hot.linked_to(&self.book, 0, self.book.min_point())
+    }
+
+    /// The number up to which the segment knows that it is complete, whatever it has thrown away.
+    pub fn base_point(&self) -> u64
+        ensures { result ≡ self.now.base }
+    {
+        let _ = &self.hot;
+        0
+    }
+}
+
+impl Segment {
+    /// The page at a read point.
+    ///
+    /// Errors: `Below` with the minimum read point where the point is below it, else `Above` with the complete point where the
+    /// point is above it; `Memory`.
+    pub fn read(&self, page: u16, point: u64) -> Result<Page, ReadFault>
+        ensures { (log facts : List AnyFact) (p : Position) → IsSound log → MeansAt log facts p self.now → IsReadResult facts p page point result }
+    {
+        let front = self.front();
+        if point < front.min {
+            return Err(ReadFault::Below { min: front.min });
+        }
+        if front.complete < point {
+            return Err(ReadFault::Above {
+                complete: front.complete,
+            });
+        }
+        match self.page_at(page, point) {
+            Ok(image) => Ok(image),
+            Err(_) => Err(ReadFault::Memory),
+        }
+    }
+
+    /// The page with its held records up to the point.
+    fn page_at(&self, page: u16, point: u64) -> Result<Page, AllocError>
+        ensures { IfOk result (λ image. (k : ℕ) → IsCompleteEpoch self.now.cuts k → Shows self.now k page point image) }
+    {
+        let records = self.hot.records_of(self.alloc, &self.book, page, 0, point)?;
+        let mut image = Page::zeros(self.alloc)?;
+        apply_all(&records, &mut image);
+        Ok(image)
+    }
+}
+
+/// Puts records into a page, in order.
+fn apply_all(records: &[&Record], page: &mut Page)
+    ensures { page.new ≡ after_records page.old (map (λ x. x.now) records.now) }
+{
+    for redo in records {
+        apply(redo, page);
+    }
+}
+
+impl Segment {
+    fn take_fact(&mut self, fact: Fact) -> Result<Taken, Refused<Fact, Refusal>>
+        ensures { TakesExactly self.old fact result self.new }
+    {
+        match fact {
+            Fact::Record(redo) => self.take_record(redo),
+            Fact::Cut(cut) => self.take_cut(cut),
+            Fact::Advance(advance) => self.take_advance(advance),
+        }
+    }
+
+    fn take_cut(&mut self, cut: Cut) -> Result<Taken, Refused<Fact, Refusal>>
+        ensures { TakesExactly self.old (OfCut cut) result self.new }
+    {
+        book_answer(Fact::Cut(cut), self.book.learn_cut(cut))
+    }
+
+    fn take_advance(&mut self, advance: Advance) -> Result<Taken, Refused<Fact, Refusal>>
+        ensures { TakesExactly self.old (OfAdvance advance) result self.new }
+    {
+        book_answer(Fact::Advance(advance), self.book.learn_advance(advance))
+    }
+
+    /// Whether a record is dead, or alive at or below the anchor.
+    fn is_not_compared(&self, redo: &Record) -> bool
+        ensures value { (k : ℕ) → IsCompleteEpoch self.now.cuts k → IsTrue result ↔ IsNotCompared self.now k redo.now }
+        ensures epoch { (k : ℕ) × IsCompleteEpoch self.now.cuts k }
+    {
+        match self.book.stands(redo.epoch(), redo.number()) {
+            Standing::Dead => true,
+            Standing::Waiting => false,
+            Standing::Alive => redo.number() <= self.anchor(),
+        }
+    }
+
+    fn take_record(&mut self, redo: Record) -> Result<Taken, Refused<Fact, Refusal>>
+        ensures { TakesExactly self.old (OfRecord redo) result self.new }
+    {
+        if self.is_not_compared(&redo) {
+            return Ok(Taken::Unchanged);
+        }
+        put_answer(self.hot.put(redo))
+    }
+}
+
+fn book_answer(fact: Fact, learnt: Result<Learnt, BookRefusal>) -> Result<Taken, Refused<Fact, Refusal>>
+    ensures { AnswersBook fact learnt result }
+{
+    match learnt {
+        Ok(Learnt::New) => Ok(Taken::Changed),
+        Ok(Learnt::Known) => Ok(Taken::Unchanged),
+        Err(refusal) => Err(Refused {
+            value: fact,
+            fault: book_refusal(refusal),
+        }),
+    }
+}
+
+fn book_refusal(refusal: BookRefusal) -> Refusal
+    ensures { result ≡ refusal_of refusal }
+{
+    match refusal {
+        BookRefusal::OtherCut(cut) => Refusal::OtherCut(cut),
+        BookRefusal::Contradiction(held) => Refusal::Contradiction(held),
+        BookRefusal::Memory => Refusal::Memory,
+    }
+}
+
+fn put_answer(put: Result<Put, Refused<Record, PutFault>>) -> Result<Taken, Refused<Fact, Refusal>>
+    ensures { AnswersPut put result }
+{
+    match put {
+        Ok(Put::New) => Ok(Taken::Changed),
+        Ok(Put::Known) => Ok(Taken::Unchanged),
+        Err(refused) => Err(Refused {
+            value: Fact::Record(refused.value),
+            fault: put_refusal(refused.fault),
+        }),
+    }
+}
+
+fn put_refusal(fault: PutFault) -> Refusal
+    ensures { result ≡ put_refusal_of fault }
+{
+    match fault {
+        PutFault::OtherRecord => Refusal::OtherRecord,
+        PutFault::Memory => Refusal::Memory,
+    }
+}
