@@ -1,1 +1,11 @@
+//! The fleet: some segments, and scripts of steps for them.
+//!
+//! The fleet machine of `specs/` knows, for each node, only the set of facts that reached it. For every list of steps whose facts
+//! stand in one sound log, `Fleet::run` gives the machine's replies, whatever the segments keep of those facts.
 #![tactic(auto)]
+
+mod fleets;
+mod steps;
+
+pub use fleets::Fleet;
+pub use steps::{Reply, Step};
