@@ -61,16 +61,16 @@ front_of cs k held v rising i x r l e h a b lt =
     (above_it held i x r rising l e q))
     (side i held r h)
 
--- an alive record from a place on is not below the one at the place
-pub least_from : (cs : List CutData) (k : ℕ) (held : List RecordData) → IsView cs k → IsRising RecordBefore held → (i : ℕ) (x r : RecordData) → i < length held → x ≡ get_or held i x → IsAlive cs k x.epoch x.number → IsAlive cs k r.epoch r.number → Contains (drop i held) r → x.number ≤ r.number
+-- an alive record from a place on is the one at the place or has a higher number
+pub least_from : (cs : List CutData) (k : ℕ) (held : List RecordData) → IsView cs k → IsRising RecordBefore held → (i : ℕ) (x r : RecordData) → i < length held → x ≡ get_or held i x → IsAlive cs k x.epoch x.number → IsAlive cs k r.epoch r.number → Contains (drop i held) r → (r ≡ x) ⊎ (x.number < r.number)
 least_from cs k held v rising i x r l e a b h =
     ⊎_elim
-    (λ (u : x ≡ r). let n : x.number ≡ r.number = ap (λ (y : RecordData). y.number) u in omega arith)
-    (λ (u : RecordBefore x r). let n : x.number < r.number = number_before cs k v x r a b u in omega arith)
+    (λ (u : x ≡ r). inl (sym u))
+    (λ (u : RecordBefore x r). inr (number_before cs k v x r a b u))
     (above_it held i x r rising l e h)
 
 -- the first of the alive records with a property has the least number of them
-pub first_is_least : (cs : List CutData) (k : ℕ) (held : List RecordData) (P : RecordData → Type 0) → IsView cs k → IsRising RecordBefore held → (i : ℕ) (x : RecordData) → i < length held → x ≡ get_or held i x → ((r : RecordData) → Contains (take i held) r → P r → ⊥) → IsAlive cs k x.epoch x.number → (r : RecordData) → Contains held r → IsAlive cs k r.epoch r.number → P r → x.number ≤ r.number
+pub first_is_least : (cs : List CutData) (k : ℕ) (held : List RecordData) (P : RecordData → Type 0) → IsView cs k → IsRising RecordBefore held → (i : ℕ) (x : RecordData) → i < length held → x ≡ get_or held i x → ((r : RecordData) → Contains (take i held) r → P r → ⊥) → IsAlive cs k x.epoch x.number → (r : RecordData) → Contains held r → IsAlive cs k r.epoch r.number → P r → (r ≡ x) ⊎ (x.number < r.number)
 first_is_least cs k held P v rising i x l e none a r h b p =
     ⊎_elim
     (λ (q : Contains (take i held) r). absurd (none r q p))
@@ -89,12 +89,12 @@ pub none_at_all : (P : RecordData → Type 0) (xs : List RecordData) (i : ℕ) �
 none_at_all P xs i l none r h p = none r (whole xs i r l h) p
 
 -- the last of the alive records with a property has the greatest number of them
-pub last_is_greatest : (cs : List CutData) (k : ℕ) (held : List RecordData) (P : RecordData → Type 0) → IsView cs k → IsRising RecordBefore held → (i : ℕ) (x : RecordData) → i < length held → x ≡ get_or held i x → ((r : RecordData) → Contains (drop (i + 1) held) r → P r → ⊥) → IsAlive cs k x.epoch x.number → (r : RecordData) → Contains held r → IsAlive cs k r.epoch r.number → P r → r.number ≤ x.number
+pub last_is_greatest : (cs : List CutData) (k : ℕ) (held : List RecordData) (P : RecordData → Type 0) → IsView cs k → IsRising RecordBefore held → (i : ℕ) (x : RecordData) → i < length held → x ≡ get_or held i x → ((r : RecordData) → Contains (drop (i + 1) held) r → P r → ⊥) → IsAlive cs k x.epoch x.number → (r : RecordData) → Contains held r → IsAlive cs k r.epoch r.number → P r → (r ≡ x) ⊎ (r.number < x.number)
 last_is_greatest cs k held P v rising i x l e none a r h b p =
     ⊎_elim
     (λ (q : Contains (take (i + 1) held) r). ⊎_elim
-    (λ (u : x ≡ r). let n : x.number ≡ r.number = ap (λ (y : RecordData). y.number) u in omega arith)
-    (λ (u : Contains (take i held) r). let n : r.number < x.number = number_before cs k v r x b a (across RecordBefore held i r x rising u (item_drop held i x l e)) in omega arith)
+    (λ (u : x ≡ r). inl (sym u))
+    (λ (u : Contains (take i held) r). inr (number_before cs k v r x b a (across RecordBefore held i r x rising u (item_drop held i x l e))))
     (front_to held i x r l e q))
     (λ (q : Contains (drop (i + 1) held) r). absurd (none r q p))
     (side (i + 1) held r h)

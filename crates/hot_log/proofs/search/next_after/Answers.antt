@@ -1,4 +1,4 @@
-use Rattle.std.proofs.Common.{◌≡◌, ◌≤◌, sym, ◌∙◌, refl, arith}
+use Rattle.std.proofs.Common.{◌≡◌, ◌<◌, ◌≤◌, ⊎_elim, ap, sym, ◌∙◌, refl, arith}
 use Rattle.redo_core.specs.Data.{RecordData}
 use Rattle.redo_core.specs.Standing.{IsAlive}
 use Rattle.hot_log.proofs.Rising.{item}
@@ -16,7 +16,10 @@ returns-then-is_alive c =
     let least = first_is_least b.cuts b.complete held P (view_of b c.if-is_alive.ensures.book) c.requires.rising i x c.loop-redo-test.true c.redo-item.is (λ r h p. c.loop-redo.invariant r h p) alive in (
       (x, (inside, alive), same, sym c.number.ensures.value),
       λ m h.
-          let low : x.number ≤ h.0.number = least h.0 h.1.0 h.1.1 (h.1.1, h.2) in
+          let low : x.number ≤ h.0.number = ⊎_elim
+          (λ (u : h.0 ≡ x). let same : h.0.number ≡ x.number = ap (λ (r : RecordData). r.number) u in omega arith)
+          (λ (u : x.number < h.0.number). omega arith)
+          (least h.0 h.1.0 h.1.1 (h.1.1, h.2)) in
           let at : h.0.number ≡ m = h.3 in
           let is : c.number.result ≡ x.number = c.number.ensures.value in
           omega arith,
