@@ -67,9 +67,10 @@ follows_at states step reply old new place lt is node there says = λ log nodes 
     let means : Means log at.0 old = subst (λ s. Means log at.0 s) (sym is) at.2 in
     let both = says log at.0 sound takes means in
     let low : node_of step - 1 ≡ place = omega (arith, node) in
-    let named : IsNode nodes (node_of step) at.0 = (omega (arith, node), ap (λ k. slice_get nodes k) low ∙ at.1) in
-    (reply_of_node nodes step reply at.0 there named both.0,
-     subst (λ ns. MeanNodes log ns (set states place new)) (sym (after_of_node nodes step reply there ∙ ap (λ k. with_node k (λ facts. facts_after facts step reply) nodes) low)) (with_node_means log nodes states place at.0 (λ facts. facts_after facts step reply) new mean at.1 both.1))
+    let named : IsNode nodes (node_of step) at.0 = (omega (arith, node), ap (λ k. slice_get nodes k) low ∙ at.1) in (
+      reply_of_node nodes step reply at.0 there named both.0,
+      subst (λ ns. MeanNodes log ns (set states place new)) (sym (after_of_node nodes step reply there ∙ ap (λ k. with_node k (λ facts. facts_after facts step reply) nodes) low)) (with_node_means log nodes states place at.0 (λ facts. facts_after facts step reply) new mean at.1 both.1),
+    )
 
 -- ---- runs that go on by a step
 all_but_last : {X : Type 0} (P : X → Type 0) (xs : List X) (x : X) → AllByRecursion P (xs ++ x ∷ []) → AllByRecursion P xs × P x
@@ -95,9 +96,10 @@ pub follows_more : (start states next : List State) (steps : List Step) (replies
 follows_more start states next steps replies step reply run one = λ log nodes sound takes mean.
     let parts = all_but_last (TakesFrom log) steps step takes in
     let so_far = run log nodes sound parts.0 mean in
-    let last = one log (after_all nodes steps replies) sound parts.1 so_far.1 in
-    (replies_more nodes steps replies step reply so_far.0 last.0,
-     subst (λ ns. MeanNodes log ns next) (sym (after_more nodes steps replies step reply so_far.0)) last.1)
+    let last = one log (after_all nodes steps replies) sound parts.1 so_far.1 in (
+      replies_more nodes steps replies step reply so_far.0 last.0,
+      subst (λ ns. MeanNodes log ns next) (sym (after_more nodes steps replies step reply so_far.0)) last.1,
+    )
 
 -- the machine's first sets are empty
 pub none_mean : (log : List Fact) (count : ℕ) (s : State) → Means log [] s → MeanNodes log (replicate count []) (replicate count s)

@@ -90,9 +90,10 @@ dead_is_not b hs r e n complete se sn dead = λ k at.
 
 pub waiting_is : (b : BookData) (hs : List RecordData) (r : RecordData) (e : ℕ) → IsCompleteEpoch b.cuts b.complete → e ≡ r.epoch → IsWaiting b.complete e → (k : ℕ) → IsCompleteEpoch b.cuts k → IsTrue false ↔ IsNotCompared (state_of b hs) k r
 waiting_is b hs r e complete se waits = λ k at.
-    let same : b.complete ≡ k = one_epoch b.cuts b.complete k complete at in
-    (λ (t : false ≡ true). absurd (cc),
-     λ h. absurd (⊎_elim (λ dead. let known : r.epoch ≤ k = dead.0 in omega (arith, waits, se, same, known)) (λ alive. let known : r.epoch ≤ k = alive.0.known in omega (arith, waits, se, same, known)) h))
+    let same : b.complete ≡ k = one_epoch b.cuts b.complete k complete at in (
+      λ (t : false ≡ true). absurd (cc),
+      λ h. absurd (⊎_elim (λ dead. let known : r.epoch ≤ k = dead.0 in omega (arith, waits, se, same, known)) (λ alive. let known : r.epoch ≤ k = alive.0.known in omega (arith, waits, se, same, known)) h),
+    )
 
 -- alive in the book's view is alive in every view that is complete
 pub alive_in : (b : BookData) (k e n : ℕ) → IsCompleteEpoch b.cuts b.complete → IsCompleteEpoch b.cuts k → IsAlive b.cuts b.complete e n → IsAlive b.cuts k e n
@@ -100,6 +101,7 @@ alive_in b k e n complete at alive = subst (λ j. IsAlive b.cuts j e n) (one_epo
 
 pub alive_is : (s : State) (r : RecordData) (k e n m anchor : ℕ) → IsCompleteEpoch s.cuts k → s.base ≡ 0 → HasAnchor s k anchor → 0 < m → e ≡ r.epoch → n ≡ r.number → m ≡ r.number → IsAlive s.cuts k e n → IsTrue (nat_le m anchor) ↔ IsNotCompared s k r
 alive_is s r k e n m anchor at base g positive se sn sm alive =
-    let is_alive : IsAlive s.cuts k r.epoch r.number = subst (λ x. IsAlive s.cuts k x r.number) se (subst (λ x. IsAlive s.cuts k e x) sn alive) in
-    (λ t. let le : m ≤ anchor = leb-true m anchor t in inr (is_alive, settled_at s k anchor r.number g base (omega (arith, le, sm)) (omega (arith, positive, sm))),
-     λ h. ⊎_elim (λ dead. absurd (dead.1 is_alive)) (λ settled. let le = settled_below s k anchor r.number g settled.1 in le-leb m anchor (omega (arith, le, sm))) h)
+    let is_alive : IsAlive s.cuts k r.epoch r.number = subst (λ x. IsAlive s.cuts k x r.number) se (subst (λ x. IsAlive s.cuts k e x) sn alive) in (
+      λ t. let le : m ≤ anchor = leb-true m anchor t in inr (is_alive, settled_at s k anchor r.number g base (omega (arith, le, sm)) (omega (arith, positive, sm))),
+      λ h. ⊎_elim (λ dead. absurd (dead.1 is_alive)) (λ settled. let le = settled_below s k anchor r.number g settled.1 in le-leb m anchor (omega (arith, le, sm))) h,
+    )

@@ -112,10 +112,10 @@ book_exact b b' hs fact (Err e) result so complete means known same refuses refu
       means = tt;
       known = tt;
       refuses = λ k why at r.
-        let f = to_book b hs k fact why so r in
-        let x = refuses f.0 f.1 in
-        let y : e ≡ f.0 = cc in
-        ap refusal_of y ∙ f.2;
+          let f = to_book b hs k fact why so r in
+          let x = refuses f.0 f.1 in
+          let y : e ≡ f.0 = cc in
+          ap refusal_of y ∙ f.2;
       refused = ⊎_elim (λ (m : e ≡ book.Memory). inl (ap refusal_of m)) (λ r. inr (b.complete, complete, from_book b hs b.complete fact e r)) refused;
       back = refl;
       unchanged = ap (λ x. state_of x hs) same;
@@ -172,11 +172,12 @@ not_compared_exact knows s r complete at all = record {
   back = tt;
   unchanged = tt;
 }
-  where none : (k : ℕ) (why : Refusal) → IsCompleteEpoch s.cuts k → Refuses s k (Record r) why → ⊥
-        none k (OtherCut d) h so = so
-        none k (Contradiction held) h so = so
-        none k OtherRecord h so = so.0 (all k h)
-        none k Memory h so = so
+  where
+    none : (k : ℕ) (why : Refusal) → IsCompleteEpoch s.cuts k → Refuses s k (Record r) why → ⊥
+    none k (OtherCut d) h so = so
+    none k (Contradiction held) h so = so
+    none k OtherRecord h so = so.0 (all k h)
+    none k Memory h so = so
 
 one_per_key : (hs : List RecordData) (x y : RecordData) → IsHeld hs → Contains hs x → Contains hs y → x.epoch ≡ y.epoch → x.number ≡ y.number → x ≡ y
 one_per_key hs x y held hx hy e n =
@@ -201,13 +202,15 @@ put_exact takes knows b hs hs' r (Ok put.New) result held complete at compared p
       back = tt;
       unchanged = tt;
     })
-  where unknown : (k : ℕ) → IsCompleteEpoch b.cuts k → IsKnown (state_of b hs) k (Record r) → ⊥
-        unknown k at it = ⊎_elim (λ d. compared k at (inl d)) (λ rest. ⊎_elim (λ h. puts.0 r h (refl, refl)) (λ settled. compared k at (inr settled)) rest) it
-        none : (k : ℕ) (why : Refusal) → IsCompleteEpoch b.cuts k → Refuses (state_of b hs) k (Record r) why → ⊥
-        none k (OtherCut d) h so = so
-        none k (Contradiction held') h so = so
-        none k OtherRecord h so = puts.0 so.1.0 so.1.1 (so.1.2, so.1.3)
-        none k Memory h so = so
+  where
+    unknown : (k : ℕ) → IsCompleteEpoch b.cuts k → IsKnown (state_of b hs) k (Record r) → ⊥
+    unknown k at it = ⊎_elim (λ d. compared k at (inl d)) (λ rest. ⊎_elim (λ h. puts.0 r h (refl, refl)) (λ settled. compared k at (inr settled)) rest) it
+
+    none : (k : ℕ) (why : Refusal) → IsCompleteEpoch b.cuts k → Refuses (state_of b hs) k (Record r) why → ⊥
+    none k (OtherCut d) h so = so
+    none k (Contradiction held') h so = so
+    none k OtherRecord h so = puts.0 so.1.0 so.1.1 (so.1.2, so.1.3)
+    none k Memory h so = so
 put_exact takes knows b hs hs' r (Ok put.Known) result held complete at compared puts refused same is =
     subst (λ x. TakesExactly (state_of b hs) (Record r) x (state_of b hs')) (sym is)
     (subst (λ hs'. TakesExactly (state_of b hs) (Record r) (Ok Unchanged) (state_of b hs')) (sym puts.1) (record {
@@ -218,11 +221,12 @@ put_exact takes knows b hs hs' r (Ok put.Known) result held complete at compared
       back = tt;
       unchanged = tt;
     }))
-  where none : (k : ℕ) (why : Refusal) → IsCompleteEpoch b.cuts k → Refuses (state_of b hs) k (Record r) why → ⊥
-        none k (OtherCut d) h so = so
-        none k (Contradiction held') h so = so
-        none k OtherRecord h so = so.1.4 (one_per_key hs so.1.0 r (subst (λ x. IsHeld x) puts.1 held) so.1.1 puts.0 so.1.2 so.1.3)
-        none k Memory h so = so
+  where
+    none : (k : ℕ) (why : Refusal) → IsCompleteEpoch b.cuts k → Refuses (state_of b hs) k (Record r) why → ⊥
+    none k (OtherCut d) h so = so
+    none k (Contradiction held') h so = so
+    none k OtherRecord h so = so.1.4 (one_per_key hs so.1.0 r (subst (λ x. IsHeld x) puts.1 held) so.1.1 puts.0 so.1.2 so.1.3)
+    none k Memory h so = so
 put_exact takes knows b hs hs' r (Err e) result held complete at compared puts refused same is =
     subst (λ x. TakesExactly (state_of b hs) (Record r) x (state_of b hs')) (sym is) (record {
       means = tt;
@@ -232,15 +236,17 @@ put_exact takes knows b hs hs' r (Err e) result held complete at compared puts r
       back = ap (λ x. Record x) refused.0;
       unchanged = ap (λ x. state_of b x) same;
     })
-  where why_is : (f : PutFault) → RefusesPut hs r f → (k : ℕ) (why : Refusal) → IsCompleteEpoch b.cuts k → Refuses (state_of b hs) k (Record r) why → put_refusal_of f ≡ why
-        why_is f it k (OtherCut d) h so = absurd so
-        why_is f it k (Contradiction held') h so = absurd so
-        why_is fault.OtherRecord it k OtherRecord h so = refl
-        why_is fault.Memory it k OtherRecord h so = absurd (it so.1.0 so.1.1 (so.1.2, so.1.3))
-        why_is f it k Memory h so = absurd so
-        why_refused : (f : PutFault) → RefusesPut hs r f → (put_refusal_of f ≡ Memory) ⊎ ((k : ℕ) × IsCompleteEpoch b.cuts k × Refuses (state_of b hs) k (Record r) (put_refusal_of f))
-        why_refused fault.OtherRecord it = inr (complete, at, (compared complete at, (it.0, it.1, it.2.0, it.2.1, it.3)))
-        why_refused fault.Memory it = inl refl
+  where
+    why_is : (f : PutFault) → RefusesPut hs r f → (k : ℕ) (why : Refusal) → IsCompleteEpoch b.cuts k → Refuses (state_of b hs) k (Record r) why → put_refusal_of f ≡ why
+    why_is f it k (OtherCut d) h so = absurd so
+    why_is f it k (Contradiction held') h so = absurd so
+    why_is fault.OtherRecord it k OtherRecord h so = refl
+    why_is fault.Memory it k OtherRecord h so = absurd (it so.1.0 so.1.1 (so.1.2, so.1.3))
+    why_is f it k Memory h so = absurd so
+
+    why_refused : (f : PutFault) → RefusesPut hs r f → (put_refusal_of f ≡ Memory) ⊎ ((k : ℕ) × IsCompleteEpoch b.cuts k × Refuses (state_of b hs) k (Record r) (put_refusal_of f))
+    why_refused fault.OtherRecord it = inr (complete, at, (compared complete at, (it.0, it.1, it.2.0, it.2.1, it.3)))
+    why_refused fault.Memory it = inl refl
 
 -- ---- what a take tells of the facts that the segment means
 pub tells_change : UnchangedExactly → (old : State) (fact : Fact) (t : Taken) → ((log facts : List Fact) → Means log facts old → (k : ℕ) × IsCompleteEpoch old.cuts k) → TellsKnown old fact t → TellsChange old fact t
@@ -248,9 +254,10 @@ tells_change law old fact Unchanged epoch known = λ log facts m sound among mea
     let k = epoch log facts means in
     (λ e. (law old k.0 fact k.1).0 ((known k.0 k.1).0 refl) log facts m sound among means is, λ it. refl)
 tells_change law old fact Changed epoch known = λ log facts m sound among means is.
-    let k = epoch log facts means in
-    (λ (e : Changed ≡ Unchanged). absurd (cc),
-     λ it. absurd ((law old k.0 fact k.1).1 (λ h. let e : Changed ≡ Unchanged = (known k.0 k.1).1 h in cc) log facts m sound among means is it))
+    let k = epoch log facts means in (
+      λ (e : Changed ≡ Unchanged). absurd (cc),
+      λ it. absurd ((law old k.0 fact k.1).1 (λ h. let e : Changed ≡ Unchanged = (known k.0 k.1).1 h in cc) log facts m sound among means is it),
+    )
 
 refuses_conflicts : (s : State) (k : ℕ) (fact : Fact) (why : Refusal) → Refuses s k fact why → Conflicts s fact
 refuses_conflicts s k (Cut c) (OtherCut d) r = inl (d, r.0, r.1, r.2)

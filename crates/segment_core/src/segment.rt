@@ -207,7 +207,10 @@ impl Segment {
     }
 }
 
-fn book_answer(fact: Fact, learnt: Result<Learnt, BookRefusal>) -> Result<Taken, Refused<Fact, Refusal>>
+fn book_answer(
+    fact: Fact,
+    learnt: Result<Learnt, BookRefusal>,
+) -> Result<Taken, Refused<Fact, Refusal>>
     ensures { AnswersBook fact learnt result }
 {
     match learnt {

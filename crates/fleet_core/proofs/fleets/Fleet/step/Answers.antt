@@ -10,9 +10,13 @@ use Rattle.fleet_core.proofs.fleets.Fleet.step.Goals.{then-node-eq0-via-then-nod
 
 pub returns-then-node-eq0-clause-follows : goal.returns-then-node-eq0-clause-follows
 returns-then-node-eq0-clause-follows c = λ log nodes sound takes mean.
-    let count = same_count log nodes c.args.self.now mean in
-    ((c.node-node.ensures,
-      elim c.then-node-eq0.branch [ then-node-eq0-via-then-node-eq0 w ↦ inl w.if-node-eq0.true | then-node-eq0-via-else-node-eq0+then-from-len w ↦ inr (let all : length c.self.inside.nodes.items ≡ length c.args.self.now = ap (λ (xs : List State). length xs) c.self.view_is in let same : length c.self.inside.nodes.items ≡ vec_len c.self.inside.nodes = search rules in omega (arith, w.if-from-len.true, w.len.ensures, w.from.ensures, count, all, same)) ]), mean)
+    let count = same_count log nodes c.args.self.now mean in (
+      (
+        c.node-node.ensures,
+        elim c.then-node-eq0.branch [ then-node-eq0-via-then-node-eq0 w ↦ inl w.if-node-eq0.true | then-node-eq0-via-else-node-eq0+then-from-len w ↦ inr (let all : length c.self.inside.nodes.items ≡ length c.args.self.now = ap (λ (xs : List State). length xs) c.self.view_is in let same : length c.self.inside.nodes.items ≡ vec_len c.self.inside.nodes = search rules in omega (arith, w.if-from-len.true, w.len.ensures, w.from.ensures, count, all, same)) ],
+      ),
+      mean,
+    )
 
 pub returns-clause-follows : goal.returns-clause-follows
 returns-clause-follows c =
