@@ -22,9 +22,11 @@ drill_lo size = size / 2
 abbrev pub drill_hi : ℕ → ℕ
 drill_hi size = size + 8
 
+-- the one advance, of epoch 0
 abbrev pub drill_advance : ℕ → AdvanceData
 drill_advance size = advance_of 0 (drill_lo size)
 
+-- the one truncation, with which epoch 1 begins
 abbrev pub drill_cut : ℕ → CutData
 drill_cut size = cut_of 1 (drill_lo size) (drill_hi size)
 

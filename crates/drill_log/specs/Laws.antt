@@ -1,4 +1,4 @@
--- The laws, for each kind_at of fact of a drill's log.
+-- The backlinks of a drill's records are the greatest numbers below them that are alive.
 use Rattle.std.proofs.Common.{◌≡◌, ℕ, ◌+◌, ◌-◌, ◌/◌, ◌%◌, ◌<◌, ◌≤◌, ◌⊎◌, inl, inr, ⊎_elim, Bool, true, false, List, refl, sym, ap, subst, ◌∙◌, arith}
 use Rattle.std.specs.Prelude.{nat_lt, ◌==◌, if◌then◌else◌}
 use Rattle.std.specs.List.{Contains}
@@ -65,7 +65,7 @@ below_of_epoch_1 n j log Only m d b =
     inr (a.0, a.1, omega (arith, e, l), sym e, subst Only (sym a.3) b.only))
     (d.record_is b.other b.among)
 
--- the segment backlinks
+-- the segment backlinks: the record before, or the one at the lo
 pub back_of_epoch_0 : (n i : ℕ) (log : List Fact) → IsDrillLog n log → 1 ≤ i → i ≤ n → IsGreatest (IsAliveBelow log (record_of_epoch_0 i) (λ s. Unit {0})) (i - 1)
 back_of_epoch_0 n i log d l u = (
   ⊎_elim
@@ -116,7 +116,7 @@ back_of_epoch_1 n j log d l u =
     P : ℕ → Type 0
     P = IsAliveBelow log (record_of_epoch_1 n j) (λ s. Unit {0})
 
--- the block backlinks
+-- the block backlinks: the record of the page eight numbers before, or the last one up to the lo
 pub block_back_of_epoch_0 : (n i : ℕ) (log : List Fact) → IsDrillLog n log → 1 ≤ i → i ≤ n → IsGreatest (IsAliveBelow log (record_of_epoch_0 i) (λ s. s.page ≡ i % 8)) (if nat_lt 8 i then i - 8 else 0)
 block_back_of_epoch_0 n i log d l u =
     ⊎_elim
@@ -144,7 +144,6 @@ block_back_of_epoch_0 n i log d l u =
     near : (m : ℕ) → IsAliveBelow log (record_of_epoch_0 i) (λ s. s.page ≡ i % 8) m → m + 8 ≤ i
     near m b = let a = below_of_epoch_0 n i log (λ s. s.page ≡ i % 8) m d b in same_remainder_apart m i a.1 a.2
 
--- the record of a page up to h, in a view that spares the numbers up to h
 pub block_back_of_epoch_1 : (n j : ℕ) (log : List Fact) → IsDrillLog n log → 1 ≤ j → j ≤ n → IsGreatest (IsAliveBelow log (record_of_epoch_1 n j) (λ s. s.page ≡ (j - 1) % 8)) (if nat_lt 8 j then drill_hi n + j - 8 else last_of_page (n / 2) ((j - 1) % 8))
 block_back_of_epoch_1 n j log d l u =
     ⊎_elim
