@@ -6,6 +6,8 @@
 
 mod fleets;
 mod steps;
+#[cfg(test)]
+mod tests;
 
 pub use fleets::Fleet;
 pub use steps::{Reply, Step};
