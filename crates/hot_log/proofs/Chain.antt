@@ -1,5 +1,5 @@
 -- The numbers that held records link.
-use Rattle.std.proofs.Common.{◌≡◌, ℕ, zero, suc, ◌+◌, ◌<◌, ◌≤◌, ◌⊎◌, ◌↔◌, inl, inr, ⊎_elim, List, length, get_or, take, drop, refl, sym, ap, ◌∙◌, subst, arith, Option, Some, None}
+use Rattle.std.proofs.Common.{◌≡◌, ℕ, ◌+◌, ◌<◌, ◌≤◌, ◌⊎◌, ◌↔◌, inl, inr, ⊎_elim, List, length, get_or, take, refl, sym, ap, subst, arith, Option, Some, None}
 use Rattle.std.specs.List.{Contains}
 use Rattle.redo_core.specs.Data.{RecordData, CutData}
 use Rattle.redo_core.specs.Order.{IsRising, RecordBefore}
@@ -9,7 +9,8 @@ use Rattle.redo_core.specs.Linked.Linked.{start, next}
 use Rattle.epoch_book.specs.Book.{BookData, IsBook}
 use Rattle.hot_log.specs.Alive.{IsHeldAlive, IsLinkedFrom, IsLinkedHeld}
 use Rattle.hot_log.specs.Found.{IsOnlyRecord}
-use Rattle.hot_log.proofs.Rising.{item, front_to, whole, across, item_drop}
+use Rattle.epoch_book.proofs.Members.{item}
+use Rattle.hot_log.proofs.Rising.{front_to, whole, across, item_drop}
 use Rattle.hot_log.proofs.Views.{IsView, view_of, number_before, one_number, front_of}
 
 -- the record by which a number above the base is linked

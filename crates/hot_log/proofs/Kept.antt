@@ -1,10 +1,11 @@
 -- What a filter by a closure leaves of records, and a list that gains a record at its end.
-use Rattle.std.proofs.Common.{◌≡◌, ℕ, zero, suc, ◌+◌, ◌<◌, ◌≤◌, ◌⊎◌, ◌↔◌, inl, inr, ⊎_elim, List, [], ◌∷◌, ◌++◌, length, get_or, take, refl, sym, ap, ◌∙◌, subst, arith, Bool, true, false}
-use Rattle.std.specs.List.{Contains, AllByRecursion, items_where_true}
+use Rattle.std.proofs.Common.{◌≡◌, ℕ, ◌+◌, ◌<◌, ◌≤◌, ◌↔◌, ⊎_elim, List, [], ◌∷◌, ◌++◌, length, get_or, take, refl, sym, subst, arith, Bool, true, false}
+use Rattle.std.specs.List.{Contains, items_where_true}
 use Rattle.std.specs.List.Retain.{ReturnsInTurn, IsFiltered}
 use Rattle.std.proofs.lemmas.List.Elements.{Contains-append_left, Contains-append_right, Contains-append_cases}
 use Rattle.redo_core.specs.Order.{IsRising, Lists}
-use Rattle.hot_log.proofs.Rising.{none_in, here, there, which, each, all_of, front_to, up_to, take_grows, in_take, whole}
+use Rattle.epoch_book.proofs.Members.{none_in, here, there, which}
+use Rattle.hot_log.proofs.Rising.{each, all_of, front_to, up_to, take_grows, in_take, whole}
 
 module _ {X F : Type 0} (R : F → X → Bool → F → Type 0) (Gone : X → Type 0) (f : F) (h : (x : X) (b : Bool) (f' : F) → R f x b f' → ((b ≡ false) ↔ Gone x) × (f' ≡ f)) where
   pub kept_members : (bs : List Bool) (xs : List X) (q : F) → length bs ≡ length xs → ReturnsInTurn R f bs xs q → (x : X) → Contains (items_where_true bs xs) x ↔ (Contains xs x × (Gone x → ⊥))

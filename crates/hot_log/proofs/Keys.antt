@@ -1,13 +1,15 @@
 -- Records in the order of their keys.
-use Rattle.std.proofs.Common.{◌≡◌, ◌≢◌, ℕ, zero, suc, ◌+◌, ◌<◌, ◌≤◌, ◌⊎◌, ◌↔◌, inl, inr, ⊎_elim, List, [], ◌∷◌, length, get_or, take, drop, refl, sym, ap, ◌∙◌, subst, arith, Bool, true, false, Option, Some, None}
-use Rattle.std.specs.List.{Contains, AllWithin, insert}
+use Rattle.std.proofs.Common.{◌≡◌, ℕ, ◌+◌, ◌<◌, ◌≤◌, ◌⊎◌, inl, inr, ⊎_elim, List, length, get_or, take, drop, refl, sym, ap, ◌∙◌, subst, arith, true, false, Option, Some, None}
+use Rattle.std.specs.List.{Contains, insert}
 use Rattle.std.specs.List.Sorted.{IsPartitionedBy, IsPartitionPoint}
 use Rattle.std.proofs.lemmas.List.{get_or-take, get_or-drop, length-take, length-drop}
 use Rattle.redo_core.specs.Data.{RecordData}
 use Rattle.redo_core.specs.Shape.{record_fault}
 use Rattle.redo_core.specs.Order.{IsRising, RecordBefore, PairBefore}
-use Rattle.hot_log.specs.Held.{IsHeld, HasKey, IsRecordAt, IsAbove, IsKeyAfter, SplitsAt, SplitsAbove, is_before}
-use Rattle.hot_log.proofs.Rising.{in_take, in_drop, side, item, item_drop, rest_from, front_to, past_end, across, up_to, none_in, rising_at, in_insert, rising_insert}
+use Rattle.hot_log.specs.Held.{IsHeld, HasKey, IsRecordAt, IsKeyAfter, SplitsAt, SplitsAbove, is_before}
+use Rattle.epoch_book.proofs.Members.{item, contains_insert}
+use Rattle.epoch_book.proofs.Rising.{rising_at}
+use Rattle.hot_log.proofs.Rising.{in_drop, side, item_drop, rest_from, front_to, past_end, across, up_to, rising_insert}
 
 pub pair_cases : (a b c d : ℕ) → PairBefore a b c d ⊎ (((a ≡ c) × (b ≡ d)) ⊎ PairBefore c d a b)
 pair_cases a b c d = grind arith
@@ -34,7 +36,7 @@ parted epoch number held rising i j d le lt h =
     (λ (e : i ≡ j). subst (λ n. is_before epoch number (get_or held n d) ≡ true) (sym e) h)
     (λ (l : i < j).
     let x = get_or held i d in let y = get_or held j d in
-    is_before_of epoch number x (pair_trans x.epoch x.number y.epoch y.number epoch number (rising_at RecordBefore held i j d rising l lt) (is_before_true epoch number y h)))
+    is_before_of epoch number x (pair_trans x.epoch x.number y.epoch y.number epoch number (rising_at RecordBefore held i j d d rising l lt) (is_before_true epoch number y h)))
     (let t : (i ≡ j) ⊎ (i < j) = grind arith in t)
 
 -- the place at which they part
@@ -113,20 +115,6 @@ above_other epoch number held place x rising s l e other = record {
       (pair_cases epoch number r.epoch r.number);
 }
 
-pub above_none : (held : List RecordData) → SplitsAbove None held 0
-above_none held = record {
-  bound = omega arith;
-  below = λ r h. absurd (none_in r h);
-  rest = λ r h. tt;
-}
-
-pub no_key_after : (after : Option (ℕ × ℕ)) (held : List RecordData) (place : ℕ) → SplitsAbove after held place → place ≡ length held → (r : RecordData) → Contains held r → IsAbove after r → ⊥
-no_key_after after held place s e r h up =
-    ⊎_elim
-    (λ (q : Contains (take place held) r). s.below r q up)
-    (λ (q : Contains (drop place held) r). past_end held place r (omega arith) q)
-    (side place held r h)
-
 pub key_after_at : (after : Option (ℕ × ℕ)) (held : List RecordData) (place : ℕ) (x : RecordData) → IsRising RecordBefore held → SplitsAbove after held place → place < length held → x ≡ get_or held place x → IsKeyAfter held after (Some (x.epoch, x.number))
 key_after_at after held place x rising s l e = (
   (x, item held place x l e, (refl, refl), s.rest x (item_drop held place x l e)),
@@ -149,7 +137,7 @@ held_with held place x is s none shape = record {
       (λ (v : RecordBefore y x). absurd (s.rest y h v))
       u)
       (pair_cases x.epoch x.number y.epoch y.number));
-  shaped = λ y h. ⊎_elim (λ (q : Contains held y). is.shaped y q) (λ (q : y ≡ x). subst (λ z. record_fault z ≡ None) (sym q) shape) ((in_insert held place x y).0 h);
+  shaped = λ y h. ⊎_elim (λ (q : Contains held y). is.shaped y q) (λ (q : y ≡ x). subst (λ z. record_fault z ≡ None) (sym q) shape) ((contains_insert held place x y).0 h);
 }
 
 split_as : (e n e' n' place : ℕ) (xs ys : List RecordData) → e ≡ e' → n ≡ n' → xs ≡ ys → SplitsAt e n xs place → SplitsAt e' n' ys place

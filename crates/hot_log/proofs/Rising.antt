@@ -1,25 +1,11 @@
 -- Members of lists, and lists in rising order.
-use Rattle.std.proofs.Common.{◌≡◌, ℕ, zero, suc, ◌+◌, ◌<◌, ◌≤◌, ◌⊎◌, ◌↔◌, inl, inr, ⊎_elim, List, [], ◌∷◌, ◌++◌, length, get_or, take, drop, refl, sym, ◌∙◌, subst, arith, add-one}
-use Rattle.std.specs.List.{Contains, All, AllByRecursion, insert}
+use Rattle.std.proofs.Common.{◌≡◌, ℕ, zero, suc, ◌+◌, ◌<◌, ◌≤◌, ◌⊎◌, inl, inr, ⊎_elim, List, [], ◌∷◌, length, get_or, take, drop, sym, ◌∙◌, subst, arith, add-one}
+use Rattle.std.specs.List.{Contains, AllByRecursion, insert}
 use Rattle.std.proofs.lemmas.List.{take-append-drop}
-use Rattle.std.proofs.lemmas.List.Elements.{All-from_recursion, recursion_from_All, All-contains, Contains-append_left, Contains-append_right, Contains-append_cases}
+use Rattle.std.proofs.lemmas.List.Elements.{All-from_recursion, All-contains, Contains-append_left, Contains-append_right, Contains-append_cases}
 use Rattle.redo_core.specs.Order.{IsRising}
-
-pub none_in : {X : Type 0} (x : X) → Contains [] x → ⊥
-none_in x h = omega (arith, h.1)
-
-pub here : {X : Type 0} (x : X) (xs : List X) → Contains (x ∷ xs) x
-here x xs = (0, omega arith, refl)
-
-pub there : {X : Type 0} (x : X) (xs : List X) (y : X) → Contains xs y → Contains (x ∷ xs) y
-there x xs y h = (suc h.0, omega (arith, h.1), h.2)
-
-cases_at : {X : Type 0} (x : X) (xs : List X) (y : X) (k : ℕ) → k < length (x ∷ xs) → get_or (x ∷ xs) k y ≡ y → (x ≡ y) ⊎ Contains xs y
-cases_at x xs y zero l e = inl e
-cases_at x xs y (suc k) l e = inr (k, omega (arith, l), e)
-
-pub which : {X : Type 0} (x : X) (xs : List X) (y : X) → Contains (x ∷ xs) y → (x ≡ y) ⊎ Contains xs y
-which x xs y h = cases_at x xs y h.0 h.1 h.2
+pub use Rattle.epoch_book.proofs.Members.{none_in, here, there, which, contains_insert}
+pub use Rattle.epoch_book.proofs.Rising.{rising_members as in_order}
 
 pub each : {X : Type 0} (P : X → Type 0) (xs : List X) (x : X) → AllByRecursion P xs → Contains xs x → P x
 each P xs x all h = All-contains P xs x (All-from_recursion P xs all) h
@@ -39,10 +25,7 @@ in_drop i xs x h = subst (λ l. Contains l x) (take-append-drop i xs) (Contains-
 pub side : {X : Type 0} (i : ℕ) (xs : List X) (x : X) → Contains xs x → Contains (take i xs) x ⊎ Contains (drop i xs) x
 side i xs x h = Contains-append_cases (take i xs) (drop i xs) x (subst (λ l. Contains l x) (sym (take-append-drop i xs)) h)
 
--- the element at an index
-pub item : {X : Type 0} (xs : List X) (i : ℕ) (x : X) → i < length xs → x ≡ get_or xs i x → Contains xs x
-item xs i x l e = (i, l, sym e)
-
+-- the element at an index is the first from there on
 pub item_drop : {X : Type 0} (xs : List X) (i : ℕ) (x : X) → i < length xs → x ≡ get_or xs i x → Contains (drop i xs) x
 item_drop [] i x l e = absurd (omega (arith, l))
 item_drop (y ∷ ys) zero x l e = (0, l, sym e)
@@ -109,48 +92,12 @@ across Before (z ∷ zs) (suc i) x y r h k =
     (λ (q : Contains (take i zs) x). across Before zs i x y r.1 q k)
     (which z (take i zs) x h)
 
-pub rising_at : {X : Type 0} (Before : X → X → Type 0) (xs : List X) (i j : ℕ) (d : X) → IsRising Before xs → i < j → j < length xs → Before (get_or xs i d) (get_or xs j d)
-rising_at Before [] i j d r l m = absurd (omega (arith, m))
-rising_at Before (x ∷ xs) i zero d r l m = absurd (omega (arith, l))
-rising_at Before (x ∷ xs) zero (suc j) d r l m = All-from_recursion (Before x) xs r.0 j d (omega (arith, m))
-rising_at Before (x ∷ xs) (suc i) (suc j) d r l m = rising_at Before xs i j d r.1 (omega (arith, l)) (omega (arith, m))
-
--- two members of a rising list are one, or one is before the other
-pub in_order : {X : Type 0} (Before : X → X → Type 0) (xs : List X) (x y : X) → IsRising Before xs → Contains xs x → Contains xs y → (x ≡ y) ⊎ (Before x y ⊎ Before y x)
-in_order Before [] x y r h k = absurd (none_in x h)
-in_order Before (z ∷ zs) x y r h k =
-    ⊎_elim
-    (λ (q : z ≡ x). ⊎_elim
-    (λ (u : z ≡ y). inl (sym q ∙ u))
-    (λ (u : Contains zs y). inr (inl (subst (λ w. Before w y) q (each (Before z) zs y r.0 u))))
-    (which z zs y k))
-    (λ (q : Contains zs x). ⊎_elim
-    (λ (u : z ≡ y). inr (inr (subst (λ w. Before w x) u (each (Before z) zs x r.0 q))))
-    (λ (u : Contains zs y). in_order Before zs x y r.1 q u)
-    (which z zs y k))
-    (which z zs x h)
-
-pub in_insert : {X : Type 0} (xs : List X) (i : ℕ) (x y : X) → Contains (insert xs i x) y ↔ (Contains xs y ⊎ (y ≡ x))
-in_insert xs i x y = (
-  λ h. ⊎_elim
-      (λ (q : Contains (take i xs) y). inl (in_take i xs y q))
-      (λ (q : Contains (x ∷ drop i xs) y). ⊎_elim (λ (u : x ≡ y). inr (sym u)) (λ (u : Contains (drop i xs) y). inl (in_drop i xs y u)) (which x (drop i xs) y q))
-      (Contains-append_cases (take i xs) (x ∷ drop i xs) y h),
-  λ h. ⊎_elim
-      (λ (q : Contains xs y). ⊎_elim
-      (λ (u : Contains (take i xs) y). Contains-append_left (take i xs) (x ∷ drop i xs) y u)
-      (λ (u : Contains (drop i xs) y). Contains-append_right (take i xs) (x ∷ drop i xs) y (there x (drop i xs) y u))
-      (side i xs y q))
-      (λ (q : y ≡ x). Contains-append_right (take i xs) (x ∷ drop i xs) y (subst (Contains (x ∷ drop i xs)) (sym q) (here x (drop i xs))))
-      h,
-)
-
 -- a rising list with one more in its place
 pub rising_insert : {X : Type 0} (Before : X → X → Type 0) (xs : List X) (i : ℕ) (x : X) → IsRising Before xs → ((y : X) → Contains (take i xs) y → Before y x) → ((y : X) → Contains (drop i xs) y → Before x y) → IsRising Before (insert xs i x)
 rising_insert Before [] zero x r low high = (tt, tt)
 rising_insert Before [] (suc i) x r low high = (tt, tt)
 rising_insert Before (z ∷ zs) zero x r low high = (all_of (Before x) (z ∷ zs) high, r)
 rising_insert Before (z ∷ zs) (suc i) x r low high = (
-  all_of (Before z) (insert zs i x) (λ y h. ⊎_elim (λ (q : Contains zs y). each (Before z) zs y r.0 q) (λ (q : y ≡ x). subst (Before z) (sym q) (low z (here z (take i zs)))) ((in_insert zs i x y).0 h)),
+  all_of (Before z) (insert zs i x) (λ y h. ⊎_elim (λ (q : Contains zs y). each (Before z) zs y r.0 q) (λ (q : y ≡ x). subst (Before z) (sym q) (low z (here z (take i zs)))) ((contains_insert zs i x y).0 h)),
   rising_insert Before zs i x r.1 (λ y h. low y (there z (take i zs) y h)) high,
 )

@@ -1,5 +1,5 @@
 -- Alive records in the order of their keys have rising numbers.
-use Rattle.std.proofs.Common.{◌≡◌, ℕ, zero, suc, ◌+◌, ◌<◌, ◌≤◌, ◌⊎◌, inl, inr, ⊎_elim, List, length, get_or, take, drop, refl, sym, ap, ◌∙◌, subst, arith, None}
+use Rattle.std.proofs.Common.{◌≡◌, ℕ, ◌+◌, ◌<◌, ◌≤◌, ◌⊎◌, inl, inr, ⊎_elim, List, length, get_or, take, drop, sym, ap, subst, arith, None}
 use Rattle.std.specs.List.{Contains}
 use Rattle.std.proofs.lemmas.List.Elements.{All-contains}
 use Rattle.redo_core.specs.Data.{RecordData, CutData}
@@ -8,8 +8,8 @@ use Rattle.redo_core.specs.Order.{IsRising, RecordBefore}
 use Rattle.redo_core.specs.CompleteEpoch.{HasCutsTo}
 use Rattle.redo_core.specs.Standing.{IsAlive}
 use Rattle.epoch_book.specs.Book.{BookData, IsBook}
-use Rattle.hot_log.specs.Held.{IsHeld}
-use Rattle.hot_log.proofs.Rising.{side, item, front_to, past_end, whole, in_order, across, up_to, in_take, in_drop, item_drop, rest_from}
+use Rattle.epoch_book.proofs.Rising.{rising_members}
+use Rattle.hot_log.proofs.Rising.{side, front_to, whole, across, item_drop, rest_from}
 use Rattle.hot_log.proofs.Keys.{above_it}
 
 -- what a view of an epoch rests on: its truncations are there, and none has its lo above its hi
@@ -48,7 +48,7 @@ one_number cs k held v rising r s hr hs a b e =
     (λ (u : RecordBefore r s). absurd (let l : r.number < s.number = number_before cs k v r s a b u in omega arith))
     (λ (u : RecordBefore s r). absurd (let l : s.number < r.number = number_before cs k v s r b a u in omega arith))
     q)
-    (in_order RecordBefore held r s rising hr hs)
+    (rising_members RecordBefore held r s rising hr hs)
 
 -- an alive record below another stands in front of it
 pub front_of : (cs : List CutData) (k : ℕ) (held : List RecordData) → IsView cs k → IsRising RecordBefore held → (i : ℕ) (x r : RecordData) → i < length held → x ≡ get_or held i x → Contains held r → IsAlive cs k x.epoch x.number → IsAlive cs k r.epoch r.number → r.number < x.number → Contains (take i held) r

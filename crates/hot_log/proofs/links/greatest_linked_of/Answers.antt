@@ -1,10 +1,10 @@
-use Rattle.std.proofs.Common.{◌≡◌, ◌≤◌, ◌<◌, ◌+◌, ◌-◌, sym, ◌∙◌, refl, subst, arith, length, drop}
+use Rattle.std.proofs.Common.{◌≡◌, ◌≤◌, ◌<◌, ◌+◌, ◌-◌, refl, subst, arith, length, drop}
 use Rattle.std.specs.List.{Contains}
 use Rattle.redo_core.specs.Data.{RecordData}
 use Rattle.redo_core.specs.Standing.{IsAlive}
 use Rattle.hot_log.specs.Alive.{IsLinkedFrom}
-use Rattle.hot_log.proofs.Rising.{item}
-use Rattle.hot_log.proofs.Views.{view_of, last_is_greatest, none_before}
+use Rattle.epoch_book.proofs.Members.{item}
+use Rattle.hot_log.proofs.Views.{view_of, last_is_greatest}
 use Rattle.hot_log.proofs.links.greatest_linked_of.Goals as goal
 
 pub returns-then-is_linked_of : goal.returns-then-is_linked_of

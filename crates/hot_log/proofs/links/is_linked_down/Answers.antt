@@ -1,8 +1,6 @@
-use Rattle.std.proofs.Common.{◌≡◌, ◌<◌, ◌≤◌, ◌⊎◌, ⊎_elim, sym, ◌∙◌, refl, subst, arith, IsTrue, nat_eq}
+use Rattle.std.proofs.Common.{◌≡◌, ◌≤◌, ⊎_elim, sym, subst, arith}
 use Rattle.std.proofs.lemmas.Bool.{eqb-true}
-use Rattle.redo_core.specs.Data.{RecordData}
-use Rattle.redo_core.specs.Standing.{IsAlive}
-use Rattle.redo_core.specs.Linked.Linked.{start, next}
+use Rattle.redo_core.specs.Linked.Linked.{start}
 use Rattle.hot_log.specs.Alive.{IsLinkedFrom}
 use Rattle.hot_log.proofs.Chain.{Link, link_cases, link_at_least, link_step}
 use Rattle.hot_log.proofs.links.is_linked_down.Goals as goal

@@ -1,9 +1,5 @@
-use Rattle.std.proofs.Common.{◌≡◌, sym, subst, refl, Option, Some, None}
+use Rattle.std.proofs.Common.{refl}
 use Rattle.std.specs.Option.{option_copied}
-use Rattle.std.specs.List.{Contains}
-use Rattle.redo_core.specs.Data.{RecordData}
-use Rattle.hot_log.specs.Alive.{IsHeldAlive, IsLinkedFrom, IsLinkedHeld}
-use Rattle.hot_log.specs.Found.{IsOnlyRecord}
 use Rattle.hot_log.proofs.Chain.{only_linked}
 use Rattle.hot_log.proofs.links.linked_record.Goals as goal
 

@@ -1,4 +1,4 @@
-use Rattle.std.proofs.Common.{◌≡◌, ◌+◌, ◌<◌, length, sym, ◌∙◌, subst, arith}
+use Rattle.std.proofs.Common.{◌+◌, ◌<◌, length, sym, ◌∙◌, subst, arith}
 use Rattle.hot_log.specs.Held.{HasKey, SplitsAbove}
 use Rattle.hot_log.proofs.Keys.{above_end, above_key, above_other}
 use Rattle.hot_log.proofs.log.place_above.Goals as goal

@@ -1,8 +1,8 @@
-use Rattle.std.proofs.Common.{◌≡◌, ◌<◌, ◌≤◌, ◌+◌, ◌↔◌, List, [], ◌∷◌, ◌++◌, take, map, sym, ◌∙◌, ap, refl, subst, Bor}
+use Rattle.std.proofs.Common.{◌≡◌, ◌<◌, ◌≤◌, ◌+◌, List, [], ◌∷◌, ◌++◌, take, map, sym, refl, subst, Bor}
 use Rattle.std.proofs.lemmas.List.{map-append}
 use Rattle.std.specs.List.{Contains}
 use Rattle.redo_core.specs.Data.{RecordData}
-use Rattle.redo_core.specs.Order.{Lists, BeforeByNumber, IsRising, RecordBefore}
+use Rattle.redo_core.specs.Order.{Lists, BeforeByNumber, RecordBefore}
 use Rattle.redo_core.specs.Standing.{IsAlive}
 use Rattle.hot_log.specs.Alive.{IsHeldOf}
 use Rattle.hot_log.proofs.Rising.{across, item_drop}

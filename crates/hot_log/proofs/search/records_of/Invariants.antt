@@ -1,6 +1,5 @@
 use Rattle.std.proofs.Common.{◌≡◌, ◌<◌, ◌≤◌, take, map}
 use Rattle.std.specs.List.{Contains}
-use Rattle.redo_core.specs.Data.{RecordData}
 use Rattle.redo_core.specs.Order.{Lists, BeforeByNumber}
 use Rattle.redo_core.specs.Standing.{IsAlive}
 use Rattle.hot_log.proofs.search.records_of.Given as goal

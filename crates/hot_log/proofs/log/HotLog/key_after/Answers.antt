@@ -1,4 +1,4 @@
-use Rattle.std.proofs.Common.{◌≡◌, ◌<◌, ℕ, length, sym, subst, arith, Some}
+use Rattle.std.proofs.Common.{◌<◌, length, sym, subst, arith, Some}
 use Rattle.redo_core.specs.Order.{IsRising, RecordBefore}
 use Rattle.hot_log.specs.Held.{IsKeyAfter}
 use Rattle.hot_log.proofs.Keys.{key_after_at, key_after_as}

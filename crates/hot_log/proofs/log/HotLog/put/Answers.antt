@@ -1,10 +1,9 @@
 use Rattle.std.proofs.Common.{◌≡◌, ◌⊎◌, ◌↔◌, sym, ◌∙◌, ap, refl, subst, None}
 use Rattle.std.specs.Result.{IfOk, IfErr}
 use Rattle.std.specs.List.{Contains, insert}
-use Rattle.redo_core.specs.Data.{RecordData}
 use Rattle.hot_log.specs.Held.{IsHeld, IsRecordAt}
 use Rattle.hot_log.specs.Putting.{Puts, RefusesPut}
-use Rattle.hot_log.proofs.Rising.{in_insert}
+use Rattle.epoch_book.proofs.Members.{contains_insert}
 use Rattle.hot_log.proofs.Keys.{none_as, held_put}
 use Rattle.hot_log.proofs.log.HotLog.put.Goals as goal
 use Rattle.hot_log.proofs.log.HotLog.put.Goals.{in-Ok, in-Err}
@@ -27,7 +26,7 @@ returns-clause-put c =
     elim c.match-insert.branch [
       | in-Ok w ↦
           let is : new ≡ insert old place x = w.in-Ok.ensures.items ∙ ap (λ l. insert l place x) c.self.view_is in
-          subst (λ r. IfOk r (Puts old x new)) (sym w.result-is) (none_held c, λ r. subst (λ l. Contains l r ↔ (Contains old r ⊎ (r ≡ x))) (sym is) (in_insert old place x r))
+          subst (λ r. IfOk r (Puts old x new)) (sym w.result-is) (none_held c, λ r. subst (λ l. Contains l r ↔ (Contains old r ⊎ (r ≡ x))) (sym is) (contains_insert old place x r))
       | in-Err w ↦ subst (λ r. IfOk r (Puts old x new)) (sym w.result-is) tt
     ]
 

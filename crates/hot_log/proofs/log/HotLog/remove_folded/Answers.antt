@@ -1,7 +1,5 @@
-use Rattle.std.proofs.Common.{◌↔◌, List, subst}
-use Rattle.std.specs.List.{Contains}
+use Rattle.std.proofs.Common.{List, subst}
 use Rattle.redo_core.specs.Data.{RecordData}
-use Rattle.redo_core.specs.Standing.{IsDead}
 use Rattle.hot_log.specs.Removing.{Removes, IsFolded}
 use Rattle.hot_log.proofs.log.HotLog.remove_folded.Goals as goal
 
