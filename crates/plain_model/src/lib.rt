@@ -2,7 +2,8 @@
 //!
 //! Each call takes what its definition takes and computes it by looking through the facts: the complete epoch, standings,
 //! linked numbers, the complete point, the minimum read point, the anchor and pages, and the first fault of a log.
-//! It holds for every list of facts, sound or not. Faster programs are compared with it.
+//! It holds for every list of facts, sound or not; only a page asks that its linked records have each number once. Faster
+//! programs are compared with it.
 #![tactic(auto)]
 
 mod chains;
