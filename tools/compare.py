@@ -38,7 +38,7 @@ def random_keys(choose, cuts):
 def random_writes(choose):
     return tuple(
         (choose.randrange(0, 6), bytes(choose.randrange(256) for _ in range(choose.randrange(1, 4))))
-        for _ in range(choose.randrange(0, 3))
+        for _ in range(choose.choice((0, 1, 1, 2)))
     )
 
 
@@ -88,16 +88,48 @@ def line_of(fact):
     return " ".join([*(str(part) for part in fact[:6]), writes])
 
 
-def random_step(choose, facts, nodes):
-    node = lambda: choose.randrange(1, nodes + 1) if choose.random() < 0.97 else choose.randrange(0, 70)
-    message = lambda: choose.randrange(0, 10)
-    kinds = ["take"] * 12 + list(oracle.STEPS)
-    kind = choose.choice(kinds if facts else kinds[12:])
-    values = {"n": node, "m": message, "g": lambda: choose.randrange(0, 4), "q": lambda: choose.randrange(0, 40)}
-    values["f"] = lambda: choose.randrange(1, facts + 1)
-    values["o"] = lambda: choose.randrange(0, 4)
-    values["l"] = lambda: choose.randrange(1, 9)
-    return " ".join([kind, *(str(values[form]()) for form in oracle.STEPS[kind])])
+KINDS = ["take"] * 10 + ["ask", "answer", "absorb"] * 4 + ["read"] * 10 + ["fold", "discard"] * 2 + ["front", "same", "covers"] * 2 + list(oracle.STEPS)
+
+
+def random_steps(choose, log, nodes):
+    """Steps that mostly take facts first, read near their numbers, and use messages of the right kind."""
+    facts = len(log)
+    points = [0] + [f[2] + d for f in log for d in (0, 0, 0, -1, 1)]
+    uses = []  # of each message: the kind of step that it is for
+    lines = []
+    for i in range(1, nodes + 1):
+        places = [place for place in range(1, facts + 1) if choose.random() < 0.93]
+        if choose.random() < 0.6:
+            choose.shuffle(places)
+            lines += [f"take {i} {place}" for place in places]
+
+    def node():
+        return choose.randrange(1, nodes + 1) if choose.random() < 0.98 else choose.randrange(0, 70)
+
+    def message(kind):
+        fits = [i + 1 for i, use in enumerate(uses) if use == kind]
+        return choose.choice(fits) if fits and choose.random() < 0.9 else choose.randrange(0, 10)
+
+    def value(form, kind):
+        if form in "go":
+            return choose.randrange(4)
+        if form == "q":
+            return max(0, choose.choice(points))
+        if form in "fl":
+            return choose.randrange(1, (facts if form == "f" else 8) + 1)
+        return node() if form == "n" else message(kind)
+
+    for _ in range(choose.randrange(0, 60)):
+        kind = choose.choice(KINDS)
+        if kind == "take" and facts == 0:
+            continue
+        values = [value(form, kind) for form in oracle.STEPS[kind]]
+        lines.append(" ".join([kind, *(str(v) for v in values)]))
+        if 1 <= values[0] <= nodes and kind == "ask":
+            uses.append("answer")
+        if 1 <= values[0] <= nodes and kind == "answer" and 1 <= values[1] <= len(uses) and uses[values[1] - 1] == "answer":
+            uses.append("absorb")
+    return lines
 
 
 def random_input(choose):
@@ -109,8 +141,7 @@ def random_input(choose):
     lines = [line_of(fact) for fact in log]
     if task == "run":
         nodes = choose.choice((1, 1, 2, 3))
-        steps = [random_step(choose, len(log), nodes) for _ in range(choose.randrange(0, 40))]
-        lines += ["go", f"nodes {nodes}", *steps]
+        lines += ["go", f"nodes {nodes}", *random_steps(choose, log, nodes)]
     text = "".join(line + "\n" for line in lines)
     if text and choose.random() < 0.1:
         place = choose.randrange(len(text))
