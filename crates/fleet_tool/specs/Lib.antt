@@ -1,0 +1,4 @@
+pub mod Lines
+pub mod Asked
+pub mod Output
+pub mod Watching

@@ -1,0 +1,123 @@
+//! The text that answers an input.
+
+ghost use Rattle.std.specs.Prelude.{◌≡◌, ◌++◌, List, IfOk, length, All, codes, string_bytes};
+ghost use Rattle.std.specs.Fmt.{decimal};
+ghost use Rattle.redo_core.specs.Sound.{IsSound};
+ghost use Rattle.redo_core.specs.declared.facts.Fact.{Fact};
+ghost use Rattle.log_law.specs.Report.{Reports};
+ghost use Rattle.script_text.specs.StepLine.{IsInRange};
+ghost use Rattle.script_text.specs.Script.{script_of, facts_of};
+ghost use Rattle.script_text.specs.Outcome.{script_data};
+ghost use Rattle.fleet_tool.specs.Output.{SaysBadLine, SaysUnsound, SaysReplies, IsRunOutput, IsCheckOutput, IsOutputOf};
+
+use crate::asked::steps;
+use crate::job::Task;
+use crate::lines::lines;
+use fleet_core::Fleet;
+use log_law::{CheckFault, check_log};
+use redo_core::LawFault;
+use script_text::{Script, ScriptError, read_facts, read_script};
+use std::alloc::{AllocError, Global};
+
+/// How an answered input ended, beside its text.
+#[derive(Clone, Copy, Debug, PartialEq, Eq)]
+pub enum Verdict {
+    Done,
+    /// The text names a bad line.
+    BadLine,
+    /// The text names the first fault of a log that is not sound.
+    Unsound,
+}
+
+/// What is written, and how the call ends.
+#[derive(Drop)]
+pub struct Answered {
+    pub text: String,
+    pub verdict: Verdict,
+}
+
+fn bad_line(alloc: Global, at: usize) -> Result<Answered, AllocError>
+    ensures { IfOk result (λ a. SaysBadLine at (string_bytes a.text) a.verdict) }
+{
+    let text = format!(in alloc; "bad line {at}\n")?;
+    Ok(Answered {
+        text,
+        verdict: Verdict::BadLine,
+    })
+}
+
+fn unsound(alloc: Global, fault: LawFault) -> Result<Answered, AllocError>
+    ensures { (facts : List Fact) → Reports facts fault → IfOk result (λ a. SaysUnsound facts (string_bytes a.text) a.verdict) }
+{
+    let place = fault.place;
+    let number = fault.law.number();
+    let text = format!(in alloc; "unsound {place} law {number}\n")?;
+    Ok(Answered {
+        text,
+        verdict: Verdict::Unsound,
+    })
+}
+
+/// The answers of a fleet of one node.
+fn replies(alloc: Global, script: &Script) -> Result<Answered, AllocError>
+    requires sound { IsSound script.now.facts.items }
+    requires range { All (IsInRange (length script.now.facts.items)) script.now.steps.items }
+    ensures { IfOk result (λ a. SaysReplies (script_data script.now) (string_bytes a.text) a.verdict) }
+{
+    let steps = steps(alloc, &script.facts, &script.steps)?;
+    let mut fleet = Fleet::new(alloc, 1)?;
+    let replies = fleet.run(alloc, &steps)?;
+    Ok(Answered {
+        text: lines(alloc, &script.steps, &replies)?,
+        verdict: Verdict::Done,
+    })
+}
+
+fn answer_script(alloc: Global, input: &[u8]) -> Result<Answered, AllocError>
+    ensures { IfOk result (λ a. IsRunOutput (script_of input.now) (string_bytes a.text) a.verdict) }
+{
+    match read_script(alloc, input) {
+        Err(ScriptError::Memory) => Err(AllocError),
+        Err(ScriptError::BadLine(at)) => bad_line(alloc, at),
+        Ok(script) => match check_log(alloc, &script.facts) {
+            Err(CheckFault::Memory) => Err(AllocError),
+            Err(CheckFault::Unsound(fault)) => unsound(alloc, fault),
+            Ok(()) => replies(alloc, &script),
+        },
+    }
+}
+
+fn count(alloc: Global, facts: usize) -> Result<Answered, AllocError>
+    ensures text { IfOk result (λ a. string_bytes a.text ≡ codes "sound " ++ (decimal facts ++ codes "\n")) }
+    ensures verdict { IfOk result (λ a. a.verdict ≡ Verdict.Done) }
+{
+    let text = format!(in alloc; "sound {facts}\n")?;
+    Ok(Answered {
+        text,
+        verdict: Verdict::Done,
+    })
+}
+
+fn answer_facts(alloc: Global, input: &[u8]) -> Result<Answered, AllocError>
+    ensures { IfOk result (λ a. IsCheckOutput (facts_of input.now) (string_bytes a.text) a.verdict) }
+{
+    match read_facts(alloc, input) {
+        Err(ScriptError::Memory) => Err(AllocError),
+        Err(ScriptError::BadLine(at)) => bad_line(alloc, at),
+        Ok(facts) => match check_log(alloc, &facts) {
+            Err(CheckFault::Memory) => Err(AllocError),
+            Err(CheckFault::Unsound(fault)) => unsound(alloc, fault),
+            Ok(()) => count(alloc, facts.len()),
+        },
+    }
+}
+
+/// The text that answers an input to the task. Its only error is want of memory.
+pub fn answer(alloc: Global, task: Task, input: &[u8]) -> Result<Answered, AllocError>
+    ensures { IfOk result (λ a. IsOutputOf task input.now (string_bytes a.text) a.verdict) }
+{
+    match task {
+        Task::Run => answer_script(alloc, input),
+        Task::Check => answer_facts(alloc, input),
+    }
+}
