@@ -1,5 +1,5 @@
 -- What a front and an anchor answer, from the greatest linked number.
-use Rattle.std.proofs.Common.{◌≡◌, ℕ, ◌<◌, ◌≤◌, ◌⊎◌, inl, inr, ⊎_elim, List, refl, sym, ap, ◌∙◌, subst, arith, rules, None, true, false, ◌↔◌, IsTrue, nat_le}
+use Rattle.std.proofs.Common.{◌≡◌, ℕ, ◌<◌, ◌≤◌, inl, inr, ⊎_elim, List, refl, sym, ◌∙◌, subst, arith, rules, None, true, false, ◌↔◌, IsTrue, nat_le}
 use Rattle.std.proofs.lemmas.Bool.{leb-true, le-leb}
 use Rattle.std.specs.List.{Contains}
 use Rattle.redo_core.specs.Data.{RecordData, CutData}
@@ -7,7 +7,7 @@ use Rattle.redo_core.specs.Order.{IsGreatest}
 use Rattle.redo_core.specs.CompleteEpoch.{HasCutsTo, IsCompleteEpoch}
 use Rattle.redo_core.specs.Linked.{Linked}
 use Rattle.redo_core.specs.Linked.Linked.{start, next}
-use Rattle.redo_core.specs.Shape.{record_fault, max_number}
+use Rattle.redo_core.specs.Shape.{record_fault}
 use Rattle.redo_core.specs.Sound.{IsSound}
 use Rattle.redo_core.specs.Position.{Position}
 use Rattle.redo_core.specs.declared.facts.Fact.{Fact}

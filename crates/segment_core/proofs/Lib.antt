@@ -1,3 +1,4 @@
 pub mod Taking
 pub mod Chain
 pub mod Reading
+pub mod BlockChain

@@ -1,5 +1,5 @@
 -- What a read answers, from the front and the shown page.
-use Rattle.std.proofs.Common.{◌≡◌, ℕ, ◌<◌, ◌≤◌, ◌⊎◌, inl, inr, ⊎_elim, List, [], refl, sym, ap, ◌∙◌, subst, arith}
+use Rattle.std.proofs.Common.{◌≡◌, ℕ, ◌<◌, ◌≤◌, List, [], subst, arith}
 use Rattle.redo_core.specs.Data.{RecordData}
 use Rattle.redo_core.specs.Order.{Lists, BeforeByNumber}
 use Rattle.redo_core.specs.CompleteEpoch.{IsCompleteEpoch}
@@ -10,17 +10,17 @@ use Rattle.redo_core.specs.PageAt.{IsPageAt}
 use Rattle.redo_core.specs.declared.facts.Fact.{Fact}
 use Rattle.redo_laws.proofs.Log.{log_of_sound}
 use Rattle.redo_laws.proofs.Views.{anchor_is}
-use Rattle.epoch_book.specs.Book.{BookData, IsBook}
+use Rattle.epoch_book.specs.Book.{BookData}
 use Rattle.hot_log.specs.Held.{IsHeld}
 use Rattle.hot_log.specs.Alive.{IsHeldOf as IsHotOf}
 use Rattle.hot_log.proofs.Rising.{none_in}
 use Rattle.segment_state.specs.State.{State, version_of, image_of}
 use Rattle.segment_state.specs.Means.{MeansAt}
-use Rattle.segment_state.specs.Shows.{IsHeldOf, Shows}
+use Rattle.segment_state.specs.Shows.{Shows}
 use Rattle.segment_state.proofs.Own.{epoch_of}
 use Rattle.segment_state.proofs.Reading.{pages_law}
 use Rattle.segment_core.specs.Answering.{state_of}
-use Rattle.segment_core.specs.Reading.{IsFrontAt, IsReadResult}
+use Rattle.segment_core.specs.Reading.{IsFrontAt}
 use Rattle.segment_core.specs.declared.answers.Front.{Front}
 use Rattle.segment_core.proofs.Chain.{one_epoch}
 

@@ -1,25 +1,22 @@
 -- What a take does, from what its book or its held records answer.
-use Rattle.std.proofs.Common.{◌≡◌, ◌≢◌, ℕ, ◌<◌, ◌≤◌, ◌⊎◌, ◌↔◌, inl, inr, ⊎_elim, List, [], ◌∷◌, ◌++◌, refl, sym, ap, ◌∙◌, subst, arith, Option, Some, None, Result, Ok, Err, OnOk, OnErr, IfOk, IfErr, IsErrAnd}
+use Rattle.std.proofs.Common.{◌≡◌, ℕ, ◌<◌, ◌⊎◌, ◌↔◌, inl, inr, ⊎_elim, List, refl, sym, ap, ◌∙◌, subst, Result, Ok, Err, OnOk, OnErr, IfOk, IfErr}
 use Rattle.std.specs.List.{Contains}
 use Rattle.redo_core.specs.Data.{RecordData, CutData, AdvanceData}
-use Rattle.redo_core.specs.Order.{IsRising, RecordBefore}
+use Rattle.redo_core.specs.Order.{RecordBefore}
 use Rattle.redo_core.specs.CompleteEpoch.{HasCutsTo, IsCompleteEpoch}
 use Rattle.redo_laws.proofs.Numbers.{greatest_unique}
-use Rattle.redo_core.specs.Meaning.{Meaning, IsMeaning}
-use Rattle.redo_core.specs.Sound.{IsSound}
 use Rattle.redo_core.specs.declared.facts.Fact.{Fact}
 use Rattle.redo_core.specs.declared.facts.Fact.TheVariants.{Record, Cut, Advance}
 use Rattle.redo_core.specs.declared.refusal.Refused.{Refused}
 use Rattle.epoch_book.specs.Book.{BookData, IsBook}
 use Rattle.epoch_book.specs.Learning.{LearnsCut as BookLearnsCut, LearnsAdvance as BookLearnsAdvance, KnowsAdvance}
 use Rattle.epoch_book.specs.Refusing.{RefusesCut, RefusesAdvance}
-use Rattle.epoch_book.specs.declared.refusals.Held.{Held}
 use Rattle.epoch_book.specs.declared.refusals.Held.TheVariants as held
 use Rattle.epoch_book.specs.declared.refusals.Learnt.{Learnt}
 use Rattle.epoch_book.specs.declared.refusals.Learnt.TheVariants as learnt
 use Rattle.epoch_book.specs.declared.refusals.BookRefusal.{BookRefusal}
 use Rattle.epoch_book.specs.declared.refusals.BookRefusal.TheVariants as book
-use Rattle.hot_log.specs.Held.{IsHeld, IsRecordAt, HasKey}
+use Rattle.hot_log.specs.Held.{IsHeld}
 use Rattle.hot_log.specs.Putting.{Puts, RefusesPut}
 use Rattle.hot_log.specs.declared.log.Put.{Put}
 use Rattle.hot_log.specs.declared.log.Put.TheVariants as put
@@ -30,11 +27,11 @@ use Rattle.hot_log.proofs.Keys.{pair_not_same}
 use Rattle.segment_state.specs.State.{State}
 use Rattle.segment_state.specs.Means.{Means}
 use Rattle.segment_state.specs.Known.{IsKnown, Conflicts}
-use Rattle.segment_state.specs.Promises.{TakesFact, LeavesMeaning, ChangesMeaning}
+use Rattle.segment_state.specs.Promises.{TakesFact}
 use Rattle.segment_state.specs.Laws.{TakesRecord, TakesCut, TakesAdvance, TakesKnown, UnchangedExactly, NoConflict}
 use Rattle.segment_core.specs.Answering.{state_of, refusal_of, AnswersBook, put_refusal_of, AnswersPut}
 use Rattle.segment_core.specs.Taking.{TellsKnown, TellsChange}
-use Rattle.segment_core.specs.Refusing.{Refuses, IsNotCompared, HoldsOther, FitsSoundLog}
+use Rattle.segment_core.specs.Refusing.{Refuses, IsNotCompared, FitsSoundLog}
 use Rattle.segment_core.specs.Exactly.{TakesExactly}
 use Rattle.segment_core.specs.declared.answers.Taken.{Taken}
 use Rattle.segment_core.specs.declared.answers.Taken.TheVariants.{Changed, Unchanged}

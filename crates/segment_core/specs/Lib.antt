@@ -1,5 +1,6 @@
 pub mod Taking
 pub mod Refusing
 pub mod Reading
+pub mod BlockChain
 pub mod Answering
 pub mod Exactly

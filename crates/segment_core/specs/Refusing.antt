@@ -2,7 +2,6 @@
 use Rattle.std.specs.Prelude.{◌≡◌, ◌≢◌, ℕ, ◌⊎◌, List}
 use Rattle.std.specs.List.{Contains}
 use Rattle.redo_core.specs.Data.{RecordData}
-use Rattle.redo_core.specs.CompleteEpoch.{IsCompleteEpoch}
 use Rattle.redo_core.specs.Standing.{IsAlive, IsDead}
 use Rattle.redo_core.specs.Sound.{IsSound}
 use Rattle.redo_core.specs.declared.facts.Fact.{Fact}
@@ -14,7 +13,7 @@ use Rattle.segment_state.specs.State.{State}
 use Rattle.segment_state.specs.Means.{Means}
 use Rattle.segment_state.specs.HasMeaning.{IsSettled}
 use Rattle.segment_core.specs.declared.answers.Refusal.{Refusal}
-use Rattle.segment_core.specs.declared.answers.Refusal.TheVariants.{OtherCut, Contradiction, OtherRecord, Memory}
+use Rattle.segment_core.specs.declared.answers.Refusal.TheVariants.{OtherCut, Contradiction, OtherRecord}
 
 -- the truncations and advances that are stored, in view k
 abbrev pub book_in : ℕ → State → BookData

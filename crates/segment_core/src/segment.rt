@@ -1,4 +1,5 @@
-ghost use Rattle.std.specs.Prelude.{◌≡◌, ℕ, ◌≤◌, ◌⊎◌, ◌++◌, ◌∷◌, ◌↔◌, [], List, IfOk, OnOk, OnErr, IfErr, IsErrAnd, IsTrue, map};
+ghost use Rattle.std.specs.Prelude.{◌≡◌, ℕ, ◌≤◌, ◌⊎◌, ◌++◌, ◌∷◌, ◌↔◌, [], List, None, Some, IfOk, OnOk, OnErr, IfErr, IsErrAnd, IsTrue, map};
+ghost use Rattle.std.specs.Option.{option_copied};
 ghost use Rattle.redo_core.specs.CompleteEpoch.{IsCompleteEpoch};
 ghost use Rattle.redo_core.specs.Position.{Position};
 ghost use Rattle.redo_core.specs.Sound.{IsSound};
@@ -12,7 +13,11 @@ ghost use Rattle.segment_state.specs.Shows.{Shows};
 ghost use Rattle.segment_state.specs.Promises.{TakesFact};
 ghost use Rattle.segment_core.specs.Taking.{TellsChange, TellsKnown};
 ghost use Rattle.segment_core.specs.Refusing.{Refuses, IsNotCompared, FitsSoundLog};
-ghost use Rattle.segment_core.specs.Answering.{AnswersBook, AnswersPut, refusal_of, put_refusal_of};
+ghost use Rattle.hot_log.specs.Held.{IsHeld};
+ghost use Rattle.hot_log.specs.Alive.{IsLinkedHeld};
+ghost use Rattle.hot_log.specs.Found.{IsOnlyRecord};
+ghost use Rattle.segment_core.specs.BlockChain.{BreaksAt, TellsBreak};
+ghost use Rattle.segment_core.specs.Answering.{AnswersBook, AnswersPut, refusal_of, put_refusal_of, state_of};
 ghost use Rattle.segment_core.specs.Exactly.{TakesExactly};
 ghost use Rattle.segment_core.specs.Reading.{IsFrontAt, IsFrontOf, IsReadResult};
 ghost use Rattle.segment_core.specs.declared.answers.Refusal.{Refusal as AnyRefusal};
@@ -123,9 +128,10 @@ impl Segment {
     /// The page at a read point.
     ///
     /// Errors: `Below` with the minimum read point where the point is below it, else `Above` with the complete point where the
-    /// point is above it; `Memory`.
+    /// point is above it, else `BrokenBlockChain` with the record whose block backlink leads nowhere; `Memory`.
     pub fn read(&self, page: u16, point: u64) -> Result<Page, ReadFault>
-        ensures { (log facts : List AnyFact) (p : Position) → IsSound log → MeansAt log facts p self.now → IsReadResult facts p page point result }
+        ensures result { (log facts : List AnyFact) (p : Position) → IsSound log → MeansAt log facts p self.now → IsReadResult facts p page point result }
+        ensures broken { TellsBreak self.now page point result }
     {
         let front = self.front();
         if point < front.min {
@@ -136,10 +142,21 @@ impl Segment {
                 complete: front.complete,
             });
         }
+        if let Some(number) = self.broken_link(page, point) {
+            return Err(ReadFault::BrokenBlockChain { page, number });
+        }
         match self.page_at(page, point) {
             Ok(image) => Ok(image),
             Err(_) => Err(ReadFault::Memory),
         }
+    }
+
+    /// The number of the record at which the walk down the page's block chain breaks.
+    fn broken_link(&self, page: u16, point: u64) -> Option<u64>
+        ensures breaks { (k n : ℕ) → IsCompleteEpoch self.now.cuts k → (result ≡ Some n) ↔ BreaksAt self.now k page point n }
+        ensures sound { (log facts : List AnyFact) (p : Position) → IsSound log → MeansAt log facts p self.now → point ≤ p.complete → result ≡ None }
+    {
+        broken_of(&self.hot, &self.book, page, point)
     }
 
     /// The page with its held records up to the point.
@@ -150,6 +167,33 @@ impl Segment {
         let mut image = Page::zeros(self.alloc)?;
         apply_all(&records, &mut image);
         Ok(image)
+    }
+}
+
+/// The number of the record at which the walk down a page's block chain breaks.
+fn broken_of(hot: &HotLog, book: &EpochBook, page: u16, point: u64) -> Option<u64>
+    requires { IsHeld hot.now }
+    ensures { (n : ℕ) → (result ≡ Some n) ↔ BreaksAt (state_of book.now hot.now) book.now.complete page point n }
+{
+    let mut redo = hot.greatest_linked_of(book, page, 0, point)?;
+    while redo.block_back() > 0 {
+        match linked_of(hot, book, page, redo.block_back()) {
+            Some(below) => redo = below,
+            None => return Some(redo.number()),
+        }
+    }
+    None
+}
+
+/// The linked record of a page with this number.
+fn linked_of<'a>(hot: &'a HotLog, book: &EpochBook, page: u16, number: u64) -> Option<&'a Record>
+    ensures { IsOnlyRecord (λ r. IsLinkedHeld book.now hot.now 0 r × (r.page ≡ page) × (r.number ≡ number)) (option_copied result) }
+{
+    let redo = hot.linked_record(book, 0, number)?;
+    if redo.page() == page {
+        Some(redo)
+    } else {
+        None
     }
 }
 

@@ -13,4 +13,4 @@ pub returns-in-Front-clause-follows : goal.returns-in-Front-clause-follows
 returns-in-Front-clause-follows c = rw c.in-Front.is (follows_front _ c.in-Front.node _ c.front.ensures.front)
 
 pub returns-in-Read-clause-follows : goal.returns-in-Read-clause-follows
-returns-in-Read-clause-follows c = rw c.in-Read.is (follows_read _ c.in-Read.node _ _ _ _ c.read.ensures c.read_reply.ensures)
+returns-in-Read-clause-follows c = rw c.in-Read.is (follows_read _ c.in-Read.node _ _ _ _ c.read.ensures.result c.read_reply.ensures)

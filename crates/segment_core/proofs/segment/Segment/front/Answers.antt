@@ -1,4 +1,4 @@
-use Rattle.std.proofs.Common.{◌≡◌, subst}
+use Rattle.std.proofs.Common.{subst}
 use Rattle.segment_core.specs.Reading.{IsFrontOf}
 use Rattle.segment_core.proofs.Chain.{greatest_linked, own_front, true_front}
 use Rattle.segment_core.proofs.segment.Segment.front.Goals as goal
@@ -6,7 +6,7 @@ use Rattle.segment_core.proofs.segment.Segment.front.Goals as goal
 own : (c : goal.After-min_point) → IsFrontOf c.args.self.now (record { epoch = c.complete_epoch.result; complete = c.linked_to.result; min = c.min_point.result })
 own c =
     subst (λ s. IsFrontOf s (record { epoch = c.complete_epoch.result; complete = c.linked_to.result; min = c.min_point.result })) c.self.view_is
-    (own_front c.self.inside.book c.self.inside.hot (record { epoch = c.complete_epoch.result; complete = c.linked_to.result; min = c.min_point.result }) c.min_point.ensures.book c.linked_to.ensures.form c.complete_epoch.ensures.value c.min_point.ensures.value (greatest_linked c.self.inside.book c.self.inside.hot 281474976710655 c.linked_to.result c.linked_to.ensures.linked c.linked_to.ensures.bound c.linked_to.ensures.greatest))
+    (own_front c.self.inside.book c.self.inside.hot (record { epoch = c.complete_epoch.result; complete = c.linked_to.result; min = c.min_point.result }) c.min_point.ensures.book c.self.invariant.1 c.complete_epoch.ensures.value c.min_point.ensures.value (greatest_linked c.self.inside.book c.self.inside.hot 281474976710655 c.linked_to.result c.linked_to.ensures.linked c.linked_to.ensures.bound c.linked_to.ensures.greatest))
 
 pub returns-clause-front : goal.returns-clause-front
 returns-clause-front c = true_front c.args.self.now _ (own c)

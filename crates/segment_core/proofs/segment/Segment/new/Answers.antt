@@ -1,6 +1,5 @@
 use Rattle.std.proofs.Common.{◌≡◌, List, [], sym, subst, rules}
 use Rattle.redo_core.specs.declared.facts.Fact.{Fact as AnyFact}
-use Rattle.epoch_book.specs.Book.{book_of}
 use Rattle.segment_state.specs.State.{State, empty_state}
 use Rattle.segment_state.specs.Means.{Means}
 use Rattle.segment_state.proofs.Bare.{empty_means}

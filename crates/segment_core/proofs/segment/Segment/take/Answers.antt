@@ -1,4 +1,3 @@
-use Rattle.std.proofs.Common.{◌≡◌, ◌⊎◌, ℕ, Result, Ok, Err, IfErr, IfOk}
 use Rattle.segment_state.proofs.Knowing.{unchanged_exactly, no_conflict}
 use Rattle.segment_state.proofs.Own.{epoch_of}
 use Rattle.segment_core.proofs.Taking.{take_tells, take_sound}

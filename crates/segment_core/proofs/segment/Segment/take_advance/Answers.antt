@@ -1,4 +1,4 @@
-use Rattle.std.proofs.Common.{◌≡◌, subst}
+use Rattle.std.proofs.Common.{subst}
 use Rattle.redo_core.specs.declared.facts.Fact.TheVariants.{Advance}
 use Rattle.segment_state.proofs.Learnt.{takes_advance}
 use Rattle.segment_core.specs.Answering.{state_of}

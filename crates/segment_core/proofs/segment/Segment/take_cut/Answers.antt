@@ -1,4 +1,4 @@
-use Rattle.std.proofs.Common.{◌≡◌, subst}
+use Rattle.std.proofs.Common.{subst}
 use Rattle.redo_core.specs.declared.facts.Fact.TheVariants.{Cut}
 use Rattle.segment_state.proofs.Learnt.{takes_cut}
 use Rattle.segment_state.proofs.Knowing.{takes_known}
