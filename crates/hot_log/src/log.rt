@@ -160,6 +160,7 @@ impl HotLog {
         ensures linked { IsLinkedFrom book.now self.now from result }
         ensures bound { result ≤ limit }
         ensures greatest { (n : ℕ) → IsLinkedFrom book.now self.now from n → n ≤ limit → n ≤ result }
+        ensures form { IsHeld self.now }
     {
         links::linked_to(self.records(), book, from, limit)
     }
