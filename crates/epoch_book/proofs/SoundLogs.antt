@@ -1,14 +1,13 @@
 -- What a sound log says of its truncations and advances, and that a book learns them.
-use Rattle.std.proofs.Common.{◌≡◌, ◌≢◌, ℕ, zero, suc, ◌+◌, ◌<◌, ◌≤◌, ◌⊎◌, ◌↔◌, inl, inr, ⊎_elim, List, [], ◌∷◌, length, get_or, take, refl, sym, ap, ◌∙◌, subst, arith, Option, Some, None, Bool, true, false, cond, not}
+use Rattle.std.proofs.Common.{◌≡◌, ◌≢◌, ℕ, zero, suc, ◌<◌, ◌≤◌, ◌⊎◌, ◌↔◌, ⊎_elim, List, [], ◌∷◌, length, get_or, take, refl, sym, ap, ◌∙◌, subst, arith, Some, None, not}
 use Rattle.std.specs.Prelude.{slice_get, ◌==◌}
-use Rattle.std.specs.List.{Contains, filter, filter_map}
+use Rattle.std.specs.List.{Contains}
 use Rattle.std.proofs.lemmas.Bool.Decides.{nat_tests}
 use Rattle.redo_core.specs.Data.{CutData, AdvanceData}
 use Rattle.redo_core.specs.Shape.{cut_fault}
-use Rattle.redo_core.specs.Sets.{IsPart, cuts, advances, as_cut, as_advance}
-use Rattle.redo_core.specs.CompleteEpoch.{HasCutsTo}
+use Rattle.redo_core.specs.Sets.{cuts, advances, as_cut, as_advance}
 use Rattle.redo_core.specs.Position.{HasAdvance}
-use Rattle.redo_core.specs.Sound.{IsSound, KeepsLaws, SameKey, first_cuts, counted}
+use Rattle.redo_core.specs.Sound.{IsSound, KeepsLaws, first_cuts, counted}
 use Rattle.redo_core.specs.declared.facts.Fact.{Fact}
 use Rattle.redo_core.specs.declared.facts.Fact.TheVariants.{Record, Cut, Advance}
 use Rattle.epoch_book.specs.Book.{BookData}

@@ -1,4 +1,4 @@
-use Rattle.std.proofs.Common.{◌≡◌, ◌≤◌, ◌<◌, sym, subst, ◌∙◌, arith, IfSome}
+use Rattle.std.proofs.Common.{◌≤◌, subst, arith, IfSome}
 use Rattle.std.specs.List.{Contains}
 use Rattle.redo_core.specs.Order.{AdvanceBefore}
 use Rattle.epoch_book.specs.Refusing.{LacksCut, RefusesCut, Contradict, IsFirst}
