@@ -1,6 +1,5 @@
 -- The complete epoch that reading computes is the complete epoch of the truncations.
 use Rattle.std.proofs.Common.{◌≡◌, ℕ, zero, suc, ◌+◌, ◌<◌, ◌≤◌, true, ltb, List, [], ◌∷◌, refl, ap, subst, arith, inl, inr}
-use Rattle.std.specs.Prelude.{◌⊎◌}
 use Rattle.std.specs.List.{Contains, AllByRecursion}
 use Rattle.std.proofs.lemmas.Bool.{ltb-true, lt-ltb, eq-eqb, ne_eqb, cases_lt, cases_eq}
 use Rattle.redo_core.specs.Data.{CutData}
@@ -8,7 +7,7 @@ use Rattle.redo_core.specs.Order.{IsGreatest, IsRising, CutBefore}
 use Rattle.redo_core.specs.CompleteEpoch.{HasCutsTo, IsCompleteEpoch}
 use Rattle.redo_wire.specs.BookReading.{cut_epoch, complete, complete_from}
 use Rattle.redo_wire.proofs.ListReaders.{EachFrom}
-use Rattle.redo_wire.proofs.Orders.{All-weaker, IsNext, each_from_rising, cut_tests}
+use Rattle.redo_wire.proofs.Orders.{All-weaker, each_from_rising, cut_tests}
 
 abbrev IsNextEpoch : ℕ → CutData → Type 0
 IsNextEpoch last c = (ltb last c.epoch ≡ true) × (0 < c.epoch)

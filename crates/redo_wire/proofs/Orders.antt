@@ -1,11 +1,9 @@
 -- Elements judged one after the other, each against the last, are a rising list.
-use Rattle.std.proofs.Common.{◌≡◌, ℕ, ◌+◌, ◌<◌, ◌≤◌, Bool, true, ltb, leb, eqb, List, [], ◌∷◌, refl, arith, inl, inr}
-use Rattle.std.specs.Prelude.{◌⊎◌}
+use Rattle.std.proofs.Common.{◌≡◌, ℕ, ◌+◌, ◌<◌, ◌≤◌, Bool, true, ltb, leb, eqb, List, [], ◌∷◌, arith, inl, inr}
 use Rattle.std.specs.List.{AllByRecursion}
 use Rattle.std.proofs.lemmas.Bool.{ltb-true, leb-true, eqb-true, lt-ltb, le-leb, eq-eqb, and_parts, and_from, or_cases, or_left, or_right, cases_lt}
-use Rattle.redo_core.specs.Data.{CutData}
 use Rattle.redo_core.specs.Order.{IsRising, PairBefore, CutBefore}
-use Rattle.redo_core.specs.Meaning.{ImageData, ImageBefore}
+use Rattle.redo_core.specs.Meaning.{ImageBefore}
 use Rattle.redo_wire.specs.Places.{Place, is_above}
 use Rattle.redo_wire.proofs.ListReaders.{EachFrom}
 

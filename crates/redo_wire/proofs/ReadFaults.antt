@@ -1,5 +1,5 @@
 -- Reading never finds a list that is too long: that fault is of encoding alone.
-use Rattle.std.proofs.Common.{◌≡◌, ℕ, zero, suc, Bool, true, false, cond, List, [], ◌∷◌, Result, Ok, Err, ap, refl, ltb, leb, eqb, length, take, drop}
+use Rattle.std.proofs.Common.{◌≡◌, ℕ, zero, suc, Bool, true, false, cond, List, [], ◌∷◌, Result, Ok, Err, ap, ltb, leb, eqb, length, take, drop}
 use Rattle.std.specs.Int.{Width, w64, byte_len, from_be_bytes}
 use Rattle.redo_core.specs.Data.{RecordData}
 use Rattle.redo_core.specs.declared.facts.Fact.{Fact}

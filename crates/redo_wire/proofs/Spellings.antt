@@ -1,8 +1,8 @@
 -- What a reader that fits a spelling says of whole inputs.
-use Rattle.std.proofs.Common.{◌≡◌, ℕ, ◌+◌, ◌<◌, Bool, true, eqb, List, [], ◌∷◌, ◌++◌, length, get_or, Result, Ok, Err, refl, sym, ap, subst, ◌∙◌, arith, inl, inr}
-use Rattle.std.specs.Prelude.{IfOk, All, ◌↔◌}
+use Rattle.std.proofs.Common.{◌≡◌, ℕ, ◌<◌, eqb, List, [], ◌++◌, length, Result, Ok, Err, refl, sym, ap, subst, ◌∙◌, arith, inl, inr}
+use Rattle.std.specs.Prelude.{IfOk, All}
 use Rattle.std.proofs.lemmas.Bool.{eqb-true, cases_lt}
-use Rattle.std.proofs.lemmas.List.{append-nil, nil_from_length, get_or_past, length-append}
+use Rattle.std.proofs.lemmas.List.{append-nil, nil_from_length, get_or_past}
 use Rattle.redo_wire.specs.declared.faults.WireFault.{WireFault}
 use Rattle.redo_wire.specs.declared.faults.WireFault.TheVariants.{Rest}
 use Rattle.redo_wire.specs.declared.faults.WireError.{WireError}

@@ -1,5 +1,5 @@
 -- Reading books. The order of the lines is the order of the faults.
-use Rattle.std.specs.Prelude.{ℕ, ◌+◌, List, [], ◌∷◌, Result, Ok, Err, nat_lt, ◌==◌, if◌then◌else◌}
+use Rattle.std.specs.Prelude.{ℕ, ◌+◌, List, [], ◌∷◌, Ok, nat_lt, ◌==◌, if◌then◌else◌}
 use Rattle.redo_core.specs.Data.{CutData, AdvanceData, advance_of}
 use Rattle.redo_wire.specs.Reading.{◌>>=◌, Read, shaped, ordered}
 use Rattle.redo_wire.specs.Fields.{u16_at, u32_at, u48_at}

@@ -1,5 +1,5 @@
 -- Books: the part that summaries and deltas share. Which there are, and the one spelling of each.
-use Rattle.std.specs.Prelude.{◌≡◌, ℕ, ◌<◌, ◌≤◌, ◌^◌, Bool, List, ◌++◌, length, nat_le, ◌||◌}
+use Rattle.std.specs.Prelude.{ℕ, ◌<◌, ◌≤◌, ◌^◌, Bool, List, ◌++◌, length, nat_le, ◌||◌}
 use Rattle.std.specs.List.{AllByRecursion, flat_map}
 use Rattle.redo_core.specs.Data.{CutData, AdvanceData}
 use Rattle.redo_core.specs.Shape.{max_number}

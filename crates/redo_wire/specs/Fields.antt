@@ -1,5 +1,5 @@
 -- The fields: single bytes, runs of bytes, and numbers of 16, 32 and 48 bits, most significant byte first.
-use Rattle.std.specs.Prelude.{ℕ, List, [], ◌∷◌, length, take, drop, Result, Ok, Err, nat_lt, if◌then◌else◌}
+use Rattle.std.specs.Prelude.{ℕ, List, [], ◌∷◌, length, take, drop, Ok, Err, nat_lt, if◌then◌else◌}
 use Rattle.std.specs.Int.{Width, w16, w32, w64, byte_len, from_be_bytes, to_be_bytes}
 use Rattle.redo_wire.specs.declared.faults.WireFault.TheVariants.{Short}
 use Rattle.redo_wire.specs.Reading.{Read, mapped}

@@ -1,5 +1,5 @@
 -- Counted lists: elements one after the other, each judged by what came before it.
-use Rattle.std.specs.Prelude.{ℕ, zero, suc, List, [], ◌∷◌, Result, Ok, Err}
+use Rattle.std.specs.Prelude.{ℕ, zero, suc, List, [], ◌∷◌, Ok}
 use Rattle.redo_wire.specs.Reading.{◌>>=◌, Read}
 
 -- so many elements; `step` reads one in the state that those before it left, and `next` gives the state after it

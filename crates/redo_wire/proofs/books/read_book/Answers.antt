@@ -1,4 +1,4 @@
-use Rattle.std.proofs.Common.{◌≡◌, arith}
+use Rattle.std.proofs.Common.{arith}
 use Rattle.redo_wire.proofs.BookReaders.{book_steps}
 use Rattle.redo_wire.proofs.books.read_book.Goals as goal
 

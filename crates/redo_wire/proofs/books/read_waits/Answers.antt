@@ -1,4 +1,3 @@
-use Rattle.std.proofs.Common.{◌≡◌}
 use Rattle.redo_wire.specs.Lists.{each_at}
 use Rattle.redo_wire.specs.BookReading.{next_wait_at, advance_place}
 use Rattle.redo_wire.proofs.Loops.{goes_on, ends, is_done}

@@ -1,4 +1,4 @@
-use Rattle.std.proofs.Common.{◌≡◌, append_assoc, arith}
+use Rattle.std.proofs.Common.{append_assoc}
 use Rattle.redo_wire.proofs.deltas.put_delta.Goals as goal
 
 pub returns-clause-ok : goal.returns-clause-ok

@@ -1,4 +1,3 @@
-use Rattle.std.proofs.Common.{◌≡◌}
 use Rattle.std.proofs.lemmas.Result.{err_from_is_err_and}
 use Rattle.redo_wire.specs.Lists.{each_at}
 use Rattle.redo_wire.specs.DeltaReading.{next_image_at, page_after}

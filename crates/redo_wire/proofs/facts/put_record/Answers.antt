@@ -1,4 +1,4 @@
-use Rattle.std.proofs.Common.{◌≡◌, append_assoc, arith}
+use Rattle.std.proofs.Common.{append_assoc}
 use Rattle.redo_wire.proofs.facts.put_record.Goals as goal
 
 pub returns-clause-ok : goal.returns-clause-ok

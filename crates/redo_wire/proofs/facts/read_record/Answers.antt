@@ -1,4 +1,4 @@
-use Rattle.std.proofs.Common.{◌≡◌, arith}
+use Rattle.std.proofs.Common.{arith}
 use Rattle.redo_wire.proofs.FactReaders.{record_steps}
 use Rattle.redo_wire.proofs.facts.read_record.Goals as goal
 

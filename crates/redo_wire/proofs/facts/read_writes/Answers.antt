@@ -1,4 +1,3 @@
-use Rattle.std.proofs.Common.{◌≡◌, arith}
 use Rattle.std.proofs.lemmas.Result.{err_from_is_err_and}
 use Rattle.redo_wire.specs.Lists.{each_at}
 use Rattle.redo_wire.specs.FactReading.{write_at, total_with}

@@ -1,4 +1,4 @@
-use Rattle.std.proofs.Common.{◌≡◌, arith}
+use Rattle.std.proofs.Common.{arith}
 use Rattle.redo_wire.proofs.SummaryReaders.{summary_steps}
 use Rattle.redo_wire.proofs.summaries.read_summary_part.Goals as goal
 
