@@ -6,3 +6,5 @@ pub mod Judging
 pub mod Walking
 pub mod Repeats
 pub mod Verdict
+pub mod Lengthened
+pub mod Written

@@ -3,3 +3,4 @@ pub mod Alive
 pub mod Links
 pub mod Keys
 pub mod Report
+pub mod Writing

@@ -1,4 +1,4 @@
-ghost use Rattle.std.specs.Prelude.{◌≡◌, ◌<◌, ◌≤◌, List, [], ◌∷◌, length, reverse, IfOk, OnOk};
+ghost use Rattle.std.specs.Prelude.{◌≡◌, ◌<◌, ◌≤◌, List, [], ◌∷◌, length, reverse, IfOk, OnOk, OnErr, ◌+◌};
 ghost use Rattle.redo_core.specs.declared.facts.Fact.{Fact};
 ghost use Rattle.log_law.specs.declared.links.Item.{Item};
 ghost use Rattle.log_law.specs.Counted.{Describes};
@@ -61,6 +61,7 @@ impl AliveRecords {
         ensures stack { OnOk result (IsStack self.new) }
         ensures top { OnOk result (stack_of self.new ≡ record { number = number; page = page; beneath = page_top page (stack_of self.old) } ∷ stack_of self.old) }
         ensures view { self.new.view ≡ self.old.view }
+        ensures err { OnErr result ((stack_of self.new ≡ stack_of self.old) × IsStack self.new) }
     {
         let beneath = self.top_of(page);
         self.entries.push(Entry {
@@ -92,6 +93,25 @@ impl AliveRecords {
         while self.top() > lo {
             self.pop();
         }
+    }
+
+    /// The epoch of the view.
+    pub(crate) fn view(&self) -> u16
+        ensures { result ≡ self.now.view }
+    {
+        self.view
+    }
+
+    /// Goes on to the view of the next epoch, whose truncation is at `lo`.
+    pub(crate) fn begin(&mut self, lo: u64)
+        requires stack { IsStack self.old }
+        requires epoch { self.old.view < 65535 }
+        ensures stack { IsStack self.new }
+        ensures rest { stack_of self.new ≡ without_above lo (stack_of self.old) }
+        ensures view { self.new.view ≡ self.old.view + 1 }
+    {
+        self.view += 1;
+        self.pop_above(lo);
     }
 
     /// Goes on to the view of a later epoch.

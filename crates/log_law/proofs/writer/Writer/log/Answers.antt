@@ -1,0 +1,6 @@
+use Rattle.std.proofs.Common.{subst, sym}
+use Rattle.redo_core.specs.Sound.{IsSound}
+use Rattle.log_law.proofs.writer.Writer.log.Goals as goal
+
+pub returns-clause-sound : goal.returns-clause-sound
+returns-clause-sound c = subst IsSound c.self.view_is c.self.invariant.sound
