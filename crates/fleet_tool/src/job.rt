@@ -1,5 +1,7 @@
 //! The command line.
 
+ghost use Rattle.std.specs.Prelude.{◌≡◌, length, OnOk};
+
 use clap::error::ErrorKind;
 use clap::{Command, Error};
 use std::alloc::{AllocError, Global};
@@ -58,12 +60,19 @@ fn fault_of(alloc: Global, error: Error) -> LineFault {
 /// The task that the words of the command line name; the first word is the program's.
 ///
 /// Errors: `Help` where the words ask for it, `Bad` for other words than the task's own, `Memory`.
-pub fn job_of<S: AsStr>(alloc: Global, words: &[S]) -> Result<Task, LineFault> {
+pub fn job_of<S: AsStr>(alloc: Global, words: &[S]) -> Result<Task, LineFault>
+    ensures one_word { OnOk result (length words.now ≡ 2) }
+{
     let command = command(alloc)?;
+    let count = words.len();
     let matches = match command.try_get_matches_from(words) {
         Ok(matches) => matches,
         Err(error) => return Err(fault_of(alloc, error)),
     };
+    // A task has no words of its own, and `--` would be one that clap leaves out.
+    if count != 2 {
+        return Err(LineFault::Bad);
+    }
     match matches.subcommand() {
         Some(("run", _)) => Ok(Task::Run),
         Some(("check", _)) => Ok(Task::Check),
