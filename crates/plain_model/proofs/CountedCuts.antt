@@ -1,20 +1,19 @@
 -- The truncations that count in a log.
-use Rattle.std.proofs.Common.{◌≡◌, ◌≢◌, ℕ, zero, suc, ◌+◌, ◌<◌, ◌≤◌, ◌⊎◌, ◌↔◌, inl, inr, ⊎_elim, List, [], ◌∷◌, length, get_or, take, refl, sym, ap, ◌∙◌, subst, arith, Bool, true, false, cond, not, Some, None}
+use Rattle.std.proofs.Common.{◌≡◌, ◌≢◌, ℕ, zero, suc, ◌<◌, ◌≤◌, ◌↔◌, ⊎_elim, List, [], ◌∷◌, length, get_or, take, refl, sym, ap, ◌∙◌, subst, arith, Bool, true, false, cond, not}
 use Rattle.std.specs.Prelude.{◌==◌}
 use Rattle.std.specs.List.{Contains, All, filter, filter_map}
 use Rattle.std.proofs.lemmas.List.Elements.{All-contains}
 use Rattle.std.proofs.lemmas.Bool.Decides.{nat_tests}
-use Rattle.redo_core.specs.Data.{RecordData, CutData, AdvanceData}
+use Rattle.redo_core.specs.Data.{RecordData, CutData}
 use Rattle.redo_core.specs.Sets.{cuts, as_cut}
 use Rattle.redo_core.specs.CompleteEpoch.{HasCutsTo, IsCompleteEpoch}
 use Rattle.redo_core.specs.Standing.{IsAlive}
-use Rattle.redo_core.specs.Sound.{first_cuts, counted, Law2, Law5}
+use Rattle.redo_core.specs.Sound.{first_cuts, counted, Law2}
 use Rattle.redo_core.specs.declared.facts.Fact.{Fact}
 use Rattle.redo_core.specs.declared.facts.Fact.TheVariants.{Record, Cut, Advance}
 use Rattle.redo_laws.proofs.Members.{none_in, here, there, which}
 use Rattle.redo_laws.proofs.Log.{cut_in, filtered, passing, first_within, first_of_epoch}
 use Rattle.redo_laws.proofs.Views.{has_cuts}
-use Rattle.plain_model.specs.Helpers.{SparesIn}
 use Rattle.plain_model.proofs.Scanned.{IsOther, IsSparedIfCounted, IsAboveIfCounted}
 
 -- a truncation that counts is one of the log's

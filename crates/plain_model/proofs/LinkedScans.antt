@@ -1,18 +1,15 @@
 -- Scans for what is alive and linked.
-use Rattle.std.proofs.Common.{◌≡◌, ◌≢◌, ℕ, zero, suc, ◌+◌, ◌<◌, ◌≤◌, ◌⊎◌, ◌↔◌, inl, inr, ⊎_elim, List, [], ◌∷◌, length, get_or, take, refl, sym, ap, ◌∙◌, subst, arith, Option, Some, None}
+use Rattle.std.proofs.Common.{◌≡◌, ℕ, ◌+◌, ◌<◌, ◌≤◌, List, length, get_or, take, refl, sym, subst, arith, Option, Some, None}
 use Rattle.std.specs.List.{Contains, All}
-use Rattle.std.proofs.lemmas.List.Elements.{All-contains, All-more}
-use Rattle.redo_core.specs.Data.{RecordData, CutData, AdvanceData}
-use Rattle.redo_core.specs.Sets.{records, cuts, advances}
-use Rattle.redo_core.specs.Order.{IsGreatest}
-use Rattle.redo_core.specs.CompleteEpoch.{HasCutsTo, IsCompleteEpoch}
-use Rattle.redo_core.specs.Position.{HasAdvance}
+use Rattle.std.proofs.lemmas.List.Elements.{All-contains}
+use Rattle.redo_core.specs.Data.{RecordData, CutData}
+use Rattle.redo_core.specs.Sets.{records, cuts}
 use Rattle.redo_core.specs.Standing.{IsAlive}
-use Rattle.redo_core.specs.Linked.{IsLinked, Linked}
+use Rattle.redo_core.specs.Linked.{IsLinked}
 use Rattle.redo_core.specs.Linked.Linked.{start, next}
 use Rattle.redo_core.specs.declared.facts.Fact.{Fact}
 use Rattle.redo_core.specs.declared.facts.Fact.TheVariants.{Record, Cut, Advance}
-use Rattle.redo_laws.proofs.Log.{record_in, cut_in, advance_in}
+use Rattle.redo_laws.proofs.Log.{record_in, cut_in}
 use Rattle.plain_model.proofs.Scans.{item, one_more}
 use Rattle.plain_model.specs.Helpers.{SparesIn, IsWithin, IsLinkedWithin}
 use Rattle.plain_model.proofs.Scanned.{IsSpared, LinksNot, LinksUpTo}

@@ -1,9 +1,9 @@
 -- A page record by record.
-use Rattle.std.proofs.Common.{◌≡◌, ℕ, ◌+◌, ◌<◌, ◌≤◌, ◌⊎◌, ◌↔◌, inl, inr, ⊎_elim, List, [], ◌∷◌, ◌++◌, refl, sym, ap, ◌∙◌, subst, arith}
+use Rattle.std.proofs.Common.{◌≡◌, ℕ, ◌+◌, ◌<◌, ◌≤◌, ◌⊎◌, ⊎_elim, List, [], ◌∷◌, ◌++◌, refl, sym, ap, ◌∙◌, subst, arith}
 use Rattle.std.specs.List.{Contains, AllByRecursion}
 use Rattle.std.proofs.lemmas.List.Elements.{Contains-append_left, Contains-append_right, Contains-append_cases}
 use Rattle.redo_core.specs.Data.{RecordData}
-use Rattle.redo_core.specs.Sets.{IsPart, records, cuts}
+use Rattle.redo_core.specs.Sets.{IsPart, cuts}
 use Rattle.redo_core.specs.Order.{IsRising, Lists, BeforeByNumber}
 use Rattle.redo_core.specs.CompleteEpoch.{HasCutsTo}
 use Rattle.redo_core.specs.Writing.{write, after_records, zeros}
@@ -11,9 +11,8 @@ use Rattle.redo_core.specs.PageAt.{IsPageAt}
 use Rattle.redo_core.specs.Sound.{IsSound}
 use Rattle.redo_core.specs.declared.facts.Fact.{Fact}
 use Rattle.redo_laws.proofs.Members.{none_in, here, which}
-use Rattle.redo_laws.proofs.Log.{IsLog, log_of_sound, part_records, part_cuts}
+use Rattle.redo_laws.proofs.Log.{log_of_sound, part_records, part_cuts}
 use Rattle.redo_laws.proofs.Views.{alone, alive_up}
-use Rattle.redo_laws.proofs.Deciding.{all_of}
 use Rattle.plain_model.specs.PageRecords.{IsPageRecord, HasNumbersOnce, IsNextRecord, HasNoNext}
 
 -- the image of the page with its records below a number

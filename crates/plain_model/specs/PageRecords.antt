@@ -1,8 +1,7 @@
 -- The records that make a page.
 use Rattle.std.specs.Prelude.{◌≡◌, ℕ, ◌≤◌, List}
-use Rattle.std.specs.List.{Contains}
 use Rattle.redo_core.specs.Data.{RecordData}
-use Rattle.redo_core.specs.Sets.{records, cuts}
+use Rattle.redo_core.specs.Sets.{cuts}
 use Rattle.redo_core.specs.Standing.{IsAlive}
 use Rattle.redo_core.specs.Linked.{IsLinked, IsLinkedRecord}
 use Rattle.redo_core.specs.declared.facts.Fact.{Fact}

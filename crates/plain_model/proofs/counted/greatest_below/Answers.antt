@@ -1,6 +1,6 @@
-use Rattle.std.proofs.Common.{◌≡◌, ◌<◌, ◌≤◌, inl, inr, sym, ◌∙◌, subst, arith, refl, IsTrue, false}
+use Rattle.std.proofs.Common.{◌≡◌, inr, subst, arith, refl, IsTrue, false}
 use Rattle.redo_core.specs.Sound.{IsAliveBelow}
-use Rattle.plain_model.specs.Chained.{Follows, IsBelowOn}
+use Rattle.plain_model.specs.Chained.{Follows}
 use Rattle.plain_model.proofs.Scanned.{IsBelowUpTo}
 use Rattle.plain_model.proofs.Scans.{whole, one_more}
 use Rattle.plain_model.proofs.LinkedScans.{record_item}

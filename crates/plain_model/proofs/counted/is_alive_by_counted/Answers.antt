@@ -1,8 +1,6 @@
-use Rattle.std.proofs.Common.{◌≡◌, IsTrue, false, true, arith, refl, subst, sym}
-use Rattle.std.specs.List.{Contains}
+use Rattle.std.proofs.Common.{IsTrue, false, arith, refl, subst, sym}
 use Rattle.redo_core.specs.Sound.{counted}
 use Rattle.redo_core.specs.declared.facts.Fact.{Fact}
-use Rattle.plain_model.specs.Helpers.{SparesIn}
 use Rattle.plain_model.proofs.Scanned.{IsSparedIfCounted}
 use Rattle.plain_model.proofs.Scans.{whole, one_more, cut_default}
 use Rattle.plain_model.proofs.LinkedScans.{spares_of}

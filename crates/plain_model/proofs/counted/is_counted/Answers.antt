@@ -1,7 +1,6 @@
-use Rattle.std.proofs.Common.{◌≡◌, ◌≢◌, ◌<◌, sym, ◌∙◌, arith, refl, subst, length, get_or, take}
+use Rattle.std.proofs.Common.{◌≡◌, ◌≢◌, sym, arith, subst, take}
 use Rattle.std.specs.List.{Contains, All}
 use Rattle.redo_core.specs.Sound.{counted}
-use Rattle.redo_core.specs.declared.facts.Fact.TheVariants.{Cut}
 use Rattle.plain_model.proofs.Scanned.{IsOther}
 use Rattle.plain_model.proofs.Scans.{whole, one_more, other_cut, other_default}
 use Rattle.plain_model.proofs.CountedCuts.{counted_at, counted_unique, none_counted, read_cut}

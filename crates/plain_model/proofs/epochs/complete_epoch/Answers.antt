@@ -1,6 +1,5 @@
-use Rattle.std.proofs.Common.{◌≡◌, IsTrue, false, true, arith, refl}
+use Rattle.std.proofs.Common.{IsTrue, false, refl}
 use Rattle.redo_core.specs.Sets.{cuts}
-use Rattle.plain_model.specs.Helpers.{HasCut}
 use Rattle.plain_model.proofs.Scans.{next_epoch, complete}
 use Rattle.plain_model.proofs.epochs.complete_epoch.Goals as goal
 

@@ -1,4 +1,4 @@
-use Rattle.std.proofs.Common.{◌≡◌, ◌≢◌, ◌+◌, ◌<◌, sym, ◌∙◌, arith, refl}
+use Rattle.std.proofs.Common.{◌≢◌, arith, refl}
 use Rattle.plain_model.proofs.Scans.{cut_item, no_cut, whole, one_more, other_cut, other_default}
 use Rattle.plain_model.proofs.Scanned.{IsOther}
 use Rattle.plain_model.proofs.epochs.has_cut.Goals as goal

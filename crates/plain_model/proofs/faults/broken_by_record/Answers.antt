@@ -1,12 +1,7 @@
-use Rattle.std.proofs.Common.{◌≡◌, List, take, refl, subst, sym, ◌∙◌}
+use Rattle.std.proofs.Common.{refl, subst, sym, ◌∙◌}
 use Rattle.redo_core.specs.Sound.{Law1}
-use Rattle.redo_core.specs.Order.{IsGreatest}
-use Rattle.redo_core.specs.Sound.{IsAliveBelow}
-use Rattle.redo_core.specs.declared.facts.Fact.{Fact}
 use Rattle.redo_core.specs.declared.facts.Fact.TheVariants.{Record}
-use Rattle.redo_laws.proofs.Numbers.{greatest_unique}
 use Rattle.plain_model.specs.declared.chains.Chain.TheVariants.{Segment, Block}
-use Rattle.plain_model.specs.Chained.{Follows}
 use Rattle.plain_model.proofs.Laws.{other_backlink, same_backlink}
 use Rattle.plain_model.proofs.faults.broken_by_record.Goals as goal
 

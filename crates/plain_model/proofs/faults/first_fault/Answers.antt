@@ -1,4 +1,4 @@
-use Rattle.std.proofs.Common.{◌≡◌, ◌<◌, length, arith, refl}
+use Rattle.std.proofs.Common.{◌<◌, length, arith, refl}
 use Rattle.std.proofs.lemmas.Option.{slice_get_read, slice_get_within}
 use Rattle.plain_model.proofs.Laws.{keeps_each, none_found, keeps_one_more, fault_at}
 use Rattle.plain_model.proofs.faults.first_fault.Goals as goal

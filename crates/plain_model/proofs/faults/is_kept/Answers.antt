@@ -1,4 +1,4 @@
-use Rattle.std.proofs.Common.{◌≡◌, ◌≤◌, ◌<◌, IsTrue, false, refl, subst, sym, arith}
+use Rattle.std.proofs.Common.{◌≤◌, refl, subst, sym, arith}
 use Rattle.redo_core.specs.CompleteEpoch.{HasCutsTo}
 use Rattle.redo_core.specs.Sound.{counted}
 use Rattle.plain_model.proofs.faults.is_kept.Goals as goal

@@ -1,4 +1,4 @@
-use Rattle.std.proofs.Common.{◌≡◌, ◌≢◌, arith, refl, subst, sym}
+use Rattle.std.proofs.Common.{◌≡◌, arith, refl, subst, sym}
 use Rattle.redo_core.specs.declared.facts.Fact.{Fact}
 use Rattle.redo_core.specs.declared.facts.Fact.TheVariants.{Cut}
 use Rattle.plain_model.proofs.Scanned.{IsSameOfKey}

@@ -1,4 +1,4 @@
-use Rattle.std.proofs.Common.{◌≡◌, ◌≤◌, ◌<◌, IsTrue, false, arith, refl, subst, sym}
+use Rattle.std.proofs.Common.{◌≤◌, IsTrue, false, arith, refl, subst, sym}
 use Rattle.redo_core.specs.declared.facts.Fact.{Fact}
 use Rattle.plain_model.proofs.Scanned.{IsAboveIfCounted}
 use Rattle.plain_model.proofs.Scans.{whole, one_more, cut_default}

@@ -1,8 +1,8 @@
-use Rattle.std.proofs.Common.{◌≡◌, ◌<◌, IsTrue, false, true, arith, refl, sym, subst}
+use Rattle.std.proofs.Common.{IsTrue, false, arith, refl, sym, subst}
 use Rattle.redo_core.specs.Sets.{cuts}
 use Rattle.redo_core.specs.Linked.{IsLinked}
 use Rattle.redo_core.specs.Standing.{IsAlive}
-use Rattle.redo_core.specs.Linked.Linked.{start, next}
+use Rattle.redo_core.specs.Linked.Linked.{start}
 use Rattle.plain_model.proofs.Scanned.{LinksNot}
 use Rattle.plain_model.proofs.Scans.{whole, one_more}
 use Rattle.plain_model.proofs.LinkedScans.{record_item, link, links_not_record, links_not_default, no_link}

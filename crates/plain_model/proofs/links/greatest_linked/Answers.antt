@@ -1,6 +1,5 @@
-use Rattle.std.proofs.Common.{◌≡◌, ◌<◌, ◌≤◌, ◌⊎◌, inl, inr, ⊎_elim, IsTrue, false, true, arith, refl, sym, subst, length}
-use Rattle.redo_core.specs.Sets.{cuts}
-use Rattle.redo_core.specs.Linked.Linked.{start, next}
+use Rattle.std.proofs.Common.{inr, IsTrue, false, arith, refl, sym, subst}
+use Rattle.redo_core.specs.Linked.Linked.{start}
 use Rattle.plain_model.specs.Helpers.{IsLinkedWithin}
 use Rattle.plain_model.proofs.Scanned.{LinksUpTo}
 use Rattle.plain_model.proofs.Scans.{whole, one_more}

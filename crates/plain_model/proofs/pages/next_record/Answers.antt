@@ -1,11 +1,6 @@
-use Rattle.std.proofs.Common.{◌≡◌, ℕ, ◌<◌, ◌≤◌, length, take, refl, sym, subst, arith, IsTrue, false, Option, Some, None}
-use Rattle.std.specs.List.{All}
-use Rattle.std.specs.Borrow.{Bor}
-use Rattle.redo_core.specs.Data.{RecordData}
-use Rattle.redo_core.specs.declared.facts.Fact.{Fact}
+use Rattle.std.proofs.Common.{refl, sym, subst, arith, IsTrue, false}
 use Rattle.plain_model.proofs.Scanned.{IsReached}
-use Rattle.plain_model.proofs.Scans.{whole, one_more, record_default}
-use Rattle.plain_model.proofs.LinkedScans.{record_item}
+use Rattle.plain_model.proofs.Scans.{whole, record_default}
 use Rattle.plain_model.proofs.PageScans.{FoundUpTo, found_up_to, found_next, seen_new, seen_more}
 use Rattle.plain_model.proofs.pages.next_record.Goals as goal
 use Rattle.plain_model.proofs.pages.next_record.Goals.{in-Record+then-stands_in_page+then-number-from+then-is_before, in-Record+else-stands_in_page, else-stands_in_page-via-then-stands_in_page+then-number-from+else-is_before, else-stands_in_page-via-then-stands_in_page+else-number-from, else-stands_in_page-via-else-stands_in_page, in_default}

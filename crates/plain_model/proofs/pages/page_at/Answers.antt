@@ -1,5 +1,5 @@
-use Rattle.std.proofs.Common.{◌≡◌, ◌+◌, ◌<◌, ◌≤◌, refl, sym, ap, ◌∙◌, subst, arith}
-use Rattle.redo_core.specs.Writing.{write, zeros}
+use Rattle.std.proofs.Common.{◌≡◌, ◌+◌, ◌≤◌, sym, subst, arith}
+use Rattle.redo_core.specs.Writing.{write}
 use Rattle.plain_model.proofs.PageSteps.{IsPageBelow, page_start, page_step, page_end, once_if_sound}
 use Rattle.plain_model.proofs.pages.page_at.Goals as goal
 

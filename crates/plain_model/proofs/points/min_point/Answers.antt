@@ -1,4 +1,4 @@
-use Rattle.std.proofs.Common.{◌≡◌, ◌+◌, ◌<◌, ◌≤◌, inl, inr, sym, ◌∙◌, subst, arith, refl}
+use Rattle.std.proofs.Common.{◌≡◌, ◌≤◌, inr, sym, arith}
 use Rattle.plain_model.proofs.Scanned.{IsUpTo}
 use Rattle.plain_model.proofs.Scans.{up_to, higher, whole, one_more, up_advance, up_default, advance_item, min_step}
 use Rattle.plain_model.proofs.points.min_point.Goals as goal

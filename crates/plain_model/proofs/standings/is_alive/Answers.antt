@@ -1,6 +1,5 @@
-use Rattle.std.proofs.Common.{◌≡◌, IsTrue, false, true, arith, refl}
+use Rattle.std.proofs.Common.{IsTrue, false, arith, refl}
 use Rattle.redo_core.specs.Sets.{cuts}
-use Rattle.plain_model.specs.Helpers.{SparesIn}
 use Rattle.plain_model.proofs.Scanned.{IsSpared}
 use Rattle.plain_model.proofs.Scans.{cut_item, whole, one_more}
 use Rattle.plain_model.proofs.LinkedScans.{spared_cut, spared_default, all_spare, spares_of}
