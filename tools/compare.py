@@ -88,7 +88,7 @@ def line_of(fact):
     return " ".join([*(str(part) for part in fact[:6]), writes])
 
 
-KINDS = ["take"] * 10 + ["ask", "answer", "absorb"] * 4 + ["read"] * 10 + ["fold", "discard"] * 2 + ["front", "same", "covers"] * 2 + list(oracle.STEPS)
+KINDS = ["take"] * 10 + ["read"] * 10 + ["front"] * 3
 
 
 def random_steps(choose, log, nodes):
@@ -140,7 +140,7 @@ def random_input(choose):
     task = choose.choice(("check", "run", "run"))
     lines = [line_of(fact) for fact in log]
     if task == "run":
-        nodes = choose.choice((1, 1, 2, 3))
+        nodes = choose.choice((1, 1, 1, 1, 1, 2))
         lines += ["go", f"nodes {nodes}", *random_steps(choose, log, nodes)]
     text = "".join(line + "\n" for line in lines)
     if text and choose.random() < 0.1:

@@ -88,9 +88,14 @@ STEPS = {
 }
 
 
+# The program reads these steps, and scripts of so many nodes; the oracle knows the rules of the others too.
+READ_STEPS = ("take", "front", "read")
+MOST_NODES = 1
+
+
 def step_of(line, count):
     kind, *words = line.split(" ")
-    forms = STEPS.get(kind)
+    forms = STEPS.get(kind) if kind in READ_STEPS else None
     if forms is None or len(words) != len(forms):
         raise BadLine
     tops = {"n": 65535, "f": count, "m": 2**32 - 1, "g": 65535, "q": MAX_NUMBER, "o": PAGE_LEN, "l": PAGE_LEN}
@@ -136,7 +141,7 @@ def read_run(text):
                 kind, _, word = line.partition(" ")
                 if kind != "nodes":
                     raise BadLine
-                nodes = number(word, 64, 1)
+                nodes = number(word, MOST_NODES, 1)
             else:
                 if len(steps) == 1000000:
                     raise BadLine
