@@ -1,5 +1,5 @@
 #!/usr/bin/env python3
-"""Times the program on sound logs of several sizes: a check, and a run that takes every fact, folds, discards and reads.
+"""Times the program on sound logs of several sizes: a check, and a run that takes every fact and reads each page.
 
 Prints one row for each size, in seconds. Usage: measure.py [--shuffled] [--pages P] [--epochs E] SIZE..
 """
@@ -25,12 +25,11 @@ def seconds(program, task, text):
 
 
 def script(facts, pages):
-    """Takes all facts, reads, folds half of the pages, discards, and reads again."""
+    """Takes all facts, and reads each page at the last number."""
     takes = [f"take 1 {place}" for place in range(1, len(facts) + 1)]
     top = max((int(line.split(" ")[2]) for line in facts if line.startswith("rec")), default=0)
     reads = [f"read 1 {page} {top} 0 16" for page in range(pages)]
-    folds = [f"fold 1 {page}" for page in range(0, pages, 2)]
-    steps = ["go", "nodes 1", *takes, *reads, *folds, "discard 1", *reads, "front 1"]
+    steps = ["go", "nodes 1", *takes, *reads, "front 1"]
     return "".join(line + "\n" for line in [*facts, *steps])
 
 
