@@ -1,9 +1,9 @@
 //! Texts in, texts out, over any reader and writer; and the program `fleet` over any runtime.
 //!
 //! `run_text` answers a script with the replies of a fleet, `check_text` answers facts with their soundness. What either writes
-//! is the output that the definitions in `specs/` give to the whole input, for every input whose bytes the reader tells, and an
-//! input has one output. The whole input is read before anything is written; an error says which device failed, or that
-//! memory ran out, and after `Input` and `Memory` nothing was written.
+//! is an output that the definitions in `specs/` give to the whole input, for every input whose bytes the reader tells. The whole
+//! input is read before anything is written; an error says which device failed, or that memory ran out, and after `Input` and
+//! `Memory` nothing was written.
 #![tactic(auto)]
 
 mod answer;
