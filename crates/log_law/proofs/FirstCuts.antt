@@ -35,6 +35,10 @@ pub first_cut-one : (c : CutData) (e : ℕ) → first_cut (Cut c ∷ []) e ≡ f
 unfolding cuts
 first_cut-one c e = refl
 
+pub first_cut-nil : (e : ℕ) → first_cut [] e ≡ None
+unfolding cuts
+first_cut-nil e = refl
+
 or_none : (o : Option CutData) → or_first o None ≡ o
 or_none (Some c) = refl
 or_none None = refl

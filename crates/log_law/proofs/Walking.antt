@@ -1,5 +1,5 @@
 -- The walk over the items in key order, group by group.
-use Rattle.std.proofs.Common.{◌≡◌, ◌≢◌, ℕ, zero, suc, ◌+◌, ◌-◌, ◌<◌, ◌≤◌, inl, inr, ⊎_elim, List, [], ◌∷◌, ◌++◌, length, get_or, take, drop, refl, sym, ap, ◌∙◌, subst, arith, Option}
+use Rattle.std.proofs.Common.{◌≡◌, ◌≢◌, ℕ, zero, suc, ◌+◌, ◌-◌, ◌<◌, ◌≤◌, inl, inr, ⊎_elim, List, [], ◌∷◌, ◌++◌, length, get_or, take, drop, refl, sym, ap, ◌∙◌, subst, arith, Option, None}
 use Rattle.std.specs.List.{Contains}
 use Rattle.std.proofs.lemmas.Bool.{cases_lt, cases_eq}
 use Rattle.std.proofs.lemmas.List.{get_or_default}
@@ -91,6 +91,14 @@ key_trans t u v h k =
 
 at_default : (items : List Item) (k : ℕ) (x d : Item) → k < length items → get_or items k x ≡ x → get_or items k d ≡ x
 at_default items k x d l e = get_or_default items k d x l ∙ e
+
+pub walked_nothing : (log : List Fact) (items : List Item) (alive : AliveRecords) → Holds log [] alive → alive.view ≡ 0 → IsWalked log items 0 alive None
+walked_nothing log items alive h v = record {
+  holds = h;
+  broken = λ t m. absurd (none_in t m);
+  view = λ k d l m. omega arith;
+  apart = λ j k d l m n. absurd (omega arith);
+}
 
 -- the group from start to stop, once the view is its epoch
 pub is_group : (log : List Fact) (items : List Item) (start stop : ℕ) (alive entered : AliveRecords) (least : Option BrokenLink) → ((c : CutData) → Contains (cuts log) c → c.lo ≤ c.hi) → AreItems log items → IsInKeyOrder items → IsWalked log items start alive least → start < length items → start < stop → stop ≤ length items → ((k : ℕ) (d : Item) → start ≤ k → k < stop → SameItemKey (get_or items k d) (get_or items start d)) → Holds log (take start items) entered → entered.view ≡ (get_or items start zero_item).epoch → IsGroup log items (take start items) (take (stop - start) (drop start items)) entered
