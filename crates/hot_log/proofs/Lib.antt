@@ -3,3 +3,4 @@ pub mod Keys
 pub mod Views
 pub mod Chain
 pub mod Kept
+pub mod Pages

@@ -5,7 +5,7 @@ ghost use Rattle.redo_core.specs.Order.{Lists, BeforeByNumber};
 ghost use Rattle.redo_core.specs.Standing.{IsDead};
 ghost use Rattle.hot_log.specs.Held.{IsHeld, IsRecordAt, IsKeyAfter, SplitsAt, SplitsAbove, is_before};
 ghost use Rattle.hot_log.specs.Alive.{IsHeldAlive, IsHeldOf, IsLinkedFrom, IsLinkedHeld};
-ghost use Rattle.hot_log.specs.Found.{IsLeast, IsLeastRecord, IsGreatestRecord, IsOnlyRecord};
+ghost use Rattle.hot_log.specs.Found.{IsLeast, IsLeastRecord, IsGreatestRecord, IsOnlyRecord, IsPageAfter};
 ghost use Rattle.hot_log.specs.Putting.{Puts, RefusesPut};
 ghost use Rattle.hot_log.specs.Removing.{IsFolded, Removes};
 
@@ -190,6 +190,20 @@ impl HotLog {
         ensures { IsLeastRecord (IsHeldOf book.now self.now page from to) (option_copied result) }
     {
         search::next_of(self.records(), book, page, from, to)
+    }
+
+    /// The last alive record of a page with a number above `from` and up to `to`, or None where there is none.
+    pub fn last_of(&self, book: &EpochBook, page: u16, from: u64, to: u64) -> Option<&Record>
+        ensures { IsGreatestRecord (IsHeldOf book.now self.now page from to) (option_copied result) }
+    {
+        search::last_of(self.records(), book, page, from, to)
+    }
+
+    /// The least page above the one given that a held record writes, whatever its standing; the least of all for None.
+    pub fn page_after(&self, after: Option<u16>) -> Option<u16>
+        ensures { IsPageAfter self.now after result }
+    {
+        search::page_after(self.records(), after)
     }
 
     /// The alive records of a page with numbers above `from` and up to `to`, rising. Its only error is want of memory.

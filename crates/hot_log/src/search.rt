@@ -1,5 +1,5 @@
 // Searches of held records in a book's view.
-ghost use Rattle.std.specs.Prelude.{◌≡◌, ℕ, ◌<◌, ◌≤◌, ◌↔◌, map, IsTrue, IfOk};
+ghost use Rattle.std.specs.Prelude.{◌≡◌, ℕ, ◌<◌, ◌≤◌, ◌↔◌, map, IsTrue, IfOk, Some};
 ghost use Rattle.std.specs.Option.{option_copied};
 ghost use Rattle.redo_core.specs.Data.{RecordData};
 ghost use Rattle.redo_core.specs.Order.{Lists, BeforeByNumber};
@@ -7,7 +7,7 @@ ghost use Rattle.redo_core.specs.Standing.{IsAlive};
 ghost use Rattle.epoch_book.specs.Book.{IsBook};
 ghost use Rattle.hot_log.specs.Held.{IsHeld};
 ghost use Rattle.hot_log.specs.Alive.{IsHeldAlive, IsHeldOf};
-ghost use Rattle.hot_log.specs.Found.{IsLeast, IsLeastRecord, IsOnlyRecord};
+ghost use Rattle.hot_log.specs.Found.{IsLeast, IsLeastRecord, IsGreatestRecord, IsOnlyRecord, IsPageAbove, IsPageBelow, IsPageAfter};
 
 use epoch_book::{EpochBook, Standing};
 use redo_core::Record;
@@ -73,6 +73,69 @@ pub fn next_of<'a>(
         }
     }
     None
+}
+
+// The last alive record of a page above one number and up to another.
+pub fn last_of<'a>(
+    held: &'a [Record],
+    book: &EpochBook,
+    page: u16,
+    from: u64,
+    to: u64,
+) -> Option<&'a Record>
+    requires { IsHeld held.now }
+    ensures { IsGreatestRecord (IsHeldOf book.now held.now page from to) (option_copied result) }
+{
+    let mut end = held.len();
+    while end > 0 {
+        end -= 1;
+        let redo = &held[end];
+        if is_of(book, redo, page, from, to) {
+            return Some(redo);
+        }
+    }
+    None
+}
+
+// The least page above one given that a record writes.
+pub fn page_after(held: &[Record], after: Option<u16>) -> Option<u16>
+    ensures { IsPageAfter held.now after result }
+{
+    let mut least = None;
+    for redo in held {
+        least = nearer(after, redo.page(), least);
+    }
+    least
+}
+
+// The page where it is above one given and below the least so far, else that.
+fn nearer(after: Option<u16>, page: u16, least: Option<u16>) -> Option<u16>
+    ensures near { IsPageAbove after page → IsPageBelow page least → result ≡ Some page }
+    ensures far { (IsPageAbove after page → IsPageBelow page least → ⊥) → result ≡ least }
+{
+    if is_above(after, page) && is_below(page, least) {
+        Some(page)
+    } else {
+        least
+    }
+}
+
+fn is_above(after: Option<u16>, page: u16) -> bool
+    ensures { IsTrue result ↔ IsPageAbove after page }
+{
+    match after {
+        Some(after) => after < page,
+        None => true,
+    }
+}
+
+fn is_below(page: u16, least: Option<u16>) -> bool
+    ensures { IsTrue result ↔ IsPageBelow page least }
+{
+    match least {
+        Some(least) => page < least,
+        None => true,
+    }
 }
 
 // The alive records of a page above one number and up to another, rising.

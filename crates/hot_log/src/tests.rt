@@ -71,7 +71,22 @@ fn records_of_a_page(rt: HostRuntime) -> Result<(), Fail> {
     );
     assert_eq!(rt; log.next_of(&book, 1, 3, 100).map(|r| r.number()), Some(5));
     assert!(rt; log.next_of(&book, 2, 7, 100).is_none());
+    assert_eq!(rt; log.last_of(&book, 1, 3, 100).map(|r| r.number()), Some(9));
+    assert_eq!(rt; log.last_of(&book, 1, 0, 8).map(|r| r.number()), Some(5));
+    assert!(rt; log.last_of(&book, 2, 7, 100).is_none());
     Ok(())
+}
+
+#[test]
+fn pages_of_held_records(rt: HostRuntime) {
+    let log = log_of(rt.alloc(), &[(7, 5, 2), (3, 0, 9), (9, 7, 2), (5, 3, 4)]).expect(
+        &rt, "memory",
+    );
+    assert_eq!(rt; log.page_after(None), Some(2));
+    assert_eq!(rt; log.page_after(Some(2)), Some(4));
+    assert_eq!(rt; log.page_after(Some(4)), Some(9));
+    assert_eq!(rt; log.page_after(Some(9)), None);
+    assert_eq!(rt; HotLog::new(rt.alloc()).page_after(None), None);
 }
 
 #[test]
