@@ -13,6 +13,8 @@ mod pages;
 mod records;
 mod refusal;
 mod shapes;
+#[cfg(test)]
+mod tests;
 mod writes;
 
 pub use advances::Advance;
