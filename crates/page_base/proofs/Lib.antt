@@ -1,0 +1,4 @@
+pub mod Lists
+pub mod Putting
+pub mod Shown
+pub mod Adoption

@@ -1,0 +1,5 @@
+pub mod Stored
+pub mod Placing
+pub mod Raising
+pub mod Adopting
+pub mod Laws

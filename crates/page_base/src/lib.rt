@@ -1,0 +1,18 @@
+//! The base images of a segment's pages: for each page an image, and the point of the log that it shows.
+//!
+//! A page that was never raised is zeros at version 0, or at the greatest base adopted. Versions only rise: a raise replaces
+//! an older image, and an adoption brings every page to the base at least. Each error is want of memory, hands back what was
+//! given, and leaves the images as they were.
+#![tactic(auto)]
+
+mod adopting;
+mod images;
+mod laws;
+mod places;
+mod store;
+#[cfg(test)]
+mod tests;
+
+pub use images::BaseImage;
+pub use laws::raise_commits;
+pub use store::BaseStore;

@@ -1,0 +1,117 @@
+ghost use Rattle.std.specs.Prelude.{◌≡◌, ◌<◌, [], IfOk, OnOk, IfErr, OnErr};
+ghost use Rattle.segment_state.specs.State.{version_of, image_of};
+ghost use Rattle.page_base.specs.Stored.{store_of, IsStored, IsBase};
+ghost use Rattle.page_base.specs.Raising.{Raises};
+ghost use Rattle.page_base.specs.Adopting.{Adopts};
+
+use crate::images::BaseImage;
+use crate::{adopting, places};
+use redo_core::{Page, Refused};
+use std::alloc::{AllocError, Global};
+use std::marker::Model;
+
+/// The base images of pages, rising by page. A page without one is zeros at the floor, and no image is of a version below that.
+#[derive(Debug, Drop)]
+pub struct BaseStore {
+    alloc: Global,
+    images: Vec<BaseImage>,
+    floor: u64,
+}
+
+impl Model for BaseStore {
+    ghost use Rattle.segment_state.specs.State.{Store};
+    ghost use Rattle.page_base.specs.Stored.{store_of, IsBase};
+
+    ghost Value = { Store };
+
+    ghost view = { λ s. store_of s.images.items s.floor };
+
+    ghost invariant = { λ s. IsBase s.images.items s.floor };
+}
+
+impl BaseStore {
+    /// A store where each page is zeros at version 0.
+    pub fn new(alloc: Global) -> Self
+        ensures { result ≡ store_of [] 0 }
+    {
+        BaseStore {
+            alloc,
+            images: Vec::new(alloc),
+            floor: 0,
+        }
+    }
+
+    /// An equal store with memory of its own. Its only error is want of memory.
+    pub fn copy(&self) -> Result<Self, AllocError>
+        ensures { IfOk result (λ s. s ≡ self.now) }
+    {
+        let mut images = Vec::new(self.alloc);
+        for image in &self.images {
+            images.push(image.copy()?)?;
+        }
+        Ok(BaseStore {
+            alloc: self.alloc,
+            images,
+            floor: self.floor,
+        })
+    }
+
+    /// The stored images, rising by page.
+    pub fn pages(&self) -> &[BaseImage]
+        ensures value { result.now ≡ self.now.images }
+        ensures form { IsStored self.now }
+    {
+        &self.images
+    }
+
+    /// The version of a page: that of its image, or the greatest base adopted, or 0.
+    pub fn version(&self, page: u16) -> u64
+        ensures { result ≡ version_of self.now page }
+    {
+        places::version_in(&self.images, self.floor, page)
+    }
+
+    /// A copy of the image of a page, or zeros. Its only error is want of memory.
+    pub fn image(&self, page: u16) -> Result<Page, AllocError>
+        ensures { IfOk result (λ image. image ≡ image_of self.now page) }
+    {
+        places::image_in(&self.images, self.floor, self.alloc, page)
+    }
+
+    /// Gives a page an image of a version above the page's own; one of any other version changes nothing.
+    /// The error is want of memory; it hands the image back and leaves the store as it was.
+    pub fn raise(
+        &mut self,
+        page: u16,
+        version: u64,
+        image: Page,
+    ) -> Result<(), Refused<Page, AllocError>>
+        ensures raises { OnOk result (Raises self.old page version image self.new) }
+        ensures refused { IfErr result (λ e. (e.value ≡ image) × (version_of self.old page < version)) }
+        ensures unchanged { OnErr result (self.new ≡ self.old) }
+        ensures form { IsStored self.new }
+    {
+        places::raise(&mut self.images, self.floor, page, version, image)
+    }
+
+    /// Brings each page of a version below `base` to it, with the first image given of that page, or zeros where none is.
+    /// The error is want of memory; it hands the pages back and leaves the store as it was.
+    pub fn adopt(
+        &mut self,
+        base: u64,
+        pages: Vec<(u16, Page)>,
+    ) -> Result<(), Refused<Vec<(u16, Page)>, AllocError>>
+        ensures adopts { OnOk result (Adopts self.old base pages.items self.new) }
+        ensures refused { IfErr result (λ e. e.value ≡ pages) }
+        ensures unchanged { OnErr result (self.new ≡ self.old) }
+        ensures form { IsStored self.new }
+    {
+        match adopting::adopt(&mut self.images, self.floor, base, pages) {
+            Ok(floor) => {
+                self.floor = floor;
+                Ok(())
+            }
+            Err(refused) => Err(refused),
+        }
+    }
+}

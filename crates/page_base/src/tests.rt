@@ -1,0 +1,108 @@
+use crate::BaseStore;
+use redo_core::{Page, Refused};
+use std::alloc::{AllocError, Global};
+use std::test::Fail;
+
+// A page whose every byte is the one given.
+fn page_of(alloc: Global, byte: u8) -> Result<Page, AllocError> {
+    Ok(Page::new(vec![in alloc; byte; 4096]?))
+}
+
+// The page, the version and the first byte of each stored image, of four at most.
+fn rows(store: &BaseStore) -> [(u16, u64, u8); 4] {
+    let mut shown = [(0, 0, 0); 4];
+    for (i, image) in store.pages().iter().enumerate() {
+        if i < 4 {
+            shown[i] = (image.page(), image.version(), image.image().bytes()[0]);
+        }
+    }
+    shown
+}
+
+// A store where page 9 has the image 1 at version 5, and page 2 the image 2 at version 8.
+fn two_pages(alloc: Global) -> Result<BaseStore, AllocError> {
+    let mut store = BaseStore::new(alloc);
+    for (page, version, byte) in [(9, 5, 1), (2, 8, 2)] {
+        let image = page_of(alloc, byte)?;
+        if store.raise(page, version, image).is_err() {
+            return Err(AllocError);
+        }
+    }
+    Ok(store)
+}
+
+#[test]
+fn pages_never_raised(rt: HostRuntime) -> Result<(), Fail> {
+    let store = BaseStore::new(rt.alloc());
+    assert_eq!(rt; store.version(7), 0);
+    assert!(rt; store.image(7)?.is_zero());
+    assert!(rt; store.pages().is_empty());
+    Ok(())
+}
+
+#[test]
+fn raises(rt: HostRuntime) -> Result<(), Fail> {
+    let mut store = two_pages(rt.alloc())?;
+    assert_eq!(rt; rows(&store), [(2, 8, 2), (9, 5, 1), (0, 0, 0), (0, 0, 0)]);
+    assert_eq!(rt; store.version(9), 5);
+    assert_eq!(rt; store.image(9)?.bytes()[4095], 1);
+    assert_eq!(rt; store.version(3), 0);
+    assert!(rt; store.raise(9, 4, page_of(rt.alloc(), 3)?).is_ok());
+    assert!(rt; store.raise(9, 5, page_of(rt.alloc(), 4)?).is_ok());
+    assert_eq!(rt; rows(&store), [(2, 8, 2), (9, 5, 1), (0, 0, 0), (0, 0, 0)]);
+    assert!(rt; store.raise(9, 6, page_of(rt.alloc(), 5)?).is_ok());
+    assert_eq!(rt; rows(&store), [(2, 8, 2), (9, 6, 5), (0, 0, 0), (0, 0, 0)]);
+    assert_eq!(rt; store.image(9)?.bytes()[0], 5);
+    Ok(())
+}
+
+#[test]
+fn copies(rt: HostRuntime) -> Result<(), Fail> {
+    let mut store = two_pages(rt.alloc())?;
+    assert!(rt; store.adopt(3, Vec::new(rt.alloc())).is_ok());
+    let copied = store.copy()?;
+    assert!(rt; store.raise(9, 6, page_of(rt.alloc(), 5)?).is_ok());
+    assert_eq!(rt; rows(&copied), [(2, 8, 2), (9, 5, 1), (0, 0, 0), (0, 0, 0)]);
+    assert_eq!(rt; copied.version(4), 3);
+    assert!(rt; copied.image(4)?.is_zero());
+    Ok(())
+}
+
+#[test]
+fn adoptions(rt: HostRuntime) -> Result<(), Fail> {
+    let mut store = two_pages(rt.alloc())?;
+    assert!(rt; store.raise(4, 6, page_of(rt.alloc(), 3)?).is_ok());
+    let mut given = Vec::new(rt.alloc());
+    for (page, byte) in [(4, 7), (1, 8), (2, 9), (4, 10), (1, 11)] {
+        given.push((page, page_of(rt.alloc(), byte)?))?;
+    }
+    assert!(rt; store.adopt(7, given).is_ok());
+    assert_eq!(rt; rows(&store), [(1, 7, 8), (2, 8, 2), (4, 7, 7), (0, 0, 0)]);
+    assert_eq!(rt; store.version(9), 7);
+    assert!(rt; store.image(9)?.is_zero());
+    assert_eq!(rt; store.version(500), 7);
+    let mut late = Vec::new(rt.alloc());
+    late.push((9, page_of(rt.alloc(), 12)?))?;
+    assert!(rt; store.adopt(7, late).is_ok());
+    assert!(rt; store.image(9)?.is_zero());
+    assert!(rt; store.adopt(8, Vec::new(rt.alloc())).is_ok());
+    assert_eq!(rt; rows(&store), [(2, 8, 2), (0, 0, 0), (0, 0, 0), (0, 0, 0)]);
+    assert_eq!(rt; store.version(1), 8);
+    Ok(())
+}
+
+#[test]
+fn refusals(rt: HostRuntime) -> Result<(), Fail> {
+    let mut store = two_pages(rt.alloc())?;
+    if let Err(Refused { value, .. }) = store.raise(5, 1, page_of(rt.alloc(), 6)?) {
+        assert_eq!(rt; value.bytes()[0], 6);
+        assert_eq!(rt; store.version(5), 0);
+    }
+    let mut given = Vec::new(rt.alloc());
+    given.push((5, page_of(rt.alloc(), 7)?))?;
+    if let Err(Refused { value, .. }) = store.adopt(2, given) {
+        assert_eq!(rt; value.len(), 1);
+        assert_eq!(rt; store.version(6), 0);
+    }
+    Ok(())
+}
