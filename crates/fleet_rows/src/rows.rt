@@ -1,6 +1,6 @@
 //! Worked rows: an input, its whole output, and how the call ends.
 
-use fleet_tool::{LineFault, Task, Verdict, Watched, check_text, job_of, run_text};
+use fleet_tool::{LineFault, Task, Verdict, Watched, check_text, inspect_text, job_of, run_text};
 use std::alloc::Global;
 use std::test::Fail;
 
@@ -10,12 +10,13 @@ const LONG_LOG: &str =
     "rec 0 3 0 7 0 0:6161\nrec 0 5 3 7 3 1:62\nrec 0 9 5 8 0 0:63\nmin 0 5\ncut 1 5 20\nrec 1 21 5 7 5 0:7a\nrec 0 12 9 7 5 0:78\n";
 
 /// Whether the task answers the input with that output, and ends so.
-fn answers(alloc: Global, task: Task, input: &str, output: &str, verdict: Verdict) -> bool {
+pub fn answers(alloc: Global, task: Task, input: &str, output: &str, verdict: Verdict) -> bool {
     let mut reader = Watched::new(input.as_bytes());
     let mut writer = Watched::new(Vec::new(alloc));
     let ended = match task {
         Task::Run => run_text(alloc, &mut reader, &mut writer),
         Task::Check => check_text(alloc, &mut reader, &mut writer),
+        Task::Inspect => inspect_text(alloc, &mut reader, &mut writer).map(|()| Verdict::Done),
     };
     if reader.has_failed() || writer.has_failed() {
         return false;
@@ -201,6 +202,12 @@ fn command_lines(rt: HostRuntime) -> Result<(), Fail> {
     );
     assert!(rt;
         matches!(
+            &job_of(rt.alloc(), ["fleet", "inspect"].as_slice()),
+            Ok(Task::Inspect)
+        )
+    );
+    assert!(rt;
+        matches!(
             &job_of(rt.alloc(), ["fleet", "--help"].as_slice()),
             Err(LineFault::Help(_))
         )
@@ -209,12 +216,13 @@ fn command_lines(rt: HostRuntime) -> Result<(), Fail> {
     assert!(rt; is_bad(rt.alloc(), ["fleet", ""].as_slice()));
     assert!(rt; is_bad(rt.alloc(), ["fleet", "Run"].as_slice()));
     assert!(rt; is_bad(rt.alloc(), ["fleet", "drill"].as_slice()));
-    assert!(rt; is_bad(rt.alloc(), ["fleet", "inspect"].as_slice()));
+    assert!(rt; is_bad(rt.alloc(), ["fleet", "Inspect"].as_slice()));
     assert!(rt; is_bad(rt.alloc(), ["fleet", "help"].as_slice()));
     assert!(rt; is_bad(rt.alloc(), ["fleet", "run", "run"].as_slice()));
     assert!(rt; is_bad(rt.alloc(), ["fleet", "run", "check"].as_slice()));
     assert!(rt; is_bad(rt.alloc(), ["fleet", "run", "--"].as_slice()));
     assert!(rt; is_bad(rt.alloc(), ["fleet", "check", "first.txt"].as_slice()));
+    assert!(rt; is_bad(rt.alloc(), ["fleet", "inspect", "04"].as_slice()));
     assert!(rt; is_bad(rt.alloc(), ["fleet", "--nodes", "3"].as_slice()));
     Ok(())
 }

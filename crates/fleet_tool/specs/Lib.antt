@@ -1,4 +1,5 @@
 pub mod Lines
 pub mod Asked
+pub mod Inspect
 pub mod Output
 pub mod Watching

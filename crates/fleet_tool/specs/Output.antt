@@ -12,10 +12,11 @@ use Rattle.fleet_core.specs.declared.steps.Reply.{Reply}
 use Rattle.script_text.specs.Script.{ScriptData, script_of, facts_of}
 use Rattle.fleet_tool.specs.Asked.{Asks}
 use Rattle.fleet_tool.specs.Lines.{HasCome, lines_of}
+use Rattle.fleet_tool.specs.Inspect.{inspected}
 use Rattle.fleet_tool.specs.declared.answer.Verdict.{Verdict}
 use Rattle.fleet_tool.specs.declared.answer.Verdict.TheVariants.{Done, BadLine, Unsound}
 use Rattle.fleet_tool.specs.declared.job.Task.{Task}
-use Rattle.fleet_tool.specs.declared.job.Task.TheVariants.{Run, Check}
+use Rattle.fleet_tool.specs.declared.job.Task.TheVariants.{Run, Check, Inspect}
 
 -- the text names the bad line
 abbrev pub SaysBadLine : ℕ → List ℕ → Verdict → Type 0
@@ -56,7 +57,12 @@ abbrev pub IsCheckOutput : Result (List Fact) ℕ → List ℕ → Verdict → T
 IsCheckOutput (Err at) text verdict = SaysBadLine at text verdict
 IsCheckOutput (Ok facts) text verdict = SaysUnsound facts text verdict ⊎ SaysSound facts text verdict
 
+-- what is told of the input, whatever it says
+abbrev pub IsInspectOutput : List ℕ → List ℕ → Verdict → Type 0
+IsInspectOutput input text verdict = (text ≡ inspected input) × (verdict ≡ Done)
+
 -- what a task writes for an input, and how it ends
 abbrev pub IsOutputOf : Task → List ℕ → List ℕ → Verdict → Type 0
 IsOutputOf Run input text verdict = IsRunOutput (script_of input) text verdict
 IsOutputOf Check input text verdict = IsCheckOutput (facts_of input) text verdict
+IsOutputOf Inspect input text verdict = IsInspectOutput input text verdict

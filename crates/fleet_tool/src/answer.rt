@@ -8,9 +8,10 @@ ghost use Rattle.log_law.specs.Report.{Reports};
 ghost use Rattle.script_text.specs.StepLine.{IsInRange};
 ghost use Rattle.script_text.specs.Script.{script_of, facts_of};
 ghost use Rattle.script_text.specs.Outcome.{script_data};
-ghost use Rattle.fleet_tool.specs.Output.{SaysBadLine, SaysUnsound, SaysReplies, IsRunOutput, IsCheckOutput, IsOutputOf};
+ghost use Rattle.fleet_tool.specs.Output.{SaysBadLine, SaysUnsound, SaysReplies, IsRunOutput, IsCheckOutput, IsInspectOutput, IsOutputOf};
 
 use crate::asked::steps;
+use crate::inspect::inspected;
 use crate::job::Task;
 use crate::lines::lines;
 use fleet_core::Fleet;
@@ -112,6 +113,15 @@ fn answer_facts(alloc: Global, input: &[u8]) -> Result<Answered, AllocError>
     }
 }
 
+fn answer_capture(alloc: Global, input: &[u8]) -> Result<Answered, AllocError>
+    ensures { IfOk result (λ a. IsInspectOutput input.now (string_bytes a.text) a.verdict) }
+{
+    Ok(Answered {
+        text: inspected(alloc, input)?,
+        verdict: Verdict::Done,
+    })
+}
+
 /// The text that answers an input to the task. Its only error is want of memory.
 pub fn answer(alloc: Global, task: Task, input: &[u8]) -> Result<Answered, AllocError>
     ensures { IfOk result (λ a. IsOutputOf task input.now (string_bytes a.text) a.verdict) }
@@ -119,5 +129,6 @@ pub fn answer(alloc: Global, task: Task, input: &[u8]) -> Result<Answered, Alloc
     match task {
         Task::Run => answer_script(alloc, input),
         Task::Check => answer_facts(alloc, input),
+        Task::Inspect => answer_capture(alloc, input),
     }
 }

@@ -8,11 +8,12 @@ use std::alloc::{AllocError, Global};
 use std::convert::AsStr;
 use thiserror::Error as ErrorTraits;
 
-/// What the command line asks for: an answer to a script, or to a log.
+/// What the command line asks for: an answer to a script, to a log, or to a capture.
 #[derive(Clone, Copy, Debug, PartialEq, Eq)]
 pub enum Task {
     Run,
     Check,
+    Inspect,
 }
 
 /// Why the command line names no task.
@@ -38,12 +39,16 @@ fn command<'a>(alloc: Global) -> Result<Command<'a>, AllocError> {
     let check = Command::new(alloc, "check").about(
         "Tells whether the log on standard input is sound",
     );
+    let inspect = Command::new(alloc, "inspect").about(
+        "Tells what each line of hexadecimal digits on standard input spells",
+    );
     Command::new(alloc, "fleet")
         .about("Storage segments of a redo log")
         .subcommand_required(true)
         .disable_help_subcommand(true)
         .subcommand(run)?
-        .subcommand(check)
+        .subcommand(check)?
+        .subcommand(inspect)
 }
 
 fn fault_of(alloc: Global, error: Error) -> LineFault {
@@ -76,6 +81,7 @@ pub fn job_of<S: AsStr>(alloc: Global, words: &[S]) -> Result<Task, LineFault>
     match matches.subcommand() {
         Some(("run", _)) => Ok(Task::Run),
         Some(("check", _)) => Ok(Task::Check),
+        Some(("inspect", _)) => Ok(Task::Inspect),
         _ => Err(LineFault::Bad),
     }
 }

@@ -1,15 +1,16 @@
 //! Texts in, texts out, over any reader and writer; and the program `fleet` over any runtime.
 //!
-//! `run_text` answers a script with the replies of a fleet, `check_text` answers facts with their soundness. What either writes
-//! is an output that the definitions in `specs/` give to the whole input, for every input whose bytes the reader tells. The whole
-//! input is read before anything is written; an error says which device failed, or that memory ran out, and after `Input` and
-//! `Memory` nothing was written.
+//! `run_text` answers a script with the replies of a fleet, `check_text` answers facts with their soundness, `inspect_text` tells
+//! what each line of a capture spells. What they write is an output that the definitions in `specs/` give to the whole input, for
+//! every input whose bytes the reader tells; of a capture there is just one. The whole input is read before anything is written;
+//! an error says which device failed, or that memory ran out, and after `Input` and `Memory` nothing was written.
 #![tactic(auto)]
 
 mod answer;
 mod asked;
 mod device;
 mod fault;
+mod inspect;
 mod job;
 mod lines;
 mod program;
@@ -20,5 +21,5 @@ pub use answer::Verdict;
 pub use fault::RunFault;
 pub use job::{LineFault, Task, job_of};
 pub use program::run_program;
-pub use run::{check_text, run_text};
+pub use run::{check_text, inspect_text, run_text};
 pub use watched::Watched;

@@ -3,7 +3,7 @@
 use crate::answer::Verdict;
 use crate::fault::RunFault;
 use crate::job::{LineFault, Task, job_of};
-use crate::run::{check_text, run_text};
+use crate::run::{check_text, inspect_text, run_text};
 use crate::watched::Watched;
 use std::alloc::AllocError;
 use std::process::ExitCode;
@@ -33,6 +33,7 @@ fn answer_input(rt: &(impl Input + Print + Eprint + AllocGlobal), task: Task) ->
     let ended = match task {
         Task::Run => run_text(rt.alloc(), &mut reader, &mut writer),
         Task::Check => check_text(rt.alloc(), &mut reader, &mut writer),
+        Task::Inspect => inspect_text(rt.alloc(), &mut reader, &mut writer).map(|()| Verdict::Done),
     };
     match ended {
         Ok(Verdict::Done) => ExitCode::SUCCESS,

@@ -1,6 +1,7 @@
 pub mod Number
 pub mod Parts
 pub mod FactLine
+pub mod FactText
 pub mod StepLine
 pub mod Script
 pub mod Outcome

@@ -11,10 +11,12 @@ mod fields;
 mod laws;
 mod number;
 mod script;
+mod spelling;
 mod step_line;
 #[cfg(test)]
 mod tests;
 
 pub use laws::{bad_lines_are_least, lines_are_spelled, numbers_are_decimals, scripts_are_spelled};
 pub use script::{Script, ScriptError, read_facts, read_script};
+pub use spelling::fact_text;
 pub use step_line::StepLine;
