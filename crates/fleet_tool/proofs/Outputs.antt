@@ -1,12 +1,12 @@
 -- From what a text says to the output of its input.
-use Rattle.std.proofs.Common.{◌≡◌, ℕ, ◌+◌, ◌⊎◌, inl, inr, List, length, take, subst, ◌++◌, Option, Some, None, Result, Ok, Err, codes, string_bytes}
+use Rattle.std.proofs.Common.{◌≡◌, ℕ, inl, inr, List, length, take, subst, ◌++◌, Option, Some, None, Result, Ok, Err, codes, string_bytes}
 use Rattle.std.specs.Prelude.{IfOk, IfSome}
 use Rattle.std.specs.Io.KnownBytes.{Appends}
 use Rattle.std.specs.Fmt.{decimal}
 use Rattle.redo_core.specs.Sound.{IsSound}
 use Rattle.redo_core.specs.declared.facts.Fact.{Fact}
 use Rattle.script_text.specs.Script.{ScriptData}
-use Rattle.fleet_tool.specs.Output.{SaysUnsound, SaysReplies, SaysSound, IsRunOutput, IsCheckOutput, IsOutputOf}
+use Rattle.fleet_tool.specs.Output.{SaysUnsound, SaysReplies, IsRunOutput, IsCheckOutput, IsOutputOf}
 use Rattle.fleet_tool.specs.declared.answer.Answered.{Answered}
 use Rattle.fleet_tool.specs.declared.job.Task.{Task}
 use Rattle.fleet_tool.specs.declared.answer.Verdict.{Verdict}

@@ -1,5 +1,5 @@
 -- The step of the fleet that a step line asks for.
-use Rattle.std.specs.Prelude.{◌≡◌, ℕ, ◌-◌, List, slice_get, Some}
+use Rattle.std.specs.Prelude.{◌≡◌, ◌-◌, List, slice_get, Some}
 use Rattle.redo_core.specs.declared.facts.Fact.{Fact}
 use Rattle.fleet_core.specs.declared.steps.Step.{Step}
 use Rattle.fleet_core.specs.declared.steps.Step.TheVariants as step

@@ -3,6 +3,7 @@ pub mod Split
 pub mod Numbers
 pub mod WriteSpelling
 pub mod FactSpelling
+pub mod FactTexts
 pub mod StepSpelling
 pub mod Scripts
 pub mod BadLines

@@ -1,8 +1,8 @@
 -- The line of a fact in one spelling: digits in lower case, numbers in decimal.
-use Rattle.std.specs.Prelude.{List, ℕ, [], ◌∷◌, ◌++◌, codes}
+use Rattle.std.specs.Prelude.{◌≡◌, ℕ, ◌≤◌, List, [], ◌∷◌, ◌++◌, Ok, codes}
 use Rattle.std.specs.List.{flat_map}
 use Rattle.std.specs.Fmt.{decimal}
-use Rattle.hex.specs.Hex.{encode_lower}
+use Rattle.hex.specs.Hex.{encode_lower, decode_of}
 use Rattle.redo_core.specs.Data.{WriteData, RecordData, CutData, AdvanceData}
 use Rattle.redo_core.specs.declared.facts.Fact.{Fact}
 use Rattle.redo_core.specs.declared.facts.Fact.TheVariants.{Record, Cut, Advance}
@@ -34,3 +34,7 @@ abbrev pub fact_text : Fact → List ℕ
 fact_text (Record r) = record_text r
 fact_text (Cut c) = cut_text c
 fact_text (Advance a) = advance_text a
+
+-- a write whose text is read back: an offset in range, and digits that stand for its bytes
+abbrev pub IsReadBack : WriteData → Type 0
+IsReadBack w = (w.offset ≤ 65535) × (decode_of (encode_lower w.bytes) ≡ Ok w.bytes)

@@ -1,4 +1,4 @@
-use Rattle.std.proofs.Common.{◌≡◌, Ok, length, sym, rules}
+use Rattle.std.proofs.Common.{◌≡◌, Ok, length, rules}
 use Rattle.script_text.specs.Script.{facts_of}
 use Rattle.fleet_tool.proofs.Outputs.{check_unsound, check_sound}
 use Rattle.fleet_tool.proofs.answer.answer_facts.Goals as goal

@@ -1,4 +1,4 @@
-use Rattle.std.proofs.Common.{◌≡◌, Ok, length, sym, subst, List, rules}
+use Rattle.std.proofs.Common.{◌≡◌, Ok, subst, List, rules}
 use Rattle.redo_core.specs.Sound.{IsSound}
 use Rattle.redo_core.specs.declared.facts.Fact.{Fact}
 use Rattle.script_text.specs.Script.{script_of}

@@ -1,8 +1,7 @@
-use Rattle.std.proofs.Common.{◌≡◌, List, [], ◌∷◌, length, refl}
-use Rattle.std.specs.List.{All, AllZip}
-use Rattle.fleet_core.specs.Runs.{AreReplies, FollowsMachine}
+use Rattle.std.proofs.Common.{[], ◌∷◌, length, refl}
+use Rattle.std.specs.List.{AllZip}
+use Rattle.fleet_core.specs.Runs.{AreReplies}
 use Rattle.fleet_tool.specs.Asked.{Asks}
-use Rattle.fleet_tool.specs.Lines.{HasCome}
 use Rattle.fleet_tool.proofs.Steps.{all_read_inside, one_reply_each, replies_are}
 use Rattle.fleet_tool.proofs.answer.replies.Goals as goal
 

@@ -1,5 +1,4 @@
-use Rattle.std.proofs.Common.{◌≡◌, ◌∷◌, Some, None, sym, ◌∙◌, arith}
-use Rattle.std.specs.Prelude.{position}
+use Rattle.std.proofs.Common.{sym, ◌∙◌}
 use Rattle.fleet_tool.proofs.Captures.{cut_at, cut_nowhere}
 use Rattle.fleet_tool.proofs.inspect.first_line.Goals as goal
 

@@ -1,5 +1,4 @@
-use Rattle.std.proofs.Common.{rules, arith, subst, take}
-use Rattle.std.specs.List.{All}
+use Rattle.std.proofs.Common.{arith, subst}
 use Rattle.std.proofs.lemmas.Grind.{common_steps}
 use Rattle.std.proofs.lemmas.List.{take_all}
 use Rattle.std.proofs.lemmas.List.Elements.{All-more}
