@@ -11,7 +11,7 @@ use Rattle.redo_laws.proofs.Deciding.{all_of}
 use Rattle.segment_state.specs.State.{StoredImage}
 use Rattle.segment_state.specs.Stored.{PageBefore, PutsImage}
 use Rattle.page_base.specs.Placing.{SplitsAt, IsGapAt}
-use Rattle.page_base.proofs.Lists.{side, nothing_past, from_place, in_insert, new_in_insert, old_in_insert, rising_insert, in_set}
+use Rattle.page_base.proofs.Lists.{side, from_place, in_insert, new_in_insert, old_in_insert, rising_insert, in_set}
 
 below_true : (page : ℕ) (i : StoredImage) → nat_lt i.page page ≡ true → i.page < page
 below_true page i h = grind arith
@@ -53,15 +53,7 @@ split page images place le point = record {
       grind (arith, nat_tests);
 }
 
--- no image is of the page where the place at which it would stand is the end
-pub gap_at_end : (page : ℕ) (images : List StoredImage) (place : ℕ) → SplitsAt page images place → place ≡ length images → IsGapAt page images place
-gap_at_end page images place s e = record {
-  bound = s.bound;
-  below = s.below;
-  above = λ i h. absurd (nothing_past images place i (omega arith) h);
-}
-
--- nor where the image at that place is of another
+-- no image is of a page where the one at the page's place is of another
 pub gap_before : (page : ℕ) (images : List StoredImage) (place : ℕ) (x : StoredImage) → IsRising PageBefore images → SplitsAt page images place → place < length images → x ≡ get_or images place x → (x.page ≡ page → ⊥) → IsGapAt page images place
 gap_before page images place x rising s l e other = record {
   bound = s.bound;
