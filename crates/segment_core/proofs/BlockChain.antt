@@ -1,7 +1,7 @@
 -- Where the block chain of a page is broken, by a walk down it.
-use Rattle.std.proofs.Common.{◌≡◌, ℕ, zero, ◌<◌, ◌≤◌, ◌⊎◌, ◌↔◌, inl, inr, ⊎_elim, List, Option, Some, None, Result, Ok, Err, refl, sym, ap, ◌∙◌, subst, arith, rules}
+use Rattle.std.proofs.Common.{◌≡◌, ℕ, ◌<◌, ◌-◌, min, ◌≤◌, ◌⊎◌, ◌↔◌, inl, inr, ⊎_elim, List, Option, Some, None, Result, Ok, Err, refl, sym, ap, ◌∙◌, subst, arith, rules}
 use Rattle.std.specs.List.{Contains}
-use Rattle.redo_core.specs.Data.{RecordData}
+use Rattle.redo_core.specs.Data.{RecordData, CutData}
 use Rattle.redo_core.specs.Order.{BeforeByNumber}
 use Rattle.redo_core.specs.Sets.{records}
 use Rattle.redo_core.specs.CompleteEpoch.{IsCompleteEpoch}
@@ -13,8 +13,12 @@ use Rattle.redo_core.specs.declared.facts.Fact.TheVariants.{Record}
 use Rattle.redo_laws.proofs.Numbers.{greatest_unique}
 use Rattle.redo_laws.proofs.Log.{log_of_sound, record_in, kept}
 use Rattle.epoch_book.specs.Book.{BookData}
-use Rattle.hot_log.specs.Alive.{IsLinkedHeld}
-use Rattle.segment_state.specs.State.{State, version_of}
+use Rattle.redo_core.specs.Linked.{Linked, IsLinked}
+use Rattle.redo_core.specs.Linked.Linked.{start as first, next}
+use Rattle.hot_log.specs.Held.{IsHeld}
+use Rattle.hot_log.specs.Alive.{IsHeldOf as IsHotOf, IsLinkedHeld}
+use Rattle.hot_log.specs.Found.{IsLeastRecord, IsGreatestRecord, IsOnlyRecord}
+use Rattle.segment_state.specs.State.{State, Store, version_of}
 use Rattle.segment_state.specs.Means.{MeansAt}
 use Rattle.segment_state.specs.Shows.{IsHeldOf}
 use Rattle.segment_state.specs.HasMeaning.{IsLinkedIn, HasComplete}
@@ -26,7 +30,7 @@ use Rattle.segment_core.specs.Reading.{IsFrontAt, IsFrontOf}
 use Rattle.segment_core.specs.declared.answers.Front.{Front}
 use Rattle.segment_core.specs.declared.answers.ReadFault.{ReadFault}
 use Rattle.segment_core.specs.declared.answers.ReadFault.TheVariants.{Below, Above, BrokenBlockChain, Memory}
-use Rattle.segment_core.specs.BlockChain.{IsLinkedOf, OnBlockChain, BreaksFrom, BreaksAt, TellsBreak}
+use Rattle.segment_core.specs.BlockChain.{IsKnownLinked, IsLinkedOf, OnBlockChain, BreaksFrom, BreaksAt, TellsBreak}
 use Rattle.segment_core.specs.BlockChain.OnBlockChain.{start, down}
 use Rattle.segment_core.proofs.Chain.{one_epoch}
 
@@ -94,55 +98,139 @@ breaks_first s k page q r n linked greatest only = (
   λ h. record { first = r; linked = linked; greatest = greatest; breaks = h },
 )
 
--- ---- the same for a segment's book and its held records
+-- ---- what a search among the held records finds of the linked ones
 
--- a segment that holds records alone has images of version 0
-pub version_zero : (b : BookData) (hs : List RecordData) (page : ℕ) → version_of (state_of b hs).store page ≡ zero
-unfolding version_of
-version_zero b hs page = refl
+-- no linked number is below the base
+from_base : (cs : List CutData) (hs : List RecordData) (k base n : ℕ) → Linked cs hs k base n → base ≤ n
+from_base cs hs k base _ first = omega arith
+from_base cs hs k base _ (next r among alive above rest) = omega (arith, above)
 
-pub linked_as : (b : BookData) (hs : List RecordData) (page q : ℕ) (r : RecordData) → IsLinkedHeld b hs 0 r → r.page ≡ page → r.number ≤ q → IsLinkedOf (state_of b hs) b.complete page q r
-linked_as b hs page q r l g le = (l.0, l.1, l.2, g, le)
+-- a held record has its shape, so its number is above 0
+positive_number : (hs : List RecordData) (r : RecordData) → IsHeld hs → Contains hs r → 0 < r.number
+positive_number hs r held among = let shaped = held.shaped r among in positive r shaped
+  where
+    positive : (r : RecordData) → record_fault r ≡ None → 0 < r.number
+    positive r shaped = search (rules, shaped)
 
-pub held_as : (b : BookData) (hs : List RecordData) (page q : ℕ) (r : RecordData) → IsLinkedOf (state_of b hs) b.complete page q r → IsLinkedHeld b hs 0 r × (r.page ≡ page) × (r.number ≤ q)
-held_as b hs page q r l = ((l.0, l.1, l.2), l.3, l.4)
+greatest_by : (P Q : RecordData → Type 0) → ((r : RecordData) → P r ↔ Q r) → (found : Option RecordData) → IsGreatestRecord P found → IsGreatestRecord Q found
+greatest_by P Q same None none = λ r h. none r ((same r).1 h)
+greatest_by P Q same (Some r) h = ((same r).0 h.0, λ x y. h.1 x ((same x).1 y))
 
--- the walk that begins at the greatest record
-pub walk_begins : (b : BookData) (hs : List RecordData) (page q : ℕ) (r : RecordData) → (IsLinkedHeld b hs 0 r × (r.page ≡ page) × (r.number ≤ q)) → ((s : RecordData) → IsLinkedHeld b hs 0 s × (s.page ≡ page) × (s.number ≤ q) → (s ≡ r) ⊎ BeforeByNumber s r) → (n : ℕ) → BreaksAt (state_of b hs) b.complete page q n ↔ BreaksFrom (state_of b hs) b.complete page q r n
-walk_begins b hs page q r p before n =
-    breaks_first (state_of b hs) b.complete page q r n (linked_as b hs page q r p.0 p.1 p.2)
+-- what holds in the book's view holds in each view that is complete
+pub in_every_view : (b : BookData) → IsCompleteEpoch b.cuts b.complete → (P : ℕ → Type 0) → P b.complete → (k : ℕ) → IsCompleteEpoch b.cuts k → P k
+in_every_view b complete P h k at = subst P (one_epoch b.cuts b.complete k complete at) h
+
+-- where the held records link some of the page from the base point on, the last of these is the last of all
+pub last_linked : (b : BookData) (hs : List RecordData) (base : ℕ) (store : Store) (page q : ℕ) (r : RecordData) → IsGreatestRecord (λ x. IsLinkedHeld b hs base x × (x.page ≡ page) × (x.number ≤ q)) (Some r) → IsGreatestRecord (IsLinkedOf (state_of b hs base store) b.complete page q) (Some r)
+last_linked b hs base store page q r h = ((h.0.0.0, h.0.0.1, inr h.0.0.2, h.0.1, h.0.2), before)
+  where
+    least : base ≤ r.number
+    least = from_base b.cuts hs b.complete base r.number h.0.0.2
+
+    before : (x : RecordData) → IsLinkedOf (state_of b hs base store) b.complete page q x → (x ≡ r) ⊎ BeforeByNumber x r
+    before x l = ⊎_elim
+        (λ (low : x.number ≤ base). ⊎_elim
+        (λ (same : base ≡ x.number). h.1 x ((l.0, l.1, subst (Linked b.cuts hs b.complete base) same first), l.3, l.4))
+        (λ (lt : x.number < base). inr (omega (arith, lt, least)))
+        (let t : (base ≡ x.number) ⊎ (x.number < base) = grind (arith, low) in t))
+        (λ linked. h.1 x ((l.0, l.1, linked), l.3, l.4))
+        l.2
+
+-- where they link none, the last alive record of the page up to the base point is the last of all
+pub last_unlinked : (b : BookData) (hs : List RecordData) (base : ℕ) (store : Store) (page q top : ℕ) (found : Option RecordData) → IsHeld hs → IsGreatestRecord (λ x. IsLinkedHeld b hs base x × (x.page ≡ page) × (x.number ≤ q)) None → top ≡ min base q → IsGreatestRecord (IsHotOf b hs page 0 top) found → IsGreatestRecord (IsLinkedOf (state_of b hs base store) b.complete page q) found
+last_unlinked b hs base store page q top found held none least =
+    let low : top ≤ base = omega (arith, least) in
+    let small : top ≤ q = omega (arith, least) in
+    let most : (n : ℕ) → n ≤ base → n ≤ q → n ≤ top = λ n le few. omega (arith, least, le, few) in
+    greatest_by (IsHotOf b hs page 0 top) (IsLinkedOf (state_of b hs base store) b.complete page q) (λ r. (
+      λ h. let n : r.number ≤ top = h.4 in (h.0, h.1, inl (omega (arith, n, low)), h.2, omega (arith, n, small)),
+      λ l. ⊎_elim
+          (λ (le : r.number ≤ base). (l.0, l.1, l.3, positive_number hs r held l.0, most r.number le l.4))
+          (λ linked. absurd (none r ((l.0, l.1, linked), l.3, l.4)))
+          l.2,
+    )) found
+
+-- r is a linked record of the page with this number
+abbrev pub IsLinkedAt : State → ℕ → ℕ → ℕ → RecordData → Type 0
+IsLinkedAt s k page number r = IsLinkedOf s k page number r × (r.number ≡ number)
+
+-- up to the base point each alive record is linked
+pub only_low : (b : BookData) (hs : List RecordData) (base : ℕ) (store : Store) (page from number : ℕ) (found : Option RecordData) → IsHeld hs → number ≤ base → from ≡ number - 1 → IsLeastRecord (IsHotOf b hs page from number) found → IsOnlyRecord (IsLinkedAt (state_of b hs base store) b.complete page number) found
+only_low b hs base store page from number None held low is none = λ r l.
+    let n : r.number ≡ number = l.1 in
+    let positive = positive_number hs r held l.0.0 in
+    none r (l.0.0, l.0.1, l.0.3, omega (arith, n, positive, is), omega (arith, n))
+only_low b hs base store page from number (Some r) held low is h =
+    let n : r.number ≤ number = h.0.4 in
+    let above : from < r.number = h.0.3 in
+    let at : r.number ≡ number = omega (arith, n, above, is) in (
+      ((h.0.0, h.0.1, inl (omega (arith, n, low)), h.0.2, n), at),
+      λ x l.
+          let m : x.number ≡ number = l.1 in
+          let positive = positive_number hs x held l.0.0 in
+          ⊎_elim
+          (λ (same : x ≡ r). same)
+          (λ (lt : r.number < x.number). absurd (omega (arith, lt, at, m)))
+          (h.1 x (l.0.0, l.0.1, l.0.3, omega (arith, m, positive, is), omega (arith, m))),
+    )
+
+-- above it the linked record of the number is the only one, if it is of the page
+pub none_high : (b : BookData) (hs : List RecordData) (base : ℕ) (store : Store) (page number : ℕ) → base < number → IsOnlyRecord (λ x. IsLinkedHeld b hs base x × (x.number ≡ number)) None → IsOnlyRecord (IsLinkedAt (state_of b hs base store) b.complete page number) None
+none_high b hs base store page number high none = λ r l.
+    let n : r.number ≡ number = l.1 in
+    ⊎_elim
+    (λ (le : r.number ≤ base). absurd (omega (arith, le, n, high)))
+    (λ linked. none r ((l.0.0, l.0.1, linked), l.1))
+    l.0.2
+
+only_of_high : (b : BookData) (hs : List RecordData) (base : ℕ) (store : Store) (page number : ℕ) (r x : RecordData) → base < number → IsOnlyRecord (λ y. IsLinkedHeld b hs base y × (y.number ≡ number)) (Some r) → IsLinkedAt (state_of b hs base store) b.complete page number x → x ≡ r
+only_of_high b hs base store page number r x high h l =
+    let n : x.number ≡ number = l.1 in
+    ⊎_elim
+    (λ (le : x.number ≤ base). absurd (omega (arith, le, n, high)))
+    (λ linked. h.1 x ((l.0.0, l.0.1, linked), l.1))
+    l.0.2
+
+pub only_high : (b : BookData) (hs : List RecordData) (base : ℕ) (store : Store) (page number : ℕ) (r : RecordData) → base < number → IsOnlyRecord (λ x. IsLinkedHeld b hs base x × (x.number ≡ number)) (Some r) → r.page ≡ page → IsOnlyRecord (IsLinkedAt (state_of b hs base store) b.complete page number) (Some r)
+only_high b hs base store page number r high h of_page =
+    let n : r.number ≡ number = h.0.1 in
+    (((h.0.0.0, h.0.0.1, inr h.0.0.2, of_page, omega (arith, n)), n), λ x l. only_of_high b hs base store page number r x high h l)
+
+pub other_page : (b : BookData) (hs : List RecordData) (base : ℕ) (store : Store) (page number : ℕ) (r : RecordData) → base < number → IsOnlyRecord (λ x. IsLinkedHeld b hs base x × (x.number ≡ number)) (Some r) → (r.page ≡ page → ⊥) → IsOnlyRecord (IsLinkedAt (state_of b hs base store) b.complete page number) None
+other_page b hs base store page number r high h of_other = λ x l.
+    let same : x ≡ r = only_of_high b hs base store page number r x high h l in
+    of_other (subst (λ y. y.page ≡ page) same l.0.3)
+
+-- ---- the walk of a state
+
+-- it begins at the last linked record of the page
+pub walk_begins : (s : State) (k page q : ℕ) (r : RecordData) → IsGreatestRecord (IsLinkedOf s k page q) (Some r) → (n : ℕ) → BreaksAt s k page q n ↔ BreaksFrom s k page q r n
+walk_begins s k page q r h n =
+    breaks_first s k page q r n h.0
     (λ x l. ⊎_elim
     (λ (z : x ≡ r). let same : x.number ≡ r.number = ap (λ (y : RecordData). y.number) z in omega (arith, same))
     (λ (lt : x.number < r.number). omega (arith, lt))
-    (before x (held_as b hs page q x l)))
-    (λ x l e. ⊎_elim (λ (z : x ≡ r). z) (λ (lt : x.number < r.number). absurd (omega (arith, lt, e))) (before x (held_as b hs page q x l)))
+    (h.1 x l))
+    (λ x l e. ⊎_elim (λ (z : x ≡ r). z) (λ (lt : x.number < r.number). absurd (omega (arith, lt, e))) (h.1 x l))
 
 -- no linked record of the page, no break
-pub none_begins : (b : BookData) (hs : List RecordData) (page q : ℕ) → ((r : RecordData) → IsLinkedHeld b hs 0 r × (r.page ≡ page) × (r.number ≤ q) → ⊥) → (n : ℕ) → BreaksAt (state_of b hs) b.complete page q n → ⊥
-none_begins b hs page q none n h = none h.first (held_as b hs page q h.first h.linked)
+pub none_begins : (s : State) (k page q : ℕ) → IsGreatestRecord (IsLinkedOf s k page q) None → (n : ℕ) → BreaksAt s k page q n → ⊥
+none_begins s k page q none n h = none h.first h.linked
 
--- the walk goes down
-pub walk_goes : (b : BookData) (hs : List RecordData) (page q : ℕ) (r below : RecordData) → 0 < r.block_back → r.block_back ≤ q → IsLinkedHeld b hs 0 below → below.page ≡ page → below.number ≡ r.block_back → ((s : RecordData) → IsLinkedHeld b hs 0 s × (s.page ≡ page) × (s.number ≡ r.block_back) → s ≡ below) → IsBelow (state_of b hs) b.complete page q r below
-walk_goes b hs page q r below positive small l g e only =
-    let zero_is = version_zero b hs page in
+-- it goes down to the linked record at the block backlink
+pub walk_goes : (s : State) (k page q : ℕ) (r below : RecordData) → version_of s.store page < r.block_back → r.block_back ≤ q → IsOnlyRecord (IsLinkedAt s k page r.block_back) (Some below) → IsBelow s k page q r below
+walk_goes s k page q r below above small h =
+    let at : below.number ≡ r.block_back = h.0.1 in
     record {
-      above = omega (arith, zero_is, positive);
-      linked = linked_as b hs page q below l g (omega (arith, e, small));
-      at = e;
-      only = λ x h n. only x ((h.0, h.1, h.2), h.3, n);
+      above = above;
+      linked = (h.0.0.0, h.0.0.1, h.0.0.2, h.0.0.3, omega (arith, at, small));
+      at = at;
+      only = λ x l n. h.1 x ((l.0, l.1, l.2, l.3, omega (arith, n)), n);
     }
 
--- the walk ends at a record whose block backlink leads nowhere
-pub walk_breaks : (b : BookData) (hs : List RecordData) (page q : ℕ) (r : RecordData) → 0 < r.block_back → ((s : RecordData) → IsLinkedHeld b hs 0 s × (s.page ≡ page) × (s.number ≡ r.block_back) → ⊥) → (n : ℕ) → (r.number ≡ n) ↔ BreaksFrom (state_of b hs) b.complete page q r n
-walk_breaks b hs page q r positive none n =
-    let zero_is = version_zero b hs page in
-    breaks_here (state_of b hs) b.complete page q r n (omega (arith, zero_is, positive)) (λ x h e. none x ((h.0, h.1, h.2), h.3, e))
-
--- the walk ends at a record without a block backlink
-pub walk_ends : (b : BookData) (hs : List RecordData) (page q : ℕ) (r : RecordData) → r.block_back ≤ 0 → (n : ℕ) → BreaksFrom (state_of b hs) b.complete page q r n → ⊥
-walk_ends b hs page q r le n h =
-    let zero_is = version_zero b hs page in
-    whole_from (state_of b hs) b.complete page q r n (omega (arith, zero_is, le)) h
+-- it ends at a record whose block backlink leads nowhere
+pub walk_breaks : (s : State) (k page q : ℕ) (r : RecordData) → version_of s.store page < r.block_back → IsOnlyRecord (IsLinkedAt s k page r.block_back) None → (n : ℕ) → (r.number ≡ n) ↔ BreaksFrom s k page q r n
+walk_breaks s k page q r above none n = breaks_here s k page q r n above (λ x l e. none x ((l.0, l.1, l.2, l.3, omega (arith, e)), e))
 
 -- ---- over a sound log no block chain breaks
 
@@ -160,8 +248,16 @@ back_below log r sound among positive =
     (λ (x : IsAliveBelow log r (λ o. o.page ≡ r.page) r.block_back). x.below)
     law.law4.0
 
-pub no_break : (log facts : List Fact) (p : Position) (s : State) (page q n : ℕ) → IsSound log → MeansAt log facts p s → s.base ≡ 0 → q ≤ p.complete → BreaksAt s p.epoch page q n → ⊥
-no_break log facts p s page q n sound means base le h =
+-- over a sound log what the facts link is known to be linked
+known_linked : (log facts : List Fact) (p : Position) (s : State) (n : ℕ) → IsSound log → MeansAt log facts p s → IsLinked facts p.epoch n → IsKnownLinked s p.epoch n
+known_linked log facts p s n sound means linked =
+    ⊎_elim
+    (λ (low : n ≤ s.base). inl low)
+    (λ (high : s.base < n). inr ((links_law log facts p s n (log_of_sound log sound) means).1 (linked, omega (arith, high))))
+    (let t : (n ≤ s.base) ⊎ (s.base < n) = grind arith in t)
+
+pub no_break : (log facts : List Fact) (p : Position) (s : State) (page q n : ℕ) → IsSound log → MeansAt log facts p s → q ≤ p.complete → BreaksAt s p.epoch page q n → ⊥
+no_break log facts p s page q n sound means le h =
     let r = h.breaks.at in
     let l : IsLinkedOf s p.epoch page q r = on_linked s p.epoch page q h.first r h.linked h.breaks.on in
     let above : version_of s.store page < r.block_back = h.breaks.above in
@@ -172,8 +268,7 @@ no_break log facts p s page q n sound means base le h =
     (λ (found : (below : RecordData) × IsHeldOf s p.epoch page q below × (below.number ≡ r.block_back)).
     let x = found.0 in
     let fact = (held_of log facts p s (log_of_sound log sound) means page q le x).0 found.1 in
-    let linked = (links_law log facts p s x.number (log_of_sound log sound) means).1 (fact.0.linked, (omega (arith, base))) in
-    h.breaks.nowhere x (found.1.0, found.1.1, linked, found.1.2, found.1.4) found.2)
+    h.breaks.nowhere x (found.1.0, found.1.1, known_linked log facts p s x.number sound means fact.0.linked, found.1.2, found.1.4) found.2)
     (whole_block_chains log facts p s page q r sound means le (l.0, l.1, l.3, omega (arith, above, back), small)).0
 
 -- ---- what the walk and a read answer
@@ -247,9 +342,9 @@ no_link : (link : Option ℕ) → ((n : ℕ) → link ≡ Some n → ⊥) → li
 no_link None not = refl
 no_link (Some n) not = absurd (not n refl)
 
-pub sound_link : (s : State) (page q : ℕ) (link : Option ℕ) → s.base ≡ 0 → TellsLink s page q link → (log facts : List Fact) (p : Position) → IsSound log → MeansAt log facts p s → q ≤ p.complete → link ≡ None
-sound_link s page q link base tells log facts p sound means le =
-    no_link link (λ n is. no_break log facts p s page q n sound means base le ((tells p.epoch n (epoch_of log facts p s means)).0 is))
+pub sound_link : (s : State) (page q : ℕ) (link : Option ℕ) → TellsLink s page q link → (log facts : List Fact) (p : Position) → IsSound log → MeansAt log facts p s → q ≤ p.complete → link ≡ None
+sound_link s page q link tells log facts p sound means le =
+    no_link link (λ n is. no_break log facts p s page q n sound means le ((tells p.epoch n (epoch_of log facts p s means)).0 is))
 
 pub within : (p : Position) (front : Front) (q : ℕ) → IsFrontAt p front → q ≤ front.complete → q ≤ p.complete
 within p front q at high = let complete : front.complete ≡ p.complete = at.complete in omega (arith, complete, high)

@@ -7,7 +7,7 @@ use Rattle.redo_core.specs.Order.{IsGreatest}
 use Rattle.redo_core.specs.CompleteEpoch.{HasCutsTo, IsCompleteEpoch}
 use Rattle.redo_core.specs.Linked.{Linked}
 use Rattle.redo_core.specs.Linked.Linked.{start, next}
-use Rattle.redo_core.specs.Shape.{record_fault}
+use Rattle.redo_core.specs.Shape.{record_fault, max_number}
 use Rattle.redo_core.specs.Sound.{IsSound}
 use Rattle.redo_core.specs.Position.{Position}
 use Rattle.redo_core.specs.declared.facts.Fact.{Fact}
@@ -15,7 +15,7 @@ use Rattle.redo_laws.proofs.Numbers.{greatest_unique}
 use Rattle.redo_laws.proofs.Log.{log_of_sound}
 use Rattle.epoch_book.specs.Book.{BookData, IsBook}
 use Rattle.hot_log.specs.Held.{IsHeld}
-use Rattle.segment_state.specs.State.{State}
+use Rattle.segment_state.specs.State.{State, Store}
 use Rattle.segment_state.specs.Means.{MeansAt}
 use Rattle.segment_state.specs.HasMeaning.{HasComplete, HasAnchor, IsSettled}
 use Rattle.segment_state.proofs.Own.{epoch_of, complete_as, anchor_law}
@@ -39,31 +39,35 @@ small_number : (r : RecordData) → record_fault r ≡ None → r.number ≤ 281
 small_number r shaped = search (rules, shaped)
 
 -- with a limit that no linked number is above, the greatest is the greatest of all
-pub greatest_of_all : (cs : List CutData) (hs : List RecordData) (k top n : ℕ) → ((r : RecordData) → Contains hs r → r.number ≤ top) → IsGreatest (λ m. Linked cs hs k 0 m × (m ≤ top)) n → IsGreatest (Linked cs hs k 0) n
-greatest_of_all cs hs k top n small g =
-    (⊎_elim (λ (z : n ≡ 0). inl z) (λ h. inr h.0) g.0, λ m h. g.1 m (h, linked_small cs hs k 0 top m small (omega arith) h))
+pub greatest_of_all : (cs : List CutData) (hs : List RecordData) (k base top n : ℕ) → ((r : RecordData) → Contains hs r → r.number ≤ top) → base ≤ top → IsGreatest (λ m. Linked cs hs k base m × (m ≤ top)) n → IsGreatest (Linked cs hs k base) n
+greatest_of_all cs hs k base top n small low g =
+    (⊎_elim (λ (z : n ≡ 0). inl z) (λ h. inr h.0) g.0, λ m h. g.1 m (h, linked_small cs hs k base top m small low h))
 
--- n is the greatest number up to a limit that the held records link, in the book's view
-abbrev pub IsGreatestLinked : BookData → List RecordData → ℕ → ℕ → Type 0
-IsGreatestLinked b hs limit n = IsGreatest (λ m. Linked b.cuts hs b.complete 0 m × (m ≤ limit)) n
+-- n is the greatest number up to a limit that the held records link from the base point on, in the book's view
+abbrev pub IsGreatestLinked : BookData → List RecordData → ℕ → ℕ → ℕ → Type 0
+IsGreatestLinked b hs base limit n = IsGreatest (λ m. Linked b.cuts hs b.complete base m × (m ≤ limit)) n
 
-pub greatest_linked : (b : BookData) (hs : List RecordData) (limit n : ℕ) → Linked b.cuts hs b.complete 0 n → n ≤ limit → ((m : ℕ) → Linked b.cuts hs b.complete 0 m → m ≤ limit → m ≤ n) → IsGreatestLinked b hs limit n
-greatest_linked b hs limit n linked bound greatest = (inr (linked, bound), λ m h. greatest m h.0 h.1)
+pub greatest_linked : (b : BookData) (hs : List RecordData) (base limit n : ℕ) → Linked b.cuts hs b.complete base n → n ≤ limit → ((m : ℕ) → Linked b.cuts hs b.complete base m → m ≤ limit → m ≤ n) → IsGreatestLinked b hs base limit n
+greatest_linked b hs base limit n linked bound greatest = (inr (linked, bound), λ m h. greatest m h.0 h.1)
 
-pub own_anchor : (b : BookData) (hs : List RecordData) (n : ℕ) → IsBook b → IsGreatestLinked b hs b.min n → (k : ℕ) → IsCompleteEpoch b.cuts k → HasAnchor (state_of b hs) k n
-own_anchor b hs n is_book g k at = subst (λ j. HasAnchor (state_of b hs) j n) (one_epoch b.cuts b.complete k is_book.complete at) g
+pub own_anchor : (b : BookData) (hs : List RecordData) (base : ℕ) (store : Store) (n : ℕ) → IsBook b → IsGreatestLinked b hs base b.min n → (k : ℕ) → IsCompleteEpoch b.cuts k → HasAnchor (state_of b hs base store) k n
+own_anchor b hs base store n is_book g k at = subst (λ j. HasAnchor (state_of b hs base store) j n) (one_epoch b.cuts b.complete k is_book.complete at) g
 
 pub true_anchor : (s : State) (n : ℕ) → ((k : ℕ) → IsCompleteEpoch s.cuts k → HasAnchor s k n) → (log facts : List Fact) (p : Position) → IsSound log → MeansAt log facts p s → n ≡ p.anchor
 true_anchor s n own log facts p sound means =
     let at = epoch_of log facts p s means in
     (anchor_law log facts p s p.epoch n (log_of_sound log sound) means at (own p.epoch at)).1
 
-pub own_front : (b : BookData) (hs : List RecordData) (front : Front) → IsBook b → IsHeld hs → front.epoch ≡ b.complete → front.min ≡ b.min → IsGreatestLinked b hs 281474976710655 front.complete → IsFrontOf (state_of b hs) front
-own_front b hs front is_book held e m g =
-    let top = greatest_of_all b.cuts hs b.complete 281474976710655 front.complete (λ r among. small_number r (held.shaped r among)) g in
+-- the base point is not above the minimum read point, so it is small as that is
+pub small_base : (b : BookData) (base : ℕ) → IsBook b → base ≤ b.min → base ≤ 281474976710655
+small_base b base is_book low = let small : b.min ≤ max_number = is_book.min_shaped in omega (arith, low, small)
+
+pub own_front : (b : BookData) (hs : List RecordData) (base : ℕ) (store : Store) (front : Front) → IsBook b → IsHeld hs → base ≤ b.min → front.epoch ≡ b.complete → front.min ≡ b.min → IsGreatestLinked b hs base 281474976710655 front.complete → IsFrontOf (state_of b hs base store) front
+own_front b hs base store front is_book held low e m g =
+    let top = greatest_of_all b.cuts hs b.complete base 281474976710655 front.complete (λ r among. small_number r (held.shaped r among)) (small_base b base is_book low) g in
     record {
       epoch = subst (λ n. IsCompleteEpoch b.cuts n) (sym e) is_book.complete;
-      complete = subst (λ n. HasComplete (state_of b hs) n front.complete) (sym e) top;
+      complete = subst (λ n. HasComplete (state_of b hs base store) n front.complete) (sym e) top;
       min = m;
     }
 
@@ -77,19 +81,19 @@ true_front s front own log facts p sound means =
     }
 
 -- a number is at or below the anchor exactly where it is settled
-pub settled_at : (s : State) (k anchor n : ℕ) → HasAnchor s k anchor → s.base ≡ 0 → n ≤ anchor → 0 < n → IsSettled s k n
-settled_at s k anchor n g base le positive = ⊎_elim (λ (z : anchor ≡ 0). absurd (omega arith)) (λ h. (anchor, h.0, h.1, le)) g.0
+pub settled_at : (s : State) (k anchor n : ℕ) → HasAnchor s k anchor → n ≤ anchor → 0 < n → IsSettled s k n
+settled_at s k anchor n g le positive = ⊎_elim (λ (z : anchor ≡ 0). absurd (omega arith)) (λ h. (anchor, h.0, h.1, le)) g.0
 
 pub settled_below : (s : State) (k anchor n : ℕ) → HasAnchor s k anchor → IsSettled s k n → n ≤ anchor
 settled_below s k anchor n g settled = let x = g.1 settled.0 (settled.1, settled.2) in omega (arith, x, settled.3)
 
 -- ---- whether a record is compared, by how it stands
-pub dead_is_not : (b : BookData) (hs : List RecordData) (r : RecordData) (e n : ℕ) → IsCompleteEpoch b.cuts b.complete → e ≡ r.epoch → n ≡ r.number → IsDead b.cuts b.complete e n → (k : ℕ) → IsCompleteEpoch b.cuts k → IsTrue true ↔ IsNotCompared (state_of b hs) k r
-dead_is_not b hs r e n complete se sn dead = λ k at.
+pub dead_is_not : (b : BookData) (hs : List RecordData) (base : ℕ) (store : Store) (r : RecordData) (e n : ℕ) → IsCompleteEpoch b.cuts b.complete → e ≡ r.epoch → n ≡ r.number → IsDead b.cuts b.complete e n → (k : ℕ) → IsCompleteEpoch b.cuts k → IsTrue true ↔ IsNotCompared (state_of b hs base store) k r
+dead_is_not b hs base store r e n complete se sn dead = λ k at.
     (λ t. inl (subst (λ j. IsDead b.cuts j r.epoch r.number) (one_epoch b.cuts b.complete k complete at) (subst (λ x. IsDead b.cuts b.complete x r.number) se (subst (λ x. IsDead b.cuts b.complete e x) sn dead))), λ h. refl)
 
-pub waiting_is : (b : BookData) (hs : List RecordData) (r : RecordData) (e : ℕ) → IsCompleteEpoch b.cuts b.complete → e ≡ r.epoch → IsWaiting b.complete e → (k : ℕ) → IsCompleteEpoch b.cuts k → IsTrue false ↔ IsNotCompared (state_of b hs) k r
-waiting_is b hs r e complete se waits = λ k at.
+pub waiting_is : (b : BookData) (hs : List RecordData) (base : ℕ) (store : Store) (r : RecordData) (e : ℕ) → IsCompleteEpoch b.cuts b.complete → e ≡ r.epoch → IsWaiting b.complete e → (k : ℕ) → IsCompleteEpoch b.cuts k → IsTrue false ↔ IsNotCompared (state_of b hs base store) k r
+waiting_is b hs base store r e complete se waits = λ k at.
     let same : b.complete ≡ k = one_epoch b.cuts b.complete k complete at in (
       λ (t : false ≡ true). absurd (cc),
       λ h. absurd (⊎_elim (λ dead. let known : r.epoch ≤ k = dead.0 in omega (arith, waits, se, same, known)) (λ alive. let known : r.epoch ≤ k = alive.0.known in omega (arith, waits, se, same, known)) h),
@@ -99,9 +103,9 @@ waiting_is b hs r e complete se waits = λ k at.
 pub alive_in : (b : BookData) (k e n : ℕ) → IsCompleteEpoch b.cuts b.complete → IsCompleteEpoch b.cuts k → IsAlive b.cuts b.complete e n → IsAlive b.cuts k e n
 alive_in b k e n complete at alive = subst (λ j. IsAlive b.cuts j e n) (one_epoch b.cuts b.complete k complete at) alive
 
-pub alive_is : (s : State) (r : RecordData) (k e n m anchor : ℕ) → IsCompleteEpoch s.cuts k → s.base ≡ 0 → HasAnchor s k anchor → 0 < m → e ≡ r.epoch → n ≡ r.number → m ≡ r.number → IsAlive s.cuts k e n → IsTrue (nat_le m anchor) ↔ IsNotCompared s k r
-alive_is s r k e n m anchor at base g positive se sn sm alive =
+pub alive_is : (s : State) (r : RecordData) (k e n m anchor : ℕ) → IsCompleteEpoch s.cuts k → HasAnchor s k anchor → 0 < m → e ≡ r.epoch → n ≡ r.number → m ≡ r.number → IsAlive s.cuts k e n → IsTrue (nat_le m anchor) ↔ IsNotCompared s k r
+alive_is s r k e n m anchor at g positive se sn sm alive =
     let is_alive : IsAlive s.cuts k r.epoch r.number = subst (λ x. IsAlive s.cuts k x r.number) se (subst (λ x. IsAlive s.cuts k e x) sn alive) in (
-      λ t. let le : m ≤ anchor = leb-true m anchor t in inr (is_alive, settled_at s k anchor r.number g base (omega (arith, le, sm)) (omega (arith, positive, sm))),
+      λ t. let le : m ≤ anchor = leb-true m anchor t in inr (is_alive, settled_at s k anchor r.number g (omega (arith, le, sm)) (omega (arith, positive, sm))),
       λ h. ⊎_elim (λ dead. absurd (dead.1 is_alive)) (λ settled. let le = settled_below s k anchor r.number g settled.1 in le-leb m anchor (omega (arith, le, sm))) h,
     )

@@ -2,3 +2,11 @@ pub mod Taking
 pub mod Chain
 pub mod Reading
 pub mod BlockChain
+pub mod OneView
+pub mod Committing
+pub mod Pages
+pub mod Forget
+pub mod PlanFold
+pub mod FoldPages
+pub mod Tidying
+pub mod Forgotten

@@ -3,7 +3,7 @@ use Rattle.std.proofs.Common.{◌≡◌, ℕ, ◌<◌, ◌≤◌, List, [], subs
 use Rattle.redo_core.specs.Data.{RecordData}
 use Rattle.redo_core.specs.Order.{Lists, BeforeByNumber}
 use Rattle.redo_core.specs.CompleteEpoch.{IsCompleteEpoch}
-use Rattle.redo_core.specs.Writing.{after_records, zeros}
+use Rattle.redo_core.specs.Writing.{after_records}
 use Rattle.redo_core.specs.Sound.{IsSound}
 use Rattle.redo_core.specs.Position.{Position}
 use Rattle.redo_core.specs.PageAt.{IsPageAt}
@@ -14,7 +14,7 @@ use Rattle.epoch_book.specs.Book.{BookData}
 use Rattle.hot_log.specs.Held.{IsHeld}
 use Rattle.hot_log.specs.Alive.{IsHeldOf as IsHotOf}
 use Rattle.hot_log.proofs.Rising.{none_in}
-use Rattle.segment_state.specs.State.{State, version_of, image_of}
+use Rattle.segment_state.specs.State.{State, Store, version_of, image_of}
 use Rattle.segment_state.specs.Means.{MeansAt}
 use Rattle.segment_state.specs.Shows.{Shows}
 use Rattle.segment_state.proofs.Own.{epoch_of}
@@ -24,11 +24,11 @@ use Rattle.segment_core.specs.Reading.{IsFrontAt}
 use Rattle.segment_core.specs.declared.answers.Front.{Front}
 use Rattle.segment_core.proofs.Chain.{one_epoch}
 
--- the listed records over zeros are the page that the state shows
-pub shown : (b : BookData) (hs : List RecordData) (page q : ℕ) (written : List RecordData) (image : List ℕ) → IsCompleteEpoch b.cuts b.complete → Lists BeforeByNumber (IsHotOf b hs page 0 q) written → image ≡ after_records zeros written → (k : ℕ) → IsCompleteEpoch b.cuts k → Shows (state_of b hs) k page q image
-unfolding version_of image_of
-shown b hs page q written image complete lists result k at =
-    subst (λ j. Shows (state_of b hs) j page q image) (one_epoch b.cuts b.complete k complete at) (record { written = written; lists = lists; result = result })
+-- the listed records over the page's image are the page that the state shows
+pub shown : (b : BookData) (hs : List RecordData) (base : ℕ) (store : Store) (page version q : ℕ) (written : List RecordData) (image : List ℕ) → IsCompleteEpoch b.cuts b.complete → version ≡ version_of store page → Lists BeforeByNumber (IsHotOf b hs page version q) written → image ≡ after_records (image_of store page) written → (k : ℕ) → IsCompleteEpoch b.cuts k → Shows (state_of b hs base store) k page q image
+shown b hs base store page version q written image complete same lists result k at =
+    let listed = subst (λ v. Lists BeforeByNumber (IsHotOf b hs page v q) written) same lists in
+    subst (λ j. Shows (state_of b hs base store) j page q image) (one_epoch b.cuts b.complete k complete at) (record { written = written; lists = listed; result = result })
 
 -- above the complete point
 pub above : (p : Position) (front : Front) (q : ℕ) → IsFrontAt p front → front.min ≤ q → front.complete < q → (front.complete ≡ p.complete) × (p.min ≤ q) × (p.complete < q)

@@ -1,5 +1,5 @@
--- A segment as its book and its held records, and how their answers become its own.
-use Rattle.std.specs.Prelude.{◌≡◌, List, [], Result, Ok, Err}
+-- A segment as its book, its held records, its base point and its base images, and how their answers become its own.
+use Rattle.std.specs.Prelude.{◌≡◌, ℕ, List, Result, Ok, Err}
 use Rattle.redo_core.specs.Data.{RecordData}
 use Rattle.redo_core.specs.declared.facts.Fact.{Fact}
 use Rattle.redo_core.specs.declared.facts.Fact.TheVariants.{Record}
@@ -13,15 +13,15 @@ use Rattle.hot_log.specs.declared.log.Put.{Put}
 use Rattle.hot_log.specs.declared.log.Put.TheVariants as put
 use Rattle.hot_log.specs.declared.log.PutFault.{PutFault}
 use Rattle.hot_log.specs.declared.log.PutFault.TheVariants as fault
-use Rattle.segment_state.specs.State.{State}
+use Rattle.segment_state.specs.State.{State, Store}
 use Rattle.segment_core.specs.declared.answers.Taken.{Taken}
 use Rattle.segment_core.specs.declared.answers.Taken.TheVariants.{Changed, Unchanged}
 use Rattle.segment_core.specs.declared.answers.Refusal.{Refusal}
 use Rattle.segment_core.specs.declared.answers.Refusal.TheVariants.{OtherCut, Contradiction, OtherRecord, Memory}
 
--- the state of a segment with this book and these held records
-abbrev pub state_of : BookData → List RecordData → State
-state_of b held = record { cuts = b.cuts; min = b.min; waits = b.waits; held = held; base = 0; store = record { images = []; floor = 0 } }
+-- the state of a segment with this book, these held records, this base point and these images
+abbrev pub state_of : BookData → List RecordData → ℕ → Store → State
+state_of b held base store = record { cuts = b.cuts; min = b.min; waits = b.waits; held = held; base = base; store = store }
 
 abbrev pub refusal_of : BookRefusal → Refusal
 refusal_of (book.OtherCut c) = OtherCut c

@@ -1,5 +1,5 @@
 -- Where the block chain of a page is broken.
-use Rattle.std.specs.Prelude.{◌≡◌, ℕ, ◌<◌, ◌≤◌, ◌↔◌, List, Result, Err}
+use Rattle.std.specs.Prelude.{◌≡◌, ℕ, ◌<◌, ◌≤◌, ◌⊎◌, ◌↔◌, List, Result, Err}
 use Rattle.std.specs.List.{Contains}
 use Rattle.redo_core.specs.Data.{RecordData}
 use Rattle.redo_core.specs.CompleteEpoch.{IsCompleteEpoch}
@@ -9,9 +9,13 @@ use Rattle.segment_state.specs.HasMeaning.{IsLinkedIn, HasComplete}
 use Rattle.segment_core.specs.declared.answers.ReadFault.{ReadFault}
 use Rattle.segment_core.specs.declared.answers.ReadFault.TheVariants.{BrokenBlockChain}
 
+-- n is known to be linked: nothing is missing up to the base point, and from there on the held records link it
+abbrev pub IsKnownLinked : State → ℕ → ℕ → Type 0
+IsKnownLinked s k n = (n ≤ s.base) ⊎ IsLinkedIn s k n
+
 -- r is a linked record of the page, with a number at most q
 abbrev pub IsLinkedOf : State → ℕ → ℕ → ℕ → RecordData → Type 0
-IsLinkedOf s k page q r = Contains s.held r × IsAlive s.cuts k r.epoch r.number × IsLinkedIn s k r.number × (r.page ≡ page) × (r.number ≤ q)
+IsLinkedOf s k page q r = Contains s.held r × IsAlive s.cuts k r.epoch r.number × IsKnownLinked s k r.number × (r.page ≡ page) × (r.number ≤ q)
 
 -- the records on the walk down the block backlinks, from a first one to the version of the page's image
 pub data OnBlockChain (s : State) (k page q : ℕ) (first : RecordData) : RecordData → Type 0 where

@@ -4,3 +4,8 @@ pub mod Reading
 pub mod BlockChain
 pub mod Answering
 pub mod Exactly
+pub mod Folding
+pub mod Forgetting
+pub mod Adopting
+pub mod Keys
+pub mod Laws

@@ -26,29 +26,35 @@ ghost use Rattle.segment_core.specs.declared.answers.Refusal.TheVariants.{Memory
 use crate::answers::{Front, ReadFault, Refusal, Taken};
 use epoch_book::{BookRefusal, EpochBook, Learnt, Standing};
 use hot_log::{HotLog, Put, PutFault};
+use page_base::BaseStore;
 use redo_core::{Advance, Cut, Fact, MAX_NUMBER, Page, Record, Refused, apply};
 use std::alloc::{AllocError, Global};
 use std::marker::Model;
 
-/// A segment of a protection group: its truncations and advances, and its redo records by key.
+/// A segment of a protection group: its truncations and advances, its redo records by key, the base images of its pages, and
+/// a base point up to which it knows that nothing is missing. The base point is never above the minimum read point.
 #[derive(Drop)]
 pub struct Segment {
-    alloc: Global,
-    book: EpochBook,
-    hot: HotLog,
+    pub(crate) alloc: Global,
+    pub(crate) book: EpochBook,
+    pub(crate) hot: HotLog,
+    pub(crate) base: u64,
+    pub(crate) store: BaseStore,
 }
 
 impl Model for Segment {
     ghost use Rattle.segment_state.specs.State.{State};
     ghost use Rattle.epoch_book.specs.Book.{IsBook};
+    ghost use Rattle.std.specs.Prelude.{◌≤◌};
     ghost use Rattle.hot_log.specs.Held.{IsHeld};
+    ghost use Rattle.page_base.specs.Stored.{IsStored};
     ghost use Rattle.segment_core.specs.Answering.{state_of};
 
     ghost Value = { State };
 
-    ghost view = { λ s. state_of s.book s.hot };
+    ghost view = { λ s. state_of s.book s.hot s.base s.store };
 
-    ghost invariant = { λ s. IsBook s.book × IsHeld s.hot };
+    ghost invariant = { λ s. IsBook s.book × IsHeld s.hot × IsStored s.store × (s.base ≤ s.book.min) };
 }
 
 impl Segment {
@@ -61,6 +67,8 @@ impl Segment {
             alloc,
             book: EpochBook::new(alloc),
             hot: HotLog::new(alloc),
+            base: 0,
+            store: BaseStore::new(alloc),
         }
     }
 
@@ -72,6 +80,8 @@ impl Segment {
             alloc: self.alloc,
             book: self.book.copy()?,
             hot: self.hot.copy()?,
+            base: self.base,
+            store: self.store.copy()?,
         })
     }
 
@@ -102,7 +112,7 @@ impl Segment {
     {
         Front {
             epoch: self.book.complete_epoch(),
-            complete: self.hot.linked_to(&self.book, 0, MAX_NUMBER),
+            complete: self.hot.linked_to(&self.book, self.base, MAX_NUMBER),
             min: self.book.min_point(),
         }
     }
@@ -112,15 +122,15 @@ impl Segment {
         ensures anchor { (log facts : List AnyFact) (p : Position) → IsSound log → MeansAt log facts p self.now → result ≡ p.anchor }
         ensures own { (k : ℕ) → IsCompleteEpoch self.now.cuts k → HasAnchor self.now k result }
     {
-        self.hot.linked_to(&self.book, 0, self.book.min_point())
+        self.hot
+            .linked_to(&self.book, self.base, self.book.min_point())
     }
 
     /// The number up to which the segment knows that it is complete, whatever it has thrown away.
     pub fn base_point(&self) -> u64
         ensures { result ≡ self.now.base }
     {
-        let _ = &self.hot;
-        0
+        self.base
     }
 }
 
@@ -151,49 +161,17 @@ impl Segment {
         }
     }
 
-    /// The number of the record at which the walk down the page's block chain breaks.
-    fn broken_link(&self, page: u16, point: u64) -> Option<u64>
-        ensures breaks { (k n : ℕ) → IsCompleteEpoch self.now.cuts k → (result ≡ Some n) ↔ BreaksAt self.now k page point n }
-        ensures sound { (log facts : List AnyFact) (p : Position) → IsSound log → MeansAt log facts p self.now → point ≤ p.complete → result ≡ None }
-    {
-        broken_of(&self.hot, &self.book, page, point)
-    }
-
-    /// The page with its held records up to the point.
+    /// The page's image with its held records up to the point.
     fn page_at(&self, page: u16, point: u64) -> Result<Page, AllocError>
         ensures { IfOk result (λ image. (k : ℕ) → IsCompleteEpoch self.now.cuts k → Shows self.now k page point image) }
     {
-        let records = self.hot.records_of(self.alloc, &self.book, page, 0, point)?;
-        let mut image = Page::zeros(self.alloc)?;
+        let version = self.store.version(page);
+        let records = self
+            .hot
+            .records_of(self.alloc, &self.book, page, version, point)?;
+        let mut image = self.store.image(page)?;
         apply_all(&records, &mut image);
         Ok(image)
-    }
-}
-
-/// The number of the record at which the walk down a page's block chain breaks.
-fn broken_of(hot: &HotLog, book: &EpochBook, page: u16, point: u64) -> Option<u64>
-    requires { IsHeld hot.now }
-    ensures { (n : ℕ) → (result ≡ Some n) ↔ BreaksAt (state_of book.now hot.now) book.now.complete page point n }
-{
-    let mut redo = hot.greatest_linked_of(book, page, 0, point)?;
-    while redo.block_back() > 0 {
-        match linked_of(hot, book, page, redo.block_back()) {
-            Some(below) => redo = below,
-            None => return Some(redo.number()),
-        }
-    }
-    None
-}
-
-/// The linked record of a page with this number.
-fn linked_of<'a>(hot: &'a HotLog, book: &EpochBook, page: u16, number: u64) -> Option<&'a Record>
-    ensures { IsOnlyRecord (λ r. IsLinkedHeld book.now hot.now 0 r × (r.page ≡ page) × (r.number ≡ number)) (option_copied result) }
-{
-    let redo = hot.linked_record(book, 0, number)?;
-    if redo.page() == page {
-        Some(redo)
-    } else {
-        None
     }
 }
 

@@ -1,20 +1,71 @@
-use Rattle.std.proofs.Common.{◌≡◌, ℕ, Some, ◌↔◌, sym, ap, subst}
+use Rattle.std.proofs.Common.{◌≡◌, ℕ, ◌<◌, ◌≤◌, Some, None, subst, arith}
 use Rattle.redo_core.specs.CompleteEpoch.{IsCompleteEpoch}
-use Rattle.segment_state.specs.State.{State}
-use Rattle.segment_core.specs.Answering.{state_of}
-use Rattle.segment_core.specs.BlockChain.{BreaksAt}
-use Rattle.segment_core.proofs.Chain.{one_epoch}
-use Rattle.segment_core.proofs.BlockChain.{TellsLink, sound_link}
+use Rattle.hot_log.specs.Held.{IsHeld}
+use Rattle.hot_log.specs.Found.{IsOnlyRecord}
+use Rattle.segment_state.specs.State.{State, version_of}
+use Rattle.segment_core.proofs.BlockChain.{IsLinkedAt, IsBelow, TellsLink, walk_begins, walk_goes, walk_breaks, whole_from, breaks_below, block_lower, answers_here, answers_none, sound_link}
 use Rattle.segment_core.proofs.segment.Segment.broken_link.Goals as goal
 
-breaks : (c : goal.After-broken_of) → TellsLink c.args.self.now c.args.page c.args.point c.broken_of.result
-breaks c =
-    let book = c.self.inside.book in
-    subst (λ (s : State). (k n : ℕ) → IsCompleteEpoch s.cuts k → (c.broken_of.result ≡ Some n) ↔ BreaksAt s k c.args.page c.args.point n) c.self.view_is
-    (λ k n at. subst (λ j. (c.broken_of.result ≡ Some n) ↔ BreaksAt (state_of book c.self.inside.hot) j c.args.page c.args.point n) (one_epoch book.cuts book.complete k c.self.invariant.0.complete at) (c.broken_of.ensures n))
+pub loop-redo-init : goal.loop-redo-init
+loop-redo-init c =
+    let s = c.args.self.now in
+    record {
+      version = subst (λ (x : State). c.version-version.result ≡ version_of x.store c.args.page) c.self.view_is c.version-version.ensures;
+      linked = λ k at. (c.in_ok-redo.ensures k at).0;
+      same = λ k n at. walk_begins s k c.args.page c.args.point c.in_ok-redo.redo.now (c.in_ok-redo.ensures k at) n;
+    }
+
+pub loop-redo-smaller : goal.loop-redo-smaller
+loop-redo-smaller c =
+    let epoch = subst (λ (s : State). (k : ℕ) × IsCompleteEpoch s.cuts k) c.self.view_is (c.self.inside.book.complete, c.self.invariant.0.complete) in
+    let r = c.loop-redo.redo.now in
+    let held = subst (λ (s : State). IsHeld s.held) c.self.view_is c.self.invariant.1 in
+    let lower : r.block_back < r.number = block_lower r (held.shaped r (c.loop-redo.invariant.linked epoch.0 epoch.1).0) in
+    let back : c.block_back-in-loop-redo.result ≡ r.block_back = c.block_back-in-loop-redo.ensures.value in
+    let at : c.in-Some.below.now.number ≡ c.block_back-in-loop-redo.result = (c.in-Some.ensures epoch.0 epoch.1).0.1 in
+    omega (arith, lower, back, at)
+
+pub loop-redo-preserved : goal.loop-redo-preserved
+loop-redo-preserved c =
+    let s = c.args.self.now in let page = c.args.page in let point = c.args.point in
+    let r = c.loop-redo.redo.now in let below = c.in-Some.below.now in
+    let held = subst (λ (x : State). IsHeld x.held) c.self.view_is c.self.invariant.1 in
+    let step : (k : ℕ) → IsCompleteEpoch s.cuts k → IsBelow s k page point r below = λ k at.
+    let tested : c.block_back.result ≡ r.block_back = c.block_back.ensures.value in
+    let back : c.block_back-in-loop-redo.result ≡ r.block_back = c.block_back-in-loop-redo.ensures.value in
+    let lower : r.block_back < r.number = block_lower r (held.shaped r (c.loop-redo.invariant.linked k at).0) in
+    let version : c.version-version.result ≡ version_of s.store page = c.loop-redo.invariant.version in
+    let bound : r.number ≤ point = (c.loop-redo.invariant.linked k at).4 in
+    let found = subst (λ m. IsOnlyRecord (IsLinkedAt s k page m) (Some below)) back (c.in-Some.ensures k at) in
+    walk_goes s k page point r below (omega (arith, tested, version, c.loop-redo-test.true)) (omega (arith, lower, bound)) found
+    in record {
+      version = c.loop-redo.invariant.version;
+      linked = λ k at. (step k at).linked;
+      same = λ k n at.
+          let b = breaks_below s k page point r below n (step k at) in
+          let before = c.loop-redo.invariant.same k n at in
+          (λ h. b.0 (before.0 h), λ h. before.1 (b.1 h));
+    }
+
+breaks : (c : goal.After-number) → TellsLink c.args.self.now c.args.page c.args.point (Some c.number.result)
+breaks c = λ k n at.
+    let s = c.args.self.now in let page = c.args.page in let point = c.args.point in
+    let r = c.loop-redo.redo.now in
+    let tested : c.block_back.result ≡ r.block_back = c.block_back.ensures.value in
+    let version : c.version-version.result ≡ version_of s.store page = c.loop-redo.invariant.version in
+    let none = subst (λ m. IsOnlyRecord (IsLinkedAt s k page m) None) c.block_back-in-loop-redo.ensures.value (c.in-None.ensures k at) in
+    answers_here s k page point r c.number.result c.number.ensures.value (walk_breaks s k page point r (omega (arith, tested, version, c.loop-redo-test.true)) none) (λ m. c.loop-redo.invariant.same k m at) n
+
+pub returns-in-None-clause-breaks : goal.returns-in-None-clause-breaks
+returns-in-None-clause-breaks c = breaks c
+
+pub returns-in-None-clause-sound : goal.returns-in-None-clause-sound
+returns-in-None-clause-sound c = sound_link c.args.self.now c.args.page c.args.point (Some c.number.result) (breaks c)
 
 pub returns-clause-breaks : goal.returns-clause-breaks
-returns-clause-breaks c = breaks c
-
-pub returns-clause-sound : goal.returns-clause-sound
-returns-clause-sound c = sound_link c.args.self.now c.args.page c.args.point c.broken_of.result (ap (λ (s : State). s.base) (sym c.self.view_is)) (breaks c)
+returns-clause-breaks c = λ k n at.
+    let s = c.args.self.now in let page = c.args.page in
+    let r = c.loop-redo.redo.now in
+    let tested : c.block_back.result ≡ r.block_back = c.block_back.ensures.value in
+    let version : c.version-version.result ≡ version_of s.store page = c.loop-redo.invariant.version in
+    answers_none s k page c.args.point (λ m h. whole_from s k page c.args.point r m (omega (arith, tested, version, c.loop-redo-test.false)) ((c.loop-redo.invariant.same k m at).0 h)) n

@@ -8,5 +8,5 @@ use Rattle.segment_core.proofs.segment.Segment.new.Goals as goal
 
 pub returns-clause-means : goal.returns-clause-means
 returns-clause-means c =
-    let same : state_of c.new.result c.new-2.result ≡ empty_state = search rules in
+    let same : state_of c.new.result c.new-2.result 0 c.new-3.result ≡ empty_state = search rules in
     subst (λ (s : State). (log : List AnyFact) → Means log [] s) (sym same) empty_means

@@ -22,5 +22,5 @@ returns c =
     let held = c.self.inside.hot in
     let epoch = subst (λ (s : State). (k : ℕ) × IsCompleteEpoch s.cuts k) (sym c.self.view_is) e.epoch in
     let compared = subst (λ (s : State). (k : ℕ) → IsCompleteEpoch s.cuts k → IsNotCompared s k c.args.redo → ⊥) (sym c.self.view_is) (λ k at h. let t : c.is_not_compared.result ≡ true = (e.value k at).1 h in let f : c.is_not_compared.result ≡ false = c.if-is_not_compared.false in absurd (cc)) in
-    subst (λ s. TakesExactly s (Record c.args.redo) c.put_answer.result (state_of book c.put.new.self)) c.self.view_is
-    (put_exact takes_record takes_known book held c.put.new.self c.args.redo c.put.result c.put_answer.result c.put.ensures.form epoch.0 epoch.1 compared c.put.ensures.put c.put.ensures.refused c.put.ensures.unchanged c.put_answer.ensures)
+    subst (λ s. TakesExactly s (Record c.args.redo) c.put_answer.result (state_of book c.put.new.self c.self.inside.base c.self.inside.store)) c.self.view_is
+    (put_exact takes_record takes_known book held c.put.new.self c.self.inside.base c.self.inside.store c.args.redo c.put.result c.put_answer.result c.put.ensures.form epoch.0 epoch.1 compared c.put.ensures.put c.put.ensures.refused c.put.ensures.unchanged c.put_answer.ensures)

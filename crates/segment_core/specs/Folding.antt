@@ -1,0 +1,61 @@
+-- A page folded to the anchor, and its commit.
+use Rattle.std.specs.Prelude.{◌≡◌, ℕ, ◌<◌, ◌≤◌, List, Result, Ok, Err, IsErrAnd}
+use Rattle.redo_core.specs.CompleteEpoch.{IsCompleteEpoch}
+use Rattle.redo_core.specs.Position.{Position}
+use Rattle.redo_core.specs.PageAt.{IsPageAt}
+use Rattle.redo_core.specs.declared.facts.Fact.{Fact}
+use Rattle.redo_core.specs.declared.refusal.Refused.{Refused}
+use Rattle.segment_state.specs.State.{State, version_of}
+use Rattle.segment_state.specs.Shows.{Shows}
+use Rattle.segment_state.specs.Shedding.{CommitsImage}
+use Rattle.segment_state.specs.HasMeaning.{HasAnchor}
+use Rattle.segment_core.specs.BlockChain.{BreaksAt}
+use Rattle.segment_core.specs.declared.answers.ReadFault.{ReadFault}
+use Rattle.segment_core.specs.declared.answers.ReadFault.TheVariants.{BrokenBlockChain, Memory}
+use Rattle.segment_core.specs.declared.folds.Folded.{Folded}
+use Rattle.segment_core.specs.declared.folds.CommitFault.{CommitFault}
+use Rattle.segment_core.specs.declared.folds.CommitFault.TheVariants as commit
+
+-- the page of the facts at their anchor
+pub record IsFoldOf (facts : List Fact) (p : Position) (page : ℕ) (folded : Folded) : Type 0 where
+  pub page_is : folded.page ≡ page
+  pub version_is : folded.version ≡ p.anchor
+  pub image_is : IsPageAt facts p.epoch page p.anchor folded.image
+
+-- what a plan answers for the facts that the segment means: only memory can be wanting
+abbrev pub IsPlanResult : List Fact → Position → ℕ → Result Folded ReadFault → Type 0
+IsPlanResult facts p page (Ok folded) = IsFoldOf facts p page folded
+IsPlanResult facts p page (Err fault) = fault ≡ Memory
+
+-- the page that the state itself shows at its anchor, over any facts
+pub record FoldsPage (s : State) (k page : ℕ) (folded : Folded) : Type 0 where
+  pub page_is : folded.page ≡ page
+  pub version_is : HasAnchor s k folded.version
+  pub image_is : Shows s k page folded.version folded.image
+
+-- the block chain of a page is broken at the record n at or below the anchor
+abbrev pub BreaksBelowAnchor : State → ℕ → ℕ → ℕ → Type 0
+BreaksBelowAnchor s k page n = (anchor : ℕ) × HasAnchor s k anchor × BreaksAt s k page anchor n
+
+-- a plan is made of the page at the anchor, exactly where its block chain is whole there and memory is not wanting
+abbrev pub PlansFold : State → ℕ → ℕ → Result Folded ReadFault → Type 0
+PlansFold s k page (Ok folded) = FoldsPage s k page folded × ((n : ℕ) → BreaksBelowAnchor s k page n → ⊥)
+PlansFold s k page (Err (BrokenBlockChain g n)) = (g ≡ page) × BreaksBelowAnchor s k page n
+PlansFold s k page (Err Memory) = (n : ℕ) → BreaksBelowAnchor s k page n → ⊥
+PlansFold s k page (Err fault) = ⊥
+
+-- a page takes the image where its version is above the page's own; else nothing changes
+pub record Commits (old : State) (folded : Folded) (new : State) : Type 0 where
+  pub older : folded.version ≤ version_of old.store folded.page → new ≡ old
+  pub newer : version_of old.store folded.page < folded.version → CommitsImage old folded.page folded.version folded.image new
+
+-- why a fold is not committed: its version is above the anchor, or it is above the page's own and memory is wanting
+abbrev pub RefusesCommit : State → Folded → CommitFault → Type 0
+RefusesCommit old folded (commit.Ahead version anchor) = (version ≡ folded.version) × (anchor < version) × ((k : ℕ) → IsCompleteEpoch old.cuts k → HasAnchor old k anchor)
+RefusesCommit old folded commit.Memory = version_of old.store folded.page < folded.version
+
+-- a version above the anchor is refused as such
+abbrev pub RefusesAhead : State → Folded → Result Unit (Refused Folded CommitFault) → Type 0
+RefusesAhead old folded result =
+    (k anchor : ℕ) → IsCompleteEpoch old.cuts k → HasAnchor old k anchor → anchor < folded.version
+    → IsErrAnd result (λ e. e.fault ≡ commit.Ahead folded.version anchor)

@@ -1,0 +1,111 @@
+ghost use Rattle.std.specs.Prelude.{◌≡◌, ℕ, ◌≤◌, map, IfOk, IfErr, OnOk, OnErr};
+ghost use Rattle.std.specs.Option.{option_copied};
+ghost use Rattle.redo_core.specs.Order.{IsRising, CutBefore, AdvanceBefore, RecordBefore, Lists, BeforeByNumber};
+ghost use Rattle.redo_core.specs.CompleteEpoch.{IsCompleteEpoch};
+ghost use Rattle.hot_log.specs.Held.{IsRecordAt, IsKeyAfter};
+ghost use Rattle.page_base.specs.Stored.{IsStored};
+ghost use Rattle.segment_state.specs.State.{version_of, image_of};
+ghost use Rattle.segment_core.specs.Adopting.{AdoptsBase};
+ghost use Rattle.segment_core.specs.Keys.{key_of, IsAliveOf};
+
+use crate::segment::Segment;
+use page_base::BaseImage;
+use redo_core::{Advance, Cut, Page, Record, Refused};
+use std::alloc::AllocError;
+
+impl Segment {
+    /// The keys (epoch and number) of the records held, rising. Its only error is want of memory.
+    pub fn stored(&self) -> Result<Vec<(u16, u64)>, AllocError>
+        ensures keys { IfOk result (λ v. v.items ≡ map key_of self.now.held) }
+        ensures rising { IsRising RecordBefore self.now.held }
+    {
+        let records = self.hot.records();
+        let mut keys = Vec::with_capacity(self.alloc, records.len())?;
+        for redo in records {
+            keys.push((redo.epoch(), redo.number()))?;
+        }
+        Ok(keys)
+    }
+
+    /// The truncations known, rising by epoch.
+    pub fn cuts(&self) -> &[Cut]
+        ensures value { result.now ≡ self.now.cuts }
+        ensures rising { IsRising CutBefore self.now.cuts }
+    {
+        self.book.cuts()
+    }
+
+    /// The advances that wait for their epoch, rising by epoch and point.
+    pub fn waits(&self) -> &[Advance]
+        ensures value { result.now ≡ self.now.waits }
+        ensures rising { IsRising AdvanceBefore self.now.waits }
+    {
+        self.book.waits()
+    }
+
+    /// The least key of a held record above the one given; with none given, the least of all.
+    pub fn key_after(&self, after: Option<(u16, u64)>) -> Option<(u16, u64)>
+        ensures { IsKeyAfter self.now.held after result }
+    {
+        self.hot.key_after(after)
+    }
+
+    /// The held record of a key.
+    pub fn get(&self, epoch: u16, number: u64) -> Option<&Record>
+        ensures { IsRecordAt self.now.held epoch number (option_copied result) }
+    {
+        self.hot.get(epoch, number)
+    }
+
+    /// The base images that are not zeros of the floor version, rising by page.
+    pub fn pages(&self) -> &[BaseImage]
+        ensures value { result.now ≡ self.now.store.images }
+        ensures rising { IsStored self.now.store }
+    {
+        self.store.pages()
+    }
+
+    /// A copy of a page's base image. Its only error is want of memory.
+    pub fn image(&self, page: u16) -> Result<Page, AllocError>
+        ensures { IfOk result (λ image. image ≡ image_of self.now.store page) }
+    {
+        self.store.image(page)
+    }
+
+    /// The version of a page's base image, which is a number of the log.
+    pub fn version(&self, page: u16) -> u64
+        ensures { result ≡ version_of self.now.store page }
+    {
+        self.store.version(page)
+    }
+
+    /// The alive records of a page with a number above `from` and at most `to`, in order. Its only error is want of memory.
+    pub fn records_of(&self, page: u16, from: u64, to: u64) -> Result<Vec<&Record>, AllocError>
+        ensures { (k : ℕ) → IsCompleteEpoch self.now.cuts k → IfOk result (λ v. Lists BeforeByNumber (IsAliveOf self.now k page from to) (map (λ x. x.now) v.items)) }
+    {
+        self.hot.records_of(self.alloc, &self.book, page, from, to)
+    }
+    /// Raises the base point to `base` where that is higher, and adopts base images: each page of a version below `base` takes
+    /// the first image given for it, or zeros, at `base`.
+    ///
+    /// `base` is a number of the log, at most the minimum read point. Its only error is want of memory: the segment is then as
+    /// it was, and the images come back.
+    pub fn adopt(
+        &mut self,
+        base: u64,
+        pages: Vec<(u16, Page)>,
+    ) -> Result<(), Refused<Vec<(u16, Page)>, AllocError>>
+        requires { base ≤ self.old.min }
+        ensures adopts { OnOk result (AdoptsBase self.old base pages.items self.new) }
+        ensures refused { IfErr result (λ e. e.value ≡ pages) }
+        ensures unchanged { OnErr result (self.new ≡ self.old) }
+    {
+        match self.store.adopt(base, pages) {
+            Ok(()) => {
+                self.base = self.base.max(base);
+                Ok(())
+            }
+            Err(refused) => Err(refused),
+        }
+    }
+}
