@@ -88,7 +88,7 @@ def line_of(fact):
     return " ".join([*(str(part) for part in fact[:6]), writes])
 
 
-KINDS = ["take"] * 10 + ["read"] * 10 + ["front"] * 3
+KINDS = ["take"] * 10 + ["fold"] * 4 + ["discard"] * 3 + ["read"] * 10 + ["front"] * 3
 
 
 def random_steps(choose, log, nodes):

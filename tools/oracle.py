@@ -89,7 +89,7 @@ STEPS = {
 
 
 # The program reads these steps, and scripts of so many nodes; the oracle knows the rules of the others too.
-READ_STEPS = ("take", "front", "read")
+READ_STEPS = ("take", "fold", "discard", "front", "read")
 MOST_NODES = 1
 
 

@@ -1,14 +1,16 @@
 -- The machine's sets beside the segments, place by place.
 use Rattle.std.proofs.Common.{◌≡◌, ℕ, zero, suc, ◌+◌, ◌-◌, ◌<◌, ◌≤◌, ◌⊎◌, inl, inr, List, [], ◌∷◌, ◌++◌, length, get_or, set, replicate, refl, sym, ap, ◌∙◌, subst, arith, Option, Some, None}
 use Rattle.std.specs.List.{Contains, AllZip, AllByRecursion, slice_get}
+use Rattle.std.proofs.lemmas.Option.{get_or_from_slice_get}
 use Rattle.redo_core.specs.Sound.{IsSound}
 use Rattle.redo_core.specs.declared.facts.Fact.{Fact}
 use Rattle.segment_state.specs.State.{State}
 use Rattle.segment_state.specs.Means.{Means}
 use Rattle.fleet_core.specs.declared.steps.Step.{Step}
 use Rattle.fleet_core.specs.declared.steps.Reply.{Reply}
-use Rattle.fleet_core.specs.declared.steps.Reply.TheVariants.{Changed, Unchanged, Front as FrontIs, Page, Below, Above, NoNode, Refused as IsRefused, BrokenBlockChain, Memory}
+use Rattle.fleet_core.specs.declared.steps.Reply.TheVariants.{Changed, Unchanged, Folded, Discarded, Front as FrontIs, Page, Below, Above, NoNode, Refused as IsRefused, BrokenBlockChain, Memory}
 use Rattle.fleet_core.specs.Machine.{IsNode, node_of, NodeReplies, IsReply, facts_after, with_node, after}
+use Rattle.fleet_core.specs.Shedding.{Sheds, ShedsAt}
 use Rattle.fleet_core.specs.Runs.{MeanNodes, TakesFrom, NodeFollows, FollowsStep, FollowsMachine, AreReplies, after_all}
 
 pub same_count : (log : List Fact) (nodes : List (List Fact)) (states : List State) → MeanNodes log nodes states → length nodes ≡ length states
@@ -40,6 +42,8 @@ pub reply_of_node : (nodes : List (List Fact)) (step : Step) (reply : Reply) (fa
 reply_of_node nodes step (NoNode i) facts there node says = absurd (there i refl)
 reply_of_node nodes step Changed facts there node says = (facts, node, says)
 reply_of_node nodes step Unchanged facts there node says = (facts, node, says)
+reply_of_node nodes step Folded facts there node says = (facts, node, says)
+reply_of_node nodes step Discarded facts there node says = (facts, node, says)
 reply_of_node nodes step (FrontIs front) facts there node says = (facts, node, says)
 reply_of_node nodes step (Page image) facts there node says = (facts, node, says)
 reply_of_node nodes step (Below min) facts there node says = (facts, node, says)
@@ -52,6 +56,8 @@ pub after_of_node : (nodes : List (List Fact)) (step : Step) (reply : Reply) →
 after_of_node nodes step (NoNode i) there = absurd (there i refl)
 after_of_node nodes step Changed there = refl
 after_of_node nodes step Unchanged there = refl
+after_of_node nodes step Folded there = refl
+after_of_node nodes step Discarded there = refl
 after_of_node nodes step (FrontIs front) there = refl
 after_of_node nodes step (Page image) there = refl
 after_of_node nodes step (Below min) there = refl
@@ -71,6 +77,19 @@ follows_at states step reply old new place lt is node there says = λ log nodes 
       reply_of_node nodes step reply at.0 there named both.0,
       subst (λ ns. MeanNodes log ns (set states place new)) (sym (after_of_node nodes step reply there ∙ ap (λ k. with_node k (λ facts. facts_after facts step reply) nodes) low)) (with_node_means log nodes states place at.0 (λ facts. facts_after facts step reply) new mean at.1 both.1),
     )
+
+-- the segment that was put at a place
+put_there : (states : List State) (place : ℕ) (new t : State) → place < length states → slice_get (set states place new) place ≡ Some t → t ≡ new
+put_there [] place new t lt at = absurd (omega arith)
+put_there (s ∷ ss) zero new t lt at = cc
+put_there (s ∷ ss) (suc place) new t lt at = put_there ss place new t (omega (arith, lt)) at
+
+pub sheds_at : (states : List State) (step : Step) (reply : Reply) (old new : State) (place : ℕ) → place < length states → old ≡ get_or states place old → node_of step ≡ place + 1 → Sheds old step reply new → ShedsAt states step reply (set states place new)
+sheds_at states step reply old new place lt is node says = λ s t was now.
+    let low : node_of step - 1 ≡ place = omega (arith, node) in
+    let first : s ≡ old = sym (get_or_from_slice_get states place s old (ap (λ k. slice_get states k) (sym low) ∙ was)) ∙ sym is in
+    let second : t ≡ new = put_there states place new t lt (ap (λ k. slice_get (set states place new) k) (sym low) ∙ now) in
+    subst (λ x. Sheds x step reply t) (sym first) (subst (λ x. Sheds old step reply x) (sym second) says)
 
 -- ---- runs that go on by a step
 all_but_last : {X : Type 0} (P : X → Type 0) (xs : List X) (x : X) → AllByRecursion P (xs ++ x ∷ []) → AllByRecursion P xs × P x

@@ -1,3 +1,5 @@
 pub mod Machine
 pub mod Runs
 pub mod Replying
+pub mod Shedding
+pub mod Laws

@@ -8,9 +8,9 @@ use Rattle.redo_core.specs.Meaning.{Meaning, IsMeaning}
 use Rattle.redo_core.specs.declared.facts.Fact.{Fact}
 use Rattle.segment_core.specs.Reading.{IsFrontAt}
 use Rattle.fleet_core.specs.declared.steps.Step.{Step}
-use Rattle.fleet_core.specs.declared.steps.Step.TheVariants.{Take, Front, Read}
+use Rattle.fleet_core.specs.declared.steps.Step.TheVariants.{Take, Fold, Discard, Front, Read}
 use Rattle.fleet_core.specs.declared.steps.Reply.{Reply}
-use Rattle.fleet_core.specs.declared.steps.Reply.TheVariants.{Changed, Unchanged, Front as FrontIs, Page, Below, Above, NoNode, Refused, BrokenBlockChain, Memory}
+use Rattle.fleet_core.specs.declared.steps.Reply.TheVariants.{Changed, Unchanged, Folded, Discarded, Front as FrontIs, Page, Below, Above, NoNode, Refused, BrokenBlockChain, Memory}
 
 -- the facts of node i, counted from 1
 abbrev pub IsNode : List (List Fact) → ℕ → List Fact → Type 0
@@ -31,14 +31,19 @@ HasOtherMeaningWith facts fact = (m : Meaning) → IsMeaning facts m → IsMeani
 -- the node that a step names
 abbrev pub node_of : Step → ℕ
 node_of (Take node fact) = node
+node_of (Fold node page) = node
+node_of (Discard node) = node
 node_of (Front node) = node
 node_of (Read node page point) = node
 
--- What a node that means the facts answers to a step. A step that found no memory counts as not having come.
+-- What a node that means the facts answers to a step. A fold and a discard are answered without a look at the facts, which they
+-- leave as they are. A step that found no memory counts as not having come.
 abbrev pub NodeReplies : List Fact → Step → Reply → Type 0
 NodeReplies facts step Memory = Unit {0}
 NodeReplies facts (Take i fact) Changed = HasOtherMeaningWith facts fact
 NodeReplies facts (Take i fact) Unchanged = HasOneMeaningWith facts fact
+NodeReplies facts (Fold i g) Folded = Unit {0}
+NodeReplies facts (Discard i) Discarded = Unit {0}
 NodeReplies facts (Front i) (FrontIs front) = (p : Position) × IsPosition facts p × IsFrontAt p front
 NodeReplies facts (Read i g q) (Page image) = (p : Position) × IsPosition facts p × IsReadAnswer facts p g q (OfImage image)
 NodeReplies facts (Read i g q) (Below min) = (p : Position) × IsPosition facts p × IsReadAnswer facts p g q (OfBelow min)

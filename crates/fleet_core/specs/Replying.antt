@@ -21,9 +21,12 @@ TakenReplies (Ok taken.Changed) reply = reply ≡ Changed
 TakenReplies (Ok taken.Unchanged) reply = reply ≡ Unchanged
 TakenReplies (Err refused) reply = RefusalReplies refused.fault reply
 
+abbrev pub FaultReplies : ReadFault → Reply → Type 0
+FaultReplies (fault.Below min) reply = reply ≡ Below min
+FaultReplies (fault.Above complete) reply = reply ≡ Above complete
+FaultReplies (fault.BrokenBlockChain page number) reply = reply ≡ BrokenBlockChain page number
+FaultReplies fault.Memory reply = reply ≡ Memory
+
 abbrev pub ReadReplies : Result (List ℕ) ReadFault → Reply → Type 0
 ReadReplies (Ok image) reply = reply ≡ Page image
-ReadReplies (Err (fault.Below min)) reply = reply ≡ Below min
-ReadReplies (Err (fault.Above complete)) reply = reply ≡ Above complete
-ReadReplies (Err (fault.BrokenBlockChain page number)) reply = reply ≡ BrokenBlockChain page number
-ReadReplies (Err fault.Memory) reply = reply ≡ Memory
+ReadReplies (Err f) reply = FaultReplies f reply

@@ -6,13 +6,15 @@ use Rattle.redo_core.specs.declared.facts.Fact.{Fact}
 use Rattle.segment_state.specs.State.{State}
 use Rattle.segment_state.specs.Means.{Means}
 use Rattle.fleet_core.specs.declared.steps.Step.{Step}
-use Rattle.fleet_core.specs.declared.steps.Step.TheVariants.{Take, Front, Read}
+use Rattle.fleet_core.specs.declared.steps.Step.TheVariants.{Take, Fold, Discard, Front, Read}
 use Rattle.fleet_core.specs.declared.steps.Reply.{Reply}
 use Rattle.fleet_core.specs.Machine.{NodeReplies, facts_after, IsReply, after}
 
 -- what a step takes is in the log
 abbrev pub TakesFrom : List Fact → Step → Type 0
 TakesFrom log (Take i fact) = Contains log fact
+TakesFrom log (Fold i g) = Unit {0}
+TakesFrom log (Discard i) = Unit {0}
 TakesFrom log (Front i) = Unit {0}
 TakesFrom log (Read i g q) = Unit {0}
 

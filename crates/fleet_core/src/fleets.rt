@@ -1,12 +1,14 @@
 ghost use Rattle.std.specs.Prelude.{◌≡◌, ℕ, ◌+◌, ◌<◌, ◌≤◌, ◌⊎◌, ◌↔◌, List, [], length, replicate, IfOk, OnErr, IsTrue};
-ghost use Rattle.fleet_core.specs.Replying.{TakenReplies, RefusalReplies, ReadReplies};
+ghost use Rattle.fleet_core.specs.Replying.{TakenReplies, RefusalReplies, ReadReplies, FaultReplies};
 ghost use Rattle.fleet_core.specs.Runs.{NodeFollows};
+ghost use Rattle.fleet_core.specs.Shedding.{Sheds, ShedsAt};
+ghost use Rattle.fleet_core.specs.declared.steps.Step.TheVariants.{Fold};
 ghost use Rattle.fleet_core.specs.declared.steps.Reply.TheVariants.{NoNode, Memory};
 ghost use Rattle.redo_core.specs.declared.facts.Fact.{Fact as AnyFact};
 
 use crate::steps::{Reply, Step};
 use redo_core::{Fact, Page, Refused};
-use segment_core::{ReadFault, Refusal, Segment, Taken};
+use segment_core::{CommitFault, ReadFault, Refusal, Segment, Taken};
 use std::alloc::{AllocError, Global};
 use std::marker::Model;
 
@@ -46,6 +48,7 @@ impl Fleet {
         ensures follows { FollowsStep self.old step.now result self.new }
         ensures no_node { let node = node_of step.now in (i : ℕ) → (result ≡ NoNode i) ↔ ((i ≡ node) × ((node ≡ 0) ⊎ (length self.old < node))) }
         ensures memory { result ≡ Memory → self.new ≡ self.old }
+        ensures sheds { ShedsAt self.old step.now result self.new }
     {
         let node = step.node();
         if node == 0 || usize::from(node) > self.nodes.len() {
@@ -74,14 +77,41 @@ fn carry_out(segment: &mut Segment, step: &Step) -> Reply
     ensures follows { NodeFollows segment.old step.now result segment.new }
     ensures there { (i : ℕ) → result ≡ NoNode i → ⊥ }
     ensures memory { result ≡ Memory → segment.new ≡ segment.old }
+    ensures sheds { Sheds segment.old step.now result segment.new }
 {
     match step {
         Step::Take { fact, .. } => match fact.copy() {
             Ok(fact) => taken_reply(segment.take(fact)),
             Err(_) => Reply::Memory,
         },
+        Step::Fold { page, .. } => fold_page(segment, *page),
+        Step::Discard { .. } => {
+            segment.discard();
+            Reply::Discarded
+        }
         Step::Front { .. } => Reply::Front(segment.front()),
         Step::Read { page, point, .. } => read_reply(segment.read(*page, *point)),
+    }
+}
+
+/// Folds a page to the segment's anchor, and commits it.
+fn fold_page(segment: &mut Segment, page: u16) -> Reply
+    ensures follows { (node : ℕ) → NodeFollows segment.old (Fold node page) result segment.new }
+    ensures there { (i : ℕ) → result ≡ NoNode i → ⊥ }
+    ensures memory { result ≡ Memory → segment.new ≡ segment.old }
+    ensures sheds { (node : ℕ) → Sheds segment.old (Fold node page) result segment.new }
+{
+    let folded = match segment.plan_fold(page) {
+        Ok(plan) => plan.fold(),
+        Err(fault) => return fault_reply(fault),
+    };
+    match segment.commit_fold(folded) {
+        Ok(()) => Reply::Folded,
+        Err(refused) => match refused.fault {
+            CommitFault::Memory => Reply::Memory,
+            // The plan's version is the anchor itself.
+            CommitFault::Ahead { .. } => unreachable!(),
+        },
     }
 }
 
@@ -109,11 +139,17 @@ fn read_reply(read: Result<Page, ReadFault>) -> Reply
 {
     match read {
         Ok(image) => Reply::Page(image),
-        Err(ReadFault::Below { min }) => Reply::Below(min),
-        Err(ReadFault::Above { complete }) => Reply::Above(complete),
-        Err(ReadFault::BrokenBlockChain { page, number }) => {
-            Reply::BrokenBlockChain { page, number }
-        }
-        Err(ReadFault::Memory) => Reply::Memory,
+        Err(fault) => fault_reply(fault),
+    }
+}
+
+fn fault_reply(fault: ReadFault) -> Reply
+    ensures { FaultReplies fault result }
+{
+    match fault {
+        ReadFault::Below { min } => Reply::Below(min),
+        ReadFault::Above { complete } => Reply::Above(complete),
+        ReadFault::BrokenBlockChain { page, number } => Reply::BrokenBlockChain { page, number },
+        ReadFault::Memory => Reply::Memory,
     }
 }

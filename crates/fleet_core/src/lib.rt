@@ -5,6 +5,7 @@
 #![tactic(auto)]
 
 mod fleets;
+pub mod laws;
 mod steps;
 #[cfg(test)]
 mod tests;

@@ -8,6 +8,10 @@ use segment_core::{Front, Refusal};
 pub enum Step {
     /// A fact reaches a node.
     Take { node: u16, fact: Fact },
+    /// A node folds a page to its anchor.
+    Fold { node: u16, page: u16 },
+    /// A node forgets the records that it has folded.
+    Discard { node: u16 },
     /// A node is asked for its front.
     Front { node: u16 },
     /// A node is asked for a page at a read point.
@@ -22,7 +26,11 @@ impl Step {
         ensures { result ≡ node_of self.now }
     {
         match self {
-            Step::Take { node, .. } | Step::Front { node } | Step::Read { node, .. } => *node,
+            Step::Take { node, .. }
+            | Step::Fold { node, .. }
+            | Step::Discard { node }
+            | Step::Front { node }
+            | Step::Read { node, .. } => *node,
         }
     }
 }
@@ -34,6 +42,10 @@ pub enum Reply {
     Changed,
     /// The node means what it meant before.
     Unchanged,
+    /// The page's image is that of the node's anchor. The node means what it meant before.
+    Folded,
+    /// What was folded is forgotten. The node means what it meant before.
+    Discarded,
     Front(Front),
     Page(Page),
     /// The read point is below the minimum read point, which is shown.

@@ -1,4 +1,5 @@
-//! Tests that cross crates: worked rows of whole texts, devices that fail at each call in turn, and command lines.
+//! Tests that cross crates: worked rows of whole texts, devices that fail at each call in turn, command lines, and random
+//! scripts against the plain model.
 #![tactic(auto)]
 
 #[cfg(test)]
@@ -7,5 +8,7 @@ mod captures;
 mod fail_at;
 #[cfg(test)]
 mod failing;
+#[cfg(test)]
+mod random;
 #[cfg(test)]
 mod rows;

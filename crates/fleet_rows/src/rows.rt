@@ -58,6 +58,21 @@ fn scripts_over_a_log(rt: HostRuntime) -> Result<(), Fail> {
             "changed\nunchanged\npage ab00\n",
         ),
         (
+            LONG_LOG,
+            "take 1 1\ntake 1 2\ntake 1 3\ntake 1 4\nfold 1 7\ndiscard 1\ntake 1 1\ntake 1 5\nfront 1\ntake 1 6\nread 1 7 21 0 2\nread 1 7 5 0 2\nread 1 7 10 0 2\nread 1 7 4 0 2\nread 1 8 21 0 1\n",
+            "changed\nchanged\nchanged\nchanged\nfolded\ndiscarded\nunchanged\nchanged\nfront 1 5 5\nchanged\npage 7a62\npage 6162\npage 6162\nbelow 5\npage 00\n",
+        ),
+        (
+            LOG,
+            "discard 1\nfold 1 7\ntake 1 1\ntake 1 2\ntake 1 3\nfold 1 7\ndiscard 1\ntake 1 4\nfold 1 9\nfold 1 7\nfold 1 7\ndiscard 1\ndiscard 1\ntake 1 2\nfront 1\nread 1 7 5 0 2\nread 1 8 9 0 1\nread 1 9 9 0 1\n",
+            "discarded\nfolded\nchanged\nchanged\nchanged\nfolded\ndiscarded\nchanged\nfolded\nfolded\nfolded\ndiscarded\ndiscarded\nunchanged\nfront 0 9 5\npage 6162\npage 63\npage 00\n",
+        ),
+        (
+            "",
+            "front 0\nfold 2 7\ndiscard 65535\nfold 0 65535\ndiscard 1\n",
+            "no node 0\nno node 2\nno node 65535\nno node 0\ndiscarded\n",
+        ),
+        (
             "",
             "front 0\nfront 1\nfront 65535\n",
             "no node 0\nfront 0 0 0\nno node 65535\n",
@@ -86,6 +101,35 @@ fn scripts_that_are_refused(rt: HostRuntime) -> Result<(), Fail> {
             Verdict::BadLine,
         ),
         ("go\nnodes 2\n", "bad line 2\n", Verdict::BadLine),
+        ("go\nnodes 1\nfold 1\n", "bad line 3\n", Verdict::BadLine),
+        (
+            "go\nnodes 1\nfold 1 7 8\n",
+            "bad line 3\n",
+            Verdict::BadLine,
+        ),
+        (
+            "go\nnodes 1\nfold 1 65536\n",
+            "bad line 3\n",
+            Verdict::BadLine,
+        ),
+        (
+            "go\nnodes 1\nfold 65536 1\n",
+            "bad line 3\n",
+            Verdict::BadLine,
+        ),
+        ("go\nnodes 1\nfold 1 07\n", "bad line 3\n", Verdict::BadLine),
+        ("go\nnodes 1\ndiscard\n", "bad line 3\n", Verdict::BadLine),
+        (
+            "go\nnodes 1\ndiscard 1 1\n",
+            "bad line 3\n",
+            Verdict::BadLine,
+        ),
+        (
+            "go\nnodes 1\ndiscard  1\n",
+            "bad line 3\n",
+            Verdict::BadLine,
+        ),
+        ("go\nnodes 1\nDiscard 1\n", "bad line 3\n", Verdict::BadLine),
         (
             "rec 0 3 0 7 0 4096:ff\ngo\nnodes 1\n",
             "bad line 1\n",

@@ -13,12 +13,14 @@ use Rattle.fleet_core.specs.declared.steps.Step.{Step}
 use Rattle.fleet_core.specs.declared.steps.Reply.{Reply}
 use Rattle.script_text.specs.StepLine.{IsInRange}
 use Rattle.script_text.specs.declared.step_line.StepLine.{StepLine}
-use Rattle.script_text.specs.declared.step_line.StepLine.TheVariants.{Take, Front, Read}
+use Rattle.script_text.specs.declared.step_line.StepLine.TheVariants.{Take, Fold, Discard, Front, Read}
 use Rattle.fleet_tool.specs.Asked.{Asks}
 use Rattle.fleet_tool.specs.Lines.{ReadsInside}
 
 reads_inside : (facts : ℕ) (step : StepLine) → IsInRange facts step → ReadsInside step
 reads_inside facts (Take node fact) h = tt
+reads_inside facts (Fold node page) h = tt
+reads_inside facts (Discard node) h = tt
 reads_inside facts (Front node) h = tt
 reads_inside facts (Read node page point offset len) h = h
 
@@ -44,6 +46,8 @@ contains_at xs i x h = (i, slice_get_within xs i x h, get_or_from_slice_get xs i
 
 asked_among : (facts : List Fact) (line : StepLine) (step : Step) → Asks facts line step → TakesFrom facts step
 asked_among facts (Take node place) step h = subst (TakesFrom facts) (sym h.2) (contains_at facts (place - 1) h.0 h.1)
+asked_among facts (Fold node page) step h = subst (TakesFrom facts) (sym h) tt
+asked_among facts (Discard node) step h = subst (TakesFrom facts) (sym h) tt
 asked_among facts (Front node) step h = subst (TakesFrom facts) (sym h) tt
 asked_among facts (Read node page point offset len) step h = subst (TakesFrom facts) (sym h) tt
 

@@ -3,3 +3,4 @@ pub mod Asked
 pub mod Inspect
 pub mod Output
 pub mod Watching
+pub mod OneOutput

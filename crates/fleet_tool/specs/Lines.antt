@@ -6,17 +6,21 @@ use Rattle.hex.specs.Hex.{encode_lower}
 use Rattle.fleet_core.specs.declared.steps.Reply.{Reply}
 use Rattle.fleet_core.specs.declared.steps.Reply.TheVariants as reply
 use Rattle.script_text.specs.declared.step_line.StepLine.{StepLine}
-use Rattle.script_text.specs.declared.step_line.StepLine.TheVariants.{Take, Front, Read}
+use Rattle.script_text.specs.declared.step_line.StepLine.TheVariants.{Take, Fold, Discard, Front, Read}
 
 -- the bytes of a page that a step asks for: only a read asks for some
 abbrev pub asked_bytes : StepLine → List ℕ → List ℕ
 asked_bytes (Take node fact) image = []
+asked_bytes (Fold node page) image = []
+asked_bytes (Discard node) image = []
 asked_bytes (Front node) image = []
 asked_bytes (Read node page point offset len) image = take len (drop offset image)
 
 -- a read asks for bytes inside the page
 abbrev pub ReadsInside : StepLine → Type 0
 ReadsInside (Take node fact) = Unit {0}
+ReadsInside (Fold node page) = Unit {0}
+ReadsInside (Discard node) = Unit {0}
 ReadsInside (Front node) = Unit {0}
 ReadsInside (Read node page point offset len) = offset + len ≤ 4096
 
@@ -24,6 +28,8 @@ ReadsInside (Read node page point offset len) = offset + len ≤ 4096
 abbrev pub line_of : StepLine → Reply → List ℕ
 line_of step reply.Changed = codes "changed\n"
 line_of step reply.Unchanged = codes "unchanged\n"
+line_of step reply.Folded = codes "folded\n"
+line_of step reply.Discarded = codes "discarded\n"
 line_of step (reply.Front f) = codes "front " ++ (decimal f.epoch ++ (codes " " ++ (decimal f.complete ++ (codes " " ++ (decimal f.min ++ codes "\n")))))
 line_of step (reply.Page image) = codes "page " ++ (encode_lower (asked_bytes step image) ++ codes "\n")
 line_of step (reply.Below min) = codes "below " ++ (decimal min ++ codes "\n")

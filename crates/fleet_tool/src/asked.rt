@@ -20,6 +20,8 @@ fn step(facts: &[Fact], line: StepLine) -> Result<Step, AllocError>
             let fact = facts[fact - 1].copy()?;
             Ok(Step::Take { node, fact })
         }
+        StepLine::Fold { node, page } => Ok(Step::Fold { node, page }),
+        StepLine::Discard { node } => Ok(Step::Discard { node }),
         StepLine::Front { node } => Ok(Step::Front { node }),
         StepLine::Read {
             node,

@@ -12,6 +12,7 @@ mod device;
 mod fault;
 mod inspect;
 mod job;
+pub mod laws;
 mod lines;
 mod program;
 mod run;

@@ -19,6 +19,8 @@ fn asked_bytes<'a>(step: StepLine, page: &'a Page) -> &'a [u8]
             &page.bytes()[start..start + usize::from(len)]
         }
         StepLine::Take { .. } => &page.bytes()[..0],
+        StepLine::Fold { .. } => &page.bytes()[..0],
+        StepLine::Discard { .. } => &page.bytes()[..0],
         StepLine::Front { .. } => &page.bytes()[..0],
     }
 }
@@ -32,6 +34,8 @@ fn line(alloc: Global, step: StepLine, reply: &Reply) -> Result<String, AllocErr
     match reply {
         Reply::Changed => String::from_str(alloc, "changed\n"),
         Reply::Unchanged => String::from_str(alloc, "unchanged\n"),
+        Reply::Folded => String::from_str(alloc, "folded\n"),
+        Reply::Discarded => String::from_str(alloc, "discarded\n"),
         Reply::Front(front) => {
             let epoch = front.epoch;
             let complete = front.complete;

@@ -9,7 +9,7 @@ use Rattle.std.proofs.lemmas.Bool.Decides.{nat_tests}
 use Rattle.redo_core.specs.declared.facts.Fact.{Fact}
 use Rattle.script_text.specs.declared.step_line.StepLine.{StepLine}
 use Rattle.script_text.specs.FactLine.{fact_line, fact_of}
-use Rattle.script_text.specs.declared.step_line.StepLine.TheVariants.{Take, Front, Read}
+use Rattle.script_text.specs.declared.step_line.StepLine.TheVariants.{Take, Fold, Discard, Front, Read}
 use Rattle.script_text.specs.StepLine.{step_of, IsInRange}
 use Rattle.script_text.specs.Parts.{parts_at}
 use Rattle.script_text.specs.Script.{ScriptData, most, or_bad, with_first, with_fact, with_no_facts, lines_from, nodes_from, script_from, script_of}
@@ -273,6 +273,8 @@ fact_lists_are_spelled text facts = (fact_list_is_spelled (parts_at 10 text) fac
 
 step_in_range : (facts : ℕ) (line : List ℕ) (s : StepLine) → SpellsStep facts line s → IsInRange facts s
 step_in_range facts line (Take node fact) h = (h.2, h.3)
+step_in_range facts line (Fold node page) h = tt
+step_in_range facts line (Discard node) h = tt
 step_in_range facts line (Front node) h = tt
 step_in_range facts line (Read node page point offset len) h = h.5
 

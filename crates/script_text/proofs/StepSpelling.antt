@@ -5,10 +5,10 @@ use Rattle.std.specs.Fmt.{decimal}
 use Rattle.std.proofs.lemmas.Bool.Decides.{nat_tests}
 use Rattle.redo_core.specs.Shape.{max_number}
 use Rattle.script_text.specs.declared.step_line.StepLine.{StepLine}
-use Rattle.script_text.specs.declared.step_line.StepLine.TheVariants.{Take, Front, Read}
+use Rattle.script_text.specs.declared.step_line.StepLine.TheVariants.{Take, Fold, Discard, Front, Read}
 use Rattle.script_text.specs.Number.{number_of}
 use Rattle.script_text.specs.Parts.{◌>>=◌, parts_at}
-use Rattle.script_text.specs.StepLine.{take_line, front_line, read_line, step_line, step_of}
+use Rattle.script_text.specs.StepLine.{take_line, fold_line, discard_line, front_line, read_line, step_line, step_of}
 use Rattle.script_text.specs.Script.{most}
 use Rattle.script_text.specs.Laws.{StepLinesAreSpelled}
 use Rattle.script_text.specs.Spelled.{SpellsStep}
@@ -45,6 +45,27 @@ take_is facts (a ∷ b ∷ []) s few h =
     let some = past (eqb o2.0 0) (Some (Take o1.0 o2.0)) s o2.2 in
     let positive : 0 < o2.0 = grind (arith, nat_tests, some.0) in
     (o1.0, o2.0, sym (some_is (Take o1.0 o2.0) s some.1), (two a b _ _ n1.0 n2.0, n1.1, positive, n2.1))
+
+fold_is : (fields : List (List ℕ)) (s : StepLine) → fold_line fields ≡ Some s → (node : ℕ) × (page : ℕ) × (s ≡ Fold node page) × (fields ≡ decimal node ∷ decimal page ∷ []) × (node ≤ 65535) × (page ≤ 65535)
+unfolding fold_line
+fold_is [] s h = absurd cc
+fold_is (a ∷ []) s h = absurd cc
+fold_is (a ∷ b ∷ x ∷ rest) s h = absurd cc
+fold_is (a ∷ b ∷ []) s h =
+    let o1 = bind_some (number_of 65535 a) (λ n1. number_of 65535 b >>= (λ n2. Some (Fold n1 n2))) s h in
+    let o2 = bind_some (number_of 65535 b) (λ n2. Some (Fold o1.0 n2)) s o1.2 in
+    let n1 = (numbers_are_decimals 65535 o1.0 a (omega arith)).0 o1.1 in
+    let n2 = (numbers_are_decimals 65535 o2.0 b (omega arith)).0 o2.1 in
+    (o1.0, o2.0, sym (some_is (Fold o1.0 o2.0) s o2.2), two a b _ _ n1.0 n2.0, n1.1, n2.1)
+
+discard_is : (fields : List (List ℕ)) (s : StepLine) → discard_line fields ≡ Some s → (node : ℕ) × (s ≡ Discard node) × (fields ≡ decimal node ∷ []) × (node ≤ 65535)
+unfolding discard_line
+discard_is [] s h = absurd cc
+discard_is (a ∷ x ∷ rest) s h = absurd cc
+discard_is (a ∷ []) s h =
+    let o1 = bind_some (number_of 65535 a) (λ n1. Some (Discard n1)) s h in
+    let n1 = (numbers_are_decimals 65535 o1.0 a (omega arith)).0 o1.1 in
+    (o1.0, sym (some_is (Discard o1.0) s o1.2), ap (λ (t : List ℕ). t ∷ []) n1.0, n1.1)
 
 front_is : (fields : List (List ℕ)) (s : StepLine) → front_line fields ≡ Some s → (node : ℕ) × (s ≡ Front node) × (fields ≡ decimal node ∷ []) × (node ≤ 65535)
 unfolding front_line
@@ -102,6 +123,20 @@ take_spelled facts line fields s few e h =
     let spelled : SpellsStep facts line (Take is.0 is.1) = (all, is.3.1, is.3.2, is.3.3) in
     subst (SpellsStep facts line) (sym is.2) spelled
 
+fold_spelled : (facts : ℕ) (line : List ℕ) (fields : List (List ℕ)) (s : StepLine) → parts_at 32 line ≡ codes "fold" ∷ fields → fold_line fields ≡ Some s → SpellsStep facts line s
+fold_spelled facts line fields s e h =
+    let is = fold_is fields s h in
+    let all = parts_joined 32 line _ (e ∙ ap (λ (t : List (List ℕ)). codes "fold" ∷ t) is.3) in
+    let spelled : SpellsStep facts line (Fold is.0 is.1) = (all, is.4, is.5) in
+    subst (SpellsStep facts line) (sym is.2) spelled
+
+discard_spelled : (facts : ℕ) (line : List ℕ) (fields : List (List ℕ)) (s : StepLine) → parts_at 32 line ≡ codes "discard" ∷ fields → discard_line fields ≡ Some s → SpellsStep facts line s
+discard_spelled facts line fields s e h =
+    let is = discard_is fields s h in
+    let all = parts_joined 32 line _ (e ∙ ap (λ (t : List (List ℕ)). codes "discard" ∷ t) is.2) in
+    let spelled : SpellsStep facts line (Discard is.0) = (all, is.3) in
+    subst (SpellsStep facts line) (sym is.1) spelled
+
 front_spelled : (facts : ℕ) (line : List ℕ) (fields : List (List ℕ)) (s : StepLine) → parts_at 32 line ≡ codes "front" ∷ fields → front_line fields ≡ Some s → SpellsStep facts line s
 front_spelled facts line fields s e h =
     let is = front_is fields s h in
@@ -126,26 +161,42 @@ step_spelled facts line [] s few e h = absurd cc
 step_spelled facts line (word ∷ fields) s few e h =
     let keyed : (key : List ℕ) → bytes_eq word key ≡ true → parts_at 32 line ≡ key ∷ fields = λ key t. e ∙ ap (λ (w : List ℕ). w ∷ fields) (true_is word key t) in
     let last = cond (bytes_eq word (codes "read")) (read_line fields) None in
-    let more = cond (bytes_eq word (codes "front")) (front_line fields) last in
-    elim (either (bytes_eq word (codes "take")) (take_line facts fields) more s h) [
+    let from_front = cond (bytes_eq word (codes "front")) (front_line fields) last in
+    let from_discard = cond (bytes_eq word (codes "discard")) (discard_line fields) from_front in
+    let from_fold = cond (bytes_eq word (codes "fold")) (fold_line fields) from_discard in
+    elim (either (bytes_eq word (codes "take")) (take_line facts fields) from_fold s h) [
       | inl is ↦ take_spelled facts line fields s few (keyed (codes "take") is.0) is.1
-      | inr other ↦
-          elim (either (bytes_eq word (codes "front")) (front_line fields) last s other.1) [
+      | inr h1 ↦ elim (either (bytes_eq word (codes "fold")) (fold_line fields) from_discard s h1.1) [
+        | inl is ↦ fold_spelled facts line fields s (keyed (codes "fold") is.0) is.1
+        | inr h2 ↦ elim (either (bytes_eq word (codes "discard")) (discard_line fields) from_front s h2.1) [
+          | inl is ↦ discard_spelled facts line fields s (keyed (codes "discard") is.0) is.1
+          | inr h3 ↦ elim (either (bytes_eq word (codes "front")) (front_line fields) last s h3.1) [
             | inl is ↦ front_spelled facts line fields s (keyed (codes "front") is.0) is.1
-            | inr another ↦ let is = nothing (bytes_eq word (codes "read")) (read_line fields) s another.1 in read_spelled facts line fields s (keyed (codes "read") is.0) is.1
+            | inr h4 ↦ let is = nothing (bytes_eq word (codes "read")) (read_line fields) s h4.1 in read_spelled facts line fields s (keyed (codes "read") is.0) is.1
           ]
+        ]
+      ]
     ]
 
 -- ---- what is spelled is read
 
 step_is_read : (facts : ℕ) (line : List ℕ) (s : StepLine) → facts ≤ most → SpellsStep facts line s → step_of facts line ≡ Some s
-unfolding step_line take_line front_line read_line
+unfolding step_line take_line fold_line discard_line front_line read_line
 step_is_read facts line (Take node fact) few s =
     let fields = ap (parts_at 32) s.0 ∙ joined_parts 32 (codes "take") (decimal node ∷ decimal fact ∷ []) (refl, (lacks_space node (omega (arith, s.1)), (lacks_space fact (omega (arith, s.3)), tt))) in
     let n1 = decimal_is_read 65535 node (omega arith) s.1 in
     let n2 = decimal_is_read facts fact (omega arith) s.3 in
     let positive : eqb fact 0 ≡ false = grind (arith, nat_tests, s.2) in
     ap (step_line facts) fields ∙ rw (n1, n2, positive) refl
+step_is_read facts line (Fold node page) few s =
+    let fields = ap (parts_at 32) s.0 ∙ joined_parts 32 (codes "fold") (decimal node ∷ decimal page ∷ []) (refl, (lacks_space node (omega (arith, s.1)), (lacks_space page (omega (arith, s.2)), tt))) in
+    let n1 = decimal_is_read 65535 node (omega arith) s.1 in
+    let n2 = decimal_is_read 65535 page (omega arith) s.2 in
+    ap (step_line facts) fields ∙ rw (n1, n2) refl
+step_is_read facts line (Discard node) few s =
+    let fields = ap (parts_at 32) s.0 ∙ joined_parts 32 (codes "discard") (decimal node ∷ []) (refl, (lacks_space node (omega (arith, s.1)), tt)) in
+    let n1 = decimal_is_read 65535 node (omega arith) s.1 in
+    ap (step_line facts) fields ∙ rw n1 refl
 step_is_read facts line (Front node) few s =
     let fields = ap (parts_at 32) s.0 ∙ joined_parts 32 (codes "front") (decimal node ∷ []) (refl, (lacks_space node (omega (arith, s.1)), tt)) in
     let n1 = decimal_is_read 65535 node (omega arith) s.1 in

@@ -8,7 +8,7 @@ use Rattle.redo_core.specs.Shape.{max_number, record_fault, cut_fault, advance_f
 use Rattle.redo_core.specs.declared.facts.Fact.{Fact}
 use Rattle.redo_core.specs.declared.facts.Fact.TheVariants.{Record, Cut, Advance}
 use Rattle.script_text.specs.declared.step_line.StepLine.{StepLine}
-use Rattle.script_text.specs.declared.step_line.StepLine.TheVariants.{Take, Front, Read}
+use Rattle.script_text.specs.declared.step_line.StepLine.TheVariants.{Take, Fold, Discard, Front, Read}
 use Rattle.script_text.specs.Parts.{parts_at}
 use Rattle.script_text.specs.Script.{ScriptData, most}
 
@@ -60,6 +60,8 @@ SpellsFact line (Advance a) = SpellsAdvance line a
 -- the line spells the step, behind that many facts
 abbrev pub SpellsStep : ℕ → List ℕ → StepLine → Type 0
 SpellsStep facts line (Take node fact) = (line ≡ spaced (codes "take" ∷ decimal node ∷ decimal fact ∷ [])) × (node ≤ 65535) × (0 < fact) × (fact ≤ facts)
+SpellsStep facts line (Fold node page) = (line ≡ spaced (codes "fold" ∷ decimal node ∷ decimal page ∷ [])) × (node ≤ 65535) × (page ≤ 65535)
+SpellsStep facts line (Discard node) = (line ≡ spaced (codes "discard" ∷ decimal node ∷ [])) × (node ≤ 65535)
 SpellsStep facts line (Front node) = (line ≡ spaced (codes "front" ∷ decimal node ∷ [])) × (node ≤ 65535)
 SpellsStep facts line (Read node page point offset len) = (line ≡ spaced (codes "read" ∷ decimal node ∷ decimal page ∷ decimal point ∷ decimal offset ∷ decimal len ∷ []))
     × (node ≤ 65535) × (page ≤ 65535) × (point ≤ max_number) × (0 < len) × (offset + len ≤ 4096)

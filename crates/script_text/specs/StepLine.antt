@@ -2,7 +2,7 @@
 use Rattle.std.specs.Prelude.{ℕ, ◌+◌, ◌<◌, ◌≤◌, ◌==◌, nat_lt, List, [], ◌∷◌, Option, Some, None, codes, bytes_eq, if◌then◌else◌}
 use Rattle.redo_core.specs.Shape.{max_number}
 use Rattle.script_text.specs.declared.step_line.StepLine.{StepLine}
-use Rattle.script_text.specs.declared.step_line.StepLine.TheVariants.{Take, Front, Read}
+use Rattle.script_text.specs.declared.step_line.StepLine.TheVariants.{Take, Fold, Discard, Front, Read}
 use Rattle.script_text.specs.Number.{number_of}
 use Rattle.script_text.specs.Parts.{◌>>=◌, parts_at}
 
@@ -13,6 +13,21 @@ take_line facts (i ∷ f ∷ []) = do
   fact ← number_of facts f
   if fact == 0 then None else Some (Take node fact)
 take_line _ _ = None
+
+-- the fields behind fold: node, page
+unfoldable pub fold_line : List (List ℕ) → Option StepLine
+fold_line (i ∷ g ∷ []) = do
+  node ← number_of 65535 i
+  page ← number_of 65535 g
+  Some (Fold node page)
+fold_line _ = None
+
+-- the field behind discard: node
+unfoldable pub discard_line : List (List ℕ) → Option StepLine
+discard_line (i ∷ []) = do
+  node ← number_of 65535 i
+  Some (Discard node)
+discard_line _ = None
 
 -- the field behind front: node
 unfoldable pub front_line : List (List ℕ) → Option StepLine
@@ -37,6 +52,8 @@ unfoldable pub step_line : ℕ → List (List ℕ) → Option StepLine
 step_line facts [] = None
 step_line facts (word ∷ fields) =
     if bytes_eq word (codes "take") then take_line facts fields
+    else if bytes_eq word (codes "fold") then fold_line fields
+    else if bytes_eq word (codes "discard") then discard_line fields
     else if bytes_eq word (codes "front") then front_line fields
     else if bytes_eq word (codes "read") then read_line fields
     else None
@@ -48,5 +65,7 @@ step_of facts line = step_line facts (parts_at 32 line)
 -- the step names one of that many facts, and bytes inside a page
 abbrev pub IsInRange : ℕ → StepLine → Type 0
 IsInRange facts (Take node fact) = (0 < fact) × (fact ≤ facts)
+IsInRange facts (Fold node page) = Unit {0}
+IsInRange facts (Discard node) = Unit {0}
 IsInRange facts (Front node) = Unit {0}
 IsInRange facts (Read node page point offset len) = offset + len ≤ 4096

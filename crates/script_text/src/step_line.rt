@@ -2,7 +2,7 @@
 
 ghost use Rattle.std.specs.Prelude.{◌≡◌, ◌≤◌, map};
 ghost use Rattle.script_text.specs.Script.{most};
-ghost use Rattle.script_text.specs.StepLine.{take_line, front_line, read_line, step_line};
+ghost use Rattle.script_text.specs.StepLine.{take_line, fold_line, discard_line, front_line, read_line, step_line};
 
 use crate::number::{long_number, number, short_number};
 
@@ -13,6 +13,15 @@ pub enum StepLine {
     Take {
         node: u16,
         fact: usize,
+    },
+    /// The node folds a page to its anchor.
+    Fold {
+        node: u16,
+        page: u16,
+    },
+    /// The node forgets the records that it has folded.
+    Discard {
+        node: u16,
     },
     /// Where the node stands.
     Front {
@@ -45,6 +54,29 @@ fn take_line(facts: usize, fields: &[&[u8]]) -> Option<StepLine>
         node,
         fact: fact as usize,
     })
+}
+
+#[tactic(auto, unfolding(crate::specs::StepLine::fold_line))]
+fn fold_line(fields: &[&[u8]]) -> Option<StepLine>
+    ensures { result ≡ fold_line (map (λ x. x.now) fields.now) }
+{
+    let [node, page] = fields else {
+        return None;
+    };
+    let node = short_number(node)?;
+    let page = short_number(page)?;
+    Some(StepLine::Fold { node, page })
+}
+
+#[tactic(auto, unfolding(crate::specs::StepLine::discard_line))]
+fn discard_line(fields: &[&[u8]]) -> Option<StepLine>
+    ensures { result ≡ discard_line (map (λ x. x.now) fields.now) }
+{
+    let [node] = fields else {
+        return None;
+    };
+    let node = short_number(node)?;
+    Some(StepLine::Discard { node })
 }
 
 #[tactic(auto, unfolding(crate::specs::StepLine::front_line))]
@@ -93,6 +125,8 @@ pub fn step_line(facts: usize, fields: &[&[u8]]) -> Option<StepLine>
 {
     match fields {
         [b"take", rest @ ..] => take_line(facts, rest),
+        [b"fold", rest @ ..] => fold_line(rest),
+        [b"discard", rest @ ..] => discard_line(rest),
         [b"front", rest @ ..] => front_line(rest),
         [b"read", rest @ ..] => read_line(rest),
         _ => None,

@@ -10,7 +10,7 @@ const FACTS: &str = "rec 0 3 0 7 0 0:6161\nrec 0 5 3 7 3 1:6A,4095:ff\ncut 1 5 2
 #[test]
 fn a_script(rt: HostRuntime) -> Result<(), Fail> {
     let text = format!(in rt.alloc();
-        "{FACTS}go\nnodes 1\ntake 1 4\nfront 65535\nread 1 7 9 4095 1\n"
+        "{FACTS}go\nnodes 1\ntake 1 4\nfold 1 65535\ndiscard 0\nfront 65535\nread 1 7 9 4095 1\n"
     )?;
     let read = read_script(rt.alloc(), text.as_bytes());
     assert!(rt; read.is_ok());
@@ -18,6 +18,11 @@ fn a_script(rt: HostRuntime) -> Result<(), Fail> {
         assert!(rt; script.facts.len() == 4);
         let steps = [
             StepLine::Take { node: 1, fact: 4 },
+            StepLine::Fold {
+                node: 1,
+                page: 65535,
+            },
+            StepLine::Discard { node: 0 },
             StepLine::Front { node: 65535 },
             StepLine::Read {
                 node: 1,
@@ -85,6 +90,12 @@ fn bad_lines(rt: HostRuntime) -> Result<(), Fail> {
         ("go\nnodes 1\nread 1 7 0 4095 2\n", 3),
         ("go\nnodes 1\nread 1 7 0 0 0\n", 3),
         ("go\nnodes 1\nfront 65536\n", 3),
+        ("go\nnodes 1\nfold 1\n", 3),
+        ("go\nnodes 1\nfold 1 7 8\n", 3),
+        ("go\nnodes 1\nfold 1 65536\n", 3),
+        ("go\nnodes 1\nfold 65536 1\n", 3),
+        ("go\nnodes 1\ndiscard\n", 3),
+        ("go\nnodes 1\ndiscard 1 1\n", 3),
     ];
     for (text, line) in table {
         let read = read_script(rt.alloc(), text.as_bytes());

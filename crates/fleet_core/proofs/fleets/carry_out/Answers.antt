@@ -1,7 +1,7 @@
 use Rattle.std.proofs.Common.{subst}
 use Rattle.fleet_core.specs.declared.steps.Step.TheVariants.{Take}
 use Rattle.fleet_core.specs.Runs.{NodeFollows}
-use Rattle.fleet_core.proofs.Following.{follows_take, follows_front, follows_read}
+use Rattle.fleet_core.proofs.Following.{follows_take, follows_discard, follows_front, follows_read}
 use Rattle.fleet_core.proofs.fleets.carry_out.Goals as goal
 
 pub returns-in-Ok-clause-follows : goal.returns-in-Ok-clause-follows
@@ -14,3 +14,15 @@ returns-in-Front-clause-follows c = rw c.in-Front.is (follows_front _ c.in-Front
 
 pub returns-in-Read-clause-follows : goal.returns-in-Read-clause-follows
 returns-in-Read-clause-follows c = rw c.in-Read.is (follows_read _ c.in-Read.node _ _ _ _ c.read.ensures.result c.read_reply.ensures)
+
+pub returns-in-Fold-clause-follows : goal.returns-in-Fold-clause-follows
+returns-in-Fold-clause-follows c = rw c.in-Fold.is (c.fold_page.ensures.follows c.in-Fold.node)
+
+pub returns-in-Discard-clause-follows : goal.returns-in-Discard-clause-follows
+returns-in-Discard-clause-follows c = rw c.in-Discard.is (follows_discard _ _ c.in-Discard.node c.discard.ensures.keeps)
+
+pub returns-in-Fold-clause-sheds : goal.returns-in-Fold-clause-sheds
+returns-in-Fold-clause-sheds c = rw c.in-Fold.is (c.fold_page.ensures.sheds c.in-Fold.node)
+
+pub returns-in-Discard-clause-sheds : goal.returns-in-Discard-clause-sheds
+returns-in-Discard-clause-sheds c = rw c.in-Discard.is c.discard.ensures.discards
