@@ -68,6 +68,19 @@ before_place cs e i rise at k d a b =
     let q : (get_or cs i d).epoch ≡ e = at.1 d in
     omega arith
 
+-- the truncation of an epoch and those after it
+pub from_place : (cs : List CutData) (e i : ℕ) → IsRising CutBefore cs → (i < length cs) × HoldsAt (λ c. c.epoch ≡ e) cs i → AllWithin (λ c. e ≤ c.epoch) cs i (length cs)
+from_place cs e i rise at k d a b =
+    let q : (get_or cs i d).epoch ≡ e = at.1 d in
+    ⊎_elim
+    (λ (l : i < k). let m : (get_or cs i d).epoch < (get_or cs k d).epoch = rising_at CutBefore cs i k d d rise l b in omega arith)
+    (λ (s : i ≡ k). let t : (get_or cs i d).epoch ≡ (get_or cs k d).epoch = ap (λ n. (get_or cs n d).epoch) s in omega arith)
+    (let t : (i < k) ⊎ (i ≡ k) = grind arith in t)
+
+-- those after a gap
+pub from_gap : (cs : List CutData) (e i : ℕ) → IsPartitionPoint (λ c. c.epoch < e) (λ c. e < c.epoch) cs i → AllWithin (λ c. e ≤ c.epoch) cs i (length cs)
+from_gap cs e i gap k d a b = let l : e < (get_or cs k d).epoch = gap.1 k d a b in omega arith
+
 -- whether a search finds a truncation
 pub found_cut : (cs : List CutData) (e : ℕ) (r : Result ℕ ℕ) → IfOk r (λ i. (i < length cs) × HoldsAt (λ c. c.epoch ≡ e) cs i) → IfErr r (λ i. (i ≤ length cs) × IsPartitionPoint (λ c. c.epoch < e) (λ c. e < c.epoch) cs i) → IsTrue (is_ok r) ↔ HasCut cs e
 found_cut cs e (Ok i) ok err = (λ h. cut_at cs e i ok.0 ok.1, λ h. refl)

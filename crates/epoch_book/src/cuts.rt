@@ -23,6 +23,7 @@ pub fn first_from(cuts: &[Cut], epoch: u16) -> usize
     requires { IsRising CutBefore cuts.now }
     ensures within { result ≤ length cuts.now }
     ensures before { AllWithin (λ c. c.epoch < epoch) cuts.now 0 result }
+    ensures from { AllWithin (λ c. epoch ≤ c.epoch) cuts.now result (length cuts.now) }
 {
     match place_of_epoch(cuts, epoch) {
         Ok(place) | Err(place) => place,
