@@ -213,10 +213,6 @@ walk_begins s k page q r h n =
     (h.1 x l))
     (λ x l e. ⊎_elim (λ (z : x ≡ r). z) (λ (lt : x.number < r.number). absurd (omega (arith, lt, e))) (h.1 x l))
 
--- no linked record of the page, no break
-pub none_begins : (s : State) (k page q : ℕ) → IsGreatestRecord (IsLinkedOf s k page q) None → (n : ℕ) → BreaksAt s k page q n → ⊥
-none_begins s k page q none n h = none h.first h.linked
-
 -- it goes down to the linked record at the block backlink
 pub walk_goes : (s : State) (k page q : ℕ) (r below : RecordData) → version_of s.store page < r.block_back → r.block_back ≤ q → IsOnlyRecord (IsLinkedAt s k page r.block_back) (Some below) → IsBelow s k page q r below
 walk_goes s k page q r below above small h =

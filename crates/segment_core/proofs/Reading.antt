@@ -1,5 +1,5 @@
 -- What a read answers, from the front and the shown page.
-use Rattle.std.proofs.Common.{◌≡◌, ℕ, ◌<◌, ◌≤◌, List, [], subst, arith}
+use Rattle.std.proofs.Common.{◌≡◌, ℕ, ◌<◌, ◌≤◌, List, subst, arith}
 use Rattle.redo_core.specs.Data.{RecordData}
 use Rattle.redo_core.specs.Order.{Lists, BeforeByNumber}
 use Rattle.redo_core.specs.CompleteEpoch.{IsCompleteEpoch}
@@ -11,9 +11,7 @@ use Rattle.redo_core.specs.declared.facts.Fact.{Fact}
 use Rattle.redo_laws.proofs.Log.{log_of_sound}
 use Rattle.redo_laws.proofs.Views.{anchor_is}
 use Rattle.epoch_book.specs.Book.{BookData}
-use Rattle.hot_log.specs.Held.{IsHeld}
 use Rattle.hot_log.specs.Alive.{IsHeldOf as IsHotOf}
-use Rattle.hot_log.proofs.Rising.{none_in}
 use Rattle.segment_state.specs.State.{State, Store, version_of, image_of}
 use Rattle.segment_state.specs.Means.{MeansAt}
 use Rattle.segment_state.specs.Shows.{Shows}
@@ -42,7 +40,3 @@ true_page log facts p s front page q image sound means at low high shows =
     let most : q ≤ p.complete = omega (arith, at.complete, high) in
     let settled : p.anchor ≤ q = omega (arith, (anchor_is facts p means.position).1, least) in
     ((least, most), (pages_law log facts p s page q image l means settled most).0 (shows p.epoch (epoch_of log facts p s means)))
-
--- no held records are in form
-pub none_held : IsHeld []
-none_held = record { rising = tt; shaped = λ r h. absurd (none_in r h) }

@@ -1,5 +1,5 @@
 use crate::{CommitFault, Folded, Front, ReadFault, Segment, Taken};
-use redo_core::{Advance, Cut, Fact, Page, Record, Refused, Write};
+use redo_core::{Advance, Cut, Fact, Page, Record, Write};
 use std::alloc::{AllocError, Global};
 use std::test::Fail;
 
@@ -48,6 +48,16 @@ fn folds(segment: &mut Segment, page: u16) -> bool {
         return false;
     };
     segment.commit_fold(plan.fold()).is_ok()
+}
+
+// Adopts images at the minimum read point.
+fn adopts(segment: &mut Segment, given: Vec<(u16, Page)>) -> bool {
+    let base = segment.front().min;
+    segment.adopt(base, given).is_ok()
+}
+
+fn adopts_nothing_at_zero(alloc: Global, segment: &mut Segment) -> bool {
+    segment.adopt(0, Vec::new(alloc)).is_ok()
 }
 
 // The keys stored, of three at most, and how many there are.
@@ -139,38 +149,43 @@ fn folded_discarded_and_tidied(rt: HostRuntime) -> Result<(), Fail> {
     Ok(())
 }
 
+// All three records are stored, a page without records is folded, and page 7 is.
+fn is_folded(segment: &Segment) -> Result<bool, AllocError> {
+    let three_keys = keys(segment)? == (3, [(0, 3), (0, 5), (0, 9)]);
+    Ok(three_keys && images(segment) == [(6, 5, [0; 2]), (7, 5, *b"ab")])
+}
+
 #[test]
-fn a_second_time_changes_nothing(rt: HostRuntime) -> Result<(), Fail> {
-    let alloc = rt.alloc();
-    let mut segment = four_facts(alloc)?;
+fn a_second_fold_changes_nothing(rt: HostRuntime) -> Result<(), Fail> {
+    let mut segment = four_facts(rt.alloc())?;
     let front = segment.front();
     segment.discard();
-    assert_eq!(rt; keys(&segment)?, (3, [(0, 3), (0, 5), (0, 9)]));
     assert_eq!(rt; segment.base_point(), 5);
-
-    for _ in [1, 2] {
-        assert!(rt; folds(&mut segment, 6));
-        assert_eq!(rt; images(&segment), [(6, 5, [0; 2]), (0, 0, [0; 2])]);
-    }
-    for _ in [1, 2] {
-        assert!(rt; folds(&mut segment, 7));
-        assert_eq!(rt; images(&segment), [(6, 5, [0; 2]), (7, 5, *b"ab")]);
-        assert_eq!(rt; keys(&segment)?, (3, [(0, 3), (0, 5), (0, 9)]));
-    }
-    for _ in [1, 2] {
-        assert!(rt; segment.tidy().is_ok());
-        assert_eq!(rt; keys(&segment)?, (1, [(0, 9), (0, 0), (0, 0)]));
-        assert_eq!(rt;
-            [segment.version(6), segment.version(7), segment.version(8)],
-            [5; 3]
-        );
-        assert_eq!(rt; segment.base_point(), 5);
-    }
+    assert!(rt; folds(&mut segment, 6));
+    assert!(rt; folds(&mut segment, 7));
+    assert!(rt; is_folded(&segment)?);
+    assert!(rt; folds(&mut segment, 7));
+    assert!(rt; is_folded(&segment)?);
     assert_eq!(rt; segment.front(), front);
-    let read = segment.read(7, 9).ok().ok_or("page")?;
-    assert_eq!(rt; start(&read), *b"ab");
-    let read = segment.read(8, 9).ok().ok_or("page")?;
-    assert_eq!(rt; start(&read), *b"c\0");
+    Ok(())
+}
+
+// The record above the anchor alone is stored, and the pages are folded to it.
+fn is_tidy(segment: &Segment) -> Result<bool, AllocError> {
+    let one_key = keys(segment)? == (1, [(0, 9), (0, 0), (0, 0)]);
+    let two_pages = images(segment) == [(7, 5, *b"ab"), (8, 5, [0; 2])];
+    Ok(one_key && two_pages && segment.base_point() == 5)
+}
+
+#[test]
+fn a_second_tidy_changes_nothing(rt: HostRuntime) -> Result<(), Fail> {
+    let mut segment = four_facts(rt.alloc())?;
+    let front = segment.front();
+    assert!(rt; segment.tidy().is_ok());
+    assert!(rt; is_tidy(&segment)?);
+    assert!(rt; segment.tidy().is_ok());
+    assert!(rt; is_tidy(&segment)?);
+    assert_eq!(rt; segment.front(), front);
     Ok(())
 }
 
@@ -206,35 +221,23 @@ fn what_is_stored(rt: HostRuntime) -> Result<(), Fail> {
     Ok(())
 }
 
+// Page 8 alone has an image, at the base point 5 as each other page.
+fn is_adopted(segment: &Segment) -> bool {
+    let one_page = images(segment) == [(8, 5, *b"yy"), (0, 0, [0; 2])];
+    one_page && segment.version(7) == 5 && segment.base_point() == 5
+}
+
 #[test]
 fn adopted_images(rt: HostRuntime) -> Result<(), Fail> {
     let alloc = rt.alloc();
-    let mut segment = Segment::new(alloc);
-    let advance = Fact::Advance(Advance::new(0, 5).ok().ok_or("shape")?);
-    assert_eq!(rt; taken(&mut segment, advance), Some(Taken::Changed));
-    let base = segment.front().min;
-    let mut images_given = Vec::new(alloc);
-    images_given.push((7, Page::new(vec![in alloc; b'y'; 4096]?)))?;
-    assert!(rt; segment.adopt(base, images_given).is_ok());
-    assert_eq!(rt; segment.base_point(), 5);
-    assert_eq!(rt;
-        segment.front(),
-        Front {
-            epoch: 0,
-            complete: 5,
-            min: 5
-        }
-    );
-    assert_eq!(rt; images(&segment), [(7, 5, *b"yy"), (0, 0, [0; 2])]);
-    assert_eq!(rt; segment.version(8), 5);
-    assert!(rt; segment.image(8)?.is_zero());
-
-    let mut copied = segment.copy()?;
-    if let Err(Refused { value, .. }) = copied.adopt(0, Vec::new(alloc)) {
-        assert_eq!(rt; value.len(), 0);
-    }
-    assert_eq!(rt; copied.base_point(), 5);
-    assert_eq!(rt; images(&copied), images(&segment));
+    let mut segment = four_facts(alloc)?;
+    let mut given = Vec::new(alloc);
+    given.push((8, Page::new(vec![in alloc; b'y'; 4096]?)))?;
+    assert!(rt; adopts(&mut segment, given));
+    assert!(rt; is_adopted(&segment));
+    assert!(rt; segment.image(7)?.is_zero());
+    assert!(rt; adopts_nothing_at_zero(alloc, &mut segment));
+    assert!(rt; is_adopted(&segment));
     Ok(())
 }
 

@@ -1,8 +1,6 @@
-ghost use Rattle.std.specs.Prelude.{◌≡◌, ℕ, ◌<◌, ◌≤◌, ◌↔◌, List, map, IfOk, OnOk, OnErr, IfErr};
-ghost use Rattle.std.specs.List.{Contains};
-ghost use Rattle.redo_core.specs.Data.{RecordData};
+ghost use Rattle.std.specs.Prelude.{◌≡◌, ℕ, ◌<◌, ◌≤◌, List, map, IfOk, OnOk, OnErr, IfErr};
 ghost use Rattle.redo_core.specs.CompleteEpoch.{IsCompleteEpoch};
-ghost use Rattle.redo_core.specs.Standing.{IsAlive, IsDead};
+ghost use Rattle.redo_core.specs.Standing.{IsAlive};
 ghost use Rattle.redo_core.specs.Position.{Position};
 ghost use Rattle.redo_core.specs.Sound.{IsSound};
 ghost use Rattle.redo_core.specs.declared.facts.Fact.{Fact as AnyFact};
@@ -13,7 +11,6 @@ ghost use Rattle.page_base.specs.Raising.{Raises};
 ghost use Rattle.segment_state.specs.State.{State, version_of};
 ghost use Rattle.segment_state.specs.Means.{MeansAt};
 ghost use Rattle.segment_state.specs.Shows.{Shows};
-ghost use Rattle.segment_state.specs.HasMeaning.{HasAnchor};
 ghost use Rattle.segment_state.specs.Promises.{KeepsMeaning, KeepsMeaningWith};
 ghost use Rattle.segment_core.specs.Folding.{IsPlanResult, PlansFold, Commits, RefusesCommit, RefusesAhead};
 ghost use Rattle.segment_core.specs.Forgetting.{DiscardsJust, FoldsAll, Tidies, HoldsJustKept, IsSoundState, RefusesTidy};

@@ -1,4 +1,4 @@
-ghost use Rattle.std.specs.Prelude.{◌≡◌, map};
+ghost use Rattle.std.specs.Prelude.{◌≡◌};
 ghost use Rattle.redo_core.specs.Writing.{after_records};
 
 use redo_core::{Page, Record, apply};
