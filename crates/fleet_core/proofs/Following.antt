@@ -1,7 +1,7 @@
 -- A segment's answers are those of a node that has the facts which it means.
-use Rattle.std.proofs.Common.{◌≡◌, ℕ, ◌<◌, ◌≤◌, arith, List, [], ◌∷◌, ◌++◌, refl, sym, ap, ◌∙◌, subst, Result, Ok, Err, OnOk, OnErr, IfOk, IfErr}
+use Rattle.std.proofs.Common.{◌≡◌, ℕ, ◌<◌, ◌≤◌, arith, List, refl, sym, subst, Result, Ok, Err, OnOk, OnErr, IfOk, IfErr}
 use Rattle.redo_core.specs.Sound.{IsSound}
-use Rattle.redo_core.specs.Position.{Position, IsPosition}
+use Rattle.redo_core.specs.Position.{Position}
 use Rattle.redo_core.specs.declared.facts.Fact.{Fact}
 use Rattle.redo_core.specs.declared.refusal.Refused.{Refused}
 use Rattle.segment_state.specs.State.{State}
@@ -12,9 +12,8 @@ use Rattle.redo_core.specs.PageAt.{IsPageAt}
 use Rattle.redo_core.specs.CompleteEpoch.{IsCompleteEpoch}
 use Rattle.redo_laws.proofs.Numbers.{greatest_unique}
 use Rattle.redo_laws.proofs.Fronts.{epoch_exists}
-use Rattle.segment_core.specs.Folding.{IsFoldOf, IsPlanResult, PlansFold, RefusesCommit}
+use Rattle.segment_core.specs.Folding.{IsFoldOf, PlansFold, RefusesCommit}
 use Rattle.segment_core.specs.declared.folds.Folded.{Folded}
-use Rattle.segment_core.specs.declared.folds.CommitFault.{CommitFault}
 use Rattle.segment_core.specs.declared.folds.CommitFault.TheVariants as commit
 use Rattle.segment_core.specs.Taking.{TellsChange}
 use Rattle.segment_core.specs.Refusing.{FitsSoundLog}
@@ -29,7 +28,7 @@ use Rattle.segment_core.specs.declared.answers.ReadFault.TheVariants as fault
 use Rattle.fleet_core.specs.declared.steps.Step.{Step}
 use Rattle.fleet_core.specs.declared.steps.Step.TheVariants.{Take, Fold, Discard, Front as AskFront, Read}
 use Rattle.fleet_core.specs.declared.steps.Reply.{Reply}
-use Rattle.fleet_core.specs.declared.steps.Reply.TheVariants.{Changed, Unchanged, Folded as FoldedIs, Discarded, Front as FrontIs, Page, Below, Above, Refused as IsRefused, BrokenBlockChain, Memory}
+use Rattle.fleet_core.specs.declared.steps.Reply.TheVariants.{Folded as FoldedIs, Discarded, Front as FrontIs, Memory}
 use Rattle.fleet_core.specs.Replying.{RefusalReplies, TakenReplies, ReadReplies, FaultReplies}
 use Rattle.fleet_core.specs.Runs.{NodeFollows}
 use Rattle.fleet_core.specs.Shedding.{Sheds}

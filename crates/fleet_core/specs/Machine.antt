@@ -1,6 +1,5 @@
 -- The fleet machine: its state is the set of facts that reached each node, and a reply is read off those sets.
-use Rattle.std.specs.Prelude.{◌≡◌, ℕ, ◌+◌, ◌-◌, ◌<◌, ◌≤◌, ◌⊎◌, zero, suc, List, [], ◌∷◌, ◌++◌, length, slice_get, Option, Some}
-use Rattle.std.specs.List.{Contains}
+use Rattle.std.specs.Prelude.{◌≡◌, ℕ, ◌-◌, ◌<◌, ◌≤◌, ◌⊎◌, zero, suc, List, [], ◌∷◌, ◌++◌, length, slice_get, Some}
 use Rattle.redo_core.specs.Position.{Position, IsPosition}
 use Rattle.redo_core.specs.Answer.{IsReadAnswer}
 use Rattle.redo_core.specs.Answer.ReadAnswer.{Image as OfImage, Below as OfBelow, Above as OfAbove}
@@ -10,7 +9,7 @@ use Rattle.segment_core.specs.Reading.{IsFrontAt}
 use Rattle.fleet_core.specs.declared.steps.Step.{Step}
 use Rattle.fleet_core.specs.declared.steps.Step.TheVariants.{Take, Fold, Discard, Front, Read}
 use Rattle.fleet_core.specs.declared.steps.Reply.{Reply}
-use Rattle.fleet_core.specs.declared.steps.Reply.TheVariants.{Changed, Unchanged, Folded, Discarded, Front as FrontIs, Page, Below, Above, NoNode, Refused, BrokenBlockChain, Memory}
+use Rattle.fleet_core.specs.declared.steps.Reply.TheVariants.{Changed, Unchanged, Folded, Discarded, Front as FrontIs, Page, Below, Above, NoNode, Memory}
 
 -- the facts of node i, counted from 1
 abbrev pub IsNode : List (List Fact) → ℕ → List Fact → Type 0

@@ -14,7 +14,7 @@ use std::alloc::Global;
 use std::test::Fail;
 
 /// How many scripts are run, and how many steps each has.
-const SCRIPTS: u32 = 100;
+const SCRIPTS: u32 = 300;
 
 const STEPS: u32 = 48;
 

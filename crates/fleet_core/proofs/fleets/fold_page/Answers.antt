@@ -1,4 +1,3 @@
-use Rattle.std.proofs.Common.{rules}
 use Rattle.segment_state.specs.Promises.{KeepsMeaningWith}
 use Rattle.segment_core.specs.Folding.{Commits, RefusesCommit}
 use Rattle.segment_core.specs.declared.folds.CommitFault.TheVariants.{Ahead}

@@ -1,6 +1,5 @@
-use Rattle.std.proofs.Common.{◌≡◌, ◌+◌, List, [], ◌∷◌, ◌++◌, replicate, sym, subst, arith, add-one, suc}
+use Rattle.std.proofs.Common.{◌≡◌, List, [], ◌∷◌, ◌++◌, replicate, sym, subst, arith, add-one, suc}
 use Rattle.std.proofs.lemmas.Grind.{common_steps}
-use Rattle.redo_core.specs.declared.facts.Fact.{Fact as AnyFact}
 use Rattle.segment_state.specs.State.{State}
 use Rattle.fleet_core.specs.Runs.{MeanNodes}
 use Rattle.fleet_core.proofs.Nodes.{mean_more}

@@ -1,4 +1,4 @@
-use Rattle.std.proofs.Common.{◌≡◌, ◌+◌, ◌-◌, ◌<◌, ◌≤◌, ◌⊎◌, inl, inr, arith, length, get_or, set, refl, sym, ap, ◌∙◌, subst}
+use Rattle.std.proofs.Common.{◌≡◌, ◌+◌, ◌-◌, ◌<◌, inl, inr, arith, length, set, ap, subst}
 use Rattle.std.specs.Prelude.{vec_len}
 use Rattle.std.proofs.Common.{rules, List}
 use Rattle.segment_state.specs.State.{State}
