@@ -4,14 +4,13 @@ use Rattle.std.proofs.lemmas.Bool.{leb-true, le-leb}
 use Rattle.std.specs.List.{Contains}
 use Rattle.redo_core.specs.Data.{RecordData, CutData}
 use Rattle.redo_core.specs.Order.{IsGreatest}
-use Rattle.redo_core.specs.CompleteEpoch.{HasCutsTo, IsCompleteEpoch}
+use Rattle.redo_core.specs.CompleteEpoch.{IsCompleteEpoch}
 use Rattle.redo_core.specs.Linked.{Linked}
 use Rattle.redo_core.specs.Linked.Linked.{start, next}
 use Rattle.redo_core.specs.Shape.{record_fault, max_number}
 use Rattle.redo_core.specs.Sound.{IsSound}
 use Rattle.redo_core.specs.Position.{Position}
 use Rattle.redo_core.specs.declared.facts.Fact.{Fact}
-use Rattle.redo_laws.proofs.Numbers.{greatest_unique}
 use Rattle.redo_laws.proofs.Log.{log_of_sound}
 use Rattle.epoch_book.specs.Book.{BookData, IsBook}
 use Rattle.hot_log.specs.Held.{IsHeld}
@@ -24,10 +23,7 @@ use Rattle.redo_core.specs.Standing.{IsAlive, IsDead, IsWaiting}
 use Rattle.segment_core.specs.Refusing.{IsNotCompared}
 use Rattle.segment_core.specs.Reading.{IsFrontAt, IsFrontOf}
 use Rattle.segment_core.specs.declared.answers.Front.{Front}
-
--- one list of truncations has one complete epoch
-pub one_epoch : (cs : List CutData) (j k : ℕ) → IsCompleteEpoch cs j → IsCompleteEpoch cs k → j ≡ k
-one_epoch cs j k h i = greatest_unique (HasCutsTo cs) (HasCutsTo cs) (λ n. (λ x. x, λ x. x)) j k h i
+pub use Rattle.segment_core.proofs.OneView.{one_epoch}
 
 -- a linked number is the base or a held record's
 linked_small : (cs : List CutData) (hs : List RecordData) (k base top n : ℕ) → ((r : RecordData) → Contains hs r → r.number ≤ top) → base ≤ top → Linked cs hs k base n → n ≤ top

@@ -3,8 +3,7 @@ use Rattle.std.proofs.Common.{◌≡◌, ℕ, ◌<◌, ◌≤◌, ◌⊎◌, ◌
 use Rattle.std.specs.List.{Contains}
 use Rattle.redo_core.specs.Data.{RecordData, CutData, AdvanceData}
 use Rattle.redo_core.specs.Order.{RecordBefore}
-use Rattle.redo_core.specs.CompleteEpoch.{HasCutsTo, IsCompleteEpoch}
-use Rattle.redo_laws.proofs.Numbers.{greatest_unique}
+use Rattle.redo_core.specs.CompleteEpoch.{IsCompleteEpoch}
 use Rattle.redo_core.specs.declared.facts.Fact.{Fact}
 use Rattle.redo_core.specs.declared.facts.Fact.TheVariants.{Record, Cut, Advance}
 use Rattle.redo_core.specs.declared.refusal.Refused.{Refused}
@@ -37,6 +36,7 @@ use Rattle.segment_core.specs.declared.answers.Taken.{Taken}
 use Rattle.segment_core.specs.declared.answers.Taken.TheVariants.{Changed, Unchanged}
 use Rattle.segment_core.specs.declared.answers.Refusal.{Refusal}
 use Rattle.segment_core.specs.declared.answers.Refusal.TheVariants.{OtherCut, Contradiction, OtherRecord, Memory}
+use Rattle.segment_core.proofs.OneView.{one_epoch}
 
 -- ---- a book's answer, for either kind of fact
 -- what a book refuses of a fact
@@ -139,10 +139,6 @@ cut_exact takes knows b b' hs base store c (Err e) result is_book learns known s
 pub cut_bound : (b b' : BookData) (base : ℕ) (c : CutData) (answer : Result Learnt BookRefusal) → OnOk answer (BookLearnsCut b c b') → OnErr answer (b' ≡ b) → base ≤ b.min → base ≤ b'.min
 cut_bound b b' base c (Ok l) learns same low = let up : b.min ≤ b'.min = learns.min.1 b.min (inl refl) in omega (arith, low, up)
 cut_bound b b' base c (Err e) learns same low = subst (λ x. base ≤ x.min) (sym same) low
-
--- one list of truncations has one complete epoch
-one_epoch : (cs : List CutData) (j k : ℕ) → IsCompleteEpoch cs j → IsCompleteEpoch cs k → j ≡ k
-one_epoch cs j k h i = greatest_unique (HasCutsTo cs) (HasCutsTo cs) (λ n. (λ x. x, λ x. x)) j k h i
 
 pub advance_exact : TakesAdvance → (b b' : BookData) (hs : List RecordData) (base : ℕ) (store : Store) (a : AdvanceData) (answer : Result Learnt BookRefusal) (result : Result Taken (Refused Fact Refusal))
     → IsBook b'
