@@ -84,6 +84,13 @@ advance_found ws x (Ok i) l h =
     (i, l, same_advance (get_or ws i x) x q.0 q.1)
 advance_found ws x (Err i) l h = tt
 
+pub advance_at : (ws : List AdvanceData) (x : AdvanceData) (r : Result ℕ ℕ) → IsSearchInRange r (length ws) → IsBinarySearchResult (λ a. pair_cmp a x) ws r → IfOk r (λ i. (i < length ws) × HoldsAt (λ a. a ≡ x) ws i)
+advance_at ws x (Ok i) l h = (
+  l,
+  λ d. let q = at_equal (pair_cmp (get_or ws i d) x) _ _ _ (pair_ranked (get_or ws i d) x) (h d) in same_advance (get_or ws i d) x q.0 q.1,
+)
+advance_at ws x (Err i) l h = tt
+
 pub advance_absent : (ws : List AdvanceData) (x : AdvanceData) (r : Result ℕ ℕ) → IsRising AdvanceBefore ws → IsSearchInRange r (length ws) → IsBinarySearchResult (λ a. pair_cmp a x) ws r → IfErr r (λ i. (i ≤ length ws) × IsPartitionPoint (λ a. AdvanceBefore a x) (λ a. AdvanceBefore x a) ws i)
 advance_absent ws x (Ok i) rise l h = tt
 advance_absent ws x (Err i) rise l h =

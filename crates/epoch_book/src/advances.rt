@@ -1,4 +1,4 @@
-ghost use Rattle.std.specs.Prelude.{◌≡◌, ℕ, ◌≤◌, ◌⊎◌, length, nat_lt, IfOk, IfErr, IfSome, IsNone};
+ghost use Rattle.std.specs.Prelude.{◌≡◌, ℕ, ◌<◌, ◌≤◌, ◌⊎◌, length, nat_lt, IfOk, IfErr, IfSome, IsNone};
 ghost use Rattle.std.specs.List.{All, HoldsAt, Contains, filter};
 ghost use Rattle.std.specs.List.Sorted.{IsPartitionPoint};
 ghost use Rattle.redo_core.specs.Order.{IsRising, AdvanceBefore, IsGreatest};
@@ -11,6 +11,7 @@ use redo_core::{Advance, Cut};
 pub fn place_of_advance(waits: &[Advance], advance: Advance) -> Result<usize, usize>
     requires { IsRising AdvanceBefore waits.now }
     ensures found { IfOk result (λ _. Contains waits.now advance) }
+    ensures place { IfOk result (λ i. (i < length waits.now) × HoldsAt (λ a. a ≡ advance) waits.now i) }
     ensures absent { IfErr result (λ i. (i ≤ length waits.now)
         × IsPartitionPoint (λ a. AdvanceBefore a advance) (λ a. AdvanceBefore advance a) waits.now i) }
 {
