@@ -4,3 +4,4 @@ pub mod Steps
 pub mod Outputs
 pub mod FirstFaults
 pub mod OneText
+pub mod TaskWords

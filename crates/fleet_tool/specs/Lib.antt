@@ -4,3 +4,4 @@ pub mod Inspect
 pub mod Output
 pub mod Watching
 pub mod OneOutput
+pub mod TaskName

@@ -1,6 +1,7 @@
 //! The command line.
 
-ghost use Rattle.std.specs.Prelude.{◌≡◌, length, OnOk};
+ghost use Rattle.std.specs.Prelude.{◌≡◌, ◌∷◌, [], IfOk};
+ghost use Rattle.fleet_tool.specs.TaskName.{name_of};
 
 use clap::error::ErrorKind;
 use clap::{Command, Error};
@@ -62,26 +63,31 @@ fn fault_of(alloc: Global, error: Error) -> LineFault {
     }
 }
 
+/// The task of this name; `Bad` where none has it.
+fn task_of(name: &str) -> Result<Task, LineFault>
+    ensures { IfOk result (λ task. name.now ≡ name_of task) }
+{
+    match name {
+        "run" => Ok(Task::Run),
+        "check" => Ok(Task::Check),
+        "inspect" => Ok(Task::Inspect),
+        _ => Err(LineFault::Bad),
+    }
+}
+
 /// The task that the words of the command line name; the first word is the program's.
 ///
 /// Errors: `Help` where the words ask for it, `Bad` for other words than the task's own, `Memory`.
 pub fn job_of<S: AsStr>(alloc: Global, words: &[S]) -> Result<Task, LineFault>
-    ensures one_word { OnOk result (length words.now ≡ 2) }
+    ensures names { IfOk result (λ task. (program word : S) × (words.now ≡ program ∷ word ∷ []) × (S.text word ≡ name_of task)) }
 {
     let command = command(alloc)?;
-    let count = words.len();
-    let matches = match command.try_get_matches_from(words) {
-        Ok(matches) => matches,
-        Err(error) => return Err(fault_of(alloc, error)),
-    };
-    // A task has no words of its own, and `--` would be one that clap leaves out.
-    if count != 2 {
-        return Err(LineFault::Bad);
+    if let Err(error) = command.try_get_matches_from(words) {
+        return Err(fault_of(alloc, error));
     }
-    match matches.subcommand() {
-        Some(("run", _)) => Ok(Task::Run),
-        Some(("check", _)) => Ok(Task::Check),
-        Some(("inspect", _)) => Ok(Task::Inspect),
+    match words {
+        [_, name] => task_of(name.as_str()),
+        // A task has no words of its own, and `--` would be one that clap leaves out.
         _ => Err(LineFault::Bad),
     }
 }
