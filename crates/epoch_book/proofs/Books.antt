@@ -16,8 +16,8 @@ use Rattle.epoch_book.specs.Book.{BookData, book_of, IsBook}
 use Rattle.epoch_book.specs.Knowing.{KnowsFacts, KnowsMore}
 use Rattle.epoch_book.specs.Learning.{LearnsCut, LearnsAdvance}
 use Rattle.epoch_book.specs.Scanning.{SparesIn}
-use Rattle.epoch_book.proofs.Members.{none_in, there, which, all_members, contains_insert, filtered, passed}
-use Rattle.epoch_book.proofs.Rising.{rising_insert, rising_filter}
+use Rattle.redo_core.proofs.Members.{none_in, there, which, all_members, contains_insert, filtered, passed}
+use Rattle.redo_core.proofs.Rising.{rising_insert_at, rising_filter}
 use Rattle.epoch_book.proofs.Facts.{cuts_with_cut, advances_with_cut, cuts_with_advance, advances_with_advance, no_cuts, no_advances}
 
 -- all truncations up to the complete epoch are there
@@ -118,7 +118,7 @@ cut_learns b i c k n ws greatest e = record {
 }
 
 pub cuts_rise : (b : BookData) (i : ℕ) (c : CutData) → IsBook b → i ≤ length b.cuts → IsPartitionPoint (λ d. d.epoch < c.epoch) (λ d. c.epoch < d.epoch) b.cuts i → IsRising CutBefore (insert b.cuts i c)
-cuts_rise b i c book l gap = rising_insert CutBefore b.cuts i c l book.cuts_rise gap.0 gap.1
+cuts_rise b i c book l gap = rising_insert_at CutBefore b.cuts i c l book.cuts_rise gap.0 gap.1
 
 inserted : {X : Type 0} (P : X → Type 0) (xs : List X) (i : ℕ) (x : X) → P x → All P xs → All P (insert xs i x)
 inserted P xs i x p all = all_members P (insert xs i x) (λ y h. ⊎_elim (λ (q : Contains xs y). All-contains P xs y all q) (λ (e : y ≡ x). subst P (sym e) p) ((contains_insert xs i x y).0 h))
@@ -159,7 +159,7 @@ wait_book b i a book l gap shaped later = record {
   epochs_fit = book.epochs_fit;
   complete = book.complete;
   min_shaped = book.min_shaped;
-  waits_rise = rising_insert AdvanceBefore b.waits i a l book.waits_rise gap.0 gap.1;
+  waits_rise = rising_insert_at AdvanceBefore b.waits i a l book.waits_rise gap.0 gap.1;
   waits_shaped = inserted (λ w. advance_fault w ≡ None) b.waits i a shaped book.waits_shaped;
   waits_later = inserted (λ w. b.complete < w.epoch) b.waits i a later book.waits_later;
 }

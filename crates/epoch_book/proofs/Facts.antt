@@ -1,37 +1,12 @@
 -- What one fact more adds to the truncations and advances of a list of facts.
-use Rattle.std.proofs.Common.{◌≡◌, ◌⊎◌, ◌↔◌, inl, inr, ⊎_elim, List, [], ◌∷◌, ◌++◌, Option, Some, None, refl, sym, ap, ◌∙◌, subst}
-use Rattle.std.specs.List.{Contains, filter_map, cons_option}
+use Rattle.std.proofs.Common.{◌≡◌, ◌⊎◌, ◌↔◌, inl, inr, ⊎_elim, List, [], ◌∷◌, ◌++◌, sym, subst}
+use Rattle.std.specs.List.{Contains}
 use Rattle.std.proofs.lemmas.List.Elements.{filter_map-append, Contains-append_left, Contains-append_right, Contains-append_cases}
 use Rattle.redo_core.specs.Data.{CutData, AdvanceData}
 use Rattle.redo_core.specs.Sets.{cuts, advances, as_cut, as_advance}
 use Rattle.redo_core.specs.declared.facts.Fact.{Fact}
 use Rattle.redo_core.specs.declared.facts.Fact.TheVariants.{Cut, Advance}
-use Rattle.epoch_book.proofs.Members.{none_in, here, there, which}
-
--- what a filter_map keeps
-past : {Y : Type 0} (o : Option Y) (ys : List Y) (v : Y) → Contains ys v → Contains (cons_option o ys) v
-past None ys v q = q
-past (Some u) ys v q = there u ys v q
-
-pub mapped : {X Y : Type 0} (f : X → Option Y) (xs : List X) (x : X) (y : Y) → Contains xs x → f x ≡ Some y → Contains (filter_map f xs) y
-mapped f [] x y h e = absurd (none_in x h)
-mapped f (z ∷ zs) x y h e =
-    ⊎_elim
-    (λ (q : z ≡ x). subst (λ o. Contains (cons_option o (filter_map f zs)) y) (sym (ap f q ∙ e)) (here y (filter_map f zs)))
-    (λ (q : Contains zs x). past (f z) (filter_map f zs) y (mapped f zs x y q e))
-    (which z zs x h)
-
-source_at : {X Y : Type 0} (f : X → Option Y) (z : X) (zs : List X) (y : Y) (o : Option Y) → f z ≡ o → (Contains (filter_map f zs) y → (x : X) × Contains zs x × (f x ≡ Some y)) → Contains (cons_option o (filter_map f zs)) y → (x : X) × Contains (z ∷ zs) x × (f x ≡ Some y)
-source_at f z zs y None e ih h = let s = ih h in (s.0, there z zs s.0 s.1, s.2)
-source_at f z zs y (Some u) e ih h =
-    ⊎_elim
-    (λ (q : u ≡ y). (z, here z zs, e ∙ ap Some q))
-    (λ (q : Contains (filter_map f zs) y). let s = ih q in (s.0, there z zs s.0 s.1, s.2))
-    (which u (filter_map f zs) y h)
-
-pub source : {X Y : Type 0} (f : X → Option Y) (xs : List X) (y : Y) → Contains (filter_map f xs) y → (x : X) × Contains xs x × (f x ≡ Some y)
-source f [] y h = absurd (none_in y h)
-source f (z ∷ zs) y h = source_at f z zs y (f z) refl (source f zs y) h
+use Rattle.redo_core.proofs.Members.{none_in, here, which}
 
 -- a list with more at its end
 added : {X : Type 0} (xs ys zs : List X) (x : X) → ys ≡ xs ++ zs → Contains ys x ↔ (Contains xs x ⊎ Contains zs x)

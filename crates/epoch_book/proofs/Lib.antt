@@ -1,4 +1,3 @@
-pub mod Members
 pub mod Rising
 pub mod Places
 pub mod Scans

@@ -10,8 +10,9 @@ use Rattle.epoch_book.specs.declared.refusals.Held.{Held}
 use Rattle.epoch_book.specs.declared.refusals.Held.TheVariants.{Min, Advance, Cut}
 use Rattle.epoch_book.specs.declared.refusals.BookRefusal.{BookRefusal}
 use Rattle.epoch_book.specs.declared.refusals.BookRefusal.TheVariants.{OtherCut, Contradiction, Memory}
-use Rattle.epoch_book.proofs.Members.{item}
-use Rattle.epoch_book.proofs.Rising.{rising_members, one_first}
+use Rattle.redo_core.proofs.Members.{item}
+use Rattle.redo_core.proofs.Rising.{rising_members}
+use Rattle.epoch_book.proofs.Rising.{one_first}
 use Rattle.epoch_book.proofs.Places.{advances_apart}
 
 -- one truncation an epoch

@@ -1,12 +1,13 @@
 -- What a binary search finds in the lists of a book.
-use Rattle.std.proofs.Common.{◌≡◌, ℕ, ◌<◌, ◌≤◌, inl, inr, List, length, get_or, refl, sym, ap, ◌∙◌, subst, arith, Result, Ok, Err, IfOk, IfErr, Ordering, Less, Equal, Greater}
+use Rattle.std.proofs.Common.{◌≡◌, ℕ, ◌<◌, ◌≤◌, inl, inr, List, length, get_or, refl, sym, subst, arith, Result, Ok, Err, IfOk, IfErr, Ordering, Less, Equal, Greater}
 use Rattle.std.specs.List.{Contains, HoldsAt}
 use Rattle.std.specs.List.Sorted.{IsSearchInRange, IsBinarySearchResult, IsNonDecreasingBy, IsPartitionPoint}
 use Rattle.std.specs.Ordering.{nat_cmp, ordering_then, ordering_index, MatchOrdering}
 use Rattle.std.proofs.lemmas.Cmp.{ranked}
-use Rattle.redo_core.specs.Data.{CutData, AdvanceData, advance_of}
+use Rattle.redo_core.specs.Data.{CutData, AdvanceData}
 use Rattle.redo_core.specs.Order.{IsRising, PairBefore, CutBefore, AdvanceBefore}
-use Rattle.epoch_book.proofs.Rising.{rising_by}
+use Rattle.redo_core.proofs.Pairs.{pair_apart, pair_trans, same_advance}
+use Rattle.redo_core.proofs.Rising.{rising_by}
 
 -- an order against one thing rises with it
 rank_le : (o p : Ordering) (P Q R S T U : Type 0) → MatchOrdering o P Q R → MatchOrdering p S T U → (Q → S → ⊥) → (R → S → ⊥) → (R → T → ⊥) → ordering_index o ≤ ordering_index p
@@ -58,17 +59,8 @@ pair_at a b c d Greater p h k = inl h
 pair_ranked : (a b : AdvanceData) → MatchOrdering (pair_cmp a b) (AdvanceBefore a b) ((a.epoch ≡ b.epoch) × (a.point ≡ b.point)) (AdvanceBefore b a)
 pair_ranked a b = pair_at a.epoch a.point b.epoch b.point (nat_cmp a.epoch b.epoch) (nat_cmp a.point b.point) (ranked a.epoch b.epoch (nat_cmp a.epoch b.epoch) refl) (ranked a.point b.point (nat_cmp a.point b.point) refl)
 
-pub same_advance : (a b : AdvanceData) → a.epoch ≡ b.epoch → a.point ≡ b.point → a ≡ b
-same_advance a b e p = ap (λ n. advance_of n a.point) e ∙ ap (λ n. advance_of b.epoch n) p
-
-pair_apart : (a b c d : ℕ) → PairBefore a b c d → PairBefore c d a b → ⊥
-pair_apart a b c d h k = grind (arith, h, k)
-
 pub advances_apart : (a b : AdvanceData) → AdvanceBefore a b → AdvanceBefore b a → ⊥
 advances_apart a b h k = pair_apart a.epoch a.point b.epoch b.point h k
-
-pair_trans : (a b c d e f : ℕ) → PairBefore a b c d → PairBefore c d e f → PairBefore a b e f
-pair_trans a b c d e f h k = grind (arith, h, k)
 
 pairs_rise : (ws : List AdvanceData) (x : AdvanceData) → IsRising AdvanceBefore ws → IsNonDecreasingBy (λ a. ordering_index (pair_cmp a x)) ws
 pairs_rise ws x r = rising_by AdvanceBefore (λ a. ordering_index (pair_cmp a x)) ws

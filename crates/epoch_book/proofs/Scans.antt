@@ -10,7 +10,7 @@ use Rattle.redo_core.specs.Position.{HasAdvance}
 use Rattle.epoch_book.specs.Scanning.{HasCut}
 use Rattle.epoch_book.specs.Refusing.{LacksCut}
 use Rattle.std.specs.Result.{is_ok}
-use Rattle.epoch_book.proofs.Rising.{rising_at}
+use Rattle.redo_core.proofs.Rising.{rising_at}
 
 -- all of a whole list
 pub whole : {X : Type 0} (P : X → Type 0) (xs : List X) (i : ℕ) → length xs ≤ i → All P (take i xs) → All P xs

@@ -16,8 +16,7 @@ use Rattle.epoch_book.specs.SoundFacts.{KnowsPart}
 use Rattle.epoch_book.specs.declared.refusals.Held.TheVariants.{Min, Advance as OfAdvance, Cut as OfCut}
 use Rattle.epoch_book.specs.declared.refusals.BookRefusal.{BookRefusal}
 use Rattle.epoch_book.specs.declared.refusals.BookRefusal.TheVariants.{OtherCut, Contradiction, Memory}
-use Rattle.epoch_book.proofs.Members.{none_in, here, there, which, filtered, passed}
-use Rattle.epoch_book.proofs.Facts.{mapped, source}
+use Rattle.redo_core.proofs.Members.{none_in, here, there, which, mapped, source, filtered, passed}
 use Rattle.epoch_book.proofs.Books.{known_to}
 
 cut_source : (facts : List Fact) (f : Fact) (c : CutData) → Contains facts f → as_cut f ≡ Some c → Contains facts (Cut c)

@@ -10,7 +10,7 @@ use Rattle.redo_core.specs.declared.facts.Fact.{Fact}
 use Rattle.redo_laws.proofs.Log.{log_of_sound}
 use Rattle.redo_laws.proofs.Fronts.{front_unique, page_unique}
 use Rattle.redo_laws.proofs.Meanings.{meaning_exists}
-use Rattle.redo_laws.proofs.Members.{none_in, which}
+use Rattle.redo_core.proofs.Members.{none_in, which}
 use Rattle.redo_laws.proofs.Union.{both}
 use Rattle.segment_core.specs.Reading.{IsFrontAt}
 use Rattle.segment_core.specs.declared.answers.Front.{Front}

@@ -2,7 +2,7 @@
 use Rattle.std.proofs.Common.{◌≡◌, ◌≢◌, ℕ, ◌-◌, ⊎_elim, zero, suc, List, [], ◌∷◌, slice_get, Some, Result, Ok, Err, refl, sym, ap, ◌∙◌, subst, arith}
 use Rattle.std.specs.List.{Contains, All, AllZip, AllByRecursion}
 use Rattle.redo_core.specs.declared.facts.Fact.{Fact}
-use Rattle.redo_laws.proofs.Members.{none_in, here, there}
+use Rattle.redo_core.proofs.Members.{none_in, here, there}
 use Rattle.fleet_core.specs.declared.steps.Step.{Step}
 use Rattle.fleet_core.specs.declared.steps.Reply.{Reply}
 use Rattle.fleet_core.specs.declared.steps.Reply.TheVariants.{Memory}

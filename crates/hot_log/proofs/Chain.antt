@@ -9,8 +9,8 @@ use Rattle.redo_core.specs.Linked.Linked.{start, next}
 use Rattle.epoch_book.specs.Book.{BookData, IsBook}
 use Rattle.hot_log.specs.Alive.{IsHeldAlive, IsLinkedFrom, IsLinkedHeld}
 use Rattle.hot_log.specs.Found.{IsOnlyRecord}
-use Rattle.epoch_book.proofs.Members.{item}
-use Rattle.hot_log.proofs.Rising.{front_to, whole, across, item_drop}
+use Rattle.redo_core.proofs.Members.{item}
+use Rattle.redo_core.proofs.Rising.{front_to, whole, across, item_drop}
 use Rattle.hot_log.proofs.Views.{IsView, view_of, number_before, one_number, front_of}
 
 -- the record by which a number above the base is linked

@@ -4,8 +4,8 @@ use Rattle.std.specs.List.{Contains, items_where_true}
 use Rattle.std.specs.List.Retain.{ReturnsInTurn, IsFiltered}
 use Rattle.std.proofs.lemmas.List.Elements.{Contains-append_left, Contains-append_right, Contains-append_cases}
 use Rattle.redo_core.specs.Order.{IsRising, Lists}
-use Rattle.epoch_book.proofs.Members.{none_in, here, there, which}
-use Rattle.hot_log.proofs.Rising.{each, all_of, front_to, up_to, take_grows, in_take, whole}
+use Rattle.redo_core.proofs.Members.{none_in, here, there, which, each, all_of}
+use Rattle.redo_core.proofs.Rising.{front_to, up_to, take_grows, in_take, whole}
 
 module _ {X F : Type 0} (R : F → X → Bool → F → Type 0) (Gone : X → Type 0) (f : F) (h : (x : X) (b : Bool) (f' : F) → R f x b f' → ((b ≡ false) ↔ Gone x) × (f' ≡ f)) where
   pub kept_members : (bs : List Bool) (xs : List X) (q : F) → length bs ≡ length xs → ReturnsInTurn R f bs xs q → (x : X) → Contains (items_where_true bs xs) x ↔ (Contains xs x × (Gone x → ⊥))

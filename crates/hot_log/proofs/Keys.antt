@@ -7,21 +7,12 @@ use Rattle.redo_core.specs.Data.{RecordData}
 use Rattle.redo_core.specs.Shape.{record_fault}
 use Rattle.redo_core.specs.Order.{IsRising, RecordBefore, PairBefore}
 use Rattle.hot_log.specs.Held.{IsHeld, HasKey, IsRecordAt, IsKeyAfter, SplitsAt, SplitsAbove, is_before}
-use Rattle.epoch_book.proofs.Members.{item, contains_insert}
-use Rattle.epoch_book.proofs.Rising.{rising_at}
-use Rattle.hot_log.proofs.Rising.{in_drop, side, item_drop, rest_from, front_to, past_end, across, up_to, rising_insert}
-
-pub pair_cases : (a b c d : ℕ) → PairBefore a b c d ⊎ (((a ≡ c) × (b ≡ d)) ⊎ PairBefore c d a b)
-pair_cases a b c d = grind arith
-
-pub pair_apart : (a b c d : ℕ) → PairBefore a b c d → PairBefore c d a b → ⊥
-pair_apart a b c d p q = grind arith
+use Rattle.redo_core.proofs.Members.{item, contains_insert}
+use Rattle.redo_core.proofs.Pairs.{pair_apart, pair_trans, pair_order}
+use Rattle.redo_core.proofs.Rising.{rising_at, in_drop, side, item_drop, rest_from, front_to, past_end, across, up_to, rising_insert}
 
 pub pair_not_same : (a b c d : ℕ) → PairBefore a b c d → a ≡ c → b ≡ d → ⊥
 pair_not_same a b c d p e f = grind arith
-
-pub pair_trans : (a b c d e f : ℕ) → PairBefore a b c d → PairBefore c d e f → PairBefore a b e f
-pair_trans a b c d e f p q = grind arith
 
 pub is_before_true : (epoch number : ℕ) (r : RecordData) → is_before epoch number r ≡ true → PairBefore r.epoch r.number epoch number
 is_before_true epoch number r h = grind arith
@@ -112,7 +103,7 @@ above_other epoch number held place x rising s l e other = record {
       (λ (v : (epoch ≡ r.epoch) × (number ≡ r.number)). absurd (none_at epoch number held place x rising s l e other r (in_drop place held r h) (sym v.0, sym v.1)))
       (λ (v : PairBefore r.epoch r.number epoch number). absurd (s.rest r h v))
       u)
-      (pair_cases epoch number r.epoch r.number);
+      (pair_order epoch number r.epoch r.number);
 }
 
 pub key_after_at : (after : Option (ℕ × ℕ)) (held : List RecordData) (place : ℕ) (x : RecordData) → IsRising RecordBefore held → SplitsAbove after held place → place < length held → x ≡ get_or held place x → IsKeyAfter held after (Some (x.epoch, x.number))
@@ -136,7 +127,7 @@ held_with held place x is s none shape = record {
       (λ (v : (x.epoch ≡ y.epoch) × (x.number ≡ y.number)). absurd (none y (in_drop place held y h) (sym v.0, sym v.1)))
       (λ (v : RecordBefore y x). absurd (s.rest y h v))
       u)
-      (pair_cases x.epoch x.number y.epoch y.number));
+      (pair_order x.epoch x.number y.epoch y.number));
   shaped = λ y h. ⊎_elim (λ (q : Contains held y). is.shaped y q) (λ (q : y ≡ x). subst (λ z. record_fault z ≡ None) (sym q) shape) ((contains_insert held place x y).0 h);
 }
 

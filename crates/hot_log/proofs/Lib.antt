@@ -1,4 +1,3 @@
-pub mod Rising
 pub mod Keys
 pub mod Views
 pub mod Chain

@@ -3,7 +3,8 @@ use Rattle.std.proofs.Common.{◌≡◌, ℕ, ◌<◌, ◌≤◌, ◌+◌, ◌�
 use Rattle.std.proofs.lemmas.Bool.{cases_lt}
 use Rattle.redo_core.specs.Data.{RecordData}
 use Rattle.hot_log.specs.Found.{IsPageAbove, IsPageBelow, IsPageAfter}
-use Rattle.hot_log.proofs.Rising.{none_in, front_to, up_to, take_grows, in_take, whole}
+use Rattle.redo_core.proofs.Members.{none_in}
+use Rattle.redo_core.proofs.Rising.{front_to, up_to, take_grows, in_take, whole}
 
 above_or : (after : Option ℕ) (page : ℕ) → IsPageAbove after page ⊎ (IsPageAbove after page → ⊥)
 above_or None page = inl tt

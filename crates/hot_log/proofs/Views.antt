@@ -8,8 +8,7 @@ use Rattle.redo_core.specs.Order.{IsRising, RecordBefore}
 use Rattle.redo_core.specs.CompleteEpoch.{HasCutsTo}
 use Rattle.redo_core.specs.Standing.{IsAlive}
 use Rattle.epoch_book.specs.Book.{BookData, IsBook}
-use Rattle.epoch_book.proofs.Rising.{rising_members}
-use Rattle.hot_log.proofs.Rising.{side, front_to, whole, across, item_drop, rest_from}
+use Rattle.redo_core.proofs.Rising.{rising_members, side, front_to, whole, across, item_drop, rest_from}
 use Rattle.hot_log.proofs.Keys.{above_it}
 
 -- what a view of an epoch rests on: its truncations are there, and none has its lo above its hi

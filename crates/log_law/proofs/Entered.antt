@@ -9,7 +9,7 @@ use Rattle.redo_core.specs.Order.{IsRising}
 use Rattle.redo_core.specs.Standing.{IsAlive}
 use Rattle.redo_core.specs.Sound.{counted}
 use Rattle.redo_core.specs.declared.facts.Fact.{Fact}
-use Rattle.redo_laws.proofs.Members.{none_in, here, there, which}
+use Rattle.redo_core.proofs.Members.{none_in, here, there, which}
 use Rattle.log_law.specs.Counted.{first_cut}
 use Rattle.log_law.specs.Alive.{stack_of, page_top, without_above, KnowsBeneath, IsStack, NotBelow, Holds, CanFollow}
 use Rattle.log_law.specs.declared.alive.Entry.{Entry}

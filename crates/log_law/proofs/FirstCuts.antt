@@ -14,7 +14,7 @@ use Rattle.redo_core.specs.CompleteEpoch.{HasCutsTo}
 use Rattle.redo_core.specs.Sound.{first_cuts, counted, Law2, Law5}
 use Rattle.redo_core.specs.declared.facts.Fact.{Fact}
 use Rattle.redo_core.specs.declared.facts.Fact.TheVariants.{Record, Cut, Advance}
-use Rattle.redo_laws.proofs.Members.{none_in, here, there, which}
+use Rattle.redo_core.proofs.Members.{none_in, here, there, which}
 use Rattle.redo_laws.proofs.Log.{filtered, passing, cut_in}
 use Rattle.log_law.specs.Counted.{first_at, first_cut, or_first, IsTable, IsBegun, IsFloor}
 

@@ -18,7 +18,7 @@ use Rattle.redo_core.specs.Sound.{counted, Law2, IsAliveBelow}
 use Rattle.redo_core.specs.declared.facts.Fact.{Fact}
 use Rattle.redo_core.specs.declared.facts.Fact.TheVariants.{Record}
 use Rattle.redo_core.specs.declared.laws.Law.TheVariants.{SegmentBacklink, BlockBacklink}
-use Rattle.redo_laws.proofs.Members.{none_in, here, there, which, each}
+use Rattle.redo_core.proofs.Members.{none_in, here, there, which, each}
 use Rattle.redo_laws.proofs.Numbers.{greatest_unique}
 use Rattle.redo_laws.proofs.Log.{record_in, place_of}
 use Rattle.log_law.specs.Alive.{stack_of, top_number, page_top, NotBelow, Holds, CanFollow}

@@ -12,7 +12,7 @@ use Rattle.redo_core.specs.Data.{RecordData}
 use Rattle.redo_core.specs.Sound.{Law2}
 use Rattle.redo_core.specs.declared.facts.Fact.{Fact}
 use Rattle.redo_core.specs.declared.facts.Fact.TheVariants.{Record}
-use Rattle.redo_laws.proofs.Members.{none_in, which}
+use Rattle.redo_core.proofs.Members.{none_in, which}
 use Rattle.log_law.specs.Links.{IsItem, AreItemsTo, AreItems, JudgesItem, IsLeastBroken, IsFirstBrokenLink}
 use Rattle.log_law.specs.declared.links.Item.{Item}
 use Rattle.log_law.specs.declared.links.BrokenLink.{BrokenLink}

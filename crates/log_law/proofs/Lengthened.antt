@@ -1,24 +1,24 @@
 -- A log with one more fact: what stays as it was, and when it is sound.
-use Rattle.std.proofs.Common.{◌≡◌, ◌≢◌, ℕ, zero, suc, ◌+◌, ◌<◌, ◌≤◌, ◌⊎◌, ◌↔◌, inl, inr, ⊎_elim, List, [], ◌∷◌, ◌++◌, length, get_or, take, refl, sym, ap, ◌∙◌, subst, arith, length-append, Option, Some, None}
+use Rattle.std.proofs.Common.{◌≡◌, ℕ, ◌+◌, ◌<◌, ◌≤◌, ◌⊎◌, inl, inr, ⊎_elim, List, [], ◌∷◌, ◌++◌, length, take, refl, sym, ap, ◌∙◌, subst, arith, length-append, Option, Some, None}
 use Rattle.std.specs.Prelude.{slice_get}
-use Rattle.std.specs.List.{Contains, filter_map}
-use Rattle.std.proofs.lemmas.Bool.{cases_lt, cases_eq}
-use Rattle.std.proofs.lemmas.Option.{none-some, same_Some, slice_get_within, slice_get-get_or, get_or_from_slice_get}
-use Rattle.std.proofs.lemmas.List.{take-append-le, take_all, get_or_append_left, append-nil}
+use Rattle.std.specs.List.{Contains}
+use Rattle.std.proofs.lemmas.Bool.{cases_lt}
+use Rattle.std.proofs.lemmas.Option.{same_Some, slice_get_within, slice_get-get_or, get_or_from_slice_get}
+use Rattle.std.proofs.lemmas.List.{take-append-le, take_all, get_or_append_left}
 use Rattle.std.proofs.Math.Seq.{get_or-append_seam}
-use Rattle.std.proofs.lemmas.List.Elements.{Contains-append_left, Contains-append_right, Contains-append_cases, Contains-push, filter_map-append}
+use Rattle.std.proofs.lemmas.List.Elements.{Contains-append_left, Contains-append_cases, Contains-push}
 use Rattle.redo_core.specs.Data.{RecordData, CutData, AdvanceData}
-use Rattle.redo_core.specs.Sets.{records, cuts, advances, as_record, as_cut, as_advance}
+use Rattle.redo_core.specs.Sets.{records, cuts, advances}
 use Rattle.redo_core.specs.Order.{IsGreatest}
 use Rattle.redo_core.specs.Standing.{IsAlive}
 use Rattle.redo_core.specs.CompleteEpoch.{HasCutsTo}
-use Rattle.redo_core.specs.Sound.{counted, first_cuts, HasShape, Law1, Law2, Law3, Law4, Law5, KeepsLaws, IsSound, IsAliveBelow}
+use Rattle.redo_core.specs.Sound.{counted, HasShape, Law1, Law2, Law3, Law4, Law5, KeepsLaws, IsSound, IsAliveBelow}
 use Rattle.redo_core.specs.declared.facts.Fact.{Fact}
 use Rattle.redo_core.specs.declared.facts.Fact.TheVariants.{Record, Cut, Advance}
-use Rattle.redo_laws.proofs.Members.{none_in, here, there, which}
+use Rattle.redo_core.proofs.Members.{none_in, which}
 use Rattle.redo_laws.proofs.Log.{record_in, cut_in, advance_in}
-use Rattle.log_law.specs.Counted.{first_at, first_cut, or_first}
-use Rattle.log_law.proofs.FirstCuts.{first_cut-append, first_cut-one, counted_is, counted_at, at_counted, counted_among}
+use Rattle.log_law.specs.Counted.{first_cut, or_first}
+use Rattle.log_law.proofs.FirstCuts.{first_cut-append, counted_is, counted_at, counted_among}
 
 -- places of a longer log
 pub old_place : (log : List Fact) (f g : Fact) (p : ℕ) → p < length log → slice_get (log ++ f ∷ []) p ≡ Some g → slice_get log p ≡ Some g

@@ -12,7 +12,7 @@ use Rattle.redo_core.specs.Sets.{cuts}
 use Rattle.redo_core.specs.Sound.{Law1}
 use Rattle.redo_core.specs.declared.facts.Fact.{Fact}
 use Rattle.redo_core.specs.declared.facts.Fact.TheVariants.{Record, Cut, Advance}
-use Rattle.redo_laws.proofs.Members.{none_in, here, there, which}
+use Rattle.redo_core.proofs.Members.{none_in, here, there, which}
 use Rattle.redo_laws.proofs.Log.{cut_in}
 use Rattle.log_law.specs.Counted.{first_at, first_cut, or_first}
 use Rattle.std.specs.Prelude.{MatchBool, not}

@@ -4,7 +4,7 @@ use Rattle.std.specs.Prelude.{nat_lt}
 use Rattle.std.specs.List.{Contains}
 use Rattle.std.proofs.lemmas.Bool.{ltb-true, ltb-false}
 use Rattle.redo_core.specs.Order.{IsRising}
-use Rattle.redo_laws.proofs.Members.{none_in, there, which, each}
+use Rattle.redo_core.proofs.Members.{none_in, there, which, each}
 use Rattle.log_law.specs.Alive.{without_above, NotBelow}
 use Rattle.log_law.specs.declared.alive.Entry.{Entry}
 

@@ -6,7 +6,7 @@ use Rattle.std.proofs.lemmas.List.{get_or_default}
 use Rattle.redo_core.specs.Data.{CutData}
 use Rattle.redo_core.specs.Sets.{cuts}
 use Rattle.redo_core.specs.declared.facts.Fact.{Fact}
-use Rattle.redo_laws.proofs.Members.{none_in, here, there, which}
+use Rattle.redo_core.proofs.Members.{none_in, here, there, which}
 use Rattle.log_law.specs.Alive.{Holds}
 use Rattle.log_law.specs.Links.{AreItems, KeyAtMost, KeyBelow, SameItemKey, IsInKeyOrder, IsLeastBroken}
 use Rattle.log_law.specs.declared.alive.AliveRecords.{AliveRecords}

@@ -1,22 +1,22 @@
 -- What a writer keeps is what its log says: at the start, and with a record, a truncation or an advance more.
-use Rattle.std.proofs.Common.{◌≡◌, ◌≢◌, ℕ, zero, suc, ◌+◌, ◌<◌, ◌≤◌, ◌⊎◌, ◌↔◌, inl, inr, ⊎_elim, List, [], ◌∷◌, ◌++◌, length, get_or, take, refl, sym, ap, ◌∙◌, subst, arith, length-append, Option, Some, None, cond, Bool, true, false}
+use Rattle.std.proofs.Common.{◌≡◌, ◌≢◌, ℕ, ◌+◌, ◌<◌, ◌≤◌, ◌⊎◌, inl, inr, ⊎_elim, List, [], ◌∷◌, ◌++◌, length, get_or, refl, sym, ap, ◌∙◌, subst, arith, Option, Some, None, cond, Bool, true, false}
 use Rattle.std.specs.Prelude.{slice_get, ◌==◌, nat_le, nat_lt, if◌then◌else◌}
 use Rattle.std.specs.List.{Contains, AllByRecursion, list_any, sum_by}
 use Rattle.std.proofs.lemmas.Bool.{cases_lt, cases_eq, eq-eqb, ne_eqb, lt-leb, le-ltb}
-use Rattle.std.proofs.lemmas.Option.{none-some, same_Some, slice_get_within, get_or_from_slice_get}
+use Rattle.std.proofs.lemmas.Option.{none-some, slice_get_within, get_or_from_slice_get}
 use Rattle.std.proofs.lemmas.List.Elements.{Contains-append_left, Contains-append_right, Contains-append_cases, Contains-push}
 use Rattle.redo_core.specs.Data.{WriteData, RecordData, CutData, AdvanceData, record_of, cut_of}
 use Rattle.redo_core.specs.Shape.{cut_fault, record_fault, is_empty, is_off_page, max_number}
-use Rattle.redo_core.specs.Sets.{records, cuts, advances}
+use Rattle.redo_core.specs.Sets.{records, cuts}
 use Rattle.redo_core.specs.Order.{IsGreatest, IsRising}
 use Rattle.redo_core.specs.Standing.{IsAlive}
 use Rattle.redo_core.specs.CompleteEpoch.{HasCutsTo, IsCompleteEpoch}
-use Rattle.redo_core.specs.Sound.{counted, HasShape, Law1, Law2, Law3, Law4, Law5, IsSound, IsAliveBelow}
+use Rattle.redo_core.specs.Sound.{counted, HasShape, Law1, Law2, IsSound, IsAliveBelow}
 use Rattle.redo_core.specs.declared.facts.Fact.{Fact}
 use Rattle.redo_core.specs.declared.facts.Fact.TheVariants.{Record, Cut, Advance}
 use Rattle.redo_core.specs.declared.shapes.ShapeFault.TheVariants.{EpochIsZero, NumberIsZero, BackNotBelow, BlockBackAbove, ManyWrites, EmptyWrite, OffPage, ManyBytes, TooLarge}
 use Rattle.redo_core.specs.declared.shapes.ShapeFault.{ShapeFault}
-use Rattle.redo_laws.proofs.Members.{none_in, here, there, which}
+use Rattle.redo_core.proofs.Members.{none_in, here}
 use Rattle.redo_laws.proofs.Log.{record_in, cut_in, advance_in, kept, cut_facts}
 use Rattle.log_law.specs.Counted.{first_cut, or_first}
 use Rattle.log_law.specs.Alive.{stack_of, top_number, page_top, without_above, NotBelow, IsStack, Holds}
@@ -25,11 +25,11 @@ use Rattle.log_law.specs.Writing.{IsWritten, IsBoundAt, IsPoint, IsBound, plain_
 use Rattle.log_law.specs.declared.alive.Entry.{Entry}
 use Rattle.log_law.specs.declared.alive.AliveRecords.{AliveRecords}
 use Rattle.log_law.specs.declared.links.Item.{Item}
-use Rattle.log_law.proofs.FirstCuts.{counted_is, counted_at, at_counted, counted_among, first_cut-append, first_cut-one}
+use Rattle.log_law.proofs.FirstCuts.{counted_at, counted_among, first_cut-append, first_cut-one}
 use Rattle.log_law.proofs.Entered.{holds_nothing, holds_push, next_view}
 use Rattle.log_law.proofs.Least.{only, same_redo, one_redo}
 use Rattle.log_law.proofs.Judging.{IsGroup, law3_top, law4_top, can_follow}
-use Rattle.log_law.proofs.Lengthened.{new_place, last_place, place_cases, record_cases, record_longer, record_last, cut_cases, cut_longer, cut_last, advance_cases, advance_longer, advance_last, counted_longer, counted_cases, KeepsRest, sound_push, Extends, extends_other, extends_cut, alive_longer, alive_shorter, has_cuts_longer, record_keeps, advance_keeps}
+use Rattle.log_law.proofs.Lengthened.{new_place, last_place, place_cases, record_cases, record_longer, record_last, cut_cases, cut_longer, cut_last, advance_cases, advance_longer, advance_last, counted_cases, KeepsRest, sound_push, Extends, extends_other, extends_cut, alive_longer, alive_shorter, has_cuts_longer, record_keeps, advance_keeps}
 
 cut_same : (c d : CutData) → Cut c ≡ Cut d → c ≡ d
 cut_same c d e = cc

@@ -1,41 +1,17 @@
 -- What is left of images after an adoption, and how adoptions follow one another.
-use Rattle.std.proofs.Common.{◌≡◌, ◌≢◌, ℕ, ◌<◌, ◌≤◌, ◌⊎◌, ⊎_elim, List, [], ◌∷◌, refl, sym, ap, ◌∙◌, subst, arith, Bool, true, false, cond, max, nat_le}
-use Rattle.std.specs.List.{Contains, AllByRecursion, filter}
+use Rattle.std.proofs.Common.{◌≡◌, ◌≢◌, ℕ, ◌<◌, ◌≤◌, ◌⊎◌, ⊎_elim, List, [], ◌∷◌, refl, sym, ap, ◌∙◌, subst, arith, Bool, true, max, nat_le}
+use Rattle.std.specs.List.{Contains, filter}
 use Rattle.std.proofs.lemmas.Bool.Decides.{nat_tests}
 use Rattle.redo_core.specs.Order.{IsRising}
 use Rattle.redo_core.specs.Writing.{zeros}
-use Rattle.redo_laws.proofs.Members.{none_in, here, there, which, each}
-use Rattle.redo_laws.proofs.Deciding.{all_of, settled_eq, some_or_none}
+use Rattle.redo_core.proofs.Members.{none_in, which, each, filtered, passed}
+use Rattle.redo_core.proofs.Rising.{rising_filter}
+use Rattle.redo_laws.proofs.Deciding.{settled_eq, some_or_none}
 use Rattle.segment_state.specs.State.{StoredImage, version_of, image_of}
 use Rattle.segment_state.specs.Stored.{PageBefore}
 use Rattle.segment_state.proofs.Storing.{stored_images}
 use Rattle.page_base.specs.Stored.{store_of, IsBase}
 use Rattle.page_base.specs.Adopting.{Adopts}
-
--- what a filter keeps
-kept_at : {X : Type 0} (p : X → Bool) (x : X) (xs ys : List X) (y : X) (b : Bool) → p x ≡ b → (Contains ys y → Contains xs y × (p y ≡ true)) → Contains (cond b (x ∷ ys) ys) y → Contains (x ∷ xs) y × (p y ≡ true)
-kept_at p x xs ys y true t ih h = ⊎_elim (λ (e : x ≡ y). (subst (Contains (x ∷ xs)) e (here x xs), subst (λ z. p z ≡ true) e t)) (λ (q : Contains ys y). (there x xs y (ih q).0, (ih q).1)) (which x ys y h)
-kept_at p x xs ys y false t ih h = (there x xs y (ih h).0, (ih h).1)
-
-kept : {X : Type 0} (p : X → Bool) (xs : List X) (y : X) → Contains (filter p xs) y → Contains xs y × (p y ≡ true)
-kept p [] y h = absurd (none_in y h)
-kept p (x ∷ xs) y h = kept_at p x xs (filter p xs) y (p x) refl (kept p xs y) h
-
-keeps_at : {X : Type 0} (p : X → Bool) (x : X) (xs ys : List X) (y : X) (b : Bool) → p x ≡ b → p y ≡ true → (Contains xs y → Contains ys y) → Contains (x ∷ xs) y → Contains (cond b (x ∷ ys) ys) y
-keeps_at p x xs ys y true t u ih h = ⊎_elim (λ (e : x ≡ y). subst (Contains (x ∷ ys)) e (here x ys)) (λ (q : Contains xs y). there x ys y (ih q)) (which x xs y h)
-keeps_at p x xs ys y false t u ih h = ⊎_elim (λ (e : x ≡ y). absurd (let w : p x ≡ p y = ap p e in cc)) ih (which x xs y h)
-
-keeps : {X : Type 0} (p : X → Bool) (xs : List X) (y : X) → p y ≡ true → Contains xs y → Contains (filter p xs) y
-keeps p [] y u h = absurd (none_in y h)
-keeps p (x ∷ xs) y u h = keeps_at p x xs (filter p xs) y (p x) refl u (keeps p xs y u) h
-
-rising_at : {X : Type 0} (Before : X → X → Type 0) (x : X) (ys : List X) (b : Bool) → AllByRecursion (Before x) ys → IsRising Before ys → IsRising Before (cond b (x ∷ ys) ys)
-rising_at Before x ys true all r = (all, r)
-rising_at Before x ys false all r = r
-
-rising_kept : {X : Type 0} (Before : X → X → Type 0) (p : X → Bool) (xs : List X) → IsRising Before xs → IsRising Before (filter p xs)
-rising_kept Before p [] r = tt
-rising_kept Before p (x ∷ xs) r = rising_at Before x (filter p xs) (p x) (all_of (Before x) (filter p xs) (λ y h. each (Before x) xs y r.0 (kept p xs y h).0)) (rising_kept Before p xs r.1)
 
 abbrev pub is_new : ℕ → StoredImage → Bool
 is_new base i = nat_le base i.version
@@ -70,7 +46,7 @@ record AfterFloor (images : List StoredImage) (floor base page : ℕ) : Type 0 w
 after_kept : (images : List StoredImage) (floor base : ℕ) (i : StoredImage) → IsBase images floor → Contains images i → base ≤ i.version → AfterFloor images floor base i.page
 after_kept images floor base i is h new =
     let old = (stored_images (store_of images floor) is.rising).0 i h in
-    let now = (stored_images (store_of (filter (is_new base) images) (max floor base)) (rising_kept PageBefore (is_new base) images is.rising)).0 i (keeps (is_new base) images i (new_of base i new) h) in
+    let now = (stored_images (store_of (filter (is_new base) images) (max floor base)) (rising_filter PageBefore (is_new base) images is.rising)).0 i (passed (is_new base) images i (new_of base i new) h) in
     record {
       version = (let a = old.0 in let b = now.0 in grind arith);
       kept = λ _. now.1 ∙ sym old.1;
@@ -81,8 +57,8 @@ after_gone : (images : List StoredImage) (floor base : ℕ) (i : StoredImage) �
 after_gone images floor base i is h below =
     let old = (stored_images (store_of images floor) is.rising).0 i h in
     let high : floor ≤ i.version = is.high i h in
-    let now = (stored_images (store_of (filter (is_new base) images) (max floor base)) (rising_kept PageBefore (is_new base) images is.rising)).1 i.page
-    (λ j k e. let m = kept (is_new base) images j k in
+    let now = (stored_images (store_of (filter (is_new base) images) (max floor base)) (rising_filter PageBefore (is_new base) images is.rising)).1 i.page
+    (λ j k e. let m = filtered (is_new base) images j k in
     let same : i ≡ j = one_image images i j is.rising h m.0 (sym e) in
     let low : base ≤ i.version = subst (λ (x : StoredImage). base ≤ x.version) (sym same) (new_is base j m.1) in
     omega arith) in
@@ -95,8 +71,8 @@ after_gone images floor base i is h below =
 after_none : (images : List StoredImage) (floor base page : ℕ) → IsBase images floor → ((i : StoredImage) → Contains images i → i.page ≢ page) → AfterFloor images floor base page
 after_none images floor base page is none =
     let old = (stored_images (store_of images floor) is.rising).1 page none in
-    let now = (stored_images (store_of (filter (is_new base) images) (max floor base)) (rising_kept PageBefore (is_new base) images is.rising)).1 page
-    (λ j k e. none j (kept (is_new base) images j k).0 e) in
+    let now = (stored_images (store_of (filter (is_new base) images) (max floor base)) (rising_filter PageBefore (is_new base) images is.rising)).1 page
+    (λ j k e. none j (filtered (is_new base) images j k).0 e) in
     record {
       version = (let a = old.0 in let b = now.0 in grind arith);
       kept = λ _. now.1 ∙ sym old.1;
@@ -131,9 +107,9 @@ pub floor_keeps : (images new : List StoredImage) (floor base raised : ℕ) → 
 floor_keeps images new floor base raised is same top =
     subst (λ l. IsBase l raised) (sym same)
     (record {
-      rising = rising_kept PageBefore (is_new base) images is.rising;
+      rising = rising_filter PageBefore (is_new base) images is.rising;
       high = λ i h.
-          let m = kept (is_new base) images i h in
+          let m = filtered (is_new base) images i h in
           let low : floor ≤ i.version = is.high i m.0 in
           let new : base ≤ i.version = new_is base i m.1 in
           grind arith;

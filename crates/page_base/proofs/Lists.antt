@@ -1,15 +1,8 @@
 -- Members of lists that rise, and of parts of them.
-use Rattle.std.proofs.Common.{◌≡◌, ℕ, zero, suc, ◌<◌, ◌⊎◌, inl, inr, ⊎_elim, List, [], ◌∷◌, length, get_or, set, take, drop, sym, ◌∙◌, subst, arith}
+use Rattle.std.proofs.Common.{◌≡◌, ℕ, zero, suc, ◌<◌, ◌⊎◌, inl, inr, ⊎_elim, List, [], ◌∷◌, length, get_or, set, drop, sym, ◌∙◌, subst, arith}
 use Rattle.std.specs.List.{Contains, insert}
-use Rattle.std.proofs.lemmas.List.{take-append-drop}
-use Rattle.std.proofs.lemmas.List.Elements.{Contains-append_cases}
 use Rattle.redo_core.specs.Order.{IsRising}
-use Rattle.redo_laws.proofs.Members.{none_in, here, there, which, each}
-use Rattle.redo_laws.proofs.Deciding.{all_of}
-
--- a member stands in front of a place, or from there on
-pub side : {X : Type 0} (i : ℕ) (xs : List X) (x : X) → Contains xs x → Contains (take i xs) x ⊎ Contains (drop i xs) x
-side i xs x h = Contains-append_cases (take i xs) (drop i xs) x (subst (λ l. Contains l x) (sym (take-append-drop i xs)) h)
+use Rattle.redo_core.proofs.Members.{none_in, here, there, which, each}
 
 -- what stands from a place on in a rising list is the element there, or comes after it
 pub from_place : {X : Type 0} (Before : X → X → Type 0) (xs : List X) (i : ℕ) (x y : X) → IsRising Before xs → i < length xs → x ≡ get_or xs i x → Contains (drop i xs) y → (x ≡ y) ⊎ Before x y
@@ -39,16 +32,6 @@ old_in_insert (z ∷ zs) (suc i) x y h =
     (λ (e : z ≡ y). subst (Contains (z ∷ insert zs i x)) e (here z (insert zs i x)))
     (λ (q : Contains zs y). there z (insert zs i x) y (old_in_insert zs i x y q))
     (which z zs y h)
-
--- one more between those before it and those after it
-pub rising_insert : {X : Type 0} (Before : X → X → Type 0) (xs : List X) (i : ℕ) (x : X) → IsRising Before xs → ((y : X) → Contains (take i xs) y → Before y x) → ((y : X) → Contains (drop i xs) y → Before x y) → IsRising Before (insert xs i x)
-rising_insert Before [] zero x r low high = (tt, tt)
-rising_insert Before [] (suc i) x r low high = (tt, tt)
-rising_insert Before (z ∷ zs) zero x r low high = (all_of (Before x) (z ∷ zs) high, r)
-rising_insert Before (z ∷ zs) (suc i) x r low high = (
-  all_of (Before z) (insert zs i x) (λ y h. ⊎_elim (λ (q : y ≡ x). subst (Before z) (sym q) (low z (here z (take i zs)))) (λ (q : Contains zs y). each (Before z) zs y r.0 q) (in_insert zs i x y h)),
-  rising_insert Before zs i x r.1 (λ y h. low y (there z (take i zs) y h)) high,
-)
 
 -- what a list has after one place is overwritten
 pub in_set : {X : Type 0} (xs : List X) (i : ℕ) (x y : X) → Contains (set xs i x) y → (y ≡ x) ⊎ Contains xs y

@@ -6,12 +6,12 @@ use Rattle.std.proofs.lemmas.List.{get_or-take, get_or-drop, length-take, length
 use Rattle.std.proofs.lemmas.List.Elements.{All-from_recursion}
 use Rattle.std.proofs.lemmas.Bool.Decides.{nat_tests}
 use Rattle.redo_core.specs.Order.{IsRising}
-use Rattle.redo_laws.proofs.Members.{here, there, which, each}
-use Rattle.redo_laws.proofs.Deciding.{all_of}
+use Rattle.redo_core.proofs.Members.{here, there, which, each, all_of}
+use Rattle.redo_core.proofs.Rising.{side, rising_insert}
 use Rattle.segment_state.specs.State.{StoredImage}
 use Rattle.segment_state.specs.Stored.{PageBefore, PutsImage}
 use Rattle.page_base.specs.Placing.{SplitsAt, IsGapAt}
-use Rattle.page_base.proofs.Lists.{side, from_place, in_insert, new_in_insert, old_in_insert, rising_insert, in_set}
+use Rattle.page_base.proofs.Lists.{from_place, in_insert, new_in_insert, old_in_insert, in_set}
 
 below_true : (page : ℕ) (i : StoredImage) → nat_lt i.page page ≡ true → i.page < page
 below_true page i h = grind arith

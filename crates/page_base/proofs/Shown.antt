@@ -10,7 +10,7 @@ use Rattle.segment_state.proofs.Storing.{stored_images, elsewhere}
 use Rattle.page_base.specs.Stored.{stored, store_of, IsBase}
 use Rattle.page_base.specs.Placing.{IsPlace}
 use Rattle.page_base.specs.Raising.{Raises}
-use Rattle.page_base.proofs.Lists.{side}
+use Rattle.redo_core.proofs.Rising.{side}
 use Rattle.page_base.proofs.Putting.{put_over, put_in_gap}
 
 pub at_place : (images : List StoredImage) (floor page place : ℕ) (x : StoredImage) → IsRising PageBefore images → IsPlace page images (Ok place) → x ≡ get_or images place x → (version_of (store_of images floor) page ≡ x.version) × (image_of (store_of images floor) page ≡ x.bytes)

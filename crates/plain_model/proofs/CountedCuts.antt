@@ -11,7 +11,7 @@ use Rattle.redo_core.specs.Standing.{IsAlive}
 use Rattle.redo_core.specs.Sound.{first_cuts, counted, Law2}
 use Rattle.redo_core.specs.declared.facts.Fact.{Fact}
 use Rattle.redo_core.specs.declared.facts.Fact.TheVariants.{Record, Cut, Advance}
-use Rattle.redo_laws.proofs.Members.{none_in, here, there, which}
+use Rattle.redo_core.proofs.Members.{none_in, here, there, which}
 use Rattle.redo_laws.proofs.Log.{cut_in, filtered, passing, first_within, first_of_epoch}
 use Rattle.redo_laws.proofs.Views.{has_cuts}
 use Rattle.plain_model.proofs.Scanned.{IsOther, IsSparedIfCounted, IsAboveIfCounted}

@@ -1,8 +1,8 @@
 -- Deciding facts about lists, and putting things in order.
 use Rattle.std.proofs.Common.{◌≡◌, ℕ, ◌+◌, ◌<◌, ◌≤◌, ◌⊎◌, ◌↔◌, inl, inr, ⊎_elim, List, [], ◌∷◌, sym, ap, ◌∙◌, subst, arith}
-use Rattle.std.specs.List.{Contains, AllByRecursion}
+use Rattle.std.specs.List.{Contains}
 use Rattle.redo_core.specs.Order.{IsRising, Lists}
-use Rattle.redo_laws.proofs.Members.{none_in, here, there, which, each}
+use Rattle.redo_core.proofs.Members.{none_in, here, there, which, each, all_of}
 
 -- P holds, or not
 abbrev pub Settled : Type 0 → Type 0
@@ -59,10 +59,6 @@ unfolding total
 within_total f [] x h = absurd (none_in x h)
 within_total f (y ∷ ys) x h =
     ⊎_elim (λ (e : y ≡ x). let q : f y ≡ f x = ap f e in omega arith) (λ (q : Contains ys x). let m : f x ≤ total f ys = within_total f ys x q in omega arith) (which y ys x h)
-
-pub all_of : {X : Type 0} (P : X → Type 0) (xs : List X) → ((x : X) → Contains xs x → P x) → AllByRecursion P xs
-all_of P [] h = tt
-all_of P (x ∷ xs) h = (h x (here x xs), all_of P xs (λ y q. h y (there x xs y q)))
 
 -- a list with one more in its place
 pub record Inserts {X : Type 0} (Before : X → X → Type 0) (x : X) (ys zs : List X) : Type 0 where

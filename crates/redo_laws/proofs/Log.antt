@@ -11,7 +11,7 @@ use Rattle.redo_core.specs.Sound.{IsSound, KeepsLaws, SameKey, first_cuts, count
 use Rattle.redo_core.specs.declared.facts.Fact.{Fact}
 use Rattle.redo_core.specs.declared.facts.Fact.TheVariants.{Record, Cut, Advance}
 use Rattle.std.proofs.lemmas.Bool.Decides.{nat_tests}
-use Rattle.redo_laws.proofs.Members.{none_in, here, there, which, mapped, source}
+use Rattle.redo_core.proofs.Members.{none_in, here, there, which, mapped, source}
 
 -- the parts of a set of facts
 record_source_at : (facts : List Fact) (f : Fact) (r : RecordData) → Contains facts f → as_record f ≡ Some r → Contains facts (Record r)

@@ -13,9 +13,10 @@ use Rattle.redo_core.specs.PageAt.{IsPageAt}
 use Rattle.redo_core.specs.Order.{BeforeByNumber}
 use Rattle.redo_core.specs.Writing.{after_records}
 use Rattle.redo_core.specs.Meaning.{Meaning, IsMeaningAt, IsMeaning, IsKept, ImageData, ImageBefore}
-use Rattle.redo_core.specs.Order.{CutBefore, AdvanceBefore, RecordBefore, PairBefore}
+use Rattle.redo_core.specs.Order.{CutBefore, AdvanceBefore, RecordBefore}
 use Rattle.redo_core.specs.declared.facts.Fact.{Fact}
-use Rattle.redo_laws.proofs.Members.{none_in, here, there, which, lists_unique}
+use Rattle.redo_core.proofs.Members.{none_in, here, there, which, lists_unique}
+use Rattle.redo_core.proofs.Pairs.{pair_apart, pair_trans, pair_order, same_advance}
 use Rattle.redo_laws.proofs.Log.{IsLog, part_records, part_cuts}
 use Rattle.redo_laws.proofs.Views.{has_cuts, alive_up, alone}
 use Rattle.redo_laws.proofs.Deciding.{Settled, settled_le, settled_lt, settled_eq, settled_and, settled_or, in_order}
@@ -58,22 +59,8 @@ page_exists log F l p k has g q =
       },
     )
 
--- orders
-
-pub pair_apart : (a b c d : ℕ) → PairBefore a b c d → PairBefore c d a b → ⊥
-pair_apart a b c d x y = grind arith
-
-pub pair_trans : (a b c d e f : ℕ) → PairBefore a b c d → PairBefore c d e f → PairBefore a b e f
-pair_trans a b c d e f x y = grind arith
-
-pub pair_order : (a b c d : ℕ) → PairBefore a b c d ⊎ (((a ≡ c) × (b ≡ d)) ⊎ PairBefore c d a b)
-pair_order a b c d = grind arith
-
 pub nat_order : (a b : ℕ) → (a < b) ⊎ ((a ≡ b) ⊎ (b < a))
 nat_order a b = grind arith
-
-pub same_advance : (a b : AdvanceData) → a.epoch ≡ b.epoch → a.point ≡ b.point → a ≡ b
-same_advance a b e p = ap (λ (q : ℕ × ℕ). record { epoch = q.0; point = q.1 }) (let t : (let v : ℕ × ℕ = (a.epoch, a.point) in v) ≡ (b.epoch, b.point) = cc in t)
 
 pub same_image : (i j : ImageData) → i.page ≡ j.page → i.bytes ≡ j.bytes → i ≡ j
 same_image i j e p = ap (λ (q : ℕ × List ℕ). record { page = q.0; bytes = q.1 }) (let t : (let v : ℕ × List ℕ = (i.page, i.bytes) in v) ≡ (j.page, j.bytes) = cc in t)

@@ -7,7 +7,7 @@ use Rattle.redo_core.specs.Linked.{IsLinked}
 use Rattle.redo_core.specs.Linked.Linked.{start, next}
 use Rattle.redo_core.specs.declared.facts.Fact.{Fact}
 use Rattle.redo_laws.specs.Overlap.{IsAtOrAbove, count_of, union_of}
-use Rattle.redo_laws.proofs.Members.{none_in}
+use Rattle.redo_core.proofs.Members.{none_in}
 use Rattle.redo_laws.proofs.Numbers.{greatest_le}
 use Rattle.redo_laws.proofs.Log.{IsLog, part_records}
 use Rattle.redo_laws.proofs.Views.{has_cuts, alive_up, alive_down, epoch_le}

@@ -7,7 +7,7 @@ use Rattle.redo_core.specs.Sound.{IsSound, KeepsLaws, SameKey, counted}
 use Rattle.redo_core.specs.declared.facts.Fact.{Fact}
 use Rattle.redo_core.specs.declared.facts.Fact.TheVariants.{Record, Cut, Advance}
 use Rattle.redo_laws.specs.Sample.{sample}
-use Rattle.redo_laws.proofs.Members.{none_in, which}
+use Rattle.redo_core.proofs.Members.{none_in, which}
 
 r0 : RecordData
 r0 = record { epoch = 0; number = 3; back = 0; page = 7; block_back = 0; writes = [] }

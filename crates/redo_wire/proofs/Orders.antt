@@ -4,6 +4,7 @@ use Rattle.std.specs.List.{AllByRecursion}
 use Rattle.std.proofs.lemmas.Bool.{ltb-true, leb-true, eqb-true, lt-ltb, le-leb, eq-eqb, and_parts, and_from, or_cases, or_left, or_right, cases_lt}
 use Rattle.redo_core.specs.Order.{IsRising, PairBefore, CutBefore}
 use Rattle.redo_core.specs.Meaning.{ImageBefore}
+use Rattle.redo_core.proofs.Pairs.{pair_trans}
 use Rattle.redo_wire.specs.Places.{Place, is_above}
 use Rattle.redo_wire.proofs.ListReaders.{EachFrom}
 
@@ -71,24 +72,11 @@ above_from_pair p q h =
       | inr both ↦ or_right _ _ (and_from _ _ (eq-eqb p.0 q.0 both.0) (lt-ltb p.1 q.1 both.1))
     ]
 
-PairBefore-trans : (a b c d e f : ℕ) → PairBefore a b c d → PairBefore c d e f → PairBefore a b e f
-PairBefore-trans a b c d e f h k =
-    elim h [
-      | inl lt ↦ elim k [
-        | inl lt' ↦ inl (omega arith)
-        | inr both' ↦ inl (omega (arith, both'.0))
-      ]
-      | inr both ↦ elim k [
-        | inl lt' ↦ inl (omega (arith, both.0))
-        | inr both' ↦ inr (omega (arith, both.0, both'.0), omega (arith, both.1, both'.1))
-      ]
-    ]
-
 pub place_tests : {A : Type 0} (epoch number : A → ℕ) → Tests (λ last x. is_above last (epoch x, number x)) (λ x. (epoch x, number x)) (λ x y. PairBefore (epoch x) (number x) (epoch y) (number y))
 place_tests epoch number = record {
   before = λ x y e. pair_from_above (epoch x, number x) (epoch y, number y) e;
   passes = λ x y h. above_from_pair (epoch x, number x) (epoch y, number y) h;
-  through = λ s x y e h. above_from_pair s (epoch y, number y) (PairBefore-trans s.0 s.1 (epoch x) (number x) (epoch y) (number y) (pair_from_above s (epoch x, number x) e) h);
+  through = λ s x y e h. above_from_pair s (epoch y, number y) (pair_trans s.0 s.1 (epoch x) (number x) (epoch y) (number y) (pair_from_above s (epoch x, number x) e) h);
 }
 
 -- (0, 0) is below each place with a number

@@ -21,7 +21,7 @@ use Rattle.hot_log.specs.declared.log.Put.{Put}
 use Rattle.hot_log.specs.declared.log.Put.TheVariants as put
 use Rattle.hot_log.specs.declared.log.PutFault.{PutFault}
 use Rattle.hot_log.specs.declared.log.PutFault.TheVariants as fault
-use Rattle.hot_log.proofs.Rising.{in_order}
+use Rattle.redo_core.proofs.Rising.{rising_members as in_order}
 use Rattle.hot_log.proofs.Keys.{pair_not_same}
 use Rattle.segment_state.specs.State.{State, Store}
 use Rattle.segment_state.specs.Means.{Means}

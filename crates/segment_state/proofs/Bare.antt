@@ -8,7 +8,7 @@ use Rattle.redo_core.specs.Position.{HasAdvance, Position, IsPosition}
 use Rattle.redo_core.specs.Linked.Linked.{start}
 use Rattle.redo_core.specs.declared.facts.Fact.{Fact}
 use Rattle.redo_core.specs.declared.facts.Fact.TheVariants.{Cut}
-use Rattle.redo_laws.proofs.Members.{none_in}
+use Rattle.redo_core.proofs.Members.{none_in}
 use Rattle.redo_laws.proofs.Fronts.{front_exists}
 use Rattle.segment_state.proofs.OneFact.{part_of, cut_no_record, cut_no_advance}
 use Rattle.segment_state.specs.State.{State, empty_state, version_of, image_of}

@@ -5,7 +5,7 @@ use Rattle.redo_core.specs.Data.{RecordData, CutData, AdvanceData}
 use Rattle.redo_core.specs.Sets.{IsPart, records, cuts, advances}
 use Rattle.redo_core.specs.declared.facts.Fact.{Fact}
 use Rattle.redo_core.specs.declared.facts.Fact.TheVariants.{Record, Cut, Advance}
-use Rattle.redo_laws.proofs.Members.{none_in, here, which}
+use Rattle.redo_core.proofs.Members.{none_in, here, which}
 
 pub part_of : (log : List Fact) (fact : Fact) → Contains log fact → IsPart (fact ∷ []) log
 part_of log fact h x q = ⊎_elim (λ (e : fact ≡ x). subst (Contains log) e h) (λ (y : Contains [] x). absurd (none_in x y)) (which fact [] x q)

@@ -5,7 +5,7 @@ use Rattle.std.specs.List.{Contains}
 use Rattle.std.proofs.lemmas.Bool.Decides.{nat_tests}
 use Rattle.redo_core.specs.Order.{IsRising}
 use Rattle.redo_core.specs.Writing.{zeros}
-use Rattle.redo_laws.proofs.Members.{none_in, here, there, which, each}
+use Rattle.redo_core.proofs.Members.{none_in, here, there, which, each}
 use Rattle.redo_laws.proofs.Deciding.{settled_eq, some_or_none}
 use Rattle.segment_state.specs.State.{State, Store, StoredImage, SameBook, image_in, version_of, image_of}
 use Rattle.segment_state.specs.Stored.{PageBefore, PutsImage}

@@ -4,7 +4,8 @@ use Rattle.std.specs.List.Sorted.{IsPartitionPoint}
 use Rattle.std.proofs.lemmas.List.Sorted.{answers_always}
 use Rattle.redo_core.specs.Data.{advance_of}
 use Rattle.redo_core.specs.Order.{AdvanceBefore}
-use Rattle.epoch_book.proofs.Places.{advance_found, advance_at, advance_absent, same_advance}
+use Rattle.redo_core.proofs.Pairs.{same_advance}
+use Rattle.epoch_book.proofs.Places.{advance_found, advance_at, advance_absent}
 use Rattle.epoch_book.proofs.advances.place_of_advance.Goals as goal
 
 pub returns-clause-found : goal.returns-clause-found

@@ -3,7 +3,7 @@ use Rattle.std.specs.List.{Contains}
 use Rattle.redo_core.specs.Data.{RecordData}
 use Rattle.redo_core.specs.Standing.{IsAlive}
 use Rattle.hot_log.specs.Alive.{IsLinkedFrom}
-use Rattle.epoch_book.proofs.Members.{item}
+use Rattle.redo_core.proofs.Members.{item}
 use Rattle.hot_log.proofs.Views.{view_of, last_is_greatest}
 use Rattle.hot_log.proofs.links.greatest_linked_of.Goals as goal
 

@@ -1,5 +1,5 @@
 use Rattle.std.proofs.Common.{◌≡◌, ◌+◌, sym, ◌∙◌, refl, subst}
-use Rattle.epoch_book.proofs.Members.{item}
+use Rattle.redo_core.proofs.Members.{item}
 use Rattle.hot_log.proofs.Views.{view_of}
 use Rattle.hot_log.proofs.Chain.{IsTop, link_down, top_below, top_taken, top_left, outside, top_of_all, top_none}
 use Rattle.hot_log.proofs.links.linked_to.Goals as goal

@@ -1,7 +1,7 @@
 use Rattle.std.proofs.Common.{◌≡◌, sym, ◌∙◌, refl}
 use Rattle.redo_core.specs.Data.{RecordData}
 use Rattle.redo_core.specs.Standing.{IsAlive}
-use Rattle.epoch_book.proofs.Members.{item}
+use Rattle.redo_core.proofs.Members.{item}
 use Rattle.hot_log.proofs.Views.{view_of, one_number, none_more, none_at_all}
 use Rattle.hot_log.proofs.search.alive_of.Goals as goal
 use Rattle.hot_log.proofs.search.alive_of.Goals.{else-number-via-then-number+else-is_alive, else-number-via-else-number}

@@ -2,7 +2,7 @@ use Rattle.std.proofs.Common.{◌≡◌, ◌≤◌, ◌<◌, ◌+◌, ◌-◌, r
 use Rattle.std.specs.List.{Contains}
 use Rattle.redo_core.specs.Data.{RecordData}
 use Rattle.redo_core.specs.Standing.{IsAlive}
-use Rattle.epoch_book.proofs.Members.{item}
+use Rattle.redo_core.proofs.Members.{item}
 use Rattle.hot_log.proofs.Views.{view_of, last_is_greatest, none_before}
 use Rattle.hot_log.proofs.search.last_of.Goals as goal
 

@@ -5,7 +5,7 @@ use Rattle.redo_core.specs.Data.{RecordData}
 use Rattle.redo_core.specs.Order.{Lists, BeforeByNumber, RecordBefore}
 use Rattle.redo_core.specs.Standing.{IsAlive}
 use Rattle.hot_log.specs.Alive.{IsHeldOf}
-use Rattle.hot_log.proofs.Rising.{across, item_drop}
+use Rattle.redo_core.proofs.Rising.{across, item_drop}
 use Rattle.hot_log.proofs.Views.{view_of, number_before}
 use Rattle.hot_log.proofs.Kept.{lists_more, lists_left, lists_whole, lists_as}
 use Rattle.hot_log.proofs.search.records_of.Goals as goal

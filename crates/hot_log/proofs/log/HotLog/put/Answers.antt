@@ -3,7 +3,7 @@ use Rattle.std.specs.Result.{IfOk, IfErr}
 use Rattle.std.specs.List.{Contains, insert}
 use Rattle.hot_log.specs.Held.{IsHeld, IsRecordAt}
 use Rattle.hot_log.specs.Putting.{Puts, RefusesPut}
-use Rattle.epoch_book.proofs.Members.{contains_insert}
+use Rattle.redo_core.proofs.Members.{contains_insert}
 use Rattle.hot_log.proofs.Keys.{none_as, held_put}
 use Rattle.hot_log.proofs.log.HotLog.put.Goals as goal
 use Rattle.hot_log.proofs.log.HotLog.put.Goals.{in-Ok, in-Err}

@@ -1,4 +1,4 @@
-use Rattle.std.proofs.Common.{◌≡◌, ◌≤◌, ◌<◌, ◌+◌, ◌++◌, ◌∷◌, [], subst, sym, ◌∙◌, ap, refl, inl, inr, arith, None}
+use Rattle.std.proofs.Common.{◌≡◌, ◌≤◌, ◌++◌, ◌∷◌, [], subst, sym, ◌∙◌, ap, refl, arith, None}
 use Rattle.std.specs.Prelude.{is_ok}
 use Rattle.redo_core.specs.Data.{RecordData, record_of}
 use Rattle.redo_core.specs.Shape.{record_fault}

@@ -1,4 +1,4 @@
-use Rattle.std.proofs.Common.{subst, sym}
+use Rattle.std.proofs.Common.{subst}
 use Rattle.redo_core.specs.Sound.{IsSound}
 use Rattle.log_law.proofs.writer.Writer.log.Goals as goal
 

@@ -1,6 +1,6 @@
-use Rattle.std.proofs.Common.{◌≡◌, ◌≤◌, ◌+◌, ◌++◌, ◌∷◌, [], subst, sym, ◌∙◌, ap, refl, inl, inr, arith, None}
+use Rattle.std.proofs.Common.{◌≡◌, ◌+◌, ◌++◌, ◌∷◌, [], subst, sym, ◌∙◌, ap, arith}
 use Rattle.std.specs.Prelude.{is_ok}
-use Rattle.redo_core.specs.Data.{CutData, cut_of}
+use Rattle.redo_core.specs.Data.{CutData}
 use Rattle.redo_core.specs.Shape.{cut_fault}
 use Rattle.redo_core.specs.Sets.{cuts}
 use Rattle.redo_core.specs.CompleteEpoch.{IsCompleteEpoch}
