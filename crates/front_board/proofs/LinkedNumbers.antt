@@ -11,7 +11,7 @@ use Rattle.redo_core.specs.Linked.{IsLinked}
 use Rattle.redo_core.specs.Linked.Linked.{start, next}
 use Rattle.redo_core.specs.declared.facts.Fact.{Fact}
 use Rattle.redo_core.specs.declared.facts.Fact.TheVariants.{Record}
-use Rattle.redo_laws.proofs.Log.{record_in}
+use Rattle.redo_core.proofs.FactParts.{record_in}
 use Rattle.front_board.specs.FrontWord.{number_count}
 
 shape_below : (r : RecordData) → record_fault r ≡ None → r.number < number_count

@@ -14,8 +14,8 @@ use Rattle.redo_core.specs.CompleteEpoch.{HasCutsTo}
 use Rattle.redo_core.specs.Sound.{first_cuts, counted, Law2, Law5}
 use Rattle.redo_core.specs.declared.facts.Fact.{Fact}
 use Rattle.redo_core.specs.declared.facts.Fact.TheVariants.{Record, Cut, Advance}
-use Rattle.redo_core.proofs.Members.{none_in, here, there, which}
-use Rattle.redo_laws.proofs.Log.{filtered, passing, cut_in}
+use Rattle.redo_core.proofs.Members.{none_in, here, there, which, filtered, passed}
+use Rattle.redo_core.proofs.FactParts.{cut_in}
 use Rattle.log_law.specs.Counted.{first_at, first_cut, or_first, IsTable, IsBegun, IsFloor}
 
 -- the first of two lists together
@@ -58,15 +58,6 @@ pub first_at_epoch : (e : ℕ) (cs : List CutData) (c : CutData) → first_at e 
 first_at_epoch e [] c h = absurd (none-some c h)
 first_at_epoch e (d ∷ ds) c h = epoch_at e d ds c (d.epoch == e) refl (first_at_epoch e ds c) h
 
--- what a filter keeps passes
-passes_at : (p : CutData → Bool) (d : CutData) (ds : List CutData) (c : CutData) (b : Bool) → p d ≡ b → (Contains (filter p ds) c → p c ≡ true) → Contains (cond b (d ∷ filter p ds) (filter p ds)) c → p c ≡ true
-passes_at p d ds c true t ih h = ⊎_elim (λ (q : d ≡ c). ap p (sym q) ∙ t) ih (which d (filter p ds) c h)
-passes_at p d ds c false t ih h = ih h
-
-passes : (p : CutData → Bool) (cs : List CutData) (c : CutData) → Contains (filter p cs) c → p c ≡ true
-passes p [] c h = absurd (none_in c h)
-passes p (d ∷ ds) c h = passes_at p d ds c (p d) refl (passes p ds c) h
-
 -- the truncations that count are the first of their epochs
 counted_first : (cs : List CutData) (c : CutData) → Contains (first_cuts cs) c → first_at c.epoch cs ≡ Some c
 counted_first [] c h = absurd (none_in c h)
@@ -75,17 +66,17 @@ counted_first (d ∷ ds) c h =
     (λ (q : d ≡ c). let t : (d.epoch == c.epoch) ≡ true = eq-eqb d.epoch c.epoch (ap (λ x. x.epoch) q) in
     subst (λ b. cond b (Some d) (first_at c.epoch ds) ≡ Some c) (sym t) (ap Some q))
     (λ (k : Contains (filter (λ x. not (x.epoch == d.epoch)) (first_cuts ds)) c).
-    let apart : not (c.epoch == d.epoch) ≡ true = passes (λ x. not (x.epoch == d.epoch)) (first_cuts ds) c k in
-    let ne : c.epoch ≡ d.epoch → ⊥ = eqb-false c.epoch d.epoch (not-true (c.epoch == d.epoch) apart) in
+    let old : Contains (first_cuts ds) c × (not (c.epoch == d.epoch) ≡ true) = filtered (λ x. not (x.epoch == d.epoch)) (first_cuts ds) c k in
+    let ne : c.epoch ≡ d.epoch → ⊥ = eqb-false c.epoch d.epoch (not-true (c.epoch == d.epoch) old.1) in
     let t : (d.epoch == c.epoch) ≡ false = ne_eqb d.epoch c.epoch (λ q. ne (sym q)) in
     subst (λ b. cond b (Some d) (first_at c.epoch ds) ≡ Some c) (sym t)
-    (counted_first ds c (filtered (λ x. not (x.epoch == d.epoch)) (first_cuts ds) c k)))
+    (counted_first ds c old.0))
     (which d _ c h)
 
 first_counted_at : (d : CutData) (ds : List CutData) (c : CutData) (b : Bool) → (d.epoch == c.epoch) ≡ b → (first_at c.epoch ds ≡ Some c → Contains (first_cuts ds) c) → cond b (Some d) (first_at c.epoch ds) ≡ Some c → Contains (first_cuts (d ∷ ds)) c
 first_counted_at d ds c true t ih h = let q : d ≡ c = same_Some d c h in subst (λ x. Contains (x ∷ filter (λ y. not (y.epoch == d.epoch)) (first_cuts ds)) c) (sym q) (here c _)
 first_counted_at d ds c false t ih h =
-    there d _ c (passing (λ x. not (x.epoch == d.epoch)) (first_cuts ds) c
+    there d _ c (passed (λ x. not (x.epoch == d.epoch)) (first_cuts ds) c
     (let ne : c.epoch ≢ d.epoch = λ q. eqb-false d.epoch c.epoch t (sym q) in grind (arith, nat_tests)) (ih h))
 
 first_counted : (cs : List CutData) (c : CutData) → first_at c.epoch cs ≡ Some c → Contains (first_cuts cs) c

@@ -20,7 +20,8 @@ use Rattle.redo_core.specs.declared.facts.Fact.TheVariants.{Record}
 use Rattle.redo_core.specs.declared.laws.Law.TheVariants.{SegmentBacklink, BlockBacklink}
 use Rattle.redo_core.proofs.Members.{none_in, here, there, which, each}
 use Rattle.redo_laws.proofs.Numbers.{greatest_unique}
-use Rattle.redo_laws.proofs.Log.{record_in, place_of}
+use Rattle.redo_core.proofs.FactParts.{record_in}
+use Rattle.redo_core.proofs.SoundFacts.{place_of}
 use Rattle.log_law.specs.Alive.{stack_of, top_number, page_top, NotBelow, Holds, CanFollow}
 use Rattle.log_law.specs.Links.{IsItem, AreItems, KeyBelow, IsInKeyOrder, law_broken, Judges, JudgesItem}
 use Rattle.log_law.specs.declared.alive.Entry.{Entry}

@@ -16,7 +16,7 @@ use Rattle.redo_core.specs.Sound.{counted, HasShape, Law1, Law2, Law3, Law4, Law
 use Rattle.redo_core.specs.declared.facts.Fact.{Fact}
 use Rattle.redo_core.specs.declared.facts.Fact.TheVariants.{Record, Cut, Advance}
 use Rattle.redo_core.proofs.Members.{none_in, which}
-use Rattle.redo_laws.proofs.Log.{record_in, cut_in, advance_in}
+use Rattle.redo_core.proofs.FactParts.{record_in, cut_in, advance_in}
 use Rattle.log_law.specs.Counted.{first_cut, or_first}
 use Rattle.log_law.proofs.FirstCuts.{first_cut-append, counted_is, counted_at, counted_among}
 

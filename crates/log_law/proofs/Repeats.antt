@@ -13,7 +13,7 @@ use Rattle.redo_core.specs.Sound.{Law1}
 use Rattle.redo_core.specs.declared.facts.Fact.{Fact}
 use Rattle.redo_core.specs.declared.facts.Fact.TheVariants.{Record, Cut, Advance}
 use Rattle.redo_core.proofs.Members.{none_in, here, there, which}
-use Rattle.redo_laws.proofs.Log.{cut_in}
+use Rattle.redo_core.proofs.FactParts.{cut_in}
 use Rattle.log_law.specs.Counted.{first_at, first_cut, or_first}
 use Rattle.std.specs.Prelude.{MatchBool, not}
 use Rattle.std.specs.HashMap.{get}

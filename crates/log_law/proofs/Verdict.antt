@@ -12,7 +12,7 @@ use Rattle.redo_core.specs.declared.facts.Fact.TheVariants.{Record, Cut, Advance
 use Rattle.redo_core.specs.declared.laws.Law.{Law}
 use Rattle.redo_core.specs.declared.laws.Law.TheVariants.{OneFactPerKey, EpochBegun, SegmentBacklink, BlockBacklink, AdvanceKept}
 use Rattle.redo_core.specs.declared.laws.LawFault.{LawFault}
-use Rattle.redo_laws.proofs.Log.{cut_in}
+use Rattle.redo_core.proofs.FactParts.{cut_in}
 use Rattle.log_law.specs.Counted.{IsTable}
 use Rattle.log_law.specs.Keys.{IsFirstOther}
 use Rattle.log_law.specs.Links.{KeepsLinks, BreaksLink, Judges, IsFirstBrokenLink}

@@ -17,7 +17,8 @@ use Rattle.redo_core.specs.declared.facts.Fact.TheVariants.{Record, Cut, Advance
 use Rattle.redo_core.specs.declared.shapes.ShapeFault.TheVariants.{EpochIsZero, NumberIsZero, BackNotBelow, BlockBackAbove, ManyWrites, EmptyWrite, OffPage, ManyBytes, TooLarge}
 use Rattle.redo_core.specs.declared.shapes.ShapeFault.{ShapeFault}
 use Rattle.redo_core.proofs.Members.{none_in, here}
-use Rattle.redo_laws.proofs.Log.{record_in, cut_in, advance_in, kept, cut_facts}
+use Rattle.redo_core.proofs.FactParts.{record_in, cut_in, advance_in}
+use Rattle.redo_core.proofs.SoundFacts.{kept, cut_facts}
 use Rattle.log_law.specs.Counted.{first_cut, or_first}
 use Rattle.log_law.specs.Alive.{stack_of, top_number, page_top, without_above, NotBelow, IsStack, Holds}
 use Rattle.log_law.specs.Links.{IsItem, AreItems, KeyBelow}

@@ -1,6 +1,6 @@
 -- Members of lists that rise, and of parts of them.
 use Rattle.std.proofs.Common.{◌≡◌, ℕ, zero, suc, ◌<◌, ◌⊎◌, inl, inr, ⊎_elim, List, [], ◌∷◌, length, get_or, set, drop, sym, ◌∙◌, subst, arith}
-use Rattle.std.specs.List.{Contains, insert}
+use Rattle.std.specs.List.{Contains}
 use Rattle.redo_core.specs.Order.{IsRising}
 use Rattle.redo_core.proofs.Members.{none_in, here, there, which, each}
 
@@ -9,29 +9,6 @@ pub from_place : {X : Type 0} (Before : X → X → Type 0) (xs : List X) (i : �
 from_place Before [] i x y r l e h = absurd (omega (arith, l))
 from_place Before (z ∷ zs) zero x y r l e h = ⊎_elim (λ (q : z ≡ y). inl (e ∙ q)) (λ (q : Contains zs y). inr (subst (λ w. Before w y) (sym e) (each (Before z) zs y r.0 q))) (which z zs y h)
 from_place Before (z ∷ zs) (suc i) x y r l e h = from_place Before zs i x y r.1 (omega (arith, l)) e h
-
-pub in_insert : {X : Type 0} (xs : List X) (i : ℕ) (x y : X) → Contains (insert xs i x) y → (y ≡ x) ⊎ Contains xs y
-in_insert xs zero x y h = ⊎_elim (λ (e : x ≡ y). inl (sym e)) (λ (q : Contains xs y). inr q) (which x xs y h)
-in_insert [] (suc i) x y h = ⊎_elim (λ (e : x ≡ y). inl (sym e)) (λ (q : Contains [] y). inr q) (which x [] y h)
-in_insert (z ∷ zs) (suc i) x y h =
-    ⊎_elim
-    (λ (e : z ≡ y). inr (subst (Contains (z ∷ zs)) e (here z zs)))
-    (λ (q : Contains (insert zs i x) y). ⊎_elim (λ (e : y ≡ x). inl e) (λ (u : Contains zs y). inr (there z zs y u)) (in_insert zs i x y q))
-    (which z (insert zs i x) y h)
-
-pub new_in_insert : {X : Type 0} (xs : List X) (i : ℕ) (x : X) → Contains (insert xs i x) x
-new_in_insert xs zero x = here x xs
-new_in_insert [] (suc i) x = here x []
-new_in_insert (z ∷ zs) (suc i) x = there z (insert zs i x) x (new_in_insert zs i x)
-
-pub old_in_insert : {X : Type 0} (xs : List X) (i : ℕ) (x y : X) → Contains xs y → Contains (insert xs i x) y
-old_in_insert xs zero x y h = there x xs y h
-old_in_insert [] (suc i) x y h = absurd (none_in y h)
-old_in_insert (z ∷ zs) (suc i) x y h =
-    ⊎_elim
-    (λ (e : z ≡ y). subst (Contains (z ∷ insert zs i x)) e (here z (insert zs i x)))
-    (λ (q : Contains zs y). there z (insert zs i x) y (old_in_insert zs i x y q))
-    (which z zs y h)
 
 -- what a list has after one place is overwritten
 pub in_set : {X : Type 0} (xs : List X) (i : ℕ) (x y : X) → Contains (set xs i x) y → (y ≡ x) ⊎ Contains xs y

@@ -6,12 +6,12 @@ use Rattle.std.proofs.lemmas.List.{get_or-take, get_or-drop, length-take, length
 use Rattle.std.proofs.lemmas.List.Elements.{All-from_recursion}
 use Rattle.std.proofs.lemmas.Bool.Decides.{nat_tests}
 use Rattle.redo_core.specs.Order.{IsRising}
-use Rattle.redo_core.proofs.Members.{here, there, which, each, all_of}
+use Rattle.redo_core.proofs.Members.{here, there, which, each, all_of, contains_insert}
 use Rattle.redo_core.proofs.Rising.{side, rising_insert}
 use Rattle.segment_state.specs.State.{StoredImage}
 use Rattle.segment_state.specs.Stored.{PageBefore, PutsImage}
 use Rattle.page_base.specs.Placing.{SplitsAt, IsGapAt}
-use Rattle.page_base.proofs.Lists.{from_place, in_insert, new_in_insert, old_in_insert, in_set}
+use Rattle.page_base.proofs.Lists.{from_place, in_set}
 
 below_true : (page : ℕ) (i : StoredImage) → nat_lt i.page page ≡ true → i.page < page
 below_true page i h = grind arith
@@ -76,8 +76,8 @@ pub put_in_gap : (images : List StoredImage) (place : ℕ) (x : StoredImage) →
 put_in_gap images place x rising gap = record {
   rising = rising_insert PageBefore images place x rising gap.below gap.above;
   members = λ i. (
-    λ h. ⊎_elim (λ (e : i ≡ x). inl e) (λ (q : Contains images i). inr (q, apart i q)) (in_insert images place x i h),
-    λ h. ⊎_elim (λ (e : i ≡ x). subst (Contains (insert images place x)) (sym e) (new_in_insert images place x)) (λ q. old_in_insert images place x i q.0) h,
+    λ h. ⊎_elim (λ (q : Contains images i). inr (q, apart i q)) (λ (e : i ≡ x). inl e) ((contains_insert images place x i).0 h),
+    λ h. (contains_insert images place x i).1 (⊎_elim (λ (e : i ≡ x). inr e) (λ q. inl q.0) h),
   );
 }
   where

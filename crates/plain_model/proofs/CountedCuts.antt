@@ -1,5 +1,5 @@
 -- The truncations that count in a log.
-use Rattle.std.proofs.Common.{◌≡◌, ◌≢◌, ℕ, zero, suc, ◌<◌, ◌≤◌, ◌↔◌, ⊎_elim, List, [], ◌∷◌, length, get_or, take, refl, sym, ap, ◌∙◌, subst, arith, Bool, true, false, cond, not}
+use Rattle.std.proofs.Common.{◌≡◌, ◌≢◌, ℕ, zero, suc, ◌<◌, ◌≤◌, ◌↔◌, ⊎_elim, List, [], ◌∷◌, length, get_or, take, refl, sym, ap, ◌∙◌, subst, arith, Bool, true, not}
 use Rattle.std.specs.Prelude.{◌==◌}
 use Rattle.std.specs.List.{Contains, All, filter, filter_map}
 use Rattle.std.proofs.lemmas.List.Elements.{All-contains}
@@ -11,8 +11,9 @@ use Rattle.redo_core.specs.Standing.{IsAlive}
 use Rattle.redo_core.specs.Sound.{first_cuts, counted, Law2}
 use Rattle.redo_core.specs.declared.facts.Fact.{Fact}
 use Rattle.redo_core.specs.declared.facts.Fact.TheVariants.{Record, Cut, Advance}
-use Rattle.redo_core.proofs.Members.{none_in, here, there, which}
-use Rattle.redo_laws.proofs.Log.{cut_in, filtered, passing, first_within, first_of_epoch}
+use Rattle.redo_core.proofs.Members.{none_in, here, there, which, filtered, passed}
+use Rattle.redo_core.proofs.FactParts.{cut_in}
+use Rattle.redo_core.proofs.SoundFacts.{first_within, first_of_epoch}
 use Rattle.redo_laws.proofs.Views.{has_cuts}
 use Rattle.plain_model.proofs.Scanned.{IsOther, IsSparedIfCounted, IsAboveIfCounted}
 
@@ -21,24 +22,15 @@ pub counted_fact : (log : List Fact) (c : CutData) → Contains (counted log) c 
 unfolding counted
 counted_fact log c h = (cut_in log c).0 (first_within (cuts log) c h)
 
--- what a filter keeps has passed
-passed_at : (p : CutData → Bool) (d : CutData) (ds : List CutData) (c : CutData) (b : Bool) → p d ≡ b → (Contains (filter p ds) c → p c ≡ true) → Contains (cond b (d ∷ filter p ds) (filter p ds)) c → p c ≡ true
-passed_at p d ds c true e ih h = ⊎_elim (λ (q : d ≡ c). ap p (sym q) ∙ e) ih (which d (filter p ds) c h)
-passed_at p d ds c false e ih h = ih h
-
-passed : (p : CutData → Bool) (cs : List CutData) (c : CutData) → Contains (filter p cs) c → p c ≡ true
-passed p [] c h = absurd (none_in c h)
-passed p (d ∷ ds) c h = passed_at p d ds c (p d) refl (passed p ds c) h
-
 -- the first truncation of each epoch is only one
 first_unique : (cs : List CutData) (c d : CutData) → Contains (first_cuts cs) c → Contains (first_cuts cs) d → c.epoch ≡ d.epoch → c ≡ d
 first_unique [] c d hc hd e = absurd (none_in c hc)
 first_unique (x ∷ xs) c d hc hd e =
     let p : CutData → Bool = λ y. not (y.epoch == x.epoch) in
-    let differs : (y : CutData) → Contains (filter p (first_cuts xs)) y → y.epoch ≢ x.epoch = λ y h. let t : not (y.epoch == x.epoch) ≡ true = passed p (first_cuts xs) y h in grind (arith, nat_tests) in
+    let differs : (y : CutData) → Contains (filter p (first_cuts xs)) y → y.epoch ≢ x.epoch = λ y h. let t : not (y.epoch == x.epoch) ≡ true = (filtered p (first_cuts xs) y h).1 in grind (arith, nat_tests) in
     ⊎_elim
     (λ (q : x ≡ c). ⊎_elim (λ (r : x ≡ d). sym q ∙ r) (λ (h : Contains (filter p (first_cuts xs)) d). absurd (differs d h (sym e ∙ ap (λ y. y.epoch) (sym q)))) (which x _ d hd))
-    (λ (h : Contains (filter p (first_cuts xs)) c). ⊎_elim (λ (r : x ≡ d). absurd (differs c h (e ∙ ap (λ y. y.epoch) (sym r)))) (λ (g : Contains (filter p (first_cuts xs)) d). first_unique xs c d (filtered p (first_cuts xs) c h) (filtered p (first_cuts xs) d g) e) (which x _ d hd))
+    (λ (h : Contains (filter p (first_cuts xs)) c). ⊎_elim (λ (r : x ≡ d). absurd (differs c h (e ∙ ap (λ y. y.epoch) (sym r)))) (λ (g : Contains (filter p (first_cuts xs)) d). first_unique xs c d (filtered p (first_cuts xs) c h).0 (filtered p (first_cuts xs) d g).0 e) (which x _ d hd))
     (which x _ c hc)
 
 pub counted_unique : (log : List Fact) (c d : CutData) → Contains (counted log) c → Contains (counted log) d → c.epoch ≡ d.epoch → c ≡ d
@@ -55,7 +47,7 @@ counted_at (Advance a ∷ fs) (suc i) c l e all = counted_at fs i c (omega (arit
 counted_at (Cut d ∷ fs) (suc i) c l e all =
     let apart : d.epoch ≢ c.epoch = all 0 (Cut d) (omega arith) in
     let test : not (c.epoch == d.epoch) ≡ true = grind (arith, nat_tests) in
-    there d _ c (passing (λ y. not (y.epoch == d.epoch)) _ c test (counted_at fs i c (omega (arith, l)) e (λ k d' q. all (suc k) d' (omega (arith, q)))))
+    there d _ c (passed (λ y. not (y.epoch == d.epoch)) _ c test (counted_at fs i c (omega (arith, l)) e (λ k d' q. all (suc k) d' (omega (arith, q)))))
 
 -- the truncation that a scan has read
 pub read_cut : (log : List Fact) (i : ℕ) (f : Fact) (c : CutData) → i < length log → f ≡ get_or log i f → f ≡ Cut c → get_or log i (Cut c) ≡ Cut c

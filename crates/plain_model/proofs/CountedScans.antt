@@ -7,7 +7,7 @@ use Rattle.redo_core.specs.Sets.{records}
 use Rattle.redo_core.specs.Sound.{IsAliveBelow}
 use Rattle.redo_core.specs.declared.facts.Fact.{Fact}
 use Rattle.redo_core.specs.declared.facts.Fact.TheVariants.{Record, Cut, Advance}
-use Rattle.redo_laws.proofs.Log.{record_in}
+use Rattle.redo_core.proofs.FactParts.{record_in}
 use Rattle.plain_model.specs.declared.chains.Chain.{Chain}
 use Rattle.plain_model.specs.Chained.{Follows, IsBelowOn}
 use Rattle.plain_model.proofs.Scanned.{IsBelowUpTo}

@@ -7,7 +7,7 @@ use Rattle.redo_core.specs.Data.{RecordData}
 use Rattle.redo_core.specs.Sets.{records}
 use Rattle.redo_core.specs.declared.facts.Fact.{Fact}
 use Rattle.redo_core.specs.declared.facts.Fact.TheVariants.{Record, Cut, Advance}
-use Rattle.redo_laws.proofs.Log.{record_in}
+use Rattle.redo_core.proofs.FactParts.{record_in}
 use Rattle.plain_model.specs.PageRecords.{IsPageRecord, StandsInPage, IsNextRecord, HasNoNext}
 use Rattle.plain_model.proofs.Scanned.{IsReached}
 use Rattle.plain_model.proofs.Scans.{item, one_more}

@@ -11,7 +11,8 @@ use Rattle.redo_core.specs.PageAt.{IsPageAt}
 use Rattle.redo_core.specs.Sound.{IsSound}
 use Rattle.redo_core.specs.declared.facts.Fact.{Fact}
 use Rattle.redo_core.proofs.Members.{none_in, here, which}
-use Rattle.redo_laws.proofs.Log.{log_of_sound, part_records, part_cuts}
+use Rattle.redo_core.proofs.FactParts.{part_records, part_cuts}
+use Rattle.redo_laws.proofs.Log.{log_of_sound}
 use Rattle.redo_laws.proofs.Views.{alone, alive_up}
 use Rattle.plain_model.specs.PageRecords.{IsPageRecord, HasNumbersOnce, IsNextRecord, HasNoNext}
 

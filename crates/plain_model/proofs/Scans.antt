@@ -8,7 +8,7 @@ use Rattle.redo_core.specs.CompleteEpoch.{HasCutsTo, IsCompleteEpoch}
 use Rattle.redo_core.specs.Position.{HasAdvance}
 use Rattle.redo_core.specs.declared.facts.Fact.{Fact}
 use Rattle.redo_core.specs.declared.facts.Fact.TheVariants.{Record, Cut, Advance}
-use Rattle.redo_laws.proofs.Log.{cut_in, advance_in}
+use Rattle.redo_core.proofs.FactParts.{cut_in, advance_in}
 use Rattle.plain_model.specs.Helpers.{HasCut}
 use Rattle.plain_model.proofs.Scanned.{IsOther, IsUpTo}
 

@@ -1,3 +1,5 @@
 pub mod Members
 pub mod Rising
+pub mod FactParts
+pub mod SoundFacts
 pub mod Pairs

@@ -16,7 +16,8 @@ use Rattle.redo_core.specs.Linked.Linked.{start, next}
 use Rattle.redo_core.specs.declared.facts.Fact.{Fact}
 use Rattle.redo_core.proofs.Members.{lists_unique}
 use Rattle.redo_laws.proofs.Numbers.{greatest_unique, greatest_below}
-use Rattle.redo_laws.proofs.Log.{part_records, part_cuts, part_advances, alive_within}
+use Rattle.redo_core.proofs.FactParts.{part_records, part_cuts, part_advances}
+use Rattle.redo_laws.proofs.Log.{alive_within}
 use Rattle.redo_laws.proofs.Deciding.{Settled, settled_le, settled_lt, settled_eq, settled_and, settled_implies, settled_by, some_or_none, settled_each, total, within_total}
 
 -- by members alone

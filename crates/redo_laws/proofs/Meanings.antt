@@ -17,7 +17,8 @@ use Rattle.redo_core.specs.Order.{CutBefore, AdvanceBefore, RecordBefore}
 use Rattle.redo_core.specs.declared.facts.Fact.{Fact}
 use Rattle.redo_core.proofs.Members.{none_in, here, there, which, lists_unique}
 use Rattle.redo_core.proofs.Pairs.{pair_apart, pair_trans, pair_order, same_advance}
-use Rattle.redo_laws.proofs.Log.{IsLog, part_records, part_cuts}
+use Rattle.redo_core.proofs.FactParts.{part_records, part_cuts}
+use Rattle.redo_laws.proofs.Log.{IsLog}
 use Rattle.redo_laws.proofs.Views.{has_cuts, alive_up, alone}
 use Rattle.redo_laws.proofs.Deciding.{Settled, settled_le, settled_lt, settled_eq, settled_and, settled_or, in_order}
 use Rattle.redo_laws.proofs.Fronts.{front_exists, front_unique, page_unique, settled_alive, settled_linked, linked_record_same, same_sym}

@@ -9,7 +9,8 @@ use Rattle.redo_core.specs.declared.facts.Fact.{Fact}
 use Rattle.redo_laws.specs.Overlap.{IsAtOrAbove, count_of, union_of}
 use Rattle.redo_core.proofs.Members.{none_in}
 use Rattle.redo_laws.proofs.Numbers.{greatest_le}
-use Rattle.redo_laws.proofs.Log.{IsLog, part_records}
+use Rattle.redo_core.proofs.FactParts.{part_records}
+use Rattle.redo_laws.proofs.Log.{IsLog}
 use Rattle.redo_laws.proofs.Views.{has_cuts, alive_up, alive_down, epoch_le}
 use Rattle.redo_laws.proofs.Fronts.{front_exists}
 use Rattle.redo_laws.proofs.Union.{left, right, both}

@@ -7,7 +7,7 @@ use Rattle.redo_core.specs.Position.{HasAdvance}
 use Rattle.redo_core.specs.Meaning.{Meaning, IsMeaning}
 use Rattle.redo_core.specs.declared.facts.Fact.{Fact}
 use Rattle.redo_laws.specs.WellFormed.{AgreeOn}
-use Rattle.redo_laws.proofs.Log.{part_records, part_cuts, part_advances}
+use Rattle.redo_core.proofs.FactParts.{part_records, part_cuts, part_advances}
 use Rattle.redo_laws.proofs.Fronts.{same_sym, linked_same}
 use Rattle.redo_laws.proofs.Meanings.{page_same}
 use Rattle.redo_laws.proofs.Alike.{Alike, greatest_by, front_alike, meaning_alike}

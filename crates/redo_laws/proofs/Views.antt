@@ -11,7 +11,8 @@ use Rattle.redo_core.specs.Position.{HasAdvance, Position, IsPosition}
 use Rattle.redo_core.specs.Linked.Linked.{start, next}
 use Rattle.redo_core.specs.declared.facts.Fact.{Fact}
 use Rattle.redo_laws.proofs.Numbers.{greatest_le, at_greatest}
-use Rattle.redo_laws.proofs.Log.{IsLog, part_records, part_cuts, part_advances, alive_within}
+use Rattle.redo_core.proofs.FactParts.{part_records, part_cuts, part_advances}
+use Rattle.redo_laws.proofs.Log.{IsLog, alive_within}
 
 -- epochs up to the complete one have their truncations
 pub has_cuts : (cs : List CutData) (k : ℕ) → IsCompleteEpoch cs k → HasCutsTo cs k

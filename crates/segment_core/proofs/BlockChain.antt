@@ -11,7 +11,9 @@ use Rattle.redo_core.specs.Sound.{IsSound, KeepsLaws, IsAliveBelow}
 use Rattle.redo_core.specs.declared.facts.Fact.{Fact}
 use Rattle.redo_core.specs.declared.facts.Fact.TheVariants.{Record}
 use Rattle.redo_laws.proofs.Numbers.{greatest_unique}
-use Rattle.redo_laws.proofs.Log.{log_of_sound, record_in, kept}
+use Rattle.redo_core.proofs.FactParts.{record_in}
+use Rattle.redo_core.proofs.SoundFacts.{kept}
+use Rattle.redo_laws.proofs.Log.{log_of_sound}
 use Rattle.epoch_book.specs.Book.{BookData}
 use Rattle.redo_core.specs.Linked.{Linked, IsLinked}
 use Rattle.redo_core.specs.Linked.Linked.{start as first, next}

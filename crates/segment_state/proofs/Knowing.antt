@@ -13,7 +13,8 @@ use Rattle.redo_core.specs.declared.facts.Fact.{Fact}
 use Rattle.redo_core.specs.declared.facts.Fact.TheVariants.{Record, Cut, Advance}
 use Rattle.redo_laws.proofs.Numbers.{greatest_unique}
 use Rattle.redo_laws.proofs.Deciding.{settled_lt}
-use Rattle.redo_laws.proofs.Log.{IsLog, log_of_sound, record_in, cut_in, advance_in, part_records, part_cuts, part_advances, alive_within}
+use Rattle.redo_core.proofs.FactParts.{record_in, cut_in, advance_in, part_records, part_cuts, part_advances}
+use Rattle.redo_laws.proofs.Log.{IsLog, log_of_sound, alive_within}
 use Rattle.redo_laws.proofs.Views.{has_cuts, alive_up, knows_cuts, min_le, min_spared}
 use Rattle.redo_laws.proofs.Fronts.{front_unique, settled_alive}
 use Rattle.redo_laws.proofs.Alike.{Alike, alike_sym, meaning_alike, alike_by_meaning, front_alike, page_alike, linked_alike, has_below}

@@ -9,7 +9,8 @@ use Rattle.redo_core.specs.Position.{HasAdvance, Position, IsPosition}
 use Rattle.redo_core.specs.declared.facts.Fact.{Fact}
 use Rattle.redo_core.specs.declared.facts.Fact.TheVariants.{Record, Cut, Advance}
 use Rattle.redo_core.proofs.Members.{none_in, here, which}
-use Rattle.redo_laws.proofs.Log.{log_of_sound, record_in}
+use Rattle.redo_core.proofs.FactParts.{record_in}
+use Rattle.redo_laws.proofs.Log.{log_of_sound}
 use Rattle.redo_laws.proofs.Fronts.{front_exists}
 use Rattle.redo_laws.proofs.Union.{advance_le}
 use Rattle.segment_state.specs.State.{State}

@@ -10,7 +10,8 @@ use Rattle.redo_core.specs.Linked.Linked.{start}
 use Rattle.redo_core.specs.declared.facts.Fact.{Fact}
 use Rattle.redo_core.specs.declared.facts.Fact.TheVariants.{Record}
 use Rattle.redo_core.proofs.Members.{none_in, here, which}
-use Rattle.redo_laws.proofs.Log.{IsLog, record_in}
+use Rattle.redo_core.proofs.FactParts.{record_in}
+use Rattle.redo_laws.proofs.Log.{IsLog}
 use Rattle.redo_laws.proofs.Fronts.{front_exists}
 use Rattle.segment_state.specs.State.{State, version_of, image_of}
 use Rattle.segment_state.specs.Means.{MeansAt, Means}

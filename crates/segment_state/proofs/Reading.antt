@@ -18,7 +18,8 @@ use Rattle.redo_core.specs.declared.facts.Fact.{Fact}
 use Rattle.redo_core.proofs.Members.{here, there, each, all_of}
 use Rattle.redo_laws.proofs.Numbers.{at_greatest}
 use Rattle.redo_laws.proofs.Deciding.{settled_lt, in_order}
-use Rattle.redo_laws.proofs.Log.{IsLog, part_records, part_cuts, alive_within}
+use Rattle.redo_core.proofs.FactParts.{part_records, part_cuts}
+use Rattle.redo_laws.proofs.Log.{IsLog, alive_within}
 use Rattle.redo_laws.proofs.Views.{has_cuts, alive_up, alone, alive_then, prefix_law}
 use Rattle.redo_laws.proofs.Meanings.{lists_as, nat_order}
 use Rattle.redo_laws.proofs.Fronts.{page_unique}

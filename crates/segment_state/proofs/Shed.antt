@@ -12,7 +12,8 @@ use Rattle.redo_core.specs.PageAt.{IsPageAt}
 use Rattle.redo_core.specs.Sound.{IsSound}
 use Rattle.redo_core.specs.declared.facts.Fact.{Fact}
 use Rattle.redo_laws.proofs.Deciding.{settled_eq}
-use Rattle.redo_laws.proofs.Log.{IsLog, log_of_sound, part_records}
+use Rattle.redo_core.proofs.FactParts.{part_records}
+use Rattle.redo_laws.proofs.Log.{IsLog, log_of_sound}
 use Rattle.redo_laws.proofs.Views.{finality_law, anchor_is}
 use Rattle.redo_laws.proofs.Fronts.{front_exists}
 use Rattle.redo_laws.proofs.Meanings.{lists_as}

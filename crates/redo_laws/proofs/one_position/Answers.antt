@@ -1,5 +1,6 @@
 use Rattle.redo_core.specs.Sets.{SameSet}
-use Rattle.redo_laws.proofs.Log.{log_of_sound, part_records}
+use Rattle.redo_core.proofs.FactParts.{part_records}
+use Rattle.redo_laws.proofs.Log.{log_of_sound}
 use Rattle.redo_laws.proofs.Fronts.{front_exists, front_unique}
 use Rattle.redo_laws.proofs.one_position.Goals as goal
 

@@ -1,5 +1,5 @@
 use Rattle.std.proofs.Common.{◌≡◌, ◌<◌, ◌-◌, List, take, drop, get_or, length, arith, ◌∙◌}
-use Rattle.redo_laws.proofs.Log.{cut_facts}
+use Rattle.redo_core.proofs.SoundFacts.{cut_facts}
 use Rattle.log_law.specs.Alive.{Holds}
 use Rattle.log_law.specs.declared.links.Item.{Item}
 use Rattle.log_law.proofs.Least.{zero_item}
