@@ -1,26 +1,15 @@
 -- Scans of a book's lists.
-use Rattle.std.proofs.Common.{◌≡◌, ℕ, zero, suc, ◌+◌, ◌<◌, ◌≤◌, ◌⊎◌, ◌↔◌, inr, ⊎_elim, List, [], ◌∷◌, length, get_or, take, refl, sym, ap, ◌∙◌, subst, arith, Result, Ok, Err, IfOk, IfErr, IsTrue}
+use Rattle.std.proofs.Common.{◌≡◌, ℕ, zero, suc, ◌<◌, ◌≤◌, ◌⊎◌, ◌↔◌, inr, ⊎_elim, List, [], ◌∷◌, length, get_or, refl, ap, arith, Result, Ok, Err, IfOk, IfErr, IsTrue}
 use Rattle.std.specs.List.{All, AllWithin, HoldsAt}
 use Rattle.std.specs.List.Sorted.{IsPartitionPoint}
-use Rattle.std.proofs.lemmas.List.Elements.{All-contains, All-more}
+use Rattle.std.proofs.lemmas.List.Elements.{All-contains}
 use Rattle.redo_core.specs.Data.{CutData, AdvanceData}
 use Rattle.redo_core.specs.Order.{IsRising, CutBefore, IsGreatest}
-use Rattle.redo_core.specs.CompleteEpoch.{HasCutsTo, IsCompleteEpoch}
 use Rattle.redo_core.specs.Position.{HasAdvance}
 use Rattle.epoch_book.specs.Scanning.{HasCut}
 use Rattle.epoch_book.specs.Refusing.{LacksCut}
 use Rattle.std.specs.Result.{is_ok}
 use Rattle.redo_core.proofs.Rising.{rising_at}
-
--- all of a whole list
-pub whole : {X : Type 0} (P : X → Type 0) (xs : List X) (i : ℕ) → length xs ≤ i → All P (take i xs) → All P xs
-whole P [] i l h k d q = absurd (omega (arith, q))
-whole P (x ∷ xs) zero l h k d q = absurd (omega (arith, l))
-whole P (x ∷ xs) (suc i) l h zero d q = h zero d (omega arith)
-whole P (x ∷ xs) (suc i) l h (suc k) d q = whole P xs i (omega (arith, l)) (λ j e r. h (suc j) e (omega (arith, r))) k d (omega (arith, q))
-
-pub one_more : {X : Type 0} (P : X → Type 0) (xs : List X) (i : ℕ) (x : X) → i < length xs → x ≡ get_or xs i x → All P (take i xs) → P x → All P (take (i + 1) xs)
-one_more P xs i x l e all p = All-more P xs i x l all (subst P e p)
 
 -- the truncation at a place
 pub cut_at : (cs : List CutData) (e i : ℕ) → i < length cs → HoldsAt (λ c. c.epoch ≡ e) cs i → HasCut cs e
@@ -38,12 +27,6 @@ no_cut cs e i gap d h q = ⊎_elim
     (λ (l : h.0 < i). let b : (get_or cs h.0 d).epoch < e = gap.0 h.0 d (omega arith) l in let s : (get_or cs h.0 d).epoch ≡ d.epoch = ap (λ x. x.epoch) h.2 in omega arith)
     (λ (l : i ≤ h.0). let b : e < (get_or cs h.0 d).epoch = gap.1 h.0 d l h.1 in let s : (get_or cs h.0 d).epoch ≡ d.epoch = ap (λ x. x.epoch) h.2 in omega arith)
     (let t : (h.0 < i) ⊎ (i ≤ h.0) = grind arith in t)
-
-pub next_epoch : (cs : List CutData) (k : ℕ) → HasCutsTo cs k → HasCut cs (k + 1) → HasCutsTo cs (k + 1)
-next_epoch cs k has c e l m = ⊎_elim (λ (q : e ≤ k). has e l q) (λ (q : e ≡ k + 1). (c.0, c.1, c.2 ∙ sym q)) (let t : (e ≤ k) ⊎ (e ≡ k + 1) = grind arith in t)
-
-pub complete : (cs : List CutData) (k : ℕ) → HasCutsTo cs k → (HasCut cs (k + 1) → ⊥) → IsCompleteEpoch cs k
-complete cs k has missing = (inr has, λ m h. ⊎_elim (λ (q : m ≤ k). q) (λ (q : k < m). absurd (missing (h (k + 1) (omega arith) (omega arith)))) (let t : (m ≤ k) ⊎ (k < m) = grind arith in t))
 
 -- one advance more in the scan for the minimum
 abbrev pub IsUpTo : ℕ → ℕ → AdvanceData → Type 0

@@ -11,7 +11,7 @@ use Rattle.redo_core.proofs.FactParts.{record_in}
 use Rattle.plain_model.specs.declared.chains.Chain.{Chain}
 use Rattle.plain_model.specs.Chained.{Follows, IsBelowOn}
 use Rattle.plain_model.proofs.Scanned.{IsBelowUpTo}
-use Rattle.plain_model.proofs.Scans.{one_more}
+use Rattle.redo_core.proofs.Scans.{one_more}
 
 -- a record below on a chain is one alive below
 pub alive_below : (log : List Fact) (r : RecordData) (chain : Chain) (s : RecordData) → Contains (records log) s → IsBelowOn log r chain s → IsAliveBelow log r (Follows chain r) s.number

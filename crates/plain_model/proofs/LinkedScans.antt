@@ -10,7 +10,8 @@ use Rattle.redo_core.specs.Linked.Linked.{start, next}
 use Rattle.redo_core.specs.declared.facts.Fact.{Fact}
 use Rattle.redo_core.specs.declared.facts.Fact.TheVariants.{Record, Cut, Advance}
 use Rattle.redo_core.proofs.FactParts.{record_in, cut_in}
-use Rattle.plain_model.proofs.Scans.{item, one_more}
+use Rattle.redo_core.proofs.Scans.{one_more}
+use Rattle.plain_model.proofs.Scans.{item}
 use Rattle.plain_model.specs.Helpers.{SparesIn, IsWithin, IsLinkedWithin}
 use Rattle.plain_model.proofs.Scanned.{IsSpared, LinksNot, LinksUpTo}
 

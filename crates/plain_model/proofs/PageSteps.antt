@@ -10,6 +10,7 @@ use Rattle.redo_core.specs.Writing.{write, after_records, zeros}
 use Rattle.redo_core.specs.PageAt.{IsPageAt}
 use Rattle.redo_core.specs.Sound.{IsSound}
 use Rattle.redo_core.specs.declared.facts.Fact.{Fact}
+use Rattle.redo_core.proofs.AfterRecords.{after_append}
 use Rattle.redo_core.proofs.Members.{none_in, here, which}
 use Rattle.redo_core.proofs.FactParts.{part_records, part_cuts}
 use Rattle.redo_laws.proofs.Log.{log_of_sound}
@@ -21,10 +22,6 @@ pub record IsPageBelow (facts : List Fact) (k g q from : ℕ) (image : List ℕ)
   pub written : List RecordData
   pub lists : Lists BeforeByNumber (λ r. IsPageRecord facts k g q r × (r.number < from)) written
   pub result : image ≡ after_records zeros written
-
-after_append : (page : List ℕ) (xs ys : List RecordData) → after_records page (xs ++ ys) ≡ after_records (after_records page xs) ys
-after_append page [] ys = refl
-after_append page (x ∷ xs) ys = after_append (write page x) xs ys
 
 all_append : {X : Type 0} (P : X → Type 0) (xs : List X) (y : X) → AllByRecursion P xs → P y → AllByRecursion P (xs ++ y ∷ [])
 all_append P [] y all p = (p, tt)

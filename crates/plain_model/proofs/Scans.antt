@@ -1,13 +1,13 @@
 -- Scans of a list of facts.
-use Rattle.std.proofs.Common.{◌≡◌, ◌≢◌, ℕ, zero, suc, ◌+◌, ◌<◌, ◌≤◌, ◌⊎◌, inr, ⊎_elim, List, [], ◌∷◌, length, get_or, take, refl, sym, ◌∙◌, subst, arith}
+use Rattle.std.proofs.Common.{◌≡◌, ◌≢◌, ℕ, ◌+◌, ◌<◌, ◌≤◌, ◌⊎◌, List, length, get_or, take, refl, sym, subst, arith}
 use Rattle.std.specs.List.{Contains, All}
-use Rattle.std.proofs.lemmas.List.Elements.{All-contains, All-more}
+use Rattle.std.proofs.lemmas.List.Elements.{All-contains}
 use Rattle.redo_core.specs.Data.{RecordData, CutData, AdvanceData}
 use Rattle.redo_core.specs.Sets.{records, cuts, advances}
-use Rattle.redo_core.specs.CompleteEpoch.{HasCutsTo, IsCompleteEpoch}
 use Rattle.redo_core.specs.Position.{HasAdvance}
 use Rattle.redo_core.specs.declared.facts.Fact.{Fact}
 use Rattle.redo_core.specs.declared.facts.Fact.TheVariants.{Record, Cut, Advance}
+use Rattle.redo_core.proofs.Scans.{one_more}
 use Rattle.redo_core.proofs.FactParts.{cut_in, advance_in}
 use Rattle.plain_model.specs.Helpers.{HasCut}
 use Rattle.plain_model.proofs.Scanned.{IsOther, IsUpTo}
@@ -35,22 +35,6 @@ higher_at e p q l (Advance a) h = λ u. let t : a.point ≤ p = h u in omega ari
 
 pub higher : (xs : List Fact) (e p q : ℕ) → p ≤ q → All (IsUpTo e p) xs → All (IsUpTo e q) xs
 higher xs e p q l all k d u = higher_at e p q l (get_or xs k d) (all k d u)
-
-pub next_epoch : (cs : List CutData) (k : ℕ) → HasCutsTo cs k → HasCut cs (k + 1) → HasCutsTo cs (k + 1)
-next_epoch cs k has c e l m = ⊎_elim (λ (q : e ≤ k). has e l q) (λ (q : e ≡ k + 1). (c.0, c.1, c.2 ∙ sym q)) (let t : (e ≤ k) ⊎ (e ≡ k + 1) = grind arith in t)
-
-pub complete : (cs : List CutData) (k : ℕ) → HasCutsTo cs k → (HasCut cs (k + 1) → ⊥) → IsCompleteEpoch cs k
-complete cs k has missing = (inr has, λ m h. ⊎_elim (λ (q : m ≤ k). q) (λ (q : k < m). absurd (missing (h (k + 1) (omega arith) (omega arith)))) (let t : (m ≤ k) ⊎ (k < m) = grind arith in t))
-
--- all of a whole list
-pub whole : {X : Type 0} (P : X → Type 0) (xs : List X) (i : ℕ) → length xs ≤ i → All P (take i xs) → All P xs
-whole P [] i l h k d q = absurd (omega (arith, q))
-whole P (x ∷ xs) zero l h k d q = absurd (omega (arith, l))
-whole P (x ∷ xs) (suc i) l h zero d q = h zero d (omega arith)
-whole P (x ∷ xs) (suc i) l h (suc k) d q = whole P xs i (omega (arith, l)) (λ j e r. h (suc j) e (omega (arith, r))) k d (omega (arith, q))
-
-pub one_more : (P : Fact → Type 0) (xs : List Fact) (i : ℕ) (f : Fact) → i < length xs → f ≡ get_or xs i f → All P (take i xs) → P f → All P (take (i + 1) xs)
-one_more P xs i f l e all p = All-more P xs i f l all (subst P e p)
 
 pub other_cut : (e : ℕ) (f : Fact) (c : CutData) → f ≡ Cut c → c.epoch ≢ e → IsOther e f
 other_cut e f c q ne = subst (IsOther e) (sym q) ne

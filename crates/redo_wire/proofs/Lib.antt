@@ -2,7 +2,6 @@ pub mod Readers
 pub mod FieldReaders
 pub mod ListReaders
 pub mod Loops
-pub mod Elements
 pub mod WriteReaders
 pub mod FactReaders
 pub mod Orders

@@ -1,9 +1,7 @@
 -- The lines that are written of facts spell them.
-use Rattle.std.proofs.Common.{◌≡◌, ℕ, ◌+◌, ◌≤◌, ◌<◌, inl, inr, Bool, ◌||◌, true, false, List, [], ◌∷◌, ◌++◌, map, length, get_or, take, None, Result, Ok, Err, refl, ap, subst, append-nil, arith}
+use Rattle.std.proofs.Common.{◌≡◌, ℕ, ◌≤◌, ◌<◌, inl, inr, Bool, ◌||◌, true, false, List, [], ◌∷◌, ◌++◌, map, length, None, Result, Ok, Err, refl, ap, append-nil, arith}
 use Rattle.std.specs.Prelude.{OnOk}
-use Rattle.std.specs.List.{All, AllByRecursion, AllZip, flat_map, list_any, join_with_byte}
-use Rattle.std.proofs.lemmas.List.{take_all}
-use Rattle.std.proofs.lemmas.List.Elements.{All-more, recursion_from_All}
+use Rattle.std.specs.List.{AllByRecursion, AllZip, flat_map, list_any, join_with_byte}
 use Rattle.std.proofs.lemmas.Bool.Decides.{nat_tests}
 use Rattle.redo_core.specs.Data.{WriteData, RecordData, CutData, AdvanceData}
 use Rattle.redo_core.specs.Shape.{is_empty, record_fault, cut_fault, advance_fault}
@@ -14,14 +12,6 @@ use Rattle.script_text.specs.Spelled.{SpellsWrite, SpellsWrites, SpellsRecord, S
 pub on_ok : {T E : Type 0} (r : Result T E) (P : Type 0) → P → OnOk r P
 on_ok (Ok x) P h = h
 on_ok (Err e) P h = tt
-
--- one write more, as the loop reads it
-pub one_more : (ws : List WriteData) (i : ℕ) (w : WriteData) → i < length ws → w ≡ get_or ws i w → All IsReadBack (take i ws) → IsReadBack w → All IsReadBack (take (i + 1) ws)
-one_more ws i w lt is all here = All-more IsReadBack ws i w lt all (subst IsReadBack is here)
-
--- all of them
-pub all_seen : (ws : List WriteData) (i : ℕ) → length ws ≤ i → All IsReadBack (take i ws) → AllByRecursion IsReadBack ws
-all_seen ws i le all = recursion_from_All IsReadBack ws (subst (λ (xs : List WriteData). All IsReadBack xs) (take_all i ws le) all)
 
 write_spelled : (w : WriteData) → is_empty w ≡ false → IsReadBack w → SpellsWrite (write_text w) w
 write_spelled w some back =

@@ -1,11 +1,11 @@
 -- A state's links and pages are those of the facts that it means.
-use Rattle.std.proofs.Common.{◌≡◌, ℕ, ◌<◌, ◌≤◌, ◌⊎◌, ◌↔◌, inl, inr, ⊎_elim, List, [], ◌∷◌, ◌++◌, refl, sym, ap, ◌∙◌, subst, arith}
+use Rattle.std.proofs.Common.{◌≡◌, ℕ, ◌<◌, ◌≤◌, ◌⊎◌, ◌↔◌, inl, inr, ⊎_elim, List, [], ◌∷◌, ◌++◌, sym, ap, ◌∙◌, subst, arith}
 use Rattle.std.specs.List.{Contains}
 use Rattle.std.proofs.lemmas.List.Elements.{Contains-append_left, Contains-append_right, Contains-append_cases}
 use Rattle.redo_core.specs.Data.{RecordData}
 use Rattle.redo_core.specs.Sets.{IsPart, SameSet, records, cuts}
 use Rattle.redo_core.specs.Order.{IsRising, Lists}
-use Rattle.redo_core.specs.Writing.{zeros, write}
+use Rattle.redo_core.specs.Writing.{zeros}
 use Rattle.redo_core.specs.CompleteEpoch.{HasCutsTo}
 use Rattle.redo_core.specs.Standing.{IsAlive}
 use Rattle.redo_core.specs.Linked.{Linked, IsLinked, IsLinkedRecord}
@@ -15,6 +15,7 @@ use Rattle.redo_core.specs.Order.{BeforeByNumber}
 use Rattle.redo_core.specs.Writing.{after_records}
 use Rattle.redo_core.specs.Linked.Linked.{start, next}
 use Rattle.redo_core.specs.declared.facts.Fact.{Fact}
+use Rattle.redo_core.proofs.AfterRecords.{after_append}
 use Rattle.redo_core.proofs.Members.{here, there, each, all_of}
 use Rattle.redo_laws.proofs.Numbers.{at_greatest}
 use Rattle.redo_laws.proofs.Deciding.{settled_lt, in_order}
@@ -35,10 +36,6 @@ rising_append Before (x ∷ xs) ys r s cross = (
   all_of (Before x) (xs ++ ys) (λ z h. ⊎_elim (λ (u : Contains xs z). each (Before x) xs z r.0 u) (λ (v : Contains ys z). cross x z (here x xs) v) (Contains-append_cases xs ys z h)),
   rising_append Before xs ys r.1 s (λ y z u v. cross y z (there x xs y u) v),
 )
-
-after_append : (page : List ℕ) (xs ys : List RecordData) → after_records page (xs ++ ys) ≡ after_records (after_records page xs) ys
-after_append page [] ys = refl
-after_append page (x ∷ xs) ys = after_append (write page x) xs ys
 
 abbrev pub OfPage : List Fact → ℕ → ℕ → ℕ → ℕ → RecordData → Type 0
 OfPage F k g v q r = IsLinkedRecord F k r × (r.page ≡ g) × (v < r.number) × (r.number ≤ q)

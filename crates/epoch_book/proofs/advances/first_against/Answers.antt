@@ -2,7 +2,7 @@ use Rattle.std.proofs.Common.{arith}
 use Rattle.redo_core.specs.Order.{AdvanceBefore}
 use Rattle.epoch_book.specs.Refusing.{Contradict}
 use Rattle.epoch_book.proofs.Rising.{first_place}
-use Rattle.epoch_book.proofs.Scans.{whole, one_more}
+use Rattle.redo_core.proofs.Scans.{whole, one_more}
 use Rattle.epoch_book.proofs.advances.first_against.Goals as goal
 use Rattle.epoch_book.proofs.advances.first_against.Goals.{else-epoch-via-then-epoch+else-lo-point, else-epoch-via-else-epoch}
 

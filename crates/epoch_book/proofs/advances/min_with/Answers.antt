@@ -1,7 +1,8 @@
 use Rattle.std.proofs.Common.{◌≡◌, ◌≤◌, ◌⊎◌, inr, sym, subst, arith}
 use Rattle.redo_core.specs.Position.{HasAdvance}
 use Rattle.redo_core.proofs.Members.{item}
-use Rattle.epoch_book.proofs.Scans.{IsUpTo, higher, greatest_of, whole, one_more}
+use Rattle.redo_core.proofs.Scans.{whole, one_more}
+use Rattle.epoch_book.proofs.Scans.{IsUpTo, higher, greatest_of}
 use Rattle.epoch_book.proofs.advances.min_with.Goals as goal
 use Rattle.epoch_book.proofs.advances.min_with.Goals.{then-epoch-complete+then-greatest-point, else-epoch-complete, else-epoch-complete-via-then-epoch-complete+else-greatest-point, else-epoch-complete-via-else-epoch-complete}
 

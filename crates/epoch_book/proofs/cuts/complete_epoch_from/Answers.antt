@@ -1,5 +1,5 @@
 use Rattle.std.proofs.Common.{IsTrue, false, refl}
-use Rattle.epoch_book.proofs.Scans.{next_epoch, complete}
+use Rattle.redo_core.proofs.Scans.{next_epoch, complete}
 use Rattle.epoch_book.proofs.cuts.complete_epoch_from.Goals as goal
 
 pub returns : goal.returns

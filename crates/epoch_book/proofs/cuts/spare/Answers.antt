@@ -1,6 +1,6 @@
 use Rattle.std.proofs.Common.{refl}
 use Rattle.epoch_book.specs.Scanning.{SparesIn}
-use Rattle.epoch_book.proofs.Scans.{whole, one_more}
+use Rattle.redo_core.proofs.Scans.{whole, one_more}
 use Rattle.epoch_book.proofs.cuts.spare.Goals as goal
 
 pub loop-cut-preserved : goal.loop-cut-preserved

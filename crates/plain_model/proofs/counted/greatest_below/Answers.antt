@@ -2,7 +2,7 @@ use Rattle.std.proofs.Common.{◌≡◌, inr, subst, arith, refl, IsTrue, false}
 use Rattle.redo_core.specs.Sound.{IsAliveBelow}
 use Rattle.plain_model.specs.Chained.{Follows}
 use Rattle.plain_model.proofs.Scanned.{IsBelowUpTo}
-use Rattle.plain_model.proofs.Scans.{whole, one_more}
+use Rattle.redo_core.proofs.Scans.{whole, one_more}
 use Rattle.plain_model.proofs.LinkedScans.{record_item}
 use Rattle.plain_model.proofs.CountedScans.{alive_below, top_below, higher_below, below_record, below_default, below_step}
 use Rattle.plain_model.proofs.counted.greatest_below.Goals as goal

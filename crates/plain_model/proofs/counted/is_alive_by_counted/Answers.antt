@@ -2,7 +2,8 @@ use Rattle.std.proofs.Common.{IsTrue, false, arith, refl, subst, sym}
 use Rattle.redo_core.specs.Sound.{counted}
 use Rattle.redo_core.specs.declared.facts.Fact.{Fact}
 use Rattle.plain_model.proofs.Scanned.{IsSparedIfCounted}
-use Rattle.plain_model.proofs.Scans.{whole, one_more, cut_default}
+use Rattle.redo_core.proofs.Scans.{whole, one_more}
+use Rattle.plain_model.proofs.Scans.{cut_default}
 use Rattle.plain_model.proofs.LinkedScans.{spares_of}
 use Rattle.plain_model.proofs.CountedCuts.{all_counted_spare}
 use Rattle.plain_model.proofs.counted.is_alive_by_counted.Goals as goal

@@ -2,7 +2,8 @@ use Rattle.std.proofs.Common.{◌≡◌, ◌≢◌, sym, arith, subst, take}
 use Rattle.std.specs.List.{Contains, All}
 use Rattle.redo_core.specs.Sound.{counted}
 use Rattle.plain_model.proofs.Scanned.{IsOther}
-use Rattle.plain_model.proofs.Scans.{whole, one_more, other_cut, other_default}
+use Rattle.redo_core.proofs.Scans.{whole, one_more}
+use Rattle.plain_model.proofs.Scans.{other_cut, other_default}
 use Rattle.plain_model.proofs.CountedCuts.{counted_at, counted_unique, none_counted, read_cut}
 use Rattle.plain_model.proofs.counted.is_counted.Goals as goal
 use Rattle.plain_model.proofs.counted.is_counted.Goals.{in-Cut+else-epoch, in_default}

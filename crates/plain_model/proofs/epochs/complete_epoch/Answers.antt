@@ -1,6 +1,6 @@
 use Rattle.std.proofs.Common.{IsTrue, false, refl}
 use Rattle.redo_core.specs.Sets.{cuts}
-use Rattle.plain_model.proofs.Scans.{next_epoch, complete}
+use Rattle.redo_core.proofs.Scans.{next_epoch, complete}
 use Rattle.plain_model.proofs.epochs.complete_epoch.Goals as goal
 
 pub returns : goal.returns

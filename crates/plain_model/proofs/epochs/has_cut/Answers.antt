@@ -1,5 +1,6 @@
 use Rattle.std.proofs.Common.{◌≢◌, arith, refl}
-use Rattle.plain_model.proofs.Scans.{cut_item, no_cut, whole, one_more, other_cut, other_default}
+use Rattle.redo_core.proofs.Scans.{whole, one_more}
+use Rattle.plain_model.proofs.Scans.{cut_item, no_cut, other_cut, other_default}
 use Rattle.plain_model.proofs.Scanned.{IsOther}
 use Rattle.plain_model.proofs.epochs.has_cut.Goals as goal
 use Rattle.plain_model.proofs.epochs.has_cut.Goals.{in-Cut+else-from-epoch, in_default}

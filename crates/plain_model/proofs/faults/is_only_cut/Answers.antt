@@ -2,7 +2,8 @@ use Rattle.std.proofs.Common.{◌≡◌, arith, refl, subst, sym}
 use Rattle.redo_core.specs.declared.facts.Fact.{Fact}
 use Rattle.redo_core.specs.declared.facts.Fact.TheVariants.{Cut}
 use Rattle.plain_model.proofs.Scanned.{IsSameOfKey}
-use Rattle.plain_model.proofs.Scans.{whole, one_more, cut_default}
+use Rattle.redo_core.proofs.Scans.{whole, one_more}
+use Rattle.plain_model.proofs.Scans.{cut_default}
 use Rattle.plain_model.proofs.Keys.{only_of_key, other_of_key}
 use Rattle.plain_model.proofs.faults.is_only_cut.Goals as goal
 use Rattle.plain_model.proofs.faults.is_only_cut.Goals.{in-Cut+else-epoch, else-epoch-via-then-epoch+else-not-are_same, else-epoch-via-else-epoch, in_default}

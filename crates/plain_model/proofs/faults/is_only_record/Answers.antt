@@ -2,7 +2,8 @@ use Rattle.std.proofs.Common.{◌≡◌, arith, refl, subst, sym}
 use Rattle.redo_core.specs.declared.facts.Fact.{Fact}
 use Rattle.redo_core.specs.declared.facts.Fact.TheVariants.{Record}
 use Rattle.plain_model.proofs.Scanned.{IsSameOfKey}
-use Rattle.plain_model.proofs.Scans.{whole, one_more, record_default}
+use Rattle.redo_core.proofs.Scans.{whole, one_more}
+use Rattle.plain_model.proofs.Scans.{record_default}
 use Rattle.plain_model.proofs.Keys.{only_of_key, other_of_key}
 use Rattle.plain_model.proofs.faults.is_only_record.Goals as goal
 use Rattle.plain_model.proofs.faults.is_only_record.Goals.{in-Record+else-epoch, else-epoch-via-then-epoch+then-number+else-not-is_same, else-epoch-via-then-epoch+else-number, else-epoch-via-else-epoch, in_default}

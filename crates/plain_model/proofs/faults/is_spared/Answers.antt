@@ -1,7 +1,8 @@
 use Rattle.std.proofs.Common.{◌≤◌, IsTrue, false, arith, refl, subst, sym}
 use Rattle.redo_core.specs.declared.facts.Fact.{Fact}
 use Rattle.plain_model.proofs.Scanned.{IsAboveIfCounted}
-use Rattle.plain_model.proofs.Scans.{whole, one_more, cut_default}
+use Rattle.redo_core.proofs.Scans.{whole, one_more}
+use Rattle.plain_model.proofs.Scans.{cut_default}
 use Rattle.plain_model.proofs.CountedCuts.{all_counted_above}
 use Rattle.plain_model.proofs.faults.is_spared.Goals as goal
 use Rattle.plain_model.proofs.faults.is_spared.Goals.{in-Cut+else-epoch, else-epoch-via-then-epoch+then-lo-point+else-is_counted, else-epoch-via-then-epoch+else-lo-point, else-epoch-via-else-epoch, in_default}

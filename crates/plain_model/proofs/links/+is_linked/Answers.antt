@@ -4,7 +4,7 @@ use Rattle.redo_core.specs.Linked.{IsLinked}
 use Rattle.redo_core.specs.Standing.{IsAlive}
 use Rattle.redo_core.specs.Linked.Linked.{start}
 use Rattle.plain_model.proofs.Scanned.{LinksNot}
-use Rattle.plain_model.proofs.Scans.{whole, one_more}
+use Rattle.redo_core.proofs.Scans.{whole, one_more}
 use Rattle.plain_model.proofs.LinkedScans.{record_item, link, links_not_record, links_not_default, no_link}
 use Rattle.plain_model.proofs.links.+is_linked.Goals as goal
 use Rattle.plain_model.proofs.links.+is_linked.Goals.{in-Record+then-number+then-is_alive+else-is_linked, in-Record+else-number, else-number-via-then-number+else-is_alive, else-number-via-else-number, in_default}

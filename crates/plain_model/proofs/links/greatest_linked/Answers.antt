@@ -2,7 +2,7 @@ use Rattle.std.proofs.Common.{inr, IsTrue, false, arith, refl, sym, subst}
 use Rattle.redo_core.specs.Linked.Linked.{start}
 use Rattle.plain_model.specs.Helpers.{IsLinkedWithin}
 use Rattle.plain_model.proofs.Scanned.{LinksUpTo}
-use Rattle.plain_model.proofs.Scans.{whole, one_more}
+use Rattle.redo_core.proofs.Scans.{whole, one_more}
 use Rattle.plain_model.proofs.LinkedScans.{up_record, up_default, top_linked, up_higher, top_step, within_zero}
 use Rattle.plain_model.proofs.links.greatest_linked.Goals as goal
 use Rattle.plain_model.proofs.links.greatest_linked.Goals.{in-Record+then-number-greatest+then-is_linked_within, in-Record+else-number-greatest, else-number-greatest-via-then-number-greatest+else-is_linked_within, else-number-greatest-via-else-number-greatest, in_default}

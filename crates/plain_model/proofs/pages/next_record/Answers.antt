@@ -1,6 +1,7 @@
 use Rattle.std.proofs.Common.{refl, sym, subst, arith, IsTrue, false}
 use Rattle.plain_model.proofs.Scanned.{IsReached}
-use Rattle.plain_model.proofs.Scans.{whole, record_default}
+use Rattle.redo_core.proofs.Scans.{whole}
+use Rattle.plain_model.proofs.Scans.{record_default}
 use Rattle.plain_model.proofs.PageScans.{FoundUpTo, found_up_to, found_next, seen_new, seen_more}
 use Rattle.plain_model.proofs.pages.next_record.Goals as goal
 use Rattle.plain_model.proofs.pages.next_record.Goals.{in-Record+then-stands_in_page+then-number-from+then-is_before, in-Record+else-stands_in_page, else-stands_in_page-via-then-stands_in_page+then-number-from+else-is_before, else-stands_in_page-via-then-stands_in_page+else-number-from, else-stands_in_page-via-else-stands_in_page, in_default}

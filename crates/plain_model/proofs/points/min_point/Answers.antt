@@ -1,6 +1,7 @@
 use Rattle.std.proofs.Common.{◌≡◌, ◌≤◌, inr, sym, arith}
 use Rattle.plain_model.proofs.Scanned.{IsUpTo}
-use Rattle.plain_model.proofs.Scans.{up_to, higher, whole, one_more, up_advance, up_default, advance_item, min_step}
+use Rattle.redo_core.proofs.Scans.{whole, one_more}
+use Rattle.plain_model.proofs.Scans.{up_to, higher, up_advance, up_default, advance_item, min_step}
 use Rattle.plain_model.proofs.points.min_point.Goals as goal
 use Rattle.plain_model.proofs.points.min_point.Goals.{in-Advance+then-epoch+then-point-min, in-Advance+else-epoch, else-epoch-via-then-epoch+else-point-min, else-epoch-via-else-epoch, in_default}
 

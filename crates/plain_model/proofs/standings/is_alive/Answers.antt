@@ -1,7 +1,8 @@
 use Rattle.std.proofs.Common.{IsTrue, false, arith, refl}
 use Rattle.redo_core.specs.Sets.{cuts}
 use Rattle.plain_model.proofs.Scanned.{IsSpared}
-use Rattle.plain_model.proofs.Scans.{cut_item, whole, one_more}
+use Rattle.redo_core.proofs.Scans.{whole, one_more}
+use Rattle.plain_model.proofs.Scans.{cut_item}
 use Rattle.plain_model.proofs.LinkedScans.{spared_cut, spared_default, all_spare, spares_of}
 use Rattle.plain_model.proofs.standings.is_alive.Goals as goal
 use Rattle.plain_model.proofs.standings.is_alive.Goals.{in-Cut+else-not-spares, in_default}

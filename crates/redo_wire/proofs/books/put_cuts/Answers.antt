@@ -1,7 +1,7 @@
 use Rattle.std.proofs.lemmas.Grind.{common_steps}
 use Rattle.std.proofs.Common.{arith}
 use Rattle.redo_wire.specs.Facts.{IsWireCut}
-use Rattle.redo_wire.proofs.Elements.{one_more, all_seen}
+use Rattle.redo_core.proofs.Scans.{one_more, all_seen}
 use Rattle.redo_wire.proofs.books.put_cuts.Goals as goal
 
 pub loop-cut-preserved : goal.loop-cut-preserved

@@ -1,7 +1,7 @@
 use Rattle.std.proofs.lemmas.Grind.{common_steps}
 use Rattle.std.proofs.Common.{arith}
 use Rattle.redo_wire.specs.Facts.{IsWireAdvance}
-use Rattle.redo_wire.proofs.Elements.{one_more, all_seen}
+use Rattle.redo_core.proofs.Scans.{one_more, all_seen}
 use Rattle.redo_wire.proofs.books.put_waits.Goals as goal
 
 pub loop-wait-preserved : goal.loop-wait-preserved

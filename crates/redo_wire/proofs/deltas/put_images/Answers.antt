@@ -1,7 +1,7 @@
 use Rattle.std.proofs.lemmas.Grind.{common_steps}
 use Rattle.std.proofs.Common.{arith}
 use Rattle.redo_wire.specs.Deltas.{IsWireImage}
-use Rattle.redo_wire.proofs.Elements.{one_more, all_seen}
+use Rattle.redo_core.proofs.Scans.{one_more, all_seen}
 use Rattle.redo_wire.proofs.deltas.put_images.Goals as goal
 
 pub loop-image-preserved : goal.loop-image-preserved

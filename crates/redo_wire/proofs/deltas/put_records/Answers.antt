@@ -1,7 +1,7 @@
 use Rattle.std.proofs.lemmas.Grind.{common_steps}
 use Rattle.std.proofs.Common.{arith}
 use Rattle.redo_wire.specs.Facts.{IsWireRecord}
-use Rattle.redo_wire.proofs.Elements.{one_more, all_seen}
+use Rattle.redo_core.proofs.Scans.{one_more, all_seen}
 use Rattle.redo_wire.proofs.deltas.put_records.Goals as goal
 
 pub loop-redo-preserved : goal.loop-redo-preserved

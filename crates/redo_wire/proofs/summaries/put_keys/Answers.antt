@@ -2,7 +2,7 @@ use Rattle.std.proofs.lemmas.Grind.{common_steps}
 use Rattle.std.proofs.Common.{arith, ◌<◌, ◌^◌}
 use Rattle.std.proofs.lemmas.List.Elements.{All-more}
 use Rattle.redo_wire.specs.declared.keys.Key.{Key}
-use Rattle.redo_wire.proofs.Elements.{all_seen}
+use Rattle.redo_core.proofs.Scans.{all_seen}
 use Rattle.redo_wire.proofs.summaries.put_keys.Goals as goal
 
 pub loop-key-preserved : goal.loop-key-preserved
