@@ -32,18 +32,21 @@ use Rattle.fleet_core.specs.declared.steps.Reply.TheVariants.{Folded as FoldedIs
 use Rattle.fleet_core.specs.Replying.{RefusalReplies, TakenReplies, ReadReplies, FaultReplies}
 use Rattle.fleet_core.specs.Runs.{NodeFollows}
 use Rattle.fleet_core.specs.Shedding.{Sheds}
+use Rattle.fleet_core.specs.Refused.{IsRefusal}
 
 -- a step that is replied Memory, and changes nothing
-pub follows_memory : (s : State) (step : Step) → NodeFollows s step Memory s
-follows_memory s (Take node fact) = λ log facts sound t means. (tt, means)
-follows_memory s (Fold node g) = λ log facts sound t means. (tt, means)
-follows_memory s (Discard node) = λ log facts sound t means. (tt, means)
-follows_memory s (AskFront node) = λ log facts sound t means. (tt, means)
-follows_memory s (Read node g q) = λ log facts sound t means. (tt, means)
+take_without_memory : (s : State) (node : ℕ) (fact : Fact) → NodeFollows s (Take node fact) Memory s
+take_without_memory s node fact = λ log facts sound t means. (tt, means)
+
+fold_without_memory : (s : State) (node g : ℕ) → NodeFollows s (Fold node g) Memory s
+fold_without_memory s node g = λ log facts sound t means. (tt, means)
+
+read_without_memory : (s : State) (node g q : ℕ) → NodeFollows s (Read node g q) Memory s
+read_without_memory s node g q = λ log facts sound t means. (tt, means)
 
 refused_at : (old new : State) (node : ℕ) (fact : Fact) (why : Refusal) (reply : Reply) → (FitsSoundLog old fact → why ≡ refusal.Memory) → new ≡ old → RefusalReplies why reply → NodeFollows old (Take node fact) reply new
 refused_at old new node fact refusal.Memory reply sound same is =
-    subst (λ r. NodeFollows old (Take node fact) r new) (sym is) (subst (λ s. NodeFollows old (Take node fact) Memory s) (sym same) (follows_memory old (Take node fact)))
+    subst (λ r. NodeFollows old (Take node fact) r new) (sym is) (subst (λ s. NodeFollows old (Take node fact) Memory s) (sym same) (take_without_memory old node fact))
 refused_at old new node fact (refusal.OtherCut cut) reply sound same is = λ log facts s t means. absurd (let e : refusal.OtherCut cut ≡ refusal.Memory = sound (log, facts, s, t, means) in cc)
 refused_at old new node fact (refusal.Contradiction held) reply sound same is = λ log facts s t means. absurd (let e : refusal.Contradiction held ≡ refusal.Memory = sound (log, facts, s, t, means) in cc)
 refused_at old new node fact refusal.OtherRecord reply sound same is = λ log facts s t means. absurd (let e : refusal.OtherRecord ≡ refusal.Memory = sound (log, facts, s, t, means) in cc)
@@ -65,7 +68,7 @@ follows_read s node g q (Ok image) reply says is = subst (λ r. NodeFollows s (R
 follows_read s node g q (Err (fault.Below min)) reply says is = subst (λ r. NodeFollows s (Read node g q) r s) (sym is) (λ log facts sound t means. ((means.0, means.1.position, says log facts means.0 sound means.1), means))
 follows_read s node g q (Err (fault.Above complete)) reply says is = subst (λ r. NodeFollows s (Read node g q) r s) (sym is) (λ log facts sound t means. ((means.0, means.1.position, says log facts means.0 sound means.1), means))
 follows_read s node g q (Err (fault.BrokenBlockChain page number)) reply says is = λ log facts sound t means. absurd (says log facts means.0 sound means.1)
-follows_read s node g q (Err fault.Memory) reply says is = subst (λ r. NodeFollows s (Read node g q) r s) (sym is) (follows_memory s (Read node g q))
+follows_read s node g q (Err fault.Memory) reply says is = subst (λ r. NodeFollows s (Read node g q) r s) (sym is) (read_without_memory s node g q)
 
 -- a page that was folded for facts of the log is final
 fold_is_final : (log facts : List Fact) (s : State) (g : ℕ) (folded : Folded) → (m : Means log facts s) → IsFoldOf facts m.0 g folded → IsFinalPage log folded.page folded.version folded.image
@@ -83,7 +86,7 @@ pub follows_no_plan : (s : State) (node g : ℕ) (why : ReadFault) (reply : Repl
 follows_no_plan s node g (fault.Below min) reply says is = λ log facts sound t means. absurd (let e : fault.Below min ≡ fault.Memory = says log facts means.0 sound means.1 in cc)
 follows_no_plan s node g (fault.Above complete) reply says is = λ log facts sound t means. absurd (let e : fault.Above complete ≡ fault.Memory = says log facts means.0 sound means.1 in cc)
 follows_no_plan s node g (fault.BrokenBlockChain page number) reply says is = λ log facts sound t means. absurd (let e : fault.BrokenBlockChain page number ≡ fault.Memory = says log facts means.0 sound means.1 in cc)
-follows_no_plan s node g fault.Memory reply says is = subst (λ r. NodeFollows s (Fold node g) r s) (sym is) (follows_memory s (Fold node g))
+follows_no_plan s node g fault.Memory reply says is = subst (λ r. NodeFollows s (Fold node g) r s) (sym is) (fold_without_memory s node g)
 
 pub follows_discard : (old new : State) (node : ℕ) → KeepsMeaning old new → NodeFollows old (Discard node) Discarded new
 follows_discard old new node keeps = λ log facts sound t means. (tt, keeps log facts sound means)
@@ -105,3 +108,10 @@ sheds_nothing s node g (fault.Below min) reply is = subst (λ r. Sheds s (Fold n
 sheds_nothing s node g (fault.Above complete) reply is = subst (λ r. Sheds s (Fold node g) r s) (sym is) tt
 sheds_nothing s node g (fault.BrokenBlockChain page number) reply is = subst (λ r. Sheds s (Fold node g) r s) (sym is) tt
 sheds_nothing s node g fault.Memory reply is = subst (λ r. Sheds s (Fold node g) r s) (sym is) tt
+
+-- ---- a step that is refused changes nothing
+
+pub take_refused : (old new : State) (answer : Result Taken (Refused Fact Refusal)) (reply : Reply) → OnErr answer (new ≡ old) → TakenReplies answer reply → IsRefusal reply → new ≡ old
+take_refused old new (Ok taken.Changed) reply same is refused = absurd (subst IsRefusal is refused)
+take_refused old new (Ok taken.Unchanged) reply same is refused = absurd (subst IsRefusal is refused)
+take_refused old new (Err e) reply same is refused = same

@@ -3,3 +3,4 @@ pub mod Runs
 pub mod Replying
 pub mod Shedding
 pub mod Laws
+pub mod Refused

@@ -38,7 +38,9 @@ node_of (Read node page point) = node
 -- What a node that means the facts answers to a step. A fold and a discard are answered without a look at the facts, which they
 -- leave as they are. A step that found no memory counts as not having come.
 abbrev pub NodeReplies : List Fact → Step → Reply → Type 0
-NodeReplies facts step Memory = Unit {0}
+NodeReplies facts (Take i fact) Memory = Unit {0}
+NodeReplies facts (Fold i g) Memory = Unit {0}
+NodeReplies facts (Read i g q) Memory = Unit {0}
 NodeReplies facts (Take i fact) Changed = HasOtherMeaningWith facts fact
 NodeReplies facts (Take i fact) Unchanged = HasOneMeaningWith facts fact
 NodeReplies facts (Fold i g) Folded = Unit {0}

@@ -1,6 +1,7 @@
 ghost use Rattle.std.specs.Prelude.{◌≡◌, ℕ, ◌+◌, ◌<◌, ◌≤◌, ◌⊎◌, ◌↔◌, List, [], length, replicate, IfOk, OnErr, IsTrue};
 ghost use Rattle.fleet_core.specs.Replying.{TakenReplies, RefusalReplies, ReadReplies, FaultReplies};
 ghost use Rattle.fleet_core.specs.Runs.{NodeFollows};
+ghost use Rattle.fleet_core.specs.Refused.{IsRefusal};
 ghost use Rattle.fleet_core.specs.Shedding.{Sheds, ShedsAt};
 ghost use Rattle.fleet_core.specs.declared.steps.Step.TheVariants.{Fold};
 ghost use Rattle.fleet_core.specs.declared.steps.Reply.TheVariants.{NoNode, Memory};
@@ -47,7 +48,7 @@ impl Fleet {
     pub fn step(&mut self, step: &Step) -> Reply
         ensures follows { FollowsStep self.old step.now result self.new }
         ensures no_node { let node = node_of step.now in (i : ℕ) → (result ≡ NoNode i) ↔ ((i ≡ node) × ((node ≡ 0) ⊎ (length self.old < node))) }
-        ensures memory { result ≡ Memory → self.new ≡ self.old }
+        ensures refused { IsRefusal result → self.new ≡ self.old }
         ensures sheds { ShedsAt self.old step.now result self.new }
     {
         let node = step.node();
@@ -76,7 +77,7 @@ impl Fleet {
 fn carry_out(segment: &mut Segment, step: &Step) -> Reply
     ensures follows { NodeFollows segment.old step.now result segment.new }
     ensures there { (i : ℕ) → result ≡ NoNode i → ⊥ }
-    ensures memory { result ≡ Memory → segment.new ≡ segment.old }
+    ensures refused { IsRefusal result → segment.new ≡ segment.old }
     ensures sheds { Sheds segment.old step.now result segment.new }
 {
     match step {
@@ -98,7 +99,7 @@ fn carry_out(segment: &mut Segment, step: &Step) -> Reply
 fn fold_page(segment: &mut Segment, page: u16) -> Reply
     ensures follows { (node : ℕ) → NodeFollows segment.old (Fold node page) result segment.new }
     ensures there { (i : ℕ) → result ≡ NoNode i → ⊥ }
-    ensures memory { result ≡ Memory → segment.new ≡ segment.old }
+    ensures refused { IsRefusal result → segment.new ≡ segment.old }
     ensures sheds { (node : ℕ) → Sheds segment.old (Fold node page) result segment.new }
 {
     let folded = match segment.plan_fold(page) {

@@ -81,33 +81,37 @@ book_exact : (b b' : BookData) (hs : List RecordData) (base : ℕ) (store : Stor
     → OnErr answer (IsCompleteEpoch b.cuts b.complete)
     → OnOk answer (TakesFact (state_of b hs base store) fact (state_of b' hs base store))
     → IfOk answer (λ l. (k : ℕ) → IsCompleteEpoch b.cuts k → (l ≡ learnt.Known) ↔ IsKnown (state_of b hs base store) k fact)
+    → IfOk answer (λ l. l ≡ learnt.Known → b' ≡ b)
     → OnErr answer (b' ≡ b)
     → ((e : BookRefusal) → RefusesFact b fact e → answer ≡ Err e)
     → IfErr answer (λ e. (e ≡ book.Memory) ⊎ RefusesFact b fact e)
     → AnswersBook fact answer result
     → TakesExactly (state_of b hs base store) fact result (state_of b' hs base store)
-book_exact b b' hs base store fact (Ok learnt.New) result so complete means known same refuses refused is =
+book_exact b b' hs base store fact (Ok learnt.New) result so complete means known idle same refuses refused is =
     subst (λ r. TakesExactly (state_of b hs base store) fact r (state_of b' hs base store)) (sym is) (record {
       means = means;
       known = λ k at. (λ (e : Changed ≡ Unchanged). absurd (cc), λ it. absurd (let n : learnt.New ≡ learnt.Known = (known k at).1 it in cc));
+      idle = λ (e : Changed ≡ Unchanged). absurd (cc);
       refuses = λ k why at r. let e = to_book b hs base store k fact why so r in absurd (let x = refuses e.0 e.1 in cc);
       refused = tt;
       back = tt;
       unchanged = tt;
     })
-book_exact b b' hs base store fact (Ok learnt.Known) result so complete means known same refuses refused is =
+book_exact b b' hs base store fact (Ok learnt.Known) result so complete means known idle same refuses refused is =
     subst (λ r. TakesExactly (state_of b hs base store) fact r (state_of b' hs base store)) (sym is) (record {
       means = means;
       known = λ k at. (λ e. (known k at).0 refl, λ it. refl);
+      idle = λ e. ap (λ x. state_of x hs base store) (idle refl);
       refuses = λ k why at r. let e = to_book b hs base store k fact why so r in absurd (let x = refuses e.0 e.1 in cc);
       refused = tt;
       back = tt;
       unchanged = tt;
     })
-book_exact b b' hs base store fact (Err e) result so complete means known same refuses refused is =
+book_exact b b' hs base store fact (Err e) result so complete means known idle same refuses refused is =
     subst (λ r. TakesExactly (state_of b hs base store) fact r (state_of b' hs base store)) (sym is) (record {
       means = tt;
       known = tt;
+      idle = tt;
       refuses = λ k why at r.
           let f = to_book b hs base store k fact why so r in
           let x = refuses f.0 f.1 in
@@ -123,17 +127,18 @@ pub cut_exact : TakesCut → TakesKnown → (b b' : BookData) (hs : List RecordD
     → IsBook b'
     → OnOk answer (BookLearnsCut b c b')
     → IfOk answer (λ l. (l ≡ learnt.Known) ↔ Contains b.cuts c)
+    → IfOk answer (λ l. l ≡ learnt.Known → b' ≡ b)
     → OnErr answer (b' ≡ b)
     → ((e : BookRefusal) → RefusesCut b c e → answer ≡ Err e)
     → IfErr answer (λ e. (e ≡ book.Memory) ⊎ RefusesCut b c e)
     → AnswersBook (Cut c) answer result
     → TakesExactly (state_of b hs base store) (Cut c) result (state_of b' hs base store)
-cut_exact takes knows b b' hs base store c (Ok l) result is_book learns known same refuses refused is =
+cut_exact takes knows b b' hs base store c (Ok l) result is_book learns known idle same refuses refused is =
     book_exact b b' hs base store (Cut c) (Ok l) result (λ r (e : Cut c ≡ Record r). absurd (cc)) tt
     (takes b'.complete (state_of b hs base store) (state_of b' hs base store) c (record { epoch = is_book.complete; cuts = learns.cuts; min = learns.min; waits = learns.waits; held = refl; rest = record { base = refl; store = refl } }))
-    (λ k at. known) same refuses refused is
-cut_exact takes knows b b' hs base store c (Err e) result is_book learns known same refuses refused is =
-    book_exact b b' hs base store (Cut c) (Err e) result (λ r (e : Cut c ≡ Record r). absurd (cc)) (subst (λ x. IsCompleteEpoch x.cuts x.complete) same is_book.complete) tt tt same refuses refused is
+    (λ k at. known) idle same refuses refused is
+cut_exact takes knows b b' hs base store c (Err e) result is_book learns known idle same refuses refused is =
+    book_exact b b' hs base store (Cut c) (Err e) result (λ r (e : Cut c ≡ Record r). absurd (cc)) (subst (λ x. IsCompleteEpoch x.cuts x.complete) same is_book.complete) tt tt tt same refuses refused is
 
 -- a truncation never lowers the minimum read point, so the base point stays at or below it
 pub cut_bound : (b b' : BookData) (base : ℕ) (c : CutData) (answer : Result Learnt BookRefusal) → OnOk answer (BookLearnsCut b c b') → OnErr answer (b' ≡ b) → base ≤ b.min → base ≤ b'.min
@@ -144,18 +149,19 @@ pub advance_exact : TakesAdvance → (b b' : BookData) (hs : List RecordData) (b
     → IsBook b'
     → OnOk answer (BookLearnsAdvance b a b')
     → IfOk answer (λ l. (l ≡ learnt.Known) ↔ KnowsAdvance b a)
+    → IfOk answer (λ l. l ≡ learnt.Known → b' ≡ b)
     → OnErr answer (b' ≡ b)
     → ((e : BookRefusal) → RefusesAdvance b a e → answer ≡ Err e)
     → IfErr answer (λ e. (e ≡ book.Memory) ⊎ RefusesAdvance b a e)
     → AnswersBook (Advance a) answer result
     → TakesExactly (state_of b hs base store) (Advance a) result (state_of b' hs base store)
-advance_exact takes b b' hs base store a (Ok l) result is_book learns known same refuses refused is =
+advance_exact takes b b' hs base store a (Ok l) result is_book learns known idle same refuses refused is =
     let complete : IsCompleteEpoch b.cuts b.complete = subst (λ cs. IsCompleteEpoch cs b.complete) learns.cuts (subst (λ n. IsCompleteEpoch b'.cuts n) learns.complete is_book.complete) in
     book_exact b b' hs base store (Advance a) (Ok l) result (λ r (e : Advance a ≡ Record r). absurd (cc)) tt
     (takes b.complete (state_of b hs base store) (state_of b' hs base store) a (record { epoch = complete; cuts = learns.cuts; known = λ h. let n = learns.known h in record { min = n.min; waits = n.waits }; later = λ h. let n = learns.later h in record { min = n.min; waits = n.waits }; held = refl; rest = record { base = refl; store = refl } }))
-    (λ k at. subst (λ n. (l ≡ learnt.Known) ↔ IsKnown (state_of b hs base store) n (Advance a)) (one_epoch b.cuts b.complete k complete at) known) same refuses refused is
-advance_exact takes b b' hs base store a (Err e) result is_book learns known same refuses refused is =
-    book_exact b b' hs base store (Advance a) (Err e) result (λ r (e : Advance a ≡ Record r). absurd (cc)) (subst (λ x. IsCompleteEpoch x.cuts x.complete) same is_book.complete) tt tt same refuses refused is
+    (λ k at. subst (λ n. (l ≡ learnt.Known) ↔ IsKnown (state_of b hs base store) n (Advance a)) (one_epoch b.cuts b.complete k complete at) known) idle same refuses refused is
+advance_exact takes b b' hs base store a (Err e) result is_book learns known idle same refuses refused is =
+    book_exact b b' hs base store (Advance a) (Err e) result (λ r (e : Advance a ≡ Record r). absurd (cc)) (subst (λ x. IsCompleteEpoch x.cuts x.complete) same is_book.complete) tt tt tt same refuses refused is
 
 -- a record that is not compared changes nothing
 known_of_not_compared : (s : State) (k : ℕ) (r : RecordData) → IsNotCompared s k r → IsKnown s k (Record r)
@@ -165,6 +171,7 @@ pub not_compared_exact : TakesKnown → (s : State) (r : RecordData) (complete :
 not_compared_exact knows s r complete at all = record {
   means = knows s complete (Record r) at (known_of_not_compared s complete r (all complete at));
   known = λ k h. (λ e. known_of_not_compared s k r (all k h), λ it. refl);
+  idle = λ e. refl;
   refuses = λ k why h so. absurd (none k why h so);
   refused = tt;
   back = tt;
@@ -195,6 +202,7 @@ put_exact takes knows b hs hs' base store r (Ok put.New) result held complete at
     subst (λ x. TakesExactly (state_of b hs base store) (Record r) x (state_of b hs' base store)) (sym is) (record {
       means = takes (state_of b hs base store) (state_of b hs' base store) r (record { book = record { cuts = refl; min = refl; waits = refl }; held = puts.1; rest = record { base = refl; store = refl } });
       known = λ k at'. (λ (e : Changed ≡ Unchanged). absurd (cc), λ it. absurd (unknown k at' it));
+      idle = λ (e : Changed ≡ Unchanged). absurd (cc);
       refuses = λ k why at so. absurd (none k why at so);
       refused = tt;
       back = tt;
@@ -214,6 +222,7 @@ put_exact takes knows b hs hs' base store r (Ok put.Known) result held complete 
     (subst (λ hs'. TakesExactly (state_of b hs base store) (Record r) (Ok Unchanged) (state_of b hs' base store)) (sym puts.1) (record {
       means = knows (state_of b hs base store) complete (Record r) at (inr (inl puts.0));
       known = λ k at'. (λ e. inr (inl puts.0), λ it. refl);
+      idle = λ e. refl;
       refuses = λ k why at so. absurd (none k why at so);
       refused = tt;
       back = tt;
@@ -229,6 +238,7 @@ put_exact takes knows b hs hs' base store r (Err e) result held complete at comp
     subst (λ x. TakesExactly (state_of b hs base store) (Record r) x (state_of b hs' base store)) (sym is) (record {
       means = tt;
       known = tt;
+      idle = tt;
       refuses = λ k why at' so. why_is e.fault refused.1 k why at' so;
       refused = why_refused e.fault refused.1;
       back = ap (λ x. Record x) refused.0;

@@ -100,6 +100,9 @@ tidies_of s discarded new store folds discards removes k at =
     record {
       book = record { cuts = m.book.cuts ∙ d.book.cuts; min = m.book.min ∙ d.book.min; waits = m.book.waits ∙ d.book.waits };
       base = subst (HasAnchor s k) (sym m.rest.base) anchor;
+      folded = λ r h.
+          subst (λ kept. new.base ≤ version_of kept r.page) (sym (m.rest.store ∙ d.store))
+          (subst (λ b. b ≤ version_of store r.page) (sym m.rest.base) (folds.reached k discarded.base r at anchor h));
       held = λ r.
           let t = kept_by s k discarded.base store r (folds.reached k discarded.base r at anchor) in
           subst (λ b. Contains new.held r ↔ IsKeptBy s k b r) (sym m.rest.base) (

@@ -8,12 +8,14 @@ use Rattle.segment_state.specs.Promises.{TakesFact}
 use Rattle.segment_core.specs.Taking.{TellsKnown}
 use Rattle.segment_core.specs.Refusing.{Refuses}
 use Rattle.segment_core.specs.declared.answers.Taken.{Taken}
+use Rattle.segment_core.specs.declared.answers.Taken.TheVariants.{Unchanged}
 use Rattle.segment_core.specs.declared.answers.Refusal.{Refusal}
 use Rattle.segment_core.specs.declared.answers.Refusal.TheVariants.{Memory}
 
 pub record TakesExactly (old : State) (fact : Fact) (result : Result Taken (Refused Fact Refusal)) (new : State) : Type 0 where
   pub means : OnOk result (TakesFact old fact new)
   pub known : IfOk result (TellsKnown old fact)
+  pub idle : IfOk result (λ taken. taken ≡ Unchanged → new ≡ old)
   pub refuses : (k : ℕ) (why : Refusal) → IsCompleteEpoch old.cuts k → Refuses old k fact why → IsErrAnd result (λ e. e.fault ≡ why)
   pub refused : IfErr result (λ e. (e.fault ≡ Memory) ⊎ ((k : ℕ) × IsCompleteEpoch old.cuts k × Refuses old k fact e.fault))
   pub back : IfErr result (λ e. e.value ≡ fact)

@@ -36,10 +36,11 @@ pub record FoldsAll (s : State) (store : Store) : Type 0 where
   pub keeps : KeepsMeaning s (with_store s store)
   pub reached : (k anchor : ℕ) (r : RecordData) → IsCompleteEpoch s.cuts k → HasAnchor s k anchor → Contains s.held r → anchor ≤ version_of store r.page
 
--- the base point is the anchor, and just the kept records are held
+-- the base point is the anchor, which the image of each page of a held record has reached, and just the kept records are held
 pub record Tidies (k : ℕ) (old new : State) : Type 0 where
   pub book : SameBook old new
   pub base : HasAnchor old k new.base
+  pub folded : (r : RecordData) → Contains old.held r → new.base ≤ version_of new.store r.page
   pub held : (r : RecordData) → Contains new.held r ↔ IsKeptBy old k new.base r
 
 -- they are the kept records of the facts

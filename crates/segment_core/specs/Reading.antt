@@ -1,5 +1,5 @@
 -- What a front and a read answer for the facts that a segment means.
-use Rattle.std.specs.Prelude.{◌≡◌, ℕ, List, Result, Ok, Err}
+use Rattle.std.specs.Prelude.{◌≡◌, ℕ, ◌<◌, ◌≤◌, ◌↔◌, List, Result, Ok, Err}
 use Rattle.redo_core.specs.CompleteEpoch.{IsCompleteEpoch}
 use Rattle.redo_core.specs.Position.{Position}
 use Rattle.redo_core.specs.Answer.{IsReadAnswer}
@@ -34,3 +34,10 @@ IsReadFault facts p page q Memory = Unit {0}
 abbrev pub IsReadResult : List Fact → Position → ℕ → ℕ → Result (List ℕ) ReadFault → Type 0
 IsReadResult facts p page q (Ok image) = IsReadAnswer facts p page q (OfImage image)
 IsReadResult facts p page q (Err fault) = IsReadFault facts p page q fault
+
+-- Below and Above are answered exactly where the state's own minimum and complete point have the point outside, over any facts
+abbrev pub TellsOutside : State → ℕ → Result (List ℕ) ReadFault → Type 0
+TellsOutside s q result =
+    (k complete n : ℕ) → IsCompleteEpoch s.cuts k → HasComplete s k complete
+    → ((result ≡ Err (Below n)) ↔ ((n ≡ s.min) × (q < s.min)))
+    × ((result ≡ Err (Above n)) ↔ ((n ≡ complete) × (s.min ≤ q) × (complete < q)))

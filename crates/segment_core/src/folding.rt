@@ -97,7 +97,8 @@ impl Segment {
         remove_all_folded(&mut self.hot, &self.book, &self.store, self.base);
     }
 
-    /// Folds every page to the anchor, discards, and forgets the dead records: what stays is what the meaning keeps.
+    /// Folds each page that has held records to the anchor, discards, and forgets the dead records: what stays is what the
+    /// meaning keeps.
     ///
     /// Errors: `BrokenBlockChain`, never over a sound log; `Memory`; the segment is then as it was.
     pub fn tidy(&mut self) -> Result<(), ReadFault>

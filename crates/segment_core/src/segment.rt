@@ -19,9 +19,10 @@ ghost use Rattle.hot_log.specs.Found.{IsOnlyRecord};
 ghost use Rattle.segment_core.specs.BlockChain.{BreaksAt, TellsBreak};
 ghost use Rattle.segment_core.specs.Answering.{AnswersBook, AnswersPut, refusal_of, put_refusal_of, state_of};
 ghost use Rattle.segment_core.specs.Exactly.{TakesExactly};
-ghost use Rattle.segment_core.specs.Reading.{IsFrontAt, IsFrontOf, IsReadResult};
+ghost use Rattle.segment_core.specs.Reading.{IsFrontAt, IsFrontOf, IsReadResult, TellsOutside};
 ghost use Rattle.segment_core.specs.declared.answers.Refusal.{Refusal as AnyRefusal};
 ghost use Rattle.segment_core.specs.declared.answers.Refusal.TheVariants.{Memory as MemoryOf};
+ghost use Rattle.segment_core.specs.declared.answers.Taken.TheVariants.{Unchanged as UnchangedOf};
 
 use crate::answers::{Front, ReadFault, Refusal, Taken};
 use epoch_book::{BookRefusal, EpochBook, Learnt, Standing};
@@ -97,6 +98,7 @@ impl Segment {
 
         // Over any facts.
         ensures known { IfOk result (TellsKnown self.old fact) }
+        ensures idle { IfOk result (λ taken. taken ≡ UnchangedOf → self.new ≡ self.old) }
         ensures refuses { (k : ℕ) (why : AnyRefusal) → IsCompleteEpoch self.old.cuts k → Refuses self.old k fact why → IsErrAnd result (λ e. e.fault ≡ why) }
         ensures refused { IfErr result (λ e. (e.fault ≡ MemoryOf) ⊎ ((k : ℕ) × IsCompleteEpoch self.old.cuts k × Refuses self.old k fact e.fault)) }
         ensures back { IfErr result (λ e. e.value ≡ fact) }
@@ -141,6 +143,9 @@ impl Segment {
     /// point is above it, else `BrokenBlockChain` with the record whose block backlink leads nowhere; `Memory`.
     pub fn read(&self, page: u16, point: u64) -> Result<Page, ReadFault>
         ensures result { (log facts : List AnyFact) (p : Position) → IsSound log → MeansAt log facts p self.now → IsReadResult facts p page point result }
+        // Over any facts.
+        ensures own { IfOk result (λ image. (k : ℕ) → IsCompleteEpoch self.now.cuts k → Shows self.now k page point image) }
+        ensures outside { TellsOutside self.now point result }
         ensures broken { TellsBreak self.now page point result }
     {
         let front = self.front();

@@ -57,7 +57,7 @@ impl Segment {
         self.hot.get(epoch, number)
     }
 
-    /// The base images that are not zeros of the floor version, rising by page.
+    /// The stored base images, rising by page; a page without one is zeros at the greatest base adopted.
     pub fn pages(&self) -> &[BaseImage]
         ensures value { result.now ≡ self.now.store.images }
         ensures rising { IsStored self.now.store }
@@ -85,6 +85,7 @@ impl Segment {
     {
         self.hot.records_of(self.alloc, &self.book, page, from, to)
     }
+
     /// Raises the base point to `base` where that is higher, and adopts base images: each page of a version below `base` takes
     /// the first image given for it, or zeros, at `base`.
     ///

@@ -1,7 +1,7 @@
 use Rattle.std.proofs.Common.{subst}
 use Rattle.fleet_core.specs.declared.steps.Step.TheVariants.{Take}
 use Rattle.fleet_core.specs.Runs.{NodeFollows}
-use Rattle.fleet_core.proofs.Following.{follows_take, follows_discard, follows_front, follows_read}
+use Rattle.fleet_core.proofs.Following.{follows_take, follows_discard, follows_front, follows_read, take_refused}
 use Rattle.fleet_core.proofs.fleets.carry_out.Goals as goal
 
 pub returns-in-Ok-clause-follows : goal.returns-in-Ok-clause-follows
@@ -26,3 +26,6 @@ returns-in-Fold-clause-sheds c = rw c.in-Fold.is (c.fold_page.ensures.sheds c.in
 
 pub returns-in-Discard-clause-sheds : goal.returns-in-Discard-clause-sheds
 returns-in-Discard-clause-sheds c = rw c.in-Discard.is c.discard.ensures.discards
+
+pub returns-in-Ok-clause-refused : goal.returns-in-Ok-clause-refused
+returns-in-Ok-clause-refused c = take_refused c.args.segment.now c.take.new.self c.take.result c.taken_reply.result c.take.ensures.unchanged c.taken_reply.ensures

@@ -10,4 +10,4 @@ pub returns : goal.returns
 returns c =
     let e = c.learn_advance.ensures in
     subst (λ s. TakesExactly s (Advance c.args.advance) c.book_answer.result (state_of c.learn_advance.new.self c.self.inside.hot c.self.inside.base c.self.inside.store)) c.self.view_is
-    (advance_exact takes_advance c.self.inside.book c.learn_advance.new.self c.self.inside.hot c.self.inside.base c.self.inside.store c.args.advance c.learn_advance.result c.book_answer.result e.book e.ok e.known e.err e.refuses e.refused c.book_answer.ensures)
+    (advance_exact takes_advance c.self.inside.book c.learn_advance.new.self c.self.inside.hot c.self.inside.base c.self.inside.store c.args.advance c.learn_advance.result c.book_answer.result e.book e.ok e.known e.unchanged e.err e.refuses e.refused c.book_answer.ensures)
