@@ -2,7 +2,7 @@
 use Rattle.std.proofs.Common.{◌≡◌, ℕ, zero, suc, ◌+◌, ◌<◌, ◌≤◌, ◌⊎◌, ⊎_elim, map, refl, ap, subst, ◌∙◌, arith, le_refl, Some, None}
 use Rattle.std.specs.Prelude.{slice_get}
 use Rattle.std.specs.List.{Contains, range_with_len}
-use Rattle.redo_laws.proofs.Members.{none_in, here, there, which}
+use Rattle.redo_core.proofs.Members.{none_in, here, there, which}
 
 pub place_of : {X : Type 0} (f : ℕ → X) (a m : ℕ) (x : X) → Contains (map f (range_with_len a m)) x → (p : ℕ) × (a ≤ p) × (p < a + m) × (f p ≡ x)
 place_of f a zero x h = absurd (none_in x h)

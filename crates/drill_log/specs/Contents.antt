@@ -8,7 +8,7 @@ use Rattle.redo_core.specs.Sets.{records, cuts}
 use Rattle.redo_core.specs.Sound.{counted}
 use Rattle.redo_core.specs.declared.facts.Fact.{Fact}
 use Rattle.redo_core.specs.declared.facts.Fact.TheVariants.{Record, Cut, Advance}
-use Rattle.redo_laws.proofs.Log.{record_in, cut_in}
+use Rattle.redo_core.proofs.FactParts.{record_in, cut_in}
 use Rattle.drill_log.specs.FirstCuts.{first_within, some_counts}
 use Rattle.drill_log.specs.DrillLog.{record_of_epoch_0, record_of_epoch_1, drill_advance, drill_cut, drill_fact}
 use Rattle.drill_log.specs.ByPlace.{place_of, has_place}

@@ -4,7 +4,7 @@ use Rattle.std.specs.Prelude.{◌==◌}
 use Rattle.std.specs.List.{Contains, filter}
 use Rattle.redo_core.specs.Data.{CutData}
 use Rattle.redo_core.specs.Sound.{first_cuts}
-use Rattle.redo_laws.proofs.Members.{none_in, here, there, which}
+use Rattle.redo_core.proofs.Members.{none_in, here, there, which}
 
 filtered_at : (p : CutData → Bool) (d : CutData) (ds : List CutData) (c : CutData) (b : Bool) → (Contains (filter p ds) c → Contains ds c) → Contains (cond b (d ∷ filter p ds) (filter p ds)) c → Contains (d ∷ ds) c
 filtered_at p d ds c true ih h = ⊎_elim (λ (e : d ≡ c). subst (λ x. Contains (x ∷ ds) c) (sym e) (here c ds)) (λ (q : Contains (filter p ds) c). there d ds c (ih q)) (which d (filter p ds) c h)

@@ -10,8 +10,8 @@ use Rattle.redo_core.specs.Sound.{SameKey, KeepsLaws, IsSound}
 use Rattle.redo_core.specs.declared.facts.Fact.{Fact}
 use Rattle.redo_core.specs.declared.facts.Fact.TheVariants.{Record, Cut, Advance}
 use Rattle.named_log.specs.Places.{fact_at}
-use Rattle.redo_laws.proofs.Members.{none_in, here, there, which}
-use Rattle.redo_laws.proofs.Log.{record_in, cut_in}
+use Rattle.redo_core.proofs.Members.{none_in, here, there, which}
+use Rattle.redo_core.proofs.FactParts.{record_in, cut_in}
 use Rattle.drill_log.specs.DrillLog.{record_of_epoch_0, record_of_epoch_1, drill_advance, drill_cut, drill_fact, drill_log, drill_hi, last_of_page}
 use Rattle.drill_log.specs.Remainders.{half_at_most, half_positive}
 use Rattle.drill_log.specs.ByPlace.{get_place, get_past}

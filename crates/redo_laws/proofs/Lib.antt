@@ -1,4 +1,3 @@
-pub mod Members
 pub mod Numbers
 pub mod Log
 pub mod Views

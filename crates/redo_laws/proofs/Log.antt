@@ -10,8 +10,7 @@ use Rattle.redo_core.specs.Standing.{IsAlive}
 use Rattle.redo_core.specs.Sound.{IsSound, counted}
 use Rattle.redo_core.specs.declared.facts.Fact.{Fact}
 use Rattle.redo_core.specs.declared.facts.Fact.TheVariants.{Record, Cut, Advance}
-pub use Rattle.redo_core.proofs.FactParts.{record_in, cut_in}
-use Rattle.redo_core.proofs.FactParts.{advance_in}
+use Rattle.redo_core.proofs.FactParts.{record_in, cut_in, advance_in}
 use Rattle.redo_core.proofs.SoundFacts.{kept, same_record, same_cut, counted_in, cut_facts}
 
 -- the set-form of soundness
