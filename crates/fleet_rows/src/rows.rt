@@ -131,12 +131,12 @@ fn scripts_that_are_refused(rt: HostRuntime) -> Result<(), Fail> {
         ),
         ("go\nnodes 1\nDiscard 1\n", "bad line 3\n", Verdict::BadLine),
         (
-            "rec 0 3 0 7 0 4096:ff\ngo\nnodes 1\n",
+            "rec 0 281474976710655 0 7 0 4096:ff\ngo\nnodes 1\ntake 1 1\nread 1 7 281474976710655 4095 1\n",
             "bad line 1\n",
             Verdict::BadLine,
         ),
         (
-            "rec 0 281474976710656 0 7 0 -\ngo\nnodes 1\n",
+            "rec 0 281474976710656 0 7 0 4095:ff\ngo\nnodes 1\ntake 1 1\nread 1 7 281474976710656 4095 1\n",
             "bad line 1\n",
             Verdict::BadLine,
         ),
