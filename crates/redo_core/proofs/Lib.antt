@@ -5,3 +5,5 @@ pub mod AfterRecords
 pub mod FactParts
 pub mod SoundFacts
 pub mod Pairs
+pub mod Points
+pub mod Plain

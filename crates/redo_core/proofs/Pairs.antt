@@ -1,7 +1,7 @@
 -- The order of pairs of numbers, by the first and then by the second.
-use Rattle.std.proofs.Common.{◌≡◌, ℕ, ◌⊎◌, ap, ◌∙◌, arith}
+use Rattle.std.proofs.Common.{◌≡◌, ℕ, ◌<◌, ◌⊎◌, inl, inr, ⊎_elim, ap, ◌∙◌, arith}
 use Rattle.redo_core.specs.Data.{AdvanceData, advance_of}
-use Rattle.redo_core.specs.Order.{PairBefore}
+use Rattle.redo_core.specs.Order.{PairBefore, AdvanceBefore}
 
 pub pair_apart : (a b c d : ℕ) → PairBefore a b c d → PairBefore c d a b → ⊥
 pair_apart a b c d x y = grind arith
@@ -12,6 +12,21 @@ pair_trans a b c d e f x y = grind arith
 pub pair_order : (a b c d : ℕ) → PairBefore a b c d ⊎ (((a ≡ c) × (b ≡ d)) ⊎ PairBefore c d a b)
 pair_order a b c d = grind arith
 
--- two advances of one epoch and one point
-pub same_advance : (a b : AdvanceData) → a.epoch ≡ b.epoch → a.point ≡ b.point → a ≡ b
-same_advance a b e p = ap (λ n. advance_of n a.point) e ∙ ap (λ n. advance_of b.epoch n) p
+-- two advances of one epoch, one reader and one point
+pub same_advance : (a b : AdvanceData) → a.epoch ≡ b.epoch → a.reader ≡ b.reader → a.point ≡ b.point → a ≡ b
+same_advance a b e r p = ap (λ n. advance_of n a.reader a.point) e ∙ ap (λ n. advance_of b.epoch n a.point) r ∙ ap (λ n. advance_of b.epoch b.reader n) p
+
+pub advance_apart : (a b : AdvanceData) → AdvanceBefore a b → AdvanceBefore b a → ⊥
+advance_apart a b x y = grind arith
+
+pub advance_trans : (a b c : AdvanceData) → AdvanceBefore a b → AdvanceBefore b c → AdvanceBefore a c
+advance_trans a b c x y = grind arith
+
+pub advance_order : (a b : AdvanceData) → AdvanceBefore a b ⊎ ((a ≡ b) ⊎ AdvanceBefore b a)
+advance_order a b =
+    ⊎_elim inl
+    (λ t. ⊎_elim (λ (e : (a.epoch ≡ b.epoch) × ((a.reader ≡ b.reader) × (a.point ≡ b.point))). inr (inl (same_advance a b e.0 e.1.0 e.1.1))) (λ (x : AdvanceBefore b a). inr (inr x)) t)
+    (by_numbers a.epoch a.reader a.point b.epoch b.reader b.point)
+  where
+    by_numbers : (a b c x y z : ℕ) → ((a < x) ⊎ ((a ≡ x) × PairBefore b c y z)) ⊎ (((a ≡ x) × ((b ≡ y) × (c ≡ z))) ⊎ ((x < a) ⊎ ((x ≡ a) × PairBefore y z b c)))
+    by_numbers a b c x y z = grind arith

@@ -18,8 +18,8 @@ place_of [] x k l e = absurd (omega (arith, l))
 place_of (y ∷ ys) x zero l e = ap Some e
 place_of (y ∷ ys) x (suc k) l e = place_of ys x k (omega (arith, l)) e
 
-pub kept : (log : List Fact) (f : Fact) → IsSound log → (h : Contains log f) → KeepsLaws log h.0 f
-kept log f sound h = sound h.0 f (place_of log f h.0 h.1 h.2)
+pub kept : (roster : ℕ) (log : List Fact) (f : Fact) → IsSound roster log → (h : Contains log f) → KeepsLaws roster log h.0 f
+kept roster log f sound h = sound.keeps h.0 f (place_of log f h.0 h.1 h.2)
 
 -- an earlier place
 pub earlier : (xs : List Fact) (x : Fact) (i j : ℕ) → i < j → i < length xs → get_or xs i x ≡ x → Contains (take j xs) x
@@ -46,21 +46,21 @@ key_sym (Advance a) (Cut c) h = h
 key_sym (Advance a) (Advance b) h = h
 
 -- facts of one key are one fact
-pub same_fact : (log : List Fact) (f g : Fact) → IsSound log → Contains log f → Contains log g → SameKey f g → f ≡ g
-same_fact log f g sound hf hg key =
+pub same_fact : (roster : ℕ) (log : List Fact) (f g : Fact) → IsSound roster log → Contains log f → Contains log g → SameKey f g → f ≡ g
+same_fact roster log f g sound hf hg key =
     ⊎_elim
-    (λ (l : hf.0 < hg.0). (kept log g sound hg).law1 f (earlier log f hf.0 hg.0 l hf.1 hf.2) key)
+    (λ (l : hf.0 < hg.0). (kept roster log g sound hg).law1 f (earlier log f hf.0 hg.0 l hf.1 hf.2) key)
     (λ (m : hg.0 ≤ hf.0). ⊎_elim
-    (λ (l : hg.0 < hf.0). sym ((kept log f sound hf).law1 g (earlier log g hg.0 hf.0 l hg.1 hg.2) (key_sym f g key)))
+    (λ (l : hg.0 < hf.0). sym ((kept roster log f sound hf).law1 g (earlier log g hg.0 hf.0 l hg.1 hg.2) (key_sym f g key)))
     (λ (e : hg.0 ≡ hf.0). same_place log f g hf.0 hf.1 hf.2 (subst (λ k. get_or log k g ≡ g) e hg.2))
     (let t : (hg.0 < hf.0) ⊎ (hg.0 ≡ hf.0) = grind arith in t))
     (let t : (hf.0 < hg.0) ⊎ (hg.0 ≤ hf.0) = grind arith in t)
 
-pub same_record : (log : List Fact) → IsSound log → (r s : RecordData) → Contains (records log) r → Contains (records log) s → r.epoch ≡ s.epoch → r.number ≡ s.number → r ≡ s
-same_record log sound r s hr hs e n = let q : Record r ≡ Record s = same_fact log (Record r) (Record s) sound ((record_in log r).0 hr) ((record_in log s).0 hs) (e, n) in cc
+pub same_record : (roster : ℕ) (log : List Fact) → IsSound roster log → (r s : RecordData) → Contains (records log) r → Contains (records log) s → r.epoch ≡ s.epoch → r.number ≡ s.number → r ≡ s
+same_record roster log sound r s hr hs e n = let q : Record r ≡ Record s = same_fact roster log (Record r) (Record s) sound ((record_in log r).0 hr) ((record_in log s).0 hs) (e, n) in cc
 
-pub same_cut : (log : List Fact) → IsSound log → (c d : CutData) → Contains (cuts log) c → Contains (cuts log) d → c.epoch ≡ d.epoch → c ≡ d
-same_cut log sound c d hc hd e = let q : Cut c ≡ Cut d = same_fact log (Cut c) (Cut d) sound ((cut_in log c).0 hc) ((cut_in log d).0 hd) e in cc
+pub same_cut : (roster : ℕ) (log : List Fact) → IsSound roster log → (c d : CutData) → Contains (cuts log) c → Contains (cuts log) d → c.epoch ≡ d.epoch → c ≡ d
+same_cut roster log sound c d hc hd e = let q : Cut c ≡ Cut d = same_fact roster log (Cut c) (Cut d) sound ((cut_in log c).0 hc) ((cut_in log d).0 hd) e in cc
 
 -- the truncations that count are all of them
 pub first_within : (cs : List CutData) (c : CutData) → Contains (first_cuts cs) c → Contains cs c
@@ -81,12 +81,12 @@ first_of_epoch (b ∷ bs) c h =
     (s.0, there b _ s.0 (passed (λ x. not (x.epoch == b.epoch)) (first_cuts bs) s.0 (let ne : s.0.epoch ≢ b.epoch = λ q. no (sym q ∙ s.2) in grind (arith, nat_tests)) s.1), s.2))
     (let t : (b.epoch ≡ c.epoch) ⊎ (b.epoch ≢ c.epoch) = grind arith in t)
 
-pub counted_in : (log : List Fact) → IsSound log → (c : CutData) → Contains (counted log) c ↔ Contains (cuts log) c
+pub counted_in : (roster : ℕ) (log : List Fact) → IsSound roster log → (c : CutData) → Contains (counted log) c ↔ Contains (cuts log) c
 unfolding counted
-counted_in log sound c = (
+counted_in roster log sound c = (
   first_within (cuts log) c,
   λ h. let s = first_of_epoch (cuts log) c h in
-      let q : s.0 ≡ c = same_cut log sound s.0 c (first_within (cuts log) s.0 s.1) h s.2 in
+      let q : s.0 ≡ c = same_cut roster log sound s.0 c (first_within (cuts log) s.0 s.1) h s.2 in
       subst (Contains (first_cuts (cuts log))) q s.1,
 )
 

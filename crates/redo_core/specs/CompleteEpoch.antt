@@ -1,5 +1,5 @@
 -- The complete epoch: the last one up to which every truncation is known.
-use Rattle.std.specs.Prelude.{◌≡◌, ℕ, ◌≤◌, List}
+use Rattle.std.specs.Prelude.{◌≡◌, ◌≢◌, ℕ, ◌≤◌, List}
 use Rattle.std.specs.List.{Contains}
 use Rattle.redo_core.specs.Data.{CutData}
 use Rattle.redo_core.specs.Order.{IsGreatest}
@@ -11,3 +11,7 @@ HasCutsTo cs k = (e : ℕ) → 1 ≤ e → e ≤ k → (c : CutData) × Contains
 -- k is the complete epoch
 abbrev pub IsCompleteEpoch : List CutData → ℕ → Type 0
 IsCompleteEpoch cs k = IsGreatest (HasCutsTo cs) k
+
+-- no truncation of this epoch is there
+abbrev pub LacksCut : List CutData → ℕ → Type 0
+LacksCut cs epoch = (d : CutData) → Contains cs d → d.epoch ≢ epoch

@@ -7,12 +7,12 @@ use Rattle.redo_core.specs.declared.laws.Law.{Law}
 use Rattle.redo_core.specs.declared.laws.Law.TheVariants.{OneFactPerKey, EpochBegun, SegmentBacklink, BlockBacklink, AdvanceKept}
 
 -- the fact at a place (from 0) keeps a law
-abbrev pub KeepsLaw : List Fact → ℕ → Fact → Law → Type 0
-KeepsLaw log place fact OneFactPerKey = Law1 (take place log) fact
-KeepsLaw log place fact EpochBegun = Law2 log fact
-KeepsLaw log place fact SegmentBacklink = Law3 log fact
-KeepsLaw log place fact BlockBacklink = Law4 log fact
-KeepsLaw log place fact AdvanceKept = Law5 log fact
+abbrev pub KeepsLaw : ℕ → List Fact → ℕ → Fact → Law → Type 0
+KeepsLaw roster log place fact OneFactPerKey = Law1 (take place log) fact
+KeepsLaw roster log place fact EpochBegun = Law2 log fact
+KeepsLaw roster log place fact SegmentBacklink = Law3 log fact
+KeepsLaw roster log place fact BlockBacklink = Law4 log fact
+KeepsLaw roster log place fact AdvanceKept = Law5 roster log fact
 
 -- the laws of lower numbers
 abbrev pub lower_laws : Law → List Law
@@ -31,9 +31,9 @@ number_of BlockBacklink = 4
 number_of AdvanceKept = 5
 
 -- the place (from 0) is the least that breaks a law, and the law is the least that it breaks
-pub record IsFirstFault (log : List Fact) (place : ℕ) (law : Law) : Type 0 where
+pub record IsFirstFault (roster : ℕ) (log : List Fact) (place : ℕ) (law : Law) : Type 0 where
   pub fact : Fact
   pub at_place : slice_get log place ≡ Some fact
-  pub breaks : KeepsLaw log place fact law → ⊥
-  pub lower : AllByRecursion (KeepsLaw log place fact) (lower_laws law)
-  pub before : (earlier : ℕ) (f : Fact) → earlier < place → slice_get log earlier ≡ Some f → KeepsLaws log earlier f
+  pub breaks : KeepsLaw roster log place fact law → ⊥
+  pub lower : AllByRecursion (KeepsLaw roster log place fact) (lower_laws law)
+  pub before : (earlier : ℕ) (f : Fact) → earlier < place → slice_get log earlier ≡ Some f → KeepsLaws roster log earlier f

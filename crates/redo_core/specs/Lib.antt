@@ -1,4 +1,6 @@
+pub mod Writes
 pub mod Data
+pub mod Body
 pub mod Shape
 pub mod Writing
 pub mod Sets
@@ -6,6 +8,9 @@ pub mod Order
 pub mod CompleteEpoch
 pub mod Standing
 pub mod Linked
+pub mod Roster
+pub mod Points
+pub mod Past
 pub mod Position
 pub mod PageAt
 pub mod Answer
@@ -14,3 +19,6 @@ pub mod Fault
 pub mod Meaning
 pub mod AtMost
 pub mod LogFront
+pub mod Book
+pub mod Knowing
+pub mod Learning

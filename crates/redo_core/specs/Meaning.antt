@@ -18,10 +18,10 @@ pub record ImageData : Type 0 where
 abbrev pub ImageBefore : ImageData → ImageData → Type 0
 ImageBefore i j = i.page < j.page
 
--- the truncations, the minimum read point with the waiting advances, the anchor, the nonzero pages there, the kept records
+-- the truncations, each reader's point with the waiting advances, the anchor, the nonzero pages there, the kept records
 pub record Meaning : Type 0 where
   pub cuts : List CutData
-  pub min : ℕ
+  pub points : List ℕ
   pub waits : List AdvanceData
   pub anchor : ℕ
   pub pages : List ImageData
@@ -32,14 +32,14 @@ abbrev pub IsKept : List Fact → Position → RecordData → Type 0
 IsKept facts p r = Contains (records facts) r × (IsWaiting p.epoch r.epoch ⊎ (IsAlive (cuts facts) p.epoch r.epoch r.number × (p.anchor < r.number)))
 
 -- m is the meaning of facts that stand at p
-pub record IsMeaningAt (facts : List Fact) (p : Position) (m : Meaning) : Type 0 where
-  pub position : IsPosition facts p
+pub record IsMeaningAt (roster : ℕ) (facts : List Fact) (p : Position) (m : Meaning) : Type 0 where
+  pub position : IsPosition roster facts p
   pub cuts : Lists CutBefore (Contains (cuts facts)) m.cuts
-  pub min : m.min ≡ p.min
+  pub points : m.points ≡ p.points
   pub waits : Lists AdvanceBefore (λ a. Contains (advances facts) a × (p.epoch < a.epoch)) m.waits
   pub anchor : m.anchor ≡ p.anchor
   pub pages : Lists ImageBefore (λ i. IsPageAt facts p.epoch i.page p.anchor i.bytes × (i.bytes ≢ zeros)) m.pages
   pub kept : Lists RecordBefore (IsKept facts p) m.kept
 
-abbrev pub IsMeaning : List Fact → Meaning → Type 0
-IsMeaning facts m = (p : Position) × IsMeaningAt facts p m
+abbrev pub IsMeaning : ℕ → List Fact → Meaning → Type 0
+IsMeaning roster facts m = (p : Position) × IsMeaningAt roster facts p m

@@ -17,6 +17,11 @@ pub record Lists {X : Type 0} (Before : X → X → Type 0) (P : X → Type 0) (
   pub rising : IsRising Before xs
   pub members : (x : X) → Contains xs x ↔ P x
 
+-- x is the first of the things with P
+pub record IsFirst {X : Type 0} (Before : X → X → Type 0) (P : X → Type 0) (x : X) : Type 0 where
+  pub has : P x
+  pub least : (y : X) → P y → (y ≡ x) ⊎ Before x y
+
 -- the pair (a, b) is before (c, d)
 abbrev pub PairBefore : ℕ → ℕ → ℕ → ℕ → Type 0
 PairBefore a b c d = (a < c) ⊎ ((a ≡ c) × (b < d))
@@ -25,9 +30,9 @@ PairBefore a b c d = (a < c) ⊎ ((a ≡ c) × (b < d))
 abbrev pub CutBefore : CutData → CutData → Type 0
 CutBefore c d = c.epoch < d.epoch
 
--- advances by epoch, then point
+-- advances by epoch, then reader, then point
 abbrev pub AdvanceBefore : AdvanceData → AdvanceData → Type 0
-AdvanceBefore a b = PairBefore a.epoch a.point b.epoch b.point
+AdvanceBefore a b = (a.epoch < b.epoch) ⊎ ((a.epoch ≡ b.epoch) × PairBefore a.reader a.point b.reader b.point)
 
 -- records by key: epoch, then number
 abbrev pub RecordBefore : RecordData → RecordData → Type 0

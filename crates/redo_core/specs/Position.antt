@@ -1,26 +1,24 @@
--- Where a set of facts stands: its complete epoch, complete point, minimum read point and anchor.
+-- Where a set of facts stands: its complete epoch, complete point, readers' points, minimum read point and anchor.
 use Rattle.std.specs.Prelude.{◌≡◌, ℕ, ◌≤◌, List}
-use Rattle.std.specs.List.{Contains}
-use Rattle.redo_core.specs.Data.{AdvanceData}
 use Rattle.redo_core.specs.Sets.{cuts, advances}
 use Rattle.redo_core.specs.Order.{IsGreatest}
 use Rattle.redo_core.specs.CompleteEpoch.{IsCompleteEpoch}
 use Rattle.redo_core.specs.Linked.{IsLinked}
+use Rattle.redo_core.specs.Roster.{least}
+use Rattle.redo_core.specs.Points.{ArePoints}
 use Rattle.redo_core.specs.declared.facts.Fact.{Fact}
-
--- an advance of an epoch up to k has this point; advances of later epochs wait
-abbrev pub HasAdvance : List AdvanceData → ℕ → ℕ → Type 0
-HasAdvance given k point = (a : AdvanceData) × Contains given a × (a.epoch ≤ k) × (a.point ≡ point)
 
 pub record Position : Type 0 where
   pub epoch : ℕ
   pub complete : ℕ
+  pub points : List ℕ
   pub min : ℕ
   pub anchor : ℕ
 
--- the complete epoch, the greatest linked number, the greatest point that counts, and the greatest linked number up to that point
-pub record IsPosition (facts : List Fact) (p : Position) : Type 0 where
+-- the complete epoch, the greatest linked number, each reader's point, the least of these, and the greatest linked number up to it
+pub record IsPosition (roster : ℕ) (facts : List Fact) (p : Position) : Type 0 where
   pub epoch : IsCompleteEpoch (cuts facts) p.epoch
   pub complete : IsGreatest (IsLinked facts p.epoch) p.complete
-  pub min : IsGreatest (HasAdvance (advances facts) p.epoch) p.min
+  pub points : ArePoints roster (advances facts) p.epoch p.points
+  pub min : p.min ≡ least p.points
   pub anchor : IsGreatest (λ n. IsLinked facts p.epoch n × (n ≤ p.min)) p.anchor

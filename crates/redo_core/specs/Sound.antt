@@ -3,10 +3,12 @@ use Rattle.std.specs.Prelude.{◌≡◌, ℕ, ◌<◌, ◌≤◌, not, ◌==◌,
 use Rattle.std.specs.List.{Contains, filter}
 use Rattle.redo_core.specs.Data.{RecordData, CutData}
 use Rattle.redo_core.specs.Shape.{record_fault, cut_fault, advance_fault}
-use Rattle.redo_core.specs.Sets.{records, cuts}
+use Rattle.redo_core.specs.Sets.{records, cuts, advances}
 use Rattle.redo_core.specs.Order.{IsGreatest}
 use Rattle.redo_core.specs.CompleteEpoch.{HasCutsTo}
 use Rattle.redo_core.specs.Standing.{IsAlive}
+use Rattle.redo_core.specs.Roster.{IsRoster, IsReader}
+use Rattle.redo_core.specs.Past.{ArePast}
 use Rattle.redo_core.specs.declared.facts.Fact.{Fact}
 use Rattle.redo_core.specs.declared.facts.Fact.TheVariants.{Record, Cut, Advance}
 
@@ -68,20 +70,25 @@ Law4 log (Record r) = IsGreatest (IsAliveBelow log r (λ s. s.page ≡ r.page)) 
 Law4 log (Cut c) = Unit {0}
 Law4 log (Advance a) = Unit {0}
 
--- Law 5: an advance's epoch has begun, and no later truncation has its lo below the point.
-abbrev pub Law5 : List Fact → Fact → Type 0
-Law5 log (Record r) = Unit {0}
-Law5 log (Cut c) = Unit {0}
-Law5 log (Advance a) = HasCutsTo (counted log) a.epoch × ((c : CutData) → Contains (counted log) c → a.epoch < c.epoch → a.point ≤ c.lo)
+-- Law 5: an advance's reader is of the roster, its epoch has begun, and no later truncation that all readers are past has its lo
+-- below the point.
+abbrev pub Law5 : ℕ → List Fact → Fact → Type 0
+Law5 roster log (Record r) = Unit {0}
+Law5 roster log (Cut c) = Unit {0}
+Law5 roster log (Advance a) =
+    IsReader roster a.reader × HasCutsTo (counted log) a.epoch
+    × ((c : CutData) → Contains (counted log) c → a.epoch < c.epoch → ArePast roster (advances log) c → a.point ≤ c.lo)
 
 -- the fact at a place (from 0) keeps the laws
-pub record KeepsLaws (log : List Fact) (place : ℕ) (fact : Fact) : Type 0 where
+pub record KeepsLaws (roster : ℕ) (log : List Fact) (place : ℕ) (fact : Fact) : Type 0 where
   pub shape : HasShape fact
   pub law1 : Law1 (take place log) fact
   pub law2 : Law2 log fact
   pub law3 : Law3 log fact
   pub law4 : Law4 log fact
-  pub law5 : Law5 log fact
+  pub law5 : Law5 roster log fact
 
-abbrev pub IsSound : List Fact → Type 0
-IsSound log = (place : ℕ) (fact : Fact) → slice_get log place ≡ Some fact → KeepsLaws log place fact
+-- a log of a roster is sound where the fact at each place keeps the laws
+pub record IsSound (roster : ℕ) (log : List Fact) : Type 0 where
+  pub readers : IsRoster roster
+  pub keeps : (place : ℕ) (fact : Fact) → slice_get log place ≡ Some fact → KeepsLaws roster log place fact

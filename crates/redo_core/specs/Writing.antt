@@ -1,25 +1,33 @@
 -- What a redo record does to a page.
-use Rattle.std.specs.Prelude.{ℕ, ◌+◌, List, [], ◌∷◌, ◌++◌, length, take, drop, replicate}
-use Rattle.redo_core.specs.Data.{WriteData, RecordData}
+use Rattle.std.specs.Prelude.{ℕ, ◌+◌, List, [], ◌∷◌, ◌++◌, length, take, drop, replicate, if◌then◌else◌}
+use Rattle.redo_core.specs.Data.{RecordData}
+use Rattle.redo_core.specs.Shape.{page_len}
+use Rattle.redo_core.specs.declared.patches.Patch.{Patch}
+use Rattle.redo_core.specs.declared.patches.Patch.TheVariants.{Bytes, Fill}
 
--- the page with the bytes of one write in their place
-abbrev pub with_write : List ℕ → WriteData → List ℕ
-with_write page w = take w.offset page ++ w.bytes ++ drop (w.offset + length w.bytes) page
+-- the page with bytes in their place, from an offset on
+abbrev pub with_bytes : List ℕ → ℕ → List ℕ → List ℕ
+with_bytes page offset bytes = take offset page ++ bytes ++ drop (offset + length bytes) page
 
--- the page after writes in listed order, later over earlier
-abbrev pub with_writes : List ℕ → List WriteData → List ℕ
-with_writes page [] = page
-with_writes page (w ∷ ws) = with_writes (with_write page w) ws
+-- the page with one patch: a write's bytes, or one byte over a length
+abbrev pub with_patch : List ℕ → Patch → List ℕ
+with_patch page (Bytes w) = with_bytes page w.offset w.bytes
+with_patch page (Fill offset len byte) = with_bytes page offset (replicate len byte)
 
--- the page after a record
+-- the page after patches in listed order, later over earlier
+abbrev pub with_patches : List ℕ → List Patch → List ℕ
+with_patches page [] = page
+with_patches page (p ∷ ps) = with_patches (with_patch page p) ps
+
+-- the page that nothing was written to
+unfoldable pub zeros : List ℕ
+zeros = replicate page_len 0
+
+-- the page after a record, which with `init` starts from zeros
 abbrev pub write : List ℕ → RecordData → List ℕ
-write page r = with_writes page r.writes
+write page r = with_patches (if r.init then zeros else page) r.patches
 
 -- the page after records, in order
 abbrev pub after_records : List ℕ → List RecordData → List ℕ
 after_records page [] = page
 after_records page (r ∷ rs) = after_records (write page r) rs
-
--- the page that nothing was written to
-unfoldable pub zeros : List ℕ
-zeros = replicate 4096 0

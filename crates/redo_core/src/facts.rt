@@ -19,11 +19,7 @@ impl Fact {
     pub fn copy(&self) -> Result<Self, AllocError>
         ensures { IfOk result (λ f. f ≡ self.now) }
     {
-        match self {
-            Fact::Record(redo) => Ok(Fact::Record(redo.copy()?)),
-            Fact::Cut(cut) => Ok(Fact::Cut(*cut)),
-            Fact::Advance(advance) => Ok(Fact::Advance(*advance)),
-        }
+        self.clone()
     }
 
     /// Whether the other fact is this one.
@@ -35,6 +31,18 @@ impl Fact {
             (Fact::Cut(one), Fact::Cut(two)) => *one == *two,
             (Fact::Advance(one), Fact::Advance(two)) => *one == *two,
             _ => false,
+        }
+    }
+}
+
+impl Clone for Fact {
+    ghost is_clone = { λ f copied. copied ≡ f };
+
+    fn clone(&self) -> Result<Self, AllocError> {
+        match self {
+            Fact::Record(redo) => Ok(Fact::Record(redo.clone()?)),
+            Fact::Cut(cut) => Ok(Fact::Cut(*cut)),
+            Fact::Advance(advance) => Ok(Fact::Advance(*advance)),
         }
     }
 }

@@ -12,7 +12,7 @@ pub enum Law {
     SegmentBacklink,
     /// The block backlink is the same over the records of its page.
     BlockBacklink,
-    /// An advance's epoch has begun, and no later truncation cuts below its point.
+    /// An advance's reader is of the roster, its epoch has begun, and no later truncation that all readers are past cuts below its point.
     AdvanceKept,
 }
 

@@ -1,4 +1,4 @@
-//! Facts of a redo log (records, truncations, advances of the minimum read point), pages, and the definitions of what a set
+//! Facts of a redo log (records, truncations, advances of readers' points), pages, and the definitions of what a set
 //! of facts means.
 //!
 //! Every value of a fact's type has its shape, so no code above tests it again. `apply` is what a record does to a page.
@@ -6,12 +6,16 @@
 #![tactic(auto)]
 
 mod advances;
+mod contents;
 mod cuts;
 mod facts;
 mod laws;
 mod pages;
+mod patches;
+mod read_points;
 mod records;
 mod refusal;
+mod rosters;
 mod shapes;
 #[cfg(test)]
 mod tests;
@@ -21,8 +25,13 @@ pub use advances::Advance;
 pub use cuts::Cut;
 pub use facts::Fact;
 pub use laws::{Law, LawFault};
-pub use pages::{PAGE_LEN, Page, apply};
+pub use pages::{Page, apply};
+pub use patches::{Body, Patch};
+pub use read_points::ReadPoints;
 pub use records::Record;
 pub use refusal::Refused;
-pub use shapes::{MAX_NUMBER, ShapeFault};
+pub use rosters::Roster;
+pub use shapes::{
+    EPOCH_COUNT, MAX_BYTES, MAX_NUMBER, MAX_PATCHES, MAX_READERS, PAGE_LEN, ShapeFault,
+};
 pub use writes::Write;

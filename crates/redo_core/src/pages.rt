@@ -1,15 +1,15 @@
 ghost use Rattle.std.specs.Prelude.{◌≡◌, ◌≤◌, ◌+◌, ◌↔◌, false, length, IsTrue, IfOk};
 ghost use Rattle.std.specs.List.{list_any};
-ghost use Rattle.redo_core.specs.Shape.{is_off_page};
-ghost use Rattle.redo_core.specs.Writing.{write, with_write, with_writes, zeros};
+ghost use Rattle.redo_core.specs.Data.{plain};
+ghost use Rattle.redo_core.specs.Shape.{is_off_page, is_patch_off_page, page_len};
+ghost use Rattle.redo_core.specs.Writing.{write, with_bytes, with_patch, with_patches, zeros};
 
+use crate::patches::{Body, Patch};
 use crate::records::Record;
+use crate::shapes::PAGE_LEN;
 use crate::writes::Write;
 use std::alloc::{AllocError, Global};
 use std::marker::Model;
-
-/// The length of every page, in bytes.
-pub const PAGE_LEN: usize = 4096;
 
 /// A page of 4,096 bytes.
 #[derive(Debug, Drop)]
@@ -19,12 +19,13 @@ pub struct Page {
 
 impl Model for Page {
     ghost use Rattle.std.specs.Prelude.{◌≡◌, List, ℕ, length};
+    ghost use Rattle.redo_core.specs.Shape.{page_len};
 
     ghost Value = { List ℕ };
 
     ghost view = { λ p. p.bytes.items };
 
-    ghost invariant = { λ p. length p.bytes.items ≡ 4096 };
+    ghost invariant = { λ p. length p.bytes.items ≡ page_len };
 }
 
 impl Page {
@@ -33,13 +34,13 @@ impl Page {
     pub fn zeros(alloc: Global) -> Result<Self, AllocError>
         ensures { IfOk result (λ p. p ≡ zeros) }
     {
-        let bytes = vec![in alloc; 0; 4096]?;
+        let bytes = vec![in alloc; 0; PAGE_LEN]?;
         Ok(Page { bytes })
     }
 
     /// The page of these bytes.
     pub fn new(bytes: Vec<u8>) -> Self
-        requires { length bytes.items ≡ 4096 }
+        requires { length bytes.items ≡ page_len }
         ensures { result ≡ bytes.items }
     {
         Page { bytes }
@@ -47,7 +48,7 @@ impl Page {
 
     pub fn bytes(&self) -> &[u8]
         ensures bytes { result.now ≡ self.now }
-        ensures len { length self.now ≡ 4096 }
+        ensures len { length self.now ≡ page_len }
     {
         &self.bytes
     }
@@ -56,9 +57,7 @@ impl Page {
     pub fn copy(&self) -> Result<Self, AllocError>
         ensures { IfOk result (λ p. p ≡ self.now) }
     {
-        Ok(Page {
-            bytes: self.bytes.clone()?,
-        })
+        self.clone()
     }
 
     /// Whether no byte of the page differs from zero.
@@ -69,9 +68,19 @@ impl Page {
     }
 }
 
+impl Clone for Page {
+    ghost is_clone = { λ p copied. copied ≡ p };
+
+    fn clone(&self) -> Result<Self, AllocError> {
+        Ok(Page {
+            bytes: self.bytes.clone()?,
+        })
+    }
+}
+
 #[tactic(auto, unfolding(crate::specs::Writing::zeros))]
 fn is_zero_to_end(bytes: &[u8]) -> bool
-    requires { length bytes.now ≡ 4096 }
+    requires { length bytes.now ≡ page_len }
     ensures { IsTrue result ↔ (bytes.now ≡ zeros) }
 {
     for b in bytes {
@@ -82,17 +91,57 @@ fn is_zero_to_end(bytes: &[u8]) -> bool
     true
 }
 
-/// Puts a record's writes into a page, in listed order: how a segment folds its log into pages.
+/// Does a record to a page, patch by patch in listed order: how a segment folds its log into pages.
 pub fn apply(redo: &Record, page: &mut Page)
     ensures { page.new ≡ write page.old redo.now }
 {
-    put_all(&mut page.bytes, redo.writes());
+    if redo.init() {
+        clear(&mut page.bytes);
+    }
+    match redo.body() {
+        Body::Writes(writes) => put_all(&mut page.bytes, writes),
+        Body::Patches(patches) => patch_all(&mut page.bytes, patches),
+    }
+}
+
+#[tactic(auto, unfolding(crate::specs::Writing::zeros))]
+fn clear(page: &mut [u8])
+    requires { length page.old ≡ page_len }
+    ensures { page.new ≡ zeros }
+{
+    for i in 0..PAGE_LEN {
+        page[i] = 0;
+    }
+}
+
+fn patch_all(page: &mut [u8], patches: &[Patch])
+    requires page { length page.old ≡ page_len }
+    requires inside { list_any is_patch_off_page patches.now ≡ false }
+    ensures { page.new ≡ with_patches page.old patches.now }
+{
+    for p in patches {
+        put_patch(page, p);
+    }
+}
+
+fn put_patch(page: &mut [u8], p: &Patch)
+    requires page { length page.old ≡ page_len }
+    requires inside { is_patch_off_page p.now ≡ false }
+    ensures { page.new ≡ with_patch page.old p.now }
+{
+    match p {
+        Patch::Bytes(w) => put(page, w),
+        Patch::Fill { offset, len, byte } => {
+            let start = *offset as usize;
+            page[start..start + *len as usize].fill(*byte);
+        }
+    }
 }
 
 fn put_all(page: &mut [u8], writes: &[Write])
-    requires page { length page.old ≡ 4096 }
+    requires page { length page.old ≡ page_len }
     requires inside { list_any is_off_page writes.now ≡ false }
-    ensures { page.new ≡ with_writes page.old writes.now }
+    ensures { page.new ≡ with_patches page.old (plain writes.now) }
 {
     for w in writes {
         put(page, w);
@@ -100,9 +149,9 @@ fn put_all(page: &mut [u8], writes: &[Write])
 }
 
 fn put(page: &mut [u8], w: &Write)
-    requires page { length page.old ≡ 4096 }
-    requires inside { w.now.offset + length w.now.bytes ≤ 4096 }
-    ensures { page.new ≡ with_write page.old w.now }
+    requires page { length page.old ≡ page_len }
+    requires inside { w.now.offset + length w.now.bytes ≤ page_len }
+    ensures { page.new ≡ with_bytes page.old w.now.offset w.now.bytes }
 {
     let start = w.offset() as usize;
     let bytes = w.bytes();

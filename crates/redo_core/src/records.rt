@@ -1,15 +1,19 @@
-ghost use Rattle.std.specs.Prelude.{◌≡◌, ℕ, ◌<◌, ◌≤◌, ◌↔◌, false, length, IsTrue, IfOk, IfErr, None, Some};
-ghost use Rattle.std.specs.List.{list_any, sum_by};
-ghost use Rattle.redo_core.specs.Data.{record_of};
-ghost use Rattle.redo_core.specs.Shape.{record_fault, max_number, is_empty, is_off_page};
+ghost use Rattle.std.specs.Prelude.{◌≡◌, ℕ, Bool, List, ◌<◌, ◌≤◌, ◌↔◌, IsTrue, IfOk, IfErr, None, Some};
+ghost use Rattle.redo_core.specs.Data.{record_with, record_of};
+ghost use Rattle.redo_core.specs.Body.{patches_of};
+ghost use Rattle.redo_core.specs.Shape.{record_fault, patches_fault, max_number};
+ghost use Rattle.redo_core.specs.declared.patches.Patch.{Patch};
 
+use crate::contents::{patches_fault, writes_fault};
+use crate::patches::{Body, Patch};
 use crate::refusal::Refused;
 use crate::shapes::{MAX_NUMBER, ShapeFault};
 use crate::writes::Write;
 use std::alloc::AllocError;
 use std::marker::Model;
 
-/// A redo record: writes to one page, with a number, a backlink in the segment's chain and one in the page's.
+/// A redo record: patches to one page, with a number, a backlink in the segment's chain and one in the page's.
+/// With `init` its page begins anew, whatever was written to it before.
 #[derive(Debug, Drop)]
 pub struct Record {
     epoch: u16,
@@ -17,19 +21,21 @@ pub struct Record {
     back: u64,
     page: u16,
     block_back: u64,
-    writes: Vec<Write>,
+    init: bool,
+    body: Body,
 }
 
 impl Model for Record {
     ghost use Rattle.std.specs.Prelude.{◌≡◌, None};
-    ghost use Rattle.redo_core.specs.Data.{RecordData, record_of};
+    ghost use Rattle.redo_core.specs.Data.{RecordData, record_with};
+    ghost use Rattle.redo_core.specs.Body.{patches_of};
     ghost use Rattle.redo_core.specs.Shape.{record_fault};
 
     ghost Value = { RecordData };
 
-    ghost view = { λ r. record_of r.epoch r.number r.back r.page r.block_back r.writes.items };
+    ghost view = { λ r. record_with r.epoch r.number r.back r.page r.block_back r.init (patches_of r.body) };
 
-    ghost invariant = { λ r. record_fault (record_of r.epoch r.number r.back r.page r.block_back r.writes.items) ≡ None };
+    ghost invariant = { λ r. record_fault (record_with r.epoch r.number r.back r.page r.block_back r.init (patches_of r.body)) ≡ None };
 }
 
 impl Record {
@@ -48,7 +54,7 @@ impl Record {
         ensures fault { let given = record_of epoch number back page block_back writes.items in
             IfErr result (λ e. (e.value ≡ writes) × (record_fault given ≡ Some e.fault)) }
     {
-        match first_fault(number, back, block_back, &writes) {
+        match Record::shape_fault(number, back, block_back, &writes) {
             Some(fault) => Err(Refused {
                 value: writes,
                 fault,
@@ -59,9 +65,54 @@ impl Record {
                 back,
                 page,
                 block_back,
-                writes,
+                init: false,
+                body: Body::Writes(writes),
             }),
         }
+    }
+
+    /// The same of a record with patches, which with `init` begins its page anew.
+    pub fn with(
+        epoch: u16,
+        number: u64,
+        back: u64,
+        page: u16,
+        block_back: u64,
+        init: bool,
+        patches: Vec<Patch>,
+    ) -> Result<Self, Refused<Vec<Patch>, ShapeFault>>
+        ensures ok { let given = record_with epoch number back page block_back init patches.items in
+            IfOk result (λ r. (r ≡ given) × (record_fault given ≡ None)) }
+        ensures fault { let given = record_with epoch number back page block_back init patches.items in
+            IfErr result (λ e. (e.value ≡ patches) × (record_fault given ≡ Some e.fault)) }
+    {
+        match first_fault(number, back, block_back, patches_fault(&patches)) {
+            Some(fault) => Err(Refused {
+                value: patches,
+                fault,
+            }),
+            None => Ok(Record {
+                epoch,
+                number,
+                back,
+                page,
+                block_back,
+                init,
+                body: Body::Patches(patches),
+            }),
+        }
+    }
+
+    /// The first fault of the shape that a record of these numbers and writes would have.
+    pub fn shape_fault(
+        number: u64,
+        back: u64,
+        block_back: u64,
+        writes: &[Write],
+    ) -> Option<ShapeFault>
+        ensures { (epoch page : ℕ) → result ≡ record_fault (record_of epoch number back page block_back writes.now) }
+    {
+        first_fault(number, back, block_back, writes_fault(writes))
     }
 
     pub fn epoch(&self) -> u16
@@ -102,28 +153,29 @@ impl Record {
         self.block_back
     }
 
-    pub fn writes(&self) -> &[Write]
-        ensures writes { result.now ≡ self.now.writes }
+    /// Whether the record begins its page anew.
+    pub fn init(&self) -> bool
+        ensures { result ≡ self.now.init }
+    {
+        self.init
+    }
+
+    /// The patches, in the order in which they are done.
+    pub fn body(&self) -> &Body
+        ensures patches { patches_of result.now ≡ self.now.patches }
         ensures shape { record_fault self.now ≡ None }
     {
-        &self.writes
+        &self.body
     }
 
     /// An equal record with memory of its own. Its only error is want of memory.
     pub fn copy(&self) -> Result<Self, AllocError>
         ensures { IfOk result (λ r. r ≡ self.now) }
     {
-        Ok(Record {
-            epoch: self.epoch,
-            number: self.number,
-            back: self.back,
-            page: self.page,
-            block_back: self.block_back,
-            writes: copies(&self.writes)?,
-        })
+        self.clone()
     }
 
-    /// Whether the other record is this one, byte by byte and write by write.
+    /// Whether the other record is this one, patch by patch: a fill is another patch than a write of equal bytes.
     pub fn is_same(&self, other: &Record) -> bool
         ensures { IsTrue result ↔ (self.now ≡ other.now) }
     {
@@ -132,36 +184,34 @@ impl Record {
             && self.back == other.back
             && self.page == other.page
             && self.block_back == other.block_back
-            && are_same(&self.writes, &other.writes)
+            && self.init == other.init
+            && self.body.is_same(&other.body)
     }
 }
 
-fn copies(writes: &Vec<Write>) -> Result<Vec<Write>, AllocError>
-    ensures { IfOk result (λ v. v.items ≡ writes.now.items) }
-{
-    let mut copied = Vec::new(*writes.allocator());
-    for w in writes {
-        copied.push(w.copy()?)?;
+impl Clone for Record {
+    ghost is_clone = { λ r copied. copied ≡ r };
+
+    fn clone(&self) -> Result<Self, AllocError> {
+        Ok(Record {
+            epoch: self.epoch,
+            number: self.number,
+            back: self.back,
+            page: self.page,
+            block_back: self.block_back,
+            init: self.init,
+            body: self.body.copy()?,
+        })
     }
-    Ok(copied)
 }
 
-fn are_same(left: &[Write], right: &[Write]) -> bool
-    ensures { IsTrue result ↔ (left.now ≡ right.now) }
-{
-    if left.len() != right.len() {
-        return false;
-    }
-    for (i, w) in left.iter().enumerate() {
-        if !w.is_same(&right[i]) {
-            return false;
-        }
-    }
-    true
-}
-
-fn first_fault(number: u64, back: u64, block_back: u64, writes: &[Write]) -> Option<ShapeFault>
-    ensures { (epoch page : ℕ) → result ≡ record_fault (record_of epoch number back page block_back writes.now) }
+fn first_fault(
+    number: u64,
+    back: u64,
+    block_back: u64,
+    contents: Option<ShapeFault>,
+) -> Option<ShapeFault>
+    ensures { (epoch page : ℕ) (init : Bool) (patches : List Patch) → patches_fault patches ≡ contents → result ≡ record_fault (record_with epoch number back page block_back init patches) }
 {
     if number == 0 {
         return Some(ShapeFault::NumberIsZero);
@@ -172,44 +222,11 @@ fn first_fault(number: u64, back: u64, block_back: u64, writes: &[Write]) -> Opt
     if block_back > back {
         return Some(ShapeFault::BlockBackAbove);
     }
-    if writes.len() > 64 {
-        return Some(ShapeFault::ManyWrites);
-    }
-    if has_empty(writes) {
-        return Some(ShapeFault::EmptyWrite);
-    }
-    if has_off_page(writes) {
-        return Some(ShapeFault::OffPage);
-    }
-    if bytes_of(writes) > 8192 {
-        return Some(ShapeFault::ManyBytes);
+    if contents.is_some() {
+        return contents;
     }
     if number > MAX_NUMBER {
         return Some(ShapeFault::TooLarge);
     }
     None
-}
-
-fn has_empty(writes: &[Write]) -> bool
-    ensures { result ≡ list_any is_empty writes.now }
-{
-    writes.iter().any(|w| w.bytes().len() == 0)
-}
-
-fn has_off_page(writes: &[Write]) -> bool
-    ensures { result ≡ list_any is_off_page writes.now }
-{
-    writes.iter().any(|w| w.bytes().len() > 4096 || w.offset() as usize + w.bytes().len() > 4096)
-}
-
-fn bytes_of(writes: &[Write]) -> usize
-    requires few { length writes.now ≤ 64 }
-    requires inside { list_any is_off_page writes.now ≡ false }
-    ensures { result ≡ sum_by (λ w. length w.bytes) writes.now }
-{
-    let mut total = 0;
-    for w in writes {
-        total += w.bytes().len();
-    }
-    total
 }

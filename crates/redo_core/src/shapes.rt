@@ -1,9 +1,24 @@
 use thiserror::Error;
 
-/// The greatest number, point and `hi` of a fact: 2^48 - 1.
+/// The greatest log sequence number, point and `hi` of a fact: 2^48 - 1.
 pub const MAX_NUMBER: u64 = 281474976710655;
 
-/// The first fault of a record, a truncation or an advance, in the order in which faults are looked for.
+/// The most readers that a roster has.
+pub const MAX_READERS: u8 = 15;
+
+/// How many epochs there are: 0 to 65,535.
+pub const EPOCH_COUNT: usize = 65536;
+
+/// The length of every page, in bytes.
+pub const PAGE_LEN: usize = 4096;
+
+/// The most patches that a record has.
+pub const MAX_PATCHES: usize = 64;
+
+/// The most bytes that the writes of a record bring together. Fills bring none.
+pub const MAX_BYTES: usize = 8192;
+
+/// The first fault of a record, a truncation, an advance or a roster, in the order in which faults are looked for.
 #[derive(Clone, Copy, Debug, PartialEq, Eq, Error)]
 pub enum ShapeFault {
     #[error("the number or point is zero")]
@@ -26,4 +41,8 @@ pub enum ShapeFault {
     LoAboveHi,
     #[error("a number above 2^48 - 1")]
     TooLarge,
+    #[error("a reader outside 1 to 15")]
+    NoSuchReader,
+    #[error("a roster of no readers, or of more than 15")]
+    RosterSize,
 }

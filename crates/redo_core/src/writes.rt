@@ -12,7 +12,7 @@ pub struct Write {
 }
 
 impl Model for Write {
-    ghost use Rattle.redo_core.specs.Data.{WriteData};
+    ghost use Rattle.redo_core.specs.Writes.{WriteData};
 
     ghost Value = { WriteData };
 
@@ -44,15 +44,23 @@ impl Write {
     pub fn copy(&self) -> Result<Self, AllocError>
         ensures { IfOk result (λ w. w ≡ self.now) }
     {
-        Ok(Write {
-            offset: self.offset,
-            bytes: self.bytes.clone()?,
-        })
+        self.clone()
     }
 
     pub fn is_same(&self, other: &Write) -> bool
         ensures { IsTrue result ↔ (self.now ≡ other.now) }
     {
         self.offset == other.offset && self.bytes == other.bytes
+    }
+}
+
+impl Clone for Write {
+    ghost is_clone = { λ w copied. copied ≡ w };
+
+    fn clone(&self) -> Result<Self, AllocError> {
+        Ok(Write {
+            offset: self.offset,
+            bytes: self.bytes.clone()?,
+        })
     }
 }

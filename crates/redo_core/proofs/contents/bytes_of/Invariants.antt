@@ -1,6 +1,6 @@
 use Rattle.std.proofs.Common.{◌≡◌, ◌≤◌, ◌*◌, length, take}
 use Rattle.std.specs.List.{sum_by}
-use Rattle.redo_core.proofs.records.bytes_of.Given as goal
+use Rattle.redo_core.proofs.contents.bytes_of.Given as goal
 
 -- the bytes so far, at most a page for each write
 abbrev pub invariant-loop-w : goal.invariant-loop-w
