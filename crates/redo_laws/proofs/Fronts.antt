@@ -1,14 +1,15 @@
 -- Each set of records whose backlinks go down has one position, by its members alone; each page is one, and exists in a part of a log.
-use Rattle.std.proofs.Common.{◌≡◌, ℕ, zero, suc, ◌<◌, ◌≤◌, ◌⊎◌, inl, inr, ⊎_elim, List, refl, sym, ap, ◌∙◌, subst, arith}
+use Rattle.std.proofs.Common.{◌≡◌, ℕ, zero, suc, ◌+◌, ◌-◌, ◌<◌, ◌≤◌, ◌⊎◌, inl, inr, ⊎_elim, List, [], ◌∷◌, length, get_or, refl, sym, ap, ◌∙◌, subst, arith}
 use Rattle.std.specs.List.{Contains}
 use Rattle.redo_core.specs.Data.{RecordData, CutData, AdvanceData}
 use Rattle.redo_core.specs.Sets.{IsPart, SameSet, records, cuts, advances}
-use Rattle.redo_core.specs.Order.{IsGreatest}
 use Rattle.redo_core.specs.Writing.{zeros}
 use Rattle.redo_core.specs.CompleteEpoch.{HasCutsTo, IsCompleteEpoch}
 use Rattle.redo_core.specs.Standing.{IsAlive}
 use Rattle.redo_core.specs.Linked.{Linked, IsLinked, IsLinkedRecord}
-use Rattle.redo_core.specs.Position.{HasAdvance, Position, IsPosition}
+use Rattle.redo_core.specs.Roster.{point_of, least}
+use Rattle.redo_core.specs.Points.{HasAdvance, IsPoint, ArePoints}
+use Rattle.redo_core.specs.Position.{Position, IsPosition}
 use Rattle.redo_core.specs.PageAt.{IsPageAt}
 use Rattle.redo_core.specs.Order.{BeforeByNumber}
 use Rattle.redo_core.specs.Writing.{after_records}
@@ -16,6 +17,7 @@ use Rattle.redo_core.specs.Linked.Linked.{start, next}
 use Rattle.redo_core.specs.declared.facts.Fact.{Fact}
 use Rattle.redo_core.proofs.Members.{lists_unique}
 use Rattle.redo_laws.proofs.Numbers.{greatest_unique, greatest_below}
+use Rattle.redo_core.proofs.Points.{same_points}
 use Rattle.redo_core.proofs.FactParts.{part_records, part_cuts, part_advances}
 use Rattle.redo_laws.proofs.Log.{alive_within}
 use Rattle.redo_laws.proofs.Deciding.{Settled, settled_le, settled_lt, settled_eq, settled_and, settled_implies, settled_by, some_or_none, settled_each, total, within_total}
@@ -38,8 +40,8 @@ same_sym xs ys same x = ((same x).1, (same x).0)
 pub cuts_to_part : (cs ds : List CutData) → IsPart cs ds → (k : ℕ) → HasCutsTo cs k → HasCutsTo ds k
 cuts_to_part cs ds p k has e l m = let c = has e l m in (c.0, p c.0 c.1, c.2)
 
-pub advance_part : (as' bs : List AdvanceData) → IsPart as' bs → (k n : ℕ) → HasAdvance as' k n → HasAdvance bs k n
-advance_part as' bs p k n h = (h.0, p h.0 h.1, h.2, h.3)
+pub advance_part : (as' bs : List AdvanceData) → IsPart as' bs → (k reader n : ℕ) → HasAdvance as' k reader n → HasAdvance bs k reader n
+advance_part as' bs p k reader n h = (h.0, p h.0 h.1, h.2, h.3, h.4)
 
 -- two positions of one set are one
 pub epoch_unique : (F G : List Fact) → SameSet F G → (k j : ℕ) → IsCompleteEpoch (cuts F) k → IsCompleteEpoch (cuts G) j → k ≡ j
@@ -47,28 +49,30 @@ epoch_unique F G same k j a b =
     greatest_unique (HasCutsTo (cuts F)) (HasCutsTo (cuts G))
     (λ n. (cuts_to_part (cuts F) (cuts G) (part_cuts F G (λ f h. (same f).0 h)) n, cuts_to_part (cuts G) (cuts F) (part_cuts G F (λ f h. (same f).1 h)) n)) k j a b
 
-record_of_front : (e e' c c' m m' a a' : ℕ) → e ≡ e' → c ≡ c' → m ≡ m' → a ≡ a' → (let f : Position = record { epoch = e; complete = c; min = m; anchor = a } in f) ≡ record { epoch = e'; complete = c'; min = m'; anchor = a' }
-record_of_front e e' c c' m m' a a' p q r s = cc
+record_of_front : (e e' c c' : ℕ) (ps ps' : List ℕ) (m m' a a' : ℕ) → e ≡ e' → c ≡ c' → ps ≡ ps' → m ≡ m' → a ≡ a' → (let f : Position = record { epoch = e; complete = c; points = ps; min = m; anchor = a } in f) ≡ record { epoch = e'; complete = c'; points = ps'; min = m'; anchor = a' }
+record_of_front e e' c c' ps ps' m m' a a' p q t r s = cc
 
-pub front_unique : (F G : List Fact) → SameSet F G → (f g : Position) → IsPosition F f → IsPosition G g → f ≡ g
-front_unique F G same f g a b =
+pub front_unique : {roster : ℕ} (F G : List Fact) → SameSet F G → (f g : Position) → IsPosition roster F f → IsPosition roster G g → f ≡ g
+front_unique {roster} F G same f g a b =
     let back = same_sym F G same in
     let e : f.epoch ≡ g.epoch = epoch_unique F G same f.epoch g.epoch a.epoch b.epoch in
     let to : (n : ℕ) → IsLinked F f.epoch n → IsLinked G g.epoch n = λ n h. subst (λ k. IsLinked G k n) e (linked_same F G same f.epoch n h) in
     let fro : (n : ℕ) → IsLinked G g.epoch n → IsLinked F f.epoch n = λ n h. linked_same G F back f.epoch n (subst (λ k. IsLinked G k n) (sym e) h) in
-    let m : f.min ≡ g.min =
-    greatest_unique (HasAdvance (advances F) f.epoch) (HasAdvance (advances G) g.epoch)
+    let ps : f.points ≡ g.points =
+    same_points roster f.points g.points a.points.count b.points.count
+    (λ reader r. greatest_unique (HasAdvance (advances F) f.epoch reader) (HasAdvance (advances G) g.epoch reader)
     (λ n. (
-      λ h. subst (λ k. HasAdvance (advances G) k n) e (advance_part (advances F) (advances G) (part_advances F G (λ x q. (same x).0 q)) f.epoch n h),
-      λ h. advance_part (advances G) (advances F) (part_advances G F (λ x q. (same x).1 q)) f.epoch n (subst (λ k. HasAdvance (advances G) k n) (sym e) h),
+      λ h. subst (λ k. HasAdvance (advances G) k reader n) e (advance_part (advances F) (advances G) (part_advances F G (λ x q. (same x).0 q)) f.epoch reader n h),
+      λ h. advance_part (advances G) (advances F) (part_advances G F (λ x q. (same x).1 q)) f.epoch reader n (subst (λ k. HasAdvance (advances G) k reader n) (sym e) h),
     ))
-    f.min g.min a.min b.min in
+    (point_of f.points reader) (point_of g.points reader) (a.points.each reader r) (b.points.each reader r)) in
+    let m : f.min ≡ g.min = a.min ∙ ap least ps ∙ sym b.min in
     let c : f.complete ≡ g.complete = greatest_unique (IsLinked F f.epoch) (IsLinked G g.epoch) (λ n. (to n, fro n)) f.complete g.complete a.complete b.complete in
     let x : f.anchor ≡ g.anchor =
     greatest_unique (λ n. IsLinked F f.epoch n × (n ≤ f.min)) (λ n. IsLinked G g.epoch n × (n ≤ g.min))
     (λ n. (λ h. (to n h.0, let t : n ≤ f.min = h.1 in omega arith), λ h. (fro n h.0, let t : n ≤ g.min = h.1 in omega arith)))
     f.anchor g.anchor a.anchor b.anchor in
-    record_of_front f.epoch g.epoch f.complete g.complete f.min g.min f.anchor g.anchor e c m x
+    record_of_front f.epoch g.epoch f.complete g.complete f.points g.points f.min g.min f.anchor g.anchor e c ps m x
 
 -- two images of one page are one
 pub page_unique : (F G : List Fact) → SameSet F G → (k g q : ℕ) (i j : List ℕ) → IsPageAt F k g q i → IsPageAt G k g q j → i ≡ j
@@ -145,19 +149,37 @@ cuts_total cs (suc k) has = let c = has (suc k) (omega arith) (omega arith) in l
 pub epoch_exists : (cs : List CutData) → (k : ℕ) × IsCompleteEpoch cs k
 epoch_exists cs = greatest_below (HasCutsTo cs) (settled_cuts cs) (total (λ c. c.epoch) cs) (cuts_total cs)
 
-pub min_exists : (as' : List AdvanceData) (k : ℕ) → (m : ℕ) × IsGreatest (HasAdvance as' k) m
-min_exists as' k =
-    greatest_below (HasAdvance as' k)
-    (λ n. ⊎_elim (λ (s : (a : AdvanceData) × Contains as' a × ((a.epoch ≤ k) × (a.point ≡ n))). inl (s.0, s.1, s.2.0, s.2.1)) (λ (none : (a : AdvanceData) → Contains as' a → ((a.epoch ≤ k) × (a.point ≡ n)) → ⊥). inr (λ h. none h.0 h.1 (h.2, h.3)))
-    (some_or_none (λ a. (a.epoch ≤ k) × (a.point ≡ n)) (λ a. settled_and _ _ (settled_le a.epoch k) (λ _. settled_eq a.point n)) as'))
+pub point_exists : (as' : List AdvanceData) (k reader : ℕ) → (m : ℕ) × IsPoint as' k reader m
+point_exists as' k reader =
+    greatest_below (HasAdvance as' k reader)
+    (λ n. ⊎_elim (λ (s : (a : AdvanceData) × Contains as' a × ((a.epoch ≤ k) × ((a.reader ≡ reader) × (a.point ≡ n)))). inl (s.0, s.1, s.2.0, s.2.1.0, s.2.1.1)) (λ (none : (a : AdvanceData) → Contains as' a → ((a.epoch ≤ k) × ((a.reader ≡ reader) × (a.point ≡ n))) → ⊥). inr (λ h. none h.0 h.1 (h.2, (h.3, h.4))))
+    (some_or_none (λ a. (a.epoch ≤ k) × ((a.reader ≡ reader) × (a.point ≡ n))) (λ a. settled_and _ _ (settled_le a.epoch k) (λ _. settled_and _ _ (settled_eq a.reader reader) (λ _. settled_eq a.point n))) as'))
     (total (λ a. a.point) as')
-    (λ n h. let m : h.0.point ≤ total (λ a. a.point) as' = within_total (λ a. a.point) as' h.0 h.1 in let e : h.0.point ≡ n = h.3 in omega arith)
+    (λ n h. let m : h.0.point ≤ total (λ a. a.point) as' = within_total (λ a. a.point) as' h.0 h.1 in let e : h.0.point ≡ n = h.4 in omega arith)
 
-pub front_exists : (F : List Fact) → ((r : RecordData) → Contains (records F) r → r.back < r.number) → (f : Position) × IsPosition F f
-front_exists F backs =
+-- the points of n readers, from one on
+points_from : (as' : List AdvanceData) (k n first : ℕ) → (ps : List ℕ) × (length ps ≡ n) × ((i : ℕ) → i < n → IsPoint as' k (first + i) (get_or ps i 0))
+points_from as' k zero first = ([], refl, λ i l. absurd (omega (arith, l)))
+points_from as' k (suc n) first =
+    let p = point_exists as' k first in
+    let rest = points_from as' k n (suc first) in
+    (p.0 ∷ rest.0, omega (arith, rest.1), at p.0 rest.0 p.1 rest.2)
+  where
+    at : (p : ℕ) (ps : List ℕ) → IsPoint as' k first p → ((i : ℕ) → i < n → IsPoint as' k (suc first + i) (get_or ps i 0)) → (i : ℕ) → i < suc n → IsPoint as' k (first + i) (get_or (p ∷ ps) i 0)
+    at p ps h rest zero l = subst (λ r. IsPoint as' k r p) (let t : first ≡ first + 0 = omega arith in t) h
+    at p ps h rest (suc i) l = subst (λ r. IsPoint as' k r (get_or ps i 0)) (let t : suc first + i ≡ first + suc i = omega arith in t) (rest i (omega (arith, l)))
+
+pub points_exist : (roster : ℕ) (as' : List AdvanceData) (k : ℕ) → (ps : List ℕ) × ArePoints roster as' k ps
+points_exist roster as' k =
+    let s = points_from as' k roster 1 in
+    (s.0, record { count = s.1; each = λ reader r. let t : 1 + (reader - 1) ≡ reader = omega (arith, r.0) in subst (λ j. IsPoint as' k j (point_of s.0 reader)) t (s.2 (reader - 1) (omega (arith, r.0, r.1))) })
+
+pub front_exists : (roster : ℕ) (F : List Fact) → ((r : RecordData) → Contains (records F) r → r.back < r.number) → (f : Position) × IsPosition roster F f
+front_exists roster F backs =
     let k = epoch_exists (cuts F) in
     let test : (n : ℕ) → Settled (IsLinked F k.0 n) = settled_linked (cuts F) (records F) k.0 0 backs in
-    let m = min_exists (advances F) k.0 in
+    let ps = points_exist roster (advances F) k.0 in
+    let m = least ps.0 in
     let c = greatest_below (IsLinked F k.0) test (total (λ r. r.number) (records F)) (linked_total (cuts F) (records F) k.0) in
-    let a = greatest_below (λ n. IsLinked F k.0 n × (n ≤ m.0)) (λ n. settled_and _ _ (test n) (λ _. settled_le n m.0)) m.0 (λ n h. h.1) in
-    (record { epoch = k.0; complete = c.0; min = m.0; anchor = a.0 }, record { epoch = k.1; complete = c.1; min = m.1; anchor = a.1 })
+    let a = greatest_below (λ n. IsLinked F k.0 n × (n ≤ m)) (λ n. settled_and _ _ (test n) (λ _. settled_le n m)) m (λ n h. h.1) in
+    (record { epoch = k.0; complete = c.0; points = ps.0; min = m; anchor = a.0 }, record { epoch = k.1; complete = c.1; points = ps.1; min = refl; anchor = a.1 })

@@ -8,4 +8,6 @@ pub mod Alike
 pub mod SameSets
 pub mod Union
 pub mod Quorum
+pub mod Single
+pub mod Passed
 pub mod Sampled

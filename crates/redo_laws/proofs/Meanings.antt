@@ -16,7 +16,7 @@ use Rattle.redo_core.specs.Meaning.{Meaning, IsMeaningAt, IsMeaning, IsKept, Ima
 use Rattle.redo_core.specs.Order.{CutBefore, AdvanceBefore, RecordBefore}
 use Rattle.redo_core.specs.declared.facts.Fact.{Fact}
 use Rattle.redo_core.proofs.Members.{none_in, here, there, which, lists_unique}
-use Rattle.redo_core.proofs.Pairs.{pair_apart, pair_trans, pair_order, same_advance}
+use Rattle.redo_core.proofs.Pairs.{pair_apart, pair_trans, pair_order, advance_apart, advance_trans, advance_order}
 use Rattle.redo_core.proofs.FactParts.{part_records, part_cuts}
 use Rattle.redo_laws.proofs.Log.{IsLog}
 use Rattle.redo_laws.proofs.Views.{has_cuts, alive_up, alone}
@@ -39,7 +39,7 @@ settled_passing F k g q backs r =
     (λ _. settled_and _ _ (settled_eq r.page g) (λ _. settled_le r.number q)))
 
 -- the page at a point
-pub page_exists : (log F : List Fact) → IsLog log → IsPart F log → (k : ℕ) → HasCutsTo (cuts F) k → (g q : ℕ) → (image : List ℕ) × IsPageAt F k g q image
+pub page_exists : {roster : ℕ} (log F : List Fact) → IsLog roster log → IsPart F log → (k : ℕ) → HasCutsTo (cuts F) k → (g q : ℕ) → (image : List ℕ) × IsPageAt F k g q image
 page_exists log F l p k has g q =
     let hasl : HasCutsTo (cuts log) k = λ e i u. let c = has e i u in (c.0, part_cuts F log p c.0 c.1, c.2) in
     let backs : (r : RecordData) → Contains (records F) r → r.back < r.number = λ r h. (l.backs r (part_records F log p r h)).1 in
@@ -68,9 +68,9 @@ same_image i j e p = ap (λ (q : ℕ × List ℕ). record { page = q.0; bytes = 
 
 -- the meaning is one
 
-record_of_meaning : (m n : Meaning) → m.cuts ≡ n.cuts → m.min ≡ n.min → m.waits ≡ n.waits → m.anchor ≡ n.anchor → m.pages ≡ n.pages → m.kept ≡ n.kept → m ≡ n
+record_of_meaning : (m n : Meaning) → m.cuts ≡ n.cuts → m.points ≡ n.points → m.waits ≡ n.waits → m.anchor ≡ n.anchor → m.pages ≡ n.pages → m.kept ≡ n.kept → m ≡ n
 record_of_meaning m n a b c d e f =
-    let t : (let v : Meaning = record { cuts = m.cuts; min = m.min; waits = m.waits; anchor = m.anchor; pages = m.pages; kept = m.kept } in v) ≡ record { cuts = n.cuts; min = n.min; waits = n.waits; anchor = n.anchor; pages = n.pages; kept = n.kept } = cc in t
+    let t : (let v : Meaning = record { cuts = m.cuts; points = m.points; waits = m.waits; anchor = m.anchor; pages = m.pages; kept = m.kept } in v) ≡ record { cuts = n.cuts; points = n.points; waits = n.waits; anchor = n.anchor; pages = n.pages; kept = n.kept } = cc in t
 
 pub page_same : (F G : List Fact) → SameSet F G → (k g q : ℕ) (i : List ℕ) → IsPageAt F k g q i → IsPageAt G k g q i
 page_same F G same k g q i p = record {
@@ -79,18 +79,18 @@ page_same F G same k g q i p = record {
   result = p.result;
 }
 
-pub meaning_unique : (F : List Fact) (m n : Meaning) → IsMeaning F m → IsMeaning F n → m ≡ n
-meaning_unique F m n a b =
+pub meaning_unique : {roster : ℕ} (F : List Fact) (m n : Meaning) → IsMeaning roster F m → IsMeaning roster F n → m ≡ n
+meaning_unique {roster} F m n a b =
     let refl_set : SameSet F F = λ x. (λ h. h, λ h. h) in
     let e : b.0 ≡ a.0 = front_unique F F refl_set b.0 a.0 b.1.position a.1.position in
-    at a.0 a.1 (subst (λ f. IsMeaningAt F f n) e b.1)
+    at a.0 a.1 (subst (λ f. IsMeaningAt roster F f n) e b.1)
   where
-    at : (f : Position) → IsMeaningAt F f m → IsMeaningAt F f n → m ≡ n
+    at : (f : Position) → IsMeaningAt roster F f m → IsMeaningAt roster F f n → m ≡ n
     at f x y =
         record_of_meaning m n
         (lists_unique CutBefore (λ c d u v. omega arith) (Contains (cuts F)) (Contains (cuts F)) (λ c. (λ h. h, λ h. h)) m.cuts n.cuts x.cuts y.cuts)
-        (x.min ∙ sym y.min)
-        (lists_unique AdvanceBefore (λ c d u v. pair_apart c.epoch c.point d.epoch d.point u v) _ _ (λ c. (λ h. h, λ h. h)) m.waits n.waits x.waits y.waits)
+        (x.points ∙ sym y.points)
+        (lists_unique AdvanceBefore advance_apart _ _ (λ c. (λ h. h, λ h. h)) m.waits n.waits x.waits y.waits)
         (x.anchor ∙ sym y.anchor)
         (lists_unique ImageBefore (λ c d u v. omega arith) _ _ (λ c. (λ h. h, λ h. h)) m.pages n.pages x.pages y.pages)
         (lists_unique RecordBefore (λ c d u v. pair_apart c.epoch c.number d.epoch d.number u v) _ _ (λ c. (λ h. h, λ h. h)) m.kept n.kept x.kept y.kept)
@@ -123,7 +123,7 @@ written_page F k g q i p wet = at p.written p.lists p.result
     at [] l e = absurd (wet e)
     at (w ∷ ws) l e = let s = (l.members w).0 (here w ws) in (w, s.0.among, s.1)
 
-pub images_exist : (log F : List Fact) → IsLog log → IsPart F log → (k : ℕ) → HasCutsTo (cuts F) k → (q : ℕ) → (is : List ImageData) × Lists ImageBefore (λ i. IsPageAt F k i.page q i.bytes × (i.bytes ≢ zeros)) is
+pub images_exist : {roster : ℕ} (log F : List Fact) → IsLog roster log → IsPart F log → (k : ℕ) → HasCutsTo (cuts F) k → (q : ℕ) → (is : List ImageData) × Lists ImageBefore (λ i. IsPageAt F k i.page q i.bytes × (i.bytes ≢ zeros)) is
 images_exist log F l p k has q =
     let refl_set : SameSet F F = λ x. (λ h. h, λ h. h) in
     let image : RecordData → ImageData = λ r. record { page = r.page; bytes = (page_exists log F l p k has r.page q).0 } in
@@ -148,7 +148,7 @@ images_exist log F l p k has q =
           s.0 s.1,
     )
 
-pub cuts_exist : (log F : List Fact) → IsLog log → IsPart F log → (cs : List CutData) × Lists CutBefore (Contains (cuts F)) cs
+pub cuts_exist : {roster : ℕ} (log F : List Fact) → IsLog roster log → IsPart F log → (cs : List CutData) × Lists CutBefore (Contains (cuts F)) cs
 cuts_exist log F l p =
     let s = in_order CutBefore (Contains (cuts F)) (λ x y z a b. omega arith)
     (λ x y a b. ⊎_elim (λ (lt : x.epoch < y.epoch). inl lt) (λ t. ⊎_elim (λ (e : x.epoch ≡ y.epoch). inr (inl (l.same_cut x y (part_cuts F log p x a) (part_cuts F log p y b) e))) (λ (gt : y.epoch < x.epoch). inr (inr gt)) t) (nat_order x.epoch y.epoch))
@@ -157,11 +157,11 @@ cuts_exist log F l p =
 
 pub waits_exist : (F : List Fact) (k : ℕ) → (as' : List AdvanceData) × Lists AdvanceBefore (λ a. Contains (advances F) a × (k < a.epoch)) as'
 waits_exist F k =
-    in_order AdvanceBefore (λ a. Unit {0}) (λ x y z a b. pair_trans x.epoch x.point y.epoch y.point z.epoch z.point a b)
-    (λ x y a b. ⊎_elim (λ (lt : AdvanceBefore x y). inl lt) (λ t. ⊎_elim (λ (e : (x.epoch ≡ y.epoch) × (x.point ≡ y.point)). inr (inl (same_advance x y e.0 e.1))) (λ (gt : AdvanceBefore y x). inr (inr gt)) t) (pair_order x.epoch x.point y.epoch y.point))
+    in_order AdvanceBefore (λ a. Unit {0}) advance_trans
+    (λ x y a b. advance_order x y)
     (λ a. k < a.epoch) (λ a. settled_lt k a.epoch) (advances F) (λ a h t. tt)
 
-pub kept_exists : (log F : List Fact) → IsLog log → IsPart F log → (f : Position) → (rs : List RecordData) × Lists RecordBefore (IsKept F f) rs
+pub kept_exists : {roster : ℕ} (log F : List Fact) → IsLog roster log → IsPart F log → (f : Position) → (rs : List RecordData) × Lists RecordBefore (IsKept F f) rs
 kept_exists log F l p f =
     in_order RecordBefore (λ r. Contains (records log) r) (λ x y z a b. pair_trans x.epoch x.number y.epoch y.number z.epoch z.number a b)
     (λ x y a b. ⊎_elim (λ (lt : RecordBefore x y). inl lt) (λ t. ⊎_elim (λ (e : (x.epoch ≡ y.epoch) × (x.number ≡ y.number)). inr (inl (l.same_record x y a b e.0 e.1))) (λ (gt : RecordBefore y x). inr (inr gt)) t) (pair_order x.epoch x.number y.epoch y.number))
@@ -169,14 +169,14 @@ kept_exists log F l p f =
     (λ r. settled_or _ _ (settled_lt f.epoch r.epoch) (settled_and _ _ (settled_alive (cuts F) f.epoch r.epoch r.number) (λ _. settled_lt f.anchor r.number)))
     (records F) (λ r h t. part_records F log p r h)
 
-pub meaning_exists : (log F : List Fact) → IsLog log → IsPart F log → (m : Meaning) × IsMeaning F m
-meaning_exists log F l p =
-    let f = front_exists F (λ r h. (l.backs r (part_records F log p r h)).1) in
+pub meaning_exists : {roster : ℕ} (log F : List Fact) → IsLog roster log → IsPart F log → (m : Meaning) × IsMeaning roster F m
+meaning_exists {roster} log F l p =
+    let f = front_exists roster F (λ r h. (l.backs r (part_records F log p r h)).1) in
     let has = has_cuts (cuts F) f.0.epoch f.1.epoch in
     let cs = cuts_exist log F l p in
     let ws = waits_exist F f.0.epoch in
     let is = images_exist log F l p f.0.epoch has f.0.anchor in
     let rs = kept_exists log F l p f.0 in (
-      record { cuts = cs.0; min = f.0.min; waits = ws.0; anchor = f.0.anchor; pages = is.0; kept = rs.0 },
-      (f.0, record { position = f.1; cuts = cs.1; min = refl; waits = ws.1; anchor = refl; pages = is.1; kept = rs.1 }),
+      record { cuts = cs.0; points = f.0.points; waits = ws.0; anchor = f.0.anchor; pages = is.0; kept = rs.0 },
+      (f.0, record { position = f.1; cuts = cs.1; points = refl; waits = ws.1; anchor = refl; pages = is.1; kept = rs.1 }),
     )

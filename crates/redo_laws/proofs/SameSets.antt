@@ -3,7 +3,7 @@ use Rattle.std.proofs.Common.{ℕ, ◌↔◌, ◌++◌, ⊎_elim, List}
 use Rattle.std.specs.List.{Contains}
 use Rattle.std.proofs.lemmas.List.Elements.{Contains-append_left, Contains-append_right, Contains-append_cases}
 use Rattle.redo_core.specs.Sets.{SameSet, advances}
-use Rattle.redo_core.specs.Position.{HasAdvance}
+use Rattle.redo_core.specs.Points.{HasAdvance}
 use Rattle.redo_core.specs.Meaning.{Meaning, IsMeaning}
 use Rattle.redo_core.specs.declared.facts.Fact.{Fact}
 use Rattle.redo_laws.specs.WellFormed.{AgreeOn}
@@ -12,36 +12,36 @@ use Rattle.redo_laws.proofs.Fronts.{same_sym, linked_same}
 use Rattle.redo_laws.proofs.Meanings.{page_same}
 use Rattle.redo_laws.proofs.Alike.{Alike, greatest_by, front_alike, meaning_alike}
 
-advances_same : (facts same : List Fact) → SameSet facts same → (k n : ℕ) → HasAdvance (advances facts) k n → HasAdvance (advances same) k n
-advances_same facts same s k n h = (h.0, part_advances facts same (λ x q. (s x).0 q) h.0 h.1, h.2, h.3)
+advances_same : (facts same : List Fact) → SameSet facts same → (k reader n : ℕ) → HasAdvance (advances facts) k reader n → HasAdvance (advances same) k reader n
+advances_same facts same s k reader n h = (h.0, part_advances facts same (λ x q. (s x).0 q) h.0 h.1, h.2, h.3, h.4)
 
-pub alike_same : (facts same : List Fact) → SameSet facts same → (k : ℕ) → Alike facts same k
-alike_same facts same s k =
+pub alike_same : (roster : ℕ) (facts same : List Fact) → SameSet facts same → (k : ℕ) → Alike roster facts same k
+alike_same roster facts same s k =
     let t = same_sym facts same s in
     record {
       cuts = λ c. (part_cuts facts same (λ x q. (s x).0 q) c, part_cuts same facts (λ x q. (s x).1 q) c);
       records = λ r matters. (part_records facts same (λ x q. (s x).0 q) r, part_records same facts (λ x q. (s x).1 q) r);
       waits = λ a later. (part_advances facts same (λ x q. (s x).0 q) a, part_advances same facts (λ x q. (s x).1 q) a);
-      min = λ m. (
-        greatest_by (HasAdvance (advances facts) k) (HasAdvance (advances same) k) (advances_same facts same s k) (advances_same same facts t k) m,
-        greatest_by (HasAdvance (advances same) k) (HasAdvance (advances facts) k) (advances_same same facts t k) (advances_same facts same s k) m,
+      points = λ reader m r. (
+        greatest_by (HasAdvance (advances facts) k reader) (HasAdvance (advances same) k reader) (advances_same facts same s k reader) (advances_same same facts t k reader) m,
+        greatest_by (HasAdvance (advances same) k reader) (HasAdvance (advances facts) k reader) (advances_same same facts t k reader) (advances_same facts same s k reader) m,
       );
     }
 
-meaning_of_same : (facts same : List Fact) (m : Meaning) → SameSet facts same → IsMeaning facts m → IsMeaning same m
-meaning_of_same facts same m s a = (a.0, meaning_alike facts same a.0 m (alike_same facts same s a.0.epoch) a.1)
+meaning_of_same : (roster : ℕ) (facts same : List Fact) (m : Meaning) → SameSet facts same → IsMeaning roster facts m → IsMeaning roster same m
+meaning_of_same roster facts same m s a = (a.0, meaning_alike facts same a.0 m (alike_same roster facts same s a.0.epoch) a.1)
 
-pub same_meanings : (facts same : List Fact) (m : Meaning) → SameSet facts same → IsMeaning facts m ↔ IsMeaning same m
-same_meanings facts same m s = (meaning_of_same facts same m s, meaning_of_same same facts m (same_sym facts same s))
+pub same_meanings : (roster : ℕ) (facts same : List Fact) (m : Meaning) → SameSet facts same → IsMeaning roster facts m ↔ IsMeaning roster same m
+same_meanings roster facts same m s = (meaning_of_same roster facts same m s, meaning_of_same roster same facts m (same_sym facts same s))
 
 pub agree : (facts same : List Fact) → SameSet facts same → AgreeOn facts same
 agree facts same s =
     let t = same_sym facts same s in
     record {
-      positions = λ p. (front_alike facts same p (alike_same facts same s p.epoch), front_alike same facts p (alike_same same facts t p.epoch));
+      positions = λ roster p. (front_alike facts same p (alike_same roster facts same s p.epoch), front_alike same facts p (alike_same roster same facts t p.epoch));
       linked = λ k n. (linked_same facts same s k n, linked_same same facts t k n);
       pages = λ k page q image. (page_same facts same s k page q image, page_same same facts t k page q image);
-      meanings = λ m. same_meanings facts same m s;
+      meanings = λ roster m. same_meanings roster facts same m s;
     }
 
 pub twice : (x : List Fact) → SameSet (x ++ x) x

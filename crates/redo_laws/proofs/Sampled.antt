@@ -1,6 +1,7 @@
 -- The small log is sound.
-use Rattle.std.proofs.Common.{◌≡◌, zero, suc, ◌<◌, inl, ⊎_elim, [], ◌∷◌, refl, sym, ap, subst, arith}
+use Rattle.std.proofs.Common.{◌≡◌, ℕ, Some, false, zero, suc, ◌<◌, inl, ⊎_elim, [], ◌∷◌, refl, sym, ap, subst, arith}
 use Rattle.std.specs.List.{Contains}
+use Rattle.std.specs.Prelude.{slice_get}
 use Rattle.redo_core.specs.Data.{RecordData, CutData, AdvanceData}
 use Rattle.redo_core.specs.Sets.{records, cuts}
 use Rattle.redo_core.specs.Sound.{IsSound, KeepsLaws, SameKey, counted}
@@ -10,7 +11,7 @@ use Rattle.redo_laws.specs.Sample.{sample}
 use Rattle.redo_core.proofs.Members.{none_in, which}
 
 r0 : RecordData
-r0 = record { epoch = 0; number = 3; back = 0; page = 7; block_back = 0; writes = [] }
+r0 = record { epoch = 0; number = 3; back = 0; page = 7; block_back = 0; init = false; patches = [] }
 
 one_cut : (c : CutData) → Contains (counted sample) c → (c.epoch ≡ 1) × (c.lo ≡ 5) × (c.hi ≡ 20)
 unfolding counted cuts
@@ -20,7 +21,7 @@ one_record : (r : RecordData) → Contains (records sample) r → r.number ≡ 3
 unfolding records
 one_record r h = ⊎_elim (λ e. ap (λ x. x.number) (sym e)) (λ x. absurd (none_in r x)) (which _ [] r h)
 
-first : KeepsLaws sample 0 (Record r0)
+first : KeepsLaws 1 sample 0 (Record r0)
 unfolding r0
 first = record {
   shape = refl;
@@ -36,14 +37,14 @@ no_key_advance (Record r) a k = k
 no_key_advance (Cut c) a k = k
 no_key_advance (Advance b) a k = k
 
-second : KeepsLaws sample 1 (Advance (record { epoch = 0; point = 3 }))
+second : KeepsLaws 1 sample 1 (Advance (record { epoch = 0; reader = 1; point = 3 }))
 second = record {
   shape = refl;
   law1 = λ f h k. absurd (no_key_advance f _ k);
   law2 = tt;
   law3 = tt;
   law4 = tt;
-  law5 = (λ e l m. absurd (omega arith), λ c h lt. let x = (one_cut c h).1 in omega arith);
+  law5 = ((omega arith, omega arith), λ e l m. absurd (omega arith), λ c h lt past. let x = (one_cut c h).1 in omega arith);
 }
 
 no_key_first : (f : Fact) (c : CutData) → f ≡ Record r0 → SameKey f (Cut c) → ⊥
@@ -52,10 +53,10 @@ no_key_first f c e k = let t : SameKey (Record r0) (Cut c) = subst (λ x. SameKe
 no_key_second : (f : Fact) (a : AdvanceData) (c : CutData) → f ≡ Advance a → SameKey f (Cut c) → ⊥
 no_key_second f a c e k = let t : SameKey (Advance a) (Cut c) = subst (λ x. SameKey x (Cut c)) e k in t
 
-third : KeepsLaws sample 2 (Cut (record { epoch = 1; lo = 5; hi = 20 }))
+third : KeepsLaws 1 sample 2 (Cut (record { epoch = 1; lo = 5; hi = 20 }))
 unfolding r0
 third =
-    let a : AdvanceData = record { epoch = 0; point = 3 } in
+    let a : AdvanceData = record { epoch = 0; reader = 1; point = 3 } in
     let c : CutData = record { epoch = 1; lo = 5; hi = 20 } in
     record {
       shape = refl;
@@ -72,9 +73,12 @@ third =
       law5 = tt;
     }
 
-pub sample_sound : IsSound sample
+sample_keeps : (place : ℕ) (fact : Fact) → slice_get sample place ≡ Some fact → KeepsLaws 1 sample place fact
 unfolding r0
-sample_sound zero fact e = let q : Record r0 ≡ fact = cc in subst (KeepsLaws sample 0) q first
-sample_sound (suc zero) fact e = let q : Advance (record { epoch = 0; point = 3 }) ≡ fact = cc in subst (KeepsLaws sample 1) q second
-sample_sound (suc (suc zero)) fact e = let q : Cut (record { epoch = 1; lo = 5; hi = 20 }) ≡ fact = cc in subst (KeepsLaws sample 2) q third
-sample_sound (suc (suc (suc n))) fact e = absurd (cc)
+sample_keeps zero fact e = let q : Record r0 ≡ fact = cc in subst (KeepsLaws 1 sample 0) q first
+sample_keeps (suc zero) fact e = let q : Advance (record { epoch = 0; reader = 1; point = 3 }) ≡ fact = cc in subst (KeepsLaws 1 sample 1) q second
+sample_keeps (suc (suc zero)) fact e = let q : Cut (record { epoch = 1; lo = 5; hi = 20 }) ≡ fact = cc in subst (KeepsLaws 1 sample 2) q third
+sample_keeps (suc (suc (suc n))) fact e = absurd (cc)
+
+pub sample_sound : IsSound 1 sample
+sample_sound = record { readers = (omega arith, omega arith); keeps = sample_keeps }

@@ -1,25 +1,27 @@
 -- Congruence, the order by parts and least upper bounds.
-use Rattle.std.proofs.Common.{◌≡◌, ℕ, ◌<◌, ◌≤◌, ◌⊎◌, ◌↔◌, inl, inr, ⊎_elim, List, ◌++◌, refl, sym, ◌∙◌, subst, arith}
+use Rattle.std.proofs.Common.{◌≡◌, ℕ, ◌<◌, ◌≤◌, ◌⊎◌, ◌↔◌, inl, inr, ⊎_elim, List, ◌++◌, length, refl, sym, ap, ◌∙◌, subst, arith}
 use Rattle.std.specs.List.{Contains}
 use Rattle.std.proofs.lemmas.List.Elements.{Contains-append_left, Contains-append_right, Contains-append_cases}
 use Rattle.redo_core.specs.Data.{RecordData, CutData, AdvanceData}
 use Rattle.redo_core.specs.Sets.{IsPart, SameSet, records, cuts, advances}
-use Rattle.redo_core.specs.Order.{IsGreatest}
 use Rattle.redo_core.specs.CompleteEpoch.{HasCutsTo, IsCompleteEpoch}
 use Rattle.redo_core.specs.Standing.{IsAlive, IsDead}
-use Rattle.redo_core.specs.Position.{HasAdvance, Position, IsPosition}
+use Rattle.redo_core.specs.Roster.{IsReader, point_of}
+use Rattle.redo_core.specs.Points.{HasAdvance, IsPoint}
+use Rattle.redo_core.specs.Position.{Position, IsPosition}
 use Rattle.redo_core.specs.PageAt.{IsPageAt}
 use Rattle.redo_core.specs.Meaning.{Meaning, IsMeaningAt, IsMeaning, IsKept}
 use Rattle.redo_core.specs.AtMost.{IsAtMost}
 use Rattle.redo_core.specs.declared.facts.Fact.{Fact}
 use Rattle.redo_core.specs.declared.facts.Fact.TheVariants.{Record, Cut, Advance}
 use Rattle.redo_laws.specs.OrderOfMeanings.{Covers, CoversAt}
+use Rattle.redo_core.proofs.Points.{zip_of, zip_at}
 use Rattle.redo_laws.proofs.Numbers.{greatest_unique, greatest_le}
 use Rattle.redo_core.proofs.FactParts.{record_in, cut_in, advance_in, part_records, part_cuts, part_advances}
 use Rattle.redo_laws.proofs.Log.{IsLog, alive_within}
-use Rattle.redo_laws.proofs.Views.{has_cuts, alive_up, alive_down, epoch_le, min_le, finality_law}
+use Rattle.redo_laws.proofs.Views.{has_cuts, alive_up, alive_down, epoch_le, point_le, finality_law}
 use Rattle.redo_laws.proofs.Deciding.{settled_lt}
-use Rattle.redo_laws.proofs.Fronts.{settled_alive, front_unique, min_exists}
+use Rattle.redo_laws.proofs.Fronts.{settled_alive, front_unique, point_exists}
 use Rattle.redo_laws.proofs.Alike.{Matters, Alike, alike_sym, meaning_alike, alike_by_meaning, has_below, front_alike, page_alike, alive_by, cuts_to_by, greatest_by}
 
 pub left : (F G : List Fact) → IsPart F (F ++ G)
@@ -42,7 +44,7 @@ pub advance_cases : (F G : List Fact) (a : AdvanceData) → Contains (advances (
 advance_cases F G a h = ⊎_elim (λ (x : Contains F (Advance a)). inl ((advance_in F a).1 x)) (λ (x : Contains G (Advance a)). inr ((advance_in G a).1 x)) (Contains-append_cases F G (Advance a) ((advance_in (F ++ G) a).0 h))
 
 -- what matters in a later view mattered before
-pub mattered : (log F : List Fact) → IsLog log → IsPart F log → (k j : ℕ) → HasCutsTo (cuts F) k → k ≤ j → (r : RecordData) → Matters log j r → Matters F k r
+pub mattered : {roster : ℕ} (log F : List Fact) → IsLog roster log → IsPart F log → (k j : ℕ) → HasCutsTo (cuts F) k → k ≤ j → (r : RecordData) → Matters log j r → Matters F k r
 mattered log F l p k j has le r m =
     ⊎_elim
     (λ (w : j < r.epoch). inl (omega arith))
@@ -52,15 +54,15 @@ mattered log F l p k j has le r m =
     (settled_lt k r.epoch))
     m
 
--- an advance that counts is at most the minimum
-pub advance_le : (as' : List AdvanceData) (k m : ℕ) → IsGreatest (HasAdvance as' k) m → (a : AdvanceData) → Contains as' a → a.epoch ≤ k → a.point ≤ m
-advance_le as' k m g a h e = g.1 a.point (a, h, e, refl)
+-- an advance that counts is at most its reader's point
+pub advance_le : (as' : List AdvanceData) (k reader m : ℕ) → IsPoint as' k reader m → (a : AdvanceData) → Contains as' a → a.epoch ≤ k → a.reader ≡ reader → a.point ≤ m
+advance_le as' k reader m g a h e r = g.1 a.point (a, h, e, r, refl)
 
 -- half of congruence: cuts, records, advances of one union are in the other, or do not matter
-pub union_cuts : (F F' G : List Fact) (k : ℕ) → Alike F F' k → (c : CutData) → Contains (cuts (F ++ G)) c → Contains (cuts (F' ++ G)) c
+pub union_cuts : {roster : ℕ} (F F' G : List Fact) (k : ℕ) → Alike roster F F' k → (c : CutData) → Contains (cuts (F ++ G)) c → Contains (cuts (F' ++ G)) c
 union_cuts F F' G k a c h = ⊎_elim (λ (x : Contains (cuts F) c). part_cuts F' (F' ++ G) (left F' G) c ((a.cuts c).0 x)) (λ (x : Contains (cuts G) c). part_cuts G (F' ++ G) (right F' G) c x) (cut_cases F G c h)
 
-pub union_records : (log F F' G : List Fact) (k j : ℕ) → IsLog log → IsPart F log → IsPart G log → HasCutsTo (cuts F) k → k ≤ j → HasCutsTo (cuts (F ++ G)) j → Alike F F' k → (r : RecordData) → Matters (F ++ G) j r → Contains (records (F ++ G)) r → Contains (records (F' ++ G)) r
+pub union_records : {roster : ℕ} (log F F' G : List Fact) (k j : ℕ) → IsLog roster log → IsPart F log → IsPart G log → HasCutsTo (cuts F) k → k ≤ j → HasCutsTo (cuts (F ++ G)) j → Alike roster F F' k → (r : RecordData) → Matters (F ++ G) j r → Contains (records (F ++ G)) r → Contains (records (F' ++ G)) r
 union_records log F F' G k j l p q has le hasj a r m h =
     let up : Matters log j r = ⊎_elim (λ (w : j < r.epoch). inl w) (λ (al : IsAlive (cuts (F ++ G)) j r.epoch r.number). inr (alive_up log (F ++ G) l (both F G log p q) j r.epoch r.number hasj al)) m in
     ⊎_elim
@@ -68,44 +70,44 @@ union_records log F F' G k j l p q has le hasj a r m h =
     (λ (x : Contains (records G) r). part_records G (F' ++ G) (right F' G) r x)
     (record_cases F G r h)
 
-pub union_waits : (F F' G : List Fact) (k j : ℕ) → k ≤ j → Alike F F' k → (c : AdvanceData) → j < c.epoch → Contains (advances (F ++ G)) c → Contains (advances (F' ++ G)) c
+pub union_waits : {roster : ℕ} (F F' G : List Fact) (k j : ℕ) → k ≤ j → Alike roster F F' k → (c : AdvanceData) → j < c.epoch → Contains (advances (F ++ G)) c → Contains (advances (F' ++ G)) c
 union_waits F F' G k j le a c lt h =
     ⊎_elim
     (λ (x : Contains (advances F) c). part_advances F' (F' ++ G) (left F' G) c ((a.waits c (omega arith)).0 x))
     (λ (x : Contains (advances G) c). part_advances G (F' ++ G) (right F' G) c x)
     (advance_cases F G c h)
 
-pub union_min_le : (F F' G : List Fact) (k j f : ℕ) → k ≤ j → Alike F F' k → IsGreatest (HasAdvance (advances F) k) f → (m n : ℕ) → IsGreatest (HasAdvance (advances (F ++ G)) j) m → IsGreatest (HasAdvance (advances (F' ++ G)) j) n → m ≤ n
-union_min_le F F' G k j f le a gf m n gm gn =
+pub union_point_le : {roster : ℕ} (F F' G : List Fact) (k j reader f : ℕ) → IsReader roster reader → k ≤ j → Alike roster F F' k → IsPoint (advances F) k reader f → (m n : ℕ) → IsPoint (advances (F ++ G)) j reader m → IsPoint (advances (F' ++ G)) j reader n → m ≤ n
+union_point_le F F' G k j reader f r le a gf m n gm gn =
     ⊎_elim
     (λ (e : m ≡ 0). omega arith)
-    (λ (s : HasAdvance (advances (F ++ G)) j m). ⊎_elim
+    (λ (s : HasAdvance (advances (F ++ G)) j reader m). ⊎_elim
     (λ (x : Contains (advances F) s.0). ⊎_elim
     (λ (w : k < s.0.epoch).
     let y = part_advances F' (F' ++ G) (left F' G) s.0 ((a.waits s.0 w).0 x) in
-    let t : s.0.point ≤ n = advance_le (advances (F' ++ G)) j n gn s.0 y s.2 in let e : s.0.point ≡ m = s.3 in omega arith)
+    let t : s.0.point ≤ n = advance_le (advances (F' ++ G)) j reader n gn s.0 y s.2 s.3 in let e : s.0.point ≡ m = s.4 in omega arith)
     (λ (known : k < s.0.epoch → ⊥).
-    let t : s.0.point ≤ f = advance_le (advances F) k f gf s.0 x (omega (arith, known)) in
-    let e : s.0.point ≡ m = s.3 in
-    let g' : IsGreatest (HasAdvance (advances F') k) f = (a.min f).0 gf in
-    let u : f ≤ n = min_le F' (F' ++ G) (left F' G) k j le f n g' gn in
+    let t : s.0.point ≤ f = advance_le (advances F) k reader f gf s.0 x (omega (arith, known)) s.3 in
+    let e : s.0.point ≡ m = s.4 in
+    let g' : IsPoint (advances F') k reader f = (a.points reader f r).0 gf in
+    let u : f ≤ n = point_le F' (F' ++ G) (left F' G) k j le reader f n g' gn in
     omega arith)
     (settled_lt k s.0.epoch))
     (λ (x : Contains (advances G) s.0).
     let y = part_advances G (F' ++ G) (right F' G) s.0 x in
-    let t : s.0.point ≤ n = advance_le (advances (F' ++ G)) j n gn s.0 y s.2 in let e : s.0.point ≡ m = s.3 in omega arith)
+    let t : s.0.point ≤ n = advance_le (advances (F' ++ G)) j reader n gn s.0 y s.2 s.3 in let e : s.0.point ≡ m = s.4 in omega arith)
     (advance_cases F G s.0 s.1))
     gm.0
 
--- two lists of advances with greatest points that bound each other have the same greatest point
-pub min_pair : (as' bs : List AdvanceData) (j : ℕ) → ((m n : ℕ) → IsGreatest (HasAdvance as' j) m → IsGreatest (HasAdvance bs j) n → m ≡ n) → (m : ℕ) → IsGreatest (HasAdvance as' j) m ↔ IsGreatest (HasAdvance bs j) m
-min_pair as' bs j same m = (
-  λ h. let t = min_exists bs j in subst (IsGreatest (HasAdvance bs j)) (sym (same m t.0 h t.1)) t.1,
-  λ h. let t = min_exists as' j in subst (IsGreatest (HasAdvance as' j)) (same t.0 m t.1 h) t.1,
+-- two lists of advances whose points of a reader bound each other give the reader the same point
+pub point_pair : (as' bs : List AdvanceData) (j reader : ℕ) → ((m n : ℕ) → IsPoint as' j reader m → IsPoint bs j reader n → m ≡ n) → (m : ℕ) → IsPoint as' j reader m ↔ IsPoint bs j reader m
+point_pair as' bs j reader same m = (
+  λ h. let t = point_exists bs j reader in subst (IsPoint bs j reader) (sym (same m t.0 h t.1)) t.1,
+  λ h. let t = point_exists as' j reader in subst (IsPoint as' j reader) (same t.0 m t.1 h) t.1,
 )
 
 -- unions of parts that are alike are alike
-pub alike_union : (log F F' G : List Fact) (f : Position) (j : ℕ) → IsLog log → IsPart F log → IsPart F' log → IsPart G log → IsPosition F f → IsPosition F' f → Alike F F' f.epoch → IsCompleteEpoch (cuts (F ++ G)) j → Alike (F ++ G) (F' ++ G) j
+pub alike_union : {roster : ℕ} (log F F' G : List Fact) (f : Position) (j : ℕ) → IsLog roster log → IsPart F log → IsPart F' log → IsPart G log → IsPosition roster F f → IsPosition roster F' f → Alike roster F F' f.epoch → IsCompleteEpoch (cuts (F ++ G)) j → Alike roster (F ++ G) (F' ++ G) j
 alike_union log F F' G f j l p p' q front front' a c =
     let k = f.epoch in
     let b = alike_sym F F' k a in
@@ -122,25 +124,25 @@ alike_union log F F' G f j l p p' q front front' a c =
         union_records log F' F G k j l p' q has' le hasj' b r (⊎_elim (λ (w : j < r.epoch). inl w) (λ (al : IsAlive (cuts (F ++ G)) j r.epoch r.number). inr (alive_by (cuts (F ++ G)) (cuts (F' ++ G)) cs j r.epoch r.number al)) m),
       );
       waits = λ x lt. (union_waits F F' G k j le a x lt, union_waits F' F G k j le b x lt);
-      min = min_pair (advances (F ++ G)) (advances (F' ++ G)) j (λ m n gm gn.
-          let x : m ≤ n = union_min_le F F' G k j f.min le a front.min m n gm gn in
-          let y : n ≤ m = union_min_le F' F G k j f.min le b front'.min n m gn gm in
-          omega arith);
+      points = λ reader m r. point_pair (advances (F ++ G)) (advances (F' ++ G)) j reader (λ m n gm gn.
+          let x : m ≤ n = union_point_le F F' G k j reader (point_of f.points reader) r le a (front.points.each reader r) m n gm gn in
+          let y : n ≤ m = union_point_le F' F G k j reader (point_of f.points reader) r le b (front'.points.each reader r) n m gn gm in
+          omega arith) m;
     }
 
 -- parts of one meaning have one position
-pub fronts_of_meaning : (log F G : List Fact) (m : Meaning) → IsLog log → IsPart F log → IsPart G log → (a : IsMeaning F m) → (b : IsMeaning G m) → Alike F G a.0.epoch × IsPosition G a.0
+pub fronts_of_meaning : {roster : ℕ} (log F G : List Fact) (m : Meaning) → IsLog roster log → IsPart F log → IsPart G log → (a : IsMeaning roster F m) → (b : IsMeaning roster G m) → Alike roster F G a.0.epoch × IsPosition roster G a.0
 fronts_of_meaning log F G m l p q a b =
     let al = alike_by_meaning log F G a.0 b.0 m l p q a.1 b.1 in
     (al, front_alike F G a.0 al a.1.position)
 
-pub congruence_law : (log F F' G : List Fact) (m u : Meaning) → IsLog log → IsPart F log → IsPart F' log → IsPart G log → IsMeaning F m → IsMeaning F' m → IsMeaning (F ++ G) u → IsMeaning (F' ++ G) u
+pub congruence_law : {roster : ℕ} (log F F' G : List Fact) (m u : Meaning) → IsLog roster log → IsPart F log → IsPart F' log → IsPart G log → IsMeaning roster F m → IsMeaning roster F' m → IsMeaning roster (F ++ G) u → IsMeaning roster (F' ++ G) u
 congruence_law log F F' G m u l p p' q a a' b =
     let t = fronts_of_meaning log F F' m l p p' a a' in
     let al = alike_union log F F' G a.0 b.0.epoch l p p' q a.1.position t.1 t.0 b.1.position.epoch in
     (b.0, meaning_alike (F ++ G) (F' ++ G) b.0 u al b.1)
 
-pub answers_law : (log F G : List Fact) (m : Meaning) (f g : Position) → IsLog log → IsPart F log → IsPart G log → IsMeaning F m → IsMeaning G m → IsPosition F f → IsPosition G g → (f ≡ g) × ((page q : ℕ) (image : List ℕ) → IsPageAt F f.epoch page q image ↔ IsPageAt G g.epoch page q image)
+pub answers_law : {roster : ℕ} (log F G : List Fact) (m : Meaning) (f g : Position) → IsLog roster log → IsPart F log → IsPart G log → IsMeaning roster F m → IsMeaning roster G m → IsPosition roster F f → IsPosition roster G g → (f ≡ g) × ((page q : ℕ) (image : List ℕ) → IsPageAt F f.epoch page q image ↔ IsPageAt G g.epoch page q image)
 answers_law log F G m f g l p q a b frontf frontg =
     let one : SameSet F F = λ x. (λ h. h, λ h. h) in
     let two : SameSet G G = λ x. (λ h. h, λ h. h) in
@@ -154,10 +156,14 @@ answers_law log F G m f g l p q a b frontf frontg =
       ),
     )
 
+-- a meaning has a point for each reader
+count_of_points : {roster : ℕ} (F : List Fact) (f : Position) (x : Meaning) → IsMeaningAt roster F f x → length x.points ≡ roster
+count_of_points F f x a = ap length a.points ∙ a.position.points.count
+
 -- the order
 
 -- F adds nothing to G, where G's meaning covers F's
-module _ (log F G : List Fact) (x y : Meaning) (l : IsLog log) (p : IsPart F log) (q : IsPart G log) (f g : Position) (a : IsMeaningAt F f x) (b : IsMeaningAt G g y) (c : CoversAt g.epoch y x) where
+module _ {roster : ℕ} (log F G : List Fact) (x y : Meaning) (l : IsLog roster log) (p : IsPart F log) (q : IsPart G log) (f g : Position) (a : IsMeaningAt roster F f x) (b : IsMeaningAt roster G g y) (c : CoversAt g.epoch y x) where
   cuts_down : (d : CutData) → Contains (cuts F) d → Contains (cuts G) d
   cuts_down d h = (b.cuts.members d).0 (c.cuts d ((a.cuts.members d).1 h))
 
@@ -197,67 +203,76 @@ module _ (log F G : List Fact) (x y : Meaning) (l : IsLog log) (p : IsPart F log
   waits_down : (d : AdvanceData) → g.epoch < d.epoch → Contains (advances F) d → Contains (advances G) d
   waits_down d lt h =
       let le = epochs in
-      ⊎_elim (λ (s : Contains y.waits d). ((b.waits.members d).0 s).0) (λ (s : (d.epoch ≤ g.epoch) × (d.point ≤ y.min)). let t : d.epoch ≤ g.epoch = s.0 in absurd (omega arith))
+      ⊎_elim (λ (s : Contains y.waits d). ((b.waits.members d).0 s).0) (λ (s : (d.epoch ≤ g.epoch) × (d.point ≤ point_of y.points d.reader)). let t : d.epoch ≤ g.epoch = s.0 in absurd (omega arith))
       (c.waits d ((a.waits.members d).1 (h, omega arith)))
 
-  points_down : (d : AdvanceData) → d.epoch ≤ g.epoch → Contains (advances F) d → d.point ≤ g.min
+  points_down : (d : AdvanceData) → d.epoch ≤ g.epoch → Contains (advances F) d → d.point ≤ point_of g.points d.reader
   points_down d le h =
-      let e : y.min ≡ g.min = b.min in
+      let e : point_of y.points d.reader ≡ point_of g.points d.reader = ap (λ ps. point_of ps d.reader) b.points in
+      let inside : IsReader roster d.reader = l.reader d (part_advances F log p d h) in
       ⊎_elim
       (λ (w : f.epoch < d.epoch). ⊎_elim
       (λ (s : Contains y.waits d). let t : g.epoch < d.epoch = ((b.waits.members d).0 s).1 in absurd (omega arith))
-      (λ (s : (d.epoch ≤ g.epoch) × (d.point ≤ y.min)). let t : d.point ≤ y.min = s.1 in omega arith)
+      (λ (s : (d.epoch ≤ g.epoch) × (d.point ≤ point_of y.points d.reader)). let t : d.point ≤ point_of y.points d.reader = s.1 in omega arith)
       (c.waits d ((a.waits.members d).1 (h, w))))
       (λ (known : f.epoch < d.epoch → ⊥).
-      let t : d.point ≤ f.min = advance_le (advances F) f.epoch f.min a.position.min d h (omega (arith, known)) in
-      let u : x.min ≤ y.min = c.min in let v : x.min ≡ f.min = a.min in
+      let t : d.point ≤ point_of f.points d.reader = advance_le (advances F) f.epoch d.reader (point_of f.points d.reader) (a.position.points.each d.reader inside) d h (omega (arith, known)) refl in
+      let v : point_of x.points d.reader ≡ point_of f.points d.reader = ap (λ ps. point_of ps d.reader) a.points in
+      let u : point_of x.points d.reader ≤ point_of y.points d.reader = zip_at roster x.points y.points (count_of_points F f x a) c.points d.reader inside in
       omega arith)
       (settled_lt f.epoch d.epoch)
 
-  pub adds_nothing : Alike G (F ++ G) g.epoch
+  pub adds_nothing : Alike roster G (F ++ G) g.epoch
   adds_nothing = record {
     cuts = λ d. (λ h. part_cuts G (F ++ G) (right F G) d h, λ h. ⊎_elim (cuts_down d) (λ (u : Contains (cuts G) d). u) (cut_cases F G d h));
     records = λ r m. (λ h. part_records G (F ++ G) (right F G) r h, λ h. ⊎_elim (records_down r m) (λ (u : Contains (records G) r). u) (record_cases F G r h));
     waits = λ d lt. (λ h. part_advances G (F ++ G) (right F G) d h, λ h. ⊎_elim (waits_down d lt) (λ (u : Contains (advances G) d). u) (advance_cases F G d h));
-    min = min_pair (advances G) (advances (F ++ G)) g.epoch (λ m n gm gn.
-        let same : m ≡ g.min = greatest_unique _ _ (λ i. (λ u. u, λ u. u)) m g.min gm b.position.min in
-        let u : m ≤ n = min_le G (F ++ G) (right F G) g.epoch g.epoch (omega arith) m n gm gn in
-        let v : n ≤ g.min = ⊎_elim (λ (e : n ≡ 0). omega arith)
-        (λ (s : HasAdvance (advances (F ++ G)) g.epoch n).
-        let e : s.0.point ≡ n = s.3 in
-        let t : s.0.point ≤ g.min = ⊎_elim (points_down s.0 s.2) (λ (w : Contains (advances G) s.0). advance_le (advances G) g.epoch g.min b.position.min s.0 w s.2) (advance_cases F G s.0 s.1) in
+    points = λ reader i r. point_pair (advances G) (advances (F ++ G)) g.epoch reader (λ m n gm gn.
+        let gp : IsPoint (advances G) g.epoch reader (point_of g.points reader) = b.position.points.each reader r in
+        let same : m ≡ point_of g.points reader = greatest_unique _ _ (λ i. (λ u. u, λ u. u)) m (point_of g.points reader) gm gp in
+        let u : m ≤ n = point_le G (F ++ G) (right F G) g.epoch g.epoch (omega arith) reader m n gm gn in
+        let v : n ≤ point_of g.points reader = ⊎_elim (λ (e : n ≡ 0). omega arith)
+        (λ (s : HasAdvance (advances (F ++ G)) g.epoch reader n).
+        let e : s.0.point ≡ n = s.4 in
+        let t : s.0.point ≤ point_of g.points reader = ⊎_elim (λ (w : Contains (advances F) s.0). subst (λ i. s.0.point ≤ point_of g.points i) s.3 (points_down s.0 s.2 w)) (λ (w : Contains (advances G) s.0). advance_le (advances G) g.epoch reader (point_of g.points reader) gp s.0 w s.2 s.3) (advance_cases F G s.0 s.1) in
         omega arith)
         gn.0 in
-        omega arith);
+        omega arith) i;
   }
 
 -- covering parts by meanings
-pub covers_at : (F : List Fact) (y x : Meaning) (g : Position) → IsMeaningAt F g y → Covers y x → CoversAt g.epoch y x
+pub covers_at : {roster : ℕ} (F : List Fact) (y x : Meaning) (g : Position) → IsMeaningAt roster F g y → Covers y x → CoversAt g.epoch y x
 covers_at F y x g b c =
     let e : c.0 ≡ g.epoch = greatest_unique (HasCutsTo y.cuts) (HasCutsTo (cuts F)) (λ n. (cuts_to_by y.cuts (cuts F) b.cuts.members n, cuts_to_by (cuts F) y.cuts (λ d. ((b.cuts.members d).1, (b.cuts.members d).0)) n)) c.0 g.epoch c.1.epoch b.position.epoch in
     subst (λ k. CoversAt k y x) e c.1
 
-pub absorbed : (log F G : List Fact) (x y : Meaning) → IsLog log → IsPart F log → IsPart G log → IsMeaning F x → IsMeaning G y → Covers y x → IsMeaning (F ++ G) y
+pub absorbed : {roster : ℕ} (log F G : List Fact) (x y : Meaning) → IsLog roster log → IsPart F log → IsPart G log → IsMeaning roster F x → IsMeaning roster G y → Covers y x → IsMeaning roster (F ++ G) y
 absorbed log F G x y l p q a b c = (b.0, meaning_alike G (F ++ G) b.0 y (adds_nothing log F G x y l p q a.0 b.0 a.1 b.1 (covers_at G y x b.0 b.1 c)) b.1)
 
-pub covers_of_parts : (log F G : List Fact) (x y : Meaning) → IsLog log → IsPart F G → IsPart G log → IsMeaning F x → IsMeaning G y → Covers y x
-covers_of_parts log F G x y l p q a b =
+pub covers_of_parts : {roster : ℕ} (log F G : List Fact) (x y : Meaning) → IsLog roster log → IsPart F G → IsPart G log → IsMeaning roster F x → IsMeaning roster G y → Covers y x
+covers_of_parts {roster} log F G x y l p q a b =
     let f = a.0 in let g = b.0 in
     let le : f.epoch ≤ g.epoch = epoch_le F G p f.epoch g.epoch a.1.position.epoch b.1.position.epoch in
-    let m : f.min ≤ g.min = min_le F G p f.epoch g.epoch le f.min g.min a.1.position.min b.1.position.min in
     let an : f.anchor ≤ g.anchor = (finality_law log F G f g l p q a.1.position b.1.position).0 in
-    let xa : x.anchor ≡ f.anchor = a.1.anchor in let ya : y.anchor ≡ g.anchor = b.1.anchor in
-    let xm : x.min ≡ f.min = a.1.min in let ym : y.min ≡ g.min = b.1.min in (
+    let xa : x.anchor ≡ f.anchor = a.1.anchor in let ya : y.anchor ≡ g.anchor = b.1.anchor in (
       g.epoch,
       record {
         epoch = greatest_by (HasCutsTo (cuts G)) (HasCutsTo y.cuts) (cuts_to_by (cuts G) y.cuts (λ d. ((b.1.cuts.members d).1, (b.1.cuts.members d).0))) (cuts_to_by y.cuts (cuts G) b.1.cuts.members) g.epoch b.1.position.epoch;
         cuts = λ d h. (b.1.cuts.members d).1 (part_cuts F G p d ((a.1.cuts.members d).0 h));
-        min = omega arith;
+        points = zip_of roster x.points y.points (count_of_points F f x a.1) (count_of_points G g y b.1) (λ reader r.
+            let xp : point_of x.points reader ≡ point_of f.points reader = ap (λ ps. point_of ps reader) a.1.points in
+            let yp : point_of y.points reader ≡ point_of g.points reader = ap (λ ps. point_of ps reader) b.1.points in
+            let m : point_of f.points reader ≤ point_of g.points reader = point_le F G p f.epoch g.epoch le reader (point_of f.points reader) (point_of g.points reader) (a.1.position.points.each reader r) (b.1.position.points.each reader r) in
+            omega arith);
         waits = λ d h.
             let s = (a.1.waits.members d).0 h in
             let h' = part_advances F G p d s.0 in
             ⊎_elim (λ (w : g.epoch < d.epoch). inl ((b.1.waits.members d).1 (h', w)))
-            (λ (known : g.epoch < d.epoch → ⊥). let e : d.epoch ≤ g.epoch = omega (arith, known) in let t : d.point ≤ g.min = advance_le (advances G) g.epoch g.min b.1.position.min d h' e in inr (e, omega arith))
+            (λ (known : g.epoch < d.epoch → ⊥). let e : d.epoch ≤ g.epoch = omega (arith, known) in
+            let inside : IsReader roster d.reader = l.reader d (part_advances G log q d h') in
+            let t : d.point ≤ point_of g.points d.reader = advance_le (advances G) g.epoch d.reader (point_of g.points d.reader) (b.1.position.points.each d.reader inside) d h' e refl in
+            let yp : point_of y.points d.reader ≡ point_of g.points d.reader = ap (λ ps. point_of ps d.reader) b.1.points in
+            inr (e, omega arith))
             (settled_lt g.epoch d.epoch);
         anchor = omega arith;
         kept = λ r h.
@@ -277,14 +292,14 @@ covers_of_parts log F G x y l p q a b =
       },
     )
 
-pub order_law : (log F G : List Fact) (x y : Meaning) → IsLog log → IsPart F log → IsPart G log → IsMeaning F x → IsMeaning G y → Covers y x ↔ IsAtMost log x y
+pub order_law : {roster : ℕ} (log F G : List Fact) (x y : Meaning) → IsLog roster log → IsPart F log → IsPart G log → IsMeaning roster F x → IsMeaning roster G y → Covers y x ↔ IsAtMost roster log x y
 order_law log F G x y l p q a b = (
   λ c. (F, F ++ G, left F G, both F G log p q, a, absorbed log F G x y l p q a b c),
   λ s. covers_of_parts log s.0 s.1 x y l s.2 s.3 s.4 s.5,
 )
 
-pub least_law : (log F G : List Fact) (x y u : Meaning) → IsLog log → IsPart F log → IsPart G log → IsMeaning F x → IsMeaning G y → IsMeaning (F ++ G) u → IsAtMost log x u × IsAtMost log y u × ((z : Meaning) → IsAtMost log x z → IsAtMost log y z → IsAtMost log u z)
-least_law log F G x y u l p q a b c = (
+pub least_law : {roster : ℕ} (log F G : List Fact) (x y u : Meaning) → IsLog roster log → IsPart F log → IsPart G log → IsMeaning roster F x → IsMeaning roster G y → IsMeaning roster (F ++ G) u → IsAtMost roster log x u × IsAtMost roster log y u × ((z : Meaning) → IsAtMost roster log x z → IsAtMost roster log y z → IsAtMost roster log u z)
+least_law {roster} log F G x y u l p q a b c = (
   (F, F ++ G, left F G, both F G log p q, a, c),
   (G, F ++ G, right F G, both F G log p q, b, c),
   λ z s t.
@@ -292,8 +307,8 @@ least_law log F G x y u l p q a b c = (
       let inl' : IsPart (s.0 ++ H) log = both s.0 H log (λ w h. s.3 w (s.2 w h)) s.3 in
       let cx : Covers z x = covers_of_parts log s.0 H x z l s.2 s.3 s.4 s.5 in
       let cy : Covers z y = covers_of_parts log t.0 t.1 y z l t.2 t.3 t.4 t.5 in
-      let fh : IsMeaning (F ++ H) z = absorbed log F H x z l p s.3 a s.5 cx in
+      let fh : IsMeaning roster (F ++ H) z = absorbed log F H x z l p s.3 a s.5 cx in
       let pf : IsPart (F ++ H) log = both F H log p s.3 in
-      let gfh : IsMeaning (G ++ (F ++ H)) z = absorbed log G (F ++ H) y z l q pf b fh cy in
+      let gfh : IsMeaning roster (G ++ (F ++ H)) z = absorbed log G (F ++ H) y z l q pf b fh cy in
       (F ++ G, G ++ (F ++ H), (λ w h. ⊎_elim (λ (v : Contains F w). right G (F ++ H) w (left F H w v)) (λ (v : Contains G w). left G (F ++ H) w v) (Contains-append_cases F G w h)), both G (F ++ H) log q pf, c, gfh),
 )

@@ -1,8 +1,9 @@
 -- Meanings of the parts of one log: unions, the order, least upper bounds.
 use Rattle.std.specs.Prelude.{ℕ, ◌≤◌, ◌⊎◌, ◌↔◌, List, ◌++◌}
-use Rattle.std.specs.List.{Contains}
+use Rattle.std.specs.List.{Contains, AllZip}
 use Rattle.redo_core.specs.Data.{RecordData, AdvanceData}
 use Rattle.redo_core.specs.Sets.{IsPart}
+use Rattle.redo_core.specs.Roster.{point_of}
 use Rattle.redo_core.specs.Standing.{IsDead}
 use Rattle.redo_core.specs.CompleteEpoch.{IsCompleteEpoch}
 use Rattle.redo_core.specs.Sound.{IsSound}
@@ -13,16 +14,17 @@ use Rattle.redo_core.specs.declared.facts.Fact.{Fact}
 -- Parts of one meaning have one meaning after a union with the same part.
 abbrev pub Congruence : Type 0
 Congruence =
-    (log part other more : List Fact) (m u : Meaning)
-    → IsSound log → IsPart part log → IsPart other log → IsPart more log
-    → IsMeaning part m → IsMeaning other m → IsMeaning (part ++ more) u → IsMeaning (other ++ more) u
+    (roster : ℕ) (log part other more : List Fact) (m u : Meaning)
+    → IsSound roster log → IsPart part log → IsPart other log → IsPart more log
+    → IsMeaning roster part m → IsMeaning roster other m → IsMeaning roster (part ++ more) u → IsMeaning roster (other ++ more) u
 
 -- Meaning y covers meaning x, where k is y's complete epoch: it has all of x that is neither dead nor settled in y.
 pub record CoversAt (k : ℕ) (y x : Meaning) : Type 0 where
   pub epoch : IsCompleteEpoch y.cuts k
   pub cuts : IsPart x.cuts y.cuts
-  pub min : x.min ≤ y.min
-  pub waits : (a : AdvanceData) → Contains x.waits a → Contains y.waits a ⊎ ((a.epoch ≤ k) × (a.point ≤ y.min))
+  -- each reader's point is at most the same reader's, of one roster
+  pub points : AllZip (λ p q. p ≤ q) x.points y.points
+  pub waits : (a : AdvanceData) → Contains x.waits a → Contains y.waits a ⊎ ((a.epoch ≤ k) × (a.point ≤ point_of y.points a.reader))
   pub anchor : x.anchor ≤ y.anchor
   pub kept : (r : RecordData) → Contains x.kept r → Contains y.kept r ⊎ (IsDead y.cuts k r.epoch r.number ⊎ ((r.number ≤ y.anchor) × (r.epoch ≤ k)))
 
@@ -32,25 +34,27 @@ Covers y x = (k : ℕ) × CoversAt k y x
 -- Meanings, compared by themselves, are in the order of parts of the log.
 abbrev pub OrderByParts : Type 0
 OrderByParts =
-    (log part other : List Fact) (x y : Meaning)
-    → IsSound log → IsPart part log → IsPart other log → IsMeaning part x → IsMeaning other y
-    → Covers y x ↔ IsAtMost log x y
+    (roster : ℕ) (log part other : List Fact) (x y : Meaning)
+    → IsSound roster log → IsPart part log → IsPart other log → IsMeaning roster part x → IsMeaning roster other y
+    → Covers y x ↔ IsAtMost roster log x y
 
 -- The meaning of a union is the least that is above both.
 abbrev pub LeastUpperBound : Type 0
 LeastUpperBound =
-    (log part other : List Fact) (x y u : Meaning)
-    → IsSound log → IsPart part log → IsPart other log → IsMeaning part x → IsMeaning other y → IsMeaning (part ++ other) u
-    → IsAtMost log x u × IsAtMost log y u × ((z : Meaning) → IsAtMost log x z → IsAtMost log y z → IsAtMost log u z)
+    (roster : ℕ) (log part other : List Fact) (x y u : Meaning)
+    → IsSound roster log → IsPart part log → IsPart other log
+    → IsMeaning roster part x → IsMeaning roster other y → IsMeaning roster (part ++ other) u
+    → IsAtMost roster log x u × IsAtMost roster log y u
+    × ((z : Meaning) → IsAtMost roster log x z → IsAtMost roster log y z → IsAtMost roster log u z)
 
 -- A union's meaning does not depend on how its parts are grouped.
 abbrev pub Associativity : Type 0
-Associativity = (x y z : List Fact) (m : Meaning) → IsMeaning ((x ++ y) ++ z) m ↔ IsMeaning (x ++ (y ++ z)) m
+Associativity = (roster : ℕ) (x y z : List Fact) (m : Meaning) → IsMeaning roster ((x ++ y) ++ z) m ↔ IsMeaning roster (x ++ (y ++ z)) m
 
 -- Nor on their order.
 abbrev pub Commutativity : Type 0
-Commutativity = (x y : List Fact) (m : Meaning) → IsMeaning (x ++ y) m ↔ IsMeaning (y ++ x) m
+Commutativity = (roster : ℕ) (x y : List Fact) (m : Meaning) → IsMeaning roster (x ++ y) m ↔ IsMeaning roster (y ++ x) m
 
 -- Nor on how often each is taken.
 abbrev pub Idempotence : Type 0
-Idempotence = (x : List Fact) (m : Meaning) → IsMeaning (x ++ x) m ↔ IsMeaning x m
+Idempotence = (roster : ℕ) (x : List Fact) (m : Meaning) → IsMeaning roster (x ++ x) m ↔ IsMeaning roster x m

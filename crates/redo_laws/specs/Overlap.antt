@@ -7,8 +7,8 @@ use Rattle.redo_core.specs.Sound.{IsSound}
 use Rattle.redo_core.specs.declared.facts.Fact.{Fact}
 
 -- the complete epoch and complete point of the facts are at or above (k, n)
-abbrev pub IsAtOrAbove : ℕ → ℕ → List Fact → Type 0
-IsAtOrAbove k n facts = (f : Position) × IsPosition facts f × ((k < f.epoch) ⊎ ((k ≡ f.epoch) × (n ≤ f.complete)))
+abbrev pub IsAtOrAbove : ℕ → ℕ → ℕ → List Fact → Type 0
+IsAtOrAbove roster k n facts = (f : Position) × IsPosition roster facts f × ((k < f.epoch) ⊎ ((k ≡ f.epoch) × (n ≤ f.complete)))
 
 -- how many of a choice are chosen
 abbrev pub count_of : List Bool → ℕ
@@ -27,8 +27,8 @@ union_of (false ∷ bs) (part ∷ parts) = union_of bs parts
 -- the parts, the union of the chosen ones is at or above (k, n).
 abbrev pub Overlap : Type 0
 Overlap =
-    (log : List Fact) (parts : List (List Fact)) (reached chosen : List Bool) (k n : ℕ)
-    → IsSound log → AllByRecursion (λ part. IsPart part log) parts
-    → AllZip (λ b part. b ≡ true → IsAtOrAbove k n part) reached parts → length chosen ≡ length parts
+    (roster : ℕ) (log : List Fact) (parts : List (List Fact)) (reached chosen : List Bool) (k n : ℕ)
+    → IsSound roster log → AllByRecursion (λ part. IsPart part log) parts
+    → AllZip (λ b part. b ≡ true → IsAtOrAbove roster k n part) reached parts → length chosen ≡ length parts
     → length parts < count_of reached + count_of chosen
-    → IsAtOrAbove k n (union_of chosen parts)
+    → IsAtOrAbove roster k n (union_of chosen parts)

@@ -12,13 +12,13 @@ use Rattle.redo_core.specs.declared.facts.Fact.{Fact}
 -- Up to a linked number, the linked records of a part are the log's records that are alive in the part's view.
 abbrev pub Prefix : Type 0
 Prefix =
-    (log part : List Fact) (p : Position) (n : ℕ) (r : RecordData)
-    → IsSound log → IsPart part log → IsPosition part p → IsLinked part p.epoch n → r.number ≤ n
+    (roster : ℕ) (log part : List Fact) (p : Position) (n : ℕ) (r : RecordData)
+    → IsSound roster log → IsPart part log → IsPosition roster part p → IsLinked part p.epoch n → r.number ≤ n
     → IsLinkedRecord part p.epoch r ↔ (Contains (records log) r × IsAlive (cuts log) p.epoch r.epoch r.number)
 
 -- What is linked at or below the anchor of a part is so in every larger part, and the anchor never falls.
 abbrev pub Finality : Type 0
 Finality =
-    (log part larger : List Fact) (p q : Position)
-    → IsSound log → IsPart part larger → IsPart larger log → IsPosition part p → IsPosition larger q
+    (roster : ℕ) (log part larger : List Fact) (p q : Position)
+    → IsSound roster log → IsPart part larger → IsPart larger log → IsPosition roster part p → IsPosition roster larger q
     → (p.anchor ≤ q.anchor) × ((r : RecordData) → r.number ≤ p.anchor → IsLinkedRecord part p.epoch r ↔ IsLinkedRecord larger q.epoch r)

@@ -1,15 +1,15 @@
 -- A small log that is sound, so that the laws say something.
-use Rattle.std.specs.Prelude.{List, [], ◌∷◌}
+use Rattle.std.specs.Prelude.{false, List, [], ◌∷◌}
 use Rattle.redo_core.specs.declared.facts.Fact.{Fact}
 use Rattle.redo_core.specs.declared.facts.Fact.TheVariants.{Record, Cut, Advance}
 use Rattle.redo_core.specs.Sound.{IsSound}
 
 abbrev pub sample : List Fact
 sample =
-    Record (record { epoch = 0; number = 3; back = 0; page = 7; block_back = 0; writes = [] })
-    ∷ Advance (record { epoch = 0; point = 3 })
+    Record (record { epoch = 0; number = 3; back = 0; page = 7; block_back = 0; init = false; patches = [] })
+    ∷ Advance (record { epoch = 0; reader = 1; point = 3 })
     ∷ Cut (record { epoch = 1; lo = 5; hi = 20 })
     ∷ []
 
 abbrev pub SampleIsSound : Type 0
-SampleIsSound = IsSound sample
+SampleIsSound = IsSound 1 sample

@@ -15,24 +15,24 @@ IsOne {X} P = (x : X) × P x × ((y : X) → P y → y ≡ x)
 
 -- Each part of a sound log has one position.
 abbrev pub OnePosition : Type 0
-OnePosition = (log part : List Fact) → IsSound log → IsPart part log → IsOne (IsPosition part)
+OnePosition = (roster : ℕ) (log part : List Fact) → IsSound roster log → IsPart part log → IsOne (IsPosition roster part)
 
 -- In each view of known truncations each page has one image at each point.
 abbrev pub OnePage : Type 0
 OnePage =
-    (log part : List Fact) (k page q : ℕ)
-    → IsSound log → IsPart part log → HasCutsTo (cuts part) k → IsOne (IsPageAt part k page q)
+    (roster : ℕ) (log part : List Fact) (k page q : ℕ)
+    → IsSound roster log → IsPart part log → HasCutsTo (cuts part) k → IsOne (IsPageAt part k page q)
 
 -- Each part of a sound log has one meaning.
 abbrev pub OneMeaning : Type 0
-OneMeaning = (log part : List Fact) → IsSound log → IsPart part log → IsOne (IsMeaning part)
+OneMeaning = (roster : ℕ) (log part : List Fact) → IsSound roster log → IsPart part log → IsOne (IsMeaning roster part)
 
 -- Two lists of the same facts have the same positions, linked numbers, pages and meanings.
 pub record AgreeOn (facts same : List Fact) : Type 0 where
-  pub positions : (p : Position) → IsPosition facts p ↔ IsPosition same p
+  pub positions : (roster : ℕ) (p : Position) → IsPosition roster facts p ↔ IsPosition roster same p
   pub linked : (k n : ℕ) → IsLinked facts k n ↔ IsLinked same k n
   pub pages : (k page q : ℕ) (image : List ℕ) → IsPageAt facts k page q image ↔ IsPageAt same k page q image
-  pub meanings : (m : Meaning) → IsMeaning facts m ↔ IsMeaning same m
+  pub meanings : (roster : ℕ) (m : Meaning) → IsMeaning roster facts m ↔ IsMeaning roster same m
 
 abbrev pub OnlyMembersCount : Type 0
 OnlyMembersCount = (facts same : List Fact) → SameSet facts same → AgreeOn facts same
@@ -40,6 +40,7 @@ OnlyMembersCount = (facts same : List Fact) → SameSet facts same → AgreeOn f
 -- Parts of one meaning have one position and the same pages.
 abbrev pub Answers : Type 0
 Answers =
-    (log part other : List Fact) (m : Meaning) (p q : Position)
-    → IsSound log → IsPart part log → IsPart other log → IsMeaning part m → IsMeaning other m → IsPosition part p → IsPosition other q
+    (roster : ℕ) (log part other : List Fact) (m : Meaning) (p q : Position)
+    → IsSound roster log → IsPart part log → IsPart other log
+    → IsMeaning roster part m → IsMeaning roster other m → IsPosition roster part p → IsPosition roster other q
     → (p ≡ q) × ((page point : ℕ) (image : List ℕ) → IsPageAt part p.epoch page point image ↔ IsPageAt other q.epoch page point image)

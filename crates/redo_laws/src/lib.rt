@@ -7,8 +7,10 @@
 #![tactic(auto)]
 
 ghost use Rattle.redo_laws.specs.OrderOfMeanings.{Congruence, OrderByParts, LeastUpperBound, Associativity, Commutativity, Idempotence};
+ghost use Rattle.redo_laws.specs.OneReader.{OneReader, OneReaderKeeps};
 ghost use Rattle.redo_laws.specs.Overlap.{Overlap};
 ghost use Rattle.redo_laws.specs.Parts.{Prefix, Finality};
+ghost use Rattle.redo_laws.specs.Passing.{PastByPoints, NonePassed};
 ghost use Rattle.redo_laws.specs.Sample.{SampleIsSound};
 ghost use Rattle.redo_laws.specs.WellFormed.{OnePosition, OnePage, OneMeaning, OnlyMembersCount, Answers};
 
@@ -80,6 +82,26 @@ pub fn only_members_count()
 /// Where a quorum of parts has reached a place, so has the union of every choice of parts that is sure to meet the quorum.
 pub fn overlap()
     ensures { Overlap }
+{}
+
+/// With one reader, the minimum read point is the greatest point that counts.
+pub fn one_reader()
+    ensures { OneReader }
+{}
+
+/// With one reader, an advance is kept where no later truncation cuts below its point.
+pub fn one_reader_keeps()
+    ensures { OneReaderKeeps }
+{}
+
+/// All readers are past a truncation where its `lo` is below the least of their points by the advances of earlier epochs.
+pub fn past_by_points()
+    ensures { PastByPoints }
+{}
+
+/// The advances of a log are kept from later truncations where no truncation has all readers past it.
+pub fn none_passed()
+    ensures { NonePassed }
 {}
 
 /// A log with a fact of each kind is sound, so the laws are not empty.

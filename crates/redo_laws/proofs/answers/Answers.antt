@@ -3,4 +3,4 @@ use Rattle.redo_laws.proofs.Union.{answers_law}
 use Rattle.redo_laws.proofs.answers.Goals as goal
 
 pub returns : goal.returns
-returns c = λ log F G m f g sound. answers_law log F G m f g (log_of_sound log sound)
+returns c = λ roster log F G m f g sound. answers_law log F G m f g (log_of_sound roster log sound)

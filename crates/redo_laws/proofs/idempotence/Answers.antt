@@ -2,4 +2,4 @@ use Rattle.redo_laws.proofs.SameSets.{same_meanings, twice}
 use Rattle.redo_laws.proofs.idempotence.Goals as goal
 
 pub returns : goal.returns
-returns c = λ x m. same_meanings _ _ m (twice x)
+returns c = λ roster x m. same_meanings roster _ _ m (twice x)
