@@ -1,20 +1,23 @@
 -- What two states know together means the union of what they mean.
-use Rattle.std.proofs.Common.{◌≡◌, ℕ, ◌<◌, ◌≤◌, ◌⊎◌, ◌↔◌, inl, inr, ⊎_elim, List, ◌++◌, sym, ◌∙◌, subst, arith}
+use Rattle.std.proofs.Common.{◌≡◌, ℕ, ◌<◌, ◌≤◌, ◌⊎◌, ◌↔◌, inl, inr, ⊎_elim, List, ◌++◌, length, refl, sym, ap, ◌∙◌, subst, arith}
 use Rattle.std.specs.List.{Contains}
-use Rattle.redo_core.specs.Data.{RecordData, CutData, AdvanceData}
+use Rattle.redo_core.specs.Data.{RecordData, AdvanceData}
 use Rattle.redo_core.specs.Sets.{IsPart, SameSet, records, cuts, advances}
 use Rattle.redo_core.specs.Order.{IsGreatest}
-use Rattle.redo_core.specs.CompleteEpoch.{HasCutsTo, IsCompleteEpoch}
+use Rattle.redo_core.specs.CompleteEpoch.{HasCutsTo}
 use Rattle.redo_core.specs.Standing.{IsAlive}
 use Rattle.redo_core.specs.Linked.{IsLinked, IsLinkedRecord}
-use Rattle.redo_core.specs.Position.{HasAdvance, Position, IsPosition}
+use Rattle.redo_core.specs.Roster.{IsReader, point_of}
+use Rattle.redo_core.specs.Points.{HasAdvance, IsPoint}
+use Rattle.redo_core.specs.Position.{Position, IsPosition}
 use Rattle.redo_core.specs.PageAt.{IsPageAt}
 use Rattle.redo_core.specs.Order.{BeforeByNumber}
 use Rattle.redo_core.specs.declared.facts.Fact.{Fact}
 use Rattle.redo_laws.proofs.Numbers.{greatest_unique}
+use Rattle.redo_core.proofs.Points.{same_points}
 use Rattle.redo_core.proofs.FactParts.{part_records, part_cuts, part_advances}
 use Rattle.redo_laws.proofs.Log.{IsLog, alive_within}
-use Rattle.redo_laws.proofs.Views.{has_cuts, alive_up, epoch_le, anchor_is, linked_stays, finality_law}
+use Rattle.redo_laws.proofs.Views.{has_cuts, alive_up, epoch_le, min_at, anchor_is, linked_stays, finality_law}
 use Rattle.redo_laws.proofs.Deciding.{settled_lt}
 use Rattle.redo_laws.proofs.Fronts.{front_exists}
 use Rattle.redo_laws.proofs.Meanings.{lists_as}
@@ -22,25 +25,10 @@ use Rattle.redo_laws.proofs.Alike.{cuts_to_by}
 use Rattle.redo_laws.proofs.Union.{left, right, both, cut_cases, record_cases, advance_cases, mattered, advance_le}
 use Rattle.segment_state.specs.State.{State, version_of, image_of}
 use Rattle.segment_state.specs.Means.{MeansAt, Means, Matters, IsFolded}
-
--- s' is what s and t know together, where k is the complete epoch of their truncations
-pub record JoinsAt (k : ℕ) (s t s' : State) : Type 0 where
-  pub epoch : IsCompleteEpoch s'.cuts k
-  pub cuts : (c : CutData) → Contains s'.cuts c ↔ (Contains s.cuts c ⊎ Contains t.cuts c)
-  pub waits : (a : AdvanceData) → Contains s'.waits a ↔ ((Contains s.waits a ⊎ Contains t.waits a) × (k < a.epoch))
-  -- the greatest of both minima and the points that wait no longer
-  pub min : IsGreatest (λ n. (n ≡ s.min) ⊎ ((n ≡ t.min) ⊎ ((a : AdvanceData) × (Contains s.waits a ⊎ Contains t.waits a) × (a.epoch ≤ k) × (a.point ≡ n)))) s'.min
-  pub base : ((s'.base ≡ s.base) ⊎ (s'.base ≡ t.base)) × (s.base ≤ s'.base) × (t.base ≤ s'.base)
-  pub of_both : (r : RecordData) → Contains s'.held r → Contains s.held r ⊎ Contains t.held r
-  pub kept : (r : RecordData) → Contains s.held r ⊎ Contains t.held r → Matters s'.cuts k r → Contains s'.held r ⊎ IsFolded s' k r
-  pub images : (g : ℕ) → ((version_of s'.store g ≡ version_of s.store g) × (image_of s'.store g ≡ image_of s.store g)) ⊎ ((version_of s'.store g ≡ version_of t.store g) × (image_of s'.store g ≡ image_of t.store g))
-  pub newest : (g : ℕ) → (version_of s.store g ≤ version_of s'.store g) × (version_of t.store g ≤ version_of s'.store g)
-
-abbrev pub Joins : State → State → State → Type 0
-Joins s t s' = (k : ℕ) × JoinsAt k s t s'
+use Rattle.segment_state.specs.Joining.{JoinedPoint, JoinsPoints, JoinsAt, Joins}
 
 -- a page up to the anchor is final
-pub page_final : (log F G : List Fact) (f g : Position) → IsLog log → IsPart F G → IsPart G log → IsPosition F f → IsPosition G g → (p v : ℕ) (i : List ℕ) → v ≤ f.anchor → IsPageAt F f.epoch p v i → IsPageAt G g.epoch p v i
+pub page_final : {roster : ℕ} (log F G : List Fact) (f g : Position) → IsLog roster log → IsPart F G → IsPart G log → IsPosition roster F f → IsPosition roster G g → (p v : ℕ) (i : List ℕ) → v ≤ f.anchor → IsPageAt F f.epoch p v i → IsPageAt G g.epoch p v i
 page_final log F G f g l pt q front gront p v i le page =
     let fin = (finality_law log F G f g l pt q front gront).1 in
     record {
@@ -51,8 +39,93 @@ page_final log F G f g l pt q front gront p v i le page =
       result = page.result;
     }
 
+-- the points and waiting advances of facts that stand at f
+pub record IsBookOf (roster : ℕ) (F : List Fact) (f : Position) (ps : List ℕ) (ws : List AdvanceData) : Type 0 where
+  pub position : IsPosition roster F f
+  pub points : ps ≡ f.points
+  pub waits : (a : AdvanceData) → Contains ws a ↔ (Contains (advances F) a × (f.epoch < a.epoch))
+
+pub book_of : {roster : ℕ} (log F : List Fact) (f : Position) (s : State) → MeansAt roster log F f s → IsBookOf roster F f s.points s.waits
+book_of log F f s m = record { position = m.position; points = m.same_points; waits = m.same_waits }
+
+-- one side of two books
+module _ {roster : ℕ} (F U : List Fact) (f u : Position) (ps : List ℕ) (ws : List AdvanceData) (p : IsPart F U) (b : IsBookOf roster F f ps ws) (front : IsPosition roster U u) where
+  point_there : (reader : ℕ) → IsReader roster reader → (point_of ps reader ≡ 0) ⊎ HasAdvance (advances U) u.epoch reader (point_of ps reader)
+  point_there reader r =
+      let x : point_of ps reader ≡ point_of f.points reader = ap (λ qs. point_of qs reader) b.points in
+      let le : f.epoch ≤ u.epoch = epoch_le F U p f.epoch u.epoch b.position.epoch front.epoch in
+      ⊎_elim (λ (e : point_of f.points reader ≡ 0). inl (x ∙ e)) (λ (a : HasAdvance (advances F) f.epoch reader (point_of f.points reader)). let t : a.0.epoch ≤ f.epoch = a.2 in inr (a.0, part_advances F U p a.0 a.1, omega arith, a.3, a.4 ∙ sym x)) (b.position.points.each reader r).0
+
+  -- an advance of the facts waits, or its point is at most its reader's
+  waits_or_known : (a : AdvanceData) → IsReader roster a.reader → Contains (advances F) a → Contains ws a ⊎ (a.point ≤ point_of ps a.reader)
+  waits_or_known a r h =
+      ⊎_elim
+      (λ (w : f.epoch < a.epoch). inl ((b.waits a).1 (h, w)))
+      (λ (known : f.epoch < a.epoch → ⊥). inr (
+      let t : a.point ≤ point_of f.points a.reader = advance_le (advances F) f.epoch a.reader (point_of f.points a.reader) (b.position.points.each a.reader r) a h (omega (arith, known)) refl in
+      let x : point_of ps a.reader ≡ point_of f.points a.reader = ap (λ qs. point_of qs a.reader) b.points in
+      omega arith))
+      (settled_lt f.epoch a.epoch)
+
+-- a reader's point in the union is the greatest of both points and those that wait no longer
+point_joined : {roster : ℕ} (F G : List Fact) (f g u : Position) (ps : List ℕ) (ws : List AdvanceData) (qs : List ℕ) (vs : List AdvanceData) → IsBookOf roster F f ps ws → IsBookOf roster G g qs vs → IsPosition roster (F ++ G) u → (reader : ℕ) → IsReader roster reader → IsGreatest (JoinedPoint u.epoch ps ws qs vs reader) (point_of u.points reader)
+point_joined {roster} F G f g u ps ws qs vs m n front reader r =
+    let up : IsPoint (advances (F ++ G)) u.epoch reader (point_of u.points reader) = front.points.each reader r in
+    let sm : point_of ps reader ≤ point_of u.points reader = ⊎_elim (λ (e : point_of ps reader ≡ 0). omega arith) (λ (h : HasAdvance (advances (F ++ G)) u.epoch reader (point_of ps reader)). up.1 (point_of ps reader) h) (point_there F (F ++ G) f u ps ws (left F G) m front reader r) in
+    let tm : point_of qs reader ≤ point_of u.points reader = ⊎_elim (λ (e : point_of qs reader ≡ 0). omega arith) (λ (h : HasAdvance (advances (F ++ G)) u.epoch reader (point_of qs reader)). up.1 (point_of qs reader) h) (point_there G (F ++ G) g u qs vs (right F G) n front reader r) in (
+      ⊎_elim
+          (λ (z : point_of u.points reader ≡ 0). inl z)
+          (λ (h : HasAdvance (advances (F ++ G)) u.epoch reader (point_of u.points reader)).
+          let e : h.0.reader ≡ reader = h.3 in
+          let c : h.0.point ≡ point_of u.points reader = h.4 in
+          let own : IsReader roster h.0.reader = subst (IsReader roster) (sym e) r in
+          inr (⊎_elim
+          (λ (x : Contains (advances F) h.0). ⊎_elim
+          (λ (w : Contains ws h.0). inr (inr (h.0, inl w, h.2, h.3, h.4)))
+          (λ (known : h.0.point ≤ point_of ps h.0.reader). inl (
+          let b : h.0.point ≤ point_of ps reader = subst (λ j. h.0.point ≤ point_of ps j) e known in omega arith))
+          (waits_or_known F (F ++ G) f u ps ws (left F G) m front h.0 own x))
+          (λ (x : Contains (advances G) h.0). ⊎_elim
+          (λ (w : Contains vs h.0). inr (inr (h.0, inr w, h.2, h.3, h.4)))
+          (λ (known : h.0.point ≤ point_of qs h.0.reader). inr (inl (
+          let b : h.0.point ≤ point_of qs reader = subst (λ j. h.0.point ≤ point_of qs j) e known in omega arith)))
+          (waits_or_known G (F ++ G) g u qs vs (right F G) n front h.0 own x))
+          (advance_cases F G h.0 h.1)))
+          up.0,
+      λ i h. ⊎_elim
+          (λ (e : i ≡ point_of ps reader). omega arith)
+          (λ h2. ⊎_elim
+          (λ (e : i ≡ point_of qs reader). omega arith)
+          (λ (a : (a : AdvanceData) × (Contains ws a ⊎ Contains vs a) × (a.epoch ≤ u.epoch) × (a.reader ≡ reader) × (a.point ≡ i)).
+          let c : a.0.point ≡ i = a.4 in
+          let d : a.0.point ≤ point_of u.points reader = advance_le (advances (F ++ G)) u.epoch reader (point_of u.points reader) up a.0
+          (⊎_elim (λ (y : Contains ws a.0). part_advances F (F ++ G) (left F G) a.0 ((m.waits a.0).0 y).0) (λ (y : Contains vs a.0). part_advances G (F ++ G) (right F G) a.0 ((n.waits a.0).0 y).0) a.1) a.2 a.3 in
+          omega arith)
+          h2)
+          h,
+    )
+
+-- so joined points are those of the union
+pub points_joined : {roster : ℕ} (F G : List Fact) (f g u : Position) (ps : List ℕ) (ws : List AdvanceData) (qs : List ℕ) (vs : List AdvanceData) (js : List ℕ) → IsBookOf roster F f ps ws → IsBookOf roster G g qs vs → IsPosition roster (F ++ G) u → JoinsPoints u.epoch ps ws qs vs js → js ≡ u.points
+points_joined {roster} F G f g u ps ws qs vs js m n front j =
+    let own : length ps ≡ roster = ap length m.points ∙ m.position.points.count in
+    same_points roster js u.points (j.count ∙ own) front.points.count
+    (λ reader r. greatest_unique (JoinedPoint u.epoch ps ws qs vs reader) (JoinedPoint u.epoch ps ws qs vs reader) (λ i. (λ x. x, λ x. x)) (point_of js reader) (point_of u.points reader)
+    (j.each reader (subst (λ c. IsReader c reader) (sym own) r)) (point_joined F G f g u ps ws qs vs m n front reader r))
+
+-- waiting advances that are joined are those of the union
+pub waits_joined : {roster : ℕ} (log F G : List Fact) (f g u : Position) (ps : List ℕ) (ws : List AdvanceData) (qs : List ℕ) (vs js : List AdvanceData) → IsBookOf roster F f ps ws → IsBookOf roster G g qs vs → IsPosition roster (F ++ G) u → ((a : AdvanceData) → Contains js a ↔ ((Contains ws a ⊎ Contains vs a) × (u.epoch < a.epoch))) → (a : AdvanceData) → Contains js a ↔ (Contains (advances (F ++ G)) a × (u.epoch < a.epoch))
+waits_joined log F G f g u ps ws qs vs js m n front j a =
+    let fe : f.epoch ≤ u.epoch = epoch_le F (F ++ G) (left F G) f.epoch u.epoch m.position.epoch front.epoch in
+    let ge : g.epoch ≤ u.epoch = epoch_le G (F ++ G) (right F G) g.epoch u.epoch n.position.epoch front.epoch in (
+      λ h. let x = (j a).0 h in
+          (⊎_elim (λ (y : Contains ws a). part_advances F (F ++ G) (left F G) a ((m.waits a).0 y).0) (λ (y : Contains vs a). part_advances G (F ++ G) (right F G) a ((n.waits a).0 y).0) x.0, x.1),
+      λ h. let lt : u.epoch < a.epoch = h.1 in
+          (j a).1 (⊎_elim (λ (y : Contains (advances F) a). inl ((m.waits a).1 (y, omega arith))) (λ (y : Contains (advances G) a). inr ((n.waits a).1 (y, omega arith))) (advance_cases F G a h.0), lt),
+    )
+
 -- one side of a join
-module _ (log F U : List Fact) (f u : Position) (s : State) (l : IsLog log) (p : IsPart F U) (q : IsPart U log) (m : MeansAt log F f s) (front : IsPosition U u) where
+module _ {roster : ℕ} (log F U : List Fact) (f u : Position) (s : State) (l : IsLog roster log) (p : IsPart F U) (q : IsPart U log) (m : MeansAt roster log F f s) (front : IsPosition roster U u) where
   pub epochs : f.epoch ≤ u.epoch
   epochs = epoch_le F U p f.epoch u.epoch m.position.epoch front.epoch
 
@@ -64,7 +137,7 @@ module _ (log F U : List Fact) (f u : Position) (s : State) (l : IsLog log) (p :
       let le : s.base ≤ f.anchor = m.base.1 in
       let am : f.anchor ≤ f.min = (anchor_is F f m.position).1 in
       let an = anchors in
-      (linked_stays log F U l p q f.epoch f.min u.epoch (has_cuts (cuts F) f.epoch m.position.epoch) m.position.min epochs (has_cuts (cuts U) u.epoch front.epoch) s.base (omega arith) m.base.0, omega arith)
+      (linked_stays log F U l p q f.epoch f.min u.epoch (has_cuts (cuts F) f.epoch m.position.epoch) (min_at roster F f m.position) epochs (has_cuts (cuts U) u.epoch front.epoch) s.base (omega arith) m.base.0, omega arith)
 
   pub mattered_before : (r : RecordData) → Matters (cuts U) u.epoch r → Matters (cuts F) f.epoch r
   mattered_before r h =
@@ -73,22 +146,6 @@ module _ (log F U : List Fact) (f u : Position) (s : State) (l : IsLog log) (p :
 
   pub held_there : (r : RecordData) → Contains s.held r → Matters (cuts U) u.epoch r → Contains (records U) r
   held_there r h mat = part_records F U p r (m.of_facts r h (mattered_before r mat))
-
-  pub point_le : (n : ℕ) → s.min ≤ n → ((a : AdvanceData) → Contains s.waits a → a.epoch ≤ u.epoch → a.point ≤ n) → (a : AdvanceData) → Contains (advances F) a → a.epoch ≤ u.epoch → a.point ≤ n
-  point_le n le waits a h e =
-      ⊎_elim
-      (λ (w : f.epoch < a.epoch). waits a ((m.same_waits a).1 (h, w)) e)
-      (λ (known : f.epoch < a.epoch → ⊥).
-      let t : a.point ≤ f.min = advance_le (advances F) f.epoch f.min m.position.min a h (omega (arith, known)) in
-      let x : s.min ≡ f.min = m.same_min in
-      omega arith)
-      (settled_lt f.epoch a.epoch)
-
-  pub min_there : (s.min ≡ 0) ⊎ HasAdvance (advances U) u.epoch s.min
-  min_there =
-      let x : s.min ≡ f.min = m.same_min in
-      let le = epochs in
-      ⊎_elim (λ (e : f.min ≡ 0). inl (x ∙ e)) (λ (a : HasAdvance (advances F) f.epoch f.min). let t : a.0.epoch ≤ f.epoch = a.2 in inr (a.0, part_advances F U p a.0 a.1, omega arith, a.3 ∙ sym x)) m.position.min.0
 
   pub image_stays : (g : ℕ) → (version_of s.store g ≤ u.anchor) × IsPageAt U u.epoch g (version_of s.store g) (image_of s.store g)
   image_stays g = (let a = anchors in let v : version_of s.store g ≤ f.anchor = m.versions g in omega arith, page_final log F U f u l p q m.position front g (version_of s.store g) (image_of s.store g) (m.versions g) (m.images g))
@@ -100,7 +157,7 @@ image_as : (F G : List Fact) (u : Position) (p v w : ℕ) (i j : List ℕ) → w
 image_as F G u p v w i j a b h = subst (λ x. (x ≤ u.anchor) × IsPageAt (F ++ G) u.epoch p x j) (sym a) (subst (λ x. (v ≤ u.anchor) × IsPageAt (F ++ G) u.epoch p v x) (sym b) h)
 
 -- an image that comes from one side
-image_joined : (log F G : List Fact) (f g u : Position) (s t s' : State) → IsLog log → IsPart (F ++ G) log → MeansAt log F f s → MeansAt log G g t → IsPosition (F ++ G) u → (p : ℕ) → ((version_of s'.store p ≡ version_of s.store p) × (image_of s'.store p ≡ image_of s.store p)) ⊎ ((version_of s'.store p ≡ version_of t.store p) × (image_of s'.store p ≡ image_of t.store p)) → (version_of s'.store p ≤ u.anchor) × IsPageAt (F ++ G) u.epoch p (version_of s'.store p) (image_of s'.store p)
+image_joined : {roster : ℕ} (log F G : List Fact) (f g u : Position) (s t s' : State) → IsLog roster log → IsPart (F ++ G) log → MeansAt roster log F f s → MeansAt roster log G g t → IsPosition roster (F ++ G) u → (p : ℕ) → ((version_of s'.store p ≡ version_of s.store p) × (image_of s'.store p ≡ image_of s.store p)) ⊎ ((version_of s'.store p ≡ version_of t.store p) × (image_of s'.store p ≡ image_of t.store p)) → (version_of s'.store p ≤ u.anchor) × IsPageAt (F ++ G) u.epoch p (version_of s'.store p) (image_of s'.store p)
 image_joined log F G f g u s t s' l q m n front p h =
     ⊎_elim
     (λ (x : (version_of s'.store p ≡ version_of s.store p) × (image_of s'.store p ≡ image_of s.store p)).
@@ -111,44 +168,8 @@ image_joined log F G f g u s t s' l q m n front p h =
     image_as F G u p (version_of t.store p) (version_of s'.store p) (image_of t.store p) (image_of s'.store p) x.0 x.1 y)
     h
 
--- the union's minimum is the greatest of both minima and the points that wait no longer
-min_joined : (log F G : List Fact) (f g u : Position) (s t : State) → IsLog log → IsPart (F ++ G) log → MeansAt log F f s → MeansAt log G g t → IsPosition (F ++ G) u → IsGreatest (λ i. (i ≡ s.min) ⊎ ((i ≡ t.min) ⊎ ((a : AdvanceData) × (Contains s.waits a ⊎ Contains t.waits a) × (a.epoch ≤ u.epoch) × (a.point ≡ i)))) u.min
-min_joined log F G f g u s t l q m n front =
-    let Point : ℕ → Type 0 = λ i. (i ≡ s.min) ⊎ ((i ≡ t.min) ⊎ ((a : AdvanceData) × (Contains s.waits a ⊎ Contains t.waits a) × (a.epoch ≤ u.epoch) × (a.point ≡ i))) in
-    let sm : s.min ≤ u.min = ⊎_elim (λ (e : s.min ≡ 0). omega arith) (λ (h : HasAdvance (advances (F ++ G)) u.epoch s.min). front.min.1 s.min h) (min_there log F (F ++ G) f u s l (left F G) q m front) in
-    let tm : t.min ≤ u.min = ⊎_elim (λ (e : t.min ≡ 0). omega arith) (λ (h : HasAdvance (advances (F ++ G)) u.epoch t.min). front.min.1 t.min h) (min_there log G (F ++ G) g u t l (right F G) q n front) in (
-      ⊎_elim
-          (λ (z : u.min ≡ 0). inl z)
-          (λ (h : HasAdvance (advances (F ++ G)) u.epoch u.min). inr (⊎_elim
-          (λ (x : Contains (advances F) h.0). ⊎_elim
-          (λ (w : f.epoch < h.0.epoch). inr (inr (h.0, inl ((m.same_waits h.0).1 (x, w)), h.2, h.3)))
-          (λ (known : f.epoch < h.0.epoch → ⊥). inl (
-          let a : h.0.point ≤ f.min = advance_le (advances F) f.epoch f.min m.position.min h.0 x (omega (arith, known)) in
-          let b : s.min ≡ f.min = m.same_min in let c : h.0.point ≡ u.min = h.3 in omega arith))
-          (settled_lt f.epoch h.0.epoch))
-          (λ (x : Contains (advances G) h.0). ⊎_elim
-          (λ (w : g.epoch < h.0.epoch). inr (inr (h.0, inr ((n.same_waits h.0).1 (x, w)), h.2, h.3)))
-          (λ (known : g.epoch < h.0.epoch → ⊥). inr (inl (
-          let a : h.0.point ≤ g.min = advance_le (advances G) g.epoch g.min n.position.min h.0 x (omega (arith, known)) in
-          let b : t.min ≡ g.min = n.same_min in let c : h.0.point ≡ u.min = h.3 in omega arith)))
-          (settled_lt g.epoch h.0.epoch))
-          (advance_cases F G h.0 h.1)))
-          front.min.0,
-      λ i h. ⊎_elim
-          (λ (e : i ≡ s.min). omega arith)
-          (λ h2. ⊎_elim
-          (λ (e : i ≡ t.min). omega arith)
-          (λ (a : (a : AdvanceData) × (Contains s.waits a ⊎ Contains t.waits a) × (a.epoch ≤ u.epoch) × (a.point ≡ i)).
-          let c : a.0.point ≡ i = a.3 in
-          let d : a.0.point ≤ u.min = advance_le (advances (F ++ G)) u.epoch u.min front.min a.0
-          (⊎_elim (λ (y : Contains s.waits a.0). part_advances F (F ++ G) (left F G) a.0 ((m.same_waits a.0).0 y).0) (λ (y : Contains t.waits a.0). part_advances G (F ++ G) (right F G) a.0 ((n.same_waits a.0).0 y).0) a.1) a.2 in
-          omega arith)
-          h2)
-          h,
-    )
-
-join_at : (log F G : List Fact) (f g u : Position) (s t s' : State) (k : ℕ) → IsLog log → IsPart (F ++ G) log → MeansAt log F f s → MeansAt log G g t → IsPosition (F ++ G) u → (k ≡ u.epoch) → SameSet s'.cuts (cuts (F ++ G)) → JoinsAt u.epoch s t s' → MeansAt log (F ++ G) u s'
-join_at log F G f g u s t s' k l q m n front e sc j =
+join_at : {roster : ℕ} (log F G : List Fact) (f g u : Position) (s t s' : State) (k : ℕ) → IsLog roster log → IsPart (F ++ G) log → MeansAt roster log F f s → MeansAt roster log G g t → IsPosition roster (F ++ G) u → (k ≡ u.epoch) → SameSet s'.cuts (cuts (F ++ G)) → JoinsAt u.epoch s t s' → MeansAt roster log (F ++ G) u s'
+join_at {roster} log F G f g u s t s' k l q m n front e sc j =
     let U = F ++ G in
     let lu : IsPart F (F ++ G) = left F G in
     let ru : IsPart G (F ++ G) = right F G in
@@ -158,15 +179,8 @@ join_at log F G f g u s t s' k l q m n front e sc j =
       part = q;
       position = front;
       same_cuts = sc;
-      same_min = greatest_unique (λ i. (i ≡ s.min) ⊎ ((i ≡ t.min) ⊎ ((a : AdvanceData) × (Contains s.waits a ⊎ Contains t.waits a) × (a.epoch ≤ u.epoch) × (a.point ≡ i)))) (λ i. (i ≡ s.min) ⊎ ((i ≡ t.min) ⊎ ((a : AdvanceData) × (Contains s.waits a ⊎ Contains t.waits a) × (a.epoch ≤ u.epoch) × (a.point ≡ i)))) (λ i. (λ x. x, λ x. x)) s'.min u.min j.min (min_joined log F G f g u s t l q m n front);
-      same_waits = λ a. (
-        λ h. let x = (j.waits a).0 h in
-            (⊎_elim (λ (y : Contains s.waits a). part_advances F (F ++ G) lu a ((m.same_waits a).0 y).0) (λ (y : Contains t.waits a). part_advances G (F ++ G) ru a ((n.same_waits a).0 y).0) x.0, x.1),
-        λ h. let fe : f.epoch ≤ u.epoch = epochs log F (F ++ G) f u s l lu q m front in
-            let ge : g.epoch ≤ u.epoch = epochs log G (F ++ G) g u t l ru q n front in
-            let lt : u.epoch < a.epoch = h.1 in
-            (j.waits a).1 (⊎_elim (λ (y : Contains (advances F) a). inl ((m.same_waits a).1 (y, omega arith))) (λ (y : Contains (advances G) a). inr ((n.same_waits a).1 (y, omega arith))) (advance_cases F G a h.0), lt),
-      );
+      same_points = points_joined F G f g u s.points s.waits t.points t.waits s'.points (book_of log F f s m) (book_of log G g t n) front j.points;
+      same_waits = waits_joined log F G f g u s.points s.waits t.points t.waits s'.waits (book_of log F f s m) (book_of log G g t n) front j.waits;
       base = ⊎_elim
           (λ (x : s'.base ≡ s.base). subst (λ b. IsLinked (F ++ G) u.epoch b × (b ≤ u.anchor)) (sym x) (base_stays log F (F ++ G) f u s l lu q m front))
           (λ (x : s'.base ≡ t.base). subst (λ b. IsLinked (F ++ G) u.epoch b × (b ≤ u.anchor)) (sym x) (base_stays log G (F ++ G) g u t l ru q n front))
@@ -188,11 +202,11 @@ join_at log F G f g u s t s' k l q m n front e sc j =
       images = λ p. (image_joined log F G f g u s t s' l q m n front p (j.images p)).1;
     }
 
-pub join_law : (log F G : List Fact) (s t s' : State) → IsLog log → Means log F s → Means log G t → Joins s t s' → Means log (F ++ G) s'
-join_law log F G s t s' l ms mt js =
+pub join_law : {roster : ℕ} (log F G : List Fact) (s t s' : State) → IsLog roster log → Means roster log F s → Means roster log G t → Joins s t s' → Means roster log (F ++ G) s'
+join_law {roster} log F G s t s' l ms mt js =
     let m = ms.1 in let n = mt.1 in let j = js.1 in
     let q : IsPart (F ++ G) log = both F G log m.part n.part in
-    let ue = front_exists (F ++ G) (λ r h. (l.backs r (part_records (F ++ G) log q r h)).1) in
+    let ue = front_exists roster (F ++ G) (λ r h. (l.backs r (part_records (F ++ G) log q r h)).1) in
     let sc : SameSet s'.cuts (cuts (F ++ G)) = λ c. (
       λ h. ⊎_elim (λ (x : Contains s.cuts c). part_cuts F (F ++ G) (left F G) c ((m.same_cuts c).0 x)) (λ (x : Contains t.cuts c). part_cuts G (F ++ G) (right F G) c ((n.same_cuts c).0 x)) ((j.cuts c).0 h),
       λ h. (j.cuts c).1 (⊎_elim (λ (x : Contains (cuts F) c). inl ((m.same_cuts c).1 x)) (λ (x : Contains (cuts G) c). inr ((n.same_cuts c).1 x)) (cut_cases F G c h)),

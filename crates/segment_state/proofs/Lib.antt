@@ -10,3 +10,6 @@ pub mod Learnt
 pub mod Shed
 pub mod Chains
 pub mod Storing
+pub mod Absorbing
+pub mod Replying
+pub mod Anew

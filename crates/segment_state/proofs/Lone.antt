@@ -1,10 +1,10 @@
 -- A record by itself is a little state.
-use Rattle.std.proofs.Common.{◌≡◌, ℕ, ◌<◌, ◌≤◌, inl, ⊎_elim, List, [], ◌∷◌, refl, sym, subst, arith}
+use Rattle.std.proofs.Common.{◌≡◌, ℕ, ◌<◌, ◌≤◌, inl, ⊎_elim, List, [], ◌∷◌, refl, subst, arith}
 use Rattle.std.specs.List.{Contains}
 use Rattle.redo_core.specs.Data.{RecordData}
 use Rattle.redo_core.specs.Sets.{records, advances}
 use Rattle.redo_core.specs.Writing.{zeros}
-use Rattle.redo_core.specs.Position.{HasAdvance, Position, IsPosition}
+use Rattle.redo_core.specs.Position.{Position, IsPosition}
 use Rattle.redo_core.specs.PageAt.{IsPageAt}
 use Rattle.redo_core.specs.Linked.Linked.{start}
 use Rattle.redo_core.specs.declared.facts.Fact.{Fact}
@@ -15,55 +15,58 @@ use Rattle.redo_laws.proofs.Log.{IsLog}
 use Rattle.redo_laws.proofs.Fronts.{front_exists}
 use Rattle.segment_state.specs.State.{State, version_of, image_of}
 use Rattle.segment_state.specs.Means.{MeansAt, Means}
+use Rattle.segment_state.proofs.Bare.{AreZero, zero_points}
 use Rattle.segment_state.proofs.OneFact.{part_of, record_no_cut, record_no_advance, record_only, record_there}
 
 -- the state of one record
-unfoldable pub lone : RecordData → State
-lone r = record { cuts = []; min = 0; waits = []; held = r ∷ []; base = 0; store = record { images = []; floor = 0 } }
+unfoldable pub lone : List ℕ → RecordData → State
+lone ps r = record { cuts = []; points = ps; waits = []; held = r ∷ []; base = 0; store = record { images = []; floor = 0 } }
 
-pub lone_version : (r : RecordData) (g : ℕ) → version_of (lone r).store g ≡ 0
+pub lone_version : (ps : List ℕ) (r : RecordData) (g : ℕ) → version_of (lone ps r).store g ≡ 0
 unfolding version_of lone
-lone_version r g = refl
+lone_version ps r g = refl
 
-lone_image : (r : RecordData) (g : ℕ) → image_of (lone r).store g ≡ zeros
+lone_image : (ps : List ℕ) (r : RecordData) (g : ℕ) → image_of (lone ps r).store g ≡ zeros
 unfolding image_of lone
-lone_image r g = refl
+lone_image ps r g = refl
 
-lone_means_at : (log : List Fact) (r : RecordData) (f : Position) → IsLog log → Contains (records log) r → IsPosition (Record r ∷ []) f → MeansAt log (Record r ∷ []) f (lone r)
+lone_means_at : {roster : ℕ} (log : List Fact) (ps : List ℕ) (r : RecordData) (f : Position) → IsLog roster log → Contains (records log) r → IsPosition roster (Record r ∷ []) f → ps ≡ f.points → MeansAt roster log (Record r ∷ []) f (lone ps r)
 unfolding lone
-lone_means_at log r f l h front =
+lone_means_at {roster} log ps r f l h front sp =
     let F : List Fact = Record r ∷ [] in
-    let m : f.min ≡ 0 = ⊎_elim (λ (e : f.min ≡ 0). e) (λ (x : HasAdvance (advances (Record r ∷ [])) f.epoch f.min). absurd (record_no_advance r x.0 x.1)) front.min.0 in
     record {
       part = part_of log (Record r) ((record_in log r).0 h);
       position = front;
       same_cuts = λ c. (λ x. absurd (none_in c x), λ x. absurd (record_no_cut r c x));
-      same_min = sym m;
+      same_points = sp;
       same_waits = λ a. (λ x. absurd (none_in a x), λ x. absurd (record_no_advance r a x.0));
       base = (start, omega arith);
       of_log = λ s x. subst (Contains (records log)) (⊎_elim (λ (e : r ≡ s). e) (λ (y : Contains [] s). absurd (none_in s y)) (which r [] s x)) h;
       of_facts = λ s x mat. subst (Contains (records (Record r ∷ []))) (⊎_elim (λ (e : r ≡ s). e) (λ (y : Contains [] s). absurd (none_in s y)) (which r [] s x)) (record_there r);
       kept = λ s x mat. inl (subst (Contains (r ∷ [])) (record_only r s x) (here r []));
-      versions = λ g. let e = lone_version r g in omega arith;
-      images = λ g. zero_page log r f l h g;
+      versions = λ g. let e = lone_version ps r g in omega arith;
+      images = λ g. zero_page log ps r f l h g;
     }
   where
-    zero_page : (log : List Fact) (r : RecordData) (f : Position) → IsLog log → Contains (records log) r → (g : ℕ) → IsPageAt (Record r ∷ []) f.epoch g (version_of (lone r).store g) (image_of (lone r).store g)
-    zero_page log r f l h g = record {
+    zero_page : (log : List Fact) (ps : List ℕ) (r : RecordData) (f : Position) → IsLog roster log → Contains (records log) r → (g : ℕ) → IsPageAt (Record r ∷ []) f.epoch g (version_of (lone ps r).store g) (image_of (lone ps r).store g)
+    zero_page log ps r f l h g = record {
       written = [];
       lists = record {
         rising = tt;
         members = λ s. (
           λ x. absurd (none_in s x),
           λ x. absurd (
-              let a : s.number ≤ version_of (lone r).store g = x.2 in let b = lone_version r g in
+              let a : s.number ≤ version_of (lone ps r).store g = x.2 in let b = lone_version ps r g in
               let c : 0 < s.number = (l.backs s (subst (Contains (records log)) (record_only r s x.0.among) h)).0 in omega arith),
         );
       };
-      result = lone_image r g;
+      result = lone_image ps r g;
     }
 
-pub lone_means : (log : List Fact) (r : RecordData) → IsLog log → Contains (records log) r → Means log (Record r ∷ []) (lone r)
-lone_means log r l h =
-    let f = front_exists (Record r ∷ []) (λ s x. (l.backs s (subst (Contains (records log)) (record_only r s x) h)).1) in
-    (f.0, lone_means_at log r f.0 l h f.1)
+pub lone_means : {roster : ℕ} (log : List Fact) (r : RecordData) → IsLog roster log → Contains (records log) r → (ps : List ℕ) × AreZero roster ps × Means roster log (Record r ∷ []) (lone ps r)
+lone_means {roster} log r l h =
+    let f = front_exists roster (Record r ∷ []) (λ s x. (l.backs s (subst (Contains (records log)) (record_only r s x) h)).1) in (
+      f.0.points,
+      zero_points roster (advances (Record r ∷ [])) f.0.epoch f.0.points f.1.points (λ a x le. record_no_advance r a x),
+      (f.0, lone_means_at log f.0.points r f.0 l h f.1 refl),
+    )

@@ -62,21 +62,21 @@ page_from F k g v q image us le p l = record {
 
 -- standings in the state are those in the facts
 
-pub alive_in_facts : (log F : List Fact) (f : Position) (s : State) → MeansAt log F f s → (e n : ℕ) → IsAlive s.cuts f.epoch e n ↔ IsAlive (cuts F) f.epoch e n
+pub alive_in_facts : {roster : ℕ} (log F : List Fact) (f : Position) (s : State) → MeansAt roster log F f s → (e n : ℕ) → IsAlive s.cuts f.epoch e n ↔ IsAlive (cuts F) f.epoch e n
 alive_in_facts log F f s m e n = (
   λ a. alive_within (cuts F) s.cuts (λ c h. (m.same_cuts c).1 h) f.epoch e n a,
   λ a. alive_within s.cuts (cuts F) (λ c h. (m.same_cuts c).0 h) f.epoch e n a,
 )
 
 -- a linked number below a record is at most the record's backlink
-linked_at_most_back : (log F : List Fact) → IsLog log → IsPart F log → (k : ℕ) → HasCutsTo (cuts F) k → (r : RecordData) → Contains (records F) r → IsAlive (cuts F) k r.epoch r.number → (n : ℕ) → IsLinked F k n → n < r.number → n ≤ r.back
+linked_at_most_back : {roster : ℕ} (log F : List Fact) → IsLog roster log → IsPart F log → (k : ℕ) → HasCutsTo (cuts F) k → (r : RecordData) → Contains (records F) r → IsAlive (cuts F) k r.epoch r.number → (n : ℕ) → IsLinked F k n → n < r.number → n ≤ r.back
 linked_at_most_back log F l p k has r hr ar n start lt = omega arith
 linked_at_most_back log F l p k has r hr ar n (next s hs as' b linked) lt =
     let hasl : HasCutsTo (cuts log) k = λ e i u. let c = has e i u in (c.0, part_cuts F log p c.0 c.1, c.2) in
     let r' = part_records F log p r hr in let s' = part_records F log p s hs in
     l.last r s r' s' (alive_then log l k hasl r s (alive_up log F l p k r.epoch r.number has ar) (alive_up log F l p k s.epoch s.number has as') lt) lt
 
-links_up : (log F : List Fact) (f : Position) (s : State) → IsLog log → MeansAt log F f s → (n : ℕ) → IsLinked F f.epoch n → s.base ≤ n → Linked s.cuts s.held f.epoch s.base n
+links_up : {roster : ℕ} (log F : List Fact) (f : Position) (s : State) → IsLog roster log → MeansAt roster log F f s → (n : ℕ) → IsLinked F f.epoch n → s.base ≤ n → Linked s.cuts s.held f.epoch s.base n
 links_up log F f s l m n start le = let e : s.base ≡ 0 = omega arith in subst (Linked s.cuts s.held f.epoch s.base) e start
 links_up log F f s l m n (next r h a b linked) le =
     ⊎_elim
@@ -88,17 +88,17 @@ links_up log F f s l m n (next r h a b linked) le =
     next r held ((alive_in_facts log F f s m r.epoch r.number).1 a) lt (links_up log F f s l m r.back linked back))
     (let t : (s.base ≡ r.number) ⊎ (s.base < r.number) = grind arith in t)
 
-links_down : (log F : List Fact) (f : Position) (s : State) → MeansAt log F f s → (n : ℕ) → Linked s.cuts s.held f.epoch s.base n → IsLinked F f.epoch n × (s.base ≤ n)
+links_down : {roster : ℕ} (log F : List Fact) (f : Position) (s : State) → MeansAt roster log F f s → (n : ℕ) → Linked s.cuts s.held f.epoch s.base n → IsLinked F f.epoch n × (s.base ≤ n)
 links_down log F f s m n start = (m.base.0, omega arith)
 links_down log F f s m n (next r h a b linked) =
     let a' : IsAlive (cuts F) f.epoch r.epoch r.number = (alive_in_facts log F f s m r.epoch r.number).0 a in
     (next r (m.of_facts r h (inr a')) a' (omega arith) (links_down log F f s m r.back linked).0, omega arith)
 
-pub links_law : (log F : List Fact) (f : Position) (s : State) (n : ℕ) → IsLog log → MeansAt log F f s → Linked s.cuts s.held f.epoch s.base n ↔ (IsLinked F f.epoch n × (s.base ≤ n))
+pub links_law : {roster : ℕ} (log F : List Fact) (f : Position) (s : State) (n : ℕ) → IsLog roster log → MeansAt roster log F f s → Linked s.cuts s.held f.epoch s.base n ↔ (IsLinked F f.epoch n × (s.base ≤ n))
 links_law log F f s n l m = (links_down log F f s m n, λ h. links_up log F f s l m n h.0 h.1)
 
 -- what is held of a page is what the facts have above its version
-pub held_of : (log F : List Fact) (f : Position) (s : State) → IsLog log → MeansAt log F f s → (g q : ℕ) → q ≤ f.complete → (r : RecordData) → IsHeldOf s f.epoch g q r ↔ OfPage F f.epoch g (version_of s.store g) q r
+pub held_of : {roster : ℕ} (log F : List Fact) (f : Position) (s : State) → IsLog roster log → MeansAt roster log F f s → (g q : ℕ) → q ≤ f.complete → (r : RecordData) → IsHeldOf s f.epoch g q r ↔ OfPage F f.epoch g (version_of s.store g) q r
 held_of log F f s l m g q le r = (
   λ h.
       let a = (alive_in_facts log F f s m r.epoch r.number).0 h.1 in
@@ -118,7 +118,7 @@ held_of log F f s l m g q le r = (
 )
 
 -- the page's records above a version, in order
-further : (log F : List Fact) → IsLog log → IsPart F log → (k : ℕ) → HasCutsTo (cuts F) k → (g v q : ℕ) (image : List ℕ) → IsPageAt F k g q image → (us : List RecordData) × Lists BeforeByNumber (OfPage F k g v q) us
+further : {roster : ℕ} (log F : List Fact) → IsLog roster log → IsPart F log → (k : ℕ) → HasCutsTo (cuts F) k → (g v q : ℕ) (image : List ℕ) → IsPageAt F k g q image → (us : List RecordData) × Lists BeforeByNumber (OfPage F k g v q) us
 further log F l p k has g v q image page =
     let hasl : HasCutsTo (cuts log) k = λ e i u. let c = has e i u in (c.0, part_cuts F log p c.0 c.1, c.2) in
     let s = in_order BeforeByNumber (IsLinkedRecord F k) (λ x y z a b. omega arith)
@@ -135,7 +135,7 @@ further log F l p k has g v q image page =
           s.0 s.1,
     )
 
-shows_page : (log F : List Fact) (f : Position) (s : State) (g q : ℕ) (image : List ℕ) → IsLog log → MeansAt log F f s → version_of s.store g ≤ q → q ≤ f.complete → IsPageAt F f.epoch g q image → Shows s f.epoch g q image
+shows_page : {roster : ℕ} (log F : List Fact) (f : Position) (s : State) (g q : ℕ) (image : List ℕ) → IsLog roster log → MeansAt roster log F f s → version_of s.store g ≤ q → q ≤ f.complete → IsPageAt F f.epoch g q image → Shows s f.epoch g q image
 shows_page log F f s g q image l m le to p =
     let us = further log F l m.part f.epoch (has_cuts (cuts F) f.epoch m.position.epoch) g (version_of s.store g) q image p in
     let one : SameSet F F = λ x. (λ h. h, λ h. h) in
@@ -145,7 +145,7 @@ shows_page log F f s g q image l m le to p =
       result = page_unique F F one f.epoch g q image (after_records (image_of s.store g) us.0) p (page_from F f.epoch g (version_of s.store g) q (image_of s.store g) us.0 le (m.images g) us.1);
     }
 
-pub pages_law : (log F : List Fact) (f : Position) (s : State) (g q : ℕ) (image : List ℕ) → IsLog log → MeansAt log F f s → f.anchor ≤ q → q ≤ f.complete → Shows s f.epoch g q image ↔ IsPageAt F f.epoch g q image
+pub pages_law : {roster : ℕ} (log F : List Fact) (f : Position) (s : State) (g q : ℕ) (image : List ℕ) → IsLog roster log → MeansAt roster log F f s → f.anchor ≤ q → q ≤ f.complete → Shows s f.epoch g q image ↔ IsPageAt F f.epoch g q image
 pages_law log F f s g q image l m from to =
     let low : version_of s.store g ≤ f.anchor = m.versions g in (
       λ h. subst (IsPageAt F f.epoch g q) (sym h.result) (page_from F f.epoch g (version_of s.store g) q (image_of s.store g) h.written (omega arith) (m.images g)

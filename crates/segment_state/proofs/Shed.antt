@@ -29,7 +29,7 @@ use Rattle.segment_state.proofs.Joining.{page_final}
 use Rattle.segment_state.proofs.Own.{anchor_law, epoch_as}
 
 -- a page up to the anchor of a part is that of a larger part
-page_before : (log F U : List Fact) (p u : Position) → IsLog log → IsPart F U → IsPart U log → IsPosition F p → IsPosition U u → (page v : ℕ) (i : List ℕ) → v ≤ p.anchor → IsPageAt U u.epoch page v i → IsPageAt F p.epoch page v i
+page_before : {roster : ℕ} (log F U : List Fact) (p u : Position) → IsLog roster log → IsPart F U → IsPart U log → IsPosition roster F p → IsPosition roster U u → (page v : ℕ) (i : List ℕ) → v ≤ p.anchor → IsPageAt U u.epoch page v i → IsPageAt F p.epoch page v i
 page_before log F U p u l part inside at above page v i le shown =
     let fin = (finality_law log F U p u l part inside at above).1 in
     record {
@@ -40,20 +40,20 @@ page_before log F U p u l part inside at above page v i le shown =
       result = shown.result;
     }
 
-final_page : (log F : List Fact) (p : Position) → IsLog log → IsPart F log → IsPosition F p → (page version : ℕ) (image : List ℕ) → version ≤ p.anchor → IsFinalPage log page version image → IsPageAt F p.epoch page version image
-final_page log F p l inside at page version image le final =
+final_page : {roster : ℕ} (log F : List Fact) (p : Position) → IsLog roster log → IsPart F log → IsPosition roster F p → (page version : ℕ) (image : List ℕ) → version ≤ p.anchor → IsFinalPage roster log page version image → IsPageAt F p.epoch page version image
+final_page {roster} log F p l inside at page version image le final =
     let G = final.facts in
     let all : IsPart (final.facts ++ F) log = both final.facts F log final.part inside in
-    let u = front_exists (final.facts ++ F) (λ r h. (l.backs r (part_records (final.facts ++ F) log all r h)).1) in
+    let u = front_exists roster (final.facts ++ F) (λ r h. (l.backs r (part_records (final.facts ++ F) log all r h)).1) in
     page_before log F (final.facts ++ F) p u.0 l (right final.facts F) all at u.1 page version image le
     (page_final log final.facts (final.facts ++ F) final.p u.0 l (left final.facts F) all final.position u.1 page version image final.settled final.shown)
 
-pub final_pages : (log F : List Fact) (p : Position) (s : State) (page version : ℕ) (image : List ℕ) → IsSound log → MeansAt log F p s → version ≤ p.anchor → IsFinalPage log page version image → IsPageAt F p.epoch page version image
-final_pages log F p s page version image sound m le final = final_page log F p (log_of_sound log sound) m.part m.position page version image le final
+pub final_pages : {roster : ℕ} (log F : List Fact) (p : Position) (s : State) (page version : ℕ) (image : List ℕ) → IsSound roster log → MeansAt roster log F p s → version ≤ p.anchor → IsFinalPage roster log page version image → IsPageAt F p.epoch page version image
+final_pages log F p s page version image sound m le final = final_page log F p (log_of_sound _ log sound) m.part m.position page version image le final
 
-pub anchor_page_is_final : (log F : List Fact) (s : State) (k anchor page : ℕ) (image : List ℕ) → IsSound log → Means log F s → IsCompleteEpoch s.cuts k → HasAnchor s k anchor → Shows s k page anchor image → IsFinalPage log page anchor image
+pub anchor_page_is_final : {roster : ℕ} (log F : List Fact) (s : State) (k anchor page : ℕ) (image : List ℕ) → IsSound roster log → Means roster log F s → IsCompleteEpoch s.cuts k → HasAnchor s k anchor → Shows s k page anchor image → IsFinalPage roster log page anchor image
 anchor_page_is_final log F s k anchor page image sound a h top shows =
-    let l = log_of_sound log sound in
+    let l = log_of_sound _ log sound in
     let t = anchor_law log F a.0 s k anchor l a.1 h top in
     let le : a.0.anchor ≤ a.0.complete = a.1.position.complete.1 a.0.anchor (anchor_is F a.0 a.1.position).0 in
     let here' : Shows s a.0.epoch page a.0.anchor image = subst (λ n. Shows s a.0.epoch page n image) t.1 (subst (λ j. Shows s j page anchor image) t.0 shows) in
@@ -67,17 +67,17 @@ anchor_page_is_final log F s k anchor page image sound a h top shows =
     }
 
 -- other held records, base point and images
-with_others : (log F : List Fact) (p : Position) (old new : State) → MeansAt log F p old → SameBook old new
+with_others : {roster : ℕ} (log F : List Fact) (p : Position) (old new : State) → MeansAt roster log F p old → SameBook old new
     → IsLinked F p.epoch new.base × (new.base ≤ p.anchor)
     → ((r : RecordData) → Contains new.held r → Contains old.held r)
     → ((r : RecordData) → Matters (cuts F) p.epoch r → Contains old.held r ⊎ IsFolded old p.epoch r → Contains new.held r ⊎ IsFolded new p.epoch r)
     → ((page : ℕ) → (version_of new.store page ≤ p.anchor) × IsPageAt F p.epoch page (version_of new.store page) (image_of new.store page))
-    → MeansAt log F p new
+    → MeansAt roster log F p new
 with_others log F p old new m book based fewer rest pages = record {
   part = m.part;
   position = m.position;
   same_cuts = subst (λ cs. SameSet cs (cuts F)) (sym book.cuts) m.same_cuts;
-  same_min = book.min ∙ m.same_min;
+  same_points = book.points ∙ m.same_points;
   same_waits = λ a. subst (λ ws. Contains ws a ↔ (Contains (advances F) a × (p.epoch < a.epoch))) (sym book.waits) (m.same_waits a);
   base = based;
   of_log = λ r h. m.of_log r (fewer r h);
@@ -117,8 +117,8 @@ newer_versions old new page version image commits g =
     (settled_eq g page)
 
 pub commit_keeps : (old new : State) (k anchor page version : ℕ) (image : List ℕ) → IsCompleteEpoch old.cuts k → HasAnchor old k anchor → version ≤ anchor → CommitsImage old page version image new → KeepsMeaningWith old page version image new
-commit_keeps old new k anchor page version image h top le commits log F sound final a =
-    let l = log_of_sound log sound in
+commit_keeps old new k anchor page version image h top le commits roster log F sound final a =
+    let l = log_of_sound _ log sound in
     let m = a.1 in
     let t : anchor ≡ a.0.anchor = (anchor_law log F a.0 old k anchor l a.1 h top).1 in
     let low : version ≤ a.0.anchor = omega arith in (
@@ -139,7 +139,7 @@ commit_keeps old new k anchor page version image h top le commits log F sound fi
     )
 
 pub fold_keeps : (old new : State) (k anchor page : ℕ) (image : List ℕ) → IsCompleteEpoch old.cuts k → HasAnchor old k anchor → Shows old k page anchor image → CommitsImage old page anchor image new → KeepsMeaning old new
-fold_keeps old new k anchor page image h top shows commits log F sound a = commit_keeps old new k anchor page anchor image h top (omega arith) commits log F sound (anchor_page_is_final log F old k anchor page image sound a h top shows) a
+fold_keeps old new k anchor page image h top shows commits roster log F sound a = commit_keeps old new k anchor page anchor image h top (omega arith) commits roster log F sound (anchor_page_is_final log F old k anchor page image sound a h top shows) a
 
 -- a discard
 
@@ -147,8 +147,8 @@ same_images : (F : List Fact) (p : Position) (old new : State) → new.store ≡
 same_images F p old new e before g = subst (λ t. (version_of t g ≤ p.anchor) × IsPageAt F p.epoch g (version_of t g) (image_of t g)) (sym e) (before g)
 
 pub discard_keeps : (k : ℕ) (old new : State) → Discards k old new → KeepsMeaning old new
-discard_keeps k old new drops log F sound a =
-    let l = log_of_sound log sound in
+discard_keeps k old new drops roster log F sound a =
+    let l = log_of_sound _ log sound in
     let m = a.1 in
     let t = anchor_law log F a.0 old k new.base l a.1 drops.epoch drops.base in
     let e : new.base ≡ a.0.anchor = t.1 in (
@@ -172,8 +172,8 @@ folded_same : (old new : State) (k : ℕ) (r : RecordData) → SameBase old new 
 folded_same old new k r same u = (u.0, subst (λ b. r.number ≤ b) (sym same.base) u.1, subst (λ st. r.number ≤ version_of st r.page) (sym same.store) u.2)
 
 pub removal_keeps : (k : ℕ) (old new : State) → RemovesDead k old new → KeepsMeaning old new
-removal_keeps k old new drops log F sound a =
-    let l = log_of_sound log sound in
+removal_keeps k old new drops roster log F sound a =
+    let l = log_of_sound _ log sound in
     let m = a.1 in
     let e = epoch_as log F a.0 old a.1 k drops.epoch in (
       a.0,

@@ -9,7 +9,7 @@ use Rattle.redo_core.specs.Linked.{Linked}
 use Rattle.redo_core.specs.Position.{Position}
 use Rattle.redo_core.specs.Writing.{zeros}
 use Rattle.redo_core.specs.Meaning.{Meaning, ImageBefore}
-use Rattle.segment_state.specs.State.{State}
+use Rattle.segment_state.specs.State.{State, min_of}
 use Rattle.segment_state.specs.Shows.{Shows}
 
 -- n is linked from the base point on, by the records that the state holds
@@ -22,16 +22,17 @@ HasComplete s k complete = IsGreatest (IsLinkedIn s k) complete
 
 -- the greatest of them up to the minimum read point
 abbrev pub HasAnchor : State → ℕ → ℕ → Type 0
-HasAnchor s k anchor = IsGreatest (λ n. IsLinkedIn s k n × (n ≤ s.min)) anchor
+HasAnchor s k anchor = IsGreatest (λ n. IsLinkedIn s k n × (n ≤ min_of s)) anchor
 
 -- n is at or below the anchor
 abbrev pub IsSettled : State → ℕ → ℕ → Type 0
-IsSettled s k n = (linked : ℕ) × IsLinkedIn s k linked × (linked ≤ s.min) × (n ≤ linked)
+IsSettled s k n = (linked : ℕ) × IsLinkedIn s k linked × (linked ≤ min_of s) × (n ≤ linked)
 
 pub record HasPosition (s : State) (p : Position) : Type 0 where
   pub epoch : IsCompleteEpoch s.cuts p.epoch
   pub complete : HasComplete s p.epoch p.complete
-  pub min : s.min ≡ p.min
+  pub points : s.points ≡ p.points
+  pub min : min_of s ≡ p.min
   pub anchor : HasAnchor s p.epoch p.anchor
 
 -- a held record is kept where it is alive above the anchor, or waits
@@ -42,7 +43,7 @@ IsKeptBy s k anchor r = Contains s.held r × (IsWaiting k r.epoch ⊎ (IsAlive s
 pub record HasMeaningAt (s : State) (k : ℕ) (m : Meaning) : Type 0 where
   pub epoch : IsCompleteEpoch s.cuts k
   pub same_cuts : Lists CutBefore (Contains s.cuts) m.cuts
-  pub same_min : m.min ≡ s.min
+  pub same_points : m.points ≡ s.points
   pub same_waits : Lists AdvanceBefore (Contains s.waits) m.waits
   pub anchor : HasAnchor s k m.anchor
   pub pages : Lists ImageBefore (λ i. Shows s k i.page m.anchor i.bytes × (i.bytes ≢ zeros)) m.pages

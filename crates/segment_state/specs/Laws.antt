@@ -21,52 +21,52 @@ use Rattle.segment_state.specs.Known.{IsKnown, Conflicts}
 
 -- An empty state means no facts.
 abbrev pub EmptyMeansNone : Type 0
-EmptyMeansNone = (log : List Fact) → Means log [] empty_state
+EmptyMeansNone = (roster : ℕ) (log : List Fact) → Means roster log [] (empty_state roster)
 
 -- From the base point on the state's links are the facts'.
 abbrev pub SameLinks : Type 0
 SameLinks =
-    (log facts : List Fact) (p : Position) (s : State) (n : ℕ)
-    → IsSound log → MeansAt log facts p s
+    (roster : ℕ) (log facts : List Fact) (p : Position) (s : State) (n : ℕ)
+    → IsSound roster log → MeansAt roster log facts p s
     → IsLinkedIn s p.epoch n ↔ (IsLinked facts p.epoch n × (s.base ≤ n))
 
 -- The position that the state tells is that of the facts.
 abbrev pub SamePosition : Type 0
 SamePosition =
-    (log facts : List Fact) (p q : Position) (s : State)
-    → IsSound log → MeansAt log facts p s → HasPosition s q ↔ (q ≡ p)
+    (roster : ℕ) (log facts : List Fact) (p q : Position) (s : State)
+    → IsSound roster log → MeansAt roster log facts p s → HasPosition s q ↔ (q ≡ p)
 
 -- Its complete epoch and anchor are theirs.
 abbrev pub SameAnchor : Type 0
 SameAnchor =
-    (log facts : List Fact) (p : Position) (s : State) (k anchor : ℕ)
-    → IsSound log → MeansAt log facts p s → IsCompleteEpoch s.cuts k → HasAnchor s k anchor → (k ≡ p.epoch) × (anchor ≡ p.anchor)
+    (roster : ℕ) (log facts : List Fact) (p : Position) (s : State) (k anchor : ℕ)
+    → IsSound roster log → MeansAt roster log facts p s → IsCompleteEpoch s.cuts k → HasAnchor s k anchor → (k ≡ p.epoch) × (anchor ≡ p.anchor)
 
 -- A page that the state shows, from its anchor to its complete point, is the facts'.
 abbrev pub TruePages : Type 0
 TruePages =
-    (log facts : List Fact) (p : Position) (s : State) (page q : ℕ) (image : List ℕ)
-    → IsSound log → MeansAt log facts p s → p.anchor ≤ q → q ≤ p.complete
+    (roster : ℕ) (log facts : List Fact) (p : Position) (s : State) (page q : ℕ) (image : List ℕ)
+    → IsSound roster log → MeansAt roster log facts p s → p.anchor ≤ q → q ≤ p.complete
     → Shows s p.epoch page q image ↔ IsPageAt facts p.epoch page q image
 
 -- No block chain is broken, and each goes through every record that is applied to its page.
 abbrev pub WholeBlockChains : Type 0
 WholeBlockChains =
-    (log facts : List Fact) (p : Position) (s : State) (page q : ℕ) (r : RecordData)
-    → IsSound log → MeansAt log facts p s → q ≤ p.complete → IsHeldOf s p.epoch page q r
+    (roster : ℕ) (log facts : List Fact) (p : Position) (s : State) (page q : ℕ) (r : RecordData)
+    → IsSound roster log → MeansAt roster log facts p s → q ≤ p.complete → IsHeldOf s p.epoch page q r
     → HasBlockBelow s p.epoch page q r × ((other : RecordData) → IsHeldOf s p.epoch page q other → other.number < r.number → other.number ≤ r.block_back)
 
 -- The state's meaning is that of the facts.
 abbrev pub SameMeaning : Type 0
 SameMeaning =
-    (log facts : List Fact) (s : State) (m : Meaning)
-    → IsSound log → Means log facts s → HasMeaning s m ↔ IsMeaning facts m
+    (roster : ℕ) (log facts : List Fact) (s : State) (m : Meaning)
+    → IsSound roster log → Means roster log facts s → HasMeaning s m ↔ IsMeaning roster facts m
 
 -- The records that it keeps are those that the facts keep.
 abbrev pub SameKept : Type 0
 SameKept =
-    (log facts : List Fact) (p : Position) (s : State) (r : RecordData)
-    → IsSound log → MeansAt log facts p s → IsKeptBy s p.epoch p.anchor r ↔ IsKept facts p r
+    (roster : ℕ) (log facts : List Fact) (p : Position) (s : State) (r : RecordData)
+    → IsSound roster log → MeansAt roster log facts p s → IsKeptBy s p.epoch p.anchor r ↔ IsKept facts p r
 
 -- A fact of the log leaves the meaning as it is exactly where the state knows it.
 abbrev pub UnchangedExactly : Type 0
@@ -80,7 +80,9 @@ TakesKnown = (s : State) (k : ℕ) (fact : Fact) → IsCompleteEpoch s.cuts k �
 
 -- No fact of the log is refused.
 abbrev pub NoConflict : Type 0
-NoConflict = (log facts : List Fact) (s : State) (fact : Fact) → IsSound log → Contains log fact → Means log facts s → Conflicts s fact → ⊥
+NoConflict =
+    (roster : ℕ) (log facts : List Fact) (s : State) (k : ℕ) (fact : Fact)
+    → IsSound roster log → Contains log fact → Means roster log facts s → IsCompleteEpoch s.cuts k → Conflicts s k fact → ⊥
 
 abbrev pub TakesRecord : Type 0
 TakesRecord = (old new : State) (r : RecordData) → PutsRecord old r new → TakesFact old (Record r) new
@@ -94,14 +96,14 @@ TakesAdvance = (k : ℕ) (old new : State) (a : AdvanceData) → LearnsAdvance k
 -- A page that is final in the log is the page of all facts of the log whose anchor has reached its version.
 abbrev pub FinalPages : Type 0
 FinalPages =
-    (log facts : List Fact) (p : Position) (s : State) (page version : ℕ) (image : List ℕ)
-    → IsSound log → MeansAt log facts p s → version ≤ p.anchor → IsFinalPage log page version image → IsPageAt facts p.epoch page version image
+    (roster : ℕ) (log facts : List Fact) (p : Position) (s : State) (page version : ℕ) (image : List ℕ)
+    → IsSound roster log → MeansAt roster log facts p s → version ≤ p.anchor → IsFinalPage roster log page version image → IsPageAt facts p.epoch page version image
 
 -- The page that a state shows at its anchor is final.
 abbrev pub AnchorPageIsFinal : Type 0
 AnchorPageIsFinal =
-    (log facts : List Fact) (s : State) (k anchor page : ℕ) (image : List ℕ)
-    → IsSound log → Means log facts s → IsCompleteEpoch s.cuts k → HasAnchor s k anchor → Shows s k page anchor image → IsFinalPage log page anchor image
+    (roster : ℕ) (log facts : List Fact) (s : State) (k anchor page : ℕ) (image : List ℕ)
+    → IsSound roster log → Means roster log facts s → IsCompleteEpoch s.cuts k → HasAnchor s k anchor → Shows s k page anchor image → IsFinalPage roster log page anchor image
 
 -- A committed image keeps the meaning where its version is not above the anchor.
 abbrev pub CommitKeeps : Type 0

@@ -1,10 +1,13 @@
 pub mod State
 pub mod Means
 pub mod Shows
+pub mod FromInit
 pub mod HasMeaning
 pub mod Promises
 pub mod Learning
 pub mod Shedding
+pub mod Joining
+pub mod Gossip
 pub mod Stored
 pub mod Known
 pub mod Laws

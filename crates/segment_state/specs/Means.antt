@@ -18,12 +18,12 @@ Matters cs k r = IsWaiting k r.epoch ⊎ IsAlive cs k r.epoch r.number
 abbrev pub IsFolded : State → ℕ → RecordData → Type 0
 IsFolded s k r = (r.epoch ≤ k) × (r.number ≤ s.base) × (r.number ≤ version_of s.store r.page)
 
--- the state means the facts, which stand at p, inside a log
-pub record MeansAt (log facts : List Fact) (p : Position) (s : State) : Type 0 where
+-- the state means the facts, which stand at p, inside a log of the roster
+pub record MeansAt (roster : ℕ) (log facts : List Fact) (p : Position) (s : State) : Type 0 where
   pub part : IsPart facts log
-  pub position : IsPosition facts p
+  pub position : IsPosition roster facts p
   pub same_cuts : SameSet s.cuts (cuts facts)
-  pub same_min : s.min ≡ p.min
+  pub same_points : s.points ≡ p.points
   pub same_waits : (a : AdvanceData) → Contains s.waits a ↔ (Contains (advances facts) a × (p.epoch < a.epoch))
   -- the base point is linked, and not above the anchor
   pub base : IsLinked facts p.epoch s.base × (s.base ≤ p.anchor)
@@ -36,6 +36,6 @@ pub record MeansAt (log facts : List Fact) (p : Position) (s : State) : Type 0 w
   pub versions : (page : ℕ) → version_of s.store page ≤ p.anchor
   pub images : (page : ℕ) → IsPageAt facts p.epoch page (version_of s.store page) (image_of s.store page)
 
--- the state means the facts inside a log
-abbrev pub Means : List Fact → List Fact → State → Type 0
-Means log facts s = (p : Position) × MeansAt log facts p s
+-- the state means the facts inside a log of the roster
+abbrev pub Means : ℕ → List Fact → List Fact → State → Type 0
+Means roster log facts s = (p : Position) × MeansAt roster log facts p s

@@ -1,6 +1,7 @@
 -- What a segment stores.
-use Rattle.std.specs.Prelude.{◌≡◌, ℕ, List, [], ◌∷◌, ◌==◌, if◌then◌else◌}
+use Rattle.std.specs.Prelude.{◌≡◌, ℕ, List, [], ◌∷◌, length, replicate, ◌==◌, if◌then◌else◌}
 use Rattle.redo_core.specs.Data.{RecordData, CutData, AdvanceData}
+use Rattle.redo_core.specs.Roster.{least}
 use Rattle.redo_core.specs.Writing.{zeros}
 
 -- an image of a page, and the point of the log that it shows
@@ -24,23 +25,31 @@ version_of store page = (image_in store.images store.floor page).version
 unfoldable pub image_of : Store → ℕ → List ℕ
 image_of store page = (image_in store.images store.floor page).bytes
 
--- the truncations, the minimum read point, the waiting advances, the held records, the base point and the images
+-- the truncations, each reader's point, the waiting advances, the held records, the base point and the images
 pub record State : Type 0 where
   pub cuts : List CutData
-  pub min : ℕ
+  pub points : List ℕ
   pub waits : List AdvanceData
   pub held : List RecordData
   pub base : ℕ
   pub store : Store
 
--- nothing is stored
-abbrev pub empty_state : State
-empty_state = record { cuts = []; min = 0; waits = []; held = []; base = 0; store = record { images = []; floor = 0 } }
+-- how many readers the state has a point for
+abbrev pub roster_of : State → ℕ
+roster_of s = length s.points
 
--- truncations, minimum and waiting advances are the same
+-- the minimum read point
+abbrev pub min_of : State → ℕ
+min_of s = least s.points
+
+-- nothing is stored, for a roster of so many readers
+abbrev pub empty_state : ℕ → State
+empty_state roster = record { cuts = []; points = replicate roster 0; waits = []; held = []; base = 0; store = record { images = []; floor = 0 } }
+
+-- truncations, points and waiting advances are the same
 pub record SameBook (old new : State) : Type 0 where
   pub cuts : new.cuts ≡ old.cuts
-  pub min : new.min ≡ old.min
+  pub points : new.points ≡ old.points
   pub waits : new.waits ≡ old.waits
 
 -- base point and images are the same

@@ -9,6 +9,9 @@
 ghost use Rattle.segment_state.specs.Laws.{EmptyMeansNone, SameLinks, SamePosition, SameAnchor, TruePages, WholeBlockChains, SameMeaning, SameKept};
 ghost use Rattle.segment_state.specs.Laws.{UnchangedExactly, TakesKnown, NoConflict, TakesRecord, TakesCut, TakesAdvance};
 ghost use Rattle.segment_state.specs.Laws.{FinalPages, AnchorPageIsFinal, CommitKeeps, FoldKeeps, DiscardKeeps, RemovalKeeps};
+ghost use Rattle.segment_state.specs.FromInit.{InitBeginsAnew};
+ghost use Rattle.segment_state.specs.Gossip.{AbsorbMeansUnion, ReplyFills};
+ghost use Rattle.segment_state.specs.Joining.{JoinMeansUnion};
 ghost use Rattle.segment_state.specs.Stored.{StoredImages, PutCommits};
 
 /// A segment that stores nothing means no facts.
@@ -119,4 +122,24 @@ pub fn stored_images()
 /// An image put in its page's place is committed, and no other page changes.
 pub fn put_commits()
     ensures { PutCommits }
+{}
+
+/// What two segments know together means the union of what they mean.
+pub fn join_means_union()
+    ensures { JoinMeansUnion }
+{}
+
+/// A reply fills what its summary lacks.
+pub fn reply_fills()
+    ensures { ReplyFills }
+{}
+
+/// A segment that answers for a summary means the union after it absorbed the delta that was made for it.
+pub fn absorb_means_union()
+    ensures { AbsorbMeansUnion }
+{}
+
+/// The page that a segment shows is what a record with `init` and those after it give, so a walk down its block chain may stop there.
+pub fn init_begins_anew()
+    ensures { InitBeginsAnew }
 {}

@@ -3,4 +3,4 @@ use Rattle.segment_state.proofs.Reading.{links_law}
 use Rattle.segment_state.proofs.same_links.Goals as goal
 
 pub returns : goal.returns
-returns c = λ log facts p s n sound. links_law log facts p s n (log_of_sound log sound)
+returns c = λ roster log facts p s n sound. links_law log facts p s n (log_of_sound roster log sound)

@@ -3,4 +3,4 @@ use Rattle.segment_state.proofs.Same.{meaning_law}
 use Rattle.segment_state.proofs.same_meaning.Goals as goal
 
 pub returns : goal.returns
-returns c = λ log facts s m sound. meaning_law log facts s m (log_of_sound log sound)
+returns c = λ roster log facts s m sound. meaning_law log facts s m (log_of_sound roster log sound)

@@ -2,4 +2,4 @@ use Rattle.segment_state.proofs.Chains.{whole_block_chains}
 use Rattle.segment_state.proofs.whole_block_chains.Goals as goal
 
 pub returns : goal.returns
-returns c = whole_block_chains
+returns c = λ roster log facts. whole_block_chains log facts
