@@ -5,3 +5,5 @@ pub mod Facts
 pub mod Books
 pub mod OneReason
 pub mod SoundLogs
+mod Raising
+mod Found

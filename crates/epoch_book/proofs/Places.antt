@@ -1,12 +1,12 @@
 -- What a binary search finds in the lists of a book.
-use Rattle.std.proofs.Common.{◌≡◌, ℕ, ◌<◌, ◌≤◌, inl, inr, List, length, get_or, refl, sym, subst, arith, Result, Ok, Err, IfOk, IfErr, Ordering, Less, Equal, Greater}
+use Rattle.std.proofs.Common.{◌≡◌, ℕ, ◌<◌, ◌≤◌, ◌⊎◌, inl, inr, List, length, get_or, refl, sym, subst, arith, Result, Ok, Err, IfOk, IfErr, Ordering, Less, Equal, Greater}
 use Rattle.std.specs.List.{Contains, HoldsAt}
 use Rattle.std.specs.List.Sorted.{IsSearchInRange, IsBinarySearchResult, IsNonDecreasingBy, IsPartitionPoint}
 use Rattle.std.specs.Ordering.{nat_cmp, ordering_then, ordering_index, MatchOrdering}
 use Rattle.std.proofs.lemmas.Cmp.{ranked}
 use Rattle.redo_core.specs.Data.{CutData, AdvanceData}
-use Rattle.redo_core.specs.Order.{IsRising, PairBefore, CutBefore, AdvanceBefore}
-use Rattle.redo_core.proofs.Pairs.{pair_apart, pair_trans, same_advance}
+use Rattle.redo_core.specs.Order.{IsRising, CutBefore, AdvanceBefore}
+use Rattle.redo_core.proofs.Pairs.{advance_apart, advance_trans, same_advance}
 use Rattle.redo_core.proofs.Rising.{rising_by}
 
 -- an order against one thing rises with it
@@ -45,46 +45,64 @@ epoch_absent cs e (Err i) rise l h =
     let parted = h (epochs_rise cs e rise) in
     (l, (λ k d a b. at_less (nat_cmp (get_or cs k d).epoch e) _ _ _ (epoch_ranked (get_or cs k d) e) (parted.0 k d a b), λ k d a b. at_greater (nat_cmp (get_or cs k d).epoch e) _ _ _ (epoch_ranked (get_or cs k d) e) (parted.1 k d a b)))
 
--- advances by epoch, then point
-abbrev pub pair_cmp : AdvanceData → AdvanceData → Ordering
-pair_cmp a b = ordering_then (nat_cmp a.epoch b.epoch) (nat_cmp a.point b.point)
+-- advances by epoch, reader and point
+abbrev pub advance_cmp : AdvanceData → AdvanceData → Ordering
+advance_cmp a b = ordering_then (ordering_then (nat_cmp a.epoch b.epoch) (nat_cmp a.reader b.reader)) (nat_cmp a.point b.point)
 
-pair_at : (a b c d : ℕ) (o p : Ordering) → MatchOrdering o (a < c) (a ≡ c) (c < a) → MatchOrdering p (b < d) (b ≡ d) (d < b) → MatchOrdering (ordering_then o p) (PairBefore a b c d) ((a ≡ c) × (b ≡ d)) (PairBefore c d a b)
-pair_at a b c d Less p h k = inl h
-pair_at a b c d Equal Less h k = inr (h, k)
-pair_at a b c d Equal Equal h k = (h, k)
-pair_at a b c d Equal Greater h k = inr (sym h, k)
-pair_at a b c d Greater p h k = inl h
+then_at : (o p : Ordering) (P Q R S T U : Type 0) → MatchOrdering o P Q R → MatchOrdering p S T U → MatchOrdering (ordering_then o p) (P ⊎ (Q × S)) (Q × T) (R ⊎ (Q × U))
+then_at Less p P Q R S T U h k = inl h
+then_at Equal Less P Q R S T U h k = inr (h, k)
+then_at Equal Equal P Q R S T U h k = (h, k)
+then_at Equal Greater P Q R S T U h k = inr (h, k)
+then_at Greater p P Q R S T U h k = inl h
 
-pair_ranked : (a b : AdvanceData) → MatchOrdering (pair_cmp a b) (AdvanceBefore a b) ((a.epoch ≡ b.epoch) × (a.point ≡ b.point)) (AdvanceBefore b a)
-pair_ranked a b = pair_at a.epoch a.point b.epoch b.point (nat_cmp a.epoch b.epoch) (nat_cmp a.point b.point) (ranked a.epoch b.epoch (nat_cmp a.epoch b.epoch) refl) (ranked a.point b.point (nat_cmp a.point b.point) refl)
+turned : (o : Ordering) (P Q R P' Q' R' : Type 0) → (P → P') → (Q → Q') → (R → R') → MatchOrdering o P Q R → MatchOrdering o P' Q' R'
+turned Less P Q R P' Q' R' f g h x = f x
+turned Equal P Q R P' Q' R' f g h x = g x
+turned Greater P Q R P' Q' R' f g h x = h x
+
+below_key : (a b : AdvanceData) → ((a.epoch < b.epoch) ⊎ ((a.epoch ≡ b.epoch) × (a.reader < b.reader))) ⊎ (((a.epoch ≡ b.epoch) × (a.reader ≡ b.reader)) × (a.point < b.point)) → AdvanceBefore a b
+below_key a b h = grind arith
+
+above_key : (a b : AdvanceData) → ((b.epoch < a.epoch) ⊎ ((a.epoch ≡ b.epoch) × (b.reader < a.reader))) ⊎ (((a.epoch ≡ b.epoch) × (a.reader ≡ b.reader)) × (b.point < a.point)) → AdvanceBefore b a
+above_key a b h = grind arith
+
+advance_ranked : (a b : AdvanceData) → MatchOrdering (advance_cmp a b) (AdvanceBefore a b) (((a.epoch ≡ b.epoch) × (a.reader ≡ b.reader)) × (a.point ≡ b.point)) (AdvanceBefore b a)
+advance_ranked a b =
+    let first = then_at (nat_cmp a.epoch b.epoch) (nat_cmp a.reader b.reader) (a.epoch < b.epoch) (a.epoch ≡ b.epoch) (b.epoch < a.epoch) (a.reader < b.reader) (a.reader ≡ b.reader) (b.reader < a.reader)
+    (ranked a.epoch b.epoch (nat_cmp a.epoch b.epoch) refl) (ranked a.reader b.reader (nat_cmp a.reader b.reader) refl) in
+    turned (advance_cmp a b) _ _ _ _ _ _ (below_key a b) (λ x. x) (above_key a b)
+    (then_at (ordering_then (nat_cmp a.epoch b.epoch) (nat_cmp a.reader b.reader)) (nat_cmp a.point b.point) _ _ _ (a.point < b.point) (a.point ≡ b.point) (b.point < a.point) first (ranked a.point b.point (nat_cmp a.point b.point) refl))
+
+same_key : (a b : AdvanceData) → ((a.epoch ≡ b.epoch) × (a.reader ≡ b.reader)) × (a.point ≡ b.point) → a ≡ b
+same_key a b q = same_advance a b q.0.0 q.0.1 q.1
 
 pub advances_apart : (a b : AdvanceData) → AdvanceBefore a b → AdvanceBefore b a → ⊥
-advances_apart a b h k = pair_apart a.epoch a.point b.epoch b.point h k
+advances_apart a b h k = advance_apart a b h k
 
-pairs_rise : (ws : List AdvanceData) (x : AdvanceData) → IsRising AdvanceBefore ws → IsNonDecreasingBy (λ a. ordering_index (pair_cmp a x)) ws
-pairs_rise ws x r = rising_by AdvanceBefore (λ a. ordering_index (pair_cmp a x)) ws
-    (λ a b h. rank_le (pair_cmp a x) (pair_cmp b x) _ _ _ _ _ _ (pair_ranked a x) (pair_ranked b x)
-    (λ (q : (a.epoch ≡ x.epoch) × (a.point ≡ x.point)) (s : AdvanceBefore b x). pair_apart a.epoch a.point b.epoch b.point h (subst (λ p. PairBefore b.epoch b.point a.epoch p) (sym q.1) (subst (λ e. PairBefore b.epoch b.point e x.point) (sym q.0) s)))
-    (λ (q : AdvanceBefore x a) (s : AdvanceBefore b x). pair_apart a.epoch a.point b.epoch b.point h (pair_trans b.epoch b.point x.epoch x.point a.epoch a.point s q))
-    (λ (q : AdvanceBefore x a) (s : (b.epoch ≡ x.epoch) × (b.point ≡ x.point)). pair_apart a.epoch a.point b.epoch b.point h (subst (λ p. PairBefore b.epoch p a.epoch a.point) (sym s.1) (subst (λ e. PairBefore e x.point a.epoch a.point) (sym s.0) q))))
+advances_rise : (ws : List AdvanceData) (x : AdvanceData) → IsRising AdvanceBefore ws → IsNonDecreasingBy (λ a. ordering_index (advance_cmp a x)) ws
+advances_rise ws x r = rising_by AdvanceBefore (λ a. ordering_index (advance_cmp a x)) ws
+    (λ a b h. rank_le (advance_cmp a x) (advance_cmp b x) _ _ _ _ _ _ (advance_ranked a x) (advance_ranked b x)
+    (λ q s. advance_apart a b h (subst (AdvanceBefore b) (sym (same_key a x q)) s))
+    (λ (q : AdvanceBefore x a) (s : AdvanceBefore b x). advance_apart a b h (advance_trans b x a s q))
+    (λ q s. advance_apart a b h (subst (λ y. AdvanceBefore y a) (sym (same_key b x s)) q)))
     r
 
-pub advance_found : (ws : List AdvanceData) (x : AdvanceData) (r : Result ℕ ℕ) → IsSearchInRange r (length ws) → IsBinarySearchResult (λ a. pair_cmp a x) ws r → IfOk r (λ i. Contains ws x)
+pub advance_found : (ws : List AdvanceData) (x : AdvanceData) (r : Result ℕ ℕ) → IsSearchInRange r (length ws) → IsBinarySearchResult (λ a. advance_cmp a x) ws r → IfOk r (λ i. Contains ws x)
 advance_found ws x (Ok i) l h =
-    let q = at_equal (pair_cmp (get_or ws i x) x) _ _ _ (pair_ranked (get_or ws i x) x) (h x) in
-    (i, l, same_advance (get_or ws i x) x q.0 q.1)
+    let q = at_equal (advance_cmp (get_or ws i x) x) _ _ _ (advance_ranked (get_or ws i x) x) (h x) in
+    (i, l, same_key (get_or ws i x) x q)
 advance_found ws x (Err i) l h = tt
 
-pub advance_at : (ws : List AdvanceData) (x : AdvanceData) (r : Result ℕ ℕ) → IsSearchInRange r (length ws) → IsBinarySearchResult (λ a. pair_cmp a x) ws r → IfOk r (λ i. (i < length ws) × HoldsAt (λ a. a ≡ x) ws i)
+pub advance_at : (ws : List AdvanceData) (x : AdvanceData) (r : Result ℕ ℕ) → IsSearchInRange r (length ws) → IsBinarySearchResult (λ a. advance_cmp a x) ws r → IfOk r (λ i. (i < length ws) × HoldsAt (λ a. a ≡ x) ws i)
 advance_at ws x (Ok i) l h = (
   l,
-  λ d. let q = at_equal (pair_cmp (get_or ws i d) x) _ _ _ (pair_ranked (get_or ws i d) x) (h d) in same_advance (get_or ws i d) x q.0 q.1,
+  λ d. let q = at_equal (advance_cmp (get_or ws i d) x) _ _ _ (advance_ranked (get_or ws i d) x) (h d) in same_key (get_or ws i d) x q,
 )
 advance_at ws x (Err i) l h = tt
 
-pub advance_absent : (ws : List AdvanceData) (x : AdvanceData) (r : Result ℕ ℕ) → IsRising AdvanceBefore ws → IsSearchInRange r (length ws) → IsBinarySearchResult (λ a. pair_cmp a x) ws r → IfErr r (λ i. (i ≤ length ws) × IsPartitionPoint (λ a. AdvanceBefore a x) (λ a. AdvanceBefore x a) ws i)
+pub advance_absent : (ws : List AdvanceData) (x : AdvanceData) (r : Result ℕ ℕ) → IsRising AdvanceBefore ws → IsSearchInRange r (length ws) → IsBinarySearchResult (λ a. advance_cmp a x) ws r → IfErr r (λ i. (i ≤ length ws) × IsPartitionPoint (λ a. AdvanceBefore a x) (λ a. AdvanceBefore x a) ws i)
 advance_absent ws x (Ok i) rise l h = tt
 advance_absent ws x (Err i) rise l h =
-    let parted = h (pairs_rise ws x rise) in
-    (l, (λ k d a b. at_less (pair_cmp (get_or ws k d) x) _ _ _ (pair_ranked (get_or ws k d) x) (parted.0 k d a b), λ k d a b. at_greater (pair_cmp (get_or ws k d) x) _ _ _ (pair_ranked (get_or ws k d) x) (parted.1 k d a b)))
+    let parted = h (advances_rise ws x rise) in
+    (l, (λ k d a b. at_less (advance_cmp (get_or ws k d) x) _ _ _ (advance_ranked (get_or ws k d) x) (parted.0 k d a b), λ k d a b. at_greater (advance_cmp (get_or ws k d) x) _ _ _ (advance_ranked (get_or ws k d) x) (parted.1 k d a b)))

@@ -1,11 +1,9 @@
 -- Scans of a book's lists.
-use Rattle.std.proofs.Common.{◌≡◌, ℕ, zero, suc, ◌<◌, ◌≤◌, ◌⊎◌, ◌↔◌, inr, ⊎_elim, List, [], ◌∷◌, length, get_or, refl, ap, arith, Result, Ok, Err, IfOk, IfErr, IsTrue}
-use Rattle.std.specs.List.{All, AllWithin, HoldsAt}
+use Rattle.std.proofs.Common.{◌≡◌, ℕ, zero, suc, ◌<◌, ◌≤◌, ◌⊎◌, ◌↔◌, ⊎_elim, List, [], ◌∷◌, length, get_or, refl, ap, arith, Result, Ok, Err, IfOk, IfErr, IsTrue}
+use Rattle.std.specs.List.{AllWithin, HoldsAt}
 use Rattle.std.specs.List.Sorted.{IsPartitionPoint}
-use Rattle.std.proofs.lemmas.List.Elements.{All-contains}
-use Rattle.redo_core.specs.Data.{CutData, AdvanceData}
-use Rattle.redo_core.specs.Order.{IsRising, CutBefore, IsGreatest}
-use Rattle.redo_core.specs.Position.{HasAdvance}
+use Rattle.redo_core.specs.Data.{CutData}
+use Rattle.redo_core.specs.Order.{IsRising, CutBefore}
 use Rattle.epoch_book.specs.Scanning.{HasCut}
 use Rattle.epoch_book.specs.Refusing.{LacksCut}
 use Rattle.std.specs.Result.{is_ok}
@@ -27,22 +25,6 @@ no_cut cs e i gap d h q = ⊎_elim
     (λ (l : h.0 < i). let b : (get_or cs h.0 d).epoch < e = gap.0 h.0 d (omega arith) l in let s : (get_or cs h.0 d).epoch ≡ d.epoch = ap (λ x. x.epoch) h.2 in omega arith)
     (λ (l : i ≤ h.0). let b : e < (get_or cs h.0 d).epoch = gap.1 h.0 d l h.1 in let s : (get_or cs h.0 d).epoch ≡ d.epoch = ap (λ x. x.epoch) h.2 in omega arith)
     (let t : (h.0 < i) ⊎ (i ≤ h.0) = grind arith in t)
-
--- one advance more in the scan for the minimum
-abbrev pub IsUpTo : ℕ → ℕ → AdvanceData → Type 0
-IsUpTo epoch point a = a.epoch ≤ epoch → a.point ≤ point
-
-pub higher : (ws : List AdvanceData) (e p q : ℕ) → p ≤ q → All (IsUpTo e p) ws → All (IsUpTo e q) ws
-higher ws e p q l all k d m u = let t : (get_or ws k d).point ≤ p = all k d m u in omega arith
-
-pub greatest_of : (ws : List AdvanceData) (e min n : ℕ) → (n ≡ min) ⊎ HasAdvance ws e n → min ≤ n → All (IsUpTo e n) ws → IsGreatest (λ m. (m ≡ min) ⊎ HasAdvance ws e m) n
-greatest_of ws e min n there above top = (
-  inr there,
-  λ m h. ⊎_elim
-      (λ (q : m ≡ min). omega arith)
-      (λ (a : HasAdvance ws e m). let t : a.0.point ≤ n = All-contains (IsUpTo e n) ws a.0 top a.1 a.2 in let q : a.0.point ≡ m = a.3 in omega arith)
-      h,
-)
 
 -- the truncations before the one of an epoch
 pub before_place : (cs : List CutData) (e i : ℕ) → IsRising CutBefore cs → (i < length cs) × HoldsAt (λ c. c.epoch ≡ e) cs i → AllWithin (λ c. c.epoch < e) cs 0 i

@@ -1,8 +1,7 @@
-ghost use Rattle.std.specs.Prelude.{◌≡◌, ℕ, ◌<◌, ◌≤◌, ◌⊎◌, length, nat_lt, IfOk, IfErr, IfSome, IsNone};
+ghost use Rattle.std.specs.Prelude.{◌≡◌, ℕ, ◌<◌, ◌≤◌, length, nat_lt, IfOk, IfErr, IfSome, IsNone};
 ghost use Rattle.std.specs.List.{All, HoldsAt, Contains, filter};
 ghost use Rattle.std.specs.List.Sorted.{IsPartitionPoint};
-ghost use Rattle.redo_core.specs.Order.{IsRising, AdvanceBefore, IsGreatest};
-ghost use Rattle.redo_core.specs.Position.{HasAdvance};
+ghost use Rattle.redo_core.specs.Order.{IsRising, AdvanceBefore};
 ghost use Rattle.epoch_book.specs.Refusing.{Contradict, IsFirst};
 
 use redo_core::{Advance, Cut};
@@ -15,11 +14,11 @@ pub fn place_of_advance(waits: &[Advance], advance: Advance) -> Result<usize, us
     ensures absent { IfErr result (λ i. (i ≤ length waits.now)
         × IsPartitionPoint (λ a. AdvanceBefore a advance) (λ a. AdvanceBefore advance a) waits.now i) }
 {
-    let key = (advance.epoch(), advance.point());
-    waits.binary_search_by_key(&key, |wait| (wait.epoch(), wait.point()))
+    let key = (advance.epoch(), advance.reader(), advance.point());
+    waits.binary_search_by_key(&key, |wait| { (wait.epoch(), wait.reader(), wait.point()) })
 }
 
-// The least advance, by epoch and then point, that the truncation cuts below.
+// The least advance, by epoch, reader and point, that the truncation cuts below.
 pub fn first_against(waits: &[Advance], cut: Cut) -> Option<Advance>
     requires { IsRising AdvanceBefore waits.now }
     ensures first { IfSome result (IsFirst AdvanceBefore (λ a. Contains waits.now a × Contradict cut a)) }
@@ -31,19 +30,6 @@ pub fn first_against(waits: &[Advance], cut: Cut) -> Option<Advance>
         }
     }
     None
-}
-
-// The minimum read point once the advances of epochs up to the complete one count too.
-pub fn min_with(waits: &[Advance], complete: u16, min: u64) -> u64
-    ensures { IsGreatest (λ n. (n ≡ min) ⊎ HasAdvance waits.now complete n) result }
-{
-    let mut greatest = min;
-    for wait in waits {
-        if wait.epoch() <= complete && greatest < wait.point() {
-            greatest = wait.point();
-        }
-    }
-    greatest
 }
 
 // Leaves the advances of epochs above the complete one.

@@ -1,4 +1,4 @@
-ghost use Rattle.std.specs.Prelude.{◌≡◌, ◌<◌, ◌≤◌, ◌⊎◌, ◌↔◌, List, [], length, IfOk, OnOk, OnErr, IfErr, IfSome, IsNone, Err as ErrOf, None};
+ghost use Rattle.std.specs.Prelude.{◌≡◌, ◌<◌, ◌≤◌, ◌⊎◌, ◌↔◌, List, [], length, replicate, IfOk, OnOk, OnErr, IfErr, IfSome, IsNone, Err as ErrOf, None};
 ghost use Rattle.std.specs.List.{Contains};
 ghost use Rattle.std.specs.List.Sorted.{IsPartitionPoint};
 ghost use Rattle.redo_core.specs.Shape.{cut_fault, advance_fault};
@@ -6,7 +6,8 @@ ghost use Rattle.redo_core.specs.Order.{IsRising, CutBefore, AdvanceBefore};
 ghost use Rattle.redo_core.specs.CompleteEpoch.{IsCompleteEpoch};
 ghost use Rattle.redo_core.specs.Standing.{IsAlive, IsDead, IsWaiting};
 ghost use Rattle.redo_core.specs.declared.facts.Fact.TheVariants.{Cut as OfCut, Advance as OfAdvance};
-ghost use Rattle.epoch_book.specs.Book.{IsBook, book_of};
+ghost use Rattle.redo_core.specs.Roster.{IsReader, point_of, least};
+ghost use Rattle.epoch_book.specs.Book.{IsBook, book_of, roster_of};
 ghost use Rattle.epoch_book.specs.Knowing.{KnowsFacts, KnowsMore};
 ghost use Rattle.epoch_book.specs.Learning.{LearnsCut, LearnsAdvance, KnowsAdvance};
 ghost use Rattle.epoch_book.specs.Refusing.{LacksCut, RefusesCut, RefusesAdvance};
@@ -18,18 +19,18 @@ ghost use Rattle.epoch_book.specs.declared.standing.Standing.TheVariants.{Alive 
 
 use crate::refusals::{BookRefusal, Held, Learnt};
 use crate::standing::Standing;
-use crate::{advances, cuts};
-use redo_core::{Advance, Cut};
+use crate::{advances, cuts, points};
+use redo_core::{Advance, Cut, ReadPoints, Roster};
 use std::alloc::{AllocError, Global};
 use std::marker::Model;
 
-/// The truncations and the advances that a segment knows, with the complete epoch and the minimum read point.
+/// The truncations and the advances that a segment knows, with the complete epoch and each reader's point.
 #[derive(Debug, Drop)]
 pub struct EpochBook {
-    cuts: Vec<Cut>,
-    complete: u16,
-    min: u64,
-    waits: Vec<Advance>,
+    pub(crate) cuts: Vec<Cut>,
+    pub(crate) complete: u16,
+    pub(crate) points: ReadPoints,
+    pub(crate) waits: Vec<Advance>,
 }
 
 impl Model for EpochBook {
@@ -37,24 +38,25 @@ impl Model for EpochBook {
 
     ghost Value = { BookData };
 
-    ghost view = { λ b. book_of b.cuts.items b.complete b.min b.waits.items };
+    ghost view = { λ b. book_of b.cuts.items b.complete b.points b.waits.items };
 
-    ghost invariant = { λ b. IsBook (book_of b.cuts.items b.complete b.min b.waits.items) };
+    ghost invariant = { λ b. IsBook (book_of b.cuts.items b.complete b.points b.waits.items) };
 }
 
 impl EpochBook {
-    /// A book that knows nothing: epoch 0 is complete, and the minimum read point is 0.
-    pub fn new(alloc: Global) -> Self
-        ensures empty { result ≡ book_of [] 0 0 [] }
-        ensures book { IsBook result }
-        ensures knows { KnowsFacts [] result }
+    /// A book of a roster that knows nothing: epoch 0 is complete, and each reader's point is 0. Its only error is want of memory.
+    pub fn new(alloc: Global, roster: Roster) -> Result<Self, AllocError>
+        ensures empty { IfOk result (λ b. b ≡ book_of [] 0 (replicate roster 0) []) }
+        ensures book { IfOk result IsBook }
+        ensures knows { IfOk result (KnowsFacts []) }
     {
-        EpochBook {
+        let points = ReadPoints::new(alloc, roster)?;
+        Ok(EpochBook {
             cuts: Vec::new(alloc),
             complete: 0,
-            min: 0,
+            points,
             waits: Vec::new(alloc),
-        }
+        })
     }
 
     /// An equal book with memory of its own. Its only error is want of memory.
@@ -64,7 +66,7 @@ impl EpochBook {
         Ok(EpochBook {
             cuts: self.cuts.clone()?,
             complete: self.complete,
-            min: self.min,
+            points: self.points.clone()?,
             waits: self.waits.clone()?,
         })
     }
@@ -73,7 +75,8 @@ impl EpochBook {
     /// those epochs then count.
     ///
     /// Errors: `OtherCut` where another truncation of its epoch is held; `Contradiction` where it is not held and cuts below
-    /// the minimum, or else below an advance of an earlier epoch that waits; `Memory`. The book is then as it was.
+    /// the minimum, or else where each reader's point, known or waiting in an earlier epoch, is above its `lo`; `Memory`.
+    /// The book is then as it was.
     pub fn learn_cut(&mut self, cut: Cut) -> Result<Learnt, BookRefusal>
         ensures ok { OnOk result (LearnsCut self.old cut self.new) }
         ensures knows { OnOk result (KnowsMore self.old (OfCut cut) self.new) }
@@ -111,8 +114,12 @@ impl EpochBook {
         ensures none { IsNone result → (h : AnyHeld) → RefusesCut self.now cut (ContradictionOf h) → ⊥ }
         ensures book { IsBook self.now }
     {
-        if cut.lo() < self.min {
-            return Some(Held::Min(self.min));
+        let min = self.points.least();
+        if cut.lo() < min {
+            return Some(Held::Min(min));
+        }
+        if !points::others_past(&self.points, &self.waits, cut, 0) {
+            return None;
         }
         advances::first_against(&self.waits, cut).map(Held::Advance)
     }
@@ -129,16 +136,17 @@ impl EpochBook {
     {
         self.cuts.insert(place, cut)?;
         let complete = cuts::complete_epoch_from(&self.cuts, self.complete);
-        self.min = advances::min_with(&self.waits, complete, self.min);
+        points::raise_points(&mut self.points, &self.waits, complete);
         self.complete = complete;
         advances::keep_later(&mut self.waits, complete);
         Ok(())
     }
 
-    /// Learns an advance. It raises the minimum read point where its epoch is known, and else it waits.
+    /// Learns an advance. It raises its reader's point where its epoch is known, and else it waits.
     ///
-    /// Errors: `Contradiction`, also where it is known already, with the held truncation of the least epoch that cuts below
-    /// it; `Memory`. The book is then as it was.
+    /// Errors: `OtherRoster` where its reader is not of the roster; `Contradiction`, also where it is known already, with the held
+    /// truncation of the least epoch that cuts below it where nobody is left who reads there; `Memory`. The book is then as it
+    /// was.
     pub fn learn_advance(&mut self, advance: Advance) -> Result<Learnt, BookRefusal>
         ensures ok { OnOk result (LearnsAdvance self.old advance self.new) }
         ensures knows { OnOk result (KnowsMore self.old (OfAdvance advance) self.new) }
@@ -151,22 +159,59 @@ impl EpochBook {
         ensures refused { IfErr result (λ e. (e ≡ MemoryOf) ⊎ RefusesAdvance self.old advance e) }
         ensures memory { result ≡ ErrOf MemoryOf → (self.old.complete < advance.epoch) × (KnowsAdvance self.old advance → ⊥) }
     {
-        if let Some(cut) = cuts::first_against(&self.cuts, advance) {
-            return Err(BookRefusal::Contradiction(Held::Cut(cut)));
+        if let Some(refusal) = self.against_advance(advance) {
+            return Err(refusal);
         }
         if advance.epoch() > self.complete {
             return self.add_wait(advance);
         }
-        if advance.point() <= self.min {
-            return Ok(Learnt::Known);
+        Ok(self.count(advance))
+    }
+
+    // Why an advance is refused.
+    fn against_advance(&self, advance: Advance) -> Option<BookRefusal>
+        ensures some { IfSome result (RefusesAdvance self.now advance) }
+        ensures none { IsNone result → (e : AnyRefusal) → RefusesAdvance self.now advance e → ⊥ }
+        ensures reader { IsNone result → IsReader (roster_of self.now) advance.reader }
+        ensures book { IsBook self.now }
+    {
+        let own = self.points.readers();
+        if advance.reader() > own {
+            let shown = advance.reader();
+            return Some(BookRefusal::OtherRoster { own, shown });
         }
-        self.min = advance.point();
-        Ok(Learnt::New)
+        match cuts::first_against(
+            &self.cuts,
+            advance,
+            &self.points,
+            &self.waits,
+            self.complete,
+        ) {
+            Some(cut) => Some(BookRefusal::Contradiction(Held::Cut(cut))),
+            None => None,
+        }
+    }
+
+    // An advance of a known epoch counts.
+    fn count(&mut self, advance: Advance) -> Learnt
+        requires counts { advance.epoch ≤ self.old.complete }
+        requires of_roster { IsReader (roster_of self.old) advance.reader }
+        ensures ok { LearnsAdvance self.old advance self.new }
+        ensures known { (result ≡ KnownOf) ↔ (advance.point ≤ point_of self.old.points advance.reader) }
+        ensures unchanged { result ≡ KnownOf → self.new ≡ self.old }
+        ensures book { IsBook self.new }
+    {
+        if advance.point() <= self.points.of(advance.reader()) {
+            return Learnt::Known;
+        }
+        self.points.raise(advance);
+        Learnt::New
     }
 
     fn add_wait(&mut self, advance: Advance) -> Result<Learnt, BookRefusal>
         requires later { self.old.complete < advance.epoch }
         requires shaped { advance_fault advance ≡ None }
+        requires of_roster { IsReader (roster_of self.old) advance.reader }
         ensures ok { OnOk result (LearnsAdvance self.old advance self.new) }
         ensures known { IfOk result (λ learnt. (learnt ≡ KnownOf) ↔ Contains self.old.waits advance) }
         ensures unchanged { IfOk result (λ learnt. learnt ≡ KnownOf → self.new ≡ self.old) }
@@ -192,12 +237,20 @@ impl EpochBook {
         self.complete
     }
 
-    /// The greatest point of the advances of epochs up to the complete one.
+    /// The minimum read point: the least of the readers' points.
     pub fn min_point(&self) -> u64
-        ensures value { result ≡ self.now.min }
+        ensures value { result ≡ least self.now.points }
         ensures book { IsBook self.now }
     {
-        self.min
+        self.points.least()
+    }
+
+    /// Each reader's point, by reader: the greatest of its advances of epochs up to the complete one.
+    pub fn points(&self) -> &[u64]
+        ensures value { result.now ≡ self.now.points }
+        ensures book { IsBook self.now }
+    {
+        self.points.as_slice()
     }
 
     /// The truncations, rising by epoch.
@@ -209,7 +262,7 @@ impl EpochBook {
         &self.cuts
     }
 
-    /// The advances that wait for their epoch, rising by epoch and then by point.
+    /// The advances that wait for their epoch, rising by epoch, reader and point.
     pub fn waits(&self) -> &[Advance]
         ensures value { result.now ≡ self.now.waits }
         ensures rising { IsRising AdvanceBefore self.now.waits }

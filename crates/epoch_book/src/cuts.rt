@@ -3,10 +3,12 @@ ghost use Rattle.std.specs.List.{All, AllWithin, HoldsAt, Contains};
 ghost use Rattle.std.specs.List.Sorted.{IsPartitionPoint};
 ghost use Rattle.redo_core.specs.Order.{IsRising, CutBefore};
 ghost use Rattle.redo_core.specs.CompleteEpoch.{HasCutsTo, IsCompleteEpoch};
-ghost use Rattle.epoch_book.specs.Refusing.{Contradict, IsFirst};
+ghost use Rattle.redo_core.specs.Roster.{IsReader};
+ghost use Rattle.epoch_book.specs.Refusing.{CutsBelow, IsFirst};
 ghost use Rattle.epoch_book.specs.Scanning.{HasCut, SparesIn};
 
-use redo_core::{Advance, Cut};
+use crate::points::others_past;
+use redo_core::{Advance, Cut, ReadPoints};
 
 // The place of the truncation of an epoch, or where one would go.
 pub fn place_of_epoch(cuts: &[Cut], epoch: u16) -> Result<usize, usize>
@@ -56,14 +58,36 @@ pub fn complete_epoch_from(cuts: &[Cut], from: u16) -> u16
     epoch as u16
 }
 
-// The truncation of the least epoch that cuts below the advance.
-pub fn first_against(cuts: &[Cut], advance: Advance) -> Option<Cut>
-    requires { IsRising CutBefore cuts.now }
-    ensures first { IfSome result (IsFirst CutBefore (λ c. Contains cuts.now c × Contradict c advance)) }
-    ensures none { IsNone result → All (λ c. Contradict c advance → ⊥) cuts.now }
+// Whether the truncation cuts below the advance, and nobody is left who reads there.
+fn cuts_below(
+    cut: Cut,
+    advance: Advance,
+    points: &ReadPoints,
+    waits: &[Advance],
+    complete: u16,
+) -> bool
+    ensures { IsTrue result ↔ CutsBelow complete points.now waits.now cut advance }
+{
+    advance.epoch() < cut.epoch()
+        && cut.lo() < advance.point()
+        && (points.readers() == 1
+            || complete < cut.epoch() && others_past(points, waits, cut, advance.reader()))
+}
+
+// The truncation of the least epoch that does.
+pub fn first_against(
+    cuts: &[Cut],
+    advance: Advance,
+    points: &ReadPoints,
+    waits: &[Advance],
+    complete: u16,
+) -> Option<Cut>
+    requires rising { IsRising CutBefore cuts.now }
+    ensures first { IfSome result (IsFirst CutBefore (λ c. Contains cuts.now c × CutsBelow complete points.now waits.now c advance)) }
+    ensures none { IsNone result → All (λ c. CutsBelow complete points.now waits.now c advance → ⊥) cuts.now }
 {
     for cut in cuts {
-        if advance.epoch() < cut.epoch() && cut.lo() < advance.point() {
+        if cuts_below(*cut, advance, points, waits, complete) {
             return Some(*cut);
         }
     }

@@ -28,6 +28,8 @@ pub enum Held {
 /// Why a book has not learnt a fact. It is then as it was.
 #[derive(Clone, Copy, Debug, PartialEq, Eq, Error)]
 pub enum BookRefusal {
+    #[error("a reader or a roster of another size than its own")]
+    OtherRoster { own: u8, shown: u8 },
     #[error("another truncation of the epoch is held")]
     OtherCut(Cut),
     #[error("the fact contradicts what is held")]

@@ -1,63 +1,134 @@
 use crate::{BookRefusal, EpochBook, Held, Learnt, Standing};
-use redo_core::{Advance, Cut};
+use redo_core::{Advance, Cut, Roster};
+use std::alloc::Global;
 use std::test::Fail;
 
-fn cut(epoch: u16, lo: u64, hi: u64) -> Result<Cut, Fail> {
-    Ok(Cut::new(epoch, lo, hi).ok().ok_or("shape")?)
+/// What a book learns.
+#[derive(Clone, Copy)]
+enum Row {
+    /// Epoch, lo, hi.
+    Cut(u16, u64, u64),
+    /// Reader, epoch, point.
+    Min(u8, u16, u64),
 }
 
-fn min(epoch: u16, point: u64) -> Result<Advance, Fail> {
-    Ok(Advance::new(epoch, point).ok().ok_or("shape")?)
+// Whether the book answers so to one row more.
+fn learns(
+    book: &mut EpochBook,
+    row: Row,
+    answer: Result<Learnt, BookRefusal>,
+) -> Result<bool, Fail> {
+    match row {
+        Row::Cut(epoch, lo, hi) => Ok(book.learn_cut(Cut::new(epoch, lo, hi)?) == answer),
+        Row::Min(reader, epoch, point) => {
+            let advance = Advance::of_reader(reader, epoch, point)?;
+            Ok(book.learn_advance(advance) == answer)
+        }
+    }
+}
+
+// A book of so many readers to which these rows are new.
+fn book_of(heap: Global, readers: u8, rows: &[Row]) -> Result<EpochBook, Fail> {
+    let mut book = EpochBook::new(heap, Roster::new(readers)?)?;
+    for row in rows {
+        if !learns(&mut book, *row, Ok(Learnt::New))? {
+            return Err("not new".into());
+        }
+    }
+    Ok(book)
+}
+
+// Whether such a book answers so to one row more.
+fn answers(
+    heap: Global,
+    readers: u8,
+    rows: &[Row],
+    row: Row,
+    answer: Result<Learnt, BookRefusal>,
+) -> Result<bool, Fail> {
+    let mut book = book_of(heap, readers, rows)?;
+    learns(&mut book, row, answer)
 }
 
 #[test]
-fn refusals_after_a_truncation(rt: HostRuntime) -> Result<(), Fail> {
-    let mut book = EpochBook::new(rt.alloc());
-    let held = cut(1, 5, 20)?;
-    assert_eq!(rt; book.learn_cut(held), Ok(Learnt::New));
-    assert_eq!(rt; book.learn_cut(held), Ok(Learnt::Known));
-    assert_eq!(rt;
-        book.learn_cut(cut(1, 6, 20)?),
-        Err(BookRefusal::OtherCut(held))
-    );
-    let against = BookRefusal::Contradiction(Held::Cut(held));
-    assert_eq!(rt; book.learn_advance(min(0, 9)?), Err(against));
+fn one_reader(rt: HostRuntime) -> Result<(), Fail> {
+    let heap = rt.alloc();
+    let cut = [Row::Cut(1, 5, 20)];
+    let held = Cut::new(1, 5, 20)?;
+    assert!(rt; answers(heap, 1, &cut, cut[0], Ok(Learnt::Known))?);
+    let other = BookRefusal::OtherCut(held);
+    assert!(rt; answers(heap, 1, &cut, Row::Cut(1, 6, 20), Err(other))?);
+    let below = BookRefusal::Contradiction(Held::Cut(held));
+    assert!(rt; answers(heap, 1, &cut, Row::Min(1, 0, 9), Err(below))?);
+    let low = BookRefusal::Contradiction(Held::Min(9));
+    assert!(rt; answers(heap, 1, &[Row::Min(1, 0, 9)], cut[0], Err(low))?);
     Ok(())
 }
 
-#[test]
-fn refusal_by_the_minimum(rt: HostRuntime) -> Result<(), Fail> {
-    let mut book = EpochBook::new(rt.alloc());
-    assert_eq!(rt; book.learn_advance(min(0, 9)?), Ok(Learnt::New));
-    let against = BookRefusal::Contradiction(Held::Min(9));
-    assert_eq!(rt; book.learn_cut(cut(1, 5, 20)?), Err(against));
-    Ok(())
-}
+const WAITS: [Row; 3] = [Row::Min(1, 3, 80), Row::Min(1, 1, 30), Row::Min(1, 2, 60)];
 
 #[test]
 fn advances_wait_for_their_epochs(rt: HostRuntime) -> Result<(), Fail> {
-    let mut book = EpochBook::new(rt.alloc());
-    for advance in [min(3, 80)?, min(1, 30)?, min(2, 60)?] {
-        assert_eq!(rt; book.learn_advance(advance), Ok(Learnt::New));
-    }
-    assert_eq!(rt; book.learn_advance(min(1, 30)?), Ok(Learnt::Known));
-    let against = BookRefusal::Contradiction(Held::Advance(min(1, 30)?));
-    assert_eq!(rt; book.learn_cut(cut(4, 29, 90)?), Err(against));
-    assert_eq!(rt; book.learn_cut(cut(2, 40, 50)?), Ok(Learnt::New));
-    assert_eq!(rt; (book.complete_epoch(), book.min_point()), (0, 0));
-    assert_eq!(rt; book.stands(1, 25), Standing::Waiting);
+    let heap = rt.alloc();
+    assert!(rt; answers(heap, 1, &WAITS, WAITS[1], Ok(Learnt::Known))?);
+    let least = BookRefusal::Contradiction(Held::Advance(Advance::new(1, 30)?));
+    assert!(rt; answers(heap, 1, &WAITS, Row::Cut(4, 29, 90), Err(least))?);
+    let mut book = book_of(heap, 1, &WAITS)?;
+    assert!(rt; learns(&mut book, Row::Cut(2, 40, 50), Ok(Learnt::New))?);
+    assert_eq!(rt;
+        (book.complete_epoch(), book.min_point(), book.waits().len()),
+        (0, 0, 3)
+    );
+    assert!(rt; learns(&mut book, Row::Cut(1, 10, 20), Ok(Learnt::New))?);
+    assert_eq!(rt;
+        (book.complete_epoch(), book.min_point(), book.waits().len()),
+        (2, 60, 1)
+    );
+    Ok(())
+}
 
-    assert_eq!(rt; book.learn_cut(cut(1, 10, 20)?), Ok(Learnt::New));
-    assert_eq!(rt; (book.complete_epoch(), book.min_point()), (2, 60));
-    assert_eq!(rt; book.cuts(), [cut(1, 10, 20)?, cut(2, 40, 50)?].as_slice());
-    assert_eq!(rt; book.waits(), [min(3, 80)?].as_slice());
-    assert_eq!(rt; book.stands(0, 10), Standing::Alive);
-    assert_eq!(rt; book.stands(0, 11), Standing::Dead);
-    assert_eq!(rt; book.stands(1, 20), Standing::Dead);
-    assert_eq!(rt; book.stands(1, 40), Standing::Alive);
-
+#[test]
+fn standings(rt: HostRuntime) -> Result<(), Fail> {
+    let book = book_of(rt.alloc(), 1, &[Row::Cut(2, 40, 50), Row::Cut(1, 10, 20)])?;
     let copied = book.copy()?;
-    assert_eq!(rt; copied.cuts(), book.cuts());
-    assert_eq!(rt; copied.waits(), book.waits());
+    let rows = [
+        (0, 10, Standing::Alive),
+        (0, 11, Standing::Dead),
+        (1, 20, Standing::Dead),
+        (1, 40, Standing::Alive),
+        (3, 90, Standing::Waiting),
+    ];
+    for (epoch, number, standing) in rows {
+        assert_eq!(rt; copied.stands(epoch, number), standing);
+    }
+    assert_eq!(rt; copied.cuts().len(), 2);
+    Ok(())
+}
+
+#[test]
+fn the_least_point_counts(rt: HostRuntime) -> Result<(), Fail> {
+    let heap = rt.alloc();
+    let points = [Row::Min(1, 0, 5), Row::Min(2, 0, 3), Row::Min(2, 1, 21)];
+    let low = BookRefusal::Contradiction(Held::Min(3));
+    assert!(rt; answers(heap, 2, &points, Row::Cut(1, 2, 20), Err(low))?);
+    let stranger = BookRefusal::OtherRoster { own: 2, shown: 3 };
+    assert!(rt; answers(heap, 2, &points, Row::Min(3, 0, 1), Err(stranger))?);
+    let mut book = book_of(heap, 2, &points)?;
+    assert_eq!(rt; book.points(), [5, 3].as_slice());
+    assert!(rt; learns(&mut book, Row::Cut(1, 3, 20), Ok(Learnt::New))?);
+    assert_eq!(rt; book.points(), [5, 21].as_slice());
+    Ok(())
+}
+
+#[test]
+fn a_reader_that_is_left_takes_no_harm(rt: HostRuntime) -> Result<(), Fail> {
+    let heap = rt.alloc();
+    let held = [Row::Min(2, 1, 9), Row::Cut(2, 4, 20)];
+    let below = BookRefusal::Contradiction(Held::Cut(Cut::new(2, 4, 20)?));
+    assert!(rt; answers(heap, 2, &held, Row::Min(1, 1, 5), Err(below))?);
+    assert!(rt; answers(heap, 2, &held, Row::Min(1, 1, 4), Ok(Learnt::New))?);
+    let passed = [Row::Min(2, 1, 9), Row::Min(1, 0, 5)];
+    let waits = BookRefusal::Contradiction(Held::Advance(Advance::of_reader(2, 1, 9)?));
+    assert!(rt; answers(heap, 2, &passed, held[1], Err(waits))?);
     Ok(())
 }
