@@ -14,6 +14,7 @@ use epoch_book::EpochBook;
 use redo_core::{Record, Refused};
 use std::alloc::{AllocError, Global};
 use std::marker::Model;
+use thiserror::Error;
 
 /// The redo records that a segment holds, by key.
 #[derive(Debug, Drop)]
@@ -40,10 +41,12 @@ pub enum Put {
     Known,
 }
 
-/// Why a put was refused: another record stands under that key, or want of memory.
-#[derive(Clone, Copy, Debug, PartialEq, Eq)]
+/// Why a put was refused.
+#[derive(Clone, Copy, Debug, PartialEq, Eq, Error)]
 pub enum PutFault {
+    #[error("another record is held under the key")]
     OtherRecord,
+    #[error("out of memory")]
     Memory,
 }
 
@@ -61,11 +64,7 @@ impl HotLog {
     pub fn copy(&self) -> Result<Self, AllocError>
         ensures { IfOk result (λ h. h ≡ self.now) }
     {
-        let mut records = Vec::new(*self.records.allocator());
-        for redo in &self.records {
-            records.push(redo.copy()?)?;
-        }
-        Ok(HotLog { records })
+        self.clone()
     }
 
     /// How many records are held.
@@ -83,8 +82,8 @@ impl HotLog {
         self.records.is_empty()
     }
 
-    /// The held records, rising by key.
-    pub fn records(&self) -> &[Record]
+    // The held records, rising by key.
+    pub(crate) fn records(&self) -> &[Record]
         ensures value { result.now ≡ self.now }
         ensures form { IsHeld self.now }
     {
@@ -234,6 +233,16 @@ impl HotLog {
         ensures form { IsHeld self.new }
     {
         removal::remove_dead(&mut self.records, book);
+    }
+}
+
+impl Clone for HotLog {
+    ghost is_clone = { λ h copied. copied ≡ h };
+
+    fn clone(&self) -> Result<Self, AllocError> {
+        Ok(HotLog {
+            records: self.records.clone()?,
+        })
     }
 }
 
