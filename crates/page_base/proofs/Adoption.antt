@@ -1,5 +1,5 @@
 -- What is left of images after an adoption, and how adoptions follow one another.
-use Rattle.std.proofs.Common.{◌≡◌, ◌≢◌, ℕ, ◌<◌, ◌≤◌, ◌⊎◌, ⊎_elim, List, [], ◌∷◌, refl, sym, ap, ◌∙◌, subst, arith, Bool, true, max, nat_le}
+use Rattle.std.proofs.Common.{◌≡◌, ◌≢◌, ℕ, ◌<◌, ◌≤◌, ◌⊎◌, inl, ⊎_elim, List, [], ◌∷◌, refl, sym, ap, ◌∙◌, subst, arith, Bool, true, max, nat_le}
 use Rattle.std.specs.List.{Contains, filter}
 use Rattle.std.proofs.lemmas.Bool.Decides.{nat_tests}
 use Rattle.redo_core.specs.Order.{IsRising}
@@ -11,7 +11,7 @@ use Rattle.segment_state.specs.State.{StoredImage, version_of, image_of}
 use Rattle.segment_state.specs.Stored.{PageBefore}
 use Rattle.segment_state.proofs.Storing.{stored_images}
 use Rattle.page_base.specs.Stored.{store_of, IsBase}
-use Rattle.page_base.specs.Adopting.{Adopts}
+use Rattle.page_base.specs.Adopting.{Adopts, StoresJust}
 
 abbrev pub is_new : ℕ → StoredImage → Bool
 is_new base i = nat_le base i.version
@@ -43,7 +43,8 @@ record AfterFloor (images : List StoredImage) (floor base page : ℕ) : Type 0 w
   kept : base ≤ version_of (store_of images floor) page → image_of (store_of (filter (is_new base) images) (max floor base)) page ≡ image_of (store_of images floor) page
   taken : version_of (store_of images floor) page < base → image_of (store_of (filter (is_new base) images) (max floor base)) page ≡ zeros
 
-after_kept : (images : List StoredImage) (floor base : ℕ) (i : StoredImage) → IsBase images floor → Contains images i → base ≤ i.version → AfterFloor images floor base i.page
+after_kept : (images : List StoredImage) (floor base : ℕ) (i : StoredImage) → IsBase images floor → Contains images i → base ≤ i.version
+    → AfterFloor images floor base i.page
 after_kept images floor base i is h new =
     let old = (stored_images (store_of images floor) is.rising).0 i h in
     let now = (stored_images (store_of (filter (is_new base) images) (max floor base)) (rising_filter PageBefore (is_new base) images is.rising)).0 i (passed (is_new base) images i (new_of base i new) h) in
@@ -53,7 +54,8 @@ after_kept images floor base i is h new =
       taken = λ below. absurd (let a = old.0 in omega (arith, a, below, new));
     }
 
-after_gone : (images : List StoredImage) (floor base : ℕ) (i : StoredImage) → IsBase images floor → Contains images i → i.version < base → AfterFloor images floor base i.page
+after_gone : (images : List StoredImage) (floor base : ℕ) (i : StoredImage) → IsBase images floor → Contains images i → i.version < base
+    → AfterFloor images floor base i.page
 after_gone images floor base i is h below =
     let old = (stored_images (store_of images floor) is.rising).0 i h in
     let high : floor ≤ i.version = is.high i h in
@@ -68,7 +70,8 @@ after_gone images floor base i is h below =
       taken = λ _. now.1;
     }
 
-after_none : (images : List StoredImage) (floor base page : ℕ) → IsBase images floor → ((i : StoredImage) → Contains images i → i.page ≢ page) → AfterFloor images floor base page
+after_none : (images : List StoredImage) (floor base page : ℕ) → IsBase images floor → ((i : StoredImage) → Contains images i → i.page ≢ page)
+    → AfterFloor images floor base page
 after_none images floor base page is none =
     let old = (stored_images (store_of images floor) is.rising).1 page none in
     let now = (stored_images (store_of (filter (is_new base) images) (max floor base)) (rising_filter PageBefore (is_new base) images is.rising)).1 page
@@ -92,7 +95,8 @@ after_floor images floor base page is =
     (some_or_none (λ (i : StoredImage). i.page ≡ page) (λ i. settled_eq i.page page) images)
 
 -- where the images below the base go, and the floor rises to it, zeros are adopted
-pub floor_adopts : (images new : List StoredImage) (floor base raised : ℕ) → IsBase images floor → new ≡ filter (is_new base) images → raised ≡ max floor base → Adopts (store_of images floor) base [] (store_of new raised)
+pub floor_adopts : (images new : List StoredImage) (floor base raised : ℕ) → IsBase images floor → new ≡ filter (is_new base) images
+    → raised ≡ max floor base → Adopts (store_of images floor) base [] (store_of new raised)
 floor_adopts images new floor base raised is same top =
     subst (λ l. Adopts (store_of images floor) base [] (store_of l raised)) (sym same)
     (subst (λ n. Adopts (store_of images floor) base [] (store_of (filter (is_new base) images) n)) (sym top)
@@ -103,7 +107,13 @@ floor_adopts images new floor base raised is same top =
       floor = refl;
     }))
 
-pub floor_keeps : (images new : List StoredImage) (floor base raised : ℕ) → IsBase images floor → new ≡ filter (is_new base) images → raised ≡ max floor base → IsBase new raised
+-- what is left was there
+pub floor_stores : (images new : List StoredImage) (floor base raised : ℕ) → new ≡ filter (is_new base) images
+    → StoresJust (store_of images floor) base [] (store_of new raised)
+floor_stores images new floor base raised same i h = inl (filtered (is_new base) images i (subst (λ l. Contains l i) same h)).0
+
+pub floor_keeps : (images new : List StoredImage) (floor base raised : ℕ) → IsBase images floor → new ≡ filter (is_new base) images
+    → raised ≡ max floor base → IsBase new raised
 floor_keeps images new floor base raised is same top =
     subst (λ l. IsBase l raised) (sym same)
     (record {

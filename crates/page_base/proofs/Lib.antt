@@ -2,3 +2,4 @@ pub mod Lists
 pub mod Putting
 pub mod Shown
 pub mod Adoption
+pub mod Merged

@@ -37,7 +37,8 @@ parted page images rising i j d le lt h =
     below_of page (get_or images i d) (omega arith))
     (let t : (i ≡ j) ⊎ (i < j) = grind arith in t)
 
-pub split : (page : ℕ) (images : List StoredImage) (place : ℕ) → place ≤ length images → IsPartitionPoint (λ (i : StoredImage). nat_lt i.page page ≡ true) (λ i. nat_lt i.page page ≡ false) images place → SplitsAt page images place
+pub split : (page : ℕ) (images : List StoredImage) (place : ℕ) → place ≤ length images
+    → IsPartitionPoint (λ (i : StoredImage). nat_lt i.page page ≡ true) (λ i. nat_lt i.page page ≡ false) images place → SplitsAt page images place
 split page images place le point = record {
   bound = le;
   below = λ i h.
@@ -54,7 +55,8 @@ split page images place le point = record {
 }
 
 -- no image is of a page where the one at the page's place is of another
-pub gap_before : (page : ℕ) (images : List StoredImage) (place : ℕ) (x : StoredImage) → IsRising PageBefore images → SplitsAt page images place → place < length images → x ≡ get_or images place x → (x.page ≡ page → ⊥) → IsGapAt page images place
+pub gap_before : (page : ℕ) (images : List StoredImage) (place : ℕ) (x : StoredImage) → IsRising PageBefore images → SplitsAt page images place
+    → place < length images → x ≡ get_or images place x → (x.page ≡ page → ⊥) → IsGapAt page images place
 gap_before page images place x rising s l e other = record {
   bound = s.bound;
   below = s.below;
@@ -72,7 +74,8 @@ gap_before page images place x rising s l e other = record {
     first_from (z ∷ zs) (suc k) y l e = first_from zs k y (omega (arith, l)) e
 
 -- an image put into a gap
-pub put_in_gap : (images : List StoredImage) (place : ℕ) (x : StoredImage) → IsRising PageBefore images → IsGapAt x.page images place → PutsImage images x (insert images place x)
+pub put_in_gap : (images : List StoredImage) (place : ℕ) (x : StoredImage) → IsRising PageBefore images → IsGapAt x.page images place
+    → PutsImage images x (insert images place x)
 put_in_gap images place x rising gap = record {
   rising = rising_insert PageBefore images place x rising gap.below gap.above;
   members = λ i. (
@@ -89,7 +92,8 @@ put_in_gap images place x rising gap = record {
         (side place images i h)
 
 -- an image put over its page's
-set_over : (images : List StoredImage) (place : ℕ) (x : StoredImage) → IsRising PageBefore images → place < length images → ((i : StoredImage) → i ≡ get_or images place i → i.page ≡ x.page) → PutsImage images x (set images place x)
+set_over : (images : List StoredImage) (place : ℕ) (x : StoredImage) → IsRising PageBefore images → place < length images
+    → ((i : StoredImage) → i ≡ get_or images place i → i.page ≡ x.page) → PutsImage images x (set images place x)
 set_over [] place x rising l own = absurd (omega (arith, l))
 set_over (z ∷ zs) zero x rising l own =
     let same : z.page ≡ x.page = own z refl in
@@ -131,5 +135,6 @@ set_over (z ∷ zs) (suc place) x rising l own =
     below_it (w ∷ ws) zero u y all l own = let lt : u.page < w.page = all.0 in let same : w.page ≡ y.page = own w refl in omega arith
     below_it (w ∷ ws) (suc k) u y all l own = below_it ws k u y all.1 (omega (arith, l)) own
 
-pub put_over : (images : List StoredImage) (place : ℕ) (x : StoredImage) → IsRising PageBefore images → (place < length images) × ((i : StoredImage) → i ≡ get_or images place i → i.page ≡ x.page) → PutsImage images x (set images place x)
+pub put_over : (images : List StoredImage) (place : ℕ) (x : StoredImage) → IsRising PageBefore images
+    → (place < length images) × ((i : StoredImage) → i ≡ get_or images place i → i.page ≡ x.page) → PutsImage images x (set images place x)
 put_over images place x rising at = set_over images place x rising at.0 at.1

@@ -13,12 +13,14 @@ use Rattle.page_base.specs.Raising.{Raises}
 use Rattle.redo_core.proofs.Rising.{side}
 use Rattle.page_base.proofs.Putting.{put_over, put_in_gap}
 
-pub at_place : (images : List StoredImage) (floor page place : ℕ) (x : StoredImage) → IsRising PageBefore images → IsPlace page images (Ok place) → x ≡ get_or images place x → (version_of (store_of images floor) page ≡ x.version) × (image_of (store_of images floor) page ≡ x.bytes)
+pub at_place : (images : List StoredImage) (floor page place : ℕ) (x : StoredImage) → IsRising PageBefore images → IsPlace page images (Ok place)
+    → x ≡ get_or images place x → (version_of (store_of images floor) page ≡ x.version) × (image_of (store_of images floor) page ≡ x.bytes)
 at_place images floor page place x rising at e =
     subst (λ p. (version_of (store_of images floor) p ≡ x.version) × (image_of (store_of images floor) p ≡ x.bytes)) (at.1 x e)
     ((stored_images (store_of images floor) rising).0 x (place, at.0, sym e))
 
-pub at_gap : (images : List StoredImage) (floor page place : ℕ) → IsRising PageBefore images → IsPlace page images (Err place) → (version_of (store_of images floor) page ≡ floor) × (image_of (store_of images floor) page ≡ zeros)
+pub at_gap : (images : List StoredImage) (floor page place : ℕ) → IsRising PageBefore images → IsPlace page images (Err place)
+    → (version_of (store_of images floor) page ≡ floor) × (image_of (store_of images floor) page ≡ zeros)
 at_gap images floor page place rising gap =
     (stored_images (store_of images floor) rising).1 page
     (λ i h e. ⊎_elim
@@ -27,20 +29,25 @@ at_gap images floor page place rising gap =
     (side place images i h))
 
 -- an image put at the place that was found for it
-pub put_at : (from images : List StoredImage) (page place : ℕ) (x : StoredImage) → from ≡ images → page ≡ x.page → IsRising PageBefore images → IsPlace page from (Ok place) → PutsImage images x (set images place x)
+pub put_at : (from images : List StoredImage) (page place : ℕ) (x : StoredImage) → from ≡ images → page ≡ x.page → IsRising PageBefore images
+    → IsPlace page from (Ok place) → PutsImage images x (set images place x)
 put_at from images page place x same own rising at = put_over images place x rising (subst (λ p. IsPlace p images (Ok place)) own (subst (λ l. IsPlace page l (Ok place)) same at))
 
-pub put_between : (from images : List StoredImage) (page place : ℕ) (x : StoredImage) → from ≡ images → page ≡ x.page → IsRising PageBefore images → IsPlace page from (Err place) → PutsImage images x (insert images place x)
+pub put_between : (from images : List StoredImage) (page place : ℕ) (x : StoredImage) → from ≡ images → page ≡ x.page → IsRising PageBefore images
+    → IsPlace page from (Err place) → PutsImage images x (insert images place x)
 put_between from images page place x same own rising at = put_in_gap images place x rising (subst (λ p. IsPlace p images (Err place)) own (subst (λ l. IsPlace page l (Err place)) same at))
 
-unmoved : (old new : List StoredImage) (image : StoredImage) (floor page : ℕ) → IsRising PageBefore old → PutsImage old image new → page ≢ image.page → (version_of (store_of new floor) page ≡ version_of (store_of old floor) page) × (image_of (store_of new floor) page ≡ image_of (store_of old floor) page)
+unmoved : (old new : List StoredImage) (image : StoredImage) (floor page : ℕ) → IsRising PageBefore old → PutsImage old image new → page ≢ image.page
+    → (version_of (store_of new floor) page ≡ version_of (store_of old floor) page) × (image_of (store_of new floor) page ≡ image_of (store_of old floor) page)
 unfolding version_of image_of
 unmoved old new image floor page rising put differs =
     let e : image_in new floor page ≡ image_in old floor page = elsewhere old new image floor page rising put differs in
     (ap (λ (i : StoredImage). i.version) e, ap (λ (i : StoredImage). i.bytes) e)
 
 -- an image put above the page's own raises it
-pub put_raises : (old new : List StoredImage) (floor page version : ℕ) (image : List ℕ) → IsRising PageBefore old → PutsImage old (stored page version image) new → version_of (store_of old floor) page < version → Raises (store_of old floor) page version image (store_of new floor)
+pub put_raises : (old new : List StoredImage) (floor page version : ℕ) (image : List ℕ) → IsRising PageBefore old
+    → PutsImage old (stored page version image) new → version_of (store_of old floor) page < version
+    → Raises (store_of old floor) page version image (store_of new floor)
 put_raises old new floor page version image rising put above = record {
   lower = λ low. absurd (omega (arith, above, low));
   higher = λ _. record {
@@ -48,6 +55,7 @@ put_raises old new floor page version image rising put above = record {
     image_is = own.1;
     others = λ other differs. unmoved old new (stored page version image) floor other rising put differs;
     floor = refl;
+    stored_as = put;
   };
 }
   where
@@ -67,7 +75,8 @@ above_floor images floor page base =
     omega arith)
     (some_or_none (λ (i : StoredImage). i.page ≡ page) (λ i. settled_eq i.page page) images)
 
-pub put_keeps : (old new : List StoredImage) (floor page version : ℕ) (image : List ℕ) → IsBase old floor → PutsImage old (stored page version image) new → version_of (store_of old floor) page < version → IsBase new floor
+pub put_keeps : (old new : List StoredImage) (floor page version : ℕ) (image : List ℕ) → IsBase old floor
+    → PutsImage old (stored page version image) new → version_of (store_of old floor) page < version → IsBase new floor
 put_keeps old new floor page version image base put above = record {
   rising = put.rising;
   high = λ i h.
@@ -80,5 +89,6 @@ put_keeps old new floor page version image base put above = record {
       ((put.members i).0 h);
 }
 
-pub above_from : (from images : List StoredImage) (floor page version own : ℕ) → from ≡ images → own ≡ version_of (store_of from floor) page → own < version → version_of (store_of images floor) page < version
+pub above_from : (from images : List StoredImage) (floor page version own : ℕ) → from ≡ images → own ≡ version_of (store_of from floor) page
+    → own < version → version_of (store_of images floor) page < version
 above_from from images floor page version own same is above = subst (λ l. version_of (store_of l floor) page < version) same (omega (arith, is, above))

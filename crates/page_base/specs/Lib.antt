@@ -2,4 +2,5 @@ pub mod Stored
 pub mod Placing
 pub mod Raising
 pub mod Adopting
+pub mod Merging
 pub mod Laws

@@ -1,13 +1,20 @@
 -- How the image of one page changes.
 use Rattle.std.specs.Prelude.{◌≡◌, ◌≢◌, ℕ, ◌<◌, ◌≤◌, List}
 use Rattle.segment_state.specs.State.{Store, version_of, image_of}
+use Rattle.segment_state.specs.Stored.{PutsImage}
+use Rattle.page_base.specs.Stored.{stored}
 
--- the page has the image at the version, and each other page what it had
+-- what the page shows is the same
+abbrev pub SamePage : Store → Store → ℕ → Type 0
+SamePage old new page = (version_of new page ≡ version_of old page) × (image_of new page ≡ image_of old page)
+
+-- the page has the image at the version, and each other page what it had; the stored images are those, and no more
 pub record SetsImage (old : Store) (page version : ℕ) (image : List ℕ) (new : Store) : Type 0 where
   pub version_is : version_of new page ≡ version
   pub image_is : image_of new page ≡ image
-  pub others : (other : ℕ) → other ≢ page → (version_of new other ≡ version_of old other) × (image_of new other ≡ image_of old other)
+  pub others : (other : ℕ) → other ≢ page → SamePage old new other
   pub floor : new.floor ≡ old.floor
+  pub stored_as : PutsImage old.images (stored page version image) new.images
 
 -- an image of a version above the page's own takes its place; any other changes nothing
 pub record Raises (old : Store) (page version : ℕ) (image : List ℕ) (new : Store) : Type 0 where

@@ -1,8 +1,9 @@
 -- Base images as contracts see them.
-use Rattle.std.specs.Prelude.{ℕ, ◌≤◌, List}
+use Rattle.std.specs.Prelude.{◌≡◌, ℕ, ◌≤◌, List, Option, Some, None}
 use Rattle.std.specs.List.{Contains}
 use Rattle.redo_core.specs.Order.{IsRising}
-use Rattle.segment_state.specs.State.{Store, StoredImage}
+use Rattle.redo_core.specs.Writing.{zeros}
+use Rattle.segment_state.specs.State.{Store, StoredImage, version_of, image_of}
 use Rattle.segment_state.specs.Stored.{PageBefore}
 
 abbrev pub stored : ℕ → ℕ → List ℕ → StoredImage
@@ -11,11 +12,15 @@ stored page version bytes = record { page = page; version = version; bytes = byt
 abbrev pub store_of : List StoredImage → ℕ → Store
 store_of images floor = record { images = images; floor = floor }
 
--- the images rise by page
-abbrev pub IsStored : Store → Type 0
-IsStored store = IsRising PageBefore store.images
-
--- and none is of a version below the floor
+-- the images rise by page, and none is of a version below the floor
 pub record IsBase (images : List StoredImage) (floor : ℕ) : Type 0 where
   pub rising : IsRising PageBefore images
   pub high : (i : StoredImage) → Contains images i → floor ≤ i.version
+
+abbrev pub IsStored : Store → Type 0
+IsStored store = IsBase store.images store.floor
+
+-- the image that a page has in a store, or none where it is zeros at the floor
+abbrev pub IsStoredImage : Store → ℕ → Option StoredImage → Type 0
+IsStoredImage store page None = (version_of store page ≡ store.floor) × (image_of store page ≡ zeros)
+IsStoredImage store page (Some i) = Contains store.images i × (i.page ≡ page) × (version_of store page ≡ i.version) × (image_of store page ≡ i.bytes)

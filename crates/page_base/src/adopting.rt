@@ -1,7 +1,7 @@
 // How images adopt those of another store at one version.
 ghost use Rattle.std.specs.Prelude.{◌≡◌, ◌+◌, ◌≤◌, [], nat_le, vec_len, vec_capacity, IfOk, IfErr, OnErr};
 ghost use Rattle.page_base.specs.Stored.{store_of, IsBase};
-ghost use Rattle.page_base.specs.Adopting.{Adopts, ComesTo};
+ghost use Rattle.page_base.specs.Adopting.{Adopts, StoresJust, ComesTo, RaisesEachTo};
 
 use crate::images::BaseImage;
 use crate::places::raise;
@@ -13,6 +13,7 @@ fn raise_each(images: &mut Vec<BaseImage>, floor: u64, base: u64, pages: Vec<(u1
     requires stored { IsBase images.old.items floor }
     requires room { vec_len images.old + vec_len pages ≤ vec_capacity images.old }
     ensures raises { ComesTo base (store_of images.old.items floor) pages.items (store_of images.new.items floor) [] }
+    ensures each { RaisesEachTo base (store_of images.old.items floor) pages.items (store_of images.new.items floor) }
     ensures form { IsBase images.new.items floor }
 {
     for (page, image) in pages {
@@ -23,9 +24,10 @@ fn raise_each(images: &mut Vec<BaseImage>, floor: u64, base: u64, pages: Vec<(u1
 }
 
 // Lets the images below the base go, and answers the floor that stands for them.
-fn raise_floor(images: &mut Vec<BaseImage>, floor: u64, base: u64) -> u64
+pub fn raise_floor(images: &mut Vec<BaseImage>, floor: u64, base: u64) -> u64
     requires { IsBase images.old.items floor }
     ensures adopts { Adopts (store_of images.old.items floor) base [] (store_of images.new.items result) }
+    ensures listed { StoresJust (store_of images.old.items floor) base [] (store_of images.new.items result) }
     ensures form { IsBase images.new.items result }
 {
     images.retain(
@@ -45,6 +47,7 @@ pub fn adopt(
 ) -> Result<u64, Refused<Vec<(u16, Page)>, AllocError>>
     requires { IsBase images.old.items floor }
     ensures adopts { IfOk result (λ raised. Adopts (store_of images.old.items floor) base pages.items (store_of images.new.items raised)) }
+    ensures listed { IfOk result (λ raised. StoresJust (store_of images.old.items floor) base pages.items (store_of images.new.items raised)) }
     ensures form { IfOk result (λ raised. IsBase images.new.items raised) }
     ensures refused { IfErr result (λ e. e.value ≡ pages) }
     ensures unchanged { OnErr result (images.new.items ≡ images.old.items) }

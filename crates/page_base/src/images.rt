@@ -23,8 +23,8 @@ impl Model for BaseImage {
 }
 
 impl BaseImage {
-    // The image of a page at a version.
-    pub(crate) fn new(page: u16, version: u64, image: Page) -> Self
+    /// The image of a page at a version, which is a number of the log or 0.
+    pub fn new(page: u16, version: u64, image: Page) -> Self
         ensures { result ≡ stored page version image }
     {
         BaseImage {
@@ -60,8 +60,8 @@ impl BaseImage {
         self.image
     }
 
-    // An equal image with memory of its own.
-    pub(crate) fn copy(&self) -> Result<Self, AllocError>
+    /// An equal image with memory of its own. Its only error is want of memory.
+    pub fn copy(&self) -> Result<Self, AllocError>
         ensures { IfOk result (λ i. i ≡ self.now) }
     {
         Ok(BaseImage {

@@ -8,6 +8,7 @@
 mod adopting;
 mod images;
 mod laws;
+mod merging;
 mod places;
 mod store;
 #[cfg(test)]

@@ -1,9 +1,10 @@
 // Images that rise by page: where one stands, and how one changes.
-ghost use Rattle.std.specs.Prelude.{◌≡◌, ◌+◌, ◌<◌, ◌≤◌, nat_lt, vec_len, vec_capacity, IsOk, IfOk, OnOk, IfErr, OnErr};
+ghost use Rattle.std.specs.Prelude.{◌≡◌, ℕ, ◌+◌, ◌<◌, ◌≤◌, nat_lt, vec_len, vec_capacity, IsOk, IfOk, OnOk, IfErr, OnErr};
+ghost use Rattle.std.specs.Option.{option_copied};
 ghost use Rattle.redo_core.specs.Order.{IsRising};
 ghost use Rattle.segment_state.specs.State.{version_of, image_of};
 ghost use Rattle.segment_state.specs.Stored.{PageBefore, PutsImage};
-ghost use Rattle.page_base.specs.Stored.{store_of, IsBase};
+ghost use Rattle.page_base.specs.Stored.{store_of, IsBase, IsStoredImage};
 ghost use Rattle.page_base.specs.Placing.{SplitsAt, IsPlace};
 ghost use Rattle.page_base.specs.Raising.{Raises};
 
@@ -36,6 +37,17 @@ pub fn place_of(images: &[BaseImage], page: u16) -> Result<usize, usize>
         Ok(place)
     } else {
         Err(place)
+    }
+}
+
+// The image of a page, whatever the floor.
+pub fn stored_in(images: &[BaseImage], page: u16) -> Option<&BaseImage>
+    requires { IsRising PageBefore images.now }
+    ensures { (floor : ℕ) → IsStoredImage (store_of images.now floor) page (option_copied result) }
+{
+    match place_of(images, page) {
+        Ok(place) => Some(&images[place]),
+        Err(_) => None,
     }
 }
 

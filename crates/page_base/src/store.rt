@@ -1,11 +1,13 @@
 ghost use Rattle.std.specs.Prelude.{◌≡◌, ◌<◌, [], IfOk, OnOk, IfErr, OnErr};
+ghost use Rattle.std.specs.Option.{option_copied};
 ghost use Rattle.segment_state.specs.State.{version_of, image_of};
-ghost use Rattle.page_base.specs.Stored.{store_of, IsStored, IsBase};
+ghost use Rattle.page_base.specs.Stored.{store_of, IsStored, IsBase, IsStoredImage};
 ghost use Rattle.page_base.specs.Raising.{Raises};
-ghost use Rattle.page_base.specs.Adopting.{Adopts};
+ghost use Rattle.page_base.specs.Adopting.{Adopts, StoresJust};
+ghost use Rattle.page_base.specs.Merging.{Merges};
 
 use crate::images::BaseImage;
-use crate::{adopting, places};
+use crate::{adopting, merging, places};
 use redo_core::{Page, Refused};
 use std::alloc::{AllocError, Global};
 use std::marker::Model;
@@ -71,11 +73,25 @@ impl BaseStore {
         places::version_in(&self.images, self.floor, page)
     }
 
+    /// The version of the pages that have no image: the greatest floor taken over, or 0.
+    pub fn floor(&self) -> u64
+        ensures { result ≡ self.now.floor }
+    {
+        self.floor
+    }
+
     /// A copy of the image of a page, or zeros. Its only error is want of memory.
     pub fn image(&self, page: u16) -> Result<Page, AllocError>
         ensures { IfOk result (λ image. image ≡ image_of self.now page) }
     {
         places::image_in(&self.images, self.floor, self.alloc, page)
+    }
+
+    /// The stored image of a page, lent; None where the page has none, and so is zeros at the floor.
+    pub fn stored_image(&self, page: u16) -> Option<&BaseImage>
+        ensures { IsStoredImage self.now page (option_copied result) }
+    {
+        places::stored_in(&self.images, page)
     }
 
     /// Gives a page an image of a version above the page's own; one of any other version changes nothing.
@@ -102,11 +118,33 @@ impl BaseStore {
         pages: Vec<(u16, Page)>,
     ) -> Result<(), Refused<Vec<(u16, Page)>, AllocError>>
         ensures adopts { OnOk result (Adopts self.old base pages.items self.new) }
+        ensures listed { OnOk result (StoresJust self.old base pages.items self.new) }
         ensures refused { IfErr result (λ e. e.value ≡ pages) }
         ensures unchanged { OnErr result (self.new ≡ self.old) }
         ensures form { IsStored self.new }
     {
         match adopting::adopt(&mut self.images, self.floor, base, pages) {
+            Ok(floor) => {
+                self.floor = floor;
+                Ok(())
+            }
+            Err(refused) => Err(refused),
+        }
+    }
+
+    /// Raises each page given, in order, and then each page of a version below the floor to it, as zeros.
+    /// The error is want of memory; it hands the images back and leaves the store as it was.
+    pub fn merge(
+        &mut self,
+        floor: u64,
+        images: Vec<BaseImage>,
+    ) -> Result<(), Refused<Vec<BaseImage>, AllocError>>
+        ensures merges { OnOk result (Merges self.old floor images.items self.new) }
+        ensures refused { IfErr result (λ e. e.value ≡ images) }
+        ensures unchanged { OnErr result (self.new ≡ self.old) }
+        ensures form { IsStored self.new }
+    {
+        match merging::merge(&mut self.images, self.floor, floor, images) {
             Ok(floor) => {
                 self.floor = floor;
                 Ok(())

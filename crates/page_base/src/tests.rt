@@ -1,4 +1,4 @@
-use crate::BaseStore;
+use crate::{BaseImage, BaseStore};
 use redo_core::{Page, Refused};
 use std::alloc::{AllocError, Global};
 use std::test::Fail;
@@ -104,5 +104,25 @@ fn refusals(rt: HostRuntime) -> Result<(), Fail> {
         assert_eq!(rt; value.len(), 1);
         assert_eq!(rt; store.version(6), 0);
     }
+    Ok(())
+}
+
+// Merges images of the pages 9, 4 and 5 at the versions 7, 6 and 3, over the floor 6.
+fn merges(store: &mut BaseStore, alloc: Global) -> Result<bool, AllocError> {
+    let mut images = Vec::new(alloc);
+    for (page, version, byte) in [(9, 7, 3), (4, 6, 4), (5, 3, 5)] {
+        images.push(BaseImage::new(page, version, page_of(alloc, byte)?))?;
+    }
+    Ok(store.merge(6, images).is_ok())
+}
+
+#[test]
+fn images_of_several_versions(rt: HostRuntime) -> Result<(), Fail> {
+    let mut store = two_pages(rt.alloc())?;
+    let merged = merges(&mut store, rt.alloc())?;
+    assert!(rt; merged && store.floor() == 6);
+    assert_eq!(rt; rows(&store), [(2, 8, 2), (4, 6, 4), (9, 7, 3), (0, 0, 0)]);
+    let lent = store.stored_image(4).map(|image| image.version());
+    assert!(rt; lent == Some(6) && store.stored_image(5).is_none());
     Ok(())
 }

@@ -1,0 +1,9 @@
+use Rattle.std.proofs.Common.{subst}
+use Rattle.segment_state.specs.State.{Store}
+use Rattle.page_base.specs.Stored.{store_of}
+use Rattle.page_base.specs.Adopting.{StoresJust}
+use Rattle.page_base.proofs.store.BaseStore.adopt.Goals as goal
+
+pub returns-in-Ok-clause-listed : goal.returns-in-Ok-clause-listed
+returns-in-Ok-clause-listed c =
+    subst (λ (s : Store). StoresJust s c.args.base c.args.pages.items (store_of c.adopt.new.images.items c.in-Ok.floor)) c.self.view_is c.in-Ok.ensures.listed
