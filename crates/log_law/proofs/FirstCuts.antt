@@ -16,7 +16,10 @@ use Rattle.redo_core.specs.declared.facts.Fact.{Fact}
 use Rattle.redo_core.specs.declared.facts.Fact.TheVariants.{Record, Cut, Advance}
 use Rattle.redo_core.proofs.Members.{none_in, here, there, which, filtered, passed}
 use Rattle.redo_core.proofs.FactParts.{cut_in}
-use Rattle.log_law.specs.Counted.{first_at, first_cut, or_first, IsTable, IsBegun, IsFloor}
+use Rattle.redo_core.specs.Roster.{IsReader}
+use Rattle.log_law.specs.Counted.{first_at, first_cut, or_first, IsTable, IsBegun, IsLeastLaterLo}
+use Rattle.log_law.specs.Lows.{AreLows}
+use Rattle.log_law.proofs.Reaching.{past_low, low_past}
 
 -- the first of two lists together
 append_at : (e : ℕ) (c : CutData) (cs ds : List CutData) (b : Bool) → first_at e (cs ++ ds) ≡ or_first (first_at e cs) (first_at e ds) → cond b (Some c) (first_at e (cs ++ ds)) ≡ or_first (cond b (Some c) (first_at e cs)) (first_at e ds)
@@ -157,37 +160,40 @@ is_begun log k has stop e small = (
   λ l. begun_to log e (λ i p q. has i p (omega arith)),
 )
 
--- the floor of the last epoch, and of the one before
-pub floor_last : (log : List Fact) (table : List (Option CutData)) (floor : ℕ) → IsTable log table → floor ≡ 281474976710655 → IsFloor log 65535 floor
-floor_last log table floor t q = record {
-  below = λ c h l. absurd (none-some c (sym (outside c l) ∙ t.at c.epoch ∙ at_counted log c.epoch c h refl));
+-- the least later lo of the last epoch, and of the one before
+pub later_lo_last : (roster : ℕ) (log : List Fact) (table : List (Option CutData)) (later : ℕ) → IsTable log table → later ≡ 281474976710655 → IsLeastLaterLo roster log 65535 later
+later_lo_last roster log table later t q = record {
+  below = λ c h l past. absurd (none-some c (sym (outside c l) ∙ t.at c.epoch ∙ at_counted log c.epoch c h refl));
   least = inl q;
 }
   where
     outside : (c : CutData) → 65535 < c.epoch → get_or table c.epoch None ≡ None
     outside c l = get_or_past table c.epoch None (let n : length table ≡ 65536 = t.len in omega arith)
 
-pub floor_step : (log : List Fact) (e old new : ℕ) (o : Option CutData) → first_cut log (e + 1) ≡ o → IsFloor log (e + 1) old → MatchOption o (new ≡ old) (λ c. (new ≤ c.lo) × (new ≤ old) × ((new ≡ c.lo) ⊎ (new ≡ old))) → IsFloor log e new
-floor_step log e old new None q f h = record {
-  below = λ c k l. ⊎_elim
+pub later_lo_step : (roster : ℕ) (log : List Fact) (lows : List ℕ) (e old new : ℕ) (o : Option CutData) → e + 1 < 65536 → AreLows roster log lows → first_cut log (e + 1) ≡ o → IsLeastLaterLo roster log (e + 1) old
+    → MatchOption o (new ≡ old) (λ c. (c.lo < get_or lows (e + 1) 0 → new ≤ c.lo) × (new ≤ old) × ((new ≡ old) ⊎ ((c.lo < get_or lows (e + 1) 0) × (new ≡ c.lo)))) → IsLeastLaterLo roster log e new
+later_lo_step roster log lows e old new None small a q f h = record {
+  below = λ c k l past. ⊎_elim
       (λ (s : c.epoch ≡ e + 1). absurd (none-some c (sym q ∙ at_counted log (e + 1) c k s)))
-      (λ (s : c.epoch ≢ e + 1). let b : old ≤ c.lo = f.below c k (omega arith) in omega arith)
+      (λ (s : c.epoch ≢ e + 1). let b : old ≤ c.lo = f.below c k (omega arith) past in omega arith)
       (cases_eq c.epoch (e + 1));
-  least = ⊎_elim (λ (s : old ≡ 281474976710655). inl (h ∙ s)) (λ s. inr (s.0, s.1, (let l : e + 1 < s.0.epoch = s.2 in omega arith), s.3 ∙ sym h)) f.least;
+  least = ⊎_elim (λ (s : old ≡ 281474976710655). inl (h ∙ s)) (λ s. inr (s.0, s.1, (let l : e + 1 < s.0.epoch = s.2 in omega arith), s.3, s.4 ∙ sym h)) f.least;
 }
-floor_step log e old new (Some d) q f h =
-    let a : new ≤ d.lo = h.0 in
+later_lo_step roster log lows e old new (Some d) small a q f h =
     let b : new ≤ old = h.1 in
     let here = counted_at log (e + 1) d q in
     let ep : d.epoch ≡ e + 1 = here.1 in
     record {
-      below = λ c k l. ⊎_elim
-          (λ (s : c.epoch ≡ e + 1). let u : d ≡ c = same_Some d c (sym q ∙ at_counted log (e + 1) c k s) in subst (λ x. new ≤ x.lo) u a)
-          (λ (s : c.epoch ≢ e + 1). let v : old ≤ c.lo = f.below c k (omega arith) in omega arith)
+      below = λ c k l past. ⊎_elim
+          (λ (s : c.epoch ≡ e + 1).
+          let u : d ≡ c = same_Some d c (sym q ∙ at_counted log (e + 1) c k s) in
+          let under : c.lo < get_or lows (e + 1) 0 = subst (λ i. c.lo < get_or lows i 0) s (past_low roster log lows c a (omega arith) past) in
+          subst (λ x. new ≤ x.lo) u (h.0 (subst (λ x. x.lo < get_or lows (e + 1) 0) (sym u) under)))
+          (λ (s : c.epoch ≢ e + 1). let v : old ≤ c.lo = f.below c k (omega arith) past in omega arith)
           (cases_eq c.epoch (e + 1));
       least = ⊎_elim
-          (λ (s : new ≡ d.lo). inr (d, here.0, omega arith, sym s))
-          (λ (s : new ≡ old). ⊎_elim (λ (t : old ≡ 281474976710655). inl (s ∙ t)) (λ t. inr (t.0, t.1, (let l : e + 1 < t.0.epoch = t.2 in omega arith), t.3 ∙ sym s)) f.least)
+          (λ (s : new ≡ old). ⊎_elim (λ (t : old ≡ 281474976710655). inl (s ∙ t)) (λ t. inr (t.0, t.1, (let l : e + 1 < t.0.epoch = t.2 in omega arith), t.3, t.4 ∙ sym s)) f.least)
+          (λ (s : (d.lo < get_or lows (e + 1) 0) × (new ≡ d.lo)). inr (d, here.0, omega arith, low_past roster log lows d a (omega arith) (subst (λ i. d.lo < get_or lows i 0) (sym ep) s.0), sym s.1))
           h.2;
     }
 
@@ -202,10 +208,10 @@ law2_at log r (Some d) b q h has = (
 pub law2_not : (log : List Fact) (r : RecordData) (k : ℕ) → IsBegun log k → r.epoch < 65536 → k < r.epoch → Law2 log (Record r) → ⊥
 law2_not log r k b small l law = let m : r.epoch ≤ k = (b r.epoch small).0 law.0 in absurd (omega arith)
 
-pub law5_at : (log : List Fact) (a : AdvanceData) (floor : ℕ) → IsFloor log a.epoch floor → a.point ≤ 281474976710655 → HasCutsTo (counted log) a.epoch → (a.point ≤ floor) ↔ Law5 log (Advance a)
-law5_at log a floor f small has = (
-  λ l. (has, λ c k m. let b : floor ≤ c.lo = f.below c k m in omega arith),
-  λ law. ⊎_elim (λ (t : floor ≡ 281474976710655). omega arith) (λ s. let b : a.point ≤ s.0.lo = law.1 s.0 s.1 s.2 in let q : s.0.lo ≡ floor = s.3 in omega arith) f.least,
+pub law5_at : (roster : ℕ) (log : List Fact) (a : AdvanceData) (later : ℕ) → IsLeastLaterLo roster log a.epoch later → a.point ≤ 281474976710655 → IsReader roster a.reader → HasCutsTo (counted log) a.epoch → (a.point ≤ later) ↔ Law5 roster log (Advance a)
+law5_at roster log a later f small reader has = (
+  λ l. (reader, has, λ c k m past. let b : later ≤ c.lo = f.below c k m past in omega arith),
+  λ law. ⊎_elim (λ (t : later ≡ 281474976710655). omega arith) (λ s. let b : a.point ≤ s.0.lo = law.2 s.0 s.1 s.2 s.3 in let q : s.0.lo ≡ later = s.4 in omega arith) f.least,
 )
 
 -- an item of a table

@@ -12,6 +12,7 @@ use Rattle.redo_core.specs.Sets.{records, cuts, advances}
 use Rattle.redo_core.specs.Order.{IsGreatest}
 use Rattle.redo_core.specs.Standing.{IsAlive}
 use Rattle.redo_core.specs.CompleteEpoch.{HasCutsTo}
+use Rattle.redo_core.specs.Past.{ArePast}
 use Rattle.redo_core.specs.Sound.{counted, HasShape, Law1, Law2, Law3, Law4, Law5, KeepsLaws, IsSound, IsAliveBelow}
 use Rattle.redo_core.specs.declared.facts.Fact.{Fact}
 use Rattle.redo_core.specs.declared.facts.Fact.TheVariants.{Record, Cut, Advance}
@@ -105,87 +106,107 @@ counted_cases log f c h = at_first (first_cut log c.epoch) refl
         inr (only_first c.epoch f c one)
 
 -- what laws 2 to 5 say
-abbrev pub KeepsRest : List Fact → Fact → Type 0
-KeepsRest log f = Law2 log f × Law3 log f × Law4 log f × Law5 log f
+abbrev pub KeepsRest : ℕ → List Fact → Fact → Type 0
+KeepsRest roster log f = Law2 log f × Law3 log f × Law4 log f × Law5 roster log f
 
-pub rest_of : (log : List Fact) (p : ℕ) (f : Fact) → KeepsLaws log p f → KeepsRest log f
+pub rest_of : {roster : ℕ} (log : List Fact) (p : ℕ) (f : Fact) → KeepsLaws roster log p f → KeepsRest roster log f
 rest_of log p f k = (k.law2, k.law3, k.law4, k.law5)
 
-pub sound_push : (log : List Fact) (f : Fact) → IsSound log → ((g : Fact) → Contains log g → KeepsRest log g → KeepsRest (log ++ f ∷ []) g) → HasShape f → Law1 log f → KeepsRest (log ++ f ∷ []) f → IsSound (log ++ f ∷ [])
-sound_push log f sound keep shape law1 rest p g h =
+keeps_push : {roster : ℕ} (log : List Fact) (f : Fact) → IsSound roster log → ((g : Fact) → Contains log g → KeepsRest roster log g → KeepsRest roster (log ++ f ∷ []) g) → HasShape f → Law1 log f → KeepsRest roster (log ++ f ∷ []) f → (p : ℕ) (g : Fact) → slice_get (log ++ f ∷ []) p ≡ Some g → KeepsLaws roster (log ++ f ∷ []) p g
+keeps_push {roster} log f sound keep shape law1 rest p g h =
     ⊎_elim
     (λ (o : (p < length log) × (slice_get log p ≡ Some g)).
     let l : p < length log = o.0 in
-    let k = sound p g o.1 in
+    let k = sound.keeps p g o.1 in
     let n = keep g (p, o.0, get_or_from_slice_get log p g g o.1) (rest_of log p g k) in
     record { shape = k.shape; law1 = subst (λ xs. Law1 xs g) (sym (take-append-le p log (f ∷ []) (omega arith))) k.law1; law2 = n.0; law3 = n.1; law4 = n.2; law5 = n.3 })
     (λ (o : (p ≡ length log) × (f ≡ g)).
     let e : p ≡ length log = o.0 in
     let whole : take p (log ++ f ∷ []) ≡ log = take-append-le p log (f ∷ []) (omega arith) ∙ take_all p log (omega arith) in
-    subst (KeepsLaws (log ++ f ∷ []) p) o.1 (record { shape = shape; law1 = subst (λ xs. Law1 xs f) (sym whole) law1; law2 = rest.0; law3 = rest.1; law4 = rest.2; law5 = rest.3 }))
+    subst (KeepsLaws roster (log ++ f ∷ []) p) o.1 (record { shape = shape; law1 = subst (λ xs. Law1 xs f) (sym whole) law1; law2 = rest.0; law3 = rest.1; law4 = rest.2; law5 = rest.3 }))
     (place_cases log f g p h)
 
--- A longer log has the same truncations up to a view, those after it cut nothing below a point.
-pub record Extends (log longer : List Fact) (view point : ℕ) : Type 0 where
+pub sound_push : {roster : ℕ} (log : List Fact) (f : Fact) → IsSound roster log → ((g : Fact) → Contains log g → KeepsRest roster log g → KeepsRest roster (log ++ f ∷ []) g) → HasShape f → Law1 log f → KeepsRest roster (log ++ f ∷ []) f → IsSound roster (log ++ f ∷ [])
+sound_push log f sound keep shape law1 rest = record { readers = sound.readers; keeps = λ p g h. keeps_push log f sound keep shape law1 rest p g h }
+
+-- A longer log has the same truncations up to a view. None of the others, nor of these, has all readers past it that were not.
+pub record Extends (roster : ℕ) (log longer : List Fact) (view : ℕ) : Type 0 where
   pub up : (c : CutData) → Contains (counted log) c → Contains (counted longer) c
   pub down : (c : CutData) → Contains (counted longer) c → c.epoch ≤ view → Contains (counted log) c
-  pub later : (c : CutData) → Contains (counted longer) c → Contains (counted log) c ⊎ (point ≤ c.lo)
+  pub passed : (c : CutData) → Contains (counted longer) c → ArePast roster (advances longer) c → Contains (counted log) c × ArePast roster (advances log) c
 
-pub extends_other : (log : List Fact) (f : Fact) (view point : ℕ) → ((c : CutData) → f ≡ Cut c → ⊥) → Extends log (log ++ f ∷ []) view point
-extends_other log f view point other = record {
+pub extends_other : {roster : ℕ} (log : List Fact) (f : Fact) (view : ℕ) → ((c : CutData) → f ≡ Cut c → ⊥) → ((c : CutData) → Contains (counted log) c → c.epoch ≤ view) → ((a : AdvanceData) → f ≡ Advance a → a.epoch ≡ view) → Extends roster log (log ++ f ∷ []) view
+extends_other log f view other upto late = record {
   up = λ c h. counted_longer log f c h;
-  down = λ c h l. ⊎_elim (λ k. k) (λ e. absurd (other c e)) (counted_cases log f c h);
-  later = λ c h. ⊎_elim inl (λ e. absurd (other c e)) (counted_cases log f c h);
+  down = λ c h l. is_old c h;
+  passed = λ c h past. (
+    is_old c h,
+    λ reader r.
+        let s = past reader r in
+        let e : s.0.epoch < c.epoch = s.3 in
+        ⊎_elim
+        (λ (m : Contains (advances log) s.0). (s.0, m, s.2, s.3, s.4))
+        (λ (q : f ≡ Advance s.0). absurd (let v : s.0.epoch ≡ view = late s.0 q in let u : c.epoch ≤ view = upto c (is_old c h) in omega arith))
+        (advance_cases log f s.0 s.1),
+  );
 }
+  where
+    is_old : (c : CutData) → Contains (counted (log ++ f ∷ [])) c → Contains (counted log) c
+    is_old c h = ⊎_elim (λ k. k) (λ e. absurd (other c e)) (counted_cases log f c h)
 
 cut_eq : (c d : CutData) → Cut c ≡ Cut d → c ≡ d
 cut_eq c d e = cc
 
-pub extends_cut : (log : List Fact) (c : CutData) (view point : ℕ) → view < c.epoch → point ≤ c.lo → Extends log (log ++ Cut c ∷ []) view point
-extends_cut log c view point after le = record {
+pub extends_cut : {roster : ℕ} (log : List Fact) (c : CutData) (view : ℕ) → view < c.epoch → (ArePast roster (advances log) c → ⊥) → Extends roster log (log ++ Cut c ∷ []) view
+extends_cut {roster} log c view after free = record {
   up = λ d h. counted_longer log (Cut c) d h;
   down = λ d h l. ⊎_elim (λ k. k) (λ e. absurd (let q : c.epoch ≡ d.epoch = ap (λ x. x.epoch) (cut_eq c d e) in omega arith)) (counted_cases log (Cut c) d h);
-  later = λ d h. ⊎_elim inl (λ e. inr (subst (λ x. point ≤ x.lo) (cut_eq c d e) le)) (counted_cases log (Cut c) d h);
+  passed = λ d h past. ⊎_elim (λ k. (k, back d past)) (λ e. absurd (free (subst (ArePast roster (advances log)) (sym (cut_eq c d e)) (back d past)))) (counted_cases log (Cut c) d h);
 }
+  where
+    back : (d : CutData) → ArePast roster (advances (log ++ Cut c ∷ [])) d → ArePast roster (advances log) d
+    back d past reader r =
+        let s = past reader r in
+        (s.0, ⊎_elim (λ m. m) (λ (e : Cut c ≡ Advance s.0). absurd (cc)) (advance_cases log (Cut c) s.0 s.1), s.2, s.3, s.4)
 
-pub alive_longer : (log longer : List Fact) (view point v e n : ℕ) → Extends log longer view point → v ≤ view → IsAlive (counted log) v e n → IsAlive (counted longer) v e n
-alive_longer log longer view point v e n x l a = record {
+pub alive_longer : {roster : ℕ} (log longer : List Fact) (view v e n : ℕ) → Extends roster log longer view → v ≤ view → IsAlive (counted log) v e n → IsAlive (counted longer) v e n
+alive_longer log longer view v e n x l a = record {
   known = a.known;
   begun = λ c h q. a.begun c (x.down c h (let k : e ≤ v = a.known in omega arith)) q;
   spared = λ c h p q. a.spared c (x.down c h (omega arith)) p q;
 }
 
-pub alive_shorter : (log longer : List Fact) (view point v e n : ℕ) → Extends log longer view point → IsAlive (counted longer) v e n → IsAlive (counted log) v e n
-alive_shorter log longer view point v e n x a = record { known = a.known; begun = λ c h. a.begun c (x.up c h); spared = λ c h. a.spared c (x.up c h) }
+pub alive_shorter : {roster : ℕ} (log longer : List Fact) (view v e n : ℕ) → Extends roster log longer view → IsAlive (counted longer) v e n → IsAlive (counted log) v e n
+alive_shorter log longer view v e n x a = record { known = a.known; begun = λ c h. a.begun c (x.up c h); spared = λ c h. a.spared c (x.up c h) }
 
-pub has_cuts_longer : (log longer : List Fact) (view point e : ℕ) → Extends log longer view point → HasCutsTo (counted log) e → HasCutsTo (counted longer) e
-has_cuts_longer log longer view point e x h i l m = let s = h i l m in (s.0, x.up s.0 s.1, s.2)
+pub has_cuts_longer : {roster : ℕ} (log longer : List Fact) (view e : ℕ) → Extends roster log longer view → HasCutsTo (counted log) e → HasCutsTo (counted longer) e
+has_cuts_longer log longer view e x h i l m = let s = h i l m in (s.0, x.up s.0 s.1, s.2)
 
 greatest_as : (P Q : ℕ → Type 0) (n : ℕ) → ((m : ℕ) → P m → Q m) → ((m : ℕ) → Q m → P m) → IsGreatest P n → IsGreatest Q n
 greatest_as P Q n f g h = (⊎_elim inl (λ p. inr (f n p)) h.0, λ m q. h.1 m (g m q))
 
 -- what a fact of the log keeps, it keeps in the longer log
-pub record_keeps : (log longer : List Fact) (view point : ℕ) (r : RecordData) → Extends log longer view point → ((o : RecordData) → Contains (records log) o → Contains (records longer) o) → ((o : RecordData) → Contains (records longer) o → IsAlive (counted longer) r.epoch o.epoch o.number → o.number < r.number → Contains (records log) o) → r.epoch ≤ view → KeepsRest log (Record r) → KeepsRest longer (Record r)
-record_keeps log longer view point r x more fresh l k = (
-  (has_cuts_longer log longer view point r.epoch x k.0.0, λ c h e. k.0.1 c (x.down c h (omega arith)) e),
+pub record_keeps : {roster : ℕ} (log longer : List Fact) (view : ℕ) (r : RecordData) → Extends roster log longer view → ((o : RecordData) → Contains (records log) o → Contains (records longer) o) → ((o : RecordData) → Contains (records longer) o → IsAlive (counted longer) r.epoch o.epoch o.number → o.number < r.number → Contains (records log) o) → r.epoch ≤ view → KeepsRest roster log (Record r) → KeepsRest roster longer (Record r)
+record_keeps log longer view r x more fresh l k = (
+  (has_cuts_longer log longer view r.epoch x k.0.0, λ c h e. k.0.1 c (x.down c h (omega arith)) e),
   greatest_as (IsAliveBelow log r (λ s. Unit {0})) (IsAliveBelow longer r (λ s. Unit {0})) r.back (λ m b. longer_below (λ s. Unit {0}) m b) (λ m b. shorter_below (λ s. Unit {0}) m b) k.1,
   greatest_as (IsAliveBelow log r (λ s. s.page ≡ r.page)) (IsAliveBelow longer r (λ s. s.page ≡ r.page)) r.block_back (λ m b. longer_below (λ s. s.page ≡ r.page) m b) (λ m b. shorter_below (λ s. s.page ≡ r.page) m b) k.2,
   tt,
 )
   where
     longer_below : (Only : RecordData → Type 0) (m : ℕ) → IsAliveBelow log r Only m → IsAliveBelow longer r Only m
-    longer_below Only m b = record { other = b.other; among = more b.other b.among; alive = alive_longer log longer view point r.epoch b.other.epoch b.other.number x l b.alive; only = b.only; number = b.number; below = b.below }
+    longer_below Only m b = record { other = b.other; among = more b.other b.among; alive = alive_longer log longer view r.epoch b.other.epoch b.other.number x l b.alive; only = b.only; number = b.number; below = b.below }
 
     shorter_below : (Only : RecordData → Type 0) (m : ℕ) → IsAliveBelow longer r Only m → IsAliveBelow log r Only m
     shorter_below Only m b =
         let n : b.other.number ≡ m = b.number in
         let u : m < r.number = b.below in
-        record { other = b.other; among = fresh b.other b.among b.alive (omega arith); alive = alive_shorter log longer view point r.epoch b.other.epoch b.other.number x b.alive; only = b.only; number = b.number; below = b.below }
+        record { other = b.other; among = fresh b.other b.among b.alive (omega arith); alive = alive_shorter log longer view r.epoch b.other.epoch b.other.number x b.alive; only = b.only; number = b.number; below = b.below }
 
-pub advance_keeps : (log longer : List Fact) (view point : ℕ) (a : AdvanceData) → Extends log longer view point → a.point ≤ point → KeepsRest log (Advance a) → KeepsRest longer (Advance a)
-advance_keeps log longer view point a x l k = (
+pub advance_keeps : {roster : ℕ} (log longer : List Fact) (view : ℕ) (a : AdvanceData) → Extends roster log longer view → KeepsRest roster log (Advance a) → KeepsRest roster longer (Advance a)
+advance_keeps log longer view a x k = (
   tt,
   tt,
   tt,
-  (has_cuts_longer log longer view point a.epoch x k.3.0, λ c h e. ⊎_elim (λ m. k.3.1 c m e) (λ (m : point ≤ c.lo). omega arith) (x.later c h)),
+  (k.3.0, has_cuts_longer log longer view a.epoch x k.3.1, λ c h e past. let o = x.passed c h past in k.3.2 c o.0 e o.1),
 )

@@ -1,4 +1,5 @@
 pub mod FirstCuts
+pub mod Reaching
 pub mod Stacks
 pub mod Entered
 pub mod Least

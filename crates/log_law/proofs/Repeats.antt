@@ -17,7 +17,7 @@ use Rattle.redo_core.proofs.FactParts.{cut_in}
 use Rattle.log_law.specs.Counted.{first_at, first_cut, or_first}
 use Rattle.std.specs.Prelude.{MatchBool, not}
 use Rattle.std.specs.HashMap.{get}
-use Rattle.log_law.specs.Keys.{KeepLaw1To, IsFirstOther, IsSeenAt, IsSeen, Seen, same_pair}
+use Rattle.log_law.specs.Keys.{KeepLaw1To, IsFirstKeyConflict, IsSeenAt, IsSeen, Seen, same_pair}
 use Rattle.log_law.proofs.FirstCuts.{first_cut-append, first_at_epoch, first_among}
 
 -- the facts up to a place and the one at it
@@ -181,10 +181,10 @@ law1_advance earlier a (Cut d) m k = absurd k
 law1_advance earlier a (Advance b) m k = absurd k
 
 -- the scan stops at a place, or at the end
-pub first_other : (log : List Fact) (p : ℕ) (f : Fact) → slice_get log p ≡ Some f → KeepLaw1To log p → (Law1 (take p log) f → ⊥) → IsFirstOther log p
+pub first_other : (log : List Fact) (p : ℕ) (f : Fact) → slice_get log p ≡ Some f → KeepLaw1To log p → (Law1 (take p log) f → ⊥) → IsFirstKeyConflict log p
 first_other log p f at kept breaks = record { before = kept; breaks = λ g h law. breaks (subst (Law1 (take p log)) (same_Some g f (sym h ∙ at)) law) }
 
-pub none_further : (log : List Fact) (p : ℕ) → length log ≤ p → KeepLaw1To log p → IsFirstOther log (length log)
+pub none_further : (log : List Fact) (p : ℕ) → length log ≤ p → KeepLaw1To log p → IsFirstKeyConflict log (length log)
 none_further log p l kept = record {
   before = λ q f m. kept q f (omega arith);
   breaks = λ f h law. let inside : length log < length log = slice_get_within log (length log) f h in omega arith;

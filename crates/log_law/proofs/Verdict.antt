@@ -6,6 +6,7 @@ use Rattle.std.proofs.lemmas.Option.{none-some, same_Some, slice_get_within, get
 use Rattle.redo_core.specs.Data.{RecordData, CutData, AdvanceData}
 use Rattle.redo_core.specs.Sound.{Law1, Law2, Law5, HasShape, KeepsLaws, IsSound}
 use Rattle.std.specs.List.{AllByRecursion}
+use Rattle.redo_core.specs.Roster.{IsRoster}
 use Rattle.redo_core.specs.Fault.{KeepsLaw, lower_laws}
 use Rattle.redo_core.specs.declared.facts.Fact.{Fact}
 use Rattle.redo_core.specs.declared.facts.Fact.TheVariants.{Record, Cut, Advance}
@@ -14,31 +15,31 @@ use Rattle.redo_core.specs.declared.laws.Law.TheVariants.{OneFactPerKey, EpochBe
 use Rattle.redo_core.specs.declared.laws.LawFault.{LawFault}
 use Rattle.redo_core.proofs.FactParts.{cut_in}
 use Rattle.log_law.specs.Counted.{IsTable}
-use Rattle.log_law.specs.Keys.{IsFirstOther}
+use Rattle.log_law.specs.Keys.{IsFirstKeyConflict}
 use Rattle.log_law.specs.Links.{KeepsLinks, BreaksLink, Judges, IsFirstBrokenLink}
 use Rattle.log_law.specs.Report.{Reports, BreaksFirst, LinkJudges, IsLawAt}
 use Rattle.log_law.specs.declared.links.BrokenLink.{BrokenLink}
 use Rattle.log_law.proofs.Least.{one_redo}
 
-pub record_verdict : (log : List Fact) (place : ℕ) (r : RecordData) (o : Option Law) → HasShape (Record r) → Law1 (take place log) (Record r) → Law2 log (Record r) → Judges log r o → MatchOption o (KeepsLaws log place (Record r)) (BreaksFirst log place (Record r))
-record_verdict log place r None s one two j = record { shape = s; law1 = one; law2 = two; law3 = j.0; law4 = j.1; law5 = tt }
-record_verdict log place r (Some OneFactPerKey) s one two j = absurd j
-record_verdict log place r (Some EpochBegun) s one two j = absurd j
-record_verdict log place r (Some SegmentBacklink) s one two j = (j, (one, (two, tt)))
-record_verdict log place r (Some BlockBacklink) s one two j = (j.1, (one, (two, (j.0, tt))))
-record_verdict log place r (Some AdvanceKept) s one two j = absurd j
+pub record_verdict : (roster : ℕ) (log : List Fact) (place : ℕ) (r : RecordData) (o : Option Law) → HasShape (Record r) → Law1 (take place log) (Record r) → Law2 log (Record r) → Judges log r o → MatchOption o (KeepsLaws roster log place (Record r)) (BreaksFirst roster log place (Record r))
+record_verdict roster log place r None s one two j = record { shape = s; law1 = one; law2 = two; law3 = j.0; law4 = j.1; law5 = tt }
+record_verdict roster log place r (Some OneFactPerKey) s one two j = absurd j
+record_verdict roster log place r (Some EpochBegun) s one two j = absurd j
+record_verdict roster log place r (Some SegmentBacklink) s one two j = (j, (one, (two, tt)))
+record_verdict roster log place r (Some BlockBacklink) s one two j = (j.1, (one, (two, (j.0, tt))))
+record_verdict roster log place r (Some AdvanceKept) s one two j = absurd j
 
-pub record_not_begun : (log : List Fact) (place : ℕ) (r : RecordData) → Law1 (take place log) (Record r) → (Law2 log (Record r) → ⊥) → BreaksFirst log place (Record r) EpochBegun
-record_not_begun log place r one two = (two, (one, tt))
+pub record_not_begun : (roster : ℕ) (log : List Fact) (place : ℕ) (r : RecordData) → Law1 (take place log) (Record r) → (Law2 log (Record r) → ⊥) → BreaksFirst roster log place (Record r) EpochBegun
+record_not_begun roster log place r one two = (two, (one, tt))
 
-pub cut_verdict : (log : List Fact) (place : ℕ) (c : CutData) → HasShape (Cut c) → Law1 (take place log) (Cut c) → KeepsLaws log place (Cut c)
-cut_verdict log place c s one = record { shape = s; law1 = one; law2 = tt; law3 = tt; law4 = tt; law5 = tt }
+pub cut_verdict : (roster : ℕ) (log : List Fact) (place : ℕ) (c : CutData) → HasShape (Cut c) → Law1 (take place log) (Cut c) → KeepsLaws roster log place (Cut c)
+cut_verdict roster log place c s one = record { shape = s; law1 = one; law2 = tt; law3 = tt; law4 = tt; law5 = tt }
 
-pub advance_verdict : (log : List Fact) (place : ℕ) (a : AdvanceData) → HasShape (Advance a) → Law1 (take place log) (Advance a) → Law5 log (Advance a) → KeepsLaws log place (Advance a)
-advance_verdict log place a s one five = record { shape = s; law1 = one; law2 = tt; law3 = tt; law4 = tt; law5 = five }
+pub advance_verdict : (roster : ℕ) (log : List Fact) (place : ℕ) (a : AdvanceData) → HasShape (Advance a) → Law1 (take place log) (Advance a) → Law5 roster log (Advance a) → KeepsLaws roster log place (Advance a)
+advance_verdict roster log place a s one five = record { shape = s; law1 = one; law2 = tt; law3 = tt; law4 = tt; law5 = five }
 
-pub advance_not_kept : (log : List Fact) (place : ℕ) (a : AdvanceData) → Law1 (take place log) (Advance a) → (Law5 log (Advance a) → ⊥) → BreaksFirst log place (Advance a) AdvanceKept
-advance_not_kept log place a one five = (five, (one, (tt, (tt, (tt, tt)))))
+pub advance_not_kept : (roster : ℕ) (log : List Fact) (place : ℕ) (a : AdvanceData) → Law1 (take place log) (Advance a) → (Law5 roster log (Advance a) → ⊥) → BreaksFirst roster log place (Advance a) AdvanceKept
+advance_not_kept roster log place a one five = (five, (one, (tt, (tt, (tt, tt)))))
 
 -- what the law of a broken link at a place says of the record there
 record_link : (log : List Fact) (place : ℕ) (r : RecordData) (link : Option BrokenLink) (answer : Option Law) → slice_get log place ≡ Some (Record r) → IsFirstBrokenLink log link → ((b : BrokenLink) → link ≡ Some b → place ≤ b.place) → IsLawAt link place answer → Law2 log (Record r) → Judges log r answer
@@ -67,63 +68,63 @@ not_broken log r SegmentBacklink b k = b k.0
 not_broken log r BlockBacklink b k = b.1 k.1
 not_broken log r AdvanceKept b k = b
 
-kept_links : (log : List Fact) (place : ℕ) (f : Fact) (r : RecordData) → f ≡ Record r → KeepsLaws log place f → KeepsLinks log r
-kept_links log place f r e k = let h = subst (KeepsLaws log place) e k in (h.law3, h.law4)
+kept_links : (roster : ℕ) (log : List Fact) (place : ℕ) (f : Fact) (r : RecordData) → f ≡ Record r → KeepsLaws roster log place f → KeepsLinks log r
+kept_links roster log place f r e k = let h = subst (KeepsLaws roster log place) e k in (h.law3, h.law4)
 
-pub link_further : (log : List Fact) (place : ℕ) (f : Fact) (link : Option BrokenLink) → slice_get log place ≡ Some f → IsFirstBrokenLink log link → KeepsLaws log place f → ((b : BrokenLink) → link ≡ Some b → place ≤ b.place) → (b : BrokenLink) → link ≡ Some b → place + 1 ≤ b.place
-link_further log place f None at first kept upto b e = absurd (none-some b e)
-link_further log place f (Some d) at first kept upto b e =
+pub link_further : (roster : ℕ) (log : List Fact) (place : ℕ) (f : Fact) (link : Option BrokenLink) → slice_get log place ≡ Some f → IsFirstBrokenLink log link → KeepsLaws roster log place f → ((b : BrokenLink) → link ≡ Some b → place ≤ b.place) → (b : BrokenLink) → link ≡ Some b → place + 1 ≤ b.place
+link_further roster log place f None at first kept upto b e = absurd (none-some b e)
+link_further roster log place f (Some d) at first kept upto b e =
     let l : place ≤ b.place = upto b e in
     ⊎_elim
     (λ (q : place ≡ b.place). absurd (
     let same : d ≡ b = same_Some d b e in
     let w = first.1 in
     let here : slice_get log place ≡ Some (Record w.0) = subst (λ i. slice_get log i ≡ Some (Record w.0)) (ap (λ x. x.place) same ∙ sym q) w.1 in
-    not_broken log w.0 d.law w.2 (kept_links log place f w.0 (same_Some f (Record w.0) (sym at ∙ here)) kept)))
+    not_broken log w.0 d.law w.2 (kept_links roster log place f w.0 (same_Some f (Record w.0) (sym at ∙ here)) kept)))
     (λ (q : place ≢ b.place). omega arith)
     (cases_eq place b.place)
 
-pub other_further : (log : List Fact) (place other : ℕ) (f : Fact) → slice_get log place ≡ Some f → IsFirstOther log other → KeepsLaws log place f → place ≤ other → place + 1 ≤ other
-other_further log place other f at first kept l =
+pub other_further : (roster : ℕ) (log : List Fact) (place other : ℕ) (f : Fact) → slice_get log place ≡ Some f → IsFirstKeyConflict log other → KeepsLaws roster log place f → place ≤ other → place + 1 ≤ other
+other_further roster log place other f at first kept l =
     ⊎_elim
     (λ (q : place ≡ other). absurd (first.breaks f (subst (λ i. slice_get log i ≡ Some f) q at) (subst (λ i. Law1 (take i log) f) q kept.law1)))
     (λ (q : place ≢ other). omega arith)
     (cases_eq place other)
 
-abbrev pub KeepToPlace : List Fact → ℕ → Type 0
-KeepToPlace log place = (earlier : ℕ) (f : Fact) → earlier < place → slice_get log earlier ≡ Some f → KeepsLaws log earlier f
+abbrev pub KeepToPlace : ℕ → List Fact → ℕ → Type 0
+KeepToPlace roster log place = (earlier : ℕ) (f : Fact) → earlier < place → slice_get log earlier ≡ Some f → KeepsLaws roster log earlier f
 
-pub kept_further : (log : List Fact) (place : ℕ) (f : Fact) → slice_get log place ≡ Some f → KeepsLaws log place f → KeepToPlace log place → KeepToPlace log (place + 1)
-kept_further log place f at k all earlier g l h =
+pub kept_further : (roster : ℕ) (log : List Fact) (place : ℕ) (f : Fact) → slice_get log place ≡ Some f → KeepsLaws roster log place f → KeepToPlace roster log place → KeepToPlace roster log (place + 1)
+kept_further roster log place f at k all earlier g l h =
     ⊎_elim
     (λ (q : earlier < place). all earlier g q h)
     (λ (q : place ≤ earlier).
     let e : earlier ≡ place = omega arith in
     let same : f ≡ g = same_Some f g (sym at ∙ subst (λ i. slice_get log i ≡ Some g) e h) in
-    subst (λ i. KeepsLaws log i g) (sym e) (subst (KeepsLaws log place) same k))
+    subst (λ i. KeepsLaws roster log i g) (sym e) (subst (KeepsLaws roster log place) same k))
     (cases_lt earlier place)
 
-pub reported : (log : List Fact) (place : ℕ) (f : Fact) (law : Law) (fault : LawFault) → fault.place ≡ place + 1 → fault.law ≡ law → slice_get log place ≡ Some f → BreaksFirst log place f law → KeepToPlace log place → Reports log fault
-reported log place f law fault e q at b all = (
+pub reported : (roster : ℕ) (log : List Fact) (place : ℕ) (f : Fact) (law : Law) (fault : LawFault) → fault.place ≡ place + 1 → fault.law ≡ law → slice_get log place ≡ Some f → BreaksFirst roster log place f law → KeepToPlace roster log place → Reports roster log fault
+reported roster log place f law fault e q at b all = (
   place,
   e,
   record {
     fact = f;
     at_place = at;
-    breaks = subst (λ l. KeepsLaw log place f l → ⊥) (sym q) b.0;
-    lower = subst (λ l. AllByRecursion (KeepsLaw log place f) (lower_laws l)) (sym q) b.1;
+    breaks = subst (λ l. KeepsLaw roster log place f l → ⊥) (sym q) b.0;
+    lower = subst (λ l. AllByRecursion (KeepsLaw roster log place f) (lower_laws l)) (sym q) b.1;
     before = all;
   },
 )
 
-pub all_sound : (log : List Fact) (place : ℕ) → length log ≤ place → KeepToPlace log place → IsSound log
-all_sound log place l all p f h = let m : p < length log = slice_get_within log p f h in all p f (omega arith) h
+pub all_sound : (roster : ℕ) (log : List Fact) (place : ℕ) → IsRoster roster → length log ≤ place → KeepToPlace roster log place → IsSound roster log
+all_sound roster log place readers l all = record { readers = readers; keeps = λ p f h. let m : p < length log = slice_get_within log p f h in all p f (omega arith) h }
 
 pub cut_shape : (log : List Fact) (place : ℕ) (c : CutData) → {table : List (Option CutData)} → IsTable log table → slice_get log place ≡ Some (Cut c) → HasShape (Cut c)
 cut_shape log place c t at = t.shapes c ((cut_in log c).1 (place, slice_get_within log place (Cut c) at, get_or_from_slice_get log place (Cut c) (Cut c) at))
 
 -- what is found at a place
-pub verdict_at : (log : List Fact) (place other : ℕ) (f : Fact) (at : slice_get log place ≡ Some f) → IsFirstOther log other → place ≤ other → ((place == other) ≡ true → Law1 (take place log) f → ⊥) × ((place == other) ≡ false → Law1 (take place log) f)
+pub verdict_at : (log : List Fact) (place other : ℕ) (f : Fact) (at : slice_get log place ≡ Some f) → IsFirstKeyConflict log other → place ≤ other → ((place == other) ≡ true → Law1 (take place log) f → ⊥) × ((place == other) ≡ false → Law1 (take place log) f)
 verdict_at log place other f at first l = (
   λ t law. let e : place ≡ other = eqb-true place other t in first.breaks f (subst (λ i. slice_get log i ≡ Some f) e at) (subst (λ i. Law1 (take i log) f) e law),
   λ t. let ne : place ≢ other = eqb-false place other t in first.before place f (omega arith) at,

@@ -3,7 +3,9 @@ use Rattle.std.specs.Prelude.{◌≡◌, ℕ, ◌<◌, ◌≤◌, ◌⊎◌, ◌
 use Rattle.std.specs.List.{Contains}
 use Rattle.redo_core.specs.Data.{CutData}
 use Rattle.redo_core.specs.Shape.{cut_fault}
-use Rattle.redo_core.specs.Sets.{cuts}
+use Rattle.redo_core.specs.Sets.{cuts, advances}
+use Rattle.redo_core.specs.Roster.{IsRoster}
+use Rattle.redo_core.specs.Past.{ArePast}
 use Rattle.redo_core.specs.CompleteEpoch.{HasCutsTo}
 use Rattle.redo_core.specs.Sound.{counted}
 use Rattle.redo_core.specs.declared.facts.Fact.{Fact}
@@ -32,14 +34,19 @@ pub record IsTable (log : List Fact) (table : List (Option CutData)) : Type 0 wh
 abbrev pub IsBegun : List Fact → ℕ → Type 0
 IsBegun log k = (e : ℕ) → e < 65536 → HasCutsTo (counted log) e ↔ (e ≤ k)
 
--- the least lo of the truncations after an epoch, or the greatest number where there is none
-pub record IsFloor (log : List Fact) (e floor : ℕ) : Type 0 where
-  pub below : (c : CutData) → Contains (counted log) c → e < c.epoch → floor ≤ c.lo
-  pub least : (floor ≡ 281474976710655) ⊎ ((c : CutData) × Contains (counted log) c × (e < c.epoch) × (c.lo ≡ floor))
+-- the least lo of the truncations after an epoch that all readers are past, or the greatest number where there is none
+pub record IsLeastLaterLo (roster : ℕ) (log : List Fact) (e later : ℕ) : Type 0 where
+  pub below : (c : CutData) → Contains (counted log) c → e < c.epoch → ArePast roster (advances log) c → later ≤ c.lo
+  pub least : (later ≡ 281474976710655) ⊎ ((c : CutData) × Contains (counted log) c × (e < c.epoch) × ArePast roster (advances log) c × (c.lo ≡ later))
 
--- what the table and the two others say of a log
+-- what the table and the complete epoch say of a log
 pub record Describes (log : List Fact) (known : CountedCuts) : Type 0 where
   pub table : IsTable log known.by_epoch.items
   pub complete : IsBegun log known.complete
-  pub floors_len : length known.floors.items ≡ 65536
-  pub floors : (e : ℕ) → e < 65536 → IsFloor log e (slice_index known.floors.items e)
+
+-- what the least_later_lo say of a log of the roster
+pub record HasLeastLaterLo (roster : ℕ) (log : List Fact) (known : CountedCuts) : Type 0 where
+  pub some_readers : IsRoster roster
+  pub readers : known.readers ≡ roster
+  pub los_len : length known.least_later_lo.items ≡ 65536
+  pub least_later_lo : (e : ℕ) → e < 65536 → IsLeastLaterLo roster log e (slice_index known.least_later_lo.items e)

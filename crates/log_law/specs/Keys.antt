@@ -14,7 +14,7 @@ abbrev pub KeepLaw1To : List Fact → ℕ → Type 0
 KeepLaw1To log p = (q : ℕ) (f : Fact) → q < p → slice_get log q ≡ Some f → Law1 (take q log) f
 
 -- the least place that breaks law 1, or the number of facts
-pub record IsFirstOther (log : List Fact) (p : ℕ) : Type 0 where
+pub record IsFirstKeyConflict (log : List Fact) (p : ℕ) : Type 0 where
   pub before : KeepLaw1To log p
   pub breaks : (f : Fact) → slice_get log p ≡ Some f → Law1 (take p log) f → ⊥
 

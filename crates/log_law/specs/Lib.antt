@@ -1,4 +1,5 @@
 pub mod Counted
+pub mod Lows
 pub mod Alive
 pub mod Links
 pub mod Keys

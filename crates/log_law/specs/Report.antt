@@ -13,17 +13,17 @@ use Rattle.log_law.specs.declared.check.CheckFault.TheVariants.{Unsound, Memory}
 use Rattle.log_law.specs.Links.{Judges}
 
 -- the reported place counts from 1
-abbrev pub Reports : List Fact → LawFault → Type 0
-Reports log fault = (place : ℕ) × (fault.place ≡ place + 1) × IsFirstFault log place fault.law
+abbrev pub Reports : ℕ → List Fact → LawFault → Type 0
+Reports roster log fault = (place : ℕ) × (fault.place ≡ place + 1) × IsFirstFault roster log place fault.law
 
 -- an unsound log is reported by its first fault; want of memory says nothing of the log
-abbrev pub ReportsFault : List Fact → CheckFault → Type 0
-ReportsFault log (Unsound fault) = Reports log fault
-ReportsFault log Memory = Unit {0}
+abbrev pub ReportsFault : ℕ → List Fact → CheckFault → Type 0
+ReportsFault roster log (Unsound fault) = Reports roster log fault
+ReportsFault roster log Memory = Unit {0}
 
 -- the fact at the place breaks the law, and none of the lower ones
-abbrev pub BreaksFirst : List Fact → ℕ → Fact → Law → Type 0
-BreaksFirst log place fact law = (KeepsLaw log place fact law → ⊥) × AllByRecursion (KeepsLaw log place fact) (lower_laws law)
+abbrev pub BreaksFirst : ℕ → List Fact → ℕ → Fact → Law → Type 0
+BreaksFirst roster log place fact law = (KeepsLaw roster log place fact law → ⊥) × AllByRecursion (KeepsLaw roster log place fact) (lower_laws law)
 
 -- what is known of a record's backlinks, if it keeps law 2
 abbrev pub LinkJudges : List Fact → Fact → Option Law → Type 0

@@ -1,40 +1,44 @@
 ghost use Rattle.std.specs.Prelude.{◌≡◌, ℕ, ◌≤◌, ◌<◌, ◌⊎◌, ◌↔◌, List, [], ◌∷◌, length, slice_index, slice_index_or, IsTrue, IfOk, MatchOption, None, Some};
-ghost use Rattle.redo_core.specs.Data.{RecordData, AdvanceData};
-ghost use Rattle.redo_core.specs.Shape.{cut_fault};
+ghost use Rattle.redo_core.specs.Data.{RecordData};
+ghost use Rattle.redo_core.specs.Shape.{cut_fault, advance_fault};
 ghost use Rattle.redo_core.specs.Sound.{Law2, Law5};
 ghost use Rattle.redo_core.specs.declared.facts.Fact.{Fact};
-ghost use Rattle.redo_core.specs.declared.facts.Fact.TheVariants.{Record, Advance};
-ghost use Rattle.log_law.specs.Counted.{first_at, first_cut, or_first, IsTable, IsBegun, IsFloor, Describes};
+ghost use Rattle.redo_core.specs.declared.facts.Fact.TheVariants.{Record, Advance as OfAdvance};
+ghost use Rattle.log_law.specs.Counted.{first_at, first_cut, or_first, IsTable, IsBegun, IsLeastLaterLo, Describes, HasLeastLaterLo};
+ghost use Rattle.log_law.specs.Lows.{AreLows};
 
-use redo_core::{Cut, Fact, MAX_NUMBER};
+use crate::lows::lows_of;
+use redo_core::{Advance, Cut, EPOCH_COUNT, Fact, MAX_NUMBER, Roster};
 use std::alloc::{AllocError, Global};
-
-/// How many epochs there are.
-const EPOCHS: usize = 65536;
 
 /// The truncations that count in a log, by epoch, and what they decide.
 #[derive(Drop)]
 pub(crate) struct CountedCuts {
+    /// How many readers the log has.
+    readers: u8,
     /// Each epoch's first truncation.
     by_epoch: Vec<Option<Cut>>,
     /// The last epoch up to which every epoch from 1 has a truncation.
     complete: u16,
-    /// For each epoch the least `lo` of the truncations of later epochs.
-    floors: Vec<u64>,
+    /// For each epoch the least `lo` of the truncations of later epochs that all readers are past.
+    least_later_lo: Vec<u64>,
 }
 
 impl CountedCuts {
     /// The truncations that count among these facts. Its only error is want of memory.
-    pub(crate) fn new(alloc: Global, facts: &[Fact]) -> Result<Self, AllocError>
-        ensures { IfOk result (Describes facts.now) }
+    pub(crate) fn new(alloc: Global, facts: &[Fact], roster: Roster) -> Result<Self, AllocError>
+        ensures cuts { IfOk result (Describes facts.now) }
+        ensures least_later_lo { IfOk result (HasLeastLaterLo roster facts.now) }
     {
         let by_epoch = first_cuts(alloc, facts)?;
         let complete = complete_epoch(&by_epoch);
-        let floors = floors_of(alloc, &by_epoch)?;
+        let lows = lows_of(alloc, facts, roster)?;
+        let least_later_lo = least_later_los(alloc, &by_epoch, &lows)?;
         Ok(CountedCuts {
+            readers: roster.readers(),
             by_epoch,
             complete,
-            floors,
+            least_later_lo,
         })
     }
 
@@ -71,19 +75,27 @@ impl CountedCuts {
         }
     }
 
-    /// Whether an epoch has begun, and no later truncation cuts below the point.
-    pub(crate) fn spares(&self, epoch: u16, point: u64) -> bool
-        requires { length self.now.floors.items ≡ 65536 }
-        ensures { (log : List Fact) (a : AdvanceData) → Describes log self.now → a.epoch ≡ epoch → a.point ≡ point → point ≤ 281474976710655 → IsTrue result ↔ Law5 log (Advance a) }
+    /// Whether an advance's reader is of the roster, its epoch has begun, and no later truncation that all readers are past cuts
+    /// below its point.
+    pub(crate) fn spares(&self, advance: Advance) -> bool
+        requires { length self.now.least_later_lo.items ≡ 65536 }
+        ensures shape { advance_fault advance ≡ None }
+        ensures law { (roster : ℕ) (log : List Fact) → Describes log self.now → HasLeastLaterLo roster log self.now → IsTrue result ↔ Law5 roster log (OfAdvance advance) }
     {
-        epoch <= self.complete && point <= self.floors[usize::from(epoch)]
+        if advance.reader() > self.readers {
+            return false;
+        }
+        if advance.epoch() > self.complete {
+            return false;
+        }
+        advance.point() <= self.least_later_lo[usize::from(advance.epoch())]
     }
 }
 
 fn first_cuts(alloc: Global, facts: &[Fact]) -> Result<Vec<Option<Cut>>, AllocError>
     ensures { IfOk result (λ v. IsTable facts.now v.items) }
 {
-    let mut table = empty_table(alloc, EPOCHS)?;
+    let mut table = empty_table(alloc, EPOCH_COUNT)?;
     for fact in facts {
         if let Fact::Cut(cut) = fact {
             count(&mut table, cut);
@@ -121,7 +133,7 @@ fn complete_epoch(table: &[Option<Cut>]) -> u16
     requires { length table.now ≡ 65536 }
     ensures { (log : List Fact) → IsTable log table.now → IsBegun log result }
 {
-    for epoch in 1..EPOCHS {
+    for epoch in 1..EPOCH_COUNT {
         if table[epoch].is_none() {
             return (epoch - 1) as u16;
         }
@@ -129,24 +141,30 @@ fn complete_epoch(table: &[Option<Cut>]) -> u16
     u16::MAX
 }
 
-fn floors_of(alloc: Global, table: &[Option<Cut>]) -> Result<Vec<u64>, AllocError>
-    requires { length table.now ≡ 65536 }
-    ensures { (log : List Fact) → IsTable log table.now → IfOk result (λ v. (length v.items ≡ 65536) × ((e : ℕ) → e < 65536 → IsFloor log e (slice_index v.items e))) }
+fn least_later_los(
+    alloc: Global,
+    table: &[Option<Cut>],
+    lows: &[u64],
+) -> Result<Vec<u64>, AllocError>
+    requires table { length table.now ≡ 65536 }
+    requires lows { length lows.now ≡ 65536 }
+    ensures { (roster : ℕ) (log : List Fact) → IsTable log table.now → AreLows roster log lows.now
+        → IfOk result (λ v. (length v.items ≡ 65536) × ((e : ℕ) → e < 65536 → IsLeastLaterLo roster log e (slice_index v.items e))) }
 {
-    let mut floors = filled(alloc, MAX_NUMBER, EPOCHS)?;
-    let mut epoch = EPOCHS - 1;
+    let mut least_later_lo = filled(alloc, MAX_NUMBER, EPOCH_COUNT)?;
+    let mut epoch = EPOCH_COUNT - 1;
     while epoch > 0 {
         epoch -= 1;
-        floors[epoch] = lower(table[epoch + 1], floors[epoch + 1]);
+        least_later_lo[epoch] = lower(table[epoch + 1], lows[epoch + 1], least_later_lo[epoch + 1]);
     }
-    Ok(floors)
+    Ok(least_later_lo)
 }
 
-fn lower(cut: Option<Cut>, floor: u64) -> u64
-    ensures { MatchOption cut (result ≡ floor) (λ c. (result ≤ c.lo) × (result ≤ floor) × ((result ≡ c.lo) ⊎ (result ≡ floor))) }
+fn lower(cut: Option<Cut>, low: u64, later: u64) -> u64
+    ensures { MatchOption cut (result ≡ later) (λ c. (c.lo < low → result ≤ c.lo) × (result ≤ later) × ((result ≡ later) ⊎ ((c.lo < low) × (result ≡ c.lo)))) }
 {
     match cut {
-        Some(cut) => cut.lo().min(floor),
-        None => floor,
+        Some(cut) if cut.lo() < low => cut.lo().min(later),
+        _ => later,
     }
 }

@@ -1,7 +1,7 @@
 ghost use Rattle.std.specs.Prelude.{◌≡◌, ◌+◌, ◌<◌, ◌≤◌, length, take, slice_get, IfOk, MatchBool, Some, ⊤};
 ghost use Rattle.redo_core.specs.Sound.{Law1};
 ghost use Rattle.log_law.specs.Counted.{Describes};
-ghost use Rattle.log_law.specs.Keys.{IsFirstOther, IsSeen};
+ghost use Rattle.log_law.specs.Keys.{IsFirstKeyConflict, IsSeen};
 
 use crate::counted::CountedCuts;
 use redo_core::{Fact, Record};
@@ -12,13 +12,13 @@ use std::collections::HashMap;
 type Places = HashMap<(u16, u64), usize>;
 
 /// The least place (from 0) that breaks law 1, or the number of facts. Its only error is want of memory.
-pub(crate) fn first_other_fact(
+pub(crate) fn first_key_conflict(
     alloc: Global,
     facts: &[Fact],
     cuts: &CountedCuts,
 ) -> Result<usize, AllocError>
     requires { Describes facts.now cuts.now }
-    ensures { IfOk result (IsFirstOther facts.now) }
+    ensures { IfOk result (IsFirstKeyConflict facts.now) }
 {
     let mut seen = HashMap::new(alloc);
     for (place, fact) in facts.iter().enumerate() {

@@ -3,7 +3,8 @@
 //!
 //! A place breaks law 1 where an earlier fact has its key and differs, law 2 where a record's epoch has not begun or its number
 //! is not above the epoch's `hi`, laws 3 and 4 where a segment or block backlink is not the greatest alive number below the
-//! record's own, and law 5 where an advance's epoch has not begun or a later truncation cuts below its point.
+//! record's own, and law 5 where an advance's reader is not of the roster, its epoch has not begun, or a later truncation
+//! that all readers are past cuts below its point.
 //!
 //! `Writer` makes logs that are sound at all times: it gives each record its epoch and backlinks, and refuses what would break
 //! a law.
@@ -14,6 +15,7 @@ mod check;
 mod counted;
 mod keys;
 mod links;
+mod lows;
 mod writer;
 
 pub use check::{CheckFault, check_log};

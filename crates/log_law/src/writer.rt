@@ -1,12 +1,11 @@
-ghost use Rattle.std.specs.Prelude.{◌≡◌, ℕ, ◌<◌, ◌≤◌, List, [], ◌∷◌, ◌++◌, IfOk, OnOk, OnErr, IfErr, None, length, false};
+ghost use Rattle.std.specs.Prelude.{◌≡◌, [], IfOk, OnErr, IfErr, None};
 ghost use Rattle.redo_core.specs.Data.{record_of};
-ghost use Rattle.redo_core.specs.Shape.{record_fault, is_empty, is_off_page};
+ghost use Rattle.redo_core.specs.Shape.{record_fault};
 ghost use Rattle.redo_core.specs.Sound.{IsSound};
-ghost use Rattle.std.specs.List.{list_any, sum_by};
-ghost use Rattle.log_law.specs.Writing.{AppendsRecord, RefusesAppend, RecoversAt, RefusesRecover, AdvancesAt, RefusesAdvance, plain_record};
+ghost use Rattle.log_law.specs.Writing.{AppendsRecord, RefusesAppend, RecoversAt, RefusesRecover, AdvancesAt, RefusesAdvance, plain_record, writer_of};
 
 use crate::alive::AliveRecords;
-use redo_core::{Advance, Cut, Fact, MAX_NUMBER, Record, Refused, ShapeFault, Write};
+use redo_core::{Advance, Cut, Fact, ReadPoints, Record, Refused, Roster, ShapeFault, Write};
 use std::alloc::{AllocError, Global};
 use std::marker::Model;
 use thiserror::Error;
@@ -16,10 +15,12 @@ use thiserror::Error;
 pub enum WriterFault {
     #[error("{0}")]
     Shape(ShapeFault),
-    #[error("lo is below the advance to {point}")]
+    #[error("lo is below the minimum read point {point}")]
     LoBelowAdvance { point: u64 },
     #[error("the number is not above {bound}")]
     NumberNotAbove { bound: u64 },
+    #[error("reader {shown} is not of the roster of {own}")]
+    OtherRoster { own: u8, shown: u8 },
     #[error("no epoch is left")]
     EpochsUsedUp,
     #[error("out of memory")]
@@ -34,40 +35,40 @@ pub struct Writer {
     alive: AliveRecords,
     /// The last number of the epoch, or the epoch's `hi` where it has no record yet.
     last: u64,
-    /// The greatest point of an advance, or 0.
-    point: u64,
+    /// Each reader's point.
+    points: ReadPoints,
 }
 
 impl Model for Writer {
-    ghost use Rattle.std.specs.Prelude.{List};
-    ghost use Rattle.redo_core.specs.declared.facts.Fact.{Fact};
-    ghost use Rattle.log_law.specs.Writing.{IsWritten};
+    ghost use Rattle.std.specs.Prelude.{length};
+    ghost use Rattle.log_law.specs.Writing.{IsWritten, WriterData, writer_of};
 
-    ghost Value = { List Fact };
+    ghost Value = { WriterData };
 
-    ghost view = { λ w. w.log.items };
+    ghost view = { λ w. writer_of (length w.points) w.log.items };
 
-    ghost invariant = { λ w. IsWritten w.log.items w.alive w.last w.point };
+    ghost invariant = { λ w. IsWritten (length w.points) w.log.items w.alive w.last w.points };
 }
 
 impl Writer {
-    /// A writer of an empty log, in epoch 0. Its only error is want of memory.
-    pub fn new(alloc: Global) -> Result<Self, AllocError>
-        ensures { IfOk result (λ w. w ≡ []) }
+    /// A writer of an empty log of a roster, in epoch 0. Its only error is want of memory.
+    pub fn new(alloc: Global, roster: Roster) -> Result<Self, AllocError>
+        ensures { IfOk result (λ w. w ≡ writer_of roster []) }
     {
+        let points = ReadPoints::new(alloc, roster)?;
         let alive = AliveRecords::new(alloc)?;
         Ok(Writer {
             log: Vec::new(alloc),
             alive,
             last: 0,
-            point: 0,
+            points,
         })
     }
 
     /// All that was written, in order.
     pub fn log(&self) -> &[Fact]
-        ensures log { result.now ≡ self.now }
-        ensures sound { IsSound self.now }
+        ensures log { result.now ≡ self.now.log }
+        ensures sound { IsSound self.now.roster self.now.log }
     {
         &self.log
     }
@@ -86,7 +87,7 @@ impl Writer {
         ensures unchanged { OnErr result (self.new ≡ self.old) }
         ensures fault { IfErr result (λ e. (e.value ≡ writes) × RefusesAppend self.old number writes.items e.fault) }
     {
-        if let Some(fault) = shape_fault(number, &writes) {
+        if let Some(fault) = Record::shape_fault(number, 0, 0, &writes) {
             return Err(Refused {
                 value: writes,
                 fault: WriterFault::Shape(fault),
@@ -98,7 +99,7 @@ impl Writer {
                 fault: WriterFault::NumberNotAbove { bound: self.last },
             });
         }
-        let Ok(copied) = copies(&writes) else {
+        let Ok(copied) = writes.clone() else {
             return Err(Refused {
                 value: writes,
                 fault: WriterFault::Memory,
@@ -119,15 +120,15 @@ impl Writer {
             });
         }
         let epoch = self.alive.view();
-        let kept = made(epoch, number, back, page, block_back, copied);
+        let kept = record_with_links(epoch, number, back, page, block_back, copied);
         self.log.push(Fact::Record(kept)).unwrap();
         self.last = number;
-        Ok(made(epoch, number, back, page, block_back, writes))
+        Ok(record_with_links(epoch, number, back, page, block_back, writes))
     }
 
     /// Opens the next epoch: numbers above `lo` are annulled, and its own are above `hi`.
     ///
-    /// Errors leave the log as it was: a fault of the truncation's shape; `lo` below an advance, with the greatest point; no
+    /// Errors leave the log as it was: a fault of the truncation's shape; `lo` below the minimum read point, with that point; no
     /// epoch left; `Memory`.
     pub fn recover(&mut self, lo: u64, hi: u64) -> Result<Cut, WriterFault>
         ensures ok { IfOk result (λ c. RecoversAt self.old self.new lo hi c) }
@@ -137,8 +138,9 @@ impl Writer {
         if let Err(fault) = Cut::new(1, lo, hi) {
             return Err(WriterFault::Shape(fault));
         }
-        if lo < self.point {
-            return Err(WriterFault::LoBelowAdvance { point: self.point });
+        let point = self.points.least();
+        if lo < point {
+            return Err(WriterFault::LoBelowAdvance { point });
         }
         let view = self.alive.view();
         if view == u16::MAX {
@@ -157,30 +159,41 @@ impl Writer {
         Ok(cut)
     }
 
-    /// Says that nothing below `point` is read any more.
-    ///
-    /// Errors leave the log as it was: a fault of the advance's shape; `Memory`.
+    /// Says that reader 1 reads nothing below `point` any more. Errors are those of `advance_of`.
     pub fn advance(&mut self, point: u64) -> Result<Advance, WriterFault>
-        ensures ok { IfOk result (λ a. AdvancesAt self.old self.new point a) }
+        ensures ok { IfOk result (λ a. AdvancesAt self.old self.new 1 point a) }
         ensures unchanged { OnErr result (self.new ≡ self.old) }
-        ensures fault { IfErr result (λ e. RefusesAdvance point e) }
+        ensures fault { IfErr result (λ e. RefusesAdvance self.old 1 point e) }
     {
-        let advance = match Advance::new(self.alive.view(), point) {
+        self.advance_of(1, point)
+    }
+
+    /// Says that a reader reads nothing below `point` any more.
+    ///
+    /// Errors leave the log as it was: a fault of the advance's shape; a reader outside the roster; `Memory`.
+    pub fn advance_of(&mut self, reader: u8, point: u64) -> Result<Advance, WriterFault>
+        ensures ok { IfOk result (λ a. AdvancesAt self.old self.new reader point a) }
+        ensures unchanged { OnErr result (self.new ≡ self.old) }
+        ensures fault { IfErr result (λ e. RefusesAdvance self.old reader point e) }
+    {
+        let advance = match Advance::of_reader(reader, self.alive.view(), point) {
             Ok(advance) => advance,
             Err(fault) => return Err(WriterFault::Shape(fault)),
         };
+        let own = self.points.readers();
+        if reader > own {
+            return Err(WriterFault::OtherRoster { own, shown: reader });
+        }
         if self.log.reserve(1).is_err() {
             return Err(WriterFault::Memory);
         }
         self.log.push(Fact::Advance(advance)).unwrap();
-        if self.point < point {
-            self.point = point;
-        }
+        self.points.raise(advance);
         Ok(advance)
     }
 }
 
-fn made(
+fn record_with_links(
     epoch: u16,
     number: u64,
     back: u64,
@@ -192,68 +205,9 @@ fn made(
     ensures { result ≡ record_of epoch number back page block_back writes.items }
 {
     match Record::new(epoch, number, back, page, block_back, writes) {
-        Ok(made) => made,
+        Ok(redo) => redo,
         Err(_) => unreachable!(),
     }
-}
-
-fn copies(writes: &Vec<Write>) -> Result<Vec<Write>, AllocError>
-    ensures { IfOk result (λ v. v.items ≡ writes.now.items) }
-{
-    let mut copied = Vec::new(*writes.allocator());
-    for w in writes {
-        copied.push(w.copy()?)?;
-    }
-    Ok(copied)
-}
-
-// The first fault of a record's shape, whatever its backlinks below it.
-fn shape_fault(number: u64, writes: &[Write]) -> Option<ShapeFault>
-    ensures { result ≡ record_fault (plain_record number writes.now) }
-{
-    if number == 0 {
-        return Some(ShapeFault::NumberIsZero);
-    }
-    if writes.len() > 64 {
-        return Some(ShapeFault::ManyWrites);
-    }
-    if has_empty(writes) {
-        return Some(ShapeFault::EmptyWrite);
-    }
-    if has_off_page(writes) {
-        return Some(ShapeFault::OffPage);
-    }
-    if bytes_of(writes) > 8192 {
-        return Some(ShapeFault::ManyBytes);
-    }
-    if number > MAX_NUMBER {
-        return Some(ShapeFault::TooLarge);
-    }
-    None
-}
-
-fn has_empty(writes: &[Write]) -> bool
-    ensures { result ≡ list_any is_empty writes.now }
-{
-    writes.iter().any(|w| w.bytes().len() == 0)
-}
-
-fn has_off_page(writes: &[Write]) -> bool
-    ensures { result ≡ list_any is_off_page writes.now }
-{
-    writes.iter().any(|w| w.bytes().len() > 4096 || w.offset() as usize + w.bytes().len() > 4096)
-}
-
-fn bytes_of(writes: &[Write]) -> usize
-    requires few { length writes.now ≤ 64 }
-    requires inside { list_any is_off_page writes.now ≡ false }
-    ensures { result ≡ sum_by (λ w. length w.bytes) writes.now }
-{
-    let mut total = 0;
-    for w in writes {
-        total += w.bytes().len();
-    }
-    total
 }
 
 #[cfg(test)]

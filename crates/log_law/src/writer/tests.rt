@@ -2,43 +2,84 @@ use super::*;
 use crate::check::check_log;
 use std::test::Fail;
 
-// The record's epoch, backlinks in the segment and in its page.
-fn links(record: &Record) -> (u16, u64, u64) {
-    (record.epoch(), record.back(), record.block_back())
+// The epoch of an appended record, with its backlinks in the segment and in its page.
+fn appended(
+    writer: &mut Writer,
+    heap: Global,
+    number: u64,
+    page: u16,
+) -> Result<(u16, u64, u64), WriterFault> {
+    match writer.append(number, page, Vec::new(heap)) {
+        Ok(redo) => Ok((redo.epoch(), redo.back(), redo.block_back())),
+        Err(refused) => Err(refused.fault),
+    }
+}
+
+// The epoch of a truncation.
+fn recovered(writer: &mut Writer, lo: u64, hi: u64) -> Result<u16, WriterFault> {
+    Ok(writer.recover(lo, hi)?.epoch())
+}
+
+// The reader, epoch and point of an advance.
+fn advanced(writer: &mut Writer, reader: u8, point: u64) -> Result<(u8, u16, u64), WriterFault> {
+    let advance = writer.advance_of(reader, point)?;
+    Ok((advance.reader(), advance.epoch(), advance.point()))
 }
 
 #[test]
 fn writes_a_log(rt: HostRuntime) -> Result<(), Fail> {
     let heap = rt.alloc();
-    let mut writer = Writer::new(heap)?;
-    let record = writer.append(3, 7, Vec::new(heap)).ok().ok_or("refused")?;
-    assert_eq!(rt; links(&record), (0, 0, 0));
-    let record = writer.append(5, 7, Vec::new(heap)).ok().ok_or("refused")?;
-    assert_eq!(rt; links(&record), (0, 3, 3));
-    let record = writer.append(9, 8, Vec::new(heap)).ok().ok_or("refused")?;
-    assert_eq!(rt; links(&record), (0, 5, 0));
-    assert!(rt; writer.advance(5) == Ok(Advance::new(0, 5).ok().ok_or("shape")?));
-    assert!(rt; writer.recover(4, 20) == Err(WriterFault::LoBelowAdvance { point: 5 }));
-    assert!(rt; writer.recover(5, 20) == Ok(Cut::new(1, 5, 20).ok().ok_or("shape")?));
-    let refused = writer.append(20, 7, Vec::new(heap)).err().ok_or("written")?;
-    assert!(rt; refused.fault == WriterFault::NumberNotAbove { bound: 20 });
-    let record = writer.append(21, 7, Vec::new(heap)).ok().ok_or("refused")?;
-    assert_eq!(rt; links(&record), (1, 5, 5));
-    let refused = writer.append(21, 7, Vec::new(heap)).err().ok_or("written")?;
-    assert!(rt; refused.fault == WriterFault::NumberNotAbove { bound: 21 });
-    assert!(rt; writer.log().len() == 6);
-    assert!(rt; check_log(heap, writer.log()) == Ok(()));
+    let mut writer = Writer::new(heap, Roster::new(1)?)?;
+    for (number, page, links) in [(3, 7, (0, 0, 0)), (5, 7, (0, 3, 3)), (9, 8, (0, 5, 0))] {
+        assert_eq!(rt; appended(&mut writer, heap, number, page), Ok(links));
+    }
+    assert!(rt; writer.advance(5) == Ok(Advance::new(0, 5)?));
+    let low = WriterFault::LoBelowAdvance { point: 5 };
+    assert_eq!(rt; recovered(&mut writer, 4, 20), Err(low));
+    assert_eq!(rt; recovered(&mut writer, 5, 20), Ok(1));
+    assert!(rt; check_log(heap, writer.log(), Roster::new(1)?).is_ok());
+    Ok(())
+}
+
+#[test]
+fn no_number_stands_twice(rt: HostRuntime) -> Result<(), Fail> {
+    let heap = rt.alloc();
+    let mut writer = Writer::new(heap, Roster::new(1)?)?;
+    assert_eq!(rt; appended(&mut writer, heap, 3, 7), Ok((0, 0, 0)));
+    let repeated = WriterFault::NumberNotAbove { bound: 3 };
+    assert_eq!(rt; appended(&mut writer, heap, 3, 7), Err(repeated));
+    for epoch in 1..3 {
+        assert_eq!(rt; recovered(&mut writer, 3, 20), Ok(epoch));
+    }
+    let below = WriterFault::NumberNotAbove { bound: 20 };
+    assert_eq!(rt; appended(&mut writer, heap, 20, 7), Err(below));
+    assert_eq!(rt; appended(&mut writer, heap, 21, 7), Ok((2, 3, 3)));
     Ok(())
 }
 
 #[test]
 fn refuses_wrong_shapes(rt: HostRuntime) -> Result<(), Fail> {
     let heap = rt.alloc();
-    let mut writer = Writer::new(heap)?;
-    let refused = writer.append(0, 7, Vec::new(heap)).err().ok_or("written")?;
-    assert!(rt; refused.fault == WriterFault::Shape(ShapeFault::NumberIsZero));
-    assert!(rt; writer.recover(6, 5) == Err(WriterFault::Shape(ShapeFault::LoAboveHi)));
-    assert!(rt; writer.advance(0) == Err(WriterFault::Shape(ShapeFault::NumberIsZero)));
+    let mut writer = Writer::new(heap, Roster::new(1)?)?;
+    let zero = WriterFault::Shape(ShapeFault::NumberIsZero);
+    assert_eq!(rt; appended(&mut writer, heap, 0, 7), Err(zero));
+    assert_eq!(rt; advanced(&mut writer, 1, 0), Err(zero));
+    let crossed = WriterFault::Shape(ShapeFault::LoAboveHi);
+    assert_eq!(rt; recovered(&mut writer, 6, 5), Err(crossed));
     assert!(rt; writer.log().is_empty());
+    Ok(())
+}
+
+#[test]
+fn cuts_above_the_least_point(rt: HostRuntime) -> Result<(), Fail> {
+    let heap = rt.alloc();
+    let mut writer = Writer::new(heap, Roster::new(2)?)?;
+    assert_eq!(rt; advanced(&mut writer, 1, 5), Ok((1, 0, 5)));
+    assert_eq!(rt; advanced(&mut writer, 2, 3), Ok((2, 0, 3)));
+    let stranger = WriterFault::OtherRoster { own: 2, shown: 3 };
+    assert_eq!(rt; advanced(&mut writer, 3, 9), Err(stranger));
+    let low = WriterFault::LoBelowAdvance { point: 3 };
+    assert_eq!(rt; recovered(&mut writer, 2, 20), Err(low));
+    assert_eq!(rt; recovered(&mut writer, 3, 20), Ok(1));
     Ok(())
 }

@@ -9,5 +9,5 @@ abbrev pub invariant-loop-place : goal.invariant-loop-place
 invariant-loop-place l = record {
   other : l.place ≤ l.other;
   link : (b : BrokenLink) → l.link ≡ Some b → l.place ≤ b.place;
-  kept : (earlier : ℕ) (f : Fact) → earlier < l.place → slice_get l.facts earlier ≡ Some f → KeepsLaws l.facts earlier f;
+  kept : (earlier : ℕ) (f : Fact) → earlier < l.place → slice_get l.facts earlier ≡ Some f → KeepsLaws l.fn.roster l.facts earlier f;
 }

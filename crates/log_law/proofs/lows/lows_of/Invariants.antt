@@ -1,0 +1,14 @@
+use Rattle.std.proofs.Common.{◌-◌, ◌≤◌}
+use Rattle.log_law.specs.Lows.{AreLows}
+use Rattle.log_law.proofs.lows.lows_of.Given as goal
+
+-- the readers so far
+abbrev pub invariant-loop-reader : goal.invariant-loop-reader
+invariant-loop-reader l = record {
+  some : 1 ≤ l.reader;
+  within : l.reader ≤ l.readers;
+  lows : AreLows l.reader l.facts l.lows.items;
+}
+
+abbrev pub decreases-loop-reader : goal.decreases-loop-reader
+decreases-loop-reader l = l.readers - l.reader

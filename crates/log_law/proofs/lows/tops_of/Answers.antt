@@ -1,0 +1,5 @@
+use Rattle.log_law.proofs.Reaching.{tops_from}
+use Rattle.log_law.proofs.lows.tops_of.Goals as goal
+
+pub returns : goal.returns
+returns c = tops_from c.args.facts.now c.args.reader c.in_ok-tops.tops.items c.rise.new.tops.items c.in_ok-tops.ensures c.rise.ensures.len c.rise.ensures.each

@@ -1,0 +1,88 @@
+ghost use Rattle.std.specs.Prelude.{◌≡◌, ◌≢◌, ℕ, ◌<◌, ◌≤◌, ◌⊎◌, ◌↔◌, min, max, length, slice_index, IfOk};
+ghost use Rattle.redo_core.specs.Roster.{IsRoster};
+ghost use Rattle.redo_core.specs.Data.{AdvanceData};
+ghost use Rattle.log_law.specs.Lows.{AreTops, AreLows, AreSteps, IsStep, IsReached};
+
+use crate::counted::filled;
+use redo_core::{Advance, EPOCH_COUNT, Fact, Roster};
+use std::alloc::{AllocError, Global};
+
+/// For each epoch, the least of the readers' points over the advances of earlier epochs.
+pub(crate) fn lows_of(alloc: Global, facts: &[Fact], roster: Roster) -> Result<Vec<u64>, AllocError>
+    ensures { IfOk result (λ v. AreLows roster facts.now v.items) }
+{
+    let readers = roster.readers();
+    let mut lows = tops_of(alloc, facts, 1)?;
+    let mut reader: u8 = 1;
+    while reader < readers {
+        reader += 1;
+        let tops = tops_of(alloc, facts, reader)?;
+        lower_all(&mut lows, &tops);
+    }
+    Ok(lows)
+}
+
+fn lower_all(lows: &mut Vec<u64>, tops: &[u64])
+    requires own { length lows.old.items ≡ 65536 }
+    requires other { length tops.now ≡ 65536 }
+    ensures len { length lows.new.items ≡ 65536 }
+    ensures each { (e : ℕ) → e < 65536 → slice_index lows.new.items e ≡ min (slice_index lows.old.items e) (slice_index tops.now e) }
+{
+    for epoch in 0..EPOCH_COUNT {
+        lows[epoch] = lows[epoch].min(tops[epoch]);
+    }
+}
+
+// For each epoch, the reader's point over the advances of earlier epochs.
+fn tops_of(alloc: Global, facts: &[Fact], reader: u8) -> Result<Vec<u64>, AllocError>
+    ensures { IfOk result (λ v. AreTops facts.now reader v.items) }
+{
+    let mut tops = steps_of(alloc, facts, reader)?;
+    rise(&mut tops);
+    Ok(tops)
+}
+
+// For each epoch, the reader's greatest point among the advances of the epoch before.
+fn steps_of(alloc: Global, facts: &[Fact], reader: u8) -> Result<Vec<u64>, AllocError>
+    ensures { IfOk result (λ v. AreSteps facts.now reader v.items) }
+{
+    let mut tops = filled(alloc, 0, EPOCH_COUNT)?;
+    for fact in facts {
+        if let Fact::Advance(advance) = fact {
+            note(&mut tops, *advance, reader);
+        }
+    }
+    Ok(tops)
+}
+
+fn note(tops: &mut Vec<u64>, advance: Advance, reader: u8)
+    requires { length tops.old.items ≡ 65536 }
+    ensures len { length tops.new.items ≡ 65536 }
+    ensures each { (e n : ℕ) → e < 65536 → (n < slice_index tops.new.items e) ↔ ((n < slice_index tops.old.items e) ⊎ IsStep advance reader e n) }
+{
+    let after = usize::from(advance.epoch()) + 1;
+    if advance.reader() == reader && after < EPOCH_COUNT {
+        raise_to(tops, after, advance.point());
+    }
+}
+
+// Each number becomes the greatest up to its place.
+fn rise(tops: &mut Vec<u64>)
+    requires { length tops.old.items ≡ 65536 }
+    ensures len { length tops.new.items ≡ 65536 }
+    ensures each { (e n : ℕ) → e < 65536 → (n < slice_index tops.new.items e) ↔ IsReached tops.old.items e n }
+{
+    for epoch in 1..EPOCH_COUNT {
+        let before = tops[epoch - 1];
+        raise_to(tops, epoch, before);
+    }
+}
+
+fn raise_to(tops: &mut Vec<u64>, place: usize, number: u64)
+    requires { place < length tops.old.items }
+    ensures len { length tops.new.items ≡ length tops.old.items }
+    ensures at { slice_index tops.new.items place ≡ max (slice_index tops.old.items place) number }
+    ensures others { (e : ℕ) → e ≢ place → slice_index tops.new.items e ≡ slice_index tops.old.items e }
+{
+    tops[place] = tops[place].max(number);
+}
