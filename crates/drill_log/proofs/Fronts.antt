@@ -10,9 +10,9 @@ use Rattle.redo_core.specs.Linked.Linked.{start, next}
 use Rattle.redo_core.specs.LogFront.{IsLogFront}
 use Rattle.redo_core.specs.declared.facts.Fact.{Fact}
 use Rattle.drill_log.specs.DrillLog.{record_of_epoch_0, record_of_epoch_1, drill_cut, drill_log, drill_hi}
-use Rattle.drill_log.specs.Contents.{IsDrillLog, drill_contents, facts_of_drill}
-use Rattle.drill_log.specs.Remainders.{half_at_most}
-use Rattle.drill_log.specs.Sound.{log_is}
+use Rattle.drill_log.specs.Soundness.Contents.{IsDrillLog, drill_contents, facts_of_drill}
+use Rattle.drill_log.specs.Soundness.Remainders.{half_at_most}
+use Rattle.drill_log.specs.Soundness.Sound.{log_is}
 
 cut_epoch : (n : ℕ) (log : List Fact) → IsDrillLog n log → (c : CutData) → Contains (cuts log) c → c.epoch ≡ 1
 cut_epoch n log d c h = sym (ap (λ (x : CutData). x.epoch) (d.each_cut c h))

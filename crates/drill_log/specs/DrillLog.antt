@@ -2,7 +2,8 @@
 use Rattle.std.specs.Prelude.{ℕ, ◌+◌, ◌-◌, ◌*◌, ◌/◌, ◌%◌, Bool, ◌&&◌, ◌==◌, nat_lt, nat_le, List, [], ◌∷◌, map, if◌then◌else◌}
 use Rattle.std.specs.List.{range_with_len}
 use Rattle.std.specs.Int.{to_be_bytes, w64}
-use Rattle.redo_core.specs.Data.{WriteData, RecordData, CutData, AdvanceData, record_of, cut_of, advance_of}
+use Rattle.redo_core.specs.Writes.{WriteData}
+use Rattle.redo_core.specs.Data.{RecordData, CutData, AdvanceData, record_of, cut_of, advance_of}
 use Rattle.redo_core.specs.declared.facts.Fact.{Fact}
 use Rattle.redo_core.specs.declared.facts.Fact.TheVariants.{Record, Cut, Advance}
 
@@ -24,7 +25,7 @@ drill_hi size = size + 8
 
 -- the one advance, of epoch 0
 abbrev pub drill_advance : ℕ → AdvanceData
-drill_advance size = advance_of 0 (drill_lo size)
+drill_advance size = advance_of 0 1 (drill_lo size)
 
 -- the one truncation, with which epoch 1 begins
 abbrev pub drill_cut : ℕ → CutData

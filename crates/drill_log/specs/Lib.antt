@@ -1,9 +1,3 @@
--- `DrillLog` is the log. The other files prove that it is sound, which the law of its name cites.
+-- `DrillLog` is the log. `Soundness` has no definition, only the proof that the log is sound.
 pub mod DrillLog
-pub mod ByPlace
-pub mod Remainders
-pub mod Shapes
-pub mod FirstCuts
-pub mod Contents
-pub mod Laws
-pub mod Sound
+pub mod Soundness

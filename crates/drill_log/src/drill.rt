@@ -4,13 +4,15 @@ use redo_core::Fact;
 use std::alloc::{AllocError, Global};
 
 /// The log of N records of epoch 0, an advance, a truncation at N / 2 and N records of epoch 1, for N from 2 to 1,048,576.
-/// For any other N it is empty.
+/// For any other N it is empty. Its roster has one reader.
 #[derive(Clone, Copy, Debug)]
 pub struct Drill<const N: u64>;
 
 impl<const N: u64> LogName for Drill<N> {
     ghost use Rattle.drill_log.specs.DrillLog.{drill_log};
-    ghost use Rattle.drill_log.specs.Sound.{drill_sound};
+    ghost use Rattle.drill_log.specs.Soundness.Sound.{drill_sound};
+
+    ghost roster = { 1 };
 
     ghost log = { drill_log N };
 

@@ -1,6 +1,6 @@
 use crate::drill::Drill;
 use named_log::LogFact;
-use redo_core::Fact;
+use redo_core::{Body, Fact};
 use std::test::Fail;
 
 type Small = Drill<64>;
@@ -48,7 +48,9 @@ fn first_record_writes_its_number_twice(rt: HostRuntime) -> Result<(), Fail> {
     let Fact::Record(redo) = found.into_fact() else {
         panic!(rt; "no record at place 1")
     };
-    let writes = redo.writes();
+    let Body::Writes(writes) = redo.body() else {
+        panic!(rt; "patches")
+    };
     assert!(rt; writes.len() == 2 && writes[0].offset() == 0 && writes[1].offset() == 8);
     for write in writes {
         assert!(rt; write.bytes() == [0, 0, 0, 0, 0, 0, 0, 1].as_slice());

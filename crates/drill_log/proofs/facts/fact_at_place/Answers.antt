@@ -1,7 +1,7 @@
 use Rattle.std.proofs.Common.{rules, arith, ◌∙◌, sym, ap, inl, inr, Some}
 use Rattle.redo_core.specs.declared.facts.Fact.{Fact}
 use Rattle.redo_core.specs.declared.facts.Fact.TheVariants.{Cut, Advance}
-use Rattle.drill_log.specs.Sound.{at_epoch_0, at_advance, at_cut, at_epoch_1, at_outside}
+use Rattle.drill_log.specs.Soundness.Sound.{at_epoch_0, at_advance, at_cut, at_epoch_1, at_outside}
 use Rattle.drill_log.proofs.facts.fact_at_place.Goals as goal
 use Rattle.drill_log.proofs.facts.fact_at_place.Goals.{then-place-eq0-via-then-place-eq0, then-place-eq0-via-else-place-eq0+then-place-size}
 

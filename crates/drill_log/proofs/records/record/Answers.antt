@@ -1,7 +1,7 @@
 use Rattle.std.proofs.Common.{◌≡◌, sym, None, subst}
 use Rattle.redo_core.specs.Data.{record_of}
 use Rattle.redo_core.specs.Shape.{record_fault}
-use Rattle.drill_log.specs.Shapes.{shape}
+use Rattle.drill_log.specs.Soundness.Shapes.{shape}
 use Rattle.drill_log.proofs.records.record.Goals as goal
 
 pub unreachable-requires : goal.unreachable-requires

@@ -1,5 +1,5 @@
 use Rattle.std.proofs.Common.{rules, sym, inl, inr}
-use Rattle.drill_log.specs.Sound.{at_no_size}
+use Rattle.drill_log.specs.Soundness.Sound.{at_no_size}
 use Rattle.drill_log.proofs.drill.DrillLogName.fact.Goals as goal
 use Rattle.drill_log.proofs.drill.DrillLogName.fact.Goals.{then-this-lt2-via-then-this-lt2, then-this-lt2-via-else-this-lt2+then-this-gt1048576}
 

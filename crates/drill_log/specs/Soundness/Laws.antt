@@ -9,8 +9,8 @@ use Rattle.redo_core.specs.Standing.{IsAlive}
 use Rattle.redo_core.specs.Sound.{counted, IsAliveBelow}
 use Rattle.redo_core.specs.declared.facts.Fact.{Fact}
 use Rattle.drill_log.specs.DrillLog.{record_of_epoch_0, record_of_epoch_1, drill_cut, drill_hi, last_of_page}
-use Rattle.drill_log.specs.Remainders.{same_remainder_apart, remainder_8_below, remainder_at_most, remainder_below, last_has_page, last_is_greatest, half_at_most, half_positive}
-use Rattle.drill_log.specs.Contents.{IsDrillLog}
+use Rattle.drill_log.specs.Soundness.Remainders.{same_remainder_apart, remainder_8_below, remainder_at_most, remainder_below, last_has_page, last_is_greatest, half_at_most, half_positive}
+use Rattle.drill_log.specs.Soundness.Contents.{IsDrillLog}
 
 pub cut_epoch : (n : ℕ) (log : List Fact) → IsDrillLog n log → (c : CutData) → Contains (counted log) c → c.epoch ≡ 1
 cut_epoch n log d c h = sym (ap (λ (x : CutData). x.epoch) (d.each_counted c h))

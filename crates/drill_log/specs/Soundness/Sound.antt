@@ -13,11 +13,11 @@ use Rattle.named_log.specs.Places.{fact_at}
 use Rattle.redo_core.proofs.Members.{none_in, here, there, which}
 use Rattle.redo_core.proofs.FactParts.{record_in, cut_in}
 use Rattle.drill_log.specs.DrillLog.{record_of_epoch_0, record_of_epoch_1, drill_advance, drill_cut, drill_fact, drill_log, drill_hi, last_of_page}
-use Rattle.drill_log.specs.Remainders.{half_at_most, half_positive}
-use Rattle.drill_log.specs.ByPlace.{get_place, get_past}
-use Rattle.drill_log.specs.Shapes.{shape}
-use Rattle.drill_log.specs.Contents.{IsDrillLog, IsKindAt, kind_at, facts_of_drill, drill_contents, fact_of_epoch_0, fact_advance, fact_cut, fact_of_epoch_1}
-use Rattle.drill_log.specs.Laws.{cut_epoch, back_of_epoch_0, back_of_epoch_1, block_back_of_epoch_0, block_back_of_epoch_1}
+use Rattle.drill_log.specs.Soundness.Remainders.{half_at_most, half_positive}
+use Rattle.drill_log.specs.Soundness.ByPlace.{get_place, get_past}
+use Rattle.drill_log.specs.Soundness.Shapes.{shape}
+use Rattle.drill_log.specs.Soundness.Contents.{IsDrillLog, IsKindAt, kind_at, facts_of_drill, drill_contents, fact_of_epoch_0, fact_advance, fact_cut, fact_of_epoch_1}
+use Rattle.drill_log.specs.Soundness.Laws.{cut_epoch, back_of_epoch_0, back_of_epoch_1, block_back_of_epoch_0, block_back_of_epoch_1}
 
 -- one key, one fact
 within : (k : ℕ) (xs : List Fact) (f : Fact) → Contains (take k xs) f → Contains xs f
@@ -68,7 +68,7 @@ back_2 n j m l = let h = half_at_most n in grind (arith, nat_tests)
 block_2 : (n j : ℕ) → 2 ≤ n → 1 ≤ j → (if nat_lt 8 j then drill_hi n + j - 8 else last_of_page (n / 2) ((j - 1) % 8)) ≤ (if j == 1 then n / 2 else drill_hi n + j - 1)
 block_2 n j m l = let h = half_at_most n in grind (arith, nat_tests)
 
-keeps_epoch_0 : (n i place : ℕ) (log : List Fact) → IsDrillLog n log → 1 ≤ i → i ≤ n → Contains log (Record (record_of_epoch_0 i)) → KeepsLaws log place (Record (record_of_epoch_0 i))
+keeps_epoch_0 : (n i place : ℕ) (log : List Fact) → IsDrillLog n log → 1 ≤ i → i ≤ n → Contains log (Record (record_of_epoch_0 i)) → KeepsLaws 1 log place (Record (record_of_epoch_0 i))
 keeps_epoch_0 n i place log d l u here = record {
   shape = shape 0 i (i - 1) (i % 8) (if nat_lt 8 i then i - 8 else 0) (let m = d.most in omega (arith, u, m)) (omega (arith, l)) (block_1 i l);
   law1 = λ f h. one_key n log d f (Record (record_of_epoch_0 i)) (within place log f h) here;
@@ -78,7 +78,7 @@ keeps_epoch_0 n i place log d l u here = record {
   law5 = tt;
 }
 
-keeps_epoch_1 : (n j place : ℕ) (log : List Fact) → IsDrillLog n log → 1 ≤ j → j ≤ n → Contains log (Record (record_of_epoch_1 n j)) → KeepsLaws log place (Record (record_of_epoch_1 n j))
+keeps_epoch_1 : (n j place : ℕ) (log : List Fact) → IsDrillLog n log → 1 ≤ j → j ≤ n → Contains log (Record (record_of_epoch_1 n j)) → KeepsLaws 1 log place (Record (record_of_epoch_1 n j))
 keeps_epoch_1 n j place log d l u here = record {
   shape = shape 1 (drill_hi n + j) (if j == 1 then n / 2 else drill_hi n + j - 1) ((j - 1) % 8) (if nat_lt 8 j then drill_hi n + j - 8 else last_of_page (n / 2) ((j - 1) % 8)) (let m = d.most in omega (arith, u, m)) (back_2 n j d.least l) (block_2 n j d.least l);
   law1 = λ f h. one_key n log d f (Record (record_of_epoch_1 n j)) (within place log f h) here;
@@ -88,7 +88,7 @@ keeps_epoch_1 n j place log d l u here = record {
   law5 = tt;
 }
 
-keeps_cut : (n place : ℕ) (log : List Fact) → IsDrillLog n log → Contains log (Cut (drill_cut n)) → KeepsLaws log place (Cut (drill_cut n))
+keeps_cut : (n place : ℕ) (log : List Fact) → IsDrillLog n log → Contains log (Cut (drill_cut n)) → KeepsLaws 1 log place (Cut (drill_cut n))
 keeps_cut n place log d here = record {
   shape = let h = half_at_most n in let m = d.most in (let t : cut_fault (drill_cut n) ≡ None = grind (arith, nat_tests) in t);
   law1 = λ f h. one_key n log d f (Cut (drill_cut n)) (within place log f h) here;
@@ -98,21 +98,21 @@ keeps_cut n place log d here = record {
   law5 = tt;
 }
 
-keeps_advance : (n place : ℕ) (log : List Fact) → IsDrillLog n log → Contains log (Advance (drill_advance n)) → KeepsLaws log place (Advance (drill_advance n))
+keeps_advance : (n place : ℕ) (log : List Fact) → IsDrillLog n log → Contains log (Advance (drill_advance n)) → KeepsLaws 1 log place (Advance (drill_advance n))
 keeps_advance n place log d here = record {
   shape = let h = half_positive n d.least in let k = half_at_most n in let m = d.most in (let t : advance_fault (drill_advance n) ≡ None = grind (arith, nat_tests) in t);
   law1 = λ f h. one_key n log d f (Advance (drill_advance n)) (within place log f h) here;
   law2 = tt;
   law3 = tt;
   law4 = tt;
-  law5 = ((λ e a b. absurd (omega (arith, a, b))), λ c h e. subst (λ (x : CutData). n / 2 ≤ x.lo) (d.each_counted c h) (omega arith));
+  law5 = ((omega arith, omega arith), (λ e a b. absurd (omega (arith, a, b))), λ c h e past. subst (λ (x : CutData). n / 2 ≤ x.lo) (d.each_counted c h) (omega arith));
 }
 
-keeps : (n p place : ℕ) (log : List Fact) (f : Fact) → IsDrillLog n log → Contains log f → IsKindAt n p f → KeepsLaws log place f
-keeps n p place log f d h (inl a) = subst (KeepsLaws log place) (sym a.2) (keeps_epoch_0 n p place log d a.0 a.1 (subst (Contains log) a.2 h))
-keeps n p place log f d h (inr (inl a)) = subst (KeepsLaws log place) (sym a) (keeps_advance n place log d (subst (Contains log) a h))
-keeps n p place log f d h (inr (inr (inl a))) = subst (KeepsLaws log place) (sym a) (keeps_cut n place log d (subst (Contains log) a h))
-keeps n p place log f d h (inr (inr (inr a))) = subst (KeepsLaws log place) (sym a.3) (keeps_epoch_1 n a.0 place log d a.1 a.2 (subst (Contains log) a.3 h))
+keeps : (n p place : ℕ) (log : List Fact) (f : Fact) → IsDrillLog n log → Contains log f → IsKindAt n p f → KeepsLaws 1 log place f
+keeps n p place log f d h (inl a) = subst (KeepsLaws 1 log place) (sym a.2) (keeps_epoch_0 n p place log d a.0 a.1 (subst (Contains log) a.2 h))
+keeps n p place log f d h (inr (inl a)) = subst (KeepsLaws 1 log place) (sym a) (keeps_advance n place log d (subst (Contains log) a h))
+keeps n p place log f d h (inr (inr (inl a))) = subst (KeepsLaws 1 log place) (sym a) (keeps_cut n place log d (subst (Contains log) a h))
+keeps n p place log f d h (inr (inr (inr a))) = subst (KeepsLaws 1 log place) (sym a.3) (keeps_epoch_1 n a.0 place log d a.1 a.2 (subst (Contains log) a.3 h))
 
 -- the fact that stands at a place
 among : (xs : List Fact) (k : ℕ) (f : Fact) → slice_get xs k ≡ Some f → Contains xs f
@@ -120,8 +120,8 @@ among [] k f e = absurd cc
 among (x ∷ xs) zero f e = let q : x ≡ f = cc in subst (λ z. Contains (z ∷ xs) f) (sym q) (here f xs)
 among (x ∷ xs) (suc k) f e = there x xs f (among xs k f e)
 
-contents_sound : (n : ℕ) → 2 ≤ n → n ≤ 1048576 → IsSound (facts_of_drill n)
-contents_sound n least most place fact e =
+contents_keep : (n : ℕ) → 2 ≤ n → n ≤ 1048576 → (place : ℕ) (fact : Fact) → slice_get (facts_of_drill n) place ≡ Some fact → KeepsLaws 1 (facts_of_drill n) place fact
+contents_keep n least most place fact e =
     ⊎_elim
     (λ (l : place < 2 * n + 2).
     let g = get_place (drill_fact n) 1 (2 * n + 2) place l in
@@ -129,6 +129,9 @@ contents_sound n least most place fact e =
     keeps n (1 + place) place (facts_of_drill n) fact (drill_contents n least most) (among (facts_of_drill n) place fact e) (subst (IsKindAt n (1 + place)) q (kind_at n (1 + place) (omega arith) (omega (arith, l)))))
     (λ (m : 2 * n + 2 ≤ place). absurd (let g = get_past (drill_fact n) 1 (2 * n + 2) place m in cc))
     (let t : (place < 2 * n + 2) ⊎ (2 * n + 2 ≤ place) = grind arith in t)
+
+contents_sound : (n : ℕ) → 2 ≤ n → n ≤ 1048576 → IsSound 1 (facts_of_drill n)
+contents_sound n least most = record { readers = (omega arith, omega arith); keeps = λ place fact e. contents_keep n least most place fact e }
 
 pub log_is : (n : ℕ) → 2 ≤ n → n ≤ 1048576 → drill_log n ≡ facts_of_drill n
 unfolding drill_log
@@ -139,11 +142,11 @@ unfolding drill_log
 log_is_empty n (inl l) = let a : nat_le 2 n ≡ false = grind (arith, nat_tests) in rw a refl
 log_is_empty n (inr l) = let a : nat_le 2 n ≡ true = grind (arith, nat_tests) in let b : nat_le n 1048576 ≡ false = grind (arith, nat_tests) in rw (a, b) refl
 
-pub drill_sound : (n : ℕ) → IsSound (drill_log n)
+pub drill_sound : (n : ℕ) → IsSound 1 (drill_log n)
 drill_sound n =
     ⊎_elim
-    (λ (no : (n < 2) ⊎ (1048576 < n)). subst IsSound (sym (log_is_empty n no)) (λ place fact e. absurd cc))
-    (λ (yes : (2 ≤ n) × (n ≤ 1048576)). subst IsSound (sym (log_is n yes.0 yes.1)) (contents_sound n yes.0 yes.1))
+    (λ (no : (n < 2) ⊎ (1048576 < n)). subst (IsSound 1) (sym (log_is_empty n no)) (record { readers = (omega arith, omega arith); keeps = λ place fact e. absurd cc }))
+    (λ (yes : (2 ≤ n) × (n ≤ 1048576)). subst (IsSound 1) (sym (log_is n yes.0 yes.1)) (contents_sound n yes.0 yes.1))
     (let t : ((n < 2) ⊎ (1048576 < n)) ⊎ ((2 ≤ n) × (n ≤ 1048576)) = grind arith in t)
 
 -- what `fact` answers

@@ -9,9 +9,9 @@ use Rattle.redo_core.specs.Sound.{counted}
 use Rattle.redo_core.specs.declared.facts.Fact.{Fact}
 use Rattle.redo_core.specs.declared.facts.Fact.TheVariants.{Record, Cut, Advance}
 use Rattle.redo_core.proofs.FactParts.{record_in, cut_in}
-use Rattle.drill_log.specs.FirstCuts.{first_within, some_counts}
+use Rattle.drill_log.specs.Soundness.FirstCuts.{first_within, some_counts}
 use Rattle.drill_log.specs.DrillLog.{record_of_epoch_0, record_of_epoch_1, drill_advance, drill_cut, drill_fact}
-use Rattle.drill_log.specs.ByPlace.{place_of, has_place}
+use Rattle.drill_log.specs.Soundness.ByPlace.{place_of, has_place}
 
 pub fact_of_epoch_0 : (n p : ℕ) → p ≤ n → drill_fact n p ≡ Record (record_of_epoch_0 p)
 unfolding drill_fact
