@@ -17,11 +17,11 @@ use Rattle.front_board.specs.FrontWord.{number_count}
 shape_below : (r : RecordData) → record_fault r ≡ None → r.number < number_count
 shape_below r h = grind (arith, nat_tests)
 
-record_below : (log : List Fact) → IsSound log → (r : RecordData) → Contains (records log) r → r.number < number_count
+record_below : {roster : ℕ} (log : List Fact) → IsSound roster log → (r : RecordData) → Contains (records log) r → r.number < number_count
 record_below log sound r h =
     let at = (record_in log r).0 h in
-    shape_below r (sound at.0 (Record r) (slice_get-get_or log at.0 (Record r) at.1 ∙ ap (λ (f : Fact). Some f) at.2)).shape
+    shape_below r (sound.keeps at.0 (Record r) (slice_get-get_or log at.0 (Record r) at.1 ∙ ap (λ (f : Fact). Some f) at.2)).shape
 
-pub linked_below : (log : List Fact) → IsSound log → (k n : ℕ) → IsLinked log k n → n < number_count
+pub linked_below : {roster : ℕ} (log : List Fact) → IsSound roster log → (k n : ℕ) → IsLinked log k n → n < number_count
 linked_below log sound k n start = omega arith
 linked_below log sound k n (next r h alive above before) = record_below log sound r h

@@ -1,5 +1,5 @@
 -- A step that raises one word to a front keeps the rule.
-use Rattle.std.proofs.Common.{◌≡◌, ℕ, zero, suc, ◌≤◌, ◌⊎◌, ⊎_elim, List, [], ◌∷◌, length, slice_index, slice_set, max, refl, sym, subst, ◌∙◌, le_refl, le_trans, arith}
+use Rattle.std.proofs.Common.{◌≡◌, ℕ, zero, suc, ◌-◌, ◌≤◌, ◌⊎◌, ⊎_elim, List, [], ◌∷◌, length, slice_index, slice_set, max, refl, sym, ap, subst, ◌∙◌, le_refl, le_trans, arith}
 use mathlib.Core.Option.{some}
 use lib.ListN.{get_elem?, length-set}
 use Rattle.atomic_table.specs.Table.{Me, Allows, Splits, keeps}
@@ -86,12 +86,12 @@ pub max_is_front : (log : List Fact) (n k : ℕ) → IsFrontWord log k → IsFro
 max_is_front log n k a b = ⊎_elim (λ (e : max n k ≡ n). subst (IsFrontWord log) (sym e) b) (λ (e : max n k ≡ k). subst (IsFrontWord log) (sym e) a) (max_is_either n k)
 
 -- what a seat that publishes finds
-pub publishes : (log : List Fact) (seen old new : List ℕ) (node word published found : ℕ) → seen ≡ old → word ≡ published → IsFrontWord log found → slice_index seen node ≤ found → new ≡ slice_set seen node (max found word) → Publishes log old new node published
+pub publishes : (log : List Fact) (seen old new : List ℕ) (node word published found : ℕ) → seen ≡ old → word ≡ published → IsFrontWord log found → slice_index seen (node - 1) ≤ found → new ≡ slice_set seen (node - 1) (max found word) → Publishes log old new node published
 publishes log seen old new node word published found same value front above entry = record {
   found = found;
   front = front;
-  above = subst (λ (view : List ℕ). slice_index view node ≤ found) same above;
-  entry = entry ∙ cc;
+  above = subst (λ (view : List ℕ). slice_index view (node - 1) ≤ found) same above;
+  entry = entry ∙ ap (λ view. slice_set view (node - 1) (max found word)) same ∙ ap (λ w. slice_set old (node - 1) (max found w)) value;
 }
 
 -- after a step of one word the entries are still fronts

@@ -1,11 +1,12 @@
 ghost use Rattle.std.specs.Prelude.{◌≡◌, ℕ, ◌<◌, ◌≤◌, IfOk, length, replicate, slice_index, slice_set};
 ghost use Rattle.redo_core.specs.LogFront.{IsLogFront};
 ghost use Rattle.front_board.specs.FrontWord.{word_of, AreFronts};
-ghost use Rattle.front_board.specs.Seat.{Publishes, new_seat};
+ghost use Rattle.front_board.specs.Seat.{IsNode, Publishes, new_seat, seen_of, with_seen};
 ghost use Rattle.front_board.specs.NthGreatest.{IsNthGreatest};
+ghost use Rattle.front_board.specs.Quorum.{IsReachedBy};
 
 use crate::fronts::LogFront;
-use crate::rule::{Known, Loads, Raises, Same, Token, WordsAreFronts};
+use crate::rule::{BothKeep, Loads, Raises, SeenWords, TableSeat, WordsAreFronts};
 use crate::survey::survey;
 use atomic_table::Table;
 use named_log::LogName;
@@ -15,7 +16,7 @@ use std::marker::{Model, PhantomData};
 /// One atomic word for each node, which holds a front of the log and only grows. Contracts see which board it is.
 #[derive(Drop)]
 pub struct Board<L: LogName> {
-    table: Table<(), Known, usize, WordsAreFronts<L>, Global>,
+    table: Table<(), SeenWords, usize, WordsAreFronts<L>, Global>,
 }
 
 impl<L: LogName> Model for Board<L> {
@@ -30,7 +31,7 @@ impl<L: LogName> Model for Board<L> {
 /// It has room for one look at all words.
 #[derive(Drop)]
 pub struct Seat<L: LogName> {
-    token: Token,
+    token: TableSeat,
     words: Vec<u64>,
     of: PhantomData<L>,
 }
@@ -48,34 +49,34 @@ impl<L: LogName> Model for Seat<L> {
 }
 
 impl<L: LogName> Board<L> {
-    /// Raises the word of a node (from 0) to a front, where the word is below it.
+    /// Raises the word of a node (from 1) to a front, where the word is below it.
     pub fn publish(&self, seat: &mut Seat<L>, node: usize, front: LogFront<L>)
         requires own { seat.old.board ≡ self.now }
-        requires node { node < self.now.words }
+        requires node { IsNode self.now.words node }
         ensures own { seat.new.board ≡ seat.old.board }
         ensures raised { Publishes L.log seat.old.seen seat.new.seen node (word_of front) }
-        ensures reached { word_of front ≤ slice_index seat.new.seen node }
-        ensures grows { slice_index seat.old.seen node ≤ slice_index seat.new.seen node }
-        ensures others { seat.new.seen ≡ slice_set seat.old.seen node (slice_index seat.new.seen node) }
+        ensures reached { word_of front ≤ seen_of seat.new.seen node }
+        ensures grows { seen_of seat.old.seen node ≤ seen_of seat.new.seen node }
+        ensures others { seat.new.seen ≡ with_seen seat.old.seen node (seen_of seat.new.seen node) }
         ensures fronts { AreFronts L.log seat.new.seen }
     {
-        self.table
-            .shared
-            .fetch_max::<Raises<L>>(&mut seat.token, node, front.word());
+        let table = &self.table.shared;
+        table.fetch_max::<Raises<L>>(&mut seat.token, node - 1, front.word());
     }
 
-    /// The front that the word of a node (from 0) holds.
+    /// The front that the word of a node (from 1) holds.
     pub fn front(&self, seat: &mut Seat<L>, node: usize) -> LogFront<L>
         requires own { seat.old.board ≡ self.now }
-        requires node { node < self.now.words }
+        requires node { IsNode self.now.words node }
         ensures own { seat.new.board ≡ seat.old.board }
-        ensures answer { word_of result ≡ slice_index seat.new.seen node }
+        ensures answer { word_of result ≡ seen_of seat.new.seen node }
         ensures front { IsLogFront L.log result.epoch result.number }
-        ensures grows { slice_index seat.old.seen node ≤ word_of result }
-        ensures others { seat.new.seen ≡ slice_set seat.old.seen node (word_of result) }
+        ensures grows { seen_of seat.old.seen node ≤ word_of result }
+        ensures others { seat.new.seen ≡ with_seen seat.old.seen node (word_of result) }
         ensures fronts { AreFronts L.log seat.new.seen }
     {
-        let word = self.table.shared.load::<Loads<L>>(&mut seat.token, node);
+        let table = &self.table.shared;
+        let word = table.load::<Loads<L>>(&mut seat.token, node - 1);
         LogFront::of_word(word)
     }
 
@@ -87,7 +88,8 @@ impl<L: LogName> Board<L> {
         ensures own { seat.new.board ≡ seat.old.board }
         ensures answer { IsNthGreatest need seat.new.seen (word_of result) }
         ensures front { IsLogFront L.log result.epoch result.number }
-        ensures grows { (node : ℕ) → slice_index seat.old.seen node ≤ slice_index seat.new.seen node }
+        ensures grows { (node : ℕ) → seen_of seat.old.seen node ≤ seen_of seat.new.seen node }
+        ensures reached { IsReachedBy L.log need seat.new.seen (word_of result) }
         ensures length { length seat.new.seen ≡ self.now.words }
         ensures fronts { AreFronts L.log seat.new.seen }
     {
@@ -112,7 +114,7 @@ impl<L: LogName> Board<L> {
         let mut made = Vec::new(alloc);
         for _ in 0..seats {
             let words = vec![in alloc; 0u64; nodes]?;
-            let token = table.shared.split_seat::<Same>(&mut first);
+            let token = table.shared.split_seat::<BothKeep>(&mut first);
             made.push(Seat {
                 token,
                 words,

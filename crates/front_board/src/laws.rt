@@ -7,7 +7,7 @@ pub fn words_in_order()
     ensures { WordsInOrder }
 {}
 
-/// At every moment from a quorum's look on, at least `need` words have reached its answer: words only grow.
+/// At every moment from a quorum's look on, at least `need` words have reached its answer, by the board's rule.
 pub fn quorum_has_reached()
     ensures { QuorumHasReached }
 {}

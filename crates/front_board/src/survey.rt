@@ -3,16 +3,16 @@ ghost use Rattle.front_board.specs.FrontWord.{IsFrontWord, AreFronts};
 ghost use Rattle.front_board.specs.Survey.{IsSurveyed};
 ghost use Rattle.front_board.specs.NthGreatest.{IsNthGreatest};
 
-use crate::rule::{Known, Loads, Token, WordsAreFronts};
+use crate::rule::{Loads, SeenWords, TableSeat, WordsAreFronts};
 use atomic_table::Shared;
 use named_log::LogName;
 
-type Words<L> = Shared<(), Known, usize, WordsAreFronts<L>>;
+type Words<L> = Shared<(), SeenWords, usize, WordsAreFronts<L>>;
 
 /// Loads each word once, in order, and picks the `need`-th greatest.
 pub(crate) fn survey<L: LogName>(
     table: &Words<L>,
-    token: &mut Token,
+    token: &mut TableSeat,
     words: &mut [u64],
     need: usize,
 ) -> u64
@@ -31,7 +31,7 @@ pub(crate) fn survey<L: LogName>(
     nth_greatest(words, need)
 }
 
-fn load_all<L: LogName>(table: &Words<L>, token: &mut Token, words: &mut [u64])
+fn load_all<L: LogName>(table: &Words<L>, token: &mut TableSeat, words: &mut [u64])
     requires own { token.old.table_id ≡ table.now.table_id }
     requires count { (length words.old ≡ table.now.table_id.words) × (length token.old.me.0 ≡ table.now.table_id.words) }
     requires fronts { AreFronts L.log token.old.me.0 }

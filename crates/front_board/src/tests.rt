@@ -1,4 +1,5 @@
-ghost use Rattle.std.specs.Prelude.{◌≡◌, ◌<◌, ◌≤◌};
+ghost use Rattle.std.specs.Prelude.{◌≡◌, ◌≤◌};
+ghost use Rattle.front_board.specs.Seat.{IsNode};
 
 use crate::board::{Board, Seat};
 use crate::fronts::LogFront;
@@ -60,20 +61,20 @@ fn rows_of_the_board(rt: HostRuntime) -> Result<(), Fail> {
         mut a,
         mut b,
     } = opened;
-    board.publish(&mut a, 0, early(2));
-    board.publish(&mut a, 0, late(1));
-    board.publish(&mut a, 0, early(2));
-    assert!(rt; is(board.front(&mut b, 0), 1, 1));
     board.publish(&mut a, 1, early(2));
+    board.publish(&mut a, 1, late(1));
+    board.publish(&mut a, 1, early(2));
+    assert!(rt; is(board.front(&mut b, 1), 1, 1));
     board.publish(&mut a, 2, early(2));
-    board.publish(&mut a, 3, early(1));
+    board.publish(&mut a, 3, early(2));
+    board.publish(&mut a, 4, early(1));
     assert!(rt; is(board.quorum(&mut b, 1), 1, 1));
     assert!(rt; is(board.quorum(&mut b, 2), 0, 2));
     assert!(rt; is(board.quorum(&mut b, 3), 0, 2));
     assert!(rt; is(board.quorum(&mut b, 4), 0, 1));
     assert!(rt; is(board.quorum(&mut b, 5), 0, 0));
     assert!(rt; is(board.quorum(&mut b, 6), 0, 0));
-    board.publish(&mut a, 5, last());
+    board.publish(&mut a, 6, last());
     assert!(rt; is(board.quorum(&mut b, 1), 1, 11));
     assert!(rt; is(board.quorum(&mut b, 2), 1, 1));
     Ok(())
@@ -89,12 +90,12 @@ fn one_seat_publishes_and_another_reads(rt: HostRuntime) -> Result<(), Fail> {
         mut a,
         mut b,
     } = opened;
+    assert!(rt; is(board.front(&mut b, 5), 0, 0));
+    board.publish(&mut a, 5, early(1));
+    assert!(rt; is(board.front(&mut b, 5), 0, 1));
+    board.publish(&mut a, 5, last());
+    assert!(rt; is(board.front(&mut b, 5), 1, 11));
     assert!(rt; is(board.front(&mut b, 4), 0, 0));
-    board.publish(&mut a, 4, early(1));
-    assert!(rt; is(board.front(&mut b, 4), 0, 1));
-    board.publish(&mut a, 4, last());
-    assert!(rt; is(board.front(&mut b, 4), 1, 11));
-    assert!(rt; is(board.front(&mut b, 3), 0, 0));
     Ok(())
 }
 
@@ -106,7 +107,7 @@ fn publish_and_look(
     front: LogFront<Named>,
 ) -> (LogFront<Named>, LogFront<Named>)
     requires own { seat.old.board ≡ board.now }
-    requires node { node < board.now.words }
+    requires node { IsNode board.now.words node }
     ensures { seat.new.board ≡ seat.old.board }
 {
     board.publish(seat, node, front);
@@ -121,7 +122,7 @@ fn fronts_are_copied_and_ordered(rt: HostRuntime) -> Result<(), Fail> {
     };
     let Opened { board, mut a, b: _ } = opened;
     let front = early(2);
-    let (reached, greatest) = publish_and_look(&board, &mut a, 3, front);
+    let (reached, greatest) = publish_and_look(&board, &mut a, 4, front);
     assert!(rt; reached == front && greatest == front);
     assert!(rt; early(1) < front && front < late(0) && late(1) < last());
     Ok(())
@@ -134,7 +135,7 @@ fn published(
     front: LogFront<Named>,
 ) -> Seat<Named>
     requires own { seat.board ≡ board.now }
-    requires node { node < board.now.words }
+    requires node { IsNode board.now.words node }
     ensures { result.board ≡ seat.board }
 {
     publish_and_look(board, &mut seat, node, front);
@@ -153,13 +154,13 @@ fn two_threads_with_a_seat_each(rt: HostRuntime) -> Result<(), Fail> {
         move ||
             requires { (a.board ≡ shared.now) × (shared.now.words ≡ 6) }
             ensures { result.board ≡ shared.entry.now }
-        { published(shared, a, 0, late(1)) },
+        { published(shared, a, 1, late(1)) },
         move ||
             requires { (b.board ≡ shared.now) × (shared.now.words ≡ 6) }
             ensures { result.board ≡ shared.entry.now }
-        { published(shared, b, 5, last()) },
+        { published(shared, b, 6, last()) },
     );
-    assert!(rt; is(board.front(&mut one, 5), 1, 11));
+    assert!(rt; is(board.front(&mut one, 6), 1, 11));
     assert!(rt; is(board.quorum(&mut other, 1), 1, 11));
     assert!(rt; is(board.quorum(&mut other, 2), 1, 1));
     assert!(rt; is(board.quorum(&mut other, 3), 0, 0));

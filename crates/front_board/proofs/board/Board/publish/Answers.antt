@@ -1,4 +1,4 @@
-use Rattle.std.proofs.Common.{rules, ap, max}
+use Rattle.std.proofs.Common.{rules, ap, max, ◌-◌}
 use Rattle.front_board.proofs.Steps.{raise_keeps, max_above, max_is_front, publishes, fronts_after_raise}
 use Rattle.front_board.specs.FrontWord.{word_of}
 use Rattle.front_board.specs.Seat.{SeatData}
@@ -10,7 +10,7 @@ fetch_max-requires g c = (search rules, search rules, raise_keeps g.L.LogName.lo
 pub invariant_of-seat : goal.invariant_of-seat
 invariant_of-seat g c =
     let step = c.fetch_max.ensures.2 in
-    (search rules, search rules, search rules, fronts_after_raise g.L.LogName.log c.seat.inside.token.me.0 c.fetch_max.new.seat.me.0 c.args.node c.word.result c.fetch_max.result c.seat.invariant.3 c.word.ensures.front step.0 (ap (λ m. m.0) step.2))
+    (search rules, search rules, search rules, fronts_after_raise g.L.LogName.log c.seat.inside.token.me.0 c.fetch_max.new.seat.me.0 (c.args.node - 1) c.word.result c.fetch_max.result c.seat.invariant.3 c.word.ensures.front step.0 (ap (λ m. m.0) step.2))
 
 pub returns-clause-raised : goal.returns-clause-raised
 returns-clause-raised g c =
@@ -20,4 +20,4 @@ returns-clause-raised g c =
 pub returns-clause-fronts : goal.returns-clause-fronts
 returns-clause-fronts g c =
     let step = c.fetch_max.ensures.2 in
-    fronts_after_raise g.L.LogName.log c.seat.inside.token.me.0 c.fetch_max.new.seat.me.0 c.args.node c.word.result c.fetch_max.result c.seat.invariant.3 c.word.ensures.front step.0 (ap (λ m. m.0) step.2)
+    fronts_after_raise g.L.LogName.log c.seat.inside.token.me.0 c.fetch_max.new.seat.me.0 (c.args.node - 1) c.word.result c.fetch_max.result c.seat.invariant.3 c.word.ensures.front step.0 (ap (λ m. m.0) step.2)
