@@ -5,9 +5,10 @@ use Rattle.std.specs.List.{Contains, All, filter, filter_map}
 use Rattle.std.proofs.lemmas.List.Elements.{All-contains}
 use Rattle.std.proofs.lemmas.Bool.Decides.{nat_tests}
 use Rattle.redo_core.specs.Data.{RecordData, CutData}
-use Rattle.redo_core.specs.Sets.{cuts, as_cut}
+use Rattle.redo_core.specs.Sets.{cuts, advances, as_cut}
 use Rattle.redo_core.specs.CompleteEpoch.{HasCutsTo, IsCompleteEpoch}
 use Rattle.redo_core.specs.Standing.{IsAlive}
+use Rattle.redo_core.specs.Past.{ArePast}
 use Rattle.redo_core.specs.Sound.{first_cuts, counted, Law2}
 use Rattle.redo_core.specs.declared.facts.Fact.{Fact}
 use Rattle.redo_core.specs.declared.facts.Fact.TheVariants.{Record, Cut, Advance}
@@ -64,8 +65,8 @@ all_counted_spare log v e n l all = record {
   spared = λ c h q m. (All-contains (IsSparedIfCounted log v e n) log (Cut c) all (counted_fact log c h) h).1 q m;
 }
 
-pub all_counted_above : (log : List Fact) (e p : ℕ) → All (IsAboveIfCounted log e p) log → (c : CutData) → Contains (counted log) c → e < c.epoch → p ≤ c.lo
-all_counted_above log e p all c h l = All-contains (IsAboveIfCounted log e p) log (Cut c) all (counted_fact log c h) h l
+pub all_counted_above : (roster : ℕ) (log : List Fact) (e p : ℕ) → All (IsAboveIfCounted roster log e p) log → (c : CutData) → Contains (counted log) c → e < c.epoch → ArePast roster (advances log) c → p ≤ c.lo
+all_counted_above roster log e p all c h l past = All-contains (IsAboveIfCounted roster log e p) log (Cut c) all (counted_fact log c h) h l past
 
 -- an epoch has begun where it is not above the complete epoch
 pub begun : (log : List Fact) (k e : ℕ) → IsCompleteEpoch (cuts log) k → e ≤ k → HasCutsTo (counted log) e

@@ -5,7 +5,7 @@ use Rattle.std.proofs.lemmas.List.Elements.{All-contains}
 use Rattle.redo_core.specs.Sound.{SameKey, Law1}
 use Rattle.redo_core.specs.declared.facts.Fact.{Fact}
 use Rattle.plain_model.proofs.Scanned.{IsSameOfKey}
-use Rattle.plain_model.proofs.Scans.{item}
+use Rattle.redo_core.proofs.Members.{item}
 
 pub only_of_key : (earlier : List Fact) (fact : Fact) → All (IsSameOfKey fact) earlier → Law1 earlier fact
 only_of_key earlier fact all f h key = All-contains (IsSameOfKey fact) earlier f all h key

@@ -7,3 +7,5 @@ pub mod Keys
 pub mod Laws
 pub mod PageScans
 pub mod PageSteps
+mod ReadersPoints
+mod Coverings

@@ -11,7 +11,7 @@ use Rattle.redo_core.specs.declared.facts.Fact.{Fact}
 use Rattle.redo_core.specs.declared.facts.Fact.TheVariants.{Record, Cut, Advance}
 use Rattle.redo_core.proofs.FactParts.{record_in, cut_in}
 use Rattle.redo_core.proofs.Scans.{one_more}
-use Rattle.plain_model.proofs.Scans.{item}
+use Rattle.redo_core.proofs.Members.{item}
 use Rattle.plain_model.specs.Helpers.{SparesIn, IsWithin, IsLinkedWithin}
 use Rattle.plain_model.proofs.Scanned.{IsSpared, LinksNot, LinksUpTo}
 

@@ -11,7 +11,7 @@ use Rattle.redo_core.proofs.FactParts.{record_in}
 use Rattle.plain_model.specs.PageRecords.{IsPageRecord, StandsInPage, IsNextRecord, HasNoNext}
 use Rattle.plain_model.proofs.Scanned.{IsReached}
 use Rattle.redo_core.proofs.Scans.{one_more}
-use Rattle.plain_model.proofs.Scans.{item}
+use Rattle.redo_core.proofs.Members.{item}
 
 pub page_record : (facts : List Fact) (k g q : ℕ) (r : RecordData) → Contains (records facts) r → StandsInPage facts k g q r → IsPageRecord facts k g q r
 page_record facts k g q r h s = (record { among = h; alive = s.alive; linked = s.linked }, s.page, s.within)

@@ -81,7 +81,7 @@ page_end facts k g q from image none p = record {
 }
 
 -- in a part of a sound log two alive records never share a number
-pub once_if_sound : (log facts : List Fact) (k g q : ℕ) → IsSound log → IsPart facts log → HasCutsTo (cuts facts) k → HasNumbersOnce facts k g q
-once_if_sound log facts k g q sound part has r s pr ps e =
-    let is = log_of_sound log sound in
+pub once_if_sound : (roster : ℕ) (log facts : List Fact) (k g q : ℕ) → IsSound roster log → IsPart facts log → HasCutsTo (cuts facts) k → HasNumbersOnce facts k g q
+once_if_sound roster log facts k g q sound part has r s pr ps e =
+    let is = log_of_sound roster log sound in
     alone log is k (λ n low high. let c = has n low high in (c.0, part_cuts facts log part c.0 c.1, c.2)) r s (part_records facts log part r pr.0.among) (part_records facts log part s ps.0.among) (alive_up log facts is part k r.epoch r.number has pr.0.alive) (alive_up log facts is part k s.epoch s.number has ps.0.alive) e

@@ -1,10 +1,11 @@
 -- What a scan of a list of facts has seen of one fact.
 use Rattle.std.proofs.Common.{◌≡◌, ◌≢◌, ℕ, ◌<◌, ◌≤◌, List, Option}
 use Rattle.std.specs.List.{Contains}
-use Rattle.redo_core.specs.Data.{RecordData}
-use Rattle.redo_core.specs.Sets.{cuts}
+use Rattle.redo_core.specs.Data.{RecordData, CutData}
+use Rattle.redo_core.specs.Sets.{cuts, advances}
 use Rattle.redo_core.specs.Standing.{IsAlive}
 use Rattle.redo_core.specs.Linked.{IsLinked}
+use Rattle.redo_core.specs.Past.{ArePast}
 use Rattle.redo_core.specs.Sound.{counted, SameKey}
 use Rattle.redo_core.specs.declared.facts.Fact.{Fact}
 use Rattle.redo_core.specs.declared.facts.Fact.TheVariants.{Record, Cut, Advance}
@@ -19,11 +20,17 @@ IsOther epoch (Record r) = Unit {0}
 IsOther epoch (Cut c) = c.epoch ≢ epoch
 IsOther epoch (Advance a) = Unit {0}
 
--- the fact is no advance of an epoch up to this one with a point above this one
-abbrev pub IsUpTo : ℕ → ℕ → Fact → Type 0
-IsUpTo epoch point (Record r) = Unit {0}
-IsUpTo epoch point (Cut c) = Unit {0}
-IsUpTo epoch point (Advance a) = a.epoch ≤ epoch → a.point ≤ point
+-- the fact is no advance of the reader, of an epoch up to this one, with a point above this one
+abbrev pub IsUpTo : ℕ → ℕ → ℕ → Fact → Type 0
+IsUpTo epoch reader point (Record r) = Unit {0}
+IsUpTo epoch reader point (Cut c) = Unit {0}
+IsUpTo epoch reader point (Advance a) = a.reader ≡ reader → a.epoch ≤ epoch → a.point ≤ point
+
+-- the fact is no advance by which the reader is past a truncation
+abbrev pub LeavesBehind : CutData → ℕ → Fact → Type 0
+LeavesBehind c reader (Record r) = Unit {0}
+LeavesBehind c reader (Cut d) = Unit {0}
+LeavesBehind c reader (Advance a) = a.reader ≡ reader → a.epoch < c.epoch → c.lo < a.point → ⊥
 
 abbrev pub IsSpared : ℕ → ℕ → ℕ → Fact → Type 0
 IsSpared view epoch number (Record r) = Unit {0}
@@ -48,11 +55,11 @@ IsSparedIfCounted log view epoch number (Record r) = Unit {0}
 IsSparedIfCounted log view epoch number (Cut c) = Contains (counted log) c → SparesIn view epoch number c
 IsSparedIfCounted log view epoch number (Advance a) = Unit {0}
 
--- a truncation that counts, of a later epoch, does not cut below a point
-abbrev pub IsAboveIfCounted : List Fact → ℕ → ℕ → Fact → Type 0
-IsAboveIfCounted log epoch point (Record r) = Unit {0}
-IsAboveIfCounted log epoch point (Cut c) = Contains (counted log) c → epoch < c.epoch → point ≤ c.lo
-IsAboveIfCounted log epoch point (Advance a) = Unit {0}
+-- a truncation that counts, of a later epoch, does not cut below a point where all readers are past it
+abbrev pub IsAboveIfCounted : ℕ → List Fact → ℕ → ℕ → Fact → Type 0
+IsAboveIfCounted roster log epoch point (Record r) = Unit {0}
+IsAboveIfCounted roster log epoch point (Cut c) = Contains (counted log) c → epoch < c.epoch → ArePast roster (advances log) c → point ≤ c.lo
+IsAboveIfCounted roster log epoch point (Advance a) = Unit {0}
 
 -- the fact is no record below r on a chain with a number above this one
 abbrev pub IsBelowUpTo : List Fact → RecordData → Chain → ℕ → Fact → Type 0

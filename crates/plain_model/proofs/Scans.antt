@@ -4,17 +4,15 @@ use Rattle.std.specs.List.{Contains, All}
 use Rattle.std.proofs.lemmas.List.Elements.{All-contains}
 use Rattle.redo_core.specs.Data.{RecordData, CutData, AdvanceData}
 use Rattle.redo_core.specs.Sets.{records, cuts, advances}
-use Rattle.redo_core.specs.Position.{HasAdvance}
+use Rattle.redo_core.specs.Points.{HasAdvance}
+use Rattle.redo_core.specs.Past.{IsPast}
 use Rattle.redo_core.specs.declared.facts.Fact.{Fact}
 use Rattle.redo_core.specs.declared.facts.Fact.TheVariants.{Record, Cut, Advance}
 use Rattle.redo_core.proofs.Scans.{one_more}
+use Rattle.redo_core.proofs.Members.{item}
 use Rattle.redo_core.proofs.FactParts.{cut_in, advance_in}
 use Rattle.plain_model.specs.Helpers.{HasCut}
-use Rattle.plain_model.proofs.Scanned.{IsOther, IsUpTo}
-
--- the element at an index
-pub item : (facts : List Fact) (i : ℕ) (f : Fact) → i < length facts → f ≡ get_or facts i f → Contains facts f
-item facts i f l e = (i, l, sym e)
+use Rattle.plain_model.proofs.Scanned.{IsOther, IsUpTo, LeavesBehind}
 
 pub cut_item : (facts : List Fact) (i : ℕ) (f : Fact) (c : CutData) → i < length facts → f ≡ get_or facts i f → f ≡ Cut c → Contains (cuts facts) c
 cut_item facts i f c l e q = (cut_in facts c).1 (subst (Contains facts) q (item facts i f l e))
@@ -25,16 +23,19 @@ advance_item facts i f a l e q = (advance_in facts a).1 (subst (Contains facts) 
 pub no_cut : (facts : List Fact) (e : ℕ) → All (IsOther e) facts → HasCut (cuts facts) e → ⊥
 no_cut facts e all h = All-contains (IsOther e) facts (Cut h.0) all ((cut_in facts h.0).0 h.1) h.2
 
-pub up_to : (facts : List Fact) (e p : ℕ) → All (IsUpTo e p) facts → (m : ℕ) → HasAdvance (advances facts) e m → m ≤ p
-up_to facts e p all m h = let t : h.0.point ≤ p = All-contains (IsUpTo e p) facts (Advance h.0) all ((advance_in facts h.0).0 h.1) h.2 in let q : h.0.point ≡ m = h.3 in omega arith
+pub up_to : (facts : List Fact) (e r p : ℕ) → All (IsUpTo e r p) facts → (m : ℕ) → HasAdvance (advances facts) e r m → m ≤ p
+up_to facts e r p all m h = let t : h.0.point ≤ p = All-contains (IsUpTo e r p) facts (Advance h.0) all ((advance_in facts h.0).0 h.1) h.3 h.2 in let q : h.0.point ≡ m = h.4 in omega arith
 
-higher_at : (e p q : ℕ) → p ≤ q → (f : Fact) → IsUpTo e p f → IsUpTo e q f
-higher_at e p q l (Record r) h = tt
-higher_at e p q l (Cut c) h = tt
-higher_at e p q l (Advance a) h = λ u. let t : a.point ≤ p = h u in omega arith
+pub not_past : (facts : List Fact) (c : CutData) (reader : ℕ) → All (LeavesBehind c reader) facts → IsPast (advances facts) c reader → ⊥
+not_past facts c reader all h = All-contains (LeavesBehind c reader) facts (Advance h.0) all ((advance_in facts h.0).0 h.1) h.2 h.3 h.4
 
-pub higher : (xs : List Fact) (e p q : ℕ) → p ≤ q → All (IsUpTo e p) xs → All (IsUpTo e q) xs
-higher xs e p q l all k d u = higher_at e p q l (get_or xs k d) (all k d u)
+higher_at : (e r p q : ℕ) → p ≤ q → (f : Fact) → IsUpTo e r p f → IsUpTo e r q f
+higher_at e r p q l (Record s) h = tt
+higher_at e r p q l (Cut c) h = tt
+higher_at e r p q l (Advance a) h = λ s u. let t : a.point ≤ p = h s u in omega arith
+
+pub higher : (xs : List Fact) (e r p q : ℕ) → p ≤ q → All (IsUpTo e r p) xs → All (IsUpTo e r q) xs
+higher xs e r p q l all k d u = higher_at e r p q l (get_or xs k d) (all k d u)
 
 pub other_cut : (e : ℕ) (f : Fact) (c : CutData) → f ≡ Cut c → c.epoch ≢ e → IsOther e f
 other_cut e f c q ne = subst (IsOther e) (sym q) ne
@@ -44,19 +45,14 @@ other_default e (Record r) h = tt
 other_default e (Cut c) h = absurd (h c refl)
 other_default e (Advance a) h = tt
 
-pub up_advance : (e p : ℕ) (f : Fact) (a : AdvanceData) → f ≡ Advance a → (a.epoch ≤ e → a.point ≤ p) → IsUpTo e p f
-up_advance e p f a q h = subst (IsUpTo e p) (sym q) h
+pub up_advance : (e r p : ℕ) (f : Fact) (a : AdvanceData) → f ≡ Advance a → (a.reader ≡ r → a.epoch ≤ e → a.point ≤ p) → IsUpTo e r p f
+up_advance e r p f a q h = subst (IsUpTo e r p) (sym q) h
 
-pub up_default : (e p : ℕ) (f : Fact) → ((a : AdvanceData) → f ≡ Advance a → ⊥) → IsUpTo e p f
-up_default e p (Record r) h = tt
-up_default e p (Cut c) h = tt
-up_default e p (Advance a) h = absurd (h a refl)
-
--- a step that leaves the minimum
-pub min_step : (xs : List Fact) (i : ℕ) (f : Fact) (e m n : ℕ) → i < length xs → f ≡ get_or xs i f → n ≡ m → (m ≡ 0) ⊎ HasAdvance (advances xs) e m → All (IsUpTo e m) (take i xs) → IsUpTo e m f → (let T : Type 0 = record { there : (n ≡ 0) ⊎ HasAdvance (advances xs) e n; top : All (IsUpTo e n) (take (i + 1) xs) } in T)
-min_step xs i f e m n l q same there top up = record {
-  there = subst (λ k. (k ≡ 0) ⊎ HasAdvance (advances xs) e k) (sym same) there;
-  top = subst (λ k. All (IsUpTo e k) (take (i + 1) xs)) (sym same) (one_more (IsUpTo e m) xs i f l q top up);
+-- a step that leaves the reader's point
+pub point_step : (xs : List Fact) (i : ℕ) (f : Fact) (e r m n : ℕ) → i < length xs → f ≡ get_or xs i f → n ≡ m → (m ≡ 0) ⊎ HasAdvance (advances xs) e r m → All (IsUpTo e r m) (take i xs) → IsUpTo e r m f → (let T : Type 0 = record { there : (n ≡ 0) ⊎ HasAdvance (advances xs) e r n; top : All (IsUpTo e r n) (take (i + 1) xs) } in T)
+point_step xs i f e r m n l q same there top up = record {
+  there = subst (λ k. (k ≡ 0) ⊎ HasAdvance (advances xs) e r k) (sym same) there;
+  top = subst (λ k. All (IsUpTo e r k) (take (i + 1) xs)) (sym same) (one_more (IsUpTo e r m) xs i f l q top up);
 }
 
 -- a fact that is no truncation, for a property of truncations alone
@@ -70,3 +66,9 @@ pub record_default : (P : Fact → Type 0) (f : Fact) → ((c : CutData) → P (
 record_default P (Record r) cuts advances h = absurd (h r refl)
 record_default P (Cut c) cuts advances h = cuts c
 record_default P (Advance a) cuts advances h = advances a
+
+-- a fact that is no advance, for a property of advances alone
+pub advance_default : (P : Fact → Type 0) (f : Fact) → ((r : RecordData) → P (Record r)) → ((c : CutData) → P (Cut c)) → ((a : AdvanceData) → f ≡ Advance a → ⊥) → P f
+advance_default P (Record r) records cuts h = records r
+advance_default P (Cut c) records cuts h = cuts c
+advance_default P (Advance a) records cuts h = absurd (h a refl)

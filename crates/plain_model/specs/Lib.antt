@@ -3,3 +3,4 @@ pub mod Stands
 pub mod Chained
 pub mod FoundFault
 pub mod PageRecords
+pub mod Comparing

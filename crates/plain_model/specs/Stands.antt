@@ -15,4 +15,4 @@ StandsAs cs k epoch number Dead = IsDead cs k epoch number
 
 -- the numbers of an answer
 abbrev pub position_of : Answered → Position
-position_of p = record { epoch = p.epoch; complete = p.complete; min = p.min; anchor = p.anchor }
+position_of p = record { epoch = p.epoch; complete = p.complete; points = p.points.items; min = p.min; anchor = p.anchor }

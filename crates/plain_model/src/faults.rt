@@ -1,6 +1,8 @@
 ghost use Rattle.std.specs.Prelude.{◌≡◌, ℕ, ◌-◌, ◌<◌, ◌≤◌, ◌↔◌, IsTrue, IsNone, IfSome, None, length, take};
 ghost use Rattle.std.specs.List.{Contains};
 ghost use Rattle.redo_core.specs.Data.{CutData};
+ghost use Rattle.redo_core.specs.Sets.{advances};
+ghost use Rattle.redo_core.specs.Past.{ArePast};
 ghost use Rattle.redo_core.specs.Shape.{record_fault, cut_fault, advance_fault};
 ghost use Rattle.redo_core.specs.CompleteEpoch.{HasCutsTo};
 ghost use Rattle.redo_core.specs.Sound.{counted, IsSound, Law1, Law2, Law5};
@@ -11,16 +13,18 @@ ghost use Rattle.plain_model.specs.FoundFault.{FindsFault};
 use crate::chains::Chain;
 use crate::counted::{are_same, greatest_below, is_alive_by_counted, is_counted};
 use crate::epochs::complete_epoch;
-use redo_core::{Advance, Cut, Fact, Law, LawFault, Record};
+use crate::past::are_past;
+use redo_core::{Advance, Cut, Fact, Law, LawFault, Record, Roster};
 
 /// The least place of a log (from 1) that breaks a law, with the least law that it breaks. There is none exactly where the
 /// log is sound.
-pub fn first_fault(log: &[Fact]) -> Option<LawFault>
-    ensures sound { IsNone result ↔ IsSound log.now }
-    ensures fault { IfSome result (λ f. (0 < f.place) × IsFirstFault log.now (f.place - 1) f.law) }
+pub fn first_fault(log: &[Fact], roster: Roster) -> Option<LawFault>
+    ensures sound { IsNone result ↔ IsSound roster log.now }
+    ensures fault { IfSome result (λ f. (0 < f.place) × IsFirstFault roster log.now (f.place - 1) f.law) }
 {
+    let readers = roster.readers();
     for (place, fact) in log.iter().enumerate() {
-        if let Some(law) = broken_law(log, place, fact) {
+        if let Some(law) = broken_law(log, readers, place, fact) {
             return Some(LawFault {
                 law,
                 place: place as u64 + 1,
@@ -31,22 +35,22 @@ pub fn first_fault(log: &[Fact]) -> Option<LawFault>
 }
 
 // The least law that the fact at a place (from 0) breaks.
-fn broken_law(log: &[Fact], place: usize, fact: &Fact) -> Option<Law>
+fn broken_law(log: &[Fact], readers: u8, place: usize, fact: &Fact) -> Option<Law>
     requires { place ≤ length log.now }
-    ensures { FindsFault log.now place fact.now result }
+    ensures { FindsFault readers log.now place fact.now result }
 {
     let (earlier, _) = log.split_at(place);
     match fact {
         Fact::Record(redo) => broken_by_record(log, earlier, redo),
         Fact::Cut(cut) if is_only_cut(earlier, cut) => None,
         Fact::Cut(_) => Some(Law::OneFactPerKey),
-        Fact::Advance(advance) if is_kept(log, advance) => None,
+        Fact::Advance(advance) if is_kept(log, readers, advance) => None,
         Fact::Advance(_) => Some(Law::AdvanceKept),
     }
 }
 
 fn broken_by_record(log: &[Fact], earlier: &[Fact], redo: &Record) -> Option<Law>
-    ensures { (place : ℕ) → earlier.now ≡ take place log.now → FindsFault log.now place (TheRecord redo.now) result }
+    ensures { (roster place : ℕ) → earlier.now ≡ take place log.now → FindsFault roster log.now place (TheRecord redo.now) result }
 {
     if !is_only_record(earlier, redo) {
         return Some(Law::OneFactPerKey);
@@ -109,17 +113,21 @@ fn has_begun(log: &[Fact], redo: &Record) -> bool
     is_alive_by_counted(log, epoch, epoch, number)
 }
 
-// Whether an advance's epoch has begun, and no later truncation cuts below its point.
-fn is_kept(log: &[Fact], advance: &Advance) -> bool
-    ensures law { IsTrue result ↔ Law5 log.now (TheAdvance advance.now) }
+// Whether an advance's reader is one of so many, its epoch has begun, and no later truncation that all readers are past cuts
+// below its point.
+fn is_kept(log: &[Fact], readers: u8, advance: &Advance) -> bool
+    ensures law { IsTrue result ↔ Law5 readers log.now (TheAdvance advance.now) }
     ensures shape { advance_fault advance.now ≡ None }
 {
     let epoch = advance.epoch();
     let point = advance.point();
+    if advance.reader() > readers {
+        return false;
+    }
     if !is_begun(log, epoch) {
         return false;
     }
-    is_spared(log, epoch, point)
+    is_spared(log, readers, epoch, point)
 }
 
 // Whether the log has a truncation of each epoch up to this one.
@@ -129,13 +137,17 @@ fn is_begun(log: &[Fact], epoch: u16) -> bool
     epoch <= complete_epoch(log)
 }
 
-// Whether no truncation after an epoch cuts below a point.
-fn is_spared(log: &[Fact], epoch: u16, point: u64) -> bool
-    ensures { IsTrue result ↔ ((c : CutData) → Contains (counted log.now) c → epoch < c.epoch → point ≤ c.lo) }
+// Whether no truncation after an epoch that all readers are past cuts below a point.
+fn is_spared(log: &[Fact], readers: u8, epoch: u16, point: u64) -> bool
+    ensures { IsTrue result ↔ ((c : CutData) → Contains (counted log.now) c → epoch < c.epoch → ArePast readers (advances log.now) c → point ≤ c.lo) }
 {
     for fact in log {
         if let Fact::Cut(cut) = fact {
-            if cut.epoch() > epoch && cut.lo() < point && is_counted(log, cut) {
+            if cut.epoch() > epoch
+                && cut.lo() < point
+                && is_counted(log, cut)
+                && are_past(log, readers, cut)
+            {
                 return false;
             }
         }

@@ -1,28 +1,32 @@
 //! The plain model: a slow program for what a list of facts means, without state, index or order of arrival.
 //!
 //! Each call takes what its definition takes and computes it by looking through the facts: the complete epoch, standings,
-//! linked numbers, the complete point, the minimum read point, the anchor and pages, and the first fault of a log.
+//! linked numbers, the complete point, the readers' points and the least of them, the anchor and pages, the first fault of a
+//! log, and meanings compared.
 //! It holds for every list of facts, sound or not; only a page asks that its linked records have each number once. Faster
 //! programs are compared with it.
 #![tactic(auto)]
 
 mod chains;
+mod comparing;
 mod counted;
 mod epochs;
 mod faults;
 mod links;
 mod pages;
-mod points;
+mod past;
 mod positions;
+mod readers;
 mod standings;
 mod views;
 
+pub use comparing::{covers, same};
 pub use epochs::complete_epoch;
 pub use faults::first_fault;
 pub use links::{anchor, complete_point, is_linked};
 pub use pages::page_at;
-pub use points::min_point;
 pub use positions::position;
+pub use readers::{min_point, point, points};
 pub use standings::{is_alive, standing};
 pub use views::{Position, Standing};
 

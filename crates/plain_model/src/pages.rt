@@ -1,4 +1,4 @@
-ghost use Rattle.std.specs.Prelude.{◌<◌, ◌↔◌, List, IsTrue, IfOk, MatchOption};
+ghost use Rattle.std.specs.Prelude.{ℕ, ◌<◌, ◌↔◌, List, IsTrue, IfOk, MatchOption};
 ghost use Rattle.redo_core.specs.Sets.{cuts, IsPart};
 ghost use Rattle.redo_core.specs.CompleteEpoch.{HasCutsTo};
 ghost use Rattle.redo_core.specs.PageAt.{IsPageAt};
@@ -23,7 +23,7 @@ pub fn page_at(
     point: u64,
 ) -> Result<Page, AllocError>
     ensures page { HasNumbersOnce facts.now view page point → IfOk result (IsPageAt facts.now view page point) }
-    ensures sound { (log : List TheFact) → IsSound log → IsPart facts.now log → HasCutsTo (cuts facts.now) view →
+    ensures sound { (roster : ℕ) (log : List TheFact) → IsSound roster log → IsPart facts.now log → HasCutsTo (cuts facts.now) view →
         IfOk result (IsPageAt facts.now view page point) }
 {
     let mut image = Page::zeros(alloc)?;

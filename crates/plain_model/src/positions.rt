@@ -1,22 +1,26 @@
+ghost use Rattle.std.specs.Prelude.{IfOk};
 ghost use Rattle.redo_core.specs.Position.{IsPosition};
 ghost use Rattle.plain_model.specs.Stands.{position_of};
 
 use crate::epochs::complete_epoch;
 use crate::links::{anchor, complete_point};
-use crate::points::min_point;
+use crate::readers::{min_point, points};
 use crate::views::Position;
-use redo_core::Fact;
+use redo_core::{Fact, Roster};
+use std::alloc::{AllocError, Global};
 
-/// Where the facts stand in the view of their complete epoch.
-pub fn position(facts: &[Fact]) -> Position
-    ensures { IsPosition facts.now (position_of result) }
+/// Where the facts stand in the view of their complete epoch. Its only error is want of memory.
+pub fn position(alloc: Global, facts: &[Fact], roster: Roster) -> Result<Position, AllocError>
+    ensures { IfOk result (λ p. IsPosition roster facts.now (position_of p)) }
 {
     let epoch = complete_epoch(facts);
-    let min = min_point(facts, epoch);
-    Position {
+    let points = points(alloc, facts, roster, epoch)?;
+    let min = min_point(&points);
+    Ok(Position {
         epoch,
         complete: complete_point(facts, epoch),
+        points,
         min,
         anchor: anchor(facts, epoch, min),
-    }
+    })
 }

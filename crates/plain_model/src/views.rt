@@ -10,13 +10,15 @@ pub enum Standing {
 }
 
 /// The numbers of a set of facts.
-#[derive(Clone, Copy, Debug, PartialEq, Eq)]
+#[derive(Debug, PartialEq, Eq, Drop)]
 pub struct Position {
     /// The complete epoch.
     pub epoch: u16,
     /// The complete point: the greatest linked number.
     pub complete: u64,
-    /// The minimum read point.
+    /// Each reader's point, by reader.
+    pub points: Vec<u64>,
+    /// The minimum read point: the least of the points.
     pub min: u64,
     /// The greatest linked number that is not above the minimum read point.
     pub anchor: u64,

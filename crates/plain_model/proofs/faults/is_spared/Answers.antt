@@ -5,20 +5,21 @@ use Rattle.redo_core.proofs.Scans.{whole, one_more}
 use Rattle.plain_model.proofs.Scans.{cut_default}
 use Rattle.plain_model.proofs.CountedCuts.{all_counted_above}
 use Rattle.plain_model.proofs.faults.is_spared.Goals as goal
-use Rattle.plain_model.proofs.faults.is_spared.Goals.{in-Cut+else-epoch, else-epoch-via-then-epoch+then-lo-point+else-is_counted, else-epoch-via-then-epoch+else-lo-point, else-epoch-via-else-epoch, in_default}
+use Rattle.plain_model.proofs.faults.is_spared.Goals.{in-Cut+else-epoch, else-epoch-via-then-epoch+then-lo-point+then-is_counted+else-are_past, else-epoch-via-then-epoch+then-lo-point+else-is_counted, else-epoch-via-then-epoch+else-lo-point, else-epoch-via-else-epoch, in_default}
 
-pub returns-then-is_counted : goal.returns-then-is_counted
-returns-then-is_counted c = (
+pub returns-then-are_past : goal.returns-then-are_past
+returns-then-are_past c = (
   λ h. absurd (cc),
-  λ spared. absurd (let l : c.args.point ≤ c.in-Cut.cut.lo = spared c.in-Cut.cut (c.if-is_counted.ensures.0 refl) (omega arith) in omega arith),
+  λ spared. absurd (let l : c.args.point ≤ c.in-Cut.cut.lo = spared c.in-Cut.cut (c.if-is_counted.ensures.0 refl) (omega arith) (c.if-are_past.ensures.0 refl) in omega arith),
 )
 
 pub loop-fact-preserved : goal.loop-fact-preserved
 loop-fact-preserved c =
-    let P : Fact → Type 0 = IsAboveIfCounted c.args.log.now c.args.epoch c.args.point in
+    let P : Fact → Type 0 = IsAboveIfCounted c.args.readers c.args.log.now c.args.epoch c.args.point in
     one_more P c.args.log.now c.loop-fact.fact-index c.fact-item.result c.loop-fact-test.true c.fact-item.is c.loop-fact.invariant
     (elim c.match-fact.branch [
-      | in-Cut+else-epoch w ↦ subst P (sym w.in-Cut.is) (λ h l. elim w.else-epoch.branch [
+      | in-Cut+else-epoch w ↦ subst P (sym w.in-Cut.is) (λ h l past. elim w.else-epoch.branch [
+        | else-epoch-via-then-epoch+then-lo-point+then-is_counted+else-are_past u ↦ absurd (let t : IsTrue false = u.if-are_past.ensures.1 past in cc)
         | else-epoch-via-then-epoch+then-lo-point+else-is_counted u ↦ absurd (let t : IsTrue false = u.if-is_counted.ensures.1 h in cc)
         | else-epoch-via-then-epoch+else-lo-point u ↦ omega arith
         | else-epoch-via-else-epoch u ↦ omega arith
@@ -27,4 +28,4 @@ loop-fact-preserved c =
     ])
 
 pub returns : goal.returns
-returns c = (λ h. all_counted_above c.args.log.now c.args.epoch c.args.point (whole (IsAboveIfCounted c.args.log.now c.args.epoch c.args.point) c.args.log.now c.loop-fact.fact-index c.loop-fact-test.false c.loop-fact.invariant), λ h. refl)
+returns c = (λ h. all_counted_above c.args.readers c.args.log.now c.args.epoch c.args.point (whole (IsAboveIfCounted c.args.readers c.args.log.now c.args.epoch c.args.point) c.args.log.now c.loop-fact.fact-index c.loop-fact-test.false c.loop-fact.invariant), λ h. refl)

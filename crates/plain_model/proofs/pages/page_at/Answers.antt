@@ -22,4 +22,4 @@ pub returns-clause-page : goal.returns-clause-page
 returns-clause-page c once = page_end c.args.facts.now c.args.view c.args.page c.args.point c.loop-redo.from c.loop-redo.image c.in_default.ensures (c.loop-redo.invariant once)
 
 pub returns-clause-sound : goal.returns-clause-sound
-returns-clause-sound c log sound part has = page_end c.args.facts.now c.args.view c.args.page c.args.point c.loop-redo.from c.loop-redo.image c.in_default.ensures (c.loop-redo.invariant (once_if_sound log c.args.facts.now c.args.view c.args.page c.args.point sound part has))
+returns-clause-sound c roster log sound part has = page_end c.args.facts.now c.args.view c.args.page c.args.point c.loop-redo.from c.loop-redo.image c.in_default.ensures (c.loop-redo.invariant (once_if_sound roster log c.args.facts.now c.args.view c.args.page c.args.point sound part has))
