@@ -1,5 +1,5 @@
 -- Where the block chain of a page is broken, by a walk down it.
-use Rattle.std.proofs.Common.{◌≡◌, ℕ, ◌<◌, ◌-◌, min, ◌≤◌, ◌⊎◌, ◌↔◌, inl, inr, ⊎_elim, List, Option, Some, None, Result, Ok, Err, refl, sym, ap, ◌∙◌, subst, arith, rules}
+use Rattle.std.proofs.Common.{◌≡◌, ℕ, false, ◌<◌, ◌-◌, min, ◌≤◌, ◌⊎◌, ◌↔◌, inl, inr, ⊎_elim, List, Option, Some, None, Result, Ok, Err, refl, sym, ap, ◌∙◌, subst, arith, rules}
 use Rattle.std.specs.List.{Contains}
 use Rattle.redo_core.specs.Data.{RecordData, CutData}
 use Rattle.redo_core.specs.Order.{BeforeByNumber}
@@ -20,7 +20,7 @@ use Rattle.redo_core.specs.Linked.Linked.{start as first, next}
 use Rattle.hot_log.specs.Held.{IsHeld}
 use Rattle.hot_log.specs.Alive.{IsHeldOf as IsHotOf, IsLinkedHeld}
 use Rattle.hot_log.specs.Found.{IsLeastRecord, IsGreatestRecord, IsOnlyRecord}
-use Rattle.segment_state.specs.State.{State, Store, version_of}
+use Rattle.segment_state.specs.State.{State, Store, min_of, version_of}
 use Rattle.segment_state.specs.Means.{MeansAt}
 use Rattle.segment_state.specs.Shows.{IsHeldOf}
 use Rattle.segment_state.specs.HasMeaning.{IsLinkedIn, HasComplete}
@@ -40,58 +40,67 @@ use Rattle.segment_core.proofs.Chain.{one_epoch}
 
 -- the one linked record of the page that r's block backlink leads to
 pub record IsBelow (s : State) (k page q : ℕ) (r below : RecordData) : Type 0 where
+  pub follows : r.init ≡ false
   pub above : version_of s.store page < r.block_back
   pub linked : IsLinkedOf s k page q below
   pub at : below.number ≡ r.block_back
   pub only : (other : RecordData) → IsLinkedOf s k page q other → other.number ≡ r.block_back → other ≡ below
 
 from_below : (s : State) (k page q : ℕ) (r below t : RecordData) → IsBelow s k page q r below → OnBlockChain s k page q below t → OnBlockChain s k page q r t
-from_below s k page q r below _ b start = down r below start b.above b.linked b.at
-from_below s k page q r below _ b (down m c on lt l e) = down m c (from_below s k page q r below m b on) lt l e
+from_below s k page q r below _ b start = down r below start b.follows b.above b.linked b.at
+from_below s k page q r below _ b (down m c on f lt l e) = down m c (from_below s k page q r below m b on) f lt l e
 
-to_below : (s : State) (k page q : ℕ) (r below t : RecordData) → IsBelow s k page q r below → OnBlockChain s k page q r t → (t ≡ r) ⊎ OnBlockChain s k page q below t
+to_below : (s : State) (k page q : ℕ) (r below t : RecordData) → IsBelow s k page q r below → OnBlockChain s k page q r t
+    → (t ≡ r) ⊎ OnBlockChain s k page q below t
 to_below s k page q r below _ b start = inl refl
-to_below s k page q r below _ b (down m c on lt l e) =
+to_below s k page q r below _ b (down m c on f lt l e) =
     ⊎_elim
     (λ (z : m ≡ r). let same : c ≡ below = b.only c l (e ∙ ap (λ (x : RecordData). x.block_back) z) in inr (subst (OnBlockChain s k page q below) (sym same) start))
-    (λ (h : OnBlockChain s k page q below m). inr (down m c h lt l e))
+    (λ (h : OnBlockChain s k page q below m). inr (down m c h f lt l e))
     (to_below s k page q r below m b on)
 
 -- the chain breaks from r on where it breaks from the record below r on
-pub breaks_below : (s : State) (k page q : ℕ) (r below : RecordData) (n : ℕ) → IsBelow s k page q r below → BreaksFrom s k page q r n ↔ BreaksFrom s k page q below n
+pub breaks_below : (s : State) (k page q : ℕ) (r below : RecordData) (n : ℕ) → IsBelow s k page q r below
+    → BreaksFrom s k page q r n ↔ BreaksFrom s k page q below n
 breaks_below s k page q r below n b = (
   λ h. ⊎_elim
       (λ (z : h.at ≡ r). absurd (h.nowhere below b.linked (b.at ∙ ap (λ (x : RecordData). x.block_back) (sym z))))
-      (λ (on : OnBlockChain s k page q below h.at). record { at = h.at; on = on; above = h.above; nowhere = h.nowhere; number = h.number })
+      (λ (on : OnBlockChain s k page q below h.at). record { at = h.at; on = on; follows = h.follows; above = h.above; nowhere = h.nowhere; number = h.number })
       (to_below s k page q r below h.at b h.on),
-  λ h. record { at = h.at; on = from_below s k page q r below h.at b h.on; above = h.above; nowhere = h.nowhere; number = h.number },
+  λ h. record { at = h.at; on = from_below s k page q r below h.at b h.on; follows = h.follows; above = h.above; nowhere = h.nowhere; number = h.number },
 )
 
 -- a record from which no step leads is the only one on the walk
-alone_on : (s : State) (k page q : ℕ) (r t : RecordData) → (version_of s.store page < r.block_back → (below : RecordData) → IsLinkedOf s k page q below → below.number ≡ r.block_back → ⊥) → OnBlockChain s k page q r t → t ≡ r
+alone_on : (s : State) (k page q : ℕ) (r t : RecordData)
+    → (r.init ≡ false → version_of s.store page < r.block_back → (below : RecordData) → IsLinkedOf s k page q below → below.number ≡ r.block_back → ⊥)
+    → OnBlockChain s k page q r t → t ≡ r
 alone_on s k page q r _ none start = refl
-alone_on s k page q r _ none (down m c on lt l e) =
+alone_on s k page q r _ none (down m c on f lt l e) =
     let z : m ≡ r = alone_on s k page q r m none on in
     let back : m.block_back ≡ r.block_back = ap (λ (x : RecordData). x.block_back) z in
-    absurd (none (omega arith) c l (e ∙ back))
+    absurd (none (subst (λ (x : RecordData). x.init ≡ false) z f) (omega arith) c l (e ∙ back))
 
 -- where r's block backlink leads nowhere, the chain breaks at r
-pub breaks_here : (s : State) (k page q : ℕ) (r : RecordData) (n : ℕ) → version_of s.store page < r.block_back → ((below : RecordData) → IsLinkedOf s k page q below → below.number ≡ r.block_back → ⊥) → (r.number ≡ n) ↔ BreaksFrom s k page q r n
-breaks_here s k page q r n lt none = (
-  λ e. record { at = r; on = start; above = lt; nowhere = none; number = e },
-  λ h. ap (λ (x : RecordData). x.number) (sym (alone_on s k page q r h.at (λ l. none) h.on)) ∙ h.number,
+pub breaks_here : (s : State) (k page q : ℕ) (r : RecordData) (n : ℕ) → r.init ≡ false → version_of s.store page < r.block_back
+    → ((below : RecordData) → IsLinkedOf s k page q below → below.number ≡ r.block_back → ⊥) → (r.number ≡ n) ↔ BreaksFrom s k page q r n
+breaks_here s k page q r n follows lt none = (
+  λ e. record { at = r; on = start; follows = follows; above = lt; nowhere = none; number = e },
+  λ h. ap (λ (x : RecordData). x.number) (sym (alone_on s k page q r h.at (λ f l. none) h.on)) ∙ h.number,
 )
 
--- where r's block backlink is in the image, the chain is whole from r on
-pub whole_from : (s : State) (k page q : ℕ) (r : RecordData) (n : ℕ) → r.block_back ≤ version_of s.store page → BreaksFrom s k page q r n → ⊥
+-- where r's block backlink is in the image, or r begins its page anew, the chain is whole from r on
+pub whole_from : (s : State) (k page q : ℕ) (r : RecordData) (n : ℕ) → (r.init ≡ false → r.block_back ≤ version_of s.store page) → BreaksFrom s k page q r n → ⊥
 whole_from s k page q r n le h =
-    let z : h.at ≡ r = alone_on s k page q r h.at (λ lt below l e. omega (arith, le, lt)) h.on in
+    let z : h.at ≡ r = alone_on s k page q r h.at (λ f lt below l e. let low = le f in omega (arith, low, lt)) h.on in
+    let low : r.block_back ≤ version_of s.store page = le (subst (λ (x : RecordData). x.init ≡ false) z h.follows) in
     let back : h.at.block_back ≡ r.block_back = ap (λ (x : RecordData). x.block_back) z in
     let lt : version_of s.store page < h.at.block_back = h.above in
     omega arith
 
 -- a chain that begins at r breaks where it breaks from r on
-pub breaks_first : (s : State) (k page q : ℕ) (r : RecordData) (n : ℕ) → IsLinkedOf s k page q r → ((other : RecordData) → IsLinkedOf s k page q other → other.number ≤ r.number) → ((other : RecordData) → IsLinkedOf s k page q other → other.number ≡ r.number → other ≡ r) → BreaksAt s k page q n ↔ BreaksFrom s k page q r n
+pub breaks_first : (s : State) (k page q : ℕ) (r : RecordData) (n : ℕ) → IsLinkedOf s k page q r
+    → ((other : RecordData) → IsLinkedOf s k page q other → other.number ≤ r.number)
+    → ((other : RecordData) → IsLinkedOf s k page q other → other.number ≡ r.number → other ≡ r) → BreaksAt s k page q n ↔ BreaksFrom s k page q r n
 breaks_first s k page q r n linked greatest only = (
   λ h.
       let most : h.first.number ≤ r.number = greatest h.first h.linked in
@@ -123,7 +132,9 @@ pub in_every_view : (b : BookData) → IsCompleteEpoch b.cuts b.complete → (P 
 in_every_view b complete P h k at = subst P (one_epoch b.cuts b.complete k complete at) h
 
 -- where the held records link some of the page from the base point on, the last of these is the last of all
-pub last_linked : (b : BookData) (hs : List RecordData) (base : ℕ) (store : Store) (page q : ℕ) (r : RecordData) → IsGreatestRecord (λ x. IsLinkedHeld b hs base x × (x.page ≡ page) × (x.number ≤ q)) (Some r) → IsGreatestRecord (IsLinkedOf (state_of b hs base store) b.complete page q) (Some r)
+pub last_linked : (b : BookData) (hs : List RecordData) (base : ℕ) (store : Store) (page q : ℕ) (r : RecordData)
+    → IsGreatestRecord (λ x. IsLinkedHeld b hs base x × (x.page ≡ page) × (x.number ≤ q)) (Some r)
+    → IsGreatestRecord (IsLinkedOf (state_of b hs base store) b.complete page q) (Some r)
 last_linked b hs base store page q r h = ((h.0.0.0, h.0.0.1, inr h.0.0.2, h.0.1, h.0.2), before)
   where
     least : base ≤ r.number
@@ -139,7 +150,9 @@ last_linked b hs base store page q r h = ((h.0.0.0, h.0.0.1, inr h.0.0.2, h.0.1,
         l.2
 
 -- where they link none, the last alive record of the page up to the base point is the last of all
-pub last_unlinked : (b : BookData) (hs : List RecordData) (base : ℕ) (store : Store) (page q top : ℕ) (found : Option RecordData) → IsHeld hs → IsGreatestRecord (λ x. IsLinkedHeld b hs base x × (x.page ≡ page) × (x.number ≤ q)) None → top ≡ min base q → IsGreatestRecord (IsHotOf b hs page 0 top) found → IsGreatestRecord (IsLinkedOf (state_of b hs base store) b.complete page q) found
+pub last_unlinked : (b : BookData) (hs : List RecordData) (base : ℕ) (store : Store) (page q top : ℕ) (found : Option RecordData) → IsHeld hs
+    → IsGreatestRecord (λ x. IsLinkedHeld b hs base x × (x.page ≡ page) × (x.number ≤ q)) None → top ≡ min base q
+    → IsGreatestRecord (IsHotOf b hs page 0 top) found → IsGreatestRecord (IsLinkedOf (state_of b hs base store) b.complete page q) found
 last_unlinked b hs base store page q top found held none least =
     let low : top ≤ base = omega (arith, least) in
     let small : top ≤ q = omega (arith, least) in
@@ -157,7 +170,9 @@ abbrev pub IsLinkedAt : State → ℕ → ℕ → ℕ → RecordData → Type 0
 IsLinkedAt s k page number r = IsLinkedOf s k page number r × (r.number ≡ number)
 
 -- up to the base point each alive record is linked
-pub only_low : (b : BookData) (hs : List RecordData) (base : ℕ) (store : Store) (page from number : ℕ) (found : Option RecordData) → IsHeld hs → number ≤ base → from ≡ number - 1 → IsLeastRecord (IsHotOf b hs page from number) found → IsOnlyRecord (IsLinkedAt (state_of b hs base store) b.complete page number) found
+pub only_low : (b : BookData) (hs : List RecordData) (base : ℕ) (store : Store) (page from number : ℕ) (found : Option RecordData) → IsHeld hs
+    → number ≤ base → from ≡ number - 1 → IsLeastRecord (IsHotOf b hs page from number) found
+    → IsOnlyRecord (IsLinkedAt (state_of b hs base store) b.complete page number) found
 only_low b hs base store page from number None held low is none = λ r l.
     let n : r.number ≡ number = l.1 in
     let positive = positive_number hs r held l.0.0 in
@@ -177,7 +192,9 @@ only_low b hs base store page from number (Some r) held low is h =
     )
 
 -- above it the linked record of the number is the only one, if it is of the page
-pub none_high : (b : BookData) (hs : List RecordData) (base : ℕ) (store : Store) (page number : ℕ) → base < number → IsOnlyRecord (λ x. IsLinkedHeld b hs base x × (x.number ≡ number)) None → IsOnlyRecord (IsLinkedAt (state_of b hs base store) b.complete page number) None
+pub none_high : (b : BookData) (hs : List RecordData) (base : ℕ) (store : Store) (page number : ℕ) → base < number
+    → IsOnlyRecord (λ x. IsLinkedHeld b hs base x × (x.number ≡ number)) None
+    → IsOnlyRecord (IsLinkedAt (state_of b hs base store) b.complete page number) None
 none_high b hs base store page number high none = λ r l.
     let n : r.number ≡ number = l.1 in
     ⊎_elim
@@ -185,7 +202,9 @@ none_high b hs base store page number high none = λ r l.
     (λ linked. none r ((l.0.0, l.0.1, linked), l.1))
     l.0.2
 
-only_of_high : (b : BookData) (hs : List RecordData) (base : ℕ) (store : Store) (page number : ℕ) (r x : RecordData) → base < number → IsOnlyRecord (λ y. IsLinkedHeld b hs base y × (y.number ≡ number)) (Some r) → IsLinkedAt (state_of b hs base store) b.complete page number x → x ≡ r
+only_of_high : (b : BookData) (hs : List RecordData) (base : ℕ) (store : Store) (page number : ℕ) (r x : RecordData) → base < number
+    → IsOnlyRecord (λ y. IsLinkedHeld b hs base y × (y.number ≡ number)) (Some r) → IsLinkedAt (state_of b hs base store) b.complete page number x
+    → x ≡ r
 only_of_high b hs base store page number r x high h l =
     let n : x.number ≡ number = l.1 in
     ⊎_elim
@@ -193,12 +212,16 @@ only_of_high b hs base store page number r x high h l =
     (λ linked. h.1 x ((l.0.0, l.0.1, linked), l.1))
     l.0.2
 
-pub only_high : (b : BookData) (hs : List RecordData) (base : ℕ) (store : Store) (page number : ℕ) (r : RecordData) → base < number → IsOnlyRecord (λ x. IsLinkedHeld b hs base x × (x.number ≡ number)) (Some r) → r.page ≡ page → IsOnlyRecord (IsLinkedAt (state_of b hs base store) b.complete page number) (Some r)
+pub only_high : (b : BookData) (hs : List RecordData) (base : ℕ) (store : Store) (page number : ℕ) (r : RecordData) → base < number
+    → IsOnlyRecord (λ x. IsLinkedHeld b hs base x × (x.number ≡ number)) (Some r) → r.page ≡ page
+    → IsOnlyRecord (IsLinkedAt (state_of b hs base store) b.complete page number) (Some r)
 only_high b hs base store page number r high h of_page =
     let n : r.number ≡ number = h.0.1 in
     (((h.0.0.0, h.0.0.1, inr h.0.0.2, of_page, omega (arith, n)), n), λ x l. only_of_high b hs base store page number r x high h l)
 
-pub other_page : (b : BookData) (hs : List RecordData) (base : ℕ) (store : Store) (page number : ℕ) (r : RecordData) → base < number → IsOnlyRecord (λ x. IsLinkedHeld b hs base x × (x.number ≡ number)) (Some r) → (r.page ≡ page → ⊥) → IsOnlyRecord (IsLinkedAt (state_of b hs base store) b.complete page number) None
+pub other_page : (b : BookData) (hs : List RecordData) (base : ℕ) (store : Store) (page number : ℕ) (r : RecordData) → base < number
+    → IsOnlyRecord (λ x. IsLinkedHeld b hs base x × (x.number ≡ number)) (Some r) → (r.page ≡ page → ⊥)
+    → IsOnlyRecord (IsLinkedAt (state_of b hs base store) b.complete page number) None
 other_page b hs base store page number r high h of_other = λ x l.
     let same : x ≡ r = only_of_high b hs base store page number r x high h l in
     of_other (subst (λ y. y.page ≡ page) same l.0.3)
@@ -206,7 +229,8 @@ other_page b hs base store page number r high h of_other = λ x l.
 -- ---- the walk of a state
 
 -- it begins at the last linked record of the page
-pub walk_begins : (s : State) (k page q : ℕ) (r : RecordData) → IsGreatestRecord (IsLinkedOf s k page q) (Some r) → (n : ℕ) → BreaksAt s k page q n ↔ BreaksFrom s k page q r n
+pub walk_begins : (s : State) (k page q : ℕ) (r : RecordData) → IsGreatestRecord (IsLinkedOf s k page q) (Some r) → (n : ℕ)
+    → BreaksAt s k page q n ↔ BreaksFrom s k page q r n
 walk_begins s k page q r h n =
     breaks_first s k page q r n h.0
     (λ x l. ⊎_elim
@@ -216,10 +240,12 @@ walk_begins s k page q r h n =
     (λ x l e. ⊎_elim (λ (z : x ≡ r). z) (λ (lt : x.number < r.number). absurd (omega (arith, lt, e))) (h.1 x l))
 
 -- it goes down to the linked record at the block backlink
-pub walk_goes : (s : State) (k page q : ℕ) (r below : RecordData) → version_of s.store page < r.block_back → r.block_back ≤ q → IsOnlyRecord (IsLinkedAt s k page r.block_back) (Some below) → IsBelow s k page q r below
-walk_goes s k page q r below above small h =
+pub walk_goes : (s : State) (k page q : ℕ) (r below : RecordData) → r.init ≡ false → version_of s.store page < r.block_back → r.block_back ≤ q
+    → IsOnlyRecord (IsLinkedAt s k page r.block_back) (Some below) → IsBelow s k page q r below
+walk_goes s k page q r below follows above small h =
     let at : below.number ≡ r.block_back = h.0.1 in
     record {
+      follows = follows;
       above = above;
       linked = (h.0.0.0, h.0.0.1, h.0.0.2, h.0.0.3, omega (arith, at, small));
       at = at;
@@ -227,35 +253,38 @@ walk_goes s k page q r below above small h =
     }
 
 -- it ends at a record whose block backlink leads nowhere
-pub walk_breaks : (s : State) (k page q : ℕ) (r : RecordData) → version_of s.store page < r.block_back → IsOnlyRecord (IsLinkedAt s k page r.block_back) None → (n : ℕ) → (r.number ≡ n) ↔ BreaksFrom s k page q r n
-walk_breaks s k page q r above none n = breaks_here s k page q r n above (λ x l e. none x ((l.0, l.1, l.2, l.3, omega (arith, e)), e))
+pub walk_breaks : (s : State) (k page q : ℕ) (r : RecordData) → r.init ≡ false → version_of s.store page < r.block_back
+    → IsOnlyRecord (IsLinkedAt s k page r.block_back) None → (n : ℕ) → (r.number ≡ n) ↔ BreaksFrom s k page q r n
+walk_breaks s k page q r follows above none n = breaks_here s k page q r n follows above (λ x l e. none x ((l.0, l.1, l.2, l.3, omega (arith, e)), e))
 
 -- ---- over a sound log no block chain breaks
 
 -- each record on the walk is a linked one of the page
 on_linked : (s : State) (k page q : ℕ) (r t : RecordData) → IsLinkedOf s k page q r → OnBlockChain s k page q r t → IsLinkedOf s k page q t
 on_linked s k page q r _ l start = l
-on_linked s k page q r _ l (down m c on lt h e) = h
+on_linked s k page q r _ l (down m c on f lt h e) = h
 
 -- a record's block backlink above 0 is below its number
-back_below : (log : List Fact) (r : RecordData) → IsSound log → Contains (records log) r → 0 < r.block_back → r.block_back < r.number
-back_below log r sound among positive =
-    let law : KeepsLaws log ((record_in log r).0 among).0 (Record r) = kept log (Record r) sound ((record_in log r).0 among) in
+back_below : {roster : ℕ} (log : List Fact) (r : RecordData) → IsSound roster log → Contains (records log) r → 0 < r.block_back → r.block_back < r.number
+back_below {roster} log r sound among positive =
+    let law : KeepsLaws roster log ((record_in log r).0 among).0 (Record r) = kept roster log (Record r) sound ((record_in log r).0 among) in
     ⊎_elim
     (λ (z : r.block_back ≡ 0). absurd (omega arith))
     (λ (x : IsAliveBelow log r (λ o. o.page ≡ r.page) r.block_back). x.below)
     law.law4.0
 
 -- over a sound log what the facts link is known to be linked
-known_linked : (log facts : List Fact) (p : Position) (s : State) (n : ℕ) → IsSound log → MeansAt log facts p s → IsLinked facts p.epoch n → IsKnownLinked s p.epoch n
-known_linked log facts p s n sound means linked =
+known_linked : {roster : ℕ} (log facts : List Fact) (p : Position) (s : State) (n : ℕ) → IsSound roster log → MeansAt roster log facts p s
+    → IsLinked facts p.epoch n → IsKnownLinked s p.epoch n
+known_linked {roster} log facts p s n sound means linked =
     ⊎_elim
     (λ (low : n ≤ s.base). inl low)
-    (λ (high : s.base < n). inr ((links_law log facts p s n (log_of_sound log sound) means).1 (linked, omega (arith, high))))
+    (λ (high : s.base < n). inr ((links_law log facts p s n (log_of_sound roster log sound) means).1 (linked, omega (arith, high))))
     (let t : (n ≤ s.base) ⊎ (s.base < n) = grind arith in t)
 
-pub no_break : (log facts : List Fact) (p : Position) (s : State) (page q n : ℕ) → IsSound log → MeansAt log facts p s → q ≤ p.complete → BreaksAt s p.epoch page q n → ⊥
-no_break log facts p s page q n sound means le h =
+pub no_break : {roster : ℕ} (log facts : List Fact) (p : Position) (s : State) (page q n : ℕ) → IsSound roster log → MeansAt roster log facts p s
+    → q ≤ p.complete → BreaksAt s p.epoch page q n → ⊥
+no_break {roster} log facts p s page q n sound means le h =
     let r = h.breaks.at in
     let l : IsLinkedOf s p.epoch page q r = on_linked s p.epoch page q h.first r h.linked h.breaks.on in
     let above : version_of s.store page < r.block_back = h.breaks.above in
@@ -265,7 +294,7 @@ no_break log facts p s page q n sound means le h =
     (λ (low : r.block_back ≤ version_of s.store page). omega (arith, low, above))
     (λ (found : (below : RecordData) × IsHeldOf s p.epoch page q below × (below.number ≡ r.block_back)).
     let x = found.0 in
-    let fact = (held_of log facts p s (log_of_sound log sound) means page q le x).0 found.1 in
+    let fact = (held_of log facts p s (log_of_sound roster log sound) means page q le x).0 found.1 in
     h.breaks.nowhere x (found.1.0, found.1.1, known_linked log facts p s x.number sound means fact.0.linked, found.1.2, found.1.4) found.2)
     (whole_block_chains log facts p s page q r sound means le (l.0, l.1, l.3, omega (arith, above, back), small)).0
 
@@ -276,7 +305,8 @@ pub block_lower : (r : RecordData) → record_fault r ≡ None → r.block_back 
 block_lower r shaped = search (rules, shaped)
 
 -- the walk answers the number of the record at which it stands
-pub answers_here : (s : State) (k page q : ℕ) (r : RecordData) (m : ℕ) → m ≡ r.number → ((n : ℕ) → (r.number ≡ n) ↔ BreaksFrom s k page q r n) → ((n : ℕ) → BreaksAt s k page q n ↔ BreaksFrom s k page q r n) → (n : ℕ) → (Some m ≡ Some n) ↔ BreaksAt s k page q n
+pub answers_here : (s : State) (k page q : ℕ) (r : RecordData) (m : ℕ) → m ≡ r.number → ((n : ℕ) → (r.number ≡ n) ↔ BreaksFrom s k page q r n)
+    → ((n : ℕ) → BreaksAt s k page q n ↔ BreaksFrom s k page q r n) → (n : ℕ) → (Some m ≡ Some n) ↔ BreaksAt s k page q n
 answers_here s k page q r m is here same n = (
   λ (e : Some m ≡ Some n). let z : r.number ≡ n = cc in (same n).1 ((here n).0 z),
   λ h. let z : r.number ≡ n = (here n).1 ((same n).0 h) in cc,
@@ -296,7 +326,7 @@ front_complete s front k own at = subst (λ j. HasComplete s j front.complete) (
 pub tells_below : (s : State) (front : Front) (page q min : ℕ) → IsFrontOf s front → q < front.min → TellsBreak s page q (Err (Below min))
 tells_below s front page q min own low = λ k g n at. (
   λ (e : Err (Below min) ≡ Err (BrokenBlockChain g n)). absurd (cc),
-  λ h. let le : s.min ≤ q = h.1.0 in let same : front.min ≡ s.min = own.min in absurd (omega (arith, low, le, same)),
+  λ h. let le : min_of s ≤ q = h.1.0 in let same : front.min ≡ min_of s = own.min in absurd (omega (arith, low, le, same)),
 )
 
 pub tells_above : (s : State) (front : Front) (page q complete : ℕ) → IsFrontOf s front → front.complete < q → TellsBreak s page q (Err (Above complete))
@@ -309,11 +339,12 @@ tells_above s front page q complete own high = λ k g n at. (
       absurd (omega (arith, high, same, le)),
 )
 
-pub tells_broken : (s : State) (front : Front) (page q m : ℕ) (link : Option ℕ) → IsFrontOf s front → front.min ≤ q → q ≤ front.complete → TellsLink s page q link → link ≡ Some m → TellsBreak s page q (Err (BrokenBlockChain page m))
+pub tells_broken : (s : State) (front : Front) (page q m : ℕ) (link : Option ℕ) → IsFrontOf s front → front.min ≤ q → q ≤ front.complete
+    → TellsLink s page q link → link ≡ Some m → TellsBreak s page q (Err (BrokenBlockChain page m))
 tells_broken s front page q m link own low high tells is = λ k g n at. (
   λ (e : Err (BrokenBlockChain page m) ≡ Err (BrokenBlockChain g n)).
       let same : m ≡ n = cc in
-      let min : front.min ≡ s.min = own.min in
+      let min : front.min ≡ min_of s = own.min in
       let found : link ≡ Some n = is ∙ ap Some same in
       ((cc), (omega (arith, low, min), (front.complete, front_complete s front k own at, high)), (tells k n at).0 found),
   λ h.
@@ -323,7 +354,8 @@ tells_broken s front page q m link own low high tells is = λ k g n at. (
       cc,
 )
 
-pub tells_whole : (s : State) (page q : ℕ) (link : Option ℕ) (answer : Result (List ℕ) ReadFault) → ((g n : ℕ) → answer ≡ Err (BrokenBlockChain g n) → ⊥) → TellsLink s page q link → link ≡ None → TellsBreak s page q answer
+pub tells_whole : (s : State) (page q : ℕ) (link : Option ℕ) (answer : Result (List ℕ) ReadFault)
+    → ((g n : ℕ) → answer ≡ Err (BrokenBlockChain g n) → ⊥) → TellsLink s page q link → link ≡ None → TellsBreak s page q answer
 tells_whole s page q link answer not tells is = λ k g n at. (
   λ e. absurd (not g n e),
   λ h. let found : link ≡ Some n = (tells k n at).1 h.2 in absurd (cc),
@@ -340,8 +372,9 @@ no_link : (link : Option ℕ) → ((n : ℕ) → link ≡ Some n → ⊥) → li
 no_link None not = refl
 no_link (Some n) not = absurd (not n refl)
 
-pub sound_link : (s : State) (page q : ℕ) (link : Option ℕ) → TellsLink s page q link → (log facts : List Fact) (p : Position) → IsSound log → MeansAt log facts p s → q ≤ p.complete → link ≡ None
-sound_link s page q link tells log facts p sound means le =
+pub sound_link : (s : State) (page q : ℕ) (link : Option ℕ) → TellsLink s page q link → (roster : ℕ) (log facts : List Fact) (p : Position)
+    → IsSound roster log → MeansAt roster log facts p s → q ≤ p.complete → link ≡ None
+sound_link s page q link tells roster log facts p sound means le =
     no_link link (λ n is. no_break log facts p s page q n sound means le ((tells p.epoch n (epoch_of log facts p s means)).0 is))
 
 pub within : (p : Position) (front : Front) (q : ℕ) → IsFrontAt p front → q ≤ front.complete → q ≤ p.complete

@@ -12,14 +12,15 @@ use Rattle.segment_state.proofs.Shed.{commit_keeps}
 use Rattle.segment_state.proofs.Own.{epoch_of}
 use Rattle.segment_core.specs.Folding.{Commits, RefusesCommit, RefusesAhead}
 use Rattle.segment_core.specs.Forgetting.{with_store}
-use Rattle.segment_core.specs.declared.folds.Folded.{Folded}
-use Rattle.segment_core.specs.declared.folds.CommitFault.{CommitFault}
-use Rattle.segment_core.specs.declared.folds.CommitFault.TheVariants.{Ahead, Memory}
+use Rattle.segment_core.specs.declared.fold_plan.Folded.{Folded}
+use Rattle.segment_core.specs.declared.fold_plan.CommitFault.{CommitFault}
+use Rattle.segment_core.specs.declared.fold_plan.CommitFault.TheVariants.{Ahead, Memory}
 use Rattle.segment_core.proofs.OneView.{one_anchor}
 
-sets_commits : (s : State) (old new : Store) (page version : ℕ) (image : List ℕ) → version_of old page ≤ version → SetsImage old page version image new → CommitsImage (with_store s old) page version image (with_store s new)
+sets_commits : (s : State) (old new : Store) (page version : ℕ) (image : List ℕ) → version_of old page ≤ version
+    → SetsImage old page version image new → CommitsImage (with_store s old) page version image (with_store s new)
 sets_commits s old new page version image newer sets = record {
-  book = record { cuts = refl; min = refl; waits = refl };
+  book = record { cuts = refl; points = refl; waits = refl };
   held = refl;
   base = refl;
   newer = newer;
@@ -28,45 +29,59 @@ sets_commits s old new page version image newer sets = record {
   others = sets.others;
 }
 
-pub commits_of : (s : State) (old new : Store) (folded : Folded) → Raises old folded.page folded.version folded.image new → Commits (with_store s old) folded (with_store s new)
+pub commits_of : (s : State) (old new : Store) (folded : Folded) → Raises old folded.page folded.version folded.image new
+    → Commits (with_store s old) folded (with_store s new)
 commits_of s old new folded raises = record {
   older = λ le. ap (with_store s) (raises.lower le);
+  images = raises;
   newer = λ lt. sets_commits s old new folded.page folded.version folded.image (omega arith) (raises.higher lt);
 }
 
 -- a version that is not above the anchor keeps the meaning
-pub commits_keeps : (old new : State) (folded : Folded) (anchor : ℕ) → ((k : ℕ) → IsCompleteEpoch old.cuts k → HasAnchor old k anchor) → folded.version ≤ anchor → Commits old folded new → KeepsMeaningWith old folded.page folded.version folded.image new
-commits_keeps old new folded anchor own le commits log F sound final a =
+pub commits_keeps : (old new : State) (folded : Folded) (anchor : ℕ) → ((k : ℕ) → IsCompleteEpoch old.cuts k → HasAnchor old k anchor)
+    → folded.version ≤ anchor → Commits old folded new → KeepsMeaningWith old folded.page folded.version folded.image new
+commits_keeps old new folded anchor own le commits roster log F sound final a =
     let at = epoch_of log F a.0 old a.1 in
     ⊎_elim
-    (λ (low : folded.version ≤ version_of old.store folded.page). subst (Means log F) (sym (commits.older low)) a)
-    (λ (high : version_of old.store folded.page < folded.version). commit_keeps old new a.0.epoch anchor folded.page folded.version folded.image at (own a.0.epoch at) le (commits.newer high) log F sound final a)
+    (λ (low : folded.version ≤ version_of old.store folded.page). subst (Means roster log F) (sym (commits.older low)) a)
+    (λ (high : version_of old.store folded.page < folded.version). commit_keeps old new a.0.epoch anchor folded.page folded.version folded.image at (own a.0.epoch at) le (commits.newer high) roster log F sound final a)
     (let t : (folded.version ≤ version_of old.store folded.page) ⊎ (version_of old.store folded.page < folded.version) = grind arith in t)
 
 -- what is ahead is above the one anchor
-pub ahead_at : (s : State) (folded : Folded) (anchor : ℕ) → ((k : ℕ) → IsCompleteEpoch s.cuts k → HasAnchor s k anchor) → (k other : ℕ) → IsCompleteEpoch s.cuts k → HasAnchor s k other → (let fault : CommitFault = Ahead folded.version anchor in fault) ≡ Ahead folded.version other
+pub ahead_at : (s : State) (folded : Folded) (anchor : ℕ) → ((k : ℕ) → IsCompleteEpoch s.cuts k → HasAnchor s k anchor) → (k other : ℕ)
+    → IsCompleteEpoch s.cuts k → HasAnchor s k other → (let fault : CommitFault = Ahead folded.version anchor in fault) ≡ Ahead folded.version other
 ahead_at s folded anchor own k other at has = ap (Ahead folded.version) (one_anchor s k anchor other (own k at) has)
 
-pub not_ahead : (s : State) (folded : Folded) (anchor : ℕ) (result : Result Unit (Refused Folded CommitFault)) → ((k : ℕ) → IsCompleteEpoch s.cuts k → HasAnchor s k anchor) → folded.version ≤ anchor → RefusesAhead s folded result
+pub not_ahead : (s : State) (folded : Folded) (anchor : ℕ) (result : Result Unit (Refused Folded CommitFault))
+    → ((k : ℕ) → IsCompleteEpoch s.cuts k → HasAnchor s k anchor) → folded.version ≤ anchor → RefusesAhead s folded result
 not_ahead s folded anchor result own le k other at has above = let e : anchor ≡ other = one_anchor s k anchor other (own k at) has in absurd (omega arith)
 
 -- what a raise answers
-pub raised : (s : State) (old new : Store) (folded : Folded) (result : Result Unit (Refused Folded CommitFault)) → OnOk result (Raises old folded.page folded.version folded.image new) → OnOk result (Commits (with_store s old) folded (with_store s new))
+pub raised : (s : State) (old new : Store) (folded : Folded) (result : Result Unit (Refused Folded CommitFault))
+    → OnOk result (Raises old folded.page folded.version folded.image new) → OnOk result (Commits (with_store s old) folded (with_store s new))
 raised s old new folded (Ok u) raises = commits_of s old new folded raises
 raised s old new folded (Err e) raises = tt
 
-pub raise_keeps : (s : State) (old new : Store) (folded : Folded) (anchor : ℕ) (result : Result Unit (Refused Folded CommitFault)) → ((k : ℕ) → IsCompleteEpoch s.cuts k → HasAnchor s k anchor) → folded.version ≤ anchor → OnOk result (Raises old folded.page folded.version folded.image new) → OnOk result (KeepsMeaningWith (with_store s old) folded.page folded.version folded.image (with_store s new))
+pub raise_keeps : (s : State) (old new : Store) (folded : Folded) (anchor : ℕ) (result : Result Unit (Refused Folded CommitFault))
+    → ((k : ℕ) → IsCompleteEpoch s.cuts k → HasAnchor s k anchor) → folded.version ≤ anchor
+    → OnOk result (Raises old folded.page folded.version folded.image new)
+    → OnOk result (KeepsMeaningWith (with_store s old) folded.page folded.version folded.image (with_store s new))
 raise_keeps s old new folded anchor (Ok u) own le raises = commits_keeps (with_store s old) (with_store s new) folded anchor own le (commits_of s old new folded raises)
 raise_keeps s old new folded anchor (Err e) own le raises = tt
 
-pub raise_refused : (s : State) (old : Store) (folded : Folded) (result : Result Unit (Refused Folded CommitFault)) → IfErr result (λ e. (e.value ≡ folded) × (e.fault ≡ Memory) × (version_of old folded.page < folded.version)) → IfErr result (λ e. RefusesCommit (with_store s old) folded e.fault)
+pub raise_refused : (s : State) (old : Store) (folded : Folded) (result : Result Unit (Refused Folded CommitFault))
+    → IfErr result (λ e. (e.value ≡ folded) × (e.fault ≡ Memory) × (version_of old folded.page < folded.version))
+    → IfErr result (λ e. RefusesCommit (with_store s old) folded e.fault)
 raise_refused s old folded (Ok u) refused = tt
 raise_refused s old folded (Err e) refused = subst (RefusesCommit (with_store s old) folded) (sym refused.1) refused.2
 
-pub raise_unchanged : (s : State) (old new : Store) (result : Result Unit (Refused Folded CommitFault)) → OnErr result (new ≡ old) → OnErr result (with_store s new ≡ with_store s old)
+pub raise_unchanged : (s : State) (old new : Store) (result : Result Unit (Refused Folded CommitFault)) → OnErr result (new ≡ old)
+    → OnErr result (with_store s new ≡ with_store s old)
 raise_unchanged s old new (Ok u) same = tt
 raise_unchanged s old new (Err e) same = ap (with_store s) same
 
-pub raise_back : (old : Store) (folded : Folded) (result : Result Unit (Refused Folded CommitFault)) → IfErr result (λ e. (e.value ≡ folded) × (e.fault ≡ Memory) × (version_of old folded.page < folded.version)) → IfErr result (λ e. e.value ≡ folded)
+pub raise_back : (old : Store) (folded : Folded) (result : Result Unit (Refused Folded CommitFault))
+    → IfErr result (λ e. (e.value ≡ folded) × (e.fault ≡ Memory) × (version_of old folded.page < folded.version))
+    → IfErr result (λ e. e.value ≡ folded)
 raise_back old folded (Ok u) refused = tt
 raise_back old folded (Err e) refused = refused.0

@@ -1,97 +1,163 @@
 -- Folding the pages of all held records, one after the other.
-use Rattle.std.proofs.Common.{◌≡◌, ℕ, ◌<◌, ◌≤◌, ◌⊎◌, ⊎_elim, List, Option, Some, None, Err, sym, ap, ◌∙◌, subst, arith}
+use Rattle.std.proofs.Common.{◌≡◌, ◌≢◌, ℕ, ◌<◌, ◌≤◌, ◌⊎◌, inl, inr, ⊎_elim, List, [], ◌∷◌, Option, Some, None, refl, sym, ap, ◌∙◌, subst, arith, max}
 use Rattle.std.specs.List.{Contains}
 use Rattle.redo_core.specs.Data.{RecordData}
+use Rattle.redo_core.specs.Order.{Lists, BeforeByNumber}
 use Rattle.redo_core.specs.CompleteEpoch.{IsCompleteEpoch}
-use Rattle.redo_core.specs.Position.{Position}
-use Rattle.redo_core.specs.Sound.{IsSound}
-use Rattle.redo_core.specs.declared.facts.Fact.{Fact}
-use Rattle.redo_laws.proofs.Deciding.{settled_eq}
+use Rattle.redo_core.proofs.Members.{here}
 use Rattle.hot_log.specs.Found.{IsPageAfter}
-use Rattle.page_base.specs.Raising.{Raises}
-use Rattle.segment_state.specs.State.{State, Store, version_of}
-use Rattle.segment_state.specs.Means.{MeansAt}
+use Rattle.page_base.specs.Stored.{stored}
+use Rattle.page_base.specs.Raising.{SamePage, Raises}
+use Rattle.page_base.proofs.Merged.{one_page, raised_list, raised_floor}
+use Rattle.segment_state.specs.State.{State, Store, StoredImage, version_of, image_of}
+use Rattle.segment_state.specs.Shows.{IsHeldOf, Shows}
 use Rattle.segment_state.specs.HasMeaning.{HasAnchor}
 use Rattle.segment_state.specs.Promises.{KeepsMeaning, IsFinalPage}
 use Rattle.segment_state.proofs.Own.{epoch_of}
 use Rattle.segment_state.proofs.Shed.{anchor_page_is_final}
-use Rattle.segment_core.specs.Folding.{FoldsPage, BreaksBelowAnchor, IsPlanResult, PlansFold}
-use Rattle.segment_core.specs.Forgetting.{with_store, FoldsAll, IsSoundState, RefusesTidy}
-use Rattle.segment_core.specs.declared.folds.Folded.{Folded}
-use Rattle.segment_core.specs.declared.answers.ReadFault.{ReadFault}
-use Rattle.segment_core.specs.declared.answers.ReadFault.TheVariants.{Below, Above, BrokenBlockChain, Memory}
+use Rattle.segment_core.specs.Forgetting.{with_store, FoldsImages, FoldsAll}
+use Rattle.segment_core.specs.declared.fold_plan.Folded.{Folded}
 use Rattle.segment_core.proofs.OneView.{one_anchor}
-use Rattle.segment_core.proofs.Pages.{IsPassed, none_passed, passed_to}
+use Rattle.segment_core.proofs.Pages.{IsPassed, none_passed, passed_to, is_passed}
 use Rattle.segment_core.proofs.Committing.{commits_of, commits_keeps}
 
--- the images of the pages that are passed have reached the anchor
-pub record FoldsTo (s : State) (next : Option ℕ) (store : Store) : Type 0 where
+-- the next page has a held record
+abbrev pub IsHeldPage : List RecordData → Option ℕ → Type 0
+IsHeldPage held None = Unit {0}
+IsHeldPage held (Some page) = (r : RecordData) × Contains held r × (r.page ≡ page)
+
+pub next_held : (held : List RecordData) (after next : Option ℕ) → IsPageAfter held after next → IsHeldPage held next
+next_held held after None is = tt
+next_held held after (Some page) is = (is.0.0, is.0.1, is.0.2)
+
+-- the pages of held records that are passed are folded to the anchor
+pub record FoldsTo (s : State) (anchor : ℕ) (next : Option ℕ) (store : Store) : Type 0 where
+  pub at : IsHeldPage s.held next
   pub keeps : KeepsMeaning s (with_store s store)
-  pub reached : (k anchor : ℕ) (r : RecordData) → IsCompleteEpoch s.cuts k → HasAnchor s k anchor → Contains s.held r → IsPassed next r.page → anchor ≤ version_of store r.page
+  pub versions : (r : RecordData) → Contains s.held r → IsPassed next r.page → version_of store r.page ≡ max (version_of s.store r.page) anchor
+  pub shown : (k : ℕ) (r : RecordData) → IsCompleteEpoch s.cuts k → Contains s.held r → IsPassed next r.page → Shows s k r.page anchor (image_of store r.page)
+  pub others : (page : ℕ) → ((r : RecordData) → Contains s.held r → r.page ≡ page → IsPassed next page → ⊥) → SamePage s.store store page
+  pub listed : (i : StoredImage) → Contains store.images i → Contains s.store.images i ⊎ ((r : RecordData) × Contains s.held r × (r.page ≡ i.page))
+  pub floor : store.floor ≡ s.store.floor
 
-pub folds_none : (s : State) (next : Option ℕ) → IsPageAfter s.held None next → FoldsTo s next s.store
-folds_none s next after = record {
-  keeps = λ log F sound a. a;
-  reached = λ k anchor r at has h passed. absurd (none_passed s.held next r after h passed);
+pub folds_none : (s : State) (anchor : ℕ) (next : Option ℕ) → IsPageAfter s.held None next → FoldsTo s anchor next s.store
+folds_none s anchor next after = record {
+  at = next_held s.held None next after;
+  keeps = λ roster log F sound a. a;
+  versions = λ r h passed. absurd (none_passed s.held next r after h passed);
+  shown = λ k r at h passed. absurd (none_passed s.held next r after h passed);
+  others = λ page none. (refl, refl);
+  listed = λ i h. inl h;
+  floor = refl;
 }
 
--- a raise lowers no version
-raises_up : (old new : Store) (page version : ℕ) (image : List ℕ) → Raises old page version image new → (g : ℕ) → version_of old g ≤ version_of new g
-raises_up old new page version image raises g =
+-- a page of a version that is not below the anchor shows its image there
+shows_own : (s : State) (k page anchor : ℕ) (image : List ℕ) → anchor ≤ version_of s.store page → Shows s k page anchor image
+    → Shows s k page anchor (image_of s.store page)
+shows_own s k page anchor image le shows = own shows.written shows.lists
+  where
+    own : (written : List RecordData) → Lists BeforeByNumber (IsHeldOf s k page anchor) written → Shows s k page anchor (image_of s.store page)
+    own [] lists = record { written = []; lists = lists; result = refl }
+    own (x ∷ xs) lists =
+        let h = (lists.members x).0 (here x xs) in
+        let above : version_of s.store page < x.number = h.3 in
+        let low : x.number ≤ anchor = h.4 in
+        absurd (omega arith)
+
+-- what a raise to the anchor makes of the page itself, whose image was the state's own
+raised_page : (s : State) (k page anchor : ℕ) (image : List ℕ) (old new : Store) → SamePage s.store old page → Raises old page anchor image new
+    → Shows s k page anchor image
+    → (version_of new page ≡ max (version_of s.store page) anchor) × Shows s k page anchor (image_of new page)
+raised_page s k page anchor image old new same raises shows =
+    let own : version_of old page ≡ version_of s.store page = same.0 in
     ⊎_elim
-    (λ (low : version ≤ version_of old page). let e : version_of new g ≡ version_of old g = ap (λ st. version_of st g) (raises.lower low) in omega arith)
-    (λ (high : version_of old page < version).
+    (λ (low : anchor ≤ version_of old page).
+    let e = raises.lower low in
+    let version : version_of new page ≡ version_of old page = ap (λ st. version_of st page) e in
+    let kept : image_of new page ≡ image_of s.store page = ap (λ st. image_of st page) e ∙ same.1 in
+    (omega arith, subst (Shows s k page anchor) (sym kept) (shows_own s k page anchor image (omega arith) shows)))
+    (λ (high : version_of old page < anchor).
     let sets = raises.higher high in
-    ⊎_elim
-    (λ (e : g ≡ page). let a : version_of new g ≡ version = ap (version_of new) e ∙ sets.version_is in let b : version_of old g ≡ version_of old page = ap (version_of old) e in omega arith)
-    (λ (no : g ≡ page → ⊥). let a : version_of new g ≡ version_of old g = (sets.others g no).0 in omega arith)
-    (settled_eq g page))
-    (let t : (version ≤ version_of old page) ⊎ (version_of old page < version) = grind arith in t)
+    let version : version_of new page ≡ anchor = sets.version_is in
+    (omega arith, subst (Shows s k page anchor) (sym sets.image_is) shows))
+    (let t : (anchor ≤ version_of old page) ⊎ (version_of old page < anchor) = grind arith in t)
 
-raises_to : (old new : Store) (page version : ℕ) (image : List ℕ) → Raises old page version image new → version ≤ version_of new page
-raises_to old new page version image raises =
-    ⊎_elim
-    (λ (low : version ≤ version_of old page). let e : version_of new page ≡ version_of old page = ap (λ st. version_of st page) (raises.lower low) in omega arith)
-    (λ (high : version_of old page < version). let a : version_of new page ≡ version = (raises.higher high).version_is in omega arith)
-    (let t : (version ≤ version_of old page) ⊎ (version_of old page < version) = grind arith in t)
+-- another page stays
+raised_other : (old new : Store) (page anchor g : ℕ) (image : List ℕ) → Raises old page anchor image new → g ≢ page → SamePage old new g
+raised_other old new page anchor g image raises differs =
+    ⊎_elim (λ (same : SamePage old new g). same) (λ t. absurd (differs t.0)) (one_page old new (stored page anchor image) g raises)
 
--- one page more
-more_reached : (s : State) (page : ℕ) (next : Option ℕ) (old new : Store) (folded : Folded) (k anchor : ℕ) (r : RecordData) → IsPageAfter s.held (Some page) next → FoldsTo s (Some page) old → Raises old folded.page folded.version folded.image new → FoldsPage s k page folded → IsCompleteEpoch s.cuts k → HasAnchor s k anchor → Contains s.held r → IsPassed next r.page → anchor ≤ version_of new r.page
-more_reached s page next old new folded k anchor r after before raises folds at has h passed =
-    let le : r.page ≤ page = passed_to s.held page next r after h passed in
-    let up : version_of old r.page ≤ version_of new r.page = raises_up old new folded.page folded.version folded.image raises r.page in
-    ⊎_elim
-    (λ (lt : r.page < page). let was : anchor ≤ version_of old r.page = before.reached k anchor r at has h lt in omega arith)
-    (λ (e : r.page ≡ page).
-    let to : folded.version ≤ version_of new folded.page = raises_to old new folded.page folded.version folded.image raises in
-    let there : version_of new r.page ≡ version_of new folded.page = ap (version_of new) (e ∙ sym folds.page_is) in
-    let same : anchor ≡ folded.version = one_anchor s k anchor folded.version has folds.version_is in
-    omega arith)
-    (let t : (r.page < page) ⊎ (r.page ≡ page) = grind arith in t)
+-- ---- one page more
+-- the page is folded to the anchor, and raised in the store
+pub record FoldsOne (s : State) (anchor page : ℕ) (next : Option ℕ) (old : Store) (image : List ℕ) (new : Store) : Type 0 where
+  pub own : (k : ℕ) → IsCompleteEpoch s.cuts k → HasAnchor s k anchor
+  pub after : IsPageAfter s.held (Some page) next
+  pub before : FoldsTo s anchor (Some page) old
+  pub raises : Raises old page anchor image new
+  pub shows : (k : ℕ) → IsCompleteEpoch s.cuts k → Shows s k page anchor image
 
-more_keeps : (s : State) (page : ℕ) (old new : Store) (folded : Folded) → KeepsMeaning s (with_store s old) → Raises old folded.page folded.version folded.image new → ((k : ℕ) → IsCompleteEpoch s.cuts k → FoldsPage s k page folded) → KeepsMeaning s (with_store s new)
-more_keeps s page old new folded before raises folds log F sound a =
+-- no page is passed before its turn
+own_page : (s : State) (anchor page : ℕ) (old : Store) → FoldsTo s anchor (Some page) old → SamePage s.store old page
+own_page s anchor page old before = before.others page (λ r h e passed. let lt : page < page = passed in omega arith)
+
+more_versions : (s : State) (anchor page : ℕ) (next : Option ℕ) (old : Store) (image : List ℕ) (new : Store) → FoldsOne s anchor page next old image new
+    → (k : ℕ) → IsCompleteEpoch s.cuts k → (r : RecordData) → Contains s.held r → IsPassed next r.page
+    → (version_of new r.page ≡ max (version_of s.store r.page) anchor) × Shows s k r.page anchor (image_of new r.page)
+more_versions s anchor page next old image new one k at r h passed =
+    let le : r.page ≤ page = passed_to s.held page next r one.after h passed in
+    ⊎_elim
+    (λ (lt : r.page < page).
+    let same = raised_other old new page anchor r.page image one.raises (λ e. omega arith) in
+    (same.0 ∙ one.before.versions r h lt, subst (Shows s k r.page anchor) (sym same.1) (one.before.shown k r at h lt)))
+    (λ (e : page ≡ r.page).
+    subst (λ g. (version_of new g ≡ max (version_of s.store g) anchor) × Shows s k g anchor (image_of new g)) e
+    (raised_page s k page anchor image old new (own_page s anchor page old one.before) one.raises (one.shows k at)))
+    (let t : (r.page < page) ⊎ (page ≡ r.page) = grind arith in t)
+
+more_keeps : (s : State) (anchor page : ℕ) (next : Option ℕ) (old : Store) (image : List ℕ) (new : Store) → FoldsOne s anchor page next old image new
+    → KeepsMeaning s (with_store s new)
+more_keeps s anchor page next old image new one roster log F sound a =
     let at = epoch_of log F a.0 s a.1 in
-    let f = folds a.0.epoch at in
-    let final : IsFinalPage log page folded.version folded.image = anchor_page_is_final log F s a.0.epoch folded.version page folded.image sound a at f.version_is f.image_is in
-    commits_keeps (with_store s old) (with_store s new) folded folded.version (λ k it. (folds k it).version_is) (omega arith) (commits_of s old new folded raises) log F sound
-    (subst (λ g. IsFinalPage log g folded.version folded.image) (sym f.page_is) final) (before log F sound a)
+    let folded : Folded = record { page = page; version = anchor; image = image } in
+    let final : IsFinalPage roster log page anchor image = anchor_page_is_final log F s a.0.epoch anchor page image sound a at (one.own a.0.epoch at) (one.shows a.0.epoch at) in
+    commits_keeps (with_store s old) (with_store s new) folded anchor one.own (omega arith) (commits_of s old new folded one.raises) roster log F sound final (one.before.keeps roster log F sound a)
 
-pub folds_more : (s : State) (page : ℕ) (next : Option ℕ) (old new : Store) (folded : Folded) → IsPageAfter s.held (Some page) next → FoldsTo s (Some page) old → Raises old folded.page folded.version folded.image new → ((k : ℕ) → IsCompleteEpoch s.cuts k → FoldsPage s k page folded) → FoldsTo s next new
-folds_more s page next old new folded after before raises folds = record {
-  keeps = more_keeps s page old new folded before.keeps raises folds;
-  reached = λ k anchor r at has h passed. more_reached s page next old new folded k anchor r after before raises (folds k at) at has h passed;
+pub folds_more : (s : State) (anchor page : ℕ) (next : Option ℕ) (old : Store) (image : List ℕ) (new : Store) → (k : ℕ) × IsCompleteEpoch s.cuts k
+    → FoldsOne s anchor page next old image new → FoldsTo s anchor next new
+folds_more s anchor page next old image new epoch one =
+    let held = one.before.at in
+    record {
+      at = next_held s.held (Some page) next one.after;
+      keeps = more_keeps s anchor page next old image new one;
+      versions = λ r h passed. (more_versions s anchor page next old image new one epoch.0 epoch.1 r h passed).0;
+      shown = λ k r at h passed. (more_versions s anchor page next old image new one k at r h passed).1;
+      others = λ g none.
+          let differs : g ≢ page = λ e. none held.0 held.1 (held.2 ∙ sym e) (is_passed s.held page next g one.after (omega (arith, e))) in
+          let now = raised_other old new page anchor g image one.raises differs in
+          let was = one.before.others g (λ r h e passed. none r h e (let lt : g < page = passed in is_passed s.held page next g one.after (omega arith))) in
+          (now.0 ∙ was.0, now.1 ∙ was.1);
+      listed = λ i h.
+          ⊎_elim
+          (λ (q : Contains old.images i). one.before.listed i q)
+          (λ (e : i ≡ stored page anchor image). inr (held.0, held.1, held.2 ∙ ap (λ (x : StoredImage). x.page) (sym e)))
+          (raised_list old new page anchor image one.raises i h);
+      floor = raised_floor old new page anchor image one.raises ∙ one.before.floor;
+    }
+
+-- a raise of a folded page is one to the anchor
+pub raises_folded : (old new : Store) (folded : Folded) (page anchor : ℕ) → folded.page ≡ page → folded.version ≡ anchor
+    → Raises old folded.page folded.version folded.image new → Raises old page anchor folded.image new
+raises_folded old new folded page anchor e f raises = subst (λ v. Raises old page v folded.image new) f (subst (λ g. Raises old g folded.version folded.image new) e raises)
+
+pub folds_all : (s : State) (anchor : ℕ) (store : Store) → ((k : ℕ) → IsCompleteEpoch s.cuts k → HasAnchor s k anchor) → FoldsTo s anchor None store
+    → FoldsAll s store
+folds_all s anchor store own done = record {
+  keeps = done.keeps;
+  images = λ k other at has. subst (λ n. FoldsImages s k n store) (one_anchor s k anchor other (own k at) has) (record {
+    versions = λ r h. done.versions r h tt;
+    shown = λ r h. done.shown k r at h tt;
+    others = λ page none. done.others page (λ r h e passed. none r h e);
+    listed = done.listed;
+    floor = done.floor;
+  });
 }
-
-pub folds_all : (s : State) (store : Store) → FoldsTo s None store → FoldsAll s store
-folds_all s store done = record { keeps = done.keeps; reached = λ k anchor r at has h. done.reached k anchor r at has h tt }
-
--- why a plan is refused
-pub refuses_of : (s : State) (k page : ℕ) (fault : ReadFault) → IsCompleteEpoch s.cuts k → PlansFold s k page (Err fault) → RefusesTidy s fault
-refuses_of s k page (Below min) at plan = absurd plan
-refuses_of s k page (Above complete) at plan = absurd plan
-refuses_of s k page (BrokenBlockChain g n) at plan = (k, at, subst (λ h. BreaksBelowAnchor s k h n) (sym plan.0) plan.1)
-refuses_of s k page Memory at plan = tt
-
-pub sound_of : (s : State) (page : ℕ) (fault : ReadFault) → ((log facts : List Fact) (p : Position) → IsSound log → MeansAt log facts p s → IsPlanResult facts p page (Err fault)) → IsSoundState s → fault ≡ Memory
-sound_of s page fault result sound = result sound.0 sound.1 sound.3.0 sound.2 sound.3.1

@@ -19,7 +19,8 @@ use Rattle.segment_core.specs.Forgetting.{IsFoldedBelow, DiscardsJust}
 use Rattle.segment_core.proofs.OneView.{one_epoch}
 
 -- a record of the page that its image has, at or below a point
-pub folded_of : (b : BookData) (store : Store) (point page version : ℕ) → version ≡ version_of store page → (r : RecordData) → IsHotFolded b page version point r ↔ ((IsAlive b.cuts b.complete r.epoch r.number × (r.number ≤ point) × (r.number ≤ version_of store r.page)) × (r.page ≡ page))
+pub folded_of : (b : BookData) (store : Store) (point page version : ℕ) → version ≡ version_of store page → (r : RecordData)
+    → IsHotFolded b page version point r ↔ ((IsAlive b.cuts b.complete r.epoch r.number × (r.number ≤ point) × (r.number ≤ version_of store r.page)) × (r.page ≡ page))
 folded_of b store point page version same r = (
   λ h. ((h.0, h.3, subst (λ g. r.number ≤ version_of store g) (sym h.1) (let x : r.number ≤ version = h.2 in omega arith)), h.1),
   λ h. (h.0.0, h.1, (let x : r.number ≤ version_of store page = subst (λ g. r.number ≤ version_of store g) h.1 h.0.2 in omega arith), h.0.1),
@@ -47,9 +48,9 @@ discards_of k old new at just = record {
 }
 
 pub discards_keep : (old new : State) → ((k : ℕ) → IsCompleteEpoch old.cuts k → DiscardsJust k old new) → KeepsMeaning old new
-discards_keep old new just log F sound a =
+discards_keep old new just roster log F sound a =
     let at = epoch_of log F a.0 old a.1 in
-    discard_keeps a.0.epoch old new (discards_of a.0.epoch old new at (just a.0.epoch at)) log F sound a
+    discard_keeps a.0.epoch old new (discards_of a.0.epoch old new at (just a.0.epoch at)) roster log F sound a
 
 -- what a removal of the folded records at the anchor leaves
 pub discards_just : (b : BookData) (hot left : List RecordData) (base anchor : ℕ) (store : Store) → IsCompleteEpoch b.cuts b.complete
@@ -57,7 +58,7 @@ pub discards_just : (b : BookData) (hot left : List RecordData) (base anchor : �
     → Removes (λ r. IsAlive b.cuts b.complete r.epoch r.number × (r.number ≤ anchor) × (r.number ≤ version_of store r.page)) hot left
     → (k : ℕ) → IsCompleteEpoch b.cuts k → DiscardsJust k (state_of b hot base store) (state_of b left anchor store)
 discards_just b hot left base anchor store complete own gone k at = record {
-  book = record { cuts = refl; min = refl; waits = refl };
+  book = record { cuts = refl; points = refl; waits = refl };
   base = own k at;
   held = λ r. subst (λ j. Contains left r ↔ (Contains hot r × (IsFoldedBelow (state_of b hot base store) j anchor r → ⊥))) (one_epoch b.cuts b.complete k complete at) (gone r);
   store = refl;

@@ -5,25 +5,28 @@ use Rattle.redo_core.specs.Data.{RecordData}
 use Rattle.redo_core.specs.CompleteEpoch.{IsCompleteEpoch}
 use Rattle.redo_core.specs.Order.{IsGreatest}
 use Rattle.redo_core.specs.Linked.{Linked}
+use Rattle.redo_core.specs.Roster.{least}
 use Rattle.redo_core.specs.Standing.{IsAlive}
-use Rattle.segment_state.specs.State.{State, version_of}
+use Rattle.segment_state.specs.State.{State, min_of, version_of}
 use Rattle.segment_state.specs.HasMeaning.{HasAnchor}
 use Rattle.segment_state.specs.Shedding.{CommitsImage}
 use Rattle.segment_core.specs.Folding.{Commits}
 use Rattle.segment_core.specs.Forgetting.{DiscardsJust}
-use Rattle.segment_core.specs.declared.folds.Folded.{Folded}
+use Rattle.segment_core.specs.declared.fold_plan.Folded.{Folded}
 use Rattle.segment_core.proofs.OneView.{one_anchor}
 
 -- a commit moves neither the anchor nor a view
-same_view : (k anchor page version : ℕ) (image : List ℕ) (old new : State) → CommitsImage old page version image new → HasAnchor old k anchor → HasAnchor new k anchor
+same_view : (k anchor page version : ℕ) (image : List ℕ) (old new : State) → CommitsImage old page version image new → HasAnchor old k anchor
+    → HasAnchor new k anchor
 same_view k anchor page version image old new commits has =
-    subst (λ cs. IsGreatest (λ n. Linked cs new.held k new.base n × (n ≤ new.min)) anchor) (sym commits.book.cuts)
-    (subst (λ m. IsGreatest (λ n. Linked old.cuts new.held k new.base n × (n ≤ m)) anchor) (sym commits.book.min)
-    (subst (λ hs. IsGreatest (λ n. Linked old.cuts hs k new.base n × (n ≤ old.min)) anchor) (sym commits.held)
-    (subst (λ b. IsGreatest (λ n. Linked old.cuts old.held k b n × (n ≤ old.min)) anchor) (sym commits.base) has)))
+    subst (λ cs. IsGreatest (λ n. Linked cs new.held k new.base n × (n ≤ min_of new)) anchor) (sym commits.book.cuts)
+    (subst (λ ps. IsGreatest (λ n. Linked old.cuts new.held k new.base n × (n ≤ least ps)) anchor) (sym commits.book.points)
+    (subst (λ hs. IsGreatest (λ n. Linked old.cuts hs k new.base n × (n ≤ min_of old)) anchor) (sym commits.held)
+    (subst (λ b. IsGreatest (λ n. Linked old.cuts old.held k b n × (n ≤ min_of old)) anchor) (sym commits.base) has)))
 
 -- so the anchor stays, and the page has the version at least
-committed : (k anchor : ℕ) (old new : State) (folded : Folded) → HasAnchor old k anchor → Commits old folded new → HasAnchor new k anchor × (folded.version ≤ version_of new.store folded.page)
+committed : (k anchor : ℕ) (old new : State) (folded : Folded) → HasAnchor old k anchor → Commits old folded new
+    → HasAnchor new k anchor × (folded.version ≤ version_of new.store folded.page)
 committed k anchor old new folded has commits =
     ⊎_elim
     (λ (low : folded.version ≤ version_of old.store folded.page).

@@ -5,8 +5,11 @@ pub mod BlockChain
 pub mod OneView
 pub mod Committing
 pub mod Pages
+pub mod Keys
+pub mod SamePages
 pub mod Forget
 pub mod PlanFold
 pub mod FoldPages
+pub mod FirstBreak
 pub mod Tidying
 pub mod Forgotten

@@ -25,7 +25,8 @@ none_passed held None r after h passed = after r h tt
 none_passed held (Some next) r after h passed = let low : next ≤ r.page = after.1 r h tt in omega arith
 
 -- then those up to the last one are
-pub passed_to : (held : List RecordData) (page : ℕ) (next : Option ℕ) (r : RecordData) → IsPageAfter held (Some page) next → Contains held r → IsPassed next r.page → r.page ≤ page
+pub passed_to : (held : List RecordData) (page : ℕ) (next : Option ℕ) (r : RecordData) → IsPageAfter held (Some page) next → Contains held r
+    → IsPassed next r.page → r.page ≤ page
 passed_to held page None r after h passed = ⊎_elim (λ (low : r.page ≤ page). low) (λ (high : page < r.page). absurd (after r h high)) (let t : (r.page ≤ page) ⊎ (page < r.page) = grind arith in t)
 passed_to held page (Some next) r after h passed = ⊎_elim (λ (low : r.page ≤ page). low) (λ (high : page < r.page). let least : next ≤ r.page = after.1 r h high in absurd (omega arith)) (let t : (r.page ≤ page) ⊎ (page < r.page) = grind arith in t)
 
@@ -41,7 +42,9 @@ pub removes_none : (P : RecordData → Type 0) (held : List RecordData) (next : 
 removes_none P held next after r = (λ h. (h, λ p. none_passed held next r after h p.1), λ h. h.0)
 
 -- one page more
-pub removes_more : (P Q : RecordData → Type 0) (old held rest : List RecordData) (page : ℕ) (next : Option ℕ) → ((r : RecordData) → Q r ↔ (P r × (r.page ≡ page))) → RemovesPassed P (Some page) old held → Removes Q held rest → IsPageAfter rest (Some page) next → RemovesPassed P next old rest
+pub removes_more : (P Q : RecordData → Type 0) (old held rest : List RecordData) (page : ℕ) (next : Option ℕ)
+    → ((r : RecordData) → Q r ↔ (P r × (r.page ≡ page))) → RemovesPassed P (Some page) old held → Removes Q held rest
+    → IsPageAfter rest (Some page) next → RemovesPassed P next old rest
 removes_more P Q old held rest page next same before now after r = (
   λ h.
       let was = (now r).0 h in (

@@ -23,19 +23,24 @@ use Rattle.segment_core.specs.declared.answers.Front.{Front}
 use Rattle.segment_core.proofs.Chain.{one_epoch}
 
 -- the listed records over the page's image are the page that the state shows
-pub shown : (b : BookData) (hs : List RecordData) (base : ℕ) (store : Store) (page version q : ℕ) (written : List RecordData) (image : List ℕ) → IsCompleteEpoch b.cuts b.complete → version ≡ version_of store page → Lists BeforeByNumber (IsHotOf b hs page version q) written → image ≡ after_records (image_of store page) written → (k : ℕ) → IsCompleteEpoch b.cuts k → Shows (state_of b hs base store) k page q image
+pub shown : (b : BookData) (hs : List RecordData) (base : ℕ) (store : Store) (page version q : ℕ) (written : List RecordData) (image : List ℕ)
+    → IsCompleteEpoch b.cuts b.complete → version ≡ version_of store page → Lists BeforeByNumber (IsHotOf b hs page version q) written
+    → image ≡ after_records (image_of store page) written → (k : ℕ) → IsCompleteEpoch b.cuts k → Shows (state_of b hs base store) k page q image
 shown b hs base store page version q written image complete same lists result k at =
     let listed = subst (λ v. Lists BeforeByNumber (IsHotOf b hs page v q) written) same lists in
     subst (λ j. Shows (state_of b hs base store) j page q image) (one_epoch b.cuts b.complete k complete at) (record { written = written; lists = listed; result = result })
 
 -- above the complete point
-pub above : (p : Position) (front : Front) (q : ℕ) → IsFrontAt p front → front.min ≤ q → front.complete < q → (front.complete ≡ p.complete) × (p.min ≤ q) × (p.complete < q)
+pub above : (p : Position) (front : Front) (q : ℕ) → IsFrontAt p front → front.min ≤ q → front.complete < q
+    → (front.complete ≡ p.complete) × (p.min ≤ q) × (p.complete < q)
 above p front q at low high = (at.complete, omega (arith, at.min, low), omega (arith, at.complete, high))
 
 -- the shown page is the page of the facts, at an admissible point
-pub true_page : (log facts : List Fact) (p : Position) (s : State) (front : Front) (page q : ℕ) (image : List ℕ) → IsSound log → MeansAt log facts p s → IsFrontAt p front → front.min ≤ q → q ≤ front.complete → ((k : ℕ) → IsCompleteEpoch s.cuts k → Shows s k page q image) → ((p.min ≤ q) × (q ≤ p.complete)) × IsPageAt facts p.epoch page q image
-true_page log facts p s front page q image sound means at low high shows =
-    let l = log_of_sound log sound in
+pub true_page : {roster : ℕ} (log facts : List Fact) (p : Position) (s : State) (front : Front) (page q : ℕ) (image : List ℕ) → IsSound roster log
+    → MeansAt roster log facts p s → IsFrontAt p front → front.min ≤ q → q ≤ front.complete
+    → ((k : ℕ) → IsCompleteEpoch s.cuts k → Shows s k page q image) → ((p.min ≤ q) × (q ≤ p.complete)) × IsPageAt facts p.epoch page q image
+true_page {roster} log facts p s front page q image sound means at low high shows =
+    let l = log_of_sound roster log sound in
     let least : p.min ≤ q = omega (arith, at.min, low) in
     let most : q ≤ p.complete = omega (arith, at.complete, high) in
     let settled : p.anchor ≤ q = omega (arith, (anchor_is facts p means.position).1, least) in

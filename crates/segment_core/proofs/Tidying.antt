@@ -1,5 +1,5 @@
 -- What a tidy leaves.
-use Rattle.std.proofs.Common.{ℕ, ◌<◌, ◌≤◌, ◌⊎◌, ◌↔◌, inl, inr, ⊎_elim, List, refl, sym, ◌∙◌, subst, arith}
+use Rattle.std.proofs.Common.{◌≡◌, ℕ, ◌<◌, ◌≤◌, ◌⊎◌, ◌↔◌, inl, inr, ⊎_elim, List, refl, sym, ◌∙◌, subst, arith, max}
 use Rattle.std.specs.List.{Contains}
 use Rattle.redo_core.specs.Data.{RecordData}
 use Rattle.redo_core.specs.CompleteEpoch.{IsCompleteEpoch}
@@ -16,7 +16,7 @@ use Rattle.segment_state.proofs.Own.{epoch_of, anchor_law}
 use Rattle.segment_state.proofs.Same.{kept_as}
 use Rattle.segment_state.proofs.Shed.{removal_keeps}
 use Rattle.segment_core.specs.Answering.{state_of}
-use Rattle.segment_core.specs.Forgetting.{with_store, IsFoldedBelow, DiscardsJust, FoldsAll, Tidies, HoldsJustKept}
+use Rattle.segment_core.specs.Forgetting.{with_store, IsFoldedBelow, DiscardsJust, FoldsImages, FoldsAll, Tidies, HoldsJustKept}
 use Rattle.segment_core.proofs.OneView.{one_epoch}
 
 -- just the dead records are gone
@@ -25,9 +25,11 @@ pub record RemovesJustDead (k : ℕ) (old new : State) : Type 0 where
   pub held : (r : RecordData) → Contains new.held r ↔ (Contains old.held r × (IsDead old.cuts k r.epoch r.number → ⊥))
   pub rest : SameBase old new
 
-pub removes_just : (b : BookData) (hot left : List RecordData) (base : ℕ) (store : Store) → IsCompleteEpoch b.cuts b.complete → Removes (λ r. IsDead b.cuts b.complete r.epoch r.number) hot left → (k : ℕ) → IsCompleteEpoch b.cuts k → RemovesJustDead k (state_of b hot base store) (state_of b left base store)
+pub removes_just : (b : BookData) (hot left : List RecordData) (base : ℕ) (store : Store) → IsCompleteEpoch b.cuts b.complete
+    → Removes (λ r. IsDead b.cuts b.complete r.epoch r.number) hot left → (k : ℕ) → IsCompleteEpoch b.cuts k
+    → RemovesJustDead k (state_of b hot base store) (state_of b left base store)
 removes_just b hot left base store complete gone k at = record {
-  book = record { cuts = refl; min = refl; waits = refl };
+  book = record { cuts = refl; points = refl; waits = refl };
   held = λ r. subst (λ j. Contains left r ↔ (Contains hot r × (IsDead b.cuts j r.epoch r.number → ⊥))) (one_epoch b.cuts b.complete k complete at) (gone r);
   rest = record { base = refl; store = refl };
 }
@@ -54,12 +56,13 @@ removal_of k old new at just = record {
 }
 
 pub removals_keep : (old new : State) → ((k : ℕ) → IsCompleteEpoch old.cuts k → RemovesJustDead k old new) → KeepsMeaning old new
-removals_keep old new just log F sound a =
+removals_keep old new just roster log F sound a =
     let at = epoch_of log F a.0 old a.1 in
-    removal_keeps a.0.epoch old new (removal_of a.0.epoch old new at (just a.0.epoch at)) log F sound a
+    removal_keeps a.0.epoch old new (removal_of a.0.epoch old new at (just a.0.epoch at)) roster log F sound a
 
 -- with every page folded to the anchor, what is neither folded nor dead is kept
-kept_by : (s : State) (k anchor : ℕ) (store : Store) (r : RecordData) → (Contains s.held r → anchor ≤ version_of store r.page) → (Contains s.held r × (IsFoldedBelow (with_store s store) k anchor r → ⊥) × (IsDead s.cuts k r.epoch r.number → ⊥)) ↔ IsKeptBy s k anchor r
+kept_by : (s : State) (k anchor : ℕ) (store : Store) (r : RecordData) → (Contains s.held r → anchor ≤ version_of store r.page)
+    → (Contains s.held r × (IsFoldedBelow (with_store s store) k anchor r → ⊥) × (IsDead s.cuts k r.epoch r.number → ⊥)) ↔ IsKeptBy s k anchor r
 kept_by s k anchor store r reached = (
   λ h. (
     h.0,
@@ -90,21 +93,26 @@ kept_by s k anchor store r reached = (
   ),
 )
 
+-- a folded page has reached the anchor
+reached_by : (s : State) (k anchor : ℕ) (store : Store) → FoldsImages s k anchor store → (r : RecordData) → Contains s.held r → anchor ≤ version_of store r.page
+reached_by s k anchor store images r h = let e : version_of store r.page ≡ max (version_of s.store r.page) anchor = images.versions r h in omega arith
+
 -- fold all, discard, and remove the dead
-pub tidies_of : (s discarded new : State) (store : Store) → FoldsAll s store → ((k : ℕ) → IsCompleteEpoch s.cuts k → DiscardsJust k (with_store s store) discarded) → ((k : ℕ) → IsCompleteEpoch discarded.cuts k → RemovesJustDead k discarded new) → (k : ℕ) → IsCompleteEpoch s.cuts k → Tidies k s new
+pub tidies_of : (s discarded new : State) (store : Store) → FoldsAll s store
+    → ((k : ℕ) → IsCompleteEpoch s.cuts k → DiscardsJust k (with_store s store) discarded)
+    → ((k : ℕ) → IsCompleteEpoch discarded.cuts k → RemovesJustDead k discarded new) → (k : ℕ) → IsCompleteEpoch s.cuts k → Tidies k s new
 tidies_of s discarded new store folds discards removes k at =
     let d = discards k at in
     let at' : IsCompleteEpoch discarded.cuts k = subst (λ cs. IsCompleteEpoch cs k) (sym d.book.cuts) at in
     let m = removes k at' in
     let anchor : HasAnchor s k discarded.base = d.base in
+    let images = folds.images k discarded.base at anchor in
     record {
-      book = record { cuts = m.book.cuts ∙ d.book.cuts; min = m.book.min ∙ d.book.min; waits = m.book.waits ∙ d.book.waits };
+      book = record { cuts = m.book.cuts ∙ d.book.cuts; points = m.book.points ∙ d.book.points; waits = m.book.waits ∙ d.book.waits };
       base = subst (HasAnchor s k) (sym m.rest.base) anchor;
-      folded = λ r h.
-          subst (λ kept. new.base ≤ version_of kept r.page) (sym (m.rest.store ∙ d.store))
-          (subst (λ b. b ≤ version_of store r.page) (sym m.rest.base) (folds.reached k discarded.base r at anchor h));
+      images = subst (FoldsImages s k new.base) (sym (m.rest.store ∙ d.store)) (subst (λ b. FoldsImages s k b store) (sym m.rest.base) images);
       held = λ r.
-          let t = kept_by s k discarded.base store r (folds.reached k discarded.base r at anchor) in
+          let t = kept_by s k discarded.base store r (reached_by s k discarded.base store images r) in
           subst (λ b. Contains new.held r ↔ IsKeptBy s k b r) (sym m.rest.base) (
             λ h.
                 let u = (m.held r).0 h in
@@ -118,13 +126,13 @@ tidies_of s discarded new store folds discards removes k at =
 
 -- what is held then is what the facts keep
 pub holds_kept : (old new : State) → ((k : ℕ) → IsCompleteEpoch old.cuts k → Tidies k old new) → HoldsJustKept old new
-holds_kept old new tidies log F p r sound m =
+holds_kept old new tidies roster log F p r sound m =
     let at = epoch_of log F p old m in
     let t = tidies p.epoch at in
-    let e = (anchor_law log F p old p.epoch new.base (log_of_sound log sound) m at t.base).1 in
+    let e = (anchor_law log F p old p.epoch new.base (log_of_sound roster log sound) m at t.base).1 in
     let own : Contains new.held r ↔ IsKeptBy old p.epoch p.anchor r = subst (λ b. Contains new.held r ↔ IsKeptBy old p.epoch b r) e (t.held r) in
     let kept = kept_as log F p old m r in
     (λ h. kept.0 (own.0 h), λ h. own.1 (kept.1 h))
 
 pub keeps_on : (a b c : State) → KeepsMeaning a b → KeepsMeaning b c → KeepsMeaning a c
-keeps_on a b c f g log F sound m = g log F sound (f log F sound m)
+keeps_on a b c f g roster log F sound m = g roster log F sound (f roster log F sound m)

@@ -1,6 +1,6 @@
 -- What an adoption of base images does to a segment.
 use Rattle.std.specs.Prelude.{◌≡◌, ℕ, List, max}
-use Rattle.page_base.specs.Adopting.{Adopts}
+use Rattle.page_base.specs.Adopting.{Adopts, StoresJust}
 use Rattle.segment_state.specs.State.{State, SameBook}
 
 -- the base point and the base images are raised to a base, with the images given, and the rest is as it was
@@ -9,3 +9,4 @@ pub record AdoptsBase (old : State) (base : ℕ) (given : List (ℕ × List ℕ)
   pub held : new.held ≡ old.held
   pub base_is : new.base ≡ max old.base base
   pub store : Adopts old.store base given new.store
+  pub listed : StoresJust old.store base given new.store

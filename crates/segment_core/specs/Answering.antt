@@ -17,13 +17,14 @@ use Rattle.segment_state.specs.State.{State, Store}
 use Rattle.segment_core.specs.declared.answers.Taken.{Taken}
 use Rattle.segment_core.specs.declared.answers.Taken.TheVariants.{Changed, Unchanged}
 use Rattle.segment_core.specs.declared.answers.Refusal.{Refusal}
-use Rattle.segment_core.specs.declared.answers.Refusal.TheVariants.{OtherCut, Contradiction, OtherRecord, Memory}
+use Rattle.segment_core.specs.declared.answers.Refusal.TheVariants.{OtherRoster, OtherCut, Contradiction, OtherRecord, Memory}
 
 -- the state of a segment with this book, these held records, this base point and these images
 abbrev pub state_of : BookData → List RecordData → ℕ → Store → State
-state_of b held base store = record { cuts = b.cuts; min = b.min; waits = b.waits; held = held; base = base; store = store }
+state_of b held base store = record { cuts = b.cuts; points = b.points; waits = b.waits; held = held; base = base; store = store }
 
 abbrev pub refusal_of : BookRefusal → Refusal
+refusal_of (book.OtherRoster own shown) = OtherRoster own shown
 refusal_of (book.OtherCut c) = OtherCut c
 refusal_of (book.Contradiction held) = Contradiction held
 refusal_of book.Memory = Memory

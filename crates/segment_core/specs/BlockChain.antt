@@ -1,10 +1,10 @@
 -- Where the block chain of a page is broken.
-use Rattle.std.specs.Prelude.{◌≡◌, ℕ, ◌<◌, ◌≤◌, ◌⊎◌, ◌↔◌, List, Result, Err}
+use Rattle.std.specs.Prelude.{◌≡◌, ℕ, false, ◌<◌, ◌≤◌, ◌⊎◌, ◌↔◌, List, Result, Err}
 use Rattle.std.specs.List.{Contains}
 use Rattle.redo_core.specs.Data.{RecordData}
 use Rattle.redo_core.specs.CompleteEpoch.{IsCompleteEpoch}
 use Rattle.redo_core.specs.Standing.{IsAlive}
-use Rattle.segment_state.specs.State.{State, version_of}
+use Rattle.segment_state.specs.State.{State, min_of, version_of}
 use Rattle.segment_state.specs.HasMeaning.{IsLinkedIn, HasComplete}
 use Rattle.segment_core.specs.declared.answers.ReadFault.{ReadFault}
 use Rattle.segment_core.specs.declared.answers.ReadFault.TheVariants.{BrokenBlockChain}
@@ -17,15 +17,16 @@ IsKnownLinked s k n = (n ≤ s.base) ⊎ IsLinkedIn s k n
 abbrev pub IsLinkedOf : State → ℕ → ℕ → ℕ → RecordData → Type 0
 IsLinkedOf s k page q r = Contains s.held r × IsAlive s.cuts k r.epoch r.number × IsKnownLinked s k r.number × (r.page ≡ page) × (r.number ≤ q)
 
--- the records on the walk down the block backlinks, from a first one to the version of the page's image
+-- the records on the walk down the block backlinks, from a first one to the version of the page's image, or to a record with `init`
 pub data OnBlockChain (s : State) (k page q : ℕ) (first : RecordData) : RecordData → Type 0 where
   start : OnBlockChain s k page q first first
-  down : (r below : RecordData) → OnBlockChain s k page q first r → version_of s.store page < r.block_back → IsLinkedOf s k page q below → below.number ≡ r.block_back → OnBlockChain s k page q first below
+  down : (r below : RecordData) → OnBlockChain s k page q first r → r.init ≡ false → version_of s.store page < r.block_back → IsLinkedOf s k page q below → below.number ≡ r.block_back → OnBlockChain s k page q first below
 
--- on that walk, n is the number of a record whose block backlink leads nowhere
+-- on that walk, n is the number of a record without `init` whose block backlink leads nowhere
 pub record BreaksFrom (s : State) (k page q : ℕ) (first : RecordData) (n : ℕ) : Type 0 where
   pub at : RecordData
   pub on : OnBlockChain s k page q first at
+  pub follows : at.init ≡ false
   pub above : version_of s.store page < at.block_back
   pub nowhere : (below : RecordData) → IsLinkedOf s k page q below → below.number ≡ at.block_back → ⊥
   pub number : at.number ≡ n
@@ -39,7 +40,7 @@ pub record BreaksAt (s : State) (k page q n : ℕ) : Type 0 where
 
 -- the point q is one at which the state is read: from its minimum read point to its complete point
 abbrev pub IsReadable : State → ℕ → ℕ → Type 0
-IsReadable s k q = (s.min ≤ q) × ((complete : ℕ) × HasComplete s k complete × (q ≤ complete))
+IsReadable s k q = (min_of s ≤ q) × ((complete : ℕ) × HasComplete s k complete × (q ≤ complete))
 
 -- a broken block chain is answered exactly where a readable point has one, over any facts
 abbrev pub TellsBreak : State → ℕ → ℕ → Result (List ℕ) ReadFault → Type 0

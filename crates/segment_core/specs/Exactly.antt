@@ -5,18 +5,20 @@ use Rattle.redo_core.specs.declared.facts.Fact.{Fact}
 use Rattle.redo_core.specs.declared.refusal.Refused.{Refused}
 use Rattle.segment_state.specs.State.{State}
 use Rattle.segment_state.specs.Promises.{TakesFact}
-use Rattle.segment_core.specs.Taking.{TellsKnown}
+use Rattle.segment_core.specs.Taking.{TellsKnown, Stores, IsNew}
 use Rattle.segment_core.specs.Refusing.{Refuses}
 use Rattle.segment_core.specs.declared.answers.Taken.{Taken}
-use Rattle.segment_core.specs.declared.answers.Taken.TheVariants.{Unchanged}
+use Rattle.segment_core.specs.declared.answers.Taken.TheVariants.{Changed, Unchanged}
 use Rattle.segment_core.specs.declared.answers.Refusal.{Refusal}
 use Rattle.segment_core.specs.declared.answers.Refusal.TheVariants.{Memory}
 
 pub record TakesExactly (old : State) (fact : Fact) (result : Result Taken (Refused Fact Refusal)) (new : State) : Type 0 where
   pub means : OnOk result (TakesFact old fact new)
   pub known : IfOk result (TellsKnown old fact)
+  pub stores : IfOk result (λ taken. taken ≡ Changed → Stores old fact new)
   pub idle : IfOk result (λ taken. taken ≡ Unchanged → new ≡ old)
   pub refuses : (k : ℕ) (why : Refusal) → IsCompleteEpoch old.cuts k → Refuses old k fact why → IsErrAnd result (λ e. e.fault ≡ why)
   pub refused : IfErr result (λ e. (e.fault ≡ Memory) ⊎ ((k : ℕ) × IsCompleteEpoch old.cuts k × Refuses old k fact e.fault))
+  pub memory : IfErr result (λ e. e.fault ≡ Memory → IsNew old fact)
   pub back : IfErr result (λ e. e.value ≡ fact)
   pub unchanged : OnErr result (new ≡ old)

@@ -7,14 +7,15 @@ use Rattle.redo_core.specs.declared.facts.Fact.{Fact}
 use Rattle.redo_core.specs.declared.refusal.Refused.{Refused}
 use Rattle.segment_state.specs.State.{State, version_of}
 use Rattle.segment_state.specs.Shows.{Shows}
+use Rattle.page_base.specs.Raising.{Raises}
 use Rattle.segment_state.specs.Shedding.{CommitsImage}
 use Rattle.segment_state.specs.HasMeaning.{HasAnchor}
 use Rattle.segment_core.specs.BlockChain.{BreaksAt}
 use Rattle.segment_core.specs.declared.answers.ReadFault.{ReadFault}
 use Rattle.segment_core.specs.declared.answers.ReadFault.TheVariants.{BrokenBlockChain, Memory}
-use Rattle.segment_core.specs.declared.folds.Folded.{Folded}
-use Rattle.segment_core.specs.declared.folds.CommitFault.{CommitFault}
-use Rattle.segment_core.specs.declared.folds.CommitFault.TheVariants as commit
+use Rattle.segment_core.specs.declared.fold_plan.Folded.{Folded}
+use Rattle.segment_core.specs.declared.fold_plan.CommitFault.{CommitFault}
+use Rattle.segment_core.specs.declared.fold_plan.CommitFault.TheVariants as commit
 
 -- the page of the facts at their anchor
 pub record IsFoldOf (facts : List Fact) (p : Position) (page : ℕ) (folded : Folded) : Type 0 where
@@ -44,9 +45,10 @@ PlansFold s k page (Err (BrokenBlockChain g n)) = (g ≡ page) × BreaksBelowAnc
 PlansFold s k page (Err Memory) = (n : ℕ) → BreaksBelowAnchor s k page n → ⊥
 PlansFold s k page (Err fault) = ⊥
 
--- a page takes the image where its version is above the page's own; else nothing changes
+-- a page takes the image where its version is above the page's own, and no other image is stored; else nothing changes
 pub record Commits (old : State) (folded : Folded) (new : State) : Type 0 where
   pub older : folded.version ≤ version_of old.store folded.page → new ≡ old
+  pub images : Raises old.store folded.page folded.version folded.image new.store
   pub newer : version_of old.store folded.page < folded.version → CommitsImage old folded.page folded.version folded.image new
 
 -- why a fold is not committed: its version is above the anchor, or it is above the page's own and memory is wanting

@@ -1,5 +1,5 @@
 -- What a discard and a tidy leave.
-use Rattle.std.specs.Prelude.{◌≡◌, ℕ, ◌≤◌, ◌↔◌, List}
+use Rattle.std.specs.Prelude.{◌≡◌, ◌≢◌, ℕ, ◌≤◌, ◌⊎◌, ◌↔◌, max, List, Result, Err}
 use Rattle.std.specs.List.{Contains}
 use Rattle.redo_core.specs.Data.{RecordData}
 use Rattle.redo_core.specs.CompleteEpoch.{IsCompleteEpoch}
@@ -8,7 +8,9 @@ use Rattle.redo_core.specs.Position.{Position}
 use Rattle.redo_core.specs.Sound.{IsSound}
 use Rattle.redo_core.specs.Meaning.{IsKept}
 use Rattle.redo_core.specs.declared.facts.Fact.{Fact}
-use Rattle.segment_state.specs.State.{State, Store, SameBook, version_of}
+use Rattle.segment_state.specs.State.{State, Store, StoredImage, SameBook, version_of, image_of}
+use Rattle.segment_state.specs.Shows.{Shows}
+use Rattle.page_base.specs.Raising.{SamePage}
 use Rattle.segment_state.specs.Means.{MeansAt, Means}
 use Rattle.segment_state.specs.HasMeaning.{HasAnchor, IsKeptBy}
 use Rattle.segment_state.specs.Promises.{KeepsMeaning}
@@ -29,32 +31,56 @@ pub record DiscardsJust (k : ℕ) (old new : State) : Type 0 where
 
 -- the state with other base images
 abbrev pub with_store : State → Store → State
-with_store s store = record { cuts = s.cuts; min = s.min; waits = s.waits; held = s.held; base = s.base; store = store }
+with_store s store = record { cuts = s.cuts; points = s.points; waits = s.waits; held = s.held; base = s.base; store = store }
 
--- base images with which the state means the same, where each page of a held record has reached the anchor
+-- Each page of a held record shows what the state itself shows at the anchor, at that version unless its own is higher. Each other
+-- page stays, and no image is stored but for those pages.
+pub record FoldsImages (s : State) (k anchor : ℕ) (store : Store) : Type 0 where
+  pub versions : (r : RecordData) → Contains s.held r → version_of store r.page ≡ max (version_of s.store r.page) anchor
+  pub shown : (r : RecordData) → Contains s.held r → Shows s k r.page anchor (image_of store r.page)
+  pub others : (page : ℕ) → ((r : RecordData) → Contains s.held r → r.page ≢ page) → SamePage s.store store page
+  pub listed : (i : StoredImage) → Contains store.images i → Contains s.store.images i ⊎ ((r : RecordData) × Contains s.held r × (r.page ≡ i.page))
+  pub floor : store.floor ≡ s.store.floor
+
+-- base images with which the state means the same, where the pages of held records are folded to the anchor
 pub record FoldsAll (s : State) (store : Store) : Type 0 where
   pub keeps : KeepsMeaning s (with_store s store)
-  pub reached : (k anchor : ℕ) (r : RecordData) → IsCompleteEpoch s.cuts k → HasAnchor s k anchor → Contains s.held r → anchor ≤ version_of store r.page
+  pub images : (k anchor : ℕ) → IsCompleteEpoch s.cuts k → HasAnchor s k anchor → FoldsImages s k anchor store
 
--- the base point is the anchor, which the image of each page of a held record has reached, and just the kept records are held
+-- the base point is the anchor, to which the pages of held records are folded, and just the kept records are held
 pub record Tidies (k : ℕ) (old new : State) : Type 0 where
   pub book : SameBook old new
   pub base : HasAnchor old k new.base
-  pub folded : (r : RecordData) → Contains old.held r → new.base ≤ version_of new.store r.page
+  pub images : FoldsImages old k new.base new.store
   pub held : (r : RecordData) → Contains new.held r ↔ IsKeptBy old k new.base r
 
 -- they are the kept records of the facts
 abbrev pub HoldsJustKept : State → State → Type 0
 HoldsJustKept old new =
-    (log facts : List Fact) (p : Position) (r : RecordData)
-    → IsSound log → MeansAt log facts p old → Contains new.held r ↔ IsKept facts p r
+    (roster : ℕ) (log facts : List Fact) (p : Position) (r : RecordData)
+    → IsSound roster log → MeansAt roster log facts p old → Contains new.held r ↔ IsKept facts p r
 
 -- the state means a part of some sound log
 abbrev pub IsSoundState : State → Type 0
-IsSoundState s = (log facts : List Fact) × IsSound log × Means log facts s
+IsSoundState s = (roster : ℕ) × (log facts : List Fact) × IsSound roster log × Means roster log facts s
 
--- why a tidy is refused: a block chain is broken at or below the anchor, or memory is wanting
+-- no block chain is broken at or below the anchor
+abbrev pub IsWhole : State → Type 0
+IsWhole s = (k page n : ℕ) → IsCompleteEpoch s.cuts k → BreaksBelowAnchor s k page n → ⊥
+
+-- of the pages whose block chain is broken there, this is the least, and its chain is broken at the record n
+pub record IsFirstBreak (s : State) (k page n : ℕ) : Type 0 where
+  pub breaks : BreaksBelowAnchor s k page n
+  pub least : (other m : ℕ) → BreaksBelowAnchor s k other m → page ≤ other
+
+-- a broken block chain is answered exactly where there is one, and then of the least page, over any facts
+abbrev pub TellsFirstBreak : State → Result Unit ReadFault → Type 0
+TellsFirstBreak s result =
+    (k page n : ℕ) → IsCompleteEpoch s.cuts k
+    → (result ≡ Err (BrokenBlockChain page n)) ↔ IsFirstBreak s k page n
+
+-- why a tidy is refused: the first broken block chain, or, with none broken, want of memory
 abbrev pub RefusesTidy : State → ReadFault → Type 0
-RefusesTidy s (BrokenBlockChain page n) = (k : ℕ) × IsCompleteEpoch s.cuts k × BreaksBelowAnchor s k page n
-RefusesTidy s Memory = Unit {0}
+RefusesTidy s (BrokenBlockChain page n) = (k : ℕ) × IsCompleteEpoch s.cuts k × IsFirstBreak s k page n
+RefusesTidy s Memory = IsWhole s
 RefusesTidy s fault = ⊥

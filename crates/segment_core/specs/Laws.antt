@@ -6,7 +6,7 @@ use Rattle.redo_core.specs.CompleteEpoch.{IsCompleteEpoch}
 use Rattle.redo_core.specs.Standing.{IsAlive}
 use Rattle.segment_state.specs.State.{State}
 use Rattle.segment_state.specs.HasMeaning.{HasAnchor}
-use Rattle.segment_core.specs.declared.folds.Folded.{Folded}
+use Rattle.segment_core.specs.declared.fold_plan.Folded.{Folded}
 use Rattle.segment_core.specs.Folding.{Commits}
 use Rattle.segment_core.specs.Forgetting.{DiscardsJust}
 

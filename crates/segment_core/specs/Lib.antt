@@ -1,5 +1,7 @@
 pub mod Taking
 pub mod Refusing
+pub mod Form
+pub mod Standing
 pub mod Reading
 pub mod BlockChain
 pub mod Answering
@@ -7,5 +9,7 @@ pub mod Exactly
 pub mod Folding
 pub mod Forgetting
 pub mod Adopting
+pub mod Uniting
+pub mod Comparing
 pub mod Keys
 pub mod Laws

@@ -5,7 +5,7 @@ use Rattle.redo_core.specs.Position.{Position}
 use Rattle.redo_core.specs.Answer.{IsReadAnswer}
 use Rattle.redo_core.specs.Answer.ReadAnswer.{Image as OfImage, Below as OfBelow, Above as OfAbove}
 use Rattle.redo_core.specs.declared.facts.Fact.{Fact}
-use Rattle.segment_state.specs.State.{State}
+use Rattle.segment_state.specs.State.{State, min_of}
 use Rattle.segment_state.specs.HasMeaning.{HasComplete}
 use Rattle.segment_core.specs.declared.answers.Front.{Front}
 use Rattle.segment_core.specs.declared.answers.ReadFault.{ReadFault}
@@ -21,7 +21,7 @@ pub record IsFrontAt (p : Position) (front : Front) : Type 0 where
 pub record IsFrontOf (s : State) (front : Front) : Type 0 where
   pub epoch : IsCompleteEpoch s.cuts front.epoch
   pub complete : HasComplete s front.epoch front.complete
-  pub min : front.min ≡ s.min
+  pub min : front.min ≡ min_of s
 
 -- Below or Above, as the facts have it; a sound log breaks no block chain
 abbrev pub IsReadFault : List Fact → Position → ℕ → ℕ → ReadFault → Type 0
@@ -39,5 +39,5 @@ IsReadResult facts p page q (Err fault) = IsReadFault facts p page q fault
 abbrev pub TellsOutside : State → ℕ → Result (List ℕ) ReadFault → Type 0
 TellsOutside s q result =
     (k complete n : ℕ) → IsCompleteEpoch s.cuts k → HasComplete s k complete
-    → ((result ≡ Err (Below n)) ↔ ((n ≡ s.min) × (q < s.min)))
-    × ((result ≡ Err (Above n)) ↔ ((n ≡ complete) × (s.min ≤ q) × (complete < q)))
+    → ((result ≡ Err (Below n)) ↔ ((n ≡ min_of s) × (q < min_of s)))
+    × ((result ≡ Err (Above n)) ↔ ((n ≡ complete) × (min_of s ≤ q) × (complete < q)))

@@ -13,15 +13,15 @@ use Rattle.segment_state.specs.State.{State}
 use Rattle.segment_state.specs.Means.{Means}
 use Rattle.segment_state.specs.HasMeaning.{IsSettled}
 use Rattle.segment_core.specs.declared.answers.Refusal.{Refusal}
-use Rattle.segment_core.specs.declared.answers.Refusal.TheVariants.{OtherCut, Contradiction, OtherRecord}
+use Rattle.segment_core.specs.declared.answers.Refusal.TheVariants.{OtherRoster, OtherCut, Contradiction, OtherRecord}
 
 -- the truncations and advances that are stored, in view k
 abbrev pub book_in : ℕ → State → BookData
-book_in k s = book_of s.cuts k s.min s.waits
+book_in k s = book_of s.cuts k s.points s.waits
 
 -- a record that is dead, or alive at or below the anchor, is not compared
-abbrev pub IsNotCompared : State → ℕ → RecordData → Type 0
-IsNotCompared s k r = IsDead s.cuts k r.epoch r.number ⊎ (IsAlive s.cuts k r.epoch r.number × IsSettled s k r.number)
+abbrev pub IsDeadOrSettled : State → ℕ → RecordData → Type 0
+IsDeadOrSettled s k r = IsDead s.cuts k r.epoch r.number ⊎ (IsAlive s.cuts k r.epoch r.number × IsSettled s k r.number)
 
 -- another record is held under its key
 abbrev pub HoldsOther : State → RecordData → Type 0
@@ -31,10 +31,11 @@ HoldsOther s r = (other : RecordData) × Contains s.held other × (other.epoch �
 abbrev pub Refuses : State → ℕ → Fact → Refusal → Type 0
 Refuses s k (Cut c) (OtherCut d) = RefusesCut (book_in k s) c (book.OtherCut d)
 Refuses s k (Cut c) (Contradiction held) = RefusesCut (book_in k s) c (book.Contradiction held)
+Refuses s k (Advance a) (OtherRoster own shown) = RefusesAdvance (book_in k s) a (book.OtherRoster own shown)
 Refuses s k (Advance a) (Contradiction held) = RefusesAdvance (book_in k s) a (book.Contradiction held)
-Refuses s k (Record r) OtherRecord = (IsNotCompared s k r → ⊥) × HoldsOther s r
+Refuses s k (Record r) OtherRecord = (IsDeadOrSettled s k r → ⊥) × HoldsOther s r
 Refuses s k fact why = ⊥
 
 -- the fact stands in a sound log, and the state means a part of it
 abbrev pub FitsSoundLog : State → Fact → Type 0
-FitsSoundLog s fact = (log facts : List Fact) × IsSound log × Contains log fact × Means log facts s
+FitsSoundLog s fact = (roster : ℕ) × (log facts : List Fact) × IsSound roster log × Contains log fact × Means roster log facts s

@@ -4,22 +4,27 @@
 //! `Changed` exactly where the meaning changed, and is refused for want of memory alone; `front`, `anchor` and `read` answer for
 //! the part, whatever order its facts came in. A fold (`plan_fold`, `FoldPlan::fold`, `commit_fold`) brings a page's image to
 //! the anchor, a `discard` forgets the records that images have, a `tidy` leaves just the kept ones: all keep what the segment
-//! means. Over any facts each refusal comes exactly where its definition says, and so does a broken block chain.
+//! means. Over any facts a take says what it stored, each refusal but want of memory comes exactly where its definition says, and so
+//! does a broken block chain. A `draft` takes facts apart from the images, and `take_union` takes it over, whole or not at all.
 #![tactic(auto)]
 
 mod answers;
-#[cfg(test)]
-mod fold_tests;
-mod folding;
-mod folds;
+mod comparing;
+mod fold_plan;
+mod known;
 pub mod laws;
+#[cfg(test)]
+mod samples;
 mod segment;
+mod shedding;
 mod stored;
 #[cfg(test)]
 mod tests;
+mod union;
 mod walk;
 
 pub use answers::{Front, ReadFault, Refusal, Taken};
-pub use epoch_book::Held;
-pub use folds::{CommitFault, FoldPlan, Folded};
+pub use epoch_book::{Held, Standing};
+pub use fold_plan::{CommitFault, FoldPlan, Folded};
+pub use page_base::BaseImage;
 pub use segment::Segment;

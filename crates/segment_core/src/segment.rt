@@ -11,8 +11,11 @@ ghost use Rattle.segment_state.specs.HasMeaning.{HasAnchor, IsSettled};
 ghost use Rattle.redo_core.specs.Writing.{after_records};
 ghost use Rattle.segment_state.specs.Shows.{Shows};
 ghost use Rattle.segment_state.specs.Promises.{TakesFact};
-ghost use Rattle.segment_core.specs.Taking.{TellsChange, TellsKnown};
-ghost use Rattle.segment_core.specs.Refusing.{Refuses, IsNotCompared, FitsSoundLog};
+ghost use Rattle.segment_core.specs.Taking.{TellsChange, TellsKnown, Stores, IsNew};
+ghost use Rattle.redo_core.specs.Linked.{IsLinked};
+ghost use Rattle.segment_core.specs.Form.{IsSegment};
+ghost use Rattle.segment_core.specs.Standing.{StandsAt};
+ghost use Rattle.segment_core.specs.Refusing.{Refuses, IsDeadOrSettled, FitsSoundLog};
 ghost use Rattle.hot_log.specs.Held.{IsHeld};
 ghost use Rattle.hot_log.specs.Alive.{IsLinkedHeld};
 ghost use Rattle.hot_log.specs.Found.{IsOnlyRecord};
@@ -22,13 +25,13 @@ ghost use Rattle.segment_core.specs.Exactly.{TakesExactly};
 ghost use Rattle.segment_core.specs.Reading.{IsFrontAt, IsFrontOf, IsReadResult, TellsOutside};
 ghost use Rattle.segment_core.specs.declared.answers.Refusal.{Refusal as AnyRefusal};
 ghost use Rattle.segment_core.specs.declared.answers.Refusal.TheVariants.{Memory as MemoryOf};
-ghost use Rattle.segment_core.specs.declared.answers.Taken.TheVariants.{Unchanged as UnchangedOf};
+ghost use Rattle.segment_core.specs.declared.answers.Taken.TheVariants.{Changed as ChangedOf, Unchanged as UnchangedOf};
 
 use crate::answers::{Front, ReadFault, Refusal, Taken};
 use epoch_book::{BookRefusal, EpochBook, Learnt, Standing};
 use hot_log::{HotLog, Put, PutFault};
 use page_base::BaseStore;
-use redo_core::{Advance, Cut, Fact, MAX_NUMBER, Page, Record, Refused, apply};
+use redo_core::{Advance, Cut, Fact, MAX_NUMBER, Page, Record, Refused, Roster, apply};
 use std::alloc::{AllocError, Global};
 use std::marker::Model;
 
@@ -49,28 +52,30 @@ impl Model for Segment {
     ghost use Rattle.std.specs.Prelude.{◌≤◌};
     ghost use Rattle.hot_log.specs.Held.{IsHeld};
     ghost use Rattle.page_base.specs.Stored.{IsStored};
+    ghost use Rattle.redo_core.specs.Roster.{least};
     ghost use Rattle.segment_core.specs.Answering.{state_of};
 
     ghost Value = { State };
 
     ghost view = { λ s. state_of s.book s.hot s.base s.store };
 
-    ghost invariant = { λ s. IsBook s.book × IsHeld s.hot × IsStored s.store × (s.base ≤ s.book.min) };
+    ghost invariant = { λ s. IsBook s.book × IsHeld s.hot × IsStored s.store × (s.base ≤ least s.book.points) };
 }
 
 impl Segment {
-    /// A segment that no fact has reached.
-    pub fn new(alloc: Global) -> Self
-        ensures empty { result ≡ empty_state }
-        ensures means { (log : List AnyFact) → Means log [] result }
+    /// A segment of a roster of readers, that no fact has reached. Its only error is want of memory.
+    pub fn new(alloc: Global, roster: Roster) -> Result<Self, AllocError>
+        ensures empty { IfOk result (λ s. s ≡ empty_state roster) }
+        ensures means { IfOk result (λ s. (log : List AnyFact) → Means roster log [] s) }
     {
-        Segment {
+        let book = EpochBook::new(alloc, roster)?;
+        Ok(Segment {
             alloc,
-            book: EpochBook::new(alloc),
+            book,
             hot: HotLog::new(alloc),
             base: 0,
             store: BaseStore::new(alloc),
-        }
+        })
     }
 
     /// An equal segment with memory of its own. Its only error is want of memory.
@@ -89,7 +94,7 @@ impl Segment {
     /// Takes one fact into the segment, and says whether that changed what the segment means.
     ///
     /// A record that is dead, or alive at or below the anchor, changes nothing and is not compared.
-    /// Errors: `OtherCut`, `Contradiction`, `OtherRecord`, `Memory`; the segment is then as it was, and the fact comes back.
+    /// Errors: `OtherRoster`, `OtherCut`, `Contradiction`, `OtherRecord`, `Memory`; the segment is then as it was, and the fact comes back.
     pub fn take(&mut self, fact: Fact) -> Result<Taken, Refused<Fact, Refusal>>
         // For the facts that the segment means.
         ensures means { OnOk result (TakesFact self.old fact self.new) }
@@ -98,9 +103,11 @@ impl Segment {
 
         // Over any facts.
         ensures known { IfOk result (TellsKnown self.old fact) }
+        ensures stores { IfOk result (λ taken. taken ≡ ChangedOf → Stores self.old fact self.new) }
         ensures idle { IfOk result (λ taken. taken ≡ UnchangedOf → self.new ≡ self.old) }
         ensures refuses { (k : ℕ) (why : AnyRefusal) → IsCompleteEpoch self.old.cuts k → Refuses self.old k fact why → IsErrAnd result (λ e. e.fault ≡ why) }
         ensures refused { IfErr result (λ e. (e.fault ≡ MemoryOf) ⊎ ((k : ℕ) × IsCompleteEpoch self.old.cuts k × Refuses self.old k fact e.fault)) }
+        ensures memory { IfErr result (λ e. e.fault ≡ MemoryOf → IsNew self.old fact) }
         ensures back { IfErr result (λ e. e.value ≡ fact) }
         ensures unchanged { OnErr result (self.new ≡ self.old) }
     {
@@ -109,8 +116,9 @@ impl Segment {
 
     /// The complete epoch, the complete point and the minimum read point.
     pub fn front(&self) -> Front
-        ensures front { (log facts : List AnyFact) (p : Position) → IsSound log → MeansAt log facts p self.now → IsFrontAt p result }
+        ensures front { (roster : ℕ) (log facts : List AnyFact) (p : Position) → IsSound roster log → MeansAt roster log facts p self.now → IsFrontAt p result }
         ensures own { IsFrontOf self.now result }
+        ensures form { IsSegment self.now }
     {
         Front {
             epoch: self.book.complete_epoch(),
@@ -119,9 +127,18 @@ impl Segment {
         }
     }
 
+    /// Each reader's point, by reader; the least of them is the minimum read point.
+    pub fn points(&self) -> &[u64]
+        ensures points { (roster : ℕ) (log facts : List AnyFact) (p : Position) → IsSound roster log → MeansAt roster log facts p self.now → result.now ≡ p.points }
+        ensures own { result.now ≡ self.now.points }
+        ensures form { IsSegment self.now }
+    {
+        self.book.points()
+    }
+
     /// The greatest linked number that is not above the minimum read point.
     pub fn anchor(&self) -> u64
-        ensures anchor { (log facts : List AnyFact) (p : Position) → IsSound log → MeansAt log facts p self.now → result ≡ p.anchor }
+        ensures anchor { (roster : ℕ) (log facts : List AnyFact) (p : Position) → IsSound roster log → MeansAt roster log facts p self.now → result ≡ p.anchor }
         ensures own { (k : ℕ) → IsCompleteEpoch self.now.cuts k → HasAnchor self.now k result }
     {
         self.hot
@@ -130,9 +147,18 @@ impl Segment {
 
     /// The number up to which the segment knows that it is complete, whatever it has thrown away.
     pub fn base_point(&self) -> u64
-        ensures { result ≡ self.now.base }
+        ensures base { (roster : ℕ) (log facts : List AnyFact) (p : Position) → IsSound roster log → MeansAt roster log facts p self.now → IsLinked facts p.epoch result × (result ≤ p.anchor) }
+        ensures own { result ≡ self.now.base }
+        ensures form { IsSegment self.now }
     {
         self.base
+    }
+
+    /// How a record of an epoch and number stands in the segment's view.
+    pub fn stands(&self, epoch: u16, number: u64) -> Standing
+        ensures { (k : ℕ) → IsCompleteEpoch self.now.cuts k → StandsAt self.now k epoch number result }
+    {
+        self.book.stands(epoch, number)
     }
 }
 
@@ -142,7 +168,7 @@ impl Segment {
     /// Errors: `Below` with the minimum read point where the point is below it, else `Above` with the complete point where the
     /// point is above it, else `BrokenBlockChain` with the record whose block backlink leads nowhere; `Memory`.
     pub fn read(&self, page: u16, point: u64) -> Result<Page, ReadFault>
-        ensures result { (log facts : List AnyFact) (p : Position) → IsSound log → MeansAt log facts p self.now → IsReadResult facts p page point result }
+        ensures result { (roster : ℕ) (log facts : List AnyFact) (p : Position) → IsSound roster log → MeansAt roster log facts p self.now → IsReadResult facts p page point result }
         // Over any facts.
         ensures own { IfOk result (λ image. (k : ℕ) → IsCompleteEpoch self.now.cuts k → Shows self.now k page point image) }
         ensures outside { TellsOutside self.now point result }
@@ -167,7 +193,7 @@ impl Segment {
     }
 
     /// The page's image with its held records up to the point.
-    fn page_at(&self, page: u16, point: u64) -> Result<Page, AllocError>
+    pub(crate) fn page_at(&self, page: u16, point: u64) -> Result<Page, AllocError>
         ensures { IfOk result (λ image. (k : ℕ) → IsCompleteEpoch self.now.cuts k → Shows self.now k page point image) }
     {
         let version = self.store.version(page);
@@ -213,8 +239,8 @@ impl Segment {
     }
 
     /// Whether a record is dead, or alive at or below the anchor.
-    fn is_not_compared(&self, redo: &Record) -> bool
-        ensures value { (k : ℕ) → IsCompleteEpoch self.now.cuts k → IsTrue result ↔ IsNotCompared self.now k redo.now }
+    fn is_dead_or_settled(&self, redo: &Record) -> bool
+        ensures value { (k : ℕ) → IsCompleteEpoch self.now.cuts k → IsTrue result ↔ IsDeadOrSettled self.now k redo.now }
         ensures epoch { (k : ℕ) × IsCompleteEpoch self.now.cuts k }
     {
         match self.book.stands(redo.epoch(), redo.number()) {
@@ -227,7 +253,7 @@ impl Segment {
     fn take_record(&mut self, redo: Record) -> Result<Taken, Refused<Fact, Refusal>>
         ensures { TakesExactly self.old (OfRecord redo) result self.new }
     {
-        if self.is_not_compared(&redo) {
+        if self.is_dead_or_settled(&redo) {
             return Ok(Taken::Unchanged);
         }
         put_answer(self.hot.put(redo))
@@ -254,6 +280,7 @@ fn book_refusal(refusal: BookRefusal) -> Refusal
     ensures { result ≡ refusal_of refusal }
 {
     match refusal {
+        BookRefusal::OtherRoster { own, shown } => Refusal::OtherRoster { own, shown },
         BookRefusal::OtherCut(cut) => Refusal::OtherCut(cut),
         BookRefusal::Contradiction(held) => Refusal::Contradiction(held),
         BookRefusal::Memory => Refusal::Memory,

@@ -3,8 +3,9 @@ ghost use Rattle.std.specs.Option.{option_copied};
 ghost use Rattle.redo_core.specs.Order.{IsRising, CutBefore, AdvanceBefore, RecordBefore, Lists, BeforeByNumber};
 ghost use Rattle.redo_core.specs.CompleteEpoch.{IsCompleteEpoch};
 ghost use Rattle.hot_log.specs.Held.{IsRecordAt, IsKeyAfter};
+ghost use Rattle.hot_log.specs.Found.{IsPageAfter};
 ghost use Rattle.page_base.specs.Stored.{IsStored};
-ghost use Rattle.segment_state.specs.State.{version_of, image_of};
+ghost use Rattle.segment_state.specs.State.{min_of, version_of, image_of};
 ghost use Rattle.segment_core.specs.Adopting.{AdoptsBase};
 ghost use Rattle.segment_core.specs.Keys.{key_of, IsAliveOf};
 
@@ -19,10 +20,11 @@ impl Segment {
         ensures keys { IfOk result (λ v. v.items ≡ map key_of self.now.held) }
         ensures rising { IsRising RecordBefore self.now.held }
     {
-        let records = self.hot.records();
-        let mut keys = Vec::with_capacity(self.alloc, records.len())?;
-        for redo in records {
-            keys.push((redo.epoch(), redo.number()))?;
+        let mut keys = Vec::with_capacity(self.alloc, self.hot.len())?;
+        let mut next = self.hot.key_after(None);
+        while let Some(key) = next {
+            keys.push(key)?;
+            next = self.hot.key_after(Some(key));
         }
         Ok(keys)
     }
@@ -35,7 +37,7 @@ impl Segment {
         self.book.cuts()
     }
 
-    /// The advances that wait for their epoch, rising by epoch and point.
+    /// The advances that wait for their epoch, rising by epoch, reader and point.
     pub fn waits(&self) -> &[Advance]
         ensures value { result.now ≡ self.now.waits }
         ensures rising { IsRising AdvanceBefore self.now.waits }
@@ -48,6 +50,13 @@ impl Segment {
         ensures { IsKeyAfter self.now.held after result }
     {
         self.hot.key_after(after)
+    }
+
+    /// The least page above the one given that a held record writes, whatever its standing; the least of all for None.
+    pub fn page_after(&self, after: Option<u16>) -> Option<u16>
+        ensures { IsPageAfter self.now.held after result }
+    {
+        self.hot.page_after(after)
     }
 
     /// The held record of a key.
@@ -63,6 +72,13 @@ impl Segment {
         ensures rising { IsStored self.now.store }
     {
         self.store.pages()
+    }
+
+    /// The version of the pages that have no base image, which are zeros.
+    pub fn floor(&self) -> u64
+        ensures { result ≡ self.now.store.floor }
+    {
+        self.store.floor()
     }
 
     /// A copy of a page's base image. Its only error is want of memory.
@@ -96,7 +112,7 @@ impl Segment {
         base: u64,
         pages: Vec<(u16, Page)>,
     ) -> Result<(), Refused<Vec<(u16, Page)>, AllocError>>
-        requires { base ≤ self.old.min }
+        requires { base ≤ min_of self.old }
         ensures adopts { OnOk result (AdoptsBase self.old base pages.items self.new) }
         ensures refused { IfErr result (λ e. e.value ≡ pages) }
         ensures unchanged { OnErr result (self.new ≡ self.old) }

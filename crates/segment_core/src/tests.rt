@@ -1,76 +1,286 @@
-use crate::{Held, ReadFault, Refusal, Segment, Taken};
-use redo_core::{Advance, Cut, Fact, Record, Write};
-use std::alloc::Global;
+use crate::samples::*;
+use crate::{BaseImage, CommitFault, Front, Held, ReadFault, Refusal, Segment, Standing};
+use redo_core::Fact;
+use std::alloc::{AllocError, Global};
 use std::test::Fail;
 
-// A record of epoch 0 that puts one byte at the start of its page.
-fn redo(alloc: Global, number: u64, back: u64, block_back: u64, byte: u8) -> Result<Fact, Fail> {
-    let mut writes = Vec::new(alloc);
-    writes.push(Write::new(0, [byte].to_vec(alloc)?))?;
-    let record = Record::new(0, number, back, 7, block_back, writes);
-    Ok(Fact::Record(record.ok().ok_or("shape")?))
-}
-
-fn cut(epoch: u16, lo: u64, hi: u64) -> Result<Cut, Fail> {
-    Ok(Cut::new(epoch, lo, hi).ok().ok_or("shape")?)
-}
-
-fn min(epoch: u16, point: u64) -> Result<Fact, Fail> {
-    Ok(Fact::Advance(Advance::new(epoch, point).ok().ok_or("shape")?))
-}
-
-// What a take answers, without the fact that a refusal gives back.
-fn taken(segment: &mut Segment, fact: Fact) -> Result<Taken, Refusal> {
-    match segment.take(fact) {
-        Ok(taken) => Ok(taken),
-        Err(refused) => Err(refused.fault),
+fn front(epoch: u16, complete: u64, min: u64) -> Front {
+    Front {
+        epoch,
+        complete,
+        min,
     }
 }
 
+fn refusals(segment: &mut Segment) -> Result<[Option<Refusal>; 4], Fail> {
+    let facts = (
+        cut(1, 6, 20)?,
+        advance(1, 0, 9)?,
+        advance(2, 1, 9)?,
+        cut(2, 4, 20)?,
+    );
+    Ok([
+        refusal(segment, Fact::Cut(facts.0)),
+        refusal(segment, Fact::Advance(facts.1)),
+        refusal(segment, Fact::Advance(facts.2)),
+        refusal(segment, Fact::Cut(facts.3)),
+    ])
+}
+
 #[test]
-fn another_record_and_a_broken_block_chain(rt: HostRuntime) -> Result<(), Fail> {
-    let alloc = rt.alloc();
-    let mut segment = Segment::new(alloc);
-    assert_eq!(rt;
-        taken(&mut segment, redo(alloc, 3, 0, 0, 0x61)?),
-        Ok(Taken::Changed)
-    );
-    assert_eq!(rt;
-        taken(&mut segment, redo(alloc, 3, 0, 0, 0x62)?),
-        Err(Refusal::OtherRecord)
-    );
-    assert_eq!(rt;
-        taken(&mut segment, redo(alloc, 5, 3, 2, 0x63)?),
-        Ok(Taken::Changed)
-    );
-    assert!(rt; segment.read(7, 4).is_ok());
-    assert_eq!(rt;
-        segment.read(7, 5).err(),
-        Some(ReadFault::BrokenBlockChain { page: 7, number: 5 })
-    );
+fn refused_facts(rt: HostRuntime) -> Result<(), Fail> {
+    let held = cut(1, 5, 20)?;
+    let mut one = four_facts(rt.alloc())?;
+    take(&mut one, Fact::Cut(held));
+    let refused = refusals(&mut one)?;
+    assert!(rt; refused[0] == Some(Refusal::OtherCut(held)));
+    assert!(rt; refused[1] == Some(Refusal::Contradiction(Held::Cut(held))));
+    assert!(rt; refused[2] == Some(Refusal::OtherRoster { own: 1, shown: 2 }));
+    assert!(rt; refused[3] == Some(Refusal::Contradiction(Held::Min(5))));
+    Ok(())
+}
+
+fn refuses_another_record(segment: &mut Segment, alloc: Global) -> Result<bool, Fail> {
+    let other = redo(alloc, (0, 9), 5, (8, 0), false, (0, b"d"))?;
+    Ok(refusal(segment, other) == Some(Refusal::OtherRecord))
+}
+
+#[test]
+fn another_record(rt: HostRuntime) -> Result<(), Fail> {
+    let mut one = four_facts(rt.alloc())?;
+    let refused = refuses_another_record(&mut one, rt.alloc())?;
+    assert!(rt; refused);
+    Ok(())
+}
+
+const BROKEN: ReadFault = ReadFault::BrokenBlockChain { page: 7, number: 5 };
+
+// A plan and a tidy are refused by the broken chain, and change nothing.
+fn refuses_a_broken_chain(segment: &mut Segment) -> bool {
+    let before = what_shows(segment);
+    let planned = segment.plan_fold(7).err();
+    let tidied = segment.tidy().err();
+    planned == Some(BROKEN) && tidied == Some(BROKEN) && what_shows(segment) == before
+}
+
+#[test]
+fn a_block_chain_that_leads_nowhere(rt: HostRuntime) -> Result<(), Fail> {
+    let advance = advance(1, 0, 5)?;
+    let mut one = broken(rt.alloc(), false)?;
+    assert!(rt; one.read(7, 5).err() == Some(BROKEN));
+    take(&mut one, Fact::Advance(advance));
+    assert!(rt; refuses_a_broken_chain(&mut one));
     Ok(())
 }
 
 #[test]
-fn refusals_of_the_book(rt: HostRuntime) -> Result<(), Fail> {
-    let alloc = rt.alloc();
-    let held = cut(1, 5, 20)?;
-    let mut segment = Segment::new(alloc);
-    assert_eq!(rt; taken(&mut segment, Fact::Cut(held)), Ok(Taken::Changed));
-    assert_eq!(rt;
-        taken(&mut segment, Fact::Cut(cut(1, 6, 20)?)),
-        Err(Refusal::OtherCut(held))
-    );
-    assert_eq!(rt;
-        taken(&mut segment, min(0, 9)?),
-        Err(Refusal::Contradiction(Held::Cut(held)))
-    );
+fn a_page_that_begins_anew(rt: HostRuntime) -> Result<(), Fail> {
+    let one = broken(rt.alloc(), true)?;
+    assert!(rt; read(&one, 7, 5) == Some((b'c', 0)));
+    Ok(())
+}
 
-    let mut other = Segment::new(alloc);
-    assert_eq!(rt; taken(&mut other, min(0, 9)?), Ok(Taken::Changed));
-    assert_eq!(rt;
-        taken(&mut other, Fact::Cut(held)),
-        Err(Refusal::Contradiction(Held::Min(9)))
-    );
+// The front after a fact of the log of two readers, with page 7 folded and discarded behind the fourth.
+fn front_after(segment: &mut Segment, alloc: Global, place: u8) -> Result<Front, Fail> {
+    take(segment, of_two(alloc, place)?);
+    if place == 4 {
+        folds(segment, 7);
+        segment.discard();
+    }
+    Ok(segment.front())
+}
+
+#[test]
+fn two_readers(rt: HostRuntime) -> Result<(), Fail> {
+    let fronts = [
+        front(0, 3, 0),
+        front(0, 5, 0),
+        front(0, 5, 0),
+        front(0, 5, 3),
+        front(1, 3, 3),
+        front(1, 21, 3),
+        front(1, 21, 5),
+    ];
+    let mut two = segment(rt.alloc(), 2)?;
+    for place in 1..8u8 {
+        let now = front_after(&mut two, rt.alloc(), place)?;
+        assert!(rt; now == fronts[usize::from(place) - 1], "{place}");
+    }
+    assert!(rt; two.points() == [5, 21].as_slice());
+    assert!(rt; two.read(7, 4).err() == Some(ReadFault::Below { min: 5 }));
+    assert!(rt; (read(&two, 7, 5), read(&two, 7, 21)) == (Some((b'a', 0)), Some((b'c', 0))));
+    Ok(())
+}
+
+// Why a fold of page 7 at version 9 is not committed, and that it comes back.
+fn fold_ahead(segment: &mut Segment, alloc: Global) -> Result<Option<CommitFault>, AllocError> {
+    let folded = folded(alloc, 7, 9, 0)?;
+    match segment.commit_fold(folded) {
+        Err(refused) if refused.value.version == 9 => Ok(Some(refused.fault)),
+        _ => Ok(None),
+    }
+}
+
+#[test]
+fn a_fold_ahead_of_the_anchor(rt: HostRuntime) -> Result<(), Fail> {
+    let mut one = four_facts(rt.alloc())?;
+    let fault = fold_ahead(&mut one, rt.alloc())?;
+    let ahead = CommitFault::Ahead {
+        version: 9,
+        anchor: 5,
+    };
+    assert!(rt; fault == Some(ahead));
+    Ok(())
+}
+
+#[test]
+fn folded_and_discarded(rt: HostRuntime) -> Result<(), Fail> {
+    let mut one = four_facts(rt.alloc())?;
+    assert!(rt; folds(&mut one, 7) && folds(&mut one, 7));
+    one.discard();
+    let left = Shown {
+        front: front(0, 9, 5),
+        base: 5,
+        held: 1,
+        least: Some((0, 9)),
+        images: 1,
+        versions: (5, 0),
+    };
+    assert!(rt; what_shows(&one) == left);
+    let changed = take_places(&mut one, rt.alloc(), 1, 6)?;
+    assert!(rt; changed == 2);
+    assert!(rt; (read(&one, 7, 21), read(&one, 7, 10)) == (Some((b'z', b'b')), Some((b'a', b'b'))));
+    Ok(())
+}
+
+#[test]
+fn tidied_twice(rt: HostRuntime) -> Result<(), Fail> {
+    let mut one = four_facts(rt.alloc())?;
+    let tidy = Shown {
+        front: front(0, 9, 5),
+        base: 5,
+        held: 1,
+        least: Some((0, 9)),
+        images: 2,
+        versions: (5, 5),
+    };
+    for time in [1, 2] {
+        assert!(rt; one.tidy().is_ok());
+        assert!(rt; what_shows(&one) == tidy, "{time}");
+    }
+    Ok(())
+}
+
+fn stores(segment: &mut Segment) -> Result<bool, Fail> {
+    let later = advance(1, 2, 6)?;
+    let held = cut(1, 5, 20)?;
+    take(segment, Fact::Advance(later));
+    take(segment, Fact::Cut(held));
+    Ok(segment.cuts() == [held].as_slice() && segment.waits() == [later].as_slice())
+}
+
+#[test]
+fn what_is_stored(rt: HostRuntime) -> Result<(), Fail> {
+    let mut one = four_facts(rt.alloc())?;
+    let stored = stores(&mut one)?;
+    assert!(rt; stored);
+    assert!(rt; one.key_after(Some((0, 5))) == Some((0, 9)));
+    assert!(rt; one.stands(0, 5) == Standing::Alive && one.stands(0, 6) == Standing::Dead);
+    assert!(rt; one.stands(2, 1) == Standing::Waiting);
+    Ok(())
+}
+
+// How many alive records of page 7 are above number 3.
+fn count(segment: &Segment) -> Result<usize, AllocError> {
+    Ok(segment.records_of(7, 3, 9)?.len())
+}
+
+#[test]
+fn what_is_found(rt: HostRuntime) -> Result<(), Fail> {
+    let one = four_facts(rt.alloc())?;
+    assert!(rt; one.get(0, 5).map(|redo| redo.block_back()) == Some(3));
+    assert!(rt; (one.page_after(None), one.page_after(Some(8))) == (Some(7), None));
+    assert!(rt; count(&one)? == 1);
+    Ok(())
+}
+
+fn adopts(segment: &mut Segment, alloc: Global) -> Result<bool, Fail> {
+    let mut given = Vec::new(alloc);
+    given.push((8, folded(alloc, 8, 5, b'y')?.image))?;
+    let base = segment.front().min;
+    Ok(segment.adopt(base, given).is_ok())
+}
+
+// Page 8 alone has an image, and each page is at the base point 5.
+fn is_adopted(segment: &Segment) -> bool {
+    let at_base = segment.base_point() == 5 && segment.version(7) == 5 && segment.floor() == 5;
+    at_base && segment.pages().len() == 1 && read(segment, 8, 5) == Some((b'y', b'y'))
+}
+
+#[test]
+fn adopted_images(rt: HostRuntime) -> Result<(), Fail> {
+    let mut one = four_facts(rt.alloc())?;
+    let adopted = adopts(&mut one, rt.alloc())?;
+    assert!(rt; adopted && is_adopted(&one));
+    Ok(())
+}
+
+fn two_images(alloc: Global) -> Result<Vec<BaseImage>, Fail> {
+    let mut images = Vec::new(alloc);
+    images.push(image(alloc, 7, 5, b'x')?)?;
+    images.push(image(alloc, 8, 2, b'y')?)?;
+    Ok(images)
+}
+
+// A draft that knows the truncation more.
+fn drafted(segment: &Segment) -> Result<Segment, Fail> {
+    let held = cut(1, 5, 20)?;
+    let mut draft = segment.draft()?;
+    take(&mut draft, Fact::Cut(held));
+    Ok(draft)
+}
+
+fn unites(segment: &mut Segment, alloc: Global) -> Result<bool, Fail> {
+    let draft = drafted(segment)?;
+    let images = two_images(alloc)?;
+    if draft.front().min < 5 {
+        return Ok(false);
+    }
+    Ok(segment.take_union(draft, 5, 3, images).is_ok())
+}
+
+#[test]
+fn a_union_of_a_draft_and_images(rt: HostRuntime) -> Result<(), Fail> {
+    let mut one = four_facts(rt.alloc())?;
+    let taken = unites(&mut one, rt.alloc())?;
+    let united = Shown {
+        front: front(1, 5, 5),
+        base: 5,
+        held: 3,
+        least: Some((0, 3)),
+        images: 1,
+        versions: (5, 3),
+    };
+    assert!(rt; taken);
+    assert!(rt; what_shows(&one) == united);
+    Ok(())
+}
+
+// Whether pages of a segment are those of another, which is a tidy copy of it.
+fn compared(one: &Segment, other: &Segment) -> Result<[bool; 3], AllocError> {
+    Ok([
+        one.is_same_page(7, 5, other, 5)?,
+        one.is_same_page(7, 3, other, 5)?,
+        other.is_same_page(8, 9, one, 5)?,
+    ])
+}
+
+#[test]
+fn pages_compared(rt: HostRuntime) -> Result<(), Fail> {
+    let one = four_facts(rt.alloc())?;
+    let mut other = one.copy()?;
+    let tidy = other.tidy().is_ok();
+    let same = compared(&one, &other)?;
+    assert!(rt; tidy && same == [true, false, false]);
     Ok(())
 }

@@ -1,4 +1,4 @@
-ghost use Rattle.std.specs.Prelude.{◌≡◌, ℕ, ◌≤◌, ◌↔◌, List, None, Some};
+ghost use Rattle.std.specs.Prelude.{◌≡◌, ℕ, ◌<◌, ◌≤◌, ◌↔◌, List, None, Some, IsTrue, false};
 ghost use Rattle.std.specs.Option.{option_copied};
 ghost use Rattle.redo_core.specs.CompleteEpoch.{IsCompleteEpoch};
 ghost use Rattle.redo_core.specs.Position.{Position};
@@ -15,11 +15,11 @@ impl Segment {
     /// The number of the record at which the walk down the page's block chain breaks.
     pub(crate) fn broken_link(&self, page: u16, point: u64) -> Option<u64>
         ensures breaks { (k n : ℕ) → IsCompleteEpoch self.now.cuts k → (result ≡ Some n) ↔ BreaksAt self.now k page point n }
-        ensures sound { (log facts : List AnyFact) (p : Position) → IsSound log → MeansAt log facts p self.now → point ≤ p.complete → result ≡ None }
+        ensures sound { (roster : ℕ) (log facts : List AnyFact) (p : Position) → IsSound roster log → MeansAt roster log facts p self.now → point ≤ p.complete → result ≡ None }
     {
         let version = self.store.version(page);
         let mut redo = self.last_linked_of(page, point)?;
-        while redo.block_back() > version {
+        while leads_on(redo, version) {
             match self.linked_of(page, redo.block_back()) {
                 Some(below) => redo = below,
                 None => return Some(redo.number()),
@@ -57,4 +57,11 @@ impl Segment {
             None
         }
     }
+}
+
+/// Whether a walk goes on below a record: its page does not begin anew there, and its block backlink is not in the image.
+fn leads_on(redo: &Record, version: u64) -> bool
+    ensures { IsTrue result ↔ ((redo.now.init ≡ false) × (version < redo.now.block_back)) }
+{
+    !redo.init() && version < redo.block_back()
 }

@@ -1,4 +1,4 @@
-use Rattle.std.proofs.Common.{◌≡◌, ℕ, ◌<◌, ◌≤◌, Some, None, subst, arith}
+use Rattle.std.proofs.Common.{◌≡◌, ℕ, true, false, ◌<◌, ◌≤◌, ◌⊎◌, ⊎_elim, Some, None, subst, arith}
 use Rattle.redo_core.specs.CompleteEpoch.{IsCompleteEpoch}
 use Rattle.hot_log.specs.Held.{IsHeld}
 use Rattle.hot_log.specs.Found.{IsOnlyRecord}
@@ -21,8 +21,8 @@ loop-redo-smaller c =
     let r = c.loop-redo.redo.now in
     let held = subst (λ (s : State). IsHeld s.held) c.self.view_is c.self.invariant.1 in
     let lower : r.block_back < r.number = block_lower r (held.shaped r (c.loop-redo.invariant.linked epoch.0 epoch.1).0) in
-    let back : c.block_back-in-loop-redo.result ≡ r.block_back = c.block_back-in-loop-redo.ensures.value in
-    let at : c.in-Some.below.now.number ≡ c.block_back-in-loop-redo.result = (c.in-Some.ensures epoch.0 epoch.1).0.1 in
+    let back : c.block_back.result ≡ r.block_back = c.block_back.ensures.value in
+    let at : c.in-Some.below.now.number ≡ c.block_back.result = (c.in-Some.ensures epoch.0 epoch.1).0.1 in
     omega (arith, lower, back, at)
 
 pub loop-redo-preserved : goal.loop-redo-preserved
@@ -31,13 +31,13 @@ loop-redo-preserved c =
     let r = c.loop-redo.redo.now in let below = c.in-Some.below.now in
     let held = subst (λ (x : State). IsHeld x.held) c.self.view_is c.self.invariant.1 in
     let step : (k : ℕ) → IsCompleteEpoch s.cuts k → IsBelow s k page point r below = λ k at.
-    let tested : c.block_back.result ≡ r.block_back = c.block_back.ensures.value in
-    let back : c.block_back-in-loop-redo.result ≡ r.block_back = c.block_back-in-loop-redo.ensures.value in
+    let leads = c.leads_on.ensures.0 c.loop-redo-test.true in
+    let back : c.block_back.result ≡ r.block_back = c.block_back.ensures.value in
     let lower : r.block_back < r.number = block_lower r (held.shaped r (c.loop-redo.invariant.linked k at).0) in
     let version : c.version-version.result ≡ version_of s.store page = c.loop-redo.invariant.version in
     let bound : r.number ≤ point = (c.loop-redo.invariant.linked k at).4 in
     let found = subst (λ m. IsOnlyRecord (IsLinkedAt s k page m) (Some below)) back (c.in-Some.ensures k at) in
-    walk_goes s k page point r below (omega (arith, tested, version, c.loop-redo-test.true)) (omega (arith, lower, bound)) found
+    walk_goes s k page point r below leads.0 (omega (arith, version, leads.1)) (omega (arith, lower, bound)) found
     in record {
       version = c.loop-redo.invariant.version;
       linked = λ k at. (step k at).linked;
@@ -51,10 +51,10 @@ breaks : (c : goal.After-number) → TellsLink c.args.self.now c.args.page c.arg
 breaks c = λ k n at.
     let s = c.args.self.now in let page = c.args.page in let point = c.args.point in
     let r = c.loop-redo.redo.now in
-    let tested : c.block_back.result ≡ r.block_back = c.block_back.ensures.value in
+    let leads = c.leads_on.ensures.0 c.loop-redo-test.true in
     let version : c.version-version.result ≡ version_of s.store page = c.loop-redo.invariant.version in
-    let none = subst (λ m. IsOnlyRecord (IsLinkedAt s k page m) None) c.block_back-in-loop-redo.ensures.value (c.in-None.ensures k at) in
-    answers_here s k page point r c.number.result c.number.ensures.value (walk_breaks s k page point r (omega (arith, tested, version, c.loop-redo-test.true)) none) (λ m. c.loop-redo.invariant.same k m at) n
+    let none = subst (λ m. IsOnlyRecord (IsLinkedAt s k page m) None) c.block_back.ensures.value (c.in-None.ensures k at) in
+    answers_here s k page point r c.number.result c.number.ensures.value (walk_breaks s k page point r leads.0 (omega (arith, version, leads.1)) none) (λ m. c.loop-redo.invariant.same k m at) n
 
 pub returns-in-None-clause-breaks : goal.returns-in-None-clause-breaks
 returns-in-None-clause-breaks c = breaks c
@@ -66,6 +66,12 @@ pub returns-clause-breaks : goal.returns-clause-breaks
 returns-clause-breaks c = λ k n at.
     let s = c.args.self.now in let page = c.args.page in
     let r = c.loop-redo.redo.now in
-    let tested : c.block_back.result ≡ r.block_back = c.block_back.ensures.value in
     let version : c.version-version.result ≡ version_of s.store page = c.loop-redo.invariant.version in
-    answers_none s k page c.args.point (λ m h. whole_from s k page c.args.point r m (omega (arith, tested, version, c.loop-redo-test.false)) ((c.loop-redo.invariant.same k m at).0 h)) n
+    let ends : r.init ≡ false → r.block_back ≤ version_of s.store page = λ follows.
+    ⊎_elim (λ (low : r.block_back ≤ version_of s.store page). low)
+    (λ (high : version_of s.store page < r.block_back).
+    let t : c.leads_on.result ≡ true = c.leads_on.ensures.1 (follows, omega (arith, version, high)) in
+    let f : c.leads_on.result ≡ false = c.loop-redo-test.false in
+    absurd (cc))
+    (let t : (r.block_back ≤ version_of s.store page) ⊎ (version_of s.store page < r.block_back) = grind arith in t) in
+    answers_none s k page c.args.point (λ m h. whole_from s k page c.args.point r m ends ((c.loop-redo.invariant.same k m at).0 h)) n

@@ -1,38 +1,41 @@
-use Rattle.std.proofs.Common.{◌∙◌, Some, None, sym, ap, subst}
-use Rattle.std.proofs.lemmas.Result.{err_from_is_err_and}
+use Rattle.std.proofs.Common.{◌≡◌, ℕ, ◌∙◌, Some, None, sym, ap, subst}
 use Rattle.redo_core.specs.CompleteEpoch.{IsCompleteEpoch}
 use Rattle.hot_log.specs.Found.{IsPageAfter}
 use Rattle.page_base.specs.Stored.{IsStored}
 use Rattle.segment_state.specs.State.{State}
-use Rattle.segment_core.specs.Folding.{FoldsPage}
-use Rattle.segment_core.proofs.FoldPages.{FoldsTo, folds_none, folds_more, refuses_of, sound_of}
+use Rattle.segment_state.specs.Shows.{Shows}
+use Rattle.segment_core.specs.declared.fold_plan.Folded.{Folded}
+use Rattle.segment_core.proofs.FoldPages.{FoldsTo, folds_none, folds_more, folds_all, raises_folded}
 use Rattle.segment_core.proofs.segment.Segment.folded_store.Goals as goal
 
 pub loop-next-init : goal.loop-next-init
 loop-next-init c = record {
-  form = subst IsStored (sym c.in-Ok.ensures) c.self.invariant.2;
-  folds = subst (FoldsTo c.args.self.now c.page_after-next.result) (sym (c.in-Ok.ensures ∙ ap (λ (s : State). s.store) c.self.view_is))
-      (folds_none c.args.self.now c.page_after-next.result (subst (λ (s : State). IsPageAfter s.held None c.page_after-next.result) c.self.view_is c.page_after-next.ensures));
+  form = subst IsStored (sym c.in_ok-store.ensures) c.self.invariant.2;
+  own = c.anchor-anchor.ensures.own;
+  folds = subst (FoldsTo c.args.self.now c.anchor-anchor.result c.page_after-next.result) (sym (c.in_ok-store.ensures ∙ ap (λ (s : State). s.store) c.self.view_is))
+      (folds_none c.args.self.now c.anchor-anchor.result c.page_after-next.result (subst (λ (s : State). IsPageAfter s.held None c.page_after-next.result) c.self.view_is c.page_after-next.ensures));
 }
-
-pub returns-in_err-plan_fold-clause-sound : goal.returns-in_err-plan_fold-clause-sound
-returns-in_err-plan_fold-clause-sound c =
-    let p = err_from_is_err_and c.from_residual.result c.from_residual.ensures.1 in
-    rw (p.1, p.2) (sound_of c.args.self.now c.in-Some.page c.in_err-plan_fold.field-0.0 c.in_err-plan_fold.ensures.result)
-
-pub returns-in_err-plan_fold-clause-refused : goal.returns-in_err-plan_fold-clause-refused
-returns-in_err-plan_fold-clause-refused c =
-    let p = err_from_is_err_and c.from_residual.result c.from_residual.ensures.1 in
-    rw (p.1, p.2) (let k = c.self.inside.book.complete in
-    let at = subst (λ (s : State). IsCompleteEpoch s.cuts k) c.self.view_is c.self.invariant.0.complete in
-    refuses_of c.args.self.now k c.in-Some.page c.in_err-plan_fold.field-0.0 at (c.in_err-plan_fold.ensures.own k at))
 
 pub loop-next-preserved : goal.loop-next-preserved
-loop-next-preserved c = record {
-  form = c.raise.ensures.form;
-  folds = folds_more c.args.self.now c.in-Some.page c.page_after-next-in-Some.result c.loop-next.store c.raise.new.store c.fold-folded.result
-      (subst (λ (s : State). IsPageAfter s.held (Some c.in-Some.page) c.page_after-next-in-Some.result) c.self.view_is c.page_after-next-in-Some.ensures)
-      (subst (λ next. FoldsTo c.args.self.now next c.loop-next.store) c.in-Some.is c.loop-next.invariant.folds)
-      c.in-Ok-raise.ensures.raises
-      (λ k at. subst (FoldsPage c.args.self.now k c.in-Some.page) (sym c.fold-folded.ensures) (c.in_ok-plan_fold.ensures.own k at).0);
-}
+loop-next-preserved c =
+    let s = c.args.self.now in
+    let folded = c.fold-folded.result in
+    let is : folded ≡ c.in_ok-plan_at.field-0 = c.fold-folded.ensures in
+    let anchor = c.anchor-anchor.result in record {
+      form = c.raise.ensures.form;
+      own = c.loop-next.invariant.own;
+      folds = folds_more s anchor c.in-Some.page c.page_after-next-in-Some.result c.loop-next.store folded.image c.raise.new.store
+          (subst (λ (x : State). (k : ℕ) × IsCompleteEpoch x.cuts k) c.self.view_is (c.self.inside.book.complete, c.self.invariant.0.complete))
+          (record {
+            own = c.loop-next.invariant.own;
+            after = subst (λ (x : State). IsPageAfter x.held (Some c.in-Some.page) c.page_after-next-in-Some.result) c.self.view_is c.page_after-next-in-Some.ensures;
+            before = subst (λ next. FoldsTo s anchor next c.loop-next.store) c.in-Some.is c.loop-next.invariant.folds;
+            raises = raises_folded c.loop-next.store c.raise.new.store folded c.in-Some.page anchor (ap (λ (f : Folded). f.page) is ∙ c.in_ok-plan_at.ensures.page) (ap (λ (f : Folded). f.version) is ∙ c.in_ok-plan_at.ensures.version) c.in-Ok.ensures.raises;
+            shows = λ k at. subst (λ (f : Folded). Shows s k c.in-Some.page anchor f.image) (sym is) (c.in_ok-plan_at.ensures.image k at);
+          });
+    }
+
+pub returns-clause-folds : goal.returns-clause-folds
+returns-clause-folds c =
+    folds_all c.args.self.now c.anchor-anchor.result c.loop-next.store c.loop-next.invariant.own
+    (subst (λ next. FoldsTo c.args.self.now c.anchor-anchor.result next c.loop-next.store) c.in_default.is c.loop-next.invariant.folds)

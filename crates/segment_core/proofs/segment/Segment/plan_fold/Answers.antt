@@ -3,8 +3,8 @@ use Rattle.segment_core.proofs.PlanFold.{anchor_complete, fold_of, none_broken, 
 use Rattle.segment_core.proofs.segment.Segment.plan_fold.Goals as goal
 
 pub returns-in-Some-clause-result : goal.returns-in-Some-clause-result
-returns-in-Some-clause-result c = λ log facts p sound means.
-    let none : c.broken_link.result ≡ None = c.broken_link.ensures.sound log facts p sound means (anchor_complete facts log p c.args.self.now c.anchor-anchor.result means (c.anchor-anchor.ensures.anchor log facts p sound means)) in
+returns-in-Some-clause-result c = λ roster log facts p sound means.
+    let none : c.broken_link.result ≡ None = c.broken_link.ensures.sound roster log facts p sound means (anchor_complete facts log p c.args.self.now c.anchor-anchor.result means (c.anchor-anchor.ensures.anchor roster log facts p sound means)) in
     let some : c.broken_link.result ≡ Some c.in-Some.number = c.in-Some.is in
     absurd (cc)
 
@@ -12,8 +12,8 @@ pub returns-in-Some-clause-own : goal.returns-in-Some-clause-own
 returns-in-Some-clause-own c = λ k at. (refl, (c.anchor-anchor.result, c.anchor-anchor.ensures.own k at, (c.broken_link.ensures.breaks k c.in-Some.number at).0 c.in-Some.is))
 
 pub returns-in-Ok-clause-result : goal.returns-in-Ok-clause-result
-returns-in-Ok-clause-result c = λ log facts p sound means.
-    fold_of log facts p c.args.self.now c.args.page c.anchor-anchor.result c.in-Ok.plan sound means (c.anchor-anchor.ensures.anchor log facts p sound means) c.in-Ok.ensures.page c.in-Ok.ensures.version c.in-Ok.ensures.image
+returns-in-Ok-clause-result c = λ roster log facts p sound means.
+    fold_of log facts p c.args.self.now c.args.page c.anchor-anchor.result c.in-Ok.plan sound means (c.anchor-anchor.ensures.anchor roster log facts p sound means) c.in-Ok.ensures.page c.in-Ok.ensures.version c.in-Ok.ensures.image
 
 pub returns-in-Ok-clause-own : goal.returns-in-Ok-clause-own
 returns-in-Ok-clause-own c = λ k at. (

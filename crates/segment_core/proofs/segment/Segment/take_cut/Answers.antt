@@ -11,7 +11,7 @@ pub returns : goal.returns
 returns c =
     let e = c.learn_cut.ensures in
     subst (λ s. TakesExactly s (Cut c.args.cut) c.book_answer.result (state_of c.learn_cut.new.self c.self.inside.hot c.self.inside.base c.self.inside.store)) c.self.view_is
-    (cut_exact takes_cut takes_known c.self.inside.book c.learn_cut.new.self c.self.inside.hot c.self.inside.base c.self.inside.store c.args.cut c.learn_cut.result c.book_answer.result e.book e.ok e.known e.unchanged e.err e.refuses e.refused c.book_answer.ensures)
+    (cut_exact takes_cut takes_known c.self.inside.book c.learn_cut.new.self c.self.inside.hot c.self.inside.base c.self.inside.store c.args.cut c.learn_cut.result c.book_answer.result c.self.invariant.0 e.book e.ok e.known e.unchanged e.err e.refuses e.refused e.memory c.book_answer.ensures)
 
 pub invariant_of-self : goal.invariant_of-self
 invariant_of-self c =

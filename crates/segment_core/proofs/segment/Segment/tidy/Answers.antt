@@ -1,9 +1,11 @@
-use Rattle.std.proofs.Common.{ℕ, sym, subst}
+use Rattle.std.proofs.Common.{◌≡◌, ℕ, Ok, Err, sym, subst}
 use Rattle.redo_core.specs.CompleteEpoch.{IsCompleteEpoch}
 use Rattle.segment_state.specs.State.{State}
 use Rattle.segment_state.specs.Promises.{KeepsMeaning}
 use Rattle.segment_core.specs.Answering.{state_of}
-use Rattle.segment_core.specs.Forgetting.{with_store, DiscardsJust, FoldsAll, Tidies}
+use Rattle.segment_core.specs.Forgetting.{with_store, DiscardsJust, FoldsAll, Tidies, IsFirstBreak}
+use Rattle.segment_core.specs.declared.answers.ReadFault.TheVariants.{BrokenBlockChain, Memory}
+use Rattle.segment_core.proofs.FirstBreak.{tells_first, tells_whole, sound_whole}
 use Rattle.segment_core.proofs.Tidying.{RemovesJustDead, removes_just, removals_keep, tidies_of, holds_kept, keeps_on}
 use Rattle.segment_core.proofs.segment.Segment.tidy.Goals as goal
 
@@ -17,13 +19,13 @@ discarded c = state_of c.self-2.inside.book c.self-2.inside.hot c.self-2.inside.
 unfoldable after : goal.After-remove_dead → State
 after c = state_of c.self-2.inside.book c.remove_dead.new.self c.self-2.inside.base c.self-2.inside.store
 
-folds : (c : goal.After-remove_dead) → FoldsAll (before c) c.in_ok-self-inside.field-0
+folds : (c : goal.After-remove_dead) → FoldsAll (before c) c.in-Ok.store
 unfolding before
-folds c = subst (λ s. FoldsAll s c.in_ok-self-inside.field-0) (sym c.self.view_is) c.in_ok-self-inside.ensures.folds
+folds c = subst (λ s. FoldsAll s c.in-Ok.store) (sym c.self.view_is) c.in-Ok.ensures.folds
 
-discards : (c : goal.After-remove_dead) → (k : ℕ) → IsCompleteEpoch (before c).cuts k → DiscardsJust k (with_store (before c) c.in_ok-self-inside.field-0) (discarded c)
+discards : (c : goal.After-remove_dead) → (k : ℕ) → IsCompleteEpoch (before c).cuts k → DiscardsJust k (with_store (before c) c.in-Ok.store) (discarded c)
 unfolding before discarded
-discards c k at = subst (DiscardsJust k (with_store (before c) c.in_ok-self-inside.field-0)) (sym c.self-2.view_is) (c.discard.ensures.discards k at)
+discards c k at = subst (DiscardsJust k (with_store (before c) c.in-Ok.store)) (sym c.self-2.view_is) (c.discard.ensures.discards k at)
 
 removes : (c : goal.After-remove_dead) → (k : ℕ) → IsCompleteEpoch (discarded c).cuts k → RemovesJustDead k (discarded c) (after c)
 unfolding discarded after
@@ -33,14 +35,14 @@ tidies : (c : goal.After-remove_dead) → (k : ℕ) → IsCompleteEpoch c.args.s
 unfolding before
 tidies c =
     subst (λ (s : State). (k : ℕ) → IsCompleteEpoch s.cuts k → Tidies k s (after c)) c.self.view_is
-    (tidies_of (before c) (discarded c) (after c) c.in_ok-self-inside.field-0 (folds c) (discards c) (removes c))
+    (tidies_of (before c) (discarded c) (after c) c.in-Ok.store (folds c) (discards c) (removes c))
 
 pub returns-clause-keeps : goal.returns-clause-keeps
 unfolding before discarded after
 returns-clause-keeps c =
-    let kept = subst (KeepsMeaning (with_store (before c) c.in_ok-self-inside.field-0)) (sym c.self-2.view_is) c.discard.ensures.keeps in
+    let kept = subst (KeepsMeaning (with_store (before c) c.in-Ok.store)) (sym c.self-2.view_is) c.discard.ensures.keeps in
     subst (λ s. KeepsMeaning s (after c)) c.self.view_is
-    (keeps_on (before c) (discarded c) (after c) (keeps_on (before c) (with_store (before c) c.in_ok-self-inside.field-0) (discarded c) (folds c).keeps kept) (removals_keep (discarded c) (after c) (removes c)))
+    (keeps_on (before c) (discarded c) (after c) (keeps_on (before c) (with_store (before c) c.in-Ok.store) (discarded c) (folds c).keeps kept) (removals_keep (discarded c) (after c) (removes c)))
 
 pub returns-clause-kept : goal.returns-clause-kept
 unfolding after
@@ -49,3 +51,33 @@ returns-clause-kept c = holds_kept c.args.self.now (after c) (tidies c)
 pub returns-clause-tidies : goal.returns-clause-tidies
 unfolding after
 returns-clause-tidies c = tidies c
+
+-- ---- a broken block chain, or want of memory
+broken : (c : goal.In-Some) → IsFirstBreak c.args.self.now c.self.inside.book.complete c.in-Some.page c.in-Some.number
+broken c =
+    let at = subst (λ (s : State). IsCompleteEpoch s.cuts c.self.inside.book.complete) c.self.view_is c.self.invariant.0.complete in
+    (c.first_break.ensures.first c.self.inside.book.complete c.in-Some.page c.in-Some.number at).0 c.in-Some.is
+
+pub returns-in-Some-clause-sound : goal.returns-in-Some-clause-sound
+returns-in-Some-clause-sound c = λ sound.
+    let at = subst (λ (s : State). IsCompleteEpoch s.cuts c.self.inside.book.complete) c.self.view_is c.self.invariant.0.complete in
+    absurd (sound_whole c.args.self.now sound c.self.inside.book.complete c.in-Some.page c.in-Some.number at (broken c).breaks)
+
+pub returns-in-Some-clause-broken : goal.returns-in-Some-clause-broken
+returns-in-Some-clause-broken c =
+    let x : ℕ × ℕ = (c.in-Some.page, c.in-Some.number) in
+    tells_first c.args.self.now c.first_break.result x c.in-Some.is c.first_break.ensures.first
+
+pub returns-in-Some-clause-refused : goal.returns-in-Some-clause-refused
+returns-in-Some-clause-refused c =
+    let at = subst (λ (s : State). IsCompleteEpoch s.cuts c.self.inside.book.complete) c.self.view_is c.self.invariant.0.complete in
+    (c.self.inside.book.complete, at, broken c)
+
+pub returns-in_default-folded_store-clause-broken : goal.returns-in_default-folded_store-clause-broken
+returns-in_default-folded_store-clause-broken c = tells_whole c.args.self.now (Err Memory) (c.first_break.ensures.none c.in_default.is) (λ g n (e : Err Memory ≡ Err (BrokenBlockChain g n)). absurd (cc))
+
+pub returns-in_default-folded_store-clause-refused : goal.returns-in_default-folded_store-clause-refused
+returns-in_default-folded_store-clause-refused c = c.first_break.ensures.none c.in_default.is
+
+pub returns-clause-broken : goal.returns-clause-broken
+returns-clause-broken c = tells_whole c.args.self.now (Ok tt) (c.first_break.ensures.none c.in_default.is) (λ g n (e : Ok tt ≡ Err (BrokenBlockChain g n)). absurd (cc))

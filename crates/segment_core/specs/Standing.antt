@@ -1,0 +1,11 @@
+-- How a record of an epoch and number stands in a segment.
+use Rattle.std.specs.Prelude.{◌≡◌, ℕ, ◌↔◌}
+use Rattle.redo_core.specs.Standing.{IsAlive, IsDead, IsWaiting}
+use Rattle.segment_state.specs.State.{State}
+use Rattle.epoch_book.specs.declared.standing.Standing.{Standing}
+use Rattle.epoch_book.specs.declared.standing.Standing.TheVariants.{Alive, Dead, Waiting}
+
+pub record StandsAt (s : State) (k epoch number : ℕ) (standing : Standing) : Type 0 where
+  pub alive : (standing ≡ Alive) ↔ IsAlive s.cuts k epoch number
+  pub dead : (standing ≡ Dead) ↔ IsDead s.cuts k epoch number
+  pub waiting : (standing ≡ Waiting) ↔ IsWaiting k epoch
