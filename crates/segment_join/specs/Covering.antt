@@ -1,0 +1,37 @@
+-- When one segment's meaning covers another's, part by part.
+use Rattle.std.specs.Prelude.{ℕ, ◌≤◌, ◌⊎◌, ◌↔◌, List, Bool, IsTrue}
+use Rattle.std.specs.List.{Contains, AllZip}
+use Rattle.redo_core.specs.Data.{RecordData, CutData, AdvanceData}
+use Rattle.redo_core.specs.Standing.{IsDead}
+use Rattle.redo_core.specs.Sound.{IsSound}
+use Rattle.redo_core.specs.Meaning.{Meaning, IsMeaning}
+use Rattle.redo_core.specs.AtMost.{IsAtMost}
+use Rattle.redo_core.specs.declared.facts.Fact.{Fact}
+use Rattle.redo_core.specs.declared.facts.Fact.TheVariants.{Advance}
+use Rattle.segment_state.specs.Means.{Means}
+use Rattle.segment_state.specs.State.{State}
+use Rattle.segment_state.specs.Known.{IsKnown}
+use Rattle.segment_state.specs.HasMeaning.{IsKeptBy}
+
+-- a record that is kept, or needed no more: it is dead, or at or below the anchor and not waiting
+abbrev pub HasRecord : State → ℕ → ℕ → RecordData → Type 0
+HasRecord s k anchor r = IsKeptBy s k anchor r ⊎ (IsDead s.cuts k r.epoch r.number ⊎ ((r.number ≤ anchor) × (r.epoch ≤ k)))
+
+-- each truncation, reader's point and waiting advance of the lower segment is known in the upper one
+pub record CoversBook (k : ℕ) (upper lower : State) : Type 0 where
+  pub cuts : (c : CutData) → Contains lower.cuts c → Contains upper.cuts c
+  pub points : AllZip (λ p q. p ≤ q) lower.points upper.points
+  pub waits : (a : AdvanceData) → Contains lower.waits a → IsKnown upper k (Advance a)
+
+-- the whole of it, at the anchors of both
+pub record CoversState (k anchor : ℕ) (upper : State) (j base : ℕ) (lower : State) : Type 0 where
+  pub book : CoversBook k upper lower
+  pub anchors : base ≤ anchor
+  pub kept : (r : RecordData) → IsKeptBy lower j base r → HasRecord upper k anchor r
+
+-- Inside one sound log: the answer is yes exactly where the lower meaning is at most the upper one.
+abbrev pub CoversByParts : State → State → Bool → Type 0
+CoversByParts upper lower answer =
+    (roster : ℕ) (log F G : List Fact) (y x : Meaning)
+    → IsSound roster log → Means roster log F upper → Means roster log G lower → IsMeaning roster F y → IsMeaning roster G x
+    → IsTrue answer ↔ IsAtMost roster log x y

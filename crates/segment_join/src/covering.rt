@@ -1,0 +1,138 @@
+ghost use Rattle.std.specs.Prelude.{◌≡◌, ℕ, ◌≤◌, ◌↔◌, List, map, IsTrue, IfOk};
+ghost use Rattle.std.specs.List.{Contains, AllZip, All};
+ghost use Rattle.redo_core.specs.CompleteEpoch.{IsCompleteEpoch};
+ghost use Rattle.redo_core.specs.Meaning.{Meaning, IsMeaning};
+ghost use Rattle.redo_core.specs.AtMost.{IsAtMost};
+ghost use Rattle.redo_core.specs.Sound.{IsSound};
+ghost use Rattle.redo_core.specs.declared.facts.Fact.{Fact as AnyFact};
+ghost use Rattle.redo_core.specs.declared.facts.Fact.TheVariants.{Advance as OfAdvance};
+ghost use Rattle.redo_laws.specs.OrderOfMeanings.{Covers};
+ghost use Rattle.segment_state.specs.Means.{Means};
+ghost use Rattle.segment_state.specs.HasMeaning.{HasAnchor, HasMeaning};
+ghost use Rattle.segment_state.specs.Known.{IsKnown};
+ghost use Rattle.segment_join.specs.Covering.{HasRecord, CoversBook, CoversState, CoversByParts};
+
+use crate::kept::kept_of;
+use redo_core::{Advance, Cut, Record};
+use redo_laws::order_by_parts;
+use segment_core::{Segment, Standing};
+use segment_state::same_meaning;
+use std::alloc::{AllocError, Global};
+
+/// Whether one segment's meaning is at or above another's: each truncation, reader's point and waiting advance of the lower one is
+/// known, its anchor is reached, and each record that it keeps is kept, dead or settled. The two rosters may differ.
+///
+/// Its only error is want of memory.
+pub fn covers(alloc: Global, upper: &Segment, lower: &Segment) -> Result<bool, AllocError>
+    // By the two meanings, over any facts.
+    ensures meanings { IfOk result (λ answer. (y x : Meaning) → HasMeaning upper.now y → HasMeaning lower.now x → IsTrue answer ↔ Covers y x) }
+    // Inside one sound log: it means a part that holds a part of the other meaning.
+    ensures parts { IfOk result (CoversByParts upper.now lower.now) }
+{
+    let _base = upper.base_point();
+    order_by_parts();
+    same_meaning();
+    covers_state(alloc, upper, lower)
+}
+
+fn covers_state(alloc: Global, upper: &Segment, lower: &Segment) -> Result<bool, AllocError>
+    ensures { IfOk result (λ answer. (k anchor j base : ℕ) → IsCompleteEpoch upper.now.cuts k → HasAnchor upper.now k anchor → IsCompleteEpoch lower.now.cuts j → HasAnchor lower.now j base → IsTrue answer ↔ CoversState k anchor upper.now j base lower.now) }
+{
+    if !covers_book(upper, lower) {
+        return Ok(false);
+    }
+    let anchor = upper.anchor();
+    if anchor < lower.anchor() {
+        return Ok(false);
+    }
+    let kept = kept_of(alloc, lower)?;
+    Ok(has_records(upper, anchor, &kept))
+}
+
+fn covers_book(upper: &Segment, lower: &Segment) -> bool
+    ensures { (k : ℕ) → IsCompleteEpoch upper.now.cuts k → IsTrue result ↔ CoversBook k upper.now lower.now }
+{
+    if !has_cuts(upper, lower.cuts()) {
+        return false;
+    }
+    if !are_at_most(lower.points(), upper.points()) {
+        return false;
+    }
+    has_waits(upper, lower.waits())
+}
+
+fn has_cuts(upper: &Segment, cuts: &[Cut]) -> bool
+    ensures { IsTrue result ↔ All (λ c. Contains upper.now.cuts c) cuts.now }
+{
+    for cut in cuts {
+        if !upper.knows_cut(*cut) {
+            return false;
+        }
+    }
+    true
+}
+
+fn has_waits(upper: &Segment, waits: &[Advance]) -> bool
+    ensures { (k : ℕ) → IsCompleteEpoch upper.now.cuts k → IsTrue result ↔ All (λ a. IsKnown upper.now k (OfAdvance a)) waits.now }
+{
+    for wait in waits {
+        if !upper.knows_advance(*wait) {
+            return false;
+        }
+    }
+    true
+}
+
+fn are_at_most(lower: &[u64], upper: &[u64]) -> bool
+    ensures { IsTrue result ↔ AllZip (λ p q. p ≤ q) lower.now upper.now }
+{
+    if lower.len() != upper.len() {
+        return false;
+    }
+    for (place, low) in lower.iter().enumerate() {
+        if upper[place] < *low {
+            return false;
+        }
+    }
+    true
+}
+
+/// Whether a segment with this anchor keeps the record, or needs it no more: it is dead, or at or below the anchor.
+fn has_record(segment: &Segment, anchor: u64, redo: &Record) -> bool
+    ensures { (k : ℕ) → IsCompleteEpoch segment.now.cuts k → IsTrue result ↔ HasRecord segment.now k anchor redo.now }
+{
+    match segment.stands(redo.epoch(), redo.number()) {
+        Standing::Dead => true,
+        Standing::Waiting => holds(segment, redo),
+        Standing::Alive => {
+            if redo.number() <= anchor {
+                true
+            } else {
+                holds(segment, redo)
+            }
+        }
+    }
+}
+
+/// Whether a segment holds the record.
+fn holds(segment: &Segment, redo: &Record) -> bool
+    ensures { IsTrue result ↔ Contains segment.now.held redo.now }
+{
+    // It opens the segment's form: at most one record stands under a key.
+    let _base = segment.base_point();
+    match segment.get(redo.epoch(), redo.number()) {
+        Some(held) => held.is_same(redo),
+        None => false,
+    }
+}
+
+fn has_records(segment: &Segment, anchor: u64, records: &[&Record]) -> bool
+    ensures { (k : ℕ) → IsCompleteEpoch segment.now.cuts k → IsTrue result ↔ All (HasRecord segment.now k anchor) (map (λ r. r.now) records.now) }
+{
+    for redo in records {
+        if !has_record(segment, anchor, redo) {
+            return false;
+        }
+    }
+    true
+}
