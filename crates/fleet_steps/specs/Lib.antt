@@ -1,0 +1,3 @@
+pub mod Nodes
+pub mod Naming
+pub mod Shown

@@ -1,0 +1,20 @@
+-- What takes name, and steps that differ in nothing else.
+use Rattle.std.specs.Prelude.{◌≡◌}
+use Rattle.fleet_steps.specs.declared.steps.Step.{Step}
+use Rattle.fleet_steps.specs.declared.steps.Step.TheVariants.{Take, Fold, Discard, Front, Read}
+
+-- what the step takes, if it is a take, is of the kind P
+abbrev pub NamedIs : {F : Type 0} → (F → Type 0) → Step F → Type 0
+NamedIs P (Take node fact) = P fact
+NamedIs P (Fold node page) = Unit {0}
+NamedIs P (Discard node) = Unit {0}
+NamedIs P (Front node) = Unit {0}
+NamedIs P (Read node page point offset len) = Unit {0}
+
+-- the same step, but that a take names another thing, to which R leads
+abbrev pub SameBut : {F G : Type 0} → (F → G → Type 0) → Step F → Step G → Type 0
+SameBut {G = G} R (Take node fact) other = (named : G) × R fact named × (other ≡ Take node named)
+SameBut R (Fold node page) other = other ≡ Fold node page
+SameBut R (Discard node) other = other ≡ Discard node
+SameBut R (Front node) other = other ≡ Front node
+SameBut R (Read node page point offset len) other = other ≡ Read node page point offset len

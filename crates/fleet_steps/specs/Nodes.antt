@@ -1,0 +1,25 @@
+-- The nodes that a step names.
+use Rattle.std.specs.Prelude.{ℕ, ◌==◌, ◌||◌, nat_lt, if◌then◌else◌, List, [], ◌∷◌, Option, Some, None}
+use Rattle.fleet_steps.specs.declared.steps.Step.{Step}
+use Rattle.fleet_steps.specs.declared.steps.Step.TheVariants.{Take, Fold, Discard, Front, Read}
+
+-- the node that carries out the step
+abbrev pub node_of : {F : Type 0} → Step F → ℕ
+node_of (Take node fact) = node
+node_of (Fold node page) = node
+node_of (Discard node) = node
+node_of (Front node) = node
+node_of (Read node page point offset len) = node
+
+-- all nodes that it names, in the order named
+abbrev pub nodes_of : {F : Type 0} → Step F → List ℕ
+nodes_of (Take node fact) = node ∷ []
+nodes_of (Fold node page) = node ∷ []
+nodes_of (Discard node) = node ∷ []
+nodes_of (Front node) = node ∷ []
+nodes_of (Read node page point offset len) = node ∷ []
+
+-- the first of the numbers that is none of 1 to count
+abbrev pub first_missing : ℕ → List ℕ → Option ℕ
+first_missing count [] = None
+first_missing count (node ∷ nodes) = if node == 0 || nat_lt count node then Some node else first_missing count nodes

@@ -1,0 +1,91 @@
+ghost use Rattle.std.specs.Prelude.{◌≡◌, Ok, Err, IfOk, IfErr};
+ghost use Rattle.fleet_steps.specs.Nodes.{node_of, nodes_of, first_missing};
+ghost use Rattle.fleet_steps.specs.Naming.{NamedIs, SameBut};
+
+/// A step of a script. Nodes are counted from 1; a step may name one that its fleet has not.
+/// `F` is what a take names: a fact, or where a fact stands.
+#[derive(Clone, Copy, Debug, Drop, PartialEq, Eq)]
+pub enum Step<F> {
+    /// A fact reaches a node.
+    Take {
+        node: u16,
+        fact: F,
+    },
+    /// A node folds a page to its anchor.
+    Fold {
+        node: u16,
+        page: u16,
+    },
+    /// A node forgets the records that it has folded.
+    Discard {
+        node: u16,
+    },
+    /// A node is asked for its front.
+    Front {
+        node: u16,
+    },
+    /// A node is asked for a page at a read point; of its bytes, `len` from `offset` on are shown.
+    Read {
+        node: u16,
+        page: u16,
+        point: u64,
+        offset: u16,
+        len: u16,
+    },
+}
+
+impl<F> Step<F> {
+    /// The node that carries out the step: the first that it names.
+    pub fn node(&self) -> u16
+        ensures { result ≡ node_of self.now }
+    {
+        match self {
+            Step::Take { node, .. }
+            | Step::Fold { node, .. }
+            | Step::Discard { node }
+            | Step::Front { node }
+            | Step::Read { node, .. } => *node,
+        }
+    }
+
+    /// The first node that the step names and that is not among nodes 1 to `nodes`.
+    pub fn missing(&self, nodes: usize) -> Option<u16>
+        ensures { result ≡ first_missing nodes (nodes_of self.now) }
+    {
+        let node = self.node();
+        if node == 0 || usize::from(node) > nodes {
+            return Some(node);
+        }
+        None
+    }
+
+    /// The same step, but that a take names what `name` gives for what it named. The error is that of `name`.
+    pub fn naming<G, E, N: FnOnce(F) -> Result<G, E>>(self, name: N) -> Result<Step<G>, E>
+        requires { NamedIs (N.pre name) self }
+        ensures ok { IfOk result (SameBut (λ f g. N.post name f (Ok g)) self) }
+        ensures err { IfErr result (λ e. (f : F) × N.post name f (Err e)) }
+    {
+        match self {
+            Step::Take { node, fact } => {
+                let fact = name(fact)?;
+                Ok(Step::Take { node, fact })
+            }
+            Step::Fold { node, page } => Ok(Step::Fold { node, page }),
+            Step::Discard { node } => Ok(Step::Discard { node }),
+            Step::Front { node } => Ok(Step::Front { node }),
+            Step::Read {
+                node,
+                page,
+                point,
+                offset,
+                len,
+            } => Ok(Step::Read {
+                node,
+                page,
+                point,
+                offset,
+                len,
+            }),
+        }
+    }
+}
