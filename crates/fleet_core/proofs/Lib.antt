@@ -1,3 +1,5 @@
 pub mod Following
+pub mod Places
 pub mod Nodes
+pub mod GoingOn
 pub mod Determined

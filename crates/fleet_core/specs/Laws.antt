@@ -1,32 +1,44 @@
--- The fleet machine is determined: from given sets of facts of a sound log, steps have one list of replies.
-use Rattle.std.specs.Prelude.{◌≡◌, ◌≢◌, List}
+-- The laws of the fleet machine, and of the fleets that follow it.
+use Rattle.std.specs.Prelude.{◌≡◌, ℕ, List, [], ◌∷◌, ◌++◌}
 use Rattle.std.specs.List.{AllByRecursion}
 use Rattle.redo_core.specs.Sets.{IsPart}
 use Rattle.redo_core.specs.Sound.{IsSound}
 use Rattle.redo_core.specs.declared.facts.Fact.{Fact}
-use Rattle.fleet_core.specs.declared.steps.Step.{Step}
-use Rattle.fleet_core.specs.declared.steps.Reply.{Reply}
-use Rattle.fleet_core.specs.declared.steps.Reply.TheVariants.{Memory}
-use Rattle.fleet_core.specs.Machine.{IsReply}
-use Rattle.fleet_core.specs.Runs.{TakesFrom, AreReplies}
+use Rattle.fleet_steps.specs.declared.steps.Step.{Step}
+use Rattle.fleet_core.specs.declared.replies.Reply.{Reply}
+use Rattle.fleet_core.specs.Machine.{Machine}
+use Rattle.fleet_core.specs.Replies.{IsReply, HasCome}
+use Rattle.fleet_core.specs.Runs.{TakesFrom, AreReplies, FollowsStep, FollowsMachine}
+use Rattle.fleet_core.specs.Calls.{StepCalls, RunCalls}
+use Rattle.fleet_core.specs.FleetState.{FleetState}
 
 -- each node's facts are of the log
-abbrev pub ArePartsOf : List Fact → List (List Fact) → Type 0
-ArePartsOf log nodes = AllByRecursion (λ facts. IsPart facts log) nodes
-
--- the step was carried out: its reply is not that there was no memory
-abbrev pub HasCome : Reply → Type 0
-HasCome reply = reply ≢ Memory
+pub record IsMachineOf (log : List Fact) (m : Machine) : Type 0 where
+  pub nodes : AllByRecursion (λ facts. IsPart facts log) m.nodes
 
 -- A step that was carried out has one reply.
 abbrev pub OneReply : Type 0
 OneReply =
-    (log : List Fact) (nodes : List (List Fact)) (step : Step) (reply other : Reply)
-    → IsSound log → ArePartsOf log nodes → IsReply nodes step reply → IsReply nodes step other → HasCome reply → HasCome other → reply ≡ other
+    (roster : ℕ) (log : List Fact) (m : Machine) (step : Step Fact) (reply other : Reply)
+    → IsSound roster log → IsMachineOf log m → IsReply roster m step reply → IsReply roster m step other → HasCome reply → HasCome other → reply ≡ other
 
 -- So has each script.
 abbrev pub OneRun : Type 0
 OneRun =
-    (log : List Fact) (nodes : List (List Fact)) (steps : List Step) (replies others : List Reply)
-    → IsSound log → ArePartsOf log nodes → AllByRecursion (TakesFrom log) steps
-    → AreReplies nodes steps replies → AreReplies nodes steps others → AllByRecursion HasCome replies → AllByRecursion HasCome others → replies ≡ others
+    (roster : ℕ) (log : List Fact) (m : Machine) (steps : List (Step Fact)) (replies others : List Reply)
+    → IsSound roster log → IsMachineOf log m → AllByRecursion (TakesFrom log) steps
+    → AreReplies roster m steps replies → AreReplies roster m steps others → AllByRecursion HasCome replies → AllByRecursion HasCome others → replies ≡ others
+
+-- A run of no steps is one, and a run with one step more is one, however its steps came.
+pub record RunsGoOn : Type 0 where
+  pub begins : (fleet : FleetState) → FollowsMachine fleet [] [] fleet
+  pub goes_on :
+      (start old new : FleetState) (steps : List (Step Fact)) (replies : List Reply) (step : Step Fact) (reply : Reply)
+      → FollowsMachine start steps replies old → FollowsStep old step reply new → FollowsMachine start (steps ++ step ∷ []) (replies ++ reply ∷ []) new
+
+-- The same of the calls of a run, over any facts.
+pub record CallsGoOn : Type 0 where
+  pub begins : (fleet : FleetState) → RunCalls fleet [] [] fleet
+  pub goes_on :
+      (start old new : FleetState) (steps : List (Step Fact)) (replies : List Reply) (step : Step Fact) (reply : Reply)
+      → RunCalls start steps replies old → StepCalls old step reply new → RunCalls start (steps ++ step ∷ []) (replies ++ reply ∷ []) new

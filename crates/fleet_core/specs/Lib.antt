@@ -1,6 +1,9 @@
 pub mod Machine
+pub mod Replies
+pub mod FleetState
 pub mod Runs
 pub mod Replying
-pub mod Shedding
-pub mod Laws
+pub mod Calls
 pub mod Refused
+pub mod Laws
+pub mod AtNode

@@ -1,5 +1,5 @@
 -- How what a segment answers is replied.
-use Rattle.std.specs.Prelude.{◌≡◌, ℕ, List, Result, Ok, Err}
+use Rattle.std.specs.Prelude.{ℕ, List, Result, Ok, Err}
 use Rattle.redo_core.specs.declared.facts.Fact.{Fact}
 use Rattle.redo_core.specs.declared.refusal.Refused.{Refused}
 use Rattle.segment_core.specs.declared.answers.Taken.{Taken}
@@ -8,25 +8,25 @@ use Rattle.segment_core.specs.declared.answers.Refusal.{Refusal}
 use Rattle.segment_core.specs.declared.answers.Refusal.TheVariants as refusal
 use Rattle.segment_core.specs.declared.answers.ReadFault.{ReadFault}
 use Rattle.segment_core.specs.declared.answers.ReadFault.TheVariants as fault
-use Rattle.fleet_core.specs.declared.steps.Reply.{Reply}
-use Rattle.fleet_core.specs.declared.steps.Reply.TheVariants.{Changed, Unchanged, Page, Below, Above, Refused as IsRefused, BrokenBlockChain, Memory}
+use Rattle.fleet_core.specs.declared.replies.Reply.{Reply}
+use Rattle.fleet_core.specs.declared.replies.Reply.TheVariants.{Changed, Unchanged, Page, Below, Above, Refused as IsRefused, BrokenBlockChain, Memory}
 
 -- want of memory is replied as such
-abbrev pub RefusalReplies : Refusal → Reply → Type 0
-RefusalReplies refusal.Memory reply = reply ≡ Memory
-RefusalReplies other reply = reply ≡ IsRefused other
+abbrev pub refusal_reply : Refusal → Reply
+refusal_reply refusal.Memory = Memory
+refusal_reply other = IsRefused other
 
-abbrev pub TakenReplies : Result Taken (Refused Fact Refusal) → Reply → Type 0
-TakenReplies (Ok taken.Changed) reply = reply ≡ Changed
-TakenReplies (Ok taken.Unchanged) reply = reply ≡ Unchanged
-TakenReplies (Err refused) reply = RefusalReplies refused.fault reply
+abbrev pub taken_reply : Result Taken (Refused Fact Refusal) → Reply
+taken_reply (Ok taken.Changed) = Changed
+taken_reply (Ok taken.Unchanged) = Unchanged
+taken_reply (Err refused) = refusal_reply refused.fault
 
-abbrev pub FaultReplies : ReadFault → Reply → Type 0
-FaultReplies (fault.Below min) reply = reply ≡ Below min
-FaultReplies (fault.Above complete) reply = reply ≡ Above complete
-FaultReplies (fault.BrokenBlockChain page number) reply = reply ≡ BrokenBlockChain page number
-FaultReplies fault.Memory reply = reply ≡ Memory
+abbrev pub fault_reply : ReadFault → Reply
+fault_reply (fault.Below min) = Below min
+fault_reply (fault.Above complete) = Above complete
+fault_reply (fault.BrokenBlockChain page number) = BrokenBlockChain page number
+fault_reply fault.Memory = Memory
 
-abbrev pub ReadReplies : Result (List ℕ) ReadFault → Reply → Type 0
-ReadReplies (Ok image) reply = reply ≡ Page image
-ReadReplies (Err f) reply = FaultReplies f reply
+abbrev pub read_reply : Result (List ℕ) ReadFault → Reply
+read_reply (Ok image) = Page image
+read_reply (Err f) = fault_reply f

@@ -1,54 +1,45 @@
 -- Whole runs of the fleet machine, and the fleets that follow it.
-use Rattle.std.specs.Prelude.{List, [], ◌∷◌}
+use Rattle.std.specs.Prelude.{ℕ, List, [], ◌∷◌}
 use Rattle.std.specs.List.{Contains, AllZip, AllByRecursion}
 use Rattle.redo_core.specs.Sound.{IsSound}
 use Rattle.redo_core.specs.declared.facts.Fact.{Fact}
-use Rattle.segment_state.specs.State.{State}
 use Rattle.segment_state.specs.Means.{Means}
-use Rattle.fleet_core.specs.declared.steps.Step.{Step}
-use Rattle.fleet_core.specs.declared.steps.Step.TheVariants.{Take, Fold, Discard, Front, Read}
-use Rattle.fleet_core.specs.declared.steps.Reply.{Reply}
-use Rattle.fleet_core.specs.Machine.{NodeReplies, facts_after, IsReply, after}
+use Rattle.fleet_steps.specs.Naming.{NamedIs}
+use Rattle.fleet_steps.specs.declared.steps.Step.{Step}
+use Rattle.fleet_core.specs.declared.replies.Reply.{Reply}
+use Rattle.fleet_core.specs.Machine.{Machine, after}
+use Rattle.fleet_core.specs.Replies.{IsReply}
+use Rattle.fleet_core.specs.FleetState.{FleetState}
 
 -- what a step takes is in the log
-abbrev pub TakesFrom : List Fact → Step → Type 0
-TakesFrom log (Take i fact) = Contains log fact
-TakesFrom log (Fold i g) = Unit {0}
-TakesFrom log (Discard i) = Unit {0}
-TakesFrom log (Front i) = Unit {0}
-TakesFrom log (Read i g q) = Unit {0}
+abbrev pub TakesFrom : List Fact → Step Fact → Type 0
+TakesFrom log step = NamedIs (Contains log) step
 
--- the replies to all steps, in order, from these sets on
-abbrev pub AreReplies : List (List Fact) → List Step → List Reply → Type 0
-AreReplies nodes [] [] = Unit {0}
-AreReplies nodes [] (reply ∷ replies) = ⊥
-AreReplies nodes (step ∷ steps) [] = ⊥
-AreReplies nodes (step ∷ steps) (reply ∷ replies) = IsReply nodes step reply × AreReplies (after nodes step reply) steps replies
+-- the replies to all steps, in order, from this machine on
+abbrev pub AreReplies : ℕ → Machine → List (Step Fact) → List Reply → Type 0
+AreReplies roster m [] [] = Unit {0}
+AreReplies roster m [] (reply ∷ replies) = ⊥
+AreReplies roster m (step ∷ steps) [] = ⊥
+AreReplies roster m (step ∷ steps) (reply ∷ replies) = IsReply roster m step reply × AreReplies roster (after m step reply) steps replies
 
--- the sets after all steps
-abbrev pub after_all : List (List Fact) → List Step → List Reply → List (List Fact)
-after_all nodes [] replies = nodes
-after_all nodes (step ∷ steps) [] = nodes
-after_all nodes (step ∷ steps) (reply ∷ replies) = after_all (after nodes step reply) steps replies
+-- the machine after all steps
+abbrev pub after_all : Machine → List (Step Fact) → List Reply → Machine
+after_all m [] replies = m
+after_all m (step ∷ steps) [] = m
+after_all m (step ∷ steps) (reply ∷ replies) = after_all (after m step reply) steps replies
 
 -- each segment means its node's facts
-abbrev pub MeanNodes : List Fact → List (List Fact) → List State → Type 0
-MeanNodes log nodes segments = AllZip (λ facts segment. Means log facts segment) nodes segments
+pub record MeansMachine (roster : ℕ) (log : List Fact) (m : Machine) (fleet : FleetState) : Type 0 where
+  pub nodes : AllZip (λ facts segment. Means roster log facts segment) m.nodes fleet.segments
 
--- One segment: where it means facts of the log, the reply is that of a node with those facts, and it means the node's next facts.
-abbrev pub NodeFollows : State → Step → Reply → State → Type 0
-NodeFollows old step reply new =
-    (log facts : List Fact) → IsSound log → TakesFrom log step → Means log facts old
-    → NodeReplies facts step reply × Means log (facts_after facts step reply) new
-
--- One step: where the segments mean the machine's sets, the reply is the machine's, and they mean its next sets.
-abbrev pub FollowsStep : List State → Step → Reply → List State → Type 0
+-- One step: where the fleet means the machine, the reply is the machine's, and it means the machine's next state.
+abbrev pub FollowsStep : FleetState → Step Fact → Reply → FleetState → Type 0
 FollowsStep old step reply new =
-    (log : List Fact) (nodes : List (List Fact)) → IsSound log → TakesFrom log step → MeanNodes log nodes old
-    → IsReply nodes step reply × MeanNodes log (after nodes step reply) new
+    (roster : ℕ) (log : List Fact) (m : Machine) → IsSound roster log → TakesFrom log step → MeansMachine roster log m old
+    → IsReply roster m step reply × MeansMachine roster log (after m step reply) new
 
 -- A whole run, likewise: this is the headline for the steps there are.
-abbrev pub FollowsMachine : List State → List Step → List Reply → List State → Type 0
+abbrev pub FollowsMachine : FleetState → List (Step Fact) → List Reply → FleetState → Type 0
 FollowsMachine old steps replies new =
-    (log : List Fact) (nodes : List (List Fact)) → IsSound log → AllByRecursion (TakesFrom log) steps → MeanNodes log nodes old
-    → AreReplies nodes steps replies × MeanNodes log (after_all nodes steps replies) new
+    (roster : ℕ) (log : List Fact) (m : Machine) → IsSound roster log → AllByRecursion (TakesFrom log) steps → MeansMachine roster log m old
+    → AreReplies roster m steps replies × MeansMachine roster log (after_all m steps replies) new

@@ -1,14 +1,19 @@
-ghost use Rattle.std.specs.Prelude.{◌≡◌, ℕ, ◌+◌, ◌<◌, ◌≤◌, ◌⊎◌, ◌↔◌, List, [], length, replicate, IfOk, OnErr, IsTrue};
-ghost use Rattle.fleet_core.specs.Replying.{TakenReplies, RefusalReplies, ReadReplies, FaultReplies};
-ghost use Rattle.fleet_core.specs.Runs.{NodeFollows};
-ghost use Rattle.fleet_core.specs.Refused.{IsRefusal};
-ghost use Rattle.fleet_core.specs.Shedding.{Sheds, ShedsAt};
-ghost use Rattle.fleet_core.specs.declared.steps.Step.TheVariants.{Fold};
-ghost use Rattle.fleet_core.specs.declared.steps.Reply.TheVariants.{NoNode, Memory};
+ghost use Rattle.std.specs.Prelude.{◌≡◌, ℕ, ◌↔◌, List, Some, length, replicate, IfOk, OnErr};
 ghost use Rattle.redo_core.specs.declared.facts.Fact.{Fact as AnyFact};
+ghost use Rattle.segment_state.specs.State.{empty_state};
+ghost use Rattle.fleet_steps.specs.Nodes.{nodes_of, first_missing};
+ghost use Rattle.fleet_steps.specs.declared.steps.Step.TheVariants.{Take as TakeOf, Fold as FoldOf};
+ghost use Rattle.fleet_core.specs.AtNode.{NodeFollows, NodeCalls};
+ghost use Rattle.fleet_core.specs.Calls.{StepCalls, RunCalls, Takes, Folds};
+ghost use Rattle.fleet_core.specs.Machine.{empty_machine};
+ghost use Rattle.fleet_core.specs.Refused.{IsRefusal};
+ghost use Rattle.fleet_core.specs.Replying.{taken_reply as taken_reply_of, refusal_reply as refusal_reply_of, read_reply as read_reply_of, fault_reply as fault_reply_of};
+ghost use Rattle.fleet_core.specs.Runs.{MeansMachine, FollowsStep, FollowsMachine};
+ghost use Rattle.fleet_core.specs.declared.replies.Reply.TheVariants.{NoNode};
 
-use crate::steps::{Reply, Step};
-use redo_core::{Fact, Page, Refused};
+use crate::replies::Reply;
+use fleet_steps::Step;
+use redo_core::{Fact, Page, Refused, Roster};
 use segment_core::{CommitFault, ReadFault, Refusal, Segment, Taken};
 use std::alloc::{AllocError, Global};
 use std::marker::Model;
@@ -20,48 +25,50 @@ pub struct Fleet {
 }
 
 impl Model for Fleet {
-    ghost use Rattle.std.specs.Prelude.{List};
-    ghost use Rattle.segment_state.specs.State.{State};
+    ghost use Rattle.fleet_core.specs.FleetState.{FleetState};
 
-    ghost Value = { List State };
+    ghost Value = { FleetState };
 
-    ghost view = { λ f. f.nodes.items };
+    ghost view = { λ f. record { segments = f.nodes.items } };
 }
 
 impl Fleet {
-    ghost use Rattle.fleet_core.specs.Machine.{node_of};
-    ghost use Rattle.fleet_core.specs.Runs.{MeanNodes, FollowsStep, FollowsMachine};
-    ghost use Rattle.fleet_core.specs.declared.steps.Reply.TheVariants.{NoNode, Memory};
-
-    /// A fleet of empty segments. Its only error is want of memory.
-    pub fn new(alloc: Global, nodes: u16) -> Result<Self, AllocError>
-        ensures { IfOk result (λ fleet. (log : List AnyFact) → MeanNodes log (replicate nodes []) fleet) }
+    /// A fleet of segments of a roster of readers, that no fact has reached. Its only error is want of memory.
+    pub fn new(alloc: Global, roster: Roster, nodes: u16) -> Result<Self, AllocError>
+        ensures empty { IfOk result (λ fleet. fleet.segments ≡ replicate nodes (empty_state roster)) }
+        ensures means { IfOk result (λ fleet. (log : List AnyFact) → MeansMachine roster log (empty_machine nodes) fleet) }
     {
         let mut segments = Vec::new(alloc);
         for _ in 0..nodes {
-            segments.push(Segment::new(alloc))?;
+            segments.push(Segment::new(alloc, roster)?)?;
         }
         Ok(Fleet { nodes: segments })
     }
 
     /// Carries out one step. A step that replies `Memory`, `NoNode` or a refusal changes nothing.
-    pub fn step(&mut self, step: &Step) -> Reply
+    pub fn step(&mut self, step: &Step<Fact>) -> Reply
+        // For the facts that the segments mean.
         ensures follows { FollowsStep self.old step.now result self.new }
-        ensures no_node { let node = node_of step.now in (i : ℕ) → (result ≡ NoNode i) ↔ ((i ≡ node) × ((node ≡ 0) ⊎ (length self.old < node))) }
+        // Over any facts.
+        ensures calls { StepCalls self.old step.now result self.new }
+        ensures no_node { (node : ℕ) → (result ≡ NoNode node) ↔ (first_missing (length self.old.segments) (nodes_of step.now) ≡ Some node) }
         ensures refused { IsRefusal result → self.new ≡ self.old }
-        ensures sheds { ShedsAt self.old step.now result self.new }
     {
-        let node = step.node();
-        if node == 0 || usize::from(node) > self.nodes.len() {
+        if let Some(node) = step.missing(self.nodes.len()) {
             return Reply::NoNode(node);
         }
-        carry_out(&mut self.nodes[usize::from(node) - 1], step)
+        let place = usize::from(step.node()) - 1;
+        carry_out(&mut self.nodes[place], step)
     }
 
     /// Carries out steps, and gives their replies in order. Its only error is want of memory for the list of replies, which is
     /// reserved before the first step: then nothing has changed.
-    pub fn run(&mut self, alloc: Global, steps: &[Step]) -> Result<Vec<Reply>, AllocError>
+    pub fn run(&mut self, alloc: Global, steps: &[Step<Fact>]) -> Result<Vec<Reply>, AllocError>
+        // For the facts that the segments mean.
         ensures follows { IfOk result (λ replies. FollowsMachine self.old steps.now replies.items self.new) }
+        // Over any facts.
+        ensures calls { IfOk result (λ replies. RunCalls self.old steps.now replies.items self.new) }
+        ensures count { IfOk result (λ replies. length replies.items ≡ length steps.now) }
         ensures err { OnErr result (self.new ≡ self.old) }
     {
         let mut replies = Vec::with_capacity(alloc, steps.len())?;
@@ -74,17 +81,14 @@ impl Fleet {
 }
 
 /// Carries out a step at its node.
-fn carry_out(segment: &mut Segment, step: &Step) -> Reply
+fn carry_out(segment: &mut Segment, step: &Step<Fact>) -> Reply
     ensures follows { NodeFollows segment.old step.now result segment.new }
+    ensures calls { NodeCalls segment.old step.now result segment.new }
     ensures there { (i : ℕ) → result ≡ NoNode i → ⊥ }
     ensures refused { IsRefusal result → segment.new ≡ segment.old }
-    ensures sheds { Sheds segment.old step.now result segment.new }
 {
     match step {
-        Step::Take { fact, .. } => match fact.copy() {
-            Ok(fact) => taken_reply(segment.take(fact)),
-            Err(_) => Reply::Memory,
-        },
+        Step::Take { fact, .. } => take_copy(segment, fact),
         Step::Fold { page, .. } => fold_page(segment, *page),
         Step::Discard { .. } => {
             segment.discard();
@@ -95,12 +99,25 @@ fn carry_out(segment: &mut Segment, step: &Step) -> Reply
     }
 }
 
-/// Folds a page to the segment's anchor, and commits it.
-fn fold_page(segment: &mut Segment, page: u16) -> Reply
-    ensures follows { (node : ℕ) → NodeFollows segment.old (Fold node page) result segment.new }
+/// Takes a copy of a fact.
+fn take_copy(segment: &mut Segment, fact: &Fact) -> Reply
+    ensures follows { (node : ℕ) → NodeFollows segment.old (TakeOf node fact.now) result segment.new }
+    ensures calls { Takes segment.old fact.now result segment.new }
     ensures there { (i : ℕ) → result ≡ NoNode i → ⊥ }
     ensures refused { IsRefusal result → segment.new ≡ segment.old }
-    ensures sheds { (node : ℕ) → Sheds segment.old (Fold node page) result segment.new }
+{
+    match fact.copy() {
+        Ok(fact) => taken_reply(segment.take(fact)),
+        Err(_) => Reply::Memory,
+    }
+}
+
+/// Folds a page to the segment's anchor, and commits it.
+fn fold_page(segment: &mut Segment, page: u16) -> Reply
+    ensures follows { (node : ℕ) → NodeFollows segment.old (FoldOf node page) result segment.new }
+    ensures calls { Folds segment.old page result segment.new }
+    ensures there { (i : ℕ) → result ≡ NoNode i → ⊥ }
+    ensures refused { IsRefusal result → segment.new ≡ segment.old }
 {
     let folded = match segment.plan_fold(page) {
         Ok(plan) => plan.fold(),
@@ -117,7 +134,7 @@ fn fold_page(segment: &mut Segment, page: u16) -> Reply
 }
 
 fn taken_reply(taken: Result<Taken, Refused<Fact, Refusal>>) -> Reply
-    ensures { TakenReplies taken result }
+    ensures { result ≡ taken_reply_of taken }
 {
     match taken {
         Ok(Taken::Changed) => Reply::Changed,
@@ -127,7 +144,7 @@ fn taken_reply(taken: Result<Taken, Refused<Fact, Refusal>>) -> Reply
 }
 
 fn refusal_reply(refusal: Refusal) -> Reply
-    ensures { RefusalReplies refusal result }
+    ensures { result ≡ refusal_reply_of refusal }
 {
     match refusal {
         Refusal::Memory => Reply::Memory,
@@ -136,7 +153,7 @@ fn refusal_reply(refusal: Refusal) -> Reply
 }
 
 fn read_reply(read: Result<Page, ReadFault>) -> Reply
-    ensures { ReadReplies read result }
+    ensures { result ≡ read_reply_of read }
 {
     match read {
         Ok(image) => Reply::Page(image),
@@ -145,7 +162,7 @@ fn read_reply(read: Result<Page, ReadFault>) -> Reply
 }
 
 fn fault_reply(fault: ReadFault) -> Reply
-    ensures { FaultReplies fault result }
+    ensures { result ≡ fault_reply_of fault }
 {
     match fault {
         ReadFault::Below { min } => Reply::Below(min),

@@ -1,5 +1,5 @@
-//! The laws of the fleet machine.
-ghost use Rattle.fleet_core.specs.Laws.{OneReply, OneRun};
+//! The laws of the fleet machine, and of the fleets that follow it.
+ghost use Rattle.fleet_core.specs.Laws.{OneReply, OneRun, RunsGoOn, CallsGoOn};
 
 /// From given sets of facts of one sound log a step has one reply, want of memory aside.
 pub fn one_reply()
@@ -10,4 +10,10 @@ pub fn one_reply()
 /// depends on nothing but its script.
 pub fn one_run()
     ensures { OneRun }
+{}
+
+/// A run may be made step by step: a run with one step more is a run, whatever became of the replies before.
+pub fn runs_go_on()
+    ensures follows { RunsGoOn }
+    ensures calls { CallsGoOn }
 {}

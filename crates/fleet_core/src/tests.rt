@@ -1,139 +1,173 @@
 use crate::{Fleet, Reply, Step};
-use redo_core::{Advance, Fact, Record, Write};
-use segment_core::Front;
+use redo_core::{Advance, Fact, Patch, Record, Roster};
+use segment_core::{Front, Refusal};
 use std::alloc::Global;
 use std::test::Fail;
 
-fn fact(
-    alloc: Global,
-    number: u64,
-    back: u64,
-    page: u16,
-    block_back: u64,
-    byte: u8,
-) -> Result<Fact, Fail> {
-    let mut writes = Vec::new(alloc);
-    writes.push(Write::new(0, [byte].to_vec(alloc)?))?;
-    Ok(Fact::Record(Record::new(0, number, back, page, block_back, writes)?))
+// A fact in short: a record of page 7 has its number, its backlinks and its byte; an advance has its point and its reader.
+#[derive(Clone, Copy)]
+enum Line {
+    Rec(u64, u64, u64, u8),
+    Min(u64, u8),
 }
 
-fn is_front(reply: &Reply, epoch: u16, complete: u64, min: u64) -> bool {
+// A reply in short: of a page its first byte.
+#[derive(Clone, Copy, Debug, PartialEq, Eq)]
+enum Told {
+    Changed,
+    Unchanged,
+    Folded,
+    Discarded,
+    Front(u16, u64, u64),
+    Byte(u8),
+    Below(u64),
+    Above(u64),
+    NoNode(u16),
+    OtherRoster(u8, u8),
+    Refused,
+    Broken(u64),
+    Memory,
+}
+
+const fn take(line: Line) -> Step<Line> {
+    Step::Take {
+        node: 1,
+        fact: line,
+    }
+}
+
+const fn read(point: u64) -> Step<Line> {
+    Step::Read {
+        node: 1,
+        page: 7,
+        point,
+        offset: 0,
+        len: 1,
+    }
+}
+
+const FRONT: Step<Line> = Step::Front { node: 1 };
+
+const DISCARD: Step<Line> = Step::Discard { node: 1 };
+
+const fn fold(page: u16) -> Step<Line> {
+    Step::Fold { node: 1, page }
+}
+
+fn fact(heap: Global, line: Line) -> Result<Fact, Fail> {
+    Ok(match line {
+        Line::Rec(number, back, block_back, byte) => {
+            let mut patches = Vec::new(heap);
+            patches.push(Patch::Fill {
+                offset: 0,
+                len: 1,
+                byte,
+            })?;
+            Fact::Record(Record::with(0, number, back, 7, block_back, false, patches)?)
+        }
+        Line::Min(point, reader) => Fact::Advance(Advance::of_reader(reader, 0, point)?),
+    })
+}
+
+fn told_by(reply: &Reply) -> Told {
     match reply {
-        Reply::Front(front) => *front
-            == Front {
+        Reply::Changed => Told::Changed,
+        Reply::Unchanged => Told::Unchanged,
+        Reply::Folded => Told::Folded,
+        Reply::Discarded => Told::Discarded,
+        Reply::Front(
+            Front {
                 epoch,
                 complete,
                 min,
             },
-        _ => false,
+        ) => Told::Front(*epoch, *complete, *min),
+        Reply::Page(image) => Told::Byte(image.bytes()[0]),
+        Reply::Below(min) => Told::Below(*min),
+        Reply::Above(complete) => Told::Above(*complete),
+        Reply::NoNode(node) => Told::NoNode(*node),
+        Reply::Refused(Refusal::OtherRoster { own, shown }) => Told::OtherRoster(*own, *shown),
+        Reply::Refused(_) => Told::Refused,
+        Reply::BrokenBlockChain { number, .. } => Told::Broken(*number),
+        Reply::Memory => Told::Memory,
     }
+}
+
+// The answers of a fleet of one node to steps.
+fn answers(heap: Global, readers: u8, table: &[(Step<Line>, Told)]) -> Result<Vec<Told>, Fail> {
+    let mut steps = Vec::new(heap);
+    for (step, _) in table {
+        steps.push(step.naming(|line| fact(heap, line))?)?;
+    }
+    let mut fleet = Fleet::new(heap, Roster::new(readers)?, 1)?;
+    let replies = fleet.run(heap, &steps)?;
+    let mut list = Vec::new(heap);
+    for reply in &replies {
+        list.push(told_by(reply))?;
+    }
+    Ok(list)
+}
+
+fn wanted(heap: Global, table: &[(Step<Line>, Told)]) -> Result<Vec<Told>, Fail> {
+    let mut list = Vec::new(heap);
+    for (_, want) in table {
+        list.push(*want)?;
+    }
+    Ok(list)
 }
 
 #[test]
 fn a_node_answers_whatever_the_order(rt: HostRuntime) -> Result<(), Fail> {
-    let alloc = rt.alloc();
-    let mut fleet = Fleet::new(alloc, 1)?;
-    let steps = vec![in alloc;
-        Step::Take {
-            node: 1,
-            fact: fact(alloc, 5, 3, 7, 3, 0x62)?
-        },
-        Step::Front { node: 1 },
-        Step::Take {
-            node: 1,
-            fact: fact(alloc, 3, 0, 7, 0, 0x61)?
-        },
-        Step::Take {
-            node: 1,
-            fact: fact(alloc, 3, 0, 7, 0, 0x61)?
-        },
-        Step::Take {
-            node: 1,
-            fact: Fact::Advance(Advance::new(0, 5)?)
-        },
-        Step::Front { node: 1 },
-        Step::Read {
-            node: 1,
-            page: 7,
-            point: 4
-        },
-        Step::Read {
-            node: 1,
-            page: 7,
-            point: 5
-        },
-        Step::Read {
-            node: 1,
-            page: 7,
-            point: 6
-        },
-        Step::Front { node: 2 },
-    ]?;
-    let replies = fleet.run(alloc, &steps)?;
-    assert_eq!(rt; replies.len(), 10);
-    assert!(rt; matches!(&replies[0], Reply::Changed));
-    assert!(rt; is_front(&replies[1], 0, 0, 0));
-    assert!(rt; matches!(&replies[2], Reply::Changed));
-    assert!(rt; matches!(&replies[3], Reply::Unchanged));
-    assert!(rt; matches!(&replies[4], Reply::Changed));
-    assert!(rt; is_front(&replies[5], 0, 5, 5));
-    assert!(rt; matches!(&replies[6], Reply::Below(5)));
-    let Reply::Page(image) = &replies[7] else {
-        return Err(Fail::from("no page"));
-    };
-    assert!(rt; image.bytes().starts_with(&[0x62, 0]));
-    assert!(rt; matches!(&replies[8], Reply::Above(5)));
-    assert!(rt; matches!(&replies[9], Reply::NoNode(2)));
+    let heap = rt.alloc();
+    let table = [
+        (take(Line::Rec(5, 3, 3, 0x62)), Told::Changed),
+        (FRONT, Told::Front(0, 0, 0)),
+        (take(Line::Rec(3, 0, 0, 0x61)), Told::Changed),
+        (take(Line::Rec(3, 0, 0, 0x61)), Told::Unchanged),
+        (take(Line::Min(5, 1)), Told::Changed),
+        (FRONT, Told::Front(0, 5, 5)),
+        (read(4), Told::Below(5)),
+        (read(5), Told::Byte(0x62)),
+        (read(6), Told::Above(5)),
+        (Step::Front { node: 2 }, Told::NoNode(2)),
+        (Step::Discard { node: 0 }, Told::NoNode(0)),
+    ];
+    assert_eq!(rt; answers(heap, 1, &table)?, wanted(heap, &table)?);
     Ok(())
 }
 
 #[test]
 fn a_node_folds_and_discards(rt: HostRuntime) -> Result<(), Fail> {
-    let alloc = rt.alloc();
-    let mut fleet = Fleet::new(alloc, 1)?;
-    let steps = vec![in alloc;
-        Step::Discard { node: 1 },
-        Step::Take {
-            node: 1,
-            fact: fact(alloc, 3, 0, 7, 0, 0x61)?
-        },
-        Step::Take {
-            node: 1,
-            fact: fact(alloc, 5, 3, 7, 3, 0x62)?
-        },
-        Step::Take {
-            node: 1,
-            fact: Fact::Advance(Advance::new(0, 5)?)
-        },
-        Step::Fold { node: 1, page: 7 },
-        Step::Fold { node: 1, page: 8 },
-        Step::Discard { node: 1 },
-        Step::Take {
-            node: 1,
-            fact: fact(alloc, 3, 0, 7, 0, 0x61)?
-        },
-        Step::Front { node: 1 },
-        Step::Read {
-            node: 1,
-            page: 7,
-            point: 5
-        },
-        Step::Fold { node: 2, page: 7 },
-        Step::Discard { node: 0 },
-    ]?;
-    let replies = fleet.run(alloc, &steps)?;
-    assert_eq!(rt; replies.len(), 12);
-    assert!(rt; matches!(&replies[0], Reply::Discarded));
-    assert!(rt; matches!(&replies[4], Reply::Folded));
-    assert!(rt; matches!(&replies[5], Reply::Folded));
-    assert!(rt; matches!(&replies[6], Reply::Discarded));
-    assert!(rt; matches!(&replies[7], Reply::Unchanged));
-    assert!(rt; is_front(&replies[8], 0, 5, 5));
-    let Reply::Page(image) = &replies[9] else {
-        return Err(Fail::from("no page"));
-    };
-    assert!(rt; image.bytes().starts_with(&[0x62, 0]));
-    assert!(rt; matches!(&replies[10], Reply::NoNode(2)));
-    assert!(rt; matches!(&replies[11], Reply::NoNode(0)));
+    let heap = rt.alloc();
+    let table = [
+        (DISCARD, Told::Discarded),
+        (take(Line::Rec(3, 0, 0, 0x61)), Told::Changed),
+        (take(Line::Rec(5, 3, 3, 0x62)), Told::Changed),
+        (take(Line::Min(5, 1)), Told::Changed),
+        (fold(7), Told::Folded),
+        (fold(8), Told::Folded),
+        (DISCARD, Told::Discarded),
+        (take(Line::Rec(3, 0, 0, 0x61)), Told::Unchanged),
+        (FRONT, Told::Front(0, 5, 5)),
+        (read(5), Told::Byte(0x62)),
+    ];
+    assert_eq!(rt; answers(heap, 1, &table)?, wanted(heap, &table)?);
+    Ok(())
+}
+
+#[test]
+fn facts_of_no_sound_log(rt: HostRuntime) -> Result<(), Fail> {
+    let heap = rt.alloc();
+    let table = [
+        (take(Line::Rec(3, 0, 0, 0x61)), Told::Changed),
+        (take(Line::Rec(3, 0, 0, 0x62)), Told::Refused),
+        (take(Line::Min(3, 3)), Told::OtherRoster(2, 3)),
+        (take(Line::Min(3, 1)), Told::Changed),
+        (FRONT, Told::Front(0, 3, 0)),
+        (take(Line::Rec(5, 3, 2, 0x62)), Told::Changed),
+        (read(5), Told::Broken(5)),
+        (read(3), Told::Byte(0x61)),
+    ];
+    assert_eq!(rt; answers(heap, 2, &table)?, wanted(heap, &table)?);
     Ok(())
 }

@@ -1,7 +1,7 @@
 use Rattle.segment_state.specs.Promises.{KeepsMeaningWith}
-use Rattle.segment_core.specs.Folding.{Commits, RefusesCommit}
-use Rattle.segment_core.specs.declared.folds.CommitFault.TheVariants.{Ahead}
-use Rattle.fleet_core.proofs.Following.{follows_fold, follows_no_plan, sheds_nothing, never_ahead}
+use Rattle.segment_core.specs.Folding.{RefusesCommit}
+use Rattle.segment_core.specs.declared.fold_plan.CommitFault.TheVariants.{Ahead}
+use Rattle.fleet_core.proofs.Following.{follows_fold, follows_no_plan, never_ahead}
 use Rattle.fleet_core.proofs.fleets.fold_page.Goals as goal
 
 pub unreachable-requires : goal.unreachable-requires
@@ -18,11 +18,3 @@ returns-in-Ok-commit_fold-clause-follows c = λ node.
     let plan = c.in-Ok.plan in
     let keeps : KeepsMeaningWith c.args.segment.now plan.page plan.version plan.image c.commit_fold.new.self = rw c.fold-folded.ensures at c.in-Ok-commit_fold.ensures.keeps in
     follows_fold c.args.segment.now c.commit_fold.new.self node c.args.page plan c.in-Ok.ensures.result keeps
-
-pub returns-in-Err-clause-sheds : goal.returns-in-Err-clause-sheds
-returns-in-Err-clause-sheds c = λ node. sheds_nothing c.args.segment.now node c.args.page c.in-Err.fault c.fault_reply.result c.fault_reply.ensures
-
-pub returns-in-Ok-commit_fold-clause-sheds : goal.returns-in-Ok-commit_fold-clause-sheds
-returns-in-Ok-commit_fold-clause-sheds c = λ node k epoch.
-    let commits : Commits c.args.segment.now c.in-Ok.plan c.commit_fold.new.self = rw c.fold-folded.ensures at c.in-Ok-commit_fold.ensures.commits in
-    (c.in-Ok.plan, (c.in-Ok.ensures.own k epoch).0, commits)

@@ -1,12 +1,16 @@
-use Rattle.std.proofs.Common.{◌≡◌, List, [], ◌∷◌, ◌++◌, replicate, sym, subst, arith, add-one, suc}
-use Rattle.std.proofs.lemmas.Grind.{common_steps}
-use Rattle.segment_state.specs.State.{State}
-use Rattle.fleet_core.specs.Runs.{MeanNodes}
-use Rattle.fleet_core.proofs.Nodes.{mean_more}
+use Rattle.std.proofs.Common.{◌≡◌, List, [], replicate, sym, subst, arith, ap, ◌∙◌}
+use Rattle.std.specs.List.{AllZip}
+use Rattle.segment_state.specs.State.{State, empty_state}
+use Rattle.segment_state.specs.Means.{Means}
+use Rattle.segment_state.proofs.Bare.{empty_means}
+use Rattle.fleet_core.proofs.Nodes.{none_mean}
 use Rattle.fleet_core.proofs.fleets.Fleet.new.Goals as goal
 
-pub loop-preserved : goal.loop-preserved
-loop-preserved c = λ log.
-    let pushed : c.push.new.self.items ≡ c.loop.segments.items ++ c.new.result ∷ [] = grind (arith, common_steps) in
-    let more : MeanNodes log (replicate (suc c.loop.counter) []) (c.loop.segments.items ++ c.new.result ∷ []) = mean_more log c.loop.counter c.loop.segments.items c.new.result (c.loop.invariant log) (c.new.ensures.means log) in
-    rw add-one (subst (λ (states : List State). MeanNodes log (replicate (suc c.loop.counter) []) states) (sym pushed) more)
+pub returns-clause-means : goal.returns-clause-means
+returns-clause-means c = λ log.
+    let all : c.loop.counter ≡ c.args.nodes = omega arith in
+    let items : c.loop.segments.items ≡ replicate c.args.nodes (empty_state c.args.roster) = c.loop.invariant ∙ ap (λ n. replicate n (empty_state c.args.roster)) all in
+    record {
+      nodes = subst (λ (segments : List State). AllZip (λ facts segment. Means c.args.roster log facts segment) (replicate c.args.nodes []) segments) (sym items)
+          (none_mean c.args.roster log c.args.nodes (empty_state c.args.roster) (empty_means c.args.roster log));
+    }

@@ -1,8 +1,7 @@
-use Rattle.std.proofs.Common.{List, [], replicate}
-use Rattle.redo_core.specs.declared.facts.Fact.{Fact as AnyFact}
-use Rattle.fleet_core.specs.Runs.{MeanNodes}
+use Rattle.std.proofs.Common.{◌≡◌, replicate}
+use Rattle.segment_state.specs.State.{empty_state}
 use Rattle.fleet_core.proofs.fleets.Fleet.new.Given as goal
 
 -- as many empty segments as were counted
 abbrev pub invariant-loop : goal.invariant-loop
-invariant-loop l = (log : List AnyFact) → MeanNodes log (replicate l.counter []) l.segments.items
+invariant-loop l = l.segments.items ≡ replicate l.counter (empty_state l.roster)

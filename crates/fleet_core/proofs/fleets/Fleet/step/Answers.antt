@@ -1,40 +1,40 @@
-use Rattle.std.proofs.Common.{◌≡◌, ◌+◌, ◌-◌, ◌<◌, inl, inr, arith, length, set, ap, subst}
+use Rattle.std.proofs.Common.{◌≡◌, ◌+◌, ◌-◌, length, sym, ap, ◌∙◌, subst, arith, rules, Some, None}
 use Rattle.std.specs.Prelude.{vec_len}
-use Rattle.std.proofs.Common.{rules, List}
-use Rattle.segment_state.specs.State.{State}
-use Rattle.fleet_core.specs.Machine.{node_of}
+use Rattle.fleet_steps.specs.Nodes.{node_of, nodes_of, first_missing}
+use Rattle.fleet_core.specs.declared.replies.Reply.TheVariants.{NoNode}
+use Rattle.fleet_core.specs.FleetState.{FleetState}
 use Rattle.fleet_core.specs.Runs.{FollowsStep}
-use Rattle.fleet_core.specs.Shedding.{ShedsAt}
-use Rattle.fleet_core.proofs.Nodes.{same_count, follows_at, sheds_at}
+use Rattle.fleet_core.specs.Calls.{StepCalls}
+use Rattle.fleet_core.proofs.Places.{none_named, is_there}
+use Rattle.fleet_core.proofs.Nodes.{follows_no_node, follows_at, calls_at, with_at}
 use Rattle.fleet_core.proofs.fleets.Fleet.step.Goals as goal
-use Rattle.fleet_core.proofs.fleets.Fleet.step.Goals.{then-node-eq0-via-then-node-eq0, then-node-eq0-via-else-node-eq0+then-from-len}
 
-pub returns-then-node-eq0-clause-follows : goal.returns-then-node-eq0-clause-follows
-returns-then-node-eq0-clause-follows c = λ log nodes sound takes mean.
-    let count = same_count log nodes c.args.self.now mean in (
-      (
-        c.node-node.ensures,
-        elim c.then-node-eq0.branch [ then-node-eq0-via-then-node-eq0 w ↦ inl w.if-node-eq0.true | then-node-eq0-via-else-node-eq0+then-from-len w ↦ inr (let all : length c.self.inside.nodes.items ≡ length c.args.self.now = ap (λ (xs : List State). length xs) c.self.view_is in let same : length c.self.inside.nodes.items ≡ vec_len c.self.inside.nodes = search rules in omega (arith, w.if-from-len.true, w.len.ensures, w.from.ensures, count, all, same)) ],
-      ),
-      mean,
-    )
+pub returns-in-Some-clause-follows : goal.returns-in-Some-clause-follows
+returns-in-Some-clause-follows c =
+    let items = c.self.inside.nodes.items in
+    let count : length items ≡ vec_len c.self.inside.nodes = search rules in
+    let missing : first_missing (length items) (nodes_of c.args.step.now) ≡ Some c.in-Some.node = ap (λ n. first_missing n (nodes_of c.args.step.now)) (count ∙ sym c.len.ensures) ∙ sym c.missing.ensures ∙ c.in-Some.is in
+    let fleet : FleetState = record { segments = items } in
+    subst (λ (f : FleetState). FollowsStep f c.args.step.now (NoNode c.in-Some.node) f) c.self.view_is (follows_no_node fleet c.args.step.now c.in-Some.node missing)
 
 pub returns-clause-follows : goal.returns-clause-follows
 returns-clause-follows c =
-    let place = c.from-2.result - 1 in
-    let items = c.self.inside.nodes.items in
-    let same : length items ≡ vec_len c.self.inside.nodes = search rules in
-    let within : place < length items = omega (arith, same, c.if-from-len.false, c.len.ensures, c.from.ensures, c.from-2.ensures, c.if-node-eq0.false) in
-    let named : node_of c.args.step.now ≡ place + 1 = omega (arith, c.node-node.ensures, c.from-2.ensures, c.if-node-eq0.false) in
-    subst (λ states. FollowsStep states c.args.step.now c.carry_out.result (set items place c.carry_out.new.segment)) c.self.view_is
-    (follows_at items c.args.step.now c.carry_out.result c.index_mut.result.now c.carry_out.new.segment place within c.index_mut.ensures.value named c.carry_out.ensures.there c.carry_out.ensures.follows)
+    let items = c.self.inside.nodes.items in let place = c.from-place.result - 1 in
+    let count : length items ≡ vec_len c.self.inside.nodes = search rules in
+    let none : first_missing (length items) (nodes_of c.args.step.now) ≡ None = ap (λ n. first_missing n (nodes_of c.args.step.now)) (count ∙ sym c.len.ensures) ∙ sym c.missing.ensures ∙ none_named c.missing.result c.in_default.not-Some in
+    let there = is_there (length items) c.args.step.now none in
+    let named : node_of c.args.step.now ≡ place + 1 = omega (arith, there.0, c.from-place.ensures, c.node.ensures) in
+    let fleet : FleetState = record { segments = items } in
+    subst (λ (f : FleetState). FollowsStep f c.args.step.now c.carry_out.result (with_at fleet place c.carry_out.new.segment)) c.self.view_is
+    (follows_at fleet c.args.step.now c.carry_out.result c.index_mut.result.now c.carry_out.new.segment place none named c.index_mut.ensures.value c.carry_out.ensures.follows)
 
-pub returns-clause-sheds : goal.returns-clause-sheds
-returns-clause-sheds c =
-    let place = c.from-2.result - 1 in
-    let items = c.self.inside.nodes.items in
-    let same : length items ≡ vec_len c.self.inside.nodes = search rules in
-    let within : place < length items = omega (arith, same, c.if-from-len.false, c.len.ensures, c.from.ensures, c.from-2.ensures, c.if-node-eq0.false) in
-    let named : node_of c.args.step.now ≡ place + 1 = omega (arith, c.node-node.ensures, c.from-2.ensures, c.if-node-eq0.false) in
-    subst (λ states. ShedsAt states c.args.step.now c.carry_out.result (set items place c.carry_out.new.segment)) c.self.view_is
-    (sheds_at items c.args.step.now c.carry_out.result c.index_mut.result.now c.carry_out.new.segment place within c.index_mut.ensures.value named c.carry_out.ensures.sheds)
+pub returns-clause-calls : goal.returns-clause-calls
+returns-clause-calls c =
+    let items = c.self.inside.nodes.items in let place = c.from-place.result - 1 in
+    let count : length items ≡ vec_len c.self.inside.nodes = search rules in
+    let none : first_missing (length items) (nodes_of c.args.step.now) ≡ None = ap (λ n. first_missing n (nodes_of c.args.step.now)) (count ∙ sym c.len.ensures) ∙ sym c.missing.ensures ∙ none_named c.missing.result c.in_default.not-Some in
+    let there = is_there (length items) c.args.step.now none in
+    let named : node_of c.args.step.now ≡ place + 1 = omega (arith, there.0, c.from-place.ensures, c.node.ensures) in
+    let fleet : FleetState = record { segments = items } in
+    subst (λ (f : FleetState). StepCalls f c.args.step.now c.carry_out.result (with_at fleet place c.carry_out.new.segment)) c.self.view_is
+    (calls_at fleet c.args.step.now c.carry_out.result c.index_mut.result.now c.carry_out.new.segment place none named c.index_mut.ensures.value c.carry_out.ensures.calls)

@@ -1,39 +1,5 @@
-ghost use Rattle.std.specs.Prelude.{◌≡◌};
-
-use redo_core::{Fact, Page};
+use redo_core::Page;
 use segment_core::{Front, Refusal};
-
-/// A step of a script. Nodes are counted from 1.
-#[derive(Debug, Drop)]
-pub enum Step {
-    /// A fact reaches a node.
-    Take { node: u16, fact: Fact },
-    /// A node folds a page to its anchor.
-    Fold { node: u16, page: u16 },
-    /// A node forgets the records that it has folded.
-    Discard { node: u16 },
-    /// A node is asked for its front.
-    Front { node: u16 },
-    /// A node is asked for a page at a read point.
-    Read { node: u16, page: u16, point: u64 },
-}
-
-impl Step {
-    ghost use Rattle.fleet_core.specs.Machine.{node_of};
-
-    /// The node that the step names.
-    pub fn node(&self) -> u16
-        ensures { result ≡ node_of self.now }
-    {
-        match self {
-            Step::Take { node, .. }
-            | Step::Fold { node, .. }
-            | Step::Discard { node }
-            | Step::Front { node }
-            | Step::Read { node, .. } => *node,
-        }
-    }
-}
 
 /// The reply to a step.
 #[derive(Debug, Drop)]
