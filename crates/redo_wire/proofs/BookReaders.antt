@@ -1,24 +1,28 @@
 -- Books: what is read is spelled so, and what is spelled so is read.
-use Rattle.std.proofs.Common.{◌≡◌, ℕ, ◌<◌, ◌≤◌, true, ltb, eqb, List, ◌++◌, length, Ok, None, refl, ap, subst, ◌∙◌, append_assoc, arith}
+use Rattle.std.proofs.Common.{◌≡◌, ℕ, ◌^◌, ◌+◌, ◌<◌, ◌≤◌, Bool, true, false, ltb, eqb, List, [], ◌∷◌, ◌++◌, length, Ok, refl, sym, ap, subst, ◌∙◌, append_assoc, arith}
 use Rattle.std.specs.List.{AllByRecursion, flat_map}
-use Rattle.std.proofs.lemmas.Bool.{ltb-true, lt-ltb, le-ltb, ltb-false, eqb-false, ne_eqb}
-use Rattle.redo_core.specs.Data.{CutData, AdvanceData, advance_of}
-use Rattle.redo_core.specs.Shape.{advance_fault}
+use Rattle.std.proofs.lemmas.Bool.{lt-ltb, eqb-false}
+use Rattle.redo_core.specs.Data.{CutData, AdvanceData}
+use Rattle.redo_core.specs.Shape.{max_number}
+use Rattle.redo_core.specs.Roster.{IsReader, least}
 use Rattle.redo_core.specs.Order.{IsRising, CutBefore, AdvanceBefore}
 use Rattle.redo_core.specs.CompleteEpoch.{IsCompleteEpoch}
-use Rattle.redo_wire.specs.Reading.{◌>>=◌, shaped}
-use Rattle.redo_wire.specs.Fields.{u16_at, u32_at, u48_at, u16, u32, u48}
+use Rattle.redo_core.proofs.Points.{least_le}
+use Rattle.redo_wire.specs.Fields.{u16_at, u32_at, u16, u32, u48}
 use Rattle.redo_wire.specs.Lists.{each_at}
-use Rattle.redo_wire.specs.Places.{Place, is_above}
+use Rattle.redo_wire.specs.Places.{WaitPlace, is_wait_above}
+use Rattle.redo_wire.specs.Forms.{within_at, byte_in}
 use Rattle.redo_wire.specs.Facts.{IsWireCut, IsWireAdvance, cut_bytes, advance_bytes}
-use Rattle.redo_wire.specs.FactReading.{cut_at}
-use Rattle.redo_wire.specs.Books.{BookData, book_of, IsBook, IsWireBook, book_bytes}
-use Rattle.redo_wire.specs.BookReading.{complete, cut_epoch, advance_place, next_cut_at, wait_at, next_wait_at, book_at}
-use Rattle.redo_wire.proofs.Readers.{IsBytes, bind_ok, ok_is, shaped_ok, Takes, Takes-then, Reads, ordered_reads}
+use Rattle.redo_wire.specs.FactReading.{cut_at, advance_at}
+use Rattle.redo_wire.specs.Books.{BookData, book_of, min_of, has_many, IsBook, IsWireBook, book_bytes}
+use Rattle.redo_wire.specs.BookReading.{complete, cut_epoch, last_point, wait_place, next_cut_at, next_point_at, next_wait_at, book_at}
+use Rattle.redo_wire.proofs.Readers.{IsBytes, bind_ok, ok_is, Takes, Takes-then, Reads, ordered_reads}
 use Rattle.redo_wire.proofs.FieldReaders.{u16_reads, u32_reads, u48_reads}
+use Rattle.redo_wire.proofs.FormReaders.{IsWithin, within_reads}
 use Rattle.redo_wire.proofs.ListReaders.{EachFrom, each_takes, each_again}
-use Rattle.redo_wire.proofs.FactReaders.{cut_reads, spared}
-use Rattle.redo_wire.proofs.Orders.{All-weaker, All-both, IsNext, rising_from_each, each_from_rising, cut_tests, place_tests, above_zero}
+use Rattle.redo_wire.proofs.RecordReaders.{spared}
+use Rattle.redo_wire.proofs.FactReaders.{cut_reads, advance_reads, IsReadAdvance, ranges, within_bounds, second_is, within_second}
+use Rattle.redo_wire.proofs.Orders.{All-weaker, All-both, IsNext, rising_from_each, each_from_rising, cut_tests, place_of, wait_tests, wait_above_zero}
 use Rattle.redo_wire.proofs.Epochs.{is_complete, one_complete_epoch}
 
 -- ---- truncations in their places
@@ -29,117 +33,193 @@ IsNextCut last c = IsNext (λ last c. ltb last c.epoch) IsWireCut last c
 next_cut_reads : (last : ℕ) → Reads (next_cut_at last) cut_bytes (IsNextCut last)
 next_cut_reads last = ordered_reads (λ c. ltb last c.epoch) cut_at cut_bytes IsWireCut cut_reads
 
-pub epoch_above_zero : (c : CutData) → IsWireCut c → 0 < c.epoch
+epoch_above_zero : (c : CutData) → IsWireCut c → 0 < c.epoch
 epoch_above_zero c wire = let r = spared (eqb c.epoch 0) _ _ wire.shape in omega (arith, eqb-false c.epoch 0 r.0)
+
+-- ---- readers' points
+
+abbrev pub IsNextPoint : ℕ → ℕ → Type 0
+IsNextPoint last p = p < 2 ^ 48
+
+next_point_reads : (last : ℕ) → Reads (next_point_at last) u48 (IsNextPoint last)
+next_point_reads last = u48_reads
+
+small_points : (last : ℕ) (ps : List ℕ) → EachFrom IsNextPoint last_point last ps → AllByRecursion (λ p. p ≤ max_number) ps
+small_points last [] h = tt
+small_points last (p ∷ ps) h = let lt = h.0 in (omega (arith, lt), small_points p ps h.1)
+
+small_least : (ps : List ℕ) → 1 ≤ length ps → AllByRecursion (λ p. p ≤ max_number) ps → least ps ≤ max_number
+small_least [] one h = absurd (omega (arith, one))
+small_least (p ∷ ps) one h =
+    let low : least (p ∷ ps) ≤ p = least_le (length (p ∷ ps)) (p ∷ ps) 1 refl (omega arith, one) in
+    let high = h.0 in
+    omega arith
+
+-- the minimum read point of a book is a number
+pub min_small : (b : BookData) → IsBook b → min_of b ≤ max_number
+min_small b book = small_least b.points book.roster.0 book.points
+
+each_point : (last : ℕ) (ps : List ℕ) → AllByRecursion (λ p. p ≤ max_number) ps → EachFrom IsNextPoint last_point last ps
+each_point last [] h = tt
+each_point last (p ∷ ps) h = let le = h.0 in (omega (arith, le), each_point p ps h.1)
 
 -- ---- waiting advances in their places
 
-abbrev pub IsWait : ℕ → AdvanceData → Type 0
-IsWait k a = (k < a.epoch) × IsWireAdvance a
+-- an advance that waits at the complete epoch k, of one of so many readers
+abbrev pub IsWait : Bool → ℕ → ℕ → AdvanceData → Type 0
+IsWait many k readers a = IsReadAdvance many (k + 1) 1 readers a
 
-abbrev pub IsNextWait : ℕ → Place → AdvanceData → Type 0
-IsNextWait k last a = IsNext (λ last a. is_above last (a.epoch, a.point)) (IsWait k) last a
+abbrev pub IsNextWait : Bool → ℕ → ℕ → WaitPlace → AdvanceData → Type 0
+IsNextWait many k readers last a = IsNext (λ last a. is_wait_above last (place_of a)) (IsWait many k readers) last a
 
-wait_takes : (k : ℕ) (bytes : List ℕ) (x : AdvanceData × List ℕ) → IsBytes bytes → wait_at k bytes ≡ Ok x → Takes bytes (advance_bytes x.0) x.1 × IsWait k x.0
-unfolding wait_at
-wait_takes k bytes x fits e =
-    let a0 = bind_ok (shaped (λ e. ltb k e) (u16_at bytes)) (λ epoch. shaped (λ p. ltb 0 p) (u48_at epoch.1) >>= λ point. Ok (advance_of epoch.0 point.0, point.1)) x e in
-    let s0 = shaped_ok (λ e. ltb k e) (u16_at bytes) a0.0 a0.1 in
-    let a1 = bind_ok (shaped (λ p. ltb 0 p) (u48_at a0.0.1)) (λ point. Ok (advance_of a0.0.0 point.0, point.1)) x a0.2 in
-    let s1 = shaped_ok (λ p. ltb 0 p) (u48_at a0.0.1) a1.0 a1.1 in
-    let t0 = u16_reads.takes bytes a0.0 fits s0.0 in
-    let t1 = u48_reads.takes a0.0.1 a1.0 t0.0.rest_fits s1.0 in
-    let e1 = Takes-then bytes (u16 a0.0.0) a0.0.1 (u48 a1.0.0) a1.0.1 t0.0 t1.0 in
-    let pos : 0 < a1.0.0 = ltb-true _ _ s1.1 in
-    let later : k < a0.0.0 = ltb-true _ _ s0.1 in
-    let made : AdvanceData × List ℕ = (advance_of a0.0.0 a1.0.0, a1.0.1) in
-    let shape : advance_fault made.0 ≡ None = rw (ne_eqb a1.0.0 0 (λ e. omega (arith, pos, e)), le-ltb 281474976710655 a1.0.0 (omega (arith, t1.1))) refl in
-    subst (λ (y : AdvanceData × List ℕ). Takes bytes (advance_bytes y.0) y.1 × IsWait k y.0) (ok_is made x a1.2) (e1, (later, record { epoch = t0.1; shape = shape }))
-
--- the point of an advance
-pub point_in_range : (a : AdvanceData) → IsWireAdvance a → (0 < a.point) × (a.point ≤ 281474976710655)
-point_in_range a wire =
-    let r0 = spared (eqb a.point 0) _ _ wire.shape in
-    let r1 = spared (ltb 281474976710655 a.point) _ _ r0.1 in
-    (omega (arith, eqb-false a.point 0 r0.0), ltb-false 281474976710655 a.point r1.0)
-
-wait_again : (k : ℕ) (a : AdvanceData) (rest : List ℕ) → IsWait k a → wait_at k (advance_bytes a ++ rest) ≡ Ok (a, rest)
-unfolding wait_at
-wait_again k a rest fits =
-    let regrouped : advance_bytes a ++ rest ≡ u16 a.epoch ++ (u48 a.point ++ rest) = simp append_assoc in
-    let range = point_in_range a fits.1 in
-    ap (wait_at k) regrouped ∙ rw (u16_reads.again a.epoch (u48 a.point ++ rest) fits.1.epoch, lt-ltb k a.epoch fits.0, u48_reads.again a.point rest (omega (arith, range.1)), lt-ltb 0 a.point range.0) refl
-
-next_wait_reads : (k : ℕ) (last : Place) → Reads (next_wait_at k last) advance_bytes (IsNextWait k last)
-next_wait_reads k last = ordered_reads (λ a. is_above last (a.epoch, a.point)) (wait_at k) advance_bytes (IsWait k) (record { takes = wait_takes k; again = wait_again k })
+next_wait_reads : (many : Bool) (k readers : ℕ) → 1 ≤ readers → readers ≤ 15 → (last : WaitPlace)
+    → Reads (next_wait_at many k readers last) (advance_bytes many) (IsNextWait many k readers last)
+next_wait_reads many k readers one hi last =
+    ordered_reads (λ a. is_wait_above last (place_of a)) (advance_at many (k + 1) 1 readers) (advance_bytes many) (IsWait many k readers)
+    (advance_reads many (k + 1) 1 readers (omega arith) one hi)
 
 -- ---- the lists of a book, judged one by one and as a whole
 
-cuts_rise : (cs : List CutData) → EachFrom IsNextCut cut_epoch 0 cs → AllByRecursion (λ c. ltb 0 c.epoch ≡ true) cs × IsRising CutBefore cs × AllByRecursion IsWireCut cs
+cuts_rise : (cs : List CutData) → EachFrom IsNextCut cut_epoch 0 cs
+    → AllByRecursion (λ c. ltb 0 c.epoch ≡ true) cs × IsRising CutBefore cs × AllByRecursion IsWireCut cs
 cuts_rise cs each = rising_from_each (λ last c. ltb last c.epoch) (λ (c : CutData). c.epoch) CutBefore IsWireCut cut_tests 0 cs each
 
 complete_is : (cs : List CutData) → IsRising CutBefore cs → AllByRecursion IsWireCut cs → IsCompleteEpoch cs (complete cs)
 complete_is cs rising all = is_complete cs rising (All-weaker IsWireCut (λ c. 0 < c.epoch) epoch_above_zero cs all)
 
 -- what was judged by the computed epoch waits at the complete one
-waits_at_complete : (cs : List CutData) (waits : List AdvanceData) → IsCompleteEpoch cs (complete cs) → AllByRecursion (λ a. complete cs < a.epoch) waits → (k : ℕ) → IsCompleteEpoch cs k → AllByRecursion (λ a. k < a.epoch) waits
+waits_at_complete : (cs : List CutData) (waits : List AdvanceData) → IsCompleteEpoch cs (complete cs) → AllByRecursion (λ a. complete cs < a.epoch) waits
+    → (k : ℕ) → IsCompleteEpoch cs k → AllByRecursion (λ a. k < a.epoch) waits
 waits_at_complete cs waits is all k other = subst (λ (n : ℕ). AllByRecursion (λ a. n < a.epoch) waits) (one_complete_epoch cs (complete cs) k is other) all
 
-pub book_steps : (bytes : List ℕ) (cut_count : ℕ × List ℕ) (cuts : List CutData × List ℕ) (min wait_count : ℕ × List ℕ) (waits : List AdvanceData × List ℕ) → IsBytes bytes
-    → u16_at bytes ≡ Ok cut_count → each_at next_cut_at cut_epoch cut_count.0 0 cut_count.1 ≡ Ok cuts → u48_at cuts.1 ≡ Ok min → u32_at min.1 ≡ Ok wait_count
-    → each_at (next_wait_at (complete cuts.0)) advance_place wait_count.0 (0, 0) wait_count.1 ≡ Ok waits
-    → let b = book_of cuts.0 min.0 waits.0 in Takes bytes (book_bytes b) waits.1 × IsWireBook b
-book_steps bytes cut_count cuts min wait_count waits fits e0 e1 e2 e3 e4 =
+-- the truncations, points and advances that were read make up a book
+book_shape : (many : Bool) (cs : List CutData) (ps : List ℕ) (waits : List AdvanceData) → IsWithin many 1 2 15 (length ps)
+    → EachFrom IsNextCut cut_epoch 0 cs → EachFrom IsNextPoint last_point 0 ps
+    → EachFrom (IsNextWait many (complete cs) (length ps)) wait_place (0, 0, 0) waits
+    → length cs < 2 ^ 16 → length waits < 2 ^ 32 → IsWireBook (book_of cs ps waits)
+book_shape many cs ps waits roster cuts points each few_cuts few_waits =
+    let rising = cuts_rise cs cuts in
+    let k = complete cs in
+    let n = length ps in
+    let bounds = within_bounds many 2 15 n (omega arith) (omega arith) roster in
+    let one = bounds.0 in
+    let waiting = rising_from_each (λ last a. is_wait_above last (place_of a)) place_of AdvanceBefore (IsWait many k n) wait_tests (0, 0, 0) waits each in
+    let later = All-weaker (IsWait many k n) (λ a. k < a.epoch) (λ a w. let l = w.later in omega (arith, l)) waits waiting.2 in
+    let readers = All-weaker (IsWait many k n) (λ a. IsReader n a.reader)
+    (λ a w. let b = within_bounds many 1 n a.reader (omega arith) one w.reader in (b.0, b.1)) waits waiting.2 in
+    record {
+      shape = record {
+        cuts = rising.1;
+        roster = (bounds.0, bounds.1);
+        points = small_points 0 ps points;
+        waits = waiting.1;
+        readers = readers;
+        waiting = waits_at_complete cs waits (complete_is cs rising.1 rising.2) later;
+      };
+      each_cut = rising.2;
+      each_wait = All-weaker (IsWait many k n) IsWireAdvance (λ a w. w.wire) waits waiting.2;
+      cut_count = few_cuts;
+      wait_count = few_waits;
+    }
+
+pub book_steps : (many : Bool) (bytes : List ℕ) (cut_count : ℕ × List ℕ) (cuts : List CutData × List ℕ) (readers : ℕ × List ℕ)
+    (points : List ℕ × List ℕ) (wait_count : ℕ × List ℕ) (waits : List AdvanceData × List ℕ) → IsBytes bytes
+    → u16_at bytes ≡ Ok cut_count → each_at next_cut_at cut_epoch cut_count.0 0 cut_count.1 ≡ Ok cuts → within_at many 1 2 15 cuts.1 ≡ Ok readers
+    → each_at next_point_at last_point readers.0 0 readers.1 ≡ Ok points → u32_at points.1 ≡ Ok wait_count
+    → each_at (next_wait_at many (complete cuts.0) readers.0) wait_place wait_count.0 (0, 0, 0) wait_count.1 ≡ Ok waits
+    → let b = book_of cuts.0 points.0 waits.0 in Takes bytes (book_bytes many b) waits.1 × (IsWireBook b × (has_many b ≡ many))
+book_steps many bytes cut_count cuts readers points wait_count waits fits e0 e1 e2 e3 e4 e5 =
+    let k = complete cuts.0 in
     let t0 = u16_reads.takes bytes cut_count fits e0 in
     let t1 = each_takes next_cut_at cut_epoch cut_bytes IsNextCut next_cut_reads cut_count.0 0 cut_count.1 cuts t0.0.rest_fits e1 in
-    let t2 = u48_reads.takes cuts.1 min t1.0.rest_fits e2 in
-    let t3 = u32_reads.takes min.1 wait_count t2.0.rest_fits e3 in
-    let t4 = each_takes (next_wait_at (complete cuts.0)) advance_place advance_bytes (IsNextWait (complete cuts.0)) (next_wait_reads (complete cuts.0)) wait_count.0 (0, 0) wait_count.1 waits t3.0.rest_fits e4 in
+    let t2 = (within_reads many 1 2 15).takes cuts.1 readers t1.0.rest_fits e2 in
+    let bounds = within_bounds many 2 15 readers.0 (omega arith) (omega arith) t2.1 in
+    let t3 = each_takes next_point_at last_point u48 IsNextPoint next_point_reads readers.0 0 readers.1 points t2.0.rest_fits e3 in
+    let t4 = u32_reads.takes points.1 wait_count t3.0.rest_fits e4 in
+    let t5 = each_takes (next_wait_at many k readers.0) wait_place (advance_bytes many) (IsNextWait many k readers.0)
+    (next_wait_reads many k readers.0 bounds.0 bounds.1) wait_count.0 (0, 0, 0) wait_count.1 waits t4.0.rest_fits e5 in
     let p1 = Takes-then bytes (u16 cut_count.0) cut_count.1 (flat_map cut_bytes cuts.0) cuts.1 t0.0 t1.0 in
-    let p2 = Takes-then bytes (u16 cut_count.0 ++ flat_map cut_bytes cuts.0) cuts.1 (u48 min.0) min.1 p1 t2.0 in
-    let p3 = Takes-then bytes (u16 cut_count.0 ++ flat_map cut_bytes cuts.0 ++ u48 min.0) min.1 (u32 wait_count.0) wait_count.1 p2 t3.0 in
-    let p4 = Takes-then bytes (u16 cut_count.0 ++ flat_map cut_bytes cuts.0 ++ u48 min.0 ++ u32 wait_count.0) wait_count.1 (flat_map advance_bytes waits.0) waits.1 p3 t4.0 in
+    let q = Takes-then cuts.1 (byte_in many readers.0) readers.1 (flat_map u48 points.0) points.1 t2.0 t3.0 in
+    let p2 = Takes-then bytes (u16 cut_count.0 ++ flat_map cut_bytes cuts.0) cuts.1 (byte_in many readers.0 ++ flat_map u48 points.0) points.1 p1 q in
+    let p3 = Takes-then bytes (u16 cut_count.0 ++ flat_map cut_bytes cuts.0 ++ (byte_in many readers.0 ++ flat_map u48 points.0)) points.1
+    (u32 wait_count.0) wait_count.1 p2 t4.0 in
+    let p4 = Takes-then bytes (u16 cut_count.0 ++ flat_map cut_bytes cuts.0 ++ (byte_in many readers.0 ++ flat_map u48 points.0) ++ u32 wait_count.0)
+    wait_count.1 (flat_map (advance_bytes many) waits.0) waits.1 p3 t5.0 in
     let cut_len : length cuts.0 ≡ cut_count.0 = t1.1 in
-    let wait_len : length waits.0 ≡ wait_count.0 = t4.1 in
-    let rising = cuts_rise cuts.0 t1.2 in
-    let waiting = rising_from_each (λ last a. is_above last (a.epoch, a.point)) (λ (a : AdvanceData). (a.epoch, a.point)) AdvanceBefore (IsWait (complete cuts.0)) (place_tests (λ (a : AdvanceData). a.epoch) (λ a. a.point)) (0, 0) waits.0 t4.2 in
-    let later = All-weaker (IsWait (complete cuts.0)) (λ a. complete cuts.0 < a.epoch) (λ a w. w.0) waits.0 waiting.2 in
-    let shape : IsBook (book_of cuts.0 min.0 waits.0) = record { cuts = rising.1; min = omega (arith, t2.1); waits = waiting.1; waiting = waits_at_complete cuts.0 waits.0 (complete_is cuts.0 rising.1 rising.2) later } in
-    (rw (cut_len, wait_len) p4, record { shape = shape; each_cut = rising.2; each_wait = All-weaker (IsWait (complete cuts.0)) IsWireAdvance (λ a w. w.1) waits.0 waiting.2; cut_count = rw cut_len t0.1; wait_count = rw wait_len t3.1 })
+    let point_len : length points.0 ≡ readers.0 = t3.1 in
+    let wait_len : length waits.0 ≡ wait_count.0 = t5.1 in
+    let each = subst (λ (n : ℕ). EachFrom (IsNextWait many k n) wait_place (0, 0, 0) waits.0) (sym point_len) t5.2 in
+    let roster = subst (λ (n : ℕ). IsWithin many 1 2 15 n) (sym point_len) t2.1 in
+    let book = book_shape many cuts.0 points.0 waits.0 roster t1.2 t3.2 each (rw cut_len t0.1) (rw wait_len t4.1) in
+    (rw (cut_len, point_len, wait_len) p4, (book, second_is many 15 (length points.0) roster))
 
-book_takes : (bytes : List ℕ) (x : BookData × List ℕ) → IsBytes bytes → book_at bytes ≡ Ok x → Takes bytes (book_bytes x.0) x.1 × IsWireBook x.0
+book_takes : (many : Bool) (bytes : List ℕ) (x : BookData × List ℕ) → IsBytes bytes → book_at many bytes ≡ Ok x
+    → Takes bytes (book_bytes many x.0) x.1 × (IsWireBook x.0 × (has_many x.0 ≡ many))
 unfolding book_at
-book_takes bytes x fits e =
-    let a0 = bind_ok (u16_at bytes) (λ cut_count. (each_at next_cut_at cut_epoch cut_count.0 0 cut_count.1) >>= λ cuts. (u48_at cuts.1) >>= λ min. (u32_at min.1) >>= λ wait_count. (each_at (next_wait_at (complete cuts.0)) advance_place wait_count.0 (0, 0) wait_count.1) >>= λ waits. Ok (book_of cuts.0 min.0 waits.0, waits.1)) x e in
-    let a1 = bind_ok (each_at next_cut_at cut_epoch a0.0.0 0 a0.0.1) (λ cuts. (u48_at cuts.1) >>= λ min. (u32_at min.1) >>= λ wait_count. (each_at (next_wait_at (complete cuts.0)) advance_place wait_count.0 (0, 0) wait_count.1) >>= λ waits. Ok (book_of cuts.0 min.0 waits.0, waits.1)) x a0.2 in
-    let a2 = bind_ok (u48_at a1.0.1) (λ min. (u32_at min.1) >>= λ wait_count. (each_at (next_wait_at (complete a1.0.0)) advance_place wait_count.0 (0, 0) wait_count.1) >>= λ waits. Ok (book_of a1.0.0 min.0 waits.0, waits.1)) x a1.2 in
-    let a3 = bind_ok (u32_at a2.0.1) (λ wait_count. (each_at (next_wait_at (complete a1.0.0)) advance_place wait_count.0 (0, 0) wait_count.1) >>= λ waits. Ok (book_of a1.0.0 a2.0.0 waits.0, waits.1)) x a2.2 in
-    let a4 = bind_ok (each_at (next_wait_at (complete a1.0.0)) advance_place a3.0.0 (0, 0) a3.0.1) (λ waits. Ok (book_of a1.0.0 a2.0.0 waits.0, waits.1)) x a3.2 in
-    let made : BookData × List ℕ = (book_of a1.0.0 a2.0.0 a4.0.0, a4.0.1) in
-    subst (λ (y : BookData × List ℕ). Takes bytes (book_bytes y.0) y.1 × IsWireBook y.0) (ok_is made x a4.2) (book_steps bytes a0.0 a1.0 a2.0 a3.0 a4.0 fits a0.1 a1.1 a2.1 a3.1 a4.1)
+book_takes many bytes x fits e =
+    let a0 = bind_ok (u16_at bytes) _ x e in
+    let a1 = bind_ok (each_at next_cut_at cut_epoch a0.0.0 0 a0.0.1) _ x a0.2 in
+    let a2 = bind_ok (within_at many 1 2 15 a1.0.1) _ x a1.2 in
+    let a3 = bind_ok (each_at next_point_at last_point a2.0.0 0 a2.0.1) _ x a2.2 in
+    let a4 = bind_ok (u32_at a3.0.1) _ x a3.2 in
+    let a5 = bind_ok (each_at (next_wait_at many (complete a1.0.0) a2.0.0) wait_place a4.0.0 (0, 0, 0) a4.0.1) _ x a4.2 in
+    let made : BookData × List ℕ = (book_of a1.0.0 a3.0.0 a5.0.0, a5.0.1) in
+    subst (λ (y : BookData × List ℕ). Takes bytes (book_bytes many y.0) y.1 × (IsWireBook y.0 × (has_many y.0 ≡ many))) (ok_is made x a5.2)
+    (book_steps many bytes a0.0 a1.0 a2.0 a3.0 a4.0 a5.0 fits a0.1 a1.1 a2.1 a3.1 a4.1 a5.1)
 
 each_cut : (b : BookData) → IsWireBook b → EachFrom IsNextCut cut_epoch 0 b.cuts
 each_cut b wire =
     let first = All-weaker IsWireCut (λ c. ltb 0 c.epoch ≡ true) (λ c w. lt-ltb 0 c.epoch (epoch_above_zero c w)) b.cuts wire.each_cut in
     each_from_rising (λ last c. ltb last c.epoch) (λ (c : CutData). c.epoch) CutBefore IsWireCut cut_tests 0 b.cuts first wire.shape.cuts wire.each_cut
 
-each_wait : (b : BookData) → IsWireBook b → EachFrom (IsNextWait (complete b.cuts)) advance_place (0, 0) b.waits
-each_wait b wire =
-    let first = All-weaker IsWireAdvance (λ a. is_above (0, 0) (a.epoch, a.point) ≡ true) (λ a w. above_zero a.epoch a.point (point_in_range a w).0) b.waits wire.each_wait in
-    let later = wire.shape.waiting (complete b.cuts) (complete_is b.cuts wire.shape.cuts wire.each_cut) in
-    each_from_rising (λ last a. is_above last (a.epoch, a.point)) (λ (a : AdvanceData). (a.epoch, a.point)) AdvanceBefore (IsWait (complete b.cuts)) (place_tests (λ (a : AdvanceData). a.epoch) (λ a. a.point)) (0, 0) b.waits first wire.shape.waits
-    (All-both (λ a. complete b.cuts < a.epoch) IsWireAdvance b.waits later wire.each_wait)
+-- a reader of the roster may stand in the form for that roster
+reader_within : (many : Bool) (readers r : ℕ) → IsWithin many 1 2 15 readers → IsReader readers r → IsWithin many 1 1 readers r
+reader_within false readers r roster is = let one = is.0 in let low = is.1 in omega (arith, roster)
+reader_within true readers r roster is = (is.0, is.1)
 
-book_again : (b : BookData) (rest : List ℕ) → IsWireBook b → book_at (book_bytes b ++ rest) ≡ Ok (b, rest)
+each_wait : (many : Bool) (b : BookData) → IsWireBook b → IsWithin many 1 2 15 (length b.points)
+    → EachFrom (IsNextWait many (complete b.cuts) (length b.points)) wait_place (0, 0, 0) b.waits
+each_wait many b wire roster =
+    let k = complete b.cuts in
+    let n = length b.points in
+    let first = All-weaker IsWireAdvance (λ a. is_wait_above (0, 0, 0) (place_of a) ≡ true)
+    (λ a w. let f = (ranges a w).first in wait_above_zero a.epoch a.reader a.point (omega (arith, f))) b.waits wire.each_wait in
+    let later = wire.shape.waiting k (complete_is b.cuts wire.shape.cuts wire.each_cut) in
+    let both = All-both (λ a. k < a.epoch) (λ a. IsReader n a.reader × IsWireAdvance a) b.waits later
+    (All-both (λ a. IsReader n a.reader) IsWireAdvance b.waits wire.shape.readers wire.each_wait) in
+    let all = All-weaker (λ a. (k < a.epoch) × (IsReader n a.reader × IsWireAdvance a)) (IsWait many k n)
+    (λ a h. let l = h.0 in record { later = omega (arith, l); reader = reader_within many n a.reader roster h.1.0; wire = h.1.1 }) b.waits both in
+    each_from_rising (λ last a. is_wait_above last (place_of a)) place_of AdvanceBefore (IsWait many k n) wait_tests (0, 0, 0) b.waits first
+    wire.shape.waits all
+
+book_again : (many : Bool) (b : BookData) (rest : List ℕ) → IsWireBook b × (has_many b ≡ many) → book_at many (book_bytes many b ++ rest) ≡ Ok (b, rest)
 unfolding book_at
-book_again b rest wire =
-    let z3 = flat_map advance_bytes b.waits ++ rest in
-    let z2 = u32 (length b.waits) ++ z3 in
-    let z1 = u48 b.min ++ z2 in
+book_again many b rest fits =
+    let wire = fits.0 in
+    let n = length b.points in
+    let roster = within_second many 15 n wire.shape.roster.0 wire.shape.roster.1 fits.1 in
+    let z4 = flat_map (advance_bytes many) b.waits ++ rest in
+    let z3 = u32 (length b.waits) ++ z4 in
+    let z2 = flat_map u48 b.points ++ z3 in
+    let z1 = byte_in many n ++ z2 in
     let z0 = flat_map cut_bytes b.cuts ++ z1 in
-    let low = wire.shape.min in
-    let regrouped : book_bytes b ++ rest ≡ u16 (length b.cuts) ++ (flat_map cut_bytes b.cuts ++ (u48 b.min ++ (u32 (length b.waits) ++ (flat_map advance_bytes b.waits ++ rest)))) = simp append_assoc in
-    ap book_at regrouped ∙ rw (u16_reads.again (length b.cuts) z0 wire.cut_count, each_again next_cut_at cut_epoch cut_bytes IsNextCut next_cut_reads b.cuts 0 z1 (each_cut b wire), u48_reads.again b.min z2 (omega (arith, low)), u32_reads.again (length b.waits) z3 wire.wait_count, each_again (next_wait_at (complete b.cuts)) advance_place advance_bytes (IsNextWait (complete b.cuts)) (next_wait_reads (complete b.cuts)) b.waits (0, 0) rest (each_wait b wire)) refl
+    let regrouped : book_bytes many b ++ rest ≡ u16
+    (length b.cuts) ++ (flat_map cut_bytes b.cuts ++ (byte_in many n ++ (flat_map u48 b.points ++ (u32
+    (length b.waits) ++ (flat_map (advance_bytes many) b.waits ++ rest))))) = simp append_assoc in
+    let readers = (within_reads many 1 2 15).again n z2 roster in
+    let waits = each_again (next_wait_at many (complete b.cuts) n) wait_place (advance_bytes many) (IsNextWait many (complete b.cuts) n)
+    (next_wait_reads many (complete b.cuts) n wire.shape.roster.0 wire.shape.roster.1) b.waits (0, 0, 0) rest (each_wait many b wire roster) in
+    ap (book_at many) regrouped
+    ∙ rw (
+      u16_reads.again (length b.cuts) z0 wire.cut_count,
+      each_again next_cut_at cut_epoch cut_bytes IsNextCut next_cut_reads b.cuts 0 z1
+          (each_cut b wire),
+      readers,
+      each_again next_point_at last_point u48 IsNextPoint next_point_reads b.points 0 z3
+          (each_point 0 b.points wire.shape.points),
+      u32_reads.again (length b.waits) z4 wire.wait_count,
+      waits,
+    ) refl
 
-pub book_reads : Reads book_at book_bytes IsWireBook
-book_reads = record { takes = book_takes; again = book_again }
+pub book_reads : (many : Bool) → Reads (book_at many) (book_bytes many) (λ b. IsWireBook b × (has_many b ≡ many))
+book_reads many = record { takes = book_takes many; again = book_again many }

@@ -1,5 +1,5 @@
 -- Deltas: what is read is spelled so, and what is spelled so is read.
-use Rattle.std.proofs.Common.{◌≡◌, ℕ, zero, suc, ◌<◌, ◌≤◌, true, false, ltb, leb, eqb, cond, List, [], ◌∷◌, ◌++◌, length, replicate, Ok, Err, refl, sym, ap, subst, ◌∙◌, append_assoc, arith, inl, inr}
+use Rattle.std.proofs.Common.{◌≡◌, ℕ, zero, suc, ◌<◌, ◌≤◌, Bool, true, false, ltb, leb, eqb, List, [], ◌∷◌, ◌++◌, length, replicate, Ok, refl, sym, ap, subst, ◌∙◌, append_assoc, arith, inl, inr}
 use Rattle.std.specs.Prelude.{◌≢◌, not}
 use Rattle.std.specs.List.{flat_map}
 use Rattle.std.proofs.lemmas.Bool.{ltb-true, leb-true, lt-ltb, le-leb, eqb-true, eq-eqb, or_cases, or_left, or_right, or_parts, not-false, cases_Bool, cases_lt}
@@ -8,23 +8,23 @@ use Rattle.redo_core.specs.Data.{RecordData}
 use Rattle.redo_core.specs.Order.{RecordBefore}
 use Rattle.redo_core.specs.Writing.{zeros}
 use Rattle.redo_core.specs.Meaning.{ImageData, ImageBefore}
-use Rattle.redo_wire.specs.declared.faults.WireFault.TheVariants.{UnknownTag}
-use Rattle.redo_wire.specs.Reading.{◌>>=◌, shaped}
-use Rattle.redo_wire.specs.Fields.{byte_at, bytes_at, u16_at, u32_at, u48_at, u16, u32, u48}
+use Rattle.redo_wire.specs.Reading.{shaped}
+use Rattle.redo_wire.specs.Fields.{bytes_at, u16_at, u32_at, u48_at, u16, u32, u48}
 use Rattle.redo_wire.specs.Lists.{each_at}
 use Rattle.redo_wire.specs.Places.{Place, is_above}
-use Rattle.redo_wire.specs.Facts.{IsWireRecord, record_bytes}
-use Rattle.redo_wire.specs.FactReading.{record_at}
-use Rattle.redo_wire.specs.Books.{BookData, book_bytes}
+use Rattle.redo_wire.specs.Records.{IsWireRecord, record_bytes}
+use Rattle.redo_wire.specs.RecordReading.{record_at}
+use Rattle.redo_wire.specs.Books.{BookData, min_of, has_many, book_bytes}
 use Rattle.redo_wire.specs.BookReading.{book_at}
-use Rattle.redo_wire.specs.Deltas.{DeltaData, delta_of, image_of, IsDelta, IsWireImage, IsWireDelta, image_bytes, tagged_record_bytes, delta_bytes}
-use Rattle.redo_wire.specs.DeltaReading.{is_nonzero, may_have, image_at, page_after, next_image_at, tagged_record_at, record_place, next_record_at, delta_part_at, delta_at}
-use Rattle.redo_wire.proofs.Readers.{IsBytes, bind_ok, ok_is, shaped_ok, guard_at, Takes, Takes-then, Reads, ordered_reads}
-use Rattle.redo_wire.proofs.FieldReaders.{byte_reads, u16_reads, u32_reads, u48_reads, bytes_take, bytes_again}
+use Rattle.redo_wire.specs.Deltas.{DeltaData, delta_of, image_of, IsDelta, IsWireImage, IsWireDelta, image_bytes, delta_part_bytes, delta_bytes}
+use Rattle.redo_wire.specs.DeltaReading.{is_nonzero, may_have, image_at, page_after, next_image_at, record_place, next_record_at, delta_part_at, delta_at}
+use Rattle.redo_wire.proofs.Readers.{IsBytes, bind_ok, ok_is, shaped_ok, Takes, Takes-then, Reads, ordered_reads}
+use Rattle.redo_wire.proofs.FieldReaders.{u16_reads, u32_reads, u48_reads, bytes_take, bytes_again}
+use Rattle.redo_wire.proofs.FormReaders.{form_then}
 use Rattle.redo_wire.proofs.ListReaders.{EachFrom, each_takes, each_again}
-use Rattle.redo_wire.proofs.FactReaders.{record_reads, number_above_zero}
+use Rattle.redo_wire.proofs.RecordReaders.{record_reads, number_above_zero}
 use Rattle.redo_wire.proofs.Orders.{All-weaker, All-both, IsNext, rising_from_each, each_from_rising, image_tests, place_tests, above_zero}
-use Rattle.redo_wire.proofs.BookReaders.{book_reads}
+use Rattle.redo_wire.proofs.BookReaders.{book_reads, min_small}
 
 -- ---- pages of zeros
 
@@ -67,14 +67,15 @@ IsNextImage least p = IsNext (λ least p. leb least p.page) IsReadImage least p
 image_takes : (bytes : List ℕ) (x : ImageData × List ℕ) → IsBytes bytes → image_at bytes ≡ Ok x → Takes bytes (image_bytes x.0) x.1 × IsReadImage x.0
 unfolding image_at
 image_takes bytes x fits e =
-    let a0 = bind_ok (u16_at bytes) (λ page. shaped is_nonzero (bytes_at 4096 page.1) >>= λ image. Ok (image_of page.0 image.0, image.1)) x e in
-    let a1 = bind_ok (shaped is_nonzero (bytes_at 4096 a0.0.1)) (λ image. Ok (image_of a0.0.0 image.0, image.1)) x a0.2 in
+    let a0 = bind_ok (u16_at bytes) _ x e in
+    let a1 = bind_ok (shaped is_nonzero (bytes_at 4096 a0.0.1)) _ x a0.2 in
     let s1 = shaped_ok is_nonzero (bytes_at 4096 a0.0.1) a1.0 a1.1 in
     let t0 = u16_reads.takes bytes a0.0 fits a0.1 in
     let t1 = bytes_take 4096 a0.0.1 a1.0 t0.0.rest_fits s1.0 in
     let e1 = Takes-then bytes (u16 a0.0.0) a0.0.1 a1.0.0 a1.0.1 t0.0 t1.0 in
     let made : ImageData × List ℕ = (image_of a0.0.0 a1.0.0, a1.0.1) in
-    subst (λ (y : ImageData × List ℕ). Takes bytes (image_bytes y.0) y.1 × IsReadImage y.0) (ok_is made x a1.2) (e1, (record { page = t0.1; size = t1.1 }, s1.1))
+    subst (λ (y : ImageData × List ℕ). Takes bytes (image_bytes y.0) y.1 × IsReadImage y.0) (ok_is made x a1.2)
+    (e1, (record { page = t0.1; size = t1.1 }, s1.1))
 
 image_again : (p : ImageData) (rest : List ℕ) → IsReadImage p → image_at (image_bytes p ++ rest) ≡ Ok (p, rest)
 unfolding image_at
@@ -90,23 +91,8 @@ next_image_reads least = ordered_reads (λ p. leb least p.page) image_at image_b
 abbrev pub IsNextRecord : Place → RecordData → Type 0
 IsNextRecord last r = IsNext (λ last r. is_above last (r.epoch, r.number)) IsWireRecord last r
 
-tagged_record_takes : (bytes : List ℕ) (x : RecordData × List ℕ) → IsBytes bytes → tagged_record_at bytes ≡ Ok x → Takes bytes (tagged_record_bytes x.0) x.1 × IsWireRecord x.0
-unfolding tagged_record_at
-tagged_record_takes bytes x fits e =
-    let a = bind_ok (byte_at bytes) (λ tag. cond (eqb tag.0 1) (record_at tag.1) (Err UnknownTag)) x e in
-    let g = guard_at (eqb a.0.0 1) UnknownTag (record_at a.0.1) x a.2 in
-    let t0 = byte_reads.takes bytes a.0 fits a.1 in
-    let t1 = record_reads.takes a.0.1 x t0.0.rest_fits g.1 in
-    let both = Takes-then bytes (a.0.0 ∷ []) a.0.1 (record_bytes x.0) x.1 t0.0 t1.0 in
-    let tag : a.0.0 ≡ 1 = eqb-true _ _ g.0 in
-    (subst (λ (t : ℕ). Takes bytes ((t ∷ []) ++ record_bytes x.0) x.1) tag both, t1.1)
-
-tagged_record_again : (r : RecordData) (rest : List ℕ) → IsWireRecord r → tagged_record_at (tagged_record_bytes r ++ rest) ≡ Ok (r, rest)
-unfolding tagged_record_at
-tagged_record_again r rest fits = rw (record_reads.again r rest fits) refl
-
-next_record_reads : (last : Place) → Reads (next_record_at last) tagged_record_bytes (IsNextRecord last)
-next_record_reads last = ordered_reads (λ r. is_above last (r.epoch, r.number)) tagged_record_at tagged_record_bytes IsWireRecord (record { takes = tagged_record_takes; again = tagged_record_again })
+next_record_reads : (last : Place) → Reads (next_record_at last) record_bytes (IsNextRecord last)
+next_record_reads last = ordered_reads (λ r. is_above last (r.epoch, r.number)) record_at record_bytes IsWireRecord record_reads
 
 -- ---- deltas
 
@@ -124,43 +110,66 @@ may_have_pages base pages rule =
       | inr le ↦ let none : pages ≡ [] = rule (omega arith) in or_right _ _ (eq-eqb (length pages) 0 (ap length none))
     ]
 
-pub delta_steps : (bytes : List ℕ) (b : BookData × List ℕ) (base page_count : ℕ × List ℕ) (pages : List ImageData × List ℕ) (record_count : ℕ × List ℕ) (records : List RecordData × List ℕ) → IsBytes bytes
-    → book_at bytes ≡ Ok b → u48_at b.1 ≡ Ok base → base.0 ≤ b.0.min → u32_at base.1 ≡ Ok page_count → may_have base.0 page_count.0 ≡ true
-    → each_at next_image_at page_after page_count.0 0 page_count.1 ≡ Ok pages → u32_at pages.1 ≡ Ok record_count → each_at next_record_at record_place record_count.0 (0, 0) record_count.1 ≡ Ok records
-    → let d = delta_of b.0 base.0 pages.0 records.0 in Takes bytes (book_bytes b.0 ++ (u48 base.0 ++ (u32 (length pages.0) ++ (flat_map image_bytes pages.0 ++ (u32 (length records.0) ++ flat_map tagged_record_bytes records.0))))) records.1 × IsWireDelta d
-delta_steps bytes b base page_count pages record_count records fits e0 e1 low e2 first e3 e4 e5 =
-    let t0 = book_reads.takes bytes b fits e0 in
+pub delta_steps : (many : Bool) (bytes : List ℕ) (b : BookData × List ℕ) (base page_count : ℕ × List ℕ) (pages : List ImageData × List ℕ)
+    (record_count : ℕ × List ℕ) (records : List RecordData × List ℕ) → IsBytes bytes
+    → book_at many bytes ≡ Ok b → u48_at b.1 ≡ Ok base → base.0 ≤ min_of b.0 → u32_at base.1 ≡ Ok page_count → may_have base.0 page_count.0 ≡ true
+    → each_at next_image_at page_after page_count.0 0 page_count.1 ≡ Ok pages → u32_at pages.1 ≡ Ok record_count
+    → each_at next_record_at record_place record_count.0 (0, 0) record_count.1 ≡ Ok records
+    → let d = delta_of b.0 base.0 pages.0 records.0 in Takes bytes (delta_part_bytes many d) records.1 × (IsWireDelta d × (has_many b.0 ≡ many))
+delta_steps many bytes b base page_count pages record_count records fits e0 e1 low e2 first e3 e4 e5 =
+    let t0 = (book_reads many).takes bytes b fits e0 in
     let t1 = u48_reads.takes b.1 base t0.0.rest_fits e1 in
     let t2 = u32_reads.takes base.1 page_count t1.0.rest_fits e2 in
     let t3 = each_takes next_image_at page_after image_bytes IsNextImage next_image_reads page_count.0 0 page_count.1 pages t2.0.rest_fits e3 in
     let t4 = u32_reads.takes pages.1 record_count t3.0.rest_fits e4 in
-    let t5 = each_takes next_record_at record_place tagged_record_bytes IsNextRecord next_record_reads record_count.0 (0, 0) record_count.1 records t4.0.rest_fits e5 in
-    let p4 = Takes-then pages.1 (u32 record_count.0) record_count.1 (flat_map tagged_record_bytes records.0) records.1 t4.0 t5.0 in
-    let p3 = Takes-then page_count.1 (flat_map image_bytes pages.0) pages.1 (u32 record_count.0 ++ flat_map tagged_record_bytes records.0) records.1 t3.0 p4 in
-    let p2 = Takes-then base.1 (u32 page_count.0) page_count.1 (flat_map image_bytes pages.0 ++ (u32 record_count.0 ++ flat_map tagged_record_bytes records.0)) records.1 t2.0 p3 in
-    let p1 = Takes-then b.1 (u48 base.0) base.1 (u32 page_count.0 ++ (flat_map image_bytes pages.0 ++ (u32 record_count.0 ++ flat_map tagged_record_bytes records.0))) records.1 t1.0 p2 in
-    let p0 = Takes-then bytes (book_bytes b.0) b.1 (u48 base.0 ++ (u32 page_count.0 ++ (flat_map image_bytes pages.0 ++ (u32 record_count.0 ++ flat_map tagged_record_bytes records.0)))) records.1 t0.0 p1 in
+    let t5 = each_takes next_record_at record_place record_bytes IsNextRecord next_record_reads record_count.0 (0, 0) record_count.1 records t4.0.rest_fits
+    e5 in
+    let p1 = Takes-then bytes (book_bytes many b.0) b.1 (u48 base.0) base.1 t0.0 t1.0 in
+    let p2 = Takes-then bytes (book_bytes many b.0 ++ u48 base.0) base.1 (u32 page_count.0) page_count.1 p1 t2.0 in
+    let p3 = Takes-then bytes (book_bytes many b.0 ++ u48 base.0 ++ u32 page_count.0) page_count.1 (flat_map image_bytes pages.0) pages.1 p2 t3.0 in
+    let p4 = Takes-then bytes (book_bytes many b.0 ++ u48 base.0 ++ u32 page_count.0 ++ flat_map image_bytes pages.0) pages.1 (u32 record_count.0)
+    record_count.1 p3 t4.0 in
+    let p5 = Takes-then bytes (book_bytes many b.0 ++ u48 base.0 ++ u32 page_count.0 ++ flat_map image_bytes pages.0 ++ u32 record_count.0) record_count.1
+    (flat_map record_bytes records.0) records.1 p4 t5.0 in
     let page_len : length pages.0 ≡ page_count.0 = t3.1 in
     let record_len : length records.0 ≡ record_count.0 = t5.1 in
     let pages_rise = rising_from_each (λ least p. leb least p.page) (λ p. page_after 0 p) ImageBefore IsReadImage image_tests 0 pages.0 t3.2 in
-    let records_rise = rising_from_each (λ last r. is_above last (r.epoch, r.number)) (λ (r : RecordData). (r.epoch, r.number)) RecordBefore IsWireRecord (place_tests (λ (r : RecordData). r.epoch) (λ r. r.number)) (0, 0) records.0 t5.2 in
+    let records_rise = rising_from_each (λ last r. is_above last (r.epoch, r.number)) (λ (r : RecordData). (r.epoch, r.number)) RecordBefore IsWireRecord
+    (place_tests (λ (r : RecordData). r.epoch) (λ r. r.number)) (0, 0) records.0 t5.2 in
     let written = All-weaker IsReadImage (λ p. p.bytes ≢ zeros) (λ p i. written_page p.bytes i.1) pages.0 pages_rise.2 in
-    let shape : IsDelta (delta_of b.0 base.0 pages.0 records.0) = record { book = t0.1.shape; base = low; no_base = no_base_no_pages base.0 pages.0 (rw page_len first); pages = pages_rise.1; each_page = written; records = records_rise.1 } in
-    (rw (page_len, record_len) p0, record { shape = shape; book = t0.1; each_page = All-weaker IsReadImage IsWireImage (λ p i. i.0) pages.0 pages_rise.2; each_record = records_rise.2; page_count = rw page_len t2.1; record_count = rw record_len t4.1 })
+    let shape : IsDelta (delta_of b.0 base.0 pages.0 records.0) = record {
+      book = t0.1.0.shape;
+      base = low;
+      no_base = no_base_no_pages base.0 pages.0 (rw page_len first);
+      pages = pages_rise.1;
+      each_page = written;
+      records = records_rise.1;
+    } in
+    let wire : IsWireDelta (delta_of b.0 base.0 pages.0 records.0) = record {
+      shape = shape;
+      book = t0.1.0;
+      each_page = All-weaker IsReadImage IsWireImage (λ p i. i.0) pages.0 pages_rise.2;
+      each_record = records_rise.2;
+      page_count = rw page_len t2.1;
+      record_count = rw record_len t4.1;
+    } in
+    (rw (page_len, record_len) p5, (wire, t0.1.1))
 
-delta_part_takes : (bytes : List ℕ) (x : DeltaData × List ℕ) → IsBytes bytes → delta_part_at bytes ≡ Ok x → Takes bytes (book_bytes x.0.book ++ (u48 x.0.base ++ (u32 (length x.0.pages) ++ (flat_map image_bytes x.0.pages ++ (u32 (length x.0.records) ++ flat_map tagged_record_bytes x.0.records))))) x.1 × IsWireDelta x.0
+delta_part_takes : (many : Bool) (bytes : List ℕ) (x : DeltaData × List ℕ) → IsBytes bytes → delta_part_at many bytes ≡ Ok x
+    → Takes bytes (delta_part_bytes many x.0) x.1 × (IsWireDelta x.0 × (has_many x.0.book ≡ many))
 unfolding delta_part_at
-delta_part_takes bytes x fits e =
-    let a0 = bind_ok (book_at bytes) (λ b. shaped (λ n. leb n b.0.min) (u48_at b.1) >>= λ base. shaped (λ n. may_have base.0 n) (u32_at base.1) >>= λ page_count. (each_at next_image_at page_after page_count.0 0 page_count.1) >>= λ pages. (u32_at pages.1) >>= λ record_count. (each_at next_record_at record_place record_count.0 (0, 0) record_count.1) >>= λ records. Ok (delta_of b.0 base.0 pages.0 records.0, records.1)) x e in
-    let a1 = bind_ok (shaped (λ n. leb n a0.0.0.min) (u48_at a0.0.1)) (λ base. shaped (λ n. may_have base.0 n) (u32_at base.1) >>= λ page_count. (each_at next_image_at page_after page_count.0 0 page_count.1) >>= λ pages. (u32_at pages.1) >>= λ record_count. (each_at next_record_at record_place record_count.0 (0, 0) record_count.1) >>= λ records. Ok (delta_of a0.0.0 base.0 pages.0 records.0, records.1)) x a0.2 in
-    let s1 = shaped_ok (λ n. leb n a0.0.0.min) (u48_at a0.0.1) a1.0 a1.1 in
-    let a2 = bind_ok (shaped (λ n. may_have a1.0.0 n) (u32_at a1.0.1)) (λ page_count. (each_at next_image_at page_after page_count.0 0 page_count.1) >>= λ pages. (u32_at pages.1) >>= λ record_count. (each_at next_record_at record_place record_count.0 (0, 0) record_count.1) >>= λ records. Ok (delta_of a0.0.0 a1.0.0 pages.0 records.0, records.1)) x a1.2 in
+delta_part_takes many bytes x fits e =
+    let a0 = bind_ok (book_at many bytes) _ x e in
+    let a1 = bind_ok (shaped (λ n. leb n (min_of a0.0.0)) (u48_at a0.0.1)) _ x a0.2 in
+    let s1 = shaped_ok (λ n. leb n (min_of a0.0.0)) (u48_at a0.0.1) a1.0 a1.1 in
+    let a2 = bind_ok (shaped (λ n. may_have a1.0.0 n) (u32_at a1.0.1)) _ x a1.2 in
     let s2 = shaped_ok (λ n. may_have a1.0.0 n) (u32_at a1.0.1) a2.0 a2.1 in
-    let a3 = bind_ok (each_at next_image_at page_after a2.0.0 0 a2.0.1) (λ pages. (u32_at pages.1) >>= λ record_count. (each_at next_record_at record_place record_count.0 (0, 0) record_count.1) >>= λ records. Ok (delta_of a0.0.0 a1.0.0 pages.0 records.0, records.1)) x a2.2 in
-    let a4 = bind_ok (u32_at a3.0.1) (λ record_count. (each_at next_record_at record_place record_count.0 (0, 0) record_count.1) >>= λ records. Ok (delta_of a0.0.0 a1.0.0 a3.0.0 records.0, records.1)) x a3.2 in
-    let a5 = bind_ok (each_at next_record_at record_place a4.0.0 (0, 0) a4.0.1) (λ records. Ok (delta_of a0.0.0 a1.0.0 a3.0.0 records.0, records.1)) x a4.2 in
+    let a3 = bind_ok (each_at next_image_at page_after a2.0.0 0 a2.0.1) _ x a2.2 in
+    let a4 = bind_ok (u32_at a3.0.1) _ x a3.2 in
+    let a5 = bind_ok (each_at next_record_at record_place a4.0.0 (0, 0) a4.0.1) _ x a4.2 in
     let made : DeltaData × List ℕ = (delta_of a0.0.0 a1.0.0 a3.0.0 a5.0.0, a5.0.1) in
-    subst (λ (y : DeltaData × List ℕ). Takes bytes (book_bytes y.0.book ++ (u48 y.0.base ++ (u32 (length y.0.pages) ++ (flat_map image_bytes y.0.pages ++ (u32 (length y.0.records) ++ flat_map tagged_record_bytes y.0.records))))) y.1 × IsWireDelta y.0) (ok_is made x a5.2) (delta_steps bytes a0.0 a1.0 a2.0 a3.0 a4.0 a5.0 fits a0.1 s1.0 (leb-true _ _ s1.1) s2.0 s2.1 a3.1 a4.1 a5.1)
+    subst (λ (y : DeltaData × List ℕ). Takes bytes (delta_part_bytes many y.0) y.1 × (IsWireDelta y.0 × (has_many y.0.book ≡ many))) (ok_is made x a5.2)
+    (delta_steps many bytes a0.0 a1.0 a2.0 a3.0 a4.0 a5.0 fits a0.1 s1.0 (leb-true _ _ s1.1) s2.0 s2.1 a3.1 a4.1 a5.1)
 
 read_image : (p : ImageData) → IsWireImage p × (p.bytes ≢ zeros) → IsReadImage p
 read_image p both = (both.0, nonzero_page p.bytes both.0.size both.1)
@@ -174,38 +183,41 @@ each_image d wire =
 
 each_record : (d : DeltaData) → IsWireDelta d → EachFrom IsNextRecord record_place (0, 0) d.records
 each_record d wire =
-    let first = All-weaker IsWireRecord (λ r. is_above (0, 0) (r.epoch, r.number) ≡ true) (λ r w. above_zero r.epoch r.number (number_above_zero r w)) d.records wire.each_record in
-    each_from_rising (λ last r. is_above last (r.epoch, r.number)) (λ (r : RecordData). (r.epoch, r.number)) RecordBefore IsWireRecord (place_tests (λ (r : RecordData). r.epoch) (λ r. r.number)) (0, 0) d.records first wire.shape.records wire.each_record
+    let first = All-weaker IsWireRecord (λ r. is_above (0, 0) (r.epoch, r.number) ≡ true) (λ r w. above_zero r.epoch r.number (number_above_zero r w))
+    d.records wire.each_record in
+    each_from_rising (λ last r. is_above last (r.epoch, r.number)) (λ (r : RecordData). (r.epoch, r.number)) RecordBefore IsWireRecord
+    (place_tests (λ (r : RecordData). r.epoch) (λ r. r.number)) (0, 0) d.records first wire.shape.records wire.each_record
 
-delta_part_again : (d : DeltaData) (rest : List ℕ) → IsWireDelta d → delta_part_at (book_bytes d.book ++ (u48 d.base ++ (u32 (length d.pages) ++ (flat_map image_bytes d.pages ++ (u32 (length d.records) ++ (flat_map tagged_record_bytes d.records ++ rest)))))) ≡ Ok (d, rest)
+delta_part_again : (many : Bool) (d : DeltaData) (rest : List ℕ) → IsWireDelta d × (has_many d.book ≡ many)
+    → delta_part_at many (delta_part_bytes many d ++ rest) ≡ Ok (d, rest)
 unfolding delta_part_at
-delta_part_again d rest wire =
-    let z4 = flat_map tagged_record_bytes d.records ++ rest in
+delta_part_again many d rest fits =
+    let wire = fits.0 in
+    let z4 = flat_map record_bytes d.records ++ rest in
     let z3 = u32 (length d.records) ++ z4 in
     let z2 = flat_map image_bytes d.pages ++ z3 in
     let z1 = u32 (length d.pages) ++ z2 in
     let z0 = u48 d.base ++ z1 in
     let low = wire.shape.base in
-    let min = wire.shape.book.min in
-    rw (book_reads.again d.book z0 wire.book, u48_reads.again d.base z1 (omega (arith, low, min)), le-leb d.base d.book.min low, u32_reads.again (length d.pages) z2 wire.page_count, may_have_pages d.base d.pages wire.shape.no_base, each_again next_image_at page_after image_bytes IsNextImage next_image_reads d.pages 0 z3 (each_image d wire), u32_reads.again (length d.records) z4 wire.record_count, each_again next_record_at record_place tagged_record_bytes IsNextRecord next_record_reads d.records (0, 0) rest (each_record d wire)) refl
+    let small = min_small d.book wire.shape.book in
+    let regrouped : delta_part_bytes many d ++ rest ≡ book_bytes many d.book ++ (u48 d.base ++ (u32
+    (length d.pages) ++ (flat_map image_bytes d.pages ++ (u32 (length d.records) ++ (flat_map record_bytes d.records ++ rest))))) = simp append_assoc in
+    ap (delta_part_at many) regrouped
+    ∙ rw (
+      (book_reads many).again d.book z0 (wire.book, fits.1),
+      u48_reads.again d.base z1 (omega (arith, low, small)),
+      le-leb d.base (min_of d.book) low,
+      u32_reads.again (length d.pages) z2 wire.page_count,
+      may_have_pages d.base d.pages wire.shape.no_base,
+      each_again next_image_at page_after image_bytes IsNextImage next_image_reads d.pages 0 z3 (each_image d wire),
+      u32_reads.again (length d.records) z4 wire.record_count,
+      each_again next_record_at record_place record_bytes IsNextRecord next_record_reads d.records
+          (0, 0) rest (each_record d wire),
+    ) refl
 
-delta_takes : (bytes : List ℕ) (x : DeltaData × List ℕ) → IsBytes bytes → delta_at bytes ≡ Ok x → Takes bytes (delta_bytes x.0) x.1 × IsWireDelta x.0
-unfolding delta_at
-delta_takes bytes x fits e =
-    let a = bind_ok (byte_at bytes) (λ tag. cond (eqb tag.0 17) (delta_part_at tag.1) (Err UnknownTag)) x e in
-    let g = guard_at (eqb a.0.0 17) UnknownTag (delta_part_at a.0.1) x a.2 in
-    let t0 = byte_reads.takes bytes a.0 fits a.1 in
-    let t1 = delta_part_takes a.0.1 x t0.0.rest_fits g.1 in
-    let both = Takes-then bytes (a.0.0 ∷ []) a.0.1 (book_bytes x.0.book ++ (u48 x.0.base ++ (u32 (length x.0.pages) ++ (flat_map image_bytes x.0.pages ++ (u32 (length x.0.records) ++ flat_map tagged_record_bytes x.0.records))))) x.1 t0.0 t1.0 in
-    let tag : a.0.0 ≡ 17 = eqb-true _ _ g.0 in
-    let spelled : delta_bytes x.0 ≡ (17 ∷ []) ++ (book_bytes x.0.book ++ (u48 x.0.base ++ (u32 (length x.0.pages) ++ (flat_map image_bytes x.0.pages ++ (u32 (length x.0.records) ++ flat_map tagged_record_bytes x.0.records))))) = simp append_assoc in
-    (rw spelled (subst (λ (t : ℕ). Takes bytes ((t ∷ []) ++ (book_bytes x.0.book ++ (u48 x.0.base ++ (u32 (length x.0.pages) ++ (flat_map image_bytes x.0.pages ++ (u32 (length x.0.records) ++ flat_map tagged_record_bytes x.0.records)))))) x.1) tag both), t1.1)
-
-delta_again : (d : DeltaData) (rest : List ℕ) → IsWireDelta d → delta_at (delta_bytes d ++ rest) ≡ Ok (d, rest)
-unfolding delta_at
-delta_again d rest wire =
-    let regrouped : delta_bytes d ++ rest ≡ 17 ∷ (book_bytes d.book ++ (u48 d.base ++ (u32 (length d.pages) ++ (flat_map image_bytes d.pages ++ (u32 (length d.records) ++ (flat_map tagged_record_bytes d.records ++ rest)))))) = simp append_assoc in
-    ap delta_at regrouped ∙ rw (delta_part_again d rest wire) refl
+delta_part_reads : (many : Bool) → Reads (delta_part_at many) (delta_part_bytes many) (λ d. IsWireDelta d × (has_many d.book ≡ many))
+delta_part_reads many = record { takes = delta_part_takes many; again = delta_part_again many }
 
 pub delta_reads : Reads delta_at delta_bytes IsWireDelta
-delta_reads = record { takes = delta_takes; again = delta_again }
+unfolding delta_at
+delta_reads = form_then 17 33 delta_part_at delta_part_bytes (λ d. has_many d.book) IsWireDelta (λ e. omega (arith, e)) delta_part_reads

@@ -39,15 +39,18 @@ found k (c ∷ cs) e lt le =
           absurd (omega arith)
     ]
 
-later : (k : ℕ) (c : CutData) (cs : List CutData) (e : ℕ) → c.epoch ≡ k + 1 → k + 1 < e → (x : CutData) × Contains (c ∷ cs) x × (x.epoch ≡ e) → (x : CutData) × Contains cs x × (x.epoch ≡ e)
+later : (k : ℕ) (c : CutData) (cs : List CutData) (e : ℕ) → c.epoch ≡ k + 1 → k + 1 < e → (x : CutData) × Contains (c ∷ cs) x × (x.epoch ≡ e)
+    → (x : CutData) × Contains cs x × (x.epoch ≡ e)
 later k c cs e same lt (x, (zero, in_list, p), is) = let q : c.epoch ≡ x.epoch = ap (λ (y : CutData). y.epoch) p in absurd (omega arith)
 later k c cs e same lt (x, (suc j, in_list, p), is) = (x, (j, omega arith, p), is)
 
-gap : (k : ℕ) (c : CutData) (cs : List CutData) → k + 1 < c.epoch → EachFrom IsNextEpoch cut_epoch c.epoch cs → (x : CutData) × Contains (c ∷ cs) x × (x.epoch ≡ k + 1) → ⊥
+gap : (k : ℕ) (c : CutData) (cs : List CutData) → k + 1 < c.epoch → EachFrom IsNextEpoch cut_epoch c.epoch cs
+    → (x : CutData) × Contains (c ∷ cs) x × (x.epoch ≡ k + 1) → ⊥
 gap k c cs lt each (x, (zero, in_list, p), is) = let q : c.epoch ≡ x.epoch = ap (λ (y : CutData). y.epoch) p in omega arith
 gap k c cs lt each (x, (suc j, in_list, p), is) = let b : c.epoch < x.epoch = all_above c.epoch cs x each (j, omega arith, p) in omega arith
 
-most : (k : ℕ) (cs : List CutData) (m : ℕ) → EachFrom IsNextEpoch cut_epoch k cs → ((e : ℕ) → k < e → e ≤ m → (c : CutData) × Contains cs c × (c.epoch ≡ e)) → m ≤ complete_from k cs
+most : (k : ℕ) (cs : List CutData) (m : ℕ) → EachFrom IsNextEpoch cut_epoch k cs → ((e : ℕ) → k < e → e ≤ m → (c : CutData) × Contains cs c × (c.epoch ≡ e))
+    → m ≤ complete_from k cs
 most k [] m each has =
     elim (cases_lt k m) [
       | inl lt ↦ let h = has m lt (omega arith) in absurd (none m h.0 h.1)
@@ -69,7 +72,8 @@ most k (c ∷ cs) m each has =
 pub is_complete : (cs : List CutData) → IsRising CutBefore cs → AllByRecursion (λ c. 0 < c.epoch) cs → IsCompleteEpoch cs (complete cs)
 is_complete cs rising all =
     let first = All-weaker (λ (c : CutData). 0 < c.epoch) (λ c. ltb 0 c.epoch ≡ true) (λ c lt. lt-ltb 0 c.epoch lt) cs all in
-    let each : EachFrom IsNextEpoch cut_epoch 0 cs = each_from_rising (λ last c. ltb last c.epoch) (λ (c : CutData). c.epoch) CutBefore (λ c. 0 < c.epoch) cut_tests 0 cs first rising all in
+    let each : EachFrom IsNextEpoch cut_epoch 0 cs = each_from_rising (λ last c. ltb last c.epoch) (λ (c : CutData). c.epoch) CutBefore (λ c. 0 < c.epoch)
+    cut_tests 0 cs first rising all in
     (inr (λ e one le. found 0 cs e (omega arith) le), λ m has. most 0 cs m each (λ e lt le. has e (omega arith) le))
 
 greatest_le : (P : ℕ → Type 0) (m n : ℕ) → IsGreatest P m → IsGreatest P n → m ≤ n

@@ -11,17 +11,20 @@ use Rattle.redo_wire.proofs.Readers.{IsBytes, IsBytes-drop, IsBytes-take, IsByte
 byte_takes : (bytes : List ℕ) (x : ℕ × List ℕ) → IsBytes bytes → byte_at bytes ≡ Ok x → Takes bytes (x.0 ∷ []) x.1 × (x.0 < 256)
 byte_takes [] x fits e = absurd cc
 byte_takes (b ∷ bytes) x fits e =
-    subst (λ (y : ℕ × List ℕ). Takes (b ∷ bytes) (y.0 ∷ []) y.1 × (y.0 < 256)) (ok_is (b, bytes) x e) (record { parts = refl; rest_fits = λ i. fits (suc i) }, fits 0)
+    subst (λ (y : ℕ × List ℕ). Takes (b ∷ bytes) (y.0 ∷ []) y.1 × (y.0 < 256)) (ok_is (b, bytes) x e)
+    (record { parts = refl; rest_fits = λ i. fits (suc i) }, fits 0)
 
 pub byte_reads : Reads byte_at (λ b. b ∷ []) (λ b. b < 256)
 byte_reads = record { takes = byte_takes; again = λ b rest lt. refl }
 
-pub bytes_take : (n : ℕ) (bytes : List ℕ) (x : List ℕ × List ℕ) → IsBytes bytes → bytes_at n bytes ≡ Ok x → Takes bytes x.0 x.1 × (length x.0 ≡ n) × IsBytes x.0
+pub bytes_take : (n : ℕ) (bytes : List ℕ) (x : List ℕ × List ℕ) → IsBytes bytes → bytes_at n bytes ≡ Ok x
+    → Takes bytes x.0 x.1 × (length x.0 ≡ n) × IsBytes x.0
 bytes_take n bytes x fits e =
     let g = guard_ok (ltb (length bytes) n) Short (take n bytes, drop n bytes) x e in
     let long : n ≤ length bytes = ltb-false _ _ g.0 in
     let len : length (take n bytes) ≡ n = omega (arith, length-take n bytes) in
-    subst (λ (y : List ℕ × List ℕ). Takes bytes y.0 y.1 × (length y.0 ≡ n) × IsBytes y.0) g.1 (record { parts = sym (take-append-drop n bytes); rest_fits = IsBytes-drop n bytes fits }, len, IsBytes-take n bytes fits)
+    subst (λ (y : List ℕ × List ℕ). Takes bytes y.0 y.1 × (length y.0 ≡ n) × IsBytes y.0) g.1
+    (record { parts = sym (take-append-drop n bytes); rest_fits = IsBytes-drop n bytes fits }, len, IsBytes-take n bytes fits)
 
 pub bytes_again : (n : ℕ) (text rest : List ℕ) → length text ≡ n → bytes_at n (text ++ rest) ≡ Ok (text, rest)
 bytes_again n text rest len =
@@ -52,7 +55,8 @@ wide32 = record {
   below = λ bytes fits. omega (arith, fits 0, fits 1, fits 2, fits 3);
 }
 
-number_takes : (w : Width) (limit : ℕ) → IsWide w limit → (bytes text : List ℕ) (n : ℕ) (rest : List ℕ) → IsBytes bytes → bytes_at (byte_len w) bytes ≡ Ok (text, rest) → from_be_bytes w text ≡ n → Takes bytes (to_be_bytes w n) rest × (n < limit)
+number_takes : (w : Width) (limit : ℕ) → IsWide w limit → (bytes text : List ℕ) (n : ℕ) (rest : List ℕ) → IsBytes bytes
+    → bytes_at (byte_len w) bytes ≡ Ok (text, rest) → from_be_bytes w text ≡ n → Takes bytes (to_be_bytes w n) rest × (n < limit)
 number_takes w limit wide bytes text n rest fits read is_n =
     let t = bytes_take (byte_len w) bytes (text, rest) fits read in
     let spelled : to_be_bytes w n ≡ text = rw (← is_n) (wide.back text t.1 t.2) in
@@ -73,7 +77,10 @@ u32_reads = number_reads w32 (2 ^ 32) wide32
 
 u48_back : (text : List ℕ) → length text ≡ 6 → IsBytes text → u48 (from_be_bytes w64 (0 ∷ 0 ∷ text)) ≡ text
 unfolding u48
-u48_back text len fits = ap (drop 2) (be_bytes_8 (0 ∷ 0 ∷ text) (from_be_bytes w64 (0 ∷ 0 ∷ text)) (ap (λ n. suc (suc n)) len) (IsBytes-cons 0 (0 ∷ text) (omega arith) (IsBytes-cons 0 text (omega arith) fits)) refl)
+u48_back text len fits =
+    ap (drop 2)
+    (be_bytes_8 (0 ∷ 0 ∷ text) (from_be_bytes w64 (0 ∷ 0 ∷ text)) (ap (λ n. suc (suc n)) len)
+    (IsBytes-cons 0 (0 ∷ text) (omega arith) (IsBytes-cons 0 text (omega arith) fits)) refl)
 
 u48_below : (text : List ℕ) → IsBytes text → from_be_bytes w64 (0 ∷ 0 ∷ text) < 2 ^ 48
 u48_below text fits = omega (arith, fits 0, fits 1, fits 2, fits 3, fits 4, fits 5)
@@ -83,7 +90,8 @@ u48_value n lt =
     let a = from_be_bytes-to_be_bytes_8 n (omega arith) in
     omega (arith, a)
 
-u48_takes : (bytes text : List ℕ) (n : ℕ) (rest : List ℕ) → IsBytes bytes → bytes_at 6 bytes ≡ Ok (text, rest) → from_be_bytes w64 (0 ∷ 0 ∷ text) ≡ n → Takes bytes (u48 n) rest × (n < 2 ^ 48)
+u48_takes : (bytes text : List ℕ) (n : ℕ) (rest : List ℕ) → IsBytes bytes → bytes_at 6 bytes ≡ Ok (text, rest) → from_be_bytes w64 (0 ∷ 0 ∷ text) ≡ n
+    → Takes bytes (u48 n) rest × (n < 2 ^ 48)
 u48_takes bytes text n rest fits read is_n =
     let t = bytes_take 6 bytes (text, rest) fits read in
     let spelled : u48 n ≡ text = rw (← is_n) (u48_back text t.1 t.2) in

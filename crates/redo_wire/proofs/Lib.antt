@@ -1,8 +1,11 @@
 pub mod Readers
 pub mod FieldReaders
+pub mod FormReaders
 pub mod ListReaders
 pub mod Loops
-pub mod WriteReaders
+pub mod Bodies
+pub mod PatchReaders
+pub mod RecordReaders
 pub mod FactReaders
 pub mod Orders
 pub mod Epochs
@@ -10,4 +13,6 @@ pub mod BookReaders
 pub mod SummaryReaders
 pub mod DeltaReaders
 pub mod Spellings
-pub mod ReadFaults
+pub mod ValueReaders
+pub mod Locality
+pub mod ValueLaws

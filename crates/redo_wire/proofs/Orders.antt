@@ -1,11 +1,12 @@
 -- Elements judged one after the other, each against the last, are a rising list.
-use Rattle.std.proofs.Common.{◌≡◌, ℕ, ◌+◌, ◌<◌, ◌≤◌, Bool, true, ltb, leb, eqb, List, [], ◌∷◌, arith, inl, inr}
+use Rattle.std.proofs.Common.{◌≡◌, ℕ, ◌+◌, ◌<◌, ◌≤◌, ◌⊎◌, Bool, true, ltb, leb, eqb, List, [], ◌∷◌, arith, inl, inr}
 use Rattle.std.specs.List.{AllByRecursion}
 use Rattle.std.proofs.lemmas.Bool.{ltb-true, leb-true, eqb-true, lt-ltb, le-leb, eq-eqb, and_parts, and_from, or_cases, or_left, or_right, cases_lt}
-use Rattle.redo_core.specs.Order.{IsRising, PairBefore, CutBefore}
+use Rattle.redo_core.specs.Data.{AdvanceData}
+use Rattle.redo_core.specs.Order.{IsRising, PairBefore, CutBefore, AdvanceBefore}
 use Rattle.redo_core.specs.Meaning.{ImageBefore}
 use Rattle.redo_core.proofs.Pairs.{pair_trans}
-use Rattle.redo_wire.specs.Places.{Place, is_above}
+use Rattle.redo_wire.specs.Places.{Place, is_above, WaitPlace, is_wait_above}
 use Rattle.redo_wire.proofs.ListReaders.{EachFrom}
 
 pub All-weaker : {X : Type 0} (P Q : X → Type 0) → ((x : X) → P x → Q x) → (xs : List X) → AllByRecursion P xs → AllByRecursion Q xs
@@ -27,7 +28,8 @@ abbrev pub IsNext : {S A : Type 0} → (S → A → Bool) → (A → Type 0) →
 IsNext above P s x = (above s x ≡ true) × P x
 
 pub rising_from_each : {S A : Type 0} (above : S → A → Bool) (place : A → S) (Before : A → A → Type 0) (P : A → Type 0) → Tests above place Before
-    → (s : S) (xs : List A) → EachFrom (IsNext above P) (λ last x. place x) s xs → AllByRecursion (λ x. above s x ≡ true) xs × IsRising Before xs × AllByRecursion P xs
+    → (s : S) (xs : List A) → EachFrom (IsNext above P) (λ last x. place x) s xs
+    → AllByRecursion (λ x. above s x ≡ true) xs × IsRising Before xs × AllByRecursion P xs
 rising_from_each above place Before P tests s [] h = (tt, tt, tt)
 rising_from_each above place Before P tests s (x ∷ xs) h =
     let r = rising_from_each above place Before P tests (place x) xs h.1 in
@@ -36,7 +38,8 @@ rising_from_each above place Before P tests s (x ∷ xs) h =
     ((h.0.0, aboves), (befores, r.1), (h.0.1, r.2))
 
 pub each_from_rising : {S A : Type 0} (above : S → A → Bool) (place : A → S) (Before : A → A → Type 0) (P : A → Type 0) → Tests above place Before
-    → (s : S) (xs : List A) → AllByRecursion (λ x. above s x ≡ true) xs → IsRising Before xs → AllByRecursion P xs → EachFrom (IsNext above P) (λ last x. place x) s xs
+    → (s : S) (xs : List A) → AllByRecursion (λ x. above s x ≡ true) xs → IsRising Before xs → AllByRecursion P xs
+    → EachFrom (IsNext above P) (λ last x. place x) s xs
 each_from_rising above place Before P tests s [] aboves rising all = tt
 each_from_rising above place Before P tests s (x ∷ xs) aboves rising all =
     let passes = All-weaker (Before x) (λ y. above (place x) y ≡ true) (λ y b. tests.passes x y b) xs rising.0 in
@@ -72,13 +75,55 @@ above_from_pair p q h =
       | inr both ↦ or_right _ _ (and_from _ _ (eq-eqb p.0 q.0 both.0) (lt-ltb p.1 q.1 both.1))
     ]
 
-pub place_tests : {A : Type 0} (epoch number : A → ℕ) → Tests (λ last x. is_above last (epoch x, number x)) (λ x. (epoch x, number x)) (λ x y. PairBefore (epoch x) (number x) (epoch y) (number y))
+pub place_tests : {A : Type 0} (epoch number : A → ℕ)
+    → Tests (λ last x. is_above last (epoch x, number x)) (λ x. (epoch x, number x)) (λ x y. PairBefore (epoch x) (number x) (epoch y) (number y))
 place_tests epoch number = record {
   before = λ x y e. pair_from_above (epoch x, number x) (epoch y, number y) e;
   passes = λ x y h. above_from_pair (epoch x, number x) (epoch y, number y) h;
-  through = λ s x y e h. above_from_pair s (epoch y, number y) (pair_trans s.0 s.1 (epoch x) (number x) (epoch y) (number y) (pair_from_above s (epoch x, number x) e) h);
+  through = λ s x y e h. above_from_pair s (epoch y, number y)
+      (pair_trans s.0 s.1 (epoch x) (number x) (epoch y) (number y) (pair_from_above s (epoch x, number x) e) h);
 }
 
 -- (0, 0) is below each place with a number
 pub above_zero : (epoch number : ℕ) → 0 < number → is_above (0, 0) (epoch, number) ≡ true
 above_zero epoch number pos = above_from_pair (0, 0) (epoch, number) (elim (cases_lt 0 epoch) [ inl lt ↦ inl lt | inr le ↦ inr (omega (arith, le), pos) ])
+
+-- ---- the order of waiting advances
+
+abbrev BeforeIn : WaitPlace → WaitPlace → Type 0
+BeforeIn p q = (p.0 < q.0) ⊎ ((p.0 ≡ q.0) × PairBefore p.1 p.2 q.1 q.2)
+
+before_from_above : (p q : WaitPlace) → is_wait_above p q ≡ true → BeforeIn p q
+before_from_above p q e =
+    elim (or_cases (ltb p.0 q.0) _ e) [
+      | inl lt ↦ inl (ltb-true _ _ lt)
+      | inr both ↦ let parts = and_parts (eqb p.0 q.0) (is_above (p.1, p.2) (q.1, q.2)) both in inr
+          (eqb-true _ _ parts.0, pair_from_above (p.1, p.2) (q.1, q.2) parts.1)
+    ]
+
+above_from_before : (p q : WaitPlace) → BeforeIn p q → is_wait_above p q ≡ true
+above_from_before p q h =
+    elim h [
+      | inl lt ↦ or_left _ _ (lt-ltb p.0 q.0 lt)
+      | inr both ↦ or_right _ _ (and_from _ _ (eq-eqb p.0 q.0 both.0) (above_from_pair (p.1, p.2) (q.1, q.2) both.1))
+    ]
+
+abbrev pub place_of : AdvanceData → WaitPlace
+place_of a = (a.epoch, a.reader, a.point)
+
+before_trans : (a b c x y z k m n : ℕ) → (a < x) ⊎ ((a ≡ x) × PairBefore b c y z) → (x < k) ⊎ ((x ≡ k) × PairBefore y z m n)
+    → (a < k) ⊎ ((a ≡ k) × PairBefore b c m n)
+before_trans a b c x y z k m n p q = grind arith
+
+pub wait_tests : Tests (λ last a. is_wait_above last (place_of a)) place_of AdvanceBefore
+wait_tests = record {
+  before = λ x y e. before_from_above (place_of x) (place_of y) e;
+  passes = λ x y h. above_from_before (place_of x) (place_of y) h;
+  through = λ s x y e h. above_from_before s (place_of y)
+      (before_trans s.0 s.1 s.2 x.epoch x.reader x.point y.epoch y.reader y.point (before_from_above s (place_of x) e) h);
+}
+
+-- (0, 0, 0) is below each place with a reader
+pub wait_above_zero : (epoch reader point : ℕ) → 0 < reader → is_wait_above (0, 0, 0) (epoch, reader, point) ≡ true
+wait_above_zero epoch reader point pos =
+    above_from_before (0, 0, 0) (epoch, reader, point) (elim (cases_lt 0 epoch) [ inl lt ↦ inl lt | inr le ↦ inr (omega (arith, le), inl pos) ])

@@ -66,6 +66,10 @@ pub record Takes (bytes text rest : List ℕ) : Type 0 where
 pub Takes-then : (a x b y c : List ℕ) → Takes a x b → Takes b y c → Takes a (x ++ y) c
 Takes-then a x b y c p q = record { parts = p.parts ∙ ap (λ (t : List ℕ). x ++ t) q.parts ∙ sym (append_assoc x y c); rest_fits = q.rest_fits }
 
+-- a tag in front
+pub tag_takes : (tag : ℕ) (bytes text rest : List ℕ) → Takes bytes text rest → Takes (tag ∷ bytes) (tag ∷ text) rest
+tag_takes tag bytes text rest t = record { parts = ap (λ (r : List ℕ). tag ∷ r) t.parts; rest_fits = t.rest_fits }
+
 -- what is read was spelled so, and what is spelled so is read
 pub record Reads {A : Type 0} (read : List ℕ → Read A) (spell : A → List ℕ) (Fits : A → Type 0) : Type 0 where
   pub takes : (bytes : List ℕ) (x : A × List ℕ) → IsBytes bytes → read bytes ≡ Ok x → Takes bytes (spell x.0) x.1 × Fits x.0
@@ -76,8 +80,17 @@ ordered_ok {A} rule (Ok x) y e = let g = guard_true (rule x.0) Order x y e in (a
 ordered_ok rule (Err d) y e = absurd cc
 
 -- the same for an element in its place
-pub ordered_reads : {A : Type 0} (rule : A → Bool) (read : List ℕ → Read A) (spell : A → List ℕ) (Fits : A → Type 0) → Reads read spell Fits → Reads (λ bytes. ordered rule (read bytes)) spell (λ a. (rule a ≡ true) × Fits a)
+pub ordered_reads : {A : Type 0} (rule : A → Bool) (read : List ℕ → Read A) (spell : A → List ℕ) (Fits : A → Type 0) → Reads read spell Fits
+    → Reads (λ bytes. ordered rule (read bytes)) spell (λ a. (rule a ≡ true) × Fits a)
 ordered_reads rule read spell Fits reads = record {
   takes = λ bytes x fits e. let o = ordered_ok rule (read bytes) x e in let t = reads.takes bytes x fits o.0 in (t.0, (o.1, t.1));
   again = λ a rest fits. rw (reads.again a rest fits.1, fits.0) refl;
+}
+
+-- the same of values that are told apart in other words
+pub reads_as : {A : Type 0} (read : List ℕ → Read A) (spell : A → List ℕ) (Fits Told : A → Type 0) → Reads read spell Fits → ((a : A) → Fits a → Told a)
+    → ((a : A) → Told a → Fits a) → Reads read spell Told
+reads_as read spell Fits Told reads there back = record {
+  takes = λ bytes x fits e. let t = reads.takes bytes x fits e in (t.0, there x.0 t.1);
+  again = λ a rest told. reads.again a rest (back a told);
 }

@@ -15,7 +15,8 @@ use Rattle.redo_wire.proofs.Readers.{IsBytes, guard_true, ok_is, Reads}
 abbrev pub Spells : {A : Type 0} → (A → List ℕ) → (A → Type 0) → A → List ℕ → Type 0
 Spells spell Fits v bytes = Fits v × (bytes ≡ spell v)
 
-at_read : {A : Type 0} (read : List ℕ → Read A) (spell : A → List ℕ) (Fits : A → Type 0) → Reads read spell Fits → (bytes : List ℕ) (v : A) → IsBytes bytes → (r : Read A) → read bytes ≡ r → whole r ≡ Ok v → Fits v × (bytes ≡ spell v)
+at_read : {A : Type 0} (read : List ℕ → Read A) (spell : A → List ℕ) (Fits : A → Type 0) → Reads read spell Fits → (bytes : List ℕ) (v : A) → IsBytes bytes
+    → (r : Read A) → read bytes ≡ r → whole r ≡ Ok v → Fits v × (bytes ≡ spell v)
 at_read {A} read spell Fits reads bytes v fits (Ok x) is e =
     let g = guard_true (eqb (length x.1) 0) Rest x.0 v e in
     let t = reads.takes bytes x fits is in
@@ -25,29 +26,34 @@ at_read {A} read spell Fits reads bytes v fits (Ok x) is e =
 at_read read spell Fits reads bytes v fits (Err f) is e = absurd cc
 
 -- what is read from all of the bytes is spelled by them
-pub spelled_from_read : {A : Type 0} (read : List ℕ → Read A) (spell : A → List ℕ) (Fits : A → Type 0) → Reads read spell Fits → (bytes : List ℕ) (v : A) → IsBytes bytes → whole (read bytes) ≡ Ok v → Spells spell Fits v bytes
+pub spelled_from_read : {A : Type 0} (read : List ℕ → Read A) (spell : A → List ℕ) (Fits : A → Type 0) → Reads read spell Fits → (bytes : List ℕ) (v : A)
+    → IsBytes bytes → whole (read bytes) ≡ Ok v → Spells spell Fits v bytes
 spelled_from_read read spell Fits reads bytes v fits e = at_read read spell Fits reads bytes v fits (read bytes) refl e
 
 -- what all of the bytes spell is read from them
-pub read_from_spelled : {A : Type 0} (read : List ℕ → Read A) (spell : A → List ℕ) (Fits : A → Type 0) → Reads read spell Fits → (bytes : List ℕ) (v : A) → Spells spell Fits v bytes → whole (read bytes) ≡ Ok v
+pub read_from_spelled : {A : Type 0} (read : List ℕ → Read A) (spell : A → List ℕ) (Fits : A → Type 0) → Reads read spell Fits → (bytes : List ℕ) (v : A)
+    → Spells spell Fits v bytes → whole (read bytes) ≡ Ok v
 read_from_spelled read spell Fits reads bytes v spelled =
     let again : read (spell v) ≡ Ok (v, []) = ap read (sym (append-nil (spell v))) ∙ reads.again v [] spelled.0 in
     ap (λ (b : List ℕ). whole (read b)) spelled.1 ∙ rw again refl
 
 -- ---- a call that answers what reading gives
 
-pub answer_is_spelled : {A : Type 0} (read : List ℕ → Read A) (spell : A → List ℕ) (Fits : A → Type 0) → Reads read spell Fits → (bytes : List ℕ) (r : Result A WireError) → IsBytes bytes → Answers r (whole (read bytes)) → IfOk r (λ v. Spells spell Fits v bytes)
+pub answer_is_spelled : {A : Type 0} (read : List ℕ → Read A) (spell : A → List ℕ) (Fits : A → Type 0) → Reads read spell Fits
+    → (bytes : List ℕ) (r : Result A WireError) → IsBytes bytes → Answers r (whole (read bytes)) → IfOk r (λ v. Spells spell Fits v bytes)
 answer_is_spelled read spell Fits reads bytes (Ok v) fits given = spelled_from_read read spell Fits reads bytes v fits given
 answer_is_spelled read spell Fits reads bytes (Err e) fits given = tt
 
-pub spelled_is_answer : {A : Type 0} (read : List ℕ → Read A) (spell : A → List ℕ) (Fits : A → Type 0) → Reads read spell Fits → (bytes : List ℕ) (r : Result A WireError) → Answers r (whole (read bytes)) → (v : A) → Spells spell Fits v bytes → Answers r (Ok v)
+pub spelled_is_answer : {A : Type 0} (read : List ℕ → Read A) (spell : A → List ℕ) (Fits : A → Type 0) → Reads read spell Fits
+    → (bytes : List ℕ) (r : Result A WireError) → Answers r (whole (read bytes)) → (v : A) → Spells spell Fits v bytes → Answers r (Ok v)
 spelled_is_answer {A} read spell Fits reads bytes r given v spelled =
     subst (λ (q : Result A WireFault). Answers r q) (read_from_spelled read spell Fits reads bytes v spelled) given
 
 -- ---- the laws
 
 -- what two values and some bytes after each spell alike is the same value and the same bytes
-same_front : {A : Type 0} (read : List ℕ → Read A) (spell : A → List ℕ) (Fits : A → Type 0) → Reads read spell Fits → (v w : A) (x y : List ℕ) → Fits v → Fits w → spell v ++ x ≡ spell w ++ y → (v ≡ w) × (x ≡ y)
+same_front : {A : Type 0} (read : List ℕ → Read A) (spell : A → List ℕ) (Fits : A → Type 0) → Reads read spell Fits → (v w : A) (x y : List ℕ) → Fits v
+    → Fits w → spell v ++ x ≡ spell w ++ y → (v ≡ w) × (x ≡ y)
 same_front {A} read spell Fits reads v w x y fits fits' same =
     let e : read (spell v ++ x) ≡ Ok (w, y) = ap read same ∙ reads.again w y fits' in
     let pair : (v, x) ≡ (w, y) = ok_is (v, x) (w, y) (sym (reads.again v x fits) ∙ e) in
@@ -56,18 +62,20 @@ same_front {A} read spell Fits reads v w x y fits fits' same =
 pub one_value : {A : Type 0} (read : List ℕ → Read A) (spell : A → List ℕ) (Fits : A → Type 0) → Reads read spell Fits → HasOneValue (Spells spell Fits)
 one_value read spell Fits reads v w x p q = (same_front read spell Fits reads v w [] [] p.0 q.0 (ap (λ (b : List ℕ). b ++ []) (sym p.1 ∙ q.1))).0
 
-pub begins_no_other : {A : Type 0} (read : List ℕ → Read A) (spell : A → List ℕ) (Fits : A → Type 0) → Reads read spell Fits → BeginsNoOther (Spells spell Fits)
+pub begins_no_other : {A : Type 0} (read : List ℕ → Read A) (spell : A → List ℕ) (Fits : A → Type 0) → Reads read spell Fits
+    → BeginsNoOther (Spells spell Fits)
 begins_no_other read spell Fits reads v w x y rest p q longer =
     let same : spell v ++ rest ≡ spell w ++ [] = ap (λ (b : List ℕ). b ++ rest) (sym p.1) ∙ longer ∙ q.1 ∙ sym (append-nil (spell w)) in
     (same_front read spell Fits reads v w rest [] p.0 q.0 same).1
 
-bytes_from_All : (bytes : List ℕ) → All (λ b. b < 256) bytes → IsBytes bytes
+pub bytes_from_All : (bytes : List ℕ) → All (λ b. b < 256) bytes → IsBytes bytes
 bytes_from_All bytes all i =
     elim (cases_lt i (length bytes)) [
       | inl lt ↦ all i 0 lt
       | inr le ↦ rw (get_or_past bytes i 0 le) (omega arith)
     ]
 
-pub reads_spellings : {A : Type 0} (read : List ℕ → Read A) (spell : A → List ℕ) (Fits : A → Type 0) → Reads read spell Fits → ReadsSpellings (Spells spell Fits) (λ bytes. whole (read bytes))
+pub reads_spellings : {A : Type 0} (read : List ℕ → Read A) (spell : A → List ℕ) (Fits : A → Type 0) → Reads read spell Fits
+    → ReadsSpellings (Spells spell Fits) (λ bytes. whole (read bytes))
 reads_spellings read spell Fits reads v bytes all =
     (λ e. spelled_from_read read spell Fits reads bytes v (bytes_from_All bytes all) e, λ spelled. read_from_spelled read spell Fits reads bytes v spelled)

@@ -1,11 +1,13 @@
 -- Reading books. The order of the lines is the order of the faults.
-use Rattle.std.specs.Prelude.{ℕ, ◌+◌, List, [], ◌∷◌, Ok, nat_lt, ◌==◌, if◌then◌else◌}
-use Rattle.redo_core.specs.Data.{CutData, AdvanceData, advance_of}
-use Rattle.redo_wire.specs.Reading.{◌>>=◌, Read, shaped, ordered}
+use Rattle.std.specs.Prelude.{ℕ, ◌+◌, Bool, List, [], ◌∷◌, Ok, nat_lt, ◌==◌, if◌then◌else◌}
+use Rattle.redo_core.specs.Data.{CutData, AdvanceData}
+use Rattle.redo_core.specs.Shape.{max_readers}
+use Rattle.redo_wire.specs.Reading.{◌>>=◌, Read, ordered}
 use Rattle.redo_wire.specs.Fields.{u16_at, u32_at, u48_at}
 use Rattle.redo_wire.specs.Lists.{each_at}
-use Rattle.redo_wire.specs.Places.{Place, is_above}
-use Rattle.redo_wire.specs.FactReading.{cut_at}
+use Rattle.redo_wire.specs.Places.{WaitPlace, is_wait_above}
+use Rattle.redo_wire.specs.Forms.{within_at}
+use Rattle.redo_wire.specs.FactReading.{cut_at, advance_at}
 use Rattle.redo_wire.specs.Books.{BookData, book_of}
 
 -- the complete epoch of truncations that rise from above k, where those up to k are known
@@ -24,24 +26,27 @@ cut_epoch last c = c.epoch
 abbrev pub next_cut_at : ℕ → List ℕ → Read CutData
 next_cut_at last bytes = ordered (λ c. nat_lt last c.epoch) (cut_at bytes)
 
--- an advance that waits while k is the complete epoch
-unfoldable pub wait_at : ℕ → List ℕ → Read AdvanceData
-wait_at k bytes = do
-  epoch ← shaped (λ e. nat_lt k e) (u16_at bytes)
-  point ← shaped (λ p. nat_lt 0 p) (u48_at epoch.1)
-  Ok (advance_of epoch.0 point.0, point.1)
+-- a reader's point, whatever the one before it
+abbrev pub next_point_at : ℕ → List ℕ → Read ℕ
+next_point_at last bytes = u48_at bytes
 
-abbrev pub advance_place : Place → AdvanceData → Place
-advance_place last a = (a.epoch, a.point)
+abbrev pub last_point : ℕ → ℕ → ℕ
+last_point last p = p
 
-abbrev pub next_wait_at : ℕ → Place → List ℕ → Read AdvanceData
-next_wait_at k last bytes = ordered (λ a. is_above last (a.epoch, a.point)) (wait_at k bytes)
+abbrev pub wait_place : WaitPlace → AdvanceData → WaitPlace
+wait_place last a = (a.epoch, a.reader, a.point)
 
-unfoldable pub book_at : List ℕ → Read BookData
-book_at bytes = do
+-- an advance that waits while k is the complete epoch, of one of so many readers, after one at the place `last`
+abbrev pub next_wait_at : Bool → ℕ → ℕ → WaitPlace → List ℕ → Read AdvanceData
+next_wait_at many k readers last bytes = ordered (λ a. is_wait_above last (a.epoch, a.reader, a.point)) (advance_at many (k + 1) 1 readers bytes)
+
+-- a book in the form for one reader or for several
+unfoldable pub book_at : Bool → List ℕ → Read BookData
+book_at many bytes = do
   cut_count ← u16_at bytes
   cuts ← each_at next_cut_at cut_epoch cut_count.0 0 cut_count.1
-  min ← u48_at cuts.1
-  wait_count ← u32_at min.1
-  waits ← each_at (next_wait_at (complete cuts.0)) advance_place wait_count.0 (0, 0) wait_count.1
-  Ok (book_of cuts.0 min.0 waits.0, waits.1)
+  readers ← within_at many 1 2 max_readers cuts.1
+  points ← each_at next_point_at last_point readers.0 0 readers.1
+  wait_count ← u32_at points.1
+  waits ← each_at (next_wait_at many (complete cuts.0) readers.0) wait_place wait_count.0 (0, 0, 0) wait_count.1
+  Ok (book_of cuts.0 points.0 waits.0, waits.1)

@@ -1,16 +1,18 @@
 -- Reading deltas. The order of the lines is the order of the faults.
-use Rattle.std.specs.Prelude.{ℕ, ◌+◌, Bool, not, List, Result, Ok, Err, nat_lt, nat_le, ◌==◌, ◌||◌, if◌then◌else◌}
+use Rattle.std.specs.Prelude.{ℕ, ◌+◌, Bool, not, List, Result, Ok, nat_lt, nat_le, ◌==◌, ◌||◌}
 use Rattle.std.specs.List.{list_any}
 use Rattle.redo_core.specs.Data.{RecordData}
 use Rattle.redo_core.specs.Meaning.{ImageData}
 use Rattle.redo_wire.specs.declared.faults.WireFault.{WireFault}
-use Rattle.redo_wire.specs.declared.faults.WireFault.TheVariants.{UnknownTag}
 use Rattle.redo_wire.specs.Reading.{◌>>=◌, Read, shaped, ordered, whole}
-use Rattle.redo_wire.specs.Fields.{byte_at, bytes_at, u16_at, u32_at, u48_at}
+use Rattle.redo_wire.specs.Fields.{bytes_at, u16_at, u32_at, u48_at}
 use Rattle.redo_wire.specs.Lists.{each_at}
-use Rattle.redo_wire.specs.Tags.{record_tag, delta_tag}
+use Rattle.redo_wire.specs.Limits.{page_len}
+use Rattle.redo_wire.specs.Tags.{delta_tag, roster_delta_tag}
+use Rattle.redo_wire.specs.Forms.{form_at}
 use Rattle.redo_wire.specs.Places.{Place, is_above}
-use Rattle.redo_wire.specs.FactReading.{record_at}
+use Rattle.redo_wire.specs.RecordReading.{record_at}
+use Rattle.redo_wire.specs.Books.{min_of}
 use Rattle.redo_wire.specs.BookReading.{book_at}
 use Rattle.redo_wire.specs.Deltas.{DeltaData, delta_of, image_of}
 
@@ -24,7 +26,7 @@ may_have base pages = nat_lt 0 base || pages == 0
 unfoldable pub image_at : List ℕ → Read ImageData
 image_at bytes = do
   page ← u16_at bytes
-  image ← shaped is_nonzero (bytes_at 4096 page.1)
+  image ← shaped is_nonzero (bytes_at page_len page.1)
   Ok (image_of page.0 image.0, image.1)
 
 -- the least number that a page after p may have
@@ -34,23 +36,17 @@ page_after least p = p.page + 1
 abbrev pub next_image_at : ℕ → List ℕ → Read ImageData
 next_image_at least bytes = ordered (λ p. nat_le least p.page) (image_at bytes)
 
--- a record with its tag; every other tag is unknown here, also that of another fact
-unfoldable pub tagged_record_at : List ℕ → Read RecordData
-tagged_record_at bytes = do
-  tag ← byte_at bytes
-  if tag.0 == record_tag then record_at tag.1 else Err UnknownTag
-
 abbrev pub record_place : Place → RecordData → Place
 record_place last r = (r.epoch, r.number)
 
 abbrev pub next_record_at : Place → List ℕ → Read RecordData
-next_record_at last bytes = ordered (λ r. is_above last (r.epoch, r.number)) (tagged_record_at bytes)
+next_record_at last bytes = ordered (λ r. is_above last (r.epoch, r.number)) (record_at bytes)
 
--- a delta behind its tag
-unfoldable pub delta_part_at : List ℕ → Read DeltaData
-delta_part_at bytes = do
-  book ← book_at bytes
-  base ← shaped (λ n. nat_le n book.0.min) (u48_at book.1)
+-- a delta behind its tag, in the form for one reader or for several
+unfoldable pub delta_part_at : Bool → List ℕ → Read DeltaData
+delta_part_at many bytes = do
+  book ← book_at many bytes
+  base ← shaped (λ n. nat_le n (min_of book.0)) (u48_at book.1)
   page_count ← shaped (λ n. may_have base.0 n) (u32_at base.1)
   pages ← each_at next_image_at page_after page_count.0 0 page_count.1
   record_count ← u32_at pages.1
@@ -59,8 +55,8 @@ delta_part_at bytes = do
 
 unfoldable pub delta_at : List ℕ → Read DeltaData
 delta_at bytes = do
-  tag ← byte_at bytes
-  if tag.0 == delta_tag then delta_part_at tag.1 else Err UnknownTag
+  many ← form_at delta_tag roster_delta_tag bytes
+  delta_part_at many.0 many.1
 
 -- the delta that all of the bytes spell, or the first fault
 abbrev pub decoded_delta : List ℕ → Result DeltaData WireFault

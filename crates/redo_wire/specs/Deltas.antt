@@ -1,14 +1,16 @@
 -- Deltas: which there are, and the one spelling of each.
-use Rattle.std.specs.Prelude.{◌≡◌, ◌≢◌, ℕ, ◌<◌, ◌≤◌, ◌^◌, Bool, List, [], ◌∷◌, ◌++◌, length, nat_le, ◌||◌}
+use Rattle.std.specs.Prelude.{◌≡◌, ◌≢◌, ℕ, ◌<◌, ◌≤◌, ◌^◌, Bool, List, [], ◌++◌, length, nat_le, ◌||◌}
 use Rattle.std.specs.List.{AllByRecursion, flat_map}
 use Rattle.redo_core.specs.Data.{RecordData}
 use Rattle.redo_core.specs.Order.{IsRising, RecordBefore}
 use Rattle.redo_core.specs.Writing.{zeros}
 use Rattle.redo_core.specs.Meaning.{ImageData, ImageBefore}
 use Rattle.redo_wire.specs.Fields.{u16, u32, u48}
-use Rattle.redo_wire.specs.Tags.{record_tag, delta_tag}
-use Rattle.redo_wire.specs.Facts.{IsWireRecord, record_bytes}
-use Rattle.redo_wire.specs.Books.{BookData, IsBook, IsWireBook, is_long_book, book_bytes}
+use Rattle.redo_wire.specs.Limits.{page_len, count32_end}
+use Rattle.redo_wire.specs.Tags.{delta_tag, roster_delta_tag}
+use Rattle.redo_wire.specs.Forms.{form_bytes}
+use Rattle.redo_wire.specs.Records.{IsWireRecord, record_bytes}
+use Rattle.redo_wire.specs.Books.{BookData, IsBook, IsWireBook, min_of, has_many, is_long_book, book_bytes}
 
 -- the book, the base point with the pages there, and records
 pub record DeltaData : Type 0 where
@@ -28,7 +30,7 @@ image_of page bytes = record { page = page; bytes = bytes }
 -- a base up to the minimum read point, pages in order and none of zeros, none at all at base 0, and records in order
 pub record IsDelta (d : DeltaData) : Type 0 where
   pub book : IsBook d.book
-  pub base : d.base ≤ d.book.min
+  pub base : d.base ≤ min_of d.book
   pub no_base : d.base ≡ 0 → d.pages ≡ []
   pub pages : IsRising ImageBefore d.pages
   pub each_page : AllByRecursion (λ p. p.bytes ≢ zeros) d.pages
@@ -36,7 +38,7 @@ pub record IsDelta (d : DeltaData) : Type 0 where
 
 pub record IsWireImage (p : ImageData) : Type 0 where
   pub page : p.page < 2 ^ 16
-  pub size : length p.bytes ≡ 4096
+  pub size : length p.bytes ≡ page_len
 
 -- Moreover its elements have the fields that their types hold, and its lists are no longer than their count fields hold.
 pub record IsWireDelta (d : DeltaData) : Type 0 where
@@ -49,19 +51,20 @@ pub record IsWireDelta (d : DeltaData) : Type 0 where
 
 -- a list is longer than its count field holds
 abbrev pub is_long_delta : DeltaData → Bool
-is_long_delta d = is_long_book d.book || nat_le 4294967296 (length d.pages) || nat_le 4294967296 (length d.records)
+is_long_delta d = is_long_book d.book || nat_le count32_end (length d.pages) || nat_le count32_end (length d.records)
 
 -- ---- spelling
 
 abbrev pub image_bytes : ImageData → List ℕ
 image_bytes p = u16 p.page ++ p.bytes
 
--- a record as an element of a list: with its tag
-abbrev pub tagged_record_bytes : RecordData → List ℕ
-tagged_record_bytes r = (record_tag ∷ []) ++ record_bytes r
+-- a delta behind its tag, in the form for one reader or for several
+abbrev pub delta_part_bytes : Bool → DeltaData → List ℕ
+delta_part_bytes many d =
+    book_bytes many d.book ++ u48 d.base ++ u32 (length d.pages) ++ flat_map image_bytes d.pages ++ u32 (length d.records) ++ flat_map record_bytes d.records
 
 abbrev pub delta_bytes : DeltaData → List ℕ
-delta_bytes d = (delta_tag ∷ []) ++ book_bytes d.book ++ u48 d.base ++ u32 (length d.pages) ++ flat_map image_bytes d.pages ++ u32 (length d.records) ++ flat_map tagged_record_bytes d.records
+delta_bytes d = form_bytes delta_tag roster_delta_tag (has_many d.book) ++ delta_part_bytes (has_many d.book) d
 
 -- the bytes spell the delta
 abbrev pub SpellsDelta : DeltaData → List ℕ → Type 0

@@ -1,7 +1,7 @@
 -- What spellings are good for, of any relation between values and bytes.
-use Rattle.std.specs.Prelude.{◌≡◌, ℕ, ◌<◌, ◌↔◌, List, [], ◌++◌, Result, Ok, Err, All}
+use Rattle.std.specs.Prelude.{◌≡◌, ℕ, ◌<◌, ◌↔◌, List, [], ◌++◌, Result, Ok, Err, All, length}
 use Rattle.redo_wire.specs.declared.faults.WireFault.{WireFault}
-use Rattle.redo_wire.specs.declared.faults.WireFault.TheVariants.{TooLong}
+use Rattle.redo_wire.specs.declared.faults.WireFault.TheVariants.{Short, Rest, TooLong}
 
 -- a value has one spelling
 abbrev pub HasOneSpelling : {A : Type 0} → (A → List ℕ → Type 0) → Type 0
@@ -22,3 +22,15 @@ ReadsSpellings {A} Spells decoded = (v : A) (bytes : List ℕ) → All (λ b. b 
 -- reading never finds a list too long: that fault is of writing alone
 abbrev pub NeverTooLong : {A : Type 0} → (List ℕ → Result A WireFault) → Type 0
 NeverTooLong decoded = (bytes : List ℕ) → decoded bytes ≡ Err TooLong → ⊥
+
+-- a fault that is neither short nor rest stays, whatever follows
+abbrev pub FaultsStay : {A : Type 0} → (List ℕ → Result A WireFault) → Type 0
+FaultsStay {A} decoded = (x y : List ℕ) (f : WireFault) → decoded x ≡ Err f → (f ≡ Short → ⊥) → (f ≡ Rest → ⊥) → decoded (x ++ y) ≡ Err f
+
+-- each proper beginning of a spelling is short
+abbrev pub BeginningsAreShort : {A : Type 0} → (List ℕ → Result A WireFault) → Type 0
+BeginningsAreShort {A} decoded = (x y : List ℕ) (v : A) → 0 < length y → decoded (x ++ y) ≡ Ok v → decoded x ≡ Err Short
+
+-- bytes behind a spelling are a rest
+abbrev pub RestIsBehind : {A : Type 0} → (List ℕ → Result A WireFault) → Type 0
+RestIsBehind {A} decoded = (x y : List ℕ) (v : A) → 0 < length y → decoded x ≡ Ok v → decoded (x ++ y) ≡ Err Rest

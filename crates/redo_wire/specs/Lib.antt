@@ -3,8 +3,12 @@ pub mod Reading
 pub mod Fields
 pub mod Lists
 pub mod Outcomes
+pub mod Limits
 pub mod Tags
 pub mod Places
+pub mod Forms
+pub mod Records
+pub mod RecordReading
 pub mod Facts
 pub mod FactReading
 pub mod Books
@@ -13,4 +17,5 @@ pub mod Summaries
 pub mod SummaryReading
 pub mod Deltas
 pub mod DeltaReading
+pub mod Values
 pub mod Laws

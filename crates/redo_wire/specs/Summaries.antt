@@ -1,12 +1,14 @@
 -- Summaries: which there are, and the one spelling of each.
-use Rattle.std.specs.Prelude.{◌≡◌, ℕ, ◌<◌, ◌≤◌, ◌^◌, Bool, List, [], ◌∷◌, ◌++◌, length, nat_le, ◌||◌}
+use Rattle.std.specs.Prelude.{◌≡◌, ℕ, ◌<◌, ◌≤◌, ◌^◌, Bool, List, ◌++◌, length, nat_le, ◌||◌}
 use Rattle.std.specs.List.{AllByRecursion, flat_map}
 use Rattle.redo_core.specs.Shape.{max_number}
 use Rattle.redo_core.specs.Order.{IsRising, PairBefore}
 use Rattle.redo_wire.specs.declared.keys.Key.{Key}
 use Rattle.redo_wire.specs.Fields.{u16, u32, u48}
-use Rattle.redo_wire.specs.Tags.{summary_tag}
-use Rattle.redo_wire.specs.Books.{BookData, IsBook, IsWireBook, is_long_book, book_bytes}
+use Rattle.redo_wire.specs.Limits.{count32_end}
+use Rattle.redo_wire.specs.Tags.{summary_tag, roster_summary_tag}
+use Rattle.redo_wire.specs.Forms.{form_bytes}
+use Rattle.redo_wire.specs.Books.{BookData, IsBook, IsWireBook, min_of, has_many, is_long_book, book_bytes}
 
 -- the book, the anchor and the keys of the records that a segment keeps
 pub record SummaryData : Type 0 where
@@ -29,7 +31,7 @@ IsKey k = (0 < k.number) × (k.number ≤ max_number)
 -- an anchor up to the minimum read point, and keys in order
 pub record IsSummary (s : SummaryData) : Type 0 where
   pub book : IsBook s.book
-  pub anchor : s.anchor ≤ s.book.min
+  pub anchor : s.anchor ≤ min_of s.book
   pub keys : IsRising KeyBefore s.keys
   pub each_key : AllByRecursion IsKey s.keys
 
@@ -42,15 +44,19 @@ pub record IsWireSummary (s : SummaryData) : Type 0 where
 
 -- a list is longer than its count field holds
 abbrev pub is_long_summary : SummaryData → Bool
-is_long_summary s = is_long_book s.book || nat_le 4294967296 (length s.keys)
+is_long_summary s = is_long_book s.book || nat_le count32_end (length s.keys)
 
 -- ---- spelling
 
 abbrev pub key_bytes : Key → List ℕ
 key_bytes k = u16 k.epoch ++ u48 k.number
 
+-- a summary behind its tag, in the form for one reader or for several
+abbrev pub summary_part_bytes : Bool → SummaryData → List ℕ
+summary_part_bytes many s = book_bytes many s.book ++ u48 s.anchor ++ u32 (length s.keys) ++ flat_map key_bytes s.keys
+
 abbrev pub summary_bytes : SummaryData → List ℕ
-summary_bytes s = (summary_tag ∷ []) ++ book_bytes s.book ++ u48 s.anchor ++ u32 (length s.keys) ++ flat_map key_bytes s.keys
+summary_bytes s = form_bytes summary_tag roster_summary_tag (has_many s.book) ++ summary_part_bytes (has_many s.book) s
 
 -- the bytes spell the summary
 abbrev pub SpellsSummary : SummaryData → List ℕ → Type 0

@@ -1,13 +1,14 @@
 -- Reading summaries. The order of the lines is the order of the faults.
-use Rattle.std.specs.Prelude.{ℕ, List, Result, Ok, Err, nat_lt, nat_le, ◌==◌, if◌then◌else◌}
+use Rattle.std.specs.Prelude.{ℕ, Bool, List, Result, Ok, nat_lt, nat_le}
 use Rattle.redo_wire.specs.declared.faults.WireFault.{WireFault}
-use Rattle.redo_wire.specs.declared.faults.WireFault.TheVariants.{UnknownTag}
 use Rattle.redo_wire.specs.declared.keys.Key.{Key}
 use Rattle.redo_wire.specs.Reading.{◌>>=◌, Read, shaped, ordered, whole}
-use Rattle.redo_wire.specs.Fields.{byte_at, u16_at, u32_at, u48_at}
+use Rattle.redo_wire.specs.Fields.{u16_at, u32_at, u48_at}
 use Rattle.redo_wire.specs.Lists.{each_at}
-use Rattle.redo_wire.specs.Tags.{summary_tag}
+use Rattle.redo_wire.specs.Tags.{summary_tag, roster_summary_tag}
+use Rattle.redo_wire.specs.Forms.{form_at}
 use Rattle.redo_wire.specs.Places.{Place, is_above}
+use Rattle.redo_wire.specs.Books.{min_of}
 use Rattle.redo_wire.specs.BookReading.{book_at}
 use Rattle.redo_wire.specs.Summaries.{SummaryData, summary_of}
 
@@ -23,19 +24,19 @@ key_place last k = (k.epoch, k.number)
 abbrev pub next_key_at : Place → List ℕ → Read Key
 next_key_at last bytes = ordered (λ k. is_above last (k.epoch, k.number)) (key_at bytes)
 
--- a summary behind its tag
-unfoldable pub summary_part_at : List ℕ → Read SummaryData
-summary_part_at bytes = do
-  book ← book_at bytes
-  anchor ← shaped (λ a. nat_le a book.0.min) (u48_at book.1)
+-- a summary behind its tag, in the form for one reader or for several
+unfoldable pub summary_part_at : Bool → List ℕ → Read SummaryData
+summary_part_at many bytes = do
+  book ← book_at many bytes
+  anchor ← shaped (λ a. nat_le a (min_of book.0)) (u48_at book.1)
   key_count ← u32_at anchor.1
   keys ← each_at next_key_at key_place key_count.0 (0, 0) key_count.1
   Ok (summary_of book.0 anchor.0 keys.0, keys.1)
 
 unfoldable pub summary_at : List ℕ → Read SummaryData
 summary_at bytes = do
-  tag ← byte_at bytes
-  if tag.0 == summary_tag then summary_part_at tag.1 else Err UnknownTag
+  many ← form_at summary_tag roster_summary_tag bytes
+  summary_part_at many.0 many.1
 
 -- the summary that all of the bytes spell, or the first fault
 abbrev pub decoded_summary : List ℕ → Result SummaryData WireFault

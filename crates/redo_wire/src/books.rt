@@ -1,32 +1,35 @@
-ghost use Rattle.std.specs.Prelude.{◌≡◌, ◌++◌, false, length, OnOk, IfOk};
+ghost use Rattle.std.specs.Prelude.{◌≡◌, ◌<◌, ◌++◌, false, length, OnOk, IfOk};
 ghost use Rattle.std.specs.List.{AllByRecursion, flat_map};
-ghost use Rattle.redo_wire.specs.Lists.{each_at};
+ghost use Rattle.redo_core.specs.Roster.{least};
 ghost use Rattle.redo_wire.specs.Outcomes.{Gives};
-ghost use Rattle.redo_wire.specs.Facts.{IsWireCut, IsWireAdvance, cut_bytes, advance_bytes};
-ghost use Rattle.redo_wire.specs.Books.{book_of, IsBook, IsWireBook, is_long_book, book_bytes};
-ghost use Rattle.redo_wire.specs.BookReading.{complete, cut_epoch, advance_place, next_cut_at, wait_at, next_wait_at, book_at};
+ghost use Rattle.redo_wire.specs.Books.{book_of, min_of, has_many, IsBook, IsWireBook, is_long_book, book_bytes};
+ghost use Rattle.redo_wire.specs.BookReading.{complete, book_at};
 
-use crate::facts::{put_advance, put_cut, read_cut};
-use crate::faults::{WireError, WireFault};
+use crate::advances::{AdvanceList, WaitList};
+use crate::cuts::CutList;
+use crate::faults::WireError;
 use crate::fields::{put_u16, put_u32, put_u48, read_u16, read_u32, read_u48};
-use crate::keys::is_place_above;
-use crate::room::list_with_room;
+use crate::forms::{put_within, read_within};
+use crate::limits::{COUNT16_END, COUNT32_END};
+use crate::lists::{ListReader, ListWriter, put_list, read_list};
 use bytes::BytesMut;
-use redo_core::{Advance, Cut};
+use redo_core::{Advance, Cut, MAX_READERS};
 use std::alloc::{AllocError, Global};
 use std::marker::Model;
 use std::mem::size_of;
 
 const CUT_SIZE: usize = size_of::<Cut>();
 
+const POINT_SIZE: usize = size_of::<u64>();
+
 const ADVANCE_SIZE: usize = size_of::<Advance>();
 
-/// The part that summaries and deltas share: the truncations by epoch, the minimum read point, and the waiting advances by
-/// epoch and point, each of an epoch above the complete one.
+/// The part that summaries and deltas share: the truncations by epoch, the point of each reader of the roster, and the waiting
+/// advances by epoch, reader and point, each of an epoch above the complete one.
 #[derive(Debug, Drop)]
 pub struct Book {
     cuts: Vec<Cut>,
-    min: u64,
+    points: Vec<u64>,
     waits: Vec<Advance>,
 }
 
@@ -35,18 +38,22 @@ impl Model for Book {
 
     ghost Value = { BookData };
 
-    ghost view = { λ b. book_of b.cuts.items b.min b.waits.items };
+    ghost view = { λ b. book_of b.cuts.items b.points.items b.waits.items };
 
-    ghost invariant = { λ b. IsBook (book_of b.cuts.items b.min b.waits.items) };
+    ghost invariant = { λ b. IsBook (book_of b.cuts.items b.points.items b.waits.items) };
 }
 
 impl Book {
-    /// A book of truncations, a minimum read point up to 2^48 - 1, and waiting advances.
-    pub fn new(cuts: Vec<Cut>, min: u64, waits: Vec<Advance>) -> Self
-        requires { IsBook (book_of cuts.items min waits.items) }
-        ensures { result ≡ book_of cuts.items min waits.items }
+    /// A book of truncations, the points of 1 to 15 readers, each up to 2^48 - 1, and waiting advances.
+    pub fn new(cuts: Vec<Cut>, points: Vec<u64>, waits: Vec<Advance>) -> Self
+        requires { IsBook (book_of cuts.items points.items waits.items) }
+        ensures { result ≡ book_of cuts.items points.items waits.items }
     {
-        Book { cuts, min, waits }
+        Book {
+            cuts,
+            points,
+            waits,
+        }
     }
 
     pub fn cuts(&self) -> &[Cut]
@@ -56,12 +63,20 @@ impl Book {
         &self.cuts
     }
 
-    /// The minimum read point, up to 2^48 - 1.
-    pub fn min(&self) -> u64
-        ensures min { result ≡ self.now.min }
+    /// The point of each reader, from reader 1 on, each up to 2^48 - 1.
+    pub fn points(&self) -> &[u64]
+        ensures points { result.now ≡ self.now.points }
         ensures shape { IsBook self.now }
     {
-        self.min
+        &self.points
+    }
+
+    /// The minimum read point, the least reader's point, up to 2^48 - 1.
+    pub fn min(&self) -> u64
+        ensures min { result ≡ min_of self.now }
+        ensures shape { IsBook self.now }
+    {
+        least_of(&self.points)
     }
 
     pub fn waits(&self) -> &[Advance]
@@ -76,72 +91,37 @@ impl Book {
         ensures { IfOk result (λ b. b ≡ self.now) }
     {
         Ok(Book {
-            cuts: copied_cuts(&self.cuts)?,
-            min: self.min,
-            waits: copied_waits(&self.waits)?,
+            cuts: self.cuts.clone()?,
+            points: self.points.clone()?,
+            waits: self.waits.clone()?,
         })
+    }
+
+    /// Whether the roster has several readers.
+    pub(crate) fn has_many(&self) -> bool
+        ensures { result ≡ has_many self.now }
+    {
+        self.points.len() > 1
     }
 
     /// Whether a list is longer than its count field holds.
     pub(crate) fn has_long_list(&self) -> bool
         ensures { result ≡ is_long_book self.now }
     {
-        self.cuts().len() >= 65536 || self.waits().len() >= 4294967296
+        self.cuts().len() >= COUNT16_END || self.waits().len() >= COUNT32_END
     }
 }
 
-fn copied_cuts(cuts: &Vec<Cut>) -> Result<Vec<Cut>, AllocError>
-    ensures { IfOk result (λ v. v.items ≡ cuts.now.items) }
+/// The least of the points.
+fn least_of(points: &[u64]) -> u64
+    requires { 0 < length points.now }
+    ensures { result ≡ least points.now }
 {
-    let mut copied = Vec::new(*cuts.allocator());
-    for cut in cuts {
-        copied.push(*cut)?;
+    let mut low = points[0];
+    for p in points {
+        low = low.min(*p);
     }
-    Ok(copied)
-}
-
-fn copied_waits(waits: &Vec<Advance>) -> Result<Vec<Advance>, AllocError>
-    ensures { IfOk result (λ v. v.items ≡ waits.now.items) }
-{
-    let mut copied = Vec::new(*waits.allocator());
-    for wait in waits {
-        copied.push(*wait)?;
-    }
-    Ok(copied)
-}
-
-// ---- reading
-
-fn read_next_cut(last: u16, bytes: &[u8]) -> Result<(Cut, &[u8]), WireError>
-    ensures { Gives (λ x. (x.0, x.1.now)) result (next_cut_at last bytes.now) }
-{
-    match read_cut(bytes) {
-        Err(e) => Err(e),
-        Ok((cut, rest)) => {
-            if cut.epoch() <= last {
-                return Err(WireError::Fault(WireFault::Order));
-            }
-            Ok((cut, rest))
-        }
-    }
-}
-
-fn read_cuts(alloc: Global, count: usize, bytes: &[u8]) -> Result<(Vec<Cut>, &[u8]), WireError>
-    ensures { Gives (λ x. (x.0.items, x.1.now)) result (each_at next_cut_at cut_epoch count 0 bytes.now) }
-{
-    let mut cuts = list_with_room(alloc, count, CUT_SIZE, bytes)?;
-    let mut last = 0;
-    let mut rest = bytes;
-    for _ in 0..count {
-        let (cut, after) = match read_next_cut(last, rest) {
-            Err(e) => return Err(e),
-            Ok(found) => found,
-        };
-        last = cut.epoch();
-        cuts.push(cut)?;
-        rest = after;
-    }
-    Ok((cuts, rest))
+    low
 }
 
 /// The complete epoch of truncations that rise by epoch.
@@ -158,110 +138,99 @@ fn complete_of(cuts: &[Cut]) -> u16
     k
 }
 
-#[tactic(auto, unfolding(crate::specs::BookReading::wait_at))]
-fn read_wait(complete: u16, bytes: &[u8]) -> Result<(Advance, &[u8]), WireError>
-    ensures { Gives (λ x. (x.0, x.1.now)) result (wait_at complete bytes.now) }
-{
-    let (epoch, rest) = read_u16(bytes)?;
-    if epoch <= complete {
-        return Err(WireError::Fault(WireFault::Shape));
+/// Readers' points, in any order.
+#[derive(Clone, Copy)]
+struct PointList;
+
+impl ListReader for PointList {
+    ghost use Rattle.redo_wire.specs.BookReading.{next_point_at, last_point};
+
+    type Item = u64;
+
+    /// The point before.
+    type State = u64;
+
+    ghost step = { λ _. next_point_at };
+
+    ghost next = { last_point };
+
+    fn read_next(
+        self,
+        _last: u64,
+        _alloc: Global,
+        bytes: &[u8],
+    ) -> Result<(u64, &[u8]), WireError> {
+        read_u48(bytes)
     }
-    let (point, rest) = read_u48(rest)?;
-    match Advance::new(epoch, point) {
-        Ok(advance) => Ok((advance, rest)),
-        Err(_) => Err(WireError::Fault(WireFault::Shape)),
+
+    fn state_after(self, _last: u64, point: &u64) -> u64 {
+        *point
     }
 }
 
-fn read_next_wait(
-    complete: u16,
-    epoch: u16,
-    point: u64,
-    bytes: &[u8],
-) -> Result<(Advance, &[u8]), WireError>
-    ensures { Gives (λ x. (x.0, x.1.now)) result (next_wait_at complete (epoch, point) bytes.now) }
-{
-    match read_wait(complete, bytes) {
-        Err(e) => Err(e),
-        Ok((wait, rest)) => {
-            if !is_place_above(wait.epoch(), wait.point(), epoch, point) {
-                return Err(WireError::Fault(WireFault::Order));
-            }
-            Ok((wait, rest))
-        }
+impl ListWriter for PointList {
+    ghost use Rattle.std.specs.Prelude.{⊤};
+    ghost use Rattle.redo_wire.specs.Fields.{u48};
+
+    type Item = u64;
+
+    ghost spell = { λ _. u48 };
+
+    ghost fits = { λ _ _. ⊤ };
+
+    fn put(self, out: &mut BytesMut, point: &u64) -> Result<(), AllocError> {
+        put_u48(out, *point)
     }
 }
 
-fn read_waits(
-    alloc: Global,
-    complete: u16,
-    count: u32,
-    bytes: &[u8],
-) -> Result<(Vec<Advance>, &[u8]), WireError>
-    ensures { Gives (λ x. (x.0.items, x.1.now)) result (each_at (next_wait_at complete) advance_place count (0, 0) bytes.now) }
-{
-    let mut waits = list_with_room(alloc, count as usize, ADVANCE_SIZE, bytes)?;
-    let mut epoch = 0;
-    let mut point = 0;
-    let mut rest = bytes;
-    for _ in 0..count {
-        let (wait, after) = match read_next_wait(complete, epoch, point, rest) {
-            Err(e) => return Err(e),
-            Ok(found) => found,
-        };
-        epoch = wait.epoch();
-        point = wait.point();
-        waits.push(wait)?;
-        rest = after;
-    }
-    Ok((waits, rest))
-}
-
+/// A book in the form for one reader or for several.
 #[tactic(auto, unfolding(crate::specs::BookReading::book_at))]
-pub fn read_book(alloc: Global, bytes: &[u8]) -> Result<(Book, &[u8]), WireError>
-    ensures { Gives (λ x. (x.0, x.1.now)) result (book_at bytes.now) }
+pub fn read_book(alloc: Global, has_many: bool, bytes: &[u8]) -> Result<(Book, &[u8]), WireError>
+    ensures { Gives (λ x. (x.0, x.1.now)) result (book_at has_many bytes.now) }
 {
     let (count, rest) = read_u16(bytes)?;
-    let (cuts, rest) = read_cuts(alloc, count as usize, rest)?;
-    let (min, rest) = read_u48(rest)?;
+    let (cuts, rest) = read_list(CutList, 0, CUT_SIZE, count as usize, alloc, rest)?;
+    let (readers, rest) = read_within(has_many, 1, 2, MAX_READERS, rest)?;
+    let (points, rest) = read_list(PointList, 0, POINT_SIZE, readers as usize, alloc, rest)?;
     let (count, rest) = read_u32(rest)?;
-    let (waits, rest) = read_waits(alloc, complete_of(&cuts), count, rest)?;
-    Ok((Book { cuts, min, waits }, rest))
+    let waiting = WaitList {
+        has_many,
+        complete: complete_of(&cuts),
+        readers,
+    };
+    let (waits, rest) = read_list(
+        waiting,
+        (0, 0, 0),
+        ADVANCE_SIZE,
+        count as usize,
+        alloc,
+        rest,
+    )?;
+    Ok((
+        Book {
+            cuts,
+            points,
+            waits,
+        },
+        rest,
+    ))
 }
 
-// ---- writing
-
-fn put_cuts(out: &mut BytesMut, cuts: &[Cut]) -> Result<(), AllocError>
-    ensures ok { OnOk result (out.new.items ≡ out.old.items ++ flat_map cut_bytes cuts.now) }
-    ensures wire { OnOk result (AllByRecursion IsWireCut cuts.now) }
-{
-    for cut in cuts {
-        put_cut(out, cut)?;
-    }
-    Ok(())
-}
-
-fn put_waits(out: &mut BytesMut, waits: &[Advance]) -> Result<(), AllocError>
-    ensures ok { OnOk result (out.new.items ≡ out.old.items ++ flat_map advance_bytes waits.now) }
-    ensures wire { OnOk result (AllByRecursion IsWireAdvance waits.now) }
-{
-    for wait in waits {
-        put_advance(out, wait)?;
-    }
-    Ok(())
-}
-
+/// Appends the book in the form for its roster.
 pub fn put_book(out: &mut BytesMut, book: &Book) -> Result<(), AllocError>
     requires { is_long_book book.now ≡ false }
-    ensures ok { OnOk result (out.new.items ≡ out.old.items ++ book_bytes book.now) }
+    ensures ok { OnOk result (out.new.items ≡ out.old.items ++ book_bytes (has_many book.now) book.now) }
     ensures wire { OnOk result (IsWireBook book.now) }
 {
+    let has_many = book.has_many();
     let cuts = book.cuts();
+    let points = book.points();
     let waits = book.waits();
     put_u16(out, cuts.len() as u16)?;
-    put_cuts(out, cuts)?;
-    put_u48(out, book.min())?;
+    put_list(CutList, out, cuts)?;
+    put_within(out, has_many, points.len() as u8)?;
+    put_list(PointList, out, points)?;
     put_u32(out, waits.len() as u32)?;
-    put_waits(out, waits)?;
+    put_list(AdvanceList { has_many }, out, waits)?;
     Ok(())
 }

@@ -1,22 +1,21 @@
-ghost use Rattle.std.specs.Prelude.{◌≡◌, ◌↔◌, ◌⊎◌, ◌++◌, true, false, length, IfOk, IfErr, OnOk, OnErr, Ok, IsErrOf};
-ghost use Rattle.std.specs.List.{AllByRecursion, flat_map};
+ghost use Rattle.std.specs.Prelude.{◌≡◌, ◌↔◌, ◌⊎◌, ◌++◌, true, false, IfOk, IfErr, OnOk, OnErr, Ok, IsErrOf};
 ghost use Rattle.redo_wire.specs.declared.faults.WireError.{WireError};
 ghost use Rattle.redo_wire.specs.declared.faults.WireFault.TheVariants.{TooLong};
-ghost use Rattle.redo_wire.specs.Lists.{each_at};
 ghost use Rattle.redo_wire.specs.Outcomes.{Gives, Answers};
-ghost use Rattle.redo_wire.specs.Facts.{IsWireRecord};
-ghost use Rattle.redo_wire.specs.Deltas.{DeltaData, delta_of, IsDelta, IsWireImage, IsWireDelta, is_long_delta, image_bytes, tagged_record_bytes, delta_bytes, SpellsDelta};
-ghost use Rattle.redo_wire.specs.DeltaReading.{may_have, page_after, next_image_at, tagged_record_at, record_place, next_record_at, delta_part_at, delta_at, decoded_delta};
+ghost use Rattle.redo_wire.specs.Deltas.{DeltaData, delta_of, IsDelta, IsWireDelta, is_long_delta, delta_bytes, SpellsDelta};
+ghost use Rattle.redo_wire.specs.DeltaReading.{may_have, next_record_at, delta_part_at, delta_at, decoded_delta};
 
 use crate::books::{Book, put_book, read_book};
-use crate::facts::{put_record, read_record};
 use crate::faults::{WireError, WireFault};
-use crate::fields::{put_u32, put_u48, read_byte, read_u32, read_u48};
-use crate::images::{PageImage, put_image, read_image};
-use crate::keys::is_place_above;
-use crate::room::list_with_room;
+use crate::fields::{put_u32, put_u48, read_u32, read_u48};
+use crate::forms::{put_form, read_form};
+use crate::images::{ImageList, PageImage};
+use crate::limits::COUNT32_END;
+use crate::lists::{ListReader, ListWriter, put_list, read_list};
+use crate::places::is_above;
+use crate::records::{put_record, read_record};
 use crate::tags;
-use bytes::{BufMut, BytesMut};
+use bytes::BytesMut;
 use redo_core::Record;
 use std::alloc::{AllocError, Global};
 use std::marker::Model;
@@ -106,8 +105,8 @@ impl Delta {
         ensures { result ≡ is_long_delta self.now }
     {
         self.book().has_long_list()
-            || self.pages().len() >= 4294967296
-            || self.records().len() >= 4294967296
+            || self.pages().len() >= COUNT32_END
+            || self.records().len() >= COUNT32_END
     }
 }
 
@@ -168,76 +167,62 @@ pub fn encode_delta(out: &mut BytesMut, delta: &Delta) -> Result<(), WireError>
 
 // ---- reading
 
-fn read_next_image(alloc: Global, least: u32, bytes: &[u8]) -> Result<(PageImage, &[u8]), WireError>
-    ensures { Gives (λ x. (x.0, x.1.now)) result (next_image_at least bytes.now) }
-{
-    let (image, rest) = read_image(alloc, bytes)?;
-    if (image.number() as u32) < least {
-        return Err(WireError::Fault(WireFault::Order));
+/// Records by epoch and number, each with its tag.
+#[derive(Clone, Copy)]
+struct RecordList;
+
+impl ListReader for RecordList {
+    ghost use Rattle.redo_wire.specs.DeltaReading.{next_record_at, record_place};
+
+    type Item = Record;
+
+    /// The epoch and number of the record before.
+    type State = (u16, u64);
+
+    ghost step = { λ _. next_record_at };
+
+    ghost next = { record_place };
+
+    fn read_next(
+        self,
+        last: (u16, u64),
+        alloc: Global,
+        bytes: &[u8],
+    ) -> Result<(Record, &[u8]), WireError> {
+        read_next_record(alloc, last, bytes)
     }
-    Ok((image, rest))
+
+    fn state_after(self, _last: (u16, u64), redo: &Record) -> (u16, u64) {
+        (redo.epoch(), redo.number())
+    }
 }
 
-fn read_images(
-    alloc: Global,
-    count: u32,
-    bytes: &[u8],
-) -> Result<(Vec<PageImage>, &[u8]), WireError>
-    ensures { Gives (λ x. (x.0.items, x.1.now)) result (each_at next_image_at page_after count 0 bytes.now) }
-{
-    let mut images = list_with_room(alloc, count as usize, IMAGE_SIZE, bytes)?;
-    let mut least = 0;
-    let mut rest = bytes;
-    for _ in 0..count {
-        let (image, after) = read_next_image(alloc, least, rest)?;
-        least = image.number() as u32 + 1;
-        images.push(image)?;
-        rest = after;
-    }
-    Ok((images, rest))
-}
+impl ListWriter for RecordList {
+    ghost use Rattle.redo_wire.specs.Records.{IsWireRecord, record_bytes};
 
-#[tactic(auto, unfolding(crate::specs::DeltaReading::tagged_record_at))]
-fn read_tagged_record(alloc: Global, bytes: &[u8]) -> Result<(Record, &[u8]), WireError>
-    ensures { Gives (λ x. (x.0, x.1.now)) result (tagged_record_at bytes.now) }
-{
-    let (tag, rest) = read_byte(bytes)?;
-    if tag != tags::RECORD {
-        return Err(WireError::Fault(WireFault::UnknownTag));
+    type Item = Record;
+
+    ghost spell = { λ _. record_bytes };
+
+    ghost fits = { λ _. IsWireRecord };
+
+    fn put(self, out: &mut BytesMut, redo: &Record) -> Result<(), AllocError> {
+        put_record(out, redo)
     }
-    read_record(alloc, rest)
 }
 
 fn read_next_record(
     alloc: Global,
-    epoch: u16,
-    number: u64,
+    last: (u16, u64),
     bytes: &[u8],
 ) -> Result<(Record, &[u8]), WireError>
-    ensures { Gives (λ x. (x.0, x.1.now)) result (next_record_at (epoch, number) bytes.now) }
+    ensures { Gives (λ x. (x.0, x.1.now)) result (next_record_at last bytes.now) }
 {
-    let (record, rest) = read_tagged_record(alloc, bytes)?;
-    if !is_place_above(record.epoch(), record.number(), epoch, number) {
+    let (record, rest) = read_record(alloc, bytes)?;
+    if !is_above(last, (record.epoch(), record.number())) {
         return Err(WireError::Fault(WireFault::Order));
     }
     Ok((record, rest))
-}
-
-fn read_records(alloc: Global, count: u32, bytes: &[u8]) -> Result<(Vec<Record>, &[u8]), WireError>
-    ensures { Gives (λ x. (x.0.items, x.1.now)) result (each_at next_record_at record_place count (0, 0) bytes.now) }
-{
-    let mut records = list_with_room(alloc, count as usize, RECORD_SIZE, bytes)?;
-    let mut epoch = 0;
-    let mut number = 0;
-    let mut rest = bytes;
-    for _ in 0..count {
-        let (record, after) = read_next_record(alloc, epoch, number, rest)?;
-        epoch = record.epoch();
-        number = record.number();
-        records.push(record)?;
-        rest = after;
-    }
-    Ok((records, rest))
 }
 
 fn may_have_pages(base: u64, pages: u32) -> bool
@@ -247,10 +232,10 @@ fn may_have_pages(base: u64, pages: u32) -> bool
 }
 
 #[tactic(auto, unfolding(crate::specs::DeltaReading::delta_part_at))]
-fn read_delta_part(alloc: Global, bytes: &[u8]) -> Result<(Delta, &[u8]), WireError>
-    ensures { Gives (λ x. (x.0, x.1.now)) result (delta_part_at bytes.now) }
+fn read_delta_part(alloc: Global, has_many: bool, bytes: &[u8]) -> Result<(Delta, &[u8]), WireError>
+    ensures { Gives (λ x. (x.0, x.1.now)) result (delta_part_at has_many bytes.now) }
 {
-    let (book, rest) = read_book(alloc, bytes)?;
+    let (book, rest) = read_book(alloc, has_many, bytes)?;
     let (base, rest) = read_u48(rest)?;
     if base > book.min() {
         return Err(WireError::Fault(WireFault::Shape));
@@ -259,9 +244,10 @@ fn read_delta_part(alloc: Global, bytes: &[u8]) -> Result<(Delta, &[u8]), WireEr
     if !may_have_pages(base, page_count) {
         return Err(WireError::Fault(WireFault::Shape));
     }
-    let (pages, rest) = read_images(alloc, page_count, rest)?;
+    let (pages, rest) = read_list(ImageList, 0, IMAGE_SIZE, page_count as usize, alloc, rest)?;
     let (record_count, rest) = read_u32(rest)?;
-    let (records, rest) = read_records(alloc, record_count, rest)?;
+    let count = record_count as usize;
+    let (records, rest) = read_list(RecordList, (0, 0), RECORD_SIZE, count, alloc, rest)?;
     Ok((
         Delta {
             book,
@@ -277,11 +263,8 @@ fn read_delta_part(alloc: Global, bytes: &[u8]) -> Result<(Delta, &[u8]), WireEr
 fn read_delta(alloc: Global, bytes: &[u8]) -> Result<(Delta, &[u8]), WireError>
     ensures { Gives (λ x. (x.0, x.1.now)) result (delta_at bytes.now) }
 {
-    let (tag, rest) = read_byte(bytes)?;
-    if tag != tags::DELTA {
-        return Err(WireError::Fault(WireFault::UnknownTag));
-    }
-    read_delta_part(alloc, rest)
+    let (has_many, rest) = read_form(tags::DELTA, tags::ROSTER_DELTA, bytes)?;
+    read_delta_part(alloc, has_many, rest)
 }
 
 fn whole_delta(alloc: Global, bytes: &[u8]) -> Result<Delta, WireError>
@@ -296,48 +279,20 @@ fn whole_delta(alloc: Global, bytes: &[u8]) -> Result<Delta, WireError>
 
 // ---- writing
 
-fn put_images(out: &mut BytesMut, images: &[PageImage]) -> Result<(), AllocError>
-    ensures ok { OnOk result (out.new.items ≡ out.old.items ++ flat_map image_bytes images.now) }
-    ensures wire { OnOk result (AllByRecursion IsWireImage images.now) }
-{
-    for image in images {
-        put_image(out, image)?;
-    }
-    Ok(())
-}
-
-fn put_tagged_record(out: &mut BytesMut, redo: &Record) -> Result<(), AllocError>
-    ensures ok { OnOk result (out.new.items ≡ out.old.items ++ tagged_record_bytes redo.now) }
-    ensures wire { OnOk result (IsWireRecord redo.now) }
-{
-    out.put_u8(tags::RECORD)?;
-    put_record(out, redo)?;
-    Ok(())
-}
-
-fn put_records(out: &mut BytesMut, records: &[Record]) -> Result<(), AllocError>
-    ensures ok { OnOk result (out.new.items ≡ out.old.items ++ flat_map tagged_record_bytes records.now) }
-    ensures wire { OnOk result (AllByRecursion IsWireRecord records.now) }
-{
-    for redo in records {
-        put_tagged_record(out, redo)?;
-    }
-    Ok(())
-}
-
 fn put_delta(out: &mut BytesMut, delta: &Delta) -> Result<(), AllocError>
     requires { is_long_delta delta.now ≡ false }
     ensures ok { OnOk result (out.new.items ≡ out.old.items ++ delta_bytes delta.now) }
     ensures wire { OnOk result (IsWireDelta delta.now) }
 {
+    let book = delta.book();
     let pages = delta.pages();
     let records = delta.records();
-    out.put_u8(tags::DELTA)?;
-    put_book(out, delta.book())?;
+    put_form(out, tags::DELTA, tags::ROSTER_DELTA, book.has_many())?;
+    put_book(out, book)?;
     put_u48(out, delta.base())?;
     put_u32(out, pages.len() as u32)?;
-    put_images(out, pages)?;
+    put_list(ImageList, out, pages)?;
     put_u32(out, records.len() as u32)?;
-    put_records(out, records)?;
+    put_list(RecordList, out, records)?;
     Ok(())
 }

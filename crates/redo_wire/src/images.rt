@@ -1,12 +1,15 @@
-ghost use Rattle.std.specs.Prelude.{◌≡◌, ◌++◌, length, IfOk, OnOk};
+//! Page images, both ways.
+
+ghost use Rattle.std.specs.Prelude.{◌≡◌, ◌++◌, IfOk, OnOk};
 ghost use Rattle.redo_wire.specs.Outcomes.{Gives};
 ghost use Rattle.redo_wire.specs.Deltas.{image_of, IsWireImage, image_bytes};
-ghost use Rattle.redo_wire.specs.DeltaReading.{is_nonzero, image_at};
+ghost use Rattle.redo_wire.specs.DeltaReading.{is_nonzero, image_at, next_image_at};
 
 use crate::faults::{WireError, WireFault};
 use crate::fields::{put_u16, read_bytes, read_u16};
+use crate::lists::{ListReader, ListWriter};
 use bytes::{BufMut, BytesMut};
-use redo_core::Page;
+use redo_core::{PAGE_LEN, Page};
 use std::alloc::{AllocError, Global};
 use std::marker::Model;
 
@@ -57,6 +60,52 @@ impl PageImage {
     }
 }
 
+/// Pages by number, none of zeros.
+#[derive(Clone, Copy)]
+pub struct ImageList;
+
+impl ListReader for ImageList {
+    ghost use Rattle.redo_wire.specs.DeltaReading.{next_image_at, page_after};
+
+    type Item = PageImage;
+
+    /// The least number that the page may have.
+    type State = u32;
+
+    ghost step = { λ _. next_image_at };
+
+    ghost next = { page_after };
+
+    fn read_next(
+        self,
+        least: u32,
+        alloc: Global,
+        bytes: &[u8],
+    ) -> Result<(PageImage, &[u8]), WireError> {
+        read_next_image(alloc, least, bytes)
+    }
+
+    fn state_after(self, _least: u32, image: &PageImage) -> u32 {
+        image.number() as u32 + 1
+    }
+}
+
+impl ListWriter for ImageList {
+    ghost use Rattle.redo_wire.specs.Deltas.{IsWireImage, image_bytes};
+
+    type Item = PageImage;
+
+    ghost spell = { λ _. image_bytes };
+
+    ghost fits = { λ _. IsWireImage };
+
+    fn put(self, out: &mut BytesMut, image: &PageImage) -> Result<(), AllocError> {
+        put_u16(out, image.number())?;
+        out.put_slice(image.page().bytes())?;
+        Ok(())
+    }
+}
+
 fn has_nonzero(bytes: &[u8]) -> bool
     ensures { result ≡ is_nonzero bytes.now }
 {
@@ -64,11 +113,11 @@ fn has_nonzero(bytes: &[u8]) -> bool
 }
 
 #[tactic(auto, unfolding(crate::specs::DeltaReading::image_at))]
-pub fn read_image(alloc: Global, bytes: &[u8]) -> Result<(PageImage, &[u8]), WireError>
+fn read_image(alloc: Global, bytes: &[u8]) -> Result<(PageImage, &[u8]), WireError>
     ensures { Gives (λ x. (x.0, x.1.now)) result (image_at bytes.now) }
 {
     let (number, rest) = read_u16(bytes)?;
-    let (text, rest) = read_bytes(4096, rest)?;
+    let (text, rest) = read_bytes(PAGE_LEN, rest)?;
     if !has_nonzero(text) {
         return Err(WireError::Fault(WireFault::Shape));
     }
@@ -76,11 +125,12 @@ pub fn read_image(alloc: Global, bytes: &[u8]) -> Result<(PageImage, &[u8]), Wir
     Ok((PageImage { number, page }, rest))
 }
 
-pub fn put_image(out: &mut BytesMut, image: &PageImage) -> Result<(), AllocError>
-    ensures ok { OnOk result (out.new.items ≡ out.old.items ++ image_bytes image.now) }
-    ensures wire { OnOk result (IsWireImage image.now) }
+fn read_next_image(alloc: Global, least: u32, bytes: &[u8]) -> Result<(PageImage, &[u8]), WireError>
+    ensures { Gives (λ x. (x.0, x.1.now)) result (next_image_at least bytes.now) }
 {
-    put_u16(out, image.number())?;
-    out.put_slice(image.page().bytes())?;
-    Ok(())
+    let (image, rest) = read_image(alloc, bytes)?;
+    if (image.number() as u32) < least {
+        return Err(WireError::Fault(WireFault::Order));
+    }
+    Ok((image, rest))
 }

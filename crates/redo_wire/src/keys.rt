@@ -1,5 +1,16 @@
-ghost use Rattle.std.specs.Prelude.{◌≡◌};
-ghost use Rattle.redo_wire.specs.Places.{is_above};
+//! Keys of records, both ways.
+
+ghost use Rattle.std.specs.Prelude.{◌≡◌, ◌<◌, ◌^◌, ◌++◌, OnOk};
+ghost use Rattle.redo_wire.specs.Outcomes.{Gives};
+ghost use Rattle.redo_wire.specs.Summaries.{key_bytes};
+ghost use Rattle.redo_wire.specs.SummaryReading.{key_at, next_key_at};
+
+use crate::faults::{WireError, WireFault};
+use crate::fields::{put_u16, put_u48, read_u16, read_u48};
+use crate::lists::{ListReader, ListWriter};
+use crate::places::is_above;
+use bytes::BytesMut;
+use std::alloc::{AllocError, Global};
 
 /// The name of a record: its epoch and its number there.
 #[derive(Clone, Copy, Debug, PartialEq, Eq)]
@@ -8,9 +19,71 @@ pub struct Key {
     pub number: u64,
 }
 
-/// Whether the place (epoch, number) is above the last one, in the order of keys.
-pub fn is_place_above(epoch: u16, number: u64, last_epoch: u16, last_number: u64) -> bool
-    ensures { result ≡ is_above (last_epoch, last_number) (epoch, number) }
+/// Keys by epoch and number.
+#[derive(Clone, Copy)]
+pub struct KeyList;
+
+impl ListReader for KeyList {
+    ghost use Rattle.redo_wire.specs.SummaryReading.{next_key_at, key_place};
+
+    type Item = Key;
+
+    /// The epoch and number of the key before.
+    type State = (u16, u64);
+
+    ghost step = { λ _. next_key_at };
+
+    ghost next = { key_place };
+
+    fn read_next(
+        self,
+        last: (u16, u64),
+        _alloc: Global,
+        bytes: &[u8],
+    ) -> Result<(Key, &[u8]), WireError> {
+        read_next_key(last, bytes)
+    }
+
+    fn state_after(self, _last: (u16, u64), key: &Key) -> (u16, u64) {
+        (key.epoch, key.number)
+    }
+}
+
+impl ListWriter for KeyList {
+    ghost use Rattle.std.specs.Prelude.{◌<◌, ◌^◌};
+    ghost use Rattle.redo_wire.specs.Summaries.{key_bytes};
+
+    type Item = Key;
+
+    ghost spell = { λ _. key_bytes };
+
+    ghost fits = { λ _ k. k.epoch < 2 ^ 16 };
+
+    fn put(self, out: &mut BytesMut, key: &Key) -> Result<(), AllocError> {
+        put_u16(out, key.epoch)?;
+        put_u48(out, key.number)?;
+        Ok(())
+    }
+}
+
+#[tactic(auto, unfolding(crate::specs::SummaryReading::key_at))]
+fn read_key(bytes: &[u8]) -> Result<(Key, &[u8]), WireError>
+    ensures { Gives (λ x. (x.0, x.1.now)) result (key_at bytes.now) }
 {
-    last_epoch < epoch || (last_epoch == epoch && last_number < number)
+    let (epoch, rest) = read_u16(bytes)?;
+    let (number, rest) = read_u48(rest)?;
+    if number == 0 {
+        return Err(WireError::Fault(WireFault::Shape));
+    }
+    Ok((Key { epoch, number }, rest))
+}
+
+fn read_next_key(last: (u16, u64), bytes: &[u8]) -> Result<(Key, &[u8]), WireError>
+    ensures { Gives (λ x. (x.0, x.1.now)) result (next_key_at last bytes.now) }
+{
+    let (key, rest) = read_key(bytes)?;
+    if !is_above(last, (key.epoch, key.number)) {
+        return Err(WireError::Fault(WireFault::Order));
+    }
+    Ok((key, rest))
 }

@@ -11,17 +11,22 @@ ghost use Rattle.redo_wire.specs.Summaries.{SpellsSummary};
 ghost use Rattle.redo_wire.specs.SummaryReading.{decoded_summary};
 ghost use Rattle.redo_wire.specs.Deltas.{SpellsDelta};
 ghost use Rattle.redo_wire.specs.DeltaReading.{decoded_delta};
+ghost use Rattle.redo_wire.specs.Values.{SpellsValue, decoded_value};
 ghost use Rattle.redo_wire.specs.BookReading.{complete};
-ghost use Rattle.redo_wire.specs.Laws.{HasOneSpelling, HasOneValue, BeginsNoOther, ReadsSpellings, NeverTooLong};
+ghost use Rattle.redo_wire.specs.Laws.{HasOneSpelling, HasOneValue, BeginsNoOther, ReadsSpellings, NeverTooLong, FaultsStay, BeginningsAreShort, RestIsBehind};
 
 /// A fact has one spelling and a spelling one fact, none begins another, reading finds just what is spelled, and
-/// never a list that is too long.
+/// never a list that is too long. A fault other than short or rest stays whatever follows, a proper beginning of a spelling
+/// is short, and what stands behind a spelling is a rest.
 pub fn fact_spellings()
     ensures one_spelling { HasOneSpelling SpellsFact }
     ensures one_value { HasOneValue SpellsFact }
     ensures none_begins { BeginsNoOther SpellsFact }
     ensures reads { ReadsSpellings SpellsFact decoded_fact }
     ensures never_too_long { NeverTooLong decoded_fact }
+    ensures stays { FaultsStay decoded_fact }
+    ensures short { BeginningsAreShort decoded_fact }
+    ensures rest { RestIsBehind decoded_fact }
 {}
 
 /// The same of summaries.
@@ -31,6 +36,9 @@ pub fn summary_spellings()
     ensures none_begins { BeginsNoOther SpellsSummary }
     ensures reads { ReadsSpellings SpellsSummary decoded_summary }
     ensures never_too_long { NeverTooLong decoded_summary }
+    ensures stays { FaultsStay decoded_summary }
+    ensures short { BeginningsAreShort decoded_summary }
+    ensures rest { RestIsBehind decoded_summary }
 {}
 
 /// The same of deltas.
@@ -40,6 +48,21 @@ pub fn delta_spellings()
     ensures none_begins { BeginsNoOther SpellsDelta }
     ensures reads { ReadsSpellings SpellsDelta decoded_delta }
     ensures never_too_long { NeverTooLong decoded_delta }
+    ensures stays { FaultsStay decoded_delta }
+    ensures short { BeginningsAreShort decoded_delta }
+    ensures rest { RestIsBehind decoded_delta }
+{}
+
+/// The same of values of any kind.
+pub fn value_spellings()
+    ensures one_spelling { HasOneSpelling SpellsValue }
+    ensures one_value { HasOneValue SpellsValue }
+    ensures none_begins { BeginsNoOther SpellsValue }
+    ensures reads { ReadsSpellings SpellsValue decoded_value }
+    ensures never_too_long { NeverTooLong decoded_value }
+    ensures stays { FaultsStay decoded_value }
+    ensures short { BeginningsAreShort decoded_value }
+    ensures rest { RestIsBehind decoded_value }
 {}
 
 /// The epoch by which reading judges waiting advances is the complete epoch of the truncations.

@@ -4,19 +4,31 @@
 //! written, and answers the value exactly where the input is a spelling, else the first fault from front to back. `specs/`
 //! has the spelling and the reading apart, and `laws` says that they agree, that a spelling has one value, and that no
 //! spelling begins another.
+//!
+//! Some values have two forms, told apart by their tags: records of writes alone and the others, advances of reader 1 and of
+//! the others, summaries and deltas for a roster of one reader and of several. Which form a value has follows from its data.
 #![tactic(auto)]
 
+mod advances;
 mod books;
+mod cuts;
 mod deltas;
 mod facts;
 mod faults;
 mod fields;
+mod forms;
 mod images;
 mod keys;
 pub mod laws;
+mod limits;
+mod lists;
+mod patches;
+mod places;
+mod records;
 mod room;
 mod summaries;
 mod tags;
+mod values;
 
 pub use books::Book;
 pub use deltas::{Delta, decode_delta, encode_delta};
@@ -25,6 +37,7 @@ pub use faults::{WireError, WireFault};
 pub use images::PageImage;
 pub use keys::Key;
 pub use summaries::{Summary, decode_summary, encode_summary};
+pub use values::{WireValue, decode_value};
 
 #[cfg(test)]
 mod tests;

@@ -1,19 +1,19 @@
-ghost use Rattle.std.specs.Prelude.{◌≡◌, ◌≢◌, ◌↔◌, ◌<◌, ◌^◌, ◌⊎◌, ◌++◌, true, false, length, IfOk, IfErr, OnOk, OnErr, Ok, IsErrOf};
-ghost use Rattle.std.specs.List.{AllByRecursion, flat_map};
+ghost use Rattle.std.specs.Prelude.{◌≡◌, ◌↔◌, ◌⊎◌, ◌++◌, true, false, IfOk, IfErr, OnOk, OnErr, Ok, IsErrOf};
 ghost use Rattle.redo_wire.specs.declared.faults.WireError.{WireError};
 ghost use Rattle.redo_wire.specs.declared.faults.WireFault.TheVariants.{TooLong};
-ghost use Rattle.redo_wire.specs.Lists.{each_at};
 ghost use Rattle.redo_wire.specs.Outcomes.{Gives, Answers};
-ghost use Rattle.redo_wire.specs.Summaries.{SummaryData, summary_of, IsSummary, IsWireSummary, is_long_summary, key_bytes, summary_bytes, SpellsSummary};
-ghost use Rattle.redo_wire.specs.SummaryReading.{key_at, key_place, next_key_at, summary_part_at, summary_at, decoded_summary};
+ghost use Rattle.redo_wire.specs.Summaries.{SummaryData, summary_of, IsSummary, IsWireSummary, is_long_summary, summary_bytes, SpellsSummary};
+ghost use Rattle.redo_wire.specs.SummaryReading.{summary_part_at, summary_at, decoded_summary};
 
 use crate::books::{Book, put_book, read_book};
 use crate::faults::{WireError, WireFault};
-use crate::fields::{put_u16, put_u32, put_u48, read_byte, read_u16, read_u32, read_u48};
-use crate::keys::{Key, is_place_above};
-use crate::room::list_with_room;
+use crate::fields::{put_u32, put_u48, read_u32, read_u48};
+use crate::forms::{put_form, read_form};
+use crate::keys::{Key, KeyList};
+use crate::limits::COUNT32_END;
+use crate::lists::{put_list, read_list};
 use crate::tags;
-use bytes::{BufMut, BytesMut};
+use bytes::BytesMut;
 use std::alloc::{AllocError, Global};
 use std::marker::Model;
 use std::mem::size_of;
@@ -77,7 +77,7 @@ impl Summary {
         Ok(Summary {
             book: self.book.copy()?,
             anchor: self.anchor,
-            keys: copied_keys(&self.keys)?,
+            keys: self.keys.clone()?,
         })
     }
 
@@ -85,18 +85,8 @@ impl Summary {
     fn has_long_list(&self) -> bool
         ensures { result ≡ is_long_summary self.now }
     {
-        self.book().has_long_list() || self.keys().len() >= 4294967296
+        self.book().has_long_list() || self.keys().len() >= COUNT32_END
     }
-}
-
-fn copied_keys(keys: &Vec<Key>) -> Result<Vec<Key>, AllocError>
-    ensures { IfOk result (λ v. v.items ≡ keys.now.items) }
-{
-    let mut copied = Vec::new(*keys.allocator());
-    for key in keys {
-        copied.push(*key)?;
-    }
-    Ok(copied)
 }
 
 /// The summary that the bytes spell, all of them.
@@ -136,56 +126,21 @@ pub fn encode_summary(out: &mut BytesMut, summary: &Summary) -> Result<(), WireE
 
 // ---- reading
 
-#[tactic(auto, unfolding(crate::specs::SummaryReading::key_at))]
-fn read_key(bytes: &[u8]) -> Result<(Key, &[u8]), WireError>
-    ensures { Gives (λ x. (x.0, x.1.now)) result (key_at bytes.now) }
-{
-    let (epoch, rest) = read_u16(bytes)?;
-    let (number, rest) = read_u48(rest)?;
-    if number == 0 {
-        return Err(WireError::Fault(WireFault::Shape));
-    }
-    Ok((Key { epoch, number }, rest))
-}
-
-fn read_next_key(epoch: u16, number: u64, bytes: &[u8]) -> Result<(Key, &[u8]), WireError>
-    ensures { Gives (λ x. (x.0, x.1.now)) result (next_key_at (epoch, number) bytes.now) }
-{
-    let (key, rest) = read_key(bytes)?;
-    if !is_place_above(key.epoch, key.number, epoch, number) {
-        return Err(WireError::Fault(WireFault::Order));
-    }
-    Ok((key, rest))
-}
-
-fn read_keys(alloc: Global, count: u32, bytes: &[u8]) -> Result<(Vec<Key>, &[u8]), WireError>
-    ensures { Gives (λ x. (x.0.items, x.1.now)) result (each_at next_key_at key_place count (0, 0) bytes.now) }
-{
-    let mut keys = list_with_room(alloc, count as usize, KEY_SIZE, bytes)?;
-    let mut epoch = 0;
-    let mut number = 0;
-    let mut rest = bytes;
-    for _ in 0..count {
-        let (key, after) = read_next_key(epoch, number, rest)?;
-        epoch = key.epoch;
-        number = key.number;
-        keys.push(key)?;
-        rest = after;
-    }
-    Ok((keys, rest))
-}
-
 #[tactic(auto, unfolding(crate::specs::SummaryReading::summary_part_at))]
-fn read_summary_part(alloc: Global, bytes: &[u8]) -> Result<(Summary, &[u8]), WireError>
-    ensures { Gives (λ x. (x.0, x.1.now)) result (summary_part_at bytes.now) }
+fn read_summary_part(
+    alloc: Global,
+    has_many: bool,
+    bytes: &[u8],
+) -> Result<(Summary, &[u8]), WireError>
+    ensures { Gives (λ x. (x.0, x.1.now)) result (summary_part_at has_many bytes.now) }
 {
-    let (book, rest) = read_book(alloc, bytes)?;
+    let (book, rest) = read_book(alloc, has_many, bytes)?;
     let (anchor, rest) = read_u48(rest)?;
     if anchor > book.min() {
         return Err(WireError::Fault(WireFault::Shape));
     }
     let (count, rest) = read_u32(rest)?;
-    let (keys, rest) = read_keys(alloc, count, rest)?;
+    let (keys, rest) = read_list(KeyList, (0, 0), KEY_SIZE, count as usize, alloc, rest)?;
     Ok((Summary { book, anchor, keys }, rest))
 }
 
@@ -193,11 +148,8 @@ fn read_summary_part(alloc: Global, bytes: &[u8]) -> Result<(Summary, &[u8]), Wi
 fn read_summary(alloc: Global, bytes: &[u8]) -> Result<(Summary, &[u8]), WireError>
     ensures { Gives (λ x. (x.0, x.1.now)) result (summary_at bytes.now) }
 {
-    let (tag, rest) = read_byte(bytes)?;
-    if tag != tags::SUMMARY {
-        return Err(WireError::Fault(WireFault::UnknownTag));
-    }
-    read_summary_part(alloc, rest)
+    let (has_many, rest) = read_form(tags::SUMMARY, tags::ROSTER_SUMMARY, bytes)?;
+    read_summary_part(alloc, has_many, rest)
 }
 
 fn whole_summary(alloc: Global, bytes: &[u8]) -> Result<Summary, WireError>
@@ -212,35 +164,17 @@ fn whole_summary(alloc: Global, bytes: &[u8]) -> Result<Summary, WireError>
 
 // ---- writing
 
-fn put_key(out: &mut BytesMut, key: &Key) -> Result<(), AllocError>
-    ensures ok { OnOk result (out.new.items ≡ out.old.items ++ key_bytes key.now) }
-    ensures wire { OnOk result (key.now.epoch < 2 ^ 16) }
-{
-    put_u16(out, key.epoch)?;
-    put_u48(out, key.number)?;
-    Ok(())
-}
-
-fn put_keys(out: &mut BytesMut, keys: &[Key]) -> Result<(), AllocError>
-    ensures ok { OnOk result (out.new.items ≡ out.old.items ++ flat_map key_bytes keys.now) }
-    ensures wire { OnOk result (AllByRecursion (λ k. k.epoch < 2 ^ 16) keys.now) }
-{
-    for key in keys {
-        put_key(out, key)?;
-    }
-    Ok(())
-}
-
 fn put_summary(out: &mut BytesMut, summary: &Summary) -> Result<(), AllocError>
     requires { is_long_summary summary.now ≡ false }
     ensures ok { OnOk result (out.new.items ≡ out.old.items ++ summary_bytes summary.now) }
     ensures wire { OnOk result (IsWireSummary summary.now) }
 {
+    let book = summary.book();
     let keys = summary.keys();
-    out.put_u8(tags::SUMMARY)?;
-    put_book(out, summary.book())?;
+    put_form(out, tags::SUMMARY, tags::ROSTER_SUMMARY, book.has_many())?;
+    put_book(out, book)?;
     put_u48(out, summary.anchor())?;
     put_u32(out, keys.len() as u32)?;
-    put_keys(out, keys)?;
+    put_list(KeyList, out, keys)?;
     Ok(())
 }

@@ -1,11 +1,34 @@
-// The first byte of each form. A further form takes a tag of its own here; every other byte is an unknown tag.
+// The first byte of each form, and the kinds of patches. A further form takes a tag of its own here; every other byte is an
+// unknown tag.
 
+/// A record of writes alone.
 pub const RECORD: u8 = 0x01;
+
+/// A record with flags, and with the kind of each patch.
+pub const FULL_RECORD: u8 = 0x06;
 
 pub const CUT: u8 = 0x02;
 
+/// An advance of reader 1.
 pub const ADVANCE: u8 = 0x03;
 
+/// An advance of another reader.
+pub const READER_ADVANCE: u8 = 0x05;
+
+/// A summary for a roster of one reader.
 pub const SUMMARY: u8 = 0x10;
 
+/// A summary for a roster of several readers.
+pub const ROSTER_SUMMARY: u8 = 0x20;
+
+/// A delta for a roster of one reader.
 pub const DELTA: u8 = 0x11;
+
+/// A delta for a roster of several readers.
+pub const ROSTER_DELTA: u8 = 0x21;
+
+/// A patch that is a write.
+pub const BYTES_KIND: u8 = 0x00;
+
+/// A patch that is a fill.
+pub const FILL_KIND: u8 = 0x01;

@@ -2,7 +2,7 @@ use Rattle.redo_wire.specs.Summaries.{summary_bytes, IsWireSummary}
 use Rattle.redo_wire.specs.SummaryReading.{summary_at}
 use Rattle.redo_wire.proofs.SummaryReaders.{summary_reads}
 use Rattle.redo_wire.proofs.Spellings.{one_value, begins_no_other, reads_spellings}
-use Rattle.redo_wire.proofs.ReadFaults.{decoded_summary_reads}
+use Rattle.redo_wire.proofs.Locality.{decoded_summary_reads, summary_faults_stay, summary_beginnings, summary_rest}
 use Rattle.redo_wire.proofs.laws.summary_spellings.Goals as goal
 
 pub returns-clause-one_value : goal.returns-clause-one_value
@@ -16,3 +16,12 @@ returns-clause-reads c = reads_spellings summary_at summary_bytes IsWireSummary 
 
 pub returns-clause-never_too_long : goal.returns-clause-never_too_long
 returns-clause-never_too_long c = decoded_summary_reads
+
+pub returns-clause-stays : goal.returns-clause-stays
+returns-clause-stays c = summary_faults_stay
+
+pub returns-clause-short : goal.returns-clause-short
+returns-clause-short c = summary_beginnings
+
+pub returns-clause-rest : goal.returns-clause-rest
+returns-clause-rest c = summary_rest

@@ -6,7 +6,10 @@ use Rattle.redo_wire.proofs.Spellings.{answer_is_spelled, spelled_is_answer}
 use Rattle.redo_wire.proofs.summaries.decode_summary.Goals as goal
 
 pub returns-clause-found : goal.returns-clause-found
-returns-clause-found c = answer_is_spelled summary_at summary_bytes IsWireSummary summary_reads c.args.bytes.now c.whole_summary.result (λ i. omega (arith, c.type_inv.bytes i)) c.whole_summary.ensures
+returns-clause-found c =
+    answer_is_spelled summary_at summary_bytes IsWireSummary summary_reads c.args.bytes.now c.whole_summary.result (λ i. omega (arith, c.type_inv.bytes i))
+    c.whole_summary.ensures
 
 pub returns-clause-spelled : goal.returns-clause-spelled
-returns-clause-spelled c = spelled_is_answer summary_at summary_bytes IsWireSummary summary_reads c.args.bytes.now c.whole_summary.result c.whole_summary.ensures
+returns-clause-spelled c =
+    spelled_is_answer summary_at summary_bytes IsWireSummary summary_reads c.args.bytes.now c.whole_summary.result c.whole_summary.ensures

@@ -1,0 +1,414 @@
+-- Reading looks no further than it got: with more bytes behind, what was read is read again, and so is each fault but short.
+-- And it never ends in the fault of encoding, a list that is too long.
+use Rattle.std.proofs.Common.{◌≡◌, ℕ, zero, suc, ◌+◌, ◌<◌, ◌≤◌, ◌⊎◌, inl, inr, Bool, true, false, cond, List, [], ◌∷◌, ◌++◌, Result, Ok, Err, refl, ap, subst, ltb, leb, eqb, length, take, drop, arith}
+use Rattle.std.specs.Int.{Width, w64, byte_len, from_be_bytes}
+use Rattle.std.proofs.lemmas.List.{take-append-le, drop-append-le, length-append}
+use Rattle.std.proofs.lemmas.Bool.Decides.{nat_tests}
+use Rattle.redo_core.specs.declared.patches.Patch.{Patch}
+use Rattle.redo_wire.specs.declared.faults.WireFault.{WireFault}
+use Rattle.redo_wire.specs.declared.faults.WireFault.TheVariants.{Short, UnknownTag, Shape, Order, Rest, TooLong}
+use Rattle.redo_wire.specs.Reading.{◌>>=◌, Read, shaped, ordered, mapped, whole}
+use Rattle.redo_wire.specs.Fields.{byte_at, bytes_at, number_at, u48_at}
+use Rattle.redo_wire.specs.Lists.{each_at}
+use Rattle.redo_wire.specs.Laws.{FaultsStay, BeginningsAreShort, RestIsBehind}
+use Rattle.redo_wire.specs.Places.{Place, is_above, WaitPlace, is_wait_above}
+use Rattle.redo_wire.specs.Forms.{form_at, within_at}
+use Rattle.redo_wire.specs.RecordReading.{write_at, fill_at, kind_at, patch_at, left_after, head_at, record_part_at, record_at}
+use Rattle.redo_wire.specs.FactReading.{cut_at, advance_at, tagged_advance_at, fact_at, decoded_fact}
+use Rattle.redo_wire.specs.BookReading.{next_cut_at, cut_epoch, next_point_at, last_point, complete, next_wait_at, wait_place, book_at}
+use Rattle.redo_wire.specs.SummaryReading.{key_at, next_key_at, key_place, summary_part_at, summary_at, decoded_summary}
+use Rattle.redo_wire.specs.DeltaReading.{is_nonzero, image_at, next_image_at, page_after, next_record_at, record_place, delta_part_at, delta_at, decoded_delta}
+use Rattle.redo_wire.specs.declared.values.WireValue.{WireValue}
+use Rattle.redo_wire.specs.declared.values.WireValue.TheVariants.{Fact, Summary, Delta}
+use Rattle.redo_wire.specs.Values.{is_summary_tag, is_delta_tag, valued, decoded_value}
+
+-- what was read, with more bytes left
+abbrev extended : {A : Type 0} → List ℕ → Read A → Read A
+extended y (Ok x) = Ok (x.0, x.1 ++ y)
+extended y (Err f) = Err f
+
+-- r was read of some bytes, and s of the same with y behind
+abbrev Extends : {A : Type 0} → List ℕ → Read A → Read A → Type 0
+Extends y r s = (r ≡ Err Short) ⊎ (s ≡ extended y r)
+
+-- the reading does not end in the fault of encoding
+abbrev IsReading : {A : Type 0} → Result A WireFault → Type 0
+IsReading r = r ≡ Err TooLong → ⊥
+
+-- both of a reading of some bytes, and of the same with y behind
+record Follows {A : Type 0} (y : List ℕ) (r s : Read A) : Type 0 where
+  reads : IsReading r
+  extends : Extends y r s
+
+bind_reads : {A B : Type 0} (r : Read A) (f : A × List ℕ → Read B) → IsReading r → ((x : A × List ℕ) → IsReading (f x)) → IsReading (r >>= f)
+bind_reads (Ok x) f first then' e = then' x e
+bind_reads {A} (Err g) f first then' e = let same : g ≡ TooLong = cc in first (ap (λ (h : WireFault). Err h) same)
+
+bind_extends : {A B : Type 0} (y : List ℕ) (r s : Read A) (f : A × List ℕ → Read B) → Extends y r s
+    → ((v : A) (rest : List ℕ) → Extends y (f (v, rest)) (f (v, rest ++ y))) → Extends y (r >>= f) (s >>= f)
+bind_extends y (Ok x) s f (inl e) h = absurd cc
+bind_extends y (Ok x) s f (inr e) h = rw e (h x.0 x.1)
+bind_extends y (Err g) s f (inl e) h = let same : g ≡ Short = cc in inl (ap (λ (k : WireFault). Err k) same)
+bind_extends y (Err g) s f (inr e) h = inr (rw e refl)
+
+bind_ext : {A B : Type 0} (y : List ℕ) (r s : Read A) (f : A × List ℕ → Read B) → Follows y r s
+    → ((v : A) (rest : List ℕ) → Follows y (f (v, rest)) (f (v, rest ++ y))) → Follows y (r >>= f) (s >>= f)
+bind_ext y r s f h k = record {
+  reads = bind_reads r f h.reads (λ x. (k x.0 x.1).reads);
+  extends = bind_extends y r s f h.extends (λ v rest. (k v rest).extends);
+}
+
+choice_ext : {A : Type 0} (y : List ℕ) (b : Bool) (p q r s : Read A) → Follows y p r → Follows y q s → Follows y (cond b p q) (cond b r s)
+choice_ext y true p q r s h k = h
+choice_ext y false p q r s h k = k
+
+done : {A : Type 0} (y : List ℕ) (v : A) (rest : List ℕ) → Follows y (Ok (v, rest)) (Ok (v, rest ++ y))
+done y v rest = record { reads = λ e. absurd cc; extends = inr refl }
+
+abbrev fault : (A : Type 0) → WireFault → Read A
+fault A f = Err f
+
+ends_in : (A : Type 0) (y : List ℕ) (f : WireFault) → (f ≡ TooLong → ⊥) → Follows y (fault A f) (fault A f)
+ends_in A y f other = record { reads = λ e. other cc; extends = inr refl }
+
+is_short : {A : Type 0} (y : List ℕ) (s : Read A) → Follows y (Err Short) s
+is_short y s = record { reads = λ e. absurd cc; extends = inl refl }
+
+unknown_tag : (A : Type 0) (y : List ℕ) → Follows y (fault A UnknownTag) (fault A UnknownTag)
+unknown_tag A y = ends_in A y UnknownTag (λ e. absurd cc)
+
+judged_ext : {A : Type 0} (y : List ℕ) (rule : A → Bool) (f : WireFault) (r s : Read A) → (f ≡ TooLong → ⊥) → Follows y r s
+    → Follows y (r >>= λ x. cond (rule x.0) (Ok x) (Err f)) (s >>= λ x. cond (rule x.0) (Ok x) (Err f))
+judged_ext {A} y rule f r s other h =
+    bind_ext y r s (λ x. cond (rule x.0) (Ok x) (Err f)) h
+    (λ v rest. choice_ext y (rule v) (Ok (v, rest)) (Err f) (Ok (v, rest ++ y)) (Err f) (done y v rest) (ends_in A y f other))
+
+shaped_is : {A : Type 0} (rule : A → Bool) (r : Read A) → shaped rule r ≡ (r >>= λ x. cond (rule x.0) (Ok x) (Err Shape))
+shaped_is rule (Ok x) = refl
+shaped_is rule (Err f) = refl
+
+shaped_ext : {A : Type 0} (y : List ℕ) (rule : A → Bool) (r s : Read A) → Follows y r s → Follows y (shaped rule r) (shaped rule s)
+shaped_ext y rule r s h = rw (shaped_is rule r, shaped_is rule s) (judged_ext y rule Shape r s (λ e. absurd cc) h)
+
+ordered_is : {A : Type 0} (rule : A → Bool) (r : Read A) → ordered rule r ≡ (r >>= λ x. cond (rule x.0) (Ok x) (Err Order))
+ordered_is rule (Ok x) = refl
+ordered_is rule (Err f) = refl
+
+ordered_ext : {A : Type 0} (y : List ℕ) (rule : A → Bool) (r s : Read A) → Follows y r s → Follows y (ordered rule r) (ordered rule s)
+ordered_ext y rule r s h = rw (ordered_is rule r, ordered_is rule s) (judged_ext y rule Order r s (λ e. absurd cc) h)
+
+mapped_is : {A B : Type 0} (f : A → B) (r : Read A) → mapped f r ≡ (r >>= λ x. Ok (f x.0, x.1))
+mapped_is f (Ok x) = refl
+mapped_is f (Err g) = refl
+
+mapped_ext : {A B : Type 0} (y : List ℕ) (f : A → B) (r s : Read A) → Follows y r s → Follows y (mapped f r) (mapped f s)
+mapped_ext y f r s h = rw (mapped_is f r, mapped_is f s) (bind_ext y r s (λ x. Ok (f x.0, x.1)) h (λ v rest. done y (f v) rest))
+
+byte_ext : (y bytes : List ℕ) → Follows y (byte_at bytes) (byte_at (bytes ++ y))
+byte_ext y [] = is_short y (byte_at y)
+byte_ext y (b ∷ bytes) = done y b bytes
+
+bytes_split : (y : List ℕ) (n : ℕ) (bytes : List ℕ) (b c : Bool) → ltb (length bytes) n ≡ b → ltb (length (bytes ++ y)) n ≡ c
+    → Follows y (cond b (Err Short) (Ok (take n bytes, drop n bytes))) (cond c (Err Short) (Ok (take n (bytes ++ y), drop n (bytes ++ y))))
+bytes_split y n bytes true c p q = is_short y _
+bytes_split y n bytes false true p q = absurd (let l = length-append bytes y in grind (arith, nat_tests))
+bytes_split y n bytes false false p q =
+    let le : n ≤ length bytes = grind (arith, nat_tests) in rw (take-append-le n bytes y le, drop-append-le n bytes y le)
+    (done y (take n bytes) (drop n bytes))
+
+bytes_ext : (y : List ℕ) (n : ℕ) (bytes : List ℕ) → Follows y (bytes_at n bytes) (bytes_at n (bytes ++ y))
+bytes_ext y n bytes = bytes_split y n bytes (ltb (length bytes) n) (ltb (length (bytes ++ y)) n) refl refl
+
+number_ext : (y : List ℕ) (w : Width) (bytes : List ℕ) → Follows y (number_at w bytes) (number_at w (bytes ++ y))
+unfolding number_at
+number_ext y w bytes = mapped_ext y (from_be_bytes w) _ _ (bytes_ext y (byte_len w) bytes)
+
+u48_ext : (y bytes : List ℕ) → Follows y (u48_at bytes) (u48_at (bytes ++ y))
+unfolding u48_at
+u48_ext y bytes = mapped_ext y (λ text. from_be_bytes w64 (0 ∷ 0 ∷ text)) _ _ (bytes_ext y 6 bytes)
+
+each_ext : {S A : Type 0} (y : List ℕ) (step : S → List ℕ → Read A) (next : S → A → S)
+    → ((s : S) (bytes : List ℕ) → Follows y (step s bytes) (step s (bytes ++ y))) → (n : ℕ) (s : S) (bytes : List ℕ)
+    → Follows y (each_at step next n s bytes) (each_at step next n s (bytes ++ y))
+unfolding each_at
+each_ext y step next steps zero s bytes = done y _ _
+each_ext y step next steps (suc n) s bytes =
+    bind_ext y _ _ _ (steps s bytes) (λ v rest. bind_ext y _ _ _ (each_ext y step next steps n (next s v) rest) (λ others left. done y _ _))
+
+form_ext : (y : List ℕ) (first second : ℕ) (bytes : List ℕ) → Follows y (form_at first second bytes) (form_at first second (bytes ++ y))
+unfolding form_at
+form_ext y first second [] = is_short y _
+form_ext y first second (b ∷ bytes) =
+    choice_ext y (eqb b first) (Ok (false, bytes)) (cond (eqb b second) (Ok (true, bytes)) (Err UnknownTag)) (Ok (false, bytes ++ y))
+    (cond (eqb b second) (Ok (true, bytes ++ y)) (Err UnknownTag)) (done y _ _)
+    (choice_ext y (eqb b second) (Ok (true, bytes)) (Err UnknownTag) (Ok (true, bytes ++ y)) (Err UnknownTag) (done y _ _) (unknown_tag Bool y))
+
+within_ext : (y : List ℕ) (second : Bool) (absent lo hi : ℕ) (bytes : List ℕ)
+    → Follows y (within_at second absent lo hi bytes) (within_at second absent lo hi (bytes ++ y))
+within_ext y false absent lo hi bytes = done y _ _
+within_ext y true absent lo hi bytes = shaped_ext y _ _ _ (byte_ext y bytes)
+
+write_ext : (y : List ℕ) (left : ℕ) (bytes : List ℕ) → Follows y (write_at left bytes) (write_at left (bytes ++ y))
+unfolding write_at
+write_ext y left bytes =
+    bind_ext y _ _ _ (number_ext y _ bytes)
+    (λ offset b1. bind_ext y _ _ _ (shaped_ext y _ _ _ (number_ext y _ b1)) (λ len b2. bind_ext y _ _ _ (bytes_ext y len b2) (λ text b3. done y _ _)))
+
+fill_ext : (y bytes : List ℕ) → Follows y (fill_at bytes) (fill_at (bytes ++ y))
+unfolding fill_at
+fill_ext y bytes =
+    bind_ext y _ _ _ (number_ext y _ bytes)
+    (λ offset b1. bind_ext y _ _ _ (shaped_ext y _ _ _ (number_ext y _ b1)) (λ len b2. bind_ext y _ _ _ (byte_ext y b2) (λ byte b3. done y _ _)))
+
+kind_ext : (y : List ℕ) (kind left : ℕ) (bytes : List ℕ) → Follows y (kind_at kind left bytes) (kind_at kind left (bytes ++ y))
+kind_ext y kind left bytes =
+    choice_ext y _ _ _ _ _ (mapped_ext y _ _ _ (write_ext y left bytes)) (choice_ext y _ _ _ _ _ (fill_ext y bytes) (unknown_tag Patch y))
+
+patch_ext : (y : List ℕ) (full : Bool) (left : ℕ) (bytes : List ℕ) → Follows y (patch_at full left bytes) (patch_at full left (bytes ++ y))
+unfolding patch_at
+patch_ext y false left bytes = mapped_ext y _ _ _ (write_ext y left bytes)
+patch_ext y true left bytes = bind_ext y _ _ _ (byte_ext y bytes) (λ kind rest. kind_ext y kind left rest)
+
+head_ext : (y bytes : List ℕ) → Follows y (head_at bytes) (head_at (bytes ++ y))
+unfolding head_at
+head_ext y bytes =
+    bind_ext y _ _ _ (number_ext y _ bytes) (λ epoch b1.
+    bind_ext y _ _ _ (shaped_ext y _ _ _ (u48_ext y b1)) (λ number b2.
+    bind_ext y _ _ _ (shaped_ext y _ _ _ (u48_ext y b2)) (λ back b3.
+    bind_ext y _ _ _ (number_ext y _ b3) (λ page b4.
+    bind_ext y _ _ _ (shaped_ext y _ _ _ (u48_ext y b4)) (λ block_back b5. done y _ _)))))
+
+record_part_ext : (y : List ℕ) (full : Bool) (bytes : List ℕ) → Follows y (record_part_at full bytes) (record_part_at full (bytes ++ y))
+unfolding record_part_at
+record_part_ext y full bytes =
+    bind_ext y _ _ _ (head_ext y bytes) (λ head b1.
+    bind_ext y _ _ _ (within_ext y full 0 0 1 b1) (λ flags b2.
+    bind_ext y _ _ _ (shaped_ext y _ _ _ (byte_ext y b2)) (λ count b3.
+    bind_ext y _ _ _ (shaped_ext y _ _ _ (each_ext y (patch_at full) left_after (patch_ext y full) count 8192 b3)) (λ patches b4. done y _ _))))
+
+record_ext : (y bytes : List ℕ) → Follows y (record_at bytes) (record_at (bytes ++ y))
+unfolding record_at
+record_ext y bytes = bind_ext y _ _ _ (form_ext y 1 6 bytes) (λ full rest. record_part_ext y full rest)
+
+cut_ext : (y bytes : List ℕ) → Follows y (cut_at bytes) (cut_at (bytes ++ y))
+unfolding cut_at
+cut_ext y bytes =
+    bind_ext y _ _ _ (shaped_ext y _ _ _ (number_ext y _ bytes)) (λ epoch b1.
+    bind_ext y _ _ _ (u48_ext y b1) (λ lo b2.
+    bind_ext y _ _ _ (shaped_ext y _ _ _ (u48_ext y b2)) (λ hi b3. done y _ _)))
+
+advance_ext : (y : List ℕ) (many : Bool) (least first last : ℕ) (bytes : List ℕ)
+    → Follows y (advance_at many least first last bytes) (advance_at many least first last (bytes ++ y))
+unfolding advance_at
+advance_ext y many least first last bytes =
+    bind_ext y _ _ _ (shaped_ext y _ _ _ (number_ext y _ bytes)) (λ epoch b1.
+    bind_ext y _ _ _ (within_ext y many 1 first last b1) (λ reader b2.
+    bind_ext y _ _ _ (shaped_ext y _ _ _ (u48_ext y b2)) (λ point b3. done y _ _)))
+
+tagged_advance_ext : (y bytes : List ℕ) → Follows y (tagged_advance_at bytes) (tagged_advance_at (bytes ++ y))
+unfolding tagged_advance_at
+tagged_advance_ext y bytes = bind_ext y _ _ _ (form_ext y 3 5 bytes) (λ many rest. advance_ext y many 0 2 15 rest)
+
+fact_ext : (y bytes : List ℕ) → Follows y (fact_at bytes) (fact_at (bytes ++ y))
+unfolding fact_at
+fact_ext y [] = is_short y _
+fact_ext y (b ∷ bytes) =
+    choice_ext y _ _ _ _ _ (mapped_ext y _ _ _ (record_ext y (b ∷ bytes)))
+    (choice_ext y _ _ _ _ _ (mapped_ext y _ _ _ (cut_ext y bytes)) (mapped_ext y _ _ _ (tagged_advance_ext y (b ∷ bytes))))
+
+next_cut_ext : (y : List ℕ) (last : ℕ) (bytes : List ℕ) → Follows y (next_cut_at last bytes) (next_cut_at last (bytes ++ y))
+next_cut_ext y last bytes = ordered_ext y (λ c. ltb last c.epoch) _ _ (cut_ext y bytes)
+
+next_point_ext : (y : List ℕ) (last : ℕ) (bytes : List ℕ) → Follows y (next_point_at last bytes) (next_point_at last (bytes ++ y))
+next_point_ext y last bytes = u48_ext y bytes
+
+next_wait_ext : (y : List ℕ) (many : Bool) (k readers : ℕ) (last : WaitPlace) (bytes : List ℕ)
+    → Follows y (next_wait_at many k readers last bytes) (next_wait_at many k readers last (bytes ++ y))
+next_wait_ext y many k readers last bytes =
+    ordered_ext y (λ a. is_wait_above last (a.epoch, a.reader, a.point)) _ _ (advance_ext y many (k + 1) 1 readers bytes)
+
+book_ext : (y : List ℕ) (many : Bool) (bytes : List ℕ) → Follows y (book_at many bytes) (book_at many (bytes ++ y))
+unfolding book_at
+book_ext y many bytes =
+    bind_ext y _ _ _ (number_ext y _ bytes) (λ cut_count b1.
+    bind_ext y _ _ _ (each_ext y next_cut_at cut_epoch (next_cut_ext y) cut_count 0 b1) (λ cuts b2.
+    bind_ext y _ _ _ (within_ext y many 1 2 15 b2) (λ readers b3.
+    bind_ext y _ _ _ (each_ext y next_point_at last_point (next_point_ext y) readers 0 b3) (λ points b4.
+    bind_ext y _ _ _ (number_ext y _ b4) (λ wait_count b5.
+    bind_ext y _ _ _
+    (each_ext y (next_wait_at many (complete cuts) readers) wait_place (next_wait_ext y many (complete cuts) readers) wait_count (0, 0, 0) b5)
+    (λ waits b6. done y _ _))))))
+
+key_ext : (y bytes : List ℕ) → Follows y (key_at bytes) (key_at (bytes ++ y))
+unfolding key_at
+key_ext y bytes =
+    bind_ext y _ _ _ (number_ext y _ bytes) (λ epoch b1.
+    bind_ext y _ _ _ (shaped_ext y _ _ _ (u48_ext y b1)) (λ number b2. done y _ _))
+
+next_key_ext : (y : List ℕ) (last : Place) (bytes : List ℕ) → Follows y (next_key_at last bytes) (next_key_at last (bytes ++ y))
+next_key_ext y last bytes = ordered_ext y (λ k. is_above last (k.epoch, k.number)) _ _ (key_ext y bytes)
+
+summary_part_ext : (y : List ℕ) (many : Bool) (bytes : List ℕ) → Follows y (summary_part_at many bytes) (summary_part_at many (bytes ++ y))
+unfolding summary_part_at
+summary_part_ext y many bytes =
+    bind_ext y _ _ _ (book_ext y many bytes) (λ book b1.
+    bind_ext y _ _ _ (shaped_ext y _ _ _ (u48_ext y b1)) (λ anchor b2.
+    bind_ext y _ _ _ (number_ext y _ b2) (λ key_count b3.
+    bind_ext y _ _ _ (each_ext y next_key_at key_place (next_key_ext y) key_count (0, 0) b3) (λ keys b4. done y _ _))))
+
+summary_ext : (y bytes : List ℕ) → Follows y (summary_at bytes) (summary_at (bytes ++ y))
+unfolding summary_at
+summary_ext y bytes = bind_ext y _ _ _ (form_ext y 16 32 bytes) (λ many rest. summary_part_ext y many rest)
+
+image_ext : (y bytes : List ℕ) → Follows y (image_at bytes) (image_at (bytes ++ y))
+unfolding image_at
+image_ext y bytes =
+    bind_ext y _ _ _ (number_ext y _ bytes) (λ page b1.
+    bind_ext y _ _ _ (shaped_ext y is_nonzero _ _ (bytes_ext y 4096 b1)) (λ image b2. done y _ _))
+
+next_image_ext : (y : List ℕ) (least : ℕ) (bytes : List ℕ) → Follows y (next_image_at least bytes) (next_image_at least (bytes ++ y))
+next_image_ext y least bytes = ordered_ext y (λ p. leb least p.page) _ _ (image_ext y bytes)
+
+next_record_ext : (y : List ℕ) (last : Place) (bytes : List ℕ) → Follows y (next_record_at last bytes) (next_record_at last (bytes ++ y))
+next_record_ext y last bytes = ordered_ext y (λ r. is_above last (r.epoch, r.number)) _ _ (record_ext y bytes)
+
+delta_part_ext : (y : List ℕ) (many : Bool) (bytes : List ℕ) → Follows y (delta_part_at many bytes) (delta_part_at many (bytes ++ y))
+unfolding delta_part_at
+delta_part_ext y many bytes =
+    bind_ext y _ _ _ (book_ext y many bytes) (λ book b1.
+    bind_ext y _ _ _ (shaped_ext y _ _ _ (u48_ext y b1)) (λ base b2.
+    bind_ext y _ _ _ (shaped_ext y _ _ _ (number_ext y _ b2)) (λ page_count b3.
+    bind_ext y _ _ _ (each_ext y next_image_at page_after (next_image_ext y) page_count 0 b3) (λ pages b4.
+    bind_ext y _ _ _ (number_ext y _ b4) (λ record_count b5.
+    bind_ext y _ _ _ (each_ext y next_record_at record_place (next_record_ext y) record_count (0, 0) b5) (λ records b6. done y _ _))))))
+
+delta_ext : (y bytes : List ℕ) → Follows y (delta_at bytes) (delta_at (bytes ++ y))
+unfolding delta_at
+delta_ext y bytes = bind_ext y _ _ _ (form_ext y 17 33 bytes) (λ many rest. delta_part_ext y many rest)
+
+-- ---- whole values
+
+rest_of : {A : Type 0} (b : Bool) (v : A) (f : WireFault) → cond b (Ok v) (Err Rest) ≡ Err f → f ≡ Rest
+rest_of true v f e = absurd cc
+rest_of false v f e = cc
+
+stays : {A : Type 0} (y : List ℕ) (r s : Read A) (f : WireFault) → Extends y r s → whole r ≡ Err f → (f ≡ Short → ⊥) → (f ≡ Rest → ⊥) → whole s ≡ Err f
+stays y (Ok x) s f h e short rest = absurd (rest (rest_of (eqb (length x.1) 0) x.0 f e))
+stays y (Err g) s f (inl e) w short rest = absurd (short cc)
+stays y (Err g) s f (inr e) w short rest = rw e w
+
+is_rest : {A : Type 0} (v : A) (xs y : List ℕ) → 0 < length y → whole (Ok (v, xs ++ y)) ≡ Err Rest
+is_rest v xs y l = let n = length-append xs y in let t : eqb (length (xs ++ y)) 0 ≡ false = grind (arith, nat_tests) in rw t refl
+
+shorts : {A : Type 0} (y : List ℕ) (r s : Read A) (v : A) → 0 < length y → Extends y r s → whole s ≡ Ok v → whole r ≡ Err Short
+shorts y (Ok x) s v l (inl e) w = absurd cc
+shorts y (Ok x) s v l (inr e) w = absurd (let q = is_rest x.0 x.1 y l in let z : whole (Ok (x.0, x.1 ++ y)) ≡ Ok v = subst (λ t. whole t ≡ Ok v) e w in cc)
+shorts y (Err g) s v l (inl e) w = let same : g ≡ Short = cc in ap (λ (k : WireFault). Err k) same
+shorts y (Err g) s v l (inr e) w = absurd (let z : whole (Err g) ≡ Ok v = subst (λ t. whole t ≡ Ok v) e w in cc)
+
+rests : {A : Type 0} (y : List ℕ) (r s : Read A) (v : A) → 0 < length y → Extends y r s → whole r ≡ Ok v → whole s ≡ Err Rest
+rests y (Ok x) s v l (inl e) w = absurd cc
+rests y (Ok x) s v l (inr e) w = rw e (is_rest x.0 x.1 y l)
+rests y (Err g) s v l h w = absurd cc
+
+pub fact_faults_stay : FaultsStay decoded_fact
+fact_faults_stay = λ x y f. stays y (fact_at x) (fact_at (x ++ y)) f (fact_ext y x).extends
+
+pub fact_beginnings : BeginningsAreShort decoded_fact
+fact_beginnings = λ x y v l. shorts y (fact_at x) (fact_at (x ++ y)) v l (fact_ext y x).extends
+
+pub fact_rest : RestIsBehind decoded_fact
+fact_rest = λ x y v l. rests y (fact_at x) (fact_at (x ++ y)) v l (fact_ext y x).extends
+
+pub summary_faults_stay : FaultsStay decoded_summary
+summary_faults_stay = λ x y f. stays y (summary_at x) (summary_at (x ++ y)) f (summary_ext y x).extends
+
+pub summary_beginnings : BeginningsAreShort decoded_summary
+summary_beginnings = λ x y v l. shorts y (summary_at x) (summary_at (x ++ y)) v l (summary_ext y x).extends
+
+pub summary_rest : RestIsBehind decoded_summary
+summary_rest = λ x y v l. rests y (summary_at x) (summary_at (x ++ y)) v l (summary_ext y x).extends
+
+pub delta_faults_stay : FaultsStay decoded_delta
+delta_faults_stay = λ x y f. stays y (delta_at x) (delta_at (x ++ y)) f (delta_ext y x).extends
+
+pub delta_beginnings : BeginningsAreShort decoded_delta
+delta_beginnings = λ x y v l. shorts y (delta_at x) (delta_at (x ++ y)) v l (delta_ext y x).extends
+
+pub delta_rest : RestIsBehind decoded_delta
+delta_rest = λ x y v l. rests y (delta_at x) (delta_at (x ++ y)) v l (delta_ext y x).extends
+
+-- ---- encoding's own fault
+
+whole_reads : {A : Type 0} (r : Read A) → IsReading r → IsReading (whole r)
+whole_reads (Ok x) h e = let rest = rest_of (eqb (length x.1) 0) x.0 TooLong e in absurd cc
+whole_reads (Err g) h e = let same : g ≡ TooLong = cc in h (ap (λ (k : WireFault). Err k) same)
+
+pub decoded_fact_reads : (bytes : List ℕ) → IsReading (decoded_fact bytes)
+decoded_fact_reads bytes = whole_reads (fact_at bytes) (fact_ext [] bytes).reads
+
+pub decoded_summary_reads : (bytes : List ℕ) → IsReading (decoded_summary bytes)
+decoded_summary_reads bytes = whole_reads (summary_at bytes) (summary_ext [] bytes).reads
+
+pub decoded_delta_reads : (bytes : List ℕ) → IsReading (decoded_delta bytes)
+decoded_delta_reads bytes = whole_reads (delta_at bytes) (delta_ext [] bytes).reads
+
+-- ---- values of any kind: with more bytes behind, the same decoder is asked
+
+valued_err : {A : Type 0} (kind : A → WireValue) (r : Result A WireFault) (f : WireFault) → valued kind r ≡ Err f → r ≡ Err f
+valued_err kind (Ok x) f e = absurd cc
+valued_err kind (Err g) f e = let same : g ≡ f = cc in ap (λ (k : WireFault). Err k) same
+
+valued_ok : {A : Type 0} (kind : A → WireValue) (r : Result A WireFault) (v : WireValue) → valued kind r ≡ Ok v → (x : A) × (r ≡ Ok x)
+valued_ok kind (Ok x) v e = (x, refl)
+valued_ok kind (Err f) v e = absurd cc
+
+-- what the three laws say of two inputs, the longer of which has y behind
+record Local {A : Type 0} (y : List ℕ) (r s : Result A WireFault) : Type 0 where
+  stay : (f : WireFault) → r ≡ Err f → (f ≡ Short → ⊥) → (f ≡ Rest → ⊥) → s ≡ Err f
+  short : (v : A) → 0 < length y → s ≡ Ok v → r ≡ Err Short
+  rest : (v : A) → 0 < length y → r ≡ Ok v → s ≡ Err Rest
+
+local_choice : {A : Type 0} (y : List ℕ) (b : Bool) (p q r s : Result A WireFault) → Local y p r → Local y q s → Local y (cond b p q) (cond b r s)
+local_choice y true p q r s h k = h
+local_choice y false p q r s h k = k
+
+local_value : {A : Type 0} (y : List ℕ) (kind : A → WireValue) (r s : Result A WireFault) → Local y r s → Local y (valued kind r) (valued kind s)
+local_value y kind r s h = record {
+  stay = λ f e short rest. ap (valued kind) (h.stay f (valued_err kind r f e) short rest);
+  short = λ v l e. let x = valued_ok kind s v e in ap (valued kind) (h.short x.0 l x.1);
+  rest = λ v l e. let x = valued_ok kind r v e in ap (valued kind) (h.rest x.0 l x.1);
+}
+
+local_whole : {A : Type 0} (y : List ℕ) (r s : Read A) → Follows y r s → Local y (whole r) (whole s)
+local_whole y r s h = record { stay = λ f. stays y r s f h.extends; short = λ v l. shorts y r s v l h.extends; rest = λ v l. rests y r s v l h.extends }
+
+short_is : {A : Type 0} (r : Result A WireFault) (f : WireFault) → r ≡ Err f → r ≡ Err Short → f ≡ Short
+short_is (Ok x) f g e = absurd cc
+short_is (Err h) f g e = cc
+
+local_short : {A : Type 0} (y : List ℕ) (r s : Result A WireFault) → r ≡ Err Short → Local y r s
+local_short y r s e = record {
+  stay = λ f g short rest. absurd (short (short_is r f g e));
+  short = λ v l g. e;
+  rest = λ v l g. absurd cc;
+}
+
+value_local : (x y : List ℕ) → Local y (decoded_value x) (decoded_value (x ++ y))
+value_local [] y = local_short y (decoded_value []) (decoded_value y) refl
+value_local (tag ∷ bytes) y =
+    let x = tag ∷ bytes in
+    local_choice y (is_summary_tag tag) _ _ _ _
+    (local_value y Summary (decoded_summary x) (decoded_summary (x ++ y)) (local_whole y (summary_at x) (summary_at (x ++ y)) (summary_ext y x)))
+    (local_choice y (is_delta_tag tag) _ _ _ _
+    (local_value y Delta (decoded_delta x) (decoded_delta (x ++ y)) (local_whole y (delta_at x) (delta_at (x ++ y)) (delta_ext y x)))
+    (local_value y Fact (decoded_fact x) (decoded_fact (x ++ y)) (local_whole y (fact_at x) (fact_at (x ++ y)) (fact_ext y x))))
+
+pub value_faults_stay : FaultsStay decoded_value
+value_faults_stay = λ x y. (value_local x y).stay
+
+pub value_beginnings : BeginningsAreShort decoded_value
+value_beginnings = λ x y. (value_local x y).short
+
+pub value_rest : RestIsBehind decoded_value
+value_rest = λ x y. (value_local x y).rest

@@ -1,0 +1,57 @@
+-- The laws of spellings, of values of any kind.
+use Rattle.std.proofs.Common.{◌≡◌, Bool, true, false, cond, [], ◌∷◌, ◌++◌, Result, Ok, Err, refl, sym, ap, ◌∙◌, arith}
+use Rattle.redo_wire.specs.declared.faults.WireFault.{WireFault}
+use Rattle.redo_wire.specs.declared.faults.WireFault.TheVariants.{Rest, TooLong}
+use Rattle.redo_wire.specs.declared.values.WireValue.{WireValue}
+use Rattle.redo_wire.specs.declared.values.WireValue.TheVariants.{Fact, Summary, Delta}
+use Rattle.redo_wire.specs.FactReading.{decoded_fact}
+use Rattle.redo_wire.specs.SummaryReading.{decoded_summary}
+use Rattle.redo_wire.specs.DeltaReading.{decoded_delta}
+use Rattle.redo_wire.specs.Values.{SpellsValue, is_summary_tag, is_delta_tag, valued, decoded_value}
+use Rattle.redo_wire.specs.Laws.{HasOneSpelling, HasOneValue, BeginsNoOther, ReadsSpellings, NeverTooLong}
+use Rattle.redo_wire.proofs.Spellings.{bytes_from_All}
+use Rattle.redo_wire.proofs.ValueReaders.{value_from_read, value_from_spelled}
+use Rattle.redo_wire.proofs.Locality.{decoded_fact_reads, decoded_summary_reads, decoded_delta_reads, value_rest}
+
+pub value_one_spelling : HasOneSpelling SpellsValue
+value_one_spelling (Fact f) x y p q = p.1 ∙ sym q.1
+value_one_spelling (Summary s) x y p q = p.1 ∙ sym q.1
+value_one_spelling (Delta d) x y p q = p.1 ∙ sym q.1
+
+same_found : (v w : WireValue) (r : Result WireValue WireFault) → r ≡ Ok v → r ≡ Ok w → v ≡ w
+same_found v w r e f = cc
+
+pub value_one_value : HasOneValue SpellsValue
+value_one_value v w x p q = same_found v w (decoded_value x) (value_from_spelled x v p) (value_from_spelled x w q)
+
+pub value_begins_no_other : BeginsNoOther SpellsValue
+value_begins_no_other v w x y [] p q e = refl
+value_begins_no_other v w x y (b ∷ bytes) p q e =
+    let rest : decoded_value (x ++ (b ∷ bytes)) ≡ Err Rest = value_rest x (b ∷ bytes) v (omega arith) (value_from_spelled x v p) in
+    let found : decoded_value (x ++ (b ∷ bytes)) ≡ Ok w = ap decoded_value e ∙ value_from_spelled y w q in
+    absurd cc
+
+pub value_reads_spellings : ReadsSpellings SpellsValue decoded_value
+value_reads_spellings v bytes all = (λ e. value_from_read bytes v (bytes_from_All bytes all) e, λ spelled. value_from_spelled bytes v spelled)
+
+abbrev IsReading : {A : Type 0} → Result A WireFault → Type 0
+IsReading r = r ≡ Err TooLong → ⊥
+
+chosen_reads : (b : Bool) (p q : Result WireValue WireFault) → IsReading p → IsReading q → IsReading (cond b p q)
+chosen_reads true p q h k e = h e
+chosen_reads false p q h k e = k e
+
+valued_reads : {A : Type 0} (kind : A → WireValue) (r : Result A WireFault) → IsReading r → IsReading (valued kind r)
+valued_reads kind (Ok x) h e = absurd cc
+valued_reads kind (Err f) h e = let same : f ≡ TooLong = cc in h (ap (λ (k : WireFault). Err k) same)
+
+pub value_never_too_long : NeverTooLong decoded_value
+value_never_too_long [] e = absurd cc
+value_never_too_long (tag ∷ rest) e =
+    let bytes = tag ∷ rest in
+    let last = valued_reads Fact (decoded_fact bytes) (decoded_fact_reads bytes) in
+    let middle = chosen_reads (is_delta_tag tag) (valued Delta (decoded_delta bytes)) (valued Fact (decoded_fact bytes))
+    (valued_reads Delta (decoded_delta bytes) (decoded_delta_reads bytes)) last in
+    chosen_reads (is_summary_tag tag) (valued Summary (decoded_summary bytes))
+    (cond (is_delta_tag tag) (valued Delta (decoded_delta bytes)) (valued Fact (decoded_fact bytes)))
+    (valued_reads Summary (decoded_summary bytes) (decoded_summary_reads bytes)) middle e

@@ -1,0 +1,100 @@
+-- Values of any kind: what is read is spelled so, and what is spelled so is read.
+use Rattle.std.proofs.Common.{◌≡◌, ℕ, ◌⊎◌, inl, inr, ⊎_elim, Bool, true, false, cond, List, [], ◌∷◌, ◌++◌, Result, Ok, Err, refl, ap, subst, ◌∙◌}
+use Rattle.std.specs.Prelude.{IfOk}
+use Rattle.redo_wire.specs.declared.faults.WireFault.{WireFault}
+use Rattle.redo_wire.specs.declared.faults.WireError.{WireError}
+use Rattle.redo_core.specs.declared.facts.Fact as fact
+use Rattle.redo_core.specs.declared.facts.Fact.TheVariants as facts
+use Rattle.redo_wire.specs.declared.values.WireValue.{WireValue}
+use Rattle.redo_wire.specs.declared.values.WireValue.TheVariants.{Fact, Summary, Delta}
+use Rattle.redo_wire.specs.Outcomes.{Answers}
+use Rattle.redo_wire.specs.Forms.{form_bytes}
+use Rattle.redo_wire.specs.Records.{is_full, record_part_bytes}
+use Rattle.redo_wire.specs.Facts.{IsWireFact, is_of_other, advance_bytes, fact_bytes}
+use Rattle.redo_wire.specs.FactReading.{fact_at, decoded_fact}
+use Rattle.redo_wire.specs.Books.{has_many}
+use Rattle.redo_wire.specs.Summaries.{IsWireSummary, summary_part_bytes, summary_bytes}
+use Rattle.redo_wire.specs.SummaryReading.{summary_at, decoded_summary}
+use Rattle.redo_wire.specs.Deltas.{IsWireDelta, delta_part_bytes, delta_bytes}
+use Rattle.redo_wire.specs.DeltaReading.{delta_at, decoded_delta}
+use Rattle.redo_wire.specs.Values.{SpellsValue, is_summary_tag, is_delta_tag, valued, decoded_value}
+use Rattle.redo_wire.proofs.Readers.{IsBytes}
+use Rattle.redo_wire.proofs.FactReaders.{fact_reads}
+use Rattle.redo_wire.proofs.SummaryReaders.{summary_reads}
+use Rattle.redo_wire.proofs.DeltaReaders.{delta_reads}
+use Rattle.redo_wire.proofs.Spellings.{spelled_from_read, read_from_spelled}
+
+valued_ok : {A : Type 0} (kind : A → WireValue) (r : Result A WireFault) (v : WireValue) → valued kind r ≡ Ok v → (x : A) × (r ≡ Ok x) × (kind x ≡ v)
+valued_ok kind (Ok x) v e = (x, refl, cc)
+valued_ok kind (Err f) v e = absurd cc
+
+chosen : {A : Type 0} (b : Bool) (p q : Result A WireFault) (v : A) → cond b p q ≡ Ok v → (p ≡ Ok v) ⊎ (q ≡ Ok v)
+chosen true p q v e = inl e
+chosen false p q v e = inr e
+
+-- what is read from all of the bytes is spelled by them
+pub value_from_read : (bytes : List ℕ) (v : WireValue) → IsBytes bytes → decoded_value bytes ≡ Ok v → SpellsValue v bytes
+value_from_read [] v fits e = absurd cc
+value_from_read (tag ∷ rest) v fits e =
+    let bytes = tag ∷ rest in
+    ⊎_elim
+    (λ (h : valued Summary (decoded_summary bytes) ≡ Ok v).
+    let x = valued_ok Summary (decoded_summary bytes) v h in
+    subst (λ (u : WireValue). SpellsValue u bytes) x.2 (spelled_from_read summary_at summary_bytes IsWireSummary summary_reads bytes x.0 fits x.1))
+    (λ (h : cond (is_delta_tag tag) (valued Delta (decoded_delta bytes)) (valued Fact (decoded_fact bytes)) ≡ Ok v).
+    ⊎_elim
+    (λ (g : valued Delta (decoded_delta bytes) ≡ Ok v).
+    let x = valued_ok Delta (decoded_delta bytes) v g in
+    subst (λ (u : WireValue). SpellsValue u bytes) x.2 (spelled_from_read delta_at delta_bytes IsWireDelta delta_reads bytes x.0 fits x.1))
+    (λ (g : valued Fact (decoded_fact bytes) ≡ Ok v).
+    let x = valued_ok Fact (decoded_fact bytes) v g in
+    subst (λ (u : WireValue). SpellsValue u bytes) x.2 (spelled_from_read fact_at fact_bytes IsWireFact fact_reads bytes x.0 fits x.1))
+    (chosen (is_delta_tag tag) (valued Delta (decoded_delta bytes)) (valued Fact (decoded_fact bytes)) v h))
+    (chosen (is_summary_tag tag) (valued Summary (decoded_summary bytes))
+    (cond (is_delta_tag tag) (valued Delta (decoded_delta bytes)) (valued Fact (decoded_fact bytes))) v e)
+
+-- ---- the decoder that the first byte of a spelling names
+
+summary_first : (many : Bool) (text : List ℕ)
+    → decoded_value (form_bytes 16 32 many ++ text) ≡ valued Summary (decoded_summary (form_bytes 16 32 many ++ text))
+summary_first false text = refl
+summary_first true text = refl
+
+delta_first : (many : Bool) (text : List ℕ) → decoded_value (form_bytes 17 33 many ++ text) ≡ valued Delta (decoded_delta (form_bytes 17 33 many ++ text))
+delta_first false text = refl
+delta_first true text = refl
+
+record_first : (full : Bool) (text : List ℕ) → decoded_value (form_bytes 1 6 full ++ text) ≡ valued Fact (decoded_fact (form_bytes 1 6 full ++ text))
+record_first false text = refl
+record_first true text = refl
+
+advance_first : (many : Bool) (text : List ℕ) → decoded_value (form_bytes 3 5 many ++ text) ≡ valued Fact (decoded_fact (form_bytes 3 5 many ++ text))
+advance_first false text = refl
+advance_first true text = refl
+
+fact_first : (f : fact.Fact) → decoded_value (fact_bytes f) ≡ valued Fact (decoded_fact (fact_bytes f))
+fact_first (facts.Record r) = record_first (is_full r) (record_part_bytes (is_full r) r)
+fact_first (facts.Cut c) = refl
+fact_first (facts.Advance a) = advance_first (is_of_other a) (advance_bytes (is_of_other a) a)
+
+-- what all of the bytes spell is read from them
+pub value_from_spelled : (bytes : List ℕ) (v : WireValue) → SpellsValue v bytes → decoded_value bytes ≡ Ok v
+value_from_spelled bytes (Summary s) spelled =
+    let found = read_from_spelled summary_at summary_bytes IsWireSummary summary_reads (summary_bytes s) s (spelled.0, refl) in
+    ap decoded_value spelled.1 ∙ summary_first (has_many s.book) (summary_part_bytes (has_many s.book) s) ∙ ap (valued Summary) found
+value_from_spelled bytes (Delta d) spelled =
+    let found = read_from_spelled delta_at delta_bytes IsWireDelta delta_reads (delta_bytes d) d (spelled.0, refl) in
+    ap decoded_value spelled.1 ∙ delta_first (has_many d.book) (delta_part_bytes (has_many d.book) d) ∙ ap (valued Delta) found
+value_from_spelled bytes (Fact f) spelled =
+    let found = read_from_spelled fact_at fact_bytes IsWireFact fact_reads (fact_bytes f) f (spelled.0, refl) in
+    ap decoded_value spelled.1 ∙ fact_first f ∙ ap (valued Fact) found
+
+-- ---- a call that answers what reading gives
+
+pub value_is_spelled : (bytes : List ℕ) (r : Result WireValue WireError) → IsBytes bytes → Answers r (decoded_value bytes) → IfOk r (λ v. SpellsValue v bytes)
+value_is_spelled bytes (Ok v) fits given = value_from_read bytes v fits given
+value_is_spelled bytes (Err e) fits given = tt
+
+pub spelled_is_value : (bytes : List ℕ) (r : Result WireValue WireError) → Answers r (decoded_value bytes) → (v : WireValue) → SpellsValue v bytes
+    → Answers r (Ok v)
+spelled_is_value bytes r given v spelled = subst (λ (q : Result WireValue WireFault). Answers r q) (value_from_spelled bytes v spelled) given

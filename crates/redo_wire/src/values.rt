@@ -1,0 +1,52 @@
+//! Values of any kind, read by their first byte.
+
+ghost use Rattle.std.specs.Prelude.{IfOk, Ok};
+ghost use Rattle.redo_wire.specs.declared.values.WireValue.{WireValue};
+ghost use Rattle.redo_wire.specs.Outcomes.{Answers};
+ghost use Rattle.redo_wire.specs.Values.{SpellsValue, decoded_value};
+
+use crate::deltas::{Delta, decode_delta};
+use crate::facts::decode_fact;
+use crate::faults::{WireError, WireFault};
+use crate::summaries::{Summary, decode_summary};
+use crate::tags;
+use redo_core::Fact;
+use std::alloc::Global;
+
+/// A value of the wire: a fact, a summary or a delta.
+#[derive(Debug, Drop)]
+pub enum WireValue {
+    Fact(Fact),
+    Summary(Summary),
+    Delta(Delta),
+}
+
+/// The value that the bytes spell, all of them: what the decoder of the first byte's form answers. A byte of no form, or none
+/// at all, goes to the decoder of facts.
+///
+/// Errors: the first fault from front to back (never `TooLong`), or `Memory`.
+pub fn decode_value(alloc: Global, bytes: &[u8]) -> Result<WireValue, WireError>
+    // What is read is what the bytes spell.
+    ensures found { IfOk result (λ v. SpellsValue v bytes.now) }
+
+    // What the bytes spell is read, unless memory runs out.
+    ensures spelled { (v : WireValue) → SpellsValue v bytes.now → Answers result (Ok v) }
+
+    // Which fault comes where they spell nothing.
+    ensures fault { Answers result (decoded_value bytes.now) }
+{
+    value_by_tag(alloc, bytes)
+}
+
+fn value_by_tag(alloc: Global, bytes: &[u8]) -> Result<WireValue, WireError>
+    ensures { Answers result (decoded_value bytes.now) }
+{
+    match bytes {
+        [] => Err(WireError::Fault(WireFault::Short)),
+        [tags::SUMMARY | tags::ROSTER_SUMMARY, ..] => {
+            Ok(WireValue::Summary(decode_summary(alloc, bytes)?))
+        }
+        [tags::DELTA | tags::ROSTER_DELTA, ..] => Ok(WireValue::Delta(decode_delta(alloc, bytes)?)),
+        _ => Ok(WireValue::Fact(decode_fact(alloc, bytes)?)),
+    }
+}
