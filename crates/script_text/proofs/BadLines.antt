@@ -1,19 +1,21 @@
 -- The bad line is the least: the lines before it begin a good text, and with it they begin none.
-use Rattle.std.proofs.Common.{◌≡◌, ℕ, ◌+◌, ◌-◌, ◌<◌, ◌≤◌, ◌⊎◌, inl, inr, true, false, cond, eqb, ltb, List, [], ◌∷◌, ◌++◌, length, take, drop, Option, Some, None, Result, Ok, Err, codes, refl, sym, ap, ◌∙◌, subst, arith, append_assoc, length-append}
+use Rattle.std.proofs.Common.{◌≡◌, ℕ, ◌+◌, ◌-◌, ◌<◌, ◌≤◌, ◌⊎◌, inl, inr, true, false, cond, eqb, leb, List, [], ◌∷◌, ◌++◌, length, take, drop, Option, Some, None, Result, Ok, Err, codes, refl, sym, ap, ◌∙◌, subst, arith, append_assoc, length-append}
 use Rattle.std.specs.Prelude.{bytes_eq}
 use Rattle.std.proofs.Math.Seq.{take-add, take-append_seam}
-use Rattle.std.proofs.lemmas.Bool.{ltb-false}
 use Rattle.std.proofs.lemmas.List.{append_cancel_right}
 use Rattle.redo_core.specs.declared.facts.Fact.{Fact}
-use Rattle.script_text.specs.declared.step_line.StepLine.{StepLine}
+use Rattle.fleet_steps.specs.declared.steps.Step.{Step}
 use Rattle.script_text.specs.FactLine.{fact_of}
+use Rattle.script_text.specs.Number.{digits_of}
 use Rattle.script_text.specs.StepLine.{step_of}
 use Rattle.script_text.specs.Parts.{parts_at}
-use Rattle.script_text.specs.Script.{ScriptData, most, or_bad, with_first, with_fact, with_no_facts, lines_from, nodes_from, script_from, script_of, facts_of}
+use Rattle.script_text.specs.Script.{ScriptData, Rostered, rostered, most, or_bad, within, asking, with_fact, nodes_of, roster_of, lines_from, nodes_from, script_from, opened, script_of, facts_of}
 use Rattle.script_text.specs.Laws.{BadScriptLineIsLeast, BadFactLineIsLeast}
-use Rattle.script_text.specs.Spelled.{IsFactList, IsScript, Spells, Begins, IsLeastBadLine}
-use Rattle.script_text.proofs.Scripts.{end, good, bad, not_good, one_of, with_first_ok, no_facts_ok, with_fact_ok, some_left, ended, lines_next, script_next, script_is_spelled, script_is_read, fact_list_is_spelled, fact_list_is_read, scripts_are_spelled, fact_lists_are_spelled}
-use Rattle.script_text.proofs.WriteSpelling.{some_parts}
+use Rattle.script_text.specs.Spelled.{worded, AreFacts, AsksSteps, IsLog, IsScript, Spells, Begins, IsLeastBadLine}
+use Rattle.script_text.proofs.Results.{end, bad_is, not_bad, refused, one_of, found, within_ok, within_bad, some_left, room_is, ended}
+use Rattle.script_text.proofs.Scripts.{lines_next, script_next}
+use Rattle.script_text.proofs.Rosters.{Reader, facts_reader, steps_reader, opened_plain, opened_named, opened_last, opened_read, rostered_is_spelled, rostered_is_read, scripts_are_spelled, logs_are_spelled}
+use Rattle.script_text.proofs.PatchSpelling.{some_parts}
 
 -- Where a reader stops: behind the lines before, which more lines would complete, at a line that no others complete.
 record Stops {A : Type 0} (read : List (List ℕ) → Result A ℕ) (at : ℕ) (parts : List (List ℕ)) (stop : ℕ) : Type 0 where
@@ -26,28 +28,6 @@ record Stops {A : Type 0} (read : List (List ℕ) → Result A ℕ) (at : ℕ) (
   said : A
   good : read (before ++ (more ++ end)) ≡ Ok said
   bad : 0 < length after → (others : List (List ℕ)) (x : A) → 0 < length others → read (before ++ here ∷ others) ≡ Ok x → ⊥
-
-bad_is : {A : Type 0} (at stop : ℕ) → bad {A = A} at ≡ Err stop → at ≡ stop
-bad_is at stop h = cc
-
-not_bad : {A : Type 0} (x : A) (stop : ℕ) → good x ≡ Err stop → ⊥
-not_bad x stop h = cc
-
--- an answer that no good one is
-refused : {A : Type 0} (r : Result A ℕ) (at : ℕ) (x : A) → r ≡ Err at → r ≡ Ok x → ⊥
-refused r at x e h = not_good at x (sym e ∙ h)
-
-with_first_bad : {A : Type 0} (x : A) (r : Result (List A) ℕ) (stop : ℕ) → with_first x r ≡ Err stop → r ≡ Err stop
-with_first_bad x (Ok xs) stop h = absurd (not_bad (x ∷ xs) stop h)
-with_first_bad x (Err at) stop h = cc
-
-no_facts_bad : (r : Result (List StepLine) ℕ) (stop : ℕ) → with_no_facts r ≡ Err stop → r ≡ Err stop
-no_facts_bad (Ok steps) stop h = absurd (not_bad (record { facts = []; steps = steps }) stop h)
-no_facts_bad (Err at) stop h = cc
-
-with_fact_bad : (f : Fact) (r : Result ScriptData ℕ) (stop : ℕ) → with_fact f r ≡ Err stop → r ≡ Err stop
-with_fact_bad f (Ok s) stop h = absurd (not_bad (record s { facts = f ∷ s.facts }) stop h)
-with_fact_bad f (Err at) stop h = cc
 
 at_start : (at stop : ℕ) → at ≡ stop → at + length {A = List ℕ} [] ≡ stop
 at_start at stop e = omega arith
@@ -92,118 +72,185 @@ stops_later read later onto at stop x rest next up down s =
           s.bad behind others r.0 some_others r.1;
     }
 
-lines_past : {A : Type 0} (said : List ℕ → Option A) (last at : ℕ) (x : List ℕ) → ltb last at ≡ true → Refuses (lines_from said last at) at x
-lines_past said last at x late = record { always = λ others some. rw (some_left (length others) some, late) refl }
+within_up : {A B : Type 0} (onto : A → B) (x : A) → (y : B) × (within onto (Ok x) ≡ Ok y)
+within_up onto x = (onto x, refl)
 
-lines_none : {A : Type 0} (said : List ℕ → Option A) (last at : ℕ) (x : List ℕ) → ltb last at ≡ false → said x ≡ None → Refuses (lines_from said last at) at x
-lines_none said last at x in_time none = record { always = λ others some. rw (some_left (length others) some, in_time, none) refl }
+within_down : {A B : Type 0} (onto : A → B) (r : Result A ℕ) (y : B) → within onto r ≡ Ok y → (x : A) × (r ≡ Ok x)
+within_down onto r y h = let e = within_ok onto r y h in (e.0, e.1)
 
-found : {A : Type 0} (o : Option A) → (o ≡ None) ⊎ ((x : A) × (o ≡ Some x))
-found None = inl refl
-found (Some x) = inr (x, refl)
+lines_past : {A : Type 0} (said : List ℕ → Option A) (count at : ℕ) (x : List ℕ) → leb most count ≡ true → Refuses (lines_from said count at) at x
+lines_past said count at x late = record { always = λ others some. rw (some_left (length others) some, late) refl }
 
-first_up : {A : Type 0} (x : A) (xs : List A) → (a : List A) × (with_first x (Ok xs) ≡ Ok a)
-first_up x xs = (x ∷ xs, refl)
+lines_none : {A : Type 0} (said : List ℕ → Option A) (count at : ℕ) (x : List ℕ) → leb most count ≡ false → said x ≡ None → Refuses (lines_from said count at) at x
+lines_none said count at x in_time none = record { always = λ others some. rw (some_left (length others) some, in_time, none) refl }
 
-first_down : {A : Type 0} (x : A) (r : Result (List A) ℕ) (a : List A) → with_first x r ≡ Ok a → (xs : List A) × (r ≡ Ok xs)
-first_down x r a h = let e = with_first_ok x r a h in (e.0, e.1)
+abbrev good_none : {A : Type 0} → Result (List A) ℕ
+good_none = Ok []
 
-lines_last : {A : Type 0} (x : List ℕ) (at stop : ℕ) → cond (eqb (length x) 0) (good {A = List A} []) (Err at) ≡ Err stop → at ≡ stop
-lines_last [] at stop h = absurd (not_bad [] stop h)
+lines_last : {A : Type 0} (x : List ℕ) (at stop : ℕ) → cond (eqb (length x) 0) (good_none {A = A}) (Err at) ≡ Err stop → at ≡ stop
+lines_last {A} [] at stop h = absurd (not_bad {A = List A} [] stop h)
 lines_last {A} (b ∷ bs) at stop h = bad_is {A = List A} at stop (rw (some_left (length (b ∷ bs)) (omega arith)) at h)
 
-lines_stop : {A : Type 0} (said : List ℕ → Option A) (last at : ℕ) (parts : List (List ℕ)) (stop : ℕ) → 0 < length parts → lines_from said last at parts ≡ Err stop → Stops (lines_from said last at) at parts stop
-lines_stop said last at [] stop some h = absurd (omega arith)
-lines_stop {A} said last at (x ∷ []) stop some h = stops_last (lines_from said last at) at stop x [] [] (lines_last {A = A} x at stop h) refl
-lines_stop {A} said last at (x ∷ y ∷ more) stop some h =
-    let next : A → Result (List A) ℕ = λ a. with_first a (lines_from said last (at + 1) (y ∷ more)) in
-    elim (one_of (ltb last at) (Err at) (or_bad at (said x) next) (Err stop) (rw (some_left (length (y ∷ more)) (omega arith)) at h)) [
-      | inl late ↦ stops_here (lines_from said last at) at stop x (y ∷ more) [] [] (bad_is {A = List A} at stop late.1) refl (lines_past said last at x late.0)
+lines_stop : {A : Type 0} (said : List ℕ → Option A) (count at : ℕ) (parts : List (List ℕ)) (stop : ℕ) → 0 < length parts → lines_from said count at parts ≡ Err stop → Stops (lines_from said count at) at parts stop
+lines_stop said count at [] stop some h = absurd (omega arith)
+lines_stop {A} said count at (x ∷ []) stop some h = stops_last (lines_from said count at) at stop x [] [] (lines_last {A = A} x at stop h) refl
+lines_stop {A} said count at (x ∷ y ∷ more) stop some h =
+    let next : A → Result (List A) ℕ = λ a. within (λ xs. a ∷ xs) (lines_from said (count + 1) (at + 1) (y ∷ more)) in
+    elim (one_of (leb most count) (Err at) (or_bad at (said x) next) (Err stop) (rw (some_left (length (y ∷ more)) (omega arith)) at h)) [
+      | inl late ↦ stops_here (lines_from said count at) at stop x (y ∷ more) [] [] (bad_is {A = List A} at stop late.1) refl (lines_past said count at x late.0)
       | inr time ↦
           elim (found (said x)) [
-            | inl none ↦ stops_here (lines_from said last at) at stop x (y ∷ more) [] [] (bad_is {A = List A} at stop (rw none at time.1)) refl (lines_none said last at x time.0 none)
+            | inl none ↦ stops_here (lines_from said count at) at stop x (y ∷ more) [] [] (bad_is {A = List A} at stop (rw none at time.1)) refl (lines_none said count at x time.0 none)
             | inr one ↦
-                let rest = lines_stop said last (at + 1) (y ∷ more) stop (omega arith) (with_first_bad one.0 (lines_from said last (at + 1) (y ∷ more)) stop (rw one.1 at time.1)) in
-                let in_time : at ≤ last = ltb-false last at time.0 in
-                stops_later (lines_from said last at) (lines_from said last (at + 1)) (with_first one.0) at stop x (y ∷ more)
-                (λ others left. lines_next said last at x others one.0 left in_time one.1) (first_up one.0) (first_down one.0) rest
+                let rest = lines_stop said (count + 1) (at + 1) (y ∷ more) stop (omega arith) (within_bad (λ xs. one.0 ∷ xs) (lines_from said (count + 1) (at + 1) (y ∷ more)) stop (rw one.1 at time.1)) in
+                let lt : count < most = room_is most count time.0 in
+                stops_later (lines_from said count at) (lines_from said (count + 1) (at + 1)) (within (λ xs. one.0 ∷ xs)) at stop x (y ∷ more)
+                (λ others left. lines_next said count at x others one.0 left lt one.1) (within_up (λ xs. one.0 ∷ xs)) (within_down (λ xs. one.0 ∷ xs)) rest
           ]
     ]
 
--- ---- the line nodes 1, and the steps
+-- ---- the line of the nodes, and the steps
 
-nodes_refused : (facts at : ℕ) (x : List ℕ) → bytes_eq x (codes "nodes 1") ≡ false → Refuses (nodes_from facts at) at x
+nodes_refused : (facts at : ℕ) (x : List ℕ) → nodes_of x ≡ None → Refuses (nodes_from facts at) at x
 nodes_refused facts at x e = record { always = λ others some. rw (some_left (length others) some, e) refl }
 
-nodes_next : (facts at : ℕ) (x : List ℕ) (others : List (List ℕ)) → 0 < length others → bytes_eq x (codes "nodes 1") ≡ true → nodes_from facts at (x ∷ others) ≡ lines_from (step_of facts) (at + most) (at + 1) others
-nodes_next facts at x others some e = rw (some_left (length others) some, e) refl
+nodes_next : (facts at nodes : ℕ) (x : List ℕ) (others : List (List ℕ)) → 0 < length others → nodes_of x ≡ Some nodes → nodes_from facts at (x ∷ others) ≡ within (asking nodes) (lines_from (step_of facts) 0 (at + 1) others)
+nodes_next facts at nodes x others some e = rw (some_left (length others) some, e) refl
+
+one_node : nodes_of (codes "nodes 1") ≡ Some 1
+unfolding nodes_of digits_of
+one_node = refl
 
 abbrev only_nodes : List (List ℕ)
 only_nodes = codes "nodes 1" ∷ []
 
-nodes_stop : (facts at : ℕ) (parts : List (List ℕ)) (stop : ℕ) → 0 < length parts → nodes_from facts at parts ≡ Err stop → Stops (nodes_from facts at) at parts stop
-nodes_stop facts at [] stop some h = absurd (omega arith)
-nodes_stop facts at (x ∷ []) stop some h = stops_last (nodes_from facts at) at stop x only_nodes [] (bad_is {A = List StepLine} at stop h) refl
-nodes_stop facts at (x ∷ y ∷ more) stop some h =
-    elim (one_of (bytes_eq x (codes "nodes 1")) (lines_from (step_of facts) (at + most) (at + 1) (y ∷ more)) (Err at) (Err stop) (rw (some_left (length (y ∷ more)) (omega arith)) at h)) [
-      | inl is ↦
-          let rest = lines_stop (step_of facts) (at + most) (at + 1) (y ∷ more) stop (omega arith) is.1 in
-          stops_later (nodes_from facts at) (lines_from (step_of facts) (at + most) (at + 1)) (λ r. r) at stop x (y ∷ more) (λ others left. nodes_next facts at x others left is.0) (λ b. (b, refl)) (λ r a e. (a, e)) rest
-      | inr other ↦ stops_here (nodes_from facts at) at stop x (y ∷ more) only_nodes [] (bad_is {A = List StepLine} at stop other.1) refl (nodes_refused facts at x other.0)
-    ]
+-- a script that asks nothing
+abbrev nothing : ScriptData
+nothing = asking 1 []
 
--- ---- whole scripts
+nodes_alone : (facts at : ℕ) → nodes_from facts at (only_nodes ++ end) ≡ Ok nothing
+nodes_alone facts at = rw one_node refl
 
 abbrev go_nodes : List (List ℕ)
 go_nodes = codes "go" ∷ codes "nodes 1" ∷ []
 
-abbrev nothing : ScriptData
-nothing = record { facts = []; steps = [] }
+go_nodes_alone : (count at : ℕ) → script_from count at (go_nodes ++ end) ≡ Ok nothing
+go_nodes_alone count at = nodes_alone count (at + 1)
 
-script_past : (at : ℕ) (x : List ℕ) → bytes_eq x (codes "go") ≡ false → ltb most at ≡ true → Refuses (script_from at) at x
-script_past at x e late = record { always = λ others some. rw (some_left (length others) some, e, late) refl }
+nodes_stop : (facts at : ℕ) (parts : List (List ℕ)) (stop : ℕ) → 0 < length parts → nodes_from facts at parts ≡ Err stop → Stops (nodes_from facts at) at parts stop
+nodes_stop facts at [] stop some h = absurd (omega arith)
+nodes_stop facts at (x ∷ []) stop some h = stops_last (nodes_from facts at) at stop x only_nodes nothing (bad_is {A = ScriptData} at stop h) (nodes_alone facts at)
+nodes_stop facts at (x ∷ y ∷ more) stop some h =
+    elim (found (nodes_of x)) [
+      | inl none ↦
+          let wrong = rw (some_left (length (y ∷ more)) (omega arith), none) at h in
+          stops_here (nodes_from facts at) at stop x (y ∷ more) only_nodes nothing (bad_is {A = ScriptData} at stop wrong) (nodes_alone facts at) (nodes_refused facts at x none)
+      | inr is ↦
+          let steps = sym (nodes_next facts at is.0 x (y ∷ more) (omega arith) is.1) ∙ h in
+          let rest = lines_stop (step_of facts) 0 (at + 1) (y ∷ more) stop (omega arith) (within_bad (asking is.0) (lines_from (step_of facts) 0 (at + 1) (y ∷ more)) stop steps) in
+          stops_later (nodes_from facts at) (lines_from (step_of facts) 0 (at + 1)) (within (asking is.0)) at stop x (y ∷ more)
+          (λ others left. nodes_next facts at is.0 x others left is.1) (within_up (asking is.0)) (within_down (asking is.0)) rest
+    ]
 
-script_none : (at : ℕ) (x : List ℕ) → bytes_eq x (codes "go") ≡ false → ltb most at ≡ false → fact_of x ≡ None → Refuses (script_from at) at x
-script_none at x e in_time none = record { always = λ others some. rw (some_left (length others) some, e, in_time, none) refl }
+-- ---- whole scripts
 
-steps_up : (steps : List StepLine) → (s : ScriptData) × (with_no_facts (Ok steps) ≡ Ok s)
-steps_up steps = (record { facts = []; steps = steps }, refl)
+script_past : (count at : ℕ) (x : List ℕ) → bytes_eq x (codes "go") ≡ false → leb most count ≡ true → Refuses (script_from count at) at x
+script_past count at x e late = record { always = λ others some. rw (some_left (length others) some, e, late) refl }
 
-steps_down : (r : Result (List StepLine) ℕ) (s : ScriptData) → with_no_facts r ≡ Ok s → (steps : List StepLine) × (r ≡ Ok steps)
-steps_down r s h = let e = no_facts_ok r s h in (e.0, e.1)
+script_none : (count at : ℕ) (x : List ℕ) → bytes_eq x (codes "go") ≡ false → leb most count ≡ false → fact_of x ≡ None → Refuses (script_from count at) at x
+script_none count at x e in_time none = record { always = λ others some. rw (some_left (length others) some, e, in_time, none) refl }
 
-fact_up : (f : Fact) (s : ScriptData) → (t : ScriptData) × (with_fact f (Ok s) ≡ Ok t)
-fact_up f s = (record s { facts = f ∷ s.facts }, refl)
+go_next : (count at : ℕ) (x : List ℕ) (others : List (List ℕ)) → 0 < length others → bytes_eq x (codes "go") ≡ true → script_from count at (x ∷ others) ≡ nodes_from count (at + 1) others
+go_next count at x others some e = rw (some_left (length others) some, e) refl
 
-fact_down : (f : Fact) (r : Result ScriptData ℕ) (s : ScriptData) → with_fact f r ≡ Ok s → (t : ScriptData) × (r ≡ Ok t)
-fact_down f r s h = let e = with_fact_ok f r s h in (e.0, e.1)
-
-go_next : (at : ℕ) (x : List ℕ) (others : List (List ℕ)) → 0 < length others → bytes_eq x (codes "go") ≡ true → script_from at (x ∷ others) ≡ with_no_facts (nodes_from (at - 1) (at + 1) others)
-go_next at x others some e = rw (some_left (length others) some, e) refl
-
-script_stop : (at : ℕ) (parts : List (List ℕ)) (stop : ℕ) → 0 < length parts → script_from at parts ≡ Err stop → Stops (script_from at) at parts stop
-script_stop at [] stop some h = absurd (omega arith)
-script_stop at (x ∷ []) stop some h = stops_last (script_from at) at stop x go_nodes nothing (bad_is {A = ScriptData} at stop h) refl
-script_stop at (x ∷ y ∷ more) stop some h =
-    let next : Fact → Result ScriptData ℕ = λ f. with_fact f (script_from (at + 1) (y ∷ more)) in
-    let tried : Result ScriptData ℕ = cond (ltb most at) (Err at) (or_bad at (fact_of x) next) in
-    elim (one_of (bytes_eq x (codes "go")) (with_no_facts (nodes_from (at - 1) (at + 1) (y ∷ more))) tried (Err stop) (rw (some_left (length (y ∷ more)) (omega arith)) at h)) [
+script_stop : (count at : ℕ) (parts : List (List ℕ)) (stop : ℕ) → 0 < length parts → script_from count at parts ≡ Err stop → Stops (script_from count at) at parts stop
+script_stop count at [] stop some h = absurd (omega arith)
+script_stop count at (x ∷ []) stop some h = stops_last (script_from count at) at stop x go_nodes nothing (bad_is {A = ScriptData} at stop h) (go_nodes_alone count at)
+script_stop count at (x ∷ y ∷ more) stop some h =
+    let next : Fact → Result ScriptData ℕ = λ f. within (with_fact f) (script_from (count + 1) (at + 1) (y ∷ more)) in
+    let tried : Result ScriptData ℕ = cond (leb most count) (Err at) (or_bad at (fact_of x) next) in
+    elim (one_of (bytes_eq x (codes "go")) (nodes_from count (at + 1) (y ∷ more)) tried (Err stop) (rw (some_left (length (y ∷ more)) (omega arith)) at h)) [
       | inl go ↦
-          let rest = nodes_stop (at - 1) (at + 1) (y ∷ more) stop (omega arith) (no_facts_bad (nodes_from (at - 1) (at + 1) (y ∷ more)) stop go.1) in
-          stops_later (script_from at) (nodes_from (at - 1) (at + 1)) with_no_facts at stop x (y ∷ more) (λ others left. go_next at x others left go.0) steps_up steps_down rest
+          let rest = nodes_stop count (at + 1) (y ∷ more) stop (omega arith) go.1 in
+          stops_later (script_from count at) (nodes_from count (at + 1)) (λ r. r) at stop x (y ∷ more) (λ others left. go_next count at x others left go.0) (λ b. (b, refl)) (λ r a e. (a, e)) rest
       | inr other ↦
-          elim (one_of (ltb most at) (Err at) (or_bad at (fact_of x) next) (Err stop) other.1) [
-            | inl late ↦ stops_here (script_from at) at stop x (y ∷ more) go_nodes nothing (bad_is {A = ScriptData} at stop late.1) refl (script_past at x other.0 late.0)
+          elim (one_of (leb most count) (Err at) (or_bad at (fact_of x) next) (Err stop) other.1) [
+            | inl late ↦ stops_here (script_from count at) at stop x (y ∷ more) go_nodes nothing (bad_is {A = ScriptData} at stop late.1) (go_nodes_alone count at) (script_past count at x other.0 late.0)
             | inr time ↦
                 elim (found (fact_of x)) [
-                  | inl none ↦ stops_here (script_from at) at stop x (y ∷ more) go_nodes nothing (bad_is {A = ScriptData} at stop (rw none at time.1)) refl (script_none at x other.0 time.0 none)
+                  | inl none ↦
+                      stops_here (script_from count at) at stop x (y ∷ more) go_nodes nothing (bad_is {A = ScriptData} at stop (rw none at time.1)) (go_nodes_alone count at)
+                      (script_none count at x other.0 time.0 none)
                   | inr one ↦
-                      let rest = script_stop (at + 1) (y ∷ more) stop (omega arith) (with_fact_bad one.0 (script_from (at + 1) (y ∷ more)) stop (rw one.1 at time.1)) in
-                      let in_time : at ≤ most = ltb-false most at time.0 in
-                      stops_later (script_from at) (script_from (at + 1)) (with_fact one.0) at stop x (y ∷ more)
-                      (λ others left. script_next at x others one.0 left in_time one.1) (fact_up one.0) (fact_down one.0) rest
+                      let rest = script_stop (count + 1) (at + 1) (y ∷ more) stop (omega arith) (within_bad (with_fact one.0) (script_from (count + 1) (at + 1) (y ∷ more)) stop (rw one.1 at time.1)) in
+                      let lt : count < most = room_is most count time.0 in
+                      stops_later (script_from count at) (script_from (count + 1) (at + 1)) (within (with_fact one.0)) at stop x (y ∷ more)
+                      (λ others left. script_next count at x others one.0 left lt one.1) (within_up (with_fact one.0)) (within_down (with_fact one.0)) rest
                 ]
           ]
+    ]
+
+-- ---- the line of a roster
+
+same_rest : (x y : List ℕ) (xs ys : List (List ℕ)) → x ∷ xs ≡ y ∷ ys → (x ≡ y) × (xs ≡ ys)
+same_rest x y xs ys h = (cc, cc)
+
+-- Without the line of a roster a text stops where the reader below it does.
+plain_stop : {A : Type 0} (Is : List (List ℕ) → A → Type 0) (read : ℕ → List (List ℕ) → Result A ℕ) → Reader Is read → (x here : List ℕ) (rest before after more : List (List ℕ)) (said : A) (stop : ℕ)
+    → (0 < length rest → roster_of x ≡ None) → x ∷ rest ≡ before ++ here ∷ after → 1 + length before ≡ stop → read 1 (before ++ (more ++ end)) ≡ Ok said
+    → (0 < length after → (others : List (List ℕ)) (y : A) → 0 < length others → read 1 (before ++ here ∷ others) ≡ Ok y → ⊥)
+    → Stops (opened read) 1 (x ∷ rest) stop
+plain_stop Is read r x here rest [] after more said stop quiet all place good bad =
+    let same = same_rest x here rest after all in
+    let some : 0 < length (more ++ end) = ended more in
+    record {
+      before = [];
+      here = here;
+      after = after;
+      all = all;
+      place = place;
+      more = more;
+      said = rostered 1 said;
+      good = opened_read Is read r (more ++ end) said some good;
+      bad = λ behind others y some_others h.
+          let long : length rest ≡ length after = ap length same.1 in
+          let none : roster_of here ≡ None = sym (ap roster_of same.0) ∙ quiet (omega arith) in
+          let o = within_down (rostered 1) (read 1 (here ∷ others)) y (sym (opened_plain read here others none) ∙ h) in
+          bad behind others o.0 some_others o.1;
+    }
+plain_stop Is read r x here rest (b ∷ bs) after more said stop quiet all place good bad =
+    let same = same_rest x b rest (bs ++ here ∷ after) all in
+    let long : length rest ≡ length bs + length (here ∷ after) = ap length same.1 ∙ length-append bs (here ∷ after) in
+    let none : roster_of b ≡ None = sym (ap roster_of same.0) ∙ quiet (omega arith) in
+    record {
+      before = b ∷ bs;
+      here = here;
+      after = after;
+      all = all;
+      place = place;
+      more = more;
+      said = rostered 1 said;
+      good = opened_plain read b (bs ++ (more ++ end)) none ∙ ap (within (rostered 1)) good;
+      bad = λ behind others y some_others h.
+          let o = within_down (rostered 1) (read 1 (b ∷ (bs ++ here ∷ others))) y (sym (opened_plain read b (bs ++ here ∷ others) none) ∙ h) in
+          bad behind others o.0 some_others o.1;
+    }
+
+opened_stop : {A : Type 0} (Is : List (List ℕ) → A → Type 0) (read : ℕ → List (List ℕ) → Result A ℕ) → Reader Is read
+    → ((at : ℕ) (parts : List (List ℕ)) (stop : ℕ) → 0 < length parts → read at parts ≡ Err stop → Stops (read at) at parts stop)
+    → (parts : List (List ℕ)) (stop : ℕ) → 0 < length parts → opened read parts ≡ Err stop → Stops (opened read) 1 parts stop
+opened_stop Is read r stops [] stop some h = absurd (omega arith)
+opened_stop Is read r stops (last ∷ []) stop some h =
+    let s = stops 1 (last ∷ []) stop some (within_bad (rostered 1) (read 1 (last ∷ [])) stop (sym (opened_last read last) ∙ h)) in
+    plain_stop Is read r last s.here [] s.before s.after s.more s.said stop (λ long. absurd (omega arith)) s.all s.place s.good s.bad
+opened_stop Is read r stops (x ∷ y ∷ rest) stop some h =
+    elim (found (roster_of x)) [
+      | inl none ↦
+          let s = stops 1 (x ∷ y ∷ rest) stop some (within_bad (rostered 1) (read 1 (x ∷ y ∷ rest)) stop (sym (opened_plain read x (y ∷ rest) none) ∙ h)) in
+          plain_stop Is read r x s.here (y ∷ rest) s.before s.after s.more s.said stop (λ long. none) s.all s.place s.good s.bad
+      | inr one ↦
+          let s = stops 2 (y ∷ rest) stop (omega arith) (within_bad (rostered one.0) (read 2 (y ∷ rest)) stop (sym (opened_named read x (y ∷ rest) one.0 (omega arith) one.1) ∙ h)) in
+          stops_later (opened read) (read 2) (within (rostered one.0)) 1 stop x (y ∷ rest) (λ others left. opened_named read x others one.0 left one.1) (within_up (rostered one.0)) (within_down (rostered one.0)) s
     ]
 
 -- ---- texts
@@ -240,11 +287,13 @@ least {A} Is read text stop spelled is_read err s =
 
 least_script_line : (text : List ℕ) (stop : ℕ) → script_of text ≡ Err stop → IsLeastBadLine IsScript text stop
 least_script_line text stop h =
-    least IsScript (script_from 1) text stop (λ parts s some. script_is_spelled parts s) script_is_read h (script_stop 1 (parts_at 10 text) stop (some_parts 10 text) h)
+    least IsScript (opened (script_from 0)) text stop (rostered_is_spelled AsksSteps (script_from 0) steps_reader) (rostered_is_read AsksSteps (script_from 0) steps_reader) h
+    (opened_stop AsksSteps (script_from 0) steps_reader (script_stop 0) (parts_at 10 text) stop (some_parts 10 text) h)
 
-least_fact_line : (text : List ℕ) (stop : ℕ) → facts_of text ≡ Err stop → IsLeastBadLine IsFactList text stop
+least_fact_line : (text : List ℕ) (stop : ℕ) → facts_of text ≡ Err stop → IsLeastBadLine IsLog text stop
 least_fact_line text stop h =
-    least IsFactList (lines_from fact_of most 1) text stop fact_list_is_spelled fact_list_is_read h (lines_stop fact_of most 1 (parts_at 10 text) stop (some_parts 10 text) h)
+    least IsLog (opened (lines_from fact_of 0)) text stop (rostered_is_spelled AreFacts (lines_from fact_of 0) facts_reader) (rostered_is_read AreFacts (lines_from fact_of 0) facts_reader) h
+    (opened_stop AreFacts (lines_from fact_of 0) facts_reader (lines_stop fact_of 0) (parts_at 10 text) stop (some_parts 10 text) h)
 
 -- lines that begin a good text do so from their own beginning on
 begins_before : {A : Type 0} (Is : List (List ℕ) → A → Type 0) (lines : List (List ℕ)) (n m : ℕ) → n ≤ m → Begins Is (take m lines) → Begins Is (take n lines)
@@ -274,4 +323,4 @@ pub bad_script_line_is_least : BadScriptLineIsLeast
 bad_script_line_is_least text stop = (least_script_line text stop, reported IsScript text stop (script_of text) (λ s. (scripts_are_spelled text s).0) (least_script_line text))
 
 pub bad_fact_line_is_least : BadFactLineIsLeast
-bad_fact_line_is_least text stop = (least_fact_line text stop, reported IsFactList text stop (facts_of text) (λ facts. (fact_lists_are_spelled text facts).0) (least_fact_line text))
+bad_fact_line_is_least text stop = (least_fact_line text stop, reported IsLog text stop (facts_of text) (λ log. (logs_are_spelled text log).0) (least_fact_line text))

@@ -1,22 +1,23 @@
 -- Fact lines are read exactly where they are spelled.
-use Rattle.std.proofs.Common.{◌≡◌, ℕ, ◌≤◌, inl, inr, Bool, true, false, cond, List, [], ◌∷◌, Option, Some, None, codes, refl, sym, ap, ◌∙◌, subst, arith}
+use Rattle.std.proofs.Common.{◌≡◌, ℕ, ◌≤◌, ◌⊎◌, inl, inr, Bool, true, false, cond, eqb, List, [], ◌∷◌, ◌++◌, map, length, Option, Some, None, codes, refl, sym, ap, ◌∙◌, subst, arith}
 use Rattle.std.specs.Prelude.{bytes_eq}
 use Rattle.std.specs.Fmt.{decimal}
 use Rattle.std.proofs.lemmas.Bool.Decides.{nat_tests}
-use Rattle.redo_core.specs.Data.{RecordData, CutData, AdvanceData, record_of, cut_of, advance_of}
-use Rattle.redo_core.specs.Shape.{max_number, record_fault, cut_fault, advance_fault}
+use Rattle.redo_core.specs.Data.{RecordData, CutData, AdvanceData, record_with, cut_of, advance_of}
+use Rattle.redo_core.specs.Shape.{max_number, max_readers, record_fault, cut_fault, advance_fault}
 use Rattle.redo_core.specs.declared.shapes.ShapeFault.{ShapeFault}
 use Rattle.redo_core.specs.declared.facts.Fact.{Fact}
 use Rattle.redo_core.specs.declared.facts.Fact.TheVariants.{Record, Cut, Advance}
-use Rattle.script_text.specs.Number.{number_of}
 use Rattle.script_text.specs.Parts.{◌>>=◌, parts_at}
-use Rattle.script_text.specs.FactLine.{unless, shaped, writes_of, record_line, cut_line, advance_line, fact_line, fact_of}
+use Rattle.script_text.specs.Fields.{numbers_of, of_two, of_three, of_five}
+use Rattle.script_text.specs.FactLine.{Contents, contents, unless, shaped, contents_of, record_line, cut_line, advance_line, fact_line, fact_of}
 use Rattle.script_text.specs.Laws.{FactLinesAreSpelled}
-use Rattle.script_text.specs.Spelled.{SpellsWrites, SpellsRecord, SpellsCut, SpellsAdvance, SpellsFact}
-use Rattle.script_text.proofs.Numbers.{numbers_are_decimals, decimal_is_read, lacks_space}
+use Rattle.script_text.specs.Spelled.{SpellsForm, SpellsRecord, SpellsCut, SpellsAdvance, SpellsFact}
+use Rattle.script_text.proofs.Numbers.{decimal_is_read, lacks_space}
+use Rattle.script_text.proofs.Forms.{AreLimits, AreWithin, two_is, three_is, five_is, numbers_are, numbers_are_read, numbers_lack_space, said_form, form_fields}
 use Rattle.script_text.proofs.Options.{some_is, bind_some, either, true_is}
-use Rattle.script_text.proofs.Split.{parts_joined, joined_parts}
-use Rattle.script_text.proofs.WriteSpelling.{writes_are_spelled, writes_are_read, writes_lack_space}
+use Rattle.script_text.proofs.Split.{AllLack, parts_joined, joined_parts}
+use Rattle.script_text.proofs.PatchSpelling.{contents_are_spelled, contents_are_read, contents_lack_space}
 
 -- ---- what is read is spelled
 
@@ -36,115 +37,95 @@ shaped_advance : (a : AdvanceData) (f : Fact) → shaped (Advance a) ≡ Some f 
 unfolding shaped
 shaped_advance a f h = unless_some (advance_fault a) (Advance a) f h
 
-six : (a b c d e w a' b' c' d' e' : List ℕ) → a ≡ a' → b ≡ b' → c ≡ c' → d ≡ d' → e ≡ e' → a ∷ b ∷ c ∷ d ∷ e ∷ w ∷ [] ≡ a' ∷ b' ∷ c' ∷ d' ∷ e' ∷ w ∷ []
-six a b c d e w a' b' c' d' e' p q r s t = cc
+abbrev record_limits : List ℕ
+record_limits = 65535 ∷ max_number ∷ max_number ∷ 65535 ∷ max_number ∷ []
 
-three : (a b c a' b' c' : List ℕ) → a ≡ a' → b ≡ b' → c ≡ c' → a ∷ b ∷ c ∷ [] ≡ a' ∷ b' ∷ c' ∷ []
-three a b c a' b' c' p q r = cc
+abbrev cut_limits : List ℕ
+cut_limits = 65535 ∷ max_number ∷ max_number ∷ []
 
-two : (a b a' b' : List ℕ) → a ≡ a' → b ≡ b' → a ∷ b ∷ [] ≡ a' ∷ b' ∷ []
-two a b a' b' p q = cc
+abbrev point_limits : List ℕ
+point_limits = 65535 ∷ max_number ∷ []
 
--- the fields spell the record
-record SaysRecord (fields : List (List ℕ)) (r : RecordData) : Type 0 where
-  writes : List ℕ
-  all : fields ≡ decimal r.epoch ∷ decimal r.number ∷ decimal r.back ∷ decimal r.page ∷ decimal r.block_back ∷ writes ∷ []
-  said : SpellsWrites writes r.writes
-  epoch : r.epoch ≤ 65535
-  page : r.page ≤ 65535
-  shape : record_fault r ≡ None
+abbrev reader_limits : List ℕ
+reader_limits = 65535 ∷ max_number ∷ max_readers ∷ []
 
-record_is : (fields : List (List ℕ)) (f : Fact) → record_line fields ≡ Some f → (r : RecordData) × (f ≡ Record r) × SaysRecord fields r
-unfolding record_line
-record_is [] f h = absurd cc
-record_is (a ∷ []) f h = absurd cc
-record_is (a ∷ b ∷ []) f h = absurd cc
-record_is (a ∷ b ∷ c ∷ []) f h = absurd cc
-record_is (a ∷ b ∷ c ∷ d ∷ []) f h = absurd cc
-record_is (a ∷ b ∷ c ∷ d ∷ e ∷ []) f h = absurd cc
-record_is (a ∷ b ∷ c ∷ d ∷ e ∷ w ∷ x ∷ rest) f h = absurd cc
-record_is (a ∷ b ∷ c ∷ d ∷ e ∷ w ∷ []) f h =
-    let o1 = bind_some (number_of 65535 a) (λ n1. number_of max_number b >>= (λ n2. number_of max_number c >>= (λ n3. number_of 65535 d >>= (λ n4. number_of max_number e >>= (λ n5. writes_of w >>= (λ ws. shaped (Record (record_of n1 n2 n3 n4 n5 ws)))))))) f h in
-    let o2 = bind_some (number_of max_number b) (λ n2. number_of max_number c >>= (λ n3. number_of 65535 d >>= (λ n4. number_of max_number e >>= (λ n5. writes_of w >>= (λ ws. shaped (Record (record_of o1.0 n2 n3 n4 n5 ws))))))) f o1.2 in
-    let o3 = bind_some (number_of max_number c) (λ n3. number_of 65535 d >>= (λ n4. number_of max_number e >>= (λ n5. writes_of w >>= (λ ws. shaped (Record (record_of o1.0 o2.0 n3 n4 n5 ws)))))) f o2.2 in
-    let o4 = bind_some (number_of 65535 d) (λ n4. number_of max_number e >>= (λ n5. writes_of w >>= (λ ws. shaped (Record (record_of o1.0 o2.0 o3.0 n4 n5 ws))))) f o3.2 in
-    let o5 = bind_some (number_of max_number e) (λ n5. writes_of w >>= (λ ws. shaped (Record (record_of o1.0 o2.0 o3.0 o4.0 n5 ws)))) f o4.2 in
-    let o6 = bind_some (writes_of w) (λ ws. shaped (Record (record_of o1.0 o2.0 o3.0 o4.0 o5.0 ws))) f o5.2 in
-    let n1 = (numbers_are_decimals 65535 o1.0 a (omega arith)).0 o1.1 in
-    let n2 = (numbers_are_decimals max_number o2.0 b (omega arith)).0 o2.1 in
-    let n3 = (numbers_are_decimals max_number o3.0 c (omega arith)).0 o3.1 in
-    let n4 = (numbers_are_decimals 65535 o4.0 d (omega arith)).0 o4.1 in
-    let n5 = (numbers_are_decimals max_number o5.0 e (omega arith)).0 o5.1 in
-    let whole = shaped_record (record_of o1.0 o2.0 o3.0 o4.0 o5.0 o6.0) f o6.2 in
-    (record_of o1.0 o2.0 o3.0 o4.0 o5.0 o6.0, whole.1, record { writes = w; all = six a b c d e w _ _ _ _ _ n1.0 n2.0 n3.0 n4.0 n5.0; said = writes_are_spelled w o6.0 o6.1; epoch = n1.1; page = n4.1; shape = whole.0 })
+record_small : AreLimits record_limits
+record_small = (omega arith, (omega arith, (omega arith, (omega arith, (omega arith, tt)))))
 
-record SaysCut (fields : List (List ℕ)) (c : CutData) : Type 0 where
-  all : fields ≡ decimal c.epoch ∷ decimal c.lo ∷ decimal c.hi ∷ []
-  epoch : c.epoch ≤ 65535
-  shape : cut_fault c ≡ None
+cut_small : AreLimits cut_limits
+cut_small = (omega arith, (omega arith, (omega arith, tt)))
 
-cut_is : (fields : List (List ℕ)) (f : Fact) → cut_line fields ≡ Some f → (c : CutData) × (f ≡ Cut c) × SaysCut fields c
-unfolding cut_line
-cut_is [] f h = absurd cc
-cut_is (a ∷ []) f h = absurd cc
-cut_is (a ∷ b ∷ []) f h = absurd cc
-cut_is (a ∷ b ∷ c ∷ x ∷ rest) f h = absurd cc
-cut_is (a ∷ b ∷ c ∷ []) f h =
-    let o1 = bind_some (number_of 65535 a) (λ n1. number_of max_number b >>= (λ n2. number_of max_number c >>= (λ n3. shaped (Cut (cut_of n1 n2 n3))))) f h in
-    let o2 = bind_some (number_of max_number b) (λ n2. number_of max_number c >>= (λ n3. shaped (Cut (cut_of o1.0 n2 n3)))) f o1.2 in
-    let o3 = bind_some (number_of max_number c) (λ n3. shaped (Cut (cut_of o1.0 o2.0 n3))) f o2.2 in
-    let n1 = (numbers_are_decimals 65535 o1.0 a (omega arith)).0 o1.1 in
-    let n2 = (numbers_are_decimals max_number o2.0 b (omega arith)).0 o2.1 in
-    let n3 = (numbers_are_decimals max_number o3.0 c (omega arith)).0 o3.1 in
-    let whole = shaped_cut (cut_of o1.0 o2.0 o3.0) f o3.2 in
-    (cut_of o1.0 o2.0 o3.0, whole.1, record { all = three a b c _ _ _ n1.0 n2.0 n3.0; epoch = n1.1; shape = whole.0 })
+point_small : AreLimits point_limits
+point_small = (omega arith, (omega arith, tt))
 
-record SaysAdvance (fields : List (List ℕ)) (a : AdvanceData) : Type 0 where
-  all : fields ≡ decimal a.epoch ∷ decimal a.point ∷ []
-  epoch : a.epoch ≤ 65535
-  shape : advance_fault a ≡ None
+reader_small : AreLimits reader_limits
+reader_small = (omega arith, (omega arith, (omega arith, tt)))
 
-advance_is : (fields : List (List ℕ)) (f : Fact) → advance_line fields ≡ Some f → (a : AdvanceData) × (f ≡ Advance a) × SaysAdvance fields a
-unfolding advance_line
-advance_is [] f h = absurd cc
-advance_is (a ∷ []) f h = absurd cc
-advance_is (a ∷ b ∷ x ∷ rest) f h = absurd cc
-advance_is (a ∷ b ∷ []) f h =
-    let o1 = bind_some (number_of 65535 a) (λ n1. number_of max_number b >>= (λ n2. shaped (Advance (advance_of n1 n2)))) f h in
-    let o2 = bind_some (number_of max_number b) (λ n2. shaped (Advance (advance_of o1.0 n2))) f o1.2 in
-    let n1 = (numbers_are_decimals 65535 o1.0 a (omega arith)).0 o1.1 in
-    let n2 = (numbers_are_decimals max_number o2.0 b (omega arith)).0 o2.1 in
-    let whole = shaped_advance (advance_of o1.0 o2.0) f o2.2 in
-    (advance_of o1.0 o2.0, whole.1, record { all = two a b _ _ n1.0 n2.0; epoch = n1.1; shape = whole.0 })
+abbrev made_record : Contents → List ℕ → Option Fact
+made_record c numbers = of_five (λ epoch number back page block_back. shaped (Record (record_with epoch number back page block_back c.init c.patches))) numbers
 
--- a line whose fields are these
-line_is : (line word : List ℕ) (fields : List (List ℕ)) (key : List ℕ) (rest said : List (List ℕ)) → parts_at 32 line ≡ word ∷ rest → word ≡ key → rest ≡ said → parts_at 32 line ≡ key ∷ said
-line_is line word fields key rest said p q r = p ∙ ap (λ (w : List ℕ). w ∷ rest) q ∙ ap (λ (t : List (List ℕ)). key ∷ t) r
+abbrev made_cut : List ℕ → Option Fact
+made_cut numbers = of_three (λ epoch lo hi. shaped (Cut (cut_of epoch lo hi))) numbers
+
+abbrev made_advance : List ℕ → Option Fact
+made_advance numbers = of_two (λ epoch point. shaped (Advance (advance_of epoch 1 point))) numbers
+
+abbrev made_of_reader : List ℕ → Option Fact
+made_of_reader numbers = of_three (λ epoch point reader. shaped (Advance (advance_of epoch reader point))) numbers
 
 record_spelled : (line : List ℕ) (fields : List (List ℕ)) (f : Fact) → parts_at 32 line ≡ codes "rec" ∷ fields → record_line fields ≡ Some f → SpellsFact line f
-record_spelled line fields f e h =
-    let is = record_is fields f h in
-    let r = is.0 in
-    let s = is.2 in
-    let all = parts_joined 32 line _ (e ∙ ap (λ (t : List (List ℕ)). codes "rec" ∷ t) s.all) in
-    let spelled : SpellsRecord line r = record { writes = s.writes; all = all; said = s.said; epoch = s.epoch; page = s.page; shape = s.shape } in
-    subst (SpellsFact line) (sym is.1) spelled
+unfolding record_line
+record_spelled line [] f p h = absurd cc
+record_spelled line (a ∷ []) f p h = absurd cc
+record_spelled line (a ∷ b ∷ []) f p h = absurd cc
+record_spelled line (a ∷ b ∷ c ∷ []) f p h = absurd cc
+record_spelled line (a ∷ b ∷ c ∷ d ∷ []) f p h = absurd cc
+record_spelled line (a ∷ b ∷ c ∷ d ∷ e ∷ []) f p h = absurd cc
+record_spelled line (a ∷ b ∷ c ∷ d ∷ e ∷ w ∷ x ∷ rest) f p h = absurd cc
+record_spelled line (a ∷ b ∷ c ∷ d ∷ e ∷ w ∷ []) f p h =
+    let five : List (List ℕ) = a ∷ b ∷ c ∷ d ∷ e ∷ [] in
+    let o1 = bind_some (numbers_of record_limits five) (λ ns. contents_of w >>= (λ k. made_record k ns)) f h in
+    let o2 = bind_some (contents_of w) (λ k. made_record k o1.0) f o1.2 in
+    let k : Contents = o2.0 in
+    let is = five_is (λ epoch number back page block_back. shaped (Record (record_with epoch number back page block_back k.init k.patches))) o1.0 f o2.2 in
+    let ns = numbers_are record_limits five o1.0 record_small o1.1 in
+    let said : five ≡ map decimal (is.0 ∷ is.1 ∷ is.2 ∷ is.3 ∷ is.4 ∷ []) = ns.0 ∙ ap (map decimal) is.5 in
+    let limited : AreWithin (is.0 ∷ is.1 ∷ is.2 ∷ is.3 ∷ is.4 ∷ []) record_limits = subst (λ (t : List ℕ). AreWithin t record_limits) is.5 ns.1 in
+    let r : RecordData = record_with is.0 is.1 is.2 is.3 is.4 k.init k.patches in
+    let whole = shaped_record r f is.6 in
+    let all = parts_joined 32 line _ (p ∙ ap (λ (t : List (List ℕ)). codes "rec" ∷ (t ++ (w ∷ []))) said) in
+    let spelled : SpellsRecord line r = record { text = w; all = all; said = contents_are_spelled w k o2.1; epoch = limited.0; page = limited.1.1.1.0; shape = whole.0 } in
+    subst (SpellsFact line) (sym whole.1) spelled
 
 cut_spelled : (line : List ℕ) (fields : List (List ℕ)) (f : Fact) → parts_at 32 line ≡ codes "cut" ∷ fields → cut_line fields ≡ Some f → SpellsFact line f
-cut_spelled line fields f e h =
-    let is = cut_is fields f h in
-    let s = is.2 in
-    let all = parts_joined 32 line _ (e ∙ ap (λ (t : List (List ℕ)). codes "cut" ∷ t) s.all) in
-    let spelled : SpellsCut line is.0 = record { all = all; epoch = s.epoch; shape = s.shape } in
-    subst (SpellsFact line) (sym is.1) spelled
+unfolding cut_line
+cut_spelled line fields f p h =
+    let o = bind_some (numbers_of cut_limits fields) made_cut f h in
+    let is = three_is (λ epoch lo hi. shaped (Cut (cut_of epoch lo hi))) o.0 f o.2 in
+    let s = subst (SpellsForm line (codes "cut") cut_limits) is.3 (said_form line (codes "cut") cut_limits fields o.0 cut_small p o.1) in
+    let whole = shaped_cut (cut_of is.0 is.1 is.2) f is.4 in
+    let spelled : SpellsCut line (cut_of is.0 is.1 is.2) = record { all = s.all; epoch = s.limited.0; shape = whole.0 } in
+    subst (SpellsFact line) (sym whole.1) spelled
 
 advance_spelled : (line : List ℕ) (fields : List (List ℕ)) (f : Fact) → parts_at 32 line ≡ codes "min" ∷ fields → advance_line fields ≡ Some f → SpellsFact line f
-advance_spelled line fields f e h =
-    let is = advance_is fields f h in
-    let s = is.2 in
-    let all = parts_joined 32 line _ (e ∙ ap (λ (t : List (List ℕ)). codes "min" ∷ t) s.all) in
-    let spelled : SpellsAdvance line is.0 = record { all = all; epoch = s.epoch; shape = s.shape } in
-    subst (SpellsFact line) (sym is.1) spelled
+unfolding advance_line
+advance_spelled line fields f p h =
+    elim (either (eqb (length fields) 2) (numbers_of point_limits fields >>= made_advance) (numbers_of reader_limits fields >>= made_of_reader) f h) [
+      | inl two ↦
+          let o = bind_some (numbers_of point_limits fields) made_advance f two.1 in
+          let is = two_is (λ epoch point. shaped (Advance (advance_of epoch 1 point))) o.0 f o.2 in
+          let s = subst (SpellsForm line (codes "min") point_limits) is.2 (said_form line (codes "min") point_limits fields o.0 point_small p o.1) in
+          let whole = shaped_advance (advance_of is.0 1 is.1) f is.3 in
+          let spelled : SpellsAdvance line (advance_of is.0 1 is.1) = record { all = inr (refl, s.all); epoch = s.limited.0; shape = whole.0 } in
+          subst (SpellsFact line) (sym whole.1) spelled
+      | inr three ↦
+          let o = bind_some (numbers_of reader_limits fields) made_of_reader f three.1 in
+          let is = three_is (λ epoch point reader. shaped (Advance (advance_of epoch reader point))) o.0 f o.2 in
+          let s = subst (SpellsForm line (codes "min") reader_limits) is.3 (said_form line (codes "min") reader_limits fields o.0 reader_small p o.1) in
+          let whole = shaped_advance (advance_of is.0 is.2 is.1) f is.4 in
+          let spelled : SpellsAdvance line (advance_of is.0 is.2 is.1) = record { all = inl s.all; epoch = s.limited.0; shape = whole.0 } in
+          subst (SpellsFact line) (sym whole.1) spelled
+    ]
 
 nothing : (b : Bool) (o : Option Fact) (f : Fact) → cond b o None ≡ Some f → (b ≡ true) × (o ≡ Some f)
 nothing true o f h = (refl, h)
@@ -168,50 +149,69 @@ fact_spelled line (word ∷ fields) f e h =
 
 -- ---- what is spelled is read
 
--- the numbers of a shaped record are in their range
+-- the numbers of a shaped fact are in their range
 record_numbers : (r : RecordData) → record_fault r ≡ None → (r.number ≤ max_number) × (r.back ≤ max_number) × (r.block_back ≤ max_number)
 record_numbers r h = grind (arith, nat_tests)
 
 cut_numbers : (c : CutData) → cut_fault c ≡ None → (c.lo ≤ max_number) × (c.hi ≤ max_number)
 cut_numbers c h = grind (arith, nat_tests)
 
-advance_numbers : (a : AdvanceData) → advance_fault a ≡ None → a.point ≤ max_number
+advance_numbers : (a : AdvanceData) → advance_fault a ≡ None → (a.point ≤ max_number) × (a.reader ≤ max_readers)
 advance_numbers a h = grind (arith, nat_tests)
 
 shaped_none : (f : Fact) (o : Option ShapeFault) → o ≡ None → unless o f ≡ Some f
 shaped_none f o e = rw e refl
 
+record_fields : (line : List ℕ) (r : RecordData) (s : SpellsRecord line r) → AreWithin (r.epoch ∷ r.number ∷ r.back ∷ r.page ∷ r.block_back ∷ []) record_limits
+    → parts_at 32 line ≡ codes "rec" ∷ decimal r.epoch ∷ decimal r.number ∷ decimal r.back ∷ decimal r.page ∷ decimal r.block_back ∷ s.text ∷ []
+record_fields line r s h =
+    let l : AllLack 32 (map decimal (r.epoch ∷ r.number ∷ r.back ∷ r.page ∷ r.block_back ∷ [])) = numbers_lack_space record_limits (r.epoch ∷ r.number ∷ r.back ∷ r.page ∷ r.block_back ∷ []) record_small h in
+    let text = contents_lack_space s.text r.init r.patches s.said in
+    let all : AllLack 32 (codes "rec" ∷ decimal r.epoch ∷ decimal r.number ∷ decimal r.back ∷ decimal r.page ∷ decimal r.block_back ∷ s.text ∷ []) =
+    (refl, (l.0, (l.1.0, (l.1.1.0, (l.1.1.1.0, (l.1.1.1.1.0, (text, tt))))))) in
+    ap (parts_at 32) s.all ∙ joined_parts 32 (codes "rec") (decimal r.epoch ∷ decimal r.number ∷ decimal r.back ∷ decimal r.page ∷ decimal r.block_back ∷ s.text ∷ []) all
+
 record_is_read : (line : List ℕ) (r : RecordData) → SpellsRecord line r → fact_of line ≡ Some (Record r)
 unfolding fact_line record_line shaped
 record_is_read line r s =
-    let numbers = record_numbers r s.shape in
-    let fields = ap (parts_at 32) s.all ∙ joined_parts 32 (codes "rec") (decimal r.epoch ∷ decimal r.number ∷ decimal r.back ∷ decimal r.page ∷ decimal r.block_back ∷ s.writes ∷ []) (refl, (lacks_space r.epoch (omega (arith, s.epoch)), (lacks_space r.number numbers.0, (lacks_space r.back numbers.1, (lacks_space r.page (omega (arith, s.page)), (lacks_space r.block_back numbers.2, (writes_lack_space s.writes r.writes s.said, tt))))))) in
-    let n1 = decimal_is_read 65535 r.epoch (omega arith) s.epoch in
-    let n2 = decimal_is_read max_number r.number (omega arith) numbers.0 in
-    let n3 = decimal_is_read max_number r.back (omega arith) numbers.1 in
-    let n4 = decimal_is_read 65535 r.page (omega arith) s.page in
-    let n5 = decimal_is_read max_number r.block_back (omega arith) numbers.2 in
-    let ws = writes_are_read s.writes r.writes s.said in
-    ap fact_line fields ∙ rw (n1, n2, n3, n4, n5, ws) (shaped_none (Record r) (record_fault r) s.shape)
+    let most = record_numbers r s.shape in
+    let limited : AreWithin (r.epoch ∷ r.number ∷ r.back ∷ r.page ∷ r.block_back ∷ []) record_limits = (s.epoch, (most.0, (most.1, (s.page, (most.2, tt))))) in
+    let n = numbers_are_read record_limits (r.epoch ∷ r.number ∷ r.back ∷ r.page ∷ r.block_back ∷ []) record_small limited in
+    let k = contents_are_read s.text r.init r.patches s.said in
+    let read : Option (List ℕ) → Option Fact = λ o. o >>= (λ ns. contents_of s.text >>= (λ c. made_record c ns)) in
+    let made : Option Contents → Option Fact = λ o. o >>= (λ c. made_record c (r.epoch ∷ r.number ∷ r.back ∷ r.page ∷ r.block_back ∷ [])) in
+    ap fact_line (record_fields line r s limited) ∙ ap read n ∙ ap made k ∙ shaped_none (Record r) (record_fault r) s.shape
 
 cut_is_read : (line : List ℕ) (c : CutData) → SpellsCut line c → fact_of line ≡ Some (Cut c)
 unfolding fact_line cut_line shaped
 cut_is_read line c s =
-    let numbers = cut_numbers c s.shape in
-    let fields = ap (parts_at 32) s.all ∙ joined_parts 32 (codes "cut") (decimal c.epoch ∷ decimal c.lo ∷ decimal c.hi ∷ []) (refl, (lacks_space c.epoch (omega (arith, s.epoch)), (lacks_space c.lo numbers.0, (lacks_space c.hi numbers.1, tt)))) in
-    let n1 = decimal_is_read 65535 c.epoch (omega arith) s.epoch in
-    let n2 = decimal_is_read max_number c.lo (omega arith) numbers.0 in
-    let n3 = decimal_is_read max_number c.hi (omega arith) numbers.1 in
-    ap fact_line fields ∙ rw (n1, n2, n3) (shaped_none (Cut c) (cut_fault c) s.shape)
+    let most = cut_numbers c s.shape in
+    let form : SpellsForm line (codes "cut") cut_limits (c.epoch ∷ c.lo ∷ c.hi ∷ []) = record { all = s.all; limited = (s.epoch, (most.0, (most.1, tt))) } in
+    let f = form_fields line (codes "cut") cut_limits (c.epoch ∷ c.lo ∷ c.hi ∷ []) cut_small form refl in
+    ap fact_line f.fields ∙ ap (λ (o : Option (List ℕ)). o >>= made_cut) f.numbers ∙ shaped_none (Cut c) (cut_fault c) s.shape
+
+point_is_read : (line : List ℕ) (a : AdvanceData) → a.reader ≡ 1 → SpellsForm line (codes "min") point_limits (a.epoch ∷ a.point ∷ []) → advance_fault a ≡ None → fact_of line ≡ Some (Advance a)
+unfolding fact_line advance_line shaped
+point_is_read line a one form shape =
+    let f = form_fields line (codes "min") point_limits (a.epoch ∷ a.point ∷ []) point_small form refl in
+    let same : advance_of a.epoch 1 a.point ≡ a = ap (λ (n : ℕ). advance_of a.epoch n a.point) (sym one) in
+    let sound : unless (advance_fault (advance_of a.epoch 1 a.point)) (Advance (advance_of a.epoch 1 a.point)) ≡ Some (Advance a) =
+    ap (λ (b : AdvanceData). unless (advance_fault b) (Advance b)) same ∙ shaped_none (Advance a) (advance_fault a) shape in
+    ap fact_line f.fields ∙ ap (λ (o : Option (List ℕ)). o >>= made_advance) f.numbers ∙ sound
+
+reader_is_read : (line : List ℕ) (a : AdvanceData) → SpellsForm line (codes "min") reader_limits (a.epoch ∷ a.point ∷ a.reader ∷ []) → advance_fault a ≡ None → fact_of line ≡ Some (Advance a)
+unfolding fact_line advance_line shaped
+reader_is_read line a form shape =
+    let f = form_fields line (codes "min") reader_limits (a.epoch ∷ a.point ∷ a.reader ∷ []) reader_small form refl in
+    ap fact_line f.fields ∙ ap (λ (o : Option (List ℕ)). o >>= made_of_reader) f.numbers ∙ shaped_none (Advance a) (advance_fault a) shape
 
 advance_is_read : (line : List ℕ) (a : AdvanceData) → SpellsAdvance line a → fact_of line ≡ Some (Advance a)
-unfolding fact_line advance_line shaped
 advance_is_read line a s =
-    let point = advance_numbers a s.shape in
-    let fields = ap (parts_at 32) s.all ∙ joined_parts 32 (codes "min") (decimal a.epoch ∷ decimal a.point ∷ []) (refl, (lacks_space a.epoch (omega (arith, s.epoch)), (lacks_space a.point point, tt))) in
-    let n1 = decimal_is_read 65535 a.epoch (omega arith) s.epoch in
-    let n2 = decimal_is_read max_number a.point (omega arith) point in
-    ap fact_line fields ∙ rw (n1, n2) (shaped_none (Advance a) (advance_fault a) s.shape)
+    let most = advance_numbers a s.shape in
+    elim s.all [
+      | inl named ↦ reader_is_read line a (record { all = named; limited = (s.epoch, (most.0, (most.1, tt))) }) s.shape
+      | inr first ↦ point_is_read line a first.0 (record { all = first.1; limited = (s.epoch, (most.0, tt)) }) s.shape
+    ]
 
 fact_is_read : (line : List ℕ) (f : Fact) → SpellsFact line f → fact_of line ≡ Some f
 fact_is_read line (Record r) s = record_is_read line r s

@@ -1,10 +1,13 @@
 pub mod Options
 pub mod Split
 pub mod Numbers
-pub mod WriteSpelling
+pub mod Forms
+pub mod Loops
+pub mod PatchSpelling
+pub mod StepSpelling
 pub mod FactSpelling
 pub mod FactTexts
-pub mod StepSpelling
+pub mod Results
 pub mod Scripts
+pub mod Rosters
 pub mod BadLines
-pub mod Loops

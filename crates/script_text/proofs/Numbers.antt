@@ -40,7 +40,7 @@ undigit_at word i lt e = grind (arith, common_steps)
 pub value_at : (n : ℕ) (word : List ℕ) (i : ℕ) → i < length word → value_from n (drop i word) ≡ value_from (10 * n + (get_or word i 0 - 48)) (drop (i + 1) word)
 value_at n word i lt = grind (arith, common_steps)
 
-none_or : (b : Bool) (o : Option ℕ) (n : ℕ) → cond b None o ≡ Some n → (b ≡ false) × (o ≡ Some n)
+pub none_or : (b : Bool) (o : Option ℕ) (n : ℕ) → cond b None o ≡ Some n → (b ≡ false) × (o ≡ Some n)
 none_or true o n e = absurd cc
 none_or false o n e = (refl, e)
 

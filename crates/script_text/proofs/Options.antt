@@ -26,3 +26,8 @@ true_is x y h = grind (arith, common_steps, bytes_eq-Decides x y, h)
 pub no_test : (b : Bool) → (b ≡ true → ⊥) → b ≡ false
 no_test true h = absurd (h refl)
 no_test false h = refl
+
+-- a test that must fail
+pub tested : {A : Type 0} (b : Bool) (o : Option A) (y : A) → cond b None o ≡ Some y → (b ≡ false) × (o ≡ Some y)
+tested true o y h = absurd cc
+tested false o y h = (refl, h)

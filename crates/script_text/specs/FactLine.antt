@@ -1,42 +1,81 @@
 -- The fact of a line, by the line's fields.
-use Rattle.std.specs.Prelude.{ℕ, List, [], ◌∷◌, Option, Some, None, Result, Ok, Err, codes, bytes_eq, if◌then◌else◌}
+use Rattle.std.specs.Prelude.{ℕ, ◌==◌, Bool, true, false, List, [], ◌∷◌, length, Option, Some, None, Result, Ok, Err, codes, bytes_eq, if◌then◌else◌}
 use Rattle.hex.specs.Hex.{decode_of}
 use Rattle.hex.specs.declared.error.FromHexError.{FromHexError}
-use Rattle.redo_core.specs.Data.{WriteData, record_of, cut_of, advance_of}
-use Rattle.redo_core.specs.Shape.{max_number, record_fault, cut_fault, advance_fault}
+use Rattle.redo_core.specs.Data.{record_with, cut_of, advance_of}
+use Rattle.redo_core.specs.Shape.{max_number, max_readers, record_fault, cut_fault, advance_fault}
 use Rattle.redo_core.specs.declared.shapes.ShapeFault.{ShapeFault}
+use Rattle.redo_core.specs.declared.patches.Patch.{Patch}
+use Rattle.redo_core.specs.declared.patches.Patch.TheVariants.{Bytes, Fill}
 use Rattle.redo_core.specs.declared.facts.Fact.{Fact}
 use Rattle.redo_core.specs.declared.facts.Fact.TheVariants.{Record, Cut, Advance}
 use Rattle.script_text.specs.Number.{number_of}
 use Rattle.script_text.specs.Parts.{◌>>=◌, parts_at}
+use Rattle.script_text.specs.Fields.{numbers_of, of_two, of_three, of_five}
 
--- at least one byte
-abbrev pub not_empty : Result (List ℕ) FromHexError → Option (List ℕ)
-not_empty (Err e) = None
-not_empty (Ok []) = None
-not_empty (Ok (b ∷ bs)) = Some (b ∷ bs)
+-- ---- patches
 
--- an offset and the bytes behind it, as 0:6161
-unfoldable pub write_from : List (List ℕ) → Option WriteData
-write_from (offset ∷ digits ∷ []) = do
+-- the bytes of hexadecimal digits
+abbrev pub decoded : Result (List ℕ) FromHexError → Option (List ℕ)
+decoded (Ok bytes) = Some bytes
+decoded (Err e) = None
+
+-- at least one byte, from an offset on
+abbrev pub write_at : List ℕ → List ℕ → Option Patch
+write_at offset [] = None
+write_at offset (b ∷ bs) = number_of 65535 offset >>= (λ o. Some (Bytes (record { offset = o; bytes = b ∷ bs })))
+
+-- just one byte, from an offset on, over a length
+abbrev pub fill_at : List ℕ → List ℕ → List ℕ → Option Patch
+fill_at offset len (byte ∷ []) = do
   o ← number_of 65535 offset
-  bytes ← not_empty (decode_of digits)
-  Some (record { offset = o; bytes = bytes })
-write_from _ = None
+  l ← number_of 4096 len
+  Some (Fill o l byte)
+fill_at offset len _ = None
 
-abbrev pub write_of : List ℕ → Option WriteData
-write_of text = write_from (parts_at 58 text)
+-- the patch of bytes at a place, as 0 or 0*16
+abbrev pub patch_at : List (List ℕ) → List ℕ → Option Patch
+patch_at (offset ∷ []) bytes = write_at offset bytes
+patch_at (offset ∷ len ∷ []) bytes = fill_at offset len bytes
+patch_at _ bytes = None
 
-abbrev pub each_write : List (List ℕ) → Option (List WriteData)
-each_write [] = Some []
-each_write (text ∷ texts) = do
-  w ← write_of text
-  ws ← each_write texts
-  Some (w ∷ ws)
+-- a place, a colon and hexadecimal digits, as 0:6161 or 0*16:ff
+unfoldable pub patch_from : List (List ℕ) → Option Patch
+patch_from (place ∷ digits ∷ []) = decoded (decode_of digits) >>= patch_at (parts_at 42 place)
+patch_from _ = None
 
--- no writes, or writes between commas
-unfoldable pub writes_of : List ℕ → Option (List WriteData)
-writes_of text = if bytes_eq text (codes "-") then Some [] else each_write (parts_at 44 text)
+abbrev pub patch_of : List ℕ → Option Patch
+patch_of text = patch_from (parts_at 58 text)
+
+abbrev pub each_patch : List (List ℕ) → Option (List Patch)
+each_patch [] = Some []
+each_patch (text ∷ texts) = do
+  p ← patch_of text
+  ps ← each_patch texts
+  Some (p ∷ ps)
+
+-- ---- what a record does to its page
+
+-- whether the page begins anew, and the patches
+pub record Contents : Type 0 where
+  pub init : Bool
+  pub patches : List Patch
+
+abbrev pub contents : Bool → List Patch → Contents
+contents init patches = record { init = init; patches = patches }
+
+-- patches between commas, behind the word init or without it
+unfoldable pub contents_from : List (List ℕ) → Option Contents
+contents_from [] = None
+contents_from (text ∷ texts) =
+    if bytes_eq text (codes "init") then (each_patch texts >>= (λ patches. Some (contents true patches)))
+    else (each_patch (text ∷ texts) >>= (λ patches. Some (contents false patches)))
+
+-- a dash for no patches
+unfoldable pub contents_of : List ℕ → Option Contents
+contents_of text = if bytes_eq text (codes "-") then Some (contents false []) else contents_from (parts_at 44 text)
+
+-- ---- facts
 
 -- the fact, where its shape has no fault
 abbrev pub unless : Option ShapeFault → Fact → Option Fact
@@ -48,34 +87,23 @@ shaped (Record r) = unless (record_fault r) (Record r)
 shaped (Cut c) = unless (cut_fault c) (Cut c)
 shaped (Advance a) = unless (advance_fault a) (Advance a)
 
--- the fields behind rec: epoch, number, segment backlink, page, block backlink, writes
+-- the fields behind rec: epoch, number, segment backlink, page, block backlink, and the contents
 unfoldable pub record_line : List (List ℕ) → Option Fact
-record_line (e ∷ n ∷ b ∷ p ∷ k ∷ w ∷ []) = do
-  epoch ← number_of 65535 e
-  number ← number_of max_number n
-  back ← number_of max_number b
-  page ← number_of 65535 p
-  block_back ← number_of max_number k
-  writes ← writes_of w
-  shaped (Record (record_of epoch number back page block_back writes))
+record_line (e ∷ n ∷ b ∷ p ∷ k ∷ text ∷ []) = do
+  numbers ← numbers_of (65535 ∷ max_number ∷ max_number ∷ 65535 ∷ max_number ∷ []) (e ∷ n ∷ b ∷ p ∷ k ∷ [])
+  c ← contents_of text
+  of_five (λ epoch number back page block_back. shaped (Record (record_with epoch number back page block_back c.init c.patches))) numbers
 record_line _ = None
 
 -- the fields behind cut: epoch, lo, hi
 unfoldable pub cut_line : List (List ℕ) → Option Fact
-cut_line (e ∷ l ∷ h ∷ []) = do
-  epoch ← number_of 65535 e
-  lo ← number_of max_number l
-  hi ← number_of max_number h
-  shaped (Cut (cut_of epoch lo hi))
-cut_line _ = None
+cut_line fields = numbers_of (65535 ∷ max_number ∷ max_number ∷ []) fields >>= of_three (λ epoch lo hi. shaped (Cut (cut_of epoch lo hi)))
 
--- the fields behind min: epoch, point
+-- the fields behind min: epoch, point, and the reader, which is 1 where it is not named
 unfoldable pub advance_line : List (List ℕ) → Option Fact
-advance_line (e ∷ p ∷ []) = do
-  epoch ← number_of 65535 e
-  point ← number_of max_number p
-  shaped (Advance (advance_of epoch point))
-advance_line _ = None
+advance_line fields =
+    if length fields == 2 then (numbers_of (65535 ∷ max_number ∷ []) fields >>= of_two (λ epoch point. shaped (Advance (advance_of epoch 1 point))))
+    else (numbers_of (65535 ∷ max_number ∷ max_readers ∷ []) fields >>= of_three (λ epoch point reader. shaped (Advance (advance_of epoch reader point))))
 
 -- the fields of a fact line
 unfoldable pub fact_line : List (List ℕ) → Option Fact

@@ -2,12 +2,12 @@
 use Rattle.std.specs.Prelude.{◌≡◌, ℕ, ◌<◌, ◌≤◌, ◌^◌, ◌↔◌, List, Some, Ok, Err}
 use Rattle.std.specs.Fmt.{decimal}
 use Rattle.redo_core.specs.declared.facts.Fact.{Fact}
-use Rattle.script_text.specs.declared.step_line.StepLine.{StepLine}
+use Rattle.fleet_steps.specs.declared.steps.Step.{Step}
 use Rattle.script_text.specs.Number.{number_of}
 use Rattle.script_text.specs.FactLine.{fact_of}
 use Rattle.script_text.specs.StepLine.{step_of}
-use Rattle.script_text.specs.Script.{ScriptData, most, script_of, facts_of}
-use Rattle.script_text.specs.Spelled.{SpellsFact, SpellsStep, IsFactList, IsScript, Spells, IsLeastBadLine}
+use Rattle.script_text.specs.Script.{ScriptData, Rostered, most, script_of, facts_of}
+use Rattle.script_text.specs.Spelled.{SpellsFact, SpellsStep, IsLog, IsScript, Spells, IsLeastBadLine}
 
 -- The words that are numbers are just those that decimal writes.
 abbrev pub NumbersAreDecimals : Type 0
@@ -19,20 +19,20 @@ FactLinesAreSpelled = (line : List ℕ) (fact : Fact) → (fact_of line ≡ Some
 
 -- A line is read as a step exactly where it spells it.
 abbrev pub StepLinesAreSpelled : Type 0
-StepLinesAreSpelled = (facts : ℕ) (line : List ℕ) (step : StepLine) → facts ≤ most → (step_of facts line ≡ Some step) ↔ SpellsStep facts line step
+StepLinesAreSpelled = (facts : ℕ) (line : List ℕ) (step : Step ℕ) → facts ≤ most → (step_of facts line ≡ Some step) ↔ SpellsStep facts line step
 
 -- A text is read as a script exactly where its lines are that script.
 abbrev pub ScriptsAreSpelled : Type 0
-ScriptsAreSpelled = (text : List ℕ) (script : ScriptData) → (script_of text ≡ Ok script) ↔ Spells IsScript text script
+ScriptsAreSpelled = (text : List ℕ) (script : Rostered ScriptData) → (script_of text ≡ Ok script) ↔ Spells IsScript text script
 
--- A text is read as facts exactly where its lines are those facts.
-abbrev pub FactListsAreSpelled : Type 0
-FactListsAreSpelled = (text : List ℕ) (facts : List Fact) → (facts_of text ≡ Ok facts) ↔ Spells IsFactList text facts
+-- A text is read as a log exactly where its lines are that log.
+abbrev pub LogsAreSpelled : Type 0
+LogsAreSpelled = (text : List ℕ) (log : Rostered (List Fact)) → (facts_of text ≡ Ok log) ↔ Spells IsLog text log
 
 -- A bad line of a script is reported exactly where it is the least.
 abbrev pub BadScriptLineIsLeast : Type 0
 BadScriptLineIsLeast = (text : List ℕ) (at : ℕ) → (script_of text ≡ Err at) ↔ IsLeastBadLine IsScript text at
 
--- A bad line of a text of facts alone is reported exactly where it is the least.
+-- A bad line of a log is reported exactly where it is the least.
 abbrev pub BadFactLineIsLeast : Type 0
-BadFactLineIsLeast = (text : List ℕ) (at : ℕ) → (facts_of text ≡ Err at) ↔ IsLeastBadLine IsFactList text at
+BadFactLineIsLeast = (text : List ℕ) (at : ℕ) → (facts_of text ≡ Err at) ↔ IsLeastBadLine IsLog text at

@@ -1,12 +1,21 @@
 -- What a reader answers, beside what the grammar says.
-use Rattle.std.specs.Prelude.{◌≡◌, ℕ, Result, Ok, Err}
-use Rattle.script_text.specs.Script.{ScriptData}
+use Rattle.std.specs.Prelude.{◌≡◌, ℕ, List, Result, Ok, Err}
+use Rattle.redo_core.specs.declared.facts.Fact.{Fact}
+use Rattle.script_text.specs.Script.{ScriptData, Rostered, rostered}
+use Rattle.script_text.specs.declared.script.Asked.{Asked}
+use Rattle.script_text.specs.declared.script.Log.{Log}
 use Rattle.script_text.specs.declared.script.Script.{Script}
 use Rattle.script_text.specs.declared.script.ScriptError.{ScriptError}
 use Rattle.script_text.specs.declared.script.ScriptError.TheVariants.{Memory, BadLine}
 
-abbrev pub script_data : Script → ScriptData
-script_data s = record { facts = s.facts.items; steps = s.steps.items }
+abbrev pub log_data : Log → Rostered (List Fact)
+log_data l = rostered l.roster l.facts.items
+
+abbrev pub asked_data : Asked → ScriptData
+asked_data a = record { facts = a.facts.items; nodes = a.nodes; steps = a.steps.items }
+
+abbrev pub script_data : Script → Rostered ScriptData
+script_data s = rostered s.roster (record { facts = s.facts.items; nodes = s.nodes; steps = s.steps.items })
 
 abbrev pub Fails : {Y : Type 0} → ScriptError → Result Y ℕ → Type 0
 Fails Memory read = Unit {0}

@@ -1,16 +1,21 @@
 -- What lines and texts are, without their reader.
-use Rattle.std.specs.Prelude.{◌≡◌, ℕ, ◌+◌, ◌-◌, ◌≤◌, ◌<◌, ◌⊎◌, List, [], ◌∷◌, ◌++◌, length, take, None, Ok, codes}
+use Rattle.std.specs.Prelude.{◌≡◌, ℕ, ◌+◌, ◌-◌, ◌≤◌, ◌<◌, ◌⊎◌, List, [], ◌∷◌, ◌++◌, map, length, take, Bool, false, None, Ok, codes}
 use Rattle.std.specs.List.{AllZip, join_with_byte}
 use Rattle.std.specs.Fmt.{decimal}
 use Rattle.hex.specs.Hex.{decode_of}
-use Rattle.redo_core.specs.Data.{WriteData, RecordData, CutData, AdvanceData}
+use Rattle.redo_core.specs.Data.{RecordData, CutData, AdvanceData}
+use Rattle.redo_core.specs.Writes.{WriteData}
+use Rattle.redo_core.specs.Roster.{IsRoster}
 use Rattle.redo_core.specs.Shape.{max_number, record_fault, cut_fault, advance_fault}
+use Rattle.redo_core.specs.declared.patches.Patch.{Patch}
+use Rattle.redo_core.specs.declared.patches.Patch.TheVariants.{Bytes, Fill}
 use Rattle.redo_core.specs.declared.facts.Fact.{Fact}
 use Rattle.redo_core.specs.declared.facts.Fact.TheVariants.{Record, Cut, Advance}
-use Rattle.script_text.specs.declared.step_line.StepLine.{StepLine}
-use Rattle.script_text.specs.declared.step_line.StepLine.TheVariants.{Take, Fold, Discard, Front, Read}
+use Rattle.fleet_steps.specs.declared.steps.Step.{Step}
+use Rattle.fleet_steps.specs.declared.steps.Step.TheVariants.{Take, Fold, Discard, Front, Read}
 use Rattle.script_text.specs.Parts.{parts_at}
-use Rattle.script_text.specs.Script.{ScriptData, most}
+use Rattle.script_text.specs.FactText.{behind_init}
+use Rattle.script_text.specs.Script.{ScriptData, Rostered, most, most_nodes}
 
 -- ---- lines
 
@@ -18,36 +23,53 @@ use Rattle.script_text.specs.Script.{ScriptData, most}
 abbrev pub spaced : List (List ℕ) → List ℕ
 spaced fields = join_with_byte 32 fields
 
+-- a word and numbers
+abbrev pub worded : List ℕ → List ℕ → List ℕ
+worded word numbers = spaced (word ∷ map decimal numbers)
+
 -- an offset, a colon, and at least one byte in hex digits of either case
-pub record SpellsWrite (text : List ℕ) (w : WriteData) : Type 0 where
+pub record SpellsBytes (text : List ℕ) (w : WriteData) : Type 0 where
   pub digits : List ℕ
   pub all : text ≡ decimal w.offset ++ 58 ∷ digits
   pub offset : w.offset ≤ 65535
   pub bytes : decode_of digits ≡ Ok w.bytes
   pub some : 0 < length w.bytes
 
--- a dash for no writes, or writes between commas
-abbrev pub SpellsWrites : List ℕ → List WriteData → Type 0
-SpellsWrites text ws = ((text ≡ codes "-") × (ws ≡ [])) ⊎ ((texts : List (List ℕ)) × (text ≡ join_with_byte 44 texts) × AllZip SpellsWrite texts ws × (0 < length ws))
+-- an offset, an asterisk, a length, a colon, and one byte in hex digits of either case
+pub record SpellsFill (text : List ℕ) (offset len byte : ℕ) : Type 0 where
+  pub digits : List ℕ
+  pub all : text ≡ (decimal offset ++ 42 ∷ decimal len) ++ 58 ∷ digits
+  pub in_offset : offset ≤ 65535
+  pub in_len : len ≤ 4096
+  pub bytes : decode_of digits ≡ Ok (byte ∷ [])
 
--- rec and six fields
+abbrev pub SpellsPatch : List ℕ → Patch → Type 0
+SpellsPatch text (Bytes w) = SpellsBytes text w
+SpellsPatch text (Fill offset len byte) = SpellsFill text offset len byte
+
+-- a dash for no patches, or patches between commas, behind the word init where the page begins anew
+abbrev pub SpellsContents : List ℕ → Bool → List Patch → Type 0
+SpellsContents text init patches = ((text ≡ codes "-") × (init ≡ false) × (patches ≡ []))
+    ⊎ ((texts : List (List ℕ)) × (text ≡ join_with_byte 44 (behind_init init texts)) × AllZip SpellsPatch texts patches × (0 < length (behind_init init texts)))
+
+-- rec, five numbers and the contents
 pub record SpellsRecord (line : List ℕ) (r : RecordData) : Type 0 where
-  pub writes : List ℕ
-  pub all : line ≡ spaced (codes "rec" ∷ decimal r.epoch ∷ decimal r.number ∷ decimal r.back ∷ decimal r.page ∷ decimal r.block_back ∷ writes ∷ [])
-  pub said : SpellsWrites writes r.writes
+  pub text : List ℕ
+  pub all : line ≡ spaced (codes "rec" ∷ decimal r.epoch ∷ decimal r.number ∷ decimal r.back ∷ decimal r.page ∷ decimal r.block_back ∷ text ∷ [])
+  pub said : SpellsContents text r.init r.patches
   pub epoch : r.epoch ≤ 65535
   pub page : r.page ≤ 65535
   pub shape : record_fault r ≡ None
 
--- cut and three fields
+-- cut and three numbers
 pub record SpellsCut (line : List ℕ) (c : CutData) : Type 0 where
-  pub all : line ≡ spaced (codes "cut" ∷ decimal c.epoch ∷ decimal c.lo ∷ decimal c.hi ∷ [])
+  pub all : line ≡ worded (codes "cut") (c.epoch ∷ c.lo ∷ c.hi ∷ [])
   pub epoch : c.epoch ≤ 65535
   pub shape : cut_fault c ≡ None
 
--- min and two fields
+-- min, epoch and point, and the reader, which need not be named where it is 1
 pub record SpellsAdvance (line : List ℕ) (a : AdvanceData) : Type 0 where
-  pub all : line ≡ spaced (codes "min" ∷ decimal a.epoch ∷ decimal a.point ∷ [])
+  pub all : (line ≡ worded (codes "min") (a.epoch ∷ a.point ∷ a.reader ∷ [])) ⊎ ((a.reader ≡ 1) × (line ≡ worded (codes "min") (a.epoch ∷ a.point ∷ [])))
   pub epoch : a.epoch ≤ 65535
   pub shape : advance_fault a ≡ None
 
@@ -57,30 +79,57 @@ SpellsFact line (Record r) = SpellsRecord line r
 SpellsFact line (Cut c) = SpellsCut line c
 SpellsFact line (Advance a) = SpellsAdvance line a
 
+-- a word, and numbers, each with its limit
+pub record SpellsForm (line word limits numbers : List ℕ) : Type 0 where
+  pub all : line ≡ worded word numbers
+  pub limited : AllZip (λ n limit. n ≤ limit) numbers limits
+
 -- the line spells the step, behind that many facts
-abbrev pub SpellsStep : ℕ → List ℕ → StepLine → Type 0
-SpellsStep facts line (Take node fact) = (line ≡ spaced (codes "take" ∷ decimal node ∷ decimal fact ∷ [])) × (node ≤ 65535) × (0 < fact) × (fact ≤ facts)
-SpellsStep facts line (Fold node page) = (line ≡ spaced (codes "fold" ∷ decimal node ∷ decimal page ∷ [])) × (node ≤ 65535) × (page ≤ 65535)
-SpellsStep facts line (Discard node) = (line ≡ spaced (codes "discard" ∷ decimal node ∷ [])) × (node ≤ 65535)
-SpellsStep facts line (Front node) = (line ≡ spaced (codes "front" ∷ decimal node ∷ [])) × (node ≤ 65535)
-SpellsStep facts line (Read node page point offset len) = (line ≡ spaced (codes "read" ∷ decimal node ∷ decimal page ∷ decimal point ∷ decimal offset ∷ decimal len ∷ []))
-    × (node ≤ 65535) × (page ≤ 65535) × (point ≤ max_number) × (0 < len) × (offset + len ≤ 4096)
+abbrev pub SpellsStep : ℕ → List ℕ → Step ℕ → Type 0
+SpellsStep facts line (Take node place) = SpellsForm line (codes "take") (65535 ∷ facts ∷ []) (node ∷ place ∷ []) × (0 < place)
+SpellsStep facts line (Fold node page) = SpellsForm line (codes "fold") (65535 ∷ 65535 ∷ []) (node ∷ page ∷ [])
+SpellsStep facts line (Discard node) = SpellsForm line (codes "discard") (65535 ∷ []) (node ∷ [])
+SpellsStep facts line (Front node) = SpellsForm line (codes "front") (65535 ∷ []) (node ∷ [])
+SpellsStep facts line (Read node page point offset len) = SpellsForm line (codes "read") (65535 ∷ 65535 ∷ max_number ∷ 4096 ∷ 4096 ∷ []) (node ∷ page ∷ point ∷ offset ∷ len ∷ [])
+    × (0 < len) × (offset + len ≤ 4096)
 
 -- ---- lists of lines
 
--- fact lines alone
-abbrev pub IsFactList : List (List ℕ) → List Fact → Type 0
-IsFactList lines facts = AllZip SpellsFact lines facts × (length lines ≤ most)
+-- a line that names the roster, or none for the roster 1
+abbrev pub SpellsRoster : List (List ℕ) → ℕ → Type 0
+SpellsRoster lines roster = ((lines ≡ []) × (roster ≡ 1)) ⊎ ((lines ≡ worded (codes "roster") (roster ∷ []) ∷ []) × IsRoster roster)
 
--- fact lines, go, nodes 1, step lines
-pub record IsScript (lines : List (List ℕ)) (script : ScriptData) : Type 0 where
+-- the line of the roster, and lines with Is
+pub record IsRostered {A : Type 0} (Is : List (List ℕ) → A → Type 0) (lines : List (List ℕ)) (x : Rostered A) : Type 0 where
+  pub first : List (List ℕ)
+  pub others : List (List ℕ)
+  pub all : lines ≡ first ++ others
+  pub named : SpellsRoster first x.roster
+  pub said : Is others x.said
+
+-- fact lines alone
+abbrev pub AreFacts : List (List ℕ) → List Fact → Type 0
+AreFacts lines facts = AllZip SpellsFact lines facts × (length lines ≤ most)
+
+-- fact lines, go, the line of the nodes, step lines
+pub record AsksSteps (lines : List (List ℕ)) (script : ScriptData) : Type 0 where
   pub facts : List (List ℕ)
   pub steps : List (List ℕ)
-  pub all : lines ≡ facts ++ (codes "go" ∷ codes "nodes 1" ∷ steps)
+  pub all : lines ≡ facts ++ (codes "go" ∷ worded (codes "nodes") (script.nodes ∷ []) ∷ steps)
   pub said : AllZip SpellsFact facts script.facts
+  pub some_nodes : 1 ≤ script.nodes
+  pub few_nodes : script.nodes ≤ most_nodes
   pub asked : AllZip (SpellsStep (length facts)) steps script.steps
   pub few_facts : length facts ≤ most
   pub few_steps : length steps ≤ most
+
+-- a log: its roster, and fact lines
+abbrev pub IsLog : List (List ℕ) → Rostered (List Fact) → Type 0
+IsLog lines log = IsRostered AreFacts lines log
+
+-- a script: the log's roster, and what it asks of the log's facts
+abbrev pub IsScript : List (List ℕ) → Rostered ScriptData → Type 0
+IsScript lines script = IsRostered AsksSteps lines script
 
 -- ---- texts
 

@@ -1,59 +1,137 @@
 //! Fact lines.
 
 ghost use Rattle.std.specs.Prelude.{◌≡◌, IfOk, map, option_map};
-ghost use Rattle.redo_core.specs.Data.{record_of};
-ghost use Rattle.script_text.specs.FactLine.{write_from, each_write, writes_of, shaped, record_line, cut_line, advance_line, fact_line};
+ghost use Rattle.hex.specs.Hex.{decode_of};
+ghost use Rattle.redo_core.specs.Data.{record_with};
+ghost use Rattle.script_text.specs.FactLine.{decoded, write_at, fill_at, patch_at, patch_from, each_patch, contents, contents_from, contents_of, shaped, record_line, cut_line, advance_line, fact_line};
 
 use crate::fields::parts;
-use crate::number::{long_number, short_number};
+use crate::number::{number, numbers};
 use hex::FromHexError;
-use redo_core::{Advance, Cut, Fact, Record, Write};
+use redo_core::{Advance, Cut, Fact, MAX_NUMBER, MAX_READERS, Patch, Record, Write};
 use std::alloc::{AllocError, Global};
 
-/// The offset and the bytes of a write, as in `0:6161`.
-#[tactic(auto, unfolding(crate::specs::FactLine::write_from))]
-fn write(alloc: Global, halves: &[&[u8]]) -> Result<Option<Write>, AllocError>
-    ensures { IfOk result (λ o. o ≡ write_from (map (λ x. x.now) halves.now)) }
+/// The greatest number of an epoch, a page or an offset.
+const SHORT: u64 = 65535;
+
+/// The greatest length of a fill.
+const PAGE: u64 = 4096;
+
+/// Whether a record begins its page anew, and its patches.
+struct Contents {
+    init: bool,
+    patches: Vec<Patch>,
+}
+
+/// The bytes that hexadecimal digits stand for; None where they stand for none.
+fn decoded(alloc: Global, digits: &[u8]) -> Result<Option<Vec<u8>>, AllocError>
+    ensures { IfOk result (λ o. option_map (λ v. v.items) o ≡ decoded (decode_of digits.now)) }
 {
-    let [offset, digits] = halves else {
-        return Ok(None);
-    };
-    let Some(offset) = short_number(offset) else {
-        return Ok(None);
-    };
-    match hex::decode(alloc, *digits) {
-        Ok(bytes) if !bytes.is_empty() => Ok(Some(Write::new(offset, bytes))),
-        Ok(_) => Ok(None),
+    match hex::decode(alloc, digits) {
+        Ok(bytes) => Ok(Some(bytes)),
         Err(FromHexError::OutOfMemory) => Err(AllocError),
         Err(_) => Ok(None),
     }
 }
 
-/// The writes between commas.
-fn each_write(alloc: Global, pieces: &[&[u8]]) -> Result<Option<Vec<Write>>, AllocError>
-    ensures { IfOk result (λ o. option_map (λ v. v.items) o ≡ each_write (map (λ x. x.now) pieces.now)) }
+/// The patch of bytes from an offset on.
+fn write(offset: &[u8], bytes: Vec<u8>) -> Option<Patch>
+    ensures { result ≡ write_at offset.now bytes.items }
 {
-    let mut writes = Vec::new(alloc);
-    for piece in pieces {
-        let halves = parts(alloc, piece, b':')?;
-        let Some(next) = write(alloc, &halves)? else {
-            return Ok(None);
-        };
-        writes.push(next)?;
+    if bytes.is_empty() {
+        return None;
     }
-    Ok(Some(writes))
+    let offset = number(offset, SHORT)?;
+    Some(Patch::Bytes(Write::new(offset as u16, bytes)))
 }
 
-/// The writes of a record, none for `-`.
-#[tactic(auto, unfolding(crate::specs::FactLine::writes_of))]
-fn writes(alloc: Global, text: &[u8]) -> Result<Option<Vec<Write>>, AllocError>
-    ensures { IfOk result (λ o. option_map (λ v. v.items) o ≡ writes_of text.now) }
+/// The patch of one byte from an offset on over a length.
+fn fill(offset: &[u8], len: &[u8], bytes: &[u8]) -> Option<Patch>
+    ensures { result ≡ fill_at offset.now len.now bytes.now }
+{
+    let [byte] = bytes else {
+        return None;
+    };
+    let offset = number(offset, SHORT)?;
+    let len = number(len, PAGE)?;
+    Some(Patch::Fill {
+        offset: offset as u16,
+        len: len as u16,
+        byte: *byte,
+    })
+}
+
+/// The patch of bytes at a place.
+fn patch_at(place: &[&[u8]], bytes: Vec<u8>) -> Option<Patch>
+    ensures { result ≡ patch_at (map (λ x. x.now) place.now) bytes.items }
+{
+    match place {
+        [offset] => write(offset, bytes),
+        [offset, len] => fill(offset, len, &bytes),
+        _ => None,
+    }
+}
+
+/// The patch of a place and of hexadecimal digits.
+#[tactic(auto, unfolding(crate::specs::FactLine::patch_from))]
+fn patch(alloc: Global, halves: &[&[u8]]) -> Result<Option<Patch>, AllocError>
+    ensures { IfOk result (λ o. o ≡ patch_from (map (λ x. x.now) halves.now)) }
+{
+    let [place, digits] = halves else {
+        return Ok(None);
+    };
+    let place = parts(alloc, place, b'*')?;
+    let Some(bytes) = decoded(alloc, digits)? else {
+        return Ok(None);
+    };
+    Ok(patch_at(&place, bytes))
+}
+
+/// The patches between commas.
+fn each_patch(alloc: Global, pieces: &[&[u8]]) -> Result<Option<Vec<Patch>>, AllocError>
+    ensures { IfOk result (λ o. option_map (λ v. v.items) o ≡ each_patch (map (λ x. x.now) pieces.now)) }
+{
+    let mut patches = Vec::new(alloc);
+    for piece in pieces {
+        let halves = parts(alloc, piece, b':')?;
+        let Some(next) = patch(alloc, &halves)? else {
+            return Ok(None);
+        };
+        patches.push(next)?;
+    }
+    Ok(Some(patches))
+}
+
+/// The patches between commas, behind the word `init` or without it.
+#[tactic(auto, unfolding(crate::specs::FactLine::contents_from))]
+fn contents_from(alloc: Global, pieces: &[&[u8]]) -> Result<Option<Contents>, AllocError>
+    ensures { IfOk result (λ o. option_map (λ c. contents c.init c.patches.items) o ≡ contents_from (map (λ x. x.now) pieces.now)) }
+{
+    let (init, rest) = match pieces {
+        [] => return Ok(None),
+        [b"init", rest @ ..] => (true, rest),
+        _ => (false, pieces),
+    };
+    match each_patch(alloc, rest)? {
+        Some(patches) => Ok(Some(Contents { init, patches })),
+        None => Ok(None),
+    }
+}
+
+/// What a record does to its page; nothing for `-`.
+#[tactic(auto, unfolding(crate::specs::FactLine::contents_of))]
+fn record_contents(alloc: Global, text: &[u8]) -> Result<Option<Contents>, AllocError>
+    ensures { IfOk result (λ o. option_map (λ c. contents c.init c.patches.items) o ≡ contents_of text.now) }
 {
     if text == b"-".as_slice() {
-        return Ok(Some(Vec::new(alloc)));
+        let patches = Vec::new(alloc);
+        return Ok(Some(Contents {
+            init: false,
+            patches,
+        }));
     }
     let pieces = parts(alloc, text, b',')?;
-    each_write(alloc, &pieces)
+    contents_from(alloc, &pieces)
 }
 
 /// The record, where its shape has no fault.
@@ -64,14 +142,13 @@ fn shaped(
     back: u64,
     page: u16,
     block_back: u64,
-    writes: Vec<Write>,
+    contents: Contents,
 ) -> Option<Fact>
-    ensures { result ≡ shaped (Fact.Record (record_of epoch number back page block_back writes.items)) }
+    ensures { result ≡ shaped (Fact.Record (record_with epoch number back page block_back contents.init contents.patches.items)) }
 {
-    match Record::new(epoch, number, back, page, block_back, writes) {
-        Ok(redo) => Some(Fact::Record(redo)),
-        Err(_) => None,
-    }
+    let Contents { init, patches } = contents;
+    let redo = Record::with(epoch, number, back, page, block_back, init, patches).ok()?;
+    Some(Fact::Record(redo))
 }
 
 /// The fields behind `rec`.
@@ -79,28 +156,20 @@ fn shaped(
 fn record_line(alloc: Global, fields: &[&[u8]]) -> Result<Option<Fact>, AllocError>
     ensures { IfOk result (λ o. o ≡ record_line (map (λ x. x.now) fields.now)) }
 {
-    let [epoch, number, back, page, block_back, rest] = fields else {
+    let [epoch, number, back, page, block_back, text] = fields else {
         return Ok(None);
     };
-    let Some(epoch) = short_number(epoch) else {
+    let limits = [SHORT, MAX_NUMBER, MAX_NUMBER, SHORT, MAX_NUMBER];
+    let spelled = [*epoch, *number, *back, *page, *block_back];
+    let Some(numbers) = numbers(limits, &spelled) else {
         return Ok(None);
     };
-    let Some(number) = long_number(number) else {
+    let [epoch, number, back, page, block_back] = numbers;
+    let Some(contents) = record_contents(alloc, text)? else {
         return Ok(None);
     };
-    let Some(back) = long_number(back) else {
-        return Ok(None);
-    };
-    let Some(page) = short_number(page) else {
-        return Ok(None);
-    };
-    let Some(block_back) = long_number(block_back) else {
-        return Ok(None);
-    };
-    let Some(writes) = writes(alloc, rest)? else {
-        return Ok(None);
-    };
-    Ok(shaped(epoch, number, back, page, block_back, writes))
+    let (epoch, page) = (epoch as u16, page as u16);
+    Ok(shaped(epoch, number, back, page, block_back, contents))
 }
 
 /// The fields behind `cut`.
@@ -108,16 +177,9 @@ fn record_line(alloc: Global, fields: &[&[u8]]) -> Result<Option<Fact>, AllocErr
 fn cut_line(fields: &[&[u8]]) -> Option<Fact>
     ensures { result ≡ cut_line (map (λ x. x.now) fields.now) }
 {
-    let [epoch, lo, hi] = fields else {
-        return None;
-    };
-    let epoch = short_number(epoch)?;
-    let lo = long_number(lo)?;
-    let hi = long_number(hi)?;
-    match Cut::new(epoch, lo, hi) {
-        Ok(cut) => Some(Fact::Cut(cut)),
-        Err(_) => None,
-    }
+    let [epoch, lo, hi] = numbers([SHORT, MAX_NUMBER, MAX_NUMBER], fields)?;
+    let cut = Cut::new(epoch as u16, lo, hi).ok()?;
+    Some(Fact::Cut(cut))
 }
 
 /// The fields behind `min`.
@@ -125,15 +187,15 @@ fn cut_line(fields: &[&[u8]]) -> Option<Fact>
 fn advance_line(fields: &[&[u8]]) -> Option<Fact>
     ensures { result ≡ advance_line (map (λ x. x.now) fields.now) }
 {
-    let [epoch, point] = fields else {
-        return None;
+    let (epoch, point, reader) = if fields.len() == 2 {
+        let [epoch, point] = numbers([SHORT, MAX_NUMBER], fields)?;
+        (epoch, point, 1)
+    } else {
+        let [epoch, point, reader] = numbers([SHORT, MAX_NUMBER, u64::from(MAX_READERS)], fields)?;
+        (epoch, point, reader)
     };
-    let epoch = short_number(epoch)?;
-    let point = long_number(point)?;
-    match Advance::new(epoch, point) {
-        Ok(advance) => Some(Fact::Advance(advance)),
-        Err(_) => None,
-    }
+    let advance = Advance::of_reader(reader as u8, epoch as u16, point).ok()?;
+    Some(Fact::Advance(advance))
 }
 
 /// The fact of a fact line.

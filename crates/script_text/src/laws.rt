@@ -1,6 +1,6 @@
 //! Laws of the grammar.
 
-ghost use Rattle.script_text.specs.Laws.{NumbersAreDecimals, FactLinesAreSpelled, StepLinesAreSpelled, ScriptsAreSpelled, FactListsAreSpelled, BadScriptLineIsLeast, BadFactLineIsLeast};
+ghost use Rattle.script_text.specs.Laws.{NumbersAreDecimals, FactLinesAreSpelled, StepLinesAreSpelled, ScriptsAreSpelled, LogsAreSpelled, BadScriptLineIsLeast, BadFactLineIsLeast};
 
 /// The words that are read as numbers are what `Display` writes of them.
 pub fn numbers_are_decimals()
@@ -16,11 +16,11 @@ pub fn lines_are_spelled()
 /// What is read of a text is what its lines spell, and what they spell is read.
 pub fn scripts_are_spelled()
     ensures script { ScriptsAreSpelled }
-    ensures facts { FactListsAreSpelled }
+    ensures log { LogsAreSpelled }
 {}
 
 /// The lines before the bad line begin a good text, and with it they begin none.
 pub fn bad_lines_are_least()
     ensures script { BadScriptLineIsLeast }
-    ensures facts { BadFactLineIsLeast }
+    ensures log { BadFactLineIsLeast }
 {}

@@ -1,7 +1,7 @@
 //! The text of scripts: its grammar, and its reader.
 //!
-//! A text is lines, each ended by LF, of fields between single spaces. `read_script` gives the facts and the steps of a whole
-//! script, `read_facts` those of fact lines alone. Both answer exactly what `specs/` says, and else the least bad line.
+//! A text is lines, each ended by LF, of fields between single spaces. `read_script` gives the log and the steps of a whole
+//! script, `read_facts` the log of fact lines alone; the first line of both may name the log's roster. Both answer exactly what `specs/` says, and else the least bad line.
 //! The laws above them say it without the reader: which lines spell which fact or step, which lines are a script, and that the
 //! lines before the bad line begin a script, which they do no more with it.
 #![tactic(auto)]
@@ -10,6 +10,7 @@ mod fact_line;
 mod fields;
 mod laws;
 mod number;
+mod opening;
 mod script;
 mod spelling;
 mod step_line;
@@ -17,6 +18,5 @@ mod step_line;
 mod tests;
 
 pub use laws::{bad_lines_are_least, lines_are_spelled, numbers_are_decimals, scripts_are_spelled};
-pub use script::{Script, ScriptError, read_facts, read_script};
+pub use script::{Log, Script, ScriptError, read_facts, read_script};
 pub use spelling::fact_text;
-pub use step_line::StepLine;

@@ -1,10 +1,9 @@
 //! Decimal numbers.
 
-ghost use Rattle.std.specs.Prelude.{◌≡◌, ◌≤◌, ◌<◌, ◌^◌, IfSome};
-ghost use Rattle.redo_core.specs.Shape.{max_number};
+ghost use Rattle.std.specs.Prelude.{◌≡◌, ◌≤◌, ◌<◌, ◌^◌, ℕ, IfSome, map};
+ghost use Rattle.std.specs.List.{All, AllZip};
 ghost use Rattle.script_text.specs.Number.{digits_of, number_of};
-
-use redo_core::MAX_NUMBER;
+ghost use Rattle.script_text.specs.Fields.{numbers_of};
 
 /// The number that the word's digits stand for, if it is at most `limit`.
 fn digits(word: &[u8], limit: u64) -> Option<u64>
@@ -37,18 +36,18 @@ pub fn number(word: &[u8], limit: u64) -> Option<u64>
     }
 }
 
-/// A number of 16 bits: an epoch, a page, an offset or a node.
-pub fn short_number(word: &[u8]) -> Option<u16>
-    ensures { result ≡ number_of 65535 word.now }
+/// The numbers that the fields spell: as many as there are limits, each at most its limit.
+pub fn numbers<const N: usize>(limits: [u64; N], fields: &[&[u8]]) -> Option<[u64; N]>
+    requires { All (λ limit. limit < 2 ^ 60) limits }
+    ensures value { result ≡ numbers_of limits.entry (map (λ x. x.now) fields.now) }
+    ensures bound { IfSome result (λ ns. AllZip (λ n limit. n ≤ limit) ns limits.entry) }
 {
-    let value = number(word, 65535)?;
-    Some(value as u16)
-}
-
-/// A log sequence number or a point, up to 2^48 - 1.
-pub fn long_number(word: &[u8]) -> Option<u64>
-    ensures value { result ≡ number_of max_number word.now }
-    ensures bound { IfSome result (λ n. n ≤ max_number) }
-{
-    number(word, MAX_NUMBER)
+    if fields.len() != N {
+        return None;
+    }
+    let mut numbers = limits;
+    for i in 0..N {
+        numbers[i] = number(fields[i], limits[i])?;
+    }
+    Some(numbers)
 }

@@ -1,12 +1,15 @@
 //! The line of a fact.
 
-ghost use Rattle.std.specs.Prelude.{◌≡◌, ◌++◌, Ok, IfOk, OnOk, string_bytes};
-ghost use Rattle.std.specs.List.{AllByRecursion, flat_map};
+ghost use Rattle.std.specs.Prelude.{◌≡◌, ◌++◌, map, Ok, IfOk, OnOk, string_bytes};
+ghost use Rattle.std.specs.List.{AllByRecursion};
 ghost use Rattle.hex.specs.Hex.{encode_lower, decode_of};
-ghost use Rattle.script_text.specs.FactText.{write_text, next_write_text, writes_text, record_text, cut_text, advance_text, fact_text, IsReadBack};
+ghost use Rattle.redo_core.specs.Data.{plain};
+ghost use Rattle.redo_core.specs.Body.{patches_of};
+ghost use Rattle.redo_core.specs.declared.patches.Patch.TheVariants.{Bytes, Fill};
+ghost use Rattle.script_text.specs.FactText.{patch_text, behind_init, between_commas, record_text, cut_text, advance_text, fact_text, IsReadBack};
 ghost use Rattle.script_text.specs.Spelled.{SpellsRecord, SpellsCut, SpellsAdvance, SpellsFact};
 
-use redo_core::{Advance, Cut, Fact, Record, Write};
+use redo_core::{Advance, Body, Cut, Fact, Patch, Record, Write};
 use std::alloc::{AllocError, Global};
 
 /// The digits of the bytes, in lower case.
@@ -18,39 +21,79 @@ fn digits(alloc: Global, bytes: &[u8]) -> Result<String, AllocError>
 }
 
 fn write_text(alloc: Global, write: &Write) -> Result<String, AllocError>
-    ensures text { IfOk result (λ s. string_bytes s ≡ write_text write.now) }
-    ensures read { IsReadBack write.now }
+    ensures text { IfOk result (λ s. string_bytes s ≡ patch_text (Bytes write.now)) }
+    ensures read { IsReadBack (Bytes write.now) }
 {
     let offset = write.offset();
     let digits = digits(alloc, write.bytes())?;
     format!(in alloc; "{offset}:{digits}")
 }
 
-/// Appends writes, each behind a comma.
-fn put_next_writes(alloc: Global, text: &mut String, writes: &[Write]) -> Result<(), AllocError>
-    ensures text { OnOk result (string_bytes text.new ≡ string_bytes text.old ++ flat_map next_write_text writes.now) }
-    ensures read { OnOk result (AllByRecursion IsReadBack writes.now) }
+fn fill_text(alloc: Global, offset: u16, len: u16, byte: u8) -> Result<String, AllocError>
+    ensures text { IfOk result (λ s. string_bytes s ≡ patch_text (Fill offset len byte)) }
+    ensures read { IsReadBack (Fill offset len byte) }
+{
+    let digits = digits(alloc, &[byte])?;
+    format!(in alloc; "{offset}*{len}:{digits}")
+}
+
+fn patch_text(alloc: Global, patch: &Patch) -> Result<String, AllocError>
+    ensures text { IfOk result (λ s. string_bytes s ≡ patch_text patch.now) }
+    ensures read { IsReadBack patch.now }
+{
+    match patch {
+        Patch::Bytes(write) => write_text(alloc, write),
+        Patch::Fill { offset, len, byte } => fill_text(alloc, *offset, *len, *byte),
+    }
+}
+
+/// Appends the texts of writes.
+fn put_writes(alloc: Global, texts: &mut Vec<String>, writes: &[Write]) -> Result<(), AllocError>
+    ensures text { OnOk result (map string_bytes texts.new.items ≡ map string_bytes texts.old.items ++ map patch_text (plain writes.now)) }
+    ensures read { OnOk result (AllByRecursion IsReadBack (plain writes.now)) }
 {
     for write in writes {
-        let next = write_text(alloc, write)?;
-        text.push_str(",")?;
-        text.push_str(&next)?;
+        texts.push(write_text(alloc, write)?)?;
     }
     Ok(())
 }
 
-fn writes_text(alloc: Global, writes: &[Write]) -> Result<String, AllocError>
-    ensures text { IfOk result (λ s. string_bytes s ≡ writes_text writes.now) }
-    ensures read { OnOk result (AllByRecursion IsReadBack writes.now) }
+/// Appends the texts of patches.
+fn put_patches(alloc: Global, texts: &mut Vec<String>, patches: &[Patch]) -> Result<(), AllocError>
+    ensures text { OnOk result (map string_bytes texts.new.items ≡ map string_bytes texts.old.items ++ map patch_text patches.now) }
+    ensures read { OnOk result (AllByRecursion IsReadBack patches.now) }
 {
-    match writes {
-        [] => String::from_str(alloc, "-"),
-        [first, rest @ ..] => {
-            let mut text = write_text(alloc, first)?;
-            put_next_writes(alloc, &mut text, rest)?;
-            Ok(text)
-        }
+    for patch in patches {
+        texts.push(patch_text(alloc, patch)?)?;
     }
+    Ok(())
+}
+
+/// What a record does to its page: the word `init`, where the page begins anew, and the texts of the patches.
+fn texts(alloc: Global, init: bool, body: &Body) -> Result<Vec<String>, AllocError>
+    ensures text { IfOk result (λ v. map string_bytes v.items ≡ behind_init init (map patch_text (patches_of body.now))) }
+    ensures read { OnOk result (AllByRecursion IsReadBack (patches_of body.now)) }
+{
+    let mut texts = Vec::new(alloc);
+    if init {
+        texts.push(String::from_str(alloc, "init")?)?;
+    }
+    match body {
+        Body::Writes(writes) => put_writes(alloc, &mut texts, writes)?,
+        Body::Patches(patches) => put_patches(alloc, &mut texts, patches)?,
+    }
+    Ok(texts)
+}
+
+/// The texts between commas, or a dash for none.
+#[tactic(auto, using(crate::proofs::FactTexts::joined_between, crate::proofs::FactTexts::none_between))]
+fn between_commas(alloc: Global, texts: &[String]) -> Result<String, AllocError>
+    ensures { IfOk result (λ s. string_bytes s ≡ between_commas (map string_bytes texts.now)) }
+{
+    if texts.is_empty() {
+        return String::from_str(alloc, "-");
+    }
+    texts.join(alloc, ",")
 }
 
 fn record_text(alloc: Global, redo: &Record) -> Result<String, AllocError>
@@ -62,8 +105,9 @@ fn record_text(alloc: Global, redo: &Record) -> Result<String, AllocError>
     let back = redo.back();
     let page = redo.page();
     let block_back = redo.block_back();
-    let writes = writes_text(alloc, redo.writes())?;
-    format!(in alloc; "rec {epoch} {number} {back} {page} {block_back} {writes}")
+    let texts = texts(alloc, redo.init(), redo.body())?;
+    let contents = between_commas(alloc, &texts)?;
+    format!(in alloc; "rec {epoch} {number} {back} {page} {block_back} {contents}")
 }
 
 fn cut_text(alloc: Global, cut: &Cut) -> Result<String, AllocError>
@@ -82,10 +126,15 @@ fn advance_text(alloc: Global, advance: &Advance) -> Result<String, AllocError>
 {
     let epoch = advance.epoch();
     let point = advance.point();
-    format!(in alloc; "min {epoch} {point}")
+    let reader = advance.reader();
+    if reader == 1 {
+        format!(in alloc; "min {epoch} {point}")
+    } else {
+        format!(in alloc; "min {epoch} {point} {reader}")
+    }
 }
 
-/// The line of the fact, without its line end: numbers in decimal, digits of writes in lower case.
+/// The line of the fact, without its line end: numbers in decimal, digits of bytes in lower case, reader 1 without its number.
 /// Its only error is want of memory.
 pub fn fact_text(alloc: Global, fact: &Fact) -> Result<String, AllocError>
     ensures text { IfOk result (λ s. string_bytes s ≡ fact_text fact.now) }

@@ -2,115 +2,70 @@
 
 ghost use Rattle.std.specs.Prelude.{◌≡◌, ◌≤◌, map};
 ghost use Rattle.script_text.specs.Script.{most};
-ghost use Rattle.script_text.specs.StepLine.{take_line, fold_line, discard_line, front_line, read_line, step_line};
+ghost use Rattle.script_text.specs.Fields.{made_by};
+ghost use Rattle.script_text.specs.StepLine.{take_form, fold_form, discard_form, front_form, read_form, step_line};
 
-use crate::number::{long_number, number, short_number};
+use crate::number::numbers;
+use fleet_steps::Step;
+use redo_core::MAX_NUMBER;
 
-/// What a step line asks of the fleet. A node is named by any number of 16 bits; the fleet answers where it has no such node.
-#[derive(Clone, Copy, Debug, PartialEq, Eq)]
-pub enum StepLine {
-    /// The node takes the fact at that place of the script, counted from 1.
-    Take {
-        node: u16,
-        fact: usize,
-    },
-    /// The node folds a page to its anchor.
-    Fold {
-        node: u16,
-        page: u16,
-    },
-    /// The node forgets the records that it has folded.
-    Discard {
-        node: u16,
-    },
-    /// Where the node stands.
-    Front {
-        node: u16,
-    },
-    /// `len` bytes from `offset` on of the page at the point; `len` is at least 1, and `offset + len` at most 4,096.
-    Read {
-        node: u16,
-        page: u16,
-        point: u64,
-        offset: u16,
-        len: u16,
-    },
-}
+/// The greatest number of a node or a page, also of one that there is not.
+const SHORT: u64 = 65535;
 
-#[tactic(auto, unfolding(crate::specs::StepLine::take_line))]
-fn take_line(facts: usize, fields: &[&[u8]]) -> Option<StepLine>
+/// The bytes of a page.
+const PAGE: u64 = 4096;
+
+fn take(facts: usize, fields: &[&[u8]]) -> Option<Step<usize>>
     requires { facts ≤ most }
-    ensures { result ≡ take_line facts (map (λ x. x.now) fields.now) }
+    ensures { result ≡ made_by (take_form facts) (map (λ x. x.now) fields.now) }
 {
-    let [node, fact] = fields else {
-        return None;
-    };
-    let node = short_number(node)?;
-    let fact = number(fact, facts as u64)?;
-    if fact == 0 {
+    let [node, place] = numbers([SHORT, facts as u64], fields)?;
+    if place == 0 {
         return None;
     }
-    Some(StepLine::Take {
-        node,
-        fact: fact as usize,
+    Some(Step::Take {
+        node: node as u16,
+        fact: place as usize,
     })
 }
 
-#[tactic(auto, unfolding(crate::specs::StepLine::fold_line))]
-fn fold_line(fields: &[&[u8]]) -> Option<StepLine>
-    ensures { result ≡ fold_line (map (λ x. x.now) fields.now) }
+fn fold(fields: &[&[u8]]) -> Option<Step<usize>>
+    ensures { result ≡ made_by fold_form (map (λ x. x.now) fields.now) }
 {
-    let [node, page] = fields else {
-        return None;
-    };
-    let node = short_number(node)?;
-    let page = short_number(page)?;
-    Some(StepLine::Fold { node, page })
+    let [node, page] = numbers([SHORT, SHORT], fields)?;
+    Some(Step::Fold {
+        node: node as u16,
+        page: page as u16,
+    })
 }
 
-#[tactic(auto, unfolding(crate::specs::StepLine::discard_line))]
-fn discard_line(fields: &[&[u8]]) -> Option<StepLine>
-    ensures { result ≡ discard_line (map (λ x. x.now) fields.now) }
+fn discard(fields: &[&[u8]]) -> Option<Step<usize>>
+    ensures { result ≡ made_by discard_form (map (λ x. x.now) fields.now) }
 {
-    let [node] = fields else {
-        return None;
-    };
-    let node = short_number(node)?;
-    Some(StepLine::Discard { node })
+    let [node] = numbers([SHORT], fields)?;
+    Some(Step::Discard { node: node as u16 })
 }
 
-#[tactic(auto, unfolding(crate::specs::StepLine::front_line))]
-fn front_line(fields: &[&[u8]]) -> Option<StepLine>
-    ensures { result ≡ front_line (map (λ x. x.now) fields.now) }
+fn front(fields: &[&[u8]]) -> Option<Step<usize>>
+    ensures { result ≡ made_by front_form (map (λ x. x.now) fields.now) }
 {
-    let [node] = fields else {
-        return None;
-    };
-    let node = short_number(node)?;
-    Some(StepLine::Front { node })
+    let [node] = numbers([SHORT], fields)?;
+    Some(Step::Front { node: node as u16 })
 }
 
-#[tactic(auto, unfolding(crate::specs::StepLine::read_line))]
-fn read_line(fields: &[&[u8]]) -> Option<StepLine>
-    ensures { result ≡ read_line (map (λ x. x.now) fields.now) }
+fn read(fields: &[&[u8]]) -> Option<Step<usize>>
+    ensures { result ≡ made_by read_form (map (λ x. x.now) fields.now) }
 {
-    let [node, page, point, offset, len] = fields else {
-        return None;
-    };
-    let node = short_number(node)?;
-    let page = short_number(page)?;
-    let point = long_number(point)?;
-    let offset = number(offset, 4096)?;
-    let len = number(len, 4096)?;
+    let [node, page, point, offset, len] = numbers([SHORT, SHORT, MAX_NUMBER, PAGE, PAGE], fields)?;
     if len == 0 {
         return None;
     }
-    if offset + len > 4096 {
+    if offset + len > PAGE {
         return None;
     }
-    Some(StepLine::Read {
-        node,
-        page,
+    Some(Step::Read {
+        node: node as u16,
+        page: page as u16,
         point,
         offset: offset as u16,
         len: len as u16,
@@ -119,16 +74,22 @@ fn read_line(fields: &[&[u8]]) -> Option<StepLine>
 
 /// The step of a step line behind that many facts.
 #[tactic(auto, unfolding(crate::specs::StepLine::step_line))]
-pub fn step_line(facts: usize, fields: &[&[u8]]) -> Option<StepLine>
+pub fn step_line(facts: usize, fields: &[&[u8]]) -> Option<Step<usize>>
     requires { facts ≤ most }
     ensures { result ≡ step_line facts (map (λ x. x.now) fields.now) }
 {
-    match fields {
-        [b"take", rest @ ..] => take_line(facts, rest),
-        [b"fold", rest @ ..] => fold_line(rest),
-        [b"discard", rest @ ..] => discard_line(rest),
-        [b"front", rest @ ..] => front_line(rest),
-        [b"read", rest @ ..] => read_line(rest),
-        _ => None,
+    let (word, rest) = fields.split_first()?;
+    if *word == b"take".as_slice() {
+        take(facts, rest)
+    } else if *word == b"fold".as_slice() {
+        fold(rest)
+    } else if *word == b"discard".as_slice() {
+        discard(rest)
+    } else if *word == b"front".as_slice() {
+        front(rest)
+    } else if *word == b"read".as_slice() {
+        read(rest)
+    } else {
+        None
     }
 }

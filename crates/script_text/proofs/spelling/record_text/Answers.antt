@@ -8,5 +8,5 @@ pub returns-clause-spelled : goal.returns-clause-spelled
 returns-clause-spelled c =
     let epoch : c.args.redo.now.epoch ≤ 65535 = omega (arith, c.epoch-epoch.ensures) in
     let page : c.args.redo.now.page ≤ 65535 = omega (arith, c.page-page.ensures) in
-    let read : AllByRecursion IsReadBack c.args.redo.now.writes = rw c.writes.ensures.writes at c.in_ok-writes.ensures.read in
+    let read : AllByRecursion IsReadBack c.args.redo.now.patches = rw c.body.ensures.patches at c.in_ok-texts.ensures.read in
     on_ok c.format.result _ (record_spelled c.args.redo.now c.number-number.ensures.shape epoch page read)
