@@ -9,15 +9,15 @@ use Rattle.redo_core.specs.declared.laws.Law.{Law}
 use Rattle.redo_core.specs.declared.laws.Law.TheVariants.{OneFactPerKey, EpochBegun, SegmentBacklink, BlockBacklink, AdvanceKept}
 
 -- a fact that keeps the laws keeps each
-keeps_each : (log : List Fact) (place : ℕ) (fact : Fact) (law : Law) → KeepsLaws log place fact → KeepsLaw log place fact law
-keeps_each log place fact OneFactPerKey k = k.law1
-keeps_each log place fact EpochBegun k = k.law2
-keeps_each log place fact SegmentBacklink k = k.law3
-keeps_each log place fact BlockBacklink k = k.law4
-keeps_each log place fact AdvanceKept k = k.law5
+keeps_each : (roster : ℕ) (log : List Fact) (place : ℕ) (fact : Fact) (law : Law) → KeepsLaws roster log place fact → KeepsLaw roster log place fact law
+keeps_each roster log place fact OneFactPerKey k = k.law1
+keeps_each roster log place fact EpochBegun k = k.law2
+keeps_each roster log place fact SegmentBacklink k = k.law3
+keeps_each roster log place fact BlockBacklink k = k.law4
+keeps_each roster log place fact AdvanceKept k = k.law5
 
-pub no_fault : (log : List Fact) (place : ℕ) (law : Law) → IsSound log → IsFirstFault log place law → ⊥
-no_fault log place law sound f = f.breaks (keeps_each log place f.fact law (sound place f.fact f.at_place))
+pub no_fault : (roster : ℕ) (log : List Fact) (place : ℕ) (law : Law) → IsSound roster log → IsFirstFault roster log place law → ⊥
+no_fault roster log place law sound f = f.breaks (keeps_each roster log place f.fact law (sound.keeps place f.fact f.at_place))
 
 -- of two laws that are each the least with the property, neither is below the other
 one_law : (P : Law → Type 0) (l m : Law) → (P l → ⊥) → AllByRecursion P (lower_laws l) → (P m → ⊥) → AllByRecursion P (lower_laws m) → l ≡ m
@@ -47,23 +47,23 @@ one_law P AdvanceKept SegmentBacklink bl ll bm lm = absurd (bm (ll.1.1.0))
 one_law P AdvanceKept BlockBacklink bl ll bm lm = absurd (bm (ll.1.1.1.0))
 one_law P AdvanceKept AdvanceKept bl ll bm lm = refl
 
-not_before : (log : List Fact) (p q : ℕ) (l m : Law) → IsFirstFault log p l → IsFirstFault log q m → p < q → ⊥
-not_before log p q l m f g lt = f.breaks (keeps_each log p f.fact l (g.before p f.fact lt f.at_place))
+not_before : (roster : ℕ) (log : List Fact) (p q : ℕ) (l m : Law) → IsFirstFault roster log p l → IsFirstFault roster log q m → p < q → ⊥
+not_before roster log p q l m f g lt = f.breaks (keeps_each roster log p f.fact l (g.before p f.fact lt f.at_place))
 
-one_place : (log : List Fact) (p q : ℕ) (l m : Law) → IsFirstFault log p l → IsFirstFault log q m → p ≡ q
-one_place log p q l m f g =
+one_place : (roster : ℕ) (log : List Fact) (p q : ℕ) (l m : Law) → IsFirstFault roster log p l → IsFirstFault roster log q m → p ≡ q
+one_place roster log p q l m f g =
     ⊎_elim
-    (λ (lt : p < q). absurd (not_before log p q l m f g lt))
-    (λ (le : q ≤ p). ⊎_elim (λ (lt : q < p). absurd (not_before log q p m l g f lt)) (λ (ge : p ≤ q). omega (arith, le, ge)) (cases_lt q p))
+    (λ (lt : p < q). absurd (not_before roster log p q l m f g lt))
+    (λ (le : q ≤ p). ⊎_elim (λ (lt : q < p). absurd (not_before roster log q p m l g f lt)) (λ (ge : p ≤ q). omega (arith, le, ge)) (cases_lt q p))
     (cases_lt p q)
 
-one_law_at : (log : List Fact) (p : ℕ) (l m : Law) → IsFirstFault log p l → IsFirstFault log p m → l ≡ m
-one_law_at log p l m f g =
+one_law_at : (roster : ℕ) (log : List Fact) (p : ℕ) (l m : Law) → IsFirstFault roster log p l → IsFirstFault roster log p m → l ≡ m
+one_law_at roster log p l m f g =
     let e : Some f.fact ≡ Some g.fact = sym f.at_place ∙ g.at_place in
     let same : g.fact ≡ f.fact = cc in
-    one_law (KeepsLaw log p f.fact) l m f.breaks f.lower (subst (λ x. KeepsLaw log p x m → ⊥) same g.breaks) (subst (λ x. AllByRecursion (KeepsLaw log p x) (lower_laws m)) same g.lower)
+    one_law (KeepsLaw roster log p f.fact) l m f.breaks f.lower (subst (λ x. KeepsLaw roster log p x m → ⊥) same g.breaks) (subst (λ x. AllByRecursion (KeepsLaw roster log p x) (lower_laws m)) same g.lower)
 
-pub one_fault : (log : List Fact) (p q : ℕ) (l m : Law) → IsFirstFault log p l → IsFirstFault log q m → (p ≡ q) × (l ≡ m)
-one_fault log p q l m f g =
-    let same : p ≡ q = one_place log p q l m f g in
-    (same, one_law_at log q l m (subst (λ x. IsFirstFault log x l) same f) g)
+pub one_fault : (roster : ℕ) (log : List Fact) (p q : ℕ) (l m : Law) → IsFirstFault roster log p l → IsFirstFault roster log q m → (p ≡ q) × (l ≡ m)
+one_fault roster log p q l m f g =
+    let same : p ≡ q = one_place roster log p q l m f g in
+    (same, one_law_at roster log q l m (subst (λ x. IsFirstFault roster log x l) same f) g)

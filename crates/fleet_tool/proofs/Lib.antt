@@ -5,3 +5,5 @@ pub mod Outputs
 pub mod FirstFaults
 pub mod OneText
 pub mod TaskWords
+pub mod TakenWords
+pub mod Whys

@@ -1,7 +1,10 @@
 pub mod Lines
-pub mod Asked
+pub mod ScriptSteps
 pub mod Inspect
 pub mod Output
 pub mod Watching
 pub mod OneOutput
+pub mod TextCall
+pub mod Ending
 pub mod TaskName
+pub mod CommandLine

@@ -1,17 +1,13 @@
 -- What the program writes for an input, and how it ends.
-use Rattle.std.specs.Prelude.{◌≡◌, ℕ, ◌+◌, ◌⊎◌, List, [], ◌∷◌, length, ◌++◌, Result, Ok, Err, codes}
-use Rattle.std.specs.List.{All, AllZip}
+use Rattle.std.specs.Prelude.{◌≡◌, ℕ, ◌+◌, ◌⊎◌, List, length, ◌++◌, Result, Ok, Err, codes}
 use Rattle.std.specs.Fmt.{decimal}
 use Rattle.redo_core.specs.Sound.{IsSound}
 use Rattle.redo_core.specs.Fault.{IsFirstFault, number_of}
 use Rattle.redo_core.specs.declared.facts.Fact.{Fact}
 use Rattle.redo_core.specs.declared.laws.Law.{Law}
-use Rattle.fleet_core.specs.Runs.{AreReplies}
-use Rattle.fleet_core.specs.declared.steps.Step.{Step}
-use Rattle.fleet_core.specs.declared.steps.Reply.{Reply}
-use Rattle.script_text.specs.Script.{ScriptData, script_of, facts_of}
-use Rattle.fleet_tool.specs.Asked.{Asks}
-use Rattle.fleet_tool.specs.Lines.{HasCome, lines_of}
+use Rattle.fleet_core.specs.Machine.{empty_machine}
+use Rattle.script_text.specs.Script.{ScriptData, Rostered, script_of, facts_of}
+use Rattle.fleet_tool.specs.ScriptSteps.{IsAnswered}
 use Rattle.fleet_tool.specs.Inspect.{inspected}
 use Rattle.fleet_tool.specs.declared.answer.Verdict.{Verdict}
 use Rattle.fleet_tool.specs.declared.answer.Verdict.TheVariants.{Done, BadLine, Unsound}
@@ -22,40 +18,35 @@ use Rattle.fleet_tool.specs.declared.job.Task.TheVariants.{Run, Check, Inspect}
 abbrev pub SaysBadLine : ℕ → List ℕ → Verdict → Type 0
 SaysBadLine at text verdict = (text ≡ codes "bad line " ++ (decimal at ++ codes "\n")) × (verdict ≡ BadLine)
 
--- the text names the first fault of the facts: its place, counted from 1, and its law
-pub record SaysUnsound (facts : List Fact) (text : List ℕ) (verdict : Verdict) : Type 0 where
+-- the text names the first fault of the log: its place, counted from 1, and its law
+pub record SaysUnsound (roster : ℕ) (facts : List Fact) (text : List ℕ) (verdict : Verdict) : Type 0 where
   pub place : ℕ
   pub law : Law
-  pub fault : IsFirstFault facts place law
+  pub fault : IsFirstFault roster facts place law
   pub says : text ≡ codes "unsound " ++ (decimal (place + 1) ++ (codes " law " ++ (decimal (number_of law) ++ codes "\n")))
   pub ends : verdict ≡ Unsound
 
--- the text is the answers of a fleet of one node to the steps that the script asks for
-pub record SaysReplies (script : ScriptData) (text : List ℕ) (verdict : Verdict) : Type 0 where
-  pub steps : List Step
-  pub replies : List Reply
-  pub sound : IsSound script.facts
-  pub asked : AllZip (Asks script.facts) script.steps steps
-  pub answered : AreReplies ([] ∷ []) steps replies
-  pub came : All HasCome replies
-  pub says : text ≡ lines_of script.steps replies
+-- the text is the answers of a fleet of the script's nodes to its steps
+pub record SaysReplies (roster : ℕ) (script : ScriptData) (text : List ℕ) (verdict : Verdict) : Type 0 where
+  pub sound : IsSound roster script.facts
+  pub says : IsAnswered roster (empty_machine script.nodes) script.facts script.steps text
   pub ends : verdict ≡ Done
 
 -- the text counts the facts
-pub record SaysSound (facts : List Fact) (text : List ℕ) (verdict : Verdict) : Type 0 where
-  pub sound : IsSound facts
+pub record SaysSound (roster : ℕ) (facts : List Fact) (text : List ℕ) (verdict : Verdict) : Type 0 where
+  pub sound : IsSound roster facts
   pub says : text ≡ codes "sound " ++ (decimal (length facts) ++ codes "\n")
   pub ends : verdict ≡ Done
 
 -- a script that was read, or its bad line: bad lines come before soundness, and soundness before any step
-abbrev pub IsRunOutput : Result ScriptData ℕ → List ℕ → Verdict → Type 0
+abbrev pub IsRunOutput : Result (Rostered ScriptData) ℕ → List ℕ → Verdict → Type 0
 IsRunOutput (Err at) text verdict = SaysBadLine at text verdict
-IsRunOutput (Ok script) text verdict = SaysUnsound script.facts text verdict ⊎ SaysReplies script text verdict
+IsRunOutput (Ok script) text verdict = SaysUnsound script.roster script.said.facts text verdict ⊎ SaysReplies script.roster script.said text verdict
 
--- facts that were read, or their bad line
-abbrev pub IsCheckOutput : Result (List Fact) ℕ → List ℕ → Verdict → Type 0
+-- a log that was read, or its bad line
+abbrev pub IsCheckOutput : Result (Rostered (List Fact)) ℕ → List ℕ → Verdict → Type 0
 IsCheckOutput (Err at) text verdict = SaysBadLine at text verdict
-IsCheckOutput (Ok facts) text verdict = SaysUnsound facts text verdict ⊎ SaysSound facts text verdict
+IsCheckOutput (Ok log) text verdict = SaysUnsound log.roster log.said text verdict ⊎ SaysSound log.roster log.said text verdict
 
 -- what is told of the input, whatever it says
 abbrev pub IsInspectOutput : List ℕ → List ℕ → Verdict → Type 0

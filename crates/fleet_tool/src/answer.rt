@@ -1,6 +1,6 @@
 //! The text that answers an input.
 
-ghost use Rattle.std.specs.Prelude.{◌≡◌, ◌++◌, List, IfOk, length, All, codes, string_bytes};
+ghost use Rattle.std.specs.Prelude.{◌≡◌, ◌++◌, ℕ, List, IfOk, length, All, codes, string_bytes};
 ghost use Rattle.std.specs.Fmt.{decimal};
 ghost use Rattle.redo_core.specs.Sound.{IsSound};
 ghost use Rattle.redo_core.specs.declared.facts.Fact.{Fact};
@@ -10,10 +10,9 @@ ghost use Rattle.script_text.specs.Script.{script_of, facts_of};
 ghost use Rattle.script_text.specs.Outcome.{script_data};
 ghost use Rattle.fleet_tool.specs.Output.{SaysBadLine, SaysUnsound, SaysReplies, IsRunOutput, IsCheckOutput, IsInspectOutput, IsOutputOf};
 
-use crate::asked::steps;
 use crate::inspect::inspected;
 use crate::job::Task;
-use crate::lines::lines;
+use crate::script_steps::answers;
 use fleet_core::Fleet;
 use log_law::{CheckFault, check_log};
 use redo_core::LawFault;
@@ -48,7 +47,7 @@ fn bad_line(alloc: Global, at: usize) -> Result<Answered, AllocError>
 }
 
 fn unsound(alloc: Global, fault: LawFault) -> Result<Answered, AllocError>
-    ensures { (facts : List Fact) → Reports facts fault → IfOk result (λ a. SaysUnsound facts (string_bytes a.text) a.verdict) }
+    ensures { (roster : ℕ) (facts : List Fact) → Reports roster facts fault → IfOk result (λ a. SaysUnsound roster facts (string_bytes a.text) a.verdict) }
 {
     let place = fault.place;
     let number = fault.law.number();
@@ -59,17 +58,15 @@ fn unsound(alloc: Global, fault: LawFault) -> Result<Answered, AllocError>
     })
 }
 
-/// The answers of a fleet of one node.
+/// The answers of a fleet of the script's nodes.
 fn replies(alloc: Global, script: &Script) -> Result<Answered, AllocError>
-    requires sound { IsSound script.now.facts.items }
+    requires sound { IsSound script.now.roster script.now.facts.items }
     requires range { All (IsInRange (length script.now.facts.items)) script.now.steps.items }
-    ensures { IfOk result (λ a. SaysReplies (script_data script.now) (string_bytes a.text) a.verdict) }
+    ensures { let read = script_data script.now in IfOk result (λ a. SaysReplies read.roster read.said (string_bytes a.text) a.verdict) }
 {
-    let steps = steps(alloc, &script.facts, &script.steps)?;
-    let mut fleet = Fleet::new(alloc, 1)?;
-    let replies = fleet.run(alloc, &steps)?;
+    let mut fleet = Fleet::new(alloc, script.roster, script.nodes)?;
     Ok(Answered {
-        text: lines(alloc, &script.steps, &replies)?,
+        text: answers(alloc, &mut fleet, &script.facts, &script.steps)?,
         verdict: Verdict::Done,
     })
 }
@@ -80,7 +77,7 @@ fn answer_script(alloc: Global, input: &[u8]) -> Result<Answered, AllocError>
     match read_script(alloc, input) {
         Err(ScriptError::Memory) => Err(AllocError),
         Err(ScriptError::BadLine(at)) => bad_line(alloc, at),
-        Ok(script) => match check_log(alloc, &script.facts) {
+        Ok(script) => match check_log(alloc, &script.facts, script.roster) {
             Err(CheckFault::Memory) => Err(AllocError),
             Err(CheckFault::Unsound(fault)) => unsound(alloc, fault),
             Ok(()) => replies(alloc, &script),
@@ -105,10 +102,10 @@ fn answer_facts(alloc: Global, input: &[u8]) -> Result<Answered, AllocError>
     match read_facts(alloc, input) {
         Err(ScriptError::Memory) => Err(AllocError),
         Err(ScriptError::BadLine(at)) => bad_line(alloc, at),
-        Ok(facts) => match check_log(alloc, &facts) {
+        Ok(log) => match check_log(alloc, &log.facts, log.roster) {
             Err(CheckFault::Memory) => Err(AllocError),
             Err(CheckFault::Unsound(fault)) => unsound(alloc, fault),
-            Ok(()) => count(alloc, facts.len()),
+            Ok(()) => count(alloc, log.facts.len()),
         },
     }
 }

@@ -3,39 +3,20 @@
 ghost use Rattle.std.specs.Prelude.{◌≡◌, ◌<◌, ◌==◌, ◌++◌, ◌∷◌, [], length, position, IfOk, IfSome, IfNone, OnOk, codes, string_bytes};
 ghost use Rattle.std.specs.Fmt.{decimal};
 ghost use Rattle.redo_wire.specs.Faults.{number_of};
-ghost use Rattle.redo_wire.specs.FactReading.{decoded_fact};
-ghost use Rattle.redo_wire.specs.SummaryReading.{decoded_summary};
-ghost use Rattle.redo_wire.specs.DeltaReading.{decoded_delta};
+ghost use Rattle.redo_wire.specs.Values.{decoded_value};
 ghost use Rattle.script_text.specs.Parts.{parts_at};
-ghost use Rattle.script_text.specs.FactText.{fact_text};
 ghost use Rattle.fleet_tool.specs.Inspect.{summary_text, delta_text, told, value_text, line_text, inspected};
 
 use hex::FromHexError;
-use redo_wire::{Delta, Summary, WireError, WireFault, decode_delta, decode_fact, decode_summary};
+use redo_wire::{Delta, Summary, WireError, WireFault, WireValue, decode_value};
 use script_text::fact_text;
 use std::alloc::{AllocError, Global};
-
-/// The first byte of a summary.
-const SUMMARY: u8 = 0x10;
-
-/// The first byte of a delta.
-const DELTA: u8 = 0x11;
 
 fn fault_text(alloc: Global, fault: WireFault) -> Result<String, AllocError>
     ensures { IfOk result (λ s. string_bytes s ≡ codes "wire " ++ decimal (number_of fault)) }
 {
     let number = fault.number();
     format!(in alloc; "wire {number}")
-}
-
-fn fact_line(alloc: Global, bytes: &[u8]) -> Result<String, AllocError>
-    ensures { IfOk result (λ s. string_bytes s ≡ told fact_text (decoded_fact bytes.now)) }
-{
-    match decode_fact(alloc, bytes) {
-        Ok(fact) => fact_text(alloc, &fact),
-        Err(WireError::Memory) => Err(AllocError),
-        Err(WireError::Fault(fault)) => fault_text(alloc, fault),
-    }
 }
 
 fn summary_text(alloc: Global, summary: &Summary) -> Result<String, AllocError>
@@ -47,16 +28,6 @@ fn summary_text(alloc: Global, summary: &Summary) -> Result<String, AllocError>
     let anchor = summary.anchor();
     let keys = summary.keys().len();
     format!(in alloc; "summary cuts {cuts} min {min} waits {waits} anchor {anchor} keys {keys}")
-}
-
-fn summary_line(alloc: Global, bytes: &[u8]) -> Result<String, AllocError>
-    ensures { IfOk result (λ s. string_bytes s ≡ told summary_text (decoded_summary bytes.now)) }
-{
-    match decode_summary(alloc, bytes) {
-        Ok(summary) => summary_text(alloc, &summary),
-        Err(WireError::Memory) => Err(AllocError),
-        Err(WireError::Fault(fault)) => fault_text(alloc, fault),
-    }
 }
 
 fn delta_text(alloc: Global, delta: &Delta) -> Result<String, AllocError>
@@ -73,24 +44,25 @@ fn delta_text(alloc: Global, delta: &Delta) -> Result<String, AllocError>
     )
 }
 
-fn delta_line(alloc: Global, bytes: &[u8]) -> Result<String, AllocError>
-    ensures { IfOk result (λ s. string_bytes s ≡ told delta_text (decoded_delta bytes.now)) }
+/// What is told of a value.
+fn told(alloc: Global, value: &WireValue) -> Result<String, AllocError>
+    ensures { IfOk result (λ s. string_bytes s ≡ told value.now) }
 {
-    match decode_delta(alloc, bytes) {
-        Ok(delta) => delta_text(alloc, &delta),
-        Err(WireError::Memory) => Err(AllocError),
-        Err(WireError::Fault(fault)) => fault_text(alloc, fault),
+    match value {
+        WireValue::Fact(fact) => fact_text(alloc, fact),
+        WireValue::Summary(summary) => summary_text(alloc, summary),
+        WireValue::Delta(delta) => delta_text(alloc, delta),
     }
 }
 
-/// What is told of the bytes of a line. The first byte picks the decoder.
+/// What is told of the bytes of a line.
 fn value_text(alloc: Global, bytes: &[u8]) -> Result<String, AllocError>
-    ensures { IfOk result (λ s. string_bytes s ≡ value_text bytes.now) }
+    ensures { IfOk result (λ s. string_bytes s ≡ value_text (decoded_value bytes.now)) }
 {
-    match bytes {
-        [SUMMARY, ..] => summary_line(alloc, bytes),
-        [DELTA, ..] => delta_line(alloc, bytes),
-        _ => fact_line(alloc, bytes),
+    match decode_value(alloc, bytes) {
+        Ok(value) => told(alloc, &value),
+        Err(WireError::Memory) => Err(AllocError),
+        Err(WireError::Fault(fault)) => fault_text(alloc, fault),
     }
 }
 

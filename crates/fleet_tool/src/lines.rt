@@ -1,33 +1,32 @@
 //! Answer lines.
 
-ghost use Rattle.std.specs.Prelude.{◌≡◌, length, All, IfOk, OnOk, string_bytes};
-ghost use Rattle.fleet_tool.specs.Lines.{ReadsInside, asked_bytes, line_of, lines_of, HasCome};
+ghost use Rattle.std.specs.Prelude.{◌≡◌, IfOk, OnOk, string_bytes};
+ghost use Rattle.fleet_steps.specs.Shown.{ShowsInside};
+ghost use Rattle.fleet_core.specs.Replies.{HasCome};
+ghost use Rattle.fleet_tool.specs.Lines.{shown_bytes, line_of};
 
 use fleet_core::Reply;
+use fleet_steps::Step;
 use redo_core::Page;
-use script_text::StepLine;
 use std::alloc::{AllocError, Global};
 
-/// The bytes of a page that the step asks for: only a read asks for some.
-fn asked_bytes<'a>(step: StepLine, page: &'a Page) -> &'a [u8]
-    requires { ReadsInside step }
-    ensures { result.now ≡ asked_bytes step page.now }
+/// The bytes of a page that the step shows: only a read shows some.
+fn shown_bytes<'a>(step: Step<usize>, page: &'a Page) -> &'a [u8]
+    requires { ShowsInside step }
+    ensures { result.now ≡ shown_bytes step page.now }
 {
     match step {
-        StepLine::Read { offset, len, .. } => {
+        Step::Read { offset, len, .. } => {
             let start = usize::from(offset);
             &page.bytes()[start..start + usize::from(len)]
         }
-        StepLine::Take { .. } => &page.bytes()[..0],
-        StepLine::Fold { .. } => &page.bytes()[..0],
-        StepLine::Discard { .. } => &page.bytes()[..0],
-        StepLine::Front { .. } => &page.bytes()[..0],
+        _ => &page.bytes()[..0],
     }
 }
 
 /// The answer line of a reply to a step. A step that lacked memory is an error too.
-fn line(alloc: Global, step: StepLine, reply: &Reply) -> Result<String, AllocError>
-    requires { ReadsInside step }
+pub fn line(alloc: Global, step: Step<usize>, reply: &Reply) -> Result<String, AllocError>
+    requires { ShowsInside step }
     ensures text { IfOk result (λ s. string_bytes s ≡ line_of step reply.now) }
     ensures came { OnOk result (HasCome reply.now) }
 {
@@ -43,7 +42,7 @@ fn line(alloc: Global, step: StepLine, reply: &Reply) -> Result<String, AllocErr
             format!(in alloc; "front {epoch} {complete} {min}\n")
         }
         Reply::Page(page) => {
-            let digits = hex::encode(alloc, asked_bytes(step, page))?;
+            let digits = hex::encode(alloc, shown_bytes(step, page))?;
             format!(in alloc; "page {digits}\n")
         }
         Reply::Below(min) => format!(in alloc; "below {min}\n"),
@@ -53,19 +52,4 @@ fn line(alloc: Global, step: StepLine, reply: &Reply) -> Result<String, AllocErr
         Reply::BrokenBlockChain { .. } => Ok(String::new(alloc)),
         Reply::Memory => Err(AllocError),
     }
-}
-
-/// The answer lines of the replies to steps. A step that lacked memory is an error too.
-pub fn lines(alloc: Global, steps: &[StepLine], replies: &[Reply]) -> Result<String, AllocError>
-    requires many { length replies.now ≡ length steps.now }
-    requires inside { All ReadsInside steps.now }
-    ensures text { IfOk result (λ s. string_bytes s ≡ lines_of steps.now replies.now) }
-    ensures came { OnOk result (All HasCome replies.now) }
-{
-    let mut text = String::new(alloc);
-    for (i, reply) in replies.iter().enumerate() {
-        let next = line(alloc, steps[i], reply)?;
-        text.push_str(&next)?;
-    }
-    Ok(text)
 }

@@ -1,7 +1,7 @@
 //! The program, over any runtime.
 
 use crate::answer::Verdict;
-use crate::fault::RunFault;
+use crate::ending::{status_of, words_of};
 use crate::job::{LineFault, Task, job_of};
 use crate::run::{check_text, inspect_text, run_text};
 use crate::watched::Watched;
@@ -10,12 +10,10 @@ use std::process::ExitCode;
 use std::rt::Env;
 use std::{env, io};
 
-/// A bad line of the input, or a bad command line.
+/// A bad command line.
 const BAD: u8 = 2;
 
-const UNSOUND: u8 = 3;
-
-/// The input or the output failed.
+/// The output of the help failed.
 const DEVICE: u8 = 4;
 
 const MEMORY: u8 = 5;
@@ -35,14 +33,11 @@ fn answer_input(rt: &(impl Input + Print + Eprint + AllocGlobal), task: Task) ->
         Task::Check => check_text(rt.alloc(), &mut reader, &mut writer),
         Task::Inspect => inspect_text(rt.alloc(), &mut reader, &mut writer).map(|()| Verdict::Done),
     };
-    match ended {
-        Ok(Verdict::Done) => ExitCode::SUCCESS,
-        Ok(Verdict::BadLine) => ExitCode::from(BAD),
-        Ok(Verdict::Unsound) => ExitCode::from(UNSOUND),
-        Err(RunFault::Memory) => failed(rt, "out of memory", MEMORY),
-        Err(RunFault::Input) => failed(rt, "input failed", DEVICE),
-        Err(RunFault::Output) => failed(rt, "output failed", DEVICE),
+    let words = words_of(ended);
+    if !words.is_empty() {
+        return failed(rt, words, status_of(ended));
     }
+    ExitCode::from(status_of(ended))
 }
 
 /// What the program `fleet` does, by its command line: an answer from standard input to standard output, or the help.

@@ -1,11 +1,10 @@
 //! From a reader to a writer.
 
-ghost use Rattle.std.specs.Prelude.{◌≡◌, ℕ, List, true, false, take, IsErrOf, IfOk, OnOk, IfSome};
-ghost use Rattle.std.specs.Io.KnownBytes.{Appends, IsAtEnd};
+ghost use Rattle.std.specs.Prelude.{◌≡◌, false};
 ghost use Rattle.fleet_tool.specs.Inspect.{inspected};
 ghost use Rattle.fleet_tool.specs.Output.{IsOutputOf};
-ghost use Rattle.fleet_tool.specs.declared.answer.Verdict.{Verdict};
-ghost use Rattle.fleet_tool.specs.Watching.{device_of, has_failed};
+ghost use Rattle.fleet_tool.specs.TextCall.{IsTextCall};
+ghost use Rattle.fleet_tool.specs.Watching.{has_failed};
 
 use crate::answer::{Verdict, answer};
 use crate::device::{read_all, write_all};
@@ -22,24 +21,10 @@ fn answer_text<R: Read, W: Write>(
     reader: &mut Watched<R>,
     writer: &mut Watched<W>,
 ) -> Result<Verdict, RunFault>
-    // What is written is the output of the whole input, where the devices tell their bytes.
-    ensures text { IfOk result (λ v. IfSome (R.remaining (device_of reader.old)) (λ input. (text : List ℕ)
-        × IsOutputOf task input text v × Appends (W.contents (device_of writer.old)) (W.contents (device_of writer.new)) text)) }
-
-    // Each error, and what it leaves.
-    ensures input_only { IsErrOf result RunFault.Input → has_failed reader.new ≡ true }
-    ensures output_only { IsErrOf result RunFault.Output → has_failed writer.new ≡ true }
-    ensures input_leaves { IsErrOf result RunFault.Input → device_of writer.new ≡ device_of writer.old }
-    ensures memory_leaves { IsErrOf result RunFault.Memory → device_of writer.new ≡ device_of writer.old }
-    ensures output_leaves { IsErrOf result RunFault.Output → IfSome (R.remaining (device_of reader.old)) (λ input. (text : List ℕ) × (v : Verdict) × (n : ℕ)
-        × IsOutputOf task input text v × Appends (W.contents (device_of writer.old)) (W.contents (device_of writer.new)) (take n text)) }
-
-    // The whole input is read before anything is written.
-    ensures end { OnOk result (IsAtEnd (R.remaining (device_of reader.new))) }
-    ensures end_on_output { IsErrOf result RunFault.Output → IsAtEnd (R.remaining (device_of reader.new)) }
+    requires reader { has_failed reader.old ≡ false }
+    requires writer { has_failed writer.old ≡ false }
+    ensures { IsTextCall R.remaining W.contents (IsOutputOf task) reader.old reader.new writer.old writer.new result }
 {
-    reader.begin();
-    writer.begin();
     let input = read_all(alloc, reader)?;
     let output = answer(alloc, task, &input)?;
     write_all(writer, output.text.as_bytes())?;
@@ -55,21 +40,9 @@ pub fn run_text<R: Read, W: Write>(
     reader: &mut Watched<R>,
     writer: &mut Watched<W>,
 ) -> Result<Verdict, RunFault>
-    // What is written is the output of the whole input, where the devices tell their bytes.
-    ensures text { IfOk result (λ v. IfSome (R.remaining (device_of reader.old)) (λ input. (text : List ℕ)
-        × IsOutputOf Task.Run input text v × Appends (W.contents (device_of writer.old)) (W.contents (device_of writer.new)) text)) }
-
-    // Each error, and what it leaves.
-    ensures input_only { IsErrOf result RunFault.Input → has_failed reader.new ≡ true }
-    ensures output_only { IsErrOf result RunFault.Output → has_failed writer.new ≡ true }
-    ensures input_leaves { IsErrOf result RunFault.Input → device_of writer.new ≡ device_of writer.old }
-    ensures memory_leaves { IsErrOf result RunFault.Memory → device_of writer.new ≡ device_of writer.old }
-    ensures output_leaves { IsErrOf result RunFault.Output → IfSome (R.remaining (device_of reader.old)) (λ input. (text : List ℕ) × (v : Verdict) × (n : ℕ)
-        × IsOutputOf Task.Run input text v × Appends (W.contents (device_of writer.old)) (W.contents (device_of writer.new)) (take n text)) }
-
-    // The whole input is read before anything is written.
-    ensures end { OnOk result (IsAtEnd (R.remaining (device_of reader.new))) }
-    ensures end_on_output { IsErrOf result RunFault.Output → IsAtEnd (R.remaining (device_of reader.new)) }
+    requires reader { has_failed reader.old ≡ false }
+    requires writer { has_failed writer.old ≡ false }
+    ensures { IsTextCall R.remaining W.contents (IsOutputOf Task.Run) reader.old reader.new writer.old writer.new result }
 {
     answer_text(alloc, Task::Run, reader, writer)
 }
@@ -82,21 +55,9 @@ pub fn check_text<R: Read, W: Write>(
     reader: &mut Watched<R>,
     writer: &mut Watched<W>,
 ) -> Result<Verdict, RunFault>
-    // What is written is the output of the whole input, where the devices tell their bytes.
-    ensures text { IfOk result (λ v. IfSome (R.remaining (device_of reader.old)) (λ input. (text : List ℕ)
-        × IsOutputOf Task.Check input text v × Appends (W.contents (device_of writer.old)) (W.contents (device_of writer.new)) text)) }
-
-    // Each error, and what it leaves.
-    ensures input_only { IsErrOf result RunFault.Input → has_failed reader.new ≡ true }
-    ensures output_only { IsErrOf result RunFault.Output → has_failed writer.new ≡ true }
-    ensures input_leaves { IsErrOf result RunFault.Input → device_of writer.new ≡ device_of writer.old }
-    ensures memory_leaves { IsErrOf result RunFault.Memory → device_of writer.new ≡ device_of writer.old }
-    ensures output_leaves { IsErrOf result RunFault.Output → IfSome (R.remaining (device_of reader.old)) (λ input. (text : List ℕ) × (v : Verdict) × (n : ℕ)
-        × IsOutputOf Task.Check input text v × Appends (W.contents (device_of writer.old)) (W.contents (device_of writer.new)) (take n text)) }
-
-    // The whole input is read before anything is written.
-    ensures end { OnOk result (IsAtEnd (R.remaining (device_of reader.new))) }
-    ensures end_on_output { IsErrOf result RunFault.Output → IsAtEnd (R.remaining (device_of reader.new)) }
+    requires reader { has_failed reader.old ≡ false }
+    requires writer { has_failed writer.old ≡ false }
+    ensures { IsTextCall R.remaining W.contents (IsOutputOf Task.Check) reader.old reader.new writer.old writer.new result }
 {
     answer_text(alloc, Task::Check, reader, writer)
 }
@@ -110,21 +71,9 @@ pub fn inspect_text<R: Read, W: Write>(
     reader: &mut Watched<R>,
     writer: &mut Watched<W>,
 ) -> Result<(), RunFault>
-    // What is written is what is told of the whole input, where the devices tell their bytes.
-    ensures text { OnOk result (IfSome (R.remaining (device_of reader.old)) (λ input.
-        Appends (W.contents (device_of writer.old)) (W.contents (device_of writer.new)) (inspected input))) }
-
-    // Each error, and what it leaves.
-    ensures input_only { IsErrOf result RunFault.Input → has_failed reader.new ≡ true }
-    ensures output_only { IsErrOf result RunFault.Output → has_failed writer.new ≡ true }
-    ensures input_leaves { IsErrOf result RunFault.Input → device_of writer.new ≡ device_of writer.old }
-    ensures memory_leaves { IsErrOf result RunFault.Memory → device_of writer.new ≡ device_of writer.old }
-    ensures output_leaves { IsErrOf result RunFault.Output → IfSome (R.remaining (device_of reader.old)) (λ input. (n : ℕ)
-        × Appends (W.contents (device_of writer.old)) (W.contents (device_of writer.new)) (take n (inspected input))) }
-
-    // The whole input is read before anything is written.
-    ensures end { OnOk result (IsAtEnd (R.remaining (device_of reader.new))) }
-    ensures end_on_output { IsErrOf result RunFault.Output → IsAtEnd (R.remaining (device_of reader.new)) }
+    requires reader { has_failed reader.old ≡ false }
+    requires writer { has_failed writer.old ≡ false }
+    ensures { IsTextCall R.remaining W.contents (λ input text done. text ≡ inspected input) reader.old reader.new writer.old writer.new result }
 {
     match answer_text(alloc, Task::Inspect, reader, writer) {
         Ok(_) => Ok(()),

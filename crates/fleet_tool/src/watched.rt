@@ -41,14 +41,6 @@ impl<D> Watched<D> {
         let Watched { device, failed: _ } = self;
         device
     }
-
-    /// Begins the watch anew: forgets what failed.
-    pub fn begin(&mut self)
-        ensures device { device_of self.new ≡ device_of self.old }
-        ensures failed { has_failed self.new ≡ false }
-    {
-        self.failed = false;
-    }
 }
 
 impl<R: Read> Watched<R> {

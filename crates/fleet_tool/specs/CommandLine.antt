@@ -1,0 +1,35 @@
+-- The command line of the program: when it names a task, and when it asks for help.
+use Rattle.std.specs.Prelude.{◌≡◌, ◌⊎◌, ℕ, List, [], ◌∷◌, codes, true}
+use Rattle.clap.specs.Words.{App, Kinds, IsAmong, new_app, with_subcommand, fault_of}
+use Rattle.clap.specs.declared.error.kind.ErrorKind.{ErrorKind}
+use Rattle.clap.specs.declared.error.kind.ErrorKind.TheVariants.{DisplayHelp, DisplayVersion}
+use Rattle.fleet_tool.specs.declared.job.LineFault.{LineFault}
+use Rattle.fleet_tool.specs.declared.job.LineFault.TheVariants.{Help, Bad, Memory}
+use Rattle.fleet_tool.specs.declared.job.Task.{Task}
+use Rattle.fleet_tool.specs.TaskName.{name_of}
+
+-- the command, with a version, and its subcommands, none with a word of its own
+abbrev pub top : App
+top = record (new_app (codes "fleet")) { top = record (new_app (codes "fleet")).top { subcommand_required = true; disable_help_subcommand = true; has_version = true } }
+
+abbrev pub fleet_app : App
+fleet_app = with_subcommand (with_subcommand (with_subcommand top (new_app (codes "run")).top) (new_app (codes "check")).top) (new_app (codes "inspect")).top
+
+-- the kinds of fault that the words have
+unfoldable pub line_faults : List (List ℕ) → Kinds
+line_faults words = fault_of fleet_app words
+
+-- the words are the program's and the task's
+abbrev pub NameTask : List (List ℕ) → Task → Type 0
+NameTask words task = (program : List ℕ) × (words ≡ program ∷ name_of task ∷ [])
+
+-- the kind asks for the help or the version
+abbrev pub IsAsking : ErrorKind → Type 0
+IsAsking kind = (kind ≡ DisplayHelp) ⊎ (kind ≡ DisplayVersion)
+
+-- Why words that may have the faults of these kinds name no task: help is given where they ask for it, and they are bad where they
+-- have another fault, or none but words that no task has.
+abbrev pub IsWhy : Kinds → LineFault → Type 0
+IsWhy kinds (Help text) = (kind : ErrorKind) × IsAmong kind kinds × IsAsking kind
+IsWhy kinds Bad = (kinds ≡ []) ⊎ ((kind : ErrorKind) × IsAmong kind kinds × (IsAsking kind → ⊥))
+IsWhy kinds Memory = Unit {0}

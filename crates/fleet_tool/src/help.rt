@@ -1,0 +1,36 @@
+//! What the program says of itself.
+
+pub const VERSION: &str = "1.0";
+
+pub const STATUSES: &str =
+    "Statuses: 0 answered, 2 a bad line or a bad command line, 3 a log that is not sound, 4 a device that failed, 5 no memory.
+The forms of lines stand in docs/FORMATS.md.";
+
+pub const RUN: &str = "Input, a line each; fields stand between single spaces:
+  roster R                 the readers of the log, 1 to 15; may be left out for 1
+  rec E N P G B W          epoch, number, segment backlink, page, block backlink; W is -, or init, writes OFF:HEX and fills OFF*LEN:HH between commas
+  cut E LO HI              a truncation
+  min E M [R]              an advance of reader R, or of reader 1
+  go                       ends the facts
+  nodes 1                  the number of nodes
+  take I F                 node I takes fact F, counted from 1
+  fold I G, discard I      folds page G to the anchor, forgets what is folded
+  front I                  answers epoch, complete point and minimum read point
+  read I G Q OFF LEN       answers bytes of page G at point Q
+
+Statuses: 0 answered, 2 a bad line, 3 a log that is not sound, 4 a device that failed, 5 no memory.
+All forms and answers stand in docs/FORMATS.md.";
+
+pub const CHECK: &str =
+    "Input, a line each: the lines roster, rec, cut and min of a script (see fleet run --help).
+Output: sound and the number of facts, or the first fact that breaks a law, or the first bad line.
+
+Statuses: 0 sound, 2 a bad line, 3 a log that is not sound, 4 a device that failed, 5 no memory.
+The laws stand in docs/RULES.md, the forms in docs/FORMATS.md.";
+
+pub const INSPECT: &str =
+    "Input, a line each: the bytes of a fact, a summary or a delta, in hexadecimal digits of either case.
+Output, a line each: the fact's line, or what the summary or the delta holds, or wire and the number of the fault, or bad hex.
+
+Statuses: 0 answered, 4 a device that failed, 5 no memory.
+The bytes stand in docs/FORMATS.md.";

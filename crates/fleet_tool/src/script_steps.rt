@@ -1,0 +1,54 @@
+//! The steps of a script, carried out one after another.
+
+ghost use Rattle.std.specs.Prelude.{◌≡◌, ◌++◌, ℕ, List, length, All, IfOk, OnOk, string_bytes};
+ghost use Rattle.script_text.specs.StepLine.{IsInRange};
+ghost use Rattle.fleet_tool.specs.ScriptSteps.{IsStepOf, Answers, AnswersFirst};
+
+use crate::lines::line;
+use fleet_core::Fleet;
+use fleet_steps::Step;
+use redo_core::Fact;
+use std::alloc::{AllocError, Global};
+
+/// The step of the fleet that a script's step asks for, with a copy of the fact that it names.
+fn step_of(facts: &[Fact], step: Step<usize>) -> Result<Step<Fact>, AllocError>
+    requires { IsInRange (length facts.now) step }
+    ensures { IfOk result (IsStepOf facts.now step) }
+{
+    step.naming(|place| facts[place - 1].copy())
+}
+
+/// Carries out a step, and appends its answer line. A step that lacked memory is an error too.
+fn put_answer(
+    alloc: Global,
+    fleet: &mut Fleet,
+    facts: &[Fact],
+    step: Step<usize>,
+    text: &mut String,
+) -> Result<(), AllocError>
+    requires { IsInRange (length facts.now) step }
+    ensures { OnOk result ((line : List ℕ) × (string_bytes text.new ≡ string_bytes text.old ++ line) × AnswersFirst fleet.old facts.now step line fleet.new) }
+{
+    let asked = step_of(facts, step)?;
+    let reply = fleet.step(&asked);
+    let line = line(alloc, step, &reply)?;
+    text.push_str(&line)
+}
+
+/// The answer lines of a fleet to steps that take their facts from the list. No page is kept for an answer: each step's line is
+/// written before the next step. Its only error is want of memory.
+pub fn answers(
+    alloc: Global,
+    fleet: &mut Fleet,
+    facts: &[Fact],
+    steps: &[Step<usize>],
+) -> Result<String, AllocError>
+    requires { All (IsInRange (length facts.now)) steps.now }
+    ensures { IfOk result (λ s. Answers fleet.old facts.now steps.now (string_bytes s)) }
+{
+    let mut text = String::new(alloc);
+    for step in steps {
+        put_answer(alloc, fleet, facts, *step, &mut text)?;
+    }
+    Ok(text)
+}
