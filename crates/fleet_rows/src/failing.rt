@@ -52,8 +52,9 @@ fn failing_writer(rt: HostRuntime) -> Result<(), Fail> {
         let failed = writer.has_failed();
         let written = writer.into_inner().bytes;
         if result == Ok(Verdict::Done) {
+            // Seven writes and one flush, and no call more.
             assert!(rt; written.as_slice() == ANSWER.as_bytes());
-            assert!(rt; !failed && at > 5);
+            assert!(rt; !failed && at == 9);
             return Ok(());
         }
         assert!(rt; result == Err(RunFault::Output) && failed, "at {at}");
@@ -119,8 +120,9 @@ fn failing_writer_of_a_capture(rt: HostRuntime) -> Result<(), Fail> {
         let failed = writer.has_failed();
         let written = writer.into_inner().bytes;
         if result == Ok(()) {
+            // Twelve writes and one flush, and no call more.
             assert!(rt; written.as_slice() == TOLD.as_bytes());
-            assert!(rt; !failed && at > 5);
+            assert!(rt; !failed && at == 14);
             return Ok(());
         }
         assert!(rt; result == Err(RunFault::Output) && failed, "at {at}");
