@@ -1,0 +1,4 @@
+pub mod Tallies
+pub mod Receipts
+pub mod Keeping
+pub mod Passes

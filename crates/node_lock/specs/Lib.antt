@@ -1,0 +1,7 @@
+pub mod Trail
+pub mod Passes
+pub mod Known
+pub mod Rule
+pub mod Steps
+pub mod Visit
+pub mod Reading
