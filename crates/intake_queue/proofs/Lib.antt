@@ -1,0 +1,7 @@
+mod Parcels
+mod Views
+mod Beginning
+mod Moving
+mod Hearing
+mod Closing
+mod Relays

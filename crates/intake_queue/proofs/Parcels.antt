@@ -1,0 +1,86 @@
+-- Parcels of one sender, and new senders.
+use Rattle.std.proofs.Common.{◌≡◌, ◌≢◌, ℕ, zero, suc, ◌+◌, List, [], ◌∷◌, ◌++◌, length, ◌⊎◌, inl, inr, ⊎_elim, refl, sym, ap, subst, ◌∙◌, arith, length-append, Some}
+use Rattle.std.specs.Prelude.{◌==◌, slice_get}
+use Rattle.std.specs.List.{Contains}
+use Rattle.std.proofs.lemmas.Bool.{eq-eqb, ne_eqb}
+use Rattle.std.proofs.lemmas.List.{append-nil}
+use Rattle.std.proofs.lemmas.List.Elements.{filter-append}
+use Rattle.redo_core.proofs.Members.{here, there}
+use mathlib.Core.Logic.{dite}
+use native.Mathlib.Decide.{ℕ_discrete}
+use Rattle.atomic_table.specs.Seated.{TableId}
+use Rattle.intake_queue.specs.Parcel.{ParcelData, sent_by, AreNumbered}
+use Rattle.intake_queue.specs.Ends.{SenderData, new_sender, AreNewSenders}
+
+pub sent_by-append : (p : ℕ) (xs ys : List ParcelData) → sent_by p (xs ++ ys) ≡ sent_by p xs ++ sent_by p ys
+sent_by-append p xs ys = filter-append (λ (x : ParcelData). x.sender == p) xs ys
+
+-- one more at the front, of this sender or of another
+mine : (p : ℕ) (x : ParcelData) (xs : List ParcelData) → x.sender ≡ p → sent_by p (x ∷ xs) ≡ x ∷ sent_by p xs
+mine p x xs is = rw (eq-eqb x.sender p is) refl
+
+theirs : (p : ℕ) (x : ParcelData) (xs : List ParcelData) → x.sender ≢ p → sent_by p (x ∷ xs) ≡ sent_by p xs
+theirs p x xs isnt = rw (ne_eqb x.sender p isnt) refl
+
+-- one more at the end
+pub one_of_mine : (p : ℕ) (xs : List ParcelData) (x : ParcelData) → x.sender ≡ p → sent_by p (xs ++ x ∷ []) ≡ sent_by p xs ++ x ∷ []
+one_of_mine p xs x is = sent_by-append p xs (x ∷ []) ∙ ap (λ ys. sent_by p xs ++ ys) (mine p x [] is)
+
+pub one_of_another : (p : ℕ) (xs : List ParcelData) (x : ParcelData) → x.sender ≢ p → sent_by p (xs ++ x ∷ []) ≡ sent_by p xs
+one_of_another p xs x isnt = sent_by-append p xs (x ∷ []) ∙ (ap (λ ys. sent_by p xs ++ ys) (theirs p x [] isnt) ∙ append-nil (sent_by p xs))
+
+-- where there is one sender only
+pub all_mine : (p : ℕ) (xs : List ParcelData) → ((x : ParcelData) → Contains xs x → x.sender ≡ p) → sent_by p xs ≡ xs
+all_mine p [] all = refl
+all_mine p (x ∷ xs) all = mine p x xs (all x (here x xs)) ∙ ap (λ ys. x ∷ ys) (all_mine p xs (λ y c. all y (there x xs y c)))
+
+at_more : (xs : List ParcelData) (x : ParcelData) (k : ℕ) (y : ParcelData) → slice_get (xs ++ x ∷ []) k ≡ Some y
+    → (slice_get xs k ≡ Some y) ⊎ ((k ≡ length xs) × (x ≡ y))
+at_more [] x zero y e = inr (refl, cc)
+at_more [] x (suc k) y e = absurd cc
+at_more (z ∷ xs) x zero y e = inl e
+at_more (z ∷ xs) x (suc k) y e = ⊎_elim (λ h. inl h) (λ h. inr (ap suc h.0, h.1)) (at_more xs x k y e)
+
+pub numbered_more : (xs : List ParcelData) (x : ParcelData) → AreNumbered xs → x.number ≡ length xs + 1 → AreNumbered (xs ++ x ∷ [])
+numbered_more xs x all is = λ k y e. ⊎_elim
+    (λ h. all k y h)
+    (λ h. ap (λ z. z.number) (sym h.1) ∙ (is ∙ ap (λ n. n + 1) (sym h.0)))
+    (at_more xs x k y e)
+
+seam : {X : Type 0} (xs : List X) (x : X) (ys : List X) → slice_get (xs ++ x ∷ ys) (length xs) ≡ Some x
+seam [] x ys = refl
+seam (z ∷ xs) x ys = seam xs x ys
+
+-- the number of the first that is left
+pub numbered_first : (taken : List ParcelData) (x : ParcelData) (items : List ParcelData) → AreNumbered (sent_by x.sender (taken ++ x ∷ items))
+    → x.number ≡ length (sent_by x.sender taken) + 1
+numbered_first taken x items all =
+    let mine_taken = sent_by x.sender taken in
+    let mine_left = sent_by x.sender items in
+    let e : sent_by x.sender (taken ++ x ∷ items) ≡ mine_taken ++ x ∷ mine_left =
+    sent_by-append x.sender taken (x ∷ items) ∙ ap (λ ys. mine_taken ++ ys) (mine x.sender x items refl) in
+    subst AreNumbered e all (length mine_taken) x (seam mine_taken x mine_left)
+
+at_longer : {X : Type 0} (xs ys : List X) (k : ℕ) (x : X) → slice_get xs k ≡ Some x → slice_get (xs ++ ys) k ≡ Some x
+at_longer [] ys k x e = absurd cc
+at_longer (z ∷ xs) ys zero x e = e
+at_longer (z ∷ xs) ys (suc k) x e = at_longer xs ys k x e
+
+-- those that stand before others
+pub numbered_before : (p : ℕ) (xs ys : List ParcelData) → AreNumbered (sent_by p (xs ++ ys)) → AreNumbered (sent_by p xs)
+numbered_before p xs ys all =
+    let both : AreNumbered (sent_by p xs ++ sent_by p ys) = subst AreNumbered (sent_by-append p xs ys) all in
+    λ k x e. both k x (at_longer (sent_by p xs) (sent_by p ys) k x e)
+
+-- one more new sender
+pub one_new : (intake : TableId) (senders count : ℕ) (made more : List SenderData) → AreNewSenders intake senders count made
+    → more ≡ made ++ new_sender intake senders (count + 1) ∷ [] → AreNewSenders intake senders (count + 1) more
+one_new intake senders count made more h is =
+    let last = new_sender intake senders (count + 1) in
+    subst (AreNewSenders intake senders (count + 1)) (sym is) (
+      omega (arith, h.0, length-append made (last ∷ [])),
+      λ before lt. dite (ℕ_discrete before count)
+          (λ e. subst (λ k. slice_get (made ++ last ∷ []) k ≡ Some (new_sender intake senders (before + 1))) (h.0 ∙ sym e)
+          (seam made last [] ∙ ap (λ k. Some (new_sender intake senders (k + 1))) (sym e)))
+          (λ ne. at_longer made (last ∷ []) before _ (h.1 before (omega arith))),
+    )

@@ -1,0 +1,19 @@
+use Rattle.std.proofs.Common.{rules, ◌≡◌, ◌++◌, sym, ap, ◌∙◌}
+use Rattle.intake_queue.proofs.Closing.{at_end, as_taker}
+use Rattle.intake_queue.proofs.Moving.{takes, holds_rest}
+use Rattle.crossbeam_queue.specs.Passes.{view}
+use Rattle.intake_queue.specs.Known.{taker}
+use Rattle.intake_queue.proofs.ending.drain.Goals as goal
+
+pub pop_as-requires-clause-rule : goal.pop_as-requires-clause-rule
+pop_as-requires-clause-rule g c = let is = as_taker _ _ _ _ _ _ c.loop.invariant.known in (takes _ _ is, holds_rest _ _ is)
+
+pub returns-in-None-pop_as : goal.returns-in-None-pop_as
+returns-in-None-pop_as g c =
+    let v = view c.args.pass.now in
+    let held = c.in-None-pop_as.ensures.rule.1 in
+    let left = c.reserve.new.self.items in
+    let kept : left ≡ c.loop.left.items = search rules in
+    let is = c.loop.invariant.known ∙ ap (λ xs. taker (v.taken ++ xs) v.senders v.made v.ended v.accepted_counts) (sym kept) in
+    let known = at_end v (view c.loop.pass) left held.0 is held.1 held.2 in
+    record { whole = known.0; in_turn = known.1 }
