@@ -1,5 +1,8 @@
 #!/usr/bin/env python3
-"""Tells what each line of a capture on standard input spells, from the layouts and the order of faults alone."""
+"""Tells what each line of a capture on standard input spells, from the layouts and the order of faults alone.
+
+Usage: wire_oracle.py [--pieces] < capture. With --pieces it knows the pieces of snapshots, which the program does not yet.
+"""
 
 import sys
 
@@ -32,7 +35,11 @@ class Front:
         return int.from_bytes(self.bytes(size), "big")
 
 
-def record(front):
+# Facts
+
+
+def links(front):
+    """The fields of a record up to its block backlink: its key, and its line so far."""
     epoch = front.whole(2)
     number = front.whole(6)
     need(number >= 1)
@@ -41,17 +48,55 @@ def record(front):
     page = front.whole(2)
     block_back = front.whole(6)
     need(block_back <= back)
+    return (epoch, number), f"rec {epoch} {number} {back} {page} {block_back}"
+
+
+def patch(front, kind, total):
+    """The word of a patch, and the bytes of plain writes so far."""
+    offset = front.whole(2)
+    length = front.whole(2)
+    need(length > 0 and offset + length <= PAGE)
+    if kind == 1:
+        return f"{offset}*{length}:{front.bytes(1).hex()}", total
+    need(total + length <= 2 * PAGE)
+    return f"{offset}:{front.bytes(length).hex()}", total + length
+
+
+def patches(front, is_plain):
     count = front.whole(1)
     need(count <= 64)
-    writes, total = [], 0
+    words, total, has_fill = [], 0, False
     for _ in range(count):
-        offset = front.whole(2)
-        length = front.whole(2)
-        total += length
-        need(length > 0 and offset + length <= PAGE and total <= 2 * PAGE)
-        writes.append(f"{offset}:{front.bytes(length).hex()}")
-    text = f"rec {epoch} {number} {back} {page} {block_back} {','.join(writes) or '-'}"
-    return (epoch, number), text
+        kind = 0 if is_plain else front.whole(1)
+        need(kind <= 1, TAG)
+        has_fill = has_fill or kind == 1
+        word, total = patch(front, kind, total)
+        words.append(word)
+    return words, has_fill
+
+
+def plain_record(front):
+    key, text = links(front)
+    words, _ = patches(front, True)
+    return key, f"{text} {','.join(words) or '-'}"
+
+
+def patched_record(front):
+    key, text = links(front)
+    flags = front.whole(1)
+    need(flags <= 1)
+    words, has_fill = patches(front, False)
+    need(flags == 1 or has_fill)
+    return key, f"{text} {','.join(['init'] * flags + words)}"
+
+
+RECORDS = {0x01: plain_record, 0x06: patched_record}
+
+
+def tagged_record(front):
+    tag = front.whole(1)
+    need(tag in RECORDS, TAG)
+    return RECORDS[tag](front)
 
 
 def cut(front):
@@ -63,12 +108,18 @@ def cut(front):
     return epoch, f"cut {epoch} {lo} {hi}"
 
 
-def advance(front, above=-1):
+def advance(front, readers=None, above=-1):
+    """An advance, with its reader where a range of readers is given."""
     epoch = front.whole(2)
     need(epoch > above)
+    reader = front.whole(1) if readers else 1
+    need(not readers or reader in readers)
     point = front.whole(6)
     need(point >= 1)
-    return (epoch, point), f"min {epoch} {point}"
+    return (epoch, reader, point), f"min {epoch} {point}" + (f" {reader}" if readers else "")
+
+
+# Messages
 
 
 def rising(count, read):
@@ -81,13 +132,17 @@ def rising(count, read):
     return places
 
 
-def book(front):
+def book(front, has_roster):
+    """The least point, the complete epoch, and the inspector's words."""
     cuts = rising(front.whole(2), lambda: cut(front))
     complete = 0
     while complete + 1 in cuts:
         complete += 1
-    least = front.whole(6)
-    waits = rising(front.whole(4), lambda: advance(front, complete))
+    readers = front.whole(1) if has_roster else 1
+    need(not has_roster or 2 <= readers <= 15)
+    least = min([front.whole(6) for _ in range(readers)])
+    named = range(1, readers + 1) if has_roster else None
+    waits = rising(front.whole(4), lambda: advance(front, named, complete))
     return least, f"cuts {len(cuts)} min {least} waits {len(waits)}"
 
 
@@ -104,21 +159,16 @@ def image(front):
     return (number,)
 
 
-def tagged_record(front):
-    need(front.whole(1) == 0x01, TAG)
-    return record(front)
-
-
-def summary(front):
-    least, text = book(front)
+def summary(front, has_roster):
+    least, text = book(front, has_roster)
     anchor = front.whole(6)
     need(anchor <= least)
     keys = rising(front.whole(4), lambda: key(front))
     return f"summary {text} anchor {anchor} keys {len(keys)}"
 
 
-def delta(front):
-    least, text = book(front)
+def delta(front, has_roster):
+    least, text = book(front, has_roster)
     base = front.whole(6)
     need(base <= least)
     count = front.whole(4)
@@ -128,39 +178,68 @@ def delta(front):
     return f"delta {text} base {base} pages {len(pages)} records {len(records)}"
 
 
+def piece(front, has_roster):
+    front.whole(8)
+    index = front.whole(4)
+    total = front.whole(4)
+    need(index < total)
+    kind = front.whole(1)
+    need(kind <= (0 if has_roster else 2), TAG)
+    need((kind == 0) == (index == 0))
+    if kind == 0:
+        least, _ = book(front, has_roster)
+        need(front.whole(6) <= least)
+        holds = "head"
+    elif kind == 1:
+        holds = f"page {image(front)[0]}"
+    else:
+        count = front.whole(1)
+        need(1 <= count <= 64)
+        holds = f"records {len(rising(count, lambda: tagged_record(front)))}"
+    return f"piece {index} of {total} {holds}"
+
+
+# Values
+
 FORMS = {
-    0x01: lambda front: record(front)[1],
+    0x01: lambda front: plain_record(front)[1],
     0x02: lambda front: cut(front)[1],
     0x03: lambda front: advance(front)[1],
-    0x10: summary,
-    0x11: delta,
+    0x05: lambda front: advance(front, range(2, 16))[1],
+    0x06: lambda front: patched_record(front)[1],
+    0x10: lambda front: summary(front, False),
+    0x11: lambda front: delta(front, False),
+    0x20: lambda front: summary(front, True),
+    0x21: lambda front: delta(front, True),
 }
+PIECES = {0x12: lambda front: piece(front, False), 0x22: lambda front: piece(front, True)}
 
 
-def value(data):
+def value(data, forms):
     front = Front(data)
     tag = front.whole(1)
-    need(tag in FORMS, TAG)
-    text = FORMS[tag](front)
+    need(tag in forms, TAG)
+    text = forms[tag](front)
     need(front.at == len(data), REST)
     return text
 
 
-def line(digits):
+def line(digits, forms):
     if len(digits) % 2 or not all(c in b"0123456789abcdefABCDEF" for c in digits):
         return "bad hex"
     try:
-        return value(bytes.fromhex(digits.decode()))
+        return value(bytes.fromhex(digits.decode()), forms)
     except Fault as fault:
         return f"wire {fault.args[0]}"
 
 
-def told(text):
+def told(text, has_pieces=False):
+    forms = {**FORMS, **PIECES} if has_pieces else FORMS
     lines = text.split(b"\n")
     if lines[-1] == b"":
         lines.pop()
-    return "".join(line(digits) + "\n" for digits in lines).encode()
+    return "".join(line(digits, forms) + "\n" for digits in lines).encode()
 
 
 if __name__ == "__main__":
-    sys.stdout.buffer.write(told(sys.stdin.buffer.read()))
+    sys.stdout.buffer.write(told(sys.stdin.buffer.read(), "--pieces" in sys.argv[1:]))

@@ -1,70 +1,85 @@
-/* Refuses one allocation of the program that it is preloaded into.
+/* Refuses one allocation of the program that it is preloaded into, and tells how many there were and the greatest.
 
-   FAIL_ALLOC=N refuses the N-th call that asks for memory, from 1. With FAIL_ALLOC_COUNT=PATH the number of such calls is
-   written to that file when the program ends. */
+   FAIL_ALLOC=N refuses the N-th call that asks for memory, from 1. With FAIL_ALLOC_REPORT=PATH the number of such calls and the
+   most bytes that one of them asked for are written to that file when the program ends. No header is included, so that the
+   toolchain's own compiler builds it on a machine that has no C headers. */
 
-#include <errno.h>
-#include <stdatomic.h>
-#include <stddef.h>
-#include <stdio.h>
-#include <stdlib.h>
+typedef unsigned long size_t;
 
 extern void *__libc_malloc(size_t size);
 extern void *__libc_calloc(size_t count, size_t size);
 extern void *__libc_realloc(void *old, size_t size);
 extern void *__libc_memalign(size_t alignment, size_t size);
+extern int *__errno_location(void);
+extern char *getenv(const char *name);
+extern unsigned long strtoul(const char *text, char **end, int base);
+extern int creat(const char *path, unsigned int mode);
+extern int dprintf(int file, const char *form, ...);
+extern int close(int file);
 
-static atomic_ulong calls;
+enum { OUT_OF_MEMORY = 12 };
+
+static unsigned long calls;
 static unsigned long refused;
+static size_t greatest;
 
 __attribute__((constructor)) static void read_setting(void) {
     const char *setting = getenv("FAIL_ALLOC");
-    atomic_store(&calls, 0);
-    refused = setting == NULL ? 0 : strtoul(setting, NULL, 10);
+    calls = 0;
+    greatest = 0;
+    refused = setting == 0 ? 0 : strtoul(setting, 0, 10);
 }
 
-__attribute__((destructor)) static void write_count(void) {
-    const char *path = getenv("FAIL_ALLOC_COUNT");
-    unsigned long count = atomic_load(&calls);
+__attribute__((destructor)) static void write_report(void) {
+    const char *path = getenv("FAIL_ALLOC_REPORT");
+    unsigned long count = __atomic_load_n(&calls, __ATOMIC_SEQ_CST);
+    size_t most = __atomic_load_n(&greatest, __ATOMIC_SEQ_CST);
     refused = 0;
-    FILE *file = path == NULL ? NULL : fopen(path, "w");
-    if (file != NULL) {
-        fprintf(file, "%lu\n", count);
-        fclose(file);
+    int file = path == 0 ? -1 : creat(path, 0644);
+    if (file >= 0) {
+        dprintf(file, "%lu %lu\n", count, most);
+        close(file);
     }
 }
 
-static int is_refused(void) {
-    int refuses = atomic_fetch_add(&calls, 1) + 1 == refused;
-    if (refuses)
-        errno = ENOMEM;
-    return refuses;
+/* Counts a call for so many bytes, and says whether it is the one to be refused. */
+static int is_refused(size_t size) {
+    size_t seen = __atomic_load_n(&greatest, __ATOMIC_SEQ_CST);
+    while (seen < size && !__atomic_compare_exchange_n(&greatest, &seen, size, 0, __ATOMIC_SEQ_CST, __ATOMIC_SEQ_CST)) {
+    }
+    if (__atomic_add_fetch(&calls, 1, __ATOMIC_SEQ_CST) != refused)
+        return 0;
+    *__errno_location() = OUT_OF_MEMORY;
+    return 1;
 }
 
 void *malloc(size_t size) {
-    return is_refused() ? NULL : __libc_malloc(size);
+    return is_refused(size) ? 0 : __libc_malloc(size);
 }
 
 void *calloc(size_t count, size_t size) {
-    return is_refused() ? NULL : __libc_calloc(count, size);
+    size_t total;
+    if (__builtin_mul_overflow(count, size, &total))
+        total = ~(size_t)0;
+    return is_refused(total) ? 0 : __libc_calloc(count, size);
 }
 
 void *realloc(void *old, size_t size) {
-    return is_refused() ? NULL : __libc_realloc(old, size);
+    return is_refused(size) ? 0 : __libc_realloc(old, size);
 }
 
 void *memalign(size_t alignment, size_t size) {
-    return is_refused() ? NULL : __libc_memalign(alignment, size);
+    return is_refused(size) ? 0 : __libc_memalign(alignment, size);
 }
 
 void *aligned_alloc(size_t alignment, size_t size) {
-    return is_refused() ? NULL : __libc_memalign(alignment, size);
+    return memalign(alignment, size);
 }
 
 int posix_memalign(void **out, size_t alignment, size_t size) {
-    void *made = is_refused() ? NULL : __libc_memalign(alignment, size);
-    if (made == NULL)
-        return ENOMEM;
+    void *made = memalign(alignment, size);
+    if (made == 0)
+        return OUT_OF_MEMORY;
     *out = made;
     return 0;
 }

@@ -1,13 +1,15 @@
 #!/usr/bin/env python3
 """Runs a command once for each allocation that it makes, with that allocation refused.
 
-Each run must end with status 5 and nothing on standard output, or give the answer that it gives with ample memory.
-Usage: sweep.py [--input FILE] COMMAND WORD..
+Each run must end with status 5 and nothing on standard output, or give the answer that it gives with ample memory. With
+--slack BYTES no single allocation may ask for more than the input's size and that. The shim is built by the compiler that
+comes with the toolchain. Usage: sweep.py [--input FILE] [--slack BYTES] COMMAND WORD..
 """
 
 import argparse
 import os
 import pathlib
+import shutil
 import subprocess
 import sys
 import tempfile
@@ -16,38 +18,75 @@ SOURCE = pathlib.Path(__file__).resolve().parent / "fail_alloc.c"
 OUT_OF_MEMORY = 5
 
 
-def run(command, data, shim, refused, count):
-    settings = os.environ | {"LD_PRELOAD": str(shim), "FAIL_ALLOC": str(refused), "FAIL_ALLOC_COUNT": str(count)}
+class Unusable(Exception):
+    """Why nothing can be said of the program's allocations."""
+
+
+def compiler():
+    """The C compiler of the toolchain that `rt` belongs to."""
+    rt = shutil.which("rt")
+    if rt is None:
+        raise Unusable("rt is not on the path")
+    return pathlib.Path(rt).resolve().parent.parent / "toolchain/bin/clang"
+
+
+def build_shim(folder):
+    shim = pathlib.Path(folder) / "fail_alloc.so"
+    flags = ["-O2", "-Wall", "-Werror", "-shared", "-fPIC", "-nostdlib", "-fuse-ld=lld"]
+    subprocess.run([compiler(), *flags, "-o", shim, SOURCE], check=True)
+    return shim
+
+
+def run(command, data, shim, refused, report):
+    settings = {**os.environ, "LD_PRELOAD": str(shim), "FAIL_ALLOC": str(refused), "FAIL_ALLOC_REPORT": str(report)}
     done = subprocess.run(command, input=data, capture_output=True, env=settings)
-    return done.returncode, done.stdout
+    return done.returncode, done.stdout, done.stderr
 
 
-def sweep(command, data, folder):
+def greatest(command, data, shim):
+    """The number of allocations, the most bytes that one asks for, and the ample answer."""
+    report = shim.with_name("report")
+    report.unlink(missing_ok=True)
+    ample = run(command, data, shim, 0, report)
+    total, most = (int(word) for word in report.read_text().split()) if report.exists() else (0, 0)
+    if total == 0:
+        raise Unusable(f"{command[0]} asks the shim for no memory")
+    return total, most, ample
+
+
+def sweep(command, data, shim):
     """The number of allocations, how many refusals were answered as want of memory, and the bad ones."""
-    shim, count = folder / "fail_alloc.so", folder / "count"
-    subprocess.run(["cc", "-O2", "-shared", "-fPIC", "-o", shim, SOURCE], check=True)
-    ample = run(command, data, shim, 0, count)
-    total = int(count.read_text())
-    answers = {n: run(command, data, shim, n, count) for n in range(1, total + 1)}
-    wanting = [n for n in answers if answers[n] == (OUT_OF_MEMORY, b"")]
-    bad = [(n, answers[n]) for n in answers if answers[n] not in ((OUT_OF_MEMORY, b""), ample)]
-    return total, len(wanting), bad
+    total, _, ample = greatest(command, data, shim)
+    wanting = (OUT_OF_MEMORY, b"", b"fleet: out of memory\n")
+    answers = {n: run(command, data, shim, n, shim.with_name("refusing")) for n in range(1, total + 1)}
+    bad = [(n, answers[n]) for n in answers if answers[n] not in (wanting, ample)]
+    return total, sum(answer == wanting for answer in answers.values()), bad
 
 
 def main():
     parser = argparse.ArgumentParser(description=__doc__)
     parser.add_argument("--input", type=pathlib.Path, help="what standard input holds")
+    parser.add_argument("--slack", type=int, help="how many bytes beyond the input's size an allocation may ask for")
     parser.add_argument("command", nargs=argparse.REMAINDER, help="the program and its words")
     given = parser.parse_args()
     if not given.command:
         parser.error("no command")
     data = given.input.read_bytes() if given.input else b""
-    with tempfile.TemporaryDirectory() as folder:
-        total, wanting, bad = sweep(given.command, data, pathlib.Path(folder))
-    for refused, (status, output) in bad:
-        print(f"allocation {refused}: status {status}, {len(output)} bytes on standard output")
-    print(f"{total} allocations: {wanting} answered by status 5, {total - wanting - len(bad)} by the ample answer, {len(bad)} otherwise")
-    sys.exit(1 if bad else 0)
+    try:
+        with tempfile.TemporaryDirectory() as folder:
+            shim = build_shim(folder)
+            total, wanting, bad = sweep(given.command, data, shim)
+            most = greatest(given.command, data, shim)[1]
+    except Unusable as fault:
+        sys.exit(f"sweep: {fault}")
+    for refused, (status, output, said) in bad:
+        print(f"allocation {refused}: status {status}, {len(output)} bytes on standard output, {said!r} on standard error")
+    is_large = given.slack is not None and most > len(data) + given.slack
+    if is_large:
+        print(f"an allocation of {most} bytes for an input of {len(data)}")
+    ample = total - wanting - len(bad)
+    print(f"{total} allocations: {wanting} answered by status 5, {ample} by the ample answer, {len(bad)} otherwise; the greatest {most} bytes")
+    sys.exit(1 if bad or is_large else 0)
 
 
 if __name__ == "__main__":

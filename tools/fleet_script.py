@@ -1,0 +1,158 @@
+#!/usr/bin/env python3
+"""Tests the script `fleet` in a folder of its own, with a stand-in for `rt` that builds a stand-in for the program.
+
+Prints a line for each test, and ends in 'N passed, M failed'.
+"""
+
+import os
+import pathlib
+import pty
+import shutil
+import signal
+import subprocess
+import sys
+import tempfile
+import time
+
+ROOT = pathlib.Path(__file__).resolve().parent.parent
+
+PROGRAM = '#!/bin/sh\necho "words: $*"\ncat\nexit 7\n'
+
+RT = """#!/bin/sh
+echo 'rt: chose --jobs 2 for low'
+echo 'checked low::first, 3 of 7'
+sleep "${RT_SLEEPS:-0}"
+[ -z "$RT_FAILS" ] || { echo 'fn low::first: proved'; echo 'fn low::second: not proved'; exit 1; }
+mkdir -p out
+printf '%s' "$PROGRAM" > out/fleet
+chmod +x out/fleet
+"""
+
+NEEDED = ("sh", "readlink", "dirname", "find", "head")  # what the script calls before it looks for rt
+
+ONCE = b"fleet: building and proving 2 crates first, which takes minutes\n"
+
+
+class Failed(Exception):
+    """What a test saw."""
+
+
+def expect(what, seen, wanted):
+    if seen != wanted:
+        raise Failed(f"{what}: {seen!r} in place of {wanted!r}")
+
+
+class Tree:
+    """A repository of two crates, and a folder with `rt`."""
+
+    def __init__(self, folder):
+        self.top = pathlib.Path(folder) / "a tree"
+        self.tools = pathlib.Path(folder) / "tools"
+        (self.top / "crates/fleet").mkdir(parents=True)
+        self.tools.mkdir()
+        (self.top / "crates.txt").write_text("# the floors\nlow: bytes\nother: low\nfleet: low\n")
+        shutil.copy(ROOT / "fleet", self.top / "fleet")
+        rt = self.tools / "rt"
+        rt.write_text(RT)
+        rt.chmod(0o755)
+
+    def settings(self, **more):
+        path = f"{self.tools}:{os.environ['PATH']}"
+        return {**os.environ, "PATH": path, "PROGRAM": PROGRAM, "TMPDIR": str(self.tools), **more}
+
+    def run(self, command=None, **more):
+        words = [command or self.top / "fleet", "run", "two words"]
+        done = subprocess.run(words, input=b"given\n", capture_output=True, env=self.settings(**more), cwd=self.tools, timeout=60)
+        return done.returncode, done.stdout, done.stderr
+
+    def leftovers(self):
+        return sorted(path.name for path in self.tools.iterdir() if path.name != "rt")
+
+
+ANSWER = b"words: run two words\ngiven\n"
+
+
+def builds_once(tree):
+    """Words, input, output and status go through; the build speaks on standard error alone."""
+    expect("the first call", tree.run(), (7, ANSWER, ONCE))
+    expect("the second call", tree.run(), (7, ANSWER, b""))
+    time.sleep(0.01)
+    (tree.top / "crates.txt").touch()
+    expect("a call after an edit", tree.run(), (7, ANSWER, ONCE))
+    expect("leftovers", tree.leftovers(), [])
+
+
+def follows_links(tree):
+    link = tree.tools / "linked"
+    link.symlink_to(tree.top / "fleet")
+    expect("a call by a link", tree.run(link), (7, ANSWER, ONCE))
+    link.unlink()
+    expect("a call under CDPATH", tree.run(CDPATH=f"{tree.top}:/"), (7, ANSWER, b""))
+
+
+def misses_the_toolchain(tree):
+    without = tree.tools / "without"
+    without.mkdir()
+    for name in NEEDED:
+        (without / name).symlink_to(shutil.which(name))
+    words = b"fleet: rt is not on the path; README.md says what is needed\n"
+    expect("a call without rt", tree.run(PATH=str(without)), (1, b"", words))
+
+
+def shows_faults_alone(tree):
+    said = ONCE + b"fn low::second: not proved\nfleet: the program was not built\n"
+    expect("a build that fails", tree.run(RT_FAILS="1"), (1, b"", said))
+    expect("leftovers", tree.leftovers(), [])
+    expect("the next call", tree.run(), (7, ANSWER, ONCE))
+
+
+def tells_a_terminal(tree):
+    """Soon the terminal has the crate and how many of its functions are checked; output has the answer alone."""
+    inner, outer = pty.openpty()
+    begun = time.monotonic()
+    child = subprocess.Popen(
+        [tree.top / "fleet", "run"], stdin=subprocess.DEVNULL, stdout=subprocess.PIPE, stderr=outer, env=tree.settings(RT_SLEEPS="6")
+    )
+    os.close(outer)
+    told = b""
+    while b"low: 3 of 7 functions, crate 1 of up to 2" not in told:
+        told += os.read(inner, 1000)
+        if time.monotonic() - begun > 5:
+            raise Failed(f"the terminal saw {told!r}")
+    expect("the answer", child.communicate(timeout=60)[0], b"words: run\n")
+    os.close(inner)
+
+
+def leaves_nothing_when_interrupted(tree):
+    child = subprocess.Popen([tree.top / "fleet", "run"], stdin=subprocess.DEVNULL, stderr=subprocess.PIPE, env=tree.settings(RT_SLEEPS="30"))
+    child.stderr.readline()
+    time.sleep(0.3)
+    child.send_signal(signal.SIGINT)
+    expect("the status of an interrupted build", child.wait(timeout=10), 130)
+    child.stderr.close()
+    expect("leftovers", tree.leftovers(), [])
+
+
+def tests():
+    """How many tests passed, and how many failed."""
+    passed = failed = 0
+    for test in (builds_once, follows_links, misses_the_toolchain, shows_faults_alone, tells_a_terminal, leaves_nothing_when_interrupted):
+        with tempfile.TemporaryDirectory() as folder:
+            try:
+                test(Tree(folder))
+                passed += 1
+            except (Failed, OSError, subprocess.SubprocessError) as fault:
+                print(f"the script fleet {test.__name__.replace('_', ' ')} FAILED: {fault}")
+                failed += 1
+    print(f"the script fleet: {passed} of {passed + failed} tests")
+    return passed, failed
+
+
+def main():
+    passed, failed = tests()
+    print(f"{passed} passed, {failed} failed")
+    sys.exit(1 if failed else 0)
+
+
+if __name__ == "__main__":
+    main()

@@ -1,0 +1,255 @@
+#!/usr/bin/env python3
+"""Tests the built program from outside: its examples, its statuses and its words on standard error, random inputs against the
+oracles, and want of memory. Prints a line for each test, and ends in 'N passed, M failed'.
+
+Nothing is left out in silence: where a test cannot be made here, it fails and says why.
+"""
+
+import argparse
+import os
+import pathlib
+import subprocess
+import sys
+import tempfile
+from functools import partial
+
+import compare
+import compare_captures
+
+sys.path.insert(0, str(pathlib.Path(__file__).resolve().parent / "fail_alloc"))
+import sweep
+
+ROOT = pathlib.Path(__file__).resolve().parent.parent
+PROGRAM = ROOT / "crates/fleet/out/fleet"
+SECONDS = 60
+
+
+class Failed(Exception):
+    """What a test saw."""
+
+
+def answer(program, words, **streams):
+    """The status, standard output and standard error of a run."""
+    given = {"input": b""} if "stdin" not in streams and "input" not in streams else {}
+    outputs = {"stdout": subprocess.PIPE, "stderr": subprocess.PIPE}
+    done = subprocess.run([program, *words], timeout=SECONDS, **{**given, **outputs, **streams})
+    return done.returncode, done.stdout, done.stderr
+
+
+def expect(what, seen, wanted):
+    if seen != wanted:
+        raise Failed(f"{what}: {seen!r} in place of {wanted!r}")
+
+
+# Tests: each takes the program and says in a few words what it saw
+
+
+STATUS_OF = {b"bad": 2, b"unsound": 3}
+
+
+def examples(program):
+    """Each example's answers stand in the file NAME.TASK.out beside NAME.txt."""
+    answers = sorted((ROOT / "examples").glob("*.*.out"))
+    if not answers:
+        raise Failed("no example")
+    for path in answers:
+        name, task, _ = path.name.split(".")
+        wanted = path.read_bytes()
+        text = path.with_name(f"{name}.txt").read_bytes()
+        is_inspected = task == "inspect"
+        status = 0 if is_inspected else STATUS_OF.get(wanted.split(b" ")[0], 0)
+        expect(path.name, answer(program, [task], input=text), (status, wanted, b""))
+    return f"{len(answers)} answers"
+
+
+SOUND = b"rec 0 3 0 7 0 0:61\nmin 0 3\n"
+SCRIPT = SOUND + b"go\nnodes 1\ntake 1 1\nread 1 7 3 0 1\n"
+UNSOUND = b"rec 0 3 2 7 0 -\n"
+
+TEXTS = [
+    # task, input, status, output
+    ("check", SOUND, 0, b"sound 2\n"),
+    ("check", b"", 0, b"sound 0\n"),
+    ("run", SCRIPT, 0, b"changed\npage 61\n"),
+    ("run", b"go\nnodes 1\n", 0, b""),
+    ("inspect", b"04\nzz\n", 0, b"wire 2\nbad hex\n"),
+    ("inspect", b"", 0, b""),
+    ("check", b"min 0 5", 2, b"bad line 1\n"),
+    ("check", SOUND + b"\n", 2, b"bad line 3\n"),
+    ("run", b"", 2, b"bad line 1\n"),
+    ("run", SCRIPT + b"take 1 3\n", 2, b"bad line 7\n"),
+    ("check", UNSOUND, 3, b"unsound 1 law 3\n"),
+    ("run", UNSOUND + b"go\nnodes 1\n", 3, b"unsound 1 law 3\n"),
+]
+
+BAD_COMMAND_LINES = [[], ["walk"], ["run", "run"], ["check", "x"], ["inspect", "--loud"], ["--run"], ["run", "-"], [""]]
+
+
+def statuses_of_texts(program):
+    """Nothing stands on standard error beside an answer, whatever the answer is."""
+    for task, text, status, output in TEXTS:
+        expect(f"{task} of {text!r}", answer(program, [task], input=text), (status, output, b""))
+    return f"{len(TEXTS)} texts"
+
+
+def bad_command_lines(program):
+    for words in BAD_COMMAND_LINES:
+        expect(f"the words {words}", answer(program, words, input=SOUND), (2, b"", b"fleet: bad command line\n"))
+    return f"{len(BAD_COMMAND_LINES)} command lines"
+
+
+def help_is_printed(program):
+    """That the help names the tasks; a help or a version that finds a full device says so."""
+    for words in (["--help"], ["run", "--help"], ["check", "--help"], ["inspect", "--help"]):
+        status, said, complaint = answer(program, words)
+        expect(f"status and standard error of {words}", (status, complaint), (0, b""))
+        if words[0].encode().strip(b"-") not in said and len(words) > 1:
+            raise Failed(f"the help of {words} does not name it: {said!r}")
+    said = answer(program, ["--help"])[1]
+    missing = [task for task in (b"run", b"check", b"inspect") if task not in said]
+    expect("tasks that the help lacks", missing, [])
+    status, version, complaint = answer(program, ["--version"])
+    expect("the version", (status, version.split(b" ")[0], version.count(b"\n"), complaint), (0, b"fleet", 1, b""))
+    for words in (["--help"], ["run", "--help"], ["--version"]):
+        with open("/dev/full", "wb") as device:
+            expect(f"{words} to a full device", answer(program, words, stdout=device), (4, None, b"fleet: output failed\n"))
+    return "the help names each task"
+
+
+def failing_input(program):
+    """A folder opens, but cannot be read."""
+    for task in ("run", "check", "inspect"):
+        with tempfile.TemporaryDirectory() as folder:
+            device = os.open(folder, os.O_RDONLY)
+            try:
+                seen = answer(program, [task], stdin=device)
+            finally:
+                os.close(device)
+        expect(f"{task} of a folder", seen, (4, b"", b"fleet: input failed\n"))
+    return "3 tasks"
+
+
+def failing_output(program):
+    """Whatever is written to a full device is lost; an empty answer loses nothing."""
+    full = pathlib.Path("/dev/full")
+    if not full.is_char_device():
+        raise Failed("this machine has no /dev/full")
+    lost = [("run", SCRIPT), ("check", SOUND), ("check", UNSOUND), ("check", b"x\n"), ("inspect", b"04\n")]
+    for task, text in lost:
+        with full.open("wb") as device:
+            seen = answer(program, [task], input=text, stdout=device)
+        expect(f"{task} of {text!r} to a full device", seen, (4, None, b"fleet: output failed\n"))
+    return f"{len(lost)} texts"
+
+
+def random_scripts(program, rounds, seed):
+    counts, differs = compare.compare(program, rounds, seed)
+    if differs:
+        raise Failed(differs)
+    return ", ".join(f"{counts[status]} {name}" for status, name in compare.NAMES.items())
+
+
+def random_captures(program, rounds, seed):
+    answers, differs = compare_captures.compare(program, rounds, 100, seed)
+    if differs:
+        raise Failed(differs)
+    return f"{sum(answers.values())} values"
+
+
+SLACK = 64 * 1024  # of what an inspection holds beside its input
+TABLES = 4 * 1024 * 1024  # of what the laws of a log hold for each epoch
+
+
+def refused_allocations(program):
+    """Each allocation of a small run, check and inspection is refused in turn, and none is much larger than there is cause for."""
+    told = []
+    with tempfile.TemporaryDirectory() as folder:
+        shim = sweep.build_shim(folder)
+        for name, task, slack in (("readers", "run", TABLES), ("unsound", "check", TABLES), ("capture", "inspect", SLACK)):
+            text = (ROOT / f"examples/{name}.txt").read_bytes()
+            total, wanting, bad = sweep.sweep([program, task], text, shim)
+            if bad or not wanting:
+                raise Failed(f"{task}: {wanting} of {total} refusals answered by status 5; otherwise {bad[:3]}")
+            most = sweep.greatest([program, task], text, shim)[1]
+            if most > len(text) + slack:
+                raise Failed(f"{task}: an allocation of {most} bytes for an input of {len(text)}")
+            told.append(f"{task} {wanting} of {total}, the greatest {most} bytes")
+    return "; ".join(told)
+
+
+MOST = "ff" * 4
+NO_BOOK = "0000 000000000000 00000000"
+HOSTILE = [
+    # heads whose counts promise far more than there is, each with a few bytes behind
+    f"10 ffff {'00' * 40}",
+    f"10 0000 000000000000 {MOST} {'00' * 40}",
+    f"10 {NO_BOOK} 000000000000 {MOST} {'00' * 40}",
+    f"11 {NO_BOOK} 000000000000 00000000 {MOST} {'00' * 40}",
+    f"11 0000 000000000005 00000000 000000000005 {MOST} {'00' * 40}",
+    f"20 0000 02 000000000005 000000000005 {MOST} {'00' * 40}",
+    f"20 0000 02 000000000005 000000000005 00000000 000000000005 {MOST} {'00' * 40}",
+    f"21 0000 0f {'000000000005' * 15} 00000000 000000000005 {MOST} {'00' * 40}",
+    f"21 0000 0f {'000000000005' * 15} 00000000 000000000005 00000000 {MOST} {'00' * 40}",
+    f"01 0000 000000000003 000000000000 0007 000000000000 40 {'00' * 4}",
+    f"06 0000 000000000003 000000000000 0007 000000000000 01 40 {'00' * 4}",
+]
+
+
+def hostile_counts(program):
+    """A count is not trusted for memory: no allocation asks for much more than the input's size."""
+    with tempfile.TemporaryDirectory() as folder:
+        shim = sweep.build_shim(folder)
+        most = 0
+        for text in [value.replace(" ", "").encode() + b"\n" for value in HOSTILE]:
+            _, asked, (status, output, said) = sweep.greatest([program, "inspect"], text, shim)
+            expect(f"{text!r}", (status, output[:4], said), (0, b"wire", b""))
+            if asked > len(text) + SLACK:
+                raise Failed(f"an allocation of {asked} bytes for the {len(text)} of {text!r}")
+            most = max(most, asked)
+    return f"the greatest of {len(HOSTILE)} values asks for {most} bytes"
+
+
+def tests(rounds, seed):
+    return {
+        "examples": examples,
+        "statuses 0, 2 and 3, of texts": statuses_of_texts,
+        "status 2, of command lines": bad_command_lines,
+        "status 0, of the help": help_is_printed,
+        "status 4, an input that fails": failing_input,
+        "status 4, an output that fails": failing_output,
+        "status 5, each allocation refused": refused_allocations,
+        "counts that promise too much": hostile_counts,
+        "random logs and scripts": partial(random_scripts, rounds=rounds, seed=seed),
+        "random captures": partial(random_captures, rounds=max(1, rounds // 10), seed=seed),
+    }
+
+
+def passes(name, test, program):
+    """Runs a test and prints its line."""
+    try:
+        print(f"{program.name}: {name}: {test(program)}", flush=True)
+        return True
+    except (Failed, sweep.Unusable, OSError, subprocess.SubprocessError) as fault:
+        print(f"{program.name}: {name} FAILED: {fault}", flush=True)
+        return False
+
+
+def outside(program, rounds=300, seed=1):
+    """How many tests passed, and how many failed."""
+    results = [passes(name, test, program) for name, test in tests(rounds, seed).items()]
+    return results.count(True), results.count(False)
+
+
+def main():
+    parser = argparse.ArgumentParser(description=__doc__)
+    parser.add_argument("--rounds", type=int, default=300, help="how many random logs and scripts")
+    parser.add_argument("--seed", type=int, default=1, help="of the random inputs")
+    parser.add_argument("--program", type=pathlib.Path, default=PROGRAM, help="the built program")
+    given = parser.parse_args()
+    passed, failed = outside(given.program.resolve(), given.rounds, given.seed)
+    print(f"{passed} passed, {failed} failed")
+    sys.exit(1 if failed else 0)
+
+
+if __name__ == "__main__":
+    main()

@@ -1,0 +1,263 @@
+"""Random small logs and scripts: sound and unsound, with truncations, waiting facts, several readers, repeats and spoilt lines."""
+
+from dataclasses import replace
+
+import oracle
+from rules import MAX_NUMBER, Advance, Cut, Fill, Record, Write, broken_law, greatest_below
+
+
+# Logs
+
+
+def random_cuts(choose):
+    cuts, hi = [], 0
+    for epoch in range(1, choose.choice((0, 0, 1, 1, 2, 3)) + 1):
+        lo = hi + choose.randrange(0, 8)
+        hi = lo + choose.randrange(0, 6)
+        if choose.random() < 0.1:
+            lo = choose.randrange(0, lo + 1)
+        cuts.append(Cut(epoch, lo, hi))
+    if cuts and choose.random() < 0.1:
+        del cuts[choose.randrange(len(cuts))]
+    return cuts
+
+
+def begun_epochs(cuts):
+    """The epochs that a record may have, each with the bound on its numbers."""
+    bounds = {0: 0}
+    for cut in cuts:
+        if cut.epoch == len(bounds):
+            bounds[cut.epoch] = cut.hi
+    return bounds
+
+
+def random_bytes(choose, count):
+    return bytes(choose.randrange(256) for _ in range(count))
+
+
+def random_patches(choose):
+    """Whether the page begins anew, and the patches."""
+    patches = []
+    for _ in range(choose.choice((0, 1, 1, 2, 3))):
+        offset = choose.randrange(0, 6)
+        if choose.random() < 0.3:
+            patches.append(Fill(offset, choose.randrange(1, 6), choose.randrange(256)))
+        else:
+            patches.append(Write(offset, random_bytes(choose, choose.randrange(1, 4))))
+    return choose.random() < 0.2, tuple(patches)
+
+
+def random_records(choose, cuts):
+    """Records with the backlinks that the rules ask for, over the whole log."""
+    bounds = begun_epochs(cuts)
+    keys, pages = set(), choose.randrange(1, 4)
+    for _ in range(choose.randrange(0, 12)):
+        epoch = choose.choice(list(bounds))
+        keys.add((epoch, bounds[epoch] + choose.randrange(1, 14)))
+    bare = [Record(*key, 0, choose.randrange(pages), 0, *random_patches(choose)) for key in sorted(keys)]
+    return [
+        replace(r, back=greatest_below(bare, cuts, *r.key()), block_back=greatest_below(bare, cuts, *r.key(), r.page))
+        for r in bare
+    ]
+
+
+def random_advances(choose, roster, cuts):
+    """Advances that mostly end at or near what some truncation leaves; none that breaks its law."""
+    near = [max(1, cut.lo + d) for cut in cuts for d in (-1, 0, 0, 1, 2)] + [1, 3, 5, 9, 14]
+    advances = [
+        Advance(choose.randrange(0, len(cuts) + 1), choose.randrange(1, roster + 1), choose.choice(near))
+        for _ in range(choose.randrange(0, 3 + 2 * min(roster, 3)))
+    ]
+    bad = True
+    while bad:
+        log = cuts + advances
+        bad = [place for place in range(len(log)) if broken_law(roster, log, place)]
+        if bad:
+            del advances[bad[-1] - len(cuts)]
+    return advances
+
+
+def random_log(choose, roster):
+    """A sound log in any order, with some repeats."""
+    cuts = random_cuts(choose)
+    log = cuts + random_records(choose, cuts) + random_advances(choose, roster, cuts)
+    log += choose.choices(log, k=choose.randrange(0, 3)) if log else []
+    choose.shuffle(log)
+    return log
+
+
+def moved(choose, fact):
+    """A fact with one of its numbers moved a little."""
+    fields = {Record: ("epoch", "number", "back", "page", "block_back"), Cut: ("epoch", "lo", "hi"), Advance: ("epoch", "reader", "point")}
+    field = choose.choice(fields[type(fact)])
+    return replace(fact, **{field: max(0, getattr(fact, field) + choose.choice((-3, -2, -1, 1, 2, 3)))})
+
+
+def spoil(choose, log):
+    """Changes a fact, leaves one out, or adds another truncation or a record under the same key."""
+    if not log:
+        return
+    place = choose.randrange(len(log))
+    way = choose.randrange(8)
+    if way == 0:
+        del log[place]
+    elif way == 1:
+        epoch, lo = choose.randrange(1, 4), choose.randrange(0, 12)
+        log.insert(place, Cut(epoch, lo, lo + choose.randrange(0, 6)))
+    elif way == 2:
+        log.insert(choose.randrange(len(log) + 1), Advance(choose.randrange(0, 4), choose.randrange(1, 4), choose.randrange(1, 16)))
+    elif way == 3 and isinstance(log[place], Record):
+        is_init, patches = random_patches(choose)
+        log.insert(choose.randrange(len(log) + 1), replace(log[place], init=is_init, patches=patches))
+    elif way in (4, 5) and isinstance(log[place], Record):
+        log[place] = replace(log[place], block_back=choose.choice((0, log[place].back, choose.randrange(log[place].back + 1))))
+    else:
+        log[place] = moved(choose, log[place])
+
+
+# Steps
+
+ALONE = ["take"] * 10 + ["fold"] * 4 + ["discard"] * 3 + ["read"] * 10 + ["front"] * 3
+TOGETHER = ALONE + ["join"] * 3 + ["ask"] * 5 + ["answer"] * 5 + ["absorb"] * 6 + ["same"] * 3 + ["covers"] * 4 + ["wipe"]
+
+
+class Steps:
+    """Steps that mostly take facts first, read near their numbers, and use messages of the right kind."""
+
+    def __init__(self, choose, log, nodes, is_fleet):
+        self.choose = choose
+        self.facts = len(log)
+        self.nodes = nodes
+        self.kinds = TOGETHER if is_fleet else ALONE
+        self.points = [0] + [r.number + d for r in log if isinstance(r, Record) for d in (0, 0, 0, -1, 1)]
+        self.points += [a.point for a in log if isinstance(a, Advance)]
+        self.uses = []  # of each message: the kind of step that it is for
+
+    def takes(self, node):
+        places = [place for place in range(1, self.facts + 1) if self.choose.random() < 0.93]
+        if self.choose.random() < 0.6:
+            self.choose.shuffle(places)
+        return [f"take {node} {place}" for place in places]
+
+    def node(self):
+        return self.choose.randrange(1, self.nodes + 1) if self.choose.random() < 0.98 else self.choose.randrange(0, 70)
+
+    def message(self, kind):
+        fits = [i + 1 for i, use in enumerate(self.uses) if use == kind]
+        return self.choose.choice(fits) if fits and self.choose.random() < 0.9 else self.choose.randrange(0, 10)
+
+    def value(self, form, kind):
+        if self.choose.random() < 0.002:
+            return self.choose.choice((0, 4095, 4096, 4097, 65535, 65536, 2**32 - 1, 2**32, MAX_NUMBER, MAX_NUMBER + 1))
+        if form in "go":
+            return self.choose.randrange(4)
+        if form == "q":
+            return max(0, self.choose.choice(self.points))
+        if form in "fl":
+            return self.choose.randrange(1, (self.facts if form == "f" else 8) + 1)
+        return self.node() if form == "n" else self.message(kind)
+
+    def note(self, kind, values):
+        """Follows which messages there are."""
+        is_there = 1 <= values[0] <= self.nodes
+        if is_there and kind == "ask":
+            self.uses.append("answer")
+        if is_there and kind == "answer" and 1 <= values[1] <= len(self.uses) and self.uses[values[1] - 1] == "answer":
+            self.uses.append("absorb")
+
+    def lines(self):
+        lines = []
+        for node in range(1, self.nodes + 1):
+            if self.choose.random() < 0.8:
+                lines += self.takes(node)
+        for _ in range(self.choose.randrange(0, 60)):
+            kind = self.choose.choice(self.kinds)
+            if kind == "take" and self.facts == 0:
+                continue
+            values = [self.value(form, kind) for form in oracle.STEPS[kind]]
+            lines.append(" ".join([kind, *(str(v) for v in values)]))
+            self.note(kind, values)
+        return lines
+
+
+# Lines at the edges of what the grammar takes
+
+EDGES = ("0", "1", "2", "65535", "65536", str(MAX_NUMBER - 1), str(MAX_NUMBER), str(MAX_NUMBER + 1), str(2**64), "9" * 30)
+ODD_WORDS = ("", "00", "01", "+1", "-1", "1.0", "0x1", "1e3", " 1", "\xb2", "\t", "init")
+
+
+def edge_number(choose, usual):
+    way = choose.random()
+    if way < 0.75:
+        return usual
+    return choose.choice(EDGES) if way < 0.97 else choose.choice(ODD_WORDS)
+
+
+def edge_patch(choose):
+    """At the page's end or beyond, whole pages, and words that are no patch."""
+    length = choose.choice((0, 1, 1, 2, 4095, 4096, 4097))
+    offset = choose.choice((0, 4096 - min(length, 4096), 4097 - min(length, 4096), 4095, 4096))
+    if choose.random() < 0.05:
+        return choose.choice(("", "-", "init", ":", "0:", ":61", "0:6", "0:6g", "0*1:", "0*1:616", "0*1:6161", "*1:61", "0*:61", "00:61", "0*01:61"))
+    if choose.random() < 0.4:
+        return f"{offset}*{length}:{choose.choice(('00', '7a', 'Ff'))}"
+    return f"{offset}:{choose.choice(('61', 'aB')) * length}"
+
+
+def edge_patches(choose):
+    many = choose.choice((0, 1, 1, 2, 3))
+    patches = [edge_patch(choose) for _ in range(many)] + ["0:61"] * choose.choice((0, 0, 0, 61, 62, 63, 64))
+    return ",".join(["init"] * (choose.random() < 0.3) + patches) or "-"
+
+
+def edge_line(choose):
+    """One fact line, mostly with every field but one as usual."""
+    kind = choose.randrange(4)
+    if kind == 0:
+        words = ["cut", *(edge_number(choose, usual) for usual in ("1", "5", "20"))]
+    elif kind == 1:
+        words = ["min", *(edge_number(choose, usual) for usual in ("0", "5", "1")[: choose.choice((2, 3))])]
+    else:
+        words = ["rec", *(edge_number(choose, usual) for usual in ("0", "3", "0", "7", "0")), edge_patches(choose)]
+    if choose.random() < 0.03:
+        words.pop()
+    return " ".join(words)
+
+
+# Texts
+
+
+def first_lines(choose, roster):
+    """The roster's line: mostly the right one, at times none, another, or one that is no line."""
+    if roster == 1 and choose.random() < 0.8:
+        return []
+    way = choose.random()
+    if way < 0.95:
+        return [f"roster {roster}"]
+    return [] if way < 0.97 else [f"roster {choose.choice((0, 1, 2, 3, 15, 16))}"]
+
+
+def spoilt(choose, text):
+    """A text with a character changed, left out or put in."""
+    place = choose.randrange(len(text))
+    character = choose.choice(("", " ", "0", "-", ":", "*", ",", "i", "x", "\n", "\r", "9", "init,"))
+    return text[:place] + character + text[place + choose.randrange(2) :]
+
+
+def random_input(choose, is_fleet=False):
+    """A task and a text for it."""
+    if choose.random() < 0.1:
+        return "check", edge_line(choose) + "\n"
+    roster = choose.choice((1, 1, 1, 1, 2, 2, 2, 3, 4, 15))
+    log = random_log(choose, roster)
+    while choose.random() < 0.3:
+        spoil(choose, log)
+    task = choose.choice(("check", "run", "run", "run"))
+    lines = first_lines(choose, roster) + [fact.line() for fact in log]
+    if task == "run":
+        nodes = choose.choice((1, 2, 2, 3, 4)) if is_fleet else choose.choice((1,) * 11 + (2,))
+        lines += ["go", f"nodes {nodes}", *Steps(choose, log, nodes, is_fleet).lines()]
+    text = "".join(line + "\n" for line in lines)
+    if text and choose.random() < 0.1:
+        text = spoilt(choose, text)
+    return task, text
