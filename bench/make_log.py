@@ -1,5 +1,5 @@
 #!/usr/bin/env python3
-"""Writes a sound log as fact lines: records of several pages and epochs, truncations that annul records, advances.
+"""Writes a sound log as fact lines: records of several pages and epochs, truncations that annul records, advances of readers.
 
 The same arguments give the same log. bench/README.md says how it is used.
 """
@@ -9,12 +9,16 @@ import random
 import sys
 
 GAP = 8  # numbers between the last of an epoch and the `hi` of the next
+INIT_EACH = 64  # of so many records one begins its page anew
+FILL_EACH = 4  # of so many records one fills a range
 
 
 class Writer:
     """Keeps the chains of the records that are alive, as a database that writes redo records does."""
 
-    def __init__(self):
+    def __init__(self, has_inits=False, has_fills=False):
+        self.has_inits = has_inits
+        self.has_fills = has_fills
         self.epoch = 0
         self.hi = 0
         self.number = 0
@@ -29,8 +33,15 @@ class Writer:
         block_back = chain[-1] if chain else 0
         self.alive.append((self.number, page))
         chain.append(self.number)
+        return f"rec {self.epoch} {self.number} {back} {page} {block_back} {self.patch()}"
+
+    def patch(self):
+        """Eight bytes at one offset: the record's number, or one byte of it all over."""
         offset = 8 * (self.number % 512)
-        return f"rec {self.epoch} {self.number} {back} {page} {block_back} {offset}:{self.number:016x}"
+        is_init = self.has_inits and self.number % INIT_EACH == 0
+        is_fill = self.has_fills and self.number % FILL_EACH == 1
+        text = f"{offset}*8:{self.number % 256:02x}" if is_fill else f"{offset}:{self.number:016x}"
+        return "init," * is_init + text
 
     def truncate(self, lo):
         """Begins the next epoch: what is above `lo` is annulled."""
@@ -48,8 +59,13 @@ def shares(total, parts):
     return [total // parts + (i < total % parts) for i in range(parts)]
 
 
-def facts(records, pages, epochs, advances):
-    writer = Writer()
+def advance(epoch, point, reader):
+    return f"min {epoch} {point}" + (f" {reader}" if reader > 1 else "")
+
+
+def facts(records, pages, epochs, advances, readers=1, has_inits=False, has_fills=False):
+    """The fact lines; the advances go round the readers."""
+    writer = Writer(has_inits, has_fills)
     choose = random.Random(1)
     owed = 0
     records_of = shares(records, epochs + 1)
@@ -65,7 +81,7 @@ def facts(records, pages, epochs, advances):
         if kept > 0 or is_last:
             for i in range(owed):
                 point = first + (max(kept, 1) * (i + 1)) // (owed + 1)
-                yield f"min {epoch} {min(point, first + max(kept, 1) - 1)}"
+                yield advance(epoch, min(point, first + max(kept, 1) - 1), 1 + i % readers)
             owed = 0
         if not is_last:
             yield writer.truncate(first + kept - 1 if kept > 0 else writer.hi)
@@ -77,14 +93,22 @@ def main():
     parser.add_argument("--pages", type=int, required=True, help="how many pages they are spread over, 1 to 65536")
     parser.add_argument("--epochs", type=int, default=0, help="how many truncations, 0 to 65535")
     parser.add_argument("--advances", type=int, default=0, help="how many advances of the minimum read point")
+    parser.add_argument("--readers", type=int, default=1, help="how many readers advance in turn, 1 to 15")
+    parser.add_argument("--inits", action="store_true", help=f"one of {INIT_EACH} records begins its page anew")
+    parser.add_argument("--fills", action="store_true", help=f"one of {FILL_EACH} records fills a range")
     parser.add_argument("--shuffle", type=int, metavar="SEED", help="put the facts in a random order")
     parser.add_argument("--run", action="store_true", help="end with `go` and `nodes 1`: a script without steps")
     given = parser.parse_args()
     if not 1 <= given.pages <= 65536 or not 0 <= given.epochs <= 65535:
         parser.error("pages go from 1 to 65536, epochs from 0 to 65535")
-    lines = list(facts(given.records, given.pages, given.epochs, given.advances))
+    if not 1 <= given.readers <= 15:
+        parser.error("readers go from 1 to 15")
+    patches = given.inits, given.fills
+    lines = list(facts(given.records, given.pages, given.epochs, given.advances, given.readers, *patches))
     if given.shuffle is not None:
         random.Random(given.shuffle).shuffle(lines)
+    if given.readers > 1:
+        lines.insert(0, f"roster {given.readers}")
     if given.run:
         lines += ["go", "nodes 1"]
     sys.stdout.write("".join(line + "\n" for line in lines))

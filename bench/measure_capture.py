@@ -1,7 +1,7 @@
 #!/usr/bin/env python3
 """Times `fleet inspect` on captures of several sizes, and prints a row for each: seconds, and the most memory held.
 
-Usage: measure_capture.py [--one-line] BYTES..
+Usage: measure_capture.py [--one-line] [--readers R] [--patches] BYTES..
 """
 
 import argparse
@@ -32,13 +32,16 @@ def main():
     parser = argparse.ArgumentParser(description=__doc__)
     parser.add_argument("sizes", type=int, nargs="+", help="bytes of hexadecimal text, rising")
     parser.add_argument("--one-line", action="store_true", help="one summary of that length")
+    parser.add_argument("--readers", type=int, default=1, help="of how many readers the advances and messages are")
+    parser.add_argument("--patches", action="store_true", help="with fills, and records that begin their page anew")
     parser.add_argument("--program", type=pathlib.Path, default=PROGRAM, help="the built program")
     given = parser.parse_args()
     print("| bytes | lines | seconds | MB held |\n|---|---|---|---|")
     for size in given.sizes:
         with tempfile.TemporaryFile() as capture, tempfile.TemporaryFile() as told:
-            made = [sys.executable, BENCH / "make_capture.py", "--bytes", str(size)]
-            subprocess.run(made + ["--one-line"] * given.one_line, stdout=capture, check=True)
+            made = [sys.executable, BENCH / "make_capture.py", "--bytes", str(size), "--readers", str(given.readers)]
+            flags = ["--one-line"] * given.one_line + ["--patches"] * given.patches
+            subprocess.run(made + flags, stdout=capture, check=True)
             capture.seek(0)
             taken, held = inspect(given.program, capture, told)
             told.seek(0)
