@@ -7,8 +7,6 @@
 
 mod covering;
 mod kept;
-#[cfg(test)]
-mod tests;
 
 pub use covering::covers;
 pub use kept::kept_of;
