@@ -1,5 +1,6 @@
 pub mod Members
 pub mod Rising
+pub mod Listing
 pub mod Scans
 pub mod AfterRecords
 pub mod FactParts

@@ -55,18 +55,23 @@ contains_insert (z ∷ zs) (suc i) x y =
           (λ (q : Contains (insert zs i x) y). ⊎_elim (λ (r : Contains zs y). inl (there z zs y r)) (λ (e : y ≡ x). inr e) (ih.0 q))
           (which z (insert zs i x) y h),
       λ h. ⊎_elim
-          (λ (q : Contains (z ∷ zs) y). ⊎_elim (λ (e : z ≡ y). subst (λ w. Contains (w ∷ insert zs i x) y) (sym e) (here y (insert zs i x))) (λ (r : Contains zs y). there z (insert zs i x) y (ih.1 (inl r))) (which z zs y q))
+          (λ (q : Contains (z ∷ zs) y). ⊎_elim (λ (e : z ≡ y). subst (λ w. Contains (w ∷ insert zs i x) y) (sym e) (here y (insert zs i x)))
+          (λ (r : Contains zs y). there z (insert zs i x) y (ih.1 (inl r))) (which z zs y q))
           (λ (e : y ≡ x). there z (insert zs i x) y (ih.1 (inr e)))
           h,
     )
 
 -- what a filter keeps
-filtered_at : {X : Type 0} (p : X → Bool) (x : X) (xs ys : List X) (y : X) (b : Bool) → p x ≡ b → (Contains ys y → Contains xs y × (p y ≡ true)) → Contains (cond b (x ∷ ys) ys) y → Contains (x ∷ xs) y × (p y ≡ true)
-filtered_at p x xs ys y true t ih h = ⊎_elim (λ (e : x ≡ y). (subst (λ z. Contains (z ∷ xs) y) (sym e) (here y xs), subst (λ z. p z ≡ true) e t)) (λ (q : Contains ys y). (there x xs y (ih q).0, (ih q).1)) (which x ys y h)
+filtered_at : {X : Type 0} (p : X → Bool) (x : X) (xs ys : List X) (y : X) (b : Bool) → p x ≡ b → (Contains ys y → Contains xs y × (p y ≡ true))
+    → Contains (cond b (x ∷ ys) ys) y → Contains (x ∷ xs) y × (p y ≡ true)
+filtered_at p x xs ys y true t ih h = ⊎_elim (λ (e : x ≡ y). (subst (λ z. Contains (z ∷ xs) y) (sym e) (here y xs), subst (λ z. p z ≡ true) e t))
+    (λ (q : Contains ys y). (there x xs y (ih q).0, (ih q).1)) (which x ys y h)
 filtered_at p x xs ys y false t ih h = (there x xs y (ih h).0, (ih h).1)
 
-passed_at : {X : Type 0} (p : X → Bool) (x : X) (xs ys : List X) (y : X) (b : Bool) → p x ≡ b → p y ≡ true → (Contains xs y → Contains ys y) → Contains (x ∷ xs) y → Contains (cond b (x ∷ ys) ys) y
-passed_at p x xs ys y true t u ih h = ⊎_elim (λ (e : x ≡ y). subst (λ z. Contains (z ∷ ys) y) (sym e) (here y ys)) (λ (q : Contains xs y). there x ys y (ih q)) (which x xs y h)
+passed_at : {X : Type 0} (p : X → Bool) (x : X) (xs ys : List X) (y : X) (b : Bool) → p x ≡ b → p y ≡ true → (Contains xs y → Contains ys y)
+    → Contains (x ∷ xs) y → Contains (cond b (x ∷ ys) ys) y
+passed_at p x xs ys y true t u ih h = ⊎_elim (λ (e : x ≡ y). subst (λ z. Contains (z ∷ ys) y) (sym e) (here y ys)) (λ (q : Contains xs y). there x ys y (ih q))
+    (which x xs y h)
 passed_at p x xs ys y false t u ih h = ⊎_elim (λ (e : x ≡ y). absurd (let w : p x ≡ p y = ap p e in cc)) ih (which x xs y h)
 
 pub filtered : {X : Type 0} (p : X → Bool) (xs : List X) (y : X) → Contains (filter p xs) y → Contains xs y × (p y ≡ true)
@@ -90,7 +95,9 @@ mapped f (z ∷ zs) x y h e =
     (λ (q : Contains zs x). past (f z) (filter_map f zs) y (mapped f zs x y q e))
     (which z zs x h)
 
-pub source_at : {X Y : Type 0} (f : X → Option Y) (z : X) (zs : List X) (y : Y) (o : Option Y) → f z ≡ o → (Contains (filter_map f zs) y → (x : X) × Contains zs x × (f x ≡ Some y)) → Contains (cons_option o (filter_map f zs)) y → (x : X) × Contains (z ∷ zs) x × (f x ≡ Some y)
+pub source_at : {X Y : Type 0} (f : X → Option Y) (z : X) (zs : List X) (y : Y) (o : Option Y) → f z ≡ o
+    → (Contains (filter_map f zs) y → (x : X) × Contains zs x × (f x ≡ Some y)) → Contains (cons_option o (filter_map f zs)) y
+    → (x : X) × Contains (z ∷ zs) x × (f x ≡ Some y)
 source_at f z zs y None e ih h = let s = ih h in (s.0, there z zs s.0 s.1, s.2)
 source_at f z zs y (Some u) e ih h =
     ⊎_elim
@@ -103,7 +110,8 @@ source f [] y h = absurd (none_in y h)
 source f (z ∷ zs) y h = source_at f z zs y (f z) refl (source f zs y) h
 
 -- rising lists with the same members are equal
-pub rising_unique : {X : Type 0} (Before : X → X → Type 0) → ((x y : X) → Before x y → Before y x → ⊥) → (xs ys : List X) → IsRising Before xs → IsRising Before ys → SameSet xs ys → xs ≡ ys
+pub rising_unique : {X : Type 0} (Before : X → X → Type 0) → ((x y : X) → Before x y → Before y x → ⊥) → (xs ys : List X) → IsRising Before xs
+    → IsRising Before ys → SameSet xs ys → xs ≡ ys
 rising_unique Before apart [] [] r s same = refl
 rising_unique Before apart [] (y ∷ ys) r s same = absurd (none_in y ((same y).1 (here y ys)))
 rising_unique Before apart (x ∷ xs) [] r s same = absurd (none_in x ((same x).0 (here x xs)))
@@ -121,7 +129,8 @@ rising_unique {X} Before apart (x ∷ xs) (y ∷ ys) r s same =
     down : (z : X) → Contains xs z → Contains ys z
     down z h =
         ⊎_elim
-        (λ (e : y ≡ z). absurd (let b : Before x z = each (Before x) xs z r.0 h in let c : Before x x = subst (Before x) (sym e ∙ sym heads) b in apart x x c c))
+        (λ (e : y ≡ z). absurd (let b : Before x z = each (Before x) xs z r.0 h in let c : Before x x = subst (Before x) (sym e ∙ sym heads) b in
+        apart x x c c))
         (λ (q : Contains ys z). q)
         (which y ys z ((same z).0 (there x xs z h)))
 
@@ -133,7 +142,8 @@ rising_unique {X} Before apart (x ∷ xs) (y ∷ ys) r s same =
         (which x xs z ((same z).1 (there y ys z h)))
 
 -- two lists of the same things in the same order are equal
-pub lists_unique : {X : Type 0} (Before : X → X → Type 0) → ((x y : X) → Before x y → Before y x → ⊥) → (P Q : X → Type 0) → ((x : X) → P x ↔ Q x) → (xs ys : List X) → Lists Before P xs → Lists Before Q ys → xs ≡ ys
+pub lists_unique : {X : Type 0} (Before : X → X → Type 0) → ((x y : X) → Before x y → Before y x → ⊥) → (P Q : X → Type 0) → ((x : X) → P x ↔ Q x)
+    → (xs ys : List X) → Lists Before P xs → Lists Before Q ys → xs ≡ ys
 lists_unique Before apart P Q same xs ys a b =
     rising_unique Before apart xs ys a.rising b.rising
     (λ x. (λ h. (b.members x).1 ((same x).0 ((a.members x).0 h)), λ h. (a.members x).1 ((same x).1 ((b.members x).0 h))))

@@ -25,7 +25,8 @@ advance_trans a b c x y = grind arith
 pub advance_order : (a b : AdvanceData) → AdvanceBefore a b ⊎ ((a ≡ b) ⊎ AdvanceBefore b a)
 advance_order a b =
     ⊎_elim inl
-    (λ t. ⊎_elim (λ (e : (a.epoch ≡ b.epoch) × ((a.reader ≡ b.reader) × (a.point ≡ b.point))). inr (inl (same_advance a b e.0 e.1.0 e.1.1))) (λ (x : AdvanceBefore b a). inr (inr x)) t)
+    (λ t. ⊎_elim (λ (e : (a.epoch ≡ b.epoch) × ((a.reader ≡ b.reader) × (a.point ≡ b.point))). inr (inl (same_advance a b e.0 e.1.0 e.1.1)))
+    (λ (x : AdvanceBefore b a). inr (inr x)) t)
     (by_numbers a.epoch a.reader a.point b.epoch b.reader b.point)
   where
     by_numbers : (a b c x y z : ℕ) → ((a < x) ⊎ ((a ≡ x) × PairBefore b c y z)) ⊎ (((a ≡ x) × ((b ≡ y) × (c ≡ z))) ⊎ ((x < a) ⊎ ((x ≡ a) × PairBefore y z b c)))

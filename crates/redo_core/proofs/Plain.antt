@@ -29,7 +29,8 @@ plain_off_page (w ∷ ws) = rw (plain_off_page ws) refl
 
 pub plain_bytes : (ws : List WriteData) → sum_by bytes_in (plain ws) ≡ sum_by (λ w. length w.bytes) ws
 plain_bytes [] = refl
-plain_bytes (w ∷ ws) = sum_by-cons bytes_in (Bytes w) (plain ws) ∙ ap (λ n. length w.bytes + n) (plain_bytes ws) ∙ sym (sum_by-cons (λ (v : WriteData). length v.bytes) w ws)
+plain_bytes (w ∷ ws) = sum_by-cons bytes_in (Bytes w) (plain ws) ∙ ap (λ n. length w.bytes + n) (plain_bytes ws) ∙ sym
+    (sum_by-cons (λ (v : WriteData). length v.bytes) w ws)
 
 pub no_fill : (ws : List WriteData) (i offset len byte : ℕ) (d : Patch) → i < length (plain ws) → get_or (plain ws) i d ≡ Fill offset len byte → ⊥
 no_fill [] i offset len byte d l e = omega (arith, l)

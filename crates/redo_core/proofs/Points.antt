@@ -26,26 +26,31 @@ least_above (p ∷ q ∷ ps) m l h = le-min (h 0 (omega arith)) (least_above (q 
 pub least_le : (roster : ℕ) (ps : List ℕ) (reader : ℕ) → length ps ≡ roster → IsReader roster reader → least ps ≤ point_of ps reader
 least_le roster ps reader e r = least_at ps (reader - 1) (omega (arith, e, r.0, r.1))
 
-pub least_ge : (roster : ℕ) (ps : List ℕ) (m : ℕ) → length ps ≡ roster → 1 ≤ roster → ((reader : ℕ) → IsReader roster reader → m ≤ point_of ps reader) → m ≤ least ps
+pub least_ge : (roster : ℕ) (ps : List ℕ) (m : ℕ) → length ps ≡ roster → 1 ≤ roster → ((reader : ℕ) → IsReader roster reader → m ≤ point_of ps reader)
+    → m ≤ least ps
 least_ge roster ps m e one h =
     least_above ps m (omega (arith, e, one))
     (λ i l. subst (λ j. m ≤ get_or ps j 0) (let t : suc i - 1 ≡ i = omega arith in t) (h (suc i) (omega arith, omega (arith, e, l))))
 
 -- two lists with the same points are one
-pub same_points : (roster : ℕ) (ps qs : List ℕ) → length ps ≡ roster → length qs ≡ roster → ((reader : ℕ) → IsReader roster reader → point_of ps reader ≡ point_of qs reader) → ps ≡ qs
+pub same_points : (roster : ℕ) (ps qs : List ℕ) → length ps ≡ roster → length qs ≡ roster
+    → ((reader : ℕ) → IsReader roster reader → point_of ps reader ≡ point_of qs reader) → ps ≡ qs
 same_points roster ps qs e f h =
     ext_get_or 0 ps qs (e ∙ sym f)
     (λ i l. subst (λ j. get_or ps j 0 ≡ get_or qs j 0) (let t : suc i - 1 ≡ i = omega arith in t) (h (suc i) (omega arith, omega (arith, e, l))))
 
-pub least_mono : (roster : ℕ) (ps qs : List ℕ) → length ps ≡ roster → length qs ≡ roster → ((reader : ℕ) → IsReader roster reader → point_of ps reader ≤ point_of qs reader) → least ps ≤ least qs
+pub least_mono : (roster : ℕ) (ps qs : List ℕ) → length ps ≡ roster → length qs ≡ roster
+    → ((reader : ℕ) → IsReader roster reader → point_of ps reader ≤ point_of qs reader) → least ps ≤ least qs
 least_mono roster [] qs e f h = omega arith
 least_mono roster (p ∷ ps) qs e f h =
     let one : 1 ≤ roster = omega (arith, e) in
     least_ge roster qs (least (p ∷ ps)) f one
-    (λ reader r. let a : least (p ∷ ps) ≤ point_of (p ∷ ps) reader = least_le roster (p ∷ ps) reader e r in let b : point_of (p ∷ ps) reader ≤ point_of qs reader = h reader r in omega arith)
+    (λ reader r. let a : least (p ∷ ps) ≤ point_of (p ∷ ps) reader = least_le roster (p ∷ ps) reader e r in
+    let b : point_of (p ∷ ps) reader ≤ point_of qs reader = h reader r in omega arith)
 
 -- points compared reader by reader
-pub zip_of : (roster : ℕ) (ps qs : List ℕ) → length ps ≡ roster → length qs ≡ roster → ((reader : ℕ) → IsReader roster reader → point_of ps reader ≤ point_of qs reader) → AllZip (λ p q. p ≤ q) ps qs
+pub zip_of : (roster : ℕ) (ps qs : List ℕ) → length ps ≡ roster → length qs ≡ roster
+    → ((reader : ℕ) → IsReader roster reader → point_of ps reader ≤ point_of qs reader) → AllZip (λ p q. p ≤ q) ps qs
 zip_of roster ps qs e f h =
     at ps qs (e ∙ sym f)
     (λ i l. subst (λ j. get_or ps j 0 ≤ get_or qs j 0) (let t : suc i - 1 ≡ i = omega arith in t) (h (suc i) (omega arith, omega (arith, e, l))))
@@ -56,7 +61,8 @@ zip_of roster ps qs e f h =
     at (x ∷ xs) [] e h = absurd (omega (arith, e))
     at (x ∷ xs) (y ∷ ys) e h = (h 0 (omega arith), at xs ys (omega (arith, e)) (λ i l. h (suc i) (omega (arith, l))))
 
-pub zip_at : (roster : ℕ) (ps qs : List ℕ) → length ps ≡ roster → AllZip (λ p q. p ≤ q) ps qs → (reader : ℕ) → IsReader roster reader → point_of ps reader ≤ point_of qs reader
+pub zip_at : (roster : ℕ) (ps qs : List ℕ) → length ps ≡ roster → AllZip (λ p q. p ≤ q) ps qs → (reader : ℕ) → IsReader roster reader
+    → point_of ps reader ≤ point_of qs reader
 zip_at roster ps qs e z reader r = AllZip-get_or (λ p q. p ≤ q) ps qs (reader - 1) 0 0 z (omega (arith, e, r.0, r.1))
 
 -- the one of the points that none is below

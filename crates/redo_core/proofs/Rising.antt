@@ -7,7 +7,8 @@ use Rattle.std.proofs.lemmas.List.Elements.{All-from_recursion, recursion_from_A
 use Rattle.redo_core.specs.Order.{IsRising}
 use Rattle.redo_core.proofs.Members.{none_in, here, there, which, each, all_of, contains_insert}
 
-pub rising_at : {X : Type 0} (Before : X → X → Type 0) (xs : List X) (i j : ℕ) (d e : X) → IsRising Before xs → i < j → j < length xs → Before (get_or xs i d) (get_or xs j e)
+pub rising_at : {X : Type 0} (Before : X → X → Type 0) (xs : List X) (i j : ℕ) (d e : X) → IsRising Before xs → i < j → j < length xs
+    → Before (get_or xs i d) (get_or xs j e)
 rising_at Before [] i j d e r l m = absurd (omega (arith, m))
 rising_at Before (x ∷ xs) zero zero d e r l m = absurd (omega (arith, l))
 rising_at Before (x ∷ xs) (suc i) zero d e r l m = absurd (omega (arith, l))
@@ -15,7 +16,8 @@ rising_at Before (x ∷ xs) zero (suc j) d e r l m = All-from_recursion (Before 
 rising_at Before (x ∷ xs) (suc i) (suc j) d e r l m = rising_at Before xs i j d e r.1 (omega (arith, l)) (omega (arith, m))
 
 -- a number that grows along the order
-pub rising_by : {X : Type 0} (Before : X → X → Type 0) (n : X → ℕ) (xs : List X) → ((x y : X) → Before x y → n x ≤ n y) → IsRising Before xs → IsNonDecreasingBy n xs
+pub rising_by : {X : Type 0} (Before : X → X → Type 0) (n : X → ℕ) (xs : List X) → ((x y : X) → Before x y → n x ≤ n y) → IsRising Before xs
+    → IsNonDecreasingBy n xs
 rising_by Before n xs grows r i j d l m =
     ⊎_elim
     (λ (q : i < j). grows (get_or xs i d) (get_or xs j d) (rising_at Before xs i j d d r q m))
@@ -28,24 +30,29 @@ all_insert P [] (suc i) x p all = (p, tt)
 all_insert P (z ∷ zs) (suc i) x p all = (all.0, all_insert P zs i x p all.1)
 
 -- an element between those before it and those after it
-pub rising_insert_at : {X : Type 0} (Before : X → X → Type 0) (xs : List X) (i : ℕ) (x : X) → i ≤ length xs → IsRising Before xs → AllWithin (λ y. Before y x) xs 0 i → AllWithin (Before x) xs i (length xs) → IsRising Before (insert xs i x)
+pub rising_insert_at : {X : Type 0} (Before : X → X → Type 0) (xs : List X) (i : ℕ) (x : X) → i ≤ length xs → IsRising Before xs
+    → AllWithin (λ y. Before y x) xs 0 i → AllWithin (Before x) xs i (length xs) → IsRising Before (insert xs i x)
 rising_insert_at Before xs zero x l r b a = (recursion_from_All (Before x) xs (λ k d m. a k d (omega arith) m), r)
 rising_insert_at Before [] (suc i) x l r b a = absurd (omega (arith, l))
 rising_insert_at Before (z ∷ zs) (suc i) x l r b a = (
   all_insert (Before z) zs i x (b 0 z (omega arith) (omega arith)) r.0,
-  rising_insert_at Before zs i x (omega (arith, l)) r.1 (λ k d m n. b (suc k) d (omega arith) (omega (arith, n))) (λ k d m n. a (suc k) d (omega (arith, m)) (omega (arith, n))),
+  rising_insert_at Before zs i x (omega (arith, l)) r.1 (λ k d m n. b (suc k) d (omega arith) (omega (arith, n)))
+      (λ k d m n. a (suc k) d (omega (arith, m)) (omega (arith, n))),
 )
 
-filter_at : {X : Type 0} (Before : X → X → Type 0) (x : X) (ys : List X) (b : Bool) → AllByRecursion (Before x) ys → IsRising Before ys → IsRising Before (cond b (x ∷ ys) ys)
+filter_at : {X : Type 0} (Before : X → X → Type 0) (x : X) (ys : List X) (b : Bool) → AllByRecursion (Before x) ys → IsRising Before ys
+    → IsRising Before (cond b (x ∷ ys) ys)
 filter_at Before x ys true all r = (all, r)
 filter_at Before x ys false all r = r
 
 pub rising_filter : {X : Type 0} (Before : X → X → Type 0) (p : X → Bool) (xs : List X) → IsRising Before xs → IsRising Before (filter p xs)
 rising_filter Before p [] r = tt
-rising_filter Before p (x ∷ xs) r = filter_at Before x (filter p xs) (p x) (recursion_from_All (Before x) (filter p xs) (All-filter p (Before x) xs (All-from_recursion (Before x) xs r.0))) (rising_filter Before p xs r.1)
+rising_filter Before p (x ∷ xs) r = filter_at Before x (filter p xs) (p x)
+    (recursion_from_All (Before x) (filter p xs) (All-filter p (Before x) xs (All-from_recursion (Before x) xs r.0))) (rising_filter Before p xs r.1)
 
 -- two members of a rising list
-pub rising_members : {X : Type 0} (Before : X → X → Type 0) (xs : List X) (x y : X) → IsRising Before xs → Contains xs x → Contains xs y → (x ≡ y) ⊎ (Before x y ⊎ Before y x)
+pub rising_members : {X : Type 0} (Before : X → X → Type 0) (xs : List X) (x y : X) → IsRising Before xs → Contains xs x → Contains xs y
+    → (x ≡ y) ⊎ (Before x y ⊎ Before y x)
 rising_members Before [] x y r hx hy = absurd (none_in x hx)
 rising_members Before (z ∷ zs) x y r hx hy =
     ⊎_elim
@@ -81,7 +88,8 @@ rest_at [] i x y l e h = absurd (omega (arith, l))
 rest_at (z ∷ zs) zero x y l e h = ⊎_elim (λ (q : z ≡ y). inl (e ∙ q)) (λ (q : Contains zs y). inr q) (which z zs y h)
 rest_at (z ∷ zs) (suc i) x y l e h = rest_at zs i x y (omega (arith, l)) e h
 
-pub rest_from : {X : Type 0} (xs : List X) (i : ℕ) (x y : X) → i < length xs → x ≡ get_or xs i x → Contains (drop i xs) y → (x ≡ y) ⊎ Contains (drop (i + 1) xs) y
+pub rest_from : {X : Type 0} (xs : List X) (i : ℕ) (x y : X) → i < length xs → x ≡ get_or xs i x → Contains (drop i xs) y
+    → (x ≡ y) ⊎ Contains (drop (i + 1) xs) y
 rest_from xs i x y l e h = rw add-one (rest_at xs i x y l e h)
 
 -- what stands in front of the next place
@@ -91,10 +99,12 @@ front_at (z ∷ zs) zero x y l e h = ⊎_elim (λ (q : z ≡ y). inl (e ∙ q)) 
 front_at (z ∷ zs) (suc i) x y l e h =
     ⊎_elim
     (λ (q : z ≡ y). inr (subst (Contains (z ∷ take i zs)) q (here z (take i zs))))
-    (λ (q : Contains (take (suc i) zs) y). ⊎_elim (λ (u : x ≡ y). inl u) (λ (u : Contains (take i zs) y). inr (there z (take i zs) y u)) (front_at zs i x y (omega (arith, l)) e q))
+    (λ (q : Contains (take (suc i) zs) y). ⊎_elim (λ (u : x ≡ y). inl u) (λ (u : Contains (take i zs) y). inr (there z (take i zs) y u))
+    (front_at zs i x y (omega (arith, l)) e q))
     (which z (take (suc i) zs) y h)
 
-pub front_to : {X : Type 0} (xs : List X) (i : ℕ) (x y : X) → i < length xs → x ≡ get_or xs i x → Contains (take (i + 1) xs) y → (x ≡ y) ⊎ Contains (take i xs) y
+pub front_to : {X : Type 0} (xs : List X) (i : ℕ) (x y : X) → i < length xs → x ≡ get_or xs i x → Contains (take (i + 1) xs) y
+    → (x ≡ y) ⊎ Contains (take i xs) y
 front_to xs i x y l e h = front_at xs i x y l e (subst (λ j. Contains (take j xs) y) (add-one i) h)
 
 -- the element at an index stands in front of the next place
@@ -110,7 +120,8 @@ up_to xs i x l e = rw add-one (up_at xs i x l e)
 take_suc : {X : Type 0} (xs : List X) (i : ℕ) (x : X) → Contains (take i xs) x → Contains (take (suc i) xs) x
 take_suc xs zero x h = absurd (none_in x h)
 take_suc [] (suc i) x h = absurd (none_in x h)
-take_suc (y ∷ ys) (suc i) x h = ⊎_elim (λ (u : y ≡ x). subst (Contains (y ∷ take (suc i) ys)) u (here y (take (suc i) ys))) (λ (u : Contains (take i ys) x). there y (take (suc i) ys) x (take_suc ys i x u)) (which y (take i ys) x h)
+take_suc (y ∷ ys) (suc i) x h = ⊎_elim (λ (u : y ≡ x). subst (Contains (y ∷ take (suc i) ys)) u (here y (take (suc i) ys)))
+    (λ (u : Contains (take i ys) x). there y (take (suc i) ys) x (take_suc ys i x u)) (which y (take i ys) x h)
 
 pub take_grows : {X : Type 0} (xs : List X) (i : ℕ) (x : X) → Contains (take i xs) x → Contains (take (i + 1) xs) x
 take_grows xs i x h = rw add-one (take_suc xs i x h)
@@ -126,7 +137,8 @@ pub whole : {X : Type 0} (xs : List X) (i : ℕ) (x : X) → length xs ≤ i →
 whole xs i x l h = ⊎_elim (λ (q : Contains (take i xs) x). q) (λ (q : Contains (drop i xs) x). absurd (past_end xs i x l q)) (side i xs x h)
 
 -- in a rising list what is in front of a place is before what is behind it
-pub across : {X : Type 0} (Before : X → X → Type 0) (xs : List X) (i : ℕ) (x y : X) → IsRising Before xs → Contains (take i xs) x → Contains (drop i xs) y → Before x y
+pub across : {X : Type 0} (Before : X → X → Type 0) (xs : List X) (i : ℕ) (x y : X) → IsRising Before xs → Contains (take i xs) x → Contains (drop i xs) y
+    → Before x y
 across Before [] zero x y r h k = absurd (none_in x h)
 across Before [] (suc i) x y r h k = absurd (none_in x h)
 across Before (z ∷ zs) zero x y r h k = absurd (none_in x h)
@@ -137,11 +149,13 @@ across Before (z ∷ zs) (suc i) x y r h k =
     (which z (take i zs) x h)
 
 -- a rising list with one more in its place
-pub rising_insert : {X : Type 0} (Before : X → X → Type 0) (xs : List X) (i : ℕ) (x : X) → IsRising Before xs → ((y : X) → Contains (take i xs) y → Before y x) → ((y : X) → Contains (drop i xs) y → Before x y) → IsRising Before (insert xs i x)
+pub rising_insert : {X : Type 0} (Before : X → X → Type 0) (xs : List X) (i : ℕ) (x : X) → IsRising Before xs → ((y : X) → Contains (take i xs) y → Before y x)
+    → ((y : X) → Contains (drop i xs) y → Before x y) → IsRising Before (insert xs i x)
 rising_insert Before [] zero x r low high = (tt, tt)
 rising_insert Before [] (suc i) x r low high = (tt, tt)
 rising_insert Before (z ∷ zs) zero x r low high = (all_of (Before x) (z ∷ zs) high, r)
 rising_insert Before (z ∷ zs) (suc i) x r low high = (
-  all_of (Before z) (insert zs i x) (λ y h. ⊎_elim (λ (q : Contains zs y). each (Before z) zs y r.0 q) (λ (q : y ≡ x). subst (Before z) (sym q) (low z (here z (take i zs)))) ((contains_insert zs i x y).0 h)),
+  all_of (Before z) (insert zs i x) (λ y h. ⊎_elim (λ (q : Contains zs y). each (Before z) zs y r.0 q)
+      (λ (q : y ≡ x). subst (Before z) (sym q) (low z (here z (take i zs)))) ((contains_insert zs i x y).0 h)),
   rising_insert Before zs i x r.1 (λ y h. low y (there z (take i zs) y h)) high,
 )

@@ -13,7 +13,8 @@ whole P (x ∷ xs) zero l h k d q = absurd (omega (arith, l))
 whole P (x ∷ xs) (suc i) l h zero d q = h zero d (omega arith)
 whole P (x ∷ xs) (suc i) l h (suc k) d q = whole P xs i (omega (arith, l)) (λ j e r. h (suc j) e (omega (arith, r))) k d (omega (arith, q))
 
-pub one_more : {X : Type 0} (P : X → Type 0) (xs : List X) (i : ℕ) (x : X) → i < length xs → x ≡ get_or xs i x → All P (take i xs) → P x → All P (take (i + 1) xs)
+pub one_more : {X : Type 0} (P : X → Type 0) (xs : List X) (i : ℕ) (x : X) → i < length xs → x ≡ get_or xs i x → All P (take i xs) → P x
+    → All P (take (i + 1) xs)
 one_more P xs i x l e all p = All-more P xs i x l all (subst P e p)
 
 pub all_seen : {X : Type 0} (P : X → Type 0) (xs : List X) (i : ℕ) → length xs ≤ i → All P (take i xs) → AllByRecursion P xs
@@ -23,4 +24,8 @@ pub next_epoch : (cs : List CutData) (k : ℕ) → HasCutsTo cs k → ((c : CutD
 next_epoch cs k has c e l m = ⊎_elim (λ (q : e ≤ k). has e l q) (λ (q : e ≡ k + 1). (c.0, c.1, c.2 ∙ sym q)) (let t : (e ≤ k) ⊎ (e ≡ k + 1) = grind arith in t)
 
 pub complete : (cs : List CutData) (k : ℕ) → HasCutsTo cs k → (((c : CutData) × Contains cs c × (c.epoch ≡ k + 1)) → ⊥) → IsCompleteEpoch cs k
-complete cs k has missing = (inr has, λ m h. ⊎_elim (λ (q : m ≤ k). q) (λ (q : k < m). absurd (missing (h (k + 1) (omega arith) (omega arith)))) (let t : (m ≤ k) ⊎ (k < m) = grind arith in t))
+complete cs k has missing = (
+  inr has,
+  λ m h. ⊎_elim (λ (q : m ≤ k). q) (λ (q : k < m). absurd (missing (h (k + 1) (omega arith) (omega arith))))
+      (let t : (m ≤ k) ⊎ (k < m) = grind arith in t),
+)

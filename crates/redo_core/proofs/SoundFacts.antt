@@ -56,8 +56,10 @@ same_fact roster log f g sound hf hg key =
     (let t : (hg.0 < hf.0) ⊎ (hg.0 ≡ hf.0) = grind arith in t))
     (let t : (hf.0 < hg.0) ⊎ (hg.0 ≤ hf.0) = grind arith in t)
 
-pub same_record : (roster : ℕ) (log : List Fact) → IsSound roster log → (r s : RecordData) → Contains (records log) r → Contains (records log) s → r.epoch ≡ s.epoch → r.number ≡ s.number → r ≡ s
-same_record roster log sound r s hr hs e n = let q : Record r ≡ Record s = same_fact roster log (Record r) (Record s) sound ((record_in log r).0 hr) ((record_in log s).0 hs) (e, n) in cc
+pub same_record : (roster : ℕ) (log : List Fact) → IsSound roster log → (r s : RecordData) → Contains (records log) r → Contains (records log) s
+    → r.epoch ≡ s.epoch → r.number ≡ s.number → r ≡ s
+same_record roster log sound r s hr hs e n = let q : Record r ≡ Record s = same_fact roster log (Record r) (Record s) sound ((record_in log r).0 hr)
+    ((record_in log s).0 hs) (e, n) in cc
 
 pub same_cut : (roster : ℕ) (log : List Fact) → IsSound roster log → (c d : CutData) → Contains (cuts log) c → Contains (cuts log) d → c.epoch ≡ d.epoch → c ≡ d
 same_cut roster log sound c d hc hd e = let q : Cut c ≡ Cut d = same_fact roster log (Cut c) (Cut d) sound ((cut_in log c).0 hc) ((cut_in log d).0 hd) e in cc
@@ -77,8 +79,12 @@ first_of_epoch (b ∷ bs) c h =
     ⊎_elim (λ (e : b.epoch ≡ c.epoch). (b, here b _, e))
     (λ (no : b.epoch ≢ c.epoch).
     let below : Contains bs c = ⊎_elim (λ (q : b ≡ c). absurd (no (ap (λ x. x.epoch) q))) (λ q. q) (which b bs c h) in
-    let s = first_of_epoch bs c below in
-    (s.0, there b _ s.0 (passed (λ x. not (x.epoch == b.epoch)) (first_cuts bs) s.0 (let ne : s.0.epoch ≢ b.epoch = λ q. no (sym q ∙ s.2) in grind (arith, nat_tests)) s.1), s.2))
+    let s = first_of_epoch bs c below in (
+      s.0,
+      there b _ s.0 (passed (λ x. not (x.epoch == b.epoch)) (first_cuts bs) s.0
+          (let ne : s.0.epoch ≢ b.epoch = λ q. no (sym q ∙ s.2) in grind (arith, nat_tests)) s.1),
+      s.2,
+    ))
     (let t : (b.epoch ≡ c.epoch) ⊎ (b.epoch ≢ c.epoch) = grind arith in t)
 
 pub counted_in : (roster : ℕ) (log : List Fact) → IsSound roster log → (c : CutData) → Contains (counted log) c ↔ Contains (cuts log) c

@@ -28,7 +28,15 @@ pub record AdvanceData : Type 0 where
   pub point : ℕ
 
 abbrev pub record_with : ℕ → ℕ → ℕ → ℕ → ℕ → Bool → List Patch → RecordData
-record_with epoch number back page block_back init patches = record { epoch = epoch; number = number; back = back; page = page; block_back = block_back; init = init; patches = patches }
+record_with epoch number back page block_back init patches = record {
+  epoch = epoch;
+  number = number;
+  back = back;
+  page = page;
+  block_back = block_back;
+  init = init;
+  patches = patches;
+}
 
 -- writes alone
 abbrev pub plain : List WriteData → List Patch

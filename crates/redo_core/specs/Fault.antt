@@ -23,12 +23,12 @@ lower_laws BlockBacklink = OneFactPerKey ∷ EpochBegun ∷ SegmentBacklink ∷ 
 lower_laws AdvanceKept = OneFactPerKey ∷ EpochBegun ∷ SegmentBacklink ∷ BlockBacklink ∷ []
 
 -- the number by which a law is reported
-abbrev pub number_of : Law → ℕ
-number_of OneFactPerKey = 1
-number_of EpochBegun = 2
-number_of SegmentBacklink = 3
-number_of BlockBacklink = 4
-number_of AdvanceKept = 5
+abbrev pub law_number : Law → ℕ
+law_number OneFactPerKey = 1
+law_number EpochBegun = 2
+law_number SegmentBacklink = 3
+law_number BlockBacklink = 4
+law_number AdvanceKept = 5
 
 -- the place (from 0) is the least that breaks a law, and the law is the least that it breaks
 pub record IsFirstFault (roster : ℕ) (log : List Fact) (place : ℕ) (law : Law) : Type 0 where

@@ -22,3 +22,5 @@ pub mod LogFront
 pub mod Book
 pub mod Knowing
 pub mod Learning
+pub mod Joining
+pub mod Store

@@ -6,7 +6,7 @@ use crate::cuts::Cut;
 use crate::records::Record;
 use std::alloc::AllocError;
 
-/// What a database tells its segments: a redo record, a truncation, or an advance of the minimum read point.
+/// What a database tells its segments: a redo record, a truncation, or an advance of a reader's point.
 #[derive(Debug, Drop)]
 pub enum Fact {
     Record(Record),

@@ -1,5 +1,5 @@
 ghost use Rattle.std.specs.Prelude.{◌≡◌};
-ghost use Rattle.redo_core.specs.Fault.{number_of};
+ghost use Rattle.redo_core.specs.Fault.{law_number};
 
 /// The five laws of a sound log, in the order in which they are looked at.
 #[derive(Clone, Copy, Debug, PartialEq, Eq)]
@@ -19,7 +19,7 @@ pub enum Law {
 impl Law {
     /// The number by which the law is reported: 1 to 5.
     pub fn number(self) -> u8
-        ensures { result ≡ number_of self }
+        ensures { result ≡ law_number self }
     {
         match self {
             Law::OneFactPerKey => 1,

@@ -1,7 +1,7 @@
 //! Facts of a redo log (records, truncations, advances of readers' points), pages, and the definitions of what a set
 //! of facts means.
 //!
-//! Every value of a fact's type has its shape, so no code above tests it again. `apply` is what a record does to a page.
+//! Every value of a fact's type has its shape, and its getters say so. `apply` is what a record does to a page.
 //! `specs/` has the words that every contract above is written in, one concept a file.
 #![tactic(auto)]
 
@@ -9,6 +9,7 @@ mod advances;
 mod contents;
 mod cuts;
 mod facts;
+mod fixed;
 mod laws;
 mod pages;
 mod patches;

@@ -211,7 +211,8 @@ fn first_fault(
     block_back: u64,
     contents: Option<ShapeFault>,
 ) -> Option<ShapeFault>
-    ensures { (epoch page : ℕ) (init : Bool) (patches : List Patch) → patches_fault patches ≡ contents → result ≡ record_fault (record_with epoch number back page block_back init patches) }
+    ensures { (epoch page : ℕ) (init : Bool) (patches : List Patch) → patches_fault patches ≡ contents
+        → result ≡ record_fault (record_with epoch number back page block_back init patches) }
 {
     if number == 0 {
         return Some(ShapeFault::NumberIsZero);

@@ -222,10 +222,6 @@ fn records_of_two_forms_are_the_same_by_their_patches(rt: HostRuntime) -> Result
     let two = Record::with(2, 9, 5, 7, 3, false, as_patches(alloc)?)?;
     assert!(rt; one.is_same(&two) && two.is_same(&one));
     assert!(rt; !one.is_same(&filled(alloc, false)?));
-    assert_eq!(rt;
-        (two.epoch(), two.number(), two.back(), two.page()),
-        (2, 9, 5, 7)
-    );
     assert_eq!(rt; (two.block_back(), two.init()), (3, false));
     assert!(rt; matches!(one.body(), Body::Writes(listed) if listed.len() == 2));
     Ok(())

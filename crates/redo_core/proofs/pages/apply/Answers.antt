@@ -7,5 +7,7 @@ use Rattle.redo_core.proofs.pages.apply.Goals as goal
 
 pub put_all-requires-clause-inside : goal.put_all-requires-clause-inside
 put_all-requires-clause-inside c =
-    let inside : list_any is_patch_off_page (patches_of c.body.result.now) ≡ false = ap (list_any is_patch_off_page) c.body.ensures.patches ∙ inside_page c.args.redo.now c.body.ensures.shape in
-    ap (list_any is_off_page) c.deref.ensures.value ∙ sym (plain_off_page c.in-Writes.writes.items) ∙ sym (ap (λ b. list_any is_patch_off_page (patches_of b)) c.in-Writes.is) ∙ inside
+    let inside : list_any is_patch_off_page (patches_of c.body.result.now) ≡ false = ap (list_any is_patch_off_page) c.body.ensures.patches
+    ∙ inside_page c.args.redo.now c.body.ensures.shape in
+    ap (list_any is_off_page) c.deref.ensures.value ∙ sym (plain_off_page c.in-Writes.writes.items) ∙ sym
+    (ap (λ b. list_any is_patch_off_page (patches_of b)) c.in-Writes.is) ∙ inside

@@ -7,4 +7,5 @@ pub returns : goal.returns
 unfolding zeros
 returns c =
     let whole : c.loop-i.i ≡ 4096 = omega arith in
-    c.loop-i.invariant ∙ ap (λ n. replicate n 0 ++ drop n c.args.page.now) whole ∙ ap (λ xs. replicate 4096 0 ++ xs) (drop_all 4096 c.args.page.now (omega (arith, c.requires))) ∙ append-nil (replicate 4096 0)
+    c.loop-i.invariant ∙ ap (λ n. replicate n 0 ++ drop n c.args.page.now) whole ∙ ap (λ xs. replicate 4096 0 ++ xs)
+    (drop_all 4096 c.args.page.now (omega (arith, c.requires))) ∙ append-nil (replicate 4096 0)
