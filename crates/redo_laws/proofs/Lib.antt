@@ -3,6 +3,7 @@ pub mod Log
 pub mod Views
 pub mod Deciding
 pub mod Fronts
+pub mod FirstFaults
 pub mod Meanings
 pub mod Alike
 pub mod SameSets
@@ -11,3 +12,4 @@ pub mod Quorum
 pub mod Single
 pub mod Passed
 pub mod Sampled
+pub mod Storing

@@ -24,9 +24,11 @@ pub record IsLog (roster : ℕ) (log : List Fact) : Type 0 where
   pub has_cuts : (r : RecordData) → Contains (records log) r → HasCutsTo (cuts log) r.epoch
   pub begun : (r : RecordData) (c : CutData) → Contains (records log) r → Contains (cuts log) c → c.epoch ≡ r.epoch → c.hi < r.number
   pub backs : (r : RecordData) → Contains (records log) r → (0 < r.number) × (r.back < r.number)
-  pub last : (r s : RecordData) → Contains (records log) r → Contains (records log) s → IsAlive (cuts log) r.epoch s.epoch s.number → s.number < r.number → s.number ≤ r.back
+  pub last : (r s : RecordData) → Contains (records log) r → Contains (records log) s → IsAlive (cuts log) r.epoch s.epoch s.number → s.number < r.number
+      → s.number ≤ r.back
   pub reader : (a : AdvanceData) → Contains (advances log) a → IsReader roster a.reader
-  pub spared : (a : AdvanceData) (c : CutData) → Contains (advances log) a → Contains (cuts log) c → a.epoch < c.epoch → ArePast roster (advances log) c → a.point ≤ c.lo
+  pub spared : (a : AdvanceData) (c : CutData) → Contains (advances log) a → Contains (cuts log) c → a.epoch < c.epoch → ArePast roster (advances log) c
+      → a.point ≤ c.lo
 
 -- a view by other truncations
 pub alive_within : (cs ds : List CutData) → IsPart cs ds → (k e n : ℕ) → IsAlive ds k e n → IsAlive cs k e n
@@ -41,7 +43,8 @@ log_of_sound roster log sound = record {
   same_cut = same_cut roster log sound;
   same_record = same_record roster log sound;
   cut_order = λ c h. let f = (cut_in log c).0 h in cut_facts c (kept roster log (Cut c) sound f).shape;
-  has_cuts = λ r h e l m. let f = (record_in log r).0 h in let s = (kept roster log (Record r) sound f).law2.0 e l m in (s.0, (counted_in roster log sound s.0).0 s.1, s.2);
+  has_cuts = λ r h e l m. let f = (record_in log r).0 h in let s = (kept roster log (Record r) sound f).law2.0 e l m in
+      (s.0, (counted_in roster log sound s.0).0 s.1, s.2);
   begun = λ r c h hc e. let f = (record_in log r).0 h in (kept roster log (Record r) sound f).law2.1 c ((counted_in roster log sound c).1 hc) e;
   backs = λ r h. let f = (record_in log r).0 h in record_facts r (kept roster log (Record r) sound f).shape;
   last = λ r s h hs a l.

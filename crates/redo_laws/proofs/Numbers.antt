@@ -21,5 +21,6 @@ greatest_below P test zero top = (0, (inl refl, top))
 greatest_below P test (suc b) top =
     ⊎_elim
     (λ (p : P (suc b)). (suc b, (inr p, top)))
-    (λ (no : P (suc b) → ⊥). greatest_below P test b (λ m h. ⊎_elim (λ (e : m ≡ suc b). absurd (no (subst P e h))) (λ (l : m ≤ b). l) (let t : m ≤ suc b = top m h in grind arith)))
+    (λ (no : P (suc b) → ⊥). greatest_below P test b
+    (λ m h. ⊎_elim (λ (e : m ≡ suc b). absurd (no (subst P e h))) (λ (l : m ≤ b). l) (let t : m ≤ suc b = top m h in grind arith)))
     (test (suc b))

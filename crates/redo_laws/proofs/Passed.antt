@@ -10,7 +10,8 @@ use Rattle.redo_core.specs.Sound.{counted}
 use Rattle.redo_core.specs.declared.facts.Fact.{Fact}
 use Rattle.redo_core.proofs.Points.{least_le, least_ge}
 
-pub past_by_points : (roster : ℕ) (given : List AdvanceData) (c : CutData) (ps : List ℕ) → 1 ≤ roster → 0 < c.epoch → ArePoints roster given (c.epoch - 1) ps → ArePast roster given c ↔ (c.lo < least ps)
+pub past_by_points : (roster : ℕ) (given : List AdvanceData) (c : CutData) (ps : List ℕ) → 1 ≤ roster → 0 < c.epoch → ArePoints roster given (c.epoch - 1) ps
+    → ArePast roster given c ↔ (c.lo < least ps)
 past_by_points roster given c ps some begun points = (
   λ past.
       let t : suc c.lo ≤ least ps = least_ge roster ps (suc c.lo) points.count some (λ reader r.
@@ -31,9 +32,11 @@ past_by_points roster given c ps some begun points = (
 )
 
 pub none_passed : (roster : ℕ) (log : List Fact) → 1 ≤ roster
-    → ((a : AdvanceData) (c : CutData) → Contains (advances log) a → Contains (counted log) c → a.epoch < c.epoch → ArePast roster (advances log) c → a.point ≤ c.lo)
+    → ((a : AdvanceData) (c : CutData) → Contains (advances log) a → Contains (counted log) c → a.epoch < c.epoch → ArePast roster (advances log) c
+    → a.point ≤ c.lo)
     ↔ ((c : CutData) → Contains (counted log) c → ArePast roster (advances log) c → ⊥)
 none_passed roster log some = (
-  λ keeps c h past. let s = past 1 (omega arith, some) in let t : s.0.point ≤ c.lo = keeps s.0 c s.1 h s.3 past in let u : c.lo < s.0.point = s.4 in omega arith,
+  λ keeps c h past. let s = past 1 (omega arith, some) in let t : s.0.point ≤ c.lo = keeps s.0 c s.1 h s.3 past in let u : c.lo < s.0.point = s.4 in
+      omega arith,
   λ none a c ha hc lt past. absurd (none c hc past),
 )

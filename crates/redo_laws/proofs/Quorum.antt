@@ -16,14 +16,16 @@ use Rattle.redo_laws.proofs.Fronts.{front_exists}
 use Rattle.redo_laws.proofs.Union.{left, right, both}
 
 -- in one view more facts link more
-pub linked_more : {roster : ℕ} (log F U : List Fact) → IsLog roster log → IsPart F U → IsPart U log → (k : ℕ) → HasCutsTo (cuts F) k → (n : ℕ) → IsLinked F k n → IsLinked U k n
+pub linked_more : {roster : ℕ} (log F U : List Fact) → IsLog roster log → IsPart F U → IsPart U log → (k : ℕ) → HasCutsTo (cuts F) k → (n : ℕ) → IsLinked F k n
+    → IsLinked U k n
 linked_more log F U l p q k has n start = start
 linked_more log F U l p q k has n (next r h a b linked) =
     let up = alive_up log F l (λ x y. q x (p x y)) k r.epoch r.number has a in
     next r (part_records F U p r h) (alive_down log U q k r.epoch r.number up) b (linked_more log F U l p q k has r.back linked)
 
 -- what is at or above (k, n) stays so in a larger part
-pub stays_above : {roster : ℕ} (log F U : List Fact) (k n : ℕ) → IsLog roster log → IsPart F U → IsPart U log → IsAtOrAbove roster k n F → IsAtOrAbove roster k n U
+pub stays_above : {roster : ℕ} (log F U : List Fact) (k n : ℕ) → IsLog roster log → IsPart F U → IsPart U log → IsAtOrAbove roster k n F
+    → IsAtOrAbove roster k n U
 stays_above {roster} log F U k n l p q a =
     let f = a.0 in let front = a.1 in
     let u = front_exists roster U (λ r h. (l.backs r (part_records U log q r h)).1) in
@@ -46,14 +48,17 @@ stays_above {roster} log F U k n l p q a =
           a.2,
     )
 
-pub union_part : (log : List Fact) (chosen : List Bool) (parts : List (List Fact)) → AllByRecursion (λ part. IsPart part log) parts → IsPart (union_of chosen parts) log
+pub union_part : (log : List Fact) (chosen : List Bool) (parts : List (List Fact)) → AllByRecursion (λ part. IsPart part log) parts
+    → IsPart (union_of chosen parts) log
 union_part log [] parts all x h = absurd (none_in x h)
 union_part log (b ∷ bs) [] all x h = absurd (none_in x h)
 union_part log (true ∷ bs) (part ∷ parts) all x h = both part (union_of bs parts) log all.0 (union_part log bs parts all.1) x h
 union_part log (false ∷ bs) (part ∷ parts) all x h = union_part log bs parts all.1 x h
 
 -- some part is reached and chosen
-pub shared : {roster : ℕ} (k n : ℕ) (parts : List (List Fact)) (reached chosen : List Bool) → AllZip (λ b part. b ≡ true → IsAtOrAbove roster k n part) reached parts → length chosen ≡ length parts → length parts < count_of reached + count_of chosen → (part : List Fact) × IsAtOrAbove roster k n part × IsPart part (union_of chosen parts)
+pub shared : {roster : ℕ} (k n : ℕ) (parts : List (List Fact)) (reached chosen : List Bool)
+    → AllZip (λ b part. b ≡ true → IsAtOrAbove roster k n part) reached parts → length chosen ≡ length parts → length parts < count_of reached + count_of chosen
+    → (part : List Fact) × IsAtOrAbove roster k n part × IsPart part (union_of chosen parts)
 shared k n [] [] [] z e lt = absurd (omega arith)
 shared k n [] [] (c ∷ cs) z e lt = absurd (omega arith)
 shared k n [] (r ∷ rs) chosen z e lt = elim z [ ]
@@ -61,10 +66,13 @@ shared k n (p ∷ ps) [] chosen z e lt = elim z [ ]
 shared k n (p ∷ ps) (r ∷ rs) [] z e lt = absurd (omega arith)
 shared k n (p ∷ ps) (true ∷ rs) (true ∷ cs) z e lt = (p, z.0 refl, left p (union_of cs ps))
 shared k n (p ∷ ps) (true ∷ rs) (false ∷ cs) z e lt = shared k n ps rs cs z.1 (omega arith) (omega arith)
-shared k n (p ∷ ps) (false ∷ rs) (true ∷ cs) z e lt = let s = shared k n ps rs cs z.1 (omega arith) (omega arith) in (s.0, s.1, λ x h. right p (union_of cs ps) x (s.2 x h))
+shared k n (p ∷ ps) (false ∷ rs) (true ∷ cs) z e lt = let s = shared k n ps rs cs z.1 (omega arith) (omega arith) in
+    (s.0, s.1, λ x h. right p (union_of cs ps) x (s.2 x h))
 shared k n (p ∷ ps) (false ∷ rs) (false ∷ cs) z e lt = shared k n ps rs cs z.1 (omega arith) (omega arith)
 
-pub overlap_law : {roster : ℕ} (log : List Fact) (parts : List (List Fact)) (reached chosen : List Bool) (k n : ℕ) → IsLog roster log → AllByRecursion (λ part. IsPart part log) parts → AllZip (λ b part. b ≡ true → IsAtOrAbove roster k n part) reached parts → length chosen ≡ length parts → length parts < count_of reached + count_of chosen → IsAtOrAbove roster k n (union_of chosen parts)
+pub overlap_law : {roster : ℕ} (log : List Fact) (parts : List (List Fact)) (reached chosen : List Bool) (k n : ℕ) → IsLog roster log
+    → AllByRecursion (λ part. IsPart part log) parts → AllZip (λ b part. b ≡ true → IsAtOrAbove roster k n part) reached parts → length chosen ≡ length parts
+    → length parts < count_of reached + count_of chosen → IsAtOrAbove roster k n (union_of chosen parts)
 overlap_law log parts reached chosen k n l all z e lt =
     let s = shared k n parts reached chosen z e lt in
     stays_above log s.0 (union_of chosen parts) k n l s.2 (union_part log chosen parts all) s.1

@@ -12,7 +12,8 @@ use Rattle.redo_laws.proofs.Fronts.{same_sym, linked_same}
 use Rattle.redo_laws.proofs.Meanings.{page_same}
 use Rattle.redo_laws.proofs.Alike.{Alike, greatest_by, front_alike, meaning_alike}
 
-advances_same : (facts same : List Fact) → SameSet facts same → (k reader n : ℕ) → HasAdvance (advances facts) k reader n → HasAdvance (advances same) k reader n
+advances_same : (facts same : List Fact) → SameSet facts same → (k reader n : ℕ) → HasAdvance (advances facts) k reader n
+    → HasAdvance (advances same) k reader n
 advances_same facts same s k reader n h = (h.0, part_advances facts same (λ x q. (s x).0 q) h.0 h.1, h.2, h.3, h.4)
 
 pub alike_same : (roster : ℕ) (facts same : List Fact) → SameSet facts same → (k : ℕ) → Alike roster facts same k
@@ -23,8 +24,10 @@ alike_same roster facts same s k =
       records = λ r matters. (part_records facts same (λ x q. (s x).0 q) r, part_records same facts (λ x q. (s x).1 q) r);
       waits = λ a later. (part_advances facts same (λ x q. (s x).0 q) a, part_advances same facts (λ x q. (s x).1 q) a);
       points = λ reader m r. (
-        greatest_by (HasAdvance (advances facts) k reader) (HasAdvance (advances same) k reader) (advances_same facts same s k reader) (advances_same same facts t k reader) m,
-        greatest_by (HasAdvance (advances same) k reader) (HasAdvance (advances facts) k reader) (advances_same same facts t k reader) (advances_same facts same s k reader) m,
+        greatest_by (HasAdvance (advances facts) k reader) (HasAdvance (advances same) k reader) (advances_same facts same s k reader)
+            (advances_same same facts t k reader) m,
+        greatest_by (HasAdvance (advances same) k reader) (HasAdvance (advances facts) k reader) (advances_same same facts t k reader)
+            (advances_same facts same s k reader) m,
       );
     }
 
@@ -38,7 +41,11 @@ pub agree : (facts same : List Fact) → SameSet facts same → AgreeOn facts sa
 agree facts same s =
     let t = same_sym facts same s in
     record {
-      positions = λ roster p. (front_alike facts same p (alike_same roster facts same s p.epoch), front_alike same facts p (alike_same roster same facts t p.epoch));
+      positions = λ roster p. (
+        front_alike facts same p (alike_same roster facts same s p.epoch),
+        front_alike same facts p
+            (alike_same roster same facts t p.epoch),
+      );
       linked = λ k n. (linked_same facts same s k n, linked_same same facts t k n);
       pages = λ k page q image. (page_same facts same s k page q image, page_same same facts t k page q image);
       meanings = λ roster m. same_meanings roster facts same m s;
@@ -51,4 +58,5 @@ pub turned : (x y : List Fact) → SameSet (x ++ y) (y ++ x)
 turned x y f = (turn x y, turn y x)
   where
     turn : (u v : List Fact) → Contains (u ++ v) f → Contains (v ++ u) f
-    turn u v h = ⊎_elim (λ (a : Contains u f). Contains-append_right v u f a) (λ (a : Contains v f). Contains-append_left v u f a) (Contains-append_cases u v f h)
+    turn u v h = ⊎_elim (λ (a : Contains u f). Contains-append_right v u f a) (λ (a : Contains v f). Contains-append_left v u f a)
+        (Contains-append_cases u v f h)

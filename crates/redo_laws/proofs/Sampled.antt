@@ -27,8 +27,16 @@ first = record {
   shape = refl;
   law1 = λ f h k. absurd (none_in f h);
   law2 = (λ e l m. absurd (omega arith), λ c h e. let x = (one_cut c h).0 in absurd (omega arith));
-  law3 = (inl refl, λ m h. let a : h.other.number ≡ 3 = one_record h.other h.among in let b : h.other.number ≡ m = h.number in let c : m < 3 = h.below in absurd (omega arith));
-  law4 = (inl refl, λ m h. let a : h.other.number ≡ 3 = one_record h.other h.among in let b : h.other.number ≡ m = h.number in let c : m < 3 = h.below in absurd (omega arith));
+  law3 = (
+    inl refl,
+    λ m h. let a : h.other.number ≡ 3 = one_record h.other h.among in let b : h.other.number ≡ m = h.number in let c : m < 3 = h.below in
+        absurd (omega arith),
+  );
+  law4 = (
+    inl refl,
+    λ m h. let a : h.other.number ≡ 3 = one_record h.other h.among in let b : h.other.number ≡ m = h.number in let c : m < 3 = h.below in
+        absurd (omega arith),
+  );
   law5 = tt;
 }
 

@@ -24,7 +24,9 @@ one_reader facts p h =
       subst (IsPoint (advances facts) p.epoch 1) (s.1 ∙ sym h.min) (h.points.each 1 (omega arith, omega arith)),
     )
 
-pub one_reader_keeps : (log : List Fact) (a : AdvanceData) → Contains (advances log) a → Law5 1 log (Advance a) ↔ ((a.reader ≡ 1) × HasCutsTo (counted log) a.epoch × ((c : CutData) → Contains (counted log) c → a.epoch < c.epoch → a.point ≤ c.lo))
+pub one_reader_keeps : (log : List Fact) (a : AdvanceData) → Contains (advances log) a
+    → Law5 1 log (Advance a) ↔ ((a.reader ≡ 1) × HasCutsTo (counted log) a.epoch
+    × ((c : CutData) → Contains (counted log) c → a.epoch < c.epoch → a.point ≤ c.lo))
 one_reader_keeps log a h = (
   λ l.
       let first : a.reader ≡ 1 = omega (arith, l.0.0, l.0.1) in (

@@ -22,14 +22,16 @@ pub has_cuts : (cs : List CutData) (k : ℕ) → IsCompleteEpoch cs k → HasCut
 has_cuts cs k c = at_greatest (HasCutsTo cs) (λ e l m. absurd (omega arith)) k c
 
 -- a part that knows the epochs up to k knows all of the log's truncations there
-pub knows_cuts : {roster : ℕ} (log part : List Fact) → IsLog roster log → IsPart part log → (k : ℕ) → HasCutsTo (cuts part) k → (c : CutData) → Contains (cuts log) c → c.epoch ≤ k → Contains (cuts part) c
+pub knows_cuts : {roster : ℕ} (log part : List Fact) → IsLog roster log → IsPart part log → (k : ℕ) → HasCutsTo (cuts part) k → (c : CutData)
+    → Contains (cuts log) c → c.epoch ≤ k → Contains (cuts part) c
 knows_cuts log part l p k has c h m =
     let s = has c.epoch (l.cut_order c h).0 m in
     let q : s.0 ≡ c = l.same_cut s.0 c (part_cuts part log p s.0 s.1) h s.2 in
     subst (Contains (cuts part)) q s.1
 
 -- so a record that is alive in the part's view is so in the log's
-pub alive_up : {roster : ℕ} (log part : List Fact) → IsLog roster log → IsPart part log → (k e n : ℕ) → HasCutsTo (cuts part) k → IsAlive (cuts part) k e n → IsAlive (cuts log) k e n
+pub alive_up : {roster : ℕ} (log part : List Fact) → IsLog roster log → IsPart part log → (k e n : ℕ) → HasCutsTo (cuts part) k → IsAlive (cuts part) k e n
+    → IsAlive (cuts log) k e n
 alive_up log part l p k e n has a = record {
   known = a.known;
   begun = λ c h q. a.begun c (knows_cuts log part l p k has c h (let t : e ≤ k = a.known in omega arith)) q;
@@ -37,7 +39,8 @@ alive_up log part l p k e n has a = record {
 }
 
 -- of two records of one view the one of the later epoch has the greater number
-pub later_above : {roster : ℕ} (log : List Fact) → IsLog roster log → (k : ℕ) → HasCutsTo (cuts log) k → (r s : RecordData) → IsAlive (cuts log) k r.epoch r.number → IsAlive (cuts log) k s.epoch s.number → s.epoch < r.epoch → s.number < r.number
+pub later_above : {roster : ℕ} (log : List Fact) → IsLog roster log → (k : ℕ) → HasCutsTo (cuts log) k → (r s : RecordData)
+    → IsAlive (cuts log) k r.epoch r.number → IsAlive (cuts log) k s.epoch s.number → s.epoch < r.epoch → s.number < r.number
 later_above log l k has r s ar as' lt =
     let t : r.epoch ≤ k = ar.known in
     let c = has r.epoch (omega arith) t in
@@ -47,7 +50,8 @@ later_above log l k has r s ar as' lt =
     omega arith
 
 -- two alive records never share a number
-pub alone : {roster : ℕ} (log : List Fact) → IsLog roster log → (k : ℕ) → HasCutsTo (cuts log) k → (r s : RecordData) → Contains (records log) r → Contains (records log) s → IsAlive (cuts log) k r.epoch r.number → IsAlive (cuts log) k s.epoch s.number → r.number ≡ s.number → r ≡ s
+pub alone : {roster : ℕ} (log : List Fact) → IsLog roster log → (k : ℕ) → HasCutsTo (cuts log) k → (r s : RecordData) → Contains (records log) r
+    → Contains (records log) s → IsAlive (cuts log) k r.epoch r.number → IsAlive (cuts log) k s.epoch s.number → r.number ≡ s.number → r ≡ s
 alone log l k has r s hr hs ar as' e =
     ⊎_elim
     (λ (q : r.epoch < s.epoch). absurd (let x = later_above log l k has s r as' ar q in omega (arith, x)))
@@ -58,7 +62,8 @@ alone log l k has r s hr hs ar as' e =
     (let t : (r.epoch < s.epoch) ⊎ (s.epoch ≤ r.epoch) = grind arith in t)
 
 -- what is alive in view k below a record that is alive there, is alive in the record's own view
-pub alive_then : {roster : ℕ} (log : List Fact) → IsLog roster log → (k : ℕ) → HasCutsTo (cuts log) k → (r s : RecordData) → IsAlive (cuts log) k r.epoch r.number → IsAlive (cuts log) k s.epoch s.number → s.number < r.number → IsAlive (cuts log) r.epoch s.epoch s.number
+pub alive_then : {roster : ℕ} (log : List Fact) → IsLog roster log → (k : ℕ) → HasCutsTo (cuts log) k → (r s : RecordData)
+    → IsAlive (cuts log) k r.epoch r.number → IsAlive (cuts log) k s.epoch s.number → s.number < r.number → IsAlive (cuts log) r.epoch s.epoch s.number
 alive_then log l k has r s ar as' lt = record {
   known =
       ⊎_elim (λ (q : r.epoch < s.epoch). absurd (let x = later_above log l k has s r as' ar q in omega (arith, x))) (λ (m : s.epoch ≤ r.epoch). m)
@@ -68,18 +73,21 @@ alive_then log l k has r s ar as' lt = record {
 }
 
 -- Up to a linked number, each record of the log that is alive in the part's view is a linked record of the part.
-pub linked_below : {roster : ℕ} (log part : List Fact) → IsLog roster log → IsPart part log → (k : ℕ) → HasCutsTo (cuts part) k → (n : ℕ) → IsLinked part k n → (s : RecordData) → Contains (records log) s → IsAlive (cuts log) k s.epoch s.number → s.number ≤ n → IsLinkedRecord part k s
+pub linked_below : {roster : ℕ} (log part : List Fact) → IsLog roster log → IsPart part log → (k : ℕ) → HasCutsTo (cuts part) k → (n : ℕ) → IsLinked part k n
+    → (s : RecordData) → Contains (records log) s → IsAlive (cuts log) k s.epoch s.number → s.number ≤ n → IsLinkedRecord part k s
 linked_below log part l p k has n start s hs as' m = absurd (let x = (l.backs s hs).0 in omega (arith, x))
 linked_below log part l p k has n (next r hr ar lt linked) s hs as' m =
     let hr' : Contains (records log) r = part_records part log p r hr in
     let ar' : IsAlive (cuts log) k r.epoch r.number = alive_up log part l p k r.epoch r.number has ar in
     let has' : HasCutsTo (cuts log) k = λ e i j. let c = has e i j in (c.0, part_cuts part log p c.0 c.1, c.2) in
     ⊎_elim
-    (λ (q : s.number ≡ r.number). let e : r ≡ s = alone log l k has' r s hr' hs ar' as' (sym q) in subst (IsLinkedRecord part k) e (record { among = hr; alive = ar; linked = next r hr ar lt linked }))
+    (λ (q : s.number ≡ r.number). let e : r ≡ s = alone log l k has' r s hr' hs ar' as' (sym q) in subst (IsLinkedRecord part k) e
+    (record { among = hr; alive = ar; linked = next r hr ar lt linked }))
     (λ (q : s.number < r.number). linked_below log part l p k has r.back linked s hs as' (l.last r s hr' hs (alive_then log l k has' r s ar' as' q) q))
     (let t : (s.number ≡ r.number) ⊎ (s.number < r.number) = grind arith in t)
 
-pub prefix_law : {roster : ℕ} (log part : List Fact) (f : Position) (n : ℕ) (r : RecordData) → IsLog roster log → IsPart part log → IsPosition roster part f → IsLinked part f.epoch n → r.number ≤ n → IsLinkedRecord part f.epoch r ↔ (Contains (records log) r × IsAlive (cuts log) f.epoch r.epoch r.number)
+pub prefix_law : {roster : ℕ} (log part : List Fact) (f : Position) (n : ℕ) (r : RecordData) → IsLog roster log → IsPart part log → IsPosition roster part f
+    → IsLinked part f.epoch n → r.number ≤ n → IsLinkedRecord part f.epoch r ↔ (Contains (records log) r × IsAlive (cuts log) f.epoch r.epoch r.number)
 prefix_law log part f n r l p front linked m =
     let has : HasCutsTo (cuts part) f.epoch = has_cuts (cuts part) f.epoch front.epoch in (
       λ h. (part_records part log p r h.among, alive_up log part l p f.epoch r.epoch r.number has h.alive),
@@ -105,12 +113,14 @@ min_at roster F f front = (f.points, front.points, front.min)
 
 pub min_le : (roster : ℕ) (F G : List Fact) → IsPart F G → (k j : ℕ) → k ≤ j → (m n : ℕ) → IsMin roster (advances F) k m → IsMin roster (advances G) j n → m ≤ n
 min_le roster F G p k j le m n a b =
-    let t : least a.0 ≤ least b.0 = least_mono roster a.0 b.0 a.1.count b.1.count (λ reader r. point_le F G p k j le reader (point_of a.0 reader) (point_of b.0 reader) (a.1.each reader r) (b.1.each reader r)) in
+    let t : least a.0 ≤ least b.0 = least_mono roster a.0 b.0 a.1.count b.1.count
+    (λ reader r. point_le F G p k j le reader (point_of a.0 reader) (point_of b.0 reader) (a.1.each reader r) (b.1.each reader r)) in
     let x : m ≡ least a.0 = a.2 in let y : n ≡ least b.0 = b.2 in
     omega arith
 
 -- a reader whose point is above the lo of a later truncation is past it
-pub reader_past : (log F : List Fact) → IsPart F log → (k : ℕ) (c : CutData) → k < c.epoch → (reader m : ℕ) → IsPoint (advances F) k reader m → c.lo < m → IsPast (advances log) c reader
+pub reader_past : (log F : List Fact) → IsPart F log → (k : ℕ) (c : CutData) → k < c.epoch → (reader m : ℕ) → IsPoint (advances F) k reader m → c.lo < m
+    → IsPast (advances log) c reader
 reader_past log F p k c lt reader m a low =
     ⊎_elim
     (λ (e : m ≡ 0). absurd (omega arith))
@@ -121,7 +131,8 @@ reader_past log F p k c lt reader m a low =
     a.0
 
 -- law 5: what is annulled in a later epoch is above the minimum read point
-pub min_spared : {roster : ℕ} (log F : List Fact) → IsLog roster log → IsPart F log → (k m : ℕ) → IsMin roster (advances F) k m → (c : CutData) → Contains (cuts log) c → k < c.epoch → m ≤ c.lo
+pub min_spared : {roster : ℕ} (log F : List Fact) → IsLog roster log → IsPart F log → (k m : ℕ) → IsMin roster (advances F) k m → (c : CutData)
+    → Contains (cuts log) c → k < c.epoch → m ≤ c.lo
 min_spared {roster} log F l p k m a c h lt =
     ⊎_elim
     (λ (q : m ≤ c.lo). q)
@@ -136,7 +147,8 @@ min_spared {roster} log F l p k m a c h lt =
     (let t : (m ≤ c.lo) ⊎ (c.lo < m) = grind arith in t)
 
 -- up to the minimum read point, standings in view k are those of every later view
-pub standing_stays : {roster : ℕ} (log F : List Fact) → IsLog roster log → IsPart F log → (k m j : ℕ) → IsMin roster (advances F) k m → k ≤ j → HasCutsTo (cuts log) j → (e n : ℕ) → n ≤ m → IsAlive (cuts log) k e n ↔ IsAlive (cuts log) j e n
+pub standing_stays : {roster : ℕ} (log F : List Fact) → IsLog roster log → IsPart F log → (k m j : ℕ) → IsMin roster (advances F) k m → k ≤ j
+    → HasCutsTo (cuts log) j → (e n : ℕ) → n ≤ m → IsAlive (cuts log) k e n ↔ IsAlive (cuts log) j e n
 standing_stays log F l p k m j a le has e n small = (
   λ h. record {
     known = let t : e ≤ k = h.known in omega arith;
@@ -170,7 +182,8 @@ pub alive_down : (log part : List Fact) → IsPart part log → (k e n : ℕ) �
 alive_down log part p k e n a = alive_within (cuts part) (cuts log) (part_cuts part log p) k e n a
 
 -- a number linked at or below the minimum is linked in every larger part
-pub linked_stays : {roster : ℕ} (log F G : List Fact) → IsLog roster log → IsPart F G → IsPart G log → (k m j : ℕ) → HasCutsTo (cuts F) k → IsMin roster (advances F) k m → k ≤ j → HasCutsTo (cuts G) j → (n : ℕ) → n ≤ m → IsLinked F k n → IsLinked G j n
+pub linked_stays : {roster : ℕ} (log F G : List Fact) → IsLog roster log → IsPart F G → IsPart G log → (k m j : ℕ) → HasCutsTo (cuts F) k
+    → IsMin roster (advances F) k m → k ≤ j → HasCutsTo (cuts G) j → (n : ℕ) → n ≤ m → IsLinked F k n → IsLinked G j n
 linked_stays log F G l p q k m j has a le hasj n small start = start
 linked_stays log F G l p q k m j has a le hasj n small (next r hr ar lt linked) =
     let pq : IsPart F log = λ f h. q f (p f h) in
@@ -183,13 +196,15 @@ linked_stays log F G l p q k m j has a le hasj n small (next r hr ar lt linked) 
     (linked_stays log F G l p q k m j has a le hasj r.back (omega arith) linked)
 
 -- a linked record at a linked number
-pub linked_record : (facts : List Fact) (k : ℕ) → (r : RecordData) → Contains (records facts) r → IsAlive (cuts facts) k r.epoch r.number → IsLinked facts k r.number → IsLinkedRecord facts k r
+pub linked_record : (facts : List Fact) (k : ℕ) → (r : RecordData) → Contains (records facts) r → IsAlive (cuts facts) k r.epoch r.number
+    → IsLinked facts k r.number → IsLinkedRecord facts k r
 linked_record facts k r a b c = record { among = a; alive = b; linked = c }
 
 pub anchor_is : {roster : ℕ} (F : List Fact) (f : Position) → IsPosition roster F f → IsLinked F f.epoch f.anchor × (f.anchor ≤ f.min)
 anchor_is F f front = at_greatest (λ n. IsLinked F f.epoch n × (n ≤ f.min)) (start, omega arith) f.anchor front.anchor
 
-pub finality_law : {roster : ℕ} (log F G : List Fact) (f g : Position) → IsLog roster log → IsPart F G → IsPart G log → IsPosition roster F f → IsPosition roster G g → (f.anchor ≤ g.anchor) × ((r : RecordData) → r.number ≤ f.anchor → IsLinkedRecord F f.epoch r ↔ IsLinkedRecord G g.epoch r)
+pub finality_law : {roster : ℕ} (log F G : List Fact) (f g : Position) → IsLog roster log → IsPart F G → IsPart G log → IsPosition roster F f
+    → IsPosition roster G g → (f.anchor ≤ g.anchor) × ((r : RecordData) → r.number ≤ f.anchor → IsLinkedRecord F f.epoch r ↔ IsLinkedRecord G g.epoch r)
 finality_law {roster} log F G f g l p q front gront =
     let pq : IsPart F log = λ x h. q x (p x h) in
     let le : f.epoch ≤ g.epoch = epoch_le F G p f.epoch g.epoch front.epoch gront.epoch in
@@ -203,8 +218,10 @@ finality_law {roster} log F G f g l p q front gront =
       gront.anchor.1 f.anchor (la, omega arith),
       λ r m. (
         λ h. let x = (prefix_law log F f f.anchor r l pq front a.0 m).0 h in
-            (prefix_law log G g f.anchor r l q gront la m).1 (x.0, (standing_stays log F l pq f.epoch f.min g.epoch (min_at roster F f front) le hasl r.epoch r.number (omega arith)).0 x.1),
+            (prefix_law log G g f.anchor r l q gront la m).1
+            (x.0, (standing_stays log F l pq f.epoch f.min g.epoch (min_at roster F f front) le hasl r.epoch r.number (omega arith)).0 x.1),
         λ h. let x = (prefix_law log G g f.anchor r l q gront la m).0 h in
-            (prefix_law log F f f.anchor r l pq front a.0 m).1 (x.0, (standing_stays log F l pq f.epoch f.min g.epoch (min_at roster F f front) le hasl r.epoch r.number (omega arith)).1 x.1),
+            (prefix_law log F f f.anchor r l pq front a.0 m).1
+            (x.0, (standing_stays log F l pq f.epoch f.min g.epoch (min_at roster F f front) le hasl r.epoch r.number (omega arith)).1 x.1),
       ),
     )

@@ -5,3 +5,4 @@ pub mod Overlap
 pub mod OneReader
 pub mod Passing
 pub mod Sample
+pub mod Stored

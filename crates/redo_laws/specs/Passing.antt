@@ -20,5 +20,6 @@ PastByPoints =
 abbrev pub NonePassed : Type 0
 NonePassed =
     (roster : ℕ) (log : List Fact) → 1 ≤ roster
-    → ((a : AdvanceData) (c : CutData) → Contains (advances log) a → Contains (counted log) c → a.epoch < c.epoch → ArePast roster (advances log) c → a.point ≤ c.lo)
+    → ((a : AdvanceData) (c : CutData) → Contains (advances log) a → Contains (counted log) c → a.epoch < c.epoch → ArePast roster (advances log) c
+    → a.point ≤ c.lo)
     ↔ ((c : CutData) → Contains (counted log) c → ArePast roster (advances log) c → ⊥)

@@ -1,4 +1,4 @@
--- Positions, pages and meanings exist, are unique, and depend on the members of a set alone.
+-- Positions, pages and meanings exist, are unique, and depend on the members of a set alone; a log has one first fault at most.
 use Rattle.std.specs.Prelude.{◌≡◌, ℕ, ◌↔◌, List}
 use Rattle.redo_core.specs.Sets.{IsPart, SameSet, cuts}
 use Rattle.redo_core.specs.CompleteEpoch.{HasCutsTo}
@@ -7,7 +7,9 @@ use Rattle.redo_core.specs.Position.{Position, IsPosition}
 use Rattle.redo_core.specs.PageAt.{IsPageAt}
 use Rattle.redo_core.specs.Sound.{IsSound}
 use Rattle.redo_core.specs.Meaning.{Meaning, IsMeaning}
+use Rattle.redo_core.specs.Fault.{IsFirstFault}
 use Rattle.redo_core.specs.declared.facts.Fact.{Fact}
+use Rattle.redo_core.specs.declared.laws.Law.{Law}
 
 -- there is an x with P, and no other
 abbrev pub IsOne : {X : Type 0} → (X → Type 0) → Type 0
@@ -44,3 +46,13 @@ Answers =
     → IsSound roster log → IsPart part log → IsPart other log
     → IsMeaning roster part m → IsMeaning roster other m → IsPosition roster part p → IsPosition roster other q
     → (p ≡ q) × ((page point : ℕ) (image : List ℕ) → IsPageAt part p.epoch page point image ↔ IsPageAt other q.epoch page point image)
+
+-- A log has one first fault at most.
+abbrev pub OneFault : Type 0
+OneFault =
+    (roster : ℕ) (log : List Fact) (place other : ℕ) (law another : Law)
+    → IsFirstFault roster log place law → IsFirstFault roster log other another → (place ≡ other) × (law ≡ another)
+
+-- A sound log has no fault.
+abbrev pub NoFault : Type 0
+NoFault = (roster : ℕ) (log : List Fact) (place : ℕ) (law : Law) → IsSound roster log → IsFirstFault roster log place law → ⊥

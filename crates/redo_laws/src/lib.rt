@@ -12,7 +12,8 @@ ghost use Rattle.redo_laws.specs.Overlap.{Overlap};
 ghost use Rattle.redo_laws.specs.Parts.{Prefix, Finality};
 ghost use Rattle.redo_laws.specs.Passing.{PastByPoints, NonePassed};
 ghost use Rattle.redo_laws.specs.Sample.{SampleIsSound};
-ghost use Rattle.redo_laws.specs.WellFormed.{OnePosition, OnePage, OneMeaning, OnlyMembersCount, Answers};
+ghost use Rattle.redo_laws.specs.Stored.{StoredImages};
+ghost use Rattle.redo_laws.specs.WellFormed.{OnePosition, OnePage, OneMeaning, OnlyMembersCount, Answers, OneFault, NoFault};
 
 /// Up to a linked number, a part of a sound log has every record of the log that is alive in the part's view.
 pub fn prefix()
@@ -79,6 +80,12 @@ pub fn only_members_count()
     ensures { OnlyMembersCount }
 {}
 
+/// A log has at most one first fault, the least place that breaks a law with the least law that it breaks; a sound log has none.
+pub fn one_fault()
+    ensures one { OneFault }
+    ensures none { NoFault }
+{}
+
 /// Where a quorum of parts has reached a place, so has the union of every choice of parts that is sure to meet the quorum.
 pub fn overlap()
     ensures { Overlap }
@@ -102,6 +109,11 @@ pub fn past_by_points()
 /// The advances of a log are kept from later truncations where no truncation has all readers past it.
 pub fn none_passed()
     ensures { NonePassed }
+{}
+
+/// Among images that rise by page, a page's version and image are those of its stored image, or the floor and zeros.
+pub fn stored_images()
+    ensures { StoredImages }
 {}
 
 /// A log with a fact of each kind is sound, so the laws are not empty.
