@@ -9,7 +9,10 @@ use Rattle.redo_core.specs.declared.facts.Fact.TheVariants.{Record, Cut, Advance
 
 -- the two writes of the record of a number: its eight bytes at offset 0, and at an offset of its own
 unfoldable pub drill_writes : ℕ → List WriteData
-drill_writes number = record { offset = 0; bytes = to_be_bytes w64 number } ∷ record { offset = 8 + 8 * (number / 8 % 511); bytes = to_be_bytes w64 number } ∷ []
+drill_writes number = record { offset = 0; bytes = to_be_bytes w64 number } ∷ record {
+  offset = 8 + 8 * (number / 8 % 511);
+  bytes = to_be_bytes w64 number;
+} ∷ []
 
 -- the record of a number of epoch 0
 abbrev pub record_of_epoch_0 : ℕ → RecordData

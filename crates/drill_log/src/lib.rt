@@ -5,6 +5,7 @@
 
 mod drill;
 mod facts;
+mod fixed;
 mod records;
 #[cfg(test)]
 mod tests;

@@ -79,8 +79,9 @@ fn advance_and_truncation_stand_in_the_middle(rt: HostRuntime) -> Result<(), Fai
 
 #[test]
 fn nothing_stands_outside(rt: HostRuntime) -> Result<(), Fail> {
-    assert!(rt; LogFact::<Small>::at(rt.alloc(), 0)?.is_none());
-    assert!(rt; LogFact::<Small>::at(rt.alloc(), 131)?.is_none());
+    for place in [0, 131] {
+        assert!(rt; LogFact::<Small>::at(rt.alloc(), place)?.is_none());
+    }
     assert!(rt; LogFact::<Drill<1>>::at(rt.alloc(), 1)?.is_none());
     assert!(rt; LogFact::<Drill<1048577>>::at(rt.alloc(), 1)?.is_none());
     assert!(rt; LogFact::<Drill<1048576>>::at(rt.alloc(), 2097154)?.is_some());

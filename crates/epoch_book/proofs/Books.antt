@@ -68,7 +68,8 @@ raised_points n k j as' bs given old new points raises before more cases = recor
 }
 
 -- points that no advance raises
-pub unraised_points : (k : ℕ) (old : List ℕ) (given : List AdvanceData) → ((a : AdvanceData) → Contains given a → a.epoch ≤ k → IsReader (length old) a.reader → a.point ≤ point_of old a.reader) → RaisesPoints k old given old
+pub unraised_points : (k : ℕ) (old : List ℕ) (given : List AdvanceData)
+    → ((a : AdvanceData) → Contains given a → a.epoch ≤ k → IsReader (length old) a.reader → a.point ≤ point_of old a.reader) → RaisesPoints k old given old
 unraised_points k old given low = record {
   count = refl;
   each = λ reader r. (
@@ -101,7 +102,8 @@ new_knows n cs ps ws e p f = record {
 pub held_learns : (b : BookData) (c : CutData) → IsBook b → Contains b.cuts c → LearnsCut b c b
 held_learns b c book held = record {
   cuts = λ d. (λ h. inl h, λ h. ⊎_elim (λ (p : Contains b.cuts d). p) (λ (q : d ≡ c). subst (Contains b.cuts) (sym q) held) h);
-  points = unraised_points b.complete b.points b.waits (λ a h le r. absurd (let l : b.complete < a.epoch = All-contains (λ x. b.complete < x.epoch) b.waits a book.waits_later h in omega (arith, le)));
+  points = unraised_points b.complete b.points b.waits
+      (λ a h le r. absurd (let l : b.complete < a.epoch = All-contains (λ x. b.complete < x.epoch) b.waits a book.waits_later h in omega (arith, le)));
   waits = λ a. (λ h. (h, All-contains (λ x. b.complete < x.epoch) b.waits a book.waits_later h), λ h. h.0);
 }
 
@@ -112,11 +114,13 @@ cut_knows old c new ob nb learns facts knows = record {
     λ h. (cuts_with_cut facts c d).1 (⊎_elim (λ (p : Contains old.cuts d). inl ((knows.same_cuts d).0 p)) (λ (q : d ≡ c). inr q) ((learns.cuts d).0 h)),
     λ h. (learns.cuts d).1 (⊎_elim (λ (p : Contains (cuts facts) d). inl ((knows.same_cuts d).1 p)) (λ (q : d ≡ c). inr q) ((cuts_with_cut facts c d).0 h)),
   );
-  points = at_new (raised_points (roster_of old) old.complete new.complete (advances facts) (advances (facts ++ Cut c ∷ [])) old.waits old.points new.points knows.points learns.points
+  points = at_new (raised_points (roster_of old) old.complete new.complete (advances facts)
+      (advances (facts ++ Cut c ∷ [])) old.waits old.points new.points knows.points learns.points
       (λ a h le. ((advances_with_cut facts c a).1 h, omega (arith, grows)))
       (λ a h. (advances_with_cut facts c a).1 ((knows.waits a).0 h).0)
       (λ a h le. let given : Contains (advances facts) a = (advances_with_cut facts c a).0 h in
-      ⊎_elim (λ (l : a.epoch ≤ old.complete). inl (given, l)) (λ (l : old.complete < a.epoch). inr ((knows.waits a).1 (given, l))) (let t : (a.epoch ≤ old.complete) ⊎ (old.complete < a.epoch) = grind arith in t)));
+      ⊎_elim (λ (l : a.epoch ≤ old.complete). inl (given, l)) (λ (l : old.complete < a.epoch). inr ((knows.waits a).1 (given, l)))
+      (let t : (a.epoch ≤ old.complete) ⊎ (old.complete < a.epoch) = grind arith in t)));
   waits = λ a. (
     λ h. let w = (learns.waits a).0 h in ((advances_with_cut facts c a).1 ((knows.waits a).0 w.0).0, w.1),
     λ h. let later : new.complete < a.epoch = h.1 in (learns.waits a).1 ((knows.waits a).1 ((advances_with_cut facts c a).0 h.0, omega (arith, grows)), h.1),
@@ -126,26 +130,31 @@ cut_knows old c new ob nb learns facts knows = record {
     grows : old.complete ≤ new.complete
     grows = epoch_grows old.cuts new.cuts old.complete new.complete (λ d h. (learns.cuts d).1 (inl h)) ob.complete nb.complete
 
-    at_new : ArePoints (roster_of old) (advances (facts ++ Cut c ∷ [])) new.complete new.points → ArePoints (roster_of new) (advances (facts ++ Cut c ∷ [])) new.complete new.points
+    at_new : ArePoints (roster_of old) (advances (facts ++ Cut c ∷ [])) new.complete new.points
+        → ArePoints (roster_of new) (advances (facts ++ Cut c ∷ [])) new.complete new.points
     at_new p = subst (λ n. ArePoints n (advances (facts ++ Cut c ∷ [])) new.complete new.points) (sym p.count) p
 
 pub shaped_advance : (a : AdvanceData) → advance_fault a ≡ None → (a.point ≤ max_number) × IsReader 15 a.reader
 shaped_advance a shaped = grind (arith, nat_tests)
 
 -- raised points are points of before or of advances, so they have their shape
-pub points_within : (k : ℕ) (old new : List ℕ) (given : List AdvanceData) → RaisesPoints k old given new → All (λ p. p ≤ max_number) old → All (λ a. advance_fault a ≡ None) given → All (λ p. p ≤ max_number) new
+pub points_within : (k : ℕ) (old new : List ℕ) (given : List AdvanceData) → RaisesPoints k old given new → All (λ p. p ≤ max_number) old
+    → All (λ a. advance_fault a ≡ None) given → All (λ p. p ≤ max_number) new
 points_within k old new given raises low shaped i d l =
     let reader = suc i in
     let inside : IsReader (length old) (suc i) = (omega arith, omega (arith, l, raises.count)) in
     let g = raises.each (suc i) inside in
     let at : suc i - 1 ≡ i = omega arith in
     let is : point_of new (suc i) ≡ get_or new i d = ap (λ j. get_or new j 0) at ∙ get_or_any new i 0 d l in
-    let low' : point_of old (suc i) ≤ max_number = let t : get_or old i 0 ≤ max_number = low i 0 (omega (arith, l, raises.count)) in subst (λ j. get_or old j 0 ≤ max_number) (sym at) t in
+    let low' : point_of old (suc i) ≤ max_number = let t : get_or old i 0 ≤ max_number = low i 0 (omega (arith, l, raises.count)) in
+    subst (λ j. get_or old j 0 ≤ max_number) (sym at) t in
     let bound : point_of new (suc i) ≤ max_number = ⊎_elim
     (λ (z : point_of new (suc i) ≡ 0). omega arith)
     (λ s. ⊎_elim
     (λ (q : point_of new (suc i) ≡ point_of old (suc i)). omega arith)
-    (λ (h : HasAdvance given k (suc i) (point_of new (suc i))). let t : h.0.point ≤ max_number = (shaped_advance h.0 (All-contains (λ a. advance_fault a ≡ None) given h.0 shaped h.1)).0 in let e : h.0.point ≡ point_of new (suc i) = h.4 in omega arith)
+    (λ (h : HasAdvance given k (suc i) (point_of new (suc i))). let t : h.0.point ≤ max_number =
+    (shaped_advance h.0 (All-contains (λ a. advance_fault a ≡ None) given h.0 shaped h.1)).0 in let e : h.0.point ≡ point_of new (suc i) = h.4 in
+    omega arith)
     s)
     g.0 in
     omega arith
@@ -159,7 +168,8 @@ later_test : (k e : ℕ) → ltb k e ≡ true ↔ (k < e)
 later_test k e = (λ h. grind (arith, nat_tests), λ h. grind (arith, nat_tests))
 
 -- a book with a truncation in its place
-pub cut_learns : (b : BookData) (i : ℕ) (c : CutData) (k : ℕ) (n : List ℕ) (ws : List AdvanceData) → RaisesPoints k b.points b.waits n → ws ≡ filter (λ a. ltb k a.epoch) b.waits → LearnsCut b c (book_of (insert b.cuts i c) k n ws)
+pub cut_learns : (b : BookData) (i : ℕ) (c : CutData) (k : ℕ) (n : List ℕ) (ws : List AdvanceData) → RaisesPoints k b.points b.waits n
+    → ws ≡ filter (λ a. ltb k a.epoch) b.waits → LearnsCut b c (book_of (insert b.cuts i c) k n ws)
 cut_learns b i c k n ws greatest e = record {
   cuts = λ d. contains_insert b.cuts i c d;
   points = greatest;
@@ -169,20 +179,25 @@ cut_learns b i c k n ws greatest e = record {
   );
 }
 
-pub cuts_rise : (b : BookData) (i : ℕ) (c : CutData) → IsBook b → i ≤ length b.cuts → IsPartitionPoint (λ d. d.epoch < c.epoch) (λ d. c.epoch < d.epoch) b.cuts i → IsRising CutBefore (insert b.cuts i c)
+pub cuts_rise : (b : BookData) (i : ℕ) (c : CutData) → IsBook b → i ≤ length b.cuts → IsPartitionPoint (λ d. d.epoch < c.epoch)
+    (λ d. c.epoch < d.epoch) b.cuts i → IsRising CutBefore (insert b.cuts i c)
 cuts_rise b i c book l gap = rising_insert_at CutBefore b.cuts i c l book.cuts_rise gap.0 gap.1
 
 inserted : {X : Type 0} (P : X → Type 0) (xs : List X) (i : ℕ) (x : X) → P x → All P xs → All P (insert xs i x)
-inserted P xs i x p all = all_members P (insert xs i x) (λ y h. ⊎_elim (λ (q : Contains xs y). All-contains P xs y all q) (λ (e : y ≡ x). subst P (sym e) p) ((contains_insert xs i x y).0 h))
+inserted P xs i x p all = all_members P (insert xs i x)
+    (λ y h. ⊎_elim (λ (q : Contains xs y). All-contains P xs y all q) (λ (e : y ≡ x). subst P (sym e) p) ((contains_insert xs i x y).0 h))
 
 pub epochs_fit : (b : BookData) (i : ℕ) (c : CutData) → IsBook b → c.epoch < 65536 → All (λ d. d.epoch < 65536) (insert b.cuts i c)
 epochs_fit b i c book l = inserted (λ d. d.epoch < 65536) b.cuts i c l book.epochs_fit
 
 -- the truncations known before are known with one more
 pub still_known : (b : BookData) (i : ℕ) (c : CutData) → IsBook b → HasCutsTo (insert b.cuts i c) b.complete
-still_known b i c book = more_known b.cuts (insert b.cuts i c) b.complete (λ d h. (contains_insert b.cuts i c d).1 (inl h)) (known_to b.cuts b.complete book.complete)
+still_known b i c book = more_known b.cuts (insert b.cuts i c) b.complete (λ d h. (contains_insert b.cuts i c d).1 (inl h))
+    (known_to b.cuts b.complete book.complete)
 
-pub cut_book : (b : BookData) (i : ℕ) (c : CutData) (k : ℕ) (n : List ℕ) (ws : List AdvanceData) → IsBook b → i ≤ length b.cuts → IsPartitionPoint (λ d. d.epoch < c.epoch) (λ d. c.epoch < d.epoch) b.cuts i → cut_fault c ≡ None → c.epoch < 65536 → IsCompleteEpoch (insert b.cuts i c) k → RaisesPoints k b.points b.waits n → ws ≡ filter (λ a. ltb k a.epoch) b.waits → IsBook (book_of (insert b.cuts i c) k n ws)
+pub cut_book : (b : BookData) (i : ℕ) (c : CutData) (k : ℕ) (n : List ℕ) (ws : List AdvanceData) → IsBook b → i ≤ length b.cuts
+    → IsPartitionPoint (λ d. d.epoch < c.epoch) (λ d. c.epoch < d.epoch) b.cuts i → cut_fault c ≡ None → c.epoch < 65536 → IsCompleteEpoch (insert b.cuts i c) k
+    → RaisesPoints k b.points b.waits n → ws ≡ filter (λ a. ltb k a.epoch) b.waits → IsBook (book_of (insert b.cuts i c) k n ws)
 cut_book b i c k n ws book l gap shaped fits complete greatest e = record {
   cuts_rise = cuts_rise b i c book l gap;
   cuts_shaped = inserted (λ d. cut_fault d ≡ None) b.cuts i c shaped book.cuts_shaped;
@@ -192,21 +207,31 @@ cut_book b i c k n ws book l gap shaped fits complete greatest e = record {
   points_shaped = points_within k b.points n b.waits greatest book.points_shaped book.waits_shaped;
   waits_rise = subst (IsRising AdvanceBefore) (sym e) (rising_filter AdvanceBefore (λ a. ltb k a.epoch) b.waits book.waits_rise);
   waits_shaped = subst (All (λ a. advance_fault a ≡ None)) (sym e) (All-filter (λ a. ltb k a.epoch) (λ a. advance_fault a ≡ None) b.waits book.waits_shaped);
-  waits_later = subst (All (λ a. k < a.epoch)) (sym e) (all_members (λ a. k < a.epoch) (filter (λ a. ltb k a.epoch) b.waits) (λ a h. (later_test k a.epoch).0 (filtered (λ x. ltb k x.epoch) b.waits a h).1));
-  waits_readers = subst (All (λ a. IsReader (length n) a.reader)) (sym e) (subst (λ m. All (λ a. IsReader m a.reader) (filter (λ a. ltb k a.epoch) b.waits)) (sym greatest.count) (All-filter (λ a. ltb k a.epoch) (λ a. IsReader (length b.points) a.reader) b.waits book.waits_readers));
+  waits_later = subst (All (λ a. k < a.epoch)) (sym e)
+      (all_members (λ a. k < a.epoch) (filter (λ a. ltb k a.epoch) b.waits) (λ a h. (later_test k a.epoch).0 (filtered (λ x. ltb k x.epoch) b.waits a h).1));
+  waits_readers = subst (All (λ a. IsReader (length n) a.reader)) (sym e)
+      (subst (λ m. All (λ a. IsReader m a.reader) (filter (λ a. ltb k a.epoch) b.waits)) (sym greatest.count)
+      (All-filter (λ a. ltb k a.epoch) (λ a. IsReader (length b.points) a.reader) b.waits book.waits_readers));
 }
 
 -- the same by what the calls that make it say
-pub cut_learns_by : (b : BookData) (i : ℕ) (c : CutData) (k : ℕ) (n : List ℕ) (xs : List CutData) (vs ws : List AdvanceData) → xs ≡ insert b.cuts i c → vs ≡ b.waits → RaisesPoints k b.points vs n → ws ≡ filter (λ a. ltb k a.epoch) b.waits → LearnsCut b c (book_of xs k n ws)
+pub cut_learns_by : (b : BookData) (i : ℕ) (c : CutData) (k : ℕ) (n : List ℕ) (xs : List CutData) (vs ws : List AdvanceData) → xs ≡ insert b.cuts i c
+    → vs ≡ b.waits → RaisesPoints k b.points vs n → ws ≡ filter (λ a. ltb k a.epoch) b.waits → LearnsCut b c (book_of xs k n ws)
 cut_learns_by b i c k n xs vs ws is seen greatest e =
     subst (λ l. LearnsCut b c (book_of l k n ws)) (sym is) (cut_learns b i c k n ws (subst (λ l. RaisesPoints k b.points l n) seen greatest) e)
 
-pub cut_book_by : (b : BookData) (i : ℕ) (c : CutData) (k : ℕ) (n : List ℕ) (xs ys : List CutData) (vs ws : List AdvanceData) → xs ≡ insert b.cuts i c → ys ≡ xs → vs ≡ b.waits → IsBook b → i ≤ length b.cuts → IsPartitionPoint (λ d. d.epoch < c.epoch) (λ d. c.epoch < d.epoch) b.cuts i → cut_fault c ≡ None → c.epoch < 65536 → IsCompleteEpoch ys k → RaisesPoints k b.points vs n → ws ≡ filter (λ a. ltb k a.epoch) b.waits → IsBook (book_of xs k n ws)
+pub cut_book_by : (b : BookData) (i : ℕ) (c : CutData) (k : ℕ) (n : List ℕ) (xs ys : List CutData) (vs ws : List AdvanceData) → xs ≡ insert b.cuts i c → ys ≡ xs
+    → vs ≡ b.waits → IsBook b → i ≤ length b.cuts → IsPartitionPoint (λ d. d.epoch < c.epoch) (λ d. c.epoch < d.epoch) b.cuts i → cut_fault c ≡ None
+    → c.epoch < 65536 → IsCompleteEpoch ys k → RaisesPoints k b.points vs n → ws ≡ filter (λ a. ltb k a.epoch) b.waits → IsBook (book_of xs k n ws)
 cut_book_by b i c k n xs ys vs ws is read seen book l gap shaped fits complete greatest e =
-    subst (λ l. IsBook (book_of l k n ws)) (sym is) (cut_book b i c k n ws book l gap shaped fits (subst (λ l. IsCompleteEpoch l k) (read ∙ is) complete) (subst (λ l. RaisesPoints k b.points l n) seen greatest) e)
+    subst (λ l. IsBook (book_of l k n ws)) (sym is)
+    (cut_book b i c k n ws book l gap shaped fits (subst (λ l. IsCompleteEpoch l k) (read ∙ is) complete)
+    (subst (λ l. RaisesPoints k b.points l n) seen greatest) e)
 
 -- an advance that waits
-pub wait_book : (b : BookData) (i : ℕ) (a : AdvanceData) → IsBook b → i ≤ length b.waits → IsPartitionPoint (λ w. AdvanceBefore w a) (λ w. AdvanceBefore a w) b.waits i → advance_fault a ≡ None → b.complete < a.epoch → IsReader (roster_of b) a.reader → IsBook (book_of b.cuts b.complete b.points (insert b.waits i a))
+pub wait_book : (b : BookData) (i : ℕ) (a : AdvanceData) → IsBook b → i ≤ length b.waits → IsPartitionPoint (λ w. AdvanceBefore w a)
+    (λ w. AdvanceBefore a w) b.waits i → advance_fault a ≡ None → b.complete < a.epoch → IsReader (roster_of b) a.reader
+    → IsBook (book_of b.cuts b.complete b.points (insert b.waits i a))
 wait_book b i a book l gap shaped later reader = record {
   cuts_rise = book.cuts_rise;
   cuts_shaped = book.cuts_shaped;
@@ -233,17 +258,23 @@ pub known_learns : (b : BookData) (a : AdvanceData) → a.epoch ≤ b.complete �
 known_learns b a l p = record {
   cuts = refl;
   complete = refl;
-  known = λ _. record { points = unraised_points b.complete b.points (a ∷ []) (λ w h le r. let e : a ≡ w = only a w h in subst (λ x. x.point ≤ point_of b.points x.reader) e p); waits = refl };
+  known = λ _. record {
+    points = unraised_points b.complete b.points (a ∷ [])
+        (λ w h le r. let e : a ≡ w = only a w h in subst (λ x. x.point ≤ point_of b.points x.reader) e p);
+    waits = refl;
+  };
   later = λ m. absurd (omega arith);
 }
 
 -- the points after one advance that counts
-pub raises_one : (k : ℕ) (old new : List ℕ) (a : AdvanceData) → a.epoch ≤ k → length new ≡ length old → point_of new a.reader ≡ max (point_of old a.reader) a.point
+pub raises_one : (k : ℕ) (old new : List ℕ) (a : AdvanceData) → a.epoch ≤ k → length new ≡ length old
+    → point_of new a.reader ≡ max (point_of old a.reader) a.point
     → ((reader : ℕ) → IsReader (length old) reader → reader ≢ a.reader → point_of new reader ≡ point_of old reader)
     → RaisesPoints k old (a ∷ []) new
 raises_one k old new a le count raised others = record {
   count = count;
-  each = λ reader r. ⊎_elim (λ (e : reader ≡ a.reader). own reader e) (λ (off : reader ≢ a.reader). other reader r off) (let t : (reader ≡ a.reader) ⊎ (reader ≢ a.reader) = grind arith in t);
+  each = λ reader r. ⊎_elim (λ (e : reader ≡ a.reader). own reader e) (λ (off : reader ≢ a.reader). other reader r off)
+      (let t : (reader ≡ a.reader) ⊎ (reader ≢ a.reader) = grind arith in t);
 }
   where
     own : (reader : ℕ) → reader ≡ a.reader → IsGreatest (λ n. (n ≡ point_of old reader) ⊎ HasAdvance (a ∷ []) k reader n) (point_of new reader)
@@ -255,11 +286,13 @@ raises_one k old new a le count raised others = record {
               (let t : (point_of new reader ≡ point_of old reader) ⊎ (point_of new reader ≡ a.point) = grind arith in t)),
           λ m h. ⊎_elim
               (λ (q : m ≡ point_of old reader). omega arith)
-              (λ (w : HasAdvance (a ∷ []) k reader m). let t : a.point ≡ w.0.point = ap (λ x. x.point) (only a w.0 w.1) in let u : w.0.point ≡ m = w.4 in omega arith)
+              (λ (w : HasAdvance (a ∷ []) k reader m). let t : a.point ≡ w.0.point = ap (λ x. x.point) (only a w.0 w.1) in let u : w.0.point ≡ m = w.4 in
+              omega arith)
               h,
         )
 
-    other : (reader : ℕ) → IsReader (length old) reader → reader ≢ a.reader → IsGreatest (λ n. (n ≡ point_of old reader) ⊎ HasAdvance (a ∷ []) k reader n) (point_of new reader)
+    other : (reader : ℕ) → IsReader (length old) reader → reader ≢ a.reader → IsGreatest (λ n. (n ≡ point_of old reader) ⊎ HasAdvance (a ∷ []) k reader n)
+        (point_of new reader)
     other reader r off =
         let stays = others reader r off in (
           inr (inl stays),
@@ -269,7 +302,8 @@ raises_one k old new a le count raised others = record {
               h,
         )
 
-pub raised_learns : (b : BookData) (a : AdvanceData) (n : List ℕ) → a.epoch ≤ b.complete → RaisesPoints b.complete b.points (a ∷ []) n → LearnsAdvance b a (book_of b.cuts b.complete n b.waits)
+pub raised_learns : (b : BookData) (a : AdvanceData) (n : List ℕ) → a.epoch ≤ b.complete → RaisesPoints b.complete b.points (a ∷ []) n
+    → LearnsAdvance b a (book_of b.cuts b.complete n b.waits)
 raised_learns b a n l e = record {
   cuts = refl;
   complete = refl;
@@ -277,14 +311,16 @@ raised_learns b a n l e = record {
   later = λ m. absurd (omega arith);
 }
 
-pub raised_book : (b : BookData) (a : AdvanceData) (n : List ℕ) → IsBook b → advance_fault a ≡ None → RaisesPoints b.complete b.points (a ∷ []) n → IsBook (book_of b.cuts b.complete n b.waits)
+pub raised_book : (b : BookData) (a : AdvanceData) (n : List ℕ) → IsBook b → advance_fault a ≡ None → RaisesPoints b.complete b.points (a ∷ []) n
+    → IsBook (book_of b.cuts b.complete n b.waits)
 raised_book b a n book shaped e = record {
   cuts_rise = book.cuts_rise;
   cuts_shaped = book.cuts_shaped;
   epochs_fit = book.epochs_fit;
   complete = book.complete;
   roster = subst IsRoster (sym e.count) book.roster;
-  points_shaped = points_within b.complete b.points n (a ∷ []) e book.points_shaped (all_members (λ w. advance_fault w ≡ None) (a ∷ []) (λ w h. subst (λ x. advance_fault x ≡ None) (only a w h) shaped));
+  points_shaped = points_within b.complete b.points n (a ∷ []) e book.points_shaped
+      (all_members (λ w. advance_fault w ≡ None) (a ∷ []) (λ w h. subst (λ x. advance_fault x ≡ None) (only a w h) shaped));
   waits_rise = book.waits_rise;
   waits_shaped = book.waits_shaped;
   waits_later = book.waits_later;
@@ -309,18 +345,22 @@ advance_knows old a new learns facts knows = record {
 
     counted : a.epoch ≤ old.complete → ArePoints (roster_of old) (advances (facts ++ Advance a ∷ [])) old.complete new.points
     counted l =
-        raised_points (roster_of old) old.complete old.complete (advances facts) (advances (facts ++ Advance a ∷ [])) (a ∷ []) old.points new.points knows.points (learns.known l).points
+        raised_points (roster_of old) old.complete old.complete (advances facts) (advances (facts ++ Advance a ∷ []))
+        (a ∷ []) old.points new.points knows.points (learns.known l).points
         (λ w h le. ((advances_with_advance facts a w).1 (inl h), le))
         (λ w h. (advances_with_advance facts a w).1 (inr (sym (only a w h))))
-        (λ w h le. ⊎_elim (λ (p : Contains (advances facts) w). inl (p, le)) (λ (q : w ≡ a). inr (subst (Contains (a ∷ [])) (sym q) (here a []))) ((advances_with_advance facts a w).0 h))
+        (λ w h le. ⊎_elim (λ (p : Contains (advances facts) w). inl (p, le)) (λ (q : w ≡ a). inr (subst (Contains (a ∷ [])) (sym q) (here a [])))
+        ((advances_with_advance facts a w).0 h))
 
     waiting : old.complete < a.epoch → ArePoints (roster_of old) (advances (facts ++ Advance a ∷ [])) old.complete new.points
     waiting l =
         raised_points (roster_of old) old.complete old.complete (advances facts) (advances (facts ++ Advance a ∷ [])) [] old.points new.points knows.points
-        (subst (RaisesPoints old.complete old.points []) (sym (learns.later l).points) (unraised_points old.complete old.points [] (λ w h le r. absurd (none_in w h))))
+        (subst (RaisesPoints old.complete old.points []) (sym (learns.later l).points)
+        (unraised_points old.complete old.points [] (λ w h le r. absurd (none_in w h))))
         (λ w h le. ((advances_with_advance facts a w).1 (inl h), le))
         (λ w h. absurd (none_in w h))
-        (λ w h le. ⊎_elim (λ (p : Contains (advances facts) w). inl (p, le)) (λ (q : w ≡ a). let t : w.epoch ≡ a.epoch = ap (λ x. x.epoch) q in absurd (omega (arith, le))) ((advances_with_advance facts a w).0 h))
+        (λ w h le. ⊎_elim (λ (p : Contains (advances facts) w). inl (p, le))
+        (λ (q : w ≡ a). let t : w.epoch ≡ a.epoch = ap (λ x. x.epoch) q in absurd (omega (arith, le))) ((advances_with_advance facts a w).0 h))
 
     either : ArePoints (roster_of old) (advances (facts ++ Advance a ∷ [])) old.complete new.points
     either = ⊎_elim counted waiting cases
@@ -373,8 +413,10 @@ rest_in (d ∷ cs) (suc i) c h = there d cs c (rest_in cs i c h)
 pub alive_from : (cs : List CutData) (k e n i : ℕ) → e ≤ k → AllWithin (λ d. d.epoch < e) cs 0 i → All (SparesIn k e n) (drop i cs) → IsAlive cs k e n
 alive_from cs k e n i l before all = record {
   known = l;
-  begun = λ c h q. ⊎_elim (λ (s : c.epoch < e). absurd (omega arith)) (λ (r : Contains (drop i cs) c). (All-contains (SparesIn k e n) (drop i cs) c all r).0 q) (split_from cs e i c before h);
-  spared = λ c h q m. ⊎_elim (λ (s : c.epoch < e). absurd (omega arith)) (λ (r : Contains (drop i cs) c). (All-contains (SparesIn k e n) (drop i cs) c all r).1 q m) (split_from cs e i c before h);
+  begun = λ c h q. ⊎_elim (λ (s : c.epoch < e). absurd (omega arith)) (λ (r : Contains (drop i cs) c). (All-contains (SparesIn k e n) (drop i cs) c all r).0 q)
+      (split_from cs e i c before h);
+  spared = λ c h q m. ⊎_elim (λ (s : c.epoch < e). absurd (omega arith))
+      (λ (r : Contains (drop i cs) c). (All-contains (SparesIn k e n) (drop i cs) c all r).1 q m) (split_from cs e i c before h);
 }
 
 pub spared_from : (cs : List CutData) (k e n i : ℕ) → IsAlive cs k e n → All (SparesIn k e n) (drop i cs)

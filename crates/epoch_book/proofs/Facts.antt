@@ -12,12 +12,14 @@ use Rattle.redo_core.proofs.Members.{none_in, here, which}
 added : {X : Type 0} (xs ys zs : List X) (x : X) → ys ≡ xs ++ zs → Contains ys x ↔ (Contains xs x ⊎ Contains zs x)
 added xs ys zs x e = (
   λ h. Contains-append_cases xs zs x (subst (λ l. Contains l x) e h),
-  λ h. subst (λ l. Contains l x) (sym e) (⊎_elim (λ (p : Contains xs x). Contains-append_left xs zs x p) (λ (q : Contains zs x). Contains-append_right xs zs x q) h),
+  λ h. subst (λ l. Contains l x) (sym e) (⊎_elim (λ (p : Contains xs x). Contains-append_left xs zs x p)
+      (λ (q : Contains zs x). Contains-append_right xs zs x q) h),
 )
 
 one_added : {X : Type 0} (xs ys : List X) (y x : X) → ys ≡ xs ++ y ∷ [] → Contains ys x ↔ (Contains xs x ⊎ (x ≡ y))
 one_added xs ys y x e = (
-  λ h. ⊎_elim (λ (p : Contains xs x). inl p) (λ (q : Contains (y ∷ []) x). ⊎_elim (λ (r : y ≡ x). inr (sym r)) (λ (r : Contains [] x). absurd (none_in x r)) (which y [] x q)) ((added xs ys (y ∷ []) x e).0 h),
+  λ h. ⊎_elim (λ (p : Contains xs x). inl p) (λ (q : Contains (y ∷ []) x). ⊎_elim (λ (r : y ≡ x). inr (sym r)) (λ (r : Contains [] x). absurd (none_in x r))
+      (which y [] x q)) ((added xs ys (y ∷ []) x e).0 h),
   λ h. (added xs ys (y ∷ []) x e).1 (⊎_elim (λ (p : Contains xs x). inl p) (λ (q : x ≡ y). inr (subst (λ z. Contains (z ∷ []) x) q (here x []))) h),
 )
 

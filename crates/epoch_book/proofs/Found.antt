@@ -13,7 +13,8 @@ use Rattle.epoch_book.proofs.Places.{advances_apart}
 no_wait : (ws : List AdvanceData) (a : AdvanceData) (i : ℕ) → IsPartitionPoint (λ w. AdvanceBefore w a) (λ w. AdvanceBefore a w) ws i → Contains ws a → ⊥
 no_wait ws a i gap h = ⊎_elim
     (λ (l : h.0 < i). let b : AdvanceBefore (get_or ws h.0 a) a = gap.0 h.0 a (omega arith) l in apart (get_or ws h.0 a) h.2 b)
-    (λ (l : i ≤ h.0). let b : AdvanceBefore a (get_or ws h.0 a) = gap.1 h.0 a l h.1 in apart (get_or ws h.0 a) h.2 (subst (AdvanceBefore (get_or ws h.0 a)) h.2 (subst (λ x. AdvanceBefore x (get_or ws h.0 a)) (sym h.2) b)))
+    (λ (l : i ≤ h.0). let b : AdvanceBefore a (get_or ws h.0 a) = gap.1 h.0 a l h.1 in apart (get_or ws h.0 a) h.2
+    (subst (AdvanceBefore (get_or ws h.0 a)) h.2 (subst (λ x. AdvanceBefore x (get_or ws h.0 a)) (sym h.2) b)))
     (let t : (h.0 < i) ⊎ (i ≤ h.0) = grind arith in t)
   where
     apart : (w : AdvanceData) → w ≡ a → AdvanceBefore w a → ⊥

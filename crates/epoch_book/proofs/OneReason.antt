@@ -25,7 +25,8 @@ same_cut b c d book hc hd e =
     (rising_members CutBefore b.cuts c d book.cuts_rise hc hd)
 
 -- the truncation that was read at a place
-pub held_at : (b : BookData) (cs : List CutData) (i e : ℕ) (d : CutData) → cs ≡ b.cuts → (i < length cs) × HoldsAt (λ c. c.epoch ≡ e) cs i → d ≡ get_or b.cuts i d → Contains b.cuts d × (d.epoch ≡ e)
+pub held_at : (b : BookData) (cs : List CutData) (i e : ℕ) (d : CutData) → cs ≡ b.cuts → (i < length cs) × HoldsAt (λ c. c.epoch ≡ e) cs i
+    → d ≡ get_or b.cuts i d → Contains b.cuts d × (d.epoch ≡ e)
 held_at b cs i e d same at read =
     let found : (i < length b.cuts) × HoldsAt (λ c. c.epoch ≡ e) b.cuts i = subst (λ xs. (i < length xs) × HoldsAt (λ c. c.epoch ≡ e) xs i) same at in
     (item b.cuts i d found.0 read, ap (λ c. c.epoch) read ∙ found.1 d)
@@ -43,13 +44,16 @@ one_cut_refusal b c book (OtherCut d) Memory h k = absurd k
 one_cut_refusal b c book (Contradiction (Min m)) (OtherRoster own shown) h k = absurd k
 one_cut_refusal b c book (Contradiction (Min m)) (OtherCut d) h k = absurd (h.0 d k.0 k.1)
 one_cut_refusal b c book (Contradiction (Min m)) (Contradiction (Min n)) h k = ap (λ x. Contradiction (Min x)) (h.1 ∙ sym k.1)
-one_cut_refusal b c book (Contradiction (Min m)) (Contradiction (Advance a)) h k = absurd (let p : m ≡ least b.points = h.1 in let q : c.lo < m = h.2 in let r : least b.points ≤ c.lo = k.1 in omega arith)
+one_cut_refusal b c book (Contradiction (Min m)) (Contradiction (Advance a)) h k = absurd
+    (let p : m ≡ least b.points = h.1 in let q : c.lo < m = h.2 in let r : least b.points ≤ c.lo = k.1 in omega arith)
 one_cut_refusal b c book (Contradiction (Min m)) (Contradiction (Cut x)) h k = absurd k
 one_cut_refusal b c book (Contradiction (Min m)) Memory h k = absurd k
 one_cut_refusal b c book (Contradiction (Advance a)) (OtherRoster own shown) h k = absurd k
 one_cut_refusal b c book (Contradiction (Advance a)) (OtherCut d) h k = absurd (h.0 d k.0 k.1)
-one_cut_refusal b c book (Contradiction (Advance a)) (Contradiction (Min m)) h k = absurd (let p : m ≡ least b.points = k.1 in let q : c.lo < m = k.2 in let r : least b.points ≤ c.lo = h.1 in omega arith)
-one_cut_refusal b c book (Contradiction (Advance a)) (Contradiction (Advance x)) h k = ap (λ w. Contradiction (Advance w)) (one_first AdvanceBefore (λ w. Contains b.waits w × Contradict c w) a x advances_apart h.3 k.3)
+one_cut_refusal b c book (Contradiction (Advance a)) (Contradiction (Min m)) h k = absurd
+    (let p : m ≡ least b.points = k.1 in let q : c.lo < m = k.2 in let r : least b.points ≤ c.lo = h.1 in omega arith)
+one_cut_refusal b c book (Contradiction (Advance a)) (Contradiction (Advance x)) h k = ap (λ w. Contradiction (Advance w))
+    (one_first AdvanceBefore (λ w. Contains b.waits w × Contradict c w) a x advances_apart h.3 k.3)
 one_cut_refusal b c book (Contradiction (Advance a)) (Contradiction (Cut x)) h k = absurd k
 one_cut_refusal b c book (Contradiction (Advance a)) Memory h k = absurd k
 one_cut_refusal b c book (OtherRoster own shown) f h k = absurd h
@@ -69,7 +73,8 @@ cuts_apart : (c d : CutData) → CutBefore c d → CutBefore d c → ⊥
 cuts_apart c d h k = omega arith
 
 pub one_advance_refusal : (b : BookData) (a : AdvanceData) (e f : BookRefusal) → RefusesAdvance b a e → RefusesAdvance b a f → e ≡ f
-one_advance_refusal b a (OtherRoster own shown) (OtherRoster o s) h k = ap (λ x. OtherRoster x shown) (h.0 ∙ sym k.0) ∙ ap (λ x. OtherRoster o x) (h.1 ∙ sym k.1)
+one_advance_refusal b a (OtherRoster own shown) (OtherRoster o s) h k = ap (λ x. OtherRoster x shown) (h.0 ∙ sym k.0) ∙ ap (λ x. OtherRoster o x)
+    (h.1 ∙ sym k.1)
 one_advance_refusal b a (OtherRoster own shown) (OtherCut x) h k = absurd k
 one_advance_refusal b a (OtherRoster own shown) (Contradiction (Min m)) h k = absurd k
 one_advance_refusal b a (OtherRoster own shown) (Contradiction (Advance x)) h k = absurd k
@@ -82,12 +87,14 @@ one_advance_refusal b a (Contradiction (Cut d)) (OtherRoster own shown) h k = ab
 one_advance_refusal b a (Contradiction (Cut d)) (OtherCut x) h k = absurd k
 one_advance_refusal b a (Contradiction (Cut d)) (Contradiction (Min m)) h k = absurd k
 one_advance_refusal b a (Contradiction (Cut d)) (Contradiction (Advance x)) h k = absurd k
-one_advance_refusal b a (Contradiction (Cut d)) (Contradiction (Cut x)) h k = ap (λ w. Contradiction (Cut w)) (one_first CutBefore (λ w. Contains b.cuts w × CutsBelow b.complete b.points b.waits w a) d x cuts_apart h.1 k.1)
+one_advance_refusal b a (Contradiction (Cut d)) (Contradiction (Cut x)) h k = ap (λ w. Contradiction (Cut w))
+    (one_first CutBefore (λ w. Contains b.cuts w × CutsBelow b.complete b.points b.waits w a) d x cuts_apart h.1 k.1)
 one_advance_refusal b a (Contradiction (Cut d)) Memory h k = absurd k
 one_advance_refusal b a Memory f h k = absurd h
 
 -- what no truncation cuts below is not refused
-pub unrefused : (b : BookData) (a : AdvanceData) → IsReader (roster_of b) a.reader → All (λ c. CutsBelow b.complete b.points b.waits c a → ⊥) b.cuts → (e : BookRefusal) → RefusesAdvance b a e → ⊥
+pub unrefused : (b : BookData) (a : AdvanceData) → IsReader (roster_of b) a.reader → All (λ c. CutsBelow b.complete b.points b.waits c a → ⊥) b.cuts
+    → (e : BookRefusal) → RefusesAdvance b a e → ⊥
 unrefused b a mine none (OtherRoster own shown) r = r.2 mine
 unrefused b a mine none (OtherCut d) r = r
 unrefused b a mine none (Contradiction (Min m)) r = r
@@ -96,7 +103,8 @@ unrefused b a mine none (Contradiction (Cut d)) r = All-contains (λ c. CutsBelo
 unrefused b a mine none Memory r = r
 
 -- what is said of an advance is said of it as what a truncation contradicts
-pub mapped_to_held : (s : Option AdvanceData) (r : Option Held) (P : AdvanceData → Type 0) (Q : Held → Type 0) → MatchOption s (r ≡ None) (λ x. IsSomeAnd r (λ h. h ≡ Advance x)) → IfSome s P → ((x : AdvanceData) → P x → Q (Advance x)) → IfSome r Q
+pub mapped_to_held : (s : Option AdvanceData) (r : Option Held) (P : AdvanceData → Type 0) (Q : Held → Type 0)
+    → MatchOption s (r ≡ None) (λ x. IsSomeAnd r (λ h. h ≡ Advance x)) → IfSome s P → ((x : AdvanceData) → P x → Q (Advance x)) → IfSome r Q
 mapped_to_held None r P Q e h q = subst (λ o. IfSome o Q) (sym e) tt
 mapped_to_held (Some x) None P Q e h q = absurd e
 mapped_to_held (Some x) (Some y) P Q e h q = subst Q (sym e) (q x h)

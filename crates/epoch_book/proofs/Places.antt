@@ -10,7 +10,8 @@ use Rattle.redo_core.proofs.Pairs.{advance_apart, advance_trans, same_advance}
 use Rattle.redo_core.proofs.Rising.{rising_by}
 
 -- an order against one thing rises with it
-rank_le : (o p : Ordering) (P Q R S T U : Type 0) → MatchOrdering o P Q R → MatchOrdering p S T U → (Q → S → ⊥) → (R → S → ⊥) → (R → T → ⊥) → ordering_index o ≤ ordering_index p
+rank_le : (o p : Ordering) (P Q R S T U : Type 0) → MatchOrdering o P Q R → MatchOrdering p S T U → (Q → S → ⊥) → (R → S → ⊥) → (R → T → ⊥)
+    → ordering_index o ≤ ordering_index p
 rank_le Less p P Q R S T U h k qs rs rt = omega arith
 rank_le Equal Less P Q R S T U h k qs rs rt = absurd (qs h k)
 rank_le Equal Equal P Q R S T U h k qs rs rt = omega arith
@@ -33,23 +34,35 @@ epoch_ranked : (c : CutData) (e : ℕ) → MatchOrdering (nat_cmp c.epoch e) (c.
 epoch_ranked c e = ranked c.epoch e (nat_cmp c.epoch e) refl
 
 epochs_rise : (cs : List CutData) (e : ℕ) → IsRising CutBefore cs → IsNonDecreasingBy (λ c. ordering_index (nat_cmp c.epoch e)) cs
-epochs_rise cs e r = rising_by CutBefore (λ c. ordering_index (nat_cmp c.epoch e)) cs (λ c d b. rank_le (nat_cmp c.epoch e) (nat_cmp d.epoch e) _ _ _ _ _ _ (epoch_ranked c e) (epoch_ranked d e) (λ (q : c.epoch ≡ e) (s : d.epoch < e). omega (arith, b)) (λ (q : e < c.epoch) (s : d.epoch < e). omega (arith, b)) (λ (q : e < c.epoch) (s : d.epoch ≡ e). omega (arith, b))) r
+epochs_rise cs e r = rising_by CutBefore (λ c. ordering_index (nat_cmp c.epoch e)) cs
+    (λ c d b. rank_le (nat_cmp c.epoch e) (nat_cmp d.epoch e) _ _ _ _ _ _ (epoch_ranked c e) (epoch_ranked d e)
+    (λ (q : c.epoch ≡ e) (s : d.epoch < e). omega (arith, b)) (λ (q : e < c.epoch) (s : d.epoch < e). omega (arith, b))
+    (λ (q : e < c.epoch) (s : d.epoch ≡ e). omega (arith, b))) r
 
-pub epoch_found : (cs : List CutData) (e : ℕ) (r : Result ℕ ℕ) → IsSearchInRange r (length cs) → IsBinarySearchResult (λ c. nat_cmp c.epoch e) cs r → IfOk r (λ i. (i < length cs) × HoldsAt (λ c. c.epoch ≡ e) cs i)
+pub epoch_found : (cs : List CutData) (e : ℕ) (r : Result ℕ ℕ) → IsSearchInRange r (length cs) → IsBinarySearchResult (λ c. nat_cmp c.epoch e) cs r
+    → IfOk r (λ i. (i < length cs) × HoldsAt (λ c. c.epoch ≡ e) cs i)
 epoch_found cs e (Ok i) l h = (l, λ d. at_equal (nat_cmp (get_or cs i d).epoch e) _ _ _ (epoch_ranked (get_or cs i d) e) (h d))
 epoch_found cs e (Err i) l h = tt
 
-pub epoch_absent : (cs : List CutData) (e : ℕ) (r : Result ℕ ℕ) → IsRising CutBefore cs → IsSearchInRange r (length cs) → IsBinarySearchResult (λ c. nat_cmp c.epoch e) cs r → IfErr r (λ i. (i ≤ length cs) × IsPartitionPoint (λ c. c.epoch < e) (λ c. e < c.epoch) cs i)
+pub epoch_absent : (cs : List CutData) (e : ℕ) (r : Result ℕ ℕ) → IsRising CutBefore cs → IsSearchInRange r (length cs)
+    → IsBinarySearchResult (λ c. nat_cmp c.epoch e) cs r → IfErr r (λ i. (i ≤ length cs) × IsPartitionPoint (λ c. c.epoch < e) (λ c. e < c.epoch) cs i)
 epoch_absent cs e (Ok i) rise l h = tt
 epoch_absent cs e (Err i) rise l h =
-    let parted = h (epochs_rise cs e rise) in
-    (l, (λ k d a b. at_less (nat_cmp (get_or cs k d).epoch e) _ _ _ (epoch_ranked (get_or cs k d) e) (parted.0 k d a b), λ k d a b. at_greater (nat_cmp (get_or cs k d).epoch e) _ _ _ (epoch_ranked (get_or cs k d) e) (parted.1 k d a b)))
+    let parted = h (epochs_rise cs e rise) in (
+      l,
+      (
+        λ k d a b. at_less (nat_cmp (get_or cs k d).epoch e) _ _ _ (epoch_ranked (get_or cs k d) e) (parted.0 k d a b),
+        λ k d a b. at_greater
+            (nat_cmp (get_or cs k d).epoch e) _ _ _ (epoch_ranked (get_or cs k d) e) (parted.1 k d a b),
+      ),
+    )
 
 -- advances by epoch, reader and point
 abbrev pub advance_cmp : AdvanceData → AdvanceData → Ordering
 advance_cmp a b = ordering_then (ordering_then (nat_cmp a.epoch b.epoch) (nat_cmp a.reader b.reader)) (nat_cmp a.point b.point)
 
-then_at : (o p : Ordering) (P Q R S T U : Type 0) → MatchOrdering o P Q R → MatchOrdering p S T U → MatchOrdering (ordering_then o p) (P ⊎ (Q × S)) (Q × T) (R ⊎ (Q × U))
+then_at : (o p : Ordering) (P Q R S T U : Type 0) → MatchOrdering o P Q R → MatchOrdering p S T U → MatchOrdering (ordering_then o p) (P ⊎ (Q × S)) (Q × T)
+    (R ⊎ (Q × U))
 then_at Less p P Q R S T U h k = inl h
 then_at Equal Less P Q R S T U h k = inr (h, k)
 then_at Equal Equal P Q R S T U h k = (h, k)
@@ -61,18 +74,23 @@ turned Less P Q R P' Q' R' f g h x = f x
 turned Equal P Q R P' Q' R' f g h x = g x
 turned Greater P Q R P' Q' R' f g h x = h x
 
-below_key : (a b : AdvanceData) → ((a.epoch < b.epoch) ⊎ ((a.epoch ≡ b.epoch) × (a.reader < b.reader))) ⊎ (((a.epoch ≡ b.epoch) × (a.reader ≡ b.reader)) × (a.point < b.point)) → AdvanceBefore a b
+below_key : (a b : AdvanceData) → ((a.epoch < b.epoch) ⊎ ((a.epoch ≡ b.epoch) × (a.reader < b.reader)))
+    ⊎ (((a.epoch ≡ b.epoch) × (a.reader ≡ b.reader)) × (a.point < b.point)) → AdvanceBefore a b
 below_key a b h = grind arith
 
-above_key : (a b : AdvanceData) → ((b.epoch < a.epoch) ⊎ ((a.epoch ≡ b.epoch) × (b.reader < a.reader))) ⊎ (((a.epoch ≡ b.epoch) × (a.reader ≡ b.reader)) × (b.point < a.point)) → AdvanceBefore b a
+above_key : (a b : AdvanceData) → ((b.epoch < a.epoch) ⊎ ((a.epoch ≡ b.epoch) × (b.reader < a.reader)))
+    ⊎ (((a.epoch ≡ b.epoch) × (a.reader ≡ b.reader)) × (b.point < a.point)) → AdvanceBefore b a
 above_key a b h = grind arith
 
-advance_ranked : (a b : AdvanceData) → MatchOrdering (advance_cmp a b) (AdvanceBefore a b) (((a.epoch ≡ b.epoch) × (a.reader ≡ b.reader)) × (a.point ≡ b.point)) (AdvanceBefore b a)
+advance_ranked : (a b : AdvanceData) → MatchOrdering (advance_cmp a b) (AdvanceBefore a b) (((a.epoch ≡ b.epoch) × (a.reader ≡ b.reader)) × (a.point ≡ b.point))
+    (AdvanceBefore b a)
 advance_ranked a b =
-    let first = then_at (nat_cmp a.epoch b.epoch) (nat_cmp a.reader b.reader) (a.epoch < b.epoch) (a.epoch ≡ b.epoch) (b.epoch < a.epoch) (a.reader < b.reader) (a.reader ≡ b.reader) (b.reader < a.reader)
+    let first = then_at (nat_cmp a.epoch b.epoch) (nat_cmp a.reader b.reader) (a.epoch < b.epoch) (a.epoch ≡ b.epoch) (b.epoch < a.epoch) (a.reader < b.reader)
+    (a.reader ≡ b.reader) (b.reader < a.reader)
     (ranked a.epoch b.epoch (nat_cmp a.epoch b.epoch) refl) (ranked a.reader b.reader (nat_cmp a.reader b.reader) refl) in
     turned (advance_cmp a b) _ _ _ _ _ _ (below_key a b) (λ x. x) (above_key a b)
-    (then_at (ordering_then (nat_cmp a.epoch b.epoch) (nat_cmp a.reader b.reader)) (nat_cmp a.point b.point) _ _ _ (a.point < b.point) (a.point ≡ b.point) (b.point < a.point) first (ranked a.point b.point (nat_cmp a.point b.point) refl))
+    (then_at (ordering_then (nat_cmp a.epoch b.epoch) (nat_cmp a.reader b.reader)) (nat_cmp a.point b.point) _ _ _ (a.point < b.point) (a.point ≡ b.point)
+    (b.point < a.point) first (ranked a.point b.point (nat_cmp a.point b.point) refl))
 
 same_key : (a b : AdvanceData) → ((a.epoch ≡ b.epoch) × (a.reader ≡ b.reader)) × (a.point ≡ b.point) → a ≡ b
 same_key a b q = same_advance a b q.0.0 q.0.1 q.1
@@ -88,21 +106,31 @@ advances_rise ws x r = rising_by AdvanceBefore (λ a. ordering_index (advance_cm
     (λ q s. advance_apart a b h (subst (λ y. AdvanceBefore y a) (sym (same_key b x s)) q)))
     r
 
-pub advance_found : (ws : List AdvanceData) (x : AdvanceData) (r : Result ℕ ℕ) → IsSearchInRange r (length ws) → IsBinarySearchResult (λ a. advance_cmp a x) ws r → IfOk r (λ i. Contains ws x)
+pub advance_found : (ws : List AdvanceData) (x : AdvanceData) (r : Result ℕ ℕ) → IsSearchInRange r (length ws)
+    → IsBinarySearchResult (λ a. advance_cmp a x) ws r → IfOk r (λ i. Contains ws x)
 advance_found ws x (Ok i) l h =
     let q = at_equal (advance_cmp (get_or ws i x) x) _ _ _ (advance_ranked (get_or ws i x) x) (h x) in
     (i, l, same_key (get_or ws i x) x q)
 advance_found ws x (Err i) l h = tt
 
-pub advance_at : (ws : List AdvanceData) (x : AdvanceData) (r : Result ℕ ℕ) → IsSearchInRange r (length ws) → IsBinarySearchResult (λ a. advance_cmp a x) ws r → IfOk r (λ i. (i < length ws) × HoldsAt (λ a. a ≡ x) ws i)
+pub advance_at : (ws : List AdvanceData) (x : AdvanceData) (r : Result ℕ ℕ) → IsSearchInRange r (length ws) → IsBinarySearchResult (λ a. advance_cmp a x) ws r
+    → IfOk r (λ i. (i < length ws) × HoldsAt (λ a. a ≡ x) ws i)
 advance_at ws x (Ok i) l h = (
   l,
   λ d. let q = at_equal (advance_cmp (get_or ws i d) x) _ _ _ (advance_ranked (get_or ws i d) x) (h d) in same_key (get_or ws i d) x q,
 )
 advance_at ws x (Err i) l h = tt
 
-pub advance_absent : (ws : List AdvanceData) (x : AdvanceData) (r : Result ℕ ℕ) → IsRising AdvanceBefore ws → IsSearchInRange r (length ws) → IsBinarySearchResult (λ a. advance_cmp a x) ws r → IfErr r (λ i. (i ≤ length ws) × IsPartitionPoint (λ a. AdvanceBefore a x) (λ a. AdvanceBefore x a) ws i)
+pub advance_absent : (ws : List AdvanceData) (x : AdvanceData) (r : Result ℕ ℕ) → IsRising AdvanceBefore ws → IsSearchInRange r (length ws)
+    → IsBinarySearchResult (λ a. advance_cmp a x) ws r
+    → IfErr r (λ i. (i ≤ length ws) × IsPartitionPoint (λ a. AdvanceBefore a x) (λ a. AdvanceBefore x a) ws i)
 advance_absent ws x (Ok i) rise l h = tt
 advance_absent ws x (Err i) rise l h =
-    let parted = h (advances_rise ws x rise) in
-    (l, (λ k d a b. at_less (advance_cmp (get_or ws k d) x) _ _ _ (advance_ranked (get_or ws k d) x) (parted.0 k d a b), λ k d a b. at_greater (advance_cmp (get_or ws k d) x) _ _ _ (advance_ranked (get_or ws k d) x) (parted.1 k d a b)))
+    let parted = h (advances_rise ws x rise) in (
+      l,
+      (
+        λ k d a b. at_less (advance_cmp (get_or ws k d) x) _ _ _ (advance_ranked (get_or ws k d) x) (parted.0 k d a b),
+        λ k d a b. at_greater
+            (advance_cmp (get_or ws k d) x) _ _ _ (advance_ranked (get_or ws k d) x) (parted.1 k d a b),
+      ),
+    )

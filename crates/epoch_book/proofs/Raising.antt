@@ -8,7 +8,8 @@ use Rattle.redo_core.proofs.Members.{here}
 use Rattle.redo_core.proofs.Rising.{front_to, up_to, take_grows}
 use Rattle.epoch_book.proofs.Books.{only, unraised_points}
 
-pub raises_more : (k : ℕ) (old cur new : List ℕ) (given extra more : List AdvanceData) → RaisesPoints k old given cur → RaisesPoints k cur extra new → ((a : AdvanceData) → Contains more a ↔ (Contains given a ⊎ Contains extra a)) → RaisesPoints k old more new
+pub raises_more : (k : ℕ) (old cur new : List ℕ) (given extra more : List AdvanceData) → RaisesPoints k old given cur → RaisesPoints k cur extra new
+    → ((a : AdvanceData) → Contains more a ↔ (Contains given a ⊎ Contains extra a)) → RaisesPoints k old more new
 raises_more k old cur new given extra more first second both = record {
   count = second.count ∙ first.count;
   each = λ reader r.
@@ -38,18 +39,22 @@ raises_more k old cur new given extra more first second both = record {
       );
 }
 
-one_more : (ws : List AdvanceData) (i : ℕ) (w a : AdvanceData) → i < length ws → w ≡ get_or ws i w → Contains (take (i + 1) ws) a ↔ (Contains (take i ws) a ⊎ Contains (w ∷ []) a)
+one_more : (ws : List AdvanceData) (i : ℕ) (w a : AdvanceData) → i < length ws → w ≡ get_or ws i w
+    → Contains (take (i + 1) ws) a ↔ (Contains (take i ws) a ⊎ Contains (w ∷ []) a)
 one_more ws i w a l e = (
   λ h. ⊎_elim (λ (q : w ≡ a). inr (subst (Contains (w ∷ [])) q (here w []))) (λ (q : Contains (take i ws) a). inl q) (front_to ws i w a l e h),
-  λ h. ⊎_elim (λ (q : Contains (take i ws) a). take_grows ws i a q) (λ (q : Contains (w ∷ []) a). subst (Contains (take (i + 1) ws)) (only w a q) (up_to ws i w l e)) h,
+  λ h. ⊎_elim (λ (q : Contains (take i ws) a). take_grows ws i a q)
+      (λ (q : Contains (w ∷ []) a). subst (Contains (take (i + 1) ws)) (only w a q) (up_to ws i w l e)) h,
 )
 
 -- one advance more counts
-pub counted_more : (k : ℕ) (old cur new : List ℕ) (ws : List AdvanceData) (i : ℕ) (w : AdvanceData) → i < length ws → w ≡ get_or ws i w → RaisesPoints k old (take i ws) cur → RaisesPoints k cur (w ∷ []) new → RaisesPoints k old (take (i + 1) ws) new
+pub counted_more : (k : ℕ) (old cur new : List ℕ) (ws : List AdvanceData) (i : ℕ) (w : AdvanceData) → i < length ws → w ≡ get_or ws i w
+    → RaisesPoints k old (take i ws) cur → RaisesPoints k cur (w ∷ []) new → RaisesPoints k old (take (i + 1) ws) new
 counted_more k old cur new ws i w l e first second = raises_more k old cur new (take i ws) (w ∷ []) (take (i + 1) ws) first second (λ a. one_more ws i w a l e)
 
 -- one of a later epoch does not
-pub passed_more : (k : ℕ) (old cur : List ℕ) (ws : List AdvanceData) (i : ℕ) (w : AdvanceData) → i < length ws → w ≡ get_or ws i w → k < w.epoch → RaisesPoints k old (take i ws) cur → RaisesPoints k old (take (i + 1) ws) cur
+pub passed_more : (k : ℕ) (old cur : List ℕ) (ws : List AdvanceData) (i : ℕ) (w : AdvanceData) → i < length ws → w ≡ get_or ws i w → k < w.epoch
+    → RaisesPoints k old (take i ws) cur → RaisesPoints k old (take (i + 1) ws) cur
 passed_more k old cur ws i w l e later first =
     raises_more k old cur cur (take i ws) (w ∷ []) (take (i + 1) ws) first
     (unraised_points k cur (w ∷ []) (λ a h le r. absurd (let t : k < a.epoch = subst (λ x. k < x.epoch) (only w a h) later in omega (arith, le))))

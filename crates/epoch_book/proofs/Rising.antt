@@ -6,14 +6,17 @@ use Rattle.redo_core.proofs.Members.{here, there, which, each}
 use Rattle.epoch_book.specs.Refusing.{IsFirst}
 
 -- the first place with P has the first member with P
-pub first_place : {X : Type 0} (Before : X → X → Type 0) (P : X → Type 0) (xs : List X) (i : ℕ) (x : X) → IsRising Before xs → i < length xs → x ≡ get_or xs i x → P x → All (λ y. P y → ⊥) (take i xs) → IsFirst Before (λ y. Contains xs y × P y) x
+pub first_place : {X : Type 0} (Before : X → X → Type 0) (P : X → Type 0) (xs : List X) (i : ℕ) (x : X) → IsRising Before xs → i < length xs → x ≡ get_or xs i x
+    → P x → All (λ y. P y → ⊥) (take i xs) → IsFirst Before (λ y. Contains xs y × P y) x
 first_place Before P [] i x r l e p none = absurd (omega (arith, l))
 first_place Before P (z ∷ zs) zero x r l e p none = record {
   has = (subst (λ w. Contains (w ∷ zs) x) e (here x zs), p);
-  least = λ y h. ⊎_elim (λ (f : z ≡ y). inl (sym f ∙ sym e)) (λ (q : Contains zs y). inr (subst (λ w. Before w y) (sym e) (each (Before z) zs y r.0 q))) (which z zs y h.0);
+  least = λ y h. ⊎_elim (λ (f : z ≡ y). inl (sym f ∙ sym e)) (λ (q : Contains zs y). inr (subst (λ w. Before w y) (sym e) (each (Before z) zs y r.0 q)))
+      (which z zs y h.0);
 }
 first_place {X} Before P (z ∷ zs) (suc i) x r l e p none =
-    let ih : IsFirst Before (λ y. Contains zs y × P y) x = first_place Before P zs i x r.1 (omega (arith, l)) e p (λ k d m. none (suc k) d (omega (arith, m))) in
+    let ih : IsFirst Before (λ y. Contains zs y × P y) x = first_place Before P zs i x r.1 (omega (arith, l)) e p
+    (λ k d m. none (suc k) d (omega (arith, m))) in
     let off : P z → ⊥ = none 0 z (omega arith) in
     record {
       has = (there z zs x ih.has.0, p);
@@ -21,7 +24,8 @@ first_place {X} Before P (z ∷ zs) (suc i) x r l e p none =
     }
 
 -- there is one first thing
-pub one_first : {X : Type 0} (Before : X → X → Type 0) (P : X → Type 0) (x y : X) → ((u v : X) → Before u v → Before v u → ⊥) → IsFirst Before P x → IsFirst Before P y → x ≡ y
+pub one_first : {X : Type 0} (Before : X → X → Type 0) (P : X → Type 0) (x y : X) → ((u v : X) → Before u v → Before v u → ⊥) → IsFirst Before P x
+    → IsFirst Before P y → x ≡ y
 one_first Before P x y apart fx fy =
     ⊎_elim (λ (e : y ≡ x). sym e)
     (λ (b : Before x y). ⊎_elim (λ (e : x ≡ y). e) (λ (c : Before y x). absurd (apart x y b c)) (fy.least x fx.has))

@@ -22,19 +22,23 @@ cut_at (c ∷ cs) e i l h = (get_or (c ∷ cs) i c, (i, l, same_default (c ∷ c
 -- no truncation at a gap
 pub no_cut : (cs : List CutData) (e i : ℕ) → IsPartitionPoint (λ c. c.epoch < e) (λ c. e < c.epoch) cs i → LacksCut cs e
 no_cut cs e i gap d h q = ⊎_elim
-    (λ (l : h.0 < i). let b : (get_or cs h.0 d).epoch < e = gap.0 h.0 d (omega arith) l in let s : (get_or cs h.0 d).epoch ≡ d.epoch = ap (λ x. x.epoch) h.2 in omega arith)
-    (λ (l : i ≤ h.0). let b : e < (get_or cs h.0 d).epoch = gap.1 h.0 d l h.1 in let s : (get_or cs h.0 d).epoch ≡ d.epoch = ap (λ x. x.epoch) h.2 in omega arith)
+    (λ (l : h.0 < i). let b : (get_or cs h.0 d).epoch < e = gap.0 h.0 d (omega arith) l in let s : (get_or cs h.0 d).epoch ≡ d.epoch = ap (λ x. x.epoch) h.2 in
+    omega arith)
+    (λ (l : i ≤ h.0). let b : e < (get_or cs h.0 d).epoch = gap.1 h.0 d l h.1 in let s : (get_or cs h.0 d).epoch ≡ d.epoch = ap (λ x. x.epoch) h.2 in
+    omega arith)
     (let t : (h.0 < i) ⊎ (i ≤ h.0) = grind arith in t)
 
 -- the truncations before the one of an epoch
-pub before_place : (cs : List CutData) (e i : ℕ) → IsRising CutBefore cs → (i < length cs) × HoldsAt (λ c. c.epoch ≡ e) cs i → AllWithin (λ c. c.epoch < e) cs 0 i
+pub before_place : (cs : List CutData) (e i : ℕ) → IsRising CutBefore cs → (i < length cs) × HoldsAt (λ c. c.epoch ≡ e) cs i
+    → AllWithin (λ c. c.epoch < e) cs 0 i
 before_place cs e i rise at k d a b =
     let l : (get_or cs k d).epoch < (get_or cs i d).epoch = rising_at CutBefore cs k i d d rise b at.0 in
     let q : (get_or cs i d).epoch ≡ e = at.1 d in
     omega arith
 
 -- the truncation of an epoch and those after it
-pub from_place : (cs : List CutData) (e i : ℕ) → IsRising CutBefore cs → (i < length cs) × HoldsAt (λ c. c.epoch ≡ e) cs i → AllWithin (λ c. e ≤ c.epoch) cs i (length cs)
+pub from_place : (cs : List CutData) (e i : ℕ) → IsRising CutBefore cs → (i < length cs) × HoldsAt (λ c. c.epoch ≡ e) cs i
+    → AllWithin (λ c. e ≤ c.epoch) cs i (length cs)
 from_place cs e i rise at k d a b =
     let q : (get_or cs i d).epoch ≡ e = at.1 d in
     ⊎_elim
@@ -47,6 +51,7 @@ pub from_gap : (cs : List CutData) (e i : ℕ) → IsPartitionPoint (λ c. c.epo
 from_gap cs e i gap k d a b = let l : e < (get_or cs k d).epoch = gap.1 k d a b in omega arith
 
 -- whether a search finds a truncation
-pub found_cut : (cs : List CutData) (e : ℕ) (r : Result ℕ ℕ) → IfOk r (λ i. (i < length cs) × HoldsAt (λ c. c.epoch ≡ e) cs i) → IfErr r (λ i. (i ≤ length cs) × IsPartitionPoint (λ c. c.epoch < e) (λ c. e < c.epoch) cs i) → IsTrue (is_ok r) ↔ HasCut cs e
+pub found_cut : (cs : List CutData) (e : ℕ) (r : Result ℕ ℕ) → IfOk r (λ i. (i < length cs) × HoldsAt (λ c. c.epoch ≡ e) cs i)
+    → IfErr r (λ i. (i ≤ length cs) × IsPartitionPoint (λ c. c.epoch < e) (λ c. e < c.epoch) cs i) → IsTrue (is_ok r) ↔ HasCut cs e
 found_cut cs e (Ok i) ok err = (λ h. cut_at cs e i ok.0 ok.1, λ h. refl)
 found_cut cs e (Err i) ok err = (λ h. absurd (cc), λ h. absurd (no_cut cs e i err.1 h.0 h.1 h.2))

@@ -21,7 +21,8 @@ use Rattle.redo_core.proofs.SoundFacts.{kept, same_cut, counted_in, cut_facts}
 use Rattle.epoch_book.proofs.Books.{known_to}
 
 -- no truncation of the log has all readers past it
-none_past : (roster : ℕ) (log : List Fact) (c : CutData) → IsSound roster log → Contains log (Cut c) → ((reader : ℕ) → IsReader roster reader → IsPast (advances log) c reader) → ⊥
+none_past : (roster : ℕ) (log : List Fact) (c : CutData) → IsSound roster log → Contains log (Cut c)
+    → ((reader : ℕ) → IsReader roster reader → IsPast (advances log) c reader) → ⊥
 none_past roster log c sound hc past =
     let s = past 1 (omega arith, sound.readers.0) in
     let ha = (advance_in log s.0).0 s.1 in
@@ -49,7 +50,8 @@ module _ (roster : ℕ) (log : List Fact) (b : BookData) (sound : IsSound roster
   own_reader reader r = subst (λ n. IsReader n reader) (sym known.readers) r
 
   -- who is known to be past a truncation of a later epoch, is past it in the log
-  past_in_log : (c : CutData) → b.complete < c.epoch → (reader : ℕ) → IsReader roster reader → IsKnownPast b.points b.waits c reader → IsPast (advances log) c reader
+  past_in_log : (c : CutData) → b.complete < c.epoch → (reader : ℕ) → IsReader roster reader → IsKnownPast b.points b.waits c reader
+      → IsPast (advances log) c reader
   past_in_log c later reader r h =
       ⊎_elim
       (λ (low : c.lo < point_of b.points reader). ⊎_elim
@@ -70,7 +72,8 @@ module _ (roster : ℕ) (log : List Fact) (b : BookData) (sound : IsSound roster
       let low : least b.points ≤ point_of b.points reader = least_le (roster_of b) b.points reader refl (own_reader reader i) in
       let is : m ≡ least b.points = r.1 in let below : c.lo < m = r.2 in omega arith)))
   cut_is_learnt c h (Contradiction (OfAdvance a)) r =
-      none_past roster log c sound h (λ reader i. past_in_log c (beyond c h r.0) reader i (r.2 reader (own_reader reader i) (λ z. let one : 1 ≤ reader = i.0 in omega (arith, z))))
+      none_past roster log c sound h (λ reader i. past_in_log c (beyond c h r.0) reader i
+      (r.2 reader (own_reader reader i) (λ z. let one : 1 ≤ reader = i.0 in omega (arith, z))))
   cut_is_learnt c h (Contradiction (OfCut d)) r = r
   cut_is_learnt c h Memory r = r
 

@@ -27,7 +27,8 @@ RefusesCut b c Memory = ⊥
 -- The first that applies: the reader is not of the roster; a truncation of a later epoch is held that cuts below the point.
 abbrev pub RefusesAdvance : BookData → AdvanceData → BookRefusal → Type 0
 RefusesAdvance b a (OtherRoster own shown) = (own ≡ roster_of b) × (shown ≡ a.reader) × (IsReader (roster_of b) a.reader → ⊥)
-RefusesAdvance b a (Contradiction (Cut d)) = IsReader (roster_of b) a.reader × IsFirst CutBefore (λ c. Contains b.cuts c × CutsBelow b.complete b.points b.waits c a) d
+RefusesAdvance b a (Contradiction (Cut d)) = IsReader (roster_of b) a.reader × IsFirst CutBefore
+    (λ c. Contains b.cuts c × CutsBelow b.complete b.points b.waits c a) d
 RefusesAdvance b a (Contradiction (Min m)) = ⊥
 RefusesAdvance b a (Contradiction (Advance w)) = ⊥
 RefusesAdvance b a (OtherCut d) = ⊥

@@ -1,7 +1,7 @@
 ghost use Rattle.std.specs.Prelude.{◌≡◌, ◌<◌, ◌≤◌, ◌⊎◌, ◌↔◌, List, [], length, replicate, IfOk, OnOk, OnErr, IfErr, IfSome, IsNone, Err as ErrOf, None};
 ghost use Rattle.std.specs.List.{Contains};
 ghost use Rattle.std.specs.List.Sorted.{IsPartitionPoint};
-ghost use Rattle.redo_core.specs.Shape.{cut_fault, advance_fault};
+ghost use Rattle.redo_core.specs.Shape.{cut_fault, advance_fault, epoch_count};
 ghost use Rattle.redo_core.specs.Order.{IsRising, CutBefore, AdvanceBefore};
 ghost use Rattle.redo_core.specs.CompleteEpoch.{IsCompleteEpoch};
 ghost use Rattle.redo_core.specs.Standing.{IsAlive, IsDead, IsWaiting};
@@ -128,7 +128,7 @@ impl EpochBook {
         requires within { place ≤ length self.old.cuts }
         requires gap { IsPartitionPoint (λ c. c.epoch < cut.epoch) (λ c. cut.epoch < c.epoch) self.old.cuts place }
         requires shaped { cut_fault cut ≡ None }
-        requires fits { cut.epoch < 65536 }
+        requires fits { cut.epoch < epoch_count }
         ensures ok { OnOk result (LearnsCut self.old cut self.new) }
         ensures err { OnErr result (self.new ≡ self.old) }
         ensures memory { IfErr result (λ e. e ≡ MemoryOf) }

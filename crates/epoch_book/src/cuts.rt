@@ -1,6 +1,7 @@
 ghost use Rattle.std.specs.Prelude.{◌≡◌, ◌<◌, ◌≤◌, ◌↔◌, length, IsTrue, IfOk, IfErr, IfSome, IsNone};
 ghost use Rattle.std.specs.List.{All, AllWithin, HoldsAt, Contains};
 ghost use Rattle.std.specs.List.Sorted.{IsPartitionPoint};
+ghost use Rattle.redo_core.specs.Shape.{epoch_count};
 ghost use Rattle.redo_core.specs.Order.{IsRising, CutBefore};
 ghost use Rattle.redo_core.specs.CompleteEpoch.{HasCutsTo, IsCompleteEpoch};
 ghost use Rattle.redo_core.specs.Roster.{IsReader};
@@ -34,9 +35,9 @@ pub fn first_from(cuts: &[Cut], epoch: u16) -> usize
 
 fn has_epoch(cuts: &[Cut], epoch: u32) -> bool
     requires rising { IsRising CutBefore cuts.now }
-    requires fits { All (λ c. c.epoch < 65536) cuts.now }
+    requires fits { All (λ c. c.epoch < epoch_count) cuts.now }
     ensures found { IsTrue result ↔ HasCut cuts.now epoch }
-    ensures small { IsTrue result → epoch < 65536 }
+    ensures small { IsTrue result → epoch < epoch_count }
 {
     match u16::try_from(epoch) {
         Ok(epoch) => place_of_epoch(cuts, epoch).is_ok(),
@@ -47,7 +48,7 @@ fn has_epoch(cuts: &[Cut], epoch: u32) -> bool
 // The complete epoch, where all truncations up to `from` are there.
 pub fn complete_epoch_from(cuts: &[Cut], from: u16) -> u16
     requires rising { IsRising CutBefore cuts.now }
-    requires fits { All (λ c. c.epoch < 65536) cuts.now }
+    requires fits { All (λ c. c.epoch < epoch_count) cuts.now }
     requires known { HasCutsTo cuts.now from }
     ensures { IsCompleteEpoch cuts.now result }
 {

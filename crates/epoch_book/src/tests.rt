@@ -68,22 +68,30 @@ fn one_reader(rt: HostRuntime) -> Result<(), Fail> {
 const WAITS: [Row; 3] = [Row::Min(1, 3, 80), Row::Min(1, 1, 30), Row::Min(1, 2, 60)];
 
 #[test]
-fn advances_wait_for_their_epochs(rt: HostRuntime) -> Result<(), Fail> {
+fn waiting_advances_are_known(rt: HostRuntime) -> Result<(), Fail> {
     let heap = rt.alloc();
     assert!(rt; answers(heap, 1, &WAITS, WAITS[1], Ok(Learnt::Known))?);
     let least = BookRefusal::Contradiction(Held::Advance(Advance::new(1, 30)?));
     assert!(rt; answers(heap, 1, &WAITS, Row::Cut(4, 29, 90), Err(least))?);
-    let mut book = book_of(heap, 1, &WAITS)?;
-    assert!(rt; learns(&mut book, Row::Cut(2, 40, 50), Ok(Learnt::New))?);
-    assert_eq!(rt;
-        (book.complete_epoch(), book.min_point(), book.waits().len()),
-        (0, 0, 3)
-    );
-    assert!(rt; learns(&mut book, Row::Cut(1, 10, 20), Ok(Learnt::New))?);
-    assert_eq!(rt;
-        (book.complete_epoch(), book.min_point(), book.waits().len()),
-        (2, 60, 1)
-    );
+    Ok(())
+}
+
+// The complete epoch, the minimum read point, and how many advances wait.
+fn told(book: &EpochBook) -> (u16, u64, usize) {
+    (book.complete_epoch(), book.min_point(), book.waits().len())
+}
+
+#[test]
+fn advances_wait_for_their_epochs(rt: HostRuntime) -> Result<(), Fail> {
+    let mut book = book_of(rt.alloc(), 1, &WAITS)?;
+    let cuts = [
+        (Row::Cut(2, 40, 50), (0, 0, 3)),
+        (Row::Cut(1, 10, 20), (2, 60, 1)),
+    ];
+    for (cut, then) in cuts {
+        assert!(rt; learns(&mut book, cut, Ok(Learnt::New))?);
+        assert_eq!(rt; told(&book), then);
+    }
     Ok(())
 }
 
@@ -110,9 +118,10 @@ fn the_least_point_counts(rt: HostRuntime) -> Result<(), Fail> {
     let heap = rt.alloc();
     let points = [Row::Min(1, 0, 5), Row::Min(2, 0, 3), Row::Min(2, 1, 21)];
     let low = BookRefusal::Contradiction(Held::Min(3));
-    assert!(rt; answers(heap, 2, &points, Row::Cut(1, 2, 20), Err(low))?);
     let stranger = BookRefusal::OtherRoster { own: 2, shown: 3 };
-    assert!(rt; answers(heap, 2, &points, Row::Min(3, 0, 1), Err(stranger))?);
+    for (row, refusal) in [(Row::Cut(1, 2, 20), low), (Row::Min(3, 0, 1), stranger)] {
+        assert!(rt; answers(heap, 2, &points, row, Err(refusal))?);
+    }
     let mut book = book_of(heap, 2, &points)?;
     assert_eq!(rt; book.points(), [5, 3].as_slice());
     assert!(rt; learns(&mut book, Row::Cut(1, 3, 20), Ok(Learnt::New))?);

@@ -52,7 +52,8 @@ picked x need front back len low high =
     let f : count_above x (x ∷ back) ≡ count_above x back = grind (arith, nat_tests) in
     (omega (arith, a, b, c, f, len), omega (arith, d, e, len))
 
-pub nth : (xs front back : List ℕ) (x need : ℕ) → 0 < need → need ≤ length xs → IsPermutation xs (front ++ x ∷ back) → length front ≡ length xs - need → IsSplitAround nat_cmp front x back → IsNthGreatest need xs x
+pub nth : (xs front back : List ℕ) (x need : ℕ) → 0 < need → need ≤ length xs → IsPermutation xs (front ++ x ∷ back) → length front ≡ length xs - need
+    → IsSplitAround nat_cmp front x back → IsNthGreatest need xs x
 nth xs front back x need some most moved at split =
     let ys : List ℕ = front ++ x ∷ back in
     let l = length_permutation xs ys moved in

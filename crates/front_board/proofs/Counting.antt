@@ -13,7 +13,8 @@ one_at_most true false h = absurd (let e = h refl in cc)
 one_at_most false b h = omega arith
 
 -- where each element that passes one test has a partner that passes another, no fewer pass the other
-count_at_most : (p q : ℕ → Bool) (v w : List ℕ) → length v ≡ length w → ((k : ℕ) → k < length v → p (slice_index v k) ≡ true → q (slice_index w k) ≡ true) → count_by p v ≤ count_by q w
+count_at_most : (p q : ℕ → Bool) (v w : List ℕ) → length v ≡ length w → ((k : ℕ) → k < length v → p (slice_index v k) ≡ true → q (slice_index w k) ≡ true)
+    → count_by p v ≤ count_by q w
 count_at_most p q [] [] l h = le_refl 0
 count_at_most p q [] (b ∷ ws) l h = absurd (omega (arith, l))
 count_at_most p q (a ∷ vs) [] l h = absurd (omega (arith, l))
@@ -33,7 +34,8 @@ passes x y a lt t = grind (arith, nat_tests)
 -- words that are nowhere below a view have reached what the view's entries have
 pub reached_within : (need : ℕ) (seen words : List ℕ) (answer : ℕ) → IsNthGreatest need seen answer → IsWithin seen words → need ≤ count_reached answer words
 reached_within need seen words answer nth within =
-    let more = count_at_most (nat_le answer) (nat_le answer) seen words within.same (λ k l t. reaches answer (slice_index seen k) (slice_index words k) (within.each k) t) in
+    let more = count_at_most (nat_le answer) (nat_le answer) seen words within.same
+    (λ k l t. reaches answer (slice_index seen k) (slice_index words k) (within.each k) t) in
     let reached = nth.reached in
     omega (arith, more, reached)
 

@@ -9,17 +9,27 @@ use Rattle.front_board.specs.Survey.{IsSurveyed}
 use Rattle.front_board.specs.NthGreatest.{IsNthGreatest}
 use Rattle.front_board.proofs.Steps.{fronts_after_set}
 
-entry_after_set : (v : List ℕ) (i x k : ℕ) → i < length v → ((k ≡ i) × (slice_index (slice_set v i x) k ≡ x)) ⊎ ((k ≢ i) × (slice_index (slice_set v i x) k ≡ slice_index v k))
+entry_after_set : (v : List ℕ) (i x k : ℕ) → i < length v → ((k ≡ i) × (slice_index (slice_set v i x) k ≡ x))
+    ⊎ ((k ≢ i) × (slice_index (slice_set v i x) k ≡ slice_index v k))
 entry_after_set [] i x k l = absurd (omega (arith, l))
 entry_after_set (a ∷ vs) zero x zero l = inl (refl, refl)
 entry_after_set (a ∷ vs) zero x (suc k) l = inr ((λ e. omega arith), refl)
 entry_after_set (a ∷ vs) (suc i) x zero l = inr ((λ e. omega arith), refl)
-entry_after_set (a ∷ vs) (suc i) x (suc k) l = ⊎_elim (λ t. inl (ap suc t.0, t.1)) (λ t. let n = t.0 in inr ((λ e. n (omega arith)), t.1)) (entry_after_set vs i x k (omega (arith, l)))
+entry_after_set (a ∷ vs) (suc i) x (suc k) l = ⊎_elim (λ t. inl (ap suc t.0, t.1)) (λ t. let n = t.0 in inr ((λ e. n (omega arith)), t.1))
+    (entry_after_set vs i x k (omega (arith, l)))
 
 pub survey_begins : (log : List Fact) (seen words : List ℕ) → length seen ≡ length words → AreFronts log seen → IsSurveyed log 0 seen seen words
-survey_begins log seen words same fronts = record { same = same; kept = refl; found = λ k l. absurd (omega (arith, l)); fronts = fronts; grows = λ k. le_refl (slice_index seen k) }
+survey_begins log seen words same fronts = record {
+  same = same;
+  kept = refl;
+  found = λ k l. absurd (omega (arith, l));
+  fronts = fronts;
+  grows = λ k. le_refl
+      (slice_index seen k);
+}
 
-pub survey_goes_on : (log : List Fact) (i : ℕ) (old seen words : List ℕ) (x : ℕ) → IsSurveyed log i old seen words → i < length words → slice_index seen i ≤ x → IsFrontWord log x → IsSurveyed log (suc i) old (slice_set seen i x) (slice_set words i x)
+pub survey_goes_on : (log : List Fact) (i : ℕ) (old seen words : List ℕ) (x : ℕ) → IsSurveyed log i old seen words → i < length words → slice_index seen i ≤ x
+    → IsFrontWord log x → IsSurveyed log (suc i) old (slice_set seen i x) (slice_set words i x)
 survey_goes_on log i old seen words x is room up front = record {
   same = length-set seen i x ∙ (is.same ∙ sym (length-set words i x));
   kept = length-set seen i x ∙ is.kept;
@@ -40,7 +50,8 @@ survey_goes_on log i old seen words x is room up front = record {
     room' = let e = is.same in omega (arith, e, room)
 
 -- after the last word the view has what was found, and the answer is a front
-pub survey_ends : (log : List Fact) (n : ℕ) (old seen words : List ℕ) (need r : ℕ) → IsSurveyed log n old seen words → n ≡ length old → IsNthGreatest need words r → IsNthGreatest need seen r × IsFrontWord log r
+pub survey_ends : (log : List Fact) (n : ℕ) (old seen words : List ℕ) (need r : ℕ) → IsSurveyed log n old seen words → n ≡ length old
+    → IsNthGreatest need words r → IsNthGreatest need seen r × IsFrontWord log r
 survey_ends log n old seen words need r is long best =
     let e = is.same in
     let c = is.kept in

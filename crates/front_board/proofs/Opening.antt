@@ -25,5 +25,6 @@ one_view v seen (suc k) e = absurd (some-ne-none seen (sym e))
 pub open_keeps : (log : List Fact) (n : ℕ) → KeepsRule log (replicate n 0) (replicate n 0 ∷ [])
 open_keeps log n = record {
   fronts = zeros_are_fronts log n;
-  within = λ seat seen e. subst (λ u. IsWithin u (replicate n 0)) (one_view (replicate n 0) seen seat e) (record { same = refl; each = λ k. le_refl (slice_index (replicate n 0) k) });
+  within = λ seat seen e. subst (λ u. IsWithin u (replicate n 0)) (one_view (replicate n 0) seen seat e)
+      (record { same = refl; each = λ k. le_refl (slice_index (replicate n 0) k) });
 }

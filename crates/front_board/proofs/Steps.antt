@@ -10,7 +10,8 @@ use Rattle.front_board.specs.Rule.{IsWithin, KeepsRule}
 use Rattle.front_board.specs.Seat.{Publishes}
 
 -- one entry and its word are replaced
-within_set : (v w : List ℕ) (i y z : ℕ) → ((k : ℕ) → slice_index v k ≤ slice_index w k) → length v ≡ length w → y ≤ z → (k : ℕ) → slice_index (slice_set v i y) k ≤ slice_index (slice_set w i z) k
+within_set : (v w : List ℕ) (i y z : ℕ) → ((k : ℕ) → slice_index v k ≤ slice_index w k) → length v ≡ length w → y ≤ z → (k : ℕ)
+    → slice_index (slice_set v i y) k ≤ slice_index (slice_set w i z) k
 within_set [] [] i y z h l le k = h k
 within_set [] (b ∷ ws) i y z h l le k = absurd (omega (arith, l))
 within_set (a ∷ vs) [] i y z h l le k = absurd (omega (arith, l))
@@ -35,12 +36,15 @@ each_after_set P (b ∷ ws) zero z h p (suc k) = h (suc k)
 each_after_set P (b ∷ ws) (suc i) z h p zero = h zero
 each_after_set P (b ∷ ws) (suc i) z h p (suc k) = each_after_set P ws i z (λ j. h (suc j)) p k
 
-pub fronts_after_set : (log : List Fact) (words : List ℕ) (node word : ℕ) → AreFronts log words → IsFrontWord log word → AreFronts log (slice_set words node word)
+pub fronts_after_set : (log : List Fact) (words : List ℕ) (node word : ℕ) → AreFronts log words → IsFrontWord log word
+    → AreFronts log (slice_set words node word)
 fronts_after_set log words node word all front = record { each = each_after_set (IsFrontWord log) words node word all.each front }
 
 -- a step that raises a word, and after which the seat knows the new word
-pub raise_keeps : {S : Type 0} (log : List Fact) (slots id : ℕ) (me : Me S (List ℕ)) (i : ℕ) (f : ℕ → ℕ) → ((n : ℕ) → n ≤ f n) → ((n : ℕ) → IsFrontWord log n → IsFrontWord log (f n))
-    → Allows {S = S} (λ s. KeepsRule log s.words s.views) slots id me i f (λ n w. IsFrontWord log n × (slice_index me.0 i ≤ n) × (w ≡ (slice_set me.0 i (f n), me.1)))
+pub raise_keeps : {S : Type 0} (log : List Fact) (slots id : ℕ) (me : Me S (List ℕ)) (i : ℕ) (f : ℕ → ℕ) → ((n : ℕ) → n ≤ f n)
+    → ((n : ℕ) → IsFrontWord log n → IsFrontWord log (f n))
+    → Allows {S = S} (λ s. KeepsRule log s.words s.views) slots id me i f
+    (λ n w. IsFrontWord log n × (slice_index me.0 i ≤ n) × (w ≡ (slice_set me.0 i (f n), me.1)))
 raise_keeps log slots id me i f up fronts s kept homes at bound =
     let n = slice_index s.words i in
     let mine = kept.within id me.0 at in
@@ -83,10 +87,12 @@ max_above n k = omega arith
 
 -- the greater of two fronts is a front
 pub max_is_front : (log : List Fact) (n k : ℕ) → IsFrontWord log k → IsFrontWord log n → IsFrontWord log (max n k)
-max_is_front log n k a b = ⊎_elim (λ (e : max n k ≡ n). subst (IsFrontWord log) (sym e) b) (λ (e : max n k ≡ k). subst (IsFrontWord log) (sym e) a) (max_is_either n k)
+max_is_front log n k a b = ⊎_elim (λ (e : max n k ≡ n). subst (IsFrontWord log) (sym e) b) (λ (e : max n k ≡ k). subst (IsFrontWord log) (sym e) a)
+    (max_is_either n k)
 
 -- what a seat that publishes finds
-pub publishes : (log : List Fact) (seen old new : List ℕ) (node word published found : ℕ) → seen ≡ old → word ≡ published → IsFrontWord log found → slice_index seen (node - 1) ≤ found → new ≡ slice_set seen (node - 1) (max found word) → Publishes log old new node published
+pub publishes : (log : List Fact) (seen old new : List ℕ) (node word published found : ℕ) → seen ≡ old → word ≡ published → IsFrontWord log found
+    → slice_index seen (node - 1) ≤ found → new ≡ slice_set seen (node - 1) (max found word) → Publishes log old new node published
 publishes log seen old new node word published found same value front above entry = record {
   found = found;
   front = front;
@@ -95,6 +101,7 @@ publishes log seen old new node word published found same value front above entr
 }
 
 -- after a step of one word the entries are still fronts
-pub fronts_after_raise : (log : List Fact) (seen new : List ℕ) (node word found : ℕ) → AreFronts log seen → IsFrontWord log word → IsFrontWord log found → new ≡ slice_set seen node (max found word) → AreFronts log new
+pub fronts_after_raise : (log : List Fact) (seen new : List ℕ) (node word found : ℕ) → AreFronts log seen → IsFrontWord log word → IsFrontWord log found
+    → new ≡ slice_set seen node (max found word) → AreFronts log new
 fronts_after_raise log seen new node word found all front front' entry =
     subst (AreFronts log) (sym entry) (fronts_after_set log seen node (max found word) all (max_is_front log found word front front'))

@@ -22,4 +22,5 @@ IsLoad log step me found new = IsFrontWord log found × (slice_index me.0 step.w
 
 -- a `fetch_max`: the word becomes the greater, and the seat's entry becomes the new word
 abbrev pub IsFetchMax : {S : Type 0} → List Fact → Step S → Me S (List ℕ) → ℕ → Me S (List ℕ) → Type 0
-IsFetchMax log step me found new = IsFrontWord log found × (slice_index me.0 step.word ≤ found) × (new ≡ (slice_set me.0 step.word (max found step.first), me.1))
+IsFetchMax log step me found new = IsFrontWord log found × (slice_index me.0 step.word ≤ found)
+    × (new ≡ (slice_set me.0 step.word (max found step.first), me.1))

@@ -45,7 +45,8 @@ impl<L: LogName> Model for Seat<L> {
 
     ghost view = { λ s. record { board = s.token.table_id; seen = s.token.me.0 } };
 
-    ghost invariant = { λ s. (s.token.me.1 ≡ []) × (length s.words.items ≡ s.token.table_id.words) × (length s.token.me.0 ≡ s.token.table_id.words) × AreFronts L.log s.token.me.0 };
+    ghost invariant = { λ s. (s.token.me.1 ≡ []) × (length s.words.items ≡ s.token.table_id.words) × (length s.token.me.0 ≡ s.token.table_id.words)
+        × AreFronts L.log s.token.me.0 };
 }
 
 impl<L: LogName> Board<L> {

@@ -33,6 +33,10 @@ fn is(front: LogFront<Named>, epoch: u16, number: u64) -> bool {
     front.epoch() == epoch && front.number() == number
 }
 
+fn place(front: LogFront<Named>) -> (u16, u64) {
+    (front.epoch(), front.number())
+}
+
 struct Opened {
     board: Board<Named>,
     a: Seat<Named>,
@@ -49,6 +53,22 @@ fn open(alloc: Global) -> Result<Option<Opened>, AllocError> {
         return Ok(None);
     };
     Ok(Some(Opened { board, a, b }))
+}
+
+// The quorum's answer for each need, from 1 to 6.
+fn quorums(board: &Board<Named>, seat: &mut Seat<Named>) -> [(u16, u64); 6]
+    requires own { seat.old.board ≡ board.now }
+    requires nodes { board.now.words ≡ 6 }
+    ensures { seat.new.board ≡ seat.old.board }
+{
+    [
+        place(board.quorum(seat, 1)),
+        place(board.quorum(seat, 2)),
+        place(board.quorum(seat, 3)),
+        place(board.quorum(seat, 4)),
+        place(board.quorum(seat, 5)),
+        place(board.quorum(seat, 6)),
+    ]
 }
 
 #[test]
@@ -68,15 +88,9 @@ fn rows_of_the_board(rt: HostRuntime) -> Result<(), Fail> {
     board.publish(&mut a, 2, early(2));
     board.publish(&mut a, 3, early(2));
     board.publish(&mut a, 4, early(1));
-    assert!(rt; is(board.quorum(&mut b, 1), 1, 1));
-    assert!(rt; is(board.quorum(&mut b, 2), 0, 2));
-    assert!(rt; is(board.quorum(&mut b, 3), 0, 2));
-    assert!(rt; is(board.quorum(&mut b, 4), 0, 1));
-    assert!(rt; is(board.quorum(&mut b, 5), 0, 0));
-    assert!(rt; is(board.quorum(&mut b, 6), 0, 0));
+    assert!(rt; quorums(&board, &mut b) == [(1, 1), (0, 2), (0, 2), (0, 1), (0, 0), (0, 0)]);
     board.publish(&mut a, 6, last());
-    assert!(rt; is(board.quorum(&mut b, 1), 1, 11));
-    assert!(rt; is(board.quorum(&mut b, 2), 1, 1));
+    assert!(rt; quorums(&board, &mut b) == [(1, 11), (1, 1), (0, 2), (0, 2), (0, 1), (0, 0)]);
     Ok(())
 }
 

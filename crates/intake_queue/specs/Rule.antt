@@ -15,7 +15,8 @@ pub record FitsSender (senders : ℕ) (speaker : ℕ → ℕ) (accepted : ℕ �
   pub knows : v.accepted ≡ accepted v.number
 
 -- the taker's pass knows all that was taken; it speaks for the numbers that no sender has yet, and for those handed in
-pub record FitsTaker (senders : ℕ) (taker : ℕ) (speaker : ℕ → ℕ) (accepted : ℕ → List ParcelData) (taken : List ParcelData) (pass : ℕ) (v : KnownData) : Type 0 where
+pub record FitsTaker (senders : ℕ) (taker : ℕ) (speaker : ℕ → ℕ) (accepted : ℕ → List ParcelData) (taken : List ParcelData) (pass : ℕ)
+    (v : KnownData) : Type 0 where
   pub own : pass ≡ taker
   pub silent : v.sends ≡ false
   pub count : v.senders ≡ senders

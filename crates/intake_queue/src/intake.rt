@@ -16,6 +16,12 @@ use std::alloc::{AllocError, Global};
 use std::marker::Model;
 use std::sync::Wait;
 
+/// The most senders of an intake.
+pub const MAX_SENDERS: usize = 64;
+
+/// The most parcels that an intake has room for.
+pub const MAX_CAPACITY: usize = 65536;
+
 /// The intake was full at a moment of the call.
 #[derive(Debug, Clone, Copy, PartialEq, Eq)]
 pub struct Full;
@@ -53,8 +59,8 @@ impl<L: LogName> Intake<L> {
         senders: usize,
         capacity: usize,
     ) -> Result<(Intake<L>, Vec<SenderPass<L>>, TakerPass<L>), AllocError>
-        requires senders { (1 ≤ senders) × (senders ≤ 64) }
-        requires capacity { (1 ≤ capacity) × (capacity ≤ 65536) }
+        requires senders { (1 ≤ senders) × (senders ≤ MAX_SENDERS) }
+        requires capacity { (1 ≤ capacity) × (capacity ≤ MAX_CAPACITY) }
         ensures capacity { IfOk result (λ made. made.0.capacity ≡ capacity) }
         ensures senders { IfOk result (λ made. AreNewSenders made.0.id senders senders made.1.items) }
         ensures taker { IfOk result (λ made. made.2 ≡ record { intake = made.0.id; senders = senders; taken = []; heard = [] }) }

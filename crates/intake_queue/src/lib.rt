@@ -22,7 +22,7 @@ mod rule;
 #[cfg(test)]
 mod tests;
 
-pub use intake::{Full, Intake, Unended};
+pub use intake::{Full, Intake, MAX_CAPACITY, MAX_SENDERS, Unended};
 pub use notes::Note;
 pub use parcel::Parcel;
 pub use passes::{SenderPass, TakerPass, UsedUp};

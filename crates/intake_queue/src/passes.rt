@@ -30,9 +30,16 @@ impl<L: LogName> Model for SenderPass<L> {
 
     ghost Value = { SenderData };
 
-    ghost view = { λ s. record { intake = s.pass.table_id; number = s.number; senders = (known s.pass).senders; accepted = (known s.pass).accepted; heard = (known s.pass).taken_count } };
+    ghost view = { λ s. record {
+      intake = s.pass.table_id;
+      number = s.number;
+      senders = (known s.pass).senders;
+      accepted = (known s.pass).accepted;
+      heard = (known s.pass).taken_count;
+    } };
 
-    ghost invariant = { λ s. (s.pass.me.1 ≡ []) × (known s.pass ≡ sender s.number (known s.pass).senders (known s.pass).accepted (known s.pass).taken_count) × (length (known s.pass).accepted ≡ s.accepted) };
+    ghost invariant = { λ s. (s.pass.me.1 ≡ []) × (known s.pass ≡ sender s.number (known s.pass).senders (known s.pass).accepted (known s.pass).taken_count)
+        × (length (known s.pass).accepted ≡ s.accepted) };
 }
 
 impl<L: LogName> SenderPass<L> {
@@ -66,7 +73,12 @@ impl<L: LogName> Model for TakerPass<L> {
 
     ghost Value = { TakerData };
 
-    ghost view = { λ t. record { intake = t.pass.table_id; senders = (known t.pass).senders; taken = (known t.pass).taken; heard = (known t.pass).accepted_counts } };
+    ghost view = { λ t. record {
+      intake = t.pass.table_id;
+      senders = (known t.pass).senders;
+      taken = (known t.pass).taken;
+      heard = (known t.pass).accepted_counts;
+    } };
 
     ghost invariant = { λ t. (t.pass.me.1 ≡ []) × IsTaker (known t.pass) };
 }

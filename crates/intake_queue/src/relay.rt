@@ -2,7 +2,7 @@
 ghost use Rattle.std.specs.Prelude.{◌≡◌, ◌+◌, ◌<◌, ◌≤◌, ◌^◌, ◌∷◌, ◌++◌, [], length, IfOk, IfSome, OnOk};
 ghost use Rattle.intake_queue.specs.Parcel.{facts_of, AreInTurn};
 
-use crate::intake::Intake;
+use crate::intake::{Intake, MAX_CAPACITY};
 use crate::parcel::Parcel;
 use crate::passes::{SenderPass, TakerPass};
 use named_log::{LogFact, LogName};
@@ -25,7 +25,7 @@ struct Relay<L: LogName> {
 
 impl<L: LogName> Relay<L> {
     fn open(alloc: Global, capacity: usize) -> Result<Relay<L>, AllocError>
-        requires { (1 ≤ capacity) × (capacity ≤ 65536) }
+        requires { (1 ≤ capacity) × (capacity ≤ MAX_CAPACITY) }
         ensures { IfOk result (λ r. r.sender.accepted ≡ []) }
     {
         let (intake, mut senders, taker) = Intake::<L>::open(alloc, 1, capacity)?;
@@ -104,7 +104,7 @@ pub(crate) fn pass_through<L: LogName, R: Wait>(
     capacity: usize,
     mut facts: Vec<LogFact<L>>,
 ) -> Result<Vec<Parcel<L>>, AllocError>
-    requires { (1 ≤ capacity) × (capacity ≤ 65536) }
+    requires { (1 ≤ capacity) × (capacity ≤ MAX_CAPACITY) }
     ensures { IfOk result (λ all. facts_of all.items ≡ facts.items) }
 {
     let mut relay = Relay::open(alloc, capacity)?;

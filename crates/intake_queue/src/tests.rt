@@ -2,7 +2,7 @@ ghost use Rattle.std.specs.Prelude.{◌≡◌, ◌++◌, ◌∷◌, [], ◌≤�
 ghost use Rattle.std.specs.Thread.{IsSync};
 ghost use Rattle.intake_queue.specs.Ends.{next_parcel};
 
-use crate::intake::Intake;
+use crate::intake::{Intake, MAX_CAPACITY};
 use crate::parcel::Parcel;
 use crate::passes::{SenderPass, TakerPass};
 use crate::relay::pass_through;
@@ -25,7 +25,7 @@ struct Opened {
 }
 
 fn open_for_one(alloc: Global, capacity: usize) -> Result<Option<Opened>, AllocError>
-    requires { (1 ≤ capacity) × (capacity ≤ 65536) }
+    requires { (1 ≤ capacity) × (capacity ≤ MAX_CAPACITY) }
 {
     let (intake, mut senders, taker) = Intake::<Named>::open(alloc, 1, capacity)?;
     let Some(sender) = senders.pop() else {
@@ -230,7 +230,7 @@ struct Shared {
 }
 
 fn open_for_two(alloc: Global, capacity: usize) -> Result<Option<Shared>, AllocError>
-    requires { (1 ≤ capacity) × (capacity ≤ 65536) }
+    requires { (1 ≤ capacity) × (capacity ≤ MAX_CAPACITY) }
 {
     let (intake, mut senders, taker) = Intake::<Named>::open(alloc, 2, capacity)?;
     let Some(second) = senders.pop() else {

@@ -43,14 +43,21 @@ abbrev pub after_cut : Option CutData → List Entry → List Entry
 after_cut None xs = xs
 after_cut (Some c) xs = without_above c.lo xs
 
-pub next_view : (log : List Fact) (past : List Item) (old new : AliveRecords) (o : Option CutData) → first_cut log (old.view + 1) ≡ o → IsStack new → new.view ≡ old.view + 1 → stack_of new ≡ after_cut o (stack_of old) → Holds log past old → Holds log past new
+pub next_view : (log : List Fact) (past : List Item) (old new : AliveRecords) (o : Option CutData) → first_cut log (old.view + 1) ≡ o → IsStack new
+    → new.view ≡ old.view + 1 → stack_of new ≡ after_cut o (stack_of old) → Holds log past old → Holds log past new
 next_view log past old new None q k v s h = record {
   stack = k;
   falls = subst (IsRising NotBelow) (sym s) h.falls;
   known = λ t m. let l : t.epoch ≤ old.view = h.known t m in omega arith;
   each = λ x m.
-      let w = h.each x (subst (λ xs. Contains xs x) s m) in
-      (w.0, w.1, subst (λ i. IsAlive (counted log) i w.0.epoch w.0.number) (sym v) (alive_next (counted log) old.view w.0.epoch w.0.number w.2 (λ c p e. absurd (none-some c (sym q ∙ at_counted log (old.view + 1) c p e)))), w.3, w.4);
+      let w = h.each x (subst (λ xs. Contains xs x) s m) in (
+        w.0,
+        w.1,
+        subst (λ i. IsAlive (counted log) i w.0.epoch w.0.number) (sym v)
+            (alive_next (counted log) old.view w.0.epoch w.0.number w.2 (λ c p e. absurd (none-some c (sym q ∙ at_counted log (old.view + 1) c p e)))),
+        w.3,
+        w.4,
+      );
   all = λ t m a.
       let b = alive_before (counted log) old.view t.epoch t.number (h.known t m) (subst (λ i. IsAlive (counted log) i t.epoch t.number) v a) in
       let w = h.all t m b in
@@ -85,18 +92,37 @@ next_view log past old new (Some d) q k v s h = record {
 }
 
 -- one more record on top
-pub holds_push : (log : List Fact) (past : List Item) (old new : AliveRecords) (t : Item) (x : Entry) → x.number ≡ t.number → x.page ≡ t.page → IsStack new → new.view ≡ old.view → stack_of new ≡ x ∷ stack_of old → IsAlive (counted log) old.view t.epoch t.number → ((y : Entry) → Contains (stack_of old) y → y.number ≤ t.number) → Holds log past old → Holds log (past ++ t ∷ []) new
+pub holds_push : (log : List Fact) (past : List Item) (old new : AliveRecords) (t : Item) (x : Entry) → x.number ≡ t.number → x.page ≡ t.page → IsStack new
+    → new.view ≡ old.view → stack_of new ≡ x ∷ stack_of old → IsAlive (counted log) old.view t.epoch t.number
+    → ((y : Entry) → Contains (stack_of old) y → y.number ≤ t.number) → Holds log past old → Holds log (past ++ t ∷ []) new
 holds_push log past old new t x num pg k v s a above h = record {
   stack = k;
-  falls = subst (IsRising NotBelow) (sym s) (recursion_from_All (NotBelow x) (stack_of old) (All-weaker (Contains (stack_of old)) (NotBelow x) (λ y m. let l : y.number ≤ t.number = above y m in omega arith) (stack_of old) (All-contains_itself (stack_of old))), h.falls);
-  known = λ u m. ⊎_elim (λ (p : Contains past u). let l : u.epoch ≤ old.view = h.known u p in omega arith) (λ (p : Contains (t ∷ []) u). let e : t ≡ u = only p in let l : t.epoch ≤ old.view = a.known in let q : t.epoch ≡ u.epoch = ap (λ z. z.epoch) e in omega arith) (Contains-append_cases past (t ∷ []) u m);
+  falls = subst (IsRising NotBelow) (sym s) (
+    recursion_from_All (NotBelow x) (stack_of old)
+        (All-weaker (Contains (stack_of old)) (NotBelow x) (λ y m. let l : y.number ≤ t.number = above y m in omega arith) (stack_of old)
+        (All-contains_itself (stack_of old))),
+    h.falls,
+  );
+  known = λ u m. ⊎_elim (λ (p : Contains past u). let l : u.epoch ≤ old.view = h.known u p in omega arith)
+      (λ (p : Contains (t ∷ []) u). let e : t ≡ u = only p in let l : t.epoch ≤ old.view = a.known in let q : t.epoch ≡ u.epoch = ap (λ z. z.epoch) e in
+      omega arith) (Contains-append_cases past (t ∷ []) u m);
   each = λ y m. ⊎_elim
-      (λ (e : x ≡ y). (t, Contains-push past t, subst (λ i. IsAlive (counted log) i t.epoch t.number) (sym v) a, sym num ∙ ap (λ z. z.number) e, sym pg ∙ ap (λ z. z.page) e))
-      (λ (p : Contains (stack_of old) y). let w = h.each y p in (w.0, Contains-append_left past (t ∷ []) w.0 w.1, subst (λ i. IsAlive (counted log) i w.0.epoch w.0.number) (sym v) w.2, w.3, w.4))
+      (λ (e : x ≡ y). (
+        t,
+        Contains-push past t,
+        subst (λ i. IsAlive (counted log) i t.epoch t.number) (sym v) a,
+        sym num ∙ ap (λ z. z.number) e,
+        sym pg ∙ ap
+            (λ z. z.page) e,
+      ))
+      (λ (p : Contains (stack_of old) y). let w = h.each y p in
+      (w.0, Contains-append_left past (t ∷ []) w.0 w.1, subst (λ i. IsAlive (counted log) i w.0.epoch w.0.number) (sym v) w.2, w.3, w.4))
       (which x (stack_of old) y (subst (λ xs. Contains xs y) s m));
   all = λ u m b. ⊎_elim
-      (λ (p : Contains past u). let w = h.all u p (subst (λ i. IsAlive (counted log) i u.epoch u.number) v b) in (w.0, subst (λ xs. Contains xs w.0) (sym s) (there x (stack_of old) w.0 w.1), w.2, w.3))
-      (λ (p : Contains (t ∷ []) u). let e : t ≡ u = only p in (x, subst (λ xs. Contains xs x) (sym s) (here x (stack_of old)), num ∙ ap (λ z. z.number) e, pg ∙ ap (λ z. z.page) e))
+      (λ (p : Contains past u). let w = h.all u p (subst (λ i. IsAlive (counted log) i u.epoch u.number) v b) in
+      (w.0, subst (λ xs. Contains xs w.0) (sym s) (there x (stack_of old) w.0 w.1), w.2, w.3))
+      (λ (p : Contains (t ∷ []) u). let e : t ≡ u = only p in
+      (x, subst (λ xs. Contains xs x) (sym s) (here x (stack_of old)), num ∙ ap (λ z. z.number) e, pg ∙ ap (λ z. z.page) e))
       (Contains-append_cases past (t ∷ []) u m);
 }
   where
@@ -115,7 +141,9 @@ none_of None h = refl
 none_of (Some c) h = absurd (h c refl)
 
 -- numbers of a group are not below what went on the stack before
-pub top_or_below : (log : List Fact) (group : List Item) (s : AliveRecords) → CanFollow log group s → (t u : Item) → Contains group t → Contains group u → (old new : List Entry) (beneath : ℕ) → new ≡ record { number = t.number; page = t.page; beneath = beneath } ∷ old → ((y : Entry) → Contains old y → y.number ≤ u.number) → (x : Entry) → Contains new x → x.number ≤ u.number
+pub top_or_below : (log : List Fact) (group : List Item) (s : AliveRecords) → CanFollow log group s → (t u : Item) → Contains group t → Contains group u
+    → (old new : List Entry) (beneath : ℕ) → new ≡ record { number = t.number; page = t.page; beneath = beneath } ∷ old
+    → ((y : Entry) → Contains old y → y.number ≤ u.number) → (x : Entry) → Contains new x → x.number ≤ u.number
 top_or_below log group s f t u ht hu old new beneath e below x hx =
     let top : Entry = record { number = t.number; page = t.page; beneath = beneath } in
     ⊎_elim

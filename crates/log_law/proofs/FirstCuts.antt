@@ -22,7 +22,8 @@ use Rattle.log_law.specs.Lows.{AreLows}
 use Rattle.log_law.proofs.Reaching.{past_low, low_past}
 
 -- the first of two lists together
-append_at : (e : ℕ) (c : CutData) (cs ds : List CutData) (b : Bool) → first_at e (cs ++ ds) ≡ or_first (first_at e cs) (first_at e ds) → cond b (Some c) (first_at e (cs ++ ds)) ≡ or_first (cond b (Some c) (first_at e cs)) (first_at e ds)
+append_at : (e : ℕ) (c : CutData) (cs ds : List CutData) (b : Bool) → first_at e (cs ++ ds) ≡ or_first (first_at e cs) (first_at e ds)
+    → cond b (Some c) (first_at e (cs ++ ds)) ≡ or_first (cond b (Some c) (first_at e cs)) (first_at e ds)
 append_at e c cs ds true ih = refl
 append_at e c cs ds false ih = ih
 
@@ -53,7 +54,8 @@ no_first (Cut c) e h = absurd (h c refl)
 no_first (Advance a) e h = refl
 
 -- the first of an epoch is of that epoch
-epoch_at : (e : ℕ) (d : CutData) (ds : List CutData) (c : CutData) (b : Bool) → (d.epoch == e) ≡ b → (first_at e ds ≡ Some c → c.epoch ≡ e) → cond b (Some d) (first_at e ds) ≡ Some c → c.epoch ≡ e
+epoch_at : (e : ℕ) (d : CutData) (ds : List CutData) (c : CutData) (b : Bool) → (d.epoch == e) ≡ b → (first_at e ds ≡ Some c → c.epoch ≡ e)
+    → cond b (Some d) (first_at e ds) ≡ Some c → c.epoch ≡ e
 epoch_at e d ds c true t ih h = let q : d ≡ c = same_Some d c h in ap (λ x. x.epoch) (sym q) ∙ eqb-true d.epoch e t
 epoch_at e d ds c false t ih h = ih h
 
@@ -76,8 +78,10 @@ counted_first (d ∷ ds) c h =
     (counted_first ds c old.0))
     (which d _ c h)
 
-first_counted_at : (d : CutData) (ds : List CutData) (c : CutData) (b : Bool) → (d.epoch == c.epoch) ≡ b → (first_at c.epoch ds ≡ Some c → Contains (first_cuts ds) c) → cond b (Some d) (first_at c.epoch ds) ≡ Some c → Contains (first_cuts (d ∷ ds)) c
-first_counted_at d ds c true t ih h = let q : d ≡ c = same_Some d c h in subst (λ x. Contains (x ∷ filter (λ y. not (y.epoch == d.epoch)) (first_cuts ds)) c) (sym q) (here c _)
+first_counted_at : (d : CutData) (ds : List CutData) (c : CutData) (b : Bool) → (d.epoch == c.epoch) ≡ b
+    → (first_at c.epoch ds ≡ Some c → Contains (first_cuts ds) c) → cond b (Some d) (first_at c.epoch ds) ≡ Some c → Contains (first_cuts (d ∷ ds)) c
+first_counted_at d ds c true t ih h = let q : d ≡ c = same_Some d c h in subst (λ x. Contains (x ∷ filter (λ y. not (y.epoch == d.epoch)) (first_cuts ds)) c)
+    (sym q) (here c _)
 first_counted_at d ds c false t ih h =
     there d _ c (passed (λ x. not (x.epoch == d.epoch)) (first_cuts ds) c
     (let ne : c.epoch ≢ d.epoch = λ q. eqb-false d.epoch c.epoch t (sym q) in grind (arith, nat_tests)) (ih h))
@@ -99,7 +103,8 @@ pub at_counted : (log : List Fact) (e : ℕ) (c : CutData) → Contains (counted
 at_counted log e c h q = subst (λ k. first_cut log k ≡ Some c) q ((counted_is log c).0 h)
 
 -- what counts is among the truncations
-first_among_at : (e : ℕ) (d : CutData) (ds : List CutData) (c : CutData) (b : Bool) → (first_at e ds ≡ Some c → Contains ds c) → cond b (Some d) (first_at e ds) ≡ Some c → Contains (d ∷ ds) c
+first_among_at : (e : ℕ) (d : CutData) (ds : List CutData) (c : CutData) (b : Bool) → (first_at e ds ≡ Some c → Contains ds c)
+    → cond b (Some d) (first_at e ds) ≡ Some c → Contains (d ∷ ds) c
 first_among_at e d ds c true ih h = subst (λ x. Contains (x ∷ ds) c) (sym (same_Some d c h)) (here c ds)
 first_among_at e d ds c false ih h = there d ds c (ih h)
 
@@ -115,7 +120,8 @@ pub table_nil : (table : List (Option CutData)) → length table ≡ 65536 → (
 unfolding cuts
 table_nil table l h = record { len = l; at = λ e. h e; shapes = λ c k. absurd (none_in c k) }
 
-pub table_other : (xs : List Fact) (f : Fact) (table : List (Option CutData)) → IsTable xs table → ((c : CutData) → f ≡ Cut c → ⊥) → IsTable (xs ++ f ∷ []) table
+pub table_other : (xs : List Fact) (f : Fact) (table : List (Option CutData)) → IsTable xs table → ((c : CutData) → f ≡ Cut c → ⊥)
+    → IsTable (xs ++ f ∷ []) table
 table_other xs f table t h = record {
   len = t.len;
   at = λ e. t.at e ∙ sym (first_cut-append xs (f ∷ []) e ∙ ap (or_first (first_cut xs e)) (no_first f e h) ∙ or_none (first_cut xs e));
@@ -125,13 +131,16 @@ table_other xs f table t h = record {
       (Contains-append_cases xs (f ∷ []) (Cut c) ((cut_in (xs ++ f ∷ []) c).0 k));
 }
 
-pub table_cut : (xs : List Fact) (f : Fact) (c : CutData) (old new : List (Option CutData)) → f ≡ Cut c → cut_fault c ≡ None → IsTable xs old → length new ≡ 65536 → ((e : ℕ) → get_or new e None ≡ or_first (get_or old e None) (first_at e (c ∷ []))) → IsTable (xs ++ f ∷ []) new
+pub table_cut : (xs : List Fact) (f : Fact) (c : CutData) (old new : List (Option CutData)) → f ≡ Cut c → cut_fault c ≡ None → IsTable xs old
+    → length new ≡ 65536 → ((e : ℕ) → get_or new e None ≡ or_first (get_or old e None) (first_at e (c ∷ []))) → IsTable (xs ++ f ∷ []) new
 table_cut xs f c old new q le t l h = record {
   len = l;
-  at = λ e. h e ∙ ap (λ o. or_first o (first_at e (c ∷ []))) (t.at e) ∙ sym (first_cut-append xs (f ∷ []) e ∙ ap (or_first (first_cut xs e)) (ap (λ g. first_cut (g ∷ []) e) q ∙ first_cut-one c e));
+  at = λ e. h e ∙ ap (λ o. or_first o (first_at e (c ∷ []))) (t.at e) ∙ sym
+      (first_cut-append xs (f ∷ []) e ∙ ap (or_first (first_cut xs e)) (ap (λ g. first_cut (g ∷ []) e) q ∙ first_cut-one c e));
   shapes = λ d k. ⊎_elim
       (λ (p : Contains xs (Cut d)). t.shapes d ((cut_in xs d).1 p))
-      (λ (p : Contains (f ∷ []) (Cut d)). ⊎_elim (λ (e : f ≡ Cut d). let s : Cut c ≡ Cut d = sym q ∙ e in let u : c ≡ d = cc in subst (λ x. cut_fault x ≡ None) u le) (λ (n : Contains [] (Cut d)). absurd (none_in (Cut d) n)) (which f [] (Cut d) p))
+      (λ (p : Contains (f ∷ []) (Cut d)). ⊎_elim (λ (e : f ≡ Cut d). let s : Cut c ≡ Cut d = sym q ∙ e in let u : c ≡ d = cc in
+      subst (λ x. cut_fault x ≡ None) u le) (λ (n : Contains [] (Cut d)). absurd (none_in (Cut d) n)) (which f [] (Cut d) p))
       (Contains-append_cases xs (f ∷ []) (Cut d) ((cut_in (xs ++ f ∷ []) d).0 k));
 }
 
@@ -149,7 +158,8 @@ begun_to log k h e l m =
     let c = counted_at log e s.0 s.1 in
     (s.0, c.0, c.1)
 
-pub is_begun : (log : List Fact) (k : ℕ) → ((e : ℕ) → 1 ≤ e → e ≤ k → first_cut log e ≡ None → ⊥) → (k + 1 < 65536 → first_cut log (k + 1) ≡ None) → IsBegun log k
+pub is_begun : (log : List Fact) (k : ℕ) → ((e : ℕ) → 1 ≤ e → e ≤ k → first_cut log e ≡ None → ⊥) → (k + 1 < 65536 → first_cut log (k + 1) ≡ None)
+    → IsBegun log k
 is_begun log k has stop e small = (
   λ h. ⊎_elim
       (λ (l : k < e). absurd (
@@ -161,7 +171,8 @@ is_begun log k has stop e small = (
 )
 
 -- the least later lo of the last epoch, and of the one before
-pub later_lo_last : (roster : ℕ) (log : List Fact) (table : List (Option CutData)) (later : ℕ) → IsTable log table → later ≡ 281474976710655 → IsLeastLaterLo roster log 65535 later
+pub later_lo_last : (roster : ℕ) (log : List Fact) (table : List (Option CutData)) (later : ℕ) → IsTable log table → later ≡ 281474976710655
+    → IsLeastLaterLo roster log 65535 later
 later_lo_last roster log table later t q = record {
   below = λ c h l past. absurd (none-some c (sym (outside c l) ∙ t.at c.epoch ∙ at_counted log c.epoch c h refl));
   least = inl q;
@@ -170,8 +181,10 @@ later_lo_last roster log table later t q = record {
     outside : (c : CutData) → 65535 < c.epoch → get_or table c.epoch None ≡ None
     outside c l = get_or_past table c.epoch None (let n : length table ≡ 65536 = t.len in omega arith)
 
-pub later_lo_step : (roster : ℕ) (log : List Fact) (lows : List ℕ) (e old new : ℕ) (o : Option CutData) → e + 1 < 65536 → AreLows roster log lows → first_cut log (e + 1) ≡ o → IsLeastLaterLo roster log (e + 1) old
-    → MatchOption o (new ≡ old) (λ c. (c.lo < get_or lows (e + 1) 0 → new ≤ c.lo) × (new ≤ old) × ((new ≡ old) ⊎ ((c.lo < get_or lows (e + 1) 0) × (new ≡ c.lo)))) → IsLeastLaterLo roster log e new
+pub later_lo_step : (roster : ℕ) (log : List Fact) (lows : List ℕ) (e old new : ℕ) (o : Option CutData) → e + 1 < 65536 → AreLows roster log lows
+    → first_cut log (e + 1) ≡ o → IsLeastLaterLo roster log (e + 1) old
+    → MatchOption o (new ≡ old) (λ c. (c.lo < get_or lows (e + 1) 0 → new ≤ c.lo) × (new ≤ old)
+    × ((new ≡ old) ⊎ ((c.lo < get_or lows (e + 1) 0) × (new ≡ c.lo)))) → IsLeastLaterLo roster log e new
 later_lo_step roster log lows e old new None small a q f h = record {
   below = λ c k l past. ⊎_elim
       (λ (s : c.epoch ≡ e + 1). absurd (none-some c (sym q ∙ at_counted log (e + 1) c k s)))
@@ -192,13 +205,16 @@ later_lo_step roster log lows e old new (Some d) small a q f h =
           (λ (s : c.epoch ≢ e + 1). let v : old ≤ c.lo = f.below c k (omega arith) past in omega arith)
           (cases_eq c.epoch (e + 1));
       least = ⊎_elim
-          (λ (s : new ≡ old). ⊎_elim (λ (t : old ≡ 281474976710655). inl (s ∙ t)) (λ t. inr (t.0, t.1, (let l : e + 1 < t.0.epoch = t.2 in omega arith), t.3, t.4 ∙ sym s)) f.least)
-          (λ (s : (d.lo < get_or lows (e + 1) 0) × (new ≡ d.lo)). inr (d, here.0, omega arith, low_past roster log lows d a (omega arith) (subst (λ i. d.lo < get_or lows i 0) (sym ep) s.0), sym s.1))
+          (λ (s : new ≡ old). ⊎_elim (λ (t : old ≡ 281474976710655). inl (s ∙ t))
+          (λ t. inr (t.0, t.1, (let l : e + 1 < t.0.epoch = t.2 in omega arith), t.3, t.4 ∙ sym s)) f.least)
+          (λ (s : (d.lo < get_or lows (e + 1) 0) × (new ≡ d.lo)). inr
+          (d, here.0, omega arith, low_past roster log lows d a (omega arith) (subst (λ i. d.lo < get_or lows i 0) (sym ep) s.0), sym s.1))
           h.2;
     }
 
 -- what a description decides
-pub law2_at : (log : List Fact) (r : RecordData) (o : Option CutData) (b : Bool) → first_cut log r.epoch ≡ o → MatchOption o (b ≡ true) (λ c. (b ≡ true) ↔ (c.hi < r.number)) → HasCutsTo (counted log) r.epoch → (b ≡ true) ↔ Law2 log (Record r)
+pub law2_at : (log : List Fact) (r : RecordData) (o : Option CutData) (b : Bool) → first_cut log r.epoch ≡ o
+    → MatchOption o (b ≡ true) (λ c. (b ≡ true) ↔ (c.hi < r.number)) → HasCutsTo (counted log) r.epoch → (b ≡ true) ↔ Law2 log (Record r)
 law2_at log r None b q h has = (λ _. (has, λ c k e. absurd (none-some c (sym q ∙ at_counted log r.epoch c k e))), λ _. h)
 law2_at log r (Some d) b q h has = (
   λ t. (has, λ c k e. let u : d ≡ c = same_Some d c (sym q ∙ at_counted log r.epoch c k e) in subst (λ x. x.hi < r.number) u (h.0 t)),
@@ -208,10 +224,12 @@ law2_at log r (Some d) b q h has = (
 pub law2_not : (log : List Fact) (r : RecordData) (k : ℕ) → IsBegun log k → r.epoch < 65536 → k < r.epoch → Law2 log (Record r) → ⊥
 law2_not log r k b small l law = let m : r.epoch ≤ k = (b r.epoch small).0 law.0 in absurd (omega arith)
 
-pub law5_at : (roster : ℕ) (log : List Fact) (a : AdvanceData) (later : ℕ) → IsLeastLaterLo roster log a.epoch later → a.point ≤ 281474976710655 → IsReader roster a.reader → HasCutsTo (counted log) a.epoch → (a.point ≤ later) ↔ Law5 roster log (Advance a)
+pub law5_at : (roster : ℕ) (log : List Fact) (a : AdvanceData) (later : ℕ) → IsLeastLaterLo roster log a.epoch later → a.point ≤ 281474976710655
+    → IsReader roster a.reader → HasCutsTo (counted log) a.epoch → (a.point ≤ later) ↔ Law5 roster log (Advance a)
 law5_at roster log a later f small reader has = (
   λ l. (reader, has, λ c k m past. let b : later ≤ c.lo = f.below c k m past in omega arith),
-  λ law. ⊎_elim (λ (t : later ≡ 281474976710655). omega arith) (λ s. let b : a.point ≤ s.0.lo = law.2 s.0 s.1 s.2 s.3 in let q : s.0.lo ≡ later = s.4 in omega arith) f.least,
+  λ law. ⊎_elim (λ (t : later ≡ 281474976710655). omega arith) (λ s. let b : a.point ≤ s.0.lo = law.2 s.0 s.1 s.2 s.3 in let q : s.0.lo ≡ later = s.4 in
+      omega arith) f.least,
 )
 
 -- an item of a table
@@ -226,8 +244,10 @@ not_some : (o : Option CutData) → is_some o ≡ false → o ≡ None
 not_some None s = refl
 not_some (Some c) s = absurd (cc)
 
-pub some_item : (table : List (Option CutData)) (i : ℕ) (o : Option CutData) → i < length table → o ≡ get_or table i o → is_some o ≡ true → get_or table i None ≡ None → ⊥
+pub some_item : (table : List (Option CutData)) (i : ℕ) (o : Option CutData) → i < length table → o ≡ get_or table i o → is_some o ≡ true
+    → get_or table i None ≡ None → ⊥
 some_item table i o l q s n = some_not o s (sym (read_item table i o l q) ∙ n)
 
-pub none_item : (table : List (Option CutData)) (i : ℕ) (o : Option CutData) → i < length table → o ≡ get_or table i o → is_some o ≡ false → get_or table i None ≡ None
+pub none_item : (table : List (Option CutData)) (i : ℕ) (o : Option CutData) → i < length table → o ≡ get_or table i o → is_some o ≡ false
+    → get_or table i None ≡ None
 none_item table i o l q s = read_item table i o l q ∙ not_some o s

@@ -27,21 +27,25 @@ pub one_redo : (log : List Fact) (p : ℕ) (r s : RecordData) → slice_get log 
 one_redo log p r s a b = same_redo r s (same_Some (Record r) (Record s) (sym a ∙ b))
 
 -- one more fact of the log
-pub more_item : (log : List Fact) (p : ℕ) (items : List Item) (t : Item) → AreItemsTo log p items → IsItem log t → t.place ≡ p → AreItemsTo log (p + 1) (items ++ t ∷ [])
+pub more_item : (log : List Fact) (p : ℕ) (items : List Item) (t : Item) → AreItemsTo log p items → IsItem log t → t.place ≡ p
+    → AreItemsTo log (p + 1) (items ++ t ∷ [])
 more_item log p items t h it e = record {
-  each = λ u m. ⊎_elim (λ (k : Contains items u). h.each u k) (λ (k : Contains (t ∷ []) u). subst (IsItem log) (only t u k) it) (Contains-append_cases items (t ∷ []) u m);
+  each = λ u m. ⊎_elim (λ (k : Contains items u). h.each u k) (λ (k : Contains (t ∷ []) u). subst (IsItem log) (only t u k) it)
+      (Contains-append_cases items (t ∷ []) u m);
   all = λ q r l s law. ⊎_elim
       (λ (k : q < p). let w = h.all q r k s law in (w.0, Contains-append_left items (t ∷ []) w.0 w.1, w.2))
       (λ (k : p ≤ q). (t, Contains-push items t, (let same : q ≡ p = omega arith in e ∙ sym same)))
       (cases_lt q p);
 }
 
-pub no_item : (log : List Fact) (p : ℕ) (items : List Item) (f : Fact) → AreItemsTo log p items → slice_get log p ≡ Some f → ((r : RecordData) → f ≡ Record r → Law2 log (Record r) → ⊥) → AreItemsTo log (p + 1) items
+pub no_item : (log : List Fact) (p : ℕ) (items : List Item) (f : Fact) → AreItemsTo log p items → slice_get log p ≡ Some f
+    → ((r : RecordData) → f ≡ Record r → Law2 log (Record r) → ⊥) → AreItemsTo log (p + 1) items
 no_item log p items f h at not' = record {
   each = h.each;
   all = λ q r l s law. ⊎_elim
       (λ (k : q < p). h.all q r k s law)
-      (λ (k : p ≤ q). let same : q ≡ p = omega arith in absurd (not' r (same_Some f (Record r) (sym at ∙ subst (λ i. slice_get log i ≡ Some (Record r)) same s)) law))
+      (λ (k : p ≤ q). let same : q ≡ p = omega arith in
+      absurd (not' r (same_Some f (Record r) (sym at ∙ subst (λ i. slice_get log i ≡ Some (Record r)) same s)) law))
       (cases_lt q p);
 }
 
@@ -52,33 +56,40 @@ reordered log items sorted p h = record {
 }
 
 -- one more item: its links are right, or it is the least so far, or it comes later
-pub least_kept : (log : List Fact) (past : List Item) (t : Item) (least : Option BrokenLink) → IsLeastBroken log past least → JudgesItem log t None → IsLeastBroken log (past ++ t ∷ []) least
+pub least_kept : (log : List Fact) (past : List Item) (t : Item) (least : Option BrokenLink) → IsLeastBroken log past least → JudgesItem log t None
+    → IsLeastBroken log (past ++ t ∷ []) least
 least_kept log past t None h j = λ u m. ⊎_elim (h u) (λ k. subst (λ v. JudgesItem log v None) (only t u k) j) (Contains-append_cases past (t ∷ []) u m)
 least_kept log past t (Some b) h j = (
   λ u m l. ⊎_elim (λ k. h.0 u k l) (λ k. subst (λ v. JudgesItem log v None) (only t u k) j) (Contains-append_cases past (t ∷ []) u m),
   (h.1.0, Contains-append_left past (t ∷ []) h.1.0 h.1.1, h.1.2, h.1.3),
 )
 
-pub least_later : (log : List Fact) (past : List Item) (t : Item) (b : BrokenLink) → IsLeastBroken log past (Some b) → b.place ≤ t.place → IsLeastBroken log (past ++ t ∷ []) (Some b)
+pub least_later : (log : List Fact) (past : List Item) (t : Item) (b : BrokenLink) → IsLeastBroken log past (Some b) → b.place ≤ t.place
+    → IsLeastBroken log (past ++ t ∷ []) (Some b)
 least_later log past t b h le = (
-  λ u m l. ⊎_elim (λ k. h.0 u k l) (λ k. absurd (let e : t.place ≡ u.place = ap (λ v. v.place) (only t u k) in omega arith)) (Contains-append_cases past (t ∷ []) u m),
+  λ u m l. ⊎_elim (λ k. h.0 u k l) (λ k. absurd (let e : t.place ≡ u.place = ap (λ v. v.place) (only t u k) in omega arith))
+      (Contains-append_cases past (t ∷ []) u m),
   (h.1.0, Contains-append_left past (t ∷ []) h.1.0 h.1.1, h.1.2, h.1.3),
 )
 
-pub least_first : (log : List Fact) (past : List Item) (t : Item) (b : BrokenLink) → IsLeastBroken log past None → t.place ≡ b.place → JudgesItem log t (Some b.law) → IsLeastBroken log (past ++ t ∷ []) (Some b)
+pub least_first : (log : List Fact) (past : List Item) (t : Item) (b : BrokenLink) → IsLeastBroken log past None → t.place ≡ b.place
+    → JudgesItem log t (Some b.law) → IsLeastBroken log (past ++ t ∷ []) (Some b)
 least_first log past t b h e j = (
   λ u m l. ⊎_elim (h u) (λ k. absurd (let s : t.place ≡ u.place = ap (λ v. v.place) (only t u k) in omega arith)) (Contains-append_cases past (t ∷ []) u m),
   (t, Contains-push past t, e, j),
 )
 
-pub least_new : (log : List Fact) (past : List Item) (t : Item) (known b : BrokenLink) → IsLeastBroken log past (Some known) → b.place < known.place → t.place ≡ b.place → JudgesItem log t (Some b.law) → IsLeastBroken log (past ++ t ∷ []) (Some b)
+pub least_new : (log : List Fact) (past : List Item) (t : Item) (known b : BrokenLink) → IsLeastBroken log past (Some known) → b.place < known.place
+    → t.place ≡ b.place → JudgesItem log t (Some b.law) → IsLeastBroken log (past ++ t ∷ []) (Some b)
 least_new log past t known b h lt e j = (
-  λ u m l. ⊎_elim (λ k. h.0 u k (omega arith)) (λ k. absurd (let s : t.place ≡ u.place = ap (λ v. v.place) (only t u k) in omega arith)) (Contains-append_cases past (t ∷ []) u m),
+  λ u m l. ⊎_elim (λ k. h.0 u k (omega arith)) (λ k. absurd (let s : t.place ≡ u.place = ap (λ v. v.place) (only t u k) in omega arith))
+      (Contains-append_cases past (t ∷ []) u m),
   (t, Contains-push past t, e, j),
 )
 
 -- the least of the items is the least of the log
-pub least_of_log : (log : List Fact) (items : List Item) (least : Option BrokenLink) → AreItems log items → IsLeastBroken log items least → IsFirstBrokenLink log least
+pub least_of_log : (log : List Fact) (items : List Item) (least : Option BrokenLink) → AreItems log items → IsLeastBroken log items least
+    → IsFirstBrokenLink log least
 least_of_log log items None a h = λ p r at law.
     let w = a.all p r (slice_get_within log p (Record r) at) at law in
     h w.0 w.1 r (subst (λ i. slice_get log i ≡ Some (Record r)) (sym w.2) at)

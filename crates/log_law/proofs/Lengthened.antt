@@ -37,7 +37,8 @@ last_place log f =
     let n : length (log ++ f ∷ []) ≡ length log + 1 = length-append log (f ∷ []) in
     slice_get-get_or (log ++ f ∷ []) (length log) f (omega arith) ∙ ap Some (get_or-append_seam log f [] f)
 
-pub place_cases : (log : List Fact) (f g : Fact) (p : ℕ) → slice_get (log ++ f ∷ []) p ≡ Some g → ((p < length log) × (slice_get log p ≡ Some g)) ⊎ ((p ≡ length log) × (f ≡ g))
+pub place_cases : (log : List Fact) (f g : Fact) (p : ℕ) → slice_get (log ++ f ∷ []) p ≡ Some g → ((p < length log) × (slice_get log p ≡ Some g))
+    ⊎ ((p ≡ length log) × (f ≡ g))
 place_cases log f g p h =
     let n : length (log ++ f ∷ []) ≡ length log + 1 = length-append log (f ∷ []) in
     let m : p < length (log ++ f ∷ []) = slice_get_within (log ++ f ∷ []) p g h in
@@ -51,7 +52,8 @@ place_cases log f g p h =
 -- members of a longer log
 pub in_longer : (log : List Fact) (f g : Fact) → Contains (log ++ f ∷ []) g → Contains log g ⊎ (f ≡ g)
 in_longer log f g h =
-    ⊎_elim inl (λ (k : Contains (f ∷ []) g). inr (⊎_elim (λ (e : f ≡ g). e) (λ (n : Contains [] g). absurd (none_in g n)) (which f [] g k))) (Contains-append_cases log (f ∷ []) g h)
+    ⊎_elim inl (λ (k : Contains (f ∷ []) g). inr (⊎_elim (λ (e : f ≡ g). e) (λ (n : Contains [] g). absurd (none_in g n)) (which f [] g k)))
+    (Contains-append_cases log (f ∷ []) g h)
 
 pub record_cases : (log : List Fact) (f : Fact) (r : RecordData) → Contains (records (log ++ f ∷ [])) r → Contains (records log) r ⊎ (f ≡ Record r)
 record_cases log f r h = ⊎_elim (λ k. inl ((record_in log r).1 k)) inr (in_longer log f (Record r) ((record_in (log ++ f ∷ []) r).0 h))
@@ -112,21 +114,33 @@ KeepsRest roster log f = Law2 log f × Law3 log f × Law4 log f × Law5 roster l
 pub rest_of : {roster : ℕ} (log : List Fact) (p : ℕ) (f : Fact) → KeepsLaws roster log p f → KeepsRest roster log f
 rest_of log p f k = (k.law2, k.law3, k.law4, k.law5)
 
-keeps_push : {roster : ℕ} (log : List Fact) (f : Fact) → IsSound roster log → ((g : Fact) → Contains log g → KeepsRest roster log g → KeepsRest roster (log ++ f ∷ []) g) → HasShape f → Law1 log f → KeepsRest roster (log ++ f ∷ []) f → (p : ℕ) (g : Fact) → slice_get (log ++ f ∷ []) p ≡ Some g → KeepsLaws roster (log ++ f ∷ []) p g
+keeps_push : {roster : ℕ} (log : List Fact) (f : Fact) → IsSound roster log
+    → ((g : Fact) → Contains log g → KeepsRest roster log g → KeepsRest roster (log ++ f ∷ []) g) → HasShape f → Law1 log f → KeepsRest roster (log ++ f ∷ []) f
+    → (p : ℕ) (g : Fact) → slice_get (log ++ f ∷ []) p ≡ Some g → KeepsLaws roster (log ++ f ∷ []) p g
 keeps_push {roster} log f sound keep shape law1 rest p g h =
     ⊎_elim
     (λ (o : (p < length log) × (slice_get log p ≡ Some g)).
     let l : p < length log = o.0 in
     let k = sound.keeps p g o.1 in
     let n = keep g (p, o.0, get_or_from_slice_get log p g g o.1) (rest_of log p g k) in
-    record { shape = k.shape; law1 = subst (λ xs. Law1 xs g) (sym (take-append-le p log (f ∷ []) (omega arith))) k.law1; law2 = n.0; law3 = n.1; law4 = n.2; law5 = n.3 })
+    record {
+      shape = k.shape;
+      law1 = subst (λ xs. Law1 xs g) (sym (take-append-le p log (f ∷ []) (omega arith))) k.law1;
+      law2 = n.0;
+      law3 = n.1;
+      law4 = n.2;
+      law5 = n.3;
+    })
     (λ (o : (p ≡ length log) × (f ≡ g)).
     let e : p ≡ length log = o.0 in
     let whole : take p (log ++ f ∷ []) ≡ log = take-append-le p log (f ∷ []) (omega arith) ∙ take_all p log (omega arith) in
-    subst (KeepsLaws roster (log ++ f ∷ []) p) o.1 (record { shape = shape; law1 = subst (λ xs. Law1 xs f) (sym whole) law1; law2 = rest.0; law3 = rest.1; law4 = rest.2; law5 = rest.3 }))
+    subst (KeepsLaws roster (log ++ f ∷ []) p) o.1
+    (record { shape = shape; law1 = subst (λ xs. Law1 xs f) (sym whole) law1; law2 = rest.0; law3 = rest.1; law4 = rest.2; law5 = rest.3 }))
     (place_cases log f g p h)
 
-pub sound_push : {roster : ℕ} (log : List Fact) (f : Fact) → IsSound roster log → ((g : Fact) → Contains log g → KeepsRest roster log g → KeepsRest roster (log ++ f ∷ []) g) → HasShape f → Law1 log f → KeepsRest roster (log ++ f ∷ []) f → IsSound roster (log ++ f ∷ [])
+pub sound_push : {roster : ℕ} (log : List Fact) (f : Fact) → IsSound roster log
+    → ((g : Fact) → Contains log g → KeepsRest roster log g → KeepsRest roster (log ++ f ∷ []) g) → HasShape f → Law1 log f → KeepsRest roster (log ++ f ∷ []) f
+    → IsSound roster (log ++ f ∷ [])
 sound_push log f sound keep shape law1 rest = record { readers = sound.readers; keeps = λ p g h. keeps_push log f sound keep shape law1 rest p g h }
 
 -- A longer log has the same truncations up to a view. None of the others, nor of these, has all readers past it that were not.
@@ -135,7 +149,9 @@ pub record Extends (roster : ℕ) (log longer : List Fact) (view : ℕ) : Type 0
   pub down : (c : CutData) → Contains (counted longer) c → c.epoch ≤ view → Contains (counted log) c
   pub passed : (c : CutData) → Contains (counted longer) c → ArePast roster (advances longer) c → Contains (counted log) c × ArePast roster (advances log) c
 
-pub extends_other : {roster : ℕ} (log : List Fact) (f : Fact) (view : ℕ) → ((c : CutData) → f ≡ Cut c → ⊥) → ((c : CutData) → Contains (counted log) c → c.epoch ≤ view) → ((a : AdvanceData) → f ≡ Advance a → a.epoch ≡ view) → Extends roster log (log ++ f ∷ []) view
+pub extends_other : {roster : ℕ} (log : List Fact) (f : Fact) (view : ℕ) → ((c : CutData) → f ≡ Cut c → ⊥)
+    → ((c : CutData) → Contains (counted log) c → c.epoch ≤ view) → ((a : AdvanceData) → f ≡ Advance a → a.epoch ≡ view)
+    → Extends roster log (log ++ f ∷ []) view
 extends_other log f view other upto late = record {
   up = λ c h. counted_longer log f c h;
   down = λ c h l. is_old c h;
@@ -157,11 +173,13 @@ extends_other log f view other upto late = record {
 cut_eq : (c d : CutData) → Cut c ≡ Cut d → c ≡ d
 cut_eq c d e = cc
 
-pub extends_cut : {roster : ℕ} (log : List Fact) (c : CutData) (view : ℕ) → view < c.epoch → (ArePast roster (advances log) c → ⊥) → Extends roster log (log ++ Cut c ∷ []) view
+pub extends_cut : {roster : ℕ} (log : List Fact) (c : CutData) (view : ℕ) → view < c.epoch → (ArePast roster (advances log) c → ⊥)
+    → Extends roster log (log ++ Cut c ∷ []) view
 extends_cut {roster} log c view after free = record {
   up = λ d h. counted_longer log (Cut c) d h;
   down = λ d h l. ⊎_elim (λ k. k) (λ e. absurd (let q : c.epoch ≡ d.epoch = ap (λ x. x.epoch) (cut_eq c d e) in omega arith)) (counted_cases log (Cut c) d h);
-  passed = λ d h past. ⊎_elim (λ k. (k, back d past)) (λ e. absurd (free (subst (ArePast roster (advances log)) (sym (cut_eq c d e)) (back d past)))) (counted_cases log (Cut c) d h);
+  passed = λ d h past. ⊎_elim (λ k. (k, back d past)) (λ e. absurd (free (subst (ArePast roster (advances log)) (sym (cut_eq c d e)) (back d past))))
+      (counted_cases log (Cut c) d h);
 }
   where
     back : (d : CutData) → ArePast roster (advances (log ++ Cut c ∷ [])) d → ArePast roster (advances log) d
@@ -169,41 +187,64 @@ extends_cut {roster} log c view after free = record {
         let s = past reader r in
         (s.0, ⊎_elim (λ m. m) (λ (e : Cut c ≡ Advance s.0). absurd (cc)) (advance_cases log (Cut c) s.0 s.1), s.2, s.3, s.4)
 
-pub alive_longer : {roster : ℕ} (log longer : List Fact) (view v e n : ℕ) → Extends roster log longer view → v ≤ view → IsAlive (counted log) v e n → IsAlive (counted longer) v e n
+pub alive_longer : {roster : ℕ} (log longer : List Fact) (view v e n : ℕ) → Extends roster log longer view → v ≤ view → IsAlive (counted log) v e n
+    → IsAlive (counted longer) v e n
 alive_longer log longer view v e n x l a = record {
   known = a.known;
   begun = λ c h q. a.begun c (x.down c h (let k : e ≤ v = a.known in omega arith)) q;
   spared = λ c h p q. a.spared c (x.down c h (omega arith)) p q;
 }
 
-pub alive_shorter : {roster : ℕ} (log longer : List Fact) (view v e n : ℕ) → Extends roster log longer view → IsAlive (counted longer) v e n → IsAlive (counted log) v e n
+pub alive_shorter : {roster : ℕ} (log longer : List Fact) (view v e n : ℕ) → Extends roster log longer view → IsAlive (counted longer) v e n
+    → IsAlive (counted log) v e n
 alive_shorter log longer view v e n x a = record { known = a.known; begun = λ c h. a.begun c (x.up c h); spared = λ c h. a.spared c (x.up c h) }
 
-pub has_cuts_longer : {roster : ℕ} (log longer : List Fact) (view e : ℕ) → Extends roster log longer view → HasCutsTo (counted log) e → HasCutsTo (counted longer) e
+pub has_cuts_longer : {roster : ℕ} (log longer : List Fact) (view e : ℕ) → Extends roster log longer view → HasCutsTo (counted log) e
+    → HasCutsTo (counted longer) e
 has_cuts_longer log longer view e x h i l m = let s = h i l m in (s.0, x.up s.0 s.1, s.2)
 
 greatest_as : (P Q : ℕ → Type 0) (n : ℕ) → ((m : ℕ) → P m → Q m) → ((m : ℕ) → Q m → P m) → IsGreatest P n → IsGreatest Q n
 greatest_as P Q n f g h = (⊎_elim inl (λ p. inr (f n p)) h.0, λ m q. h.1 m (g m q))
 
 -- what a fact of the log keeps, it keeps in the longer log
-pub record_keeps : {roster : ℕ} (log longer : List Fact) (view : ℕ) (r : RecordData) → Extends roster log longer view → ((o : RecordData) → Contains (records log) o → Contains (records longer) o) → ((o : RecordData) → Contains (records longer) o → IsAlive (counted longer) r.epoch o.epoch o.number → o.number < r.number → Contains (records log) o) → r.epoch ≤ view → KeepsRest roster log (Record r) → KeepsRest roster longer (Record r)
+pub record_keeps : {roster : ℕ} (log longer : List Fact) (view : ℕ) (r : RecordData) → Extends roster log longer view
+    → ((o : RecordData) → Contains (records log) o → Contains (records longer) o)
+    → ((o : RecordData) → Contains (records longer) o → IsAlive (counted longer) r.epoch o.epoch o.number → o.number < r.number → Contains (records log) o)
+    → r.epoch ≤ view → KeepsRest roster log (Record r) → KeepsRest roster longer (Record r)
 record_keeps log longer view r x more fresh l k = (
   (has_cuts_longer log longer view r.epoch x k.0.0, λ c h e. k.0.1 c (x.down c h (omega arith)) e),
-  greatest_as (IsAliveBelow log r (λ s. Unit {0})) (IsAliveBelow longer r (λ s. Unit {0})) r.back (λ m b. longer_below (λ s. Unit {0}) m b) (λ m b. shorter_below (λ s. Unit {0}) m b) k.1,
-  greatest_as (IsAliveBelow log r (λ s. s.page ≡ r.page)) (IsAliveBelow longer r (λ s. s.page ≡ r.page)) r.block_back (λ m b. longer_below (λ s. s.page ≡ r.page) m b) (λ m b. shorter_below (λ s. s.page ≡ r.page) m b) k.2,
+  greatest_as (IsAliveBelow log r (λ s. Unit {0})) (IsAliveBelow longer r (λ s. Unit {0})) r.back (λ m b. longer_below (λ s. Unit {0}) m b)
+      (λ m b. shorter_below (λ s. Unit {0}) m b) k.1,
+  greatest_as (IsAliveBelow log r (λ s. s.page ≡ r.page)) (IsAliveBelow longer r (λ s. s.page ≡ r.page)) r.block_back
+      (λ m b. longer_below (λ s. s.page ≡ r.page) m b) (λ m b. shorter_below (λ s. s.page ≡ r.page) m b) k.2,
   tt,
 )
   where
     longer_below : (Only : RecordData → Type 0) (m : ℕ) → IsAliveBelow log r Only m → IsAliveBelow longer r Only m
-    longer_below Only m b = record { other = b.other; among = more b.other b.among; alive = alive_longer log longer view r.epoch b.other.epoch b.other.number x l b.alive; only = b.only; number = b.number; below = b.below }
+    longer_below Only m b = record {
+      other = b.other;
+      among = more b.other b.among;
+      alive = alive_longer log longer view r.epoch b.other.epoch b.other.number x l b.alive;
+      only = b.only;
+      number = b.number;
+      below = b.below;
+    }
 
     shorter_below : (Only : RecordData → Type 0) (m : ℕ) → IsAliveBelow longer r Only m → IsAliveBelow log r Only m
     shorter_below Only m b =
         let n : b.other.number ≡ m = b.number in
         let u : m < r.number = b.below in
-        record { other = b.other; among = fresh b.other b.among b.alive (omega arith); alive = alive_shorter log longer view r.epoch b.other.epoch b.other.number x b.alive; only = b.only; number = b.number; below = b.below }
+        record {
+          other = b.other;
+          among = fresh b.other b.among b.alive (omega arith);
+          alive = alive_shorter log longer view r.epoch b.other.epoch b.other.number x b.alive;
+          only = b.only;
+          number = b.number;
+          below = b.below;
+        }
 
-pub advance_keeps : {roster : ℕ} (log longer : List Fact) (view : ℕ) (a : AdvanceData) → Extends roster log longer view → KeepsRest roster log (Advance a) → KeepsRest roster longer (Advance a)
+pub advance_keeps : {roster : ℕ} (log longer : List Fact) (view : ℕ) (a : AdvanceData) → Extends roster log longer view → KeepsRest roster log (Advance a)
+    → KeepsRest roster longer (Advance a)
 advance_keeps log longer view a x k = (
   tt,
   tt,

@@ -12,18 +12,22 @@ use Rattle.redo_core.proofs.Rising.{front_to, up_to, take_grows}
 use Rattle.log_law.specs.Lows.{HasAbove, AreTops, AreLows, AreSteps, IsStep, IsReached}
 
 -- the readers are past a truncation just where its lo is below the number at its epoch
-pub past_low : (roster : ℕ) (log : List Fact) (lows : List ℕ) (c : CutData) → AreLows roster log lows → c.epoch < 65536 → ArePast roster (advances log) c → c.lo < get_or lows c.epoch 0
+pub past_low : (roster : ℕ) (log : List Fact) (lows : List ℕ) (c : CutData) → AreLows roster log lows → c.epoch < 65536 → ArePast roster (advances log) c
+    → c.lo < get_or lows c.epoch 0
 past_low roster log lows c a small past = (a.each c.epoch c.lo small).1 (λ reader r. let s = past reader r in (s.0, (advance_in log s.0).0 s.1, s.2, s.3, s.4))
 
-pub low_past : (roster : ℕ) (log : List Fact) (lows : List ℕ) (c : CutData) → AreLows roster log lows → c.epoch < 65536 → c.lo < get_or lows c.epoch 0 → ArePast roster (advances log) c
+pub low_past : (roster : ℕ) (log : List Fact) (lows : List ℕ) (c : CutData) → AreLows roster log lows → c.epoch < 65536 → c.lo < get_or lows c.epoch 0
+    → ArePast roster (advances log) c
 low_past roster log lows c a small low reader r = let s = (a.each c.epoch c.lo small).0 low reader r in (s.0, (advance_in log s.0).1 s.1, s.2, s.3, s.4)
 
 -- points up to each epoch are the greatest of those of single epochs
-pub tops_from : (facts : List Fact) (reader : ℕ) (steps tops : List ℕ) → AreSteps facts reader steps → length tops ≡ 65536 → ((e n : ℕ) → e < 65536 → (n < get_or tops e 0) ↔ IsReached steps e n) → AreTops facts reader tops
+pub tops_from : (facts : List Fact) (reader : ℕ) (steps tops : List ℕ) → AreSteps facts reader steps → length tops ≡ 65536
+    → ((e n : ℕ) → e < 65536 → (n < get_or tops e 0) ↔ IsReached steps e n) → AreTops facts reader tops
 tops_from facts reader steps tops s len risen = record {
   len = len;
   each = λ e n l. (
-    λ h. let j = (risen e n l).0 h in let a = (s.each j.0 n (omega (arith, j.1, l))).0 j.2 in let q : a.0.epoch + 1 ≡ j.0 = a.2.1 in (a.0, a.1, a.2.0, omega (arith, q, j.1), a.2.2),
+    λ h. let j = (risen e n l).0 h in let a = (s.each j.0 n (omega (arith, j.1, l))).0 j.2 in let q : a.0.epoch + 1 ≡ j.0 = a.2.1 in
+        (a.0, a.1, a.2.0, omega (arith, q, j.1), a.2.2),
     λ h. (risen e n l).1 (h.0.epoch + 1, omega (arith, h.3), (s.each (h.0.epoch + 1) n (omega (arith, h.3, l))).1 (h.0, h.1, (h.2, refl, h.4))),
   );
 }
@@ -38,7 +42,8 @@ lows_one facts tops t = record {
   );
 }
 
-pub lows_more : (roster : ℕ) (facts : List Fact) (lows tops new : List ℕ) → AreLows roster facts lows → AreTops facts (roster + 1) tops → length new ≡ 65536 → ((e : ℕ) → e < 65536 → get_or new e 0 ≡ min (get_or lows e 0) (get_or tops e 0)) → AreLows (roster + 1) facts new
+pub lows_more : (roster : ℕ) (facts : List Fact) (lows tops new : List ℕ) → AreLows roster facts lows → AreTops facts (roster + 1) tops → length new ≡ 65536
+    → ((e : ℕ) → e < 65536 → get_or new e 0 ≡ min (get_or lows e 0) (get_or tops e 0)) → AreLows (roster + 1) facts new
 lows_more roster facts lows tops new a t len lower = record {
   len = len;
   each = λ e n l.
@@ -65,10 +70,12 @@ risen_none old = record {
   rest = λ e l. refl;
 }
 
-pub rise_step : (old cur new : List ℕ) (i : ℕ) → 1 ≤ i → Risen old cur i → get_or new i 0 ≡ max (get_or cur i 0) (get_or cur (i - 1) 0) → ((e : ℕ) → e ≢ i → get_or new e 0 ≡ get_or cur e 0) → Risen old new (i + 1)
+pub rise_step : (old cur new : List ℕ) (i : ℕ) → 1 ≤ i → Risen old cur i → get_or new i 0 ≡ max (get_or cur i 0) (get_or cur (i - 1) 0)
+    → ((e : ℕ) → e ≢ i → get_or new e 0 ≡ get_or cur e 0) → Risen old new (i + 1)
 rise_step old cur new i some r at others = record {
   done = λ e n l. ⊎_elim
-      (λ (q : e < i). let same = others e (omega (arith, q)) in (λ h. (r.done e n q).0 (omega (arith, same, h)), λ h. let t : n < get_or cur e 0 = (r.done e n q).1 h in omega (arith, same)))
+      (λ (q : e < i). let same = others e (omega (arith, q)) in
+      (λ h. (r.done e n q).0 (omega (arith, same, h)), λ h. let t : n < get_or cur e 0 = (r.done e n q).1 h in omega (arith, same)))
       (λ (q : e ≡ i). subst (λ k. (n < get_or new k 0) ↔ IsReached old k n) (sym q) (here' n))
       (let t : (e < i) ⊎ (e ≡ i) = (let m = l in grind (arith, m)) in t);
   rest = λ e l. others e (omega (arith, l)) ∙ r.rest e (omega (arith, l));
@@ -88,7 +95,8 @@ rise_step old cur new i some r at others = record {
         )
 
 -- one fact more is noted
-pub steps_more : (facts : List Fact) (reader i : ℕ) (f : Fact) (a : AdvanceData) (cur new : List ℕ) → i < length facts → f ≡ get_or facts i f → f ≡ Advance a → AreSteps (take i facts) reader cur → length new ≡ 65536
+pub steps_more : (facts : List Fact) (reader i : ℕ) (f : Fact) (a : AdvanceData) (cur new : List ℕ) → i < length facts → f ≡ get_or facts i f → f ≡ Advance a
+    → AreSteps (take i facts) reader cur → length new ≡ 65536
     → ((e n : ℕ) → e < 65536 → (n < get_or new e 0) ↔ ((n < get_or cur e 0) ⊎ IsStep a reader e n)) → AreSteps (take (i + 1) facts) reader new
 steps_more facts reader i f a cur new l at is s len each = record {
   len = len;
@@ -98,18 +106,25 @@ steps_more facts reader i f a cur new l at is s len each = record {
         (λ (x : IsStep a reader e n). (a, subst (Contains (take (i + 1) facts)) is (up_to facts i f l at), x))
         ((each e n m).0 h),
     λ h. (each e n m).1 (⊎_elim
-        (λ (q : f ≡ Advance h.0). let same : Advance a ≡ Advance h.0 = sym is ∙ q in let e' : a ≡ h.0 = cc in inr (subst (λ x. IsStep x reader e n) (sym e') h.2))
+        (λ (q : f ≡ Advance h.0). let same : Advance a ≡ Advance h.0 = sym is ∙ q in let e' : a ≡ h.0 = cc in
+        inr (subst (λ x. IsStep x reader e n) (sym e') h.2))
         (λ (q : Contains (take i facts) (Advance h.0)). inl ((s.each e n m).1 (h.0, q, h.2)))
         (front_to facts i f (Advance h.0) l at h.1)),
   );
 }
 
-pub steps_other : (facts : List Fact) (reader i : ℕ) (f : Fact) (cur : List ℕ) → i < length facts → f ≡ get_or facts i f → ((a : AdvanceData) → f ≡ Advance a → ⊥) → AreSteps (take i facts) reader cur → AreSteps (take (i + 1) facts) reader cur
+pub steps_other : (facts : List Fact) (reader i : ℕ) (f : Fact) (cur : List ℕ) → i < length facts → f ≡ get_or facts i f
+    → ((a : AdvanceData) → f ≡ Advance a → ⊥) → AreSteps (take i facts) reader cur → AreSteps (take (i + 1) facts) reader cur
 steps_other facts reader i f cur l at off s = record {
   len = s.len;
   each = λ e n m. (
     λ h. let t = (s.each e n m).0 h in (t.0, take_grows facts i (Advance t.0) t.1, t.2),
-    λ h. (s.each e n m).1 (h.0, ⊎_elim (λ (q : f ≡ Advance h.0). absurd (off h.0 q)) (λ (q : Contains (take i facts) (Advance h.0)). q) (front_to facts i f (Advance h.0) l at h.1), h.2),
+    λ h. (s.each e n m).1 (
+      h.0,
+      ⊎_elim (λ (q : f ≡ Advance h.0). absurd (off h.0 q)) (λ (q : Contains (take i facts) (Advance h.0)). q)
+          (front_to facts i f (Advance h.0) l at h.1),
+      h.2,
+    ),
   );
 }
 

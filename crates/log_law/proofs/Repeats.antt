@@ -50,7 +50,8 @@ law1_none log p r h (Cut c) m k = absurd k
 law1_none log p r h (Advance a) m k = absurd k
 
 -- a record that is the one before it of its key
-pub law1_same : (log : List Fact) (p i : ℕ) (r : RecordData) → IsSeenAt log p r.epoch r.number (Some i) → slice_get log i ≡ Some (Record r) → Law1 (take p log) (Record r)
+pub law1_same : (log : List Fact) (p i : ℕ) (r : RecordData) → IsSeenAt log p r.epoch r.number (Some i) → slice_get log i ≡ Some (Record r)
+    → Law1 (take p log) (Record r)
 law1_same log p i r h e (Record s) m k =
     let same : h.0 ≡ r = record_eq h.0 r (same_Some (Record h.0) (Record r) (sym h.2 ∙ e)) in
     ap Record (h.5 s m k.0 k.1 ∙ same)
@@ -64,11 +65,13 @@ in_taken (x ∷ xs) (suc p) zero f l e = subst (λ y. Contains (y ∷ take p xs)
 in_taken (x ∷ xs) (suc p) (suc i) f l e = there x (take p xs) f (in_taken xs p i f (omega (arith, l)) e)
 
 -- a record that differs from the one before it of its key
-pub law1_not : (log : List Fact) (p i : ℕ) (r : RecordData) → IsSeenAt log p r.epoch r.number (Some i) → (slice_get log i ≡ Some (Record r) → ⊥) → Law1 (take p log) (Record r) → ⊥
+pub law1_not : (log : List Fact) (p i : ℕ) (r : RecordData) → IsSeenAt log p r.epoch r.number (Some i) → (slice_get log i ≡ Some (Record r) → ⊥)
+    → Law1 (take p log) (Record r) → ⊥
 law1_not log p i r h differ law = differ (h.2 ∙ ap Some (law (Record h.0) (in_taken log p i (Record h.0) h.1 h.2) (h.3, h.4)))
 
 -- what is kept of a key, one place on
-pub seen_here : (log : List Fact) (p : ℕ) (r : RecordData) → slice_get log p ≡ Some (Record r) → Law1 (take p log) (Record r) → IsSeenAt log (p + 1) r.epoch r.number (Some p)
+pub seen_here : (log : List Fact) (p : ℕ) (r : RecordData) → slice_get log p ≡ Some (Record r) → Law1 (take p log) (Record r)
+    → IsSeenAt log (p + 1) r.epoch r.number (Some p)
 seen_here log p r at law = (
   r,
   omega arith,
@@ -81,7 +84,8 @@ seen_here log p r at law = (
       (taken_cases log p (Record r) (Record s) at m),
 )
 
-pub seen_other : (log : List Fact) (p : ℕ) (f : Fact) (e n : ℕ) (o : Option ℕ) → slice_get log p ≡ Some f → ((r : RecordData) → f ≡ Record r → r.epoch ≡ e → r.number ≡ n → ⊥) → IsSeenAt log p e n o → IsSeenAt log (p + 1) e n o
+pub seen_other : (log : List Fact) (p : ℕ) (f : Fact) (e n : ℕ) (o : Option ℕ) → slice_get log p ≡ Some f
+    → ((r : RecordData) → f ≡ Record r → r.epoch ≡ e → r.number ≡ n → ⊥) → IsSeenAt log p e n o → IsSeenAt log (p + 1) e n o
 seen_other log p f e n None at apart h = λ s m q k. ⊎_elim
     (λ (i : Contains (take p log) (Record s)). h s i q k)
     (λ (i : f ≡ Record s). apart s i q k)
@@ -99,20 +103,24 @@ seen_other log p f e n (Some i) at apart h = (
 )
 
 -- what is kept of every key, after the record's place went in at its own
-pub seen_more : (log : List Fact) (p : ℕ) (r : RecordData) (e n : ℕ) (old new : Option ℕ) → slice_get log p ≡ Some (Record r) → Law1 (take p log) (Record r) → (same_pair (r.epoch, r.number) (e, n) ≡ true → new ≡ Some p) → (same_pair (r.epoch, r.number) (e, n) ≡ false → new ≡ old) → IsSeenAt log p e n old → IsSeenAt log (p + 1) e n new
+pub seen_more : (log : List Fact) (p : ℕ) (r : RecordData) (e n : ℕ) (old new : Option ℕ) → slice_get log p ≡ Some (Record r) → Law1 (take p log) (Record r)
+    → (same_pair (r.epoch, r.number) (e, n) ≡ true → new ≡ Some p) → (same_pair (r.epoch, r.number) (e, n) ≡ false → new ≡ old) → IsSeenAt log p e n old
+    → IsSeenAt log (p + 1) e n new
 seen_more log p r e n old new at law hit miss h =
     ⊎_elim
     (λ (t : same_pair (r.epoch, r.number) (e, n) ≡ true).
     let parts = and_parts (r.epoch == e) (r.number == n) t in
     let qe : r.epoch ≡ e = eqb-true r.epoch e parts.0 in
     let qn : r.number ≡ n = eqb-true r.number n parts.1 in
-    subst (IsSeenAt log (p + 1) e n) (sym (hit t)) (subst (λ k. IsSeenAt log (p + 1) e k (Some p)) qn (subst (λ k. IsSeenAt log (p + 1) k r.number (Some p)) qe (seen_here log p r at law))))
+    subst (IsSeenAt log (p + 1) e n) (sym (hit t))
+    (subst (λ k. IsSeenAt log (p + 1) e k (Some p)) qn (subst (λ k. IsSeenAt log (p + 1) k r.number (Some p)) qe (seen_here log p r at law))))
     (λ (t : same_pair (r.epoch, r.number) (e, n) ≡ false).
     subst (IsSeenAt log (p + 1) e n) (sym (miss t))
     (seen_other log p (Record r) e n old at
     (λ s q i j.
     let same : r ≡ s = record_eq r s q in
-    let yes' : same_pair (r.epoch, r.number) (e, n) ≡ true = and_from (r.epoch == e) (r.number == n) (eq-eqb r.epoch e (ap (λ x. x.epoch) same ∙ i)) (eq-eqb r.number n (ap (λ x. x.number) same ∙ j)) in
+    let yes' : same_pair (r.epoch, r.number) (e, n) ≡ true = and_from (r.epoch == e) (r.number == n) (eq-eqb r.epoch e (ap (λ x. x.epoch) same ∙ i))
+    (eq-eqb r.number n (ap (λ x. x.number) same ∙ j)) in
     let clash : true ≡ false = sym yes' ∙ t in cc) h))
     (cases_Bool (same_pair (r.epoch, r.number) (e, n)))
 
@@ -123,7 +131,8 @@ AreFirstTo log p = (c : CutData) → Contains (take p log) (Cut c) → first_cut
 cut_eq : (c d : CutData) → Cut c ≡ Cut d → c ≡ d
 cut_eq c d e = cc
 
-pub first_more : (log : List Fact) (p : ℕ) (f : Fact) → slice_get log p ≡ Some f → ((c : CutData) → f ≡ Cut c → first_cut log c.epoch ≡ Some c) → AreFirstTo log p → AreFirstTo log (p + 1)
+pub first_more : (log : List Fact) (p : ℕ) (f : Fact) → slice_get log p ≡ Some f → ((c : CutData) → f ≡ Cut c → first_cut log c.epoch ≡ Some c)
+    → AreFirstTo log p → AreFirstTo log (p + 1)
 first_more log p f at here' h c m = ⊎_elim (h c) (here' c) (taken_cases log p f (Cut c) at m)
 
 pub law1_first : (log : List Fact) (p : ℕ) (c : CutData) → AreFirstTo log p → first_cut log c.epoch ≡ Some c → Law1 (take p log) (Cut c)
@@ -142,10 +151,12 @@ law1_later log p c at differ law = go (first_cut (take p log) c.epoch) refl
     inside = slice_get_within log p (Cut c) at
 
     parts : log ≡ take p log ++ Cut c ∷ drop (suc p) log
-    parts = sym (take-append-drop p log) ∙ ap (λ ys. take p log ++ ys) (drop-cons log p (Cut c) inside ∙ ap (λ g. g ∷ drop (suc p) log) (get_or_from_slice_get log p (Cut c) (Cut c) at))
+    parts = sym (take-append-drop p log) ∙ ap (λ ys. take p log ++ ys)
+        (drop-cons log p (Cut c) inside ∙ ap (λ g. g ∷ drop (suc p) log) (get_or_from_slice_get log p (Cut c) (Cut c) at))
 
     whole : first_cut log c.epoch ≡ or_first (first_cut (take p log) c.epoch) (Some c)
-    whole = ap (λ xs. first_cut xs c.epoch) parts ∙ first_cut-append (take p log) (Cut c ∷ drop (suc p) log) c.epoch ∙ ap (or_first (first_cut (take p log) c.epoch)) (first_here c (drop (suc p) log))
+    whole = ap (λ xs. first_cut xs c.epoch) parts ∙ first_cut-append (take p log) (Cut c ∷ drop (suc p) log) c.epoch ∙ ap
+        (or_first (first_cut (take p log) c.epoch)) (first_here c (drop (suc p) log))
 
     go : (o : Option CutData) → first_cut (take p log) c.epoch ≡ o → ⊥
     go None q = differ (whole ∙ ap (λ o. or_first o (Some c)) q)
@@ -156,13 +167,17 @@ law1_later log p c at differ law = go (first_cut (take p log) c.epoch) refl
         differ (whole ∙ ap (λ o. or_first o (Some c)) q ∙ ap Some same)
 
 -- what the code reads and writes of a key
-pub seen_at_key : (log : List Fact) (p : ℕ) (seen : Seen) (r : RecordData) (e n : ℕ) (o : Option ℕ) → e ≡ r.epoch → n ≡ r.number → o ≡ get same_pair seen (e, n) → IsSeen log p seen → IsSeenAt log p r.epoch r.number o
+pub seen_at_key : (log : List Fact) (p : ℕ) (seen : Seen) (r : RecordData) (e n : ℕ) (o : Option ℕ) → e ≡ r.epoch → n ≡ r.number → o ≡ get same_pair seen (e, n)
+    → IsSeen log p seen → IsSeenAt log p r.epoch r.number o
 seen_at_key log p seen r e n o qe qn q h =
     subst (λ k. IsSeenAt log p r.epoch k o) qn (subst (λ k. IsSeenAt log p k n o) qe (subst (IsSeenAt log p e n) (sym q) (h e n)))
 
-pub seen_after : (log : List Fact) (p : ℕ) (r : RecordData) (old new : Seen) (e' n' : ℕ) → e' ≡ r.epoch → n' ≡ r.number → ((q : ℕ × ℕ) → get same_pair new q ≡ cond (same_pair (e', n') q) (Some p) (get same_pair old q)) → slice_get log p ≡ Some (Record r) → Law1 (take p log) (Record r) → IsSeen log p old → IsSeen log (p + 1) new
+pub seen_after : (log : List Fact) (p : ℕ) (r : RecordData) (old new : Seen) (e' n' : ℕ) → e' ≡ r.epoch → n' ≡ r.number
+    → ((q : ℕ × ℕ) → get same_pair new q ≡ cond (same_pair (e', n') q) (Some p) (get same_pair old q)) → slice_get log p ≡ Some (Record r)
+    → Law1 (take p log) (Record r) → IsSeen log p old → IsSeen log (p + 1) new
 seen_after log p r old new e' n' qe qn up at law h e n =
-    let key : (b : Bool) → same_pair (r.epoch, r.number) (e, n) ≡ b → same_pair (e', n') (e, n) ≡ b = λ b t. ap (λ x. (x == e) && (n' == n)) qe ∙ ap (λ x. (r.epoch == e) && (x == n)) qn ∙ t in
+    let key : (b : Bool) → same_pair (r.epoch, r.number) (e, n) ≡ b → same_pair (e', n') (e, n) ≡ b = λ b t. ap (λ x. (x == e) && (n' == n)) qe ∙ ap
+    (λ x. (r.epoch == e) && (x == n)) qn ∙ t in
     seen_more log p r e n (get same_pair old (e, n)) (get same_pair new (e, n)) at law
     (λ t. up (e, n) ∙ ap (λ b. cond b (Some p) (get same_pair old (e, n))) (key true t))
     (λ t. up (e, n) ∙ ap (λ b. cond b (Some p) (get same_pair old (e, n))) (key false t))
@@ -172,7 +187,8 @@ pub match_not : (P Q : Type 0) (b : Bool) → (b ≡ true → Q) → (b ≡ fals
 match_not P Q true f g = f refl
 match_not P Q false f g = g refl
 
-pub seen_past : (log : List Fact) (p : ℕ) (f : Fact) (seen : Seen) → slice_get log p ≡ Some f → ((r : RecordData) → f ≡ Record r → ⊥) → IsSeen log p seen → IsSeen log (p + 1) seen
+pub seen_past : (log : List Fact) (p : ℕ) (f : Fact) (seen : Seen) → slice_get log p ≡ Some f → ((r : RecordData) → f ≡ Record r → ⊥) → IsSeen log p seen
+    → IsSeen log (p + 1) seen
 seen_past log p f seen at apart h e n = seen_other log p f e n (get same_pair seen (e, n)) at (λ r q i j. apart r q) (h e n)
 
 pub law1_advance : (earlier : List Fact) (a : AdvanceData) → Law1 earlier (Advance a)

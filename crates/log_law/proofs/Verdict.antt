@@ -21,7 +21,8 @@ use Rattle.log_law.specs.Report.{Reports, BreaksFirst, LinkJudges, IsLawAt}
 use Rattle.log_law.specs.declared.links.BrokenLink.{BrokenLink}
 use Rattle.log_law.proofs.Least.{one_redo}
 
-pub record_verdict : (roster : ℕ) (log : List Fact) (place : ℕ) (r : RecordData) (o : Option Law) → HasShape (Record r) → Law1 (take place log) (Record r) → Law2 log (Record r) → Judges log r o → MatchOption o (KeepsLaws roster log place (Record r)) (BreaksFirst roster log place (Record r))
+pub record_verdict : (roster : ℕ) (log : List Fact) (place : ℕ) (r : RecordData) (o : Option Law) → HasShape (Record r) → Law1 (take place log) (Record r)
+    → Law2 log (Record r) → Judges log r o → MatchOption o (KeepsLaws roster log place (Record r)) (BreaksFirst roster log place (Record r))
 record_verdict roster log place r None s one two j = record { shape = s; law1 = one; law2 = two; law3 = j.0; law4 = j.1; law5 = tt }
 record_verdict roster log place r (Some OneFactPerKey) s one two j = absurd j
 record_verdict roster log place r (Some EpochBegun) s one two j = absurd j
@@ -29,20 +30,25 @@ record_verdict roster log place r (Some SegmentBacklink) s one two j = (j, (one,
 record_verdict roster log place r (Some BlockBacklink) s one two j = (j.1, (one, (two, (j.0, tt))))
 record_verdict roster log place r (Some AdvanceKept) s one two j = absurd j
 
-pub record_not_begun : (roster : ℕ) (log : List Fact) (place : ℕ) (r : RecordData) → Law1 (take place log) (Record r) → (Law2 log (Record r) → ⊥) → BreaksFirst roster log place (Record r) EpochBegun
+pub record_not_begun : (roster : ℕ) (log : List Fact) (place : ℕ) (r : RecordData) → Law1 (take place log) (Record r) → (Law2 log (Record r) → ⊥)
+    → BreaksFirst roster log place (Record r) EpochBegun
 record_not_begun roster log place r one two = (two, (one, tt))
 
-pub cut_verdict : (roster : ℕ) (log : List Fact) (place : ℕ) (c : CutData) → HasShape (Cut c) → Law1 (take place log) (Cut c) → KeepsLaws roster log place (Cut c)
+pub cut_verdict : (roster : ℕ) (log : List Fact) (place : ℕ) (c : CutData) → HasShape (Cut c) → Law1 (take place log) (Cut c)
+    → KeepsLaws roster log place (Cut c)
 cut_verdict roster log place c s one = record { shape = s; law1 = one; law2 = tt; law3 = tt; law4 = tt; law5 = tt }
 
-pub advance_verdict : (roster : ℕ) (log : List Fact) (place : ℕ) (a : AdvanceData) → HasShape (Advance a) → Law1 (take place log) (Advance a) → Law5 roster log (Advance a) → KeepsLaws roster log place (Advance a)
+pub advance_verdict : (roster : ℕ) (log : List Fact) (place : ℕ) (a : AdvanceData) → HasShape (Advance a) → Law1 (take place log) (Advance a)
+    → Law5 roster log (Advance a) → KeepsLaws roster log place (Advance a)
 advance_verdict roster log place a s one five = record { shape = s; law1 = one; law2 = tt; law3 = tt; law4 = tt; law5 = five }
 
-pub advance_not_kept : (roster : ℕ) (log : List Fact) (place : ℕ) (a : AdvanceData) → Law1 (take place log) (Advance a) → (Law5 roster log (Advance a) → ⊥) → BreaksFirst roster log place (Advance a) AdvanceKept
+pub advance_not_kept : (roster : ℕ) (log : List Fact) (place : ℕ) (a : AdvanceData) → Law1 (take place log) (Advance a) → (Law5 roster log (Advance a) → ⊥)
+    → BreaksFirst roster log place (Advance a) AdvanceKept
 advance_not_kept roster log place a one five = (five, (one, (tt, (tt, (tt, tt)))))
 
 -- what the law of a broken link at a place says of the record there
-record_link : (log : List Fact) (place : ℕ) (r : RecordData) (link : Option BrokenLink) (answer : Option Law) → slice_get log place ≡ Some (Record r) → IsFirstBrokenLink log link → ((b : BrokenLink) → link ≡ Some b → place ≤ b.place) → IsLawAt link place answer → Law2 log (Record r) → Judges log r answer
+record_link : (log : List Fact) (place : ℕ) (r : RecordData) (link : Option BrokenLink) (answer : Option Law) → slice_get log place ≡ Some (Record r)
+    → IsFirstBrokenLink log link → ((b : BrokenLink) → link ≡ Some b → place ≤ b.place) → IsLawAt link place answer → Law2 log (Record r) → Judges log r answer
 record_link log place r None answer at first upto law two = subst (Judges log r) (sym law) (first place r at two)
 record_link log place r (Some b) answer at first upto law two =
     ⊎_elim
@@ -55,7 +61,8 @@ record_link log place r (Some b) answer at first upto law two =
     subst (Judges log r) (sym (law.1 e)) (first.0 place r (omega arith) at two))
     (cases_eq b.place place)
 
-pub link_judges : (log : List Fact) (place : ℕ) (f : Fact) (link : Option BrokenLink) (answer : Option Law) → slice_get log place ≡ Some f → IsFirstBrokenLink log link → ((b : BrokenLink) → link ≡ Some b → place ≤ b.place) → IsLawAt link place answer → LinkJudges log f answer
+pub link_judges : (log : List Fact) (place : ℕ) (f : Fact) (link : Option BrokenLink) (answer : Option Law) → slice_get log place ≡ Some f
+    → IsFirstBrokenLink log link → ((b : BrokenLink) → link ≡ Some b → place ≤ b.place) → IsLawAt link place answer → LinkJudges log f answer
 link_judges log place (Record r) link answer at first upto law = record_link log place r link answer at first upto law
 link_judges log place (Cut c) link answer at first upto law = tt
 link_judges log place (Advance a) link answer at first upto law = tt
@@ -71,7 +78,8 @@ not_broken log r AdvanceKept b k = b
 kept_links : (roster : ℕ) (log : List Fact) (place : ℕ) (f : Fact) (r : RecordData) → f ≡ Record r → KeepsLaws roster log place f → KeepsLinks log r
 kept_links roster log place f r e k = let h = subst (KeepsLaws roster log place) e k in (h.law3, h.law4)
 
-pub link_further : (roster : ℕ) (log : List Fact) (place : ℕ) (f : Fact) (link : Option BrokenLink) → slice_get log place ≡ Some f → IsFirstBrokenLink log link → KeepsLaws roster log place f → ((b : BrokenLink) → link ≡ Some b → place ≤ b.place) → (b : BrokenLink) → link ≡ Some b → place + 1 ≤ b.place
+pub link_further : (roster : ℕ) (log : List Fact) (place : ℕ) (f : Fact) (link : Option BrokenLink) → slice_get log place ≡ Some f → IsFirstBrokenLink log link
+    → KeepsLaws roster log place f → ((b : BrokenLink) → link ≡ Some b → place ≤ b.place) → (b : BrokenLink) → link ≡ Some b → place + 1 ≤ b.place
 link_further roster log place f None at first kept upto b e = absurd (none-some b e)
 link_further roster log place f (Some d) at first kept upto b e =
     let l : place ≤ b.place = upto b e in
@@ -84,7 +92,8 @@ link_further roster log place f (Some d) at first kept upto b e =
     (λ (q : place ≢ b.place). omega arith)
     (cases_eq place b.place)
 
-pub other_further : (roster : ℕ) (log : List Fact) (place other : ℕ) (f : Fact) → slice_get log place ≡ Some f → IsFirstKeyConflict log other → KeepsLaws roster log place f → place ≤ other → place + 1 ≤ other
+pub other_further : (roster : ℕ) (log : List Fact) (place other : ℕ) (f : Fact) → slice_get log place ≡ Some f → IsFirstKeyConflict log other
+    → KeepsLaws roster log place f → place ≤ other → place + 1 ≤ other
 other_further roster log place other f at first kept l =
     ⊎_elim
     (λ (q : place ≡ other). absurd (first.breaks f (subst (λ i. slice_get log i ≡ Some f) q at) (subst (λ i. Law1 (take i log) f) q kept.law1)))
@@ -94,7 +103,8 @@ other_further roster log place other f at first kept l =
 abbrev pub KeepToPlace : ℕ → List Fact → ℕ → Type 0
 KeepToPlace roster log place = (earlier : ℕ) (f : Fact) → earlier < place → slice_get log earlier ≡ Some f → KeepsLaws roster log earlier f
 
-pub kept_further : (roster : ℕ) (log : List Fact) (place : ℕ) (f : Fact) → slice_get log place ≡ Some f → KeepsLaws roster log place f → KeepToPlace roster log place → KeepToPlace roster log (place + 1)
+pub kept_further : (roster : ℕ) (log : List Fact) (place : ℕ) (f : Fact) → slice_get log place ≡ Some f → KeepsLaws roster log place f
+    → KeepToPlace roster log place → KeepToPlace roster log (place + 1)
 kept_further roster log place f at k all earlier g l h =
     ⊎_elim
     (λ (q : earlier < place). all earlier g q h)
@@ -104,7 +114,8 @@ kept_further roster log place f at k all earlier g l h =
     subst (λ i. KeepsLaws roster log i g) (sym e) (subst (KeepsLaws roster log place) same k))
     (cases_lt earlier place)
 
-pub reported : (roster : ℕ) (log : List Fact) (place : ℕ) (f : Fact) (law : Law) (fault : LawFault) → fault.place ≡ place + 1 → fault.law ≡ law → slice_get log place ≡ Some f → BreaksFirst roster log place f law → KeepToPlace roster log place → Reports roster log fault
+pub reported : (roster : ℕ) (log : List Fact) (place : ℕ) (f : Fact) (law : Law) (fault : LawFault) → fault.place ≡ place + 1 → fault.law ≡ law
+    → slice_get log place ≡ Some f → BreaksFirst roster log place f law → KeepToPlace roster log place → Reports roster log fault
 reported roster log place f law fault e q at b all = (
   place,
   e,
@@ -118,14 +129,21 @@ reported roster log place f law fault e q at b all = (
 )
 
 pub all_sound : (roster : ℕ) (log : List Fact) (place : ℕ) → IsRoster roster → length log ≤ place → KeepToPlace roster log place → IsSound roster log
-all_sound roster log place readers l all = record { readers = readers; keeps = λ p f h. let m : p < length log = slice_get_within log p f h in all p f (omega arith) h }
+all_sound roster log place readers l all = record {
+  readers = readers;
+  keeps = λ p f h. let m : p < length log = slice_get_within log p f h in
+      all p f (omega arith) h;
+}
 
-pub cut_shape : (log : List Fact) (place : ℕ) (c : CutData) → {table : List (Option CutData)} → IsTable log table → slice_get log place ≡ Some (Cut c) → HasShape (Cut c)
+pub cut_shape : (log : List Fact) (place : ℕ) (c : CutData) → {table : List (Option CutData)} → IsTable log table → slice_get log place ≡ Some (Cut c)
+    → HasShape (Cut c)
 cut_shape log place c t at = t.shapes c ((cut_in log c).1 (place, slice_get_within log place (Cut c) at, get_or_from_slice_get log place (Cut c) (Cut c) at))
 
 -- what is found at a place
-pub verdict_at : (log : List Fact) (place other : ℕ) (f : Fact) (at : slice_get log place ≡ Some f) → IsFirstKeyConflict log other → place ≤ other → ((place == other) ≡ true → Law1 (take place log) f → ⊥) × ((place == other) ≡ false → Law1 (take place log) f)
+pub verdict_at : (log : List Fact) (place other : ℕ) (f : Fact) (at : slice_get log place ≡ Some f) → IsFirstKeyConflict log other → place ≤ other
+    → ((place == other) ≡ true → Law1 (take place log) f → ⊥) × ((place == other) ≡ false → Law1 (take place log) f)
 verdict_at log place other f at first l = (
-  λ t law. let e : place ≡ other = eqb-true place other t in first.breaks f (subst (λ i. slice_get log i ≡ Some f) e at) (subst (λ i. Law1 (take i log) f) e law),
+  λ t law. let e : place ≡ other = eqb-true place other t in first.breaks f (subst (λ i. slice_get log i ≡ Some f) e at)
+      (subst (λ i. Law1 (take i log) f) e law),
   λ t. let ne : place ≢ other = eqb-false place other t in first.before place f (omega arith) at,
 )

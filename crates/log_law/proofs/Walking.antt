@@ -31,14 +31,16 @@ to_take (suc n) [] x k l m e = absurd (omega (arith, m))
 to_take (suc n) (y ∷ ys) x zero l m e = subst (λ z. Contains (z ∷ take n ys) x) (sym e) (here x (take n ys))
 to_take (suc n) (y ∷ ys) x (suc k) l m e = there y (take n ys) x (to_take n ys x k (omega (arith, l)) (omega (arith, m)) e)
 
-pub in_drop : (n : ℕ) (xs : List Item) (x : Item) (k : ℕ) → k < length (drop n xs) → get_or (drop n xs) k x ≡ x → (n + k < length xs) × (get_or xs (n + k) x ≡ x)
+pub in_drop : (n : ℕ) (xs : List Item) (x : Item) (k : ℕ) → k < length (drop n xs) → get_or (drop n xs) k x ≡ x
+    → (n + k < length xs) × (get_or xs (n + k) x ≡ x)
 in_drop zero xs x k l e = (omega (arith, l), subst (λ i. get_or xs i x ≡ x) (let q : k ≡ 0 + k = omega arith in q) e)
 in_drop (suc n) [] x k l e = absurd (omega (arith, l))
 in_drop (suc n) (y ∷ ys) x k l e =
     let w = in_drop n ys x k l e in
     (omega (arith, w.0), subst (λ i. get_or (y ∷ ys) i x ≡ x) (let q : suc (n + k) ≡ suc n + k = omega arith in q) w.1)
 
-pub in_part : (start stop : ℕ) (xs : List Item) (x : Item) → Contains (take (stop - start) (drop start xs)) x → (k : ℕ) × (start ≤ k) × (k < stop) × (k < length xs) × (get_or xs k x ≡ x)
+pub in_part : (start stop : ℕ) (xs : List Item) (x : Item) → Contains (take (stop - start) (drop start xs)) x
+    → (k : ℕ) × (start ≤ k) × (k < stop) × (k < length xs) × (get_or xs k x ≡ x)
 in_part start stop xs x h =
     let w = in_take (stop - start) (drop start xs) x h in
     let d = in_drop start xs x w.0 w.2 w.3 in
@@ -54,7 +56,8 @@ take_part zero stop xs l = ap (λ n. take n xs) (let q : stop ≡ stop - 0 = ome
 take_part (suc start) zero xs l = absurd (omega (arith, l))
 take_part (suc start) (suc stop) [] l = take_nothing (suc stop - suc start)
 take_part (suc start) (suc stop) (x ∷ xs) l =
-    ap (λ ys. x ∷ ys) (take_part start stop xs (omega (arith, l)) ∙ ap (λ n. take start xs ++ take n (drop start xs)) (let q : stop - start ≡ suc stop - suc start = omega arith in q))
+    ap (λ ys. x ∷ ys) (take_part start stop xs (omega (arith, l)) ∙ ap (λ n. take start xs ++ take n (drop start xs))
+    (let q : stop - start ≡ suc stop - suc start = omega arith in q))
 
 -- the walk has come to an item that has a greater key than all before it
 pub record IsWalked (log : List Fact) (items : List Item) (start : ℕ) (alive : AliveRecords) (least : Option BrokenLink) : Type 0 where
@@ -66,8 +69,11 @@ pub record IsWalked (log : List Fact) (items : List Item) (start : ℕ) (alive :
 key_not_below : (t u : Item) → KeyAtMost t u → KeyBelow u t → ⊥
 key_not_below t u h k =
     ⊎_elim
-    (λ (a : t.epoch < u.epoch). ⊎_elim (λ (b : u.epoch < t.epoch). omega arith) (λ (b : (u.epoch ≡ t.epoch) × (u.number < t.number)). let e : u.epoch ≡ t.epoch = b.0 in omega arith) k)
-    (λ (a : (t.epoch ≡ u.epoch) × (t.number ≤ u.number)). let e : t.epoch ≡ u.epoch = a.0 in let l : t.number ≤ u.number = a.1 in ⊎_elim (λ (b : u.epoch < t.epoch). omega arith) (λ (b : (u.epoch ≡ t.epoch) × (u.number < t.number)). let n : u.number < t.number = b.1 in omega arith) k)
+    (λ (a : t.epoch < u.epoch). ⊎_elim (λ (b : u.epoch < t.epoch). omega arith)
+    (λ (b : (u.epoch ≡ t.epoch) × (u.number < t.number)). let e : u.epoch ≡ t.epoch = b.0 in omega arith) k)
+    (λ (a : (t.epoch ≡ u.epoch) × (t.number ≤ u.number)). let e : t.epoch ≡ u.epoch = a.0 in let l : t.number ≤ u.number = a.1 in
+    ⊎_elim (λ (b : u.epoch < t.epoch). omega arith) (λ (b : (u.epoch ≡ t.epoch) × (u.number < t.number)). let n : u.number < t.number = b.1 in omega arith)
+    k)
     h
 
 key_below : (t u v : Item) → SameItemKey t v → KeyAtMost v u → (SameItemKey u v → ⊥) → KeyBelow t u
@@ -83,10 +89,12 @@ key_below t u v s h differ =
 key_trans : (t u v : Item) → KeyBelow t u → KeyAtMost u v → KeyBelow t v
 key_trans t u v h k =
     ⊎_elim
-    (λ (a : t.epoch < u.epoch). ⊎_elim (λ (b : u.epoch < v.epoch). inl (omega arith)) (λ (b : (u.epoch ≡ v.epoch) × (u.number ≤ v.number)). let e : u.epoch ≡ v.epoch = b.0 in inl (omega arith)) k)
+    (λ (a : t.epoch < u.epoch). ⊎_elim (λ (b : u.epoch < v.epoch). inl (omega arith))
+    (λ (b : (u.epoch ≡ v.epoch) × (u.number ≤ v.number)). let e : u.epoch ≡ v.epoch = b.0 in inl (omega arith)) k)
     (λ (a : (t.epoch ≡ u.epoch) × (t.number < u.number)).
     let e : t.epoch ≡ u.epoch = a.0 in let l : t.number < u.number = a.1 in
-    ⊎_elim (λ (b : u.epoch < v.epoch). inl (omega arith)) (λ (b : (u.epoch ≡ v.epoch) × (u.number ≤ v.number)). let f : u.epoch ≡ v.epoch = b.0 in let m : u.number ≤ v.number = b.1 in inr (omega arith, omega arith)) k)
+    ⊎_elim (λ (b : u.epoch < v.epoch). inl (omega arith)) (λ (b : (u.epoch ≡ v.epoch) × (u.number ≤ v.number)). let f : u.epoch ≡ v.epoch = b.0 in
+    let m : u.number ≤ v.number = b.1 in inr (omega arith, omega arith)) k)
     h
 
 at_default : (items : List Item) (k : ℕ) (x d : Item) → k < length items → get_or items k x ≡ x → get_or items k d ≡ x
@@ -101,7 +109,11 @@ walked_nothing log items alive h v = record {
 }
 
 -- the group from start to stop, once the view is its epoch
-pub is_group : (log : List Fact) (items : List Item) (start stop : ℕ) (alive entered : AliveRecords) (least : Option BrokenLink) → ((c : CutData) → Contains (cuts log) c → c.lo ≤ c.hi) → AreItems log items → IsInKeyOrder items → IsWalked log items start alive least → start < length items → start < stop → stop ≤ length items → ((k : ℕ) (d : Item) → start ≤ k → k < stop → SameItemKey (get_or items k d) (get_or items start d)) → Holds log (take start items) entered → entered.view ≡ (get_or items start zero_item).epoch → IsGroup log items (take start items) (take (stop - start) (drop start items)) entered
+pub is_group : (log : List Fact) (items : List Item) (start stop : ℕ) (alive entered : AliveRecords) (least : Option BrokenLink)
+    → ((c : CutData) → Contains (cuts log) c → c.lo ≤ c.hi) → AreItems log items → IsInKeyOrder items → IsWalked log items start alive least
+    → start < length items → start < stop → stop ≤ length items
+    → ((k : ℕ) (d : Item) → start ≤ k → k < stop → SameItemKey (get_or items k d) (get_or items start d)) → Holds log (take start items) entered
+    → entered.view ≡ (get_or items start zero_item).epoch → IsGroup log items (take start items) (take (stop - start) (drop start items)) entered
 is_group log items start stop alive entered least ordered are order w inside after within same holds view = record {
   ordered = ordered;
   are = are;
@@ -121,7 +133,8 @@ is_group log items start stop alive entered least ordered are order w inside aft
   apart = λ t u ht hu.
       let p = in_part start stop items t ht in
       let q = in_take start items u hu in
-      subst (λ x. KeyBelow x t) (at_default items q.0 u zero_item q.2 q.3) (subst (KeyBelow (get_or items q.0 zero_item)) (at_default items p.0 t zero_item p.3 p.4) (w.apart q.0 p.0 zero_item q.1 p.1 p.3));
+      subst (λ x. KeyBelow x t) (at_default items q.0 u zero_item q.2 q.3)
+      (subst (KeyBelow (get_or items q.0 zero_item)) (at_default items p.0 t zero_item p.3 p.4) (w.apart q.0 p.0 zero_item q.1 p.1 p.3));
   view = λ t ht.
       let p = in_part start stop items t ht in
       subst (λ x. x.epoch ≡ (get_or items start zero_item).epoch) (at_default items p.0 t zero_item p.3 p.4) ((same p.0 zero_item p.1 p.2).0) ∙ sym view;
@@ -133,10 +146,17 @@ is_group log items start stop alive entered least ordered are order w inside aft
 }
   where
     key_moved : (u t first : Item) → SameItemKey t first → KeyBelow u t → KeyBelow u first
-    key_moved u t first s k = ⊎_elim (λ (a : u.epoch < t.epoch). inl (let e : t.epoch ≡ first.epoch = s.0 in omega arith)) (λ (a : (u.epoch ≡ t.epoch) × (u.number < t.number)). inr (a.0 ∙ s.0, (let n : t.number ≡ first.number = s.1 in let l : u.number < t.number = a.1 in omega arith))) k
+    key_moved u t first s k = ⊎_elim (λ (a : u.epoch < t.epoch). inl (let e : t.epoch ≡ first.epoch = s.0 in omega arith))
+        (λ (a : (u.epoch ≡ t.epoch) × (u.number < t.number)). inr
+        (a.0 ∙ s.0, (let n : t.number ≡ first.number = s.1 in let l : u.number < t.number = a.1 in omega arith))) k
 
 -- the group is done
-pub walked_group : (log : List Fact) (items : List Item) (start stop : ℕ) (alive new : AliveRecords) (least next : Option BrokenLink) → IsInKeyOrder items → IsWalked log items start alive least → start < length items → start < stop → stop ≤ length items → ((k : ℕ) (d : Item) → start ≤ k → k < stop → SameItemKey (get_or items k d) (get_or items start d)) → ((d : Item) → stop < length items → SameItemKey (get_or items stop d) (get_or items start d) → ⊥) → Holds log (take start items ++ take (stop - start) (drop start items)) new → new.view ≡ (get_or items start zero_item).epoch → IsLeastBroken log (take start items ++ take (stop - start) (drop start items)) next → IsWalked log items stop new next
+pub walked_group : (log : List Fact) (items : List Item) (start stop : ℕ) (alive new : AliveRecords) (least next : Option BrokenLink) → IsInKeyOrder items
+    → IsWalked log items start alive least → start < length items → start < stop → stop ≤ length items
+    → ((k : ℕ) (d : Item) → start ≤ k → k < stop → SameItemKey (get_or items k d) (get_or items start d))
+    → ((d : Item) → stop < length items → SameItemKey (get_or items stop d) (get_or items start d) → ⊥)
+    → Holds log (take start items ++ take (stop - start) (drop start items)) new → new.view ≡ (get_or items start zero_item).epoch
+    → IsLeastBroken log (take start items ++ take (stop - start) (drop start items)) next → IsWalked log items stop new next
 walked_group log items start stop alive new least next order w inside after within same apart holds view broken =
     let parts = take_part start stop items (let l : start ≤ stop = omega arith in l) in
     record {
@@ -145,12 +165,16 @@ walked_group log items start stop alive new least next order w inside after with
       view = λ k d l m.
           let at : get_or items k d ≡ get_or items k zero_item = get_or_default items k d zero_item m in
           subst (λ x. new.view ≤ x.epoch) (sym at)
-          (⊎_elim (λ (a : (get_or items start zero_item).epoch < (get_or items k zero_item).epoch). omega arith) (λ (a : ((get_or items start zero_item).epoch ≡ (get_or items k zero_item).epoch) × ((get_or items start zero_item).number ≤ (get_or items k zero_item).number)). let e : (get_or items start zero_item).epoch ≡ (get_or items k zero_item).epoch = a.0 in omega arith) (order start k zero_item (omega arith) m));
+          (⊎_elim (λ (a : (get_or items start zero_item).epoch < (get_or items k zero_item).epoch). omega arith)
+          (λ (a : ((get_or items start zero_item).epoch ≡ (get_or items k zero_item).epoch)
+          × ((get_or items start zero_item).number ≤ (get_or items k zero_item).number)).
+          let e : (get_or items start zero_item).epoch ≡ (get_or items k zero_item).epoch = a.0 in omega arith) (order start k zero_item (omega arith) m));
       apart = λ j k d l m n.
           ⊎_elim
           (λ (q : j < start). w.apart j k d q (omega arith) n)
           (λ (q : start ≤ j).
-          let to_stop : KeyBelow (get_or items j d) (get_or items stop d) = key_below (get_or items j d) (get_or items stop d) (get_or items start d) (same j d q l) (order start stop d (omega arith) (omega arith)) (apart d (omega arith)) in
+          let to_stop : KeyBelow (get_or items j d) (get_or items stop d) = key_below (get_or items j d) (get_or items stop d) (get_or items start d)
+          (same j d q l) (order start stop d (omega arith) (omega arith)) (apart d (omega arith)) in
           key_trans (get_or items j d) (get_or items stop d) (get_or items k d) to_stop (order stop k d m n))
           (cases_lt j start);
     }

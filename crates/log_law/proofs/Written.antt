@@ -47,7 +47,9 @@ advance_same : (a b : AdvanceData) → Advance a ≡ Advance b → a ≡ b
 advance_same a b e = cc
 
 -- the points where the advances that count are the same
-points_as : {roster : ℕ} (xs ys : List AdvanceData) (k j : ℕ) (points : List ℕ) → ((a : AdvanceData) → Contains xs a → a.epoch ≤ k → Contains ys a × (a.epoch ≤ j)) → ((a : AdvanceData) → Contains ys a → a.epoch ≤ j → Contains xs a × (a.epoch ≤ k)) → ArePoints roster xs k points → ArePoints roster ys j points
+points_as : {roster : ℕ} (xs ys : List AdvanceData) (k j : ℕ) (points : List ℕ)
+    → ((a : AdvanceData) → Contains xs a → a.epoch ≤ k → Contains ys a × (a.epoch ≤ j))
+    → ((a : AdvanceData) → Contains ys a → a.epoch ≤ j → Contains xs a × (a.epoch ≤ k)) → ArePoints roster xs k points → ArePoints roster ys j points
 points_as xs ys k j points there back p = record {
   count = p.count;
   each = λ reader r. (
@@ -57,7 +59,8 @@ points_as xs ys k j points there back p = record {
 }
 
 -- a truncation with no lo below the least point has a reader that is not past it
-not_past : {roster : ℕ} (given : List AdvanceData) (k : ℕ) (points : List ℕ) (c : CutData) → 1 ≤ roster → ArePoints roster given k points → ((a : AdvanceData) → Contains given a → a.epoch ≤ k) → least points ≤ c.lo → ArePast roster given c → ⊥
+not_past : {roster : ℕ} (given : List AdvanceData) (k : ℕ) (points : List ℕ) (c : CutData) → 1 ≤ roster → ArePoints roster given k points
+    → ((a : AdvanceData) → Contains given a → a.epoch ≤ k) → least points ≤ c.lo → ArePast roster given c → ⊥
 not_past {roster} given k points c some p within low past =
     let up : c.lo + 1 ≤ least points = least_ge roster points (c.lo + 1) p.count some (λ reader r.
     let s = past reader r in
@@ -67,7 +70,10 @@ not_past {roster} given k points c some p within low past =
     omega arith
 
 -- one advance more
-points_raised : {roster : ℕ} (log : List Fact) (k : ℕ) (old new : List ℕ) (a : AdvanceData) → a.epoch ≤ k → length new ≡ length old → point_of new a.reader ≡ max (point_of old a.reader) a.point → ((reader : ℕ) → IsReader (length old) reader → reader ≢ a.reader → point_of new reader ≡ point_of old reader) → ArePoints roster (advances log) k old → ArePoints roster (advances (log ++ Advance a ∷ [])) k new
+points_raised : {roster : ℕ} (log : List Fact) (k : ℕ) (old new : List ℕ) (a : AdvanceData) → a.epoch ≤ k → length new ≡ length old
+    → point_of new a.reader ≡ max (point_of old a.reader) a.point
+    → ((reader : ℕ) → IsReader (length old) reader → reader ≢ a.reader → point_of new reader ≡ point_of old reader) → ArePoints roster (advances log) k old
+    → ArePoints roster (advances (log ++ Advance a ∷ [])) k new
 points_raised {roster} log k old new a known len raised others p = record {
   count = len ∙ p.count;
   each = λ reader r. ⊎_elim (own reader r) (other reader r) (cases_eq reader a.reader);
@@ -76,7 +82,8 @@ points_raised {roster} log k old new a known len raised others p = record {
     longer : (reader m : ℕ) → HasAdvance (advances log) k reader m → HasAdvance (advances (log ++ Advance a ∷ [])) k reader m
     longer reader m h = (h.0, advance_longer log (Advance a) h.0 h.1, h.2, h.3, h.4)
 
-    shorter : (reader m : ℕ) → HasAdvance (advances (log ++ Advance a ∷ [])) k reader m → HasAdvance (advances log) k reader m ⊎ ((a.reader ≡ reader) × (a.point ≡ m))
+    shorter : (reader m : ℕ) → HasAdvance (advances (log ++ Advance a ∷ [])) k reader m
+        → HasAdvance (advances log) k reader m ⊎ ((a.reader ≡ reader) × (a.point ≡ m))
     shorter reader m h = ⊎_elim
         (λ i. inl (h.0, i, h.2, h.3, h.4))
         (λ (i : Advance a ≡ Advance h.0). let e = advance_same a h.0 i in inr (ap (λ y. y.reader) e ∙ h.3, ap (λ y. y.point) e ∙ h.4))
@@ -94,7 +101,9 @@ points_raised {roster} log k old new a known len raised others p = record {
     own reader r e =
         let q : point_of new reader ≡ max (point_of old reader) a.point = subst (λ n. point_of new n ≡ max (point_of old n) a.point) (sym e) raised in (
           ⊎_elim
-              (λ (s : point_of new reader ≡ point_of old reader). ⊎_elim (λ (z : point_of old reader ≡ 0). inl (s ∙ z)) (λ h. inr (subst (HasAdvance (advances (log ++ Advance a ∷ [])) k reader) (sym s) (longer reader (point_of old reader) h))) (p.each reader r).0)
+              (λ (s : point_of new reader ≡ point_of old reader). ⊎_elim (λ (z : point_of old reader ≡ 0). inl (s ∙ z))
+              (λ h. inr (subst (HasAdvance (advances (log ++ Advance a ∷ [])) k reader) (sym s) (longer reader (point_of old reader) h)))
+              (p.each reader r).0)
               (λ (s : point_of new reader ≡ a.point). inr (a, advance_last log a, known, sym e, sym s))
               (let t : (point_of new reader ≡ point_of old reader) ⊎ (point_of new reader ≡ a.point) = grind (arith, q) in t),
           λ m h. ⊎_elim
@@ -103,7 +112,8 @@ points_raised {roster} log k old new a known len raised others p = record {
               (shorter reader m h),
         )
 
-pub written_nothing : (roster : ℕ) (s : AliveRecords) → IsRoster roster → IsStack s → stack_of s ≡ [] → s.view ≡ 0 → IsWritten roster [] s 0 (replicate roster 0)
+pub written_nothing : (roster : ℕ) (s : AliveRecords) → IsRoster roster → IsStack s → stack_of s ≡ [] → s.view ≡ 0
+    → IsWritten roster [] s 0 (replicate roster 0)
 written_nothing roster s readers k e v = record {
   sound = record { readers = readers; keeps = λ p f h. absurd (none-some f h) };
   begun = λ i l m. absurd (omega arith);
@@ -117,7 +127,11 @@ written_nothing roster s readers k e v = record {
   given = λ a h. absurd (none_in (Advance a) ((advance_in [] a).0 h));
   reached = record {
     count = length-replicate roster 0;
-    each = λ reader r. (inl (get_or-replicate roster (reader - 1) 0 0 (omega (arith, r.0, r.1))), λ m h. absurd (none_in (Advance h.0) ((advance_in [] h.0).0 h.1)));
+    each = λ reader r. (
+      inl (get_or-replicate roster (reader - 1) 0 0 (omega (arith, r.0, r.1))),
+      λ m h. absurd
+          (none_in (Advance h.0) ((advance_in [] h.0).0 h.1)),
+    );
   };
   held = ([], record { each = λ t h. absurd (none_in t h); all = λ p r l h w. absurd (none-some (Record r) h) }, holds_nothing [] s k e);
 }
@@ -126,9 +140,11 @@ pub at_in : (log : List Fact) (p : ℕ) (r : RecordData) → slice_get log p ≡
 at_in log p r h = (record_in log r).1 (p, slice_get_within log p (Record r) h, get_or_from_slice_get log p (Record r) (Record r) h)
 
 -- items and the stack, in a longer log
-item_longer : {roster : ℕ} (log : List Fact) (f : Fact) (view : ℕ) (t : Item) → Extends roster log (log ++ f ∷ []) view → ((r : RecordData) → Contains (records log) r → r.epoch ≤ view) → IsItem log t → IsItem (log ++ f ∷ []) t
+item_longer : {roster : ℕ} (log : List Fact) (f : Fact) (view : ℕ) (t : Item) → Extends roster log (log ++ f ∷ []) view
+    → ((r : RecordData) → Contains (records log) r → r.epoch ≤ view) → IsItem log t → IsItem (log ++ f ∷ []) t
 item_longer log f view t x within it =
-    let l : it.redo.epoch ≤ view = within it.redo ((record_in log it.redo).1 (t.place, slice_get_within log t.place (Record it.redo) it.at, at_get log t.place (Record it.redo) it.at)) in
+    let l : it.redo.epoch ≤ view = within it.redo
+    ((record_in log it.redo).1 (t.place, slice_get_within log t.place (Record it.redo) it.at, at_get log t.place (Record it.redo) it.at)) in
     record {
       redo = it.redo;
       at = new_place log f (Record it.redo) t.place it.at;
@@ -143,10 +159,12 @@ item_longer log f view t x within it =
     at_get : (xs : List Fact) (p : ℕ) (g : Fact) → slice_get xs p ≡ Some g → get_or xs p g ≡ g
     at_get xs p g h = get_or_from_slice_get xs p g g h
 
-law2_back : {roster : ℕ} (log : List Fact) (f : Fact) (view : ℕ) (r : RecordData) → Extends roster log (log ++ f ∷ []) view → HasCutsTo (counted log) view → r.epoch ≤ view → Law2 (log ++ f ∷ []) (Record r) → Law2 log (Record r)
+law2_back : {roster : ℕ} (log : List Fact) (f : Fact) (view : ℕ) (r : RecordData) → Extends roster log (log ++ f ∷ []) view → HasCutsTo (counted log) view
+    → r.epoch ≤ view → Law2 (log ++ f ∷ []) (Record r) → Law2 log (Record r)
 law2_back log f view r x has l law = (λ i a b. has i a (omega arith), λ c h e. law.1 c (x.up c h) e)
 
-items_longer : {roster : ℕ} (log : List Fact) (f : Fact) (view : ℕ) (past : List Item) → Extends roster log (log ++ f ∷ []) view → HasCutsTo (counted log) view → ((r : RecordData) → Contains (records log) r → r.epoch ≤ view) → ((r : RecordData) → f ≡ Record r → ⊥) → AreItems log past → AreItems (log ++ f ∷ []) past
+items_longer : {roster : ℕ} (log : List Fact) (f : Fact) (view : ℕ) (past : List Item) → Extends roster log (log ++ f ∷ []) view → HasCutsTo (counted log) view
+    → ((r : RecordData) → Contains (records log) r → r.epoch ≤ view) → ((r : RecordData) → f ≡ Record r → ⊥) → AreItems log past → AreItems (log ++ f ∷ []) past
 items_longer log f view past x has within other are = record {
   each = λ t h. item_longer log f view t x within (are.each t h);
   all = λ p r l h law. ⊎_elim
@@ -156,7 +174,8 @@ items_longer log f view past x has within other are = record {
       (place_cases log f (Record r) p h);
 }
 
-holds_longer : {roster : ℕ} (log : List Fact) (f : Fact) (past : List Item) (s : AliveRecords) → Extends roster log (log ++ f ∷ []) s.view → Holds log past s → Holds (log ++ f ∷ []) past s
+holds_longer : {roster : ℕ} (log : List Fact) (f : Fact) (past : List Item) (s : AliveRecords) → Extends roster log (log ++ f ∷ []) s.view → Holds log past s
+    → Holds (log ++ f ∷ []) past s
 holds_longer log f past s x h = record {
   stack = h.stack;
   falls = h.falls;
@@ -170,9 +189,11 @@ abbrev pub item_of_last : (log : List Fact) (r : RecordData) → Item
 item_of_last log r = record { place = length log; epoch = r.epoch; number = r.number; page = r.page; back = r.back; block_back = r.block_back }
 
 -- the group of the last record alone
-last_item : {roster : ℕ} (log : List Fact) (s : AliveRecords) (last : ℕ) (points : List ℕ) (r : RecordData) → IsWritten roster log s last points → r.epoch ≡ s.view → last < r.number → IsItem (log ++ Record r ∷ []) (item_of_last log r)
+last_item : {roster : ℕ} (log : List Fact) (s : AliveRecords) (last : ℕ) (points : List ℕ) (r : RecordData) → IsWritten roster log s last points
+    → r.epoch ≡ s.view → last < r.number → IsItem (log ++ Record r ∷ []) (item_of_last log r)
 last_item {roster} log s last points r w ep above =
-    let x : Extends roster log (log ++ Record r ∷ []) s.view = extends_other log (Record r) s.view (λ c e. absurd (cc)) (λ d hd. w.upto d (counted_among log d hd)) (λ b e. absurd (cc)) in
+    let x : Extends roster log (log ++ Record r ∷ []) s.view = extends_other log (Record r) s.view (λ c e. absurd (cc))
+    (λ d hd. w.upto d (counted_among log d hd)) (λ b e. absurd (cc)) in
     record {
       redo = r;
       at = last_place log (Record r);
@@ -187,14 +208,16 @@ last_item {roster} log s last points r w ep above =
       block_back = refl;
     }
 
-last_group : {roster : ℕ} (log : List Fact) (s : AliveRecords) (last : ℕ) (points : List ℕ) (r : RecordData) → (w : IsWritten roster log s last points) → r.epoch ≡ s.view → last < r.number → IsGroup (log ++ Record r ∷ []) (w.held.0 ++ item_of_last log r ∷ []) w.held.0 (item_of_last log r ∷ []) s
+last_group : {roster : ℕ} (log : List Fact) (s : AliveRecords) (last : ℕ) (points : List ℕ) (r : RecordData) → (w : IsWritten roster log s last points)
+    → r.epoch ≡ s.view → last < r.number → IsGroup (log ++ Record r ∷ []) (w.held.0 ++ item_of_last log r ∷ []) w.held.0 (item_of_last log r ∷ []) s
 last_group {roster} log s last points r w ep above =
     let longer = log ++ Record r ∷ [] in
     let t = item_of_last log r in
     let past = w.held.0 in
     let are = w.held.1 in
     let holds = w.held.2 in
-    let x : Extends roster log (log ++ Record r ∷ []) s.view = extends_other log (Record r) s.view (λ c e. absurd (cc)) (λ d hd. w.upto d (counted_among log d hd)) (λ b e. absurd (cc)) in
+    let x : Extends roster log (log ++ Record r ∷ []) s.view = extends_other log (Record r) s.view (λ c e. absurd (cc))
+    (λ d hd. w.upto d (counted_among log d hd)) (λ b e. absurd (cc)) in
     record {
       ordered = λ c h. ⊎_elim
           (λ (m : Contains (cuts log) c). (cut_facts c (kept roster log (Cut c) w.sound ((cut_in log c).0 m)).shape).1)
@@ -217,7 +240,8 @@ last_group {roster} log s last points r w ep above =
       before = λ u h. Contains-append_left past (t ∷ []) u h;
       split = λ v u hv hu below. ⊎_elim
           (λ (m : Contains past u). m)
-          (λ (m : Contains (t ∷ []) u). absurd (key_apart u v (ap (λ y. y.epoch) (sym (only t u m) ∙ only t v hv)) (ap (λ y. y.number) (sym (only t u m) ∙ only t v hv)) below))
+          (λ (m : Contains (t ∷ []) u). absurd (key_apart u v (ap (λ y. y.epoch) (sym (only t u m) ∙ only t v hv))
+          (ap (λ y. y.number) (sym (only t u m) ∙ only t v hv)) below))
           (Contains-append_cases past (t ∷ []) u hu);
       apart = λ v u hv hu. subst (KeyBelow u) (only t v hv) (earlier_key u hu);
       view = λ v hv. ap (λ y. y.epoch) (sym (only t v hv)) ∙ ep;
@@ -225,7 +249,8 @@ last_group {roster} log s last points r w ep above =
     }
   where
     key_apart : (u v : Item) → u.epoch ≡ v.epoch → u.number ≡ v.number → KeyBelow u v → ⊥
-    key_apart u v e n h = ⊎_elim (λ (a : u.epoch < v.epoch). omega arith) (λ (a : (u.epoch ≡ v.epoch) × (u.number < v.number)). let b : u.number < v.number = a.1 in omega arith) h
+    key_apart u v e n h = ⊎_elim (λ (a : u.epoch < v.epoch). omega arith)
+        (λ (a : (u.epoch ≡ v.epoch) × (u.number < v.number)). let b : u.number < v.number = a.1 in omega arith) h
 
     earlier_key : (u : Item) → Contains w.held.0 u → KeyBelow u (item_of_last log r)
     earlier_key u hu =
@@ -239,15 +264,18 @@ last_group {roster} log s last points r w ep above =
         (λ (q : it.redo.epoch ≢ s.view). inl (omega arith))
         (cases_eq it.redo.epoch s.view)
 
-record_apart : {roster : ℕ} (log : List Fact) (s : AliveRecords) (last : ℕ) (points : List ℕ) (r : RecordData) → IsWritten roster log s last points → r.epoch ≡ s.view → last < r.number → Law1 log (Record r)
+record_apart : {roster : ℕ} (log : List Fact) (s : AliveRecords) (last : ℕ) (points : List ℕ) (r : RecordData) → IsWritten roster log s last points
+    → r.epoch ≡ s.view → last < r.number → Law1 log (Record r)
 record_apart log s last points r w ep above (Record q) h k =
     absurd (let m : q.number ≤ last = w.bound.numbers q ((record_in log q).1 h) (k.0 ∙ ep) in let n : q.number ≡ r.number = k.1 in omega arith)
 record_apart log s last points r w ep above (Cut c) h k = absurd k
 record_apart log s last points r w ep above (Advance a) h k = absurd k
 
-record_rest : {roster : ℕ} (log : List Fact) (s : AliveRecords) (last : ℕ) (points : List ℕ) (r : RecordData) → IsWritten roster log s last points → r.epoch ≡ s.view → last < r.number → (g : Fact) → Contains log g → KeepsRest roster log g → KeepsRest roster (log ++ Record r ∷ []) g
+record_rest : {roster : ℕ} (log : List Fact) (s : AliveRecords) (last : ℕ) (points : List ℕ) (r : RecordData) → IsWritten roster log s last points
+    → r.epoch ≡ s.view → last < r.number → (g : Fact) → Contains log g → KeepsRest roster log g → KeepsRest roster (log ++ Record r ∷ []) g
 record_rest {roster} log s last points r w ep above (Record q) h k =
-    let x : Extends roster log (log ++ Record r ∷ []) s.view = extends_other log (Record r) s.view (λ c e. absurd (cc)) (λ d hd. w.upto d (counted_among log d hd)) (λ b e. absurd (cc)) in
+    let x : Extends roster log (log ++ Record r ∷ []) s.view = extends_other log (Record r) s.view (λ c e. absurd (cc))
+    (λ d hd. w.upto d (counted_among log d hd)) (λ b e. absurd (cc)) in
     let hq = (record_in log q).1 h in
     let l : q.epoch ≤ s.view = w.within q hq in
     record_keeps log (log ++ Record r ∷ []) s.view q x (λ o m. record_longer log (Record r) o m)
@@ -263,34 +291,48 @@ record_rest {roster} log s last points r w ep above (Record q) h k =
     (record_cases log (Record r) o m)) l k
 record_rest {roster} log s last points r w ep above (Cut c) h k = (tt, tt, tt, tt)
 record_rest {roster} log s last points r w ep above (Advance a) h k =
-    advance_keeps log (log ++ Record r ∷ []) s.view a (extends_other log (Record r) s.view (λ c e. absurd (cc)) (λ d hd. w.upto d (counted_among log d hd)) (λ b e. absurd (cc))) k
+    advance_keeps log (log ++ Record r ∷ []) s.view a
+    (extends_other log (Record r) s.view (λ c e. absurd (cc)) (λ d hd. w.upto d (counted_among log d hd)) (λ b e. absurd (cc))) k
 
-pub written_record : {roster : ℕ} (log : List Fact) (s new : AliveRecords) (last : ℕ) (points : List ℕ) (r : RecordData) (x : Entry) → IsWritten roster log s last points → HasShape (Record r) → r.epoch ≡ s.view → last < r.number → r.back ≡ top_number (stack_of s) → r.block_back ≡ page_top r.page (stack_of s) → IsStack new → new.view ≡ s.view → stack_of new ≡ x ∷ stack_of s → x.number ≡ r.number → x.page ≡ r.page → IsWritten roster (log ++ Record r ∷ []) new r.number points
+pub written_record : {roster : ℕ} (log : List Fact) (s new : AliveRecords) (last : ℕ) (points : List ℕ) (r : RecordData) (x : Entry)
+    → IsWritten roster log s last points → HasShape (Record r) → r.epoch ≡ s.view → last < r.number → r.back ≡ top_number (stack_of s)
+    → r.block_back ≡ page_top r.page (stack_of s) → IsStack new → new.view ≡ s.view → stack_of new ≡ x ∷ stack_of s → x.number ≡ r.number → x.page ≡ r.page
+    → IsWritten roster (log ++ Record r ∷ []) new r.number points
 written_record {roster} log s new last points r x w shape ep above eb ec k v st xn xp =
     let longer = log ++ Record r ∷ [] in
     let t = item_of_last log r in
     let past = w.held.0 in
     let items = w.held.0 ++ item_of_last log r ∷ [] in
-    let e : Extends roster log (log ++ Record r ∷ []) s.view = extends_other log (Record r) s.view (λ c q. absurd (cc)) (λ d hd. w.upto d (counted_among log d hd)) (λ b q. absurd (cc)) in
+    let e : Extends roster log (log ++ Record r ∷ []) s.view = extends_other log (Record r) s.view (λ c q. absurd (cc))
+    (λ d hd. w.upto d (counted_among log d hd)) (λ b q. absurd (cc)) in
     let it = last_item log s last points r w ep above in
     let g = last_group log s last points r w ep above in
     let ht : Contains (t ∷ []) t = here t [] in
     let same : it.redo ≡ r = one_redo longer (length log) it.redo r it.at (last_place log (Record r)) in
     let two = subst (λ q. Law2 longer (Record q)) same it.begun in
-    let three = subst (IsGreatest (IsAliveBelow longer r (λ o. Unit {0}))) (sym eb) (subst (λ q. IsGreatest (IsAliveBelow longer q (λ o. Unit {0})) (top_number (stack_of s))) same (law3_top longer items past (t ∷ []) s g t ht it)) in
-    let four = subst (IsGreatest (IsAliveBelow longer r (λ o. o.page ≡ r.page))) (sym ec) (subst (λ q. IsGreatest (IsAliveBelow longer q (λ o. o.page ≡ q.page)) (page_top q.page (stack_of s))) same (law4_top longer items past (t ∷ []) s g t ht it)) in
+    let three = subst (IsGreatest (IsAliveBelow longer r (λ o. Unit {0}))) (sym eb)
+    (subst (λ q. IsGreatest (IsAliveBelow longer q (λ o. Unit {0})) (top_number (stack_of s))) same (law3_top longer items past (t ∷ []) s g t ht it)) in
+    let four = subst (IsGreatest (IsAliveBelow longer r (λ o. o.page ≡ r.page))) (sym ec)
+    (subst (λ q. IsGreatest (IsAliveBelow longer q (λ o. o.page ≡ q.page)) (page_top q.page (stack_of s))) same
+    (law4_top longer items past (t ∷ []) s g t ht it)) in
     let follow = can_follow longer items past (t ∷ []) s g in
     record {
-      sound = sound_push log (Record r) w.sound (record_rest log s last points r w ep above) shape (record_apart log s last points r w ep above) (two, three, four, tt);
+      sound = sound_push log (Record r) w.sound (record_rest log s last points r w ep above) shape (record_apart log s last points r w ep above)
+          (two, three, four, tt);
       begun = subst (HasCutsTo (counted longer)) (sym v) (has_cuts_longer log longer s.view s.view e w.begun);
       upto = λ c h. subst (λ i. c.epoch ≤ i) (sym v) (⊎_elim (w.upto c) (λ (q : Record r ≡ Cut c). absurd (cc)) (cut_cases log (Record r) c h));
-      within = λ q h. subst (λ i. q.epoch ≤ i) (sym v) (⊎_elim (w.within q) (λ (m : Record r ≡ Record q). let n : r.epoch ≡ q.epoch = ap (λ y. y.epoch) (same_redo r q m) in omega arith) (record_cases log (Record r) q h));
+      within = λ q h. subst (λ i. q.epoch ≤ i) (sym v)
+          (⊎_elim (w.within q) (λ (m : Record r ≡ Record q). let n : r.epoch ≡ q.epoch = ap (λ y. y.epoch) (same_redo r q m) in omega arith)
+          (record_cases log (Record r) q h));
       bound = subst (λ i. IsBoundAt longer i r.number) (sym v) (record {
-        numbers = λ q h n. ⊎_elim (λ m. let l : q.number ≤ last = w.bound.numbers q m n in omega arith) (λ (m : Record r ≡ Record q). let o : r.number ≡ q.number = ap (λ y. y.number) (same_redo r q m) in omega arith) (record_cases log (Record r) q h);
-        base = λ c h n. ⊎_elim (λ m. let l : c.hi ≤ last = w.bound.base c m n in omega arith) (λ (m : Record r ≡ Cut c). absurd (cc)) (cut_cases log (Record r) c h);
+        numbers = λ q h n. ⊎_elim (λ m. let l : q.number ≤ last = w.bound.numbers q m n in omega arith)
+            (λ (m : Record r ≡ Record q). let o : r.number ≡ q.number = ap (λ y. y.number) (same_redo r q m) in omega arith) (record_cases log (Record r) q h);
+        base = λ c h n. ⊎_elim (λ m. let l : c.hi ≤ last = w.bound.base c m n in omega arith) (λ (m : Record r ≡ Cut c). absurd (cc))
+            (cut_cases log (Record r) c h);
         least = inl (r, record_last log r, ep, refl);
       });
-      given = λ b h. let l : b.epoch ≤ s.view = ⊎_elim (w.given b) (λ (i : Record r ≡ Advance b). absurd (cc)) (advance_cases log (Record r) b h) in omega arith;
+      given = λ b h. let l : b.epoch ≤ s.view = ⊎_elim (w.given b) (λ (i : Record r ≡ Advance b). absurd (cc)) (advance_cases log (Record r) b h) in
+          omega arith;
       reached = points_as (advances log) (advances longer) s.view new.view points
           (λ b h l. (advance_longer log (Record r) b h, omega arith))
           (λ b h l. let i = ⊎_elim (λ i. i) (λ (i : Record r ≡ Advance b). absurd (cc)) (advance_cases log (Record r) b h) in (i, w.given b i))
@@ -304,7 +346,8 @@ cut_apart log c view upto after (Record q) h k = absurd k
 cut_apart log c view upto after (Cut d) h k = absurd (let l : d.epoch ≤ view = upto d ((cut_in log d).1 h) in let e : d.epoch ≡ c.epoch = k in omega arith)
 cut_apart log c view upto after (Advance a) h k = absurd k
 
-cut_rest : {roster : ℕ} (log : List Fact) (s : AliveRecords) (last : ℕ) (points : List ℕ) (c : CutData) → IsWritten roster log s last points → Extends roster log (log ++ Cut c ∷ []) s.view → (g : Fact) → Contains log g → KeepsRest roster log g → KeepsRest roster (log ++ Cut c ∷ []) g
+cut_rest : {roster : ℕ} (log : List Fact) (s : AliveRecords) (last : ℕ) (points : List ℕ) (c : CutData) → IsWritten roster log s last points
+    → Extends roster log (log ++ Cut c ∷ []) s.view → (g : Fact) → Contains log g → KeepsRest roster log g → KeepsRest roster (log ++ Cut c ∷ []) g
 cut_rest log s last points c w x (Record q) h k =
     let hq = (record_in log q).1 h in
     record_keeps log (log ++ Cut c ∷ []) s.view q x (λ o m. record_longer log (Cut c) o m)
@@ -312,32 +355,42 @@ cut_rest log s last points c w x (Record q) h k =
 cut_rest log s last points c w x (Cut d) h k = (tt, tt, tt, tt)
 cut_rest log s last points c w x (Advance a) h k = advance_keeps log (log ++ Cut c ∷ []) s.view a x k
 
-first_new : (log : List Fact) (c : CutData) (view : ℕ) → ((d : CutData) → Contains (cuts log) d → d.epoch ≤ view) → view < c.epoch → first_cut (log ++ Cut c ∷ []) c.epoch ≡ Some c
+first_new : (log : List Fact) (c : CutData) (view : ℕ) → ((d : CutData) → Contains (cuts log) d → d.epoch ≤ view) → view < c.epoch
+    → first_cut (log ++ Cut c ∷ []) c.epoch ≡ Some c
 first_new log c view upto after = at_first (first_cut log c.epoch) refl
   where
     at_first : (o : Option CutData) → first_cut log c.epoch ≡ o → first_cut (log ++ Cut c ∷ []) c.epoch ≡ Some c
-    at_first None q = first_cut-append log (Cut c ∷ []) c.epoch ∙ ap (λ o. or_first o (first_cut (Cut c ∷ []) c.epoch)) q ∙ first_cut-one c c.epoch ∙ ap (λ b. cond b (Some c) None) (eq-eqb c.epoch c.epoch refl)
+    at_first None q = first_cut-append log (Cut c ∷ []) c.epoch ∙ ap (λ o. or_first o (first_cut (Cut c ∷ []) c.epoch)) q ∙ first_cut-one c c.epoch ∙ ap
+        (λ b. cond b (Some c) None) (eq-eqb c.epoch c.epoch refl)
     at_first (Some d) q =
         let k = counted_at log c.epoch d q in
         absurd (let l : d.epoch ≤ view = upto d (counted_among log d k.0) in let e : d.epoch ≡ c.epoch = k.1 in omega arith)
 
-pub written_cut : {roster : ℕ} (log : List Fact) (s new : AliveRecords) (last : ℕ) (points : List ℕ) (c : CutData) → IsWritten roster log s last points → cut_fault c ≡ None → c.epoch ≡ s.view + 1 → least points ≤ c.lo → IsStack new → new.view ≡ s.view + 1 → stack_of new ≡ without_above c.lo (stack_of s) → IsWritten roster (log ++ Cut c ∷ []) new c.hi points
+pub written_cut : {roster : ℕ} (log : List Fact) (s new : AliveRecords) (last : ℕ) (points : List ℕ) (c : CutData) → IsWritten roster log s last points
+    → cut_fault c ≡ None → c.epoch ≡ s.view + 1 → least points ≤ c.lo → IsStack new → new.view ≡ s.view + 1 → stack_of new ≡ without_above c.lo (stack_of s)
+    → IsWritten roster (log ++ Cut c ∷ []) new c.hi points
 written_cut {roster} log s new last points c w shape ep low k v st =
     let longer = log ++ Cut c ∷ [] in
     let after : s.view < c.epoch = omega arith in
-    let x : Extends roster log (log ++ Cut c ∷ []) s.view = extends_cut log c s.view after (not_past (advances log) s.view points c w.sound.readers.0 w.reached w.given low) in
-    let first : first_cut (log ++ Cut c ∷ []) (s.view + 1) ≡ Some c = subst (λ i. first_cut (log ++ Cut c ∷ []) i ≡ Some c) ep (first_new log c s.view w.upto after) in
+    let x : Extends roster log (log ++ Cut c ∷ []) s.view = extends_cut log c s.view after
+    (not_past (advances log) s.view points c w.sound.readers.0 w.reached w.given low) in
+    let first : first_cut (log ++ Cut c ∷ []) (s.view + 1) ≡ Some c = subst (λ i. first_cut (log ++ Cut c ∷ []) i ≡ Some c) ep
+    (first_new log c s.view w.upto after) in
     record {
       sound = sound_push log (Cut c) w.sound (cut_rest log s last points c w x) shape (cut_apart log c s.view w.upto after) (tt, tt, tt, tt);
       begun = λ i l m. ⊎_elim
           (λ (q : i ≤ s.view). has_cuts_longer log longer s.view s.view x w.begun i l q)
           (λ (q : s.view < i). let n = counted_at longer (s.view + 1) c first in (c, n.0, (let same : c.epoch ≡ i = omega arith in same)))
           (⊎_elim (λ (q : s.view < i). inr q) (λ (q : i ≤ s.view). inl q) (cases_lt s.view i));
-      upto = λ d h. ⊎_elim (λ m. let l : d.epoch ≤ s.view = w.upto d m in omega arith) (λ (q : Cut c ≡ Cut d). let n : c.epoch ≡ d.epoch = ap (λ y. y.epoch) (cut_same c d q) in omega arith) (cut_cases log (Cut c) d h);
-      within = λ q h. ⊎_elim (λ m. let l : q.epoch ≤ s.view = w.within q m in omega arith) (λ (m : Cut c ≡ Record q). absurd (cc)) (record_cases log (Cut c) q h);
+      upto = λ d h. ⊎_elim (λ m. let l : d.epoch ≤ s.view = w.upto d m in omega arith)
+          (λ (q : Cut c ≡ Cut d). let n : c.epoch ≡ d.epoch = ap (λ y. y.epoch) (cut_same c d q) in omega arith) (cut_cases log (Cut c) d h);
+      within = λ q h. ⊎_elim (λ m. let l : q.epoch ≤ s.view = w.within q m in omega arith) (λ (m : Cut c ≡ Record q). absurd (cc))
+          (record_cases log (Cut c) q h);
       bound = record {
-        numbers = λ q h n. ⊎_elim (λ m. absurd (let l : q.epoch ≤ s.view = w.within q m in omega arith)) (λ (m : Cut c ≡ Record q). absurd (cc)) (record_cases log (Cut c) q h);
-        base = λ d h n. ⊎_elim (λ m. absurd (let l : d.epoch ≤ s.view = w.upto d m in omega arith)) (λ (q : Cut c ≡ Cut d). let o : c.hi ≡ d.hi = ap (λ y. y.hi) (cut_same c d q) in omega arith) (cut_cases log (Cut c) d h);
+        numbers = λ q h n. ⊎_elim (λ m. absurd (let l : q.epoch ≤ s.view = w.within q m in omega arith)) (λ (m : Cut c ≡ Record q). absurd (cc))
+            (record_cases log (Cut c) q h);
+        base = λ d h n. ⊎_elim (λ m. absurd (let l : d.epoch ≤ s.view = w.upto d m in omega arith))
+            (λ (q : Cut c ≡ Cut d). let o : c.hi ≡ d.hi = ap (λ y. y.hi) (cut_same c d q) in omega arith) (cut_cases log (Cut c) d h);
         least = inr (inl (c, cut_last log c, ep ∙ sym v, refl));
       };
       given = λ b h. let l : b.epoch ≤ s.view = ⊎_elim (w.given b) (λ (i : Cut c ≡ Advance b). absurd (cc)) (advance_cases log (Cut c) b h) in omega arith;
@@ -358,18 +411,22 @@ advance_apart log a (Record q) h k = absurd k
 advance_apart log a (Cut c) h k = absurd k
 advance_apart log a (Advance b) h k = absurd k
 
-advance_rest : {roster : ℕ} (log : List Fact) (s : AliveRecords) (last : ℕ) (points : List ℕ) (a : AdvanceData) → IsWritten roster log s last points → Extends roster log (log ++ Advance a ∷ []) s.view → (g : Fact) → Contains log g → KeepsRest roster log g → KeepsRest roster (log ++ Advance a ∷ []) g
+advance_rest : {roster : ℕ} (log : List Fact) (s : AliveRecords) (last : ℕ) (points : List ℕ) (a : AdvanceData) → IsWritten roster log s last points
+    → Extends roster log (log ++ Advance a ∷ []) s.view → (g : Fact) → Contains log g → KeepsRest roster log g → KeepsRest roster (log ++ Advance a ∷ []) g
 advance_rest log s last points a w x (Record q) h k =
     let hq = (record_in log q).1 h in
     record_keeps log (log ++ Advance a ∷ []) s.view q x (λ o m. record_longer log (Advance a) o m)
-    (λ o m i below. ⊎_elim (λ (j : Contains (records log) o). j) (λ (e : Advance a ≡ Record o). absurd (cc)) (record_cases log (Advance a) o m)) (w.within q hq) k
+    (λ o m i below. ⊎_elim (λ (j : Contains (records log) o). j) (λ (e : Advance a ≡ Record o). absurd (cc)) (record_cases log (Advance a) o m))
+    (w.within q hq) k
 advance_rest log s last points a w x (Cut d) h k = (tt, tt, tt, tt)
 advance_rest log s last points a w x (Advance b) h k = advance_keeps log (log ++ Advance a ∷ []) s.view b x k
 
-pub advance_sound : {roster : ℕ} (log : List Fact) (s : AliveRecords) (last : ℕ) (points : List ℕ) (a : AdvanceData) → IsWritten roster log s last points → HasShape (Advance a) → a.epoch ≡ s.view → IsReader roster a.reader → IsSound roster (log ++ Advance a ∷ [])
+pub advance_sound : {roster : ℕ} (log : List Fact) (s : AliveRecords) (last : ℕ) (points : List ℕ) (a : AdvanceData) → IsWritten roster log s last points
+    → HasShape (Advance a) → a.epoch ≡ s.view → IsReader roster a.reader → IsSound roster (log ++ Advance a ∷ [])
 advance_sound {roster} log s last points a w shape ep reader =
     let longer = log ++ Advance a ∷ [] in
-    let x : Extends roster log (log ++ Advance a ∷ []) s.view = extends_other log (Advance a) s.view (λ c q. absurd (cc)) (λ d hd. w.upto d (counted_among log d hd)) (λ b q. ap (λ y. y.epoch) (sym (advance_same a b q)) ∙ ep) in
+    let x : Extends roster log (log ++ Advance a ∷ []) s.view = extends_other log (Advance a) s.view (λ c q. absurd (cc))
+    (λ d hd. w.upto d (counted_among log d hd)) (λ b q. ap (λ y. y.epoch) (sym (advance_same a b q)) ∙ ep) in
     sound_push log (Advance a) w.sound (advance_rest log s last points a w x) shape (advance_apart log a) (
       tt,
       tt,
@@ -378,15 +435,21 @@ advance_sound {roster} log s last points a w shape ep reader =
         reader,
         subst (HasCutsTo (counted longer)) (sym ep) (has_cuts_longer log longer s.view s.view x w.begun),
         λ c h l past. absurd (
-            let m : c.epoch ≤ s.view = ⊎_elim (λ i. w.upto c (counted_among log c i)) (λ (q : Advance a ≡ Cut c). absurd (cc)) (counted_cases log (Advance a) c h) in
+            let m : c.epoch ≤ s.view = ⊎_elim (λ i. w.upto c (counted_among log c i)) (λ (q : Advance a ≡ Cut c). absurd (cc))
+            (counted_cases log (Advance a) c h) in
             omega arith),
       ),
     )
 
-pub written_advance : {roster : ℕ} (log : List Fact) (s : AliveRecords) (last : ℕ) (points higher : List ℕ) (a : AdvanceData) → IsWritten roster log s last points → HasShape (Advance a) → a.epoch ≡ s.view → IsReader roster a.reader → length higher ≡ length points → point_of higher a.reader ≡ max (point_of points a.reader) a.point → ((reader : ℕ) → IsReader (length points) reader → reader ≢ a.reader → point_of higher reader ≡ point_of points reader) → IsWritten roster (log ++ Advance a ∷ []) s last higher
+pub written_advance : {roster : ℕ} (log : List Fact) (s : AliveRecords) (last : ℕ) (points higher : List ℕ) (a : AdvanceData)
+    → IsWritten roster log s last points → HasShape (Advance a) → a.epoch ≡ s.view → IsReader roster a.reader → length higher ≡ length points
+    → point_of higher a.reader ≡ max (point_of points a.reader) a.point
+    → ((reader : ℕ) → IsReader (length points) reader → reader ≢ a.reader → point_of higher reader ≡ point_of points reader)
+    → IsWritten roster (log ++ Advance a ∷ []) s last higher
 written_advance {roster} log s last points higher a w shape ep of len raised others =
     let longer = log ++ Advance a ∷ [] in
-    let x : Extends roster log (log ++ Advance a ∷ []) s.view = extends_other log (Advance a) s.view (λ c q. absurd (cc)) (λ d hd. w.upto d (counted_among log d hd)) (λ b q. ap (λ y. y.epoch) (sym (advance_same a b q)) ∙ ep) in
+    let x : Extends roster log (log ++ Advance a ∷ []) s.view = extends_other log (Advance a) s.view (λ c q. absurd (cc))
+    (λ d hd. w.upto d (counted_among log d hd)) (λ b q. ap (λ y. y.epoch) (sym (advance_same a b q)) ∙ ep) in
     record {
       sound = advance_sound log s last points a w shape ep of;
       begun = has_cuts_longer log longer s.view s.view x w.begun;
@@ -395,9 +458,11 @@ written_advance {roster} log s last points higher a w shape ep of len raised oth
       bound = record {
         numbers = λ q h n. ⊎_elim (λ m. w.bound.numbers q m n) (λ (m : Advance a ≡ Record q). absurd (cc)) (record_cases log (Advance a) q h);
         base = λ c h n. ⊎_elim (λ m. w.bound.base c m n) (λ (m : Advance a ≡ Cut c). absurd (cc)) (cut_cases log (Advance a) c h);
-        least = ⊎_elim (λ h. inl (h.0, record_longer log (Advance a) h.0 h.1, h.2, h.3)) (λ h. inr (⊎_elim (λ i. inl (i.0, cut_longer log (Advance a) i.0 i.1, i.2, i.3)) inr h)) w.bound.least;
+        least = ⊎_elim (λ h. inl (h.0, record_longer log (Advance a) h.0 h.1, h.2, h.3))
+            (λ h. inr (⊎_elim (λ i. inl (i.0, cut_longer log (Advance a) i.0 i.1, i.2, i.3)) inr h)) w.bound.least;
       };
-      given = λ b h. ⊎_elim (w.given b) (λ (i : Advance a ≡ Advance b). let n : a.epoch ≡ b.epoch = ap (λ y. y.epoch) (advance_same a b i) in omega arith) (advance_cases log (Advance a) b h);
+      given = λ b h. ⊎_elim (w.given b) (λ (i : Advance a ≡ Advance b). let n : a.epoch ≡ b.epoch = ap (λ y. y.epoch) (advance_same a b i) in omega arith)
+          (advance_cases log (Advance a) b h);
       reached = points_raised log s.view points higher a (omega arith) len raised others w.reached;
       held = (
         w.held.0,
@@ -407,7 +472,8 @@ written_advance {roster} log s last points higher a w shape ep of len raised oth
     }
 
 -- the view is the complete epoch
-pub complete_view : {roster : ℕ} (log : List Fact) (s : AliveRecords) (last : ℕ) (points : List ℕ) → IsWritten roster log s last points → IsCompleteEpoch (cuts log) s.view
+pub complete_view : {roster : ℕ} (log : List Fact) (s : AliveRecords) (last : ℕ) (points : List ℕ) → IsWritten roster log s last points
+    → IsCompleteEpoch (cuts log) s.view
 complete_view log s last points w = (
   inr (λ i l m. let c = w.begun i l m in (c.0, counted_among log c.0 c.1, c.2)),
   λ m h. ⊎_elim
@@ -417,7 +483,8 @@ complete_view log s last points w = (
 )
 
 -- what the stack has is not above the bound
-entry_at_most : {roster : ℕ} (log : List Fact) (s : AliveRecords) (last : ℕ) (points : List ℕ) → IsWritten roster log s last points → (x : Entry) → Contains (stack_of s) x → x.number ≤ last
+entry_at_most : {roster : ℕ} (log : List Fact) (s : AliveRecords) (last : ℕ) (points : List ℕ) → IsWritten roster log s last points → (x : Entry)
+    → Contains (stack_of s) x → x.number ≤ last
 entry_at_most {roster} log s last points w x hx =
     let h = w.held.2.each x hx in
     let t = h.0 in
@@ -426,7 +493,8 @@ entry_at_most {roster} log s last points w x hx =
     let known : t.epoch ≤ s.view = alive.known in
     let n : t.number ≡ x.number = h.3 in
     ⊎_elim
-    (λ (e : t.epoch ≡ s.view). let l : it.redo.number ≤ last = w.bound.numbers it.redo (at_in log t.place it.redo it.at) (sym it.epoch ∙ e) in let m : t.number ≡ it.redo.number = it.number in omega arith)
+    (λ (e : t.epoch ≡ s.view). let l : it.redo.number ≤ last = w.bound.numbers it.redo (at_in log t.place it.redo it.at) (sym it.epoch ∙ e) in
+    let m : t.number ≡ it.redo.number = it.number in omega arith)
     (λ (e : t.epoch ≢ s.view).
     let c = w.begun s.view (omega arith) (omega arith) in
     let ce : c.0.epoch ≡ s.view = c.2 in
@@ -441,7 +509,8 @@ top_of_list : (xs : List Entry) (last : ℕ) → ((x : Entry) → Contains xs x 
 top_of_list [] last h = omega arith
 top_of_list (x ∷ xs) last h = h x (here x xs)
 
-pub top_at_most : {roster : ℕ} (log : List Fact) (s : AliveRecords) (last : ℕ) (points : List ℕ) → IsWritten roster log s last points → top_number (stack_of s) ≤ last
+pub top_at_most : {roster : ℕ} (log : List Fact) (s : AliveRecords) (last : ℕ) (points : List ℕ) → IsWritten roster log s last points
+    → top_number (stack_of s) ≤ last
 top_at_most log s last points w = top_of_list (stack_of s) last (entry_at_most log s last points w)
 
 page_step : (g : ℕ) (x : Entry) (xs : List Entry) (b : Bool) → page_top g xs ≤ x.number → cond b x.number (page_top g xs) ≤ x.number
@@ -450,13 +519,15 @@ page_step g x xs false h = h
 
 page_at_most : (g : ℕ) (xs : List Entry) (n : ℕ) → AllByRecursion (λ y. y.number ≤ n) xs → IsRising NotBelow xs → page_top g xs ≤ n
 page_at_most g [] n all r = omega arith
-page_at_most g (x ∷ xs) n all r = let l : cond (x.page == g) x.number (page_top g xs) ≤ x.number = page_step g x xs (x.page == g) (page_at_most g xs x.number r.0 r.1) in let m : x.number ≤ n = all.0 in omega arith
+page_at_most g (x ∷ xs) n all r = let l : cond (x.page == g) x.number (page_top g xs) ≤ x.number = page_step g x xs (x.page == g)
+    (page_at_most g xs x.number r.0 r.1) in let m : x.number ≤ n = all.0 in omega arith
 
 page_below_top : (g : ℕ) (xs : List Entry) → IsRising NotBelow xs → page_top g xs ≤ top_number xs
 page_below_top g [] r = omega arith
 page_below_top g (x ∷ xs) r = page_step g x xs (x.page == g) (page_at_most g xs x.number r.0 r.1)
 
-pub page_at_most_top : {roster : ℕ} (log : List Fact) (s : AliveRecords) (last : ℕ) (points : List ℕ) (g : ℕ) → IsWritten roster log s last points → page_top g (stack_of s) ≤ top_number (stack_of s)
+pub page_at_most_top : {roster : ℕ} (log : List Fact) (s : AliveRecords) (last : ℕ) (points : List ℕ) (g : ℕ) → IsWritten roster log s last points
+    → page_top g (stack_of s) ≤ top_number (stack_of s)
 page_at_most_top log s last points g w = page_below_top g (stack_of s) w.held.2.falls
 
 -- a record's shape, once its backlinks are in order
@@ -466,10 +537,13 @@ open_conds z y x A B C T ez ey ex = ap (λ b. cond b A (cond y B (cond x C T))) 
 abbrev pub writes_fault : ℕ → List WriteData → Option ShapeFault
 writes_fault n ws = option_or (patches_fault (plain ws)) (if nat_lt max_number n then Some TooLarge else None)
 
-pub shape_of_plain : (e n b p bb : ℕ) (ws : List WriteData) → record_fault (plain_record n ws) ≡ None → b < n → bb ≤ b → record_fault (record_of e n b p bb ws) ≡ None
+pub shape_of_plain : (e n b p bb : ℕ) (ws : List WriteData) → record_fault (plain_record n ws) ≡ None → b < n → bb ≤ b
+    → record_fault (record_of e n b p bb ws) ≡ None
 shape_of_plain e n b p bb ws h below le =
-    open_conds (n == 0) (nat_le n b) (nat_lt b bb) (Some NumberIsZero) (Some BackNotBelow) (Some BlockBackAbove) (writes_fault n ws) (ne_eqb n 0 (λ q. absurd (omega arith))) (lt-leb n b below) (le-ltb b bb le)
-    ∙ sym (open_conds (n == 0) (nat_le n 0) (nat_lt 0 0) (Some NumberIsZero) (Some BackNotBelow) (Some BlockBackAbove) (writes_fault n ws) (ne_eqb n 0 (λ q. absurd (omega arith))) (lt-leb n 0 (omega arith)) (le-ltb 0 0 (omega arith)))
+    open_conds (n == 0) (nat_le n b) (nat_lt b bb) (Some NumberIsZero) (Some BackNotBelow) (Some BlockBackAbove) (writes_fault n ws)
+    (ne_eqb n 0 (λ q. absurd (omega arith))) (lt-leb n b below) (le-ltb b bb le)
+    ∙ sym (open_conds (n == 0) (nat_le n 0) (nat_lt 0 0) (Some NumberIsZero) (Some BackNotBelow) (Some BlockBackAbove) (writes_fault n ws)
+    (ne_eqb n 0 (λ q. absurd (omega arith))) (lt-leb n 0 (omega arith)) (le-ltb 0 0 (omega arith)))
     ∙ h
 
 -- a cut's shape does not depend on its epoch, past 0
@@ -477,7 +551,8 @@ pub cut_shape_of : (e lo hi : ℕ) → 0 < e → cut_fault (cut_of 1 lo hi) ≡ 
 cut_shape_of e lo hi l h = ap (λ b. cond b (Some EpochIsZero) (cut_fault (cut_of 1 lo hi))) (ne_eqb e 0 (λ q. absurd (omega arith))) ∙ h
 
 -- the same stack, in other memory
-pub written_same : {roster : ℕ} (log : List Fact) (s new : AliveRecords) (last : ℕ) (points : List ℕ) → IsWritten roster log s last points → IsStack new → stack_of new ≡ stack_of s → new.view ≡ s.view → IsWritten roster log new last points
+pub written_same : {roster : ℕ} (log : List Fact) (s new : AliveRecords) (last : ℕ) (points : List ℕ) → IsWritten roster log s last points → IsStack new
+    → stack_of new ≡ stack_of s → new.view ≡ s.view → IsWritten roster log new last points
 written_same {roster} log s new last points w k st v = record {
   sound = w.sound;
   begun = subst (HasCutsTo (counted log)) (sym v) w.begun;
@@ -493,8 +568,10 @@ written_same {roster} log s new last points w k st v = record {
       stack = k;
       falls = subst (IsRising NotBelow) (sym st) w.held.2.falls;
       known = λ t h. subst (λ i. t.epoch ≤ i) (sym v) (w.held.2.known t h);
-      each = λ x h. let q = w.held.2.each x (subst (λ xs. Contains xs x) st h) in (q.0, q.1, subst (λ i. IsAlive (counted log) i q.0.epoch q.0.number) (sym v) q.2, q.3, q.4);
-      all = λ t h a. let q = w.held.2.all t h (subst (λ i. IsAlive (counted log) i t.epoch t.number) v a) in (q.0, subst (λ xs. Contains xs q.0) (sym st) q.1, q.2, q.3);
+      each = λ x h. let q = w.held.2.each x (subst (λ xs. Contains xs x) st h) in
+          (q.0, q.1, subst (λ i. IsAlive (counted log) i q.0.epoch q.0.number) (sym v) q.2, q.3, q.4);
+      all = λ t h a. let q = w.held.2.all t h (subst (λ i. IsAlive (counted log) i t.epoch t.number) v a) in
+          (q.0, subst (λ xs. Contains xs q.0) (sym st) q.1, q.2, q.3);
     },
   );
 }
@@ -506,8 +583,10 @@ pushed old mid new f ok t e h = h ∙ ap (λ b. cond b (mid ++ f ∷ []) mid) t 
 pub reader_some : (a : AdvanceData) → advance_fault a ≡ None → 1 ≤ a.reader
 reader_some a h = grind (arith, nat_tests)
 
-pub minimum_of : {roster : ℕ} (now : WriterData) (log : List Fact) (s : AliveRecords) (last : ℕ) (points : List ℕ) (n : ℕ) → IsWritten roster log s last points → writer_of roster log ≡ now → n ≡ least points → IsMinimum now.roster now.log n
+pub minimum_of : {roster : ℕ} (now : WriterData) (log : List Fact) (s : AliveRecords) (last : ℕ) (points : List ℕ) (n : ℕ) → IsWritten roster log s last points
+    → writer_of roster log ≡ now → n ≡ least points → IsMinimum now.roster now.log n
 minimum_of now log s last points n w e q = subst (λ v. IsMinimum v.roster v.log n) e (s.view, complete_view log s last points w, (points, w.reached, q))
 
-pub bound_of : {roster : ℕ} (log now : List Fact) (s : AliveRecords) (last : ℕ) (points : List ℕ) → IsWritten roster log s last points → log ≡ now → IsBound now last
+pub bound_of : {roster : ℕ} (log now : List Fact) (s : AliveRecords) (last : ℕ) (points : List ℕ) → IsWritten roster log s last points → log ≡ now
+    → IsBound now last
 bound_of log now s last points w e = subst (λ xs. IsBound xs last) e (s.view, complete_view log s last points w, w.bound)

@@ -9,6 +9,10 @@ use Rattle.log_law.specs.declared.alive.Entry.{Entry}
 use Rattle.log_law.specs.declared.alive.AliveRecords.{AliveRecords}
 use Rattle.log_law.specs.declared.links.Item.{Item}
 
+-- how many pages a segment has: 2^16
+abbrev pub page_count : ℕ
+page_count = 65536
+
 abbrev pub stack_of : AliveRecords → List Entry
 stack_of s = reverse s.entries.items
 
@@ -39,7 +43,7 @@ KnowsBeneath (x ∷ xs) = (x.beneath ≡ page_top x.page xs) × KnowsBeneath xs
 
 -- the pages' tops are those of the stack
 pub record IsStack (s : AliveRecords) : Type 0 where
-  pub len : length s.page_tops.items ≡ 65536
+  pub len : length s.page_tops.items ≡ page_count
   pub tops : (g : ℕ) → slice_index s.page_tops.items g ≡ page_top g (stack_of s)
   pub beneath : KnowsBeneath (stack_of s)
 
@@ -51,8 +55,10 @@ pub record Holds (log : List Fact) (past : List Item) (s : AliveRecords) : Type 
   pub stack : IsStack s
   pub falls : IsRising NotBelow (stack_of s)
   pub known : (t : Item) → Contains past t → t.epoch ≤ s.view
-  pub each : (x : Entry) → Contains (stack_of s) x → (t : Item) × Contains past t × IsAlive (counted log) s.view t.epoch t.number × (t.number ≡ x.number) × (t.page ≡ x.page)
-  pub all : (t : Item) → Contains past t → IsAlive (counted log) s.view t.epoch t.number → (x : Entry) × Contains (stack_of s) x × (x.number ≡ t.number) × (x.page ≡ t.page)
+  pub each : (x : Entry) → Contains (stack_of s) x → (t : Item) × Contains past t × IsAlive (counted log) s.view t.epoch t.number × (t.number ≡ x.number)
+      × (t.page ≡ x.page)
+  pub all : (t : Item) → Contains past t → IsAlive (counted log) s.view t.epoch t.number → (x : Entry) × Contains (stack_of s) x × (x.number ≡ t.number)
+      × (x.page ≡ t.page)
 
 -- items of one number, alive in the view, that is not below what the stack has
 pub record CanFollow (log : List Fact) (group : List Item) (s : AliveRecords) : Type 0 where

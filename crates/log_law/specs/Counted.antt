@@ -2,7 +2,7 @@
 use Rattle.std.specs.Prelude.{◌≡◌, ℕ, ◌<◌, ◌≤◌, ◌⊎◌, ◌↔◌, ◌==◌, List, [], ◌∷◌, length, slice_index, slice_index_or, Option, Some, None, if◌then◌else◌}
 use Rattle.std.specs.List.{Contains}
 use Rattle.redo_core.specs.Data.{CutData}
-use Rattle.redo_core.specs.Shape.{cut_fault}
+use Rattle.redo_core.specs.Shape.{cut_fault, epoch_count, max_number}
 use Rattle.redo_core.specs.Sets.{cuts, advances}
 use Rattle.redo_core.specs.Roster.{IsRoster}
 use Rattle.redo_core.specs.Past.{ArePast}
@@ -26,18 +26,18 @@ or_first None other = other
 
 -- the table has each epoch's first truncation in its place, and the log's truncations have their shape
 pub record IsTable (log : List Fact) (table : List (Option CutData)) : Type 0 where
-  pub len : length table ≡ 65536
+  pub len : length table ≡ epoch_count
   pub at : (e : ℕ) → slice_index_or table e None ≡ first_cut log e
   pub shapes : (c : CutData) → Contains (cuts log) c → cut_fault c ≡ None
 
 -- the epochs up to k, and no later ones, have begun
 abbrev pub IsBegun : List Fact → ℕ → Type 0
-IsBegun log k = (e : ℕ) → e < 65536 → HasCutsTo (counted log) e ↔ (e ≤ k)
+IsBegun log k = (e : ℕ) → e < epoch_count → HasCutsTo (counted log) e ↔ (e ≤ k)
 
 -- the least lo of the truncations after an epoch that all readers are past, or the greatest number where there is none
 pub record IsLeastLaterLo (roster : ℕ) (log : List Fact) (e later : ℕ) : Type 0 where
   pub below : (c : CutData) → Contains (counted log) c → e < c.epoch → ArePast roster (advances log) c → later ≤ c.lo
-  pub least : (later ≡ 281474976710655) ⊎ ((c : CutData) × Contains (counted log) c × (e < c.epoch) × ArePast roster (advances log) c × (c.lo ≡ later))
+  pub least : (later ≡ max_number) ⊎ ((c : CutData) × Contains (counted log) c × (e < c.epoch) × ArePast roster (advances log) c × (c.lo ≡ later))
 
 -- what the table and the complete epoch say of a log
 pub record Describes (log : List Fact) (known : CountedCuts) : Type 0 where
@@ -48,5 +48,5 @@ pub record Describes (log : List Fact) (known : CountedCuts) : Type 0 where
 pub record HasLeastLaterLo (roster : ℕ) (log : List Fact) (known : CountedCuts) : Type 0 where
   pub some_readers : IsRoster roster
   pub readers : known.readers ≡ roster
-  pub los_len : length known.least_later_lo.items ≡ 65536
-  pub least_later_lo : (e : ℕ) → e < 65536 → IsLeastLaterLo roster log e (slice_index known.least_later_lo.items e)
+  pub los_len : length known.least_later_lo.items ≡ epoch_count
+  pub least_later_lo : (e : ℕ) → e < epoch_count → IsLeastLaterLo roster log e (slice_index known.least_later_lo.items e)

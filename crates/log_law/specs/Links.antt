@@ -70,9 +70,11 @@ JudgesItem log t answer = (r : RecordData) → slice_get log t.place ≡ Some (R
 -- the least place of these items whose backlinks are wrong, if there is one
 abbrev pub IsLeastBroken : List Fact → List Item → Option BrokenLink → Type 0
 IsLeastBroken log past None = (t : Item) → Contains past t → JudgesItem log t None
-IsLeastBroken log past (Some b) = ((t : Item) → Contains past t → t.place < b.place → JudgesItem log t None) × ((t : Item) × Contains past t × (t.place ≡ b.place) × JudgesItem log t (Some b.law))
+IsLeastBroken log past (Some b) = ((t : Item) → Contains past t → t.place < b.place → JudgesItem log t None)
+    × ((t : Item) × Contains past t × (t.place ≡ b.place) × JudgesItem log t (Some b.law))
 
 -- the least place of the log whose record keeps law 2 and has a wrong backlink, if there is one
 abbrev pub IsFirstBrokenLink : List Fact → Option BrokenLink → Type 0
 IsFirstBrokenLink log None = (p : ℕ) (r : RecordData) → slice_get log p ≡ Some (Record r) → Law2 log (Record r) → KeepsLinks log r
-IsFirstBrokenLink log (Some b) = ((p : ℕ) (r : RecordData) → p < b.place → slice_get log p ≡ Some (Record r) → Law2 log (Record r) → KeepsLinks log r) × ((r : RecordData) × (slice_get log b.place ≡ Some (Record r)) × BreaksLink log r b.law)
+IsFirstBrokenLink log (Some b) = ((p : ℕ) (r : RecordData) → p < b.place → slice_get log p ≡ Some (Record r) → Law2 log (Record r) → KeepsLinks log r)
+    × ((r : RecordData) × (slice_get log b.place ≡ Some (Record r)) × BreaksLink log r b.law)

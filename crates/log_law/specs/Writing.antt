@@ -22,7 +22,8 @@ use Rattle.log_law.specs.Links.{AreItems}
 pub record IsBoundAt (log : List Fact) (k bound : ℕ) : Type 0 where
   pub numbers : (r : RecordData) → Contains (records log) r → r.epoch ≡ k → r.number ≤ bound
   pub base : (c : CutData) → Contains (cuts log) c → c.epoch ≡ k → c.hi ≤ bound
-  pub least : ((r : RecordData) × Contains (records log) r × (r.epoch ≡ k) × (r.number ≡ bound)) ⊎ (((c : CutData) × Contains (cuts log) c × (c.epoch ≡ k) × (c.hi ≡ bound)) ⊎ ((k ≡ 0) × (bound ≡ 0)))
+  pub least : ((r : RecordData) × Contains (records log) r × (r.epoch ≡ k) × (r.number ≡ bound))
+      ⊎ (((c : CutData) × Contains (cuts log) c × (c.epoch ≡ k) × (c.hi ≡ bound)) ⊎ ((k ≡ 0) × (bound ≡ 0)))
 
 -- the bound of the writer's epoch, which is the complete epoch
 abbrev pub IsBound : List Fact → ℕ → Type 0
@@ -92,8 +93,10 @@ RefusesRecover w lo hi (Shape fault) = cut_fault (cut_of 1 lo hi) ≡ Some fault
 RefusesRecover w lo hi (LoBelowAdvance point) = (cut_fault (cut_of 1 lo hi) ≡ None) × IsMinimum w.roster w.log point × (lo < point)
 RefusesRecover w lo hi (NumberNotAbove bound) = ⊥
 RefusesRecover w lo hi (OtherRoster own shown) = ⊥
-RefusesRecover w lo hi EpochsUsedUp = (cut_fault (cut_of 1 lo hi) ≡ None) × ((point : ℕ) × IsMinimum w.roster w.log point × (point ≤ lo)) × IsCompleteEpoch (cuts w.log) 65535
-RefusesRecover w lo hi Memory = (cut_fault (cut_of 1 lo hi) ≡ None) × ((point : ℕ) × IsMinimum w.roster w.log point × (point ≤ lo)) × (IsCompleteEpoch (cuts w.log) 65535 → ⊥)
+RefusesRecover w lo hi EpochsUsedUp = (cut_fault (cut_of 1 lo hi) ≡ None) × ((point : ℕ) × IsMinimum w.roster w.log point × (point ≤ lo)) × IsCompleteEpoch
+    (cuts w.log) 65535
+RefusesRecover w lo hi Memory = (cut_fault (cut_of 1 lo hi) ≡ None) × ((point : ℕ) × IsMinimum w.roster w.log point × (point ≤ lo))
+    × (IsCompleteEpoch (cuts w.log) 65535 → ⊥)
 
 -- the advance is of the complete epoch and joins the log
 pub record AdvancesAt (old new : WriterData) (given_reader given_point : ℕ) (a : AdvanceData) : Type 0 where
@@ -107,6 +110,7 @@ abbrev pub RefusesAdvance : WriterData → ℕ → ℕ → WriterFault → Type 
 RefusesAdvance w reader point (Shape fault) = advance_fault (advance_of 0 reader point) ≡ Some fault
 RefusesAdvance w reader point (LoBelowAdvance p) = ⊥
 RefusesAdvance w reader point (NumberNotAbove bound) = ⊥
-RefusesAdvance w reader point (OtherRoster own shown) = (advance_fault (advance_of 0 reader point) ≡ None) × (own ≡ w.roster) × (shown ≡ reader) × (IsReader w.roster reader → ⊥)
+RefusesAdvance w reader point (OtherRoster own shown) = (advance_fault (advance_of 0 reader point) ≡ None) × (own ≡ w.roster) × (shown ≡ reader)
+    × (IsReader w.roster reader → ⊥)
 RefusesAdvance w reader point EpochsUsedUp = ⊥
 RefusesAdvance w reader point Memory = (advance_fault (advance_of 0 reader point) ≡ None) × IsReader w.roster reader

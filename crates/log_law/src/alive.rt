@@ -1,4 +1,5 @@
 ghost use Rattle.std.specs.Prelude.{◌≡◌, ◌<◌, ◌≤◌, List, [], ◌∷◌, length, reverse, IfOk, OnOk, OnErr, ◌+◌};
+ghost use Rattle.redo_core.specs.Shape.{epoch_count};
 ghost use Rattle.redo_core.specs.declared.facts.Fact.{Fact};
 ghost use Rattle.log_law.specs.declared.links.Item.{Item};
 ghost use Rattle.log_law.specs.Counted.{Describes};
@@ -16,6 +17,9 @@ pub(crate) struct Entry {
     beneath: u64,
 }
 
+/// How many pages a segment has: 0 to 65,535.
+const PAGE_COUNT: usize = 65536;
+
 /// The records of some epochs that are alive in a view, by rising number, with the greatest number of each page.
 #[derive(Drop)]
 pub(crate) struct AliveRecords {
@@ -29,7 +33,7 @@ impl AliveRecords {
     pub(crate) fn new(alloc: Global) -> Result<Self, AllocError>
         ensures { IfOk result (λ s. IsStack s × (stack_of s ≡ []) × (s.view ≡ 0)) }
     {
-        let page_tops = filled(alloc, 0, 65536)?;
+        let page_tops = filled(alloc, 0, PAGE_COUNT)?;
         Ok(AliveRecords {
             view: 0,
             entries: Vec::new(alloc),
@@ -59,7 +63,8 @@ impl AliveRecords {
     pub(crate) fn push(&mut self, number: u64, page: u16) -> Result<(), AllocError>
         requires { IsStack self.old }
         ensures stack { OnOk result (IsStack self.new) }
-        ensures top { OnOk result (stack_of self.new ≡ record { number = number; page = page; beneath = page_top page (stack_of self.old) } ∷ stack_of self.old) }
+        ensures top { OnOk result (stack_of self.new
+            ≡ record { number = number; page = page; beneath = page_top page (stack_of self.old) } ∷ stack_of self.old) }
         ensures view { self.new.view ≡ self.old.view }
         ensures err { OnErr result ((stack_of self.new ≡ stack_of self.old) × IsStack self.new) }
     {
@@ -116,7 +121,7 @@ impl AliveRecords {
 
     /// Goes on to the view of a later epoch.
     pub(crate) fn enter(&mut self, epoch: u16, cuts: &CountedCuts)
-        requires table { length cuts.now.by_epoch.items ≡ 65536 }
+        requires table { length cuts.now.by_epoch.items ≡ epoch_count }
         requires stack { IsStack self.old }
         ensures stack { IsStack self.new }
         ensures view { self.old.view ≤ epoch → self.new.view ≡ epoch }

@@ -1,6 +1,6 @@
 ghost use Rattle.std.specs.Prelude.{◌≡◌, ℕ, ◌≤◌, ◌<◌, ◌⊎◌, ◌↔◌, List, [], ◌∷◌, length, slice_index, slice_index_or, IsTrue, IfOk, MatchOption, None, Some};
 ghost use Rattle.redo_core.specs.Data.{RecordData};
-ghost use Rattle.redo_core.specs.Shape.{cut_fault, advance_fault};
+ghost use Rattle.redo_core.specs.Shape.{cut_fault, advance_fault, epoch_count};
 ghost use Rattle.redo_core.specs.Sound.{Law2, Law5};
 ghost use Rattle.redo_core.specs.declared.facts.Fact.{Fact};
 ghost use Rattle.redo_core.specs.declared.facts.Fact.TheVariants.{Record, Advance as OfAdvance};
@@ -44,7 +44,7 @@ impl CountedCuts {
 
     /// The truncation that counts for an epoch.
     pub(crate) fn at(&self, epoch: u16) -> Option<Cut>
-        requires { length self.now.by_epoch.items ≡ 65536 }
+        requires { length self.now.by_epoch.items ≡ epoch_count }
         ensures { result ≡ slice_index_or self.now.by_epoch.items epoch None }
     {
         self.by_epoch[usize::from(epoch)]
@@ -52,7 +52,7 @@ impl CountedCuts {
 
     /// Whether the truncation is the one that counts for its epoch.
     pub(crate) fn counts(&self, cut: &Cut) -> bool
-        requires { length self.now.by_epoch.items ≡ 65536 }
+        requires { length self.now.by_epoch.items ≡ epoch_count }
         ensures { IsTrue result ↔ (slice_index_or self.now.by_epoch.items cut.now.epoch None ≡ Some cut.now) }
     {
         match self.at(cut.epoch()) {
@@ -63,7 +63,7 @@ impl CountedCuts {
 
     /// Whether an epoch has begun, and a record of this number may stand in it.
     pub(crate) fn admits(&self, epoch: u16, number: u64) -> bool
-        requires { length self.now.by_epoch.items ≡ 65536 }
+        requires { length self.now.by_epoch.items ≡ epoch_count }
         ensures { (log : List Fact) (r : RecordData) → Describes log self.now → r.epoch ≡ epoch → r.number ≡ number → IsTrue result ↔ Law2 log (Record r) }
     {
         if epoch > self.complete {
@@ -78,9 +78,10 @@ impl CountedCuts {
     /// Whether an advance's reader is of the roster, its epoch has begun, and no later truncation that all readers are past cuts
     /// below its point.
     pub(crate) fn spares(&self, advance: Advance) -> bool
-        requires { length self.now.least_later_lo.items ≡ 65536 }
+        requires { length self.now.least_later_lo.items ≡ epoch_count }
         ensures shape { advance_fault advance ≡ None }
-        ensures law { (roster : ℕ) (log : List Fact) → Describes log self.now → HasLeastLaterLo roster log self.now → IsTrue result ↔ Law5 roster log (OfAdvance advance) }
+        ensures law { (roster : ℕ) (log : List Fact) → Describes log self.now → HasLeastLaterLo roster log self.now
+            → IsTrue result ↔ Law5 roster log (OfAdvance advance) }
     {
         if advance.reader() > self.readers {
             return false;
@@ -119,7 +120,7 @@ pub(crate) fn filled(alloc: Global, number: u64, len: usize) -> Result<Vec<u64>,
 }
 
 fn count(table: &mut [Option<Cut>], cut: &Cut)
-    requires { length table.old ≡ 65536 }
+    requires { length table.old ≡ epoch_count }
     ensures slots { (e : ℕ) → slice_index_or table.new e None ≡ or_first (slice_index_or table.old e None) (first_at e (cut.now ∷ [])) }
     ensures shape { cut_fault cut.now ≡ None }
 {
@@ -130,7 +131,7 @@ fn count(table: &mut [Option<Cut>], cut: &Cut)
 }
 
 fn complete_epoch(table: &[Option<Cut>]) -> u16
-    requires { length table.now ≡ 65536 }
+    requires { length table.now ≡ epoch_count }
     ensures { (log : List Fact) → IsTable log table.now → IsBegun log result }
 {
     for epoch in 1..EPOCH_COUNT {
@@ -146,10 +147,10 @@ fn least_later_los(
     table: &[Option<Cut>],
     lows: &[u64],
 ) -> Result<Vec<u64>, AllocError>
-    requires table { length table.now ≡ 65536 }
-    requires lows { length lows.now ≡ 65536 }
+    requires table { length table.now ≡ epoch_count }
+    requires lows { length lows.now ≡ epoch_count }
     ensures { (roster : ℕ) (log : List Fact) → IsTable log table.now → AreLows roster log lows.now
-        → IfOk result (λ v. (length v.items ≡ 65536) × ((e : ℕ) → e < 65536 → IsLeastLaterLo roster log e (slice_index v.items e))) }
+        → IfOk result (λ v. (length v.items ≡ epoch_count) × ((e : ℕ) → e < epoch_count → IsLeastLaterLo roster log e (slice_index v.items e))) }
 {
     let mut least_later_lo = filled(alloc, MAX_NUMBER, EPOCH_COUNT)?;
     let mut epoch = EPOCH_COUNT - 1;

@@ -13,6 +13,7 @@
 mod alive;
 mod check;
 mod counted;
+mod fixed;
 mod keys;
 mod links;
 mod lows;

@@ -1,4 +1,5 @@
 ghost use Rattle.std.specs.Prelude.{◌≡◌, ℕ, ◌<◌, ◌≤◌, List, [], ◌∷◌, ◌++◌, length, slice_index_or, IfOk, OnOk, Some, Contains};
+ghost use Rattle.redo_core.specs.Shape.{epoch_count};
 ghost use Rattle.redo_core.specs.declared.facts.Fact.{Fact};
 ghost use Rattle.log_law.specs.Counted.{Describes};
 ghost use Rattle.log_law.specs.Alive.{stack_of, IsStack, Holds, CanFollow};
@@ -51,7 +52,14 @@ fn sort_by_key(items: &mut Vec<Item>) -> Result<(), AllocError>
 }
 
 fn item_of(place: usize, redo: &Record) -> Item
-    ensures { result ≡ record { place = place; epoch = redo.now.epoch; number = redo.now.number; page = redo.now.page; back = redo.now.back; block_back = redo.now.block_back } }
+    ensures { result ≡ record {
+      place = place;
+      epoch = redo.now.epoch;
+      number = redo.now.number;
+      page = redo.now.page;
+      back = redo.now.back;
+      block_back = redo.now.block_back;
+    } }
 {
     Item {
         place,
@@ -83,7 +91,7 @@ fn least_broken(
     items: &[Item],
     cuts: &CountedCuts,
 ) -> Result<Option<BrokenLink>, AllocError>
-    requires { length cuts.now.by_epoch.items ≡ 65536 }
+    requires { length cuts.now.by_epoch.items ≡ epoch_count }
     ensures { (log : List Fact) → Describes log cuts.now → AreItems log items.now → IsInKeyOrder items.now → IfOk result (IsLeastBroken log items.now) }
 {
     let mut alive = AliveRecords::new(alloc)?;
@@ -132,7 +140,8 @@ fn broken_law(item: &Item, alive: &AliveRecords) -> Option<Law>
 }
 
 fn earlier(least: Option<BrokenLink>, place: usize, law: Law) -> Option<BrokenLink>
-    ensures { (log : List Fact) (past : List Item) (t : Item) → t.place ≡ place → IsLeastBroken log past least → JudgesItem log t (Some law) → IsLeastBroken log (past ++ t ∷ []) result }
+    ensures { (log : List Fact) (past : List Item) (t : Item) → t.place ≡ place → IsLeastBroken log past least → JudgesItem log t (Some law)
+        → IsLeastBroken log (past ++ t ∷ []) result }
 {
     match least {
         Some(known) if known.place <= place => least,
@@ -146,7 +155,8 @@ fn least_in(
     mut least: Option<BrokenLink>,
 ) -> Option<BrokenLink>
     requires { IsStack alive.now }
-    ensures { (log : List Fact) (past : List Item) → IsLeastBroken log past least → ((t : Item) → Contains group.now t → JudgesItem log t (law_broken t (stack_of alive.now))) → IsLeastBroken log (past ++ group.now) result }
+    ensures { (log : List Fact) (past : List Item) → IsLeastBroken log past least
+        → ((t : Item) → Contains group.now t → JudgesItem log t (law_broken t (stack_of alive.now))) → IsLeastBroken log (past ++ group.now) result }
 {
     for item in group {
         if let Some(law) = broken_law(item, alive) {
@@ -160,7 +170,8 @@ fn push_all(alive: &mut AliveRecords, group: &[Item]) -> Result<(), AllocError>
     requires { IsStack alive.old }
     ensures view { alive.new.view ≡ alive.old.view }
     ensures stack { OnOk result (IsStack alive.new) }
-    ensures holds { (log : List Fact) (past : List Item) → Holds log past alive.old → CanFollow log group.now alive.old → OnOk result (Holds log (past ++ group.now) alive.new) }
+    ensures holds { (log : List Fact) (past : List Item) → Holds log past alive.old → CanFollow log group.now alive.old
+        → OnOk result (Holds log (past ++ group.now) alive.new) }
 {
     for item in group {
         alive.push(item.number, item.page)?;

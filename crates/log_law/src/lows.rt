@@ -1,4 +1,5 @@
 ghost use Rattle.std.specs.Prelude.{◌≡◌, ◌≢◌, ℕ, ◌<◌, ◌≤◌, ◌⊎◌, ◌↔◌, min, max, length, slice_index, IfOk};
+ghost use Rattle.redo_core.specs.Shape.{epoch_count};
 ghost use Rattle.redo_core.specs.Roster.{IsRoster};
 ghost use Rattle.redo_core.specs.Data.{AdvanceData};
 ghost use Rattle.log_law.specs.Lows.{AreTops, AreLows, AreSteps, IsStep, IsReached};
@@ -23,10 +24,10 @@ pub(crate) fn lows_of(alloc: Global, facts: &[Fact], roster: Roster) -> Result<V
 }
 
 fn lower_all(lows: &mut Vec<u64>, tops: &[u64])
-    requires own { length lows.old.items ≡ 65536 }
-    requires other { length tops.now ≡ 65536 }
-    ensures len { length lows.new.items ≡ 65536 }
-    ensures each { (e : ℕ) → e < 65536 → slice_index lows.new.items e ≡ min (slice_index lows.old.items e) (slice_index tops.now e) }
+    requires own { length lows.old.items ≡ epoch_count }
+    requires other { length tops.now ≡ epoch_count }
+    ensures len { length lows.new.items ≡ epoch_count }
+    ensures each { (e : ℕ) → e < epoch_count → slice_index lows.new.items e ≡ min (slice_index lows.old.items e) (slice_index tops.now e) }
 {
     for epoch in 0..EPOCH_COUNT {
         lows[epoch] = lows[epoch].min(tops[epoch]);
@@ -56,9 +57,9 @@ fn steps_of(alloc: Global, facts: &[Fact], reader: u8) -> Result<Vec<u64>, Alloc
 }
 
 fn note(tops: &mut Vec<u64>, advance: Advance, reader: u8)
-    requires { length tops.old.items ≡ 65536 }
-    ensures len { length tops.new.items ≡ 65536 }
-    ensures each { (e n : ℕ) → e < 65536 → (n < slice_index tops.new.items e) ↔ ((n < slice_index tops.old.items e) ⊎ IsStep advance reader e n) }
+    requires { length tops.old.items ≡ epoch_count }
+    ensures len { length tops.new.items ≡ epoch_count }
+    ensures each { (e n : ℕ) → e < epoch_count → (n < slice_index tops.new.items e) ↔ ((n < slice_index tops.old.items e) ⊎ IsStep advance reader e n) }
 {
     let after = usize::from(advance.epoch()) + 1;
     if advance.reader() == reader && after < EPOCH_COUNT {
@@ -68,9 +69,9 @@ fn note(tops: &mut Vec<u64>, advance: Advance, reader: u8)
 
 // Each number becomes the greatest up to its place.
 fn rise(tops: &mut Vec<u64>)
-    requires { length tops.old.items ≡ 65536 }
-    ensures len { length tops.new.items ≡ 65536 }
-    ensures each { (e n : ℕ) → e < 65536 → (n < slice_index tops.new.items e) ↔ IsReached tops.old.items e n }
+    requires { length tops.old.items ≡ epoch_count }
+    ensures len { length tops.new.items ≡ epoch_count }
+    ensures each { (e n : ℕ) → e < epoch_count → (n < slice_index tops.new.items e) ↔ IsReached tops.old.items e n }
 {
     for epoch in 1..EPOCH_COUNT {
         let before = tops[epoch - 1];

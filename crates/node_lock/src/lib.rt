@@ -24,7 +24,7 @@ mod tests;
 mod turn;
 mod visit;
 
-pub use lock::Lock;
+pub use lock::{Lock, MAX_PASSES};
 pub use pass::Pass;
 pub use rule::Trailed;
 pub use turn::Turn;

@@ -16,6 +16,9 @@ use std::alloc::{AllocError, Global};
 use std::marker::Model;
 use std::sync::Wait;
 
+/// The most passes of a lock.
+pub const MAX_PASSES: u64 = 64;
+
 /// A lock round a state. Contracts see which lock it is, and with how many passes it was opened.
 #[derive(Drop)]
 pub struct Lock<S: Trailed + Drop> {
@@ -42,7 +45,7 @@ impl<S: Trailed + Drop> Lock<S> {
         passes: u64,
     ) -> Result<(Lock<S>, Vec<Pass<S>>), Refused<S, AllocError>>
         requires state { (S.trail state ≡ []) × S.keeps state }
-        requires passes { (0 < passes) × (passes ≤ 64) }
+        requires passes { (0 < passes) × (passes ≤ MAX_PASSES) }
         ensures lock { IfOk result (λ t. t.0.passes ≡ passes) }
         ensures count { IfOk result (λ t. length t.1.items ≡ passes) }
         ensures passes { IfOk result (λ t. AreIdle t.0.id t.1.items × AreNew 0 t.1.items) }

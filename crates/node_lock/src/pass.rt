@@ -22,7 +22,12 @@ impl<S> Model for Pass<S> {
 
     ghost Value = { PassData };
 
-    ghost view = { λ p. record { lock = p.seat.table_id; number = p.number; list = list_in p.seat.me.0.parts; out = out_of p.seat.me.0.holds p.seat.me.0.noted } };
+    ghost view = { λ p. record {
+      lock = p.seat.table_id;
+      number = p.number;
+      list = list_in p.seat.me.0.parts;
+      out = out_of p.seat.me.0.holds p.seat.me.0.noted;
+    } };
 
     ghost invariant = { λ p. (p.seat.me.0.parts ≡ (p.number, list_in p.seat.me.0.parts) ∷ []) × (p.seat.me.1 ≡ carried p.seat.me.0.holds) };
 }

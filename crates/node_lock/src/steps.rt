@@ -20,7 +20,8 @@ pub(crate) fn new_seat<S: Trailed + Drop>(steps: &Steps<S>) -> Token<S>
 pub(crate) fn take<S: Trailed + Drop, R: Wait>(rt: &R, steps: &Steps<S>, seat: &mut Token<S>) -> S
     requires table { (seat.old.table_id ≡ steps.now.table_id) × (0 < steps.now.table_id.words) }
     requires idle { IsIdle seat.old.me }
-    ensures seat { (seat.new.table_id ≡ seat.old.table_id) × (seat.new.me ≡ (holding seat.old.me.0.passes seat.old.me.0.parts (S.trail result), (0, None) ∷ [])) }
+    ensures seat { (seat.new.table_id ≡ seat.old.table_id)
+        × (seat.new.me ≡ (holding seat.old.me.0.passes seat.old.me.0.parts (S.trail result), (0, None) ∷ [])) }
     ensures state { S.keeps result }
     ensures lists { KnowsTrail seat.old.me.0 (S.trail result) }
 {
@@ -57,7 +58,8 @@ pub(crate) fn post<S: Trailed + Drop>(
     requires one { (list : List Receipt) × (seat.old.me.0.parts ≡ (pass, list) ∷ []) }
     requires state { S.keeps state }
     ensures table { seat.new.table_id ≡ seat.old.table_id }
-    ensures list { (list : List Receipt) → seat.old.me.0.parts ≡ (pass, list) ∷ [] → seat.new.me ≡ (standing_for seat.old.me.0.passes ((pass, list ++ (suc (length seat.old.me.0.noted), log_place) ∷ []) ∷ []), []) }
+    ensures list { (list : List Receipt) → seat.old.me.0.parts ≡ (pass, list) ∷ []
+        → seat.new.me ≡ (standing_for seat.old.me.0.passes ((pass, list ++ (suc (length seat.old.me.0.noted), log_place) ∷ []) ∷ []), []) }
 {
     steps.exchange(seat, 0, Some(state));
     steps.swap::<Posts>(seat, 0, 0);

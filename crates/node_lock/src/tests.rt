@@ -2,7 +2,7 @@ ghost use Rattle.std.specs.Prelude.{◌≡◌, ◌+◌, ◌<◌, ◌≤◌, ◌^
 ghost use Rattle.node_lock.specs.Trail.{receipts_of};
 ghost use Rattle.node_lock.specs.Passes.{IsIdlePass};
 
-use crate::lock::Lock;
+use crate::lock::{Lock, MAX_PASSES};
 use crate::pass::Pass;
 use crate::rule::Trailed;
 use std::alloc::{AllocError, Global};
@@ -267,7 +267,7 @@ fn reads_change_no_trail(rt: HostRuntime) -> Result<(), Fail> {
 
 // How many passes a lock has, and the number of the last.
 fn opened_with(alloc: Global, passes: u64) -> Result<(usize, Option<u64>), AllocError>
-    requires { (0 < passes) × (passes ≤ 64) }
+    requires { (0 < passes) × (passes ≤ MAX_PASSES) }
 {
     match Lock::open(alloc, Diary::new(alloc), passes) {
         Ok((_, dealt)) => Ok((dealt.len(), dealt.last().map(|pass| pass.number()))),

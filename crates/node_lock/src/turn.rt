@@ -29,7 +29,10 @@ impl<S: Trailed + Drop> Turn<'_, '_, S> {
     pub fn post(self, log_place: u64)
         requires trail { (trail : List Entry) × (self.pass.now.out ≡ Some trail) × (S.trail self.state ≡ trail ++ (self.pass.now.number, log_place) ∷ []) }
         requires state { S.keeps self.state }
-        ensures receipt { self.exit.0.now ≡ record self.entry.pass.now { list = self.entry.pass.now.list ++ (length (S.trail self.entry.state), log_place) ∷ []; out = None } }
+        ensures receipt { self.exit.0.now ≡ record self.entry.pass.now {
+          list = self.entry.pass.now.list ++ (length (S.trail self.entry.state), log_place) ∷ [];
+          out = None;
+        } }
     {
         let Turn { pass, state, lock } = self;
         pass.post(&lock.table.shared, state, log_place);

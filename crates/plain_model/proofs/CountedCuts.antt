@@ -28,10 +28,14 @@ first_unique : (cs : List CutData) (c d : CutData) → Contains (first_cuts cs) 
 first_unique [] c d hc hd e = absurd (none_in c hc)
 first_unique (x ∷ xs) c d hc hd e =
     let p : CutData → Bool = λ y. not (y.epoch == x.epoch) in
-    let differs : (y : CutData) → Contains (filter p (first_cuts xs)) y → y.epoch ≢ x.epoch = λ y h. let t : not (y.epoch == x.epoch) ≡ true = (filtered p (first_cuts xs) y h).1 in grind (arith, nat_tests) in
+    let differs : (y : CutData) → Contains (filter p (first_cuts xs)) y → y.epoch ≢ x.epoch = λ y h. let t : not (y.epoch == x.epoch) ≡ true =
+    (filtered p (first_cuts xs) y h).1 in grind (arith, nat_tests) in
     ⊎_elim
-    (λ (q : x ≡ c). ⊎_elim (λ (r : x ≡ d). sym q ∙ r) (λ (h : Contains (filter p (first_cuts xs)) d). absurd (differs d h (sym e ∙ ap (λ y. y.epoch) (sym q)))) (which x _ d hd))
-    (λ (h : Contains (filter p (first_cuts xs)) c). ⊎_elim (λ (r : x ≡ d). absurd (differs c h (e ∙ ap (λ y. y.epoch) (sym r)))) (λ (g : Contains (filter p (first_cuts xs)) d). first_unique xs c d (filtered p (first_cuts xs) c h).0 (filtered p (first_cuts xs) d g).0 e) (which x _ d hd))
+    (λ (q : x ≡ c). ⊎_elim (λ (r : x ≡ d). sym q ∙ r) (λ (h : Contains (filter p (first_cuts xs)) d). absurd (differs d h (sym e ∙ ap (λ y. y.epoch) (sym q))))
+    (which x _ d hd))
+    (λ (h : Contains (filter p (first_cuts xs)) c). ⊎_elim (λ (r : x ≡ d). absurd (differs c h (e ∙ ap (λ y. y.epoch) (sym r))))
+    (λ (g : Contains (filter p (first_cuts xs)) d). first_unique xs c d (filtered p (first_cuts xs) c h).0 (filtered p (first_cuts xs) d g).0 e)
+    (which x _ d hd))
     (which x _ c hc)
 
 pub counted_unique : (log : List Fact) (c d : CutData) → Contains (counted log) c → Contains (counted log) d → c.epoch ≡ d.epoch → c ≡ d
@@ -39,7 +43,8 @@ unfolding counted
 counted_unique log c d hc hd e = first_unique (cuts log) c d hc hd e
 
 -- a truncation counts where none of its epoch stands before it
-pub counted_at : (log : List Fact) (i : ℕ) (c : CutData) → i < length log → get_or log i (Cut c) ≡ Cut c → All (IsOther c.epoch) (take i log) → Contains (counted log) c
+pub counted_at : (log : List Fact) (i : ℕ) (c : CutData) → i < length log → get_or log i (Cut c) ≡ Cut c → All (IsOther c.epoch) (take i log)
+    → Contains (counted log) c
 unfolding counted cuts
 counted_at [] i c l e all = absurd (omega (arith, l))
 counted_at (f ∷ fs) zero c l e all = subst (λ x. Contains (first_cuts (filter_map as_cut (x ∷ fs))) c) (sym e) (here c _)
@@ -65,7 +70,8 @@ all_counted_spare log v e n l all = record {
   spared = λ c h q m. (All-contains (IsSparedIfCounted log v e n) log (Cut c) all (counted_fact log c h) h).1 q m;
 }
 
-pub all_counted_above : (roster : ℕ) (log : List Fact) (e p : ℕ) → All (IsAboveIfCounted roster log e p) log → (c : CutData) → Contains (counted log) c → e < c.epoch → ArePast roster (advances log) c → p ≤ c.lo
+pub all_counted_above : (roster : ℕ) (log : List Fact) (e p : ℕ) → All (IsAboveIfCounted roster log e p) log → (c : CutData) → Contains (counted log) c
+    → e < c.epoch → ArePast roster (advances log) c → p ≤ c.lo
 all_counted_above roster log e p all c h l past = All-contains (IsAboveIfCounted roster log e p) log (Cut c) all (counted_fact log c h) h l past
 
 -- an epoch has begun where it is not above the complete epoch
@@ -83,7 +89,8 @@ not_begun log k e is l has =
     omega (arith, top)
 
 -- law 2 of a record whose epoch has begun: it is alive in the view of its own epoch
-pub alive_in_own : (log : List Fact) (r : RecordData) (e n : ℕ) → e ≡ r.epoch → n ≡ r.number → HasCutsTo (counted log) e → IsAlive (counted log) e e n ↔ Law2 log (Record r)
+pub alive_in_own : (log : List Fact) (r : RecordData) (e n : ℕ) → e ≡ r.epoch → n ≡ r.number → HasCutsTo (counted log) e
+    → IsAlive (counted log) e e n ↔ Law2 log (Record r)
 alive_in_own log r e n p q has = (
   λ a. (subst (HasCutsTo (counted log)) p has, λ c h s. let l : c.hi < n = a.begun c h (s ∙ sym p) in omega arith),
   λ l. record {

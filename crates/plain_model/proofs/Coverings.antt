@@ -33,22 +33,26 @@ module _ {roster : ℕ} (facts others : List Fact) (p q : Position) (x y : Meani
       ⊎_elim (λ (in' : Contains facts (Cut c) × Unit {0}). (my.cuts.members c).1 ((cut_in facts c).1 in'.0)) (λ (none : ⊥). absurd none)
       (is.all (Cut c) ((cut_in others c).0 ((mx.cuts.members c).0 h)) tt)
 
-  covered_wait : IsCovering facts p others q → (a : AdvanceData) → Contains x.waits a → Contains y.waits a ⊎ ((a.epoch ≤ p.epoch) × (a.point ≤ point_of y.points a.reader))
+  covered_wait : IsCovering facts p others q → (a : AdvanceData) → Contains x.waits a
+      → Contains y.waits a ⊎ ((a.epoch ≤ p.epoch) × (a.point ≤ point_of y.points a.reader))
   covered_wait is a h =
       let own = (mx.waits.members a).0 h in
       ⊎_elim
       (λ (in' : Contains facts (Advance a) × (p.epoch < a.epoch)). inl ((my.waits.members a).1 ((advance_in facts a).1 in'.0, in'.1)))
-      (λ (known : (a.epoch ≤ p.epoch) × (a.point ≤ point_of p.points a.reader)). inr (known.0, subst (λ ps. a.point ≤ point_of ps a.reader) (sym my.points) known.1))
+      (λ (known : (a.epoch ≤ p.epoch) × (a.point ≤ point_of p.points a.reader)). inr
+      (known.0, subst (λ ps. a.point ≤ point_of ps a.reader) (sym my.points) known.1))
       (is.all (Advance a) ((advance_in others a).0 own.0) own.1)
 
-  covered_kept : IsCovering facts p others q → (r : RecordData) → Contains x.kept r → Contains y.kept r ⊎ (IsDead y.cuts p.epoch r.epoch r.number ⊎ ((r.number ≤ y.anchor) × (r.epoch ≤ p.epoch)))
+  covered_kept : IsCovering facts p others q → (r : RecordData) → Contains x.kept r
+      → Contains y.kept r ⊎ (IsDead y.cuts p.epoch r.epoch r.number ⊎ ((r.number ≤ y.anchor) × (r.epoch ≤ p.epoch)))
   covered_kept is r h =
       let own = (mx.kept.members r).0 h in
       ⊎_elim
       (λ (in' : Contains facts (Record r) × Keeps facts p (Record r)). inl ((my.kept.members r).1 ((record_in facts r).1 in'.0, in'.1)))
       (λ (settled : Settles facts p (Record r)). inr (⊎_elim
       (λ (dead : IsDead (cuts facts) p.epoch r.epoch r.number). inl (dead_by (cuts facts) y.cuts own_cuts p.epoch r.epoch r.number dead))
-      (λ (low : (r.number ≤ p.anchor) × (r.epoch ≤ p.epoch)). inr (let e : y.anchor ≡ p.anchor = my.anchor in let l : r.number ≤ p.anchor = low.0 in omega arith, low.1))
+      (λ (low : (r.number ≤ p.anchor) × (r.epoch ≤ p.epoch)). inr
+      (let e : y.anchor ≡ p.anchor = my.anchor in let l : r.number ≤ p.anchor = low.0 in omega arith, low.1))
       settled))
       (is.all (Record r) ((record_in others r).0 own.0) own.1)
 
@@ -56,7 +60,8 @@ module _ {roster : ℕ} (facts others : List Fact) (p q : Position) (x y : Meani
   covers_where is = (
     p.epoch,
     record {
-      epoch = greatest_by (HasCutsTo (cuts facts)) (HasCutsTo y.cuts) (cuts_to_by (cuts facts) y.cuts own_cuts) (cuts_to_by y.cuts (cuts facts) (same_sym (cuts facts) y.cuts own_cuts)) p.epoch my.position.epoch;
+      epoch = greatest_by (HasCutsTo (cuts facts)) (HasCutsTo y.cuts) (cuts_to_by (cuts facts) y.cuts own_cuts)
+          (cuts_to_by y.cuts (cuts facts) (same_sym (cuts facts) y.cuts own_cuts)) p.epoch my.position.epoch;
       cuts = covered_cut is;
       points = subst (λ ps. AllZip (λ m n. m ≤ n) x.points ps) (sym my.points) (subst (λ ps. AllZip (λ m n. m ≤ n) ps p.points) (sym mx.points) is.points);
       waits = covered_wait is;
@@ -70,8 +75,10 @@ module _ {roster : ℕ} (facts others : List Fact) (p q : Position) (x y : Meani
       ⊎_elim
       (λ (in' : Contains y.kept r). let own = (my.kept.members r).0 in' in inl ((record_in facts r).0 own.0, own.1))
       (λ settled. inr (⊎_elim
-      (λ (dead : IsDead y.cuts p.epoch r.epoch r.number). inl (dead_by y.cuts (cuts facts) (same_sym (cuts facts) y.cuts own_cuts) p.epoch r.epoch r.number dead))
-      (λ (low : (r.number ≤ y.anchor) × (r.epoch ≤ p.epoch)). inr (let e : y.anchor ≡ p.anchor = my.anchor in let l : r.number ≤ y.anchor = low.0 in omega arith, low.1))
+      (λ (dead : IsDead y.cuts p.epoch r.epoch r.number). inl
+      (dead_by y.cuts (cuts facts) (same_sym (cuts facts) y.cuts own_cuts) p.epoch r.epoch r.number dead))
+      (λ (low : (r.number ≤ y.anchor) × (r.epoch ≤ p.epoch)). inr
+      (let e : y.anchor ≡ p.anchor = my.anchor in let l : r.number ≤ y.anchor = low.0 in omega arith, low.1))
       settled))
       (at.kept r ((mx.kept.members r).1 ((record_in others r).1 h, keeps)))
   covered_fact at (Cut c) h keeps = inl ((cut_in facts c).0 ((my.cuts.members c).0 (at.cuts c ((mx.cuts.members c).1 ((cut_in others c).1 h)))), tt)
@@ -91,11 +98,14 @@ module _ {roster : ℕ} (facts others : List Fact) (p q : Position) (x y : Meani
       }
 
 -- a meaning, at the position that the facts have
-pub at_position : {roster : ℕ} (facts : List Fact) (p : Position) (m : Meaning) → IsPosition roster facts p → IsMeaning roster facts m → IsMeaningAt roster facts p m
-at_position {roster} facts p m is means = subst (λ q. IsMeaningAt roster facts q m) (front_unique facts facts (λ f. (λ h. h, λ h. h)) means.0 p means.1.position is) means.1
+pub at_position : {roster : ℕ} (facts : List Fact) (p : Position) (m : Meaning) → IsPosition roster facts p → IsMeaning roster facts m
+    → IsMeaningAt roster facts p m
+at_position {roster} facts p m is means = subst (λ q. IsMeaningAt roster facts q m)
+    (front_unique facts facts (λ f. (λ h. h, λ h. h)) means.0 p means.1.position is) means.1
 
 -- meanings of parts of one log that cover each other are one
-pub one_meaning : (roster : ℕ) (log facts others : List Fact) (x y : Meaning) → IsSound roster log → IsPart facts log → IsPart others log → IsMeaning roster facts x → IsMeaning roster others y → Covers x y → Covers y x → x ≡ y
+pub one_meaning : (roster : ℕ) (log facts others : List Fact) (x y : Meaning) → IsSound roster log → IsPart facts log → IsPart others log
+    → IsMeaning roster facts x → IsMeaning roster others y → Covers x y → Covers y x → x ≡ y
 one_meaning roster log facts others x y sound part other mx my up down =
     let is = log_of_sound roster log sound in
     let means_y : IsMeaning roster (facts ++ others) y = absorbed log facts others x y is part other mx my down in

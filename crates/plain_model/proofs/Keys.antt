@@ -11,5 +11,6 @@ pub only_of_key : (earlier : List Fact) (fact : Fact) → All (IsSameOfKey fact)
 only_of_key earlier fact all f h key = All-contains (IsSameOfKey fact) earlier f all h key
 
 -- the fact that a scan has read is the one whose key it has
-pub other_of_key : (earlier : List Fact) (fact : Fact) (i : ℕ) (f g : Fact) → i < length earlier → f ≡ get_or earlier i f → f ≡ g → Law1 earlier fact → SameKey g fact → g ≡ fact
+pub other_of_key : (earlier : List Fact) (fact : Fact) (i : ℕ) (f g : Fact) → i < length earlier → f ≡ get_or earlier i f → f ≡ g → Law1 earlier fact
+    → SameKey g fact → g ≡ fact
 other_of_key earlier fact i f g l e q law key = law g (subst (Contains earlier) q (item earlier i f l e)) key

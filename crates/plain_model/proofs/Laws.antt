@@ -14,11 +14,14 @@ use Rattle.plain_model.specs.declared.chains.Chain.{Chain}
 use Rattle.plain_model.specs.Chained.{Follows}
 use Rattle.plain_model.specs.FoundFault.{FindsFault, BreaksFirst}
 
-pub same_backlink : (log : List Fact) (r : RecordData) (chain : Chain) (g b : ℕ) → IsGreatest (IsAliveBelow log r (Follows chain r)) g → b ≡ g → IsGreatest (IsAliveBelow log r (Follows chain r)) b
+pub same_backlink : (log : List Fact) (r : RecordData) (chain : Chain) (g b : ℕ) → IsGreatest (IsAliveBelow log r (Follows chain r)) g → b ≡ g
+    → IsGreatest (IsAliveBelow log r (Follows chain r)) b
 same_backlink log r chain g b is e = subst (IsGreatest (IsAliveBelow log r (Follows chain r))) (sym e) is
 
-pub other_backlink : (log : List Fact) (r : RecordData) (chain : Chain) (g b : ℕ) → IsGreatest (IsAliveBelow log r (Follows chain r)) g → (b ≡ g → ⊥) → IsGreatest (IsAliveBelow log r (Follows chain r)) b → ⊥
-other_backlink log r chain g b is ne law = let P : ℕ → Type 0 = IsAliveBelow log r (Follows chain r) in ne (greatest_unique P P (λ n. (λ h. h, λ h. h)) b g law is)
+pub other_backlink : (log : List Fact) (r : RecordData) (chain : Chain) (g b : ℕ) → IsGreatest (IsAliveBelow log r (Follows chain r)) g → (b ≡ g → ⊥)
+    → IsGreatest (IsAliveBelow log r (Follows chain r)) b → ⊥
+other_backlink log r chain g b is ne law = let P : ℕ → Type 0 = IsAliveBelow log r (Follows chain r) in
+    ne (greatest_unique P P (λ n. (λ h. h, λ h. h)) b g law is)
 
 pub keeps_each : (roster : ℕ) (log : List Fact) (place : ℕ) (f : Fact) (law : Law) → KeepsLaws roster log place f → KeepsLaw roster log place f law
 keeps_each roster log place f OneFactPerKey k = k.law1
@@ -27,7 +30,8 @@ keeps_each roster log place f SegmentBacklink k = k.law3
 keeps_each roster log place f BlockBacklink k = k.law4
 keeps_each roster log place f AdvanceKept k = k.law5
 
-pub none_found : (roster : ℕ) (log : List Fact) (place : ℕ) (f : Fact) (found : Option Law) → FindsFault roster log place f found → ((law : Law) → found ≡ Some law → ⊥) → KeepsLaws roster log place f
+pub none_found : (roster : ℕ) (log : List Fact) (place : ℕ) (f : Fact) (found : Option Law) → FindsFault roster log place f found
+    → ((law : Law) → found ≡ Some law → ⊥) → KeepsLaws roster log place f
 none_found roster log place f None h none = h
 none_found roster log place f (Some law) h none = absurd (none law refl)
 
@@ -35,7 +39,8 @@ none_found roster log place f (Some law) h none = absurd (none law refl)
 abbrev pub KeepsBefore : ℕ → List Fact → ℕ → Type 0
 KeepsBefore roster log place = (earlier : ℕ) (f : Fact) → earlier < place → slice_get log earlier ≡ Some f → KeepsLaws roster log earlier f
 
-pub keeps_one_more : (roster : ℕ) (log : List Fact) (place : ℕ) (f : Fact) → place < length log → f ≡ get_or log place f → KeepsBefore roster log place → KeepsLaws roster log place f → KeepsBefore roster log (place + 1)
+pub keeps_one_more : (roster : ℕ) (log : List Fact) (place : ℕ) (f : Fact) → place < length log → f ≡ get_or log place f → KeepsBefore roster log place
+    → KeepsLaws roster log place f → KeepsBefore roster log (place + 1)
 keeps_one_more roster log place f l e before here earlier g below at =
     ⊎_elim
     (λ (m : earlier < place). before earlier g m at)
@@ -46,7 +51,9 @@ keeps_one_more roster log place f l e before here earlier g below at =
     subst (λ k. KeepsLaws roster log k g) (sym m) (subst (KeepsLaws roster log place) same here))
     (let s : (earlier < place) ⊎ (earlier ≡ place) = grind arith in s)
 
-pub fault_at : (roster : ℕ) (log : List Fact) (place : ℕ) (f : Fact) (law : Law) → place < length log → f ≡ get_or log place f → KeepsBefore roster log place → BreaksFirst roster log place f law → IsFirstFault roster log (place + 1 - 1) law
+pub fault_at : (roster : ℕ) (log : List Fact) (place : ℕ) (f : Fact) (law : Law) → place < length log → f ≡ get_or log place f → KeepsBefore roster log place
+    → BreaksFirst roster log place f law → IsFirstFault roster log (place + 1 - 1) law
 fault_at roster log place f law l e before b =
     let back : place ≡ place + 1 - 1 = omega arith in
-    subst (λ p. IsFirstFault roster log p law) back (record { fact = f; at_place = slice_get_read log (length log) place f refl l e; breaks = b.breaks; lower = b.lower; before = before })
+    subst (λ p. IsFirstFault roster log p law) back
+    (record { fact = f; at_place = slice_get_read log (length log) place f refl l e; breaks = b.breaks; lower = b.lower; before = before })

@@ -36,10 +36,12 @@ all_spare facts v e n l all = record {
 pub spares_of : (cs : List CutData) (v e n : ℕ) (c : CutData) → Contains cs c → IsAlive cs v e n → SparesIn v e n c
 spares_of cs v e n c h a = (a.begun c h, a.spared c h)
 
-pub link : (facts : List Fact) (v n : ℕ) (r : RecordData) → Contains (records facts) r → r.number ≡ n → 0 < n → IsAlive (cuts facts) v r.epoch n → IsLinked facts v r.back → IsLinked facts v n
+pub link : (facts : List Fact) (v n : ℕ) (r : RecordData) → Contains (records facts) r → r.number ≡ n → 0 < n → IsAlive (cuts facts) v r.epoch n
+    → IsLinked facts v r.back → IsLinked facts v n
 link facts v n r h e p a l = subst (IsLinked facts v) e (next r h (subst (IsAlive (cuts facts) v r.epoch) (sym e) a) (omega arith) l)
 
-pub links_not_record : (facts : List Fact) (v n : ℕ) (f : Fact) (r : RecordData) → f ≡ Record r → (r.number ≡ n → IsAlive (cuts facts) v r.epoch n → IsLinked facts v r.back → ⊥) → LinksNot facts v n f
+pub links_not_record : (facts : List Fact) (v n : ℕ) (f : Fact) (r : RecordData) → f ≡ Record r
+    → (r.number ≡ n → IsAlive (cuts facts) v r.epoch n → IsLinked facts v r.back → ⊥) → LinksNot facts v n f
 links_not_record facts v n f r q h = subst (LinksNot facts v n) (sym q) h
 
 pub links_not_default : (facts : List Fact) (v n : ℕ) (f : Fact) → ((r : RecordData) → f ≡ Record r → ⊥) → LinksNot facts v n f
@@ -51,7 +53,8 @@ pub no_link : (facts : List Fact) (v n : ℕ) → All (LinksNot facts v n) facts
 no_link facts v n all off start = off refl
 no_link facts v n all off (next r h a l p) = All-contains (LinksNot facts v n) facts (Record r) all ((record_in facts r).0 h) refl a p
 
-pub up_record : (facts : List Fact) (v : ℕ) (m : Option ℕ) (t : ℕ) (f : Fact) (r : RecordData) → f ≡ Record r → (IsLinkedWithin facts v m r.number → r.number ≤ t) → LinksUpTo facts v m t f
+pub up_record : (facts : List Fact) (v : ℕ) (m : Option ℕ) (t : ℕ) (f : Fact) (r : RecordData) → f ≡ Record r
+    → (IsLinkedWithin facts v m r.number → r.number ≤ t) → LinksUpTo facts v m t f
 up_record facts v m t f r q h = subst (LinksUpTo facts v m t) (sym q) h
 
 pub up_default : (facts : List Fact) (v : ℕ) (m : Option ℕ) (t : ℕ) (f : Fact) → ((r : RecordData) → f ≡ Record r → ⊥) → LinksUpTo facts v m t f
@@ -76,7 +79,9 @@ within_zero None = tt
 within_zero (Some l) = omega arith
 
 -- a step that leaves the greatest
-pub top_step : (xs : List Fact) (i : ℕ) (f : Fact) (v : ℕ) (l : Option ℕ) (m n : ℕ) → i < length xs → f ≡ get_or xs i f → n ≡ m → IsLinkedWithin xs v l m → All (LinksUpTo xs v l m) (take i xs) → LinksUpTo xs v l m f → (let T : Type 0 = record { there : IsLinkedWithin xs v l n; top : All (LinksUpTo xs v l n) (take (i + 1) xs) } in T)
+pub top_step : (xs : List Fact) (i : ℕ) (f : Fact) (v : ℕ) (l : Option ℕ) (m n : ℕ) → i < length xs → f ≡ get_or xs i f → n ≡ m → IsLinkedWithin xs v l m
+    → All (LinksUpTo xs v l m) (take i xs) → LinksUpTo xs v l m f
+    → (let T : Type 0 = record { there : IsLinkedWithin xs v l n; top : All (LinksUpTo xs v l n) (take (i + 1) xs) } in T)
 top_step xs i f v l m n b q same there top up = record {
   there = subst (IsLinkedWithin xs v l) (sym same) there;
   top = subst (λ k. All (LinksUpTo xs v l k) (take (i + 1) xs)) (sym same) (one_more (LinksUpTo xs v l m) xs i f b q top up);

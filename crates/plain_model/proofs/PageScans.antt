@@ -19,13 +19,15 @@ page_record facts k g q r h s = (record { among = h; alive = s.alive; linked = s
 stands : (facts : List Fact) (k g q : ℕ) (r : RecordData) → IsPageRecord facts k g q r → StandsInPage facts k g q r
 stands facts k g q r p = record { page = p.1; within = p.2; alive = p.0.alive; linked = p.0.linked }
 
-reached_at : (facts : List Fact) (k g from q : ℕ) (P Q : ℕ → Type 0) → ((n : ℕ) → P n → Q n) → (f : Fact) → IsReached facts k g from q P f → IsReached facts k g from q Q f
+reached_at : (facts : List Fact) (k g from q : ℕ) (P Q : ℕ → Type 0) → ((n : ℕ) → P n → Q n) → (f : Fact) → IsReached facts k g from q P f
+    → IsReached facts k g from q Q f
 reached_at facts k g from q P Q lower (Record r) h = λ s l. lower r.number (h s l)
 reached_at facts k g from q P Q lower (Cut c) h = tt
 reached_at facts k g from q P Q lower (Advance a) h = tt
 
 -- what reached the facts seen so far by one bound, reaches them by a lower one
-pub reached_lower : (facts xs : List Fact) (k g from q : ℕ) (P Q : ℕ → Type 0) → ((n : ℕ) → P n → Q n) → All (IsReached facts k g from q P) xs → All (IsReached facts k g from q Q) xs
+pub reached_lower : (facts xs : List Fact) (k g from q : ℕ) (P Q : ℕ → Type 0) → ((n : ℕ) → P n → Q n) → All (IsReached facts k g from q P) xs
+    → All (IsReached facts k g from q Q) xs
 reached_lower facts xs k g from q P Q lower all i d l = reached_at facts k g from q P Q lower (get_or xs i d) (all i d l)
 
 -- a record that may have been found, seen through its data
@@ -44,30 +46,46 @@ module _ {X : Type 0} (data_of : X → RecordData) where
 
   pub found_up_to : (found : Option X) (m : ℕ) → (MatchOption found (Unit {0}) (λ x. m < (data_of x).number) → ⊥) → FoundUpTo found m
   found_up_to None m h = h tt
-  found_up_to (Some x) m h = let s : ((data_of x).number ≤ m) ⊎ (m < (data_of x).number) = grind arith in ⊎_elim (λ (l : (data_of x).number ≤ m). l) (λ (l : m < (data_of x).number). absurd (h l)) s
+  found_up_to (Some x) m h = let s : ((data_of x).number ≤ m) ⊎ (m < (data_of x).number) = grind arith in ⊎_elim (λ (l : (data_of x).number ≤ m). l)
+      (λ (l : m < (data_of x).number). absurd (h l)) s
 
-  pub found_next : (facts : List Fact) (k g from q : ℕ) (found : Option X) → FoundInPage facts k g from q found → All (IsReached facts k g from q (FoundUpTo found)) facts → MatchOption found (HasNoNext facts k g from q) (λ x. IsNextRecord facts k g from q (data_of x))
-  found_next facts k g from q None best all = λ r p l. All-contains (IsReached facts k g from q (FoundUpTo None)) facts (Record r) all ((record_in facts r).0 p.0.among) (stands facts k g q r p) l
+  pub found_next : (facts : List Fact) (k g from q : ℕ) (found : Option X) → FoundInPage facts k g from q found
+      → All (IsReached facts k g from q (FoundUpTo found)) facts → MatchOption found (HasNoNext facts k g from q)
+      (λ x. IsNextRecord facts k g from q (data_of x))
+  found_next facts k g from q None best all = λ r p l. All-contains (IsReached facts k g from q (FoundUpTo None)) facts (Record r) all
+      ((record_in facts r).0 p.0.among) (stands facts k g q r p) l
   found_next facts k g from q (Some x) best all = record {
     found = best.0;
     above = best.1;
-    least = λ s p l. All-contains (IsReached facts k g from q (FoundUpTo (Some x))) facts (Record s) all ((record_in facts s).0 p.0.among) (stands facts k g q s p) l;
+    least = λ s p l. All-contains (IsReached facts k g from q (FoundUpTo (Some x))) facts (Record s) all ((record_in facts s).0 p.0.among)
+        (stands facts k g q s p) l;
   }
 
   -- a scan that has seen the facts before i
   abbrev pub Seen : List Fact → ℕ → ℕ → ℕ → ℕ → ℕ → Option X → Type 0
-  Seen facts k g from q i found = (let T : Type 0 = record { best : FoundInPage facts k g from q found; least : All (IsReached facts k g from q (FoundUpTo found)) (take i facts) } in T)
+  Seen facts k g from q i found = (let T : Type 0 =
+      record { best : FoundInPage facts k g from q found; least : All (IsReached facts k g from q (FoundUpTo found)) (take i facts) } in T)
 
-  pub seen_new : (facts : List Fact) (k g from q i : ℕ) (f : Fact) (r : RecordData) (old new : Option X) (x : X) → i < length facts → f ≡ get_or facts i f → f ≡ Record r → new ≡ Some x → data_of x ≡ r → StandsInPage facts k g q r → from ≤ r.number → MatchOption old (Unit {0}) (λ y. r.number < (data_of y).number) → Seen facts k g from q i old → Seen facts k g from q (i + 1) new
+  pub seen_new : (facts : List Fact) (k g from q i : ℕ) (f : Fact) (r : RecordData) (old new : Option X) (x : X) → i < length facts → f ≡ get_or facts i f
+      → f ≡ Record r → new ≡ Some x → data_of x ≡ r → StandsInPage facts k g q r → from ≤ r.number
+      → MatchOption old (Unit {0}) (λ y. r.number < (data_of y).number) → Seen facts k g from q i old → Seen facts k g from q (i + 1) new
   seen_new facts k g from q i f r old new x l e is made shown s above before seen =
-      let lower : (n : ℕ) → FoundUpTo old n → FoundUpTo (Some x) n = λ n h. let m : r.number ≤ n = found_lower old r.number before n h in let d : (data_of x).number ≡ r.number = ap (λ y. y.number) shown in omega arith in
+      let lower : (n : ℕ) → FoundUpTo old n → FoundUpTo (Some x) n = λ n h. let m : r.number ≤ n = found_lower old r.number before n h in
+      let d : (data_of x).number ≡ r.number = ap (λ y. y.number) shown in omega arith in
       let P : ℕ → Type 0 = FoundUpTo (Some x) in
       subst (Seen facts k g from q (i + 1)) (sym made) (record {
-        best = (subst (IsPageRecord facts k g q) (sym shown) (page_record facts k g q r ((record_in facts r).1 (subst (Contains facts) is (item facts i f l e))) s), let d : (data_of x).number ≡ r.number = ap (λ y. y.number) shown in omega arith);
-        least = one_more (IsReached facts k g from q P) facts i f l e (reached_lower facts (take i facts) k g from q (FoundUpTo old) P lower seen.least) (subst (IsReached facts k g from q P) (sym is) (λ _ _. let d : (data_of x).number ≡ r.number = ap (λ y. y.number) shown in omega arith));
+        best = (
+          subst (IsPageRecord facts k g q) (sym shown)
+              (page_record facts k g q r ((record_in facts r).1 (subst (Contains facts) is (item facts i f l e))) s),
+          let d : (data_of x).number ≡ r.number = ap
+              (λ y. y.number) shown in omega arith,
+        );
+        least = one_more (IsReached facts k g from q P) facts i f l e (reached_lower facts (take i facts) k g from q (FoundUpTo old) P lower seen.least)
+            (subst (IsReached facts k g from q P) (sym is) (λ _ _. let d : (data_of x).number ≡ r.number = ap (λ y. y.number) shown in omega arith));
       })
 
-  pub seen_more : (facts : List Fact) (k g from q i : ℕ) (f : Fact) (old new : Option X) → i < length facts → f ≡ get_or facts i f → new ≡ old → IsReached facts k g from q (FoundUpTo old) f → Seen facts k g from q i old → Seen facts k g from q (i + 1) new
+  pub seen_more : (facts : List Fact) (k g from q i : ℕ) (f : Fact) (old new : Option X) → i < length facts → f ≡ get_or facts i f → new ≡ old
+      → IsReached facts k g from q (FoundUpTo old) f → Seen facts k g from q i old → Seen facts k g from q (i + 1) new
   seen_more facts k g from q i f old new l e same reached seen = subst (Seen facts k g from q (i + 1)) (sym same) (record {
     best = seen.best;
     least = one_more (IsReached facts k g from q (FoundUpTo old)) facts i f l e seen.least reached;

@@ -28,9 +28,14 @@ all_append P [] y all p = (p, tt)
 all_append P (x ∷ xs) y all p = (all.0, all_append P xs y all.1 p)
 
 -- a rising list with one more behind it
-rising_last : {X : Type 0} (Before : X → X → Type 0) (xs : List X) (y : X) → IsRising Before xs → ((x : X) → Contains xs x → Before x y) → IsRising Before (xs ++ y ∷ [])
+rising_last : {X : Type 0} (Before : X → X → Type 0) (xs : List X) (y : X) → IsRising Before xs → ((x : X) → Contains xs x → Before x y)
+    → IsRising Before (xs ++ y ∷ [])
 rising_last Before [] y rising below = (tt, tt)
-rising_last Before (x ∷ xs) y rising below = (all_append (Before x) xs y rising.0 (below x (here x xs)), rising_last Before xs y rising.1 (λ z h. below z (Contains-append_right (x ∷ []) xs z h)))
+rising_last Before (x ∷ xs) y rising below = (
+  all_append (Before x) xs y rising.0 (below x (here x xs)),
+  rising_last Before xs y rising.1
+      (λ z h. below z (Contains-append_right (x ∷ []) xs z h)),
+)
 
 pub page_start : (facts : List Fact) (k g q : ℕ) → IsPageBelow facts k g q 0 zeros
 page_start facts k g q = record {
@@ -39,17 +44,23 @@ page_start facts k g q = record {
   result = refl;
 }
 
-pub page_step : (facts : List Fact) (k g q from : ℕ) (image : List ℕ) (r : RecordData) → HasNumbersOnce facts k g q → IsNextRecord facts k g from q r → IsPageBelow facts k g q from image → IsPageBelow facts k g q (r.number + 1) (write image r)
+pub page_step : (facts : List Fact) (k g q from : ℕ) (image : List ℕ) (r : RecordData) → HasNumbersOnce facts k g q → IsNextRecord facts k g from q r
+    → IsPageBelow facts k g q from image → IsPageBelow facts k g q (r.number + 1) (write image r)
 page_step facts k g q from image r once next p = record {
   written = p.written ++ r ∷ [];
-  lists = record { rising = rising_last BeforeByNumber p.written r p.lists.rising (λ x h. let l : x.number < from = ((p.lists.members x).0 h).1 in let m : from ≤ r.number = next.above in omega arith); members = λ x. (known x, listed x) };
+  lists = record {
+    rising = rising_last BeforeByNumber p.written r p.lists.rising
+        (λ x h. let l : x.number < from = ((p.lists.members x).0 h).1 in let m : from ≤ r.number = next.above in omega arith);
+    members = λ x. (known x, listed x);
+  };
   result = ap (λ i. write i r) p.result ∙ sym (after_append zeros p.written (r ∷ []));
 }
   where
     known : (x : RecordData) → Contains (p.written ++ r ∷ []) x → IsPageRecord facts k g q x × (x.number < r.number + 1)
     known x h =
         ⊎_elim
-        (λ (w : Contains p.written x). let s = (p.lists.members x).0 w in (s.0, let l : x.number < from = s.1 in let m : from ≤ r.number = next.above in omega arith))
+        (λ (w : Contains p.written x). let s = (p.lists.members x).0 w in
+        (s.0, let l : x.number < from = s.1 in let m : from ≤ r.number = next.above in omega arith))
         (λ (w : Contains (r ∷ []) x). ⊎_elim
         (λ (e : r ≡ x). (subst (IsPageRecord facts k g q) e next.found, let n : r.number ≡ x.number = ap (λ s. s.number) e in omega arith))
         (λ (n : Contains [] x). absurd (none_in x n))
@@ -67,21 +78,29 @@ page_step facts k g q from image r once next p = record {
         Contains-append_right p.written (r ∷ []) x (subst (λ y. Contains (y ∷ []) x) (sym e) (here x [])))
         (let s : (x.number < from) ⊎ (from ≤ x.number) = grind arith in s)
 
-pub page_end : (facts : List Fact) (k g q from : ℕ) (image : List ℕ) → HasNoNext facts k g from q → IsPageBelow facts k g q from image → IsPageAt facts k g q image
+pub page_end : (facts : List Fact) (k g q from : ℕ) (image : List ℕ) → HasNoNext facts k g from q → IsPageBelow facts k g q from image
+    → IsPageAt facts k g q image
 page_end facts k g q from image none p = record {
   written = p.written;
   lists = record {
     rising = p.lists.rising;
     members = λ r. (
       λ h. ((p.lists.members r).0 h).0,
-      λ h. (p.lists.members r).1 (h, ⊎_elim (λ (l : r.number < from). l) (λ (l : from ≤ r.number). absurd (none r h l)) (let s : (r.number < from) ⊎ (from ≤ r.number) = grind arith in s)),
+      λ h. (p.lists.members r).1 (
+        h,
+        ⊎_elim (λ (l : r.number < from). l) (λ (l : from ≤ r.number). absurd (none r h l))
+            (let s : (r.number < from) ⊎ (from ≤ r.number) = grind arith in s),
+      ),
     );
   };
   result = p.result;
 }
 
 -- in a part of a sound log two alive records never share a number
-pub once_if_sound : (roster : ℕ) (log facts : List Fact) (k g q : ℕ) → IsSound roster log → IsPart facts log → HasCutsTo (cuts facts) k → HasNumbersOnce facts k g q
+pub once_if_sound : (roster : ℕ) (log facts : List Fact) (k g q : ℕ) → IsSound roster log → IsPart facts log → HasCutsTo (cuts facts) k
+    → HasNumbersOnce facts k g q
 once_if_sound roster log facts k g q sound part has r s pr ps e =
     let is = log_of_sound roster log sound in
-    alone log is k (λ n low high. let c = has n low high in (c.0, part_cuts facts log part c.0 c.1, c.2)) r s (part_records facts log part r pr.0.among) (part_records facts log part s ps.0.among) (alive_up log facts is part k r.epoch r.number has pr.0.alive) (alive_up log facts is part k s.epoch s.number has ps.0.alive) e
+    alone log is k (λ n low high. let c = has n low high in (c.0, part_cuts facts log part c.0 c.1, c.2)) r s (part_records facts log part r pr.0.among)
+    (part_records facts log part s ps.0.among) (alive_up log facts is part k r.epoch r.number has pr.0.alive)
+    (alive_up log facts is part k s.epoch s.number has ps.0.alive) e

@@ -15,7 +15,7 @@ use crate::views::Position;
 use redo_core::{Fact, Roster};
 use std::alloc::{AllocError, Global};
 
-/// Whether two sets of facts have one meaning. Its only error is want of memory.
+/// Whether two parts of one sound log have one meaning. Its only error is want of memory.
 pub fn same(
     alloc: Global,
     facts: &[Fact],

@@ -1,4 +1,5 @@
 ghost use Rattle.std.specs.Prelude.{◌≡◌, ◌<◌, ◌↔◌, IsTrue};
+ghost use Rattle.redo_core.specs.Shape.{epoch_count};
 ghost use Rattle.redo_core.specs.Sets.{cuts};
 ghost use Rattle.redo_core.specs.CompleteEpoch.{IsCompleteEpoch};
 ghost use Rattle.plain_model.specs.Helpers.{HasCut};
@@ -19,7 +20,7 @@ pub fn complete_epoch(facts: &[Fact]) -> u16
 // Whether there is a truncation of this epoch.
 fn has_cut(facts: &[Fact], epoch: u32) -> bool
     ensures found { IsTrue result ↔ HasCut (cuts facts.now) epoch }
-    ensures small { IsTrue result → epoch < 65536 }
+    ensures small { IsTrue result → epoch < epoch_count }
 {
     for fact in facts {
         if let Fact::Cut(cut) = fact {

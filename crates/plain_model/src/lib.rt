@@ -3,8 +3,8 @@
 //! Each call takes what its definition takes and computes it by looking through the facts: the complete epoch, standings,
 //! linked numbers, the complete point, the readers' points and the least of them, the anchor and pages, the first fault of a
 //! log, and meanings compared.
-//! It holds for every list of facts, sound or not; only a page asks that its linked records have each number once. Faster
-//! programs are compared with it.
+//! It holds for every list of facts, sound or not; only a page asks that its linked records have each number once, and `same`
+//! that the two sets are parts of one sound log. Faster programs are compared with it.
 #![tactic(auto)]
 
 mod chains;

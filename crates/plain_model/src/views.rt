@@ -3,7 +3,7 @@
 pub enum Standing {
     /// Its epoch is above the view.
     Waiting,
-    /// No truncation up to the view annuls it.
+    /// Its number is above the `hi` of its own epoch, and no truncation up to the view annuls it.
     Alive,
     /// It is annulled, or its number is not above the `hi` of its own epoch.
     Dead,

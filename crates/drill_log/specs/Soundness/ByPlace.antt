@@ -9,7 +9,8 @@ place_of f a zero x h = absurd (none_in x h)
 place_of f a (suc m) x h =
     ⊎_elim
     (λ (e : f a ≡ x). (a, le_refl a, omega arith, e))
-    (λ (q : Contains (map f (range_with_len (a + 1) m)) x). let r = place_of f (a + 1) m x q in let l = r.1 in let u = r.2 in (r.0, omega (arith, l), omega (arith, u), r.3))
+    (λ (q : Contains (map f (range_with_len (a + 1) m)) x). let r = place_of f (a + 1) m x q in let l = r.1 in let u = r.2 in
+    (r.0, omega (arith, l), omega (arith, u), r.3))
     (which (f a) (map f (range_with_len (a + 1) m)) x h)
 
 pub has_place : {X : Type 0} (f : ℕ → X) (a m p : ℕ) → a ≤ p → p < a + m → Contains (map f (range_with_len a m)) (f p)

@@ -62,7 +62,8 @@ kind_at n p l u =
 pub record IsDrillLog (n : ℕ) (log : List Fact) : Type 0 where
   pub least : 2 ≤ n
   pub most : n ≤ 1048576
-  pub record_is : (r : RecordData) → Contains (records log) r → ((i : ℕ) × (1 ≤ i) × (i ≤ n) × (record_of_epoch_0 i ≡ r)) ⊎ ((j : ℕ) × (1 ≤ j) × (j ≤ n) × (record_of_epoch_1 n j ≡ r))
+  pub record_is : (r : RecordData) → Contains (records log) r → ((i : ℕ) × (1 ≤ i) × (i ≤ n) × (record_of_epoch_0 i ≡ r))
+      ⊎ ((j : ℕ) × (1 ≤ j) × (j ≤ n) × (record_of_epoch_1 n j ≡ r))
   pub has_epoch_0 : (i : ℕ) → 1 ≤ i → i ≤ n → Contains (records log) (record_of_epoch_0 i)
   pub has_epoch_1 : (j : ℕ) → 1 ≤ j → j ≤ n → Contains (records log) (record_of_epoch_1 n j)
   pub each_cut : (c : CutData) → Contains (cuts log) c → drill_cut n ≡ c
@@ -73,7 +74,8 @@ pub record IsDrillLog (n : ℕ) (log : List Fact) : Type 0 where
 abbrev pub facts_of_drill : ℕ → List Fact
 facts_of_drill n = map (drill_fact n) (range_with_len 1 (2 * n + 2))
 
-record_kind : (n p : ℕ) (f : Fact) (r : RecordData) → f ≡ Record r → IsKindAt n p f → ((i : ℕ) × (1 ≤ i) × (i ≤ n) × (record_of_epoch_0 i ≡ r)) ⊎ ((j : ℕ) × (1 ≤ j) × (j ≤ n) × (record_of_epoch_1 n j ≡ r))
+record_kind : (n p : ℕ) (f : Fact) (r : RecordData) → f ≡ Record r → IsKindAt n p f → ((i : ℕ) × (1 ≤ i) × (i ≤ n) × (record_of_epoch_0 i ≡ r))
+    ⊎ ((j : ℕ) × (1 ≤ j) × (j ≤ n) × (record_of_epoch_1 n j ≡ r))
 record_kind n p f r e (inl a) = inl (p, a.0, a.1, (let q = a.2 in cc))
 record_kind n p f r e (inr (inl a)) = absurd (cc)
 record_kind n p f r e (inr (inr (inl a))) = absurd (cc)
@@ -92,7 +94,8 @@ cut_of n c h =
     cut_kind n q.0 (drill_fact n q.0) c q.3 (kind_at n q.0 q.1 (omega (arith, u)))
 
 cut_here : (n : ℕ) → Contains (cuts (facts_of_drill n)) (drill_cut n)
-cut_here n = (cut_in (facts_of_drill n) (drill_cut n)).1 (subst (Contains (facts_of_drill n)) (fact_cut n) (has_place (drill_fact n) 1 (2 * n + 2) (n + 2) (omega arith) (omega arith)))
+cut_here n = (cut_in (facts_of_drill n) (drill_cut n)).1
+    (subst (Contains (facts_of_drill n)) (fact_cut n) (has_place (drill_fact n) 1 (2 * n + 2) (n + 2) (omega arith) (omega arith)))
 
 pub drill_contents : (n : ℕ) → 2 ≤ n → n ≤ 1048576 → IsDrillLog n (facts_of_drill n)
 unfolding counted
@@ -103,10 +106,14 @@ drill_contents n least most = record {
       let q = place_of (drill_fact n) 1 (2 * n + 2) (Record r) ((record_in (facts_of_drill n) r).0 h) in
       let u = q.2 in
       record_kind n q.0 (drill_fact n q.0) r q.3 (kind_at n q.0 q.1 (omega (arith, u)));
-  has_epoch_0 = λ i l u. (record_in (facts_of_drill n) (record_of_epoch_0 i)).1 (subst (Contains (facts_of_drill n)) (fact_of_epoch_0 n i u) (has_place (drill_fact n) 1 (2 * n + 2) i l (omega (arith, u))));
-  has_epoch_1 = λ j l u. (record_in (facts_of_drill n) (record_of_epoch_1 n j)).1 (subst (Contains (facts_of_drill n)) (fact_of_epoch_1 n j (n + 2 + j) l refl) (has_place (drill_fact n) 1 (2 * n + 2) (n + 2 + j) (omega arith) (omega (arith, u))));
+  has_epoch_0 = λ i l u. (record_in (facts_of_drill n) (record_of_epoch_0 i)).1
+      (subst (Contains (facts_of_drill n)) (fact_of_epoch_0 n i u) (has_place (drill_fact n) 1 (2 * n + 2) i l (omega (arith, u))));
+  has_epoch_1 = λ j l u. (record_in (facts_of_drill n) (record_of_epoch_1 n j)).1
+      (subst (Contains (facts_of_drill n)) (fact_of_epoch_1 n j (n + 2 + j) l refl)
+      (has_place (drill_fact n) 1 (2 * n + 2) (n + 2 + j) (omega arith) (omega (arith, u))));
   each_cut = cut_of n;
   each_counted = λ c h. cut_of n c (first_within (cuts (facts_of_drill n)) c h);
   has_cut = cut_here n;
-  counts_cut = let s = some_counts (cuts (facts_of_drill n)) (drill_cut n) (cut_here n) in subst (Contains (counted (facts_of_drill n))) (sym (cut_of n s.0 s.2)) s.1;
+  counts_cut = let s = some_counts (cuts (facts_of_drill n)) (drill_cut n) (cut_here n) in subst (Contains (counted (facts_of_drill n)))
+      (sym (cut_of n s.0 s.2)) s.1;
 }

@@ -6,8 +6,10 @@ use Rattle.redo_core.specs.Data.{CutData}
 use Rattle.redo_core.specs.Sound.{first_cuts}
 use Rattle.redo_core.proofs.Members.{none_in, here, there, which}
 
-filtered_at : (p : CutData → Bool) (d : CutData) (ds : List CutData) (c : CutData) (b : Bool) → (Contains (filter p ds) c → Contains ds c) → Contains (cond b (d ∷ filter p ds) (filter p ds)) c → Contains (d ∷ ds) c
-filtered_at p d ds c true ih h = ⊎_elim (λ (e : d ≡ c). subst (λ x. Contains (x ∷ ds) c) (sym e) (here c ds)) (λ (q : Contains (filter p ds) c). there d ds c (ih q)) (which d (filter p ds) c h)
+filtered_at : (p : CutData → Bool) (d : CutData) (ds : List CutData) (c : CutData) (b : Bool) → (Contains (filter p ds) c → Contains ds c)
+    → Contains (cond b (d ∷ filter p ds) (filter p ds)) c → Contains (d ∷ ds) c
+filtered_at p d ds c true ih h = ⊎_elim (λ (e : d ≡ c). subst (λ x. Contains (x ∷ ds) c) (sym e) (here c ds))
+    (λ (q : Contains (filter p ds) c). there d ds c (ih q)) (which d (filter p ds) c h)
 filtered_at p d ds c false ih h = there d ds c (ih h)
 
 filtered : (p : CutData → Bool) (cs : List CutData) (c : CutData) → Contains (filter p cs) c → Contains cs c

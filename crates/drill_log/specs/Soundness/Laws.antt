@@ -38,7 +38,8 @@ alive_in_epoch_1 n log d m lt = record {
 }
 
 -- what stands below a record of epoch 0
-below_of_epoch_0 : (n i : ℕ) (log : List Fact) (Only : RecordData → Type 0) (m : ℕ) → IsDrillLog n log → IsAliveBelow log (record_of_epoch_0 i) Only m → (1 ≤ m) × (m < i) × Only (record_of_epoch_0 m)
+below_of_epoch_0 : (n i : ℕ) (log : List Fact) (Only : RecordData → Type 0) (m : ℕ) → IsDrillLog n log → IsAliveBelow log (record_of_epoch_0 i) Only m
+    → (1 ≤ m) × (m < i) × Only (record_of_epoch_0 m)
 below_of_epoch_0 n i log Only m d b =
     ⊎_elim
     (λ (a : (k : ℕ) × (1 ≤ k) × (k ≤ n) × (record_of_epoch_0 k ≡ b.other)).
@@ -66,7 +67,8 @@ below_of_epoch_1 n j log Only m d b =
     (d.record_is b.other b.among)
 
 -- the segment backlinks: the record before, or the one at the lo
-pub back_of_epoch_0 : (n i : ℕ) (log : List Fact) → IsDrillLog n log → 1 ≤ i → i ≤ n → IsGreatest (IsAliveBelow log (record_of_epoch_0 i) (λ s. Unit {0})) (i - 1)
+pub back_of_epoch_0 : (n i : ℕ) (log : List Fact) → IsDrillLog n log → 1 ≤ i → i ≤ n → IsGreatest (IsAliveBelow log (record_of_epoch_0 i) (λ s. Unit {0}))
+    (i - 1)
 back_of_epoch_0 n i log d l u = (
   ⊎_elim
       (λ (e : i ≡ 1). inl (omega (arith, e)))
@@ -82,7 +84,8 @@ back_of_epoch_0 n i log d l u = (
   λ m b. let lt = b.below in omega (arith, lt),
 )
 
-pub back_of_epoch_1 : (n j : ℕ) (log : List Fact) → IsDrillLog n log → 1 ≤ j → j ≤ n → IsGreatest (IsAliveBelow log (record_of_epoch_1 n j) (λ s. Unit {0})) (if j == 1 then n / 2 else drill_hi n + j - 1)
+pub back_of_epoch_1 : (n j : ℕ) (log : List Fact) → IsDrillLog n log → 1 ≤ j → j ≤ n → IsGreatest (IsAliveBelow log (record_of_epoch_1 n j) (λ s. Unit {0}))
+    (if j == 1 then n / 2 else drill_hi n + j - 1)
 back_of_epoch_1 n j log d l u =
     ⊎_elim
     (λ (e : j ≡ 1).
@@ -117,7 +120,8 @@ back_of_epoch_1 n j log d l u =
     P = IsAliveBelow log (record_of_epoch_1 n j) (λ s. Unit {0})
 
 -- the block backlinks: the record of the page eight numbers before, or the last one up to the lo
-pub block_back_of_epoch_0 : (n i : ℕ) (log : List Fact) → IsDrillLog n log → 1 ≤ i → i ≤ n → IsGreatest (IsAliveBelow log (record_of_epoch_0 i) (λ s. s.page ≡ i % 8)) (if nat_lt 8 i then i - 8 else 0)
+pub block_back_of_epoch_0 : (n i : ℕ) (log : List Fact) → IsDrillLog n log → 1 ≤ i → i ≤ n
+    → IsGreatest (IsAliveBelow log (record_of_epoch_0 i) (λ s. s.page ≡ i % 8)) (if nat_lt 8 i then i - 8 else 0)
 block_back_of_epoch_0 n i log d l u =
     ⊎_elim
     (λ (g : 8 < i).
@@ -144,7 +148,9 @@ block_back_of_epoch_0 n i log d l u =
     near : (m : ℕ) → IsAliveBelow log (record_of_epoch_0 i) (λ s. s.page ≡ i % 8) m → m + 8 ≤ i
     near m b = let a = below_of_epoch_0 n i log (λ s. s.page ≡ i % 8) m d b in same_remainder_apart m i a.1 a.2
 
-pub block_back_of_epoch_1 : (n j : ℕ) (log : List Fact) → IsDrillLog n log → 1 ≤ j → j ≤ n → IsGreatest (IsAliveBelow log (record_of_epoch_1 n j) (λ s. s.page ≡ (j - 1) % 8)) (if nat_lt 8 j then drill_hi n + j - 8 else last_of_page (n / 2) ((j - 1) % 8))
+pub block_back_of_epoch_1 : (n j : ℕ) (log : List Fact) → IsDrillLog n log → 1 ≤ j → j ≤ n
+    → IsGreatest (IsAliveBelow log (record_of_epoch_1 n j) (λ s. s.page ≡ (j - 1) % 8))
+    (if nat_lt 8 j then drill_hi n + j - 8 else last_of_page (n / 2) ((j - 1) % 8))
 block_back_of_epoch_1 n j log d l u =
     ⊎_elim
     (λ (g : 8 < j).
@@ -158,7 +164,8 @@ block_back_of_epoch_1 n j log d l u =
         number = omega (arith, g);
         below = omega (arith, g);
       }),
-      λ m b. ⊎_elim (λ a. let x = a.1 in let h = half_at_most n in omega (arith, x, h, g)) (λ a. let x = near a.0 a.1 a.2 a.4 in let y = a.3 in omega (arith, x, y)) (below_of_epoch_1 n j log Q m d b),
+      λ m b. ⊎_elim (λ a. let x = a.1 in let h = half_at_most n in omega (arith, x, h, g))
+          (λ a. let x = near a.0 a.1 a.2 a.4 in let y = a.3 in omega (arith, x, y)) (below_of_epoch_1 n j log Q m d b),
     ))
     (λ (g : j ≤ 8).
     let t : nat_lt 8 j ≡ false = grind (arith, nat_tests) in
@@ -168,13 +175,15 @@ block_back_of_epoch_1 n j log d l u =
     let s : nat_lt (n / 2) ((j - 1) % 8) ≡ true = grind (arith, nat_tests) in
     subst (IsGreatest P) (sym (ap (λ (b : Bool). if b then 0 else n / 2 - (n / 2 - (j - 1) % 8) % 8) s)) (
       inl refl,
-      λ m b. ⊎_elim (λ a. absurd (let x = a.1 in let e = a.2 in let y = remainder_at_most m in omega (arith, x, y, e, none))) (λ a. absurd (let x = near a.0 a.1 a.2 a.4 in omega (arith, x, g))) (below_of_epoch_1 n j log Q m d b),
+      λ m b. ⊎_elim (λ a. absurd (let x = a.1 in let e = a.2 in let y = remainder_at_most m in omega (arith, x, y, e, none)))
+          (λ a. absurd (let x = near a.0 a.1 a.2 a.4 in omega (arith, x, g))) (below_of_epoch_1 n j log Q m d b),
     ))
     (λ (some : (j - 1) % 8 ≤ n / 2).
     let s : nat_lt (n / 2) ((j - 1) % 8) ≡ false = grind (arith, nat_tests) in
     subst (IsGreatest P) (sym (ap (λ (b : Bool). if b then 0 else n / 2 - (n / 2 - (j - 1) % 8) % 8) s)) (
       found some (n / 2 - (n / 2 - (j - 1) % 8) % 8) (last_has_page (n / 2) ((j - 1) % 8) (remainder_below (j - 1)) some) (omega arith),
-      λ m b. ⊎_elim (λ a. last_is_greatest (n / 2) ((j - 1) % 8) m some a.1 a.2) (λ a. absurd (let x = near a.0 a.1 a.2 a.4 in omega (arith, x, g))) (below_of_epoch_1 n j log Q m d b),
+      λ m b. ⊎_elim (λ a. last_is_greatest (n / 2) ((j - 1) % 8) m some a.1 a.2) (λ a. absurd (let x = near a.0 a.1 a.2 a.4 in omega (arith, x, g)))
+          (below_of_epoch_1 n j log Q m d b),
     ))
     (let t : (n / 2 < (j - 1) % 8) ⊎ ((j - 1) % 8 ≤ n / 2) = grind arith in t)))
     (let t : (8 < j) ⊎ (j ≤ 8) = grind arith in t)

@@ -7,7 +7,8 @@ pub same_remainder_apart : (m i : ℕ) → m < i → m % 8 ≡ i % 8 → m + 8 �
 same_remainder_apart m i lt e = let a = div-add-mod m 8 in let b = div-add-mod i 8 in omega (arith, a, b, e, lt)
 
 pub remainder_8_below : (i : ℕ) → 8 ≤ i → (i - 8) % 8 ≡ i % 8
-remainder_8_below i l = let a : (i - 8 + 1 * 8) % 8 ≡ (i - 8) % 8 = add-mul-mod_self_right (i - 8) 1 8 in let b : i - 8 + 1 * 8 ≡ i = omega (arith, l) in sym a ∙ ap (λ (x : ℕ). x % 8) b
+remainder_8_below i l = let a : (i - 8 + 1 * 8) % 8 ≡ (i - 8) % 8 = add-mul-mod_self_right (i - 8) 1 8 in let b : i - 8 + 1 * 8 ≡ i = omega (arith, l) in
+    sym a ∙ ap (λ (x : ℕ). x % 8) b
 
 pub remainder_at_most : (m : ℕ) → m % 8 ≤ m
 remainder_at_most m = let a = div-add-mod m 8 in omega (arith, a)

@@ -9,9 +9,11 @@ use Rattle.redo_core.specs.Shape.{record_fault, is_empty, is_off_page}
 use Rattle.redo_core.proofs.Plain.{plain_length, plain_empty, plain_off_page, plain_bytes}
 use Rattle.drill_log.specs.DrillLog.{drill_writes}
 
-shape_of : (e n b g bb : ℕ) (ws : List WriteData) → n < 281474976710656 → b < n → bb ≤ b → length ws ≤ 64 → list_any is_empty ws ≡ false → list_any is_off_page ws ≡ false → sum_by (λ w. length w.bytes) ws ≤ 8192
+shape_of : (e n b g bb : ℕ) (ws : List WriteData) → n < 281474976710656 → b < n → bb ≤ b → length ws ≤ 64 → list_any is_empty ws ≡ false
+    → list_any is_off_page ws ≡ false → sum_by (λ w. length w.bytes) ws ≤ 8192
     → record_fault (record_of e n b g bb ws) ≡ None
-shape_of e n b g bb ws small back block few full inside short = let l = plain_length ws in let e' = plain_empty ws in let o = plain_off_page ws in let s = plain_bytes ws in grind (arith, nat_tests, l, e', o, s)
+shape_of e n b g bb ws small back block few full inside short = let l = plain_length ws in let e' = plain_empty ws in let o = plain_off_page ws in
+    let s = plain_bytes ws in grind (arith, nat_tests, l, e', o, s)
 
 inside_page : (n : ℕ) → list_any is_off_page (drill_writes n) ≡ false
 unfolding drill_writes

@@ -23,17 +23,21 @@ use Rattle.drill_log.specs.Soundness.Laws.{cut_epoch, back_of_epoch_0, back_of_e
 within : (k : ℕ) (xs : List Fact) (f : Fact) → Contains (take k xs) f → Contains xs f
 within zero xs f h = absurd (none_in f h)
 within (suc k) [] f h = h
-within (suc k) (x ∷ xs) f h = ⊎_elim (λ (e : x ≡ f). subst (λ z. Contains (z ∷ xs) f) (sym e) (here f xs)) (λ q. there x xs f (within k xs f q)) (which x (take k xs) f h)
+within (suc k) (x ∷ xs) f h = ⊎_elim (λ (e : x ≡ f). subst (λ z. Contains (z ∷ xs) f) (sym e) (here f xs)) (λ q. there x xs f (within k xs f q))
+    (which x (take k xs) f h)
 
-same_record : (n : ℕ) (log : List Fact) → IsDrillLog n log → (r s : RecordData) → Contains (records log) r → Contains (records log) s → s.epoch ≡ r.epoch → s.number ≡ r.number → s ≡ r
+same_record : (n : ℕ) (log : List Fact) → IsDrillLog n log → (r s : RecordData) → Contains (records log) r → Contains (records log) s → s.epoch ≡ r.epoch
+    → s.number ≡ r.number → s ≡ r
 same_record n log d r s hr hs e m =
     ⊎_elim
     (λ (a : (i : ℕ) × (1 ≤ i) × (i ≤ n) × (record_of_epoch_0 i ≡ r)). ⊎_elim
     (λ (b : (i : ℕ) × (1 ≤ i) × (i ≤ n) × (record_of_epoch_0 i ≡ s)). sym b.3 ∙ (ap record_of_epoch_0 (ap number_of b.3 ∙ (m ∙ sym (ap number_of a.3))) ∙ a.3))
-    (λ (b : (j : ℕ) × (1 ≤ j) × (j ≤ n) × (record_of_epoch_1 n j ≡ s)). absurd (let x : 1 ≡ s.epoch = ap epoch_of b.3 in let y : 0 ≡ r.epoch = ap epoch_of a.3 in omega (arith, x, y, e)))
+    (λ (b : (j : ℕ) × (1 ≤ j) × (j ≤ n) × (record_of_epoch_1 n j ≡ s)). absurd
+    (let x : 1 ≡ s.epoch = ap epoch_of b.3 in let y : 0 ≡ r.epoch = ap epoch_of a.3 in omega (arith, x, y, e)))
     (d.record_is s hs))
     (λ (a : (j : ℕ) × (1 ≤ j) × (j ≤ n) × (record_of_epoch_1 n j ≡ r)). ⊎_elim
-    (λ (b : (i : ℕ) × (1 ≤ i) × (i ≤ n) × (record_of_epoch_0 i ≡ s)). absurd (let x : 0 ≡ s.epoch = ap epoch_of b.3 in let y : 1 ≡ r.epoch = ap epoch_of a.3 in omega (arith, x, y, e)))
+    (λ (b : (i : ℕ) × (1 ≤ i) × (i ≤ n) × (record_of_epoch_0 i ≡ s)). absurd
+    (let x : 0 ≡ s.epoch = ap epoch_of b.3 in let y : 1 ≡ r.epoch = ap epoch_of a.3 in omega (arith, x, y, e)))
     (λ (b : (j : ℕ) × (1 ≤ j) × (j ≤ n) × (record_of_epoch_1 n j ≡ s)).
     let x : drill_hi n + b.0 ≡ s.number = ap number_of b.3 in
     let y : drill_hi n + a.0 ≡ r.number = ap number_of a.3 in
@@ -65,10 +69,12 @@ block_1 i l = grind (arith, nat_tests)
 back_2 : (n j : ℕ) → 2 ≤ n → 1 ≤ j → (if j == 1 then n / 2 else drill_hi n + j - 1) < drill_hi n + j
 back_2 n j m l = let h = half_at_most n in grind (arith, nat_tests)
 
-block_2 : (n j : ℕ) → 2 ≤ n → 1 ≤ j → (if nat_lt 8 j then drill_hi n + j - 8 else last_of_page (n / 2) ((j - 1) % 8)) ≤ (if j == 1 then n / 2 else drill_hi n + j - 1)
+block_2 : (n j : ℕ) → 2 ≤ n → 1 ≤ j → (if nat_lt 8 j then drill_hi n + j - 8 else last_of_page (n / 2)
+    ((j - 1) % 8)) ≤ (if j == 1 then n / 2 else drill_hi n + j - 1)
 block_2 n j m l = let h = half_at_most n in grind (arith, nat_tests)
 
-keeps_epoch_0 : (n i place : ℕ) (log : List Fact) → IsDrillLog n log → 1 ≤ i → i ≤ n → Contains log (Record (record_of_epoch_0 i)) → KeepsLaws 1 log place (Record (record_of_epoch_0 i))
+keeps_epoch_0 : (n i place : ℕ) (log : List Fact) → IsDrillLog n log → 1 ≤ i → i ≤ n → Contains log (Record (record_of_epoch_0 i))
+    → KeepsLaws 1 log place (Record (record_of_epoch_0 i))
 keeps_epoch_0 n i place log d l u here = record {
   shape = shape 0 i (i - 1) (i % 8) (if nat_lt 8 i then i - 8 else 0) (let m = d.most in omega (arith, u, m)) (omega (arith, l)) (block_1 i l);
   law1 = λ f h. one_key n log d f (Record (record_of_epoch_0 i)) (within place log f h) here;
@@ -78,11 +84,18 @@ keeps_epoch_0 n i place log d l u here = record {
   law5 = tt;
 }
 
-keeps_epoch_1 : (n j place : ℕ) (log : List Fact) → IsDrillLog n log → 1 ≤ j → j ≤ n → Contains log (Record (record_of_epoch_1 n j)) → KeepsLaws 1 log place (Record (record_of_epoch_1 n j))
+keeps_epoch_1 : (n j place : ℕ) (log : List Fact) → IsDrillLog n log → 1 ≤ j → j ≤ n → Contains log (Record (record_of_epoch_1 n j))
+    → KeepsLaws 1 log place (Record (record_of_epoch_1 n j))
 keeps_epoch_1 n j place log d l u here = record {
-  shape = shape 1 (drill_hi n + j) (if j == 1 then n / 2 else drill_hi n + j - 1) ((j - 1) % 8) (if nat_lt 8 j then drill_hi n + j - 8 else last_of_page (n / 2) ((j - 1) % 8)) (let m = d.most in omega (arith, u, m)) (back_2 n j d.least l) (block_2 n j d.least l);
+  shape = shape 1 (drill_hi n + j) (if j == 1 then n / 2 else drill_hi n + j - 1) ((j - 1) % 8)
+      (if nat_lt 8 j then drill_hi n + j - 8 else last_of_page (n / 2) ((j - 1) % 8)) (let m = d.most in omega (arith, u, m)) (back_2 n j d.least l)
+      (block_2 n j d.least l);
   law1 = λ f h. one_key n log d f (Record (record_of_epoch_1 n j)) (within place log f h) here;
-  law2 = ((λ e a b. (drill_cut n, d.counts_cut, omega (arith, a, b))), λ c h e. subst (λ (x : CutData). x.hi < drill_hi n + j) (d.each_counted c h) (omega (arith, l)));
+  law2 = (
+    (λ e a b. (drill_cut n, d.counts_cut, omega (arith, a, b))),
+    λ c h e. subst (λ (x : CutData). x.hi < drill_hi n + j) (d.each_counted c h)
+        (omega (arith, l)),
+  );
   law3 = back_of_epoch_1 n j log d l u;
   law4 = block_back_of_epoch_1 n j log d l u;
   law5 = tt;
@@ -98,14 +111,21 @@ keeps_cut n place log d here = record {
   law5 = tt;
 }
 
-keeps_advance : (n place : ℕ) (log : List Fact) → IsDrillLog n log → Contains log (Advance (drill_advance n)) → KeepsLaws 1 log place (Advance (drill_advance n))
+keeps_advance : (n place : ℕ) (log : List Fact) → IsDrillLog n log → Contains log (Advance (drill_advance n))
+    → KeepsLaws 1 log place (Advance (drill_advance n))
 keeps_advance n place log d here = record {
-  shape = let h = half_positive n d.least in let k = half_at_most n in let m = d.most in (let t : advance_fault (drill_advance n) ≡ None = grind (arith, nat_tests) in t);
+  shape = let h = half_positive n d.least in let k = half_at_most n in let m = d.most in
+      (let t : advance_fault (drill_advance n) ≡ None = grind (arith, nat_tests) in t);
   law1 = λ f h. one_key n log d f (Advance (drill_advance n)) (within place log f h) here;
   law2 = tt;
   law3 = tt;
   law4 = tt;
-  law5 = ((omega arith, omega arith), (λ e a b. absurd (omega (arith, a, b))), λ c h e past. subst (λ (x : CutData). n / 2 ≤ x.lo) (d.each_counted c h) (omega arith));
+  law5 = (
+    (omega arith, omega arith),
+    (λ e a b. absurd (omega (arith, a, b))),
+    λ c h e past. subst (λ (x : CutData). n / 2 ≤ x.lo) (d.each_counted c h)
+        (omega arith),
+  );
 }
 
 keeps : (n p place : ℕ) (log : List Fact) (f : Fact) → IsDrillLog n log → Contains log f → IsKindAt n p f → KeepsLaws 1 log place f
@@ -120,13 +140,15 @@ among [] k f e = absurd cc
 among (x ∷ xs) zero f e = let q : x ≡ f = cc in subst (λ z. Contains (z ∷ xs) f) (sym q) (here f xs)
 among (x ∷ xs) (suc k) f e = there x xs f (among xs k f e)
 
-contents_keep : (n : ℕ) → 2 ≤ n → n ≤ 1048576 → (place : ℕ) (fact : Fact) → slice_get (facts_of_drill n) place ≡ Some fact → KeepsLaws 1 (facts_of_drill n) place fact
+contents_keep : (n : ℕ) → 2 ≤ n → n ≤ 1048576 → (place : ℕ) (fact : Fact) → slice_get (facts_of_drill n) place ≡ Some fact
+    → KeepsLaws 1 (facts_of_drill n) place fact
 contents_keep n least most place fact e =
     ⊎_elim
     (λ (l : place < 2 * n + 2).
     let g = get_place (drill_fact n) 1 (2 * n + 2) place l in
     let q : drill_fact n (1 + place) ≡ fact = cc in
-    keeps n (1 + place) place (facts_of_drill n) fact (drill_contents n least most) (among (facts_of_drill n) place fact e) (subst (IsKindAt n (1 + place)) q (kind_at n (1 + place) (omega arith) (omega (arith, l)))))
+    keeps n (1 + place) place (facts_of_drill n) fact (drill_contents n least most) (among (facts_of_drill n) place fact e)
+    (subst (IsKindAt n (1 + place)) q (kind_at n (1 + place) (omega arith) (omega (arith, l)))))
     (λ (m : 2 * n + 2 ≤ place). absurd (let g = get_past (drill_fact n) 1 (2 * n + 2) place m in cc))
     (let t : (place < 2 * n + 2) ⊎ (2 * n + 2 ≤ place) = grind arith in t)
 
@@ -145,14 +167,16 @@ log_is_empty n (inr l) = let a : nat_le 2 n ≡ true = grind (arith, nat_tests) 
 pub drill_sound : (n : ℕ) → IsSound 1 (drill_log n)
 drill_sound n =
     ⊎_elim
-    (λ (no : (n < 2) ⊎ (1048576 < n)). subst (IsSound 1) (sym (log_is_empty n no)) (record { readers = (omega arith, omega arith); keeps = λ place fact e. absurd cc }))
+    (λ (no : (n < 2) ⊎ (1048576 < n)). subst (IsSound 1) (sym (log_is_empty n no))
+    (record { readers = (omega arith, omega arith); keeps = λ place fact e. absurd cc }))
     (λ (yes : (2 ≤ n) × (n ≤ 1048576)). subst (IsSound 1) (sym (log_is n yes.0 yes.1)) (contents_sound n yes.0 yes.1))
     (let t : ((n < 2) ⊎ (1048576 < n)) ⊎ ((2 ≤ n) × (n ≤ 1048576)) = grind arith in t)
 
 -- what `fact` answers
 pub at_place : (n p : ℕ) → 2 ≤ n → n ≤ 1048576 → 1 ≤ p → p ≤ 2 * n + 2 → fact_at (drill_log n) p ≡ Some (drill_fact n p)
 at_place n zero least most l u = absurd (omega (arith, l))
-at_place n (suc k) least most l u = ap (λ (xs : List Fact). slice_get xs k) (log_is n least most) ∙ (get_place (drill_fact n) 1 (2 * n + 2) k (omega (arith, u)) ∙ ap (λ (z : ℕ). Some (drill_fact n z)) (omega arith))
+at_place n (suc k) least most l u = ap (λ (xs : List Fact). slice_get xs k) (log_is n least most)
+    ∙ (get_place (drill_fact n) 1 (2 * n + 2) k (omega (arith, u)) ∙ ap (λ (z : ℕ). Some (drill_fact n z)) (omega arith))
 
 pub at_zero : (log : List Fact) → fact_at log 0 ≡ None
 at_zero log = refl
@@ -169,13 +193,15 @@ pub at_epoch_0 : (n p : ℕ) → 2 ≤ n → n ≤ 1048576 → 1 ≤ p → p ≤
 at_epoch_0 n p least most l u = at_place n p least most l (omega (arith, u)) ∙ ap (λ (f : Fact). Some f) (fact_of_epoch_0 n p u)
 
 pub at_advance : (n p : ℕ) → 2 ≤ n → n ≤ 1048576 → p ≡ n + 1 → fact_at (drill_log n) p ≡ Some (Advance (drill_advance n))
-at_advance n p least most e = at_place n p least most (omega (arith, e)) (omega (arith, e, least)) ∙ ap (λ (f : Fact). Some f) (ap (drill_fact n) e ∙ fact_advance n)
+at_advance n p least most e = at_place n p least most (omega (arith, e)) (omega (arith, e, least)) ∙ ap (λ (f : Fact). Some f)
+    (ap (drill_fact n) e ∙ fact_advance n)
 
 pub at_cut : (n p : ℕ) → 2 ≤ n → n ≤ 1048576 → p ≡ n + 2 → fact_at (drill_log n) p ≡ Some (Cut (drill_cut n))
 at_cut n p least most e = at_place n p least most (omega (arith, e)) (omega (arith, e, least)) ∙ ap (λ (f : Fact). Some f) (ap (drill_fact n) e ∙ fact_cut n)
 
 pub at_epoch_1 : (n p : ℕ) → 2 ≤ n → n ≤ 1048576 → n + 2 < p → p ≤ 2 * n + 2 → fact_at (drill_log n) p ≡ Some (Record (record_of_epoch_1 n (p - (n + 2))))
-at_epoch_1 n p least most l u = at_place n p least most (omega (arith, l)) u ∙ ap (λ (f : Fact). Some f) (fact_of_epoch_1 n (p - (n + 2)) p (omega (arith, l)) (omega (arith, l)))
+at_epoch_1 n p least most l u = at_place n p least most (omega (arith, l)) u ∙ ap (λ (f : Fact). Some f)
+    (fact_of_epoch_1 n (p - (n + 2)) p (omega (arith, l)) (omega (arith, l)))
 
 pub at_outside : (n p : ℕ) → 2 ≤ n → n ≤ 1048576 → (p ≡ 0) ⊎ (2 * n + 2 < p) → fact_at (drill_log n) p ≡ None
 at_outside n p least most (inl e) = ap (fact_at (drill_log n)) e

@@ -35,8 +35,9 @@ fn writes_a_log(rt: HostRuntime) -> Result<(), Fail> {
     }
     assert!(rt; writer.advance(5) == Ok(Advance::new(0, 5)?));
     let low = WriterFault::LoBelowAdvance { point: 5 };
-    assert_eq!(rt; recovered(&mut writer, 4, 20), Err(low));
-    assert_eq!(rt; recovered(&mut writer, 5, 20), Ok(1));
+    for (lo, answer) in [(4, Err(low)), (5, Ok(1))] {
+        assert_eq!(rt; recovered(&mut writer, lo, 20), answer);
+    }
     assert!(rt; check_log(heap, writer.log(), Roster::new(1)?).is_ok());
     Ok(())
 }
@@ -45,15 +46,17 @@ fn writes_a_log(rt: HostRuntime) -> Result<(), Fail> {
 fn no_number_stands_twice(rt: HostRuntime) -> Result<(), Fail> {
     let heap = rt.alloc();
     let mut writer = Writer::new(heap, Roster::new(1)?)?;
-    assert_eq!(rt; appended(&mut writer, heap, 3, 7), Ok((0, 0, 0)));
     let repeated = WriterFault::NumberNotAbove { bound: 3 };
-    assert_eq!(rt; appended(&mut writer, heap, 3, 7), Err(repeated));
+    for answer in [Ok((0, 0, 0)), Err(repeated)] {
+        assert_eq!(rt; appended(&mut writer, heap, 3, 7), answer);
+    }
     for epoch in 1..3 {
         assert_eq!(rt; recovered(&mut writer, 3, 20), Ok(epoch));
     }
     let below = WriterFault::NumberNotAbove { bound: 20 };
-    assert_eq!(rt; appended(&mut writer, heap, 20, 7), Err(below));
-    assert_eq!(rt; appended(&mut writer, heap, 21, 7), Ok((2, 3, 3)));
+    for (number, answer) in [(20, Err(below)), (21, Ok((2, 3, 3)))] {
+        assert_eq!(rt; appended(&mut writer, heap, number, 7), answer);
+    }
     Ok(())
 }
 
@@ -74,12 +77,18 @@ fn refuses_wrong_shapes(rt: HostRuntime) -> Result<(), Fail> {
 fn cuts_above_the_least_point(rt: HostRuntime) -> Result<(), Fail> {
     let heap = rt.alloc();
     let mut writer = Writer::new(heap, Roster::new(2)?)?;
-    assert_eq!(rt; advanced(&mut writer, 1, 5), Ok((1, 0, 5)));
-    assert_eq!(rt; advanced(&mut writer, 2, 3), Ok((2, 0, 3)));
     let stranger = WriterFault::OtherRoster { own: 2, shown: 3 };
-    assert_eq!(rt; advanced(&mut writer, 3, 9), Err(stranger));
+    let advances = [
+        (1, 5, Ok((1, 0, 5))),
+        (2, 3, Ok((2, 0, 3))),
+        (3, 9, Err(stranger)),
+    ];
+    for (reader, point, answer) in advances {
+        assert_eq!(rt; advanced(&mut writer, reader, point), answer);
+    }
     let low = WriterFault::LoBelowAdvance { point: 3 };
-    assert_eq!(rt; recovered(&mut writer, 2, 20), Err(low));
-    assert_eq!(rt; recovered(&mut writer, 3, 20), Ok(1));
+    for (lo, answer) in [(2, Err(low)), (3, Ok(1))] {
+        assert_eq!(rt; recovered(&mut writer, lo, 20), answer);
+    }
     Ok(())
 }

@@ -4,7 +4,11 @@ use Rattle.redo_core.proofs.Scans.{whole, one_more}
 use Rattle.epoch_book.proofs.cuts.spare.Goals as goal
 
 pub loop-cut-preserved : goal.loop-cut-preserved
-loop-cut-preserved c = one_more (SparesIn c.args.complete c.args.epoch c.args.number) c.args.cuts.now c.loop-cut.cut-index c.cut-item.result c.loop-cut-test.true c.cut-item.is c.loop-cut.invariant (c.if-not-is_spared.ensures.0 refl)
+loop-cut-preserved c = one_more (SparesIn c.args.complete c.args.epoch c.args.number) c.args.cuts.now c.loop-cut.cut-index c.cut-item.result
+    c.loop-cut-test.true c.cut-item.is c.loop-cut.invariant (c.if-not-is_spared.ensures.0 refl)
 
 pub returns : goal.returns
-returns c = (λ h. whole (SparesIn c.args.complete c.args.epoch c.args.number) c.args.cuts.now c.loop-cut.cut-index c.loop-cut-test.false c.loop-cut.invariant, λ h. refl)
+returns c = (
+  λ h. whole (SparesIn c.args.complete c.args.epoch c.args.number) c.args.cuts.now c.loop-cut.cut-index c.loop-cut-test.false c.loop-cut.invariant,
+  λ h. refl,
+)

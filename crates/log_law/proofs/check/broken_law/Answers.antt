@@ -13,14 +13,16 @@ returns-then-admits c roster log place d g at other one j =
     let law1 : Law1 (take place log) (Record r) = subst (Law1 (take place log)) c.in-Record.is (one c.if-is_other.false) in
     let law2 : Law2 log (Record r) = (c.admits.ensures log r d (sym c.epoch.ensures) (sym c.number.ensures.value)).0 c.if-admits.true in
     let links = subst (λ f. LinkJudges log f c.args.link) c.in-Record.is j in
-    subst (λ f. MatchOption c.args.link (KeepsLaws roster log place f) (BreaksFirst roster log place f)) (sym c.in-Record.is) (record_verdict roster log place r c.args.link c.number.ensures.shape law1 law2 (links law2))
+    subst (λ f. MatchOption c.args.link (KeepsLaws roster log place f) (BreaksFirst roster log place f)) (sym c.in-Record.is)
+    (record_verdict roster log place r c.args.link c.number.ensures.shape law1 law2 (links law2))
 
 pub returns-else-admits : goal.returns-else-admits
 returns-else-admits c roster log place d g at other one j =
     let r = c.in-Record.redo in
     let law1 : Law1 (take place log) (Record r) = subst (Law1 (take place log)) c.in-Record.is (one c.if-is_other.false) in
     subst (λ f. BreaksFirst roster log place f EpochBegun) (sym c.in-Record.is) (record_not_begun roster log place r law1
-    (λ law. let t : c.admits.result ≡ true = (c.admits.ensures log r d (sym c.epoch.ensures) (sym c.number.ensures.value)).1 law in let clash : true ≡ false = sym t ∙ c.if-admits.false in cc))
+    (λ law. let t : c.admits.result ≡ true = (c.admits.ensures log r d (sym c.epoch.ensures) (sym c.number.ensures.value)).1 law in let clash : true ≡ false =
+    sym t ∙ c.if-admits.false in cc))
 
 pub returns-in-Cut : goal.returns-in-Cut
 returns-in-Cut c roster log place d g at other one j =

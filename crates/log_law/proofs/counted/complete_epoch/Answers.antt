@@ -7,13 +7,15 @@ use Rattle.log_law.proofs.counted.complete_epoch.Goals as goal
 pub loop-epoch-preserved : goal.loop-epoch-preserved
 loop-epoch-preserved c e l m q =
     ⊎_elim
-    (λ (s : e ≡ c.loop-epoch.epoch). some_item c.args.table.now c.loop-epoch.epoch c.index-table-epoch.result (omega arith) c.index-table-epoch.is c.if-is_none.ensures (subst (λ k. get_or c.args.table.now k None ≡ None) s q))
+    (λ (s : e ≡ c.loop-epoch.epoch). some_item c.args.table.now c.loop-epoch.epoch c.index-table-epoch.result
+    (omega arith) c.index-table-epoch.is c.if-is_none.ensures (subst (λ k. get_or c.args.table.now k None ≡ None) s q))
     (λ (s : e ≢ c.loop-epoch.epoch). c.loop-epoch.invariant e l (omega arith) q)
     (cases_eq e c.loop-epoch.epoch)
 
 pub returns-then-is_none : goal.returns-then-is_none
 returns-then-is_none c log t =
-    let none : get_or c.args.table.now c.loop-epoch.epoch None ≡ None = none_item c.args.table.now c.loop-epoch.epoch c.index-table-epoch.result (omega arith) c.index-table-epoch.is c.if-is_none.ensures in
+    let none : get_or c.args.table.now c.loop-epoch.epoch None ≡ None = none_item c.args.table.now c.loop-epoch.epoch c.index-table-epoch.result
+    (omega arith) c.index-table-epoch.is c.if-is_none.ensures in
     let back : c.loop-epoch.epoch ≡ c.loop-epoch.epoch - 1 + 1 = omega arith in
     is_begun log (c.loop-epoch.epoch - 1) (λ e l m q. c.loop-epoch.invariant e l (omega arith) (t.at e ∙ q))
     (λ l. subst (λ k. first_cut log k ≡ None) back (sym (t.at c.loop-epoch.epoch) ∙ none))

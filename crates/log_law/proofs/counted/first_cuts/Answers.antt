@@ -14,12 +14,15 @@ loop-fact-preserved c =
     let more : take (i + 1) xs ≡ take i xs ++ f ∷ [] = take_more xs i f c.loop-fact-test.true ∙ ap (λ g. take i xs ++ g ∷ []) (sym c.fact-item.is) in
     elim c.match-fact.branch [
       | in-Cut w ↦
-          (let new : c.match-fact.table.items ≡ w.count.new.table = ap (λ v. v.items) w.table-is ∙ with_items_is c.loop-fact.table w.count.new.table (w.count.auto.table ∙ w.deref_mut.ensures.len) in
+          (let new : c.match-fact.table.items ≡ w.count.new.table = ap (λ v. v.items) w.table-is ∙ with_items_is c.loop-fact.table w.count.new.table
+          (w.count.auto.table ∙ w.deref_mut.ensures.len) in
           subst (λ t. IsTable t c.match-fact.table.items) (sym more) (subst (IsTable (take i xs ++ f ∷ [])) (sym new)
           (table_cut (take i xs) f w.in-Cut.cut c.loop-fact.table.items w.count.new.table w.in-Cut.is w.count.ensures.shape c.loop-fact.invariant
           (w.count.auto.table ∙ ap length w.deref_mut.ensures.value ∙ c.loop-fact.invariant.len)
           (λ e. w.count.ensures.slots e ∙ ap (λ t. or_first (get_or t e None) (first_at e (w.in-Cut.cut ∷ []))) w.deref_mut.ensures.value))))
-      | in_default w ↦ subst (λ t. IsTable t c.match-fact.table.items) (sym more) (subst (λ t. IsTable (take i xs ++ f ∷ []) t.items) (sym w.table-is) (table_other (take i xs) f c.loop-fact.table.items c.loop-fact.invariant w.in_default.not-Cut))
+      | in_default w ↦ subst (λ t. IsTable t c.match-fact.table.items) (sym more)
+          (subst (λ t. IsTable (take i xs ++ f ∷ []) t.items) (sym w.table-is)
+          (table_other (take i xs) f c.loop-fact.table.items c.loop-fact.invariant w.in_default.not-Cut))
     ]
 
 pub count-requires : goal.count-requires

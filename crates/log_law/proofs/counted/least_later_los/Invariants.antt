@@ -8,7 +8,8 @@ abbrev pub invariant-loop-epoch : goal.invariant-loop-epoch
 invariant-loop-epoch l = record {
   len : length l.least_later_lo.items ≡ 65536;
   inside : l.epoch < 65536;
-  least_later_lo : (roster : ℕ) (log : List Fact) → IsTable log l.table → AreLows roster log l.lows → (e : ℕ) → l.epoch ≤ e → e < 65536 → IsLeastLaterLo roster log e (get_or l.least_later_lo.items e 0);
+  least_later_lo : (roster : ℕ) (log : List Fact) → IsTable log l.table → AreLows roster log l.lows → (e : ℕ) → l.epoch ≤ e → e < 65536
+      → IsLeastLaterLo roster log e (get_or l.least_later_lo.items e 0);
 }
 
 abbrev pub decreases-loop-epoch : goal.decreases-loop-epoch

@@ -13,7 +13,8 @@ use Rattle.log_law.proofs.keys.first_key_conflict.Goals.{in-Record+in_ok-is_othe
 pub returns-then-branch : goal.returns-then-branch
 returns-then-branch c =
     let log = c.args.facts.now in let p = c.loop-place.place in let f = c.index-facts-place.result in
-    let at : slice_get c.args.facts.now c.loop-place.place ≡ Some f = slice_get_read log (length c.args.facts.now) p f refl c.loop-place-test.true c.index-facts-place.is in
+    let at : slice_get c.args.facts.now c.loop-place.place ≡ Some f = slice_get_read log
+    (length c.args.facts.now) p f refl c.loop-place-test.true c.index-facts-place.is in
     let redo = c.in-Record.redo in
     first_other log p (Record redo) (at ∙ ap Some c.in-Record.is) c.loop-place.invariant.kept
     (MatchBool-at_true (Law1 (take p log) (Record redo) → ⊥) (Law1 (take p log) (Record redo)) c.if-branch.true c.in_ok-is_other-in-Record.ensures.law)
@@ -21,7 +22,8 @@ returns-then-branch c =
 pub returns-then-not-counts : goal.returns-then-not-counts
 returns-then-not-counts c =
     let log = c.args.facts.now in let p = c.loop-place.place in let f = c.index-facts-place.result in
-    let at : slice_get c.args.facts.now c.loop-place.place ≡ Some f = slice_get_read log (length c.args.facts.now) p f refl c.loop-place-test.true c.index-facts-place.is in
+    let at : slice_get c.args.facts.now c.loop-place.place ≡ Some f = slice_get_read log
+    (length c.args.facts.now) p f refl c.loop-place-test.true c.index-facts-place.is in
     let cut = c.in-Cut.cut in
     first_other log p (Cut cut) (at ∙ ap Some c.in-Cut.is) c.loop-place.invariant.kept
     (law1_later log p cut (at ∙ ap Some c.in-Cut.is) (λ e. let t : IsTrue false = c.if-not-counts.ensures.1 (c.requires.table.at cut.epoch ∙ e) in cc))
@@ -29,16 +31,19 @@ returns-then-not-counts c =
 pub loop-place-preserved : goal.loop-place-preserved
 loop-place-preserved c =
     let log = c.args.facts.now in let p = c.loop-place.place in let f = c.index-facts-place.result in
-    let at : slice_get c.args.facts.now c.loop-place.place ≡ Some f = slice_get_read log (length c.args.facts.now) p f refl c.loop-place-test.true c.index-facts-place.is in
+    let at : slice_get c.args.facts.now c.loop-place.place ≡ Some f = slice_get_read log
+    (length c.args.facts.now) p f refl c.loop-place-test.true c.index-facts-place.is in
     let inv = c.loop-place.invariant in
     elim c.match-fact.branch [
       | in-Record+in_ok-is_other-in-Record+else-branch w ↦
           (let redo = w.in-Record.redo in
           let here : slice_get c.args.facts.now c.loop-place.place ≡ Some (Record redo) = at ∙ ap Some w.in-Record.is in
-          let law : Law1 (take c.loop-place.place c.args.facts.now) (Record redo) = MatchBool-at_false (Law1 (take p log) (Record redo) → ⊥) (Law1 (take p log) (Record redo)) w.if-branch.false w.in_ok-is_other-in-Record.ensures.law in
+          let law : Law1 (take c.loop-place.place c.args.facts.now) (Record redo) = MatchBool-at_false (Law1 (take p log) (Record redo) → ⊥)
+          (Law1 (take p log) (Record redo)) w.if-branch.false w.in_ok-is_other-in-Record.ensures.law in
           record {
             kept = kept_more log p (Record redo) here law inv.kept;
-            seen = subst (IsSeen log (p + 1)) (sym w.seen-is) (MatchBool-at_false _ (IsSeen log (p + 1) w.is_other.new.seen) w.if-branch.false w.in_ok-is_other-in-Record.ensures.seen);
+            seen = subst (IsSeen log (p + 1)) (sym w.seen-is)
+                (MatchBool-at_false _ (IsSeen log (p + 1) w.is_other.new.seen) w.if-branch.false w.in_ok-is_other-in-Record.ensures.seen);
             first = first_more log p (Record redo) here (λ d e. absurd (cc)) inv.first;
           })
       | in-Cut+else-not-counts w ↦

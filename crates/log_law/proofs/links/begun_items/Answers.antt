@@ -16,10 +16,14 @@ loop-place-preserved c =
       | in-Record+then-admits+in_ok-push w ↦
           (let redo = w.in-Record.redo in
           let here : slice_get c.args.facts.now c.loop-place.place ≡ Some (Record redo) = at ∙ ap Some w.in-Record.is in
-          let law : Law2 c.args.facts.now (Record redo) = (w.admits.ensures log redo c.requires (sym w.epoch.ensures) (sym w.number.ensures.value)).0 w.if-admits.true in
-          let it : IsItem c.args.facts.now w.item_of.result = subst (IsItem log) (sym w.item_of.ensures) (record { redo = redo; at = here; begun = law; epoch = refl; number = refl; page = refl; back = refl; block_back = refl }) in
-          let items : c.match-fact.items.items ≡ c.loop-place.items.items ++ w.item_of.result ∷ [] = ap (λ v. v.items) w.items-is ∙ w.in_ok-push.ensures.items in
-          subst (AreItemsTo log (p + 1)) (sym items) (more_item log p c.loop-place.items.items w.item_of.result c.loop-place.invariant it (ap (λ t. t.place) w.item_of.ensures)))
+          let law : Law2 c.args.facts.now (Record redo) = (w.admits.ensures log redo c.requires (sym w.epoch.ensures) (sym w.number.ensures.value)).0
+          w.if-admits.true in
+          let it : IsItem c.args.facts.now w.item_of.result = subst (IsItem log) (sym w.item_of.ensures)
+          (record { redo = redo; at = here; begun = law; epoch = refl; number = refl; page = refl; back = refl; block_back = refl }) in
+          let items : c.match-fact.items.items ≡ c.loop-place.items.items ++ w.item_of.result ∷ [] = ap (λ v. v.items) w.items-is
+          ∙ w.in_ok-push.ensures.items in
+          subst (AreItemsTo log (p + 1)) (sym items) (more_item log p c.loop-place.items.items w.item_of.result c.loop-place.invariant it
+          (ap (λ t. t.place) w.item_of.ensures)))
       | in-Record+else-admits w ↦
           (let redo = w.in-Record.redo in
           subst (λ v. AreItemsTo log (p + 1) v.items) (sym w.items-is) (no_item log p c.loop-place.items.items f c.loop-place.invariant at
@@ -27,5 +31,6 @@ loop-place-preserved c =
           let t = (w.admits.ensures log redo c.requires (sym w.epoch.ensures) (sym w.number.ensures.value)).1 (subst (λ x. Law2 log (Record x)) same law) in
           let f : w.admits.result ≡ false = w.if-admits.false in absurd (cc))))
       | in_default w ↦
-          subst (λ v. AreItemsTo log (p + 1) v.items) (sym w.items-is) (no_item log p c.loop-place.items.items f c.loop-place.invariant at (λ r e law. w.in_default.not-Record r e))
+          subst (λ v. AreItemsTo log (p + 1) v.items) (sym w.items-is)
+          (no_item log p c.loop-place.items.items f c.loop-place.invariant at (λ r e law. w.in_default.not-Record r e))
     ]

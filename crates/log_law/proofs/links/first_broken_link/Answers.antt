@@ -9,5 +9,6 @@ returns c =
     let sorted = c.sort_by_key.new.items.items in
     let are = c.in_ok-sort_by_key.ensures.same log c.in_ok-items.ensures in
     let order = c.in_ok-sort_by_key.ensures.order in
-    let least = c.in_ok-least.ensures log c.requires (subst (AreItems log) (sym c.deref.ensures.value) are) (subst IsInKeyOrder (sym c.deref.ensures.value) order) in
+    let least = c.in_ok-least.ensures log c.requires (subst (AreItems log) (sym c.deref.ensures.value) are)
+    (subst IsInKeyOrder (sym c.deref.ensures.value) order) in
     least_of_log log sorted c.in_ok-least.least are (subst (λ items. IsLeastBroken log items c.in_ok-least.least) c.deref.ensures.value least)

@@ -12,9 +12,12 @@ loop-item-preserved c log past h j =
     let so_far = c.loop-item.invariant log past h j in
     let judged : JudgesItem log t (law_broken t (stack_of c.args.alive.now)) = j t (item_in xs i c.loop-item-test.true) in
     subst (λ ys. IsLeastBroken log ys c.match-broken_law.least) (sym more) (elim c.match-broken_law.branch [
-      | in-Some w ↦ subst (IsLeastBroken log ((past ++ take i xs) ++ t ∷ [])) (sym w.least-is) (w.earlier-least.ensures log (past ++ take i xs) t refl so_far (subst (JudgesItem log t) (sym c.broken_law.ensures ∙ w.in-Some.is) judged))
-      | in_default w ↦ subst (IsLeastBroken log ((past ++ take i xs) ++ t ∷ [])) (sym w.least-is) (least_kept log (past ++ take i xs) t c.loop-item.least so_far (subst (JudgesItem log t) (sym c.broken_law.ensures ∙ w.in_default.is) judged))
+      | in-Some w ↦ subst (IsLeastBroken log ((past ++ take i xs) ++ t ∷ [])) (sym w.least-is)
+          (w.earlier-least.ensures log (past ++ take i xs) t refl so_far (subst (JudgesItem log t) (sym c.broken_law.ensures ∙ w.in-Some.is) judged))
+      | in_default w ↦ subst (IsLeastBroken log ((past ++ take i xs) ++ t ∷ [])) (sym w.least-is)
+          (least_kept log (past ++ take i xs) t c.loop-item.least so_far (subst (JudgesItem log t) (sym c.broken_law.ensures ∙ w.in_default.is) judged))
     ])
 
 pub returns : goal.returns
-returns c log past h j = subst (λ ys. IsLeastBroken log (past ++ ys) c.loop-item.least) (take_all c.loop-item.item-index c.args.group.now c.loop-item-test.false) (c.loop-item.invariant log past h j)
+returns c log past h j = subst (λ ys. IsLeastBroken log (past ++ ys) c.loop-item.least)
+    (take_all c.loop-item.item-index c.args.group.now c.loop-item-test.false) (c.loop-item.invariant log past h j)

@@ -17,14 +17,17 @@ loop-item-preserved c =
       stack = c.in_ok-push.ensures.stack;
       holds = λ log past h f.
           subst (λ ys. Holds log ys c.push.new.self) (sym (one_further past xs i c.loop-item-test.true))
-          (holds_push log (past ++ take i xs) c.loop-item.alive c.push.new.self t (record { number = t.number; page = t.page; beneath = page_top t.page (stack_of c.loop-item.alive) }) refl refl
+          (holds_push log (past ++ take i xs) c.loop-item.alive c.push.new.self t
+          (record { number = t.number; page = t.page; beneath = page_top t.page (stack_of c.loop-item.alive) }) refl refl
           c.in_ok-push.ensures.stack c.push.ensures.view c.in_ok-push.ensures.top
           (subst (λ v. IsAlive (counted log) v t.epoch t.number) (sym view) (f.alive t among))
           (λ y m. c.loop-item.invariant.above log f t y among m)
           (c.loop-item.invariant.holds log past h f));
       above = λ log f u x hu hx. top_or_below log c.args.group.now c.args.alive.now f t u among hu
-          (stack_of c.loop-item.alive) (stack_of c.push.new.self) (page_top t.page (stack_of c.loop-item.alive)) c.in_ok-push.ensures.top (λ y m. c.loop-item.invariant.above log f u y hu m) x hx;
+          (stack_of c.loop-item.alive) (stack_of c.push.new.self) (page_top t.page (stack_of c.loop-item.alive)) c.in_ok-push.ensures.top
+          (λ y m. c.loop-item.invariant.above log f u y hu m) x hx;
     }
 
 pub returns-clause-holds : goal.returns-clause-holds
-returns-clause-holds c log past h f = subst (λ ys. Holds log (past ++ ys) c.loop-item.alive) (take_all c.loop-item.item-index c.args.group.now c.loop-item-test.false) (c.loop-item.invariant.holds log past h f)
+returns-clause-holds c log past h f = subst (λ ys. Holds log (past ++ ys) c.loop-item.alive)
+    (take_all c.loop-item.item-index c.args.group.now c.loop-item-test.false) (c.loop-item.invariant.holds log past h f)

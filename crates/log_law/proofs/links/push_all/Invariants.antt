@@ -10,6 +10,8 @@ abbrev pub invariant-loop-item : goal.invariant-loop-item
 invariant-loop-item l = record {
   view : l.alive.view ≡ l.initial.alive.view;
   stack : IsStack l.alive;
-  holds : (log : List Fact) (past : List Item) → Holds log past l.initial.alive → CanFollow log l.group l.initial.alive → Holds log (past ++ take l.item-index l.group) l.alive;
-  above : (log : List Fact) → CanFollow log l.group l.initial.alive → (t : Item) (x : Entry) → Contains l.group t → Contains (stack_of l.alive) x → x.number ≤ t.number;
+  holds : (log : List Fact) (past : List Item) → Holds log past l.initial.alive → CanFollow log l.group l.initial.alive
+      → Holds log (past ++ take l.item-index l.group) l.alive;
+  above : (log : List Fact) → CanFollow log l.group l.initial.alive → (t : Item) (x : Entry) → Contains l.group t → Contains (stack_of l.alive) x
+      → x.number ≤ t.number;
 }

@@ -14,11 +14,14 @@ pub loop-reader-preserved : goal.loop-reader-preserved
 loop-reader-preserved c = record {
   some = omega arith;
   within = omega (arith, c.loop-reader-test.true);
-  lows = lows_more c.loop-reader.reader c.args.facts.now c.loop-reader.lows.items c.in_ok-tops.tops.items c.lower_all.new.lows.items c.loop-reader.invariant.lows c.in_ok-tops.ensures c.lower_all.ensures.len
+  lows = lows_more c.loop-reader.reader c.args.facts.now c.loop-reader.lows.items c.in_ok-tops.tops.items c.lower_all.new.lows.items
+      c.loop-reader.invariant.lows c.in_ok-tops.ensures c.lower_all.ensures.len
       (λ e l. c.lower_all.ensures.each e l ∙ ap (λ xs. min (get_or c.loop-reader.lows.items e 0) (get_or xs e 0)) c.deref.ensures.value);
 }
 
 pub returns : goal.returns
 returns c =
-    let all : c.loop-reader.reader ≡ c.args.roster = (let t : c.loop-reader.reader ≡ c.readers-readers.result = omega (arith, c.loop-reader.invariant.within, c.loop-reader-test.false) in t ∙ c.readers-readers.ensures.value) in
+    let all : c.loop-reader.reader ≡ c.args.roster =
+    (let t : c.loop-reader.reader ≡ c.readers-readers.result = omega (arith, c.loop-reader.invariant.within, c.loop-reader-test.false) in
+    t ∙ c.readers-readers.ensures.value) in
     subst (λ n. AreLows n c.args.facts.now c.loop-reader.lows.items) all c.loop-reader.invariant.lows

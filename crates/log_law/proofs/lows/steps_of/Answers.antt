@@ -12,8 +12,10 @@ loop-fact-preserved c =
     elim c.match-fact.branch [
       | in-Advance w ↦
           subst (λ v. AreSteps (take (c.loop-fact.fact-index + 1) c.args.facts.now) c.args.reader v.items) (sym w.tops-is)
-          (steps_more c.args.facts.now c.args.reader c.loop-fact.fact-index c.fact-item.result w.in-Advance.advance c.loop-fact.tops.items w.note.new.tops.items c.loop-fact-test.true c.fact-item.is w.in-Advance.is c.loop-fact.invariant w.note.ensures.len w.note.ensures.each)
+          (steps_more c.args.facts.now c.args.reader c.loop-fact.fact-index c.fact-item.result w.in-Advance.advance c.loop-fact.tops.items w.note.new.tops.items
+          c.loop-fact-test.true c.fact-item.is w.in-Advance.is c.loop-fact.invariant w.note.ensures.len w.note.ensures.each)
       | in_default w ↦
           subst (λ v. AreSteps (take (c.loop-fact.fact-index + 1) c.args.facts.now) c.args.reader v.items) (sym w.tops-is)
-          (steps_other c.args.facts.now c.args.reader c.loop-fact.fact-index c.fact-item.result c.loop-fact.tops.items c.loop-fact-test.true c.fact-item.is w.in_default.not-Advance c.loop-fact.invariant)
+          (steps_other c.args.facts.now c.args.reader c.loop-fact.fact-index c.fact-item.result c.loop-fact.tops.items c.loop-fact-test.true c.fact-item.is
+          w.in_default.not-Advance c.loop-fact.invariant)
     ]

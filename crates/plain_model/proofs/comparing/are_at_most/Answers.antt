@@ -7,7 +7,8 @@ pub returns-then-below-place : goal.returns-then-below-place
 returns-then-below-place c = (
   λ h. absurd (cc),
   λ all. absurd (
-      let low : get_or c.args.below.now c.loop-place.place 0 ≤ get_or c.args.above.now c.loop-place.place 0 = AllZip-get_or (λ p q. p ≤ q) c.args.below.now c.args.above.now c.loop-place.place 0 0 all (omega arith) in
+      let low : get_or c.args.below.now c.loop-place.place 0 ≤ get_or c.args.above.now c.loop-place.place 0 = AllZip-get_or
+      (λ p q. p ≤ q) c.args.below.now c.args.above.now c.loop-place.place 0 0 all (omega arith) in
       omega arith),
 )
 

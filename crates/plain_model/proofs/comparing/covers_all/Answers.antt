@@ -9,7 +9,8 @@ use Rattle.plain_model.proofs.comparing.covers_all.Goals.{else-keeps-via-then-ke
 
 pub loop-fact-preserved : goal.loop-fact-preserved
 loop-fact-preserved c =
-    one_more (λ (f : Fact). Keeps c.args.others.now (position_of c.args.below.now) f → IsCovered c.args.facts.now (position_of c.args.above.now) f) c.args.others.now c.loop-fact.fact-index c.fact-item.result c.loop-fact-test.true c.fact-item.is c.loop-fact.invariant
+    one_more (λ (f : Fact). Keeps c.args.others.now (position_of c.args.below.now) f → IsCovered c.args.facts.now (position_of c.args.above.now) f)
+    c.args.others.now c.loop-fact.fact-index c.fact-item.result c.loop-fact-test.true c.fact-item.is c.loop-fact.invariant
     (λ kept. elim c.else-keeps.branch [
       | else-keeps-via-then-keeps+else-not-is_covered w ↦ w.is_covered.ensures.0 (cc)
       | else-keeps-via-else-keeps w ↦ absurd (let t : IsTrue c.keeps.result = c.keeps.ensures.1 kept in cc)
@@ -17,7 +18,9 @@ loop-fact-preserved c =
 
 pub returns : goal.returns
 returns c = (
-  λ h fact among. All-contains (λ (f : Fact). Keeps c.args.others.now (position_of c.args.below.now) f → IsCovered c.args.facts.now (position_of c.args.above.now) f) c.args.others.now fact
-      (whole (λ (f : Fact). Keeps c.args.others.now (position_of c.args.below.now) f → IsCovered c.args.facts.now (position_of c.args.above.now) f) c.args.others.now c.loop-fact.fact-index c.loop-fact-test.false c.loop-fact.invariant) among,
+  λ h fact among. All-contains (λ (f : Fact). Keeps c.args.others.now (position_of c.args.below.now) f
+      → IsCovered c.args.facts.now (position_of c.args.above.now) f) c.args.others.now fact
+      (whole (λ (f : Fact). Keeps c.args.others.now (position_of c.args.below.now) f → IsCovered c.args.facts.now (position_of c.args.above.now) f)
+      c.args.others.now c.loop-fact.fact-index c.loop-fact-test.false c.loop-fact.invariant) among,
   λ h. refl,
 )

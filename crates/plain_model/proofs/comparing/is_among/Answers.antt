@@ -8,17 +8,20 @@ use Rattle.plain_model.proofs.comparing.is_among.Goals as goal
 
 pub returns-then-is_same : goal.returns-then-is_same
 returns-then-is_same c = (
-  λ h. subst (Contains c.args.facts.now) (c.if-is_same.ensures.same.0 refl) (item c.args.facts.now c.loop-other.other-index c.other-item.result c.loop-other-test.true c.other-item.is),
+  λ h. subst (Contains c.args.facts.now) (c.if-is_same.ensures.same.0 refl)
+      (item c.args.facts.now c.loop-other.other-index c.other-item.result c.loop-other-test.true c.other-item.is),
   λ h. refl,
 )
 
 pub loop-other-preserved : goal.loop-other-preserved
 loop-other-preserved c =
-    one_more (λ (f : Fact). f ≢ c.args.fact.now) c.args.facts.now c.loop-other.other-index c.other-item.result c.loop-other-test.true c.other-item.is c.loop-other.invariant
+    one_more (λ (f : Fact). f ≢ c.args.fact.now) c.args.facts.now c.loop-other.other-index c.other-item.result c.loop-other-test.true c.other-item.is
+    c.loop-other.invariant
     (λ e. let t : IsTrue false = c.if-is_same.ensures.same.1 e in absurd (cc))
 
 pub returns : goal.returns
 returns c = (
   λ h. absurd (cc),
-  λ h. absurd (All-contains (λ (f : Fact). f ≢ c.args.fact.now) c.args.facts.now c.args.fact.now (whole (λ (f : Fact). f ≢ c.args.fact.now) c.args.facts.now c.loop-other.other-index c.loop-other-test.false c.loop-other.invariant) h refl),
+  λ h. absurd (All-contains (λ (f : Fact). f ≢ c.args.fact.now) c.args.facts.now c.args.fact.now
+      (whole (λ (f : Fact). f ≢ c.args.fact.now) c.args.facts.now c.loop-other.other-index c.loop-other-test.false c.loop-other.invariant) h refl),
 )

@@ -16,16 +16,26 @@ loop-fact-preserved c =
           let s = w.in-Record.other in
           let new : s.number ≡ c.match-fact.greatest = omega arith in
           record {
-            there = inr (subst (IsAliveBelow xs r (Follows chain r)) new (alive_below xs r chain s (record_item xs i f s c.loop-fact-test.true c.fact-item.is w.in-Record.is) (w.if-is_below_on.ensures.0 refl)));
-            top = one_more (IsBelowUpTo xs r chain c.match-fact.greatest) xs i f c.loop-fact-test.true c.fact-item.is (higher_below xs _ r chain c.loop-fact.greatest c.match-fact.greatest (omega arith) c.loop-fact.invariant.top) (below_record xs r chain c.match-fact.greatest f s w.in-Record.is (λ _. omega arith));
+            there = inr (subst (IsAliveBelow xs r (Follows chain r)) new
+                (alive_below xs r chain s (record_item xs i f s c.loop-fact-test.true c.fact-item.is w.in-Record.is) (w.if-is_below_on.ensures.0 refl)));
+            top = one_more (IsBelowUpTo xs r chain c.match-fact.greatest) xs i f c.loop-fact-test.true c.fact-item.is
+                (higher_below xs _ r chain c.loop-fact.greatest c.match-fact.greatest (omega arith) c.loop-fact.invariant.top)
+                (below_record xs r chain c.match-fact.greatest f s w.in-Record.is (λ _. omega arith));
           }
-      | in-Record+else-number-greatest w ↦ below_step xs i f r chain c.loop-fact.greatest c.match-fact.greatest c.loop-fact-test.true c.fact-item.is w.greatest-is c.loop-fact.invariant.there c.loop-fact.invariant.top
+      | in-Record+else-number-greatest w ↦ below_step xs i f r chain c.loop-fact.greatest c.match-fact.greatest c.loop-fact-test.true c.fact-item.is
+          w.greatest-is c.loop-fact.invariant.there c.loop-fact.invariant.top
           (below_record xs r chain c.loop-fact.greatest f w.in-Record.other w.in-Record.is (λ h. elim w.else-number-greatest.branch [
             | else-number-greatest-via-then-number-greatest+else-is_below_on u ↦ absurd (let t : IsTrue false = u.if-is_below_on.ensures.1 h in cc)
             | else-number-greatest-via-else-number-greatest u ↦ omega arith
           ]))
-      | in_default w ↦ below_step xs i f r chain c.loop-fact.greatest c.match-fact.greatest c.loop-fact-test.true c.fact-item.is w.greatest-is c.loop-fact.invariant.there c.loop-fact.invariant.top (below_default xs r chain c.loop-fact.greatest f w.in_default.not-Record)
+      | in_default w ↦ below_step xs i f r chain c.loop-fact.greatest c.match-fact.greatest c.loop-fact-test.true c.fact-item.is w.greatest-is
+          c.loop-fact.invariant.there c.loop-fact.invariant.top (below_default xs r chain c.loop-fact.greatest f w.in_default.not-Record)
     ]
 
 pub returns : goal.returns
-returns c = (c.loop-fact.invariant.there, λ m h. top_below c.args.log.now c.args.redo.now c.args.chain c.loop-fact.greatest m (whole (IsBelowUpTo c.args.log.now c.args.redo.now c.args.chain c.loop-fact.greatest) c.args.log.now c.loop-fact.fact-index c.loop-fact-test.false c.loop-fact.invariant.top) h)
+returns c = (
+  c.loop-fact.invariant.there,
+  λ m h. top_below c.args.log.now c.args.redo.now c.args.chain c.loop-fact.greatest m
+      (whole (IsBelowUpTo c.args.log.now c.args.redo.now c.args.chain c.loop-fact.greatest) c.args.log.now c.loop-fact.fact-index c.loop-fact-test.false
+      c.loop-fact.invariant.top) h,
+)

@@ -29,4 +29,9 @@ loop-fact-preserved c =
     ])
 
 pub returns : goal.returns
-returns c = (λ h. all_counted_spare c.args.log.now c.args.view c.args.epoch c.args.number (omega arith) (whole (IsSparedIfCounted c.args.log.now c.args.view c.args.epoch c.args.number) c.args.log.now c.loop-fact.fact-index c.loop-fact-test.false c.loop-fact.invariant), λ h. refl)
+returns c = (
+  λ h. all_counted_spare c.args.log.now c.args.view c.args.epoch c.args.number (omega arith)
+      (whole (IsSparedIfCounted c.args.log.now c.args.view c.args.epoch c.args.number) c.args.log.now c.loop-fact.fact-index c.loop-fact-test.false
+      c.loop-fact.invariant),
+  λ h. refl,
+)

@@ -4,7 +4,8 @@ use Rattle.redo_core.proofs.Scans.{next_epoch, complete}
 use Rattle.plain_model.proofs.epochs.complete_epoch.Goals as goal
 
 pub returns : goal.returns
-returns c = complete (cuts c.args.facts.now) c.loop-epoch.epoch c.loop-epoch.invariant.has (λ h. let t : IsTrue false = c.loop-epoch-test.ensures.found.1 h in cc)
+returns c = complete (cuts c.args.facts.now) c.loop-epoch.epoch c.loop-epoch.invariant.has
+    (λ h. let t : IsTrue false = c.loop-epoch-test.ensures.found.1 h in cc)
 
 pub loop-epoch-preserved : goal.loop-epoch-preserved
 loop-epoch-preserved c = record {

@@ -10,17 +10,34 @@ loop-place-init c earlier f l at = absurd (omega (arith, l))
 
 pub returns-in-Some-clause-sound : goal.returns-in-Some-clause-sound
 returns-in-Some-clause-sound c =
-    let log = c.args.log.now in let place = c.loop-place.place in let fact = c.index-log-place.result in
-    (λ h. absurd (cc), λ sound. absurd (c.in-Some.ensures.breaks (keeps_each c.readers-readers.result log place fact c.in-Some.law (subst (λ r. KeepsLaws r log place fact) (sym c.readers-readers.ensures.value) (sound.keeps place fact (slice_get_read log (length log) place fact refl c.loop-place-test.true c.index-log-place.is))))))
+    let log = c.args.log.now in let place = c.loop-place.place in let fact = c.index-log-place.result in (
+      λ h. absurd (cc),
+      λ sound. absurd (c.in-Some.ensures.breaks
+          (keeps_each c.readers-readers.result log place fact c.in-Some.law
+          (subst (λ r. KeepsLaws r log place fact) (sym c.readers-readers.ensures.value)
+          (sound.keeps place fact (slice_get_read log (length log) place fact refl c.loop-place-test.true c.index-log-place.is))))),
+    )
 
 pub returns-in-Some-clause-fault : goal.returns-in-Some-clause-fault
-returns-in-Some-clause-fault c = (omega arith, fault_at c.args.roster c.args.log.now c.loop-place.place c.index-log-place.result c.in-Some.law c.loop-place-test.true c.index-log-place.is c.loop-place.invariant (subst (λ r. BreaksFirst r c.args.log.now c.loop-place.place c.index-log-place.result c.in-Some.law) c.readers-readers.ensures.value c.in-Some.ensures))
+returns-in-Some-clause-fault c = (
+  omega arith,
+  fault_at c.args.roster c.args.log.now c.loop-place.place c.index-log-place.result c.in-Some.law
+      c.loop-place-test.true c.index-log-place.is c.loop-place.invariant
+      (subst (λ r. BreaksFirst r c.args.log.now c.loop-place.place c.index-log-place.result c.in-Some.law) c.readers-readers.ensures.value c.in-Some.ensures),
+)
 
 pub loop-place-preserved : goal.loop-place-preserved
-loop-place-preserved c = keeps_one_more c.args.roster c.args.log.now c.loop-place.place c.index-log-place.result c.loop-place-test.true c.index-log-place.is c.loop-place.invariant (none_found c.args.roster c.args.log.now c.loop-place.place c.index-log-place.result c.broken_law.result (subst (λ r. FindsFault r c.args.log.now c.loop-place.place c.index-log-place.result c.broken_law.result) c.readers-readers.ensures.value c.broken_law.ensures) c.in_default.not-Some)
+loop-place-preserved c = keeps_one_more c.args.roster c.args.log.now c.loop-place.place c.index-log-place.result c.loop-place-test.true c.index-log-place.is
+    c.loop-place.invariant (none_found c.args.roster c.args.log.now c.loop-place.place c.index-log-place.result c.broken_law.result
+    (subst (λ r. FindsFault r c.args.log.now c.loop-place.place c.index-log-place.result c.broken_law.result) c.readers-readers.ensures.value
+    c.broken_law.ensures) c.in_default.not-Some)
 
 pub returns-clause-sound : goal.returns-clause-sound
 returns-clause-sound c = (
-  λ h. record { readers = c.readers-readers.ensures.range; keeps = λ place fact at. c.loop-place.invariant place fact (let l : place < length c.args.log.now = slice_get_within c.args.log.now place fact at in omega arith) at },
+  λ h. record {
+    readers = c.readers-readers.ensures.range;
+    keeps = λ place fact at. c.loop-place.invariant place fact
+        (let l : place < length c.args.log.now = slice_get_within c.args.log.now place fact at in omega arith) at;
+  },
   λ h. refl,
 )

@@ -11,8 +11,12 @@ use Rattle.plain_model.proofs.faults.is_only_cut.Goals.{in-Cut+else-epoch, else-
 pub returns-then-not-are_same-clause-law : goal.returns-then-not-are_same-clause-law
 returns-then-not-are_same-clause-law c =
     let other = c.in-Cut.other in let cut = c.args.cut.now in
-    let epochs : other.epoch ≡ cut.epoch = omega arith in
-    (λ h. absurd (cc), λ law. c.if-not-are_same.ensures.1 (let e : Cut other ≡ Cut cut = other_of_key c.args.earlier.now (Cut cut) c.loop-fact.fact-index c.fact-item.result (Cut other) c.loop-fact-test.true c.fact-item.is c.in-Cut.is law epochs in cc))
+    let epochs : other.epoch ≡ cut.epoch = omega arith in (
+      λ h. absurd (cc),
+      λ law. c.if-not-are_same.ensures.1
+          (let e : Cut other ≡ Cut cut = other_of_key c.args.earlier.now (Cut cut) c.loop-fact.fact-index c.fact-item.result
+          (Cut other) c.loop-fact-test.true c.fact-item.is c.in-Cut.is law epochs in cc),
+    )
 
 pub loop-fact-preserved : goal.loop-fact-preserved
 loop-fact-preserved c =
@@ -28,4 +32,8 @@ loop-fact-preserved c =
     ])
 
 pub returns-clause-law : goal.returns-clause-law
-returns-clause-law c = (λ h. only_of_key c.args.earlier.now (Cut c.args.cut.now) (whole (IsSameOfKey (Cut c.args.cut.now)) c.args.earlier.now c.loop-fact.fact-index c.loop-fact-test.false c.loop-fact.invariant), λ h. refl)
+returns-clause-law c = (
+  λ h. only_of_key c.args.earlier.now (Cut c.args.cut.now)
+      (whole (IsSameOfKey (Cut c.args.cut.now)) c.args.earlier.now c.loop-fact.fact-index c.loop-fact-test.false c.loop-fact.invariant),
+  λ h. refl,
+)

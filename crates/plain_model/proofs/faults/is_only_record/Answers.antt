@@ -12,8 +12,12 @@ pub returns-then-not-is_same : goal.returns-then-not-is_same
 returns-then-not-is_same c =
     let other = c.in-Record.other in let redo = c.args.redo.now in
     let epochs : other.epoch ≡ redo.epoch = omega arith in
-    let numbers : other.number ≡ redo.number = omega arith in
-    (λ h. absurd (cc), λ law. c.if-not-is_same.ensures.1 (let e : Record other ≡ Record redo = other_of_key c.args.earlier.now (Record redo) c.loop-fact.fact-index c.fact-item.result (Record other) c.loop-fact-test.true c.fact-item.is c.in-Record.is law (epochs, numbers) in cc))
+    let numbers : other.number ≡ redo.number = omega arith in (
+      λ h. absurd (cc),
+      λ law. c.if-not-is_same.ensures.1
+          (let e : Record other ≡ Record redo = other_of_key c.args.earlier.now (Record redo) c.loop-fact.fact-index c.fact-item.result
+          (Record other) c.loop-fact-test.true c.fact-item.is c.in-Record.is law (epochs, numbers) in cc),
+    )
 
 pub loop-fact-preserved : goal.loop-fact-preserved
 loop-fact-preserved c =
@@ -30,4 +34,8 @@ loop-fact-preserved c =
     ])
 
 pub returns : goal.returns
-returns c = (λ h. only_of_key c.args.earlier.now (Record c.args.redo.now) (whole (IsSameOfKey (Record c.args.redo.now)) c.args.earlier.now c.loop-fact.fact-index c.loop-fact-test.false c.loop-fact.invariant), λ h. refl)
+returns c = (
+  λ h. only_of_key c.args.earlier.now (Record c.args.redo.now)
+      (whole (IsSameOfKey (Record c.args.redo.now)) c.args.earlier.now c.loop-fact.fact-index c.loop-fact-test.false c.loop-fact.invariant),
+  λ h. refl,
+)

@@ -10,7 +10,8 @@ use Rattle.plain_model.proofs.faults.is_spared.Goals.{in-Cut+else-epoch, else-ep
 pub returns-then-are_past : goal.returns-then-are_past
 returns-then-are_past c = (
   λ h. absurd (cc),
-  λ spared. absurd (let l : c.args.point ≤ c.in-Cut.cut.lo = spared c.in-Cut.cut (c.if-is_counted.ensures.0 refl) (omega arith) (c.if-are_past.ensures.0 refl) in omega arith),
+  λ spared. absurd (let l : c.args.point ≤ c.in-Cut.cut.lo = spared c.in-Cut.cut (c.if-is_counted.ensures.0 refl) (omega arith)
+      (c.if-are_past.ensures.0 refl) in omega arith),
 )
 
 pub loop-fact-preserved : goal.loop-fact-preserved
@@ -28,4 +29,9 @@ loop-fact-preserved c =
     ])
 
 pub returns : goal.returns
-returns c = (λ h. all_counted_above c.args.readers c.args.log.now c.args.epoch c.args.point (whole (IsAboveIfCounted c.args.readers c.args.log.now c.args.epoch c.args.point) c.args.log.now c.loop-fact.fact-index c.loop-fact-test.false c.loop-fact.invariant), λ h. refl)
+returns c = (
+  λ h. all_counted_above c.args.readers c.args.log.now c.args.epoch c.args.point
+      (whole (IsAboveIfCounted c.args.readers c.args.log.now c.args.epoch c.args.point) c.args.log.now c.loop-fact.fact-index c.loop-fact-test.false
+      c.loop-fact.invariant),
+  λ h. refl,
+)

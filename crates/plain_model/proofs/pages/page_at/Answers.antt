@@ -4,7 +4,8 @@ use Rattle.plain_model.proofs.PageSteps.{IsPageBelow, page_start, page_step, pag
 use Rattle.plain_model.proofs.pages.page_at.Goals as goal
 
 pub loop-redo-init : goal.loop-redo-init
-loop-redo-init c once = subst (IsPageBelow c.args.facts.now c.args.view c.args.page c.args.point 0) (sym c.in_ok-image.ensures) (page_start c.args.facts.now c.args.view c.args.page c.args.point)
+loop-redo-init c once = subst (IsPageBelow c.args.facts.now c.args.view c.args.page c.args.point 0) (sym c.in_ok-image.ensures)
+    (page_start c.args.facts.now c.args.view c.args.page c.args.point)
 
 pub loop-redo-smaller : goal.loop-redo-smaller
 loop-redo-smaller c =
@@ -15,11 +16,16 @@ loop-redo-smaller c =
 
 pub loop-redo-preserved : goal.loop-redo-preserved
 loop-redo-preserved c once =
-    let step : IsPageBelow c.args.facts.now c.args.view c.args.page c.args.point (c.in-Some.redo.now.number + 1) (write c.loop-redo.image c.in-Some.redo.now) = page_step c.args.facts.now c.args.view c.args.page c.args.point c.loop-redo.from c.loop-redo.image c.in-Some.redo.now once c.in-Some.ensures (c.loop-redo.invariant once) in
-    subst (λ n. IsPageBelow c.args.facts.now c.args.view c.args.page c.args.point (n + 1) c.apply.new.page) (sym c.number-from.ensures.value) (subst (IsPageBelow c.args.facts.now c.args.view c.args.page c.args.point (c.in-Some.redo.now.number + 1)) (sym c.apply.ensures) step)
+    let step : IsPageBelow c.args.facts.now c.args.view c.args.page c.args.point (c.in-Some.redo.now.number + 1) (write c.loop-redo.image c.in-Some.redo.now) =
+    page_step c.args.facts.now c.args.view c.args.page c.args.point c.loop-redo.from c.loop-redo.image c.in-Some.redo.now once c.in-Some.ensures
+    (c.loop-redo.invariant once) in
+    subst (λ n. IsPageBelow c.args.facts.now c.args.view c.args.page c.args.point (n + 1) c.apply.new.page) (sym c.number-from.ensures.value)
+    (subst (IsPageBelow c.args.facts.now c.args.view c.args.page c.args.point (c.in-Some.redo.now.number + 1)) (sym c.apply.ensures) step)
 
 pub returns-clause-page : goal.returns-clause-page
-returns-clause-page c once = page_end c.args.facts.now c.args.view c.args.page c.args.point c.loop-redo.from c.loop-redo.image c.in_default.ensures (c.loop-redo.invariant once)
+returns-clause-page c once = page_end c.args.facts.now c.args.view c.args.page c.args.point c.loop-redo.from c.loop-redo.image c.in_default.ensures
+    (c.loop-redo.invariant once)
 
 pub returns-clause-sound : goal.returns-clause-sound
-returns-clause-sound c roster log sound part has = page_end c.args.facts.now c.args.view c.args.page c.args.point c.loop-redo.from c.loop-redo.image c.in_default.ensures (c.loop-redo.invariant (once_if_sound roster log c.args.facts.now c.args.view c.args.page c.args.point sound part has))
+returns-clause-sound c roster log sound part has = page_end c.args.facts.now c.args.view c.args.page c.args.point c.loop-redo.from c.loop-redo.image
+    c.in_default.ensures (c.loop-redo.invariant (once_if_sound roster log c.args.facts.now c.args.view c.args.page c.args.point sound part has))

@@ -8,7 +8,14 @@ use Rattle.plain_model.proofs.past.is_past.Goals.{in-Advance+else-reader, else-r
 
 pub returns-then-point-lo : goal.returns-then-point-lo
 returns-then-point-lo c = (
-  λ _. (c.in-Advance.advance, advance_item c.args.log.now c.loop-fact.fact-index c.fact-item.result c.in-Advance.advance c.loop-fact-test.true c.fact-item.is c.in-Advance.is, omega arith, omega arith, omega arith),
+  λ _. (
+    c.in-Advance.advance,
+    advance_item c.args.log.now c.loop-fact.fact-index c.fact-item.result c.in-Advance.advance c.loop-fact-test.true c.fact-item.is
+        c.in-Advance.is,
+    omega arith,
+    omega arith,
+    omega arith,
+  ),
   λ _. refl,
 )
 
@@ -26,4 +33,8 @@ loop-fact-preserved c =
     ])
 
 pub returns : goal.returns
-returns c = (λ h. absurd (cc), λ h. absurd (not_past c.args.log.now c.args.cut.now c.args.reader (whole (LeavesBehind c.args.cut.now c.args.reader) c.args.log.now c.loop-fact.fact-index c.loop-fact-test.false c.loop-fact.invariant) h))
+returns c = (
+  λ h. absurd (cc),
+  λ h. absurd (not_past c.args.log.now c.args.cut.now c.args.reader
+      (whole (LeavesBehind c.args.cut.now c.args.reader) c.args.log.now c.loop-fact.fact-index c.loop-fact-test.false c.loop-fact.invariant) h),
+)

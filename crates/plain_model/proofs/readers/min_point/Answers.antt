@@ -14,7 +14,8 @@ loop-p-preserved c =
     record {
       among = ⊎_elim
           (λ (e : c.min-low.result ≡ c.loop-p.low). subst (Contains c.args.points.now) (sym e) c.loop-p.invariant.among)
-          (λ (e : c.min-low.result ≡ get_or c.args.points.now c.loop-p.p-index 0). subst (Contains c.args.points.now) (sym e) (item c.args.points.now c.loop-p.p-index (get_or c.args.points.now c.loop-p.p-index 0) c.loop-p-test.true at))
+          (λ (e : c.min-low.result ≡ get_or c.args.points.now c.loop-p.p-index 0). subst (Contains c.args.points.now) (sym e)
+          (item c.args.points.now c.loop-p.p-index (get_or c.args.points.now c.loop-p.p-index 0) c.loop-p-test.true at))
           (let t : (c.min-low.result ≡ c.loop-p.low) ⊎ (c.min-low.result ≡ get_or c.args.points.now c.loop-p.p-index 0) = grind (arith, is) in t);
       low = one_more (λ q. c.min-low.result ≤ q) c.args.points.now c.loop-p.p-index (get_or c.args.points.now c.loop-p.p-index 0) c.loop-p-test.true at
           (λ k d m. let t : c.loop-p.low ≤ get_or (take c.loop-p.p-index c.args.points.now) k d = c.loop-p.invariant.low k d m in omega (arith, is))
@@ -23,4 +24,5 @@ loop-p-preserved c =
 
 pub returns : goal.returns
 returns c = least_is c.args.points.now c.loop-p.low c.loop-p.invariant.among
-    (λ p h. All-contains (λ q. c.loop-p.low ≤ q) c.args.points.now p (whole (λ q. c.loop-p.low ≤ q) c.args.points.now c.loop-p.p-index c.loop-p-test.false c.loop-p.invariant.low) h)
+    (λ p h. All-contains (λ q. c.loop-p.low ≤ q) c.args.points.now p
+    (whole (λ q. c.loop-p.low ≤ q) c.args.points.now c.loop-p.p-index c.loop-p-test.false c.loop-p.invariant.low) h)

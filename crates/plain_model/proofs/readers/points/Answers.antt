@@ -7,4 +7,5 @@ use Rattle.plain_model.proofs.readers.points.Goals as goal
 pub loop-place-preserved : goal.loop-place-preserved
 loop-place-preserved c =
     subst (ArePoints (c.loop-place.place + 1) (advances c.args.facts.now) c.args.epoch) (sym c.in_ok-push.ensures.items)
-    (one_reader_more c.loop-place.place (advances c.args.facts.now) c.args.epoch c.loop-place.points.items c.point.result c.loop-place.invariant c.point.ensures)
+    (one_reader_more c.loop-place.place (advances c.args.facts.now) c.args.epoch c.loop-place.points.items c.point.result c.loop-place.invariant
+    c.point.ensures)

@@ -10,17 +10,24 @@ use Rattle.plain_model.proofs.standings.is_alive.Goals.{in-Cut+else-not-spares, 
 pub returns-then-not-spares : goal.returns-then-not-spares
 returns-then-not-spares c = (
   λ h. absurd (cc),
-  λ a. let s = spares_of (cuts c.args.facts.now) c.args.view c.args.epoch c.args.number c.in-Cut.cut (cut_item c.args.facts.now c.loop-fact.fact-index c.fact-item.result c.in-Cut.cut c.loop-fact-test.true c.fact-item.is c.in-Cut.is) a in
+  λ a. let s = spares_of (cuts c.args.facts.now) c.args.view c.args.epoch c.args.number c.in-Cut.cut
+      (cut_item c.args.facts.now c.loop-fact.fact-index c.fact-item.result c.in-Cut.cut c.loop-fact-test.true c.fact-item.is c.in-Cut.is) a in
       let t : IsTrue false = c.if-not-spares.ensures.1 s in t,
 )
 
 pub loop-fact-preserved : goal.loop-fact-preserved
 loop-fact-preserved c =
-    one_more (IsSpared c.args.view c.args.epoch c.args.number) c.args.facts.now c.loop-fact.fact-index c.fact-item.result c.loop-fact-test.true c.fact-item.is c.loop-fact.invariant
+    one_more (IsSpared c.args.view c.args.epoch c.args.number) c.args.facts.now c.loop-fact.fact-index c.fact-item.result c.loop-fact-test.true c.fact-item.is
+    c.loop-fact.invariant
     (elim c.match-fact.branch [
-      | in-Cut+else-not-spares w ↦ spared_cut c.args.view c.args.epoch c.args.number c.fact-item.result w.in-Cut.cut w.in-Cut.is (w.if-not-spares.ensures.0 refl)
+      | in-Cut+else-not-spares w ↦ spared_cut c.args.view c.args.epoch c.args.number c.fact-item.result w.in-Cut.cut w.in-Cut.is
+          (w.if-not-spares.ensures.0 refl)
       | in_default w ↦ spared_default c.args.view c.args.epoch c.args.number c.fact-item.result w.in_default.not-Cut
     ])
 
 pub returns : goal.returns
-returns c = (λ h. all_spare c.args.facts.now c.args.view c.args.epoch c.args.number (omega arith) (whole (IsSpared c.args.view c.args.epoch c.args.number) c.args.facts.now c.loop-fact.fact-index c.loop-fact-test.false c.loop-fact.invariant), λ h. refl)
+returns c = (
+  λ h. all_spare c.args.facts.now c.args.view c.args.epoch c.args.number (omega arith)
+      (whole (IsSpared c.args.view c.args.epoch c.args.number) c.args.facts.now c.loop-fact.fact-index c.loop-fact-test.false c.loop-fact.invariant),
+  λ h. refl,
+)

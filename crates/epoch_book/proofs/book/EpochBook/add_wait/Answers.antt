@@ -13,7 +13,8 @@ invariant_of-self-in-Err c =
     subst (λ ws. IsBook (book_of c.self.inside.cuts.items c.self.inside.complete c.self.inside.points ws)) (sym c.in_ok-insert-in-Err.ensures.items)
     (wait_book b c.in-Err.place c.args.advance c.self.invariant
     (subst (λ ws. c.in-Err.place ≤ length ws) c.deref.ensures.value c.in-Err.ensures.absent.0)
-    (subst (λ ws. IsPartitionPoint (λ w. AdvanceBefore w c.args.advance) (λ w. AdvanceBefore c.args.advance w) ws c.in-Err.place) c.deref.ensures.value c.in-Err.ensures.absent.1)
+    (subst (λ ws. IsPartitionPoint (λ w. AdvanceBefore w c.args.advance) (λ w. AdvanceBefore c.args.advance w) ws c.in-Err.place) c.deref.ensures.value
+    c.in-Err.ensures.absent.1)
     c.requires.shaped
     (subst (λ b. b.complete < c.args.advance.epoch) (sym c.self.view_is) c.requires.later)
     (subst (λ b. IsReader (roster_of b) c.args.advance.reader) (sym c.self.view_is) c.requires.of_roster))
@@ -21,8 +22,10 @@ invariant_of-self-in-Err c =
 pub returns-in_ok-insert-in-Err-clause-ok : goal.returns-in_ok-insert-in-Err-clause-ok
 returns-in_ok-insert-in-Err-clause-ok c =
     let b = book_of c.self.inside.cuts.items c.self.inside.complete c.self.inside.points c.self.inside.waits.items in
-    subst (λ b. LearnsAdvance b c.args.advance (book_of c.self.inside.cuts.items c.self.inside.complete c.self.inside.points c.insert.new.self.items)) c.self.view_is
-    (subst (λ ws. LearnsAdvance b c.args.advance (book_of c.self.inside.cuts.items c.self.inside.complete c.self.inside.points ws)) (sym c.in_ok-insert-in-Err.ensures.items)
+    subst (λ b. LearnsAdvance b c.args.advance (book_of c.self.inside.cuts.items c.self.inside.complete c.self.inside.points c.insert.new.self.items))
+    c.self.view_is
+    (subst (λ ws. LearnsAdvance b c.args.advance (book_of c.self.inside.cuts.items c.self.inside.complete c.self.inside.points ws))
+    (sym c.in_ok-insert-in-Err.ensures.items)
     (wait_learns b c.in-Err.place c.args.advance (subst (λ b. b.complete < c.args.advance.epoch) (sym c.self.view_is) c.requires.later)))
 
 pub returns-in_ok-insert-in-Err-clause-book : goal.returns-in_ok-insert-in-Err-clause-book
@@ -31,7 +34,8 @@ returns-in_ok-insert-in-Err-clause-book c =
     subst (λ ws. IsBook (book_of c.self.inside.cuts.items c.self.inside.complete c.self.inside.points ws)) (sym c.in_ok-insert-in-Err.ensures.items)
     (wait_book b c.in-Err.place c.args.advance c.self.invariant
     (subst (λ ws. c.in-Err.place ≤ length ws) c.deref.ensures.value c.in-Err.ensures.absent.0)
-    (subst (λ ws. IsPartitionPoint (λ w. AdvanceBefore w c.args.advance) (λ w. AdvanceBefore c.args.advance w) ws c.in-Err.place) c.deref.ensures.value c.in-Err.ensures.absent.1)
+    (subst (λ ws. IsPartitionPoint (λ w. AdvanceBefore w c.args.advance) (λ w. AdvanceBefore c.args.advance w) ws c.in-Err.place) c.deref.ensures.value
+    c.in-Err.ensures.absent.1)
     c.requires.shaped
     (subst (λ b. b.complete < c.args.advance.epoch) (sym c.self.view_is) c.requires.later)
     (subst (λ b. IsReader (roster_of b) c.args.advance.reader) (sym c.self.view_is) c.requires.of_roster))

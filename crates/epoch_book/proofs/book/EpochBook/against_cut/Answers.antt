@@ -14,5 +14,12 @@ returns-clause-some c =
     let within : least ps ≤ c.args.cut.lo = omega arith in
     let past : OthersPast ps ws c.args.cut 0 = subst (λ xs. OthersPast ps xs c.args.cut 0) c.deref.ensures.value (c.if-not-others_past.ensures.0 refl) in
     subst (λ b. IfSome c.map.result (λ h. LacksCut b.cuts c.args.cut.epoch → RefusesCut b c.args.cut (Contradiction h))) c.self.view_is
-    (mapped_to_held c.first_against.result c.map.result (IsFirst AdvanceBefore (λ a. Contains c.deref-2.result.now a × Contradict c.args.cut a)) _ c.map.ensures.cases c.first_against.ensures.first
-    (λ x first lacks. (lacks, within, past, subst (λ xs. IsFirst AdvanceBefore (λ a. Contains xs a × Contradict c.args.cut a) x) c.deref-2.ensures.value first)))
+    (mapped_to_held c.first_against.result c.map.result (IsFirst AdvanceBefore (λ a. Contains c.deref-2.result.now a × Contradict c.args.cut a)) _
+    c.map.ensures.cases c.first_against.ensures.first
+    (λ x first lacks. (
+      lacks,
+      within,
+      past,
+      subst (λ xs. IsFirst AdvanceBefore (λ a. Contains xs a × Contradict c.args.cut a) x) c.deref-2.ensures.value
+          first,
+    )))

@@ -21,7 +21,8 @@ returns-in-Some-clause-refuses c = λ e h.
     ap Err (one_cut_refusal c.args.self.now c.args.cut c.against_cut.ensures.book (Contradiction c.in-Some.held) e (c.in-Some.ensures.some lacks) h)
 
 pub returns-in_ok-add_cut-in-Err-clause-knows : goal.returns-in_ok-add_cut-in-Err-clause-knows
-returns-in_ok-add_cut-in-Err-clause-knows c = cut_knows c.args.self.now c.args.cut c.add_cut.new.self c.against_cut.ensures.book c.add_cut.ensures.book c.in_ok-add_cut-in-Err.ensures.ok
+returns-in_ok-add_cut-in-Err-clause-knows c = cut_knows c.args.self.now c.args.cut c.add_cut.new.self c.against_cut.ensures.book c.add_cut.ensures.book
+    c.in_ok-add_cut-in-Err.ensures.ok
 
 pub returns-after-eq-clause-knows : goal.returns-after-eq-clause-knows
 returns-after-eq-clause-knows c =
@@ -34,7 +35,8 @@ returns-after-eq-clause-knows c =
           let h : c.index.result.now.hi ≡ c.args.cut.hi = grind (arith, nat_tests) in
           let there : Contains b.cuts c.args.cut = subst (Contains b.cuts) (same_data c.index.result.now c.args.cut e l h) held.0 in
           subst (λ r. OnOk r (KnowsMore c.args.self.now (Cut c.args.cut) c.args.self.now)) (sym w.result-is)
-          (subst (λ x. KnowsMore x (Cut c.args.cut) x) c.self.view_is (cut_knows b c.args.cut b c.self.invariant c.self.invariant (held_learns b c.args.cut c.self.invariant there)))
+          (subst (λ x. KnowsMore x (Cut c.args.cut) x) c.self.view_is
+          (cut_knows b c.args.cut b c.self.invariant c.self.invariant (held_learns b c.args.cut c.self.invariant there)))
       | else-eq w ↦ subst (λ r. OnOk r (KnowsMore c.args.self.now (Cut c.args.cut) c.args.self.now)) (sym w.result-is) tt
     ]
 

@@ -21,7 +21,9 @@ returns-then-spare-clause-alive c = (
   λ _. subst (λ b. IsAlive b.cuts b.complete c.args.epoch c.args.number) c.self.view_is
       (alive_from c.self.inside.cuts.items c.self.inside.complete c.args.epoch c.args.number c.first_from-from.result (omega arith)
       (subst (λ cs. AllWithin (λ d. d.epoch < c.args.epoch) cs 0 c.first_from-from.result) c.deref.ensures.value c.first_from-from.ensures.before)
-      (subst (λ cs. All (SparesIn c.self.inside.complete c.args.epoch c.args.number) (drop c.first_from-from.result cs)) c.deref-2.ensures.value (subst (All (SparesIn c.self.inside.complete c.args.epoch c.args.number)) (take_rest c.deref-2.result.now c.first_from-from.result) (c.if-spare.ensures.0 refl)))),
+      (subst (λ cs. All (SparesIn c.self.inside.complete c.args.epoch c.args.number) (drop c.first_from-from.result cs)) c.deref-2.ensures.value
+      (subst (All (SparesIn c.self.inside.complete c.args.epoch c.args.number)) (take_rest c.deref-2.result.now c.first_from-from.result)
+      (c.if-spare.ensures.0 refl)))),
   λ _. refl,
 )
 
@@ -32,15 +34,21 @@ returns-then-spare-clause-dead c = (
       (subst (λ b. IsAlive b.cuts b.complete c.args.epoch c.args.number) c.self.view_is
       (alive_from c.self.inside.cuts.items c.self.inside.complete c.args.epoch c.args.number c.first_from-from.result (omega arith)
       (subst (λ cs. AllWithin (λ d. d.epoch < c.args.epoch) cs 0 c.first_from-from.result) c.deref.ensures.value c.first_from-from.ensures.before)
-      (subst (λ cs. All (SparesIn c.self.inside.complete c.args.epoch c.args.number) (drop c.first_from-from.result cs)) c.deref-2.ensures.value (subst (All (SparesIn c.self.inside.complete c.args.epoch c.args.number)) (take_rest c.deref-2.result.now c.first_from-from.result) (c.if-spare.ensures.0 refl)))))),
+      (subst (λ cs. All (SparesIn c.self.inside.complete c.args.epoch c.args.number) (drop c.first_from-from.result cs)) c.deref-2.ensures.value
+      (subst (All (SparesIn c.self.inside.complete c.args.epoch c.args.number)) (take_rest c.deref-2.result.now c.first_from-from.result)
+      (c.if-spare.ensures.0 refl)))))),
 )
 
 pub returns-else-spare-clause-alive : goal.returns-else-spare-clause-alive
 returns-else-spare-clause-alive c = (
   λ h. absurd (cc),
   λ h.
-      let alive : IsAlive c.self.inside.cuts.items c.self.inside.complete c.args.epoch c.args.number = subst (λ b. IsAlive b.cuts b.complete c.args.epoch c.args.number) (sym c.self.view_is) h in
-      let t : IsTrue false = c.if-spare.ensures.1 (subst (All (SparesIn c.self.inside.complete c.args.epoch c.args.number)) (sym (take_rest c.deref-2.result.now c.first_from-from.result)) (subst (λ cs. All (SparesIn c.self.inside.complete c.args.epoch c.args.number) (drop c.first_from-from.result cs)) (sym c.deref-2.ensures.value) (spared_from c.self.inside.cuts.items c.self.inside.complete c.args.epoch c.args.number c.first_from-from.result alive))) in
+      let alive : IsAlive c.self.inside.cuts.items c.self.inside.complete c.args.epoch c.args.number = subst
+      (λ b. IsAlive b.cuts b.complete c.args.epoch c.args.number) (sym c.self.view_is) h in
+      let t : IsTrue false = c.if-spare.ensures.1 (subst (All (SparesIn c.self.inside.complete c.args.epoch c.args.number))
+      (sym (take_rest c.deref-2.result.now c.first_from-from.result))
+      (subst (λ cs. All (SparesIn c.self.inside.complete c.args.epoch c.args.number) (drop c.first_from-from.result cs)) (sym c.deref-2.ensures.value)
+      (spared_from c.self.inside.cuts.items c.self.inside.complete c.args.epoch c.args.number c.first_from-from.result alive))) in
       absurd (cc),
 )
 
@@ -49,7 +57,10 @@ returns-else-spare-clause-dead c = (
   λ _. subst (λ b. IsDead b.cuts b.complete c.args.epoch c.args.number) c.self.view_is (
     omega arith,
     λ alive.
-        let t : IsTrue false = c.if-spare.ensures.1 (subst (All (SparesIn c.self.inside.complete c.args.epoch c.args.number)) (sym (take_rest c.deref-2.result.now c.first_from-from.result)) (subst (λ cs. All (SparesIn c.self.inside.complete c.args.epoch c.args.number) (drop c.first_from-from.result cs)) (sym c.deref-2.ensures.value) (spared_from c.self.inside.cuts.items c.self.inside.complete c.args.epoch c.args.number c.first_from-from.result alive))) in
+        let t : IsTrue false = c.if-spare.ensures.1 (subst (All (SparesIn c.self.inside.complete c.args.epoch c.args.number))
+        (sym (take_rest c.deref-2.result.now c.first_from-from.result))
+        (subst (λ cs. All (SparesIn c.self.inside.complete c.args.epoch c.args.number) (drop c.first_from-from.result cs)) (sym c.deref-2.ensures.value)
+        (spared_from c.self.inside.cuts.items c.self.inside.complete c.args.epoch c.args.number c.first_from-from.result alive))) in
         absurd (cc),
   ),
   λ _. refl,

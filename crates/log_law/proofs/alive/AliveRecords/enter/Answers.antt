@@ -10,7 +10,8 @@ loop-self-preserved-in-Some c = record {
   holds = λ log past d h.
       next_view log past c.loop-self.self c.pop_above.new.self (Some c.in-Some.cut)
       (sym (d.table.at (c.loop-self.self.view + 1)) ∙ sym c.at.ensures ∙ c.in-Some.is)
-      c.pop_above.ensures.stack c.pop_above.ensures.view (c.pop_above.ensures.rest ∙ ap (λ n. without_above n (stack_of c.loop-self.self)) c.lo.ensures.value) (c.loop-self.invariant.holds log past d h);
+      c.pop_above.ensures.stack c.pop_above.ensures.view (c.pop_above.ensures.rest ∙ ap (λ n. without_above n (stack_of c.loop-self.self)) c.lo.ensures.value)
+      (c.loop-self.invariant.holds log past d h);
 }
 
 pub loop-self-preserved : goal.loop-self-preserved

@@ -16,108 +16,146 @@ pub returns-then-number-self-clause-fault : goal.returns-then-number-self-clause
 returns-then-number-self-clause-fault c =
     let log = c.self.inside.log.items in let alive = c.self.inside.alive in let last = c.self.inside.last in let top = c.self.inside.points in
     let w = c.self.invariant in
-    let none : record_fault (plain_record c.args.number c.args.writes.items) ≡ None = sym (c.shape_fault.ensures 0 0 ∙ ap (λ ws. record_fault (plain_record c.args.number ws)) c.deref.ensures.value) ∙ c.in_default.is in
-    let b : IsBound c.args.self.now.log c.self.inside.last = bound_of log c.args.self.now.log alive last top w (ap (λ (v : WriterData). v.log) c.self.view_is) in
+    let none : record_fault (plain_record c.args.number c.args.writes.items) ≡ None = sym
+    (c.shape_fault.ensures 0 0 ∙ ap (λ ws. record_fault (plain_record c.args.number ws)) c.deref.ensures.value) ∙ c.in_default.is in
+    let b : IsBound c.args.self.now.log c.self.inside.last = bound_of log c.args.self.now.log alive last top w
+    (ap (λ (v : WriterData). v.log) c.self.view_is) in
     (refl, (none, b, c.if-number-self.true))
 
 pub returns-in_default-clone-clause-fault : goal.returns-in_default-clone-clause-fault
 returns-in_default-clone-clause-fault c =
     let log = c.self.inside.log.items in let alive = c.self.inside.alive in let last = c.self.inside.last in let top = c.self.inside.points in
     let w = c.self.invariant in
-    let none : record_fault (plain_record c.args.number c.args.writes.items) ≡ None = sym (c.shape_fault.ensures 0 0 ∙ ap (λ ws. record_fault (plain_record c.args.number ws)) c.deref.ensures.value) ∙ c.in_default.is in
-    let b : IsBound c.args.self.now.log c.self.inside.last = bound_of log c.args.self.now.log alive last top w (ap (λ (v : WriterData). v.log) c.self.view_is) in
+    let none : record_fault (plain_record c.args.number c.args.writes.items) ≡ None = sym
+    (c.shape_fault.ensures 0 0 ∙ ap (λ ws. record_fault (plain_record c.args.number ws)) c.deref.ensures.value) ∙ c.in_default.is in
+    let b : IsBound c.args.self.now.log c.self.inside.last = bound_of log c.args.self.now.log alive last top w
+    (ap (λ (v : WriterData). v.log) c.self.view_is) in
     (refl, (none, (last, b, c.if-number-self.false)))
 
 pub returns-then-is_err-clause-fault : goal.returns-then-is_err-clause-fault
 returns-then-is_err-clause-fault c =
     let log = c.self.inside.log.items in let alive = c.self.inside.alive in let last = c.self.inside.last in let top = c.self.inside.points in
     let w = c.self.invariant in
-    let none : record_fault (plain_record c.args.number c.args.writes.items) ≡ None = sym (c.shape_fault.ensures 0 0 ∙ ap (λ ws. record_fault (plain_record c.args.number ws)) c.deref.ensures.value) ∙ c.in_default.is in
-    let b : IsBound c.args.self.now.log c.self.inside.last = bound_of log c.args.self.now.log alive last top w (ap (λ (v : WriterData). v.log) c.self.view_is) in
+    let none : record_fault (plain_record c.args.number c.args.writes.items) ≡ None = sym
+    (c.shape_fault.ensures 0 0 ∙ ap (λ ws. record_fault (plain_record c.args.number ws)) c.deref.ensures.value) ∙ c.in_default.is in
+    let b : IsBound c.args.self.now.log c.self.inside.last = bound_of log c.args.self.now.log alive last top w
+    (ap (λ (v : WriterData). v.log) c.self.view_is) in
     (refl, (none, (last, b, c.if-number-self.false)))
 
 pub invariant_of-self-in-Err : goal.invariant_of-self-in-Err
 invariant_of-self-in-Err c =
     subst (λ xs. IsWritten (length c.self.inside.points) xs c.push.new.self c.self.inside.last c.self.inside.points) (sym c.reserve.ensures.items)
-    (written_same c.self.inside.log.items c.self.inside.alive c.push.new.self c.self.inside.last c.self.inside.points c.self.invariant c.in-Err.ensures.err.1 c.in-Err.ensures.err.0 c.push.ensures.view)
+    (written_same c.self.inside.log.items c.self.inside.alive c.push.new.self c.self.inside.last c.self.inside.points c.self.invariant c.in-Err.ensures.err.1
+    c.in-Err.ensures.err.0 c.push.ensures.view)
 
 pub returns-in-Err-clause-fault : goal.returns-in-Err-clause-fault
 returns-in-Err-clause-fault c =
     let log = c.self.inside.log.items in let alive = c.self.inside.alive in let last = c.self.inside.last in let top = c.self.inside.points in
     let w = c.self.invariant in
-    let none : record_fault (plain_record c.args.number c.args.writes.items) ≡ None = sym (c.shape_fault.ensures 0 0 ∙ ap (λ ws. record_fault (plain_record c.args.number ws)) c.deref.ensures.value) ∙ c.in_default.is in
-    let b : IsBound c.args.self.now.log c.self.inside.last = bound_of log c.args.self.now.log alive last top w (ap (λ (v : WriterData). v.log) c.self.view_is) in
+    let none : record_fault (plain_record c.args.number c.args.writes.items) ≡ None = sym
+    (c.shape_fault.ensures 0 0 ∙ ap (λ ws. record_fault (plain_record c.args.number ws)) c.deref.ensures.value) ∙ c.in_default.is in
+    let b : IsBound c.args.self.now.log c.self.inside.last = bound_of log c.args.self.now.log alive last top w
+    (ap (λ (v : WriterData). v.log) c.self.view_is) in
     (refl, (none, (last, b, c.if-number-self.false)))
 
 pub record_with_links-kept-requires : goal.record_with_links-kept-requires
 record_with_links-kept-requires c =
     let log = c.self.inside.log.items in let alive = c.self.inside.alive in let last = c.self.inside.last in let top = c.self.inside.points in
     let w = c.self.invariant in
-    let none : record_fault (plain_record c.args.number c.args.writes.items) ≡ None = sym (c.shape_fault.ensures 0 0 ∙ ap (λ ws. record_fault (plain_record c.args.number ws)) c.deref.ensures.value) ∙ c.in_default.is in
+    let none : record_fault (plain_record c.args.number c.args.writes.items) ≡ None = sym
+    (c.shape_fault.ensures 0 0 ∙ ap (λ ws. record_fault (plain_record c.args.number ws)) c.deref.ensures.value) ∙ c.in_default.is in
     let copied : c.in-Ok.copied.items ≡ c.args.writes.items = each_same c.args.writes.items c.in-Ok.copied.items c.in-Ok.ensures.cases.0 in
     let highest : top_number (stack_of c.self.inside.alive) ≤ c.self.inside.last = top_at_most log alive last top w in
-    let within : page_top c.args.page (stack_of c.self.inside.alive) ≤ top_number (stack_of c.self.inside.alive) = page_at_most_top log alive last top c.args.page w in
-    let shape : record_fault (record_of c.view-epoch.result c.args.number c.top-back.result c.args.page c.top_of-block_back.result c.in-Ok.copied.items) ≡ None =
-    shape_of_plain c.view-epoch.result c.args.number c.top-back.result c.args.page c.top_of-block_back.result c.in-Ok.copied.items (ap (λ ws. record_fault (plain_record c.args.number ws)) copied ∙ none)
+    let within : page_top c.args.page (stack_of c.self.inside.alive) ≤ top_number (stack_of c.self.inside.alive) =
+    page_at_most_top log alive last top c.args.page w in
+    let shape : record_fault (record_of c.view-epoch.result c.args.number c.top-back.result c.args.page c.top_of-block_back.result
+    c.in-Ok.copied.items) ≡ None =
+    shape_of_plain c.view-epoch.result c.args.number c.top-back.result c.args.page c.top_of-block_back.result c.in-Ok.copied.items
+    (ap (λ ws. record_fault (plain_record c.args.number ws)) copied ∙ none)
     (let e : c.top-back.result ≡ top_number (stack_of c.self.inside.alive) = c.top-back.ensures in omega arith)
-    (let e : c.top-back.result ≡ top_number (stack_of c.self.inside.alive) = c.top-back.ensures in let f : c.top_of-block_back.result ≡ page_top c.args.page (stack_of c.self.inside.alive) = c.top_of-block_back.ensures in omega arith) in
+    (let e : c.top-back.result ≡ top_number (stack_of c.self.inside.alive) = c.top-back.ensures in let f : c.top_of-block_back.result ≡ page_top c.args.page
+    (stack_of c.self.inside.alive) = c.top_of-block_back.ensures in omega arith) in
     shape
 
 pub invariant_of-self-2 : goal.invariant_of-self-2
 invariant_of-self-2 c =
     let log = c.self.inside.log.items in let alive = c.self.inside.alive in let last = c.self.inside.last in let top = c.self.inside.points in
     let w = c.self.invariant in
-    let none : record_fault (plain_record c.args.number c.args.writes.items) ≡ None = sym (c.shape_fault.ensures 0 0 ∙ ap (λ ws. record_fault (plain_record c.args.number ws)) c.deref.ensures.value) ∙ c.in_default.is in
+    let none : record_fault (plain_record c.args.number c.args.writes.items) ≡ None = sym
+    (c.shape_fault.ensures 0 0 ∙ ap (λ ws. record_fault (plain_record c.args.number ws)) c.deref.ensures.value) ∙ c.in_default.is in
     let copied : c.in-Ok.copied.items ≡ c.args.writes.items = each_same c.args.writes.items c.in-Ok.copied.items c.in-Ok.ensures.cases.0 in
     let highest : top_number (stack_of c.self.inside.alive) ≤ c.self.inside.last = top_at_most log alive last top w in
-    let within : page_top c.args.page (stack_of c.self.inside.alive) ≤ top_number (stack_of c.self.inside.alive) = page_at_most_top log alive last top c.args.page w in
-    let shape : record_fault (record_of c.view-epoch.result c.args.number c.top-back.result c.args.page c.top_of-block_back.result c.in-Ok.copied.items) ≡ None =
-    shape_of_plain c.view-epoch.result c.args.number c.top-back.result c.args.page c.top_of-block_back.result c.in-Ok.copied.items (ap (λ ws. record_fault (plain_record c.args.number ws)) copied ∙ none)
+    let within : page_top c.args.page (stack_of c.self.inside.alive) ≤ top_number (stack_of c.self.inside.alive) =
+    page_at_most_top log alive last top c.args.page w in
+    let shape : record_fault (record_of c.view-epoch.result c.args.number c.top-back.result c.args.page c.top_of-block_back.result
+    c.in-Ok.copied.items) ≡ None =
+    shape_of_plain c.view-epoch.result c.args.number c.top-back.result c.args.page c.top_of-block_back.result c.in-Ok.copied.items
+    (ap (λ ws. record_fault (plain_record c.args.number ws)) copied ∙ none)
     (let e : c.top-back.result ≡ top_number (stack_of c.self.inside.alive) = c.top-back.ensures in omega arith)
-    (let e : c.top-back.result ≡ top_number (stack_of c.self.inside.alive) = c.top-back.ensures in let f : c.top_of-block_back.result ≡ page_top c.args.page (stack_of c.self.inside.alive) = c.top_of-block_back.ensures in omega arith) in
+    (let e : c.top-back.result ≡ top_number (stack_of c.self.inside.alive) = c.top-back.ensures in let f : c.top_of-block_back.result ≡ page_top c.args.page
+    (stack_of c.self.inside.alive) = c.top_of-block_back.ensures in omega arith) in
     let kept = c.record_with_links-kept.result in
-    let is : c.record_with_links-kept.result ≡ record_of c.view-epoch.result c.args.number c.top-back.result c.args.page c.top_of-block_back.result c.in-Ok.copied.items = c.record_with_links-kept.ensures in
-    let items = pushed c.self.inside.log.items c.reserve.new.self.items c.push-2.new.self.items (Record kept) (is_ok c.push-2.result) (ap is_ok c.unwrap.ensures) c.reserve.ensures.items c.push-2.ensures.items in
+    let is : c.record_with_links-kept.result ≡ record_of c.view-epoch.result c.args.number c.top-back.result c.args.page c.top_of-block_back.result
+    c.in-Ok.copied.items = c.record_with_links-kept.ensures in
+    let items = pushed c.self.inside.log.items c.reserve.new.self.items c.push-2.new.self.items (Record kept) (is_ok c.push-2.result)
+    (ap is_ok c.unwrap.ensures) c.reserve.ensures.items c.push-2.ensures.items in
     let number : c.record_with_links-kept.result.number ≡ c.args.number = ap (λ (x : RecordData). x.number) is in
     let page : c.record_with_links-kept.result.page ≡ c.args.page = ap (λ (x : RecordData). x.page) is in
-    let epoch : c.record_with_links-kept.result.epoch ≡ c.self.inside.alive.view = ap (λ (x : RecordData). x.epoch) is ∙ c.view-epoch.ensures ∙ c.push.ensures.view in
-    let new : IsWritten (length c.self.inside.points) (c.self.inside.log.items ++ Record c.record_with_links-kept.result ∷ []) c.push.new.self c.record_with_links-kept.result.number c.self.inside.points =
-    written_record log alive c.push.new.self last top kept (record { number = c.args.number; page = c.args.page; beneath = page_top c.args.page (stack_of alive) }) w
+    let epoch : c.record_with_links-kept.result.epoch ≡ c.self.inside.alive.view = ap (λ (x : RecordData). x.epoch) is ∙ c.view-epoch.ensures
+    ∙ c.push.ensures.view in
+    let new : IsWritten (length c.self.inside.points) (c.self.inside.log.items ++ Record c.record_with_links-kept.result ∷ []) c.push.new.self
+    c.record_with_links-kept.result.number c.self.inside.points =
+    written_record log alive c.push.new.self last top kept
+    (record { number = c.args.number; page = c.args.page; beneath = page_top c.args.page (stack_of alive) }) w
     (ap record_fault is ∙ shape) epoch (omega arith) (ap (λ (x : RecordData). x.back) is ∙ c.top-back.ensures)
     (ap (λ (x : RecordData). x.block_back) is ∙ c.top_of-block_back.ensures ∙ ap (λ g. page_top g (stack_of alive)) (sym page))
     c.in_default-push.ensures.stack c.push.ensures.view c.in_default-push.ensures.top (sym number) (sym page) in
-    subst (λ xs. IsWritten (length c.self.inside.points) xs c.push.new.self c.args.number c.self.inside.points) (sym items) (subst (λ n. IsWritten (length c.self.inside.points) (log ++ Record kept ∷ []) c.push.new.self n c.self.inside.points) number new)
+    subst (λ xs. IsWritten (length c.self.inside.points) xs c.push.new.self c.args.number c.self.inside.points) (sym items)
+    (subst (λ n. IsWritten (length c.self.inside.points) (log ++ Record kept ∷ []) c.push.new.self n c.self.inside.points) number new)
 
 pub returns-clause-ok : goal.returns-clause-ok
 returns-clause-ok c =
     let log = c.self.inside.log.items in let alive = c.self.inside.alive in let last = c.self.inside.last in let top = c.self.inside.points in
     let w = c.self.invariant in
-    let none : record_fault (plain_record c.args.number c.args.writes.items) ≡ None = sym (c.shape_fault.ensures 0 0 ∙ ap (λ ws. record_fault (plain_record c.args.number ws)) c.deref.ensures.value) ∙ c.in_default.is in
+    let none : record_fault (plain_record c.args.number c.args.writes.items) ≡ None = sym
+    (c.shape_fault.ensures 0 0 ∙ ap (λ ws. record_fault (plain_record c.args.number ws)) c.deref.ensures.value) ∙ c.in_default.is in
     let copied : c.in-Ok.copied.items ≡ c.args.writes.items = each_same c.args.writes.items c.in-Ok.copied.items c.in-Ok.ensures.cases.0 in
     let highest : top_number (stack_of c.self.inside.alive) ≤ c.self.inside.last = top_at_most log alive last top w in
-    let within : page_top c.args.page (stack_of c.self.inside.alive) ≤ top_number (stack_of c.self.inside.alive) = page_at_most_top log alive last top c.args.page w in
-    let shape : record_fault (record_of c.view-epoch.result c.args.number c.top-back.result c.args.page c.top_of-block_back.result c.in-Ok.copied.items) ≡ None =
-    shape_of_plain c.view-epoch.result c.args.number c.top-back.result c.args.page c.top_of-block_back.result c.in-Ok.copied.items (ap (λ ws. record_fault (plain_record c.args.number ws)) copied ∙ none)
+    let within : page_top c.args.page (stack_of c.self.inside.alive) ≤ top_number (stack_of c.self.inside.alive) =
+    page_at_most_top log alive last top c.args.page w in
+    let shape : record_fault (record_of c.view-epoch.result c.args.number c.top-back.result c.args.page c.top_of-block_back.result
+    c.in-Ok.copied.items) ≡ None =
+    shape_of_plain c.view-epoch.result c.args.number c.top-back.result c.args.page c.top_of-block_back.result c.in-Ok.copied.items
+    (ap (λ ws. record_fault (plain_record c.args.number ws)) copied ∙ none)
     (let e : c.top-back.result ≡ top_number (stack_of c.self.inside.alive) = c.top-back.ensures in omega arith)
-    (let e : c.top-back.result ≡ top_number (stack_of c.self.inside.alive) = c.top-back.ensures in let f : c.top_of-block_back.result ≡ page_top c.args.page (stack_of c.self.inside.alive) = c.top_of-block_back.ensures in omega arith) in
+    (let e : c.top-back.result ≡ top_number (stack_of c.self.inside.alive) = c.top-back.ensures in let f : c.top_of-block_back.result ≡ page_top c.args.page
+    (stack_of c.self.inside.alive) = c.top_of-block_back.ensures in omega arith) in
     let kept = c.record_with_links-kept.result in
-    let is : c.record_with_links-kept.result ≡ record_of c.view-epoch.result c.args.number c.top-back.result c.args.page c.top_of-block_back.result c.in-Ok.copied.items = c.record_with_links-kept.ensures in
-    let items = pushed c.self.inside.log.items c.reserve.new.self.items c.push-2.new.self.items (Record kept) (is_ok c.push-2.result) (ap is_ok c.unwrap.ensures) c.reserve.ensures.items c.push-2.ensures.items in
+    let is : c.record_with_links-kept.result ≡ record_of c.view-epoch.result c.args.number c.top-back.result c.args.page c.top_of-block_back.result
+    c.in-Ok.copied.items = c.record_with_links-kept.ensures in
+    let items = pushed c.self.inside.log.items c.reserve.new.self.items c.push-2.new.self.items (Record kept) (is_ok c.push-2.result)
+    (ap is_ok c.unwrap.ensures) c.reserve.ensures.items c.push-2.ensures.items in
     let number : c.record_with_links-kept.result.number ≡ c.args.number = ap (λ (x : RecordData). x.number) is in
     let page : c.record_with_links-kept.result.page ≡ c.args.page = ap (λ (x : RecordData). x.page) is in
-    let epoch : c.record_with_links-kept.result.epoch ≡ c.self.inside.alive.view = ap (λ (x : RecordData). x.epoch) is ∙ c.view-epoch.ensures ∙ c.push.ensures.view in
-    let new : IsWritten (length c.self.inside.points) (c.self.inside.log.items ++ Record c.record_with_links-kept.result ∷ []) c.push.new.self c.record_with_links-kept.result.number c.self.inside.points =
-    written_record log alive c.push.new.self last top kept (record { number = c.args.number; page = c.args.page; beneath = page_top c.args.page (stack_of alive) }) w
+    let epoch : c.record_with_links-kept.result.epoch ≡ c.self.inside.alive.view = ap (λ (x : RecordData). x.epoch) is ∙ c.view-epoch.ensures
+    ∙ c.push.ensures.view in
+    let new : IsWritten (length c.self.inside.points) (c.self.inside.log.items ++ Record c.record_with_links-kept.result ∷ []) c.push.new.self
+    c.record_with_links-kept.result.number c.self.inside.points =
+    written_record log alive c.push.new.self last top kept
+    (record { number = c.args.number; page = c.args.page; beneath = page_top c.args.page (stack_of alive) }) w
     (ap record_fault is ∙ shape) epoch (omega arith) (ap (λ (x : RecordData). x.back) is ∙ c.top-back.ensures)
     (ap (λ (x : RecordData). x.block_back) is ∙ c.top_of-block_back.ensures ∙ ap (λ g. page_top g (stack_of alive)) (sym page))
     c.in_default-push.ensures.stack c.push.ensures.view c.in_default-push.ensures.top (sym number) (sym page) in
-    let out : c.record_with_links.result ≡ c.record_with_links-kept.result = c.record_with_links.ensures ∙ ap (λ ws. record_of c.view-epoch.result c.args.number c.top-back.result c.args.page c.top_of-block_back.result ws) (sym copied) ∙ sym is in
+    let out : c.record_with_links.result ≡ c.record_with_links-kept.result = c.record_with_links.ensures ∙ ap
+    (λ ws. record_of c.view-epoch.result c.args.number c.top-back.result c.args.page c.top_of-block_back.result ws) (sym copied) ∙ sym is in
     let now : writer_of (length c.self.inside.points) c.self.inside.log.items ≡ c.args.self.now = c.self.view_is in
-    let joins = ap (writer_of (length c.self.inside.points)) items ∙ ap (λ (v : WriterData). writer_of v.roster (v.log ++ Record c.record_with_links-kept.result ∷ [])) now in
+    let joins = ap (writer_of (length c.self.inside.points)) items ∙ ap
+    (λ (v : WriterData). writer_of v.roster (v.log ++ Record c.record_with_links-kept.result ∷ [])) now in
     record {
       joins = joins ∙ ap (λ r. writer_of c.args.self.now.roster (c.args.self.now.log ++ Record r ∷ [])) (sym out);
       sound = subst (IsSound (length c.self.inside.points)) (sym items) new.sound;
-      epoch = subst (λ (v : WriterData). IsCompleteEpoch (cuts v.log) c.record_with_links.result.epoch) now (subst (IsCompleteEpoch (cuts log)) (sym (ap (λ (x : RecordData). x.epoch) out ∙ epoch)) (complete_view log alive last top w));
+      epoch = subst (λ (v : WriterData). IsCompleteEpoch (cuts v.log) c.record_with_links.result.epoch) now
+          (subst (IsCompleteEpoch (cuts log)) (sym (ap (λ (x : RecordData). x.epoch) out ∙ epoch)) (complete_view log alive last top w));
       above = (last, bound_of log c.args.self.now.log alive last top w (ap (λ (v : WriterData). v.log) c.self.view_is), c.if-number-self.false);
       number = ap (λ (x : RecordData). x.number) out ∙ number;
       page = ap (λ (x : RecordData). x.page) out ∙ page;
@@ -126,4 +164,8 @@ returns-clause-ok c =
     }
 
 pub returns-in-Some-clause-fault : goal.returns-in-Some-clause-fault
-returns-in-Some-clause-fault c = (refl, sym (c.shape_fault.ensures 0 0 ∙ ap (λ ws. record_fault (plain_record c.args.number ws)) c.deref.ensures.value) ∙ c.in-Some.is)
+returns-in-Some-clause-fault c = (
+  refl,
+  sym (c.shape_fault.ensures 0 0 ∙ ap (λ ws. record_fault (plain_record c.args.number ws)) c.deref.ensures.value)
+      ∙ c.in-Some.is,
+)

@@ -10,4 +10,6 @@ invariant_of-result c =
     let ps : c.in_ok-points.points ≡ replicate c.args.roster 0 = c.in_ok-points.ensures.zeros in
     let n : length c.in_ok-points.points ≡ c.args.roster = ap length ps ∙ length-replicate c.args.roster 0 in
     subst (λ xs. IsWritten (length c.in_ok-points.points) xs c.in_ok-alive.alive 0 c.in_ok-points.points) (sym c.new-3.ensures.items)
-    (subst (λ (i : ℕ). IsWritten i [] c.in_ok-alive.alive 0 c.in_ok-points.points) (sym n) (subst (λ (ps : List ℕ). IsWritten c.args.roster [] c.in_ok-alive.alive 0 ps) (sym ps) (written_nothing c.args.roster c.in_ok-alive.alive c.new.ensures.range e.0 e.1 e.2)))
+    (subst (λ (i : ℕ). IsWritten i [] c.in_ok-alive.alive 0 c.in_ok-points.points) (sym n)
+    (subst (λ (ps : List ℕ). IsWritten c.args.roster [] c.in_ok-alive.alive 0 ps) (sym ps)
+    (written_nothing c.args.roster c.in_ok-alive.alive c.new.ensures.range e.0 e.1 e.2)))
