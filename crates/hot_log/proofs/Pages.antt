@@ -19,18 +19,21 @@ pub none_yet : (hs : List RecordData) (after : Option ℕ) → IsPageAfter (take
 none_yet hs after = λ r h above. none_in r h
 
 -- a nearer page takes the place of the least so far
-takes_place : (hs : List RecordData) (i : ℕ) (x : RecordData) (after least : Option ℕ) → i < length hs → x ≡ get_or hs i x → IsPageAfter (take i hs) after least → IsPageAbove after x.page → IsPageBelow x.page least → IsPageAfter (take (i + 1) hs) after (Some x.page)
+takes_place : (hs : List RecordData) (i : ℕ) (x : RecordData) (after least : Option ℕ) → i < length hs → x ≡ get_or hs i x → IsPageAfter (take i hs) after least
+    → IsPageAbove after x.page → IsPageBelow x.page least → IsPageAfter (take (i + 1) hs) after (Some x.page)
 takes_place hs i x after None lt at so_far above below = (
   (x, up_to hs i x lt at, refl, above),
   λ r h a. ⊎_elim (λ (e : x ≡ r). subst (λ (y : RecordData). x.page ≤ y.page) e (omega arith)) (λ old. absurd (so_far r old a)) (front_to hs i x r lt at h),
 )
 takes_place hs i x after (Some least) lt at so_far above below = (
   (x, up_to hs i x lt at, refl, above),
-  λ r h a. ⊎_elim (λ (e : x ≡ r). subst (λ (y : RecordData). x.page ≤ y.page) e (omega arith)) (λ old. let le : least ≤ r.page = so_far.1 r old a in omega (arith, below, le)) (front_to hs i x r lt at h),
+  λ r h a. ⊎_elim (λ (e : x ≡ r). subst (λ (y : RecordData). x.page ≤ y.page) e (omega arith))
+      (λ old. let le : least ≤ r.page = so_far.1 r old a in omega (arith, below, le)) (front_to hs i x r lt at h),
 )
 
 -- a page that is not nearer leaves the least as it is
-leaves : (hs : List RecordData) (i : ℕ) (x : RecordData) (after least : Option ℕ) → i < length hs → x ≡ get_or hs i x → IsPageAfter (take i hs) after least → (IsPageAbove after x.page → IsPageBelow x.page least → ⊥) → IsPageAfter (take (i + 1) hs) after least
+leaves : (hs : List RecordData) (i : ℕ) (x : RecordData) (after least : Option ℕ) → i < length hs → x ≡ get_or hs i x → IsPageAfter (take i hs) after least
+    → (IsPageAbove after x.page → IsPageBelow x.page least → ⊥) → IsPageAfter (take (i + 1) hs) after least
 leaves hs i x after None lt at so_far not =
     λ r h a. ⊎_elim (λ (e : x ≡ r). not (subst (λ (y : RecordData). IsPageAbove after y.page) (sym e) a) tt) (λ old. so_far r old a) (front_to hs i x r lt at h)
 leaves hs i x after (Some least) lt at so_far not = (
@@ -44,7 +47,9 @@ leaves hs i x after (Some least) lt at so_far not = (
       (front_to hs i x r lt at h),
 )
 
-pub one_more : (hs : List RecordData) (i : ℕ) (x : RecordData) (after least result : Option ℕ) → i < length hs → x ≡ get_or hs i x → IsPageAfter (take i hs) after least → (IsPageAbove after x.page → IsPageBelow x.page least → result ≡ Some x.page) → ((IsPageAbove after x.page → IsPageBelow x.page least → ⊥) → result ≡ least) → IsPageAfter (take (i + 1) hs) after result
+pub one_more : (hs : List RecordData) (i : ℕ) (x : RecordData) (after least result : Option ℕ) → i < length hs → x ≡ get_or hs i x
+    → IsPageAfter (take i hs) after least → (IsPageAbove after x.page → IsPageBelow x.page least → result ≡ Some x.page)
+    → ((IsPageAbove after x.page → IsPageBelow x.page least → ⊥) → result ≡ least) → IsPageAfter (take (i + 1) hs) after result
 one_more hs i x after least result lt at so_far near far =
     ⊎_elim
     (λ above. ⊎_elim

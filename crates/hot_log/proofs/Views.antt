@@ -25,7 +25,8 @@ view_of b is = record {
   ordered = λ c h. lo_le_hi c (All-contains (λ d. cut_fault d ≡ None) b.cuts c is.cuts_shaped h);
 }
 
-pub number_before : (cs : List CutData) (k : ℕ) → IsView cs k → (r s : RecordData) → IsAlive cs k r.epoch r.number → IsAlive cs k s.epoch s.number → RecordBefore r s → r.number < s.number
+pub number_before : (cs : List CutData) (k : ℕ) → IsView cs k → (r s : RecordData) → IsAlive cs k r.epoch r.number → IsAlive cs k s.epoch s.number
+    → RecordBefore r s → r.number < s.number
 number_before cs k v r s a b before =
     ⊎_elim
     (λ (l : r.epoch < s.epoch).
@@ -39,7 +40,8 @@ number_before cs k v r s a b before =
     before
 
 -- an alive number belongs to one record
-pub one_number : (cs : List CutData) (k : ℕ) (held : List RecordData) → IsView cs k → IsRising RecordBefore held → (r s : RecordData) → Contains held r → Contains held s → IsAlive cs k r.epoch r.number → IsAlive cs k s.epoch s.number → r.number ≡ s.number → r ≡ s
+pub one_number : (cs : List CutData) (k : ℕ) (held : List RecordData) → IsView cs k → IsRising RecordBefore held → (r s : RecordData) → Contains held r
+    → Contains held s → IsAlive cs k r.epoch r.number → IsAlive cs k s.epoch s.number → r.number ≡ s.number → r ≡ s
 one_number cs k held v rising r s hr hs a b e =
     ⊎_elim
     (λ (q : r ≡ s). q)
@@ -50,7 +52,8 @@ one_number cs k held v rising r s hr hs a b e =
     (rising_members RecordBefore held r s rising hr hs)
 
 -- an alive record below another stands in front of it
-pub front_of : (cs : List CutData) (k : ℕ) (held : List RecordData) → IsView cs k → IsRising RecordBefore held → (i : ℕ) (x r : RecordData) → i < length held → x ≡ get_or held i x → Contains held r → IsAlive cs k x.epoch x.number → IsAlive cs k r.epoch r.number → r.number < x.number → Contains (take i held) r
+pub front_of : (cs : List CutData) (k : ℕ) (held : List RecordData) → IsView cs k → IsRising RecordBefore held → (i : ℕ) (x r : RecordData) → i < length held
+    → x ≡ get_or held i x → Contains held r → IsAlive cs k x.epoch x.number → IsAlive cs k r.epoch r.number → r.number < x.number → Contains (take i held) r
 front_of cs k held v rising i x r l e h a b lt =
     ⊎_elim
     (λ (q : Contains (take i held) r). q)
@@ -61,7 +64,8 @@ front_of cs k held v rising i x r l e h a b lt =
     (side i held r h)
 
 -- an alive record from a place on is the one at the place or has a higher number
-pub least_from : (cs : List CutData) (k : ℕ) (held : List RecordData) → IsView cs k → IsRising RecordBefore held → (i : ℕ) (x r : RecordData) → i < length held → x ≡ get_or held i x → IsAlive cs k x.epoch x.number → IsAlive cs k r.epoch r.number → Contains (drop i held) r → (r ≡ x) ⊎ (x.number < r.number)
+pub least_from : (cs : List CutData) (k : ℕ) (held : List RecordData) → IsView cs k → IsRising RecordBefore held → (i : ℕ) (x r : RecordData) → i < length held
+    → x ≡ get_or held i x → IsAlive cs k x.epoch x.number → IsAlive cs k r.epoch r.number → Contains (drop i held) r → (r ≡ x) ⊎ (x.number < r.number)
 least_from cs k held v rising i x r l e a b h =
     ⊎_elim
     (λ (u : x ≡ r). inl (sym u))
@@ -69,7 +73,9 @@ least_from cs k held v rising i x r l e a b h =
     (above_it held i x r rising l e h)
 
 -- the first of the alive records with a property has the least number of them
-pub first_is_least : (cs : List CutData) (k : ℕ) (held : List RecordData) (P : RecordData → Type 0) → IsView cs k → IsRising RecordBefore held → (i : ℕ) (x : RecordData) → i < length held → x ≡ get_or held i x → ((r : RecordData) → Contains (take i held) r → P r → ⊥) → IsAlive cs k x.epoch x.number → (r : RecordData) → Contains held r → IsAlive cs k r.epoch r.number → P r → (r ≡ x) ⊎ (x.number < r.number)
+pub first_is_least : (cs : List CutData) (k : ℕ) (held : List RecordData) (P : RecordData → Type 0) → IsView cs k → IsRising RecordBefore held
+    → (i : ℕ) (x : RecordData) → i < length held → x ≡ get_or held i x → ((r : RecordData) → Contains (take i held) r → P r → ⊥) → IsAlive cs k x.epoch x.number
+    → (r : RecordData) → Contains held r → IsAlive cs k r.epoch r.number → P r → (r ≡ x) ⊎ (x.number < r.number)
 first_is_least cs k held P v rising i x l e none a r h b p =
     ⊎_elim
     (λ (q : Contains (take i held) r). absurd (none r q p))
@@ -77,18 +83,22 @@ first_is_least cs k held P v rising i x l e none a r h b p =
     (side i held r h)
 
 -- a search that goes one further, and one that comes to the end
-pub none_more : (P : RecordData → Type 0) (xs : List RecordData) (i : ℕ) (x : RecordData) → i < length xs → x ≡ get_or xs i x → ((r : RecordData) → Contains (take i xs) r → P r → ⊥) → (P x → ⊥) → (r : RecordData) → Contains (take (i + 1) xs) r → P r → ⊥
+pub none_more : (P : RecordData → Type 0) (xs : List RecordData) (i : ℕ) (x : RecordData) → i < length xs → x ≡ get_or xs i x
+    → ((r : RecordData) → Contains (take i xs) r → P r → ⊥) → (P x → ⊥) → (r : RecordData) → Contains (take (i + 1) xs) r → P r → ⊥
 none_more P xs i x l e none not r h p =
     ⊎_elim
     (λ (u : x ≡ r). not (subst P (sym u) p))
     (λ (u : Contains (take i xs) r). none r u p)
     (front_to xs i x r l e h)
 
-pub none_at_all : (P : RecordData → Type 0) (xs : List RecordData) (i : ℕ) → length xs ≤ i → ((r : RecordData) → Contains (take i xs) r → P r → ⊥) → (r : RecordData) → Contains xs r → P r → ⊥
+pub none_at_all : (P : RecordData → Type 0) (xs : List RecordData) (i : ℕ) → length xs ≤ i → ((r : RecordData) → Contains (take i xs) r → P r → ⊥)
+    → (r : RecordData) → Contains xs r → P r → ⊥
 none_at_all P xs i l none r h p = none r (whole xs i r l h) p
 
 -- the last of the alive records with a property has the greatest number of them
-pub last_is_greatest : (cs : List CutData) (k : ℕ) (held : List RecordData) (P : RecordData → Type 0) → IsView cs k → IsRising RecordBefore held → (i : ℕ) (x : RecordData) → i < length held → x ≡ get_or held i x → ((r : RecordData) → Contains (drop (i + 1) held) r → P r → ⊥) → IsAlive cs k x.epoch x.number → (r : RecordData) → Contains held r → IsAlive cs k r.epoch r.number → P r → (r ≡ x) ⊎ (r.number < x.number)
+pub last_is_greatest : (cs : List CutData) (k : ℕ) (held : List RecordData) (P : RecordData → Type 0) → IsView cs k → IsRising RecordBefore held
+    → (i : ℕ) (x : RecordData) → i < length held → x ≡ get_or held i x → ((r : RecordData) → Contains (drop (i + 1) held) r → P r → ⊥)
+    → IsAlive cs k x.epoch x.number → (r : RecordData) → Contains held r → IsAlive cs k r.epoch r.number → P r → (r ≡ x) ⊎ (r.number < x.number)
 last_is_greatest cs k held P v rising i x l e none a r h b p =
     ⊎_elim
     (λ (q : Contains (take (i + 1) held) r). ⊎_elim
@@ -99,7 +109,8 @@ last_is_greatest cs k held P v rising i x l e none a r h b p =
     (side (i + 1) held r h)
 
 -- a search from the end that goes one further
-pub none_before : (P : RecordData → Type 0) (xs : List RecordData) (i : ℕ) (x : RecordData) → i < length xs → x ≡ get_or xs i x → ((r : RecordData) → Contains (drop (i + 1) xs) r → P r → ⊥) → (P x → ⊥) → (r : RecordData) → Contains (drop i xs) r → P r → ⊥
+pub none_before : (P : RecordData → Type 0) (xs : List RecordData) (i : ℕ) (x : RecordData) → i < length xs → x ≡ get_or xs i x
+    → ((r : RecordData) → Contains (drop (i + 1) xs) r → P r → ⊥) → (P x → ⊥) → (r : RecordData) → Contains (drop i xs) r → P r → ⊥
 none_before P xs i x l e none not r h p =
     ⊎_elim
     (λ (u : x ≡ r). not (subst P (sym u) p))

@@ -10,7 +10,8 @@ use Rattle.hot_log.proofs.links.greatest_linked_of.Goals as goal
 pub returns-then-is_linked_of : goal.returns-then-is_linked_of
 returns-then-is_linked_of c =
     let b = c.args.book.now in let held = c.args.held.now in let x = c.index-held-end.result in let i = c.loop-end.end - 1 in
-    let P : RecordData → Type 0 = λ r. IsAlive b.cuts b.complete r.epoch r.number × IsLinkedFrom b held c.args.from r.number × (r.page ≡ c.args.page) × (r.number ≤ c.args.limit) in
+    let P : RecordData → Type 0 = λ r. IsAlive b.cuts b.complete r.epoch r.number × IsLinkedFrom b held c.args.from r.number × (r.page ≡ c.args.page)
+    × (r.number ≤ c.args.limit) in
     let next : i + 1 ≡ c.loop-end.end = omega (arith, c.loop-end-test.true) in
     let inside : i < length held = omega (arith, c.loop-end-test.true, c.loop-end.invariant.bound) in
     let p : P x = c.if-is_linked_of.ensures.is.0 refl in

@@ -11,7 +11,8 @@ loop-redo-init c = top_none c.args.book.now c.args.held.now c.args.from c.args.l
 pub is_back_linked-requires-clause-greatest : goal.is_back_linked-requires-clause-greatest
 is_back_linked-requires-clause-greatest c =
     let p = c.if-is_within.ensures.is.0 refl in
-    top_below c.args.book.now c.args.held.now c.args.from c.args.limit c.loop-redo.redo-index c.loop-redo.top (c.if-is_within.ensures.book refl) c.requires.held.rising c.loop-redo.invariant c.redo-item.result c.loop-redo-test.true c.redo-item.is p.0 p.2
+    top_below c.args.book.now c.args.held.now c.args.from c.args.limit c.loop-redo.redo-index c.loop-redo.top
+    (c.if-is_within.ensures.book refl) c.requires.held.rising c.loop-redo.invariant c.redo-item.result c.loop-redo-test.true c.redo-item.is p.0 p.2
 
 pub loop-redo-preserved : goal.loop-redo-preserved
 loop-redo-preserved c =
@@ -22,15 +23,20 @@ loop-redo-preserved c =
       | then-is_within+then-is_back_linked w ↦
           let p = w.if-is_within.ensures.is.0 refl in
           let new : c.if-is_within.top ≡ x.number = w.top-is ∙ w.number-top.ensures.value in
-          subst (IsTop b held from limit (i + 1)) (sym new) (top_taken b held from limit i top (w.if-is_within.ensures.book refl) c.requires.held.rising t x c.loop-redo-test.true c.redo-item.is p.0 p.1 p.2 (w.if-is_back_linked.ensures.0 refl))
+          subst (IsTop b held from limit (i + 1)) (sym new)
+          (top_taken b held from limit i top (w.if-is_within.ensures.book refl) c.requires.held.rising t x c.loop-redo-test.true c.redo-item.is p.0 p.1 p.2
+          (w.if-is_back_linked.ensures.0 refl))
       | then-is_within+else-is_back_linked w ↦
           let p = w.if-is_within.ensures.is.0 refl in
           subst (IsTop b held from limit (i + 1)) (sym w.top-is) (top_left b held from limit i top t x c.loop-redo-test.true c.redo-item.is
-          (λ a l u. let no = w.if-is_back_linked.ensures.1 (link_down b.cuts held b.complete from (view_of b (w.if-is_within.ensures.book refl)) c.requires.held.rising x (item held i x c.loop-redo-test.true c.redo-item.is) a p.1 l) in absurd (cc)))
+          (λ a l u. let no = w.if-is_back_linked.ensures.1
+          (link_down b.cuts held b.complete from (view_of b (w.if-is_within.ensures.book refl)) c.requires.held.rising x
+          (item held i x c.loop-redo-test.true c.redo-item.is) a p.1 l) in absurd (cc)))
       | else-is_within w ↦
           subst (IsTop b held from limit (i + 1)) (sym w.top-is) (top_left b held from limit i top t x c.loop-redo-test.true c.redo-item.is
           (λ a l u. outside b held from limit i top t x.number (λ lt. let no = w.if-is_within.ensures.is.1 (a, lt, u) in absurd (cc)) l))
     ]
 
 pub returns-clause-greatest : goal.returns-clause-greatest
-returns-clause-greatest c = top_of_all c.args.book.now c.args.held.now c.args.from c.args.limit c.loop-redo.redo-index c.loop-redo.top c.loop-redo.invariant c.loop-redo-test.false
+returns-clause-greatest c = top_of_all c.args.book.now c.args.held.now c.args.from c.args.limit c.loop-redo.redo-index c.loop-redo.top c.loop-redo.invariant
+    c.loop-redo-test.false

@@ -5,7 +5,8 @@ use Rattle.hot_log.proofs.Kept.{kept_of, rising_kept}
 use Rattle.hot_log.proofs.removal.remove_folded.Goals as goal
 
 pub returns-clause-removes : goal.returns-clause-removes
-returns-clause-removes c = kept_of _ (IsFolded c.args.book.now c.args.page c.args.version c.args.point) _ (λ x b f k. search rules) _ _ c.retain.ensures.filtered
+returns-clause-removes c = kept_of _ (IsFolded c.args.book.now c.args.page c.args.version c.args.point) _
+    (λ x b f k. search rules) _ _ c.retain.ensures.filtered
 
 pub returns-clause-form : goal.returns-clause-form
 returns-clause-form c = record {

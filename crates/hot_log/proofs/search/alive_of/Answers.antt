@@ -11,8 +11,11 @@ returns-then-is_alive c =
     let b = c.args.book.now in let held = c.args.held.now in let x = c.redo-item.result in
     let inside = item held c.loop-redo.redo-index x c.loop-redo-test.true c.redo-item.is in
     let alive : IsAlive b.cuts b.complete x.epoch x.number = c.if-is_alive.ensures.alive.0 refl in
-    let same : x.number ≡ c.args.number = sym c.number.ensures.value ∙ c.if-number.true in
-    (((inside, alive), same), λ s h. one_number b.cuts b.complete held (view_of b c.if-is_alive.ensures.book) c.requires.rising s x h.0.0 inside h.0.1 alive (h.1 ∙ sym same))
+    let same : x.number ≡ c.args.number = sym c.number.ensures.value ∙ c.if-number.true in (
+      ((inside, alive), same),
+      λ s h. one_number b.cuts b.complete held (view_of b c.if-is_alive.ensures.book) c.requires.rising s x h.0.0 inside h.0.1 alive
+          (h.1 ∙ sym same),
+    )
 
 pub loop-redo-preserved : goal.loop-redo-preserved
 loop-redo-preserved c =

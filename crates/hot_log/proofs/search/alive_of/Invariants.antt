@@ -6,4 +6,5 @@ use Rattle.hot_log.proofs.search.alive_of.Given as goal
 
 -- none so far is alive with the number
 abbrev pub invariant-loop-redo : goal.invariant-loop-redo
-invariant-loop-redo l = (r : RecordData) → Contains (take l.redo-index l.held) r → IsAlive l.book.cuts l.book.complete r.epoch r.number × (r.number ≡ l.number) → ⊥
+invariant-loop-redo l = (r : RecordData) → Contains (take l.redo-index l.held) r → IsAlive l.book.cuts l.book.complete r.epoch r.number × (r.number ≡ l.number)
+    → ⊥

@@ -9,7 +9,8 @@ use Rattle.hot_log.proofs.search.last_of.Goals as goal
 pub returns-then-is_of : goal.returns-then-is_of
 returns-then-is_of c =
     let b = c.args.book.now in let held = c.args.held.now in let x = c.index-held-end.result in let i = c.loop-end.end - 1 in
-    let P : RecordData → Type 0 = λ r. IsAlive b.cuts b.complete r.epoch r.number × (r.page ≡ c.args.page) × (c.args.from < r.number) × (r.number ≤ c.args.to) in
+    let P : RecordData → Type 0 = λ r. IsAlive b.cuts b.complete r.epoch r.number × (r.page ≡ c.args.page) × (c.args.from < r.number)
+    × (r.number ≤ c.args.to) in
     let next : i + 1 ≡ c.loop-end.end = omega (arith, c.loop-end-test.true) in
     let inside : i < length held = omega (arith, c.loop-end-test.true, c.loop-end.invariant.bound) in
     let p : P x = c.if-is_of.ensures.is.0 refl in
@@ -20,7 +21,8 @@ returns-then-is_of c =
 pub loop-end-preserved : goal.loop-end-preserved
 loop-end-preserved c =
     let b = c.args.book.now in let held = c.args.held.now in let x = c.index-held-end.result in let i = c.loop-end.end - 1 in
-    let P : RecordData → Type 0 = λ r. IsAlive b.cuts b.complete r.epoch r.number × (r.page ≡ c.args.page) × (c.args.from < r.number) × (r.number ≤ c.args.to) in
+    let P : RecordData → Type 0 = λ r. IsAlive b.cuts b.complete r.epoch r.number × (r.page ≡ c.args.page) × (c.args.from < r.number)
+    × (r.number ≤ c.args.to) in
     let next : i + 1 ≡ c.loop-end.end = omega (arith, c.loop-end-test.true) in
     let inside : i < length held = omega (arith, c.loop-end-test.true, c.loop-end.invariant.bound) in
     record {

@@ -8,7 +8,8 @@ use Rattle.hot_log.proofs.search.last_of.Given as goal
 abbrev pub invariant-loop-end : goal.invariant-loop-end
 invariant-loop-end l = record {
   bound : l.end ≤ length l.held;
-  none : (r : RecordData) → Contains (drop l.end l.held) r → IsAlive l.book.cuts l.book.complete r.epoch r.number × (r.page ≡ l.page) × (l.from < r.number) × (r.number ≤ l.to) → ⊥;
+  none : (r : RecordData) → Contains (drop l.end l.held) r → IsAlive l.book.cuts l.book.complete r.epoch r.number × (r.page ≡ l.page) × (l.from < r.number)
+      × (r.number ≤ l.to) → ⊥;
 }
 
 abbrev pub decreases-loop-end : goal.decreases-loop-end

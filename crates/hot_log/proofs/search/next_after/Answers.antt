@@ -13,7 +13,8 @@ returns-then-is_alive c =
     let inside = item held i x c.loop-redo-test.true c.redo-item.is in
     let alive : IsAlive b.cuts b.complete x.epoch x.number = c.if-is_alive.ensures.alive.0 refl in
     let same : x.back ≡ c.args.back = sym c.back.ensures.value ∙ c.if-back.true in
-    let least = first_is_least b.cuts b.complete held P (view_of b c.if-is_alive.ensures.book) c.requires.rising i x c.loop-redo-test.true c.redo-item.is (λ r h p. c.loop-redo.invariant r h p) alive in (
+    let least = first_is_least b.cuts b.complete held P (view_of b c.if-is_alive.ensures.book) c.requires.rising i x c.loop-redo-test.true c.redo-item.is
+    (λ r h p. c.loop-redo.invariant r h p) alive in (
       (x, (inside, alive), same, sym c.number.ensures.value),
       λ m h.
           let low : x.number ≤ h.0.number = ⊎_elim

@@ -6,5 +6,6 @@ use Rattle.hot_log.proofs.log.HotLog.next_after.Goals as goal
 
 pub returns : goal.returns
 returns c =
-    let P : List RecordData → Type 0 = λ held. IsLeast (λ n. (r : RecordData) × IsHeldAlive c.args.book.now held r × (r.back ≡ c.args.back) × (r.number ≡ n)) c.next_after.result in
+    let P : List RecordData → Type 0 = λ held. IsLeast (λ n. (r : RecordData) × IsHeldAlive c.args.book.now held r × (r.back ≡ c.args.back) × (r.number ≡ n))
+    c.next_after.result in
     subst P c.records.ensures.value c.next_after.ensures
