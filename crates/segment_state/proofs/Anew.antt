@@ -6,7 +6,7 @@ use Rattle.redo_core.specs.Order.{IsRising, BeforeByNumber}
 use Rattle.redo_core.specs.Writing.{after_records, write, zeros}
 use Rattle.redo_core.proofs.Members.{none_in, there, which, each}
 use Rattle.segment_state.specs.State.{State, image_of}
-use Rattle.segment_state.specs.Shows.{IsHeldOf, Shows}
+use Rattle.segment_state.specs.Shows.{IsApplied, Shows}
 use Rattle.segment_state.specs.FromInit.{ShowsFrom}
 
 -- a record with `init` does not look at the page
@@ -28,7 +28,12 @@ from_on r (x ∷ xs) image rises h anew =
       rest = x ∷ xs;
       rising = rises;
       members = λ y. (
-        λ m. (m, ⊎_elim (λ (q : x ≡ y). let t : r.number ≡ y.number = ap (λ z. z.number) (sym e ∙ q) in omega arith) (λ (q : Contains xs y). let t : x.number < y.number = each (BeforeByNumber x) xs y rises.0 q in let u : x.number ≡ r.number = ap (λ z. z.number) e in omega arith) (which x xs y m)),
+        λ m. (
+          m,
+          ⊎_elim (λ (q : x ≡ y). let t : r.number ≡ y.number = ap (λ z. z.number) (sym e ∙ q) in omega arith)
+              (λ (q : Contains xs y). let t : x.number < y.number = each (BeforeByNumber x) xs y rises.0 q in let u : x.number ≡ r.number = ap
+              (λ z. z.number) e in omega arith) (which x xs y m),
+        ),
         λ m. m.0,
       );
       result = ap (λ i. after_records i xs) (write_anew x image zeros (subst (λ z. z.init ≡ true) (sym e) anew));
@@ -41,14 +46,19 @@ from_on r (x ∷ xs) image rises h anew =
       rising = f.rising;
       members = λ y. (
         λ m. let t = (f.members y).0 m in (there x xs y t.0, t.1),
-        λ m. (f.members y).1 (⊎_elim (λ (e : x ≡ y). let t : x.number ≡ y.number = ap (λ z. z.number) e in let u : r.number ≤ y.number = m.1 in absurd (omega arith)) (λ (v : Contains xs y). v) (which x xs y m.0), m.1),
+        λ m. (f.members y).1 (
+          ⊎_elim (λ (e : x ≡ y). let t : x.number ≡ y.number = ap (λ z. z.number) e in let u : r.number ≤ y.number = m.1 in
+              absurd (omega arith)) (λ (v : Contains xs y). v) (which x xs y m.0),
+          m.1,
+        ),
       );
       result = f.result;
     })
     (which x xs r h)
 
-pub init_begins_anew : (s : State) (k page q : ℕ) (r : RecordData) (image : List ℕ) → IsHeldOf s k page q r → r.init ≡ true → Shows s k page q image → ShowsFrom s k page q r image
-init_begins_anew s k page q r image held anew shows =
+pub init_begins_anew : (s : State) (page q : ℕ) (r : RecordData) (image : List ℕ) → IsApplied s page q r → r.init ≡ true → Shows s page q image
+    → ShowsFrom s page q r image
+init_begins_anew s page q r image held anew shows =
     let f = from_on r shows.written (image_of s.store page) shows.lists.rising ((shows.lists.members r).1 held) anew in
     record {
       written = f.rest;

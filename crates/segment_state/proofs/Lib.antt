@@ -1,3 +1,4 @@
+pub mod Booked
 pub mod Reading
 pub mod Joining
 pub mod Same

@@ -1,7 +1,5 @@
 -- What a state tells by itself is what the facts tell that it means.
 use Rattle.std.proofs.Common.{◌≡◌, ℕ, ◌≤◌, ◌↔◌, inr, List, sym, ◌∙◌, subst, arith}
-use Rattle.redo_core.specs.Sets.{cuts}
-use Rattle.redo_core.specs.CompleteEpoch.{HasCutsTo, IsCompleteEpoch}
 use Rattle.redo_core.specs.Linked.{IsLinked}
 use Rattle.redo_core.specs.Linked.Linked.{start}
 use Rattle.redo_core.specs.Position.{Position}
@@ -9,61 +7,68 @@ use Rattle.redo_core.specs.declared.facts.Fact.{Fact}
 use Rattle.redo_laws.proofs.Numbers.{greatest_unique, at_greatest}
 use Rattle.redo_laws.proofs.Log.{IsLog}
 use Rattle.redo_laws.proofs.Views.{anchor_is}
-use Rattle.redo_laws.proofs.Fronts.{same_sym}
-use Rattle.redo_laws.proofs.Alike.{greatest_by, cuts_to_by}
 use Rattle.segment_state.specs.State.{State, min_of}
 use Rattle.segment_state.specs.Means.{MeansAt}
 use Rattle.segment_state.specs.HasMeaning.{IsLinkedIn, HasComplete, HasAnchor, IsSettled, HasPosition}
+use Rattle.segment_state.proofs.Booked.{points_as}
 use Rattle.segment_state.proofs.Reading.{links_law}
 use Rattle.segment_state.proofs.Same.{same_min, anchor_as, anchor_of}
 
-pub epoch_as : {roster : ℕ} (log F : List Fact) (p : Position) (s : State) → MeansAt roster log F p s → (k : ℕ) → IsCompleteEpoch s.cuts k → k ≡ p.epoch
-epoch_as log F p s m k h = greatest_unique (HasCutsTo s.cuts) (HasCutsTo (cuts F)) (λ i. (cuts_to_by s.cuts (cuts F) m.same_cuts i, cuts_to_by (cuts F) s.cuts (same_sym s.cuts (cuts F) m.same_cuts) i)) k p.epoch h m.position.epoch
-
-pub epoch_of : {roster : ℕ} (log F : List Fact) (p : Position) (s : State) → MeansAt roster log F p s → IsCompleteEpoch s.cuts p.epoch
-epoch_of log F p s m = greatest_by (HasCutsTo (cuts F)) (HasCutsTo s.cuts) (cuts_to_by (cuts F) s.cuts (same_sym s.cuts (cuts F) m.same_cuts)) (cuts_to_by s.cuts (cuts F) m.same_cuts) p.epoch m.position.epoch
-
-pub complete_of : {roster : ℕ} (log F : List Fact) (p : Position) (s : State) → IsLog roster log → MeansAt roster log F p s → HasComplete s p.epoch p.complete
+pub complete_of : {roster : ℕ} (log F : List Fact) (p : Position) (s : State) → IsLog roster log → MeansAt roster log F p s → HasComplete s p.complete
 complete_of log F p s l m =
     let top : IsLinked F p.epoch p.complete = at_greatest (IsLinked F p.epoch) start p.complete m.position.complete in (
       inr ((links_law log F p s p.complete l m).1 (top, m.position.complete.1 s.base m.base.0)),
       λ n h. m.position.complete.1 n ((links_law log F p s n l m).0 h).0,
     )
 
-pub complete_as : {roster : ℕ} (log F : List Fact) (p : Position) (s : State) → IsLog roster log → MeansAt roster log F p s → (n : ℕ) → HasComplete s p.epoch n → n ≡ p.complete
-complete_as log F p s l m n h = greatest_unique (IsLinkedIn s p.epoch) (IsLinkedIn s p.epoch) (λ i. (λ x. x, λ x. x)) n p.complete h (complete_of log F p s l m)
+pub complete_as : {roster : ℕ} (log F : List Fact) (p : Position) (s : State) → IsLog roster log → MeansAt roster log F p s → (n : ℕ) → HasComplete s n
+    → n ≡ p.complete
+complete_as log F p s l m n h = greatest_unique (IsLinkedIn s) (IsLinkedIn s) (λ i. (λ x. x, λ x. x)) n p.complete h (complete_of log F p s l m)
 
 pub position_of : {roster : ℕ} (log F : List Fact) (p : Position) (s : State) → IsLog roster log → MeansAt roster log F p s → HasPosition s p
-position_of log F p s l m = record { epoch = epoch_of log F p s m; complete = complete_of log F p s l m; points = m.same_points; min = same_min log F p s m; anchor = anchor_of log F p s l m }
+position_of log F p s l m = record {
+  epoch = m.epoch;
+  complete = complete_of log F p s l m;
+  points = points_as m;
+  min = same_min log F p s m;
+  anchor = anchor_of log F p s l m;
+}
 
-pub anchor_law : {roster : ℕ} (log F : List Fact) (p : Position) (s : State) (k anchor : ℕ) → IsLog roster log → MeansAt roster log F p s → IsCompleteEpoch s.cuts k → HasAnchor s k anchor → (k ≡ p.epoch) × (anchor ≡ p.anchor)
-anchor_law log F p s k anchor l m h a =
-    let e = epoch_as log F p s m k h in
-    (e, anchor_as log F p s l m anchor (subst (λ j. HasAnchor s j anchor) e a))
+pub anchor_law : {roster : ℕ} (log F : List Fact) (p : Position) (s : State) (anchor : ℕ) → IsLog roster log → MeansAt roster log F p s → HasAnchor s anchor
+    → (s.book.complete ≡ p.epoch) × (anchor ≡ p.anchor)
+anchor_law log F p s anchor l m a = (m.epoch, anchor_as log F p s l m anchor a)
 
 same_position : (p q : Position) → p.epoch ≡ q.epoch → p.complete ≡ q.complete → p.points ≡ q.points → p.min ≡ q.min → p.anchor ≡ q.anchor → p ≡ q
 same_position p q a b ps c d =
-    let t : (let v : Position = record { epoch = p.epoch; complete = p.complete; points = p.points; min = p.min; anchor = p.anchor } in v) ≡ record { epoch = q.epoch; complete = q.complete; points = q.points; min = q.min; anchor = q.anchor } = cc in t
+    let t : (let v : Position = record { epoch = p.epoch; complete = p.complete; points = p.points; min = p.min; anchor = p.anchor } in v) ≡ record {
+      epoch =
+          q.epoch;
+      complete = q.complete;
+      points = q.points;
+      min = q.min;
+      anchor = q.anchor;
+    } = cc in t
 
 pub position_as : {roster : ℕ} (log F : List Fact) (p q : Position) (s : State) → IsLog roster log → MeansAt roster log F p s → HasPosition s q → q ≡ p
 position_as log F p q s l m h =
-    let t = anchor_law log F p s q.epoch q.anchor l m h.epoch h.anchor in
-    same_position q p t.0
-    (complete_as log F p s l m q.complete (subst (λ k. HasComplete s k q.complete) t.0 h.complete))
-    (sym h.points ∙ m.same_points)
-    (sym h.min ∙ same_min log F p s m) t.1
+    same_position q p (sym h.epoch ∙ m.epoch)
+    (complete_as log F p s l m q.complete h.complete)
+    (sym h.points ∙ points_as m)
+    (sym h.min ∙ same_min log F p s m)
+    (anchor_as log F p s l m q.anchor h.anchor)
 
 pub position_law : {roster : ℕ} (log F : List Fact) (p q : Position) (s : State) → IsLog roster log → MeansAt roster log F p s → HasPosition s q ↔ (q ≡ p)
 position_law log F p q s l m = (position_as log F p q s l m, λ e. subst (HasPosition s) (sym e) (position_of log F p s l m))
 
 -- what the state calls settled is at or below the anchor
-pub settled_low : {roster : ℕ} (log F : List Fact) (p : Position) (s : State) (n : ℕ) → IsLog roster log → MeansAt roster log F p s → IsSettled s p.epoch n → n ≤ p.anchor
+pub settled_low : {roster : ℕ} (log F : List Fact) (p : Position) (s : State) (n : ℕ) → IsLog roster log → MeansAt roster log F p s → IsSettled s n
+    → n ≤ p.anchor
 settled_low log F p s n l m h =
     let a : h.0 ≤ min_of s = h.2 in let b : min_of s ≡ p.min = same_min log F p s m in let c : n ≤ h.0 = h.3 in
     let d : h.0 ≤ p.anchor = m.position.anchor.1 h.0 (((links_law log F p s h.0 l m).0 h.1).0, omega arith) in
     omega arith
 
-pub base_settled : {roster : ℕ} (log F : List Fact) (p : Position) (s : State) (n : ℕ) → MeansAt roster log F p s → n ≤ s.base → IsSettled s p.epoch n
+pub base_settled : {roster : ℕ} (log F : List Fact) (p : Position) (s : State) (n : ℕ) → MeansAt roster log F p s → n ≤ s.base → IsSettled s n
 base_settled log F p s n m le =
     let a : s.base ≤ p.anchor = m.base.1 in let b : p.anchor ≤ p.min = (anchor_is F p m.position).1 in let c : min_of s ≡ p.min = same_min log F p s m in
     (s.base, start, omega arith, le)

@@ -25,15 +25,17 @@ use Rattle.redo_laws.proofs.Views.{has_cuts, alive_up, alone, alive_then, prefix
 use Rattle.redo_laws.proofs.Meanings.{lists_as, nat_order}
 use Rattle.redo_laws.proofs.Fronts.{page_unique}
 use Rattle.segment_state.specs.State.{State, version_of, image_of}
-use Rattle.segment_state.specs.Means.{MeansAt, IsFolded}
-use Rattle.segment_state.specs.Shows.{Shows, IsHeldOf}
+use Rattle.segment_state.specs.Means.{MeansAt, IsInImage}
+use Rattle.segment_state.specs.Shows.{Shows, IsApplied}
 
 -- lists, one after the other
 
-rising_append : {X : Type 0} (Before : X → X → Type 0) (xs ys : List X) → IsRising Before xs → IsRising Before ys → ((x y : X) → Contains xs x → Contains ys y → Before x y) → IsRising Before (xs ++ ys)
+rising_append : {X : Type 0} (Before : X → X → Type 0) (xs ys : List X) → IsRising Before xs → IsRising Before ys
+    → ((x y : X) → Contains xs x → Contains ys y → Before x y) → IsRising Before (xs ++ ys)
 rising_append Before [] ys r s cross = s
 rising_append Before (x ∷ xs) ys r s cross = (
-  all_of (Before x) (xs ++ ys) (λ z h. ⊎_elim (λ (u : Contains xs z). each (Before x) xs z r.0 u) (λ (v : Contains ys z). cross x z (here x xs) v) (Contains-append_cases xs ys z h)),
+  all_of (Before x) (xs ++ ys) (λ z h. ⊎_elim (λ (u : Contains xs z). each (Before x) xs z r.0 u) (λ (v : Contains ys z). cross x z (here x xs) v)
+      (Contains-append_cases xs ys z h)),
   rising_append Before xs ys r.1 s (λ y z u v. cross y z (there x xs y u) v),
 )
 
@@ -41,11 +43,13 @@ abbrev pub OfPage : List Fact → ℕ → ℕ → ℕ → ℕ → RecordData →
 OfPage F k g v q r = IsLinkedRecord F k r × (r.page ≡ g) × (v < r.number) × (r.number ≤ q)
 
 -- a page at a point, and then the page's further records, are the page at a later point
-pub page_from : (F : List Fact) (k g v q : ℕ) (image : List ℕ) (us : List RecordData) → v ≤ q → IsPageAt F k g v image → Lists BeforeByNumber (OfPage F k g v q) us → IsPageAt F k g q (after_records image us)
+pub page_from : (F : List Fact) (k g v q : ℕ) (image : List ℕ) (us : List RecordData) → v ≤ q → IsPageAt F k g v image
+    → Lists BeforeByNumber (OfPage F k g v q) us → IsPageAt F k g q (after_records image us)
 page_from F k g v q image us le p l = record {
   written = p.written ++ us;
   lists = record {
-    rising = rising_append BeforeByNumber p.written us p.lists.rising l.rising (λ x y hx hy. let a : x.number ≤ v = ((p.lists.members x).0 hx).2 in let b : v < y.number = ((l.members y).0 hy).2 in omega arith);
+    rising = rising_append BeforeByNumber p.written us p.lists.rising l.rising
+        (λ x y hx hy. let a : x.number ≤ v = ((p.lists.members x).0 hx).2 in let b : v < y.number = ((l.members y).0 hy).2 in omega arith);
     members = λ r. (
       λ h. ⊎_elim
           (λ (u : Contains p.written r). let t = (p.lists.members r).0 u in (t.0, t.1, let a : r.number ≤ v = t.2 in omega arith))
@@ -62,43 +66,50 @@ page_from F k g v q image us le p l = record {
 
 -- standings in the state are those in the facts
 
-pub alive_in_facts : {roster : ℕ} (log F : List Fact) (f : Position) (s : State) → MeansAt roster log F f s → (e n : ℕ) → IsAlive s.cuts f.epoch e n ↔ IsAlive (cuts F) f.epoch e n
+pub alive_in_facts : {roster : ℕ} (log F : List Fact) (f : Position) (s : State) → MeansAt roster log F f s → (e n : ℕ)
+    → IsAlive s.book.cuts s.book.complete e n ↔ IsAlive (cuts F) f.epoch e n
 alive_in_facts log F f s m e n = (
-  λ a. alive_within (cuts F) s.cuts (λ c h. (m.same_cuts c).1 h) f.epoch e n a,
-  λ a. alive_within s.cuts (cuts F) (λ c h. (m.same_cuts c).0 h) f.epoch e n a,
+  λ a. subst (λ k. IsAlive (cuts F) k e n) m.epoch (alive_within (cuts F) s.book.cuts (λ c h. (m.book.same_cuts c).1 h) s.book.complete e n a),
+  λ a. alive_within s.book.cuts (cuts F) (λ c h. (m.book.same_cuts c).0 h) s.book.complete e n (subst (λ k. IsAlive (cuts F) k e n) (sym m.epoch) a),
 )
 
 -- a linked number below a record is at most the record's backlink
-linked_at_most_back : {roster : ℕ} (log F : List Fact) → IsLog roster log → IsPart F log → (k : ℕ) → HasCutsTo (cuts F) k → (r : RecordData) → Contains (records F) r → IsAlive (cuts F) k r.epoch r.number → (n : ℕ) → IsLinked F k n → n < r.number → n ≤ r.back
+linked_at_most_back : {roster : ℕ} (log F : List Fact) → IsLog roster log → IsPart F log → (k : ℕ) → HasCutsTo (cuts F) k → (r : RecordData)
+    → Contains (records F) r → IsAlive (cuts F) k r.epoch r.number → (n : ℕ) → IsLinked F k n → n < r.number → n ≤ r.back
 linked_at_most_back log F l p k has r hr ar n start lt = omega arith
 linked_at_most_back log F l p k has r hr ar n (next s hs as' b linked) lt =
     let hasl : HasCutsTo (cuts log) k = λ e i u. let c = has e i u in (c.0, part_cuts F log p c.0 c.1, c.2) in
     let r' = part_records F log p r hr in let s' = part_records F log p s hs in
     l.last r s r' s' (alive_then log l k hasl r s (alive_up log F l p k r.epoch r.number has ar) (alive_up log F l p k s.epoch s.number has as') lt) lt
 
-links_up : {roster : ℕ} (log F : List Fact) (f : Position) (s : State) → IsLog roster log → MeansAt roster log F f s → (n : ℕ) → IsLinked F f.epoch n → s.base ≤ n → Linked s.cuts s.held f.epoch s.base n
-links_up log F f s l m n start le = let e : s.base ≡ 0 = omega arith in subst (Linked s.cuts s.held f.epoch s.base) e start
+links_up : {roster : ℕ} (log F : List Fact) (f : Position) (s : State) → IsLog roster log → MeansAt roster log F f s → (n : ℕ) → IsLinked F f.epoch n
+    → s.base ≤ n → Linked s.book.cuts s.held s.book.complete s.base n
+links_up log F f s l m n start le = let e : s.base ≡ 0 = omega arith in subst (Linked s.book.cuts s.held s.book.complete s.base) e start
 links_up log F f s l m n (next r h a b linked) le =
     ⊎_elim
-    (λ (e : s.base ≡ r.number). subst (Linked s.cuts s.held f.epoch s.base) e start)
+    (λ (e : s.base ≡ r.number). subst (Linked s.book.cuts s.held s.book.complete s.base) e start)
     (λ (lt : s.base < r.number).
     let has = has_cuts (cuts F) f.epoch m.position.epoch in
     let back : s.base ≤ r.back = linked_at_most_back log F l m.part f.epoch has r h a s.base m.base.0 lt in
-    let held : Contains s.held r = ⊎_elim (λ (u : Contains s.held r). u) (λ (u : IsFolded s f.epoch r). let v : r.number ≤ s.base = u.1 in absurd (omega arith)) (m.kept r h (inr a)) in
+    let held : Contains s.held r = ⊎_elim (λ (u : Contains s.held r). u) (λ (u : IsInImage s r). let v : r.number ≤ s.base = u.1 in absurd (omega arith))
+    (m.kept r h (inr a)) in
     next r held ((alive_in_facts log F f s m r.epoch r.number).1 a) lt (links_up log F f s l m r.back linked back))
     (let t : (s.base ≡ r.number) ⊎ (s.base < r.number) = grind arith in t)
 
-links_down : {roster : ℕ} (log F : List Fact) (f : Position) (s : State) → MeansAt roster log F f s → (n : ℕ) → Linked s.cuts s.held f.epoch s.base n → IsLinked F f.epoch n × (s.base ≤ n)
+links_down : {roster : ℕ} (log F : List Fact) (f : Position) (s : State) → MeansAt roster log F f s → (n : ℕ)
+    → Linked s.book.cuts s.held s.book.complete s.base n → IsLinked F f.epoch n × (s.base ≤ n)
 links_down log F f s m n start = (m.base.0, omega arith)
 links_down log F f s m n (next r h a b linked) =
     let a' : IsAlive (cuts F) f.epoch r.epoch r.number = (alive_in_facts log F f s m r.epoch r.number).0 a in
     (next r (m.of_facts r h (inr a')) a' (omega arith) (links_down log F f s m r.back linked).0, omega arith)
 
-pub links_law : {roster : ℕ} (log F : List Fact) (f : Position) (s : State) (n : ℕ) → IsLog roster log → MeansAt roster log F f s → Linked s.cuts s.held f.epoch s.base n ↔ (IsLinked F f.epoch n × (s.base ≤ n))
+pub links_law : {roster : ℕ} (log F : List Fact) (f : Position) (s : State) (n : ℕ) → IsLog roster log → MeansAt roster log F f s
+    → Linked s.book.cuts s.held s.book.complete s.base n ↔ (IsLinked F f.epoch n × (s.base ≤ n))
 links_law log F f s n l m = (links_down log F f s m n, λ h. links_up log F f s l m n h.0 h.1)
 
 -- what is held of a page is what the facts have above its version
-pub held_of : {roster : ℕ} (log F : List Fact) (f : Position) (s : State) → IsLog roster log → MeansAt roster log F f s → (g q : ℕ) → q ≤ f.complete → (r : RecordData) → IsHeldOf s f.epoch g q r ↔ OfPage F f.epoch g (version_of s.store g) q r
+pub held_of : {roster : ℕ} (log F : List Fact) (f : Position) (s : State) → IsLog roster log → MeansAt roster log F f s → (g q : ℕ) → q ≤ f.complete
+    → (r : RecordData) → IsApplied s g q r ↔ OfPage F f.epoch g (version_of s.store g) q r
 held_of log F f s l m g q le r = (
   λ h.
       let a = (alive_in_facts log F f s m r.epoch r.number).0 h.1 in
@@ -110,7 +121,7 @@ held_of log F f s l m g q le r = (
       ((prefix_law log F f f.complete r l m.part m.position top (omega arith)).1 (hl, al), h.2, h.3, h.4),
   λ h.
       let held : Contains s.held r = ⊎_elim (λ (u : Contains s.held r). u)
-      (λ (u : IsFolded s f.epoch r).
+      (λ (u : IsInImage s r).
       let v : r.number ≤ version_of s.store g = subst (λ x. r.number ≤ version_of s.store x) h.1 u.2 in
       let w : version_of s.store g < r.number = h.2 in absurd (omega arith))
       (m.kept r h.0.among (inr h.0.alive)) in
@@ -118,14 +129,16 @@ held_of log F f s l m g q le r = (
 )
 
 -- the page's records above a version, in order
-further : {roster : ℕ} (log F : List Fact) → IsLog roster log → IsPart F log → (k : ℕ) → HasCutsTo (cuts F) k → (g v q : ℕ) (image : List ℕ) → IsPageAt F k g q image → (us : List RecordData) × Lists BeforeByNumber (OfPage F k g v q) us
+further : {roster : ℕ} (log F : List Fact) → IsLog roster log → IsPart F log → (k : ℕ) → HasCutsTo (cuts F) k → (g v q : ℕ) (image : List ℕ)
+    → IsPageAt F k g q image → (us : List RecordData) × Lists BeforeByNumber (OfPage F k g v q) us
 further log F l p k has g v q image page =
     let hasl : HasCutsTo (cuts log) k = λ e i u. let c = has e i u in (c.0, part_cuts F log p c.0 c.1, c.2) in
     let s = in_order BeforeByNumber (IsLinkedRecord F k) (λ x y z a b. omega arith)
     (λ x y a b. ⊎_elim
     (λ (lt : x.number < y.number). inl lt)
     (λ t. ⊎_elim
-    (λ (e : x.number ≡ y.number). inr (inl (alone log l k hasl x y (part_records F log p x a.among) (part_records F log p y b.among) (alive_up log F l p k x.epoch x.number has a.alive) (alive_up log F l p k y.epoch y.number has b.alive) e)))
+    (λ (e : x.number ≡ y.number). inr (inl (alone log l k hasl x y (part_records F log p x a.among) (part_records F log p y b.among)
+    (alive_up log F l p k x.epoch x.number has a.alive) (alive_up log F l p k y.epoch y.number has b.alive) e)))
     (λ (gt : y.number < x.number). inr (inr gt)) t)
     (nat_order x.number y.number))
     (λ r. v < r.number) (λ r. settled_lt v r.number) page.written (λ r h lt. ((page.lists.members r).0 h).0) in (
@@ -135,20 +148,25 @@ further log F l p k has g v q image page =
           s.0 s.1,
     )
 
-shows_page : {roster : ℕ} (log F : List Fact) (f : Position) (s : State) (g q : ℕ) (image : List ℕ) → IsLog roster log → MeansAt roster log F f s → version_of s.store g ≤ q → q ≤ f.complete → IsPageAt F f.epoch g q image → Shows s f.epoch g q image
+shows_page : {roster : ℕ} (log F : List Fact) (f : Position) (s : State) (g q : ℕ) (image : List ℕ) → IsLog roster log → MeansAt roster log F f s
+    → version_of s.store g ≤ q → q ≤ f.complete → IsPageAt F f.epoch g q image → Shows s g q image
 shows_page log F f s g q image l m le to p =
     let us = further log F l m.part f.epoch (has_cuts (cuts F) f.epoch m.position.epoch) g (version_of s.store g) q image p in
     let one : SameSet F F = λ x. (λ h. h, λ h. h) in
     record {
       written = us.0;
-      lists = lists_as BeforeByNumber (OfPage F f.epoch g (version_of s.store g) q) (IsHeldOf s f.epoch g q) (λ r. let t = held_of log F f s l m g q to r in (t.1, t.0)) us.0 us.1;
-      result = page_unique F F one f.epoch g q image (after_records (image_of s.store g) us.0) p (page_from F f.epoch g (version_of s.store g) q (image_of s.store g) us.0 le (m.images g) us.1);
+      lists = lists_as BeforeByNumber (OfPage F f.epoch g (version_of s.store g) q) (IsApplied s g q)
+          (λ r. let t = held_of log F f s l m g q to r in (t.1, t.0)) us.0 us.1;
+      result = page_unique F F one f.epoch g q image (after_records (image_of s.store g) us.0) p
+          (page_from F f.epoch g (version_of s.store g) q (image_of s.store g) us.0 le (m.images g) us.1);
     }
 
-pub pages_law : {roster : ℕ} (log F : List Fact) (f : Position) (s : State) (g q : ℕ) (image : List ℕ) → IsLog roster log → MeansAt roster log F f s → f.anchor ≤ q → q ≤ f.complete → Shows s f.epoch g q image ↔ IsPageAt F f.epoch g q image
+pub pages_law : {roster : ℕ} (log F : List Fact) (f : Position) (s : State) (g q : ℕ) (image : List ℕ) → IsLog roster log → MeansAt roster log F f s
+    → f.anchor ≤ q → q ≤ f.complete → Shows s g q image ↔ IsPageAt F f.epoch g q image
 pages_law log F f s g q image l m from to =
     let low : version_of s.store g ≤ f.anchor = m.versions g in (
-      λ h. subst (IsPageAt F f.epoch g q) (sym h.result) (page_from F f.epoch g (version_of s.store g) q (image_of s.store g) h.written (omega arith) (m.images g)
-          (lists_as BeforeByNumber (IsHeldOf s f.epoch g q) (OfPage F f.epoch g (version_of s.store g) q) (held_of log F f s l m g q to) h.written h.lists)),
+      λ h. subst (IsPageAt F f.epoch g q) (sym h.result)
+          (page_from F f.epoch g (version_of s.store g) q (image_of s.store g) h.written (omega arith) (m.images g)
+          (lists_as BeforeByNumber (IsApplied s g q) (OfPage F f.epoch g (version_of s.store g) q) (held_of log F f s l m g q to) h.written h.lists)),
       shows_page log F f s g q image l m (omega arith) to,
     )

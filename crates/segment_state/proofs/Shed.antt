@@ -1,10 +1,9 @@
 -- What a state sheds, it does not need.
-use Rattle.std.proofs.Common.{◌≡◌, ℕ, ◌<◌, ◌≤◌, ◌⊎◌, ◌↔◌, inl, inr, ⊎_elim, List, ◌++◌, sym, ap, ◌∙◌, subst, arith}
+use Rattle.std.proofs.Common.{◌≡◌, ℕ, ◌<◌, ◌≤◌, ◌⊎◌, inl, inr, ⊎_elim, List, ◌++◌, sym, ap, ◌∙◌, subst, arith}
 use Rattle.std.specs.List.{Contains}
 use Rattle.redo_core.specs.Data.{RecordData}
-use Rattle.redo_core.specs.Sets.{IsPart, SameSet, cuts, advances}
+use Rattle.redo_core.specs.Sets.{IsPart, cuts}
 use Rattle.redo_core.specs.Order.{BeforeByNumber}
-use Rattle.redo_core.specs.CompleteEpoch.{IsCompleteEpoch}
 use Rattle.redo_core.specs.Standing.{IsAlive, IsDead}
 use Rattle.redo_core.specs.Linked.{IsLinked, IsLinkedRecord}
 use Rattle.redo_core.specs.Position.{Position, IsPosition}
@@ -18,29 +17,38 @@ use Rattle.redo_laws.proofs.Views.{finality_law, anchor_is}
 use Rattle.redo_laws.proofs.Fronts.{front_exists}
 use Rattle.redo_laws.proofs.Meanings.{lists_as}
 use Rattle.redo_laws.proofs.Union.{left, right, both}
-use Rattle.segment_state.specs.State.{State, SameBook, SameBase, version_of, image_of}
-use Rattle.segment_state.specs.Means.{MeansAt, Means, Matters, IsFolded}
+use Rattle.redo_core.specs.Book.{roster_of}
+use Rattle.redo_core.specs.Knowing.{KnowsFacts}
+use Rattle.segment_state.specs.State.{State, SameBase, version_of, image_of}
+use Rattle.segment_state.specs.Means.{MeansAt, Means, Matters, IsInImage}
 use Rattle.segment_state.specs.Shows.{Shows}
 use Rattle.segment_state.specs.HasMeaning.{HasAnchor}
 use Rattle.segment_state.specs.Promises.{KeepsMeaning, IsFinalPage, KeepsMeaningWith}
 use Rattle.segment_state.specs.Shedding.{CommitsImage, Discards, RemovesDead}
 use Rattle.segment_state.proofs.Reading.{alive_in_facts, pages_law}
 use Rattle.segment_state.proofs.Joining.{page_final}
-use Rattle.segment_state.proofs.Own.{anchor_law, epoch_as}
+use Rattle.segment_state.proofs.Same.{anchor_as}
 
 -- a page up to the anchor of a part is that of a larger part
-page_before : {roster : ℕ} (log F U : List Fact) (p u : Position) → IsLog roster log → IsPart F U → IsPart U log → IsPosition roster F p → IsPosition roster U u → (page v : ℕ) (i : List ℕ) → v ≤ p.anchor → IsPageAt U u.epoch page v i → IsPageAt F p.epoch page v i
+page_before : {roster : ℕ} (log F U : List Fact) (p u : Position) → IsLog roster log → IsPart F U → IsPart U log → IsPosition roster F p → IsPosition roster U u
+    → (page v : ℕ) (i : List ℕ) → v ≤ p.anchor → IsPageAt U u.epoch page v i → IsPageAt F p.epoch page v i
 page_before log F U p u l part inside at above page v i le shown =
     let fin = (finality_law log F U p u l part inside at above).1 in
     record {
       written = shown.written;
-      lists = lists_as BeforeByNumber (λ r. IsLinkedRecord U u.epoch r × (r.page ≡ page) × (r.number ≤ v)) (λ r. IsLinkedRecord F p.epoch r × (r.page ≡ page) × (r.number ≤ v))
-          (λ r. (λ h. let t : r.number ≤ v = h.2 in ((fin r (omega arith)).1 h.0, h.1, h.2), λ h. let t : r.number ≤ v = h.2 in ((fin r (omega arith)).0 h.0, h.1, h.2)))
+      lists = lists_as BeforeByNumber (λ r. IsLinkedRecord U u.epoch r × (r.page ≡ page) × (r.number ≤ v))
+          (λ r. IsLinkedRecord F p.epoch r × (r.page ≡ page) × (r.number ≤ v))
+          (λ r. (
+            λ h. let t : r.number ≤ v = h.2 in ((fin r (omega arith)).1 h.0, h.1, h.2),
+            λ h. let t : r.number ≤ v = h.2 in
+                ((fin r (omega arith)).0 h.0, h.1, h.2),
+          ))
           shown.written shown.lists;
       result = shown.result;
     }
 
-final_page : {roster : ℕ} (log F : List Fact) (p : Position) → IsLog roster log → IsPart F log → IsPosition roster F p → (page version : ℕ) (image : List ℕ) → version ≤ p.anchor → IsFinalPage roster log page version image → IsPageAt F p.epoch page version image
+final_page : {roster : ℕ} (log F : List Fact) (p : Position) → IsLog roster log → IsPart F log → IsPosition roster F p → (page version : ℕ) (image : List ℕ)
+    → version ≤ p.anchor → IsFinalPage roster log page version image → IsPageAt F p.epoch page version image
 final_page {roster} log F p l inside at page version image le final =
     let G = final.facts in
     let all : IsPart (final.facts ++ F) log = both final.facts F log final.part inside in
@@ -48,37 +56,39 @@ final_page {roster} log F p l inside at page version image le final =
     page_before log F (final.facts ++ F) p u.0 l (right final.facts F) all at u.1 page version image le
     (page_final log final.facts (final.facts ++ F) final.p u.0 l (left final.facts F) all final.position u.1 page version image final.settled final.shown)
 
-pub final_pages : {roster : ℕ} (log F : List Fact) (p : Position) (s : State) (page version : ℕ) (image : List ℕ) → IsSound roster log → MeansAt roster log F p s → version ≤ p.anchor → IsFinalPage roster log page version image → IsPageAt F p.epoch page version image
+pub final_pages : {roster : ℕ} (log F : List Fact) (p : Position) (s : State) (page version : ℕ) (image : List ℕ) → IsSound roster log
+    → MeansAt roster log F p s → version ≤ p.anchor → IsFinalPage roster log page version image → IsPageAt F p.epoch page version image
 final_pages log F p s page version image sound m le final = final_page log F p (log_of_sound _ log sound) m.part m.position page version image le final
 
-pub anchor_page_is_final : {roster : ℕ} (log F : List Fact) (s : State) (k anchor page : ℕ) (image : List ℕ) → IsSound roster log → Means roster log F s → IsCompleteEpoch s.cuts k → HasAnchor s k anchor → Shows s k page anchor image → IsFinalPage roster log page anchor image
-anchor_page_is_final log F s k anchor page image sound a h top shows =
+pub anchor_page_is_final : {roster : ℕ} (log F : List Fact) (s : State) (anchor page : ℕ) (image : List ℕ) → IsSound roster log → Means roster log F s
+    → HasAnchor s anchor → Shows s page anchor image → IsFinalPage roster log page anchor image
+anchor_page_is_final log F s anchor page image sound a top shows =
     let l = log_of_sound _ log sound in
-    let t = anchor_law log F a.0 s k anchor l a.1 h top in
+    let t = anchor_as log F a.0 s l a.1 anchor top in
     let le : a.0.anchor ≤ a.0.complete = a.1.position.complete.1 a.0.anchor (anchor_is F a.0 a.1.position).0 in
-    let here' : Shows s a.0.epoch page a.0.anchor image = subst (λ n. Shows s a.0.epoch page n image) t.1 (subst (λ j. Shows s j page anchor image) t.0 shows) in
+    let here' : Shows s page a.0.anchor image = subst (λ n. Shows s page n image) t shows in
     record {
       facts = F;
       part = a.1.part;
       p = a.0;
       position = a.1.position;
-      settled = let e : anchor ≡ a.0.anchor = t.1 in omega arith;
-      shown = subst (λ n. IsPageAt F a.0.epoch page n image) (sym t.1) ((pages_law log F a.0 s page a.0.anchor image l a.1 (omega arith) le).0 here');
+      settled = omega (arith, t);
+      shown = subst (λ n. IsPageAt F a.0.epoch page n image) (sym t) ((pages_law log F a.0 s page a.0.anchor image l a.1 (omega arith) le).0 here');
     }
 
 -- other held records, base point and images
-with_others : {roster : ℕ} (log F : List Fact) (p : Position) (old new : State) → MeansAt roster log F p old → SameBook old new
+with_others : {roster : ℕ} (log F : List Fact) (p : Position) (old new : State) → MeansAt roster log F p old → new.book ≡ old.book
     → IsLinked F p.epoch new.base × (new.base ≤ p.anchor)
     → ((r : RecordData) → Contains new.held r → Contains old.held r)
-    → ((r : RecordData) → Matters (cuts F) p.epoch r → Contains old.held r ⊎ IsFolded old p.epoch r → Contains new.held r ⊎ IsFolded new p.epoch r)
+    → ((r : RecordData) → Matters (cuts F) p.epoch r → Contains old.held r ⊎ IsInImage old r → Contains new.held r ⊎ IsInImage new r)
     → ((page : ℕ) → (version_of new.store page ≤ p.anchor) × IsPageAt F p.epoch page (version_of new.store page) (image_of new.store page))
     → MeansAt roster log F p new
 with_others log F p old new m book based fewer rest pages = record {
   part = m.part;
   position = m.position;
-  same_cuts = subst (λ cs. SameSet cs (cuts F)) (sym book.cuts) m.same_cuts;
-  same_points = book.points ∙ m.same_points;
-  same_waits = λ a. subst (λ ws. Contains ws a ↔ (Contains (advances F) a × (p.epoch < a.epoch))) (sym book.waits) (m.same_waits a);
+  book = subst (KnowsFacts F) (sym book) m.book;
+  epoch = ap (λ b. b.complete) book ∙ m.epoch;
+  readers = ap (λ b. roster_of b) book ∙ m.readers;
   base = based;
   of_log = λ r h. m.of_log r (fewer r h);
   of_facts = λ r h. m.of_facts r (fewer r h);
@@ -89,12 +99,14 @@ with_others log F p old new m book based fewer rest pages = record {
 
 -- a commit
 
-committed : (F : List Fact) (p : Position) (old new : State) (page version : ℕ) (image : List ℕ) → CommitsImage old page version image new → version ≤ p.anchor → IsPageAt F p.epoch page version image
+committed : (F : List Fact) (p : Position) (old new : State) (page version : ℕ) (image : List ℕ) → CommitsImage old page version image new → version ≤ p.anchor
+    → IsPageAt F p.epoch page version image
     → ((g : ℕ) → (version_of old.store g ≤ p.anchor) × IsPageAt F p.epoch g (version_of old.store g) (image_of old.store g))
     → (g : ℕ) → (version_of new.store g ≤ p.anchor) × IsPageAt F p.epoch g (version_of new.store g) (image_of new.store g)
 committed F p old new page version image commits le shown before g =
     let Holds : ℕ → ℕ → List ℕ → Type 0 = λ h v i. (v ≤ p.anchor) × IsPageAt F p.epoch h v i in
-    let put : ℕ → (v w : ℕ) (i j : List ℕ) → v ≡ w → i ≡ j → (v ≤ p.anchor) × IsPageAt F p.epoch g v i → (w ≤ p.anchor) × IsPageAt F p.epoch g w j = λ x v w i j a b q. subst (λ t. (w ≤ p.anchor) × IsPageAt F p.epoch g w t) b (subst (λ t. (t ≤ p.anchor) × IsPageAt F p.epoch g t i) a q) in
+    let put : ℕ → (v w : ℕ) (i j : List ℕ) → v ≡ w → i ≡ j → (v ≤ p.anchor) × IsPageAt F p.epoch g v i → (w ≤ p.anchor) × IsPageAt F p.epoch g w j =
+    λ x v w i j a b q. subst (λ t. (w ≤ p.anchor) × IsPageAt F p.epoch g w t) b (subst (λ t. (t ≤ p.anchor) × IsPageAt F p.epoch g t i) a q) in
     ⊎_elim
     (λ (e : g ≡ page).
     let v : version ≡ version_of new.store g = sym (ap (version_of new.store) e ∙ commits.version_is) in
@@ -105,7 +117,8 @@ committed F p old new page version image commits le shown before g =
     put 0 (version_of old.store g) (version_of new.store g) (image_of old.store g) (image_of new.store g) (sym o.0) (sym o.1) (before g))
     (settled_eq g page)
 
-newer_versions : (old new : State) (page version : ℕ) (image : List ℕ) → CommitsImage old page version image new → (g : ℕ) → version_of old.store g ≤ version_of new.store g
+newer_versions : (old new : State) (page version : ℕ) (image : List ℕ) → CommitsImage old page version image new → (g : ℕ)
+    → version_of old.store g ≤ version_of new.store g
 newer_versions old new page version image commits g =
     ⊎_elim
     (λ (e : g ≡ page).
@@ -116,11 +129,12 @@ newer_versions old new page version image commits g =
     (λ (no : g ≡ page → ⊥). let a : version_of new.store g ≡ version_of old.store g = (commits.others g no).0 in omega arith)
     (settled_eq g page)
 
-pub commit_keeps : (old new : State) (k anchor page version : ℕ) (image : List ℕ) → IsCompleteEpoch old.cuts k → HasAnchor old k anchor → version ≤ anchor → CommitsImage old page version image new → KeepsMeaningWith old page version image new
-commit_keeps old new k anchor page version image h top le commits roster log F sound final a =
+pub commit_keeps : (old new : State) (anchor page version : ℕ) (image : List ℕ) → HasAnchor old anchor → version ≤ anchor
+    → CommitsImage old page version image new → KeepsMeaningWith old page version image new
+commit_keeps old new anchor page version image top le commits roster log F sound final a =
     let l = log_of_sound _ log sound in
     let m = a.1 in
-    let t : anchor ≡ a.0.anchor = (anchor_law log F a.0 old k anchor l a.1 h top).1 in
+    let t : anchor ≡ a.0.anchor = anchor_as log F a.0 old l a.1 anchor top in
     let low : version ≤ a.0.anchor = omega arith in (
       a.0,
       with_others log F a.0 old new a.1 commits.book
@@ -128,70 +142,78 @@ commit_keeps old new k anchor page version image h top le commits roster log F s
           (λ r x. subst (λ rs. Contains rs r) commits.held x)
           (λ r mat x. ⊎_elim
           (λ (u : Contains old.held r). inl (subst (λ rs. Contains rs r) (sym commits.held) u))
-          (λ (u : IsFolded old a.0.epoch r).
+          (λ (u : IsInImage old r).
           let v : r.number ≤ version_of old.store r.page = u.2 in
           let w = newer_versions old new page version image commits r.page in
           let y : r.number ≤ old.base = u.1 in
           let z : new.base ≡ old.base = commits.base in
-          inr (u.0, omega arith, omega arith))
+          inr (subst (λ b. r.epoch ≤ b.complete) (sym commits.book) u.0, omega arith, omega arith))
           x)
-          (committed F a.0 old new page version image commits low (final_page log F a.0 l m.part m.position page version image low final) (λ g. (m.versions g, m.images g))),
+          (committed F a.0 old new page version image commits low (final_page log F a.0 l m.part m.position page version image low final)
+          (λ g. (m.versions g, m.images g))),
     )
 
-pub fold_keeps : (old new : State) (k anchor page : ℕ) (image : List ℕ) → IsCompleteEpoch old.cuts k → HasAnchor old k anchor → Shows old k page anchor image → CommitsImage old page anchor image new → KeepsMeaning old new
-fold_keeps old new k anchor page image h top shows commits roster log F sound a = commit_keeps old new k anchor page anchor image h top (omega arith) commits roster log F sound (anchor_page_is_final log F old k anchor page image sound a h top shows) a
+pub fold_keeps : (old new : State) (anchor page : ℕ) (image : List ℕ) → HasAnchor old anchor → Shows old page anchor image
+    → CommitsImage old page anchor image new → KeepsMeaning old new
+fold_keeps old new anchor page image top shows commits roster log F sound a = commit_keeps old new anchor page anchor image top
+    (omega arith) commits roster log F sound (anchor_page_is_final log F old anchor page image sound a top shows) a
 
 -- a discard
 
-same_images : (F : List Fact) (p : Position) (old new : State) → new.store ≡ old.store → ((g : ℕ) → (version_of old.store g ≤ p.anchor) × IsPageAt F p.epoch g (version_of old.store g) (image_of old.store g)) → (g : ℕ) → (version_of new.store g ≤ p.anchor) × IsPageAt F p.epoch g (version_of new.store g) (image_of new.store g)
+same_images : (F : List Fact) (p : Position) (old new : State) → new.store ≡ old.store
+    → ((g : ℕ) → (version_of old.store g ≤ p.anchor) × IsPageAt F p.epoch g (version_of old.store g) (image_of old.store g)) → (g : ℕ)
+    → (version_of new.store g ≤ p.anchor) × IsPageAt F p.epoch g (version_of new.store g) (image_of new.store g)
 same_images F p old new e before g = subst (λ t. (version_of t g ≤ p.anchor) × IsPageAt F p.epoch g (version_of t g) (image_of t g)) (sym e) (before g)
 
-pub discard_keeps : (k : ℕ) (old new : State) → Discards k old new → KeepsMeaning old new
-discard_keeps k old new drops roster log F sound a =
+pub discard_keeps : (old new : State) → Discards old new → KeepsMeaning old new
+discard_keeps old new drops roster log F sound a =
     let l = log_of_sound _ log sound in
     let m = a.1 in
-    let t = anchor_law log F a.0 old k new.base l a.1 drops.epoch drops.base in
-    let e : new.base ≡ a.0.anchor = t.1 in (
+    let e : new.base ≡ a.0.anchor = anchor_as log F a.0 old l a.1 new.base drops.base in (
       a.0,
       with_others log F a.0 old new a.1 drops.book
           (subst (IsLinked F a.0.epoch) (sym e) (anchor_is F a.0 m.position).0, omega arith)
           drops.held
           (λ r mat x. ⊎_elim
-          (λ (u : Contains old.held r). ⊎_elim (λ (v : Contains new.held r). inl v) (λ (v : IsFolded new k r). inr (subst (λ j. IsFolded new j r) t.0 v)) (drops.kept r u))
-          (λ (u : IsFolded old a.0.epoch r).
+          (λ (u : Contains old.held r). drops.kept r u)
+          (λ (u : IsInImage old r).
           let y : r.number ≤ old.base = u.1 in
           let z : old.base ≤ a.0.anchor = m.base.1 in
-          inr (u.0, omega arith, subst (λ st. r.number ≤ version_of st r.page) (sym drops.store) u.2))
+          inr (subst (λ b. r.epoch ≤ b.complete) (sym drops.book) u.0, omega arith, subst (λ st. r.number ≤ version_of st r.page) (sym drops.store) u.2))
           x)
           (same_images F a.0 old new drops.store (λ g. (m.versions g, m.images g))),
     )
 
 -- a removal of dead records
 
-folded_same : (old new : State) (k : ℕ) (r : RecordData) → SameBase old new → IsFolded old k r → IsFolded new k r
-folded_same old new k r same u = (u.0, subst (λ b. r.number ≤ b) (sym same.base) u.1, subst (λ st. r.number ≤ version_of st r.page) (sym same.store) u.2)
+in_same_image : (old new : State) (r : RecordData) → new.book ≡ old.book → SameBase old new → IsInImage old r → IsInImage new r
+in_same_image old new r book same u = (
+  subst (λ b. r.epoch ≤ b.complete) (sym book) u.0,
+  subst (λ b. r.number ≤ b) (sym same.base) u.1,
+  subst
+      (λ st. r.number ≤ version_of st r.page) (sym same.store) u.2,
+)
 
-pub removal_keeps : (k : ℕ) (old new : State) → RemovesDead k old new → KeepsMeaning old new
-removal_keeps k old new drops roster log F sound a =
+pub removal_keeps : (old new : State) → RemovesDead old new → KeepsMeaning old new
+removal_keeps old new drops roster log F sound a =
     let l = log_of_sound _ log sound in
-    let m = a.1 in
-    let e = epoch_as log F a.0 old a.1 k drops.epoch in (
+    let m = a.1 in (
       a.0,
       with_others log F a.0 old new a.1 drops.book
           (subst (λ b. IsLinked F a.0.epoch b × (b ≤ a.0.anchor)) (sym drops.rest.base) m.base)
           drops.held
           (λ r mat x. ⊎_elim
           (λ (u : Contains old.held r). ⊎_elim (λ (v : Contains new.held r). inl v)
-          (λ (v : IsDead old.cuts k r.epoch r.number). absurd (not_dead r mat (subst (λ j. IsDead old.cuts j r.epoch r.number) e v)))
+          (λ (v : IsDead old.book.cuts old.book.complete r.epoch r.number). absurd (not_dead r mat v))
           (drops.kept r u))
-          (λ (u : IsFolded old a.0.epoch r). inr (folded_same old new a.0.epoch r drops.rest u))
+          (λ (u : IsInImage old r). inr (in_same_image old new r drops.book drops.rest u))
           x)
           (same_images F a.0 old new drops.rest.store (λ g. (m.versions g, m.images g))),
     )
   where
-    not_dead : (r : RecordData) → Matters (cuts F) a.0.epoch r → IsDead old.cuts a.0.epoch r.epoch r.number → ⊥
+    not_dead : (r : RecordData) → Matters (cuts F) a.0.epoch r → IsDead old.book.cuts old.book.complete r.epoch r.number → ⊥
     not_dead r mat dead =
         ⊎_elim
-        (λ (w : a.0.epoch < r.epoch). let y : r.epoch ≤ a.0.epoch = dead.0 in omega arith)
+        (λ (w : a.0.epoch < r.epoch). omega (arith, a.1.epoch, dead.0, w))
         (λ (v : IsAlive (cuts F) a.0.epoch r.epoch r.number). dead.1 ((alive_in_facts log F a.0 old a.1 r.epoch r.number).1 v))
         mat

@@ -5,19 +5,19 @@ use Rattle.redo_core.specs.Data.{RecordData, CutData, AdvanceData}
 use Rattle.redo_core.specs.Sets.{IsPart, records, cuts, advances}
 use Rattle.redo_core.specs.Order.{Lists}
 use Rattle.redo_core.specs.Writing.{zeros}
-use Rattle.redo_core.specs.CompleteEpoch.{IsCompleteEpoch}
 use Rattle.redo_core.specs.Standing.{IsAlive, IsDead, IsWaiting}
 use Rattle.redo_core.specs.Linked.{IsLinked}
 use Rattle.redo_core.specs.Position.{Position, IsPosition}
 use Rattle.redo_core.specs.PageAt.{IsPageAt}
 use Rattle.redo_core.specs.Meaning.{ImageData, ImageBefore, IsKept}
+use Rattle.redo_core.specs.Book.{BookData}
+use Rattle.redo_core.specs.Joining.{JoinsBooks}
 use Rattle.redo_core.specs.Sound.{IsSound}
 use Rattle.redo_core.specs.declared.facts.Fact.{Fact}
 use Rattle.segment_state.specs.State.{State, version_of, image_of}
-use Rattle.segment_state.specs.Means.{MeansAt, Means, Matters, IsFolded}
+use Rattle.segment_state.specs.Means.{MeansAt, Means, Matters, IsInImage}
 use Rattle.segment_state.specs.Shows.{Shows}
 use Rattle.segment_state.specs.HasMeaning.{IsKeptBy}
-use Rattle.segment_state.specs.Joining.{JoinsPoints}
 
 -- a record's key
 pub record KeyData : Type 0 where
@@ -29,10 +29,9 @@ pub record Listing : Type 0 where
   pub anchor : ℕ
   pub keys : List KeyData
 
+-- of a set of facts: its book, a base point with the pages there, and records
 pub record Delta : Type 0 where
-  pub cuts : List CutData
-  pub points : List ℕ
-  pub waits : List AdvanceData
+  pub book : BookData
   pub base : ℕ
   pub pages : List ImageData
   pub records : List RecordData
@@ -54,9 +53,10 @@ pub record AnswersFor (facts : List Fact) (p : Position) (summary : Listing) : T
 
 -- a delta has what facts that stand at p have beyond a summary
 pub record Fills (facts : List Fact) (p : Position) (summary : Listing) (d : Delta) : Type 0 where
-  pub same_cuts : (c : CutData) → Contains d.cuts c ↔ Contains (cuts facts) c
-  pub same_points : d.points ≡ p.points
-  pub same_waits : (a : AdvanceData) → Contains d.waits a ↔ (Contains (advances facts) a × (p.epoch < a.epoch))
+  pub same_cuts : (c : CutData) → Contains d.book.cuts c ↔ Contains (cuts facts) c
+  pub epoch : d.book.complete ≡ p.epoch
+  pub same_points : d.book.points ≡ p.points
+  pub same_waits : (a : AdvanceData) → Contains d.book.waits a ↔ (Contains (advances facts) a × (p.epoch < a.epoch))
   pub base : IsLinked facts p.epoch d.base × (d.base ≤ p.anchor)
   -- exactly the nonzero pages at the base
   pub pages : Lists ImageBefore (λ i. IsPageAt facts p.epoch i.page d.base i.bytes × (i.bytes ≢ zeros)) d.pages
@@ -72,39 +72,39 @@ HasImage d page bytes =
     ⊎ (((i : ImageData) → Contains d.pages i → i.page ≢ page) × (bytes ≡ zeros))
 
 -- s' is what s knows together with the delta
-pub record AbsorbsAt (k : ℕ) (s : State) (d : Delta) (s' : State) : Type 0 where
-  pub epoch : IsCompleteEpoch s'.cuts k
-  pub cuts : (c : CutData) → Contains s'.cuts c ↔ (Contains s.cuts c ⊎ Contains d.cuts c)
-  pub waits : (a : AdvanceData) → Contains s'.waits a ↔ ((Contains s.waits a ⊎ Contains d.waits a) × (k < a.epoch))
-  pub points : JoinsPoints k s.points s.waits d.points d.waits s'.points
+pub record Absorbs (s : State) (d : Delta) (s' : State) : Type 0 where
+  pub book : JoinsBooks s.book d.book s'.book
   -- the base is the greater, and where the delta's is, pages of lower versions are the delta's
   pub base : ((d.base ≤ s.base) × (s'.base ≡ s.base)) ⊎ ((s.base < d.base) × (s'.base ≡ d.base) × ((page : ℕ) → d.base ≤ version_of s'.store page))
   pub images : (page : ℕ)
       → ((version_of s'.store page ≡ version_of s.store page) × (image_of s'.store page ≡ image_of s.store page))
       ⊎ ((version_of s.store page ≤ d.base) × (version_of s'.store page ≡ d.base) × HasImage d page (image_of s'.store page))
   pub of_both : (r : RecordData) → Contains s'.held r → Contains s.held r ⊎ Contains d.records r
-  pub kept : (r : RecordData) → Contains s.held r ⊎ Contains d.records r → Matters s'.cuts k r → Contains s'.held r ⊎ IsFolded s' k r
+  pub kept : (r : RecordData) → Contains s.held r ⊎ Contains d.records r → Matters s'.book.cuts s'.book.complete r → Contains s'.held r ⊎ IsInImage s' r
 
 -- Where the facts answer for the summary, absorbing means the union.
 abbrev pub AbsorbMeansUnion : Type 0
 AbsorbMeansUnion =
-    (roster : ℕ) (log F G : List Fact) (f g : Position) (s s' : State) (summary : Listing) (d : Delta) (k : ℕ)
+    (roster : ℕ) (log F G : List Fact) (f g : Position) (s s' : State) (summary : Listing) (d : Delta)
     → IsSound roster log → MeansAt roster log F f s → IsPart G log → IsPosition roster G g → Fills G g summary d → AnswersFor F f summary
-    → AbsorbsAt k s d s' → Means roster log (F ++ G) s'
+    → Absorbs s d s' → Means roster log (F ++ G) s'
 
--- d replies to a summary from a state whose complete epoch and anchor are k and anchor
-pub record RepliesAt (k anchor : ℕ) (s : State) (summary : Listing) (d : Delta) : Type 0 where
-  pub same_cuts : (c : CutData) → Contains d.cuts c ↔ Contains s.cuts c
-  pub same_points : d.points ≡ s.points
-  pub same_waits : (a : AdvanceData) → Contains d.waits a ↔ Contains s.waits a
-  pub of_held : (r : RecordData) → Contains d.records r → Contains s.held r × (IsWaiting k r.epoch ⊎ IsAlive s.cuts k r.epoch r.number)
+-- d replies to a summary from a state whose anchor this is
+pub record Replies (anchor : ℕ) (s : State) (summary : Listing) (d : Delta) : Type 0 where
+  pub same_cuts : (c : CutData) → Contains d.book.cuts c ↔ Contains s.book.cuts c
+  pub epoch : d.book.complete ≡ s.book.complete
+  pub same_points : d.book.points ≡ s.book.points
+  pub same_waits : (a : AdvanceData) → Contains d.book.waits a ↔ Contains s.book.waits a
+  pub of_held : (r : RecordData) → Contains d.records r
+      → Contains s.held r × (IsWaiting s.book.complete r.epoch ⊎ IsAlive s.book.cuts s.book.complete r.epoch r.number)
   -- where the summary's anchor is high enough, the records above it; else the pages at the anchor and the kept records
   pub rest :
-      ((s.base ≤ summary.anchor) × (d.base ≡ 0) × (d.pages ≡ []) × ((r : RecordData) → Contains s.held r → IsWaiting k r.epoch ⊎ (IsAlive s.cuts k r.epoch r.number × (summary.anchor < r.number)) → Contains d.records r ⊎ IsListed summary r))
-      ⊎ ((d.base ≡ anchor) × Lists ImageBefore (λ i. Shows s k i.page anchor i.bytes × (i.bytes ≢ zeros)) d.pages × ((r : RecordData) → IsKeptBy s k anchor r → Contains d.records r ⊎ IsListed summary r))
+      ((s.base ≤ summary.anchor) × (d.base ≡ 0) × (d.pages ≡ []) × ((r : RecordData) → IsKeptBy s summary.anchor r → Contains d.records r ⊎ IsListed summary r))
+      ⊎ ((d.base ≡ anchor) × Lists ImageBefore (λ i. Shows s i.page anchor i.bytes × (i.bytes ≢ zeros)) d.pages
+      × ((r : RecordData) → IsKeptBy s anchor r → Contains d.records r ⊎ IsListed summary r))
 
 -- A reply fills what the summary lacks.
 abbrev pub ReplyFills : Type 0
 ReplyFills =
     (roster : ℕ) (log G : List Fact) (g : Position) (s : State) (summary : Listing) (d : Delta)
-    → IsSound roster log → MeansAt roster log G g s → RepliesAt g.epoch g.anchor s summary d → Fills G g summary d
+    → IsSound roster log → MeansAt roster log G g s → Replies g.anchor s summary d → Fills G g summary d

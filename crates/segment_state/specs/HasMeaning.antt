@@ -13,41 +13,39 @@ use Rattle.segment_state.specs.State.{State, min_of}
 use Rattle.segment_state.specs.Shows.{Shows}
 
 -- n is linked from the base point on, by the records that the state holds
-abbrev pub IsLinkedIn : State → ℕ → ℕ → Type 0
-IsLinkedIn s k n = Linked s.cuts s.held k s.base n
+abbrev pub IsLinkedIn : State → ℕ → Type 0
+IsLinkedIn s n = Linked s.book.cuts s.held s.book.complete s.base n
 
 -- the greatest of those numbers
-abbrev pub HasComplete : State → ℕ → ℕ → Type 0
-HasComplete s k complete = IsGreatest (IsLinkedIn s k) complete
+abbrev pub HasComplete : State → ℕ → Type 0
+HasComplete s complete = IsGreatest (IsLinkedIn s) complete
 
 -- the greatest of them up to the minimum read point
-abbrev pub HasAnchor : State → ℕ → ℕ → Type 0
-HasAnchor s k anchor = IsGreatest (λ n. IsLinkedIn s k n × (n ≤ min_of s)) anchor
+abbrev pub HasAnchor : State → ℕ → Type 0
+HasAnchor s anchor = IsGreatest (λ n. IsLinkedIn s n × (n ≤ min_of s)) anchor
 
 -- n is at or below the anchor
-abbrev pub IsSettled : State → ℕ → ℕ → Type 0
-IsSettled s k n = (linked : ℕ) × IsLinkedIn s k linked × (linked ≤ min_of s) × (n ≤ linked)
+abbrev pub IsSettled : State → ℕ → Type 0
+IsSettled s n = (linked : ℕ) × IsLinkedIn s linked × (linked ≤ min_of s) × (n ≤ linked)
 
 pub record HasPosition (s : State) (p : Position) : Type 0 where
-  pub epoch : IsCompleteEpoch s.cuts p.epoch
-  pub complete : HasComplete s p.epoch p.complete
-  pub points : s.points ≡ p.points
+  pub epoch : s.book.complete ≡ p.epoch
+  pub complete : HasComplete s p.complete
+  pub points : s.book.points ≡ p.points
   pub min : min_of s ≡ p.min
-  pub anchor : HasAnchor s p.epoch p.anchor
+  pub anchor : HasAnchor s p.anchor
 
 -- a held record is kept where it is alive above the anchor, or waits
-abbrev pub IsKeptBy : State → ℕ → ℕ → RecordData → Type 0
-IsKeptBy s k anchor r = Contains s.held r × (IsWaiting k r.epoch ⊎ (IsAlive s.cuts k r.epoch r.number × (anchor < r.number)))
+abbrev pub IsKeptBy : State → ℕ → RecordData → Type 0
+IsKeptBy s anchor r =
+    Contains s.held r × (IsWaiting s.book.complete r.epoch ⊎ (IsAlive s.book.cuts s.book.complete r.epoch r.number × (anchor < r.number)))
 
--- the meaning of a state in view k, computed from what it stores
-pub record HasMeaningAt (s : State) (k : ℕ) (m : Meaning) : Type 0 where
-  pub epoch : IsCompleteEpoch s.cuts k
-  pub same_cuts : Lists CutBefore (Contains s.cuts) m.cuts
-  pub same_points : m.points ≡ s.points
-  pub same_waits : Lists AdvanceBefore (Contains s.waits) m.waits
-  pub anchor : HasAnchor s k m.anchor
-  pub pages : Lists ImageBefore (λ i. Shows s k i.page m.anchor i.bytes × (i.bytes ≢ zeros)) m.pages
-  pub kept : Lists RecordBefore (IsKeptBy s k m.anchor) m.kept
-
-abbrev pub HasMeaning : State → Meaning → Type 0
-HasMeaning s m = (k : ℕ) × HasMeaningAt s k m
+-- the meaning of a state, computed from what it stores
+pub record HasMeaning (s : State) (m : Meaning) : Type 0 where
+  pub epoch : IsCompleteEpoch s.book.cuts s.book.complete
+  pub same_cuts : Lists CutBefore (Contains s.book.cuts) m.cuts
+  pub same_points : m.points ≡ s.book.points
+  pub same_waits : Lists AdvanceBefore (Contains s.book.waits) m.waits
+  pub anchor : HasAnchor s m.anchor
+  pub pages : Lists ImageBefore (λ i. Shows s i.page m.anchor i.bytes × (i.bytes ≢ zeros)) m.pages
+  pub kept : Lists RecordBefore (IsKeptBy s m.anchor) m.kept

@@ -2,7 +2,6 @@
 use Rattle.std.specs.Prelude.{◌≡◌, ℕ, ◌<◌, ◌≤◌, ◌↔◌, List, []}
 use Rattle.std.specs.List.{Contains}
 use Rattle.redo_core.specs.Data.{RecordData, CutData, AdvanceData}
-use Rattle.redo_core.specs.CompleteEpoch.{IsCompleteEpoch}
 use Rattle.redo_core.specs.Linked.{IsLinked}
 use Rattle.redo_core.specs.Position.{Position}
 use Rattle.redo_core.specs.PageAt.{IsPageAt}
@@ -12,10 +11,10 @@ use Rattle.redo_core.specs.declared.facts.Fact.{Fact}
 use Rattle.redo_core.specs.declared.facts.Fact.TheVariants.{Record, Cut, Advance}
 use Rattle.segment_state.specs.State.{State, empty_state}
 use Rattle.segment_state.specs.Means.{MeansAt, Means}
-use Rattle.segment_state.specs.Shows.{IsHeldOf, Shows, HasBlockBelow}
+use Rattle.segment_state.specs.Shows.{IsApplied, Shows, HasBlockBelow}
 use Rattle.segment_state.specs.HasMeaning.{IsLinkedIn, HasAnchor, HasPosition, IsKeptBy, HasMeaning}
 use Rattle.segment_state.specs.Promises.{TakesFact, KeepsMeaning, LeavesMeaning, ChangesMeaning, IsFinalPage, KeepsMeaningWith}
-use Rattle.segment_state.specs.Learning.{LearnsCut, LearnsAdvance, PutsRecord}
+use Rattle.segment_state.specs.Learning.{StoresCut, StoresAdvance, PutsRecord}
 use Rattle.segment_state.specs.Shedding.{CommitsImage, Discards, RemovesDead}
 use Rattle.segment_state.specs.Known.{IsKnown, Conflicts}
 
@@ -28,7 +27,7 @@ abbrev pub SameLinks : Type 0
 SameLinks =
     (roster : ℕ) (log facts : List Fact) (p : Position) (s : State) (n : ℕ)
     → IsSound roster log → MeansAt roster log facts p s
-    → IsLinkedIn s p.epoch n ↔ (IsLinked facts p.epoch n × (s.base ≤ n))
+    → IsLinkedIn s n ↔ (IsLinked facts p.epoch n × (s.base ≤ n))
 
 -- The position that the state tells is that of the facts.
 abbrev pub SamePosition : Type 0
@@ -39,22 +38,22 @@ SamePosition =
 -- Its complete epoch and anchor are theirs.
 abbrev pub SameAnchor : Type 0
 SameAnchor =
-    (roster : ℕ) (log facts : List Fact) (p : Position) (s : State) (k anchor : ℕ)
-    → IsSound roster log → MeansAt roster log facts p s → IsCompleteEpoch s.cuts k → HasAnchor s k anchor → (k ≡ p.epoch) × (anchor ≡ p.anchor)
+    (roster : ℕ) (log facts : List Fact) (p : Position) (s : State) (anchor : ℕ)
+    → IsSound roster log → MeansAt roster log facts p s → HasAnchor s anchor → (s.book.complete ≡ p.epoch) × (anchor ≡ p.anchor)
 
 -- A page that the state shows, from its anchor to its complete point, is the facts'.
 abbrev pub TruePages : Type 0
 TruePages =
     (roster : ℕ) (log facts : List Fact) (p : Position) (s : State) (page q : ℕ) (image : List ℕ)
     → IsSound roster log → MeansAt roster log facts p s → p.anchor ≤ q → q ≤ p.complete
-    → Shows s p.epoch page q image ↔ IsPageAt facts p.epoch page q image
+    → Shows s page q image ↔ IsPageAt facts p.epoch page q image
 
 -- No block chain is broken, and each goes through every record that is applied to its page.
 abbrev pub WholeBlockChains : Type 0
 WholeBlockChains =
     (roster : ℕ) (log facts : List Fact) (p : Position) (s : State) (page q : ℕ) (r : RecordData)
-    → IsSound roster log → MeansAt roster log facts p s → q ≤ p.complete → IsHeldOf s p.epoch page q r
-    → HasBlockBelow s p.epoch page q r × ((other : RecordData) → IsHeldOf s p.epoch page q other → other.number < r.number → other.number ≤ r.block_back)
+    → IsSound roster log → MeansAt roster log facts p s → q ≤ p.complete → IsApplied s page q r
+    → HasBlockBelow s page q r × ((other : RecordData) → IsApplied s page q other → other.number < r.number → other.number ≤ r.block_back)
 
 -- The state's meaning is that of the facts.
 abbrev pub SameMeaning : Type 0
@@ -66,61 +65,62 @@ SameMeaning =
 abbrev pub SameKept : Type 0
 SameKept =
     (roster : ℕ) (log facts : List Fact) (p : Position) (s : State) (r : RecordData)
-    → IsSound roster log → MeansAt roster log facts p s → IsKeptBy s p.epoch p.anchor r ↔ IsKept facts p r
+    → IsSound roster log → MeansAt roster log facts p s → IsKeptBy s p.anchor r ↔ IsKept facts p r
 
 -- A fact of the log leaves the meaning as it is exactly where the state knows it.
 abbrev pub UnchangedExactly : Type 0
 UnchangedExactly =
-    (s : State) (k : ℕ) (fact : Fact) → IsCompleteEpoch s.cuts k
-    → (IsKnown s k fact → LeavesMeaning s fact) × ((IsKnown s k fact → ⊥) → ChangesMeaning s fact)
+    (s : State) (fact : Fact)
+    → (IsKnown s fact → LeavesMeaning s fact) × ((IsKnown s fact → ⊥) → ChangesMeaning s fact)
 
 -- A known fact needs no step.
 abbrev pub TakesKnown : Type 0
-TakesKnown = (s : State) (k : ℕ) (fact : Fact) → IsCompleteEpoch s.cuts k → IsKnown s k fact → TakesFact s fact s
+TakesKnown = (s : State) (fact : Fact) → IsKnown s fact → TakesFact s fact s
 
 -- No fact of the log is refused.
 abbrev pub NoConflict : Type 0
 NoConflict =
-    (roster : ℕ) (log facts : List Fact) (s : State) (k : ℕ) (fact : Fact)
-    → IsSound roster log → Contains log fact → Means roster log facts s → IsCompleteEpoch s.cuts k → Conflicts s k fact → ⊥
+    (roster : ℕ) (log facts : List Fact) (s : State) (fact : Fact)
+    → IsSound roster log → Contains log fact → Means roster log facts s → Conflicts s fact → ⊥
 
 abbrev pub TakesRecord : Type 0
 TakesRecord = (old new : State) (r : RecordData) → PutsRecord old r new → TakesFact old (Record r) new
 
 abbrev pub TakesCut : Type 0
-TakesCut = (k : ℕ) (old new : State) (c : CutData) → LearnsCut k old c new → TakesFact old (Cut c) new
+TakesCut = (old new : State) (c : CutData) → StoresCut old c new → TakesFact old (Cut c) new
 
 abbrev pub TakesAdvance : Type 0
-TakesAdvance = (k : ℕ) (old new : State) (a : AdvanceData) → LearnsAdvance k old a new → TakesFact old (Advance a) new
+TakesAdvance = (old new : State) (a : AdvanceData) → StoresAdvance old a new → TakesFact old (Advance a) new
 
 -- A page that is final in the log is the page of all facts of the log whose anchor has reached its version.
 abbrev pub FinalPages : Type 0
 FinalPages =
     (roster : ℕ) (log facts : List Fact) (p : Position) (s : State) (page version : ℕ) (image : List ℕ)
-    → IsSound roster log → MeansAt roster log facts p s → version ≤ p.anchor → IsFinalPage roster log page version image → IsPageAt facts p.epoch page version image
+    → IsSound roster log → MeansAt roster log facts p s → version ≤ p.anchor → IsFinalPage roster log page version image
+    → IsPageAt facts p.epoch page version image
 
 -- The page that a state shows at its anchor is final.
 abbrev pub AnchorPageIsFinal : Type 0
 AnchorPageIsFinal =
-    (roster : ℕ) (log facts : List Fact) (s : State) (k anchor page : ℕ) (image : List ℕ)
-    → IsSound roster log → Means roster log facts s → IsCompleteEpoch s.cuts k → HasAnchor s k anchor → Shows s k page anchor image → IsFinalPage roster log page anchor image
+    (roster : ℕ) (log facts : List Fact) (s : State) (anchor page : ℕ) (image : List ℕ)
+    → IsSound roster log → Means roster log facts s → HasAnchor s anchor → Shows s page anchor image → IsFinalPage roster log page anchor image
 
 -- A committed image keeps the meaning where its version is not above the anchor.
 abbrev pub CommitKeeps : Type 0
 CommitKeeps =
-    (old new : State) (k anchor page version : ℕ) (image : List ℕ)
-    → IsCompleteEpoch old.cuts k → HasAnchor old k anchor → version ≤ anchor → CommitsImage old page version image new
+    (old new : State) (anchor page version : ℕ) (image : List ℕ)
+    → HasAnchor old anchor → version ≤ anchor → CommitsImage old page version image new
     → KeepsMeaningWith old page version image new
 
 -- So does the state's own page at its anchor.
 abbrev pub FoldKeeps : Type 0
 FoldKeeps =
-    (old new : State) (k anchor page : ℕ) (image : List ℕ)
-    → IsCompleteEpoch old.cuts k → HasAnchor old k anchor → Shows old k page anchor image → CommitsImage old page anchor image new
+    (old new : State) (anchor page : ℕ) (image : List ℕ)
+    → HasAnchor old anchor → Shows old page anchor image → CommitsImage old page anchor image new
     → KeepsMeaning old new
 
 abbrev pub DiscardKeeps : Type 0
-DiscardKeeps = (k : ℕ) (old new : State) → Discards k old new → KeepsMeaning old new
+DiscardKeeps = (old new : State) → Discards old new → KeepsMeaning old new
 
 abbrev pub RemovalKeeps : Type 0
-RemovalKeeps = (k : ℕ) (old new : State) → RemovesDead k old new → KeepsMeaning old new
+RemovalKeeps = (old new : State) → RemovesDead old new → KeepsMeaning old new

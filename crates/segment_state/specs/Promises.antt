@@ -43,4 +43,5 @@ pub record IsFinalPage (roster : ℕ) (log : List Fact) (page version : ℕ) (im
 -- where the image is such a page of the log, the new state means what the old one meant
 abbrev pub KeepsMeaningWith : State → ℕ → ℕ → List ℕ → State → Type 0
 KeepsMeaningWith old page version image new =
-    (roster : ℕ) (log facts : List Fact) → IsSound roster log → IsFinalPage roster log page version image → Means roster log facts old → Means roster log facts new
+    (roster : ℕ) (log facts : List Fact) → IsSound roster log → IsFinalPage roster log page version image → Means roster log facts old
+    → Means roster log facts new

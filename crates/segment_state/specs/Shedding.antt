@@ -2,15 +2,14 @@
 use Rattle.std.specs.Prelude.{◌≡◌, ◌≢◌, ℕ, ◌≤◌, ◌⊎◌, List}
 use Rattle.std.specs.List.{Contains}
 use Rattle.redo_core.specs.Data.{RecordData}
-use Rattle.redo_core.specs.CompleteEpoch.{IsCompleteEpoch}
 use Rattle.redo_core.specs.Standing.{IsDead}
-use Rattle.segment_state.specs.State.{State, SameBook, SameBase, version_of, image_of}
-use Rattle.segment_state.specs.Means.{IsFolded}
+use Rattle.segment_state.specs.State.{State, SameBase, version_of, image_of}
+use Rattle.segment_state.specs.Means.{IsInImage}
 use Rattle.segment_state.specs.HasMeaning.{HasAnchor}
 
 -- a page has the image, of a version at or above the page's own before
 pub record CommitsImage (old : State) (page version : ℕ) (image : List ℕ) (new : State) : Type 0 where
-  pub book : SameBook old new
+  pub book : new.book ≡ old.book
   pub held : new.held ≡ old.held
   pub base : new.base ≡ old.base
   pub newer : version_of old.store page ≤ version
@@ -18,19 +17,17 @@ pub record CommitsImage (old : State) (page version : ℕ) (image : List ℕ) (n
   pub image_is : image_of new.store page ≡ image
   pub others : (other : ℕ) → other ≢ page → (version_of new.store other ≡ version_of old.store other) × (image_of new.store other ≡ image_of old.store other)
 
--- the base point is the anchor, and held records may go that are folded then
-pub record Discards (k : ℕ) (old new : State) : Type 0 where
-  pub epoch : IsCompleteEpoch old.cuts k
-  pub book : SameBook old new
-  pub base : HasAnchor old k new.base
+-- the base point is the anchor, and held records may go that are in their pages' images then
+pub record Discards (old new : State) : Type 0 where
+  pub book : new.book ≡ old.book
+  pub base : HasAnchor old new.base
   pub held : (r : RecordData) → Contains new.held r → Contains old.held r
-  pub kept : (r : RecordData) → Contains old.held r → Contains new.held r ⊎ IsFolded new k r
+  pub kept : (r : RecordData) → Contains old.held r → Contains new.held r ⊎ IsInImage new r
   pub store : new.store ≡ old.store
 
 -- held records may go that are dead
-pub record RemovesDead (k : ℕ) (old new : State) : Type 0 where
-  pub epoch : IsCompleteEpoch old.cuts k
-  pub book : SameBook old new
+pub record RemovesDead (old new : State) : Type 0 where
+  pub book : new.book ≡ old.book
   pub held : (r : RecordData) → Contains new.held r → Contains old.held r
-  pub kept : (r : RecordData) → Contains old.held r → Contains new.held r ⊎ IsDead old.cuts k r.epoch r.number
+  pub kept : (r : RecordData) → Contains old.held r → Contains new.held r ⊎ IsDead old.book.cuts old.book.complete r.epoch r.number
   pub rest : SameBase old new

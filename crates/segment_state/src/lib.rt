@@ -1,9 +1,9 @@
 //! What a stored state of a segment means, and the laws of its changes, over the definitions alone.
 //!
-//! A segment keeps no set of what it took: `Means` says which facts its truncations, minimum, held records, base point and
-//! images stand for. A segment shows what a step does to its stored lists (`LearnsCut`, `PutsRecord`, `Discards` and others),
-//! and a law of this crate gives from that what its call promises (`TakesFact`, `KeepsMeaning`). What it answers is true of the
-//! facts by the laws of links, positions, pages and meanings. Each law is a function with an empty body.
+//! A segment keeps no set of what it took: `Means` says which facts its book, held records, base point and images stand
+//! for. A segment shows what a step does to what it stores (`StoresCut`, `PutsRecord`, `Discards` and others), and a law of
+//! this crate gives from that what its call promises (`TakesFact`, `KeepsMeaning`). What it answers is true of the facts by
+//! the laws of links, positions, pages and meanings. Each law is a function with an empty body.
 #![tactic(auto)]
 
 ghost use Rattle.segment_state.specs.Laws.{EmptyMeansNone, SameLinks, SamePosition, SameAnchor, TruePages, WholeBlockChains, SameMeaning, SameKept};
@@ -12,7 +12,7 @@ ghost use Rattle.segment_state.specs.Laws.{FinalPages, AnchorPageIsFinal, Commit
 ghost use Rattle.segment_state.specs.FromInit.{InitBeginsAnew};
 ghost use Rattle.segment_state.specs.Gossip.{AbsorbMeansUnion, ReplyFills};
 ghost use Rattle.segment_state.specs.Joining.{JoinMeansUnion};
-ghost use Rattle.segment_state.specs.Stored.{StoredImages, PutCommits};
+ghost use Rattle.segment_state.specs.Stored.{PutCommits};
 
 /// A segment that stores nothing means no facts.
 pub fn empty_means_none()
@@ -112,11 +112,6 @@ pub fn discard_keeps()
 /// A removal of dead records keeps the meaning.
 pub fn removal_keeps()
     ensures { RemovalKeeps }
-{}
-
-/// Among images that rise by page, a page's version and image are those of its stored image, or the floor and zeros.
-pub fn stored_images()
-    ensures { StoredImages }
 {}
 
 /// An image put in its page's place is committed, and no other page changes.

@@ -3,4 +3,4 @@ use Rattle.segment_state.proofs.Own.{anchor_law}
 use Rattle.segment_state.proofs.same_anchor.Goals as goal
 
 pub returns : goal.returns
-returns c = λ roster log facts p s k anchor sound. anchor_law log facts p s k anchor (log_of_sound roster log sound)
+returns c = λ roster log facts p s anchor sound. anchor_law log facts p s anchor (log_of_sound roster log sound)
