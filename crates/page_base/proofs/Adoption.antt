@@ -7,9 +7,8 @@ use Rattle.redo_core.specs.Writing.{zeros}
 use Rattle.redo_core.proofs.Members.{none_in, which, each, filtered, passed}
 use Rattle.redo_core.proofs.Rising.{rising_filter}
 use Rattle.redo_laws.proofs.Deciding.{settled_eq, some_or_none}
-use Rattle.segment_state.specs.State.{StoredImage, version_of, image_of}
-use Rattle.segment_state.specs.Stored.{PageBefore}
-use Rattle.segment_state.proofs.Storing.{stored_images}
+use Rattle.redo_core.specs.Store.{StoredImage, version_of, image_of, PageBefore}
+use Rattle.redo_laws.proofs.Storing.{stored_images}
 use Rattle.page_base.specs.Stored.{store_of, IsBase}
 use Rattle.page_base.specs.Adopting.{Adopts, StoresJust}
 
@@ -29,10 +28,12 @@ one_image (x ∷ xs) i j r h k e =
     ⊎_elim
     (λ (p : x ≡ i). ⊎_elim
     (λ (q : x ≡ j). sym p ∙ q)
-    (λ (q : Contains xs j). absurd (let lt : x.page < j.page = each (PageBefore x) xs j r.0 q in let s : x.page ≡ i.page = ap (λ (y : StoredImage). y.page) p in omega arith))
+    (λ (q : Contains xs j). absurd (let lt : x.page < j.page = each (PageBefore x) xs j r.0 q in let s : x.page ≡ i.page = ap (λ (y : StoredImage). y.page) p in
+    omega arith))
     (which x xs j k))
     (λ (p : Contains xs i). ⊎_elim
-    (λ (q : x ≡ j). absurd (let lt : x.page < i.page = each (PageBefore x) xs i r.0 p in let s : x.page ≡ j.page = ap (λ (y : StoredImage). y.page) q in omega arith))
+    (λ (q : x ≡ j). absurd (let lt : x.page < i.page = each (PageBefore x) xs i r.0 p in let s : x.page ≡ j.page = ap (λ (y : StoredImage). y.page) q in
+    omega arith))
     (λ (q : Contains xs j). one_image xs i j r.1 p q e)
     (which x xs j k))
     (which x xs i h)
@@ -40,14 +41,16 @@ one_image (x ∷ xs) i j r h k e =
 -- a page whose image is kept, one whose image goes, and one that has none
 record AfterFloor (images : List StoredImage) (floor base page : ℕ) : Type 0 where
   version : version_of (store_of (filter (is_new base) images) (max floor base)) page ≡ max (version_of (store_of images floor) page) base
-  kept : base ≤ version_of (store_of images floor) page → image_of (store_of (filter (is_new base) images) (max floor base)) page ≡ image_of (store_of images floor) page
+  kept : base ≤ version_of (store_of images floor) page → image_of (store_of (filter (is_new base) images) (max floor base)) page ≡ image_of
+      (store_of images floor) page
   taken : version_of (store_of images floor) page < base → image_of (store_of (filter (is_new base) images) (max floor base)) page ≡ zeros
 
 after_kept : (images : List StoredImage) (floor base : ℕ) (i : StoredImage) → IsBase images floor → Contains images i → base ≤ i.version
     → AfterFloor images floor base i.page
 after_kept images floor base i is h new =
     let old = (stored_images (store_of images floor) is.rising).0 i h in
-    let now = (stored_images (store_of (filter (is_new base) images) (max floor base)) (rising_filter PageBefore (is_new base) images is.rising)).0 i (passed (is_new base) images i (new_of base i new) h) in
+    let now = (stored_images (store_of (filter (is_new base) images) (max floor base)) (rising_filter PageBefore (is_new base) images is.rising)).0 i
+    (passed (is_new base) images i (new_of base i new) h) in
     record {
       version = (let a = old.0 in let b = now.0 in grind arith);
       kept = λ _. now.1 ∙ sym old.1;

@@ -8,7 +8,8 @@ use Rattle.redo_core.proofs.Members.{none_in, here, there, which, each}
 pub from_place : {X : Type 0} (Before : X → X → Type 0) (xs : List X) (i : ℕ) (x y : X) → IsRising Before xs → i < length xs → x ≡ get_or xs i x
     → Contains (drop i xs) y → (x ≡ y) ⊎ Before x y
 from_place Before [] i x y r l e h = absurd (omega (arith, l))
-from_place Before (z ∷ zs) zero x y r l e h = ⊎_elim (λ (q : z ≡ y). inl (e ∙ q)) (λ (q : Contains zs y). inr (subst (λ w. Before w y) (sym e) (each (Before z) zs y r.0 q))) (which z zs y h)
+from_place Before (z ∷ zs) zero x y r l e h = ⊎_elim (λ (q : z ≡ y). inl (e ∙ q))
+    (λ (q : Contains zs y). inr (subst (λ w. Before w y) (sym e) (each (Before z) zs y r.0 q))) (which z zs y h)
 from_place Before (z ∷ zs) (suc i) x y r l e h = from_place Before zs i x y r.1 (omega (arith, l)) e h
 
 -- what a list has after one place is overwritten

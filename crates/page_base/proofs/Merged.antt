@@ -3,7 +3,7 @@ use Rattle.std.proofs.Common.{◌≡◌, ℕ, ◌<◌, ◌≤◌, ◌⊎◌, inl
 use Rattle.std.specs.List.{Contains}
 use Rattle.redo_core.proofs.Members.{none_in, here, there, which}
 use Rattle.redo_laws.proofs.Deciding.{settled_eq}
-use Rattle.segment_state.specs.State.{Store, StoredImage, version_of, image_of}
+use Rattle.redo_core.specs.Store.{Store, StoredImage, version_of, image_of}
 use Rattle.page_base.specs.Stored.{stored}
 use Rattle.page_base.specs.Raising.{SamePage, Raises}
 use Rattle.page_base.specs.Adopting.{Adopts, StoresJust, IsGivenAt, RaisesEachTo}
@@ -42,7 +42,8 @@ raises_up old new page version image raises g =
 pub raises_to : (old new : Store) (page version : ℕ) (image : List ℕ) → Raises old page version image new → version ≤ version_of new page
 raises_to old new page version image raises =
     ⊎_elim
-    (λ (low : version ≤ version_of old page). let e : version_of new page ≡ version_of old page = ap (λ st. version_of st page) (raises.lower low) in omega arith)
+    (λ (low : version ≤ version_of old page). let e : version_of new page ≡ version_of old page = ap (λ st. version_of st page) (raises.lower low) in
+    omega arith)
     (λ (high : version_of old page < version). let a : version_of new page ≡ version = (raises.higher high).version_is in omega arith)
     (let t : (version ≤ version_of old page) ⊎ (version_of old page < version) = grind arith in t)
 

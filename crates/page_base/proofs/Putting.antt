@@ -8,8 +8,7 @@ use Rattle.std.proofs.lemmas.Bool.Decides.{nat_tests}
 use Rattle.redo_core.specs.Order.{IsRising}
 use Rattle.redo_core.proofs.Members.{here, there, which, each, all_of, contains_insert}
 use Rattle.redo_core.proofs.Rising.{side, rising_insert}
-use Rattle.segment_state.specs.State.{StoredImage}
-use Rattle.segment_state.specs.Stored.{PageBefore, PutsImage}
+use Rattle.redo_core.specs.Store.{StoredImage, PageBefore, PutsImage}
 use Rattle.page_base.specs.Placing.{SplitsAt, IsGapAt}
 use Rattle.page_base.proofs.Lists.{from_place, in_set}
 
@@ -106,7 +105,8 @@ set_over (z ∷ zs) zero x rising l own =
             (which x zs i h),
         λ h. ⊎_elim
             (λ (e : i ≡ x). subst (Contains (x ∷ zs)) (sym e) (here x zs))
-            (λ (q : Contains (z ∷ zs) i × (i.page ≢ x.page)). ⊎_elim (λ (e : z ≡ i). absurd (q.1 (ap (λ (y : StoredImage). y.page) (sym e) ∙ same))) (λ (u : Contains zs i). there x zs i u) (which z zs i q.0))
+            (λ (q : Contains (z ∷ zs) i × (i.page ≢ x.page)). ⊎_elim (λ (e : z ≡ i). absurd (q.1 (ap (λ (y : StoredImage). y.page) (sym e) ∙ same)))
+            (λ (u : Contains zs i). there x zs i u) (which z zs i q.0))
             h,
       );
     }
@@ -115,22 +115,26 @@ set_over (z ∷ zs) (suc place) x rising l own =
     let low : z.page < x.page = below_it zs place z x rising.0 (omega (arith, l)) own in
     record {
       rising = (
-        all_of (PageBefore z) (set zs place x) (λ y h. ⊎_elim (λ (e : y ≡ x). subst (PageBefore z) (sym e) low) (λ (q : Contains zs y). each (PageBefore z) zs y rising.0 q) (in_set zs place x y h)),
+        all_of (PageBefore z) (set zs place x) (λ y h. ⊎_elim (λ (e : y ≡ x). subst (PageBefore z) (sym e) low)
+            (λ (q : Contains zs y). each (PageBefore z) zs y rising.0 q) (in_set zs place x y h)),
         put.rising,
       );
       members = λ i. (
         λ h. ⊎_elim
             (λ (e : z ≡ i). inr (subst (Contains (z ∷ zs)) e (here z zs), λ q. let same : z.page ≡ i.page = ap (λ (y : StoredImage). y.page) e in omega arith))
-            (λ (q : Contains (set zs place x) i). ⊎_elim (λ (e : i ≡ x). inl e) (λ (u : Contains zs i × (i.page ≢ x.page)). inr (there z zs i u.0, u.1)) ((put.members i).0 q))
+            (λ (q : Contains (set zs place x) i). ⊎_elim (λ (e : i ≡ x). inl e) (λ (u : Contains zs i × (i.page ≢ x.page)). inr (there z zs i u.0, u.1))
+            ((put.members i).0 q))
             (which z (set zs place x) i h),
         λ h. ⊎_elim
             (λ (e : i ≡ x). there z (set zs place x) i ((put.members i).1 (inl e)))
-            (λ (q : Contains (z ∷ zs) i × (i.page ≢ x.page)). ⊎_elim (λ (e : z ≡ i). subst (Contains (z ∷ set zs place x)) e (here z (set zs place x))) (λ (u : Contains zs i). there z (set zs place x) i ((put.members i).1 (inr (u, q.1)))) (which z zs i q.0))
+            (λ (q : Contains (z ∷ zs) i × (i.page ≢ x.page)). ⊎_elim (λ (e : z ≡ i). subst (Contains (z ∷ set zs place x)) e (here z (set zs place x)))
+            (λ (u : Contains zs i). there z (set zs place x) i ((put.members i).1 (inr (u, q.1)))) (which z zs i q.0))
             h,
       );
     }
   where
-    below_it : (ys : List StoredImage) (k : ℕ) (u y : StoredImage) → AllByRecursion (PageBefore u) ys → k < length ys → ((i : StoredImage) → i ≡ get_or ys k i → i.page ≡ y.page) → u.page < y.page
+    below_it : (ys : List StoredImage) (k : ℕ) (u y : StoredImage) → AllByRecursion (PageBefore u) ys → k < length ys
+        → ((i : StoredImage) → i ≡ get_or ys k i → i.page ≡ y.page) → u.page < y.page
     below_it [] k u y all l own = absurd (omega (arith, l))
     below_it (w ∷ ws) zero u y all l own = let lt : u.page < w.page = all.0 in let same : w.page ≡ y.page = own w refl in omega arith
     below_it (w ∷ ws) (suc k) u y all l own = below_it ws k u y all.1 (omega (arith, l)) own

@@ -4,9 +4,8 @@ use Rattle.std.specs.List.{Contains, insert}
 use Rattle.redo_core.specs.Order.{IsRising}
 use Rattle.redo_core.specs.Writing.{zeros}
 use Rattle.redo_laws.proofs.Deciding.{settled_eq, some_or_none}
-use Rattle.segment_state.specs.State.{StoredImage, image_in, version_of, image_of}
-use Rattle.segment_state.specs.Stored.{PageBefore, PutsImage}
-use Rattle.segment_state.proofs.Storing.{stored_images, elsewhere}
+use Rattle.redo_core.specs.Store.{StoredImage, image_in, version_of, image_of, PageBefore, PutsImage}
+use Rattle.redo_laws.proofs.Storing.{stored_images, elsewhere}
 use Rattle.page_base.specs.Stored.{stored, store_of, IsBase}
 use Rattle.page_base.specs.Placing.{IsPlace}
 use Rattle.page_base.specs.Raising.{Raises}
@@ -31,11 +30,13 @@ at_gap images floor page place rising gap =
 -- an image put at the place that was found for it
 pub put_at : (from images : List StoredImage) (page place : ℕ) (x : StoredImage) → from ≡ images → page ≡ x.page → IsRising PageBefore images
     → IsPlace page from (Ok place) → PutsImage images x (set images place x)
-put_at from images page place x same own rising at = put_over images place x rising (subst (λ p. IsPlace p images (Ok place)) own (subst (λ l. IsPlace page l (Ok place)) same at))
+put_at from images page place x same own rising at = put_over images place x rising
+    (subst (λ p. IsPlace p images (Ok place)) own (subst (λ l. IsPlace page l (Ok place)) same at))
 
 pub put_between : (from images : List StoredImage) (page place : ℕ) (x : StoredImage) → from ≡ images → page ≡ x.page → IsRising PageBefore images
     → IsPlace page from (Err place) → PutsImage images x (insert images place x)
-put_between from images page place x same own rising at = put_in_gap images place x rising (subst (λ p. IsPlace p images (Err place)) own (subst (λ l. IsPlace page l (Err place)) same at))
+put_between from images page place x same own rising at = put_in_gap images place x rising
+    (subst (λ p. IsPlace p images (Err place)) own (subst (λ l. IsPlace page l (Err place)) same at))
 
 unmoved : (old new : List StoredImage) (image : StoredImage) (floor page : ℕ) → IsRising PageBefore old → PutsImage old image new → page ≢ image.page
     → (version_of (store_of new floor) page ≡ version_of (store_of old floor) page) × (image_of (store_of new floor) page ≡ image_of (store_of old floor) page)

@@ -2,7 +2,7 @@
 use Rattle.std.specs.Prelude.{◌≡◌, ℕ, ◌<◌, ◌≤◌, ◌⊎◌, nat_le, List, [], ◌∷◌, max, ◌==◌, if◌then◌else◌}
 use Rattle.std.specs.List.{Contains}
 use Rattle.redo_core.specs.Writing.{zeros}
-use Rattle.segment_state.specs.State.{Store, StoredImage, version_of, image_of}
+use Rattle.redo_core.specs.Store.{Store, StoredImage, version_of, image_of}
 use Rattle.page_base.specs.Stored.{stored}
 use Rattle.page_base.specs.Raising.{Raises}
 

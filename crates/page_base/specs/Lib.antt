@@ -3,4 +3,3 @@ pub mod Placing
 pub mod Raising
 pub mod Adopting
 pub mod Merging
-pub mod Laws

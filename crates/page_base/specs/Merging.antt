@@ -2,7 +2,7 @@
 use Rattle.std.specs.Prelude.{◌≡◌, ℕ, ◌<◌, ◌≤◌, ◌⊎◌, List, [], ◌∷◌, max}
 use Rattle.std.specs.List.{Contains}
 use Rattle.redo_core.specs.Writing.{zeros}
-use Rattle.segment_state.specs.State.{Store, StoredImage, version_of, image_of}
+use Rattle.redo_core.specs.Store.{Store, StoredImage, version_of, image_of}
 use Rattle.page_base.specs.Raising.{SamePage, Raises}
 
 -- the page has an image that was given for it
@@ -11,7 +11,8 @@ IsTaken given new page = (i : StoredImage) × Contains given i × (i.page ≡ pa
 
 -- the page is zeros at the floor, and no image that was given for it has come so far
 abbrev pub IsFloored : ℕ → List StoredImage → Store → ℕ → Type 0
-IsFloored floor given new page = ((i : StoredImage) → Contains given i → i.page ≡ page → i.version < floor) × (version_of new page ≡ floor) × (image_of new page ≡ zeros)
+IsFloored floor given new page = ((i : StoredImage) → Contains given i → i.page ≡ page → i.version < floor) × (version_of new page ≡ floor)
+    × (image_of new page ≡ zeros)
 
 -- a page keeps what it had, or has an image that was given or zeros at the floor where that is of a higher version; no version is
 -- below those given or the floor, and no other image is stored

@@ -1,7 +1,7 @@
 -- Where the image of a page stands among images that rise by page.
 use Rattle.std.specs.Prelude.{◌≡◌, ℕ, ◌<◌, ◌≤◌, List, length, take, drop, slice_index_or, Result, Ok, Err}
 use Rattle.std.specs.List.{Contains}
-use Rattle.segment_state.specs.State.{StoredImage}
+use Rattle.redo_core.specs.Store.{StoredImage}
 
 -- the images of pages below are those in front of the place
 pub record SplitsAt (page : ℕ) (images : List StoredImage) (place : ℕ) : Type 0 where

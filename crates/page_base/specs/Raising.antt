@@ -1,7 +1,6 @@
 -- How the image of one page changes.
 use Rattle.std.specs.Prelude.{◌≡◌, ◌≢◌, ℕ, ◌<◌, ◌≤◌, List}
-use Rattle.segment_state.specs.State.{Store, version_of, image_of}
-use Rattle.segment_state.specs.Stored.{PutsImage}
+use Rattle.redo_core.specs.Store.{Store, version_of, image_of, PutsImage}
 use Rattle.page_base.specs.Stored.{stored}
 
 -- what the page shows is the same

@@ -3,8 +3,7 @@ use Rattle.std.specs.Prelude.{◌≡◌, ℕ, ◌≤◌, List, Option, Some, Non
 use Rattle.std.specs.List.{Contains}
 use Rattle.redo_core.specs.Order.{IsRising}
 use Rattle.redo_core.specs.Writing.{zeros}
-use Rattle.segment_state.specs.State.{Store, StoredImage, version_of, image_of}
-use Rattle.segment_state.specs.Stored.{PageBefore}
+use Rattle.redo_core.specs.Store.{Store, StoredImage, version_of, image_of, PageBefore}
 
 abbrev pub stored : ℕ → ℕ → List ℕ → StoredImage
 stored page version bytes = record { page = page; version = version; bytes = bytes }

@@ -14,7 +14,7 @@ pub struct BaseImage {
 }
 
 impl Model for BaseImage {
-    ghost use Rattle.segment_state.specs.State.{StoredImage};
+    ghost use Rattle.redo_core.specs.Store.{StoredImage};
     ghost use Rattle.page_base.specs.Stored.{stored};
 
     ghost Value = { StoredImage };

@@ -1,13 +1,12 @@
 //! The base images of a segment's pages: for each page an image, and the point of the log that it shows.
 //!
-//! A page that was never raised is zeros at version 0, or at the greatest base adopted. Versions only rise: a raise replaces
-//! an older image, and an adoption brings every page to the base at least. Each error is want of memory, hands back what was
+//! A page that was never raised is zeros at version 0, or at the greatest base adopted or floor taken over. Versions only rise: a
+//! raise replaces an older image, an adoption brings every page to the base at least, and a merge takes in what is newer. Each error is want of memory, hands back what was
 //! given, and leaves the images as they were.
 #![tactic(auto)]
 
 mod adopting;
 mod images;
-mod laws;
 mod merging;
 mod places;
 mod store;
@@ -15,5 +14,4 @@ mod store;
 mod tests;
 
 pub use images::BaseImage;
-pub use laws::raise_commits;
 pub use store::BaseStore;

@@ -2,8 +2,7 @@
 ghost use Rattle.std.specs.Prelude.{◌≡◌, ℕ, ◌+◌, ◌<◌, ◌≤◌, nat_lt, vec_len, vec_capacity, IsOk, IfOk, OnOk, IfErr, OnErr};
 ghost use Rattle.std.specs.Option.{option_copied};
 ghost use Rattle.redo_core.specs.Order.{IsRising};
-ghost use Rattle.segment_state.specs.State.{version_of, image_of};
-ghost use Rattle.segment_state.specs.Stored.{PageBefore, PutsImage};
+ghost use Rattle.redo_core.specs.Store.{version_of, image_of, PageBefore, PutsImage};
 ghost use Rattle.page_base.specs.Stored.{store_of, IsBase, IsStoredImage};
 ghost use Rattle.page_base.specs.Placing.{SplitsAt, IsPlace};
 ghost use Rattle.page_base.specs.Raising.{Raises};

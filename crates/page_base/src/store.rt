@@ -1,6 +1,6 @@
 ghost use Rattle.std.specs.Prelude.{◌≡◌, ◌<◌, [], IfOk, OnOk, IfErr, OnErr};
 ghost use Rattle.std.specs.Option.{option_copied};
-ghost use Rattle.segment_state.specs.State.{version_of, image_of};
+ghost use Rattle.redo_core.specs.Store.{version_of, image_of};
 ghost use Rattle.page_base.specs.Stored.{store_of, IsStored, IsBase, IsStoredImage};
 ghost use Rattle.page_base.specs.Raising.{Raises};
 ghost use Rattle.page_base.specs.Adopting.{Adopts, StoresJust};
@@ -21,7 +21,7 @@ pub struct BaseStore {
 }
 
 impl Model for BaseStore {
-    ghost use Rattle.segment_state.specs.State.{Store};
+    ghost use Rattle.redo_core.specs.Store.{Store};
     ghost use Rattle.page_base.specs.Stored.{store_of, IsBase};
 
     ghost Value = { Store };
@@ -66,7 +66,7 @@ impl BaseStore {
         &self.images
     }
 
-    /// The version of a page: that of its image, or the greatest base adopted, or 0.
+    /// The version of a page: that of its image, or the greatest base adopted or floor taken over, or 0.
     pub fn version(&self, page: u16) -> u64
         ensures { result ≡ version_of self.now page }
     {

@@ -6,5 +6,7 @@ use Rattle.page_base.proofs.adopting.adopt.Goals as goal
 
 pub returns-clause-listed : goal.returns-clause-listed
 returns-clause-listed c =
-    subst (λ images. StoresJust (store_of images c.args.floor) c.args.base c.args.pages.items (store_of c.raise_floor.new.images.items c.raise_floor.result)) c.reserve.ensures.items
-    (adopts_just c.args.base c.args.pages.items (store_of c.reserve.new.self.items c.args.floor) (store_of c.raise_each.new.images.items c.args.floor) (store_of c.raise_floor.new.images.items c.raise_floor.result) c.raise_each.ensures.each c.raise_floor.ensures.listed)
+    subst (λ images. StoresJust (store_of images c.args.floor) c.args.base c.args.pages.items (store_of c.raise_floor.new.images.items c.raise_floor.result))
+    c.reserve.ensures.items
+    (adopts_just c.args.base c.args.pages.items (store_of c.reserve.new.self.items c.args.floor) (store_of c.raise_each.new.images.items c.args.floor)
+    (store_of c.raise_floor.new.images.items c.raise_floor.result) c.raise_each.ensures.each c.raise_floor.ensures.listed)

@@ -6,5 +6,7 @@ use Rattle.page_base.proofs.merging.merge.Goals as goal
 
 pub returns-clause-merges : goal.returns-clause-merges
 returns-clause-merges c =
-    subst (λ images. Merges (store_of images c.args.own) c.args.floor c.args.given.items (store_of c.raise_floor.new.images.items c.raise_floor.result)) c.reserve.ensures.items
-    (merges_of c.args.floor c.args.given.items (store_of c.reserve.new.self.items c.args.own) (store_of c.raise_all.new.images.items c.args.own) (store_of c.raise_floor.new.images.items c.raise_floor.result) c.raise_all.ensures.raises c.raise_floor.ensures.adopts c.raise_floor.ensures.listed)
+    subst (λ images. Merges (store_of images c.args.own) c.args.floor c.args.given.items (store_of c.raise_floor.new.images.items c.raise_floor.result))
+    c.reserve.ensures.items
+    (merges_of c.args.floor c.args.given.items (store_of c.reserve.new.self.items c.args.own) (store_of c.raise_all.new.images.items c.args.own)
+    (store_of c.raise_floor.new.images.items c.raise_floor.result) c.raise_all.ensures.raises c.raise_floor.ensures.adopts c.raise_floor.ensures.listed)

@@ -5,7 +5,8 @@ use Rattle.page_base.proofs.places.image_in.Goals as goal
 
 pub returns-in-Ok : goal.returns-in-Ok
 returns-in-Ok c =
-    let shown = at_place c.args.images.now c.args.floor c.args.page c.in-Ok.place c.index-images-place.result c.requires c.in-Ok.ensures c.index-images-place.is in
+    let shown = at_place c.args.images.now c.args.floor c.args.page c.in-Ok.place c.index-images-place.result c.requires c.in-Ok.ensures
+    c.index-images-place.is in
     subst (λ bytes. IfOk c.copy.result (λ image. image ≡ bytes)) (c.image.ensures ∙ sym shown.1) c.copy.ensures
 
 pub returns-in-Err : goal.returns-in-Err

@@ -1,11 +1,12 @@
 use Rattle.std.proofs.Common.{rules, nat_lt}
 use Rattle.std.proofs.lemmas.List.Sorted.{IsPartitionPoint-from_clause}
-use Rattle.segment_state.specs.State.{StoredImage}
+use Rattle.redo_core.specs.Store.{StoredImage}
 use Rattle.page_base.proofs.Putting.{parted, split}
 use Rattle.page_base.proofs.places.split_at.Goals as goal
 
 pub returns : goal.returns
 returns c =
     let page = c.args.page in let images = c.args.images.now in
-    let point = IsPartitionPoint-from_clause (λ (i : StoredImage). nat_lt i.page page) images c.partition_point.result c.partition_point.ensures.partitioned (parted page images c.requires) (λ a r q k. search rules) in
+    let point = IsPartitionPoint-from_clause (λ (i : StoredImage). nat_lt i.page page) images c.partition_point.result c.partition_point.ensures.partitioned
+    (parted page images c.requires) (λ a r q k. search rules) in
     split page images c.partition_point.result c.partition_point.ensures.bound point

@@ -1,5 +1,5 @@
 use Rattle.std.proofs.Common.{subst}
-use Rattle.segment_state.specs.State.{Store}
+use Rattle.redo_core.specs.Store.{Store}
 use Rattle.page_base.specs.Stored.{store_of}
 use Rattle.page_base.specs.Adopting.{StoresJust}
 use Rattle.page_base.proofs.store.BaseStore.adopt.Goals as goal
