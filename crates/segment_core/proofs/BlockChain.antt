@@ -4,7 +4,6 @@ use Rattle.std.specs.List.{Contains}
 use Rattle.redo_core.specs.Data.{RecordData, CutData}
 use Rattle.redo_core.specs.Order.{BeforeByNumber}
 use Rattle.redo_core.specs.Sets.{records}
-use Rattle.redo_core.specs.CompleteEpoch.{IsCompleteEpoch}
 use Rattle.redo_core.specs.Shape.{record_fault}
 use Rattle.redo_core.specs.Position.{Position}
 use Rattle.redo_core.specs.Sound.{IsSound, KeepsLaws, IsAliveBelow}
@@ -18,94 +17,92 @@ use Rattle.epoch_book.specs.Book.{BookData}
 use Rattle.redo_core.specs.Linked.{Linked, IsLinked}
 use Rattle.redo_core.specs.Linked.Linked.{start as first, next}
 use Rattle.hot_log.specs.Held.{IsHeld}
-use Rattle.hot_log.specs.Alive.{IsHeldOf as IsHotOf, IsLinkedHeld}
+use Rattle.hot_log.specs.Alive.{IsHeldOf, IsLinkedHeld}
 use Rattle.hot_log.specs.Found.{IsLeastRecord, IsGreatestRecord, IsOnlyRecord}
-use Rattle.segment_state.specs.State.{State, Store, min_of, version_of}
+use Rattle.segment_state.specs.State.{State, state_of, Store, min_of, version_of}
 use Rattle.segment_state.specs.Means.{MeansAt}
-use Rattle.segment_state.specs.Shows.{IsHeldOf}
-use Rattle.segment_state.specs.HasMeaning.{IsLinkedIn, HasComplete}
+use Rattle.segment_state.specs.Shows.{IsApplied}
+use Rattle.segment_state.specs.HasMeaning.{IsLinkedIn}
 use Rattle.segment_state.proofs.Chains.{whole_block_chains}
-use Rattle.segment_state.proofs.Own.{epoch_of}
 use Rattle.segment_state.proofs.Reading.{held_of, links_law}
-use Rattle.segment_core.specs.Answering.{state_of}
 use Rattle.segment_core.specs.Reading.{IsFrontAt, IsFrontOf}
 use Rattle.segment_core.specs.declared.answers.Front.{Front}
 use Rattle.segment_core.specs.declared.answers.ReadFault.{ReadFault}
 use Rattle.segment_core.specs.declared.answers.ReadFault.TheVariants.{Below, Above, BrokenBlockChain, Memory}
 use Rattle.segment_core.specs.BlockChain.{IsKnownLinked, IsLinkedOf, OnBlockChain, BreaksFrom, BreaksAt, TellsBreak}
 use Rattle.segment_core.specs.BlockChain.OnBlockChain.{start, down}
-use Rattle.segment_core.proofs.Chain.{one_epoch}
 
 -- ---- steps of the walk
 
 -- the one linked record of the page that r's block backlink leads to
-pub record IsBelow (s : State) (k page q : ℕ) (r below : RecordData) : Type 0 where
+pub record IsBelow (s : State) (page q : ℕ) (r below : RecordData) : Type 0 where
   pub follows : r.init ≡ false
   pub above : version_of s.store page < r.block_back
-  pub linked : IsLinkedOf s k page q below
+  pub linked : IsLinkedOf s page q below
   pub at : below.number ≡ r.block_back
-  pub only : (other : RecordData) → IsLinkedOf s k page q other → other.number ≡ r.block_back → other ≡ below
+  pub only : (other : RecordData) → IsLinkedOf s page q other → other.number ≡ r.block_back → other ≡ below
 
-from_below : (s : State) (k page q : ℕ) (r below t : RecordData) → IsBelow s k page q r below → OnBlockChain s k page q below t → OnBlockChain s k page q r t
-from_below s k page q r below _ b start = down r below start b.follows b.above b.linked b.at
-from_below s k page q r below _ b (down m c on f lt l e) = down m c (from_below s k page q r below m b on) f lt l e
+from_below : (s : State) (page q : ℕ) (r below t : RecordData) → IsBelow s page q r below → OnBlockChain s page q below t → OnBlockChain s page q r t
+from_below s page q r below _ b start = down r below start b.follows b.above b.linked b.at
+from_below s page q r below _ b (down m c on f lt l e) = down m c (from_below s page q r below m b on) f lt l e
 
-to_below : (s : State) (k page q : ℕ) (r below t : RecordData) → IsBelow s k page q r below → OnBlockChain s k page q r t
-    → (t ≡ r) ⊎ OnBlockChain s k page q below t
-to_below s k page q r below _ b start = inl refl
-to_below s k page q r below _ b (down m c on f lt l e) =
+to_below : (s : State) (page q : ℕ) (r below t : RecordData) → IsBelow s page q r below → OnBlockChain s page q r t
+    → (t ≡ r) ⊎ OnBlockChain s page q below t
+to_below s page q r below _ b start = inl refl
+to_below s page q r below _ b (down m c on f lt l e) =
     ⊎_elim
-    (λ (z : m ≡ r). let same : c ≡ below = b.only c l (e ∙ ap (λ (x : RecordData). x.block_back) z) in inr (subst (OnBlockChain s k page q below) (sym same) start))
-    (λ (h : OnBlockChain s k page q below m). inr (down m c h f lt l e))
-    (to_below s k page q r below m b on)
+    (λ (z : m ≡ r). let same : c ≡ below = b.only c l (e ∙ ap (λ (x : RecordData). x.block_back) z) in
+    inr (subst (OnBlockChain s page q below) (sym same) start))
+    (λ (h : OnBlockChain s page q below m). inr (down m c h f lt l e))
+    (to_below s page q r below m b on)
 
 -- the chain breaks from r on where it breaks from the record below r on
-pub breaks_below : (s : State) (k page q : ℕ) (r below : RecordData) (n : ℕ) → IsBelow s k page q r below
-    → BreaksFrom s k page q r n ↔ BreaksFrom s k page q below n
-breaks_below s k page q r below n b = (
+pub breaks_below : (s : State) (page q : ℕ) (r below : RecordData) (n : ℕ) → IsBelow s page q r below
+    → BreaksFrom s page q r n ↔ BreaksFrom s page q below n
+breaks_below s page q r below n b = (
   λ h. ⊎_elim
       (λ (z : h.at ≡ r). absurd (h.nowhere below b.linked (b.at ∙ ap (λ (x : RecordData). x.block_back) (sym z))))
-      (λ (on : OnBlockChain s k page q below h.at). record { at = h.at; on = on; follows = h.follows; above = h.above; nowhere = h.nowhere; number = h.number })
-      (to_below s k page q r below h.at b h.on),
-  λ h. record { at = h.at; on = from_below s k page q r below h.at b h.on; follows = h.follows; above = h.above; nowhere = h.nowhere; number = h.number },
+      (λ (on : OnBlockChain s page q below h.at). record { at = h.at; on = on; follows = h.follows; above = h.above; nowhere = h.nowhere; number = h.number })
+      (to_below s page q r below h.at b h.on),
+  λ h. record { at = h.at; on = from_below s page q r below h.at b h.on; follows = h.follows; above = h.above; nowhere = h.nowhere; number = h.number },
 )
 
 -- a record from which no step leads is the only one on the walk
-alone_on : (s : State) (k page q : ℕ) (r t : RecordData)
-    → (r.init ≡ false → version_of s.store page < r.block_back → (below : RecordData) → IsLinkedOf s k page q below → below.number ≡ r.block_back → ⊥)
-    → OnBlockChain s k page q r t → t ≡ r
-alone_on s k page q r _ none start = refl
-alone_on s k page q r _ none (down m c on f lt l e) =
-    let z : m ≡ r = alone_on s k page q r m none on in
+alone_on : (s : State) (page q : ℕ) (r t : RecordData)
+    → (r.init ≡ false → version_of s.store page < r.block_back → (below : RecordData) → IsLinkedOf s page q below → below.number ≡ r.block_back → ⊥)
+    → OnBlockChain s page q r t → t ≡ r
+alone_on s page q r _ none start = refl
+alone_on s page q r _ none (down m c on f lt l e) =
+    let z : m ≡ r = alone_on s page q r m none on in
     let back : m.block_back ≡ r.block_back = ap (λ (x : RecordData). x.block_back) z in
     absurd (none (subst (λ (x : RecordData). x.init ≡ false) z f) (omega arith) c l (e ∙ back))
 
 -- where r's block backlink leads nowhere, the chain breaks at r
-pub breaks_here : (s : State) (k page q : ℕ) (r : RecordData) (n : ℕ) → r.init ≡ false → version_of s.store page < r.block_back
-    → ((below : RecordData) → IsLinkedOf s k page q below → below.number ≡ r.block_back → ⊥) → (r.number ≡ n) ↔ BreaksFrom s k page q r n
-breaks_here s k page q r n follows lt none = (
+pub breaks_here : (s : State) (page q : ℕ) (r : RecordData) (n : ℕ) → r.init ≡ false → version_of s.store page < r.block_back
+    → ((below : RecordData) → IsLinkedOf s page q below → below.number ≡ r.block_back → ⊥) → (r.number ≡ n) ↔ BreaksFrom s page q r n
+breaks_here s page q r n follows lt none = (
   λ e. record { at = r; on = start; follows = follows; above = lt; nowhere = none; number = e },
-  λ h. ap (λ (x : RecordData). x.number) (sym (alone_on s k page q r h.at (λ f l. none) h.on)) ∙ h.number,
+  λ h. ap (λ (x : RecordData). x.number) (sym (alone_on s page q r h.at (λ f l. none) h.on)) ∙ h.number,
 )
 
 -- where r's block backlink is in the image, or r begins its page anew, the chain is whole from r on
-pub whole_from : (s : State) (k page q : ℕ) (r : RecordData) (n : ℕ) → (r.init ≡ false → r.block_back ≤ version_of s.store page) → BreaksFrom s k page q r n → ⊥
-whole_from s k page q r n le h =
-    let z : h.at ≡ r = alone_on s k page q r h.at (λ f lt below l e. let low = le f in omega (arith, low, lt)) h.on in
+pub whole_from : (s : State) (page q : ℕ) (r : RecordData) (n : ℕ) → (r.init ≡ false → r.block_back ≤ version_of s.store page) → BreaksFrom s page q r n → ⊥
+whole_from s page q r n le h =
+    let z : h.at ≡ r = alone_on s page q r h.at (λ f lt below l e. let low = le f in omega (arith, low, lt)) h.on in
     let low : r.block_back ≤ version_of s.store page = le (subst (λ (x : RecordData). x.init ≡ false) z h.follows) in
     let back : h.at.block_back ≡ r.block_back = ap (λ (x : RecordData). x.block_back) z in
     let lt : version_of s.store page < h.at.block_back = h.above in
     omega arith
 
 -- a chain that begins at r breaks where it breaks from r on
-pub breaks_first : (s : State) (k page q : ℕ) (r : RecordData) (n : ℕ) → IsLinkedOf s k page q r
-    → ((other : RecordData) → IsLinkedOf s k page q other → other.number ≤ r.number)
-    → ((other : RecordData) → IsLinkedOf s k page q other → other.number ≡ r.number → other ≡ r) → BreaksAt s k page q n ↔ BreaksFrom s k page q r n
-breaks_first s k page q r n linked greatest only = (
+pub breaks_first : (s : State) (page q : ℕ) (r : RecordData) (n : ℕ) → IsLinkedOf s page q r
+    → ((other : RecordData) → IsLinkedOf s page q other → other.number ≤ r.number)
+    → ((other : RecordData) → IsLinkedOf s page q other → other.number ≡ r.number → other ≡ r) → BreaksAt s page q n ↔ BreaksFrom s page q r n
+breaks_first s page q r n linked greatest only = (
   λ h.
       let most : h.first.number ≤ r.number = greatest h.first h.linked in
       let least : r.number ≤ h.first.number = h.greatest r linked in
-      subst (λ x. BreaksFrom s k page q x n) (only h.first h.linked (omega arith)) h.breaks,
+      subst (λ x. BreaksFrom s page q x n) (only h.first h.linked (omega arith)) h.breaks,
   λ h. record { first = r; linked = linked; greatest = greatest; breaks = h },
 )
 
@@ -127,20 +124,16 @@ greatest_by : (P Q : RecordData → Type 0) → ((r : RecordData) → P r ↔ Q 
 greatest_by P Q same None none = λ r h. none r ((same r).1 h)
 greatest_by P Q same (Some r) h = ((same r).0 h.0, λ x y. h.1 x ((same x).1 y))
 
--- what holds in the book's view holds in each view that is complete
-pub in_every_view : (b : BookData) → IsCompleteEpoch b.cuts b.complete → (P : ℕ → Type 0) → P b.complete → (k : ℕ) → IsCompleteEpoch b.cuts k → P k
-in_every_view b complete P h k at = subst P (one_epoch b.cuts b.complete k complete at) h
-
 -- where the held records link some of the page from the base point on, the last of these is the last of all
 pub last_linked : (b : BookData) (hs : List RecordData) (base : ℕ) (store : Store) (page q : ℕ) (r : RecordData)
     → IsGreatestRecord (λ x. IsLinkedHeld b hs base x × (x.page ≡ page) × (x.number ≤ q)) (Some r)
-    → IsGreatestRecord (IsLinkedOf (state_of b hs base store) b.complete page q) (Some r)
+    → IsGreatestRecord (IsLinkedOf (state_of b hs base store) page q) (Some r)
 last_linked b hs base store page q r h = ((h.0.0.0, h.0.0.1, inr h.0.0.2, h.0.1, h.0.2), before)
   where
     least : base ≤ r.number
     least = from_base b.cuts hs b.complete base r.number h.0.0.2
 
-    before : (x : RecordData) → IsLinkedOf (state_of b hs base store) b.complete page q x → (x ≡ r) ⊎ BeforeByNumber x r
+    before : (x : RecordData) → IsLinkedOf (state_of b hs base store) page q x → (x ≡ r) ⊎ BeforeByNumber x r
     before x l = ⊎_elim
         (λ (low : x.number ≤ base). ⊎_elim
         (λ (same : base ≡ x.number). h.1 x ((l.0, l.1, subst (Linked b.cuts hs b.complete base) same first), l.3, l.4))
@@ -152,12 +145,12 @@ last_linked b hs base store page q r h = ((h.0.0.0, h.0.0.1, inr h.0.0.2, h.0.1,
 -- where they link none, the last alive record of the page up to the base point is the last of all
 pub last_unlinked : (b : BookData) (hs : List RecordData) (base : ℕ) (store : Store) (page q top : ℕ) (found : Option RecordData) → IsHeld hs
     → IsGreatestRecord (λ x. IsLinkedHeld b hs base x × (x.page ≡ page) × (x.number ≤ q)) None → top ≡ min base q
-    → IsGreatestRecord (IsHotOf b hs page 0 top) found → IsGreatestRecord (IsLinkedOf (state_of b hs base store) b.complete page q) found
+    → IsGreatestRecord (IsHeldOf b hs page 0 top) found → IsGreatestRecord (IsLinkedOf (state_of b hs base store) page q) found
 last_unlinked b hs base store page q top found held none least =
     let low : top ≤ base = omega (arith, least) in
     let small : top ≤ q = omega (arith, least) in
     let most : (n : ℕ) → n ≤ base → n ≤ q → n ≤ top = λ n le few. omega (arith, least, le, few) in
-    greatest_by (IsHotOf b hs page 0 top) (IsLinkedOf (state_of b hs base store) b.complete page q) (λ r. (
+    greatest_by (IsHeldOf b hs page 0 top) (IsLinkedOf (state_of b hs base store) page q) (λ r. (
       λ h. let n : r.number ≤ top = h.4 in (h.0, h.1, inl (omega (arith, n, low)), h.2, omega (arith, n, small)),
       λ l. ⊎_elim
           (λ (le : r.number ≤ base). (l.0, l.1, l.3, positive_number hs r held l.0, most r.number le l.4))
@@ -166,13 +159,13 @@ last_unlinked b hs base store page q top found held none least =
     )) found
 
 -- r is a linked record of the page with this number
-abbrev pub IsLinkedAt : State → ℕ → ℕ → ℕ → RecordData → Type 0
-IsLinkedAt s k page number r = IsLinkedOf s k page number r × (r.number ≡ number)
+abbrev pub IsLinkedAt : State → ℕ → ℕ → RecordData → Type 0
+IsLinkedAt s page number r = IsLinkedOf s page number r × (r.number ≡ number)
 
 -- up to the base point each alive record is linked
 pub only_low : (b : BookData) (hs : List RecordData) (base : ℕ) (store : Store) (page from number : ℕ) (found : Option RecordData) → IsHeld hs
-    → number ≤ base → from ≡ number - 1 → IsLeastRecord (IsHotOf b hs page from number) found
-    → IsOnlyRecord (IsLinkedAt (state_of b hs base store) b.complete page number) found
+    → number ≤ base → from ≡ number - 1 → IsLeastRecord (IsHeldOf b hs page from number) found
+    → IsOnlyRecord (IsLinkedAt (state_of b hs base store) page number) found
 only_low b hs base store page from number None held low is none = λ r l.
     let n : r.number ≡ number = l.1 in
     let positive = positive_number hs r held l.0.0 in
@@ -194,7 +187,7 @@ only_low b hs base store page from number (Some r) held low is h =
 -- above it the linked record of the number is the only one, if it is of the page
 pub none_high : (b : BookData) (hs : List RecordData) (base : ℕ) (store : Store) (page number : ℕ) → base < number
     → IsOnlyRecord (λ x. IsLinkedHeld b hs base x × (x.number ≡ number)) None
-    → IsOnlyRecord (IsLinkedAt (state_of b hs base store) b.complete page number) None
+    → IsOnlyRecord (IsLinkedAt (state_of b hs base store) page number) None
 none_high b hs base store page number high none = λ r l.
     let n : r.number ≡ number = l.1 in
     ⊎_elim
@@ -203,7 +196,7 @@ none_high b hs base store page number high none = λ r l.
     l.0.2
 
 only_of_high : (b : BookData) (hs : List RecordData) (base : ℕ) (store : Store) (page number : ℕ) (r x : RecordData) → base < number
-    → IsOnlyRecord (λ y. IsLinkedHeld b hs base y × (y.number ≡ number)) (Some r) → IsLinkedAt (state_of b hs base store) b.complete page number x
+    → IsOnlyRecord (λ y. IsLinkedHeld b hs base y × (y.number ≡ number)) (Some r) → IsLinkedAt (state_of b hs base store) page number x
     → x ≡ r
 only_of_high b hs base store page number r x high h l =
     let n : x.number ≡ number = l.1 in
@@ -214,14 +207,14 @@ only_of_high b hs base store page number r x high h l =
 
 pub only_high : (b : BookData) (hs : List RecordData) (base : ℕ) (store : Store) (page number : ℕ) (r : RecordData) → base < number
     → IsOnlyRecord (λ x. IsLinkedHeld b hs base x × (x.number ≡ number)) (Some r) → r.page ≡ page
-    → IsOnlyRecord (IsLinkedAt (state_of b hs base store) b.complete page number) (Some r)
+    → IsOnlyRecord (IsLinkedAt (state_of b hs base store) page number) (Some r)
 only_high b hs base store page number r high h of_page =
     let n : r.number ≡ number = h.0.1 in
     (((h.0.0.0, h.0.0.1, inr h.0.0.2, of_page, omega (arith, n)), n), λ x l. only_of_high b hs base store page number r x high h l)
 
 pub other_page : (b : BookData) (hs : List RecordData) (base : ℕ) (store : Store) (page number : ℕ) (r : RecordData) → base < number
     → IsOnlyRecord (λ x. IsLinkedHeld b hs base x × (x.number ≡ number)) (Some r) → (r.page ≡ page → ⊥)
-    → IsOnlyRecord (IsLinkedAt (state_of b hs base store) b.complete page number) None
+    → IsOnlyRecord (IsLinkedAt (state_of b hs base store) page number) None
 other_page b hs base store page number r high h of_other = λ x l.
     let same : x ≡ r = only_of_high b hs base store page number r x high h l in
     of_other (subst (λ y. y.page ≡ page) same l.0.3)
@@ -229,10 +222,10 @@ other_page b hs base store page number r high h of_other = λ x l.
 -- ---- the walk of a state
 
 -- it begins at the last linked record of the page
-pub walk_begins : (s : State) (k page q : ℕ) (r : RecordData) → IsGreatestRecord (IsLinkedOf s k page q) (Some r) → (n : ℕ)
-    → BreaksAt s k page q n ↔ BreaksFrom s k page q r n
-walk_begins s k page q r h n =
-    breaks_first s k page q r n h.0
+pub walk_begins : (s : State) (page q : ℕ) (r : RecordData) → IsGreatestRecord (IsLinkedOf s page q) (Some r) → (n : ℕ)
+    → BreaksAt s page q n ↔ BreaksFrom s page q r n
+walk_begins s page q r h n =
+    breaks_first s page q r n h.0
     (λ x l. ⊎_elim
     (λ (z : x ≡ r). let same : x.number ≡ r.number = ap (λ (y : RecordData). y.number) z in omega (arith, same))
     (λ (lt : x.number < r.number). omega (arith, lt))
@@ -240,9 +233,9 @@ walk_begins s k page q r h n =
     (λ x l e. ⊎_elim (λ (z : x ≡ r). z) (λ (lt : x.number < r.number). absurd (omega (arith, lt, e))) (h.1 x l))
 
 -- it goes down to the linked record at the block backlink
-pub walk_goes : (s : State) (k page q : ℕ) (r below : RecordData) → r.init ≡ false → version_of s.store page < r.block_back → r.block_back ≤ q
-    → IsOnlyRecord (IsLinkedAt s k page r.block_back) (Some below) → IsBelow s k page q r below
-walk_goes s k page q r below follows above small h =
+pub walk_goes : (s : State) (page q : ℕ) (r below : RecordData) → r.init ≡ false → version_of s.store page < r.block_back → r.block_back ≤ q
+    → IsOnlyRecord (IsLinkedAt s page r.block_back) (Some below) → IsBelow s page q r below
+walk_goes s page q r below follows above small h =
     let at : below.number ≡ r.block_back = h.0.1 in
     record {
       follows = follows;
@@ -253,16 +246,16 @@ walk_goes s k page q r below follows above small h =
     }
 
 -- it ends at a record whose block backlink leads nowhere
-pub walk_breaks : (s : State) (k page q : ℕ) (r : RecordData) → r.init ≡ false → version_of s.store page < r.block_back
-    → IsOnlyRecord (IsLinkedAt s k page r.block_back) None → (n : ℕ) → (r.number ≡ n) ↔ BreaksFrom s k page q r n
-walk_breaks s k page q r follows above none n = breaks_here s k page q r n follows above (λ x l e. none x ((l.0, l.1, l.2, l.3, omega (arith, e)), e))
+pub walk_breaks : (s : State) (page q : ℕ) (r : RecordData) → r.init ≡ false → version_of s.store page < r.block_back
+    → IsOnlyRecord (IsLinkedAt s page r.block_back) None → (n : ℕ) → (r.number ≡ n) ↔ BreaksFrom s page q r n
+walk_breaks s page q r follows above none n = breaks_here s page q r n follows above (λ x l e. none x ((l.0, l.1, l.2, l.3, omega (arith, e)), e))
 
 -- ---- over a sound log no block chain breaks
 
 -- each record on the walk is a linked one of the page
-on_linked : (s : State) (k page q : ℕ) (r t : RecordData) → IsLinkedOf s k page q r → OnBlockChain s k page q r t → IsLinkedOf s k page q t
-on_linked s k page q r _ l start = l
-on_linked s k page q r _ l (down m c on f lt h e) = h
+on_linked : (s : State) (page q : ℕ) (r t : RecordData) → IsLinkedOf s page q r → OnBlockChain s page q r t → IsLinkedOf s page q t
+on_linked s page q r _ l start = l
+on_linked s page q r _ l (down m c on f lt h e) = h
 
 -- a record's block backlink above 0 is below its number
 back_below : {roster : ℕ} (log : List Fact) (r : RecordData) → IsSound roster log → Contains (records log) r → 0 < r.block_back → r.block_back < r.number
@@ -275,7 +268,7 @@ back_below {roster} log r sound among positive =
 
 -- over a sound log what the facts link is known to be linked
 known_linked : {roster : ℕ} (log facts : List Fact) (p : Position) (s : State) (n : ℕ) → IsSound roster log → MeansAt roster log facts p s
-    → IsLinked facts p.epoch n → IsKnownLinked s p.epoch n
+    → IsLinked facts p.epoch n → IsKnownLinked s n
 known_linked {roster} log facts p s n sound means linked =
     ⊎_elim
     (λ (low : n ≤ s.base). inl low)
@@ -283,16 +276,16 @@ known_linked {roster} log facts p s n sound means linked =
     (let t : (n ≤ s.base) ⊎ (s.base < n) = grind arith in t)
 
 pub no_break : {roster : ℕ} (log facts : List Fact) (p : Position) (s : State) (page q n : ℕ) → IsSound roster log → MeansAt roster log facts p s
-    → q ≤ p.complete → BreaksAt s p.epoch page q n → ⊥
+    → q ≤ p.complete → BreaksAt s page q n → ⊥
 no_break {roster} log facts p s page q n sound means le h =
     let r = h.breaks.at in
-    let l : IsLinkedOf s p.epoch page q r = on_linked s p.epoch page q h.first r h.linked h.breaks.on in
+    let l : IsLinkedOf s page q r = on_linked s page q h.first r h.linked h.breaks.on in
     let above : version_of s.store page < r.block_back = h.breaks.above in
     let back : r.block_back < r.number = back_below log r sound (means.of_log r l.0) (omega (arith, above)) in
     let small : r.number ≤ q = l.4 in
     ⊎_elim
     (λ (low : r.block_back ≤ version_of s.store page). omega (arith, low, above))
-    (λ (found : (below : RecordData) × IsHeldOf s p.epoch page q below × (below.number ≡ r.block_back)).
+    (λ (found : (below : RecordData) × IsApplied s page q below × (below.number ≡ r.block_back)).
     let x = found.0 in
     let fact = (held_of log facts p s (log_of_sound roster log sound) means page q le x).0 found.1 in
     h.breaks.nowhere x (found.1.0, found.1.1, known_linked log facts p s x.number sound means fact.0.linked, found.1.2, found.1.4) found.2)
@@ -305,50 +298,46 @@ pub block_lower : (r : RecordData) → record_fault r ≡ None → r.block_back 
 block_lower r shaped = search (rules, shaped)
 
 -- the walk answers the number of the record at which it stands
-pub answers_here : (s : State) (k page q : ℕ) (r : RecordData) (m : ℕ) → m ≡ r.number → ((n : ℕ) → (r.number ≡ n) ↔ BreaksFrom s k page q r n)
-    → ((n : ℕ) → BreaksAt s k page q n ↔ BreaksFrom s k page q r n) → (n : ℕ) → (Some m ≡ Some n) ↔ BreaksAt s k page q n
-answers_here s k page q r m is here same n = (
+pub answers_here : (s : State) (page q : ℕ) (r : RecordData) (m : ℕ) → m ≡ r.number → ((n : ℕ) → (r.number ≡ n) ↔ BreaksFrom s page q r n)
+    → ((n : ℕ) → BreaksAt s page q n ↔ BreaksFrom s page q r n) → (n : ℕ) → (Some m ≡ Some n) ↔ BreaksAt s page q n
+answers_here s page q r m is here same n = (
   λ (e : Some m ≡ Some n). let z : r.number ≡ n = cc in (same n).1 ((here n).0 z),
   λ h. let z : r.number ≡ n = (here n).1 ((same n).0 h) in cc,
 )
 
 -- it answers none where no chain breaks
-pub answers_none : (s : State) (k page q : ℕ) → ((n : ℕ) → BreaksAt s k page q n → ⊥) → (n : ℕ) → (None ≡ Some n) ↔ BreaksAt s k page q n
-answers_none s k page q none n = (λ (e : None ≡ Some n). absurd (cc), λ h. absurd (none n h))
+pub answers_none : (s : State) (page q : ℕ) → ((n : ℕ) → BreaksAt s page q n → ⊥) → (n : ℕ) → (None ≡ Some n) ↔ BreaksAt s page q n
+answers_none s page q none n = (λ (e : None ≡ Some n). absurd (cc), λ h. absurd (none n h))
 
 abbrev pub TellsLink : State → ℕ → ℕ → Option ℕ → Type 0
-TellsLink s page q link = (k n : ℕ) → IsCompleteEpoch s.cuts k → (link ≡ Some n) ↔ BreaksAt s k page q n
-
--- a state is readable up to the complete point of its own front
-front_complete : (s : State) (front : Front) (k : ℕ) → IsFrontOf s front → IsCompleteEpoch s.cuts k → HasComplete s k front.complete
-front_complete s front k own at = subst (λ j. HasComplete s j front.complete) (one_epoch s.cuts front.epoch k own.epoch at) own.complete
+TellsLink s page q link = (n : ℕ) → (link ≡ Some n) ↔ BreaksAt s page q n
 
 pub tells_below : (s : State) (front : Front) (page q min : ℕ) → IsFrontOf s front → q < front.min → TellsBreak s page q (Err (Below min))
-tells_below s front page q min own low = λ k g n at. (
+tells_below s front page q min own low = λ g n. (
   λ (e : Err (Below min) ≡ Err (BrokenBlockChain g n)). absurd (cc),
   λ h. let le : min_of s ≤ q = h.1.0 in let same : front.min ≡ min_of s = own.min in absurd (omega (arith, low, le, same)),
 )
 
 pub tells_above : (s : State) (front : Front) (page q complete : ℕ) → IsFrontOf s front → front.complete < q → TellsBreak s page q (Err (Above complete))
-tells_above s front page q complete own high = λ k g n at. (
+tells_above s front page q complete own high = λ g n. (
   λ (e : Err (Above complete) ≡ Err (BrokenBlockChain g n)). absurd (cc),
   λ h.
       let top = h.1.1 in
-      let same : front.complete ≡ top.0 = greatest_unique (IsLinkedIn s k) (IsLinkedIn s k) (λ i. (λ x. x, λ x. x)) front.complete top.0 (front_complete s front k own at) top.1 in
+      let same : front.complete ≡ top.0 = greatest_unique (IsLinkedIn s) (IsLinkedIn s) (λ i. (λ x. x, λ x. x)) front.complete top.0 own.complete top.1 in
       let le : q ≤ top.0 = top.2 in
       absurd (omega (arith, high, same, le)),
 )
 
 pub tells_broken : (s : State) (front : Front) (page q m : ℕ) (link : Option ℕ) → IsFrontOf s front → front.min ≤ q → q ≤ front.complete
     → TellsLink s page q link → link ≡ Some m → TellsBreak s page q (Err (BrokenBlockChain page m))
-tells_broken s front page q m link own low high tells is = λ k g n at. (
+tells_broken s front page q m link own low high tells is = λ g n. (
   λ (e : Err (BrokenBlockChain page m) ≡ Err (BrokenBlockChain g n)).
       let same : m ≡ n = cc in
       let min : front.min ≡ min_of s = own.min in
       let found : link ≡ Some n = is ∙ ap Some same in
-      ((cc), (omega (arith, low, min), (front.complete, front_complete s front k own at, high)), (tells k n at).0 found),
+      ((cc), (omega (arith, low, min), (front.complete, own.complete, high)), (tells n).0 found),
   λ h.
-      let found : link ≡ Some n = (tells k n at).1 h.2 in
+      let found : link ≡ Some n = (tells n).1 h.2 in
       let number : m ≡ n = cc in
       let place : g ≡ page = h.0 in
       cc,
@@ -356,9 +345,9 @@ tells_broken s front page q m link own low high tells is = λ k g n at. (
 
 pub tells_whole : (s : State) (page q : ℕ) (link : Option ℕ) (answer : Result (List ℕ) ReadFault)
     → ((g n : ℕ) → answer ≡ Err (BrokenBlockChain g n) → ⊥) → TellsLink s page q link → link ≡ None → TellsBreak s page q answer
-tells_whole s page q link answer not tells is = λ k g n at. (
+tells_whole s page q link answer not tells is = λ g n. (
   λ e. absurd (not g n e),
-  λ h. let found : link ≡ Some n = (tells k n at).1 h.2 in absurd (cc),
+  λ h. let found : link ≡ Some n = (tells n).1 h.2 in absurd (cc),
 )
 
 pub not_image : (image : List ℕ) (g n : ℕ) → (let answer : Result (List ℕ) ReadFault = Ok image in answer) ≡ Err (BrokenBlockChain g n) → ⊥
@@ -375,7 +364,7 @@ no_link (Some n) not = absurd (not n refl)
 pub sound_link : (s : State) (page q : ℕ) (link : Option ℕ) → TellsLink s page q link → (roster : ℕ) (log facts : List Fact) (p : Position)
     → IsSound roster log → MeansAt roster log facts p s → q ≤ p.complete → link ≡ None
 sound_link s page q link tells roster log facts p sound means le =
-    no_link link (λ n is. no_break log facts p s page q n sound means le ((tells p.epoch n (epoch_of log facts p s means)).0 is))
+    no_link link (λ n is. no_break log facts p s page q n sound means le ((tells n).0 is))
 
 pub within : (p : Position) (front : Front) (q : ℕ) → IsFrontAt p front → q ≤ front.complete → q ≤ p.complete
 within p front q at high = let complete : front.complete ≡ p.complete = at.complete in omega (arith, complete, high)

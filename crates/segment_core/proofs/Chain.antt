@@ -1,10 +1,9 @@
 -- What a front and an anchor answer, from the greatest linked number.
-use Rattle.std.proofs.Common.{◌≡◌, ℕ, ◌<◌, ◌≤◌, inl, inr, ⊎_elim, List, length, get_or, ◌-◌, refl, sym, ap, ◌∙◌, subst, arith, rules, None, true, false, ◌↔◌, IsTrue, nat_le}
+use Rattle.std.proofs.Common.{◌≡◌, ℕ, ◌<◌, ◌≤◌, inl, inr, ⊎_elim, List, length, get_or, ◌-◌, refl, ◌∙◌, subst, arith, rules, None, true, false, ◌↔◌, IsTrue, nat_le}
 use Rattle.std.proofs.lemmas.Bool.{leb-true, le-leb}
 use Rattle.std.specs.List.{Contains}
 use Rattle.redo_core.specs.Data.{RecordData, CutData}
 use Rattle.redo_core.specs.Order.{IsGreatest}
-use Rattle.redo_core.specs.CompleteEpoch.{IsCompleteEpoch}
 use Rattle.redo_core.specs.Linked.{Linked}
 use Rattle.redo_core.specs.Linked.Linked.{start, next}
 use Rattle.redo_core.specs.Shape.{record_fault, max_number}
@@ -16,11 +15,11 @@ use Rattle.redo_core.specs.declared.facts.Fact.{Fact}
 use Rattle.redo_laws.proofs.Log.{log_of_sound}
 use Rattle.epoch_book.specs.Book.{BookData, IsBook}
 use Rattle.hot_log.specs.Held.{IsHeld}
-use Rattle.segment_state.specs.State.{State, Store}
+use Rattle.segment_state.specs.State.{State, state_of, Store, min_of}
 use Rattle.segment_state.specs.Means.{MeansAt}
-use Rattle.segment_state.specs.HasMeaning.{HasComplete, HasAnchor, IsSettled}
-use Rattle.segment_state.proofs.Own.{epoch_of, complete_as, anchor_law}
-use Rattle.segment_core.specs.Answering.{state_of}
+use Rattle.segment_state.specs.HasMeaning.{HasAnchor, IsSettled}
+use Rattle.segment_state.proofs.Own.{complete_as}
+use Rattle.segment_state.proofs.Same.{anchor_as, same_min}
 use Rattle.redo_core.specs.Standing.{IsAlive, IsDead, IsWaiting}
 use Rattle.segment_core.specs.Refusing.{IsDeadOrSettled}
 use Rattle.segment_core.specs.Reading.{IsFrontAt, IsFrontOf}
@@ -30,7 +29,6 @@ use Rattle.page_base.specs.Stored.{IsStored}
 use Rattle.epoch_book.specs.declared.standing.Standing.{Standing}
 use Rattle.epoch_book.specs.declared.standing.Standing.TheVariants.{Alive, Dead, Waiting}
 use Rattle.segment_core.specs.declared.answers.Front.{Front}
-pub use Rattle.segment_core.proofs.OneView.{one_epoch}
 
 -- a linked number is the base or a held record's
 linked_small : (cs : List CutData) (hs : List RecordData) (k base top n : ℕ) → ((r : RecordData) → Contains hs r → r.number ≤ top) → base ≤ top
@@ -56,15 +54,13 @@ pub greatest_linked : (b : BookData) (hs : List RecordData) (base limit n : ℕ)
     → ((m : ℕ) → Linked b.cuts hs b.complete base m → m ≤ limit → m ≤ n) → IsGreatestLinked b hs base limit n
 greatest_linked b hs base limit n linked bound greatest = (inr (linked, bound), λ m h. greatest m h.0 h.1)
 
-pub own_anchor : (b : BookData) (hs : List RecordData) (base : ℕ) (store : Store) (n : ℕ) → IsBook b → IsGreatestLinked b hs base (least b.points) n
-    → (k : ℕ) → IsCompleteEpoch b.cuts k → HasAnchor (state_of b hs base store) k n
-own_anchor b hs base store n is_book g k at = subst (λ j. HasAnchor (state_of b hs base store) j n) (one_epoch b.cuts b.complete k is_book.complete at) g
+pub own_anchor : (b : BookData) (hs : List RecordData) (base : ℕ) (store : Store) (n : ℕ) → IsGreatestLinked b hs base (least b.points) n
+    → HasAnchor (state_of b hs base store) n
+own_anchor b hs base store n g = g
 
-pub true_anchor : (s : State) (n : ℕ) → ((k : ℕ) → IsCompleteEpoch s.cuts k → HasAnchor s k n) → (roster : ℕ) (log facts : List Fact) (p : Position)
+pub true_anchor : (s : State) (n : ℕ) → HasAnchor s n → (roster : ℕ) (log facts : List Fact) (p : Position)
     → IsSound roster log → MeansAt roster log facts p s → n ≡ p.anchor
-true_anchor s n own roster log facts p sound means =
-    let at = epoch_of log facts p s means in
-    (anchor_law log facts p s p.epoch n (log_of_sound roster log sound) means at (own p.epoch at)).1
+true_anchor s n own roster log facts p sound means = anchor_as log facts p s (log_of_sound roster log sound) means n own
 
 -- each point has its shape, so the least of them is small
 least_small : (b : BookData) → IsBook b → least b.points ≤ max_number
@@ -82,67 +78,79 @@ small_base b base is_book low = let small = least_small b is_book in omega (arit
 -- what the parts of a segment keep, it keeps
 pub form_of : (b : BookData) (hs : List RecordData) (base : ℕ) (store : Store) → IsBook b × IsHeld hs × IsStored store × (base ≤ least b.points)
     → IsSegment (state_of b hs base store)
-form_of b hs base store parts = record { book = (b.complete, parts.0); held = parts.1; store = parts.2; base = parts.3 }
+form_of b hs base store parts = record { book = parts.0; held = parts.1; store = parts.2; base = parts.3 }
 
--- a record stands in each complete view as in the book's
-pub stands_at : (b : BookData) (hs : List RecordData) (base : ℕ) (store : Store) (epoch number : ℕ) (standing : Standing) → IsCompleteEpoch b.cuts b.complete
-    → (standing ≡ Alive) ↔ IsAlive b.cuts b.complete epoch number → (standing ≡ Dead) ↔ IsDead b.cuts b.complete epoch number → (standing ≡ Waiting) ↔ IsWaiting b.complete epoch
-    → (k : ℕ) → IsCompleteEpoch b.cuts k → StandsAt (state_of b hs base store) k epoch number standing
-stands_at b hs base store epoch number standing complete alive dead waiting k at =
-    subst (λ j. StandsAt (state_of b hs base store) j epoch number standing) (one_epoch b.cuts b.complete k complete at)
-    (record { alive = alive; dead = dead; waiting = waiting })
+-- a record stands as in the book
+pub stands_at : (b : BookData) (hs : List RecordData) (base : ℕ) (store : Store) (epoch number : ℕ) (standing : Standing)
+    → (standing ≡ Alive) ↔ IsAlive b.cuts b.complete epoch number → (standing ≡ Dead) ↔ IsDead b.cuts b.complete epoch number
+    → (standing ≡ Waiting) ↔ IsWaiting b.complete epoch
+    → StandsAt (state_of b hs base store) epoch number standing
+stands_at b hs base store epoch number standing alive dead waiting = record { alive = alive; dead = dead; waiting = waiting }
 
 pub own_front : (b : BookData) (hs : List RecordData) (base : ℕ) (store : Store) (front : Front) → IsBook b → IsHeld hs → base ≤ least b.points
     → front.epoch ≡ b.complete → front.min ≡ least b.points → IsGreatestLinked b hs base 281474976710655 front.complete
     → IsFrontOf (state_of b hs base store) front
 own_front b hs base store front is_book held low e m g =
-    let top = greatest_of_all b.cuts hs b.complete base 281474976710655 front.complete (λ r among. small_number r (held.shaped r among)) (small_base b base is_book low) g in
+    let top = greatest_of_all b.cuts hs b.complete base 281474976710655 front.complete (λ r among. small_number r (held.shaped r among))
+    (small_base b base is_book low) g in
     record {
-      epoch = subst (λ n. IsCompleteEpoch b.cuts n) (sym e) is_book.complete;
-      complete = subst (λ n. HasComplete (state_of b hs base store) n front.complete) (sym e) top;
+      epoch = e;
+      complete = top;
       min = m;
     }
 
 pub true_front : (s : State) (front : Front) → IsFrontOf s front → (roster : ℕ) (log facts : List Fact) (p : Position) → IsSound roster log
     → MeansAt roster log facts p s → IsFrontAt p front
 true_front s front own roster log facts p sound means =
-    let same = one_epoch s.cuts front.epoch p.epoch own.epoch (epoch_of log facts p s means) in
     record {
-      epoch = same;
-      complete = complete_as log facts p s (log_of_sound roster log sound) means front.complete (subst (λ k. HasComplete s k front.complete) same own.complete);
-      min = own.min ∙ ap (λ ps. least ps) means.same_points ∙ sym means.position.min;
+      epoch = own.epoch ∙ means.epoch;
+      complete = complete_as log facts p s (log_of_sound roster log sound) means front.complete own.complete;
+      min = own.min ∙ same_min log facts p s means;
     }
 
 -- a number is at or below the anchor exactly where it is settled
-pub settled_at : (s : State) (k anchor n : ℕ) → HasAnchor s k anchor → n ≤ anchor → 0 < n → IsSettled s k n
-settled_at s k anchor n g le positive = ⊎_elim (λ (z : anchor ≡ 0). absurd (omega arith)) (λ h. (anchor, h.0, h.1, le)) g.0
+pub settled_at : (s : State) (anchor n : ℕ) → HasAnchor s anchor → n ≤ anchor → 0 < n → IsSettled s n
+settled_at s anchor n g le positive = ⊎_elim (λ (z : anchor ≡ 0). absurd (omega arith)) (λ h. (anchor, h.0, h.1, le)) g.0
 
-pub settled_below : (s : State) (k anchor n : ℕ) → HasAnchor s k anchor → IsSettled s k n → n ≤ anchor
-settled_below s k anchor n g settled = let x = g.1 settled.0 (settled.1, settled.2) in omega (arith, x, settled.3)
+pub settled_below : (s : State) (anchor n : ℕ) → HasAnchor s anchor → IsSettled s n → n ≤ anchor
+settled_below s anchor n g settled = let x = g.1 settled.0 (settled.1, settled.2) in omega (arith, x, settled.3)
 
 -- ---- whether a record is compared, by how it stands
-pub dead_is_not : (b : BookData) (hs : List RecordData) (base : ℕ) (store : Store) (r : RecordData) (e n : ℕ) → IsCompleteEpoch b.cuts b.complete
-    → e ≡ r.epoch → n ≡ r.number → IsDead b.cuts b.complete e n → (k : ℕ) → IsCompleteEpoch b.cuts k
-    → IsTrue true ↔ IsDeadOrSettled (state_of b hs base store) k r
-dead_is_not b hs base store r e n complete se sn dead = λ k at.
-    (λ t. inl (subst (λ j. IsDead b.cuts j r.epoch r.number) (one_epoch b.cuts b.complete k complete at) (subst (λ x. IsDead b.cuts b.complete x r.number) se (subst (λ x. IsDead b.cuts b.complete e x) sn dead))), λ h. refl)
+pub dead_is_not : (b : BookData) (hs : List RecordData) (base : ℕ) (store : Store) (r : RecordData) (e n : ℕ)
+    → e ≡ r.epoch → n ≡ r.number → IsDead b.cuts b.complete e n
+    → IsTrue true ↔ IsDeadOrSettled (state_of b hs base store) r
+dead_is_not b hs base store r e n se sn dead =
+    (λ t. inl (subst (λ x. IsDead b.cuts b.complete x r.number) se (subst (λ x. IsDead b.cuts b.complete e x) sn dead)), λ h. refl)
 
-pub waiting_is : (b : BookData) (hs : List RecordData) (base : ℕ) (store : Store) (r : RecordData) (e : ℕ) → IsCompleteEpoch b.cuts b.complete
-    → e ≡ r.epoch → IsWaiting b.complete e → (k : ℕ) → IsCompleteEpoch b.cuts k → IsTrue false ↔ IsDeadOrSettled (state_of b hs base store) k r
-waiting_is b hs base store r e complete se waits = λ k at.
-    let same : b.complete ≡ k = one_epoch b.cuts b.complete k complete at in (
-      λ (t : false ≡ true). absurd (cc),
-      λ h. absurd (⊎_elim (λ dead. let known : r.epoch ≤ k = dead.0 in omega (arith, waits, se, same, known)) (λ alive. let known : r.epoch ≤ k = alive.0.known in omega (arith, waits, se, same, known)) h),
+pub waiting_is : (b : BookData) (hs : List RecordData) (base : ℕ) (store : Store) (r : RecordData) (e : ℕ)
+    → e ≡ r.epoch → IsWaiting b.complete e → IsTrue false ↔ IsDeadOrSettled (state_of b hs base store) r
+waiting_is b hs base store r e se waits = (
+  λ (t : false ≡ true). absurd (cc),
+  λ h. absurd (⊎_elim (λ dead. omega (arith, waits, se, dead.0)) (λ alive. omega (arith, waits, se, alive.0.known)) h),
+)
+
+pub alive_is : (s : State) (r : RecordData) (e n m anchor : ℕ) → HasAnchor s anchor → 0 < m → e ≡ r.epoch
+    → n ≡ r.number → m ≡ r.number → IsAlive s.book.cuts s.book.complete e n → IsTrue (nat_le m anchor) ↔ IsDeadOrSettled s r
+alive_is s r e n m anchor g positive se sn sm alive =
+    let is_alive : IsAlive s.book.cuts s.book.complete r.epoch r.number = subst (λ x. IsAlive s.book.cuts s.book.complete x r.number) se
+    (subst (λ x. IsAlive s.book.cuts s.book.complete e x) sn alive) in (
+      λ t. let le : m ≤ anchor = leb-true m anchor t in inr (is_alive, settled_at s anchor r.number g (omega (arith, le, sm)) (omega (arith, positive, sm))),
+      λ h. ⊎_elim (λ dead. absurd (dead.1 is_alive))
+          (λ settled. let le = settled_below s anchor r.number g settled.1 in le-leb m anchor (omega (arith, le, sm))) h,
     )
 
--- alive in the book's view is alive in every view that is complete
-pub alive_in : (b : BookData) (k e n : ℕ) → IsCompleteEpoch b.cuts b.complete → IsCompleteEpoch b.cuts k → IsAlive b.cuts b.complete e n → IsAlive b.cuts k e n
-alive_in b k e n complete at alive = subst (λ j. IsAlive b.cuts j e n) (one_epoch b.cuts b.complete k complete at) alive
-
-pub alive_is : (s : State) (r : RecordData) (k e n m anchor : ℕ) → IsCompleteEpoch s.cuts k → HasAnchor s k anchor → 0 < m → e ≡ r.epoch
-    → n ≡ r.number → m ≡ r.number → IsAlive s.cuts k e n → IsTrue (nat_le m anchor) ↔ IsDeadOrSettled s k r
-alive_is s r k e n m anchor at g positive se sn sm alive =
-    let is_alive : IsAlive s.cuts k r.epoch r.number = subst (λ x. IsAlive s.cuts k x r.number) se (subst (λ x. IsAlive s.cuts k e x) sn alive) in (
-      λ t. let le : m ≤ anchor = leb-true m anchor t in inr (is_alive, settled_at s k anchor r.number g (omega (arith, le, sm)) (omega (arith, positive, sm))),
-      λ h. ⊎_elim (λ dead. absurd (dead.1 is_alive)) (λ settled. let le = settled_below s k anchor r.number g settled.1 in le-leb m anchor (omega (arith, le, sm))) h,
+-- an alive record above the minimum read point is not settled
+pub above_minimum : (s : State) (r : RecordData) (e n m lowest : ℕ) → lowest ≡ min_of s → e ≡ r.epoch → n ≡ r.number → m ≡ r.number → lowest < m
+    → IsAlive s.book.cuts s.book.complete e n → IsTrue (nat_le m lowest) ↔ IsDeadOrSettled s r
+above_minimum s r e n m lowest min se sn sm over alive =
+    let is_alive : IsAlive s.book.cuts s.book.complete r.epoch r.number =
+    subst (λ x. IsAlive s.book.cuts s.book.complete x r.number) se (subst (λ x. IsAlive s.book.cuts s.book.complete e x) sn alive) in (
+      λ t. absurd (let le : m ≤ lowest = leb-true m lowest t in omega arith),
+      λ h. absurd (⊎_elim
+          (λ (dead : IsDead s.book.cuts s.book.complete r.epoch r.number). dead.1 is_alive)
+          (λ (settled : IsAlive s.book.cuts s.book.complete r.epoch r.number × IsSettled s r.number).
+          let low : settled.1.0 ≤ min_of s = settled.1.2 in
+          let up : r.number ≤ settled.1.0 = settled.1.3 in
+          omega arith)
+          h),
     )

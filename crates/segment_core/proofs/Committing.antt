@@ -1,6 +1,5 @@
 -- What a commit of a folded page does, from what its store's raise does.
 use Rattle.std.proofs.Common.{◌≡◌, ℕ, ◌<◌, ◌≤◌, ◌⊎◌, ⊎_elim, List, refl, sym, ap, subst, arith, Result, Ok, Err, OnOk, OnErr, IfErr}
-use Rattle.redo_core.specs.CompleteEpoch.{IsCompleteEpoch}
 use Rattle.redo_core.specs.declared.refusal.Refused.{Refused}
 use Rattle.page_base.specs.Raising.{SetsImage, Raises}
 use Rattle.segment_state.specs.State.{State, Store, version_of}
@@ -9,7 +8,6 @@ use Rattle.segment_state.specs.HasMeaning.{HasAnchor}
 use Rattle.segment_state.specs.Promises.{KeepsMeaningWith}
 use Rattle.segment_state.specs.Shedding.{CommitsImage}
 use Rattle.segment_state.proofs.Shed.{commit_keeps}
-use Rattle.segment_state.proofs.Own.{epoch_of}
 use Rattle.segment_core.specs.Folding.{Commits, RefusesCommit, RefusesAhead}
 use Rattle.segment_core.specs.Forgetting.{with_store}
 use Rattle.segment_core.specs.declared.fold_plan.Folded.{Folded}
@@ -20,7 +18,7 @@ use Rattle.segment_core.proofs.OneView.{one_anchor}
 sets_commits : (s : State) (old new : Store) (page version : ℕ) (image : List ℕ) → version_of old page ≤ version
     → SetsImage old page version image new → CommitsImage (with_store s old) page version image (with_store s new)
 sets_commits s old new page version image newer sets = record {
-  book = record { cuts = refl; points = refl; waits = refl };
+  book = refl;
   held = refl;
   base = refl;
   newer = newer;
@@ -38,23 +36,23 @@ commits_of s old new folded raises = record {
 }
 
 -- a version that is not above the anchor keeps the meaning
-pub commits_keeps : (old new : State) (folded : Folded) (anchor : ℕ) → ((k : ℕ) → IsCompleteEpoch old.cuts k → HasAnchor old k anchor)
+pub commits_keeps : (old new : State) (folded : Folded) (anchor : ℕ) → HasAnchor old anchor
     → folded.version ≤ anchor → Commits old folded new → KeepsMeaningWith old folded.page folded.version folded.image new
 commits_keeps old new folded anchor own le commits roster log F sound final a =
-    let at = epoch_of log F a.0 old a.1 in
     ⊎_elim
     (λ (low : folded.version ≤ version_of old.store folded.page). subst (Means roster log F) (sym (commits.older low)) a)
-    (λ (high : version_of old.store folded.page < folded.version). commit_keeps old new a.0.epoch anchor folded.page folded.version folded.image at (own a.0.epoch at) le (commits.newer high) roster log F sound final a)
+    (λ (high : version_of old.store folded.page < folded.version). commit_keeps old new anchor folded.page folded.version folded.image own le
+    (commits.newer high) roster log F sound final a)
     (let t : (folded.version ≤ version_of old.store folded.page) ⊎ (version_of old.store folded.page < folded.version) = grind arith in t)
 
 -- what is ahead is above the one anchor
-pub ahead_at : (s : State) (folded : Folded) (anchor : ℕ) → ((k : ℕ) → IsCompleteEpoch s.cuts k → HasAnchor s k anchor) → (k other : ℕ)
-    → IsCompleteEpoch s.cuts k → HasAnchor s k other → (let fault : CommitFault = Ahead folded.version anchor in fault) ≡ Ahead folded.version other
-ahead_at s folded anchor own k other at has = ap (Ahead folded.version) (one_anchor s k anchor other (own k at) has)
+pub ahead_at : (s : State) (folded : Folded) (anchor : ℕ) → HasAnchor s anchor → (other : ℕ)
+    → HasAnchor s other → (let fault : CommitFault = Ahead folded.version anchor in fault) ≡ Ahead folded.version other
+ahead_at s folded anchor own other has = ap (Ahead folded.version) (one_anchor s anchor other own has)
 
 pub not_ahead : (s : State) (folded : Folded) (anchor : ℕ) (result : Result Unit (Refused Folded CommitFault))
-    → ((k : ℕ) → IsCompleteEpoch s.cuts k → HasAnchor s k anchor) → folded.version ≤ anchor → RefusesAhead s folded result
-not_ahead s folded anchor result own le k other at has above = let e : anchor ≡ other = one_anchor s k anchor other (own k at) has in absurd (omega arith)
+    → HasAnchor s anchor → folded.version ≤ anchor → RefusesAhead s folded result
+not_ahead s folded anchor result own le other has above = let e : anchor ≡ other = one_anchor s anchor other own has in absurd (omega arith)
 
 -- what a raise answers
 pub raised : (s : State) (old new : Store) (folded : Folded) (result : Result Unit (Refused Folded CommitFault))
@@ -63,10 +61,11 @@ raised s old new folded (Ok u) raises = commits_of s old new folded raises
 raised s old new folded (Err e) raises = tt
 
 pub raise_keeps : (s : State) (old new : Store) (folded : Folded) (anchor : ℕ) (result : Result Unit (Refused Folded CommitFault))
-    → ((k : ℕ) → IsCompleteEpoch s.cuts k → HasAnchor s k anchor) → folded.version ≤ anchor
+    → HasAnchor s anchor → folded.version ≤ anchor
     → OnOk result (Raises old folded.page folded.version folded.image new)
     → OnOk result (KeepsMeaningWith (with_store s old) folded.page folded.version folded.image (with_store s new))
-raise_keeps s old new folded anchor (Ok u) own le raises = commits_keeps (with_store s old) (with_store s new) folded anchor own le (commits_of s old new folded raises)
+raise_keeps s old new folded anchor (Ok u) own le raises = commits_keeps (with_store s old) (with_store s new) folded anchor own le
+    (commits_of s old new folded raises)
 raise_keeps s old new folded anchor (Err e) own le raises = tt
 
 pub raise_refused : (s : State) (old : Store) (folded : Folded) (result : Result Unit (Refused Folded CommitFault))

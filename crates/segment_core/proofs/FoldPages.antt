@@ -3,17 +3,15 @@ use Rattle.std.proofs.Common.{◌≡◌, ◌≢◌, ℕ, ◌<◌, ◌≤◌, ◌
 use Rattle.std.specs.List.{Contains}
 use Rattle.redo_core.specs.Data.{RecordData}
 use Rattle.redo_core.specs.Order.{Lists, BeforeByNumber}
-use Rattle.redo_core.specs.CompleteEpoch.{IsCompleteEpoch}
 use Rattle.redo_core.proofs.Members.{here}
 use Rattle.hot_log.specs.Found.{IsPageAfter}
 use Rattle.page_base.specs.Stored.{stored}
 use Rattle.page_base.specs.Raising.{SamePage, Raises}
 use Rattle.page_base.proofs.Merged.{one_page, raised_list, raised_floor}
 use Rattle.segment_state.specs.State.{State, Store, StoredImage, version_of, image_of}
-use Rattle.segment_state.specs.Shows.{IsHeldOf, Shows}
+use Rattle.segment_state.specs.Shows.{IsApplied, Shows}
 use Rattle.segment_state.specs.HasMeaning.{HasAnchor}
 use Rattle.segment_state.specs.Promises.{KeepsMeaning, IsFinalPage}
-use Rattle.segment_state.proofs.Own.{epoch_of}
 use Rattle.segment_state.proofs.Shed.{anchor_page_is_final}
 use Rattle.segment_core.specs.Forgetting.{with_store, FoldsImages, FoldsAll}
 use Rattle.segment_core.specs.declared.fold_plan.Folded.{Folded}
@@ -35,7 +33,7 @@ pub record FoldsTo (s : State) (anchor : ℕ) (next : Option ℕ) (store : Store
   pub at : IsHeldPage s.held next
   pub keeps : KeepsMeaning s (with_store s store)
   pub versions : (r : RecordData) → Contains s.held r → IsPassed next r.page → version_of store r.page ≡ max (version_of s.store r.page) anchor
-  pub shown : (k : ℕ) (r : RecordData) → IsCompleteEpoch s.cuts k → Contains s.held r → IsPassed next r.page → Shows s k r.page anchor (image_of store r.page)
+  pub shown : (r : RecordData) → Contains s.held r → IsPassed next r.page → Shows s r.page anchor (image_of store r.page)
   pub others : (page : ℕ) → ((r : RecordData) → Contains s.held r → r.page ≡ page → IsPassed next page → ⊥) → SamePage s.store store page
   pub listed : (i : StoredImage) → Contains store.images i → Contains s.store.images i ⊎ ((r : RecordData) × Contains s.held r × (r.page ≡ i.page))
   pub floor : store.floor ≡ s.store.floor
@@ -45,18 +43,18 @@ folds_none s anchor next after = record {
   at = next_held s.held None next after;
   keeps = λ roster log F sound a. a;
   versions = λ r h passed. absurd (none_passed s.held next r after h passed);
-  shown = λ k r at h passed. absurd (none_passed s.held next r after h passed);
+  shown = λ r h passed. absurd (none_passed s.held next r after h passed);
   others = λ page none. (refl, refl);
   listed = λ i h. inl h;
   floor = refl;
 }
 
 -- a page of a version that is not below the anchor shows its image there
-shows_own : (s : State) (k page anchor : ℕ) (image : List ℕ) → anchor ≤ version_of s.store page → Shows s k page anchor image
-    → Shows s k page anchor (image_of s.store page)
-shows_own s k page anchor image le shows = own shows.written shows.lists
+shows_own : (s : State) (page anchor : ℕ) (image : List ℕ) → anchor ≤ version_of s.store page → Shows s page anchor image
+    → Shows s page anchor (image_of s.store page)
+shows_own s page anchor image le shows = own shows.written shows.lists
   where
-    own : (written : List RecordData) → Lists BeforeByNumber (IsHeldOf s k page anchor) written → Shows s k page anchor (image_of s.store page)
+    own : (written : List RecordData) → Lists BeforeByNumber (IsApplied s page anchor) written → Shows s page anchor (image_of s.store page)
     own [] lists = record { written = []; lists = lists; result = refl }
     own (x ∷ xs) lists =
         let h = (lists.members x).0 (here x xs) in
@@ -65,21 +63,21 @@ shows_own s k page anchor image le shows = own shows.written shows.lists
         absurd (omega arith)
 
 -- what a raise to the anchor makes of the page itself, whose image was the state's own
-raised_page : (s : State) (k page anchor : ℕ) (image : List ℕ) (old new : Store) → SamePage s.store old page → Raises old page anchor image new
-    → Shows s k page anchor image
-    → (version_of new page ≡ max (version_of s.store page) anchor) × Shows s k page anchor (image_of new page)
-raised_page s k page anchor image old new same raises shows =
+raised_page : (s : State) (page anchor : ℕ) (image : List ℕ) (old new : Store) → SamePage s.store old page → Raises old page anchor image new
+    → Shows s page anchor image
+    → (version_of new page ≡ max (version_of s.store page) anchor) × Shows s page anchor (image_of new page)
+raised_page s page anchor image old new same raises shows =
     let own : version_of old page ≡ version_of s.store page = same.0 in
     ⊎_elim
     (λ (low : anchor ≤ version_of old page).
     let e = raises.lower low in
     let version : version_of new page ≡ version_of old page = ap (λ st. version_of st page) e in
     let kept : image_of new page ≡ image_of s.store page = ap (λ st. image_of st page) e ∙ same.1 in
-    (omega arith, subst (Shows s k page anchor) (sym kept) (shows_own s k page anchor image (omega arith) shows)))
+    (omega arith, subst (Shows s page anchor) (sym kept) (shows_own s page anchor image (omega arith) shows)))
     (λ (high : version_of old page < anchor).
     let sets = raises.higher high in
     let version : version_of new page ≡ anchor = sets.version_is in
-    (omega arith, subst (Shows s k page anchor) (sym sets.image_is) shows))
+    (omega arith, subst (Shows s page anchor) (sym sets.image_is) shows))
     (let t : (anchor ≤ version_of old page) ⊎ (version_of old page < anchor) = grind arith in t)
 
 -- another page stays
@@ -90,47 +88,47 @@ raised_other old new page anchor g image raises differs =
 -- ---- one page more
 -- the page is folded to the anchor, and raised in the store
 pub record FoldsOne (s : State) (anchor page : ℕ) (next : Option ℕ) (old : Store) (image : List ℕ) (new : Store) : Type 0 where
-  pub own : (k : ℕ) → IsCompleteEpoch s.cuts k → HasAnchor s k anchor
+  pub own : HasAnchor s anchor
   pub after : IsPageAfter s.held (Some page) next
   pub before : FoldsTo s anchor (Some page) old
   pub raises : Raises old page anchor image new
-  pub shows : (k : ℕ) → IsCompleteEpoch s.cuts k → Shows s k page anchor image
+  pub shows : Shows s page anchor image
 
 -- no page is passed before its turn
 own_page : (s : State) (anchor page : ℕ) (old : Store) → FoldsTo s anchor (Some page) old → SamePage s.store old page
 own_page s anchor page old before = before.others page (λ r h e passed. let lt : page < page = passed in omega arith)
 
 more_versions : (s : State) (anchor page : ℕ) (next : Option ℕ) (old : Store) (image : List ℕ) (new : Store) → FoldsOne s anchor page next old image new
-    → (k : ℕ) → IsCompleteEpoch s.cuts k → (r : RecordData) → Contains s.held r → IsPassed next r.page
-    → (version_of new r.page ≡ max (version_of s.store r.page) anchor) × Shows s k r.page anchor (image_of new r.page)
-more_versions s anchor page next old image new one k at r h passed =
+    → (r : RecordData) → Contains s.held r → IsPassed next r.page
+    → (version_of new r.page ≡ max (version_of s.store r.page) anchor) × Shows s r.page anchor (image_of new r.page)
+more_versions s anchor page next old image new one r h passed =
     let le : r.page ≤ page = passed_to s.held page next r one.after h passed in
     ⊎_elim
     (λ (lt : r.page < page).
     let same = raised_other old new page anchor r.page image one.raises (λ e. omega arith) in
-    (same.0 ∙ one.before.versions r h lt, subst (Shows s k r.page anchor) (sym same.1) (one.before.shown k r at h lt)))
+    (same.0 ∙ one.before.versions r h lt, subst (Shows s r.page anchor) (sym same.1) (one.before.shown r h lt)))
     (λ (e : page ≡ r.page).
-    subst (λ g. (version_of new g ≡ max (version_of s.store g) anchor) × Shows s k g anchor (image_of new g)) e
-    (raised_page s k page anchor image old new (own_page s anchor page old one.before) one.raises (one.shows k at)))
+    subst (λ g. (version_of new g ≡ max (version_of s.store g) anchor) × Shows s g anchor (image_of new g)) e
+    (raised_page s page anchor image old new (own_page s anchor page old one.before) one.raises one.shows))
     (let t : (r.page < page) ⊎ (page ≡ r.page) = grind arith in t)
 
 more_keeps : (s : State) (anchor page : ℕ) (next : Option ℕ) (old : Store) (image : List ℕ) (new : Store) → FoldsOne s anchor page next old image new
     → KeepsMeaning s (with_store s new)
 more_keeps s anchor page next old image new one roster log F sound a =
-    let at = epoch_of log F a.0 s a.1 in
     let folded : Folded = record { page = page; version = anchor; image = image } in
-    let final : IsFinalPage roster log page anchor image = anchor_page_is_final log F s a.0.epoch anchor page image sound a at (one.own a.0.epoch at) (one.shows a.0.epoch at) in
-    commits_keeps (with_store s old) (with_store s new) folded anchor one.own (omega arith) (commits_of s old new folded one.raises) roster log F sound final (one.before.keeps roster log F sound a)
+    let final : IsFinalPage roster log page anchor image = anchor_page_is_final log F s anchor page image sound a one.own one.shows in
+    commits_keeps (with_store s old) (with_store s new) folded anchor one.own (omega arith) (commits_of s old new folded one.raises) roster log F sound final
+    (one.before.keeps roster log F sound a)
 
-pub folds_more : (s : State) (anchor page : ℕ) (next : Option ℕ) (old : Store) (image : List ℕ) (new : Store) → (k : ℕ) × IsCompleteEpoch s.cuts k
+pub folds_more : (s : State) (anchor page : ℕ) (next : Option ℕ) (old : Store) (image : List ℕ) (new : Store)
     → FoldsOne s anchor page next old image new → FoldsTo s anchor next new
-folds_more s anchor page next old image new epoch one =
+folds_more s anchor page next old image new one =
     let held = one.before.at in
     record {
       at = next_held s.held (Some page) next one.after;
       keeps = more_keeps s anchor page next old image new one;
-      versions = λ r h passed. (more_versions s anchor page next old image new one epoch.0 epoch.1 r h passed).0;
-      shown = λ k r at h passed. (more_versions s anchor page next old image new one k at r h passed).1;
+      versions = λ r h passed. (more_versions s anchor page next old image new one r h passed).0;
+      shown = λ r h passed. (more_versions s anchor page next old image new one r h passed).1;
       others = λ g none.
           let differs : g ≢ page = λ e. none held.0 held.1 (held.2 ∙ sym e) (is_passed s.held page next g one.after (omega (arith, e))) in
           let now = raised_other old new page anchor g image one.raises differs in
@@ -147,15 +145,16 @@ folds_more s anchor page next old image new epoch one =
 -- a raise of a folded page is one to the anchor
 pub raises_folded : (old new : Store) (folded : Folded) (page anchor : ℕ) → folded.page ≡ page → folded.version ≡ anchor
     → Raises old folded.page folded.version folded.image new → Raises old page anchor folded.image new
-raises_folded old new folded page anchor e f raises = subst (λ v. Raises old page v folded.image new) f (subst (λ g. Raises old g folded.version folded.image new) e raises)
+raises_folded old new folded page anchor e f raises = subst (λ v. Raises old page v folded.image new) f
+    (subst (λ g. Raises old g folded.version folded.image new) e raises)
 
-pub folds_all : (s : State) (anchor : ℕ) (store : Store) → ((k : ℕ) → IsCompleteEpoch s.cuts k → HasAnchor s k anchor) → FoldsTo s anchor None store
+pub folds_all : (s : State) (anchor : ℕ) (store : Store) → HasAnchor s anchor → FoldsTo s anchor None store
     → FoldsAll s store
 folds_all s anchor store own done = record {
   keeps = done.keeps;
-  images = λ k other at has. subst (λ n. FoldsImages s k n store) (one_anchor s k anchor other (own k at) has) (record {
+  images = λ other has. subst (λ n. FoldsImages s n store) (one_anchor s anchor other own has) (record {
     versions = λ r h. done.versions r h tt;
-    shown = λ r h. done.shown k r at h tt;
+    shown = λ r h. done.shown r h tt;
     others = λ page none. done.others page (λ r h e passed. none r h e);
     listed = done.listed;
     floor = done.floor;

@@ -83,7 +83,8 @@ first_of held (r ∷ rs) after (Some key) rising inside above is =
     ⊎_elim
     (λ (same : HasKey key.0 key.1 r). sym (key_is r key same))
     (λ (later : PairBefore key.0 key.1 r.epoch r.number).
-    let behind : PairBefore x.epoch x.number r.epoch r.number = subst (λ n. PairBefore x.epoch n r.epoch r.number) (sym own.1) (subst (λ e. PairBefore e key.1 r.epoch r.number) (sym own.0) later) in
+    let behind : PairBefore x.epoch x.number r.epoch r.number = subst (λ n. PairBefore x.epoch n r.epoch r.number) (sym own.1)
+    (subst (λ e. PairBefore e key.1 r.epoch r.number) (sym own.0) later) in
     ⊎_elim
     (λ (e : r ≡ x). absurd (pair_self r.epoch r.number (subst (λ (y : RecordData). PairBefore y.epoch y.number r.epoch r.number) (sym e) behind)))
     (λ (q : Contains rs x). absurd (pair_both x.epoch x.number r.epoch r.number behind (each (RecordBefore r) rs x rising.0 q)))
@@ -91,7 +92,8 @@ first_of held (r ∷ rs) after (Some key) rising inside above is =
     (is.1 r h.0 h.1)
   where
     key_is : (y : RecordData) (k : ℕ × ℕ) → HasKey k.0 k.1 y → Some (key_of y) ≡ Some k
-    key_is y k own = ap (λ z. Some z) (subst (λ n. let t : ℕ × ℕ = (y.epoch, y.number) in let u : ℕ × ℕ = (k.0, n) in t ≡ u) own.1 (subst (λ e. let t : ℕ × ℕ = (y.epoch, y.number) in let u : ℕ × ℕ = (e, y.number) in t ≡ u) own.0 refl))
+    key_is y k own = ap (λ z. Some z) (subst (λ n. let t : ℕ × ℕ = (y.epoch, y.number) in let u : ℕ × ℕ = (k.0, n) in t ≡ u) own.1
+        (subst (λ e. let t : ℕ × ℕ = (y.epoch, y.number) in let u : ℕ × ℕ = (e, y.number) in t ≡ u) own.0 refl))
 
 pub keys_none : (held : List RecordData) (keys : List (ℕ × ℕ)) (next : Option (ℕ × ℕ)) → IsHeld held → keys ≡ [] → IsKeyAfter held None next
     → KeysTo held keys next
@@ -123,7 +125,8 @@ keys_step held front (r ∷ rs) keys key next is_held parts keys_are first is =
 
 pub keys_more : (held : List RecordData) (keys : List (ℕ × ℕ)) (before : Option (ℕ × ℕ)) (key : ℕ × ℕ) (next : Option (ℕ × ℕ)) → IsHeld held
     → KeysTo held keys before → before ≡ Some key → IsKeyAfter held (Some key) next → KeysTo held (keys ++ key ∷ []) next
-keys_more held keys before key next is_held k e is = keys_step held k.front k.rest keys key next is_held k.parts k.keys_are (subst (IsFirstKey k.rest) e k.next_is) is
+keys_more held keys before key next is_held k e is = keys_step held k.front k.rest keys key next is_held k.parts k.keys_are
+    (subst (IsFirstKey k.rest) e k.next_is) is
 
 -- fewer records are left
 keys_left : (held front rest : List RecordData) (keys : List (ℕ × ℕ)) (key : ℕ × ℕ) → held ≡ front ++ rest → keys ≡ map key_of front

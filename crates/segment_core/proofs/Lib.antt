@@ -13,3 +13,4 @@ pub mod FoldPages
 pub mod FirstBreak
 pub mod Tidying
 pub mod Forgotten
+pub mod Holding

@@ -27,8 +27,11 @@ none_passed held (Some next) r after h passed = let low : next ≤ r.page = afte
 -- then those up to the last one are
 pub passed_to : (held : List RecordData) (page : ℕ) (next : Option ℕ) (r : RecordData) → IsPageAfter held (Some page) next → Contains held r
     → IsPassed next r.page → r.page ≤ page
-passed_to held page None r after h passed = ⊎_elim (λ (low : r.page ≤ page). low) (λ (high : page < r.page). absurd (after r h high)) (let t : (r.page ≤ page) ⊎ (page < r.page) = grind arith in t)
-passed_to held page (Some next) r after h passed = ⊎_elim (λ (low : r.page ≤ page). low) (λ (high : page < r.page). let least : next ≤ r.page = after.1 r h high in absurd (omega arith)) (let t : (r.page ≤ page) ⊎ (page < r.page) = grind arith in t)
+passed_to held page None r after h passed = ⊎_elim (λ (low : r.page ≤ page). low) (λ (high : page < r.page). absurd (after r h high))
+    (let t : (r.page ≤ page) ⊎ (page < r.page) = grind arith in t)
+passed_to held page (Some next) r after h passed = ⊎_elim (λ (low : r.page ≤ page). low)
+    (λ (high : page < r.page). let least : next ≤ r.page = after.1 r h high in absurd (omega arith))
+    (let t : (r.page ≤ page) ⊎ (page < r.page) = grind arith in t)
 
 pub is_passed : (held : List RecordData) (page : ℕ) (next : Option ℕ) (g : ℕ) → IsPageAfter held (Some page) next → g ≤ page → IsPassed next g
 is_passed held page None g after le = tt

@@ -2,7 +2,6 @@
 use Rattle.std.proofs.Common.{◌≡◌, ℕ, ◌≤◌, ◌↔◌, List, Option, Some, None, sym, ap, ◌∙◌, subst, arith}
 use Rattle.redo_core.specs.Data.{RecordData}
 use Rattle.redo_core.specs.Order.{Lists, BeforeByNumber}
-use Rattle.redo_core.specs.CompleteEpoch.{IsCompleteEpoch}
 use Rattle.redo_core.specs.Writing.{after_records}
 use Rattle.redo_core.specs.Position.{Position}
 use Rattle.redo_core.specs.Sound.{IsSound}
@@ -10,27 +9,28 @@ use Rattle.redo_core.specs.declared.facts.Fact.{Fact}
 use Rattle.redo_laws.proofs.Log.{log_of_sound}
 use Rattle.redo_laws.proofs.Views.{anchor_is}
 use Rattle.epoch_book.specs.Book.{BookData}
-use Rattle.hot_log.specs.Alive.{IsHeldOf as IsHotOf}
-use Rattle.segment_state.specs.State.{State, Store, version_of, image_of}
+use Rattle.hot_log.specs.Alive.{IsHeldOf}
+use Rattle.segment_state.specs.State.{State, state_of, Store, version_of, image_of}
 use Rattle.segment_state.specs.Means.{MeansAt}
 use Rattle.segment_state.specs.Shows.{Shows}
 use Rattle.segment_state.specs.HasMeaning.{HasAnchor}
-use Rattle.segment_state.proofs.Own.{epoch_of}
 use Rattle.segment_state.proofs.Reading.{pages_law}
-use Rattle.segment_core.specs.Answering.{state_of}
 use Rattle.segment_core.specs.BlockChain.{BreaksAt}
 use Rattle.segment_core.specs.Folding.{IsFoldOf, FoldsPage, BreaksBelowAnchor}
 use Rattle.segment_core.specs.declared.fold_plan.Folded.{Folded}
-use Rattle.segment_core.proofs.OneView.{one_epoch, one_anchor}
+use Rattle.segment_core.proofs.OneView.{one_anchor}
 
 -- the listed records over the page's image are the page that the state shows
 pub plan_shows : (b : BookData) (hot : List RecordData) (base : ℕ) (store : Store) (page q version : ℕ) (image : List ℕ) (written copied : List RecordData)
-    → IsCompleteEpoch b.cuts b.complete → version ≡ version_of store page → image ≡ image_of store page
-    → Lists BeforeByNumber (IsHotOf b hot page version q) written → copied ≡ written → (k : ℕ) → IsCompleteEpoch b.cuts k
-    → Shows (state_of b hot base store) k page q (after_records image copied)
-plan_shows b hot base store page q version image written copied complete same_version same_image lists same k at =
-    subst (λ j. Shows (state_of b hot base store) j page q (after_records image copied)) (one_epoch b.cuts b.complete k complete at)
-    (record { written = written; lists = subst (λ v. Lists BeforeByNumber (IsHotOf b hot page v q) written) same_version lists; result = ap (λ i. after_records i copied) same_image ∙ ap (after_records (image_of store page)) same })
+    → version ≡ version_of store page → image ≡ image_of store page
+    → Lists BeforeByNumber (IsHeldOf b hot page version q) written → copied ≡ written
+    → Shows (state_of b hot base store) page q (after_records image copied)
+plan_shows b hot base store page q version image written copied same_version same_image lists same =
+    record {
+      written = written;
+      lists = subst (λ v. Lists BeforeByNumber (IsHeldOf b hot page v q) written) same_version lists;
+      result = ap (λ i. after_records i copied) same_image ∙ ap (after_records (image_of store page)) same;
+    }
 
 -- an anchor is not above the complete point
 pub anchor_complete : {roster : ℕ} (facts log : List Fact) (p : Position) (s : State) (anchor : ℕ) → MeansAt roster log facts p s → anchor ≡ p.anchor
@@ -40,28 +40,29 @@ anchor_complete facts log p s anchor m same = let le : p.anchor ≤ p.complete =
 -- the page that the state shows at its anchor is the facts'
 pub fold_of : {roster : ℕ} (log facts : List Fact) (p : Position) (s : State) (page anchor : ℕ) (folded : Folded) → IsSound roster log
     → MeansAt roster log facts p s → anchor ≡ p.anchor → folded.page ≡ page → folded.version ≡ anchor
-    → ((k : ℕ) → IsCompleteEpoch s.cuts k → Shows s k page anchor folded.image) → IsFoldOf facts p page folded
+    → Shows s page anchor folded.image → IsFoldOf facts p page folded
 fold_of {roster} log facts p s page anchor folded sound m same page_is version_is shows =
     let le = anchor_complete facts log p s anchor m same in
     let low : p.anchor ≤ p.complete = omega arith in
     record {
       page_is = page_is;
       version_is = version_is ∙ same;
-      image_is = (pages_law log facts p s page p.anchor folded.image (log_of_sound roster log sound) m (omega arith) low).0 (subst (λ q. Shows s p.epoch page q folded.image) same (shows p.epoch (epoch_of log facts p s m)));
+      image_is = (pages_law log facts p s page p.anchor folded.image (log_of_sound roster log sound) m (omega arith) low).0
+          (subst (λ q. Shows s page q folded.image) same shows);
     }
 
 -- no block chain that is broken at or below the anchor is passed over
-pub none_broken : (s : State) (k page anchor : ℕ) (result : Option ℕ) → HasAnchor s k anchor
-    → ((n : ℕ) → (result ≡ Some n) ↔ BreaksAt s k page anchor n) → result ≡ None → (n : ℕ) → BreaksBelowAnchor s k page n → ⊥
-none_broken s k page anchor result own breaks none n broken =
-    let same : broken.0 ≡ anchor = one_anchor s k broken.0 anchor broken.1 own in
-    let some : result ≡ Some n = (breaks n).1 (subst (λ a. BreaksAt s k page a n) same broken.2) in
+pub none_broken : (s : State) (page anchor : ℕ) (result : Option ℕ) → HasAnchor s anchor
+    → ((n : ℕ) → (result ≡ Some n) ↔ BreaksAt s page anchor n) → result ≡ None → (n : ℕ) → BreaksBelowAnchor s page n → ⊥
+none_broken s page anchor result own breaks none n broken =
+    let same : broken.0 ≡ anchor = one_anchor s broken.0 anchor broken.1 own in
+    let some : result ≡ Some n = (breaks n).1 (subst (λ a. BreaksAt s page a n) same broken.2) in
     absurd (cc)
 
-pub folds_page : (s : State) (k page anchor : ℕ) (folded : Folded) → HasAnchor s k anchor → folded.page ≡ page → folded.version ≡ anchor
-    → Shows s k page anchor folded.image → FoldsPage s k page folded
-folds_page s k page anchor folded own page_is version_is shows = record {
+pub folds_page : (s : State) (page anchor : ℕ) (folded : Folded) → HasAnchor s anchor → folded.page ≡ page → folded.version ≡ anchor
+    → Shows s page anchor folded.image → FoldsPage s page folded
+folds_page s page anchor folded own page_is version_is shows = record {
   page_is = page_is;
-  version_is = subst (HasAnchor s k) (sym version_is) own;
-  image_is = subst (λ q. Shows s k page q folded.image) (sym version_is) shows;
+  version_is = subst (HasAnchor s) (sym version_is) own;
+  image_is = subst (λ q. Shows s page q folded.image) (sym version_is) shows;
 }

@@ -2,7 +2,6 @@
 use Rattle.std.proofs.Common.{◌≡◌, ℕ, ◌<◌, ◌≤◌, List, subst, arith}
 use Rattle.redo_core.specs.Data.{RecordData}
 use Rattle.redo_core.specs.Order.{Lists, BeforeByNumber}
-use Rattle.redo_core.specs.CompleteEpoch.{IsCompleteEpoch}
 use Rattle.redo_core.specs.Writing.{after_records}
 use Rattle.redo_core.specs.Sound.{IsSound}
 use Rattle.redo_core.specs.Position.{Position}
@@ -11,24 +10,25 @@ use Rattle.redo_core.specs.declared.facts.Fact.{Fact}
 use Rattle.redo_laws.proofs.Log.{log_of_sound}
 use Rattle.redo_laws.proofs.Views.{anchor_is}
 use Rattle.epoch_book.specs.Book.{BookData}
-use Rattle.hot_log.specs.Alive.{IsHeldOf as IsHotOf}
-use Rattle.segment_state.specs.State.{State, Store, version_of, image_of}
+use Rattle.hot_log.specs.Alive.{IsHeldOf}
+use Rattle.segment_state.specs.State.{State, state_of, Store, version_of, image_of}
 use Rattle.segment_state.specs.Means.{MeansAt}
 use Rattle.segment_state.specs.Shows.{Shows}
-use Rattle.segment_state.proofs.Own.{epoch_of}
 use Rattle.segment_state.proofs.Reading.{pages_law}
-use Rattle.segment_core.specs.Answering.{state_of}
 use Rattle.segment_core.specs.Reading.{IsFrontAt}
 use Rattle.segment_core.specs.declared.answers.Front.{Front}
-use Rattle.segment_core.proofs.Chain.{one_epoch}
 
 -- the listed records over the page's image are the page that the state shows
 pub shown : (b : BookData) (hs : List RecordData) (base : ℕ) (store : Store) (page version q : ℕ) (written : List RecordData) (image : List ℕ)
-    → IsCompleteEpoch b.cuts b.complete → version ≡ version_of store page → Lists BeforeByNumber (IsHotOf b hs page version q) written
-    → image ≡ after_records (image_of store page) written → (k : ℕ) → IsCompleteEpoch b.cuts k → Shows (state_of b hs base store) k page q image
-shown b hs base store page version q written image complete same lists result k at =
-    let listed = subst (λ v. Lists BeforeByNumber (IsHotOf b hs page v q) written) same lists in
-    subst (λ j. Shows (state_of b hs base store) j page q image) (one_epoch b.cuts b.complete k complete at) (record { written = written; lists = listed; result = result })
+    → version ≡ version_of store page → Lists BeforeByNumber (IsHeldOf b hs page version q) written
+    → image ≡ after_records (image_of store page) written → Shows (state_of b hs base store) page q image
+shown b hs base store page version q written image same lists result =
+    let listed = subst (λ v. Lists BeforeByNumber (IsHeldOf b hs page v q) written) same lists in
+    record { written = written; lists = listed; result = result }
+
+-- below the minimum read point
+pub below : (p : Position) (front : Front) (q : ℕ) → IsFrontAt p front → q < front.min → (front.min ≡ p.min) × (q < p.min)
+below p front q at low = (at.min, omega (arith, at.min, low))
 
 -- above the complete point
 pub above : (p : Position) (front : Front) (q : ℕ) → IsFrontAt p front → front.min ≤ q → front.complete < q
@@ -38,10 +38,10 @@ above p front q at low high = (at.complete, omega (arith, at.min, low), omega (a
 -- the shown page is the page of the facts, at an admissible point
 pub true_page : {roster : ℕ} (log facts : List Fact) (p : Position) (s : State) (front : Front) (page q : ℕ) (image : List ℕ) → IsSound roster log
     → MeansAt roster log facts p s → IsFrontAt p front → front.min ≤ q → q ≤ front.complete
-    → ((k : ℕ) → IsCompleteEpoch s.cuts k → Shows s k page q image) → ((p.min ≤ q) × (q ≤ p.complete)) × IsPageAt facts p.epoch page q image
+    → Shows s page q image → ((p.min ≤ q) × (q ≤ p.complete)) × IsPageAt facts p.epoch page q image
 true_page {roster} log facts p s front page q image sound means at low high shows =
     let l = log_of_sound roster log sound in
     let least : p.min ≤ q = omega (arith, at.min, low) in
     let most : q ≤ p.complete = omega (arith, at.complete, high) in
     let settled : p.anchor ≤ q = omega (arith, (anchor_is facts p means.position).1, least) in
-    ((least, most), (pages_law log facts p s page q image l means settled most).0 (shows p.epoch (epoch_of log facts p s means)))
+    ((least, most), (pages_law log facts p s page q image l means settled most).0 shows)

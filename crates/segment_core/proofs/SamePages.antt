@@ -2,36 +2,36 @@
 use Rattle.std.proofs.Common.{◌≡◌, ℕ, ◌↔◌, List, [], Bool, IsTrue, None, refl, sym, ap, ◌∙◌, arith}
 use Rattle.redo_core.specs.Data.{RecordData}
 use Rattle.redo_core.specs.Order.{BeforeByNumber}
-use Rattle.redo_core.specs.CompleteEpoch.{IsCompleteEpoch}
 use Rattle.redo_core.specs.Writing.{after_records}
 use Rattle.redo_core.proofs.Members.{none_in, lists_unique}
 use Rattle.epoch_book.specs.Book.{BookData}
-use Rattle.hot_log.specs.Alive.{IsHeldOf as IsHotOf}
+use Rattle.hot_log.specs.Alive.{IsHeldOf}
 use Rattle.hot_log.specs.Found.{IsLeastRecord}
-use Rattle.segment_state.specs.State.{State, Store, version_of, image_of}
-use Rattle.segment_state.specs.Shows.{IsHeldOf, Shows}
-use Rattle.segment_core.specs.Answering.{state_of}
+use Rattle.segment_state.specs.State.{State, state_of, Store, version_of, image_of}
+use Rattle.segment_state.specs.Shows.{IsApplied, Shows}
 use Rattle.segment_core.specs.Comparing.{TellsSamePage}
 use Rattle.segment_core.proofs.Reading.{shown}
 
 -- a state shows one page at a point
-shows_one : (s : State) (k page q : ℕ) (i j : List ℕ) → Shows s k page q i → Shows s k page q j → i ≡ j
-shows_one s k page q i j a b =
-    let same : a.written ≡ b.written = lists_unique BeforeByNumber (λ x y lt gt. omega (arith, lt, gt)) (IsHeldOf s k page q) (IsHeldOf s k page q) (λ r. (λ h. h, λ h. h)) a.written b.written a.lists b.lists in
+shows_one : (s : State) (page q : ℕ) (i j : List ℕ) → Shows s page q i → Shows s page q j → i ≡ j
+shows_one s page q i j a b =
+    let same : a.written ≡ b.written = lists_unique BeforeByNumber (λ x y lt gt. omega (arith, lt, gt)) (IsApplied s page q) (IsApplied s page q)
+    (λ r. (λ h. h, λ h. h)) a.written b.written a.lists b.lists in
     a.result ∙ (ap (after_records (image_of s.store page)) same ∙ sym b.result)
 
 -- where no record is applied to its image, the page is the image
-pub shows_image : (b : BookData) (hs : List RecordData) (base : ℕ) (store : Store) (page version q : ℕ) → IsCompleteEpoch b.cuts b.complete
-    → version ≡ version_of store page → IsLeastRecord (IsHotOf b hs page version q) None
-    → (k : ℕ) → IsCompleteEpoch b.cuts k → Shows (state_of b hs base store) k page q (image_of store page)
-shows_image b hs base store page version q complete same none =
-    shown b hs base store page version q [] (image_of store page) complete same (record { rising = tt; members = λ r. (λ h. absurd (none_in r h), λ h. absurd (none r h)) }) refl
+pub shows_image : (b : BookData) (hs : List RecordData) (base : ℕ) (store : Store) (page version q : ℕ)
+    → version ≡ version_of store page → IsLeastRecord (IsHeldOf b hs page version q) None
+    → Shows (state_of b hs base store) page q (image_of store page)
+shows_image b hs base store page version q same none =
+    shown b hs base store page version q [] (image_of store page) same
+    (record { rising = tt; members = λ r. (λ h. absurd (none_in r h), λ h. absurd (none r h)) }) refl
 
 -- a test of the shown pages tells whether they are one
 pub tells_same : (s t : State) (point other_point page : ℕ) (own others : List ℕ) (same : Bool)
-    → ((k : ℕ) → IsCompleteEpoch s.cuts k → Shows s k page point own) → ((j : ℕ) → IsCompleteEpoch t.cuts j → Shows t j page other_point others)
+    → Shows s page point own → Shows t page other_point others
     → IsTrue same ↔ (own ≡ others) → TellsSamePage s point t other_point page same
-tells_same s t point other_point page own others same first second test k j image shown at there a b =
-    let one : own ≡ image = shows_one s k page point own image (first k at) a in
-    let two : others ≡ shown = shows_one t j page other_point others shown (second j there) b in
+tells_same s t point other_point page own others same first second test image shown a b =
+    let one : own ≡ image = shows_one s page point own image first a in
+    let two : others ≡ shown = shows_one t page other_point others shown second b in
     (λ h. sym one ∙ (test.0 h ∙ two), λ e. test.1 (one ∙ (e ∙ sym two)))

@@ -6,12 +6,11 @@ use Rattle.redo_core.specs.Order.{RecordBefore}
 use Rattle.redo_core.specs.Roster.{point_of, least}
 use Rattle.redo_core.specs.Points.{RaisesPoints}
 use Rattle.redo_core.proofs.Points.{least_mono}
-use Rattle.redo_core.specs.CompleteEpoch.{IsCompleteEpoch}
 use Rattle.redo_core.specs.declared.facts.Fact.{Fact}
 use Rattle.redo_core.specs.declared.facts.Fact.TheVariants.{Record, Cut, Advance}
 use Rattle.redo_core.specs.declared.refusal.Refused.{Refused}
 use Rattle.epoch_book.specs.Book.{BookData, IsBook}
-use Rattle.epoch_book.specs.Learning.{LearnsCut as BookLearnsCut, LearnsAdvance as BookLearnsAdvance, KnowsAdvance}
+use Rattle.epoch_book.specs.Learning.{LearnsCut, LearnsAdvance, KnowsAdvance}
 use Rattle.epoch_book.specs.Refusing.{LacksCut, RefusesCut, RefusesAdvance}
 use Rattle.epoch_book.specs.declared.refusals.Held.TheVariants as held
 use Rattle.epoch_book.specs.declared.refusals.Learnt.{Learnt}
@@ -26,13 +25,12 @@ use Rattle.hot_log.specs.declared.log.PutFault.{PutFault}
 use Rattle.hot_log.specs.declared.log.PutFault.TheVariants as fault
 use Rattle.redo_core.proofs.Rising.{rising_members as in_order}
 use Rattle.hot_log.proofs.Keys.{pair_not_same}
-use Rattle.segment_state.specs.State.{State, Store}
-use Rattle.segment_state.specs.Means.{Means}
+use Rattle.segment_state.specs.State.{State, state_of, Store}
 use Rattle.segment_state.specs.Known.{IsKnown, Conflicts}
-use Rattle.segment_state.specs.Learning.{LearnsCut, LearnsAdvance}
+use Rattle.segment_state.specs.Learning.{StoresCut, StoresAdvance}
 use Rattle.segment_state.specs.Promises.{TakesFact}
 use Rattle.segment_state.specs.Laws.{TakesRecord, TakesCut, TakesAdvance, TakesKnown, UnchangedExactly, NoConflict}
-use Rattle.segment_core.specs.Answering.{state_of, refusal_of, AnswersBook, put_refusal_of, AnswersPut}
+use Rattle.segment_core.specs.Answering.{refusal_of, AnswersBook, put_refusal_of, AnswersPut}
 use Rattle.segment_core.specs.Taking.{TellsKnown, TellsChange, Stores, IsNew}
 use Rattle.segment_core.specs.Refusing.{Refuses, IsDeadOrSettled, FitsSoundLog}
 use Rattle.segment_core.specs.Exactly.{TakesExactly}
@@ -40,7 +38,6 @@ use Rattle.segment_core.specs.declared.answers.Taken.{Taken}
 use Rattle.segment_core.specs.declared.answers.Taken.TheVariants.{Changed, Unchanged}
 use Rattle.segment_core.specs.declared.answers.Refusal.{Refusal}
 use Rattle.segment_core.specs.declared.answers.Refusal.TheVariants.{OtherRoster, OtherCut, Contradiction, OtherRecord, Memory}
-use Rattle.segment_core.proofs.OneView.{one_epoch}
 
 -- ---- a book's answer, for either kind of fact
 -- what a book refuses of a fact
@@ -51,7 +48,7 @@ RefusesFact b (Advance a) e = RefusesAdvance b a e
 
 -- the segment refuses what its book refuses
 from_book : (b : BookData) (hs : List RecordData) (base : ℕ) (store : Store) (fact : Fact) (e : BookRefusal) → RefusesFact b fact e
-    → Refuses (state_of b hs base store) b.complete fact (refusal_of e)
+    → Refuses (state_of b hs base store) fact (refusal_of e)
 from_book b hs base store (Record r) e so = absurd so
 from_book b hs base store (Cut c) (book.OtherRoster own shown) r = r
 from_book b hs base store (Cut c) (book.OtherCut d) r = r
@@ -68,7 +65,7 @@ from_book b hs base store (Advance a) book.Memory r = absurd r
 
 -- and nothing else
 to_book : (b : BookData) (hs : List RecordData) (base : ℕ) (store : Store) (fact : Fact) (why : Refusal) → ((r : RecordData) → fact ≡ Record r → ⊥)
-    → Refuses (state_of b hs base store) b.complete fact why → (e : BookRefusal) × RefusesFact b fact e × (refusal_of e ≡ why)
+    → Refuses (state_of b hs base store) fact why → (e : BookRefusal) × RefusesFact b fact e × (refusal_of e ≡ why)
 to_book b hs base store (Record x) why so r = absurd (so x refl)
 to_book b hs base store (Cut c) (OtherRoster own shown) so r = absurd r
 to_book b hs base store (Cut c) (OtherCut d) so r = (book.OtherCut d, r, refl)
@@ -93,55 +90,55 @@ only_memory (book.Contradiction h) = λ (m : Contradiction h ≡ Memory). absurd
 only_memory book.Memory = λ m. refl
 
 -- a book's answer makes an exact take, where a known fact needs no step and a new one is learnt
-book_exact : (b b' : BookData) (hs : List RecordData) (base : ℕ) (store : Store) (fact : Fact) (answer : Result Learnt BookRefusal) (result : Result Taken (Refused Fact Refusal))
+book_exact : (b b' : BookData) (hs : List RecordData) (base : ℕ) (store : Store) (fact : Fact) (answer : Result Learnt BookRefusal)
+    (result : Result Taken (Refused Fact Refusal))
     → ((r : RecordData) → fact ≡ Record r → ⊥)
-    → IsCompleteEpoch b.cuts b.complete
     → OnOk answer (TakesFact (state_of b hs base store) fact (state_of b' hs base store))
     → OnOk answer (Stores (state_of b hs base store) fact (state_of b' hs base store))
     → IfErr answer (λ e. e ≡ book.Memory → IsNew (state_of b hs base store) fact)
-    → IfOk answer (λ l. (k : ℕ) → IsCompleteEpoch b.cuts k → (l ≡ learnt.Known) ↔ IsKnown (state_of b hs base store) k fact)
+    → IfOk answer (λ l. (l ≡ learnt.Known) ↔ IsKnown (state_of b hs base store) fact)
     → IfOk answer (λ l. l ≡ learnt.Known → b' ≡ b)
     → OnErr answer (b' ≡ b)
     → ((e : BookRefusal) → RefusesFact b fact e → answer ≡ Err e)
     → IfErr answer (λ e. (e ≡ book.Memory) ⊎ RefusesFact b fact e)
     → AnswersBook fact answer result
     → TakesExactly (state_of b hs base store) fact result (state_of b' hs base store)
-book_exact b b' hs base store fact (Ok learnt.New) result so complete means stores unknown known idle same refuses refused is =
+book_exact b b' hs base store fact (Ok learnt.New) result so means stores unknown known idle same refuses refused is =
     subst (λ r. TakesExactly (state_of b hs base store) fact r (state_of b' hs base store)) (sym is) (record {
       means = means;
       stores = λ e. stores;
-      known = λ k at. (λ (e : Changed ≡ Unchanged). absurd (cc), λ it. absurd (let n : learnt.New ≡ learnt.Known = (known k at).1 it in cc));
+      known = (λ (e : Changed ≡ Unchanged). absurd (cc), λ it. absurd (let n : learnt.New ≡ learnt.Known = known.1 it in cc));
       idle = λ (e : Changed ≡ Unchanged). absurd (cc);
-      refuses = λ k why at r. let e = to_book b hs base store fact why so (subst (λ j. Refuses (state_of b hs base store) j fact why) (one_epoch b.cuts k b.complete at complete) r) in absurd (let x = refuses e.0 e.1 in cc);
+      refuses = λ why r. let e = to_book b hs base store fact why so r in absurd (let x = refuses e.0 e.1 in cc);
       refused = tt;
       memory = tt;
       back = tt;
       unchanged = tt;
     })
-book_exact b b' hs base store fact (Ok learnt.Known) result so complete means stores unknown known idle same refuses refused is =
+book_exact b b' hs base store fact (Ok learnt.Known) result so means stores unknown known idle same refuses refused is =
     subst (λ r. TakesExactly (state_of b hs base store) fact r (state_of b' hs base store)) (sym is) (record {
       means = means;
       stores = λ (e : Unchanged ≡ Changed). absurd (cc);
-      known = λ k at. (λ e. (known k at).0 refl, λ it. refl);
+      known = (λ e. known.0 refl, λ it. refl);
       idle = λ e. ap (λ x. state_of x hs base store) (idle refl);
-      refuses = λ k why at r. let e = to_book b hs base store fact why so (subst (λ j. Refuses (state_of b hs base store) j fact why) (one_epoch b.cuts k b.complete at complete) r) in absurd (let x = refuses e.0 e.1 in cc);
+      refuses = λ why r. let e = to_book b hs base store fact why so r in absurd (let x = refuses e.0 e.1 in cc);
       refused = tt;
       memory = tt;
       back = tt;
       unchanged = tt;
     })
-book_exact b b' hs base store fact (Err e) result so complete means stores unknown known idle same refuses refused is =
+book_exact b b' hs base store fact (Err e) result so means stores unknown known idle same refuses refused is =
     subst (λ r. TakesExactly (state_of b hs base store) fact r (state_of b' hs base store)) (sym is) (record {
       means = tt;
       stores = tt;
       known = tt;
       idle = tt;
-      refuses = λ k why at r.
-          let f = to_book b hs base store fact why so (subst (λ j. Refuses (state_of b hs base store) j fact why) (one_epoch b.cuts k b.complete at complete) r) in
+      refuses = λ why r.
+          let f = to_book b hs base store fact why so r in
           let x = refuses f.0 f.1 in
           let y : e ≡ f.0 = cc in
           ap refusal_of y ∙ f.2;
-      refused = ⊎_elim (λ (m : e ≡ book.Memory). inl (ap refusal_of m)) (λ r. inr (b.complete, complete, from_book b hs base store fact e r)) refused;
+      refused = ⊎_elim (λ (m : e ≡ book.Memory). inl (ap refusal_of m)) (λ r. inr (from_book b hs base store fact e r)) refused;
       memory = λ (m : refusal_of e ≡ Memory). unknown (only_memory e m);
       back = refl;
       unchanged = ap (λ x. state_of x hs base store) same;
@@ -149,33 +146,28 @@ book_exact b b' hs base store fact (Err e) result so complete means stores unkno
 
 -- ---- the three kinds of fact
 -- what a book has learnt, the state has
-learnt_cut : (b b' : BookData) (hs : List RecordData) (base : ℕ) (store : Store) (c : CutData) → IsBook b' → BookLearnsCut b c b'
-    → LearnsCut b'.complete (state_of b hs base store) c (state_of b' hs base store)
+learnt_cut : (b b' : BookData) (hs : List RecordData) (base : ℕ) (store : Store) (c : CutData) → IsBook b' → LearnsCut b c b'
+    → StoresCut (state_of b hs base store) c (state_of b' hs base store)
 learnt_cut b b' hs base store c is_book learns = record {
+  book = learns;
   epoch = is_book.complete;
-  cuts = learns.cuts;
-  points = learns.points;
-  waits = learns.waits;
   held = refl;
   rest = record { base = refl; store = refl };
 }
 
-learnt_advance : (b b' : BookData) (hs : List RecordData) (base : ℕ) (store : Store) (a : AdvanceData) → IsCompleteEpoch b.cuts b.complete
-    → BookLearnsAdvance b a b'
-    → LearnsAdvance b.complete (state_of b hs base store) a (state_of b' hs base store)
-learnt_advance b b' hs base store a complete learns = record {
-  epoch = complete;
-  cuts = learns.cuts;
-  known = λ h. let n = learns.known h in record { points = n.points; waits = n.waits };
-  later = λ h. let n = learns.later h in record { points = n.points; waits = n.waits };
+learnt_advance : (b b' : BookData) (hs : List RecordData) (base : ℕ) (store : Store) (a : AdvanceData) → LearnsAdvance b a b'
+    → StoresAdvance (state_of b hs base store) a (state_of b' hs base store)
+learnt_advance b b' hs base store a learns = record {
+  book = learns;
   held = refl;
   rest = record { base = refl; store = refl };
 }
 
 pub cut_exact : TakesCut → TakesKnown
-    → (b b' : BookData) (hs : List RecordData) (base : ℕ) (store : Store) (c : CutData) (answer : Result Learnt BookRefusal) (result : Result Taken (Refused Fact Refusal))
+    → (b b' : BookData) (hs : List RecordData) (base : ℕ) (store : Store) (c : CutData) (answer : Result Learnt BookRefusal)
+    (result : Result Taken (Refused Fact Refusal))
     → IsBook b → IsBook b'
-    → OnOk answer (BookLearnsCut b c b')
+    → OnOk answer (LearnsCut b c b')
     → IfOk answer (λ l. (l ≡ learnt.Known) ↔ Contains b.cuts c)
     → IfOk answer (λ l. l ≡ learnt.Known → b' ≡ b)
     → OnErr answer (b' ≡ b)
@@ -185,24 +177,26 @@ pub cut_exact : TakesCut → TakesKnown
     → AnswersBook (Cut c) answer result
     → TakesExactly (state_of b hs base store) (Cut c) result (state_of b' hs base store)
 cut_exact takes knows b b' hs base store c (Ok l) result was is_book learns known idle same refuses refused lacks is =
-    book_exact b b' hs base store (Cut c) (Ok l) result (λ r (e : Cut c ≡ Record r). absurd (cc)) was.complete
-    (takes b'.complete (state_of b hs base store) (state_of b' hs base store) c (learnt_cut b b' hs base store c is_book learns)) (b'.complete, learnt_cut b b' hs base store c is_book learns) tt
-    (λ k at. known) idle same refuses refused is
+    book_exact b b' hs base store (Cut c) (Ok l) result (λ r (e : Cut c ≡ Record r). absurd (cc))
+    (takes (state_of b hs base store) (state_of b' hs base store) c (learnt_cut b b' hs base store c is_book learns))
+    (learnt_cut b b' hs base store c is_book learns) tt
+    known idle same refuses refused is
 cut_exact takes knows b b' hs base store c (Err e) result was is_book learns known idle same refuses refused lacks is =
-    book_exact b b' hs base store (Cut c) (Err e) result (λ r (e : Cut c ≡ Record r). absurd (cc)) was.complete tt tt (λ m k at known. lacks (ap Err m) c known refl) tt tt same refuses refused is
+    book_exact b b' hs base store (Cut c) (Err e) result (λ r (e : Cut c ≡ Record r). absurd (cc)) tt tt
+    (λ m known. lacks (ap Err m) c known refl) tt tt same refuses refused is
 
 -- points that are raised lower no minimum
 raised_least : (k : ℕ) (old new : List ℕ) (given : List AdvanceData) → RaisesPoints k old given new → least old ≤ least new
 raised_least k old new given raises = least_mono (length old) old new refl raises.count (λ reader r. (raises.each reader r).1 (point_of old reader) (inl refl))
 
 -- a truncation never lowers the minimum read point, so the base point stays at or below it
-pub cut_bound : (b b' : BookData) (base : ℕ) (c : CutData) (answer : Result Learnt BookRefusal) → OnOk answer (BookLearnsCut b c b')
+pub cut_bound : (b b' : BookData) (base : ℕ) (c : CutData) (answer : Result Learnt BookRefusal) → OnOk answer (LearnsCut b c b')
     → OnErr answer (b' ≡ b) → base ≤ least b.points → base ≤ least b'.points
 cut_bound b b' base c (Ok l) learns same low = let up = raised_least b'.complete b.points b'.points b.waits learns.points in omega (arith, low, up)
 cut_bound b b' base c (Err e) learns same low = subst (λ x. base ≤ least x.points) (sym same) low
 
 -- nor does an advance
-pub advance_bound : (b b' : BookData) (base : ℕ) (a : AdvanceData) (answer : Result Learnt BookRefusal) → OnOk answer (BookLearnsAdvance b a b')
+pub advance_bound : (b b' : BookData) (base : ℕ) (a : AdvanceData) (answer : Result Learnt BookRefusal) → OnOk answer (LearnsAdvance b a b')
     → OnErr answer (b' ≡ b) → base ≤ least b.points → base ≤ least b'.points
 advance_bound b b' base a (Ok l) learns same low =
     ⊎_elim
@@ -212,9 +206,10 @@ advance_bound b b' base a (Ok l) learns same low =
 advance_bound b b' base a (Err e) learns same low = subst (λ x. base ≤ least x.points) (sym same) low
 
 pub advance_exact : TakesAdvance
-    → (b b' : BookData) (hs : List RecordData) (base : ℕ) (store : Store) (a : AdvanceData) (answer : Result Learnt BookRefusal) (result : Result Taken (Refused Fact Refusal))
+    → (b b' : BookData) (hs : List RecordData) (base : ℕ) (store : Store) (a : AdvanceData) (answer : Result Learnt BookRefusal)
+    (result : Result Taken (Refused Fact Refusal))
     → IsBook b
-    → OnOk answer (BookLearnsAdvance b a b')
+    → OnOk answer (LearnsAdvance b a b')
     → IfOk answer (λ l. (l ≡ learnt.Known) ↔ KnowsAdvance b a)
     → IfOk answer (λ l. l ≡ learnt.Known → b' ≡ b)
     → OnErr answer (b' ≡ b)
@@ -224,171 +219,171 @@ pub advance_exact : TakesAdvance
     → AnswersBook (Advance a) answer result
     → TakesExactly (state_of b hs base store) (Advance a) result (state_of b' hs base store)
 advance_exact takes b b' hs base store a (Ok l) result is_book learns known idle same refuses refused lacks is =
-    let complete : IsCompleteEpoch b.cuts b.complete = is_book.complete in
-    book_exact b b' hs base store (Advance a) (Ok l) result (λ r (e : Advance a ≡ Record r). absurd (cc)) complete
-    (takes b.complete (state_of b hs base store) (state_of b' hs base store) a (learnt_advance b b' hs base store a complete learns)) (b.complete, learnt_advance b b' hs base store a complete learns) tt
-    (λ k at. subst (λ n. (l ≡ learnt.Known) ↔ IsKnown (state_of b hs base store) n (Advance a)) (one_epoch b.cuts b.complete k complete at) known) idle same refuses refused is
+    book_exact b b' hs base store (Advance a) (Ok l) result (λ r (e : Advance a ≡ Record r). absurd (cc))
+    (takes (state_of b hs base store) (state_of b' hs base store) a (learnt_advance b b' hs base store a learns))
+    (learnt_advance b b' hs base store a learns) tt
+    known idle same refuses refused is
 advance_exact takes b b' hs base store a (Err e) result is_book learns known idle same refuses refused lacks is =
-    book_exact b b' hs base store (Advance a) (Err e) result (λ r (e : Advance a ≡ Record r). absurd (cc)) is_book.complete tt tt (λ m k at known. (lacks (ap Err m)).1 (subst (λ n. IsKnown (state_of b hs base store) n (Advance a)) (one_epoch b.cuts k b.complete at is_book.complete) known)) tt tt same refuses refused is
+    book_exact b b' hs base store (Advance a) (Err e) result (λ r (e : Advance a ≡ Record r). absurd (cc)) tt tt
+    (λ m known. (lacks (ap Err m)).1 known) tt tt same refuses refused is
 
 -- a record that is not compared changes nothing
-known_of_settled : (s : State) (k : ℕ) (r : RecordData) → IsDeadOrSettled s k r → IsKnown s k (Record r)
-known_of_settled s k r h = ⊎_elim (λ d. inl d) (λ settled. inr (inr settled)) h
+known_of_settled : (s : State) (r : RecordData) → IsDeadOrSettled s r → IsKnown s (Record r)
+known_of_settled s r h = ⊎_elim (λ d. inl d) (λ settled. inr (inr settled)) h
 
-pub settled_exact : TakesKnown → (s : State) (r : RecordData) (complete : ℕ) → IsCompleteEpoch s.cuts complete
-    → ((k : ℕ) → IsCompleteEpoch s.cuts k → IsDeadOrSettled s k r) → TakesExactly s (Record r) (Ok Unchanged) s
-settled_exact knows s r complete at all = record {
-  means = knows s complete (Record r) at (known_of_settled s complete r (all complete at));
+pub settled_exact : TakesKnown → (s : State) (r : RecordData) → IsDeadOrSettled s r → TakesExactly s (Record r) (Ok Unchanged) s
+settled_exact knows s r settled = record {
+  means = knows s (Record r) (known_of_settled s r settled);
   stores = λ (e : Unchanged ≡ Changed). absurd (cc);
-  known = λ k h. (λ e. known_of_settled s k r (all k h), λ it. refl);
+  known = (λ e. known_of_settled s r settled, λ it. refl);
   idle = λ e. refl;
-  refuses = λ k why h so. absurd (none k why h so);
+  refuses = λ why so. absurd (none why so);
   refused = tt;
   memory = tt;
   back = tt;
   unchanged = tt;
 }
   where
-    none : (k : ℕ) (why : Refusal) → IsCompleteEpoch s.cuts k → Refuses s k (Record r) why → ⊥
-    none k (OtherRoster own shown) h so = so
-    none k (OtherCut d) h so = so
-    none k (Contradiction held) h so = so
-    none k OtherRecord h so = so.0 (all k h)
-    none k Memory h so = so
+    none : (why : Refusal) → Refuses s (Record r) why → ⊥
+    none (OtherRoster own shown) so = so
+    none (OtherCut d) so = so
+    none (Contradiction held) so = so
+    none OtherRecord so = so.0 settled
+    none Memory so = so
 
 one_per_key : (hs : List RecordData) (x y : RecordData) → IsHeld hs → Contains hs x → Contains hs y → x.epoch ≡ y.epoch → x.number ≡ y.number → x ≡ y
 one_per_key hs x y held hx hy e n =
     ⊎_elim (λ (same : x ≡ y). same)
-    (λ o. ⊎_elim (λ before. absurd (pair_not_same x.epoch x.number y.epoch y.number before e n)) (λ before. absurd (pair_not_same y.epoch y.number x.epoch x.number before (sym e) (sym n))) o)
+    (λ o. ⊎_elim (λ before. absurd (pair_not_same x.epoch x.number y.epoch y.number before e n))
+    (λ before. absurd (pair_not_same y.epoch y.number x.epoch x.number before (sym e) (sym n))) o)
     (in_order RecordBefore hs x y held.rising hx hy)
 
 pub put_exact : TakesRecord → TakesKnown
-    → (b : BookData) (hs hs' : List RecordData) (base : ℕ) (store : Store) (r : RecordData) (answer : Result Put (Refused RecordData PutFault)) (result : Result Taken (Refused Fact Refusal))
-    → IsHeld hs' → (complete : ℕ) → IsCompleteEpoch b.cuts complete
-    → ((k : ℕ) → IsCompleteEpoch b.cuts k → IsDeadOrSettled (state_of b hs base store) k r → ⊥)
+    → (b : BookData) (hs hs' : List RecordData) (base : ℕ) (store : Store) (r : RecordData) (answer : Result Put (Refused RecordData PutFault))
+    (result : Result Taken (Refused Fact Refusal))
+    → IsHeld hs'
+    → (IsDeadOrSettled (state_of b hs base store) r → ⊥)
     → IfOk answer (Puts hs r hs')
     → IfErr answer (λ e. (e.value ≡ r) × RefusesPut hs r e.fault)
     → OnErr answer (hs' ≡ hs)
     → AnswersPut answer result
     → TakesExactly (state_of b hs base store) (Record r) result (state_of b hs' base store)
-put_exact takes knows b hs hs' base store r (Ok put.New) result held complete at compared puts refused same is =
+put_exact takes knows b hs hs' base store r (Ok put.New) result held compared puts refused same is =
     subst (λ x. TakesExactly (state_of b hs base store) (Record r) x (state_of b hs' base store)) (sym is) (record {
-      means = takes (state_of b hs base store) (state_of b hs' base store) r (record { book = record { cuts = refl; points = refl; waits = refl }; held = puts.1; rest = record { base = refl; store = refl } });
-      stores = λ e. record { book = record { cuts = refl; points = refl; waits = refl }; held = puts.1; rest = record { base = refl; store = refl } };
-      known = λ k at'. (λ (e : Changed ≡ Unchanged). absurd (cc), λ it. absurd (unknown k at' it));
+      means = takes (state_of b hs base store) (state_of b hs' base store) r
+          (record { book = refl; held = puts.1; rest = record { base = refl; store = refl } });
+      stores = λ e. record { book = refl; held = puts.1; rest = record { base = refl; store = refl } };
+      known = (λ (e : Changed ≡ Unchanged). absurd (cc), λ it. absurd (unknown it));
       idle = λ (e : Changed ≡ Unchanged). absurd (cc);
-      refuses = λ k why at so. absurd (none k why at so);
+      refuses = λ why so. absurd (none why so);
       refused = tt;
       memory = tt;
       back = tt;
       unchanged = tt;
     })
   where
-    unknown : (k : ℕ) → IsCompleteEpoch b.cuts k → IsKnown (state_of b hs base store) k (Record r) → ⊥
-    unknown k at it = ⊎_elim (λ d. compared k at (inl d)) (λ rest. ⊎_elim (λ h. puts.0 r h (refl, refl)) (λ settled. compared k at (inr settled)) rest) it
+    unknown : IsKnown (state_of b hs base store) (Record r) → ⊥
+    unknown it = ⊎_elim (λ d. compared (inl d)) (λ rest. ⊎_elim (λ h. puts.0 r h (refl, refl)) (λ settled. compared (inr settled)) rest) it
 
-    none : (k : ℕ) (why : Refusal) → IsCompleteEpoch b.cuts k → Refuses (state_of b hs base store) k (Record r) why → ⊥
-    none k (OtherRoster own shown) h so = so
-    none k (OtherCut d) h so = so
-    none k (Contradiction held') h so = so
-    none k OtherRecord h so = puts.0 so.1.0 so.1.1 (so.1.2, so.1.3)
-    none k Memory h so = so
-put_exact takes knows b hs hs' base store r (Ok put.Known) result held complete at compared puts refused same is =
+    none : (why : Refusal) → Refuses (state_of b hs base store) (Record r) why → ⊥
+    none (OtherRoster own shown) so = so
+    none (OtherCut d) so = so
+    none (Contradiction held') so = so
+    none OtherRecord so = puts.0 so.1.0 so.1.1 (so.1.2, so.1.3)
+    none Memory so = so
+put_exact takes knows b hs hs' base store r (Ok put.Known) result held compared puts refused same is =
     subst (λ x. TakesExactly (state_of b hs base store) (Record r) x (state_of b hs' base store)) (sym is)
     (subst (λ hs'. TakesExactly (state_of b hs base store) (Record r) (Ok Unchanged) (state_of b hs' base store)) (sym puts.1) (record {
-      means = knows (state_of b hs base store) complete (Record r) at (inr (inl puts.0));
+      means = knows (state_of b hs base store) (Record r) (inr (inl puts.0));
       stores = λ (e : Unchanged ≡ Changed). absurd (cc);
-      known = λ k at'. (λ e. inr (inl puts.0), λ it. refl);
+      known = (λ e. inr (inl puts.0), λ it. refl);
       idle = λ e. refl;
-      refuses = λ k why at so. absurd (none k why at so);
+      refuses = λ why so. absurd (none why so);
       refused = tt;
       memory = tt;
       back = tt;
       unchanged = tt;
     }))
   where
-    none : (k : ℕ) (why : Refusal) → IsCompleteEpoch b.cuts k → Refuses (state_of b hs base store) k (Record r) why → ⊥
-    none k (OtherRoster own shown) h so = so
-    none k (OtherCut d) h so = so
-    none k (Contradiction held') h so = so
-    none k OtherRecord h so = so.1.4 (one_per_key hs so.1.0 r (subst (λ x. IsHeld x) puts.1 held) so.1.1 puts.0 so.1.2 so.1.3)
-    none k Memory h so = so
-put_exact takes knows b hs hs' base store r (Err e) result held complete at compared puts refused same is =
+    none : (why : Refusal) → Refuses (state_of b hs base store) (Record r) why → ⊥
+    none (OtherRoster own shown) so = so
+    none (OtherCut d) so = so
+    none (Contradiction held') so = so
+    none OtherRecord so = so.1.4 (one_per_key hs so.1.0 r (subst (λ x. IsHeld x) puts.1 held) so.1.1 puts.0 so.1.2 so.1.3)
+    none Memory so = so
+put_exact takes knows b hs hs' base store r (Err e) result held compared puts refused same is =
     subst (λ x. TakesExactly (state_of b hs base store) (Record r) x (state_of b hs' base store)) (sym is) (record {
       means = tt;
       stores = tt;
       known = tt;
       idle = tt;
-      refuses = λ k why at' so. why_is e.fault refused.1 k why at' so;
+      refuses = λ why so. why_is e.fault refused.1 why so;
       refused = why_refused e.fault refused.1;
       memory = λ m. new_record e.fault refused.1 m;
       back = ap (λ x. Record x) refused.0;
       unchanged = ap (λ x. state_of b x base store) same;
     })
   where
-    why_is : (f : PutFault) → RefusesPut hs r f → (k : ℕ) (why : Refusal) → IsCompleteEpoch b.cuts k → Refuses (state_of b hs base store) k (Record r) why → put_refusal_of f ≡ why
-    why_is f it k (OtherRoster own shown) h so = absurd so
-    why_is f it k (OtherCut d) h so = absurd so
-    why_is f it k (Contradiction held') h so = absurd so
-    why_is fault.OtherRecord it k OtherRecord h so = refl
-    why_is fault.Memory it k OtherRecord h so = absurd (it so.1.0 so.1.1 (so.1.2, so.1.3))
-    why_is f it k Memory h so = absurd so
+    why_is : (f : PutFault) → RefusesPut hs r f → (why : Refusal) → Refuses (state_of b hs base store) (Record r) why → put_refusal_of f ≡ why
+    why_is f it (OtherRoster own shown) so = absurd so
+    why_is f it (OtherCut d) so = absurd so
+    why_is f it (Contradiction held') so = absurd so
+    why_is fault.OtherRecord it OtherRecord so = refl
+    why_is fault.Memory it OtherRecord so = absurd (it so.1.0 so.1.1 (so.1.2, so.1.3))
+    why_is f it Memory so = absurd so
 
     new_record : (f : PutFault) → RefusesPut hs r f → put_refusal_of f ≡ Memory → IsNew (state_of b hs base store) (Record r)
     new_record fault.OtherRecord it = λ (m : OtherRecord ≡ Memory). absurd (cc)
-    new_record fault.Memory it = λ m k at known.
-        ⊎_elim (λ d. compared k at (inl d)) (λ rest. ⊎_elim (λ h. it r h (refl, refl)) (λ settled. compared k at (inr settled)) rest) known
+    new_record fault.Memory it = λ m known.
+        ⊎_elim (λ d. compared (inl d)) (λ rest. ⊎_elim (λ h. it r h (refl, refl)) (λ settled. compared (inr settled)) rest) known
 
-    why_refused : (f : PutFault) → RefusesPut hs r f → (put_refusal_of f ≡ Memory) ⊎ ((k : ℕ) × IsCompleteEpoch b.cuts k × Refuses (state_of b hs base store) k (Record r) (put_refusal_of f))
-    why_refused fault.OtherRecord it = inr (complete, at, (compared complete at, (it.0, it.1, it.2.0, it.2.1, it.3)))
+    why_refused : (f : PutFault) → RefusesPut hs r f → (put_refusal_of f ≡ Memory) ⊎ Refuses (state_of b hs base store) (Record r) (put_refusal_of f)
+    why_refused fault.OtherRecord it = inr (compared, (it.0, it.1, it.2.0, it.2.1, it.3))
     why_refused fault.Memory it = inl refl
 
 -- ---- what a take tells of the facts that the segment means
 pub tells_change : UnchangedExactly → (old : State) (fact : Fact) (t : Taken)
-    → ((roster : ℕ) (log facts : List Fact) → Means roster log facts old → (k : ℕ) × IsCompleteEpoch old.cuts k) → TellsKnown old fact t
-    → TellsChange old fact t
-tells_change law old fact Unchanged epoch known = λ roster log facts m sound among means is.
-    let k = epoch roster log facts means in
-    (λ e. (law old k.0 fact k.1).0 ((known k.0 k.1).0 refl) roster log facts m sound among means is, λ it. refl)
-tells_change law old fact Changed epoch known = λ roster log facts m sound among means is.
-    let k = epoch roster log facts means in (
-      λ (e : Changed ≡ Unchanged). absurd (cc),
-      λ it. absurd ((law old k.0 fact k.1).1 (λ h. let e : Changed ≡ Unchanged = (known k.0 k.1).1 h in cc) roster log facts m sound among means is it),
-    )
+    → TellsKnown old fact t → TellsChange old fact t
+tells_change law old fact Unchanged known = λ roster log facts m sound among means is.
+    (λ e. (law old fact).0 (known.0 refl) roster log facts m sound among means is, λ it. refl)
+tells_change law old fact Changed known = λ roster log facts m sound among means is. (
+  λ (e : Changed ≡ Unchanged). absurd (cc),
+  λ it. absurd ((law old fact).1 (λ h. let e : Changed ≡ Unchanged = known.1 h in cc) roster log facts m sound among means is it),
+)
 
-refuses_conflicts : (s : State) (k : ℕ) (fact : Fact) (why : Refusal) → Refuses s k fact why → Conflicts s k fact
-refuses_conflicts s k (Cut c) (OtherRoster own shown) r = absurd r
-refuses_conflicts s k (Cut c) (OtherCut d) r = inl (d, r.0, r.1, r.2)
-refuses_conflicts s k (Cut c) (Contradiction (held.Min m)) r = inr (λ h. r.0 c h refl, inl (subst (λ n. c.lo < n) r.1 r.2))
-refuses_conflicts s k (Cut c) (Contradiction (held.Advance a)) r = inr (λ h. r.0 c h refl, inr (λ reader i. r.2 reader i (λ z. let positive : 1 ≤ reader = i.0 in absurd (omega arith))))
-refuses_conflicts s k (Cut c) (Contradiction (held.Cut d)) r = absurd r
-refuses_conflicts s k (Cut c) OtherRecord r = absurd r
-refuses_conflicts s k (Cut c) Memory r = absurd r
-refuses_conflicts s k (Advance a) (OtherRoster own shown) r = inl r.2
-refuses_conflicts s k (Advance a) (OtherCut d) r = absurd r
-refuses_conflicts s k (Advance a) (Contradiction (held.Min m)) r = absurd r
-refuses_conflicts s k (Advance a) (Contradiction (held.Advance w)) r = absurd r
-refuses_conflicts s k (Advance a) (Contradiction (held.Cut d)) r = let first = r.1.has in inr (d, first.0, first.1.0.0, first.1.0.1, first.1.1)
-refuses_conflicts s k (Advance a) OtherRecord r = absurd r
-refuses_conflicts s k (Advance a) Memory r = absurd r
-refuses_conflicts s k (Record x) (OtherRoster own shown) r = absurd r
-refuses_conflicts s k (Record x) (OtherCut d) r = absurd r
-refuses_conflicts s k (Record x) (Contradiction held) r = absurd r
-refuses_conflicts s k (Record x) OtherRecord r = r.1
-refuses_conflicts s k (Record x) Memory r = absurd r
+pub refuses_conflicts : (s : State) (fact : Fact) (why : Refusal) → Refuses s fact why → Conflicts s fact
+refuses_conflicts s (Cut c) (OtherRoster own shown) r = absurd r
+refuses_conflicts s (Cut c) (OtherCut d) r = inl (d, r.0, r.1, r.2)
+refuses_conflicts s (Cut c) (Contradiction (held.Min m)) r = inr (λ h. r.0 c h refl, inl (subst (λ n. c.lo < n) r.1 r.2))
+refuses_conflicts s (Cut c) (Contradiction (held.Advance a)) r = inr (λ h. r.0 c h refl, inr r.2)
+refuses_conflicts s (Cut c) (Contradiction (held.Cut d)) r = absurd r
+refuses_conflicts s (Cut c) OtherRecord r = absurd r
+refuses_conflicts s (Cut c) Memory r = absurd r
+refuses_conflicts s (Advance a) (OtherRoster own shown) r = inl r.2
+refuses_conflicts s (Advance a) (OtherCut d) r = absurd r
+refuses_conflicts s (Advance a) (Contradiction (held.Min m)) r = absurd r
+refuses_conflicts s (Advance a) (Contradiction (held.Advance w)) r = absurd r
+refuses_conflicts s (Advance a) (Contradiction (held.Cut d)) r = inr (d, r.1.has.0, r.1.has.1)
+refuses_conflicts s (Advance a) OtherRecord r = absurd r
+refuses_conflicts s (Advance a) Memory r = absurd r
+refuses_conflicts s (Record x) (OtherRoster own shown) r = absurd r
+refuses_conflicts s (Record x) (OtherCut d) r = absurd r
+refuses_conflicts s (Record x) (Contradiction held) r = absurd r
+refuses_conflicts s (Record x) OtherRecord r = r.1
+refuses_conflicts s (Record x) Memory r = absurd r
 
 pub refused_soundly : NoConflict → (old : State) (fact : Fact) (why : Refusal)
-    → (why ≡ Memory) ⊎ ((k : ℕ) × IsCompleteEpoch old.cuts k × Refuses old k fact why) → FitsSoundLog old fact → why ≡ Memory
-refused_soundly law old fact why it fits = ⊎_elim (λ (m : why ≡ Memory). m) (λ r. absurd (law fits.0 fits.1 fits.2 old r.0 fact fits.3 fits.4 fits.5 r.1 (refuses_conflicts old r.0 fact why r.2))) it
+    → (why ≡ Memory) ⊎ Refuses old fact why → FitsSoundLog old fact → why ≡ Memory
+refused_soundly law old fact why it fits = ⊎_elim (λ (m : why ≡ Memory). m)
+    (λ r. absurd (law fits.0 fits.1 fits.2 old fact fits.3 fits.4 fits.5 (refuses_conflicts old fact why r))) it
 
 pub take_tells : UnchangedExactly → (old : State) (fact : Fact) (result : Result Taken (Refused Fact Refusal))
-    → ((roster : ℕ) (log facts : List Fact) → Means roster log facts old → (k : ℕ) × IsCompleteEpoch old.cuts k) → IfOk result (TellsKnown old fact)
-    → IfOk result (TellsChange old fact)
-take_tells law old fact (Ok t) epoch known = tells_change law old fact t epoch known
-take_tells law old fact (Err e) epoch known = tt
+    → IfOk result (TellsKnown old fact) → IfOk result (TellsChange old fact)
+take_tells law old fact (Ok t) known = tells_change law old fact t known
+take_tells law old fact (Err e) known = tt
 
 pub take_sound : NoConflict → (old : State) (fact : Fact) (result : Result Taken (Refused Fact Refusal))
-    → IfErr result (λ e. (e.fault ≡ Memory) ⊎ ((k : ℕ) × IsCompleteEpoch old.cuts k × Refuses old k fact e.fault))
+    → IfErr result (λ e. (e.fault ≡ Memory) ⊎ Refuses old fact e.fault)
     → IfErr result (λ e. FitsSoundLog old fact → e.fault ≡ Memory)
 take_sound law old fact (Ok t) refused = tt
 take_sound law old fact (Err e) refused = refused_soundly law old fact e.fault refused

@@ -1,10 +1,9 @@
--- A segment as its book, its held records, its base point and its base images, and how their answers become its own.
-use Rattle.std.specs.Prelude.{◌≡◌, ℕ, List, Result, Ok, Err}
+-- How the answers of a book and of held records become a segment's own.
+use Rattle.std.specs.Prelude.{◌≡◌, Result, Ok, Err}
 use Rattle.redo_core.specs.Data.{RecordData}
 use Rattle.redo_core.specs.declared.facts.Fact.{Fact}
 use Rattle.redo_core.specs.declared.facts.Fact.TheVariants.{Record}
 use Rattle.redo_core.specs.declared.refusal.Refused.{Refused}
-use Rattle.epoch_book.specs.Book.{BookData}
 use Rattle.epoch_book.specs.declared.refusals.Learnt.{Learnt}
 use Rattle.epoch_book.specs.declared.refusals.Learnt.TheVariants as learnt
 use Rattle.epoch_book.specs.declared.refusals.BookRefusal.{BookRefusal}
@@ -13,15 +12,10 @@ use Rattle.hot_log.specs.declared.log.Put.{Put}
 use Rattle.hot_log.specs.declared.log.Put.TheVariants as put
 use Rattle.hot_log.specs.declared.log.PutFault.{PutFault}
 use Rattle.hot_log.specs.declared.log.PutFault.TheVariants as fault
-use Rattle.segment_state.specs.State.{State, Store}
 use Rattle.segment_core.specs.declared.answers.Taken.{Taken}
 use Rattle.segment_core.specs.declared.answers.Taken.TheVariants.{Changed, Unchanged}
 use Rattle.segment_core.specs.declared.answers.Refusal.{Refusal}
 use Rattle.segment_core.specs.declared.answers.Refusal.TheVariants.{OtherRoster, OtherCut, Contradiction, OtherRecord, Memory}
-
--- the state of a segment with this book, these held records, this base point and these images
-abbrev pub state_of : BookData → List RecordData → ℕ → Store → State
-state_of b held base store = record { cuts = b.cuts; points = b.points; waits = b.waits; held = held; base = base; store = store }
 
 abbrev pub refusal_of : BookRefusal → Refusal
 refusal_of (book.OtherRoster own shown) = OtherRoster own shown

@@ -2,7 +2,6 @@
 use Rattle.std.specs.Prelude.{◌≡◌, ℕ, false, ◌<◌, ◌≤◌, ◌⊎◌, ◌↔◌, List, Result, Err}
 use Rattle.std.specs.List.{Contains}
 use Rattle.redo_core.specs.Data.{RecordData}
-use Rattle.redo_core.specs.CompleteEpoch.{IsCompleteEpoch}
 use Rattle.redo_core.specs.Standing.{IsAlive}
 use Rattle.segment_state.specs.State.{State, min_of, version_of}
 use Rattle.segment_state.specs.HasMeaning.{IsLinkedIn, HasComplete}
@@ -10,40 +9,41 @@ use Rattle.segment_core.specs.declared.answers.ReadFault.{ReadFault}
 use Rattle.segment_core.specs.declared.answers.ReadFault.TheVariants.{BrokenBlockChain}
 
 -- n is known to be linked: nothing is missing up to the base point, and from there on the held records link it
-abbrev pub IsKnownLinked : State → ℕ → ℕ → Type 0
-IsKnownLinked s k n = (n ≤ s.base) ⊎ IsLinkedIn s k n
+abbrev pub IsKnownLinked : State → ℕ → Type 0
+IsKnownLinked s n = (n ≤ s.base) ⊎ IsLinkedIn s n
 
 -- r is a linked record of the page, with a number at most q
-abbrev pub IsLinkedOf : State → ℕ → ℕ → ℕ → RecordData → Type 0
-IsLinkedOf s k page q r = Contains s.held r × IsAlive s.cuts k r.epoch r.number × IsKnownLinked s k r.number × (r.page ≡ page) × (r.number ≤ q)
+abbrev pub IsLinkedOf : State → ℕ → ℕ → RecordData → Type 0
+IsLinkedOf s page q r = Contains s.held r × IsAlive s.book.cuts s.book.complete r.epoch r.number × IsKnownLinked s r.number × (r.page ≡ page) × (r.number ≤ q)
 
 -- the records on the walk down the block backlinks, from a first one to the version of the page's image, or to a record with `init`
-pub data OnBlockChain (s : State) (k page q : ℕ) (first : RecordData) : RecordData → Type 0 where
-  start : OnBlockChain s k page q first first
-  down : (r below : RecordData) → OnBlockChain s k page q first r → r.init ≡ false → version_of s.store page < r.block_back → IsLinkedOf s k page q below → below.number ≡ r.block_back → OnBlockChain s k page q first below
+pub data OnBlockChain (s : State) (page q : ℕ) (first : RecordData) : RecordData → Type 0 where
+  start : OnBlockChain s page q first first
+  down : (r below : RecordData) → OnBlockChain s page q first r → r.init ≡ false → version_of s.store page < r.block_back → IsLinkedOf s page q below
+      → below.number ≡ r.block_back → OnBlockChain s page q first below
 
 -- on that walk, n is the number of a record without `init` whose block backlink leads nowhere
-pub record BreaksFrom (s : State) (k page q : ℕ) (first : RecordData) (n : ℕ) : Type 0 where
+pub record BreaksFrom (s : State) (page q : ℕ) (first : RecordData) (n : ℕ) : Type 0 where
   pub at : RecordData
-  pub on : OnBlockChain s k page q first at
+  pub on : OnBlockChain s page q first at
   pub follows : at.init ≡ false
   pub above : version_of s.store page < at.block_back
-  pub nowhere : (below : RecordData) → IsLinkedOf s k page q below → below.number ≡ at.block_back → ⊥
+  pub nowhere : (below : RecordData) → IsLinkedOf s page q below → below.number ≡ at.block_back → ⊥
   pub number : at.number ≡ n
 
 -- the walk begins at the last linked record of the page up to q
-pub record BreaksAt (s : State) (k page q n : ℕ) : Type 0 where
+pub record BreaksAt (s : State) (page q n : ℕ) : Type 0 where
   pub first : RecordData
-  pub linked : IsLinkedOf s k page q first
-  pub greatest : (other : RecordData) → IsLinkedOf s k page q other → other.number ≤ first.number
-  pub breaks : BreaksFrom s k page q first n
+  pub linked : IsLinkedOf s page q first
+  pub greatest : (other : RecordData) → IsLinkedOf s page q other → other.number ≤ first.number
+  pub breaks : BreaksFrom s page q first n
 
 -- the point q is one at which the state is read: from its minimum read point to its complete point
-abbrev pub IsReadable : State → ℕ → ℕ → Type 0
-IsReadable s k q = (min_of s ≤ q) × ((complete : ℕ) × HasComplete s k complete × (q ≤ complete))
+abbrev pub IsReadable : State → ℕ → Type 0
+IsReadable s q = (min_of s ≤ q) × ((complete : ℕ) × HasComplete s complete × (q ≤ complete))
 
 -- a broken block chain is answered exactly where a readable point has one, over any facts
 abbrev pub TellsBreak : State → ℕ → ℕ → Result (List ℕ) ReadFault → Type 0
 TellsBreak s page q result =
-    (k g n : ℕ) → IsCompleteEpoch s.cuts k
-    → (result ≡ Err (BrokenBlockChain g n)) ↔ ((g ≡ page) × IsReadable s k q × BreaksAt s k page q n)
+    (g n : ℕ)
+    → (result ≡ Err (BrokenBlockChain g n)) ↔ ((g ≡ page) × IsReadable s q × BreaksAt s page q n)

@@ -1,6 +1,5 @@
 -- All that a take does, over any facts and for the facts that the segment means.
-use Rattle.std.specs.Prelude.{◌≡◌, ℕ, ◌⊎◌, Result, OnOk, OnErr, IfOk, IfErr, IsErrAnd}
-use Rattle.redo_core.specs.CompleteEpoch.{IsCompleteEpoch}
+use Rattle.std.specs.Prelude.{◌≡◌, ◌⊎◌, Result, OnOk, OnErr, IfOk, IfErr, IsErrAnd}
 use Rattle.redo_core.specs.declared.facts.Fact.{Fact}
 use Rattle.redo_core.specs.declared.refusal.Refused.{Refused}
 use Rattle.segment_state.specs.State.{State}
@@ -17,8 +16,8 @@ pub record TakesExactly (old : State) (fact : Fact) (result : Result Taken (Refu
   pub known : IfOk result (TellsKnown old fact)
   pub stores : IfOk result (λ taken. taken ≡ Changed → Stores old fact new)
   pub idle : IfOk result (λ taken. taken ≡ Unchanged → new ≡ old)
-  pub refuses : (k : ℕ) (why : Refusal) → IsCompleteEpoch old.cuts k → Refuses old k fact why → IsErrAnd result (λ e. e.fault ≡ why)
-  pub refused : IfErr result (λ e. (e.fault ≡ Memory) ⊎ ((k : ℕ) × IsCompleteEpoch old.cuts k × Refuses old k fact e.fault))
+  pub refuses : (why : Refusal) → Refuses old fact why → IsErrAnd result (λ e. e.fault ≡ why)
+  pub refused : IfErr result (λ e. (e.fault ≡ Memory) ⊎ Refuses old fact e.fault)
   pub memory : IfErr result (λ e. e.fault ≡ Memory → IsNew old fact)
   pub back : IfErr result (λ e. e.value ≡ fact)
   pub unchanged : OnErr result (new ≡ old)

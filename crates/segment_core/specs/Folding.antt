@@ -1,6 +1,5 @@
 -- A page folded to the anchor, and its commit.
 use Rattle.std.specs.Prelude.{◌≡◌, ℕ, ◌<◌, ◌≤◌, List, Result, Ok, Err, IsErrAnd}
-use Rattle.redo_core.specs.CompleteEpoch.{IsCompleteEpoch}
 use Rattle.redo_core.specs.Position.{Position}
 use Rattle.redo_core.specs.PageAt.{IsPageAt}
 use Rattle.redo_core.specs.declared.facts.Fact.{Fact}
@@ -29,21 +28,21 @@ IsPlanResult facts p page (Ok folded) = IsFoldOf facts p page folded
 IsPlanResult facts p page (Err fault) = fault ≡ Memory
 
 -- the page that the state itself shows at its anchor, over any facts
-pub record FoldsPage (s : State) (k page : ℕ) (folded : Folded) : Type 0 where
+pub record FoldsPage (s : State) (page : ℕ) (folded : Folded) : Type 0 where
   pub page_is : folded.page ≡ page
-  pub version_is : HasAnchor s k folded.version
-  pub image_is : Shows s k page folded.version folded.image
+  pub version_is : HasAnchor s folded.version
+  pub image_is : Shows s page folded.version folded.image
 
 -- the block chain of a page is broken at the record n at or below the anchor
-abbrev pub BreaksBelowAnchor : State → ℕ → ℕ → ℕ → Type 0
-BreaksBelowAnchor s k page n = (anchor : ℕ) × HasAnchor s k anchor × BreaksAt s k page anchor n
+abbrev pub BreaksBelowAnchor : State → ℕ → ℕ → Type 0
+BreaksBelowAnchor s page n = (anchor : ℕ) × HasAnchor s anchor × BreaksAt s page anchor n
 
 -- a plan is made of the page at the anchor, exactly where its block chain is whole there and memory is not wanting
-abbrev pub PlansFold : State → ℕ → ℕ → Result Folded ReadFault → Type 0
-PlansFold s k page (Ok folded) = FoldsPage s k page folded × ((n : ℕ) → BreaksBelowAnchor s k page n → ⊥)
-PlansFold s k page (Err (BrokenBlockChain g n)) = (g ≡ page) × BreaksBelowAnchor s k page n
-PlansFold s k page (Err Memory) = (n : ℕ) → BreaksBelowAnchor s k page n → ⊥
-PlansFold s k page (Err fault) = ⊥
+abbrev pub PlansFold : State → ℕ → Result Folded ReadFault → Type 0
+PlansFold s page (Ok folded) = FoldsPage s page folded × ((n : ℕ) → BreaksBelowAnchor s page n → ⊥)
+PlansFold s page (Err (BrokenBlockChain g n)) = (g ≡ page) × BreaksBelowAnchor s page n
+PlansFold s page (Err Memory) = (n : ℕ) → BreaksBelowAnchor s page n → ⊥
+PlansFold s page (Err fault) = ⊥
 
 -- a page takes the image where its version is above the page's own, and no other image is stored; else nothing changes
 pub record Commits (old : State) (folded : Folded) (new : State) : Type 0 where
@@ -53,11 +52,11 @@ pub record Commits (old : State) (folded : Folded) (new : State) : Type 0 where
 
 -- why a fold is not committed: its version is above the anchor, or it is above the page's own and memory is wanting
 abbrev pub RefusesCommit : State → Folded → CommitFault → Type 0
-RefusesCommit old folded (commit.Ahead version anchor) = (version ≡ folded.version) × (anchor < version) × ((k : ℕ) → IsCompleteEpoch old.cuts k → HasAnchor old k anchor)
+RefusesCommit old folded (commit.Ahead version anchor) = (version ≡ folded.version) × (anchor < version) × HasAnchor old anchor
 RefusesCommit old folded commit.Memory = version_of old.store folded.page < folded.version
 
 -- a version above the anchor is refused as such
 abbrev pub RefusesAhead : State → Folded → Result Unit (Refused Folded CommitFault) → Type 0
 RefusesAhead old folded result =
-    (k anchor : ℕ) → IsCompleteEpoch old.cuts k → HasAnchor old k anchor → anchor < folded.version
+    (anchor : ℕ) → HasAnchor old anchor → anchor < folded.version
     → IsErrAnd result (λ e. e.fault ≡ commit.Ahead folded.version anchor)

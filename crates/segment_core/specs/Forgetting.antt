@@ -2,13 +2,12 @@
 use Rattle.std.specs.Prelude.{◌≡◌, ◌≢◌, ℕ, ◌≤◌, ◌⊎◌, ◌↔◌, max, List, Result, Err}
 use Rattle.std.specs.List.{Contains}
 use Rattle.redo_core.specs.Data.{RecordData}
-use Rattle.redo_core.specs.CompleteEpoch.{IsCompleteEpoch}
 use Rattle.redo_core.specs.Standing.{IsAlive}
 use Rattle.redo_core.specs.Position.{Position}
 use Rattle.redo_core.specs.Sound.{IsSound}
 use Rattle.redo_core.specs.Meaning.{IsKept}
 use Rattle.redo_core.specs.declared.facts.Fact.{Fact}
-use Rattle.segment_state.specs.State.{State, Store, StoredImage, SameBook, version_of, image_of}
+use Rattle.segment_state.specs.State.{State, Store, StoredImage, state_of, version_of, image_of}
 use Rattle.segment_state.specs.Shows.{Shows}
 use Rattle.page_base.specs.Raising.{SamePage}
 use Rattle.segment_state.specs.Means.{MeansAt, Means}
@@ -19,25 +18,25 @@ use Rattle.segment_core.specs.declared.answers.ReadFault.{ReadFault}
 use Rattle.segment_core.specs.declared.answers.ReadFault.TheVariants.{BrokenBlockChain, Memory}
 
 -- an alive record at or below a base point that its page's image has
-abbrev pub IsFoldedBelow : State → ℕ → ℕ → RecordData → Type 0
-IsFoldedBelow s k base r = IsAlive s.cuts k r.epoch r.number × (r.number ≤ base) × (r.number ≤ version_of s.store r.page)
+abbrev pub IsFoldedBelow : State → ℕ → RecordData → Type 0
+IsFoldedBelow s base r = IsAlive s.book.cuts s.book.complete r.epoch r.number × (r.number ≤ base) × (r.number ≤ version_of s.store r.page)
 
 -- the base point is the anchor, and just the records that are folded then are gone
-pub record DiscardsJust (k : ℕ) (old new : State) : Type 0 where
-  pub book : SameBook old new
-  pub base : HasAnchor old k new.base
-  pub held : (r : RecordData) → Contains new.held r ↔ (Contains old.held r × (IsFoldedBelow old k new.base r → ⊥))
+pub record DiscardsJust (old new : State) : Type 0 where
+  pub book : new.book ≡ old.book
+  pub base : HasAnchor old new.base
+  pub held : (r : RecordData) → Contains new.held r ↔ (Contains old.held r × (IsFoldedBelow old new.base r → ⊥))
   pub store : new.store ≡ old.store
 
 -- the state with other base images
 abbrev pub with_store : State → Store → State
-with_store s store = record { cuts = s.cuts; points = s.points; waits = s.waits; held = s.held; base = s.base; store = store }
+with_store s store = state_of s.book s.held s.base store
 
 -- Each page of a held record shows what the state itself shows at the anchor, at that version unless its own is higher. Each other
 -- page stays, and no image is stored but for those pages.
-pub record FoldsImages (s : State) (k anchor : ℕ) (store : Store) : Type 0 where
+pub record FoldsImages (s : State) (anchor : ℕ) (store : Store) : Type 0 where
   pub versions : (r : RecordData) → Contains s.held r → version_of store r.page ≡ max (version_of s.store r.page) anchor
-  pub shown : (r : RecordData) → Contains s.held r → Shows s k r.page anchor (image_of store r.page)
+  pub shown : (r : RecordData) → Contains s.held r → Shows s r.page anchor (image_of store r.page)
   pub others : (page : ℕ) → ((r : RecordData) → Contains s.held r → r.page ≢ page) → SamePage s.store store page
   pub listed : (i : StoredImage) → Contains store.images i → Contains s.store.images i ⊎ ((r : RecordData) × Contains s.held r × (r.page ≡ i.page))
   pub floor : store.floor ≡ s.store.floor
@@ -45,14 +44,14 @@ pub record FoldsImages (s : State) (k anchor : ℕ) (store : Store) : Type 0 whe
 -- base images with which the state means the same, where the pages of held records are folded to the anchor
 pub record FoldsAll (s : State) (store : Store) : Type 0 where
   pub keeps : KeepsMeaning s (with_store s store)
-  pub images : (k anchor : ℕ) → IsCompleteEpoch s.cuts k → HasAnchor s k anchor → FoldsImages s k anchor store
+  pub images : (anchor : ℕ) → HasAnchor s anchor → FoldsImages s anchor store
 
 -- the base point is the anchor, to which the pages of held records are folded, and just the kept records are held
-pub record Tidies (k : ℕ) (old new : State) : Type 0 where
-  pub book : SameBook old new
-  pub base : HasAnchor old k new.base
-  pub images : FoldsImages old k new.base new.store
-  pub held : (r : RecordData) → Contains new.held r ↔ IsKeptBy old k new.base r
+pub record Tidies (old new : State) : Type 0 where
+  pub book : new.book ≡ old.book
+  pub base : HasAnchor old new.base
+  pub images : FoldsImages old new.base new.store
+  pub held : (r : RecordData) → Contains new.held r ↔ IsKeptBy old new.base r
 
 -- they are the kept records of the facts
 abbrev pub HoldsJustKept : State → State → Type 0
@@ -66,21 +65,21 @@ IsSoundState s = (roster : ℕ) × (log facts : List Fact) × IsSound roster log
 
 -- no block chain is broken at or below the anchor
 abbrev pub IsWhole : State → Type 0
-IsWhole s = (k page n : ℕ) → IsCompleteEpoch s.cuts k → BreaksBelowAnchor s k page n → ⊥
+IsWhole s = (page n : ℕ) → BreaksBelowAnchor s page n → ⊥
 
 -- of the pages whose block chain is broken there, this is the least, and its chain is broken at the record n
-pub record IsFirstBreak (s : State) (k page n : ℕ) : Type 0 where
-  pub breaks : BreaksBelowAnchor s k page n
-  pub least : (other m : ℕ) → BreaksBelowAnchor s k other m → page ≤ other
+pub record IsFirstBreak (s : State) (page n : ℕ) : Type 0 where
+  pub breaks : BreaksBelowAnchor s page n
+  pub least : (other m : ℕ) → BreaksBelowAnchor s other m → page ≤ other
 
 -- a broken block chain is answered exactly where there is one, and then of the least page, over any facts
 abbrev pub TellsFirstBreak : State → Result Unit ReadFault → Type 0
 TellsFirstBreak s result =
-    (k page n : ℕ) → IsCompleteEpoch s.cuts k
-    → (result ≡ Err (BrokenBlockChain page n)) ↔ IsFirstBreak s k page n
+    (page n : ℕ)
+    → (result ≡ Err (BrokenBlockChain page n)) ↔ IsFirstBreak s page n
 
 -- why a tidy is refused: the first broken block chain, or, with none broken, want of memory
 abbrev pub RefusesTidy : State → ReadFault → Type 0
-RefusesTidy s (BrokenBlockChain page n) = (k : ℕ) × IsCompleteEpoch s.cuts k × IsFirstBreak s k page n
+RefusesTidy s (BrokenBlockChain page n) = IsFirstBreak s page n
 RefusesTidy s Memory = IsWhole s
 RefusesTidy s fault = ⊥

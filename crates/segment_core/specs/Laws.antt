@@ -1,18 +1,26 @@
--- What a segment has forgotten.
-use Rattle.std.specs.Prelude.{◌≡◌, ℕ, ◌≤◌}
+-- What a raise of an image is for a state, and what a segment has forgotten.
+use Rattle.std.specs.Prelude.{◌≡◌, ℕ, ◌<◌, ◌≤◌, List}
 use Rattle.std.specs.List.{Contains}
 use Rattle.redo_core.specs.Data.{RecordData}
-use Rattle.redo_core.specs.CompleteEpoch.{IsCompleteEpoch}
 use Rattle.redo_core.specs.Standing.{IsAlive}
-use Rattle.segment_state.specs.State.{State}
+use Rattle.page_base.specs.Raising.{Raises}
+use Rattle.segment_state.specs.State.{State, version_of}
+use Rattle.segment_state.specs.Shedding.{CommitsImage}
 use Rattle.segment_state.specs.HasMeaning.{HasAnchor}
 use Rattle.segment_core.specs.declared.fold_plan.Folded.{Folded}
 use Rattle.segment_core.specs.Folding.{Commits}
 use Rattle.segment_core.specs.Forgetting.{DiscardsJust}
 
+-- A raise to a version above the page's own commits the image.
+abbrev pub RaiseCommits : Type 0
+RaiseCommits =
+    (old new : State) (page version : ℕ) (image : List ℕ)
+    → new.book ≡ old.book → new.held ≡ old.held → new.base ≡ old.base → version_of old.store page < version
+    → Raises old.store page version image new.store → CommitsImage old page version image new
+
 -- After a commit up to the anchor and then a discard, no alive record of that page at or below the committed version is held.
 abbrev pub FoldedIsForgotten : Type 0
 FoldedIsForgotten =
-    (k anchor : ℕ) (old committed new : State) (folded : Folded) (r : RecordData)
-    → IsCompleteEpoch old.cuts k → HasAnchor old k anchor → folded.version ≤ anchor → Commits old folded committed → DiscardsJust k committed new
-    → Contains new.held r → r.page ≡ folded.page → r.number ≤ folded.version → IsAlive new.cuts k r.epoch r.number → ⊥
+    (anchor : ℕ) (old committed new : State) (folded : Folded) (r : RecordData)
+    → HasAnchor old anchor → folded.version ≤ anchor → Commits old folded committed → DiscardsJust committed new
+    → Contains new.held r → r.page ≡ folded.page → r.number ≤ folded.version → IsAlive new.book.cuts new.book.complete r.epoch r.number → ⊥

@@ -1,6 +1,5 @@
 -- What a front and a read answer for the facts that a segment means.
 use Rattle.std.specs.Prelude.{◌≡◌, ℕ, ◌<◌, ◌≤◌, ◌↔◌, List, Result, Ok, Err}
-use Rattle.redo_core.specs.CompleteEpoch.{IsCompleteEpoch}
 use Rattle.redo_core.specs.Position.{Position}
 use Rattle.redo_core.specs.Answer.{IsReadAnswer}
 use Rattle.redo_core.specs.Answer.ReadAnswer.{Image as OfImage, Below as OfBelow, Above as OfAbove}
@@ -19,8 +18,8 @@ pub record IsFrontAt (p : Position) (front : Front) : Type 0 where
 
 -- the front that the state tells by itself, over any facts
 pub record IsFrontOf (s : State) (front : Front) : Type 0 where
-  pub epoch : IsCompleteEpoch s.cuts front.epoch
-  pub complete : HasComplete s front.epoch front.complete
+  pub epoch : front.epoch ≡ s.book.complete
+  pub complete : HasComplete s front.complete
   pub min : front.min ≡ min_of s
 
 -- Below or Above, as the facts have it; a sound log breaks no block chain
@@ -38,6 +37,6 @@ IsReadResult facts p page q (Err fault) = IsReadFault facts p page q fault
 -- Below and Above are answered exactly where the state's own minimum and complete point have the point outside, over any facts
 abbrev pub TellsOutside : State → ℕ → Result (List ℕ) ReadFault → Type 0
 TellsOutside s q result =
-    (k complete n : ℕ) → IsCompleteEpoch s.cuts k → HasComplete s k complete
+    (complete n : ℕ) → HasComplete s complete
     → ((result ≡ Err (Below n)) ↔ ((n ≡ min_of s) × (q < min_of s)))
     × ((result ≡ Err (Above n)) ↔ ((n ≡ complete) × (min_of s ≤ q) × (complete < q)))

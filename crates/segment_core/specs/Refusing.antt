@@ -6,7 +6,6 @@ use Rattle.redo_core.specs.Standing.{IsAlive, IsDead}
 use Rattle.redo_core.specs.Sound.{IsSound}
 use Rattle.redo_core.specs.declared.facts.Fact.{Fact}
 use Rattle.redo_core.specs.declared.facts.Fact.TheVariants.{Record, Cut, Advance}
-use Rattle.epoch_book.specs.Book.{BookData, book_of}
 use Rattle.epoch_book.specs.Refusing.{RefusesCut, RefusesAdvance}
 use Rattle.epoch_book.specs.declared.refusals.BookRefusal.TheVariants as book
 use Rattle.segment_state.specs.State.{State}
@@ -15,26 +14,23 @@ use Rattle.segment_state.specs.HasMeaning.{IsSettled}
 use Rattle.segment_core.specs.declared.answers.Refusal.{Refusal}
 use Rattle.segment_core.specs.declared.answers.Refusal.TheVariants.{OtherRoster, OtherCut, Contradiction, OtherRecord}
 
--- the truncations and advances that are stored, in view k
-abbrev pub book_in : ℕ → State → BookData
-book_in k s = book_of s.cuts k s.points s.waits
-
 -- a record that is dead, or alive at or below the anchor, is not compared
-abbrev pub IsDeadOrSettled : State → ℕ → RecordData → Type 0
-IsDeadOrSettled s k r = IsDead s.cuts k r.epoch r.number ⊎ (IsAlive s.cuts k r.epoch r.number × IsSettled s k r.number)
+abbrev pub IsDeadOrSettled : State → RecordData → Type 0
+IsDeadOrSettled s r =
+    IsDead s.book.cuts s.book.complete r.epoch r.number ⊎ (IsAlive s.book.cuts s.book.complete r.epoch r.number × IsSettled s r.number)
 
 -- another record is held under its key
 abbrev pub HoldsOther : State → RecordData → Type 0
 HoldsOther s r = (other : RecordData) × Contains s.held other × (other.epoch ≡ r.epoch) × (other.number ≡ r.number) × (other ≢ r)
 
--- why a fact is refused in view k: what the book refuses, or another record under a key that is compared
-abbrev pub Refuses : State → ℕ → Fact → Refusal → Type 0
-Refuses s k (Cut c) (OtherCut d) = RefusesCut (book_in k s) c (book.OtherCut d)
-Refuses s k (Cut c) (Contradiction held) = RefusesCut (book_in k s) c (book.Contradiction held)
-Refuses s k (Advance a) (OtherRoster own shown) = RefusesAdvance (book_in k s) a (book.OtherRoster own shown)
-Refuses s k (Advance a) (Contradiction held) = RefusesAdvance (book_in k s) a (book.Contradiction held)
-Refuses s k (Record r) OtherRecord = (IsDeadOrSettled s k r → ⊥) × HoldsOther s r
-Refuses s k fact why = ⊥
+-- why a fact is refused: what the book refuses, or another record under a key that is compared
+abbrev pub Refuses : State → Fact → Refusal → Type 0
+Refuses s (Cut c) (OtherCut d) = RefusesCut s.book c (book.OtherCut d)
+Refuses s (Cut c) (Contradiction held) = RefusesCut s.book c (book.Contradiction held)
+Refuses s (Advance a) (OtherRoster own shown) = RefusesAdvance s.book a (book.OtherRoster own shown)
+Refuses s (Advance a) (Contradiction held) = RefusesAdvance s.book a (book.Contradiction held)
+Refuses s (Record r) OtherRecord = (IsDeadOrSettled s r → ⊥) × HoldsOther s r
+Refuses s fact why = ⊥
 
 -- the fact stands in a sound log, and the state means a part of it
 abbrev pub FitsSoundLog : State → Fact → Type 0

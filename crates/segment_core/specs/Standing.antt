@@ -5,7 +5,7 @@ use Rattle.segment_state.specs.State.{State}
 use Rattle.epoch_book.specs.declared.standing.Standing.{Standing}
 use Rattle.epoch_book.specs.declared.standing.Standing.TheVariants.{Alive, Dead, Waiting}
 
-pub record StandsAt (s : State) (k epoch number : ℕ) (standing : Standing) : Type 0 where
-  pub alive : (standing ≡ Alive) ↔ IsAlive s.cuts k epoch number
-  pub dead : (standing ≡ Dead) ↔ IsDead s.cuts k epoch number
-  pub waiting : (standing ≡ Waiting) ↔ IsWaiting k epoch
+pub record StandsAt (s : State) (epoch number : ℕ) (standing : Standing) : Type 0 where
+  pub alive : (standing ≡ Alive) ↔ IsAlive s.book.cuts s.book.complete epoch number
+  pub dead : (standing ≡ Dead) ↔ IsDead s.book.cuts s.book.complete epoch number
+  pub waiting : (standing ≡ Waiting) ↔ IsWaiting s.book.complete epoch

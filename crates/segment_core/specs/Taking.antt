@@ -1,7 +1,6 @@
 -- What a take answers.
 use Rattle.std.specs.Prelude.{◌≡◌, ℕ, ◌↔◌, List, [], ◌∷◌, ◌++◌}
 use Rattle.std.specs.List.{Contains}
-use Rattle.redo_core.specs.CompleteEpoch.{IsCompleteEpoch}
 use Rattle.redo_core.specs.Sound.{IsSound}
 use Rattle.redo_core.specs.Meaning.{Meaning, IsMeaning}
 use Rattle.redo_core.specs.declared.facts.Fact.{Fact}
@@ -9,7 +8,7 @@ use Rattle.redo_core.specs.declared.facts.Fact.TheVariants.{Record, Cut, Advance
 use Rattle.segment_state.specs.State.{State}
 use Rattle.segment_state.specs.Means.{Means}
 use Rattle.segment_state.specs.Known.{IsKnown}
-use Rattle.segment_state.specs.Learning.{LearnsCut, LearnsAdvance, PutsRecord}
+use Rattle.segment_state.specs.Learning.{StoresCut, StoresAdvance, PutsRecord}
 use Rattle.segment_core.specs.declared.answers.Taken.{Taken}
 use Rattle.segment_core.specs.declared.answers.Taken.TheVariants.{Unchanged}
 
@@ -21,14 +20,14 @@ TellsChange old fact taken =
 
 -- It is answered exactly where what is stored tells the fact already, over any facts.
 abbrev pub TellsKnown : State → Fact → Taken → Type 0
-TellsKnown old fact taken = (k : ℕ) → IsCompleteEpoch old.cuts k → (taken ≡ Unchanged) ↔ IsKnown old k fact
+TellsKnown old fact taken = (taken ≡ Unchanged) ↔ IsKnown old fact
 
 -- The fact has joined what is stored: the record is held, the truncation is learnt, or the advance counts or waits.
 abbrev pub Stores : State → Fact → State → Type 0
 Stores old (Record r) new = PutsRecord old r new
-Stores old (Cut c) new = (k : ℕ) × LearnsCut k old c new
-Stores old (Advance a) new = (k : ℕ) × LearnsAdvance k old a new
+Stores old (Cut c) new = StoresCut old c new
+Stores old (Advance a) new = StoresAdvance old a new
 
 -- what is stored does not tell the fact yet
 abbrev pub IsNew : State → Fact → Type 0
-IsNew s fact = (k : ℕ) → IsCompleteEpoch s.cuts k → IsKnown s k fact → ⊥
+IsNew s fact = IsKnown s fact → ⊥

@@ -1,5 +1,4 @@
 ghost use Rattle.std.specs.Prelude.{◌≡◌, ℕ, ◌↔◌, IsTrue, IfOk};
-ghost use Rattle.redo_core.specs.CompleteEpoch.{IsCompleteEpoch};
 ghost use Rattle.segment_state.specs.State.{image_of};
 ghost use Rattle.segment_state.specs.Shows.{Shows};
 ghost use Rattle.segment_core.specs.Comparing.{TellsSamePage};
@@ -30,7 +29,7 @@ impl Segment {
 
     /// Whether the page at a point is its base image: no held record is applied to that.
     fn shows_its_image(&self, page: u16, point: u64) -> bool
-        ensures { IsTrue result → (k : ℕ) → IsCompleteEpoch self.now.cuts k → Shows self.now k page point (image_of self.now.store page) }
+        ensures { IsTrue result → Shows self.now page point (image_of self.now.store page) }
     {
         match self
             .hot

@@ -1,6 +1,5 @@
 ghost use Rattle.std.specs.Prelude.{◌≡◌, ℕ, ◌≤◌, ◌⊎◌, ◌++◌, ◌∷◌, ◌↔◌, [], List, None, Some, IfOk, OnOk, OnErr, IfErr, IsErrAnd, IsTrue, map};
 ghost use Rattle.std.specs.Option.{option_copied};
-ghost use Rattle.redo_core.specs.CompleteEpoch.{IsCompleteEpoch};
 ghost use Rattle.redo_core.specs.Position.{Position};
 ghost use Rattle.redo_core.specs.Sound.{IsSound};
 ghost use Rattle.redo_core.specs.declared.facts.Fact.{Fact as AnyFact};
@@ -20,7 +19,7 @@ ghost use Rattle.hot_log.specs.Held.{IsHeld};
 ghost use Rattle.hot_log.specs.Alive.{IsLinkedHeld};
 ghost use Rattle.hot_log.specs.Found.{IsOnlyRecord};
 ghost use Rattle.segment_core.specs.BlockChain.{BreaksAt, TellsBreak};
-ghost use Rattle.segment_core.specs.Answering.{AnswersBook, AnswersPut, refusal_of, put_refusal_of, state_of};
+ghost use Rattle.segment_core.specs.Answering.{AnswersBook, AnswersPut, refusal_of, put_refusal_of};
 ghost use Rattle.segment_core.specs.Exactly.{TakesExactly};
 ghost use Rattle.segment_core.specs.Reading.{IsFrontAt, IsFrontOf, IsReadResult, TellsOutside};
 ghost use Rattle.segment_core.specs.declared.answers.Refusal.{Refusal as AnyRefusal};
@@ -47,13 +46,12 @@ pub struct Segment {
 }
 
 impl Model for Segment {
-    ghost use Rattle.segment_state.specs.State.{State};
+    ghost use Rattle.segment_state.specs.State.{State, state_of};
     ghost use Rattle.epoch_book.specs.Book.{IsBook};
     ghost use Rattle.std.specs.Prelude.{◌≤◌};
     ghost use Rattle.hot_log.specs.Held.{IsHeld};
     ghost use Rattle.page_base.specs.Stored.{IsStored};
     ghost use Rattle.redo_core.specs.Roster.{least};
-    ghost use Rattle.segment_core.specs.Answering.{state_of};
 
     ghost Value = { State };
 
@@ -105,8 +103,8 @@ impl Segment {
         ensures known { IfOk result (TellsKnown self.old fact) }
         ensures stores { IfOk result (λ taken. taken ≡ ChangedOf → Stores self.old fact self.new) }
         ensures idle { IfOk result (λ taken. taken ≡ UnchangedOf → self.new ≡ self.old) }
-        ensures refuses { (k : ℕ) (why : AnyRefusal) → IsCompleteEpoch self.old.cuts k → Refuses self.old k fact why → IsErrAnd result (λ e. e.fault ≡ why) }
-        ensures refused { IfErr result (λ e. (e.fault ≡ MemoryOf) ⊎ ((k : ℕ) × IsCompleteEpoch self.old.cuts k × Refuses self.old k fact e.fault)) }
+        ensures refuses { (why : AnyRefusal) → Refuses self.old fact why → IsErrAnd result (λ e. e.fault ≡ why) }
+        ensures refused { IfErr result (λ e. (e.fault ≡ MemoryOf) ⊎ Refuses self.old fact e.fault) }
         ensures memory { IfErr result (λ e. e.fault ≡ MemoryOf → IsNew self.old fact) }
         ensures back { IfErr result (λ e. e.value ≡ fact) }
         ensures unchanged { OnErr result (self.new ≡ self.old) }
@@ -130,7 +128,7 @@ impl Segment {
     /// Each reader's point, by reader; the least of them is the minimum read point.
     pub fn points(&self) -> &[u64]
         ensures points { (roster : ℕ) (log facts : List AnyFact) (p : Position) → IsSound roster log → MeansAt roster log facts p self.now → result.now ≡ p.points }
-        ensures own { result.now ≡ self.now.points }
+        ensures own { result.now ≡ self.now.book.points }
         ensures form { IsSegment self.now }
     {
         self.book.points()
@@ -139,7 +137,7 @@ impl Segment {
     /// The greatest linked number that is not above the minimum read point.
     pub fn anchor(&self) -> u64
         ensures anchor { (roster : ℕ) (log facts : List AnyFact) (p : Position) → IsSound roster log → MeansAt roster log facts p self.now → result ≡ p.anchor }
-        ensures own { (k : ℕ) → IsCompleteEpoch self.now.cuts k → HasAnchor self.now k result }
+        ensures own { HasAnchor self.now result }
     {
         self.hot
             .linked_to(&self.book, self.base, self.book.min_point())
@@ -156,7 +154,7 @@ impl Segment {
 
     /// How a record of an epoch and number stands in the segment's view.
     pub fn stands(&self, epoch: u16, number: u64) -> Standing
-        ensures { (k : ℕ) → IsCompleteEpoch self.now.cuts k → StandsAt self.now k epoch number result }
+        ensures { StandsAt self.now epoch number result }
     {
         self.book.stands(epoch, number)
     }
@@ -170,7 +168,7 @@ impl Segment {
     pub fn read(&self, page: u16, point: u64) -> Result<Page, ReadFault>
         ensures result { (roster : ℕ) (log facts : List AnyFact) (p : Position) → IsSound roster log → MeansAt roster log facts p self.now → IsReadResult facts p page point result }
         // Over any facts.
-        ensures own { IfOk result (λ image. (k : ℕ) → IsCompleteEpoch self.now.cuts k → Shows self.now k page point image) }
+        ensures own { IfOk result (λ image. Shows self.now page point image) }
         ensures outside { TellsOutside self.now point result }
         ensures broken { TellsBreak self.now page point result }
     {
@@ -194,7 +192,7 @@ impl Segment {
 
     /// The page's image with its held records up to the point.
     pub(crate) fn page_at(&self, page: u16, point: u64) -> Result<Page, AllocError>
-        ensures { IfOk result (λ image. (k : ℕ) → IsCompleteEpoch self.now.cuts k → Shows self.now k page point image) }
+        ensures { IfOk result (λ image. Shows self.now page point image) }
     {
         let version = self.store.version(page);
         let records = self
@@ -240,13 +238,15 @@ impl Segment {
 
     /// Whether a record is dead, or alive at or below the anchor.
     fn is_dead_or_settled(&self, redo: &Record) -> bool
-        ensures value { (k : ℕ) → IsCompleteEpoch self.now.cuts k → IsTrue result ↔ IsDeadOrSettled self.now k redo.now }
-        ensures epoch { (k : ℕ) × IsCompleteEpoch self.now.cuts k }
+        ensures { IsTrue result ↔ IsDeadOrSettled self.now redo.now }
     {
         match self.book.stands(redo.epoch(), redo.number()) {
             Standing::Dead => true,
             Standing::Waiting => false,
-            Standing::Alive => redo.number() <= self.anchor(),
+            // No anchor is above the minimum read point, so most records need no walk to it.
+            Standing::Alive => {
+                redo.number() <= self.book.min_point() && redo.number() <= self.anchor()
+            }
         }
     }
 

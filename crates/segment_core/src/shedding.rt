@@ -1,5 +1,4 @@
 ghost use Rattle.std.specs.Prelude.{◌≡◌, ℕ, ◌<◌, ◌≤◌, ◌↔◌, List, Some, None, map, IfOk, OnOk, OnErr, IfErr};
-ghost use Rattle.redo_core.specs.CompleteEpoch.{IsCompleteEpoch};
 ghost use Rattle.redo_core.specs.Standing.{IsAlive};
 ghost use Rattle.redo_core.specs.Position.{Position};
 ghost use Rattle.redo_core.specs.Sound.{IsSound};
@@ -32,7 +31,7 @@ impl Segment {
     /// Errors: `BrokenBlockChain` with the record whose block backlink leads nowhere, never over a sound log; `Memory`.
     pub fn plan_fold(&self, page: u16) -> Result<FoldPlan, ReadFault>
         ensures result { (roster : ℕ) (log facts : List AnyFact) (p : Position) → IsSound roster log → MeansAt roster log facts p self.now → IsPlanResult facts p page result }
-        ensures own { (k : ℕ) → IsCompleteEpoch self.now.cuts k → PlansFold self.now k page result }
+        ensures own { PlansFold self.now page result }
     {
         let anchor = self.anchor();
         if let Some(number) = self.broken_link(page, anchor) {
@@ -48,7 +47,7 @@ impl Segment {
     fn plan_at(&self, page: u16, point: u64) -> Result<FoldPlan, AllocError>
         ensures page { IfOk result (λ plan. plan.page ≡ page) }
         ensures version { IfOk result (λ plan. plan.version ≡ point) }
-        ensures image { IfOk result (λ plan. (k : ℕ) → IsCompleteEpoch self.now.cuts k → Shows self.now k page point plan.image) }
+        ensures image { IfOk result (λ plan. Shows self.now page point plan.image) }
     {
         let version = self.store.version(page);
         let held = self
@@ -91,7 +90,7 @@ impl Segment {
     /// memory.
     pub fn discard(&mut self)
         ensures keeps { KeepsMeaning self.old self.new }
-        ensures discards { (k : ℕ) → IsCompleteEpoch self.old.cuts k → DiscardsJust k self.old self.new }
+        ensures discards { DiscardsJust self.old self.new }
     {
         self.base = self.anchor();
         remove_all_folded(&mut self.hot, &self.book, &self.store, self.base);
@@ -105,7 +104,7 @@ impl Segment {
     pub fn tidy(&mut self) -> Result<(), ReadFault>
         ensures keeps { OnOk result (KeepsMeaning self.old self.new) }
         ensures kept { OnOk result (HoldsJustKept self.old self.new) }
-        ensures tidies { OnOk result ((k : ℕ) → IsCompleteEpoch self.old.cuts k → Tidies k self.old self.new) }
+        ensures tidies { OnOk result (Tidies self.old self.new) }
         ensures sound { IfErr result (λ e. IsSoundState self.old → e ≡ MemoryOf) }
         ensures broken { TellsFirstBreak self.old result }
         ensures refused { IfErr result (RefusesTidy self.old) }
@@ -126,7 +125,7 @@ impl Segment {
 
     /// The least page whose block chain is broken at or below the anchor, and the number of the record where it is.
     fn first_break(&self) -> Option<(u16, u64)>
-        ensures first { (k page n : ℕ) → IsCompleteEpoch self.now.cuts k → (result ≡ Some (page, n)) ↔ IsFirstBreak self.now k page n }
+        ensures first { (page n : ℕ) → (result ≡ Some (page, n)) ↔ IsFirstBreak self.now page n }
         ensures none { result ≡ None → IsWhole self.now }
     {
         let point = self.anchor();

@@ -1,20 +1,25 @@
 ghost use Rattle.std.specs.Prelude.{◌≡◌, ℕ, ◌≤◌, map, IfOk, IfErr, OnOk, OnErr};
 ghost use Rattle.std.specs.Option.{option_copied};
 ghost use Rattle.redo_core.specs.Order.{IsRising, CutBefore, AdvanceBefore, RecordBefore, Lists, BeforeByNumber};
-ghost use Rattle.redo_core.specs.CompleteEpoch.{IsCompleteEpoch};
 ghost use Rattle.hot_log.specs.Held.{IsRecordAt, IsKeyAfter};
+ghost use Rattle.hot_log.specs.Alive.{IsHeldOf};
 ghost use Rattle.hot_log.specs.Found.{IsPageAfter};
 ghost use Rattle.page_base.specs.Stored.{IsStored};
 ghost use Rattle.segment_state.specs.State.{min_of, version_of, image_of};
 ghost use Rattle.segment_core.specs.Adopting.{AdoptsBase};
-ghost use Rattle.segment_core.specs.Keys.{key_of, IsAliveOf};
+ghost use Rattle.segment_core.specs.Keys.{key_of};
 
 use crate::segment::Segment;
 use page_base::BaseImage;
 use redo_core::{Advance, Cut, Page, Record, Refused};
-use std::alloc::AllocError;
+use std::alloc::{AllocError, Global};
 
 impl Segment {
+    /// The allocator that the segment takes its memory from.
+    pub fn allocator(&self) -> Global {
+        self.alloc
+    }
+
     /// The keys (epoch and number) of the records held, rising. Its only error is want of memory.
     pub fn stored(&self) -> Result<Vec<(u16, u64)>, AllocError>
         ensures keys { IfOk result (λ v. v.items ≡ map key_of self.now.held) }
@@ -31,16 +36,16 @@ impl Segment {
 
     /// The truncations known, rising by epoch.
     pub fn cuts(&self) -> &[Cut]
-        ensures value { result.now ≡ self.now.cuts }
-        ensures rising { IsRising CutBefore self.now.cuts }
+        ensures value { result.now ≡ self.now.book.cuts }
+        ensures rising { IsRising CutBefore self.now.book.cuts }
     {
         self.book.cuts()
     }
 
     /// The advances that wait for their epoch, rising by epoch, reader and point.
     pub fn waits(&self) -> &[Advance]
-        ensures value { result.now ≡ self.now.waits }
-        ensures rising { IsRising AdvanceBefore self.now.waits }
+        ensures value { result.now ≡ self.now.book.waits }
+        ensures rising { IsRising AdvanceBefore self.now.book.waits }
     {
         self.book.waits()
     }
@@ -66,7 +71,8 @@ impl Segment {
         self.hot.get(epoch, number)
     }
 
-    /// The stored base images, rising by page; a page without one is zeros at the greatest base adopted.
+    /// The stored base images, rising by page; a page without one is zeros at the greatest base
+    /// adopted or floor taken over.
     pub fn pages(&self) -> &[BaseImage]
         ensures value { result.now ≡ self.now.store.images }
         ensures rising { IsStored self.now.store }
@@ -97,7 +103,7 @@ impl Segment {
 
     /// The alive records of a page with a number above `from` and at most `to`, in order. Its only error is want of memory.
     pub fn records_of(&self, page: u16, from: u64, to: u64) -> Result<Vec<&Record>, AllocError>
-        ensures { (k : ℕ) → IsCompleteEpoch self.now.cuts k → IfOk result (λ v. Lists BeforeByNumber (IsAliveOf self.now k page from to) (map (λ x. x.now) v.items)) }
+        ensures { IfOk result (λ v. Lists BeforeByNumber (IsHeldOf self.now.book self.now.held page from to) (map (λ x. x.now) v.items)) }
     {
         self.hot.records_of(self.alloc, &self.book, page, from, to)
     }

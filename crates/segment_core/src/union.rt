@@ -1,9 +1,11 @@
 ghost use Rattle.std.specs.Prelude.{◌≡◌, ◌≤◌, IfOk, OnOk, OnErr};
 ghost use Rattle.segment_state.specs.State.{min_of};
-ghost use Rattle.segment_core.specs.Uniting.{draft_of, Unites};
+ghost use Rattle.segment_core.specs.Uniting.{draft_of, Holds, Unites};
 
 use crate::segment::Segment;
+use hot_log::PutFault;
 use page_base::{BaseImage, BaseStore};
+use redo_core::Record;
 use std::alloc::AllocError;
 
 impl Segment {
@@ -19,6 +21,21 @@ impl Segment {
             base: self.base,
             store: BaseStore::new(self.alloc),
         })
+    }
+
+    /// Holds a record in a draft, whether or not it is settled there, where no record is held under its key; another record that is
+    /// stays. Its only error is want of memory: the draft is then as it was.
+    pub fn hold(&mut self, redo: Record) -> Result<(), AllocError>
+        ensures holds { OnOk result (Holds self.old redo self.new) }
+        ensures unchanged { OnErr result (self.new ≡ self.old) }
+    {
+        match self.hot.put(redo) {
+            Ok(_) => Ok(()),
+            Err(refused) => match refused.fault {
+                PutFault::OtherRecord => Ok(()),
+                PutFault::Memory => Err(AllocError),
+            },
+        }
     }
 
     /// Takes over what a draft of the segment has come to know and hold, raises the base point to `base`, and takes in images:

@@ -1,6 +1,5 @@
 ghost use Rattle.std.specs.Prelude.{◌≡◌, ℕ, ◌<◌, ◌≤◌, ◌↔◌, List, None, Some, IsTrue, false};
 ghost use Rattle.std.specs.Option.{option_copied};
-ghost use Rattle.redo_core.specs.CompleteEpoch.{IsCompleteEpoch};
 ghost use Rattle.redo_core.specs.Position.{Position};
 ghost use Rattle.redo_core.specs.Sound.{IsSound};
 ghost use Rattle.redo_core.specs.declared.facts.Fact.{Fact as AnyFact};
@@ -14,7 +13,7 @@ use redo_core::Record;
 impl Segment {
     /// The number of the record at which the walk down the page's block chain breaks.
     pub(crate) fn broken_link(&self, page: u16, point: u64) -> Option<u64>
-        ensures breaks { (k n : ℕ) → IsCompleteEpoch self.now.cuts k → (result ≡ Some n) ↔ BreaksAt self.now k page point n }
+        ensures breaks { (n : ℕ) → (result ≡ Some n) ↔ BreaksAt self.now page point n }
         ensures sound { (roster : ℕ) (log facts : List AnyFact) (p : Position) → IsSound roster log → MeansAt roster log facts p self.now → point ≤ p.complete → result ≡ None }
     {
         let version = self.store.version(page);
@@ -30,7 +29,7 @@ impl Segment {
 
     /// The last linked record of a page up to a point.
     fn last_linked_of(&self, page: u16, point: u64) -> Option<&Record>
-        ensures { (k : ℕ) → IsCompleteEpoch self.now.cuts k → IsGreatestRecord (IsLinkedOf self.now k page point) (option_copied result) }
+        ensures { IsGreatestRecord (IsLinkedOf self.now page point) (option_copied result) }
     {
         match self
             .hot
@@ -43,7 +42,7 @@ impl Segment {
 
     /// The linked record of a page with this number.
     fn linked_of(&self, page: u16, number: u64) -> Option<&Record>
-        ensures { (k : ℕ) → IsCompleteEpoch self.now.cuts k → IsOnlyRecord (λ r. IsLinkedOf self.now k page number r × (r.number ≡ number)) (option_copied result) }
+        ensures { IsOnlyRecord (λ r. IsLinkedOf self.now page number r × (r.number ≡ number)) (option_copied result) }
     {
         if number <= self.base {
             return self

@@ -9,7 +9,8 @@ use Rattle.segment_core.proofs.shedding.remove_all_folded.Given as goal
 abbrev pub invariant-loop-next : goal.invariant-loop-next
 invariant-loop-next l = record {
   form : IsHeld l.hot;
-  gone : RemovesPassed (λ r. IsAlive l.book.cuts l.book.complete r.epoch r.number × (r.number ≤ l.point) × (r.number ≤ version_of l.store r.page)) l.next l.fn.hot l.hot;
+  gone : RemovesPassed (λ r. IsAlive l.book.cuts l.book.complete r.epoch r.number × (r.number ≤ l.point) × (r.number ≤ version_of l.store r.page)) l.next
+      l.fn.hot l.hot;
 }
 
 abbrev pub decreases-loop-next : goal.decreases-loop-next

@@ -1,5 +1,4 @@
-use Rattle.std.proofs.Common.{◌≡◌, ℕ, true, false, ◌<◌, ◌≤◌, ◌⊎◌, ⊎_elim, Some, None, subst, arith}
-use Rattle.redo_core.specs.CompleteEpoch.{IsCompleteEpoch}
+use Rattle.std.proofs.Common.{◌≡◌, true, false, ◌<◌, ◌≤◌, ◌⊎◌, ⊎_elim, Some, None, subst, arith}
 use Rattle.hot_log.specs.Held.{IsHeld}
 use Rattle.hot_log.specs.Found.{IsOnlyRecord}
 use Rattle.segment_state.specs.State.{State, version_of}
@@ -11,18 +10,17 @@ loop-redo-init c =
     let s = c.args.self.now in
     record {
       version = subst (λ (x : State). c.version-version.result ≡ version_of x.store c.args.page) c.self.view_is c.version-version.ensures;
-      linked = λ k at. (c.in_ok-redo.ensures k at).0;
-      same = λ k n at. walk_begins s k c.args.page c.args.point c.in_ok-redo.redo.now (c.in_ok-redo.ensures k at) n;
+      linked = c.in_ok-redo.ensures.0;
+      same = λ n. walk_begins s c.args.page c.args.point c.in_ok-redo.redo.now c.in_ok-redo.ensures n;
     }
 
 pub loop-redo-smaller : goal.loop-redo-smaller
 loop-redo-smaller c =
-    let epoch = subst (λ (s : State). (k : ℕ) × IsCompleteEpoch s.cuts k) c.self.view_is (c.self.inside.book.complete, c.self.invariant.0.complete) in
     let r = c.loop-redo.redo.now in
     let held = subst (λ (s : State). IsHeld s.held) c.self.view_is c.self.invariant.1 in
-    let lower : r.block_back < r.number = block_lower r (held.shaped r (c.loop-redo.invariant.linked epoch.0 epoch.1).0) in
+    let lower : r.block_back < r.number = block_lower r (held.shaped r c.loop-redo.invariant.linked.0) in
     let back : c.block_back.result ≡ r.block_back = c.block_back.ensures.value in
-    let at : c.in-Some.below.now.number ≡ c.block_back.result = (c.in-Some.ensures epoch.0 epoch.1).0.1 in
+    let at : c.in-Some.below.now.number ≡ c.block_back.result = c.in-Some.ensures.0.1 in
     omega (arith, lower, back, at)
 
 pub loop-redo-preserved : goal.loop-redo-preserved
@@ -30,31 +28,32 @@ loop-redo-preserved c =
     let s = c.args.self.now in let page = c.args.page in let point = c.args.point in
     let r = c.loop-redo.redo.now in let below = c.in-Some.below.now in
     let held = subst (λ (x : State). IsHeld x.held) c.self.view_is c.self.invariant.1 in
-    let step : (k : ℕ) → IsCompleteEpoch s.cuts k → IsBelow s k page point r below = λ k at.
+    let step : IsBelow s page point r below =
     let leads = c.leads_on.ensures.0 c.loop-redo-test.true in
     let back : c.block_back.result ≡ r.block_back = c.block_back.ensures.value in
-    let lower : r.block_back < r.number = block_lower r (held.shaped r (c.loop-redo.invariant.linked k at).0) in
+    let lower : r.block_back < r.number = block_lower r (held.shaped r c.loop-redo.invariant.linked.0) in
     let version : c.version-version.result ≡ version_of s.store page = c.loop-redo.invariant.version in
-    let bound : r.number ≤ point = (c.loop-redo.invariant.linked k at).4 in
-    let found = subst (λ m. IsOnlyRecord (IsLinkedAt s k page m) (Some below)) back (c.in-Some.ensures k at) in
-    walk_goes s k page point r below leads.0 (omega (arith, version, leads.1)) (omega (arith, lower, bound)) found
+    let bound : r.number ≤ point = c.loop-redo.invariant.linked.4 in
+    let found = subst (λ m. IsOnlyRecord (IsLinkedAt s page m) (Some below)) back c.in-Some.ensures in
+    walk_goes s page point r below leads.0 (omega (arith, version, leads.1)) (omega (arith, lower, bound)) found
     in record {
       version = c.loop-redo.invariant.version;
-      linked = λ k at. (step k at).linked;
-      same = λ k n at.
-          let b = breaks_below s k page point r below n (step k at) in
-          let before = c.loop-redo.invariant.same k n at in
+      linked = step.linked;
+      same = λ n.
+          let b = breaks_below s page point r below n step in
+          let before = c.loop-redo.invariant.same n in
           (λ h. b.0 (before.0 h), λ h. before.1 (b.1 h));
     }
 
 breaks : (c : goal.After-number) → TellsLink c.args.self.now c.args.page c.args.point (Some c.number.result)
-breaks c = λ k n at.
+breaks c = λ n.
     let s = c.args.self.now in let page = c.args.page in let point = c.args.point in
     let r = c.loop-redo.redo.now in
     let leads = c.leads_on.ensures.0 c.loop-redo-test.true in
     let version : c.version-version.result ≡ version_of s.store page = c.loop-redo.invariant.version in
-    let none = subst (λ m. IsOnlyRecord (IsLinkedAt s k page m) None) c.block_back.ensures.value (c.in-None.ensures k at) in
-    answers_here s k page point r c.number.result c.number.ensures.value (walk_breaks s k page point r leads.0 (omega (arith, version, leads.1)) none) (λ m. c.loop-redo.invariant.same k m at) n
+    let none = subst (λ m. IsOnlyRecord (IsLinkedAt s page m) None) c.block_back.ensures.value c.in-None.ensures in
+    answers_here s page point r c.number.result c.number.ensures.value
+    (walk_breaks s page point r leads.0 (omega (arith, version, leads.1)) none) c.loop-redo.invariant.same n
 
 pub returns-in-None-clause-breaks : goal.returns-in-None-clause-breaks
 returns-in-None-clause-breaks c = breaks c
@@ -63,7 +62,7 @@ pub returns-in-None-clause-sound : goal.returns-in-None-clause-sound
 returns-in-None-clause-sound c = sound_link c.args.self.now c.args.page c.args.point (Some c.number.result) (breaks c)
 
 pub returns-clause-breaks : goal.returns-clause-breaks
-returns-clause-breaks c = λ k n at.
+returns-clause-breaks c = λ n.
     let s = c.args.self.now in let page = c.args.page in
     let r = c.loop-redo.redo.now in
     let version : c.version-version.result ≡ version_of s.store page = c.loop-redo.invariant.version in
@@ -74,4 +73,4 @@ returns-clause-breaks c = λ k n at.
     let f : c.leads_on.result ≡ false = c.loop-redo-test.false in
     absurd (cc))
     (let t : (r.block_back ≤ version_of s.store page) ⊎ (version_of s.store page < r.block_back) = grind arith in t) in
-    answers_none s k page c.args.point (λ m h. whole_from s k page c.args.point r m ends ((c.loop-redo.invariant.same k m at).0 h)) n
+    answers_none s page c.args.point (λ m h. whole_from s page c.args.point r m ends ((c.loop-redo.invariant.same m).0 h)) n

@@ -1,5 +1,4 @@
 use Rattle.std.proofs.Common.{◌≡◌, ℕ, ◌↔◌}
-use Rattle.redo_core.specs.CompleteEpoch.{IsCompleteEpoch}
 use Rattle.segment_state.specs.State.{version_of}
 use Rattle.segment_core.specs.BlockChain.{IsLinkedOf, BreaksFrom, BreaksAt}
 use Rattle.segment_core.proofs.segment.Segment.broken_link.Given as goal
@@ -8,8 +7,8 @@ use Rattle.segment_core.proofs.segment.Segment.broken_link.Given as goal
 abbrev pub invariant-loop-redo : goal.invariant-loop-redo
 invariant-loop-redo l = record {
   version : l.version ≡ version_of l.self.store l.page;
-  linked : (k : ℕ) → IsCompleteEpoch l.self.cuts k → IsLinkedOf l.self k l.page l.point l.redo;
-  same : (k n : ℕ) → IsCompleteEpoch l.self.cuts k → BreaksAt l.self k l.page l.point n ↔ BreaksFrom l.self k l.page l.point l.redo n;
+  linked : IsLinkedOf l.self l.page l.point l.redo;
+  same : (n : ℕ) → BreaksAt l.self l.page l.point n ↔ BreaksFrom l.self l.page l.point l.redo n;
 }
 
 abbrev pub decreases-loop-redo : goal.decreases-loop-redo

@@ -1,9 +1,7 @@
-use Rattle.std.proofs.Common.{ℕ, ◌≡◌, OnOk, OnErr, IfErr, sym, subst}
-use Rattle.redo_core.specs.CompleteEpoch.{IsCompleteEpoch}
-use Rattle.segment_state.specs.State.{State}
+use Rattle.std.proofs.Common.{◌≡◌, OnOk, OnErr, IfErr, sym, subst}
+use Rattle.segment_state.specs.State.{State, state_of}
 use Rattle.segment_state.specs.HasMeaning.{HasAnchor}
 use Rattle.segment_state.specs.Promises.{KeepsMeaningWith}
-use Rattle.segment_core.specs.Answering.{state_of}
 use Rattle.segment_core.specs.Folding.{Commits, RefusesCommit}
 use Rattle.segment_core.proofs.Committing.{ahead_at, not_ahead, raised, raise_keeps, raise_refused, raise_back, raise_unchanged}
 use Rattle.segment_core.proofs.segment.Segment.commit_fold.Goals as goal
@@ -16,7 +14,8 @@ unfoldable after : goal.After-raise → State
 after c = state_of c.self.inside.book c.self.inside.hot c.self.inside.base c.raise.new.store
 
 pub returns-then-anchor-folded-clause-ahead : goal.returns-then-anchor-folded-clause-ahead
-returns-then-anchor-folded-clause-ahead c = λ k anchor at has above. ahead_at c.args.self.now c.args.folded c.anchor-anchor.result c.anchor-anchor.ensures.own k anchor at has
+returns-then-anchor-folded-clause-ahead c = λ anchor has above. ahead_at c.args.self.now c.args.folded c.anchor-anchor.result c.anchor-anchor.ensures.own anchor
+    has
 
 pub invariant_of-self : goal.invariant_of-self
 invariant_of-self c = (c.self.invariant.0, c.self.invariant.1, c.raise.ensures.form, c.self.invariant.3)
@@ -26,7 +25,8 @@ unfolding before after
 returns-clause-keeps c =
     subst (λ s. OnOk c.raise.result (KeepsMeaningWith s c.args.folded.page c.args.folded.version c.args.folded.image (after c))) c.self.view_is
     (raise_keeps (before c) c.self.inside.store c.raise.new.store c.args.folded c.anchor-anchor.result c.raise.result
-    (subst (λ (s : State). (k : ℕ) → IsCompleteEpoch s.cuts k → HasAnchor s k c.anchor-anchor.result) (sym c.self.view_is) c.anchor-anchor.ensures.own) c.if-anchor-folded.false c.raise.ensures.raises)
+    (subst (λ (s : State). HasAnchor s c.anchor-anchor.result) (sym c.self.view_is) c.anchor-anchor.ensures.own) c.if-anchor-folded.false
+    c.raise.ensures.raises)
 
 pub returns-clause-commits : goal.returns-clause-commits
 unfolding before after

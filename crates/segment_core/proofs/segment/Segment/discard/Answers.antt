@@ -1,9 +1,7 @@
-use Rattle.std.proofs.Common.{ℕ, sym, subst}
-use Rattle.redo_core.specs.CompleteEpoch.{IsCompleteEpoch}
-use Rattle.segment_state.specs.State.{State}
+use Rattle.std.proofs.Common.{sym, subst}
+use Rattle.segment_state.specs.State.{State, state_of}
 use Rattle.segment_state.specs.HasMeaning.{HasAnchor}
 use Rattle.segment_state.specs.Promises.{KeepsMeaning}
-use Rattle.segment_core.specs.Answering.{state_of}
 use Rattle.segment_core.specs.Forgetting.{DiscardsJust}
 use Rattle.segment_core.proofs.OneView.{anchor_low}
 use Rattle.segment_core.proofs.Forget.{discards_just, discards_keep}
@@ -16,17 +14,18 @@ before c = state_of c.self.inside.book c.self.inside.hot c.self.inside.base c.se
 unfoldable after : goal.After-remove_all_folded → State
 after c = state_of c.self.inside.book c.remove_all_folded.new.hot c.anchor-self-inside.result c.self.inside.store
 
-own : (c : goal.After-remove_all_folded) → (k : ℕ) → IsCompleteEpoch (before c).cuts k → HasAnchor (before c) k c.anchor-self-inside.result
+own : (c : goal.After-remove_all_folded) → HasAnchor (before c) c.anchor-self-inside.result
 unfolding before
-own c = subst (λ (s : State). (k : ℕ) → IsCompleteEpoch s.cuts k → HasAnchor s k c.anchor-self-inside.result) (sym c.self.view_is) c.anchor-self-inside.ensures.own
+own c = subst (λ (s : State). HasAnchor s c.anchor-self-inside.result) (sym c.self.view_is) c.anchor-self-inside.ensures.own
 
-just : (c : goal.After-remove_all_folded) → (k : ℕ) → IsCompleteEpoch (before c).cuts k → DiscardsJust k (before c) (after c)
+just : (c : goal.After-remove_all_folded) → DiscardsJust (before c) (after c)
 unfolding before after
-just c = discards_just c.self.inside.book c.self.inside.hot c.remove_all_folded.new.hot c.self.inside.base c.anchor-self-inside.result c.self.inside.store c.self.invariant.0.complete (own c) c.remove_all_folded.ensures.removes
+just c = discards_just c.self.inside.book c.self.inside.hot c.remove_all_folded.new.hot c.self.inside.base c.anchor-self-inside.result c.self.inside.store
+    (own c) c.remove_all_folded.ensures.removes
 
 pub invariant_of-self : goal.invariant_of-self
 unfolding before
-invariant_of-self c = (c.self.invariant.0, c.remove_all_folded.ensures.form, c.self.invariant.2, anchor_low (before c) c.self.inside.book.complete c.anchor-self-inside.result (own c c.self.inside.book.complete c.self.invariant.0.complete))
+invariant_of-self c = (c.self.invariant.0, c.remove_all_folded.ensures.form, c.self.invariant.2, anchor_low (before c) c.anchor-self-inside.result (own c))
 
 pub returns-clause-keeps : goal.returns-clause-keeps
 unfolding before after
@@ -34,4 +33,4 @@ returns-clause-keeps c = subst (λ s. KeepsMeaning s (after c)) c.self.view_is (
 
 pub returns-clause-discards : goal.returns-clause-discards
 unfolding before after
-returns-clause-discards c = subst (λ (s : State). (k : ℕ) → IsCompleteEpoch s.cuts k → DiscardsJust k s (after c)) c.self.view_is (just c)
+returns-clause-discards c = subst (λ (s : State). DiscardsJust s (after c)) c.self.view_is (just c)

@@ -8,7 +8,8 @@ use Rattle.segment_core.proofs.segment.Segment.first_break.Goals as goal
 pub loop-next-init : goal.loop-next-init
 loop-next-init c = record {
   own = c.anchor-point.ensures.own;
-  whole = whole_none c.args.self.now c.page_after-next.result (subst (λ (s : State). IsPageAfter s.held None c.page_after-next.result) c.self.view_is c.page_after-next.ensures);
+  whole = whole_none c.args.self.now c.page_after-next.result
+      (subst (λ (s : State). IsPageAfter s.held None c.page_after-next.result) c.self.view_is c.page_after-next.ensures);
 }
 
 pub loop-next-preserved : goal.loop-next-preserved

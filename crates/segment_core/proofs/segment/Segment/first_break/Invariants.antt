@@ -1,11 +1,12 @@
+use Rattle.segment_state.specs.HasMeaning.{HasAnchor}
 use Rattle.segment_core.proofs.Pages.{pages_left}
-use Rattle.segment_core.proofs.FirstBreak.{IsOwnAnchor, IsWholeTo}
+use Rattle.segment_core.proofs.FirstBreak.{IsWholeTo}
 use Rattle.segment_core.proofs.segment.Segment.first_break.Given as goal
 
 -- no chain is broken of the pages that are passed
 abbrev pub invariant-loop-next : goal.invariant-loop-next
 invariant-loop-next l = record {
-  own : IsOwnAnchor l.self l.point;
+  own : HasAnchor l.self l.point;
   whole : IsWholeTo l.self l.next;
 }
 

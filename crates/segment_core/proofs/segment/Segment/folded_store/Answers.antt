@@ -1,5 +1,4 @@
-use Rattle.std.proofs.Common.{◌≡◌, ℕ, ◌∙◌, Some, None, sym, ap, subst}
-use Rattle.redo_core.specs.CompleteEpoch.{IsCompleteEpoch}
+use Rattle.std.proofs.Common.{◌≡◌, ◌∙◌, Some, None, sym, ap, subst}
 use Rattle.hot_log.specs.Found.{IsPageAfter}
 use Rattle.page_base.specs.Stored.{IsStored}
 use Rattle.segment_state.specs.State.{State}
@@ -12,8 +11,10 @@ pub loop-next-init : goal.loop-next-init
 loop-next-init c = record {
   form = subst IsStored (sym c.in_ok-store.ensures) c.self.invariant.2;
   own = c.anchor-anchor.ensures.own;
-  folds = subst (FoldsTo c.args.self.now c.anchor-anchor.result c.page_after-next.result) (sym (c.in_ok-store.ensures ∙ ap (λ (s : State). s.store) c.self.view_is))
-      (folds_none c.args.self.now c.anchor-anchor.result c.page_after-next.result (subst (λ (s : State). IsPageAfter s.held None c.page_after-next.result) c.self.view_is c.page_after-next.ensures));
+  folds = subst (FoldsTo c.args.self.now c.anchor-anchor.result c.page_after-next.result)
+      (sym (c.in_ok-store.ensures ∙ ap (λ (s : State). s.store) c.self.view_is))
+      (folds_none c.args.self.now c.anchor-anchor.result c.page_after-next.result
+      (subst (λ (s : State). IsPageAfter s.held None c.page_after-next.result) c.self.view_is c.page_after-next.ensures));
 }
 
 pub loop-next-preserved : goal.loop-next-preserved
@@ -25,13 +26,15 @@ loop-next-preserved c =
       form = c.raise.ensures.form;
       own = c.loop-next.invariant.own;
       folds = folds_more s anchor c.in-Some.page c.page_after-next-in-Some.result c.loop-next.store folded.image c.raise.new.store
-          (subst (λ (x : State). (k : ℕ) × IsCompleteEpoch x.cuts k) c.self.view_is (c.self.inside.book.complete, c.self.invariant.0.complete))
           (record {
             own = c.loop-next.invariant.own;
-            after = subst (λ (x : State). IsPageAfter x.held (Some c.in-Some.page) c.page_after-next-in-Some.result) c.self.view_is c.page_after-next-in-Some.ensures;
+            after = subst (λ (x : State). IsPageAfter x.held (Some c.in-Some.page) c.page_after-next-in-Some.result) c.self.view_is
+                c.page_after-next-in-Some.ensures;
             before = subst (λ next. FoldsTo s anchor next c.loop-next.store) c.in-Some.is c.loop-next.invariant.folds;
-            raises = raises_folded c.loop-next.store c.raise.new.store folded c.in-Some.page anchor (ap (λ (f : Folded). f.page) is ∙ c.in_ok-plan_at.ensures.page) (ap (λ (f : Folded). f.version) is ∙ c.in_ok-plan_at.ensures.version) c.in-Ok.ensures.raises;
-            shows = λ k at. subst (λ (f : Folded). Shows s k c.in-Some.page anchor f.image) (sym is) (c.in_ok-plan_at.ensures.image k at);
+            raises = raises_folded c.loop-next.store c.raise.new.store folded c.in-Some.page anchor
+                (ap (λ (f : Folded). f.page) is ∙ c.in_ok-plan_at.ensures.page)
+                (ap (λ (f : Folded). f.version) is ∙ c.in_ok-plan_at.ensures.version) c.in-Ok.ensures.raises;
+            shows = subst (λ (f : Folded). Shows s c.in-Some.page anchor f.image) (sym is) c.in_ok-plan_at.ensures.image;
           });
     }
 

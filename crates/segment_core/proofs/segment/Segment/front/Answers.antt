@@ -12,7 +12,9 @@ own c =
     let base = c.self.inside.base in
     let n = c.linked_to.result in
     subst (λ s. IsFrontOf s (record { epoch = c.complete_epoch.result; complete = n; min = c.min_point.result })) c.self.view_is
-    (own_front book held base c.self.inside.store (record { epoch = c.complete_epoch.result; complete = n; min = c.min_point.result }) c.min_point.ensures.book c.self.invariant.1 c.self.invariant.3 c.complete_epoch.ensures.value c.min_point.ensures.value (greatest_linked book held base 281474976710655 n c.linked_to.ensures.linked c.linked_to.ensures.bound c.linked_to.ensures.greatest))
+    (own_front book held base c.self.inside.store (record { epoch = c.complete_epoch.result; complete = n; min = c.min_point.result }) c.min_point.ensures.book
+    c.self.invariant.1 c.self.invariant.3 c.complete_epoch.ensures.value c.min_point.ensures.value
+    (greatest_linked book held base 281474976710655 n c.linked_to.ensures.linked c.linked_to.ensures.bound c.linked_to.ensures.greatest))
 
 pub returns-clause-front : goal.returns-clause-front
 returns-clause-front c = true_front c.args.self.now _ (own c)

@@ -1,7 +1,6 @@
-use Rattle.std.proofs.Common.{ℕ, subst}
+use Rattle.std.proofs.Common.{subst}
 use Rattle.std.specs.Option.{option_copied}
-use Rattle.redo_core.specs.CompleteEpoch.{IsCompleteEpoch}
-use Rattle.hot_log.specs.Alive.{IsHeldOf as IsHotOf}
+use Rattle.hot_log.specs.Alive.{IsHeldOf}
 use Rattle.hot_log.specs.Found.{IsLeastRecord}
 use Rattle.segment_state.specs.State.{State, image_of}
 use Rattle.segment_state.specs.Shows.{Shows}
@@ -11,6 +10,6 @@ use Rattle.segment_core.proofs.segment.Segment.shows_its_image.Goals as goal
 pub returns-in-None : goal.returns-in-None
 returns-in-None c = λ t.
     let i = c.self.inside in
-    subst (λ (s : State). (k : ℕ) → IsCompleteEpoch s.cuts k → Shows s k c.args.page c.args.point (image_of s.store c.args.page)) c.self.view_is
-    (shows_image i.book i.hot i.base i.store c.args.page c.version.result c.args.point c.self.invariant.0.complete c.version.ensures
-    (subst (λ o. IsLeastRecord (IsHotOf i.book i.hot c.args.page c.version.result c.args.point) (option_copied o)) c.in-None.is c.next_of.ensures))
+    subst (λ (s : State). Shows s c.args.page c.args.point (image_of s.store c.args.page)) c.self.view_is
+    (shows_image i.book i.hot i.base i.store c.args.page c.version.result c.args.point c.version.ensures
+    (subst (λ o. IsLeastRecord (IsHeldOf i.book i.hot c.args.page c.version.result c.args.point) (option_copied o)) c.in-None.is c.next_of.ensures))

@@ -1,5 +1,4 @@
-use Rattle.std.proofs.Common.{ℕ, subst}
-use Rattle.redo_core.specs.CompleteEpoch.{IsCompleteEpoch}
+use Rattle.std.proofs.Common.{subst}
 use Rattle.segment_state.specs.State.{State}
 use Rattle.segment_core.specs.Standing.{StandsAt}
 use Rattle.segment_core.proofs.Chain.{stands_at}
@@ -9,5 +8,5 @@ pub returns : goal.returns
 returns c =
     let i = c.self.inside in
     let e = c.stands.ensures in
-    subst (λ (s : State). (k : ℕ) → IsCompleteEpoch s.cuts k → StandsAt s k c.args.epoch c.args.number c.stands.result) c.self.view_is
-    (stands_at i.book i.hot i.base i.store c.args.epoch c.args.number c.stands.result e.complete e.alive e.dead e.waiting)
+    subst (λ (s : State). StandsAt s c.args.epoch c.args.number c.stands.result) c.self.view_is
+    (stands_at i.book i.hot i.base i.store c.args.epoch c.args.number c.stands.result e.alive e.dead e.waiting)

@@ -1,10 +1,9 @@
 use Rattle.segment_state.proofs.Knowing.{unchanged_exactly, no_conflict}
-use Rattle.segment_state.proofs.Own.{epoch_of}
 use Rattle.segment_core.proofs.Taking.{take_tells, take_sound}
 use Rattle.segment_core.proofs.segment.Segment.take.Goals as goal
 
 pub returns-clause-tells : goal.returns-clause-tells
-returns-clause-tells c = take_tells unchanged_exactly c.args.self.now c.args.fact c.take_fact.result (λ roster log facts means. (means.0.epoch, epoch_of log facts means.0 c.args.self.now means.1)) c.take_fact.ensures.known
+returns-clause-tells c = take_tells unchanged_exactly c.args.self.now c.args.fact c.take_fact.result c.take_fact.ensures.known
 
 pub returns-clause-sound : goal.returns-clause-sound
 returns-clause-sound c = take_sound no_conflict c.args.self.now c.args.fact c.take_fact.result c.take_fact.ensures.refused

@@ -1,7 +1,7 @@
+use Rattle.segment_state.specs.State.{state_of}
 use Rattle.std.proofs.Common.{subst}
 use Rattle.redo_core.specs.declared.facts.Fact.TheVariants.{Advance}
 use Rattle.segment_state.proofs.Learnt.{takes_advance}
-use Rattle.segment_core.specs.Answering.{state_of}
 use Rattle.segment_core.specs.Exactly.{TakesExactly}
 use Rattle.segment_core.proofs.Taking.{advance_exact, advance_bound}
 use Rattle.segment_core.proofs.segment.Segment.take_advance.Goals as goal
@@ -9,10 +9,17 @@ use Rattle.segment_core.proofs.segment.Segment.take_advance.Goals as goal
 pub returns : goal.returns
 returns c =
     let e = c.learn_advance.ensures in
-    subst (λ s. TakesExactly s (Advance c.args.advance) c.book_answer.result (state_of c.learn_advance.new.self c.self.inside.hot c.self.inside.base c.self.inside.store)) c.self.view_is
-    (advance_exact takes_advance c.self.inside.book c.learn_advance.new.self c.self.inside.hot c.self.inside.base c.self.inside.store c.args.advance c.learn_advance.result c.book_answer.result c.self.invariant.0 e.ok e.known e.unchanged e.err e.refuses e.refused e.memory c.book_answer.ensures)
+    subst (λ s. TakesExactly s (Advance c.args.advance) c.book_answer.result
+    (state_of c.learn_advance.new.self c.self.inside.hot c.self.inside.base c.self.inside.store)) c.self.view_is
+    (advance_exact takes_advance c.self.inside.book c.learn_advance.new.self c.self.inside.hot c.self.inside.base c.self.inside.store c.args.advance
+    c.learn_advance.result c.book_answer.result c.self.invariant.0 e.ok e.known e.unchanged e.err e.refuses e.refused e.memory c.book_answer.ensures)
 
 pub invariant_of-self : goal.invariant_of-self
 invariant_of-self c =
-    let e = c.learn_advance.ensures in
-    (e.book, c.self.invariant.1, c.self.invariant.2, advance_bound c.self.inside.book c.learn_advance.new.self c.self.inside.base c.args.advance c.learn_advance.result e.ok e.err c.self.invariant.3)
+    let e = c.learn_advance.ensures in (
+      e.book,
+      c.self.invariant.1,
+      c.self.invariant.2,
+      advance_bound c.self.inside.book c.learn_advance.new.self c.self.inside.base c.args.advance
+          c.learn_advance.result e.ok e.err c.self.invariant.3,
+    )

@@ -1,8 +1,6 @@
 use Rattle.std.proofs.Common.{◌≡◌, ℕ, Ok, Err, sym, subst}
-use Rattle.redo_core.specs.CompleteEpoch.{IsCompleteEpoch}
-use Rattle.segment_state.specs.State.{State}
+use Rattle.segment_state.specs.State.{State, state_of}
 use Rattle.segment_state.specs.Promises.{KeepsMeaning}
-use Rattle.segment_core.specs.Answering.{state_of}
 use Rattle.segment_core.specs.Forgetting.{with_store, DiscardsJust, FoldsAll, Tidies, IsFirstBreak}
 use Rattle.segment_core.specs.declared.answers.ReadFault.TheVariants.{BrokenBlockChain, Memory}
 use Rattle.segment_core.proofs.FirstBreak.{tells_first, tells_whole, sound_whole}
@@ -23,18 +21,19 @@ folds : (c : goal.After-remove_dead) → FoldsAll (before c) c.in-Ok.store
 unfolding before
 folds c = subst (λ s. FoldsAll s c.in-Ok.store) (sym c.self.view_is) c.in-Ok.ensures.folds
 
-discards : (c : goal.After-remove_dead) → (k : ℕ) → IsCompleteEpoch (before c).cuts k → DiscardsJust k (with_store (before c) c.in-Ok.store) (discarded c)
+discards : (c : goal.After-remove_dead) → DiscardsJust (with_store (before c) c.in-Ok.store) (discarded c)
 unfolding before discarded
-discards c k at = subst (DiscardsJust k (with_store (before c) c.in-Ok.store)) (sym c.self-2.view_is) (c.discard.ensures.discards k at)
+discards c = subst (DiscardsJust (with_store (before c) c.in-Ok.store)) (sym c.self-2.view_is) c.discard.ensures.discards
 
-removes : (c : goal.After-remove_dead) → (k : ℕ) → IsCompleteEpoch (discarded c).cuts k → RemovesJustDead k (discarded c) (after c)
+removes : (c : goal.After-remove_dead) → RemovesJustDead (discarded c) (after c)
 unfolding discarded after
-removes c = removes_just c.self-2.inside.book c.self-2.inside.hot c.remove_dead.new.self c.self-2.inside.base c.self-2.inside.store c.self-2.invariant.0.complete c.remove_dead.ensures.removes
+removes c = removes_just c.self-2.inside.book c.self-2.inside.hot c.remove_dead.new.self c.self-2.inside.base c.self-2.inside.store
+    c.remove_dead.ensures.removes
 
-tidies : (c : goal.After-remove_dead) → (k : ℕ) → IsCompleteEpoch c.args.self.now.cuts k → Tidies k c.args.self.now (after c)
+tidies : (c : goal.After-remove_dead) → Tidies c.args.self.now (after c)
 unfolding before
 tidies c =
-    subst (λ (s : State). (k : ℕ) → IsCompleteEpoch s.cuts k → Tidies k s (after c)) c.self.view_is
+    subst (λ (s : State). Tidies s (after c)) c.self.view_is
     (tidies_of (before c) (discarded c) (after c) c.in-Ok.store (folds c) (discards c) (removes c))
 
 pub returns-clause-keeps : goal.returns-clause-keeps
@@ -42,7 +41,8 @@ unfolding before discarded after
 returns-clause-keeps c =
     let kept = subst (KeepsMeaning (with_store (before c) c.in-Ok.store)) (sym c.self-2.view_is) c.discard.ensures.keeps in
     subst (λ s. KeepsMeaning s (after c)) c.self.view_is
-    (keeps_on (before c) (discarded c) (after c) (keeps_on (before c) (with_store (before c) c.in-Ok.store) (discarded c) (folds c).keeps kept) (removals_keep (discarded c) (after c) (removes c)))
+    (keeps_on (before c) (discarded c) (after c) (keeps_on (before c) (with_store (before c) c.in-Ok.store) (discarded c) (folds c).keeps kept)
+    (removals_keep (discarded c) (after c) (removes c)))
 
 pub returns-clause-kept : goal.returns-clause-kept
 unfolding after
@@ -53,15 +53,11 @@ unfolding after
 returns-clause-tidies c = tidies c
 
 -- ---- a broken block chain, or want of memory
-broken : (c : goal.In-Some) → IsFirstBreak c.args.self.now c.self.inside.book.complete c.in-Some.page c.in-Some.number
-broken c =
-    let at = subst (λ (s : State). IsCompleteEpoch s.cuts c.self.inside.book.complete) c.self.view_is c.self.invariant.0.complete in
-    (c.first_break.ensures.first c.self.inside.book.complete c.in-Some.page c.in-Some.number at).0 c.in-Some.is
+broken : (c : goal.In-Some) → IsFirstBreak c.args.self.now c.in-Some.page c.in-Some.number
+broken c = (c.first_break.ensures.first c.in-Some.page c.in-Some.number).0 c.in-Some.is
 
 pub returns-in-Some-clause-sound : goal.returns-in-Some-clause-sound
-returns-in-Some-clause-sound c = λ sound.
-    let at = subst (λ (s : State). IsCompleteEpoch s.cuts c.self.inside.book.complete) c.self.view_is c.self.invariant.0.complete in
-    absurd (sound_whole c.args.self.now sound c.self.inside.book.complete c.in-Some.page c.in-Some.number at (broken c).breaks)
+returns-in-Some-clause-sound c = λ sound. absurd (sound_whole c.args.self.now sound c.in-Some.page c.in-Some.number (broken c).breaks)
 
 pub returns-in-Some-clause-broken : goal.returns-in-Some-clause-broken
 returns-in-Some-clause-broken c =
@@ -69,15 +65,15 @@ returns-in-Some-clause-broken c =
     tells_first c.args.self.now c.first_break.result x c.in-Some.is c.first_break.ensures.first
 
 pub returns-in-Some-clause-refused : goal.returns-in-Some-clause-refused
-returns-in-Some-clause-refused c =
-    let at = subst (λ (s : State). IsCompleteEpoch s.cuts c.self.inside.book.complete) c.self.view_is c.self.invariant.0.complete in
-    (c.self.inside.book.complete, at, broken c)
+returns-in-Some-clause-refused c = broken c
 
 pub returns-in_default-folded_store-clause-broken : goal.returns-in_default-folded_store-clause-broken
-returns-in_default-folded_store-clause-broken c = tells_whole c.args.self.now (Err Memory) (c.first_break.ensures.none c.in_default.is) (λ g n (e : Err Memory ≡ Err (BrokenBlockChain g n)). absurd (cc))
+returns-in_default-folded_store-clause-broken c = tells_whole c.args.self.now (Err Memory) (c.first_break.ensures.none c.in_default.is)
+    (λ g n (e : Err Memory ≡ Err (BrokenBlockChain g n)). absurd (cc))
 
 pub returns-in_default-folded_store-clause-refused : goal.returns-in_default-folded_store-clause-refused
 returns-in_default-folded_store-clause-refused c = c.first_break.ensures.none c.in_default.is
 
 pub returns-clause-broken : goal.returns-clause-broken
-returns-clause-broken c = tells_whole c.args.self.now (Ok tt) (c.first_break.ensures.none c.in_default.is) (λ g n (e : Ok tt ≡ Err (BrokenBlockChain g n)). absurd (cc))
+returns-clause-broken c = tells_whole c.args.self.now (Ok tt) (c.first_break.ensures.none c.in_default.is)
+    (λ g n (e : Ok tt ≡ Err (BrokenBlockChain g n)). absurd (cc))
