@@ -17,42 +17,42 @@ use Rattle.segment_join.specs.Keeping.{IsKeptAt}
 use Rattle.segment_join.specs.Covering.{HasRecord}
 
 -- the key of a kept record waits, or is alive above the anchor
-kept_key : (s : State) (k anchor epoch number : ℕ) (r : RecordData) → IsKeptBy s k anchor r → HasKey epoch number r
-    → IsWaiting k epoch ⊎ (IsAlive s.cuts k epoch number × (anchor < number))
-kept_key s k anchor epoch number r kept key =
-    subst (λ e. IsWaiting k e ⊎ (IsAlive s.cuts k e number × (anchor < number))) key.0
-    (subst (λ n. IsWaiting k r.epoch ⊎ (IsAlive s.cuts k r.epoch n × (anchor < n))) key.1 kept.1)
+kept_key : (s : State) (anchor epoch number : ℕ) (r : RecordData) → IsKeptBy s anchor r → HasKey epoch number r
+    → IsWaiting s.book.complete epoch ⊎ (IsAlive s.book.cuts s.book.complete epoch number × (anchor < number))
+kept_key s anchor epoch number r kept key =
+    subst (λ e. IsWaiting s.book.complete e ⊎ (IsAlive s.book.cuts s.book.complete e number × (anchor < number))) key.0
+    (subst (λ n. IsWaiting s.book.complete r.epoch ⊎ (IsAlive s.book.cuts s.book.complete r.epoch n × (anchor < n))) key.1 kept.1)
 
-pub dead_is_not_kept : (s : State) (k anchor epoch number : ℕ) → StandsAt s k epoch number Dead
-    → (r : RecordData) → IsKeptBy s k anchor r → HasKey epoch number r → ⊥
-dead_is_not_kept s k anchor epoch number stands r kept key =
+pub dead_is_not_kept : (s : State) (anchor epoch number : ℕ) → StandsAt s epoch number Dead
+    → (r : RecordData) → IsKeptBy s anchor r → HasKey epoch number r → ⊥
+dead_is_not_kept s anchor epoch number stands r kept key =
     ⊎_elim
-    (λ (w : IsWaiting k epoch). let e : Dead ≡ Waiting = stands.waiting.1 w in cc)
-    (λ (a : IsAlive s.cuts k epoch number × (anchor < number)). let e : Dead ≡ Alive = stands.alive.1 a.0 in cc)
-    (kept_key s k anchor epoch number r kept key)
+    (λ (w : IsWaiting s.book.complete epoch). let e : Dead ≡ Waiting = stands.waiting.1 w in cc)
+    (λ (a : IsAlive s.book.cuts s.book.complete epoch number × (anchor < number)). let e : Dead ≡ Alive = stands.alive.1 a.0 in cc)
+    (kept_key s anchor epoch number r kept key)
 
-pub settled_is_not_kept : (s : State) (k anchor epoch number : ℕ) → StandsAt s k epoch number Alive → (anchor < number → ⊥)
-    → (r : RecordData) → IsKeptBy s k anchor r → HasKey epoch number r → ⊥
-settled_is_not_kept s k anchor epoch number stands low r kept key =
+pub settled_is_not_kept : (s : State) (anchor epoch number : ℕ) → StandsAt s epoch number Alive → (anchor < number → ⊥)
+    → (r : RecordData) → IsKeptBy s anchor r → HasKey epoch number r → ⊥
+settled_is_not_kept s anchor epoch number stands low r kept key =
     ⊎_elim
-    (λ (w : IsWaiting k epoch). let e : Alive ≡ Waiting = stands.waiting.1 w in cc)
-    (λ (a : IsAlive s.cuts k epoch number × (anchor < number)). low a.1)
-    (kept_key s k anchor epoch number r kept key)
+    (λ (w : IsWaiting s.book.complete epoch). let e : Alive ≡ Waiting = stands.waiting.1 w in cc)
+    (λ (a : IsAlive s.book.cuts s.book.complete epoch number × (anchor < number)). low a.1)
+    (kept_key s anchor epoch number r kept key)
 
-pub found_is_kept : (s : State) (k anchor epoch number : ℕ) (found : Option RecordData) → IsRecordAt s.held epoch number found
-    → IsWaiting k epoch ⊎ (IsAlive s.cuts k epoch number × (anchor < number)) → IsKeptAt s k anchor (epoch, number) found
-found_is_kept s k anchor epoch number None none stands = λ r kept key. none r kept.0 key
-found_is_kept s k anchor epoch number (Some r) some stands = (
+pub found_is_kept : (s : State) (anchor epoch number : ℕ) (found : Option RecordData) → IsRecordAt s.held epoch number found
+    → IsWaiting s.book.complete epoch ⊎ (IsAlive s.book.cuts s.book.complete epoch number × (anchor < number)) → IsKeptAt s anchor (epoch, number) found
+found_is_kept s anchor epoch number None none stands = λ r kept key. none r kept.0 key
+found_is_kept s anchor epoch number (Some r) some stands = (
   (
     some.0,
-    subst (λ e. IsWaiting k e ⊎ (IsAlive s.cuts k e r.number × (anchor < r.number))) (sym some.1.0)
-        (subst (λ n. IsWaiting k epoch ⊎ (IsAlive s.cuts k epoch n × (anchor < n))) (sym some.1.1) stands),
+    subst (λ e. IsWaiting s.book.complete e ⊎ (IsAlive s.book.cuts s.book.complete e r.number × (anchor < r.number))) (sym some.1.0)
+        (subst (λ n. IsWaiting s.book.complete epoch ⊎ (IsAlive s.book.cuts s.book.complete epoch n × (anchor < n))) (sym some.1.1) stands),
   ),
   some.1,
 )
 
 -- of rising records there is one of a key
-one_of_key : (held : List RecordData) (r x : RecordData) → IsRising RecordBefore held → Contains held r → Contains held x → r.epoch ≡ x.epoch → r.number ≡ x.number → r ≡ x
+pub one_of_key : (held : List RecordData) (r x : RecordData) → IsRising RecordBefore held → Contains held r → Contains held x → r.epoch ≡ x.epoch → r.number ≡ x.number → r ≡ x
 one_of_key held r x rising hr hx e n =
     ⊎_elim
     (λ (u : r ≡ x). u)
@@ -66,15 +66,15 @@ one_of_key held r x rising hr hx e n =
     apart a b e n before = ⊎_elim (λ (u : a.epoch < b.epoch). omega (arith, e, u)) (λ (u : (a.epoch ≡ b.epoch) × (a.number < b.number)). omega (arith, n, u.1)) before
 
 -- the kept record at a key of the list is the one that stands there
-pub at_key : (s : State) (k anchor : ℕ) (key : ℕ × ℕ) (r x : RecordData) → IsRising RecordBefore s.held → Contains s.held x → key_of x ≡ key
-    → IsKeptAt s k anchor key (Some r) → (r ≡ x) × IsKeptBy s k anchor x
-at_key s k anchor key r x rising has is at =
+pub at_key : (s : State) (anchor : ℕ) (key : ℕ × ℕ) (r x : RecordData) → IsRising RecordBefore s.held → Contains s.held x → key_of x ≡ key
+    → IsKeptAt s anchor key (Some r) → (r ≡ x) × IsKeptBy s anchor x
+at_key s anchor key r x rising has is at =
     let same : r ≡ x = one_of_key s.held r x rising at.0.0 has (at.1.0 ∙ sym (ap (λ (y : ℕ × ℕ). y.0) is)) (at.1.1 ∙ sym (ap (λ (y : ℕ × ℕ). y.1) is)) in
-    (same, subst (IsKeptBy s k anchor) same at.0)
+    (same, subst (IsKeptBy s anchor) same at.0)
 
 -- without one the record that stands there is not kept
-pub not_at_key : (s : State) (k anchor : ℕ) (key : ℕ × ℕ) (x : RecordData) → key_of x ≡ key → IsKeptAt s k anchor key None → IsKeptBy s k anchor x → ⊥
-not_at_key s k anchor key x is at has = at x has (ap (λ (y : ℕ × ℕ). y.0) is, ap (λ (y : ℕ × ℕ). y.1) is)
+pub not_at_key : (s : State) (anchor : ℕ) (key : ℕ × ℕ) (x : RecordData) → key_of x ≡ key → IsKeptAt s anchor key None → IsKeptBy s anchor x → ⊥
+not_at_key s anchor key x is at has = at x has (ap (λ (y : ℕ × ℕ). y.0) is, ap (λ (y : ℕ × ℕ). y.1) is)
 
 -- the record at a place of the list, whose key stands at that place of the keys
 pub item_at : {X : Type 0} (xs : List X) (i : ℕ) → i < length xs → (x : X) × (x ≡ get_or xs i x)
@@ -91,29 +91,29 @@ pub same_length : (held : List RecordData) (keys : List (ℕ × ℕ)) → keys �
 same_length held keys is = ap (λ (ks : List (ℕ × ℕ)). length ks) is ∙ length-map held key_of
 
 -- how the standing of a record's own key tells whether a segment has it, or needs it no more
-pub of_record : (s : State) (k epoch number : ℕ) (r : RecordData) (standing : Standing) → StandsAt s k epoch number standing → epoch ≡ r.epoch → number ≡ r.number
-    → StandsAt s k r.epoch r.number standing
-of_record s k epoch number r standing stands e n = subst (λ i. StandsAt s k i r.number standing) e (subst (λ i. StandsAt s k epoch i standing) n stands)
+pub of_record : (s : State) (epoch number : ℕ) (r : RecordData) (standing : Standing) → StandsAt s epoch number standing → epoch ≡ r.epoch → number ≡ r.number
+    → StandsAt s r.epoch r.number standing
+of_record s epoch number r standing stands e n = subst (λ i. StandsAt s i r.number standing) e (subst (λ i. StandsAt s epoch i standing) n stands)
 
-pub dead_has : (s : State) (k anchor : ℕ) (r : RecordData) → StandsAt s k r.epoch r.number Dead → IsTrue true ↔ HasRecord s k anchor r
-dead_has s k anchor r stands = (λ h. inr (inl (stands.dead.0 refl)), λ h. refl)
+pub dead_has : (s : State) (anchor : ℕ) (r : RecordData) → StandsAt s r.epoch r.number Dead → IsTrue true ↔ HasRecord s anchor r
+dead_has s anchor r stands = (λ h. inr (inl (stands.dead.0 refl)), λ h. refl)
 
-pub settled_has : (s : State) (k anchor : ℕ) (r : RecordData) → StandsAt s k r.epoch r.number Alive → r.number ≤ anchor → IsTrue true ↔ HasRecord s k anchor r
-settled_has s k anchor r stands low = (λ h. inr (inr (low, (stands.alive.0 refl).known)), λ h. refl)
+pub settled_has : (s : State) (anchor : ℕ) (r : RecordData) → StandsAt s r.epoch r.number Alive → r.number ≤ anchor → IsTrue true ↔ HasRecord s anchor r
+settled_has s anchor r stands low = (λ h. inr (inr (low, (stands.alive.0 refl).known)), λ h. refl)
 
-pub held_has : (s : State) (k anchor : ℕ) (r : RecordData) (is_held : Bool) → IsWaiting k r.epoch ⊎ (IsAlive s.cuts k r.epoch r.number × (anchor < r.number))
-    → IsTrue is_held ↔ Contains s.held r → IsTrue is_held ↔ HasRecord s k anchor r
-held_has s k anchor r is_held wanted tells = (
+pub held_has : (s : State) (anchor : ℕ) (r : RecordData) (is_held : Bool) → IsWaiting s.book.complete r.epoch ⊎ (IsAlive s.book.cuts s.book.complete r.epoch r.number × (anchor < r.number))
+    → IsTrue is_held ↔ Contains s.held r → IsTrue is_held ↔ HasRecord s anchor r
+held_has s anchor r is_held wanted tells = (
   λ h. inl (tells.0 h, wanted),
   λ has. ⊎_elim
-      (λ (kept : IsKeptBy s k anchor r). tells.1 kept.0)
-      (λ (gone : IsDead s.cuts k r.epoch r.number ⊎ ((r.number ≤ anchor) × (r.epoch ≤ k))). absurd (⊎_elim
-      (λ (dead : IsDead s.cuts k r.epoch r.number). ⊎_elim
-      (λ (w : IsWaiting k r.epoch). omega (arith, w, dead.0))
-      (λ (a : IsAlive s.cuts k r.epoch r.number × (anchor < r.number)). dead.1 a.0) wanted)
-      (λ (low : (r.number ≤ anchor) × (r.epoch ≤ k)). ⊎_elim
-      (λ (w : IsWaiting k r.epoch). omega (arith, w, low.1))
-      (λ (a : IsAlive s.cuts k r.epoch r.number × (anchor < r.number)). omega (arith, a.1, low.0)) wanted)
+      (λ (kept : IsKeptBy s anchor r). tells.1 kept.0)
+      (λ (gone : IsDead s.book.cuts s.book.complete r.epoch r.number ⊎ ((r.number ≤ anchor) × (r.epoch ≤ s.book.complete))). absurd (⊎_elim
+      (λ (dead : IsDead s.book.cuts s.book.complete r.epoch r.number). ⊎_elim
+      (λ (w : IsWaiting s.book.complete r.epoch). omega (arith, w, dead.0))
+      (λ (a : IsAlive s.book.cuts s.book.complete r.epoch r.number × (anchor < r.number)). dead.1 a.0) wanted)
+      (λ (low : (r.number ≤ anchor) × (r.epoch ≤ s.book.complete)). ⊎_elim
+      (λ (w : IsWaiting s.book.complete r.epoch). omega (arith, w, low.1))
+      (λ (a : IsAlive s.book.cuts s.book.complete r.epoch r.number × (anchor < r.number)). omega (arith, a.1, low.0)) wanted)
       gone))
       has,
 )

@@ -1,3 +1,16 @@
 pub mod Keeping
 pub mod Scanning
 pub mod Comparing
+pub mod Ordered
+pub mod Sparing
+pub mod Telling
+pub mod TakingAll
+pub mod ToldFacts
+pub mod JoinedStates
+pub mod OtherImages
+pub mod JoinInLog
+pub mod Showing
+pub mod Visiting
+pub mod Agreeing
+pub mod Merging
+pub mod BothWays

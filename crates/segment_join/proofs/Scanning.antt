@@ -5,11 +5,19 @@ use Rattle.redo_core.proofs.Members.{here, there}
 use Rattle.redo_core.proofs.Scans.{whole, one_more}
 
 -- one element fails, so not all pass
-pub one_fails : {X : Type 0} (P : X → Type 0) (xs : List X) (i : ℕ) (x : X) (passes : Bool) → i < length xs → x ≡ get_or xs i x → passes ≡ false → IsTrue passes ↔ P x
+pub one_fails : {X : Type 0} (P : X → Type 0) (xs : List X) (i : ℕ) (x : X) (passes : Bool) → i < length xs → x ≡ get_or xs i x → passes ≡ false
+    → IsTrue passes ↔ P x
     → IsTrue false ↔ All P xs
 one_fails P xs i x passes lt is fails tells = (
   λ (h : false ≡ true). absurd (cc),
   λ all. sym fails ∙ tells.1 (subst P (sym is) (all i x lt)),
+)
+
+-- a part fails, so not all passes
+pub part_fails : (P Q : Type 0) (passes : Bool) → passes ≡ false → IsTrue passes ↔ P → (Q → P) → IsTrue false ↔ Q
+part_fails P Q passes fails tells part = (
+  λ (h : false ≡ true). absurd (cc),
+  λ all. sym fails ∙ tells.1 (part all),
 )
 
 -- all up to the end pass
@@ -17,12 +25,14 @@ pub all_pass : {X : Type 0} (P : X → Type 0) (xs : List X) (i : ℕ) → lengt
 all_pass P xs i end seen = (λ h. whole P xs i end seen, λ h. refl)
 
 -- one more passes
-pub next_passes : {X : Type 0} (P : X → Type 0) (xs : List X) (i : ℕ) (x : X) (passes : Bool) → i < length xs → x ≡ get_or xs i x → passes ≡ true → IsTrue passes ↔ P x
+pub next_passes : {X : Type 0} (P : X → Type 0) (xs : List X) (i : ℕ) (x : X) (passes : Bool) → i < length xs → x ≡ get_or xs i x → passes ≡ true
+    → IsTrue passes ↔ P x
     → All P (take i xs) → All P (take (i + 1) xs)
 next_passes P xs i x passes lt is true_is tells seen = one_more P xs i x lt is seen (tells.0 true_is)
 
 -- numbers of two lists of one length, compared place by place
-pub zip_at_most : (low high : List ℕ) → length low ≡ length high → ((i : ℕ) → i < length low → get_or low i 0 ≤ get_or high i 0) → AllZip (λ p q. p ≤ q) low high
+pub zip_at_most : (low high : List ℕ) → length low ≡ length high → ((i : ℕ) → i < length low → get_or low i 0 ≤ get_or high i 0)
+    → AllZip (λ p q. p ≤ q) low high
 zip_at_most [] [] same each = tt
 zip_at_most [] (q ∷ qs) same each = absurd (omega (arith, same))
 zip_at_most (p ∷ ps) [] same each = absurd (omega (arith, same))

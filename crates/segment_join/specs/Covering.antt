@@ -14,20 +14,20 @@ use Rattle.segment_state.specs.Known.{IsKnown}
 use Rattle.segment_state.specs.HasMeaning.{IsKeptBy}
 
 -- a record that is kept, or needed no more: it is dead, or at or below the anchor and not waiting
-abbrev pub HasRecord : State → ℕ → ℕ → RecordData → Type 0
-HasRecord s k anchor r = IsKeptBy s k anchor r ⊎ (IsDead s.cuts k r.epoch r.number ⊎ ((r.number ≤ anchor) × (r.epoch ≤ k)))
+abbrev pub HasRecord : State → ℕ → RecordData → Type 0
+HasRecord s anchor r = IsKeptBy s anchor r ⊎ (IsDead s.book.cuts s.book.complete r.epoch r.number ⊎ ((r.number ≤ anchor) × (r.epoch ≤ s.book.complete)))
 
 -- each truncation, reader's point and waiting advance of the lower segment is known in the upper one
-pub record CoversBook (k : ℕ) (upper lower : State) : Type 0 where
-  pub cuts : (c : CutData) → Contains lower.cuts c → Contains upper.cuts c
-  pub points : AllZip (λ p q. p ≤ q) lower.points upper.points
-  pub waits : (a : AdvanceData) → Contains lower.waits a → IsKnown upper k (Advance a)
+pub record CoversBook (upper lower : State) : Type 0 where
+  pub cuts : (c : CutData) → Contains lower.book.cuts c → Contains upper.book.cuts c
+  pub points : AllZip (λ p q. p ≤ q) lower.book.points upper.book.points
+  pub waits : (a : AdvanceData) → Contains lower.book.waits a → IsKnown upper (Advance a)
 
 -- the whole of it, at the anchors of both
-pub record CoversState (k anchor : ℕ) (upper : State) (j base : ℕ) (lower : State) : Type 0 where
-  pub book : CoversBook k upper lower
+pub record CoversState (anchor : ℕ) (upper : State) (base : ℕ) (lower : State) : Type 0 where
+  pub book : CoversBook upper lower
   pub anchors : base ≤ anchor
-  pub kept : (r : RecordData) → IsKeptBy lower j base r → HasRecord upper k anchor r
+  pub kept : (r : RecordData) → IsKeptBy lower base r → HasRecord upper anchor r
 
 -- Inside one sound log: the answer is yes exactly where the lower meaning is at most the upper one.
 abbrev pub CoversByParts : State → State → Bool → Type 0

@@ -1,2 +1,10 @@
 pub mod Keeping
 pub mod Covering
+pub mod Told
+pub mod InOrder
+pub mod Joining
+pub mod Sameness
+pub mod Holding
+pub mod Newer
+pub mod Drafting
+pub mod Laws

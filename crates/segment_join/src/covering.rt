@@ -1,6 +1,5 @@
 ghost use Rattle.std.specs.Prelude.{◌≡◌, ℕ, ◌≤◌, ◌↔◌, List, map, IsTrue, IfOk};
 ghost use Rattle.std.specs.List.{Contains, AllZip, All};
-ghost use Rattle.redo_core.specs.CompleteEpoch.{IsCompleteEpoch};
 ghost use Rattle.redo_core.specs.Meaning.{Meaning, IsMeaning};
 ghost use Rattle.redo_core.specs.AtMost.{IsAtMost};
 ghost use Rattle.redo_core.specs.Sound.{IsSound};
@@ -17,26 +16,28 @@ use redo_core::{Advance, Cut, Record};
 use redo_laws::order_by_parts;
 use segment_core::{Segment, Standing};
 use segment_state::same_meaning;
-use std::alloc::{AllocError, Global};
+use std::alloc::AllocError;
 
 /// Whether one segment's meaning is at or above another's: each truncation, reader's point and waiting advance of the lower one is
 /// known, its anchor is reached, and each record that it keeps is kept, dead or settled. The two rosters may differ.
 ///
 /// Its only error is want of memory.
-pub fn covers(alloc: Global, upper: &Segment, lower: &Segment) -> Result<bool, AllocError>
+pub fn covers(upper: &Segment, lower: &Segment) -> Result<bool, AllocError>
     // By the two meanings, over any facts.
     ensures meanings { IfOk result (λ answer. (y x : Meaning) → HasMeaning upper.now y → HasMeaning lower.now x → IsTrue answer ↔ Covers y x) }
     // Inside one sound log: it means a part that holds a part of the other meaning.
     ensures parts { IfOk result (CoversByParts upper.now lower.now) }
+    // By what is stored, over any facts.
+    ensures own { IfOk result (λ answer. (anchor base : ℕ) → HasAnchor upper.now anchor → HasAnchor lower.now base → IsTrue answer ↔ CoversState anchor upper.now base lower.now) }
 {
     let _base = upper.base_point();
     order_by_parts();
     same_meaning();
-    covers_state(alloc, upper, lower)
+    covers_state(upper, lower)
 }
 
-fn covers_state(alloc: Global, upper: &Segment, lower: &Segment) -> Result<bool, AllocError>
-    ensures { IfOk result (λ answer. (k anchor j base : ℕ) → IsCompleteEpoch upper.now.cuts k → HasAnchor upper.now k anchor → IsCompleteEpoch lower.now.cuts j → HasAnchor lower.now j base → IsTrue answer ↔ CoversState k anchor upper.now j base lower.now) }
+fn covers_state(upper: &Segment, lower: &Segment) -> Result<bool, AllocError>
+    ensures { IfOk result (λ answer. (anchor base : ℕ) → HasAnchor upper.now anchor → HasAnchor lower.now base → IsTrue answer ↔ CoversState anchor upper.now base lower.now) }
 {
     if !covers_book(upper, lower) {
         return Ok(false);
@@ -45,12 +46,12 @@ fn covers_state(alloc: Global, upper: &Segment, lower: &Segment) -> Result<bool,
     if anchor < lower.anchor() {
         return Ok(false);
     }
-    let kept = kept_of(alloc, lower)?;
+    let kept = kept_of(lower)?;
     Ok(has_records(upper, anchor, &kept))
 }
 
 fn covers_book(upper: &Segment, lower: &Segment) -> bool
-    ensures { (k : ℕ) → IsCompleteEpoch upper.now.cuts k → IsTrue result ↔ CoversBook k upper.now lower.now }
+    ensures { IsTrue result ↔ CoversBook upper.now lower.now }
 {
     if !has_cuts(upper, lower.cuts()) {
         return false;
@@ -62,7 +63,7 @@ fn covers_book(upper: &Segment, lower: &Segment) -> bool
 }
 
 fn has_cuts(upper: &Segment, cuts: &[Cut]) -> bool
-    ensures { IsTrue result ↔ All (λ c. Contains upper.now.cuts c) cuts.now }
+    ensures { IsTrue result ↔ All (λ c. Contains upper.now.book.cuts c) cuts.now }
 {
     for cut in cuts {
         if !upper.knows_cut(*cut) {
@@ -73,7 +74,7 @@ fn has_cuts(upper: &Segment, cuts: &[Cut]) -> bool
 }
 
 fn has_waits(upper: &Segment, waits: &[Advance]) -> bool
-    ensures { (k : ℕ) → IsCompleteEpoch upper.now.cuts k → IsTrue result ↔ All (λ a. IsKnown upper.now k (OfAdvance a)) waits.now }
+    ensures { IsTrue result ↔ All (λ a. IsKnown upper.now (OfAdvance a)) waits.now }
 {
     for wait in waits {
         if !upper.knows_advance(*wait) {
@@ -99,7 +100,7 @@ fn are_at_most(lower: &[u64], upper: &[u64]) -> bool
 
 /// Whether a segment with this anchor keeps the record, or needs it no more: it is dead, or at or below the anchor.
 fn has_record(segment: &Segment, anchor: u64, redo: &Record) -> bool
-    ensures { (k : ℕ) → IsCompleteEpoch segment.now.cuts k → IsTrue result ↔ HasRecord segment.now k anchor redo.now }
+    ensures { IsTrue result ↔ HasRecord segment.now anchor redo.now }
 {
     match segment.stands(redo.epoch(), redo.number()) {
         Standing::Dead => true,
@@ -127,7 +128,7 @@ fn holds(segment: &Segment, redo: &Record) -> bool
 }
 
 fn has_records(segment: &Segment, anchor: u64, records: &[&Record]) -> bool
-    ensures { (k : ℕ) → IsCompleteEpoch segment.now.cuts k → IsTrue result ↔ All (HasRecord segment.now k anchor) (map (λ r. r.now) records.now) }
+    ensures { IsTrue result ↔ All (HasRecord segment.now anchor) (map (λ r. r.now) records.now) }
 {
     for redo in records {
         if !has_record(segment, anchor, redo) {

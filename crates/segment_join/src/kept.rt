@@ -1,21 +1,20 @@
 ghost use Rattle.std.specs.Prelude.{◌≡◌, ℕ, map, IfOk};
 ghost use Rattle.std.specs.Option.{option_copied};
 ghost use Rattle.redo_core.specs.Order.{Lists, RecordBefore};
-ghost use Rattle.redo_core.specs.CompleteEpoch.{IsCompleteEpoch};
 ghost use Rattle.segment_state.specs.HasMeaning.{HasAnchor, IsKeptBy};
 ghost use Rattle.segment_join.specs.Keeping.{IsKeptAt};
 
 use redo_core::Record;
 use segment_core::{Segment, Standing};
-use std::alloc::{AllocError, Global};
+use std::alloc::AllocError;
 
 /// The records that a segment's meaning keeps, rising by key. Its only error is want of memory.
-pub fn kept_of(alloc: Global, segment: &Segment) -> Result<Vec<&Record>, AllocError>
-    ensures { (k anchor : ℕ) → IsCompleteEpoch segment.now.cuts k → HasAnchor segment.now k anchor → IfOk result (λ v. Lists RecordBefore (IsKeptBy segment.now k anchor) (map (λ x. x.now) v.items)) }
+pub fn kept_of(segment: &Segment) -> Result<Vec<&Record>, AllocError>
+    ensures { (anchor : ℕ) → HasAnchor segment.now anchor → IfOk result (λ v. Lists RecordBefore (IsKeptBy segment.now anchor) (map (λ x. x.now) v.items)) }
 {
     let anchor = segment.anchor();
     let keys = segment.stored()?;
-    let mut kept = Vec::new(alloc);
+    let mut kept = Vec::new(segment.allocator());
     for key in &keys {
         if let Some(redo) = kept_at(segment, anchor, *key) {
             kept.push(redo)?;
@@ -26,7 +25,7 @@ pub fn kept_of(alloc: Global, segment: &Segment) -> Result<Vec<&Record>, AllocEr
 
 /// The held record of a key, where it waits or is alive above the anchor.
 fn kept_at(segment: &Segment, anchor: u64, key: (u16, u64)) -> Option<&Record>
-    ensures { (k : ℕ) → IsCompleteEpoch segment.now.cuts k → IsKeptAt segment.now k anchor key (option_copied result) }
+    ensures { IsKeptAt segment.now anchor key (option_copied result) }
 {
     let (epoch, number) = key;
     match segment.stands(epoch, number) {

@@ -1,12 +1,31 @@
-//! Segments of one log, compared by what they mean, whatever each has folded and thrown away.
+//! Segments of one log, joined and compared by what they mean, whatever each has folded and thrown away.
 //!
-//! `covers` tells whether one meaning is at or above another, part by part and over any facts; inside one sound log that is so exactly
-//! where the one segment means a part of the log that holds a part of the other's meaning. `kept_of` lists what a meaning keeps.
-//! `covering` has the comparison, `kept` the list.
+//! `join` brings what one segment means into another: a draft of the one takes the facts that the other tells, and holds what else the
+//! other holds and has not folded; the segment then takes the draft over, with the images that are newer. Inside one sound log it means
+//! the union, and over any facts it is refused as the first told fact would be. `covers` tells whether one meaning is at or above
+//! another, part by part and over any facts; inside one sound log that is so exactly where the one segment means a part of the log that
+//! holds a part of the other's meaning. `same` tells whether the two meanings are one: each covers the other, and the pages at their
+//! anchors are the same. `kept_of` lists what a meaning keeps. `laws` says what merging keeps. `joining`, `told` and `holding` have the
+//! join, `covering` and `sameness` the comparisons, `kept` the list.
 #![tactic(auto)]
 
 mod covering;
+mod holding;
+mod joining;
+#[cfg(test)]
+mod joining_tests;
 mod kept;
+pub mod laws;
+mod sameness;
+#[cfg(test)]
+mod samples;
+#[cfg(test)]
+mod tests;
+mod told;
 
 pub use covering::covers;
+pub use holding::is_spared;
+pub use joining::join;
 pub use kept::kept_of;
+pub use sameness::same;
+pub use told::{take_book, take_one};

@@ -1,4 +1,4 @@
-use Rattle.std.proofs.Common.{◌≡◌, ℕ, ◌<◌, ◌≤◌, length, get_or, refl, arith}
+use Rattle.std.proofs.Common.{refl, arith}
 use Rattle.segment_join.proofs.Scanning.{zip_at_most}
 use Rattle.segment_join.proofs.covering.are_at_most.Goals as goal
 

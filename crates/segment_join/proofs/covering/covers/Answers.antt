@@ -1,14 +1,10 @@
-use Rattle.std.proofs.Common.{Result, Ok, Err, IfOk}
-use Rattle.segment_join.proofs.Comparing.{by_meanings, by_parts}
+use Rattle.segment_join.proofs.Comparing.{ok_as, by_meanings, by_parts}
 use Rattle.segment_join.proofs.covering.covers.Goals as goal
-
-ok_as : {X E : Type 0} (r : Result X E) (P Q : X → Type 0) → IfOk r P → ((x : X) → P x → Q x) → IfOk r Q
-ok_as (Ok x) P Q p to = to x p
-ok_as (Err e) P Q p to = tt
 
 pub returns-clause-meanings : goal.returns-clause-meanings
 returns-clause-meanings c =
-    ok_as c.covers_state.result _ _ c.covers_state.ensures (λ answer tells. by_meanings c.args.upper.now c.args.lower.now answer c.base_point-base.ensures.form tells)
+    ok_as c.covers_state.result _ _ c.covers_state.ensures
+    (λ answer tells. by_meanings c.args.upper.now c.args.lower.now answer c.base_point-base.ensures.form tells)
 
 pub returns-clause-parts : goal.returns-clause-parts
 returns-clause-parts c =

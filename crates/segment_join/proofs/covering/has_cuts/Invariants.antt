@@ -4,4 +4,4 @@ use Rattle.segment_join.proofs.covering.has_cuts.Given as goal
 
 -- those so far are held
 abbrev pub invariant-loop-cut : goal.invariant-loop-cut
-invariant-loop-cut l = All (λ c. Contains l.upper.cuts c) (take l.cut-index l.cuts)
+invariant-loop-cut l = All (λ c. Contains l.upper.book.cuts c) (take l.cut-index l.cuts)

@@ -5,16 +5,18 @@ use Rattle.segment_join.proofs.Scanning.{one_fails, all_pass, next_passes}
 use Rattle.segment_join.proofs.covering.has_waits.Goals as goal
 
 pub loop-wait-preserved : goal.loop-wait-preserved
-loop-wait-preserved c = λ k at.
-    let P : AdvanceData → Type 0 = λ a. IsKnown c.args.upper.now k (Advance a) in
-    next_passes P c.args.waits.now c.loop-wait.wait-index c.wait-item.result c.knows_advance.result c.loop-wait-test.true c.wait-item.is c.if-not-knows_advance.false (c.knows_advance.ensures k at) (c.loop-wait.invariant k at)
+loop-wait-preserved c =
+    let P : AdvanceData → Type 0 = λ a. IsKnown c.args.upper.now (Advance a) in
+    next_passes P c.args.waits.now c.loop-wait.wait-index c.wait-item.result c.knows_advance.result c.loop-wait-test.true c.wait-item.is
+    c.if-not-knows_advance.false c.knows_advance.ensures c.loop-wait.invariant
 
 pub returns-then-not-knows_advance : goal.returns-then-not-knows_advance
-returns-then-not-knows_advance c = λ k at.
-    let P : AdvanceData → Type 0 = λ a. IsKnown c.args.upper.now k (Advance a) in
-    one_fails P c.args.waits.now c.loop-wait.wait-index c.wait-item.result c.knows_advance.result c.loop-wait-test.true c.wait-item.is c.if-not-knows_advance.true (c.knows_advance.ensures k at)
+returns-then-not-knows_advance c =
+    let P : AdvanceData → Type 0 = λ a. IsKnown c.args.upper.now (Advance a) in
+    one_fails P c.args.waits.now c.loop-wait.wait-index c.wait-item.result c.knows_advance.result c.loop-wait-test.true c.wait-item.is
+    c.if-not-knows_advance.true c.knows_advance.ensures
 
 pub returns : goal.returns
-returns c = λ k at.
-    let P : AdvanceData → Type 0 = λ a. IsKnown c.args.upper.now k (Advance a) in
-    all_pass P c.args.waits.now c.loop-wait.wait-index c.loop-wait-test.false (c.loop-wait.invariant k at)
+returns c =
+    let P : AdvanceData → Type 0 = λ a. IsKnown c.args.upper.now (Advance a) in
+    all_pass P c.args.waits.now c.loop-wait.wait-index c.loop-wait-test.false c.loop-wait.invariant

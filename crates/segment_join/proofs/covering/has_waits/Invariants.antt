@@ -1,10 +1,9 @@
-use Rattle.std.proofs.Common.{ℕ, take}
+use Rattle.std.proofs.Common.{take}
 use Rattle.std.specs.List.{All}
-use Rattle.redo_core.specs.CompleteEpoch.{IsCompleteEpoch}
 use Rattle.redo_core.specs.declared.facts.Fact.TheVariants.{Advance}
 use Rattle.segment_state.specs.Known.{IsKnown}
 use Rattle.segment_join.proofs.covering.has_waits.Given as goal
 
 -- those so far are known
 abbrev pub invariant-loop-wait : goal.invariant-loop-wait
-invariant-loop-wait l = (k : ℕ) → IsCompleteEpoch l.upper.cuts k → All (λ a. IsKnown l.upper k (Advance a)) (take l.wait-index l.waits)
+invariant-loop-wait l = All (λ a. IsKnown l.upper (Advance a)) (take l.wait-index l.waits)

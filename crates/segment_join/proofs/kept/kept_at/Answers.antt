@@ -1,21 +1,21 @@
-use Rattle.std.proofs.Common.{◌<◌, ◌⊎◌, inl, inr, refl, arith}
+use Rattle.std.proofs.Common.{◌<◌, inl, inr, refl, arith}
 use Rattle.std.specs.Option.{option_copied}
 use Rattle.segment_join.proofs.Keeping.{dead_is_not_kept, settled_is_not_kept, found_is_kept}
 use Rattle.segment_join.proofs.kept.kept_at.Goals as goal
 
 pub returns-in-Dead : goal.returns-in-Dead
-returns-in-Dead c = λ k at. dead_is_not_kept c.args.segment.now k c.args.anchor c.args.key.0 c.args.key.1 (c.in-Dead.ensures k at)
+returns-in-Dead c = dead_is_not_kept c.args.segment.now c.args.anchor c.args.key.0 c.args.key.1 c.in-Dead.ensures
 
 pub returns-in-Waiting : goal.returns-in-Waiting
-returns-in-Waiting c = λ k at.
-    found_is_kept c.args.segment.now k c.args.anchor c.args.key.0 c.args.key.1 (option_copied c.get.result) c.get.ensures
-    (inl ((c.in-Waiting.ensures k at).waiting.0 refl))
+returns-in-Waiting c =
+    found_is_kept c.args.segment.now c.args.anchor c.args.key.0 c.args.key.1 (option_copied c.get.result) c.get.ensures
+    (inl (c.in-Waiting.ensures.waiting.0 refl))
 
 pub returns-then-anchor-number : goal.returns-then-anchor-number
-returns-then-anchor-number c = λ k at.
-    found_is_kept c.args.segment.now k c.args.anchor c.args.key.0 c.args.key.1 (option_copied c.get-then-anchor-number.result) c.get-then-anchor-number.ensures
-    (inr ((c.in-Alive.ensures k at).alive.0 refl, c.if-anchor-number.true))
+returns-then-anchor-number c =
+    found_is_kept c.args.segment.now c.args.anchor c.args.key.0 c.args.key.1 (option_copied c.get-then-anchor-number.result) c.get-then-anchor-number.ensures
+    (inr (c.in-Alive.ensures.alive.0 refl, c.if-anchor-number.true))
 
 pub returns-else-anchor-number : goal.returns-else-anchor-number
-returns-else-anchor-number c = λ k at.
-    settled_is_not_kept c.args.segment.now k c.args.anchor c.args.key.0 c.args.key.1 (c.in-Alive.ensures k at) (λ (h : c.args.anchor < c.args.key.1). omega (arith, h, c.if-anchor-number.false))
+returns-else-anchor-number c =
+    settled_is_not_kept c.args.segment.now c.args.anchor c.args.key.0 c.args.key.1 c.in-Alive.ensures (λ (h : c.args.anchor < c.args.key.1). omega (arith, h, c.if-anchor-number.false))

@@ -1,4 +1,4 @@
-use Rattle.std.proofs.Common.{◌≡◌, ℕ, ◌+◌, ◌<◌, ◌≤◌, List, [], ◌∷◌, ◌++◌, length, get_or, take, map, refl, sym, subst, ◌∙◌, arith, Bor}
+use Rattle.std.proofs.Common.{◌≡◌, ℕ, ◌+◌, ◌<◌, ◌≤◌, List, [], ◌∷◌, ◌++◌, length, get_or, take, map, sym, subst, ◌∙◌, arith}
 use Rattle.std.proofs.lemmas.List.{map-append}
 use Rattle.std.specs.List.{Contains}
 use Rattle.std.specs.Option.{option_copied}
@@ -17,37 +17,37 @@ use Rattle.segment_join.proofs.kept.kept_of.Goals as goal
 use Rattle.segment_join.proofs.kept.kept_of.Goals.{in-Some+in_ok-push, in_default}
 
 pub loop-key-preserved : goal.loop-key-preserved
-loop-key-preserved c = λ k at.
+loop-key-preserved c =
     let s = c.args.segment.now in let held = s.held in let i = c.loop-key.key-index in let anchor = c.anchor-anchor.result in
     let is : c.deref-key-items.result.now ≡ map key_of held = c.deref-key-items.ensures.value ∙ c.in_ok-keys.ensures.keys in
     let lt : i < length held = omega (arith, c.loop-key-test.true, same_length held c.deref-key-items.result.now is) in
     let x = item_at held i lt in
     let key = key_at held c.deref-key-items.result.now i x.0 (0, 0) is lt x.1 in
-    let P : RecordData → Type 0 = IsKeptBy s k anchor in
+    let P : RecordData → Type 0 = IsKeptBy s anchor in
     let T : List RecordData → Type 0 = Lists RecordBefore (λ r. Contains (take (i + 1) held) r × P r) in
     let ys : List RecordData = map (λ r. r.now) c.loop-key.kept.items in
     let low = λ (y : RecordData) (h : Contains (take i held) y) (p : P y). across RecordBefore held i y x.0 c.in_ok-keys.ensures.rising h (item_drop held i x.0 lt x.1) in
     elim c.match-kept_at.branch [
       | in-Some+in_ok-push w ↦
-          let found = at_key s k anchor _ w.in-Some.redo.now x.0 c.in_ok-keys.ensures.rising (item held i x.0 lt x.1) key (w.in-Some.ensures k at) in
-          let more : T (ys ++ x.0 ∷ []) = lists_more RecordBefore P held ys i x.0 lt x.1 found.1 low (c.loop-key.invariant k at) in
+          let found = at_key s anchor _ w.in-Some.redo.now x.0 c.in_ok-keys.ensures.rising (item held i x.0 lt x.1) key w.in-Some.ensures in
+          let more : T (ys ++ x.0 ∷ []) = lists_more RecordBefore P held ys i x.0 lt x.1 found.1 low c.loop-key.invariant in
           let is : map (λ r. r.now) c.match-kept_at.kept.items ≡ ys ++ w.in-Some.redo.now ∷ [] = rw (w.kept-is, w.in_ok-push.ensures.items, map-append) in
           subst T (sym is) (subst (λ (r : RecordData). T (ys ++ r ∷ [])) (sym found.0) more)
       | in_default w ↦
           let at_i : ℕ × ℕ = get_or c.deref-key-items.result.now i (0, 0) in
-          let none = subst (λ found. IsKeptAt s k anchor at_i (option_copied found)) w.in_default.is (c.kept_at.ensures k at) in
-          let left : T ys = lists_left RecordBefore P held ys i x.0 lt x.1 (not_at_key s k anchor at_i x.0 key none) (c.loop-key.invariant k at) in
+          let none = subst (λ found. IsKeptAt s anchor at_i (option_copied found)) w.in_default.is c.kept_at.ensures in
+          let left : T ys = lists_left RecordBefore P held ys i x.0 lt x.1 (not_at_key s anchor at_i x.0 key none) c.loop-key.invariant in
           subst (λ kept. T (map (λ r. r.now) kept.items)) (sym w.kept-is) left
     ]
 
 pub returns : goal.returns
-returns c = λ k anchor at has.
+returns c = λ anchor has.
     let s = c.args.segment.now in let held = s.held in
     let is : c.deref-key-items.result.now ≡ map key_of held = c.deref-key-items.ensures.value ∙ c.in_ok-keys.ensures.keys in
     let end : length held ≤ c.loop-key.key-index = omega (arith, c.loop-key-test.false, same_length held c.deref-key-items.result.now is) in
     let ys : List RecordData = map (λ r. r.now) c.loop-key.kept.items in
-    let own : c.anchor-anchor.result ≡ anchor = greatest_unique (λ n. IsLinkedIn s k n × (n ≤ min_of s)) (λ n. IsLinkedIn s k n × (n ≤ min_of s)) (λ n. (λ u. u, λ u. u)) c.anchor-anchor.result anchor (c.anchor-anchor.ensures.own k at) has in
-    subst (λ n. Lists RecordBefore (IsKeptBy s k n) ys) own
-    (lists_as RecordBefore (λ r. Contains held r × IsKeptBy s k c.anchor-anchor.result r) (IsKeptBy s k c.anchor-anchor.result) ys
+    let own : c.anchor-anchor.result ≡ anchor = greatest_unique (λ n. IsLinkedIn s n × (n ≤ min_of s)) (λ n. IsLinkedIn s n × (n ≤ min_of s)) (λ n. (λ u. u, λ u. u)) c.anchor-anchor.result anchor c.anchor-anchor.ensures.own has in
+    subst (λ n. Lists RecordBefore (IsKeptBy s n) ys) own
+    (lists_as RecordBefore (λ r. Contains held r × IsKeptBy s c.anchor-anchor.result r) (IsKeptBy s c.anchor-anchor.result) ys
     (λ r. (λ h. h.1, λ h. (h.0, h)))
-    (lists_whole RecordBefore (IsKeptBy s k c.anchor-anchor.result) held ys c.loop-key.key-index end (c.loop-key.invariant k at)))
+    (lists_whole RecordBefore (IsKeptBy s c.anchor-anchor.result) held ys c.loop-key.key-index end c.loop-key.invariant))

@@ -1,0 +1,328 @@
+-- Two states of one sound log: what the one tells the other takes, and joined they mean the union.
+use Rattle.std.proofs.Common.{◌≡◌, ◌≢◌, ℕ, ◌<◌, ◌≤◌, ◌⊎◌, inl, inr, ⊎_elim, List, [], ◌∷◌, ◌++◌, length, map, refl, sym, ap, ◌∙◌, subst, arith}
+use Rattle.std.specs.List.{Contains}
+use Rattle.std.proofs.lemmas.List.Elements.{Contains-append_right}
+use Rattle.redo_core.specs.Data.{RecordData, CutData, AdvanceData}
+use Rattle.redo_core.specs.CompleteEpoch.{IsCompleteEpoch}
+use Rattle.redo_core.specs.Past.{CutsBelow, OthersPast}
+use Rattle.redo_core.specs.Points.{HasAdvance, RaisesPoints}
+use Rattle.redo_core.specs.Roster.{IsReader, point_of}
+use Rattle.redo_core.specs.Sets.{IsPart, advances}
+use Rattle.redo_core.specs.Position.{Position, IsPosition}
+use Rattle.redo_core.specs.Sound.{IsSound}
+use Rattle.redo_core.specs.Book.{BookData, roster_of}
+use Rattle.redo_core.specs.Learning.{LearnsAdvance}
+use Rattle.redo_core.specs.declared.facts.Fact.{Fact}
+use Rattle.redo_core.specs.declared.facts.Fact.TheVariants.{Record, Cut, Advance}
+use Rattle.redo_core.proofs.FactParts.{record_in, cut_in, advance_in}
+use Rattle.redo_core.proofs.Members.{none_in, here, there, which}
+use Rattle.redo_laws.proofs.Log.{log_of_sound}
+use Rattle.redo_laws.proofs.Meanings.{in_map, from_map}
+use Rattle.segment_state.specs.State.{State}
+use Rattle.segment_state.specs.Means.{MeansAt, Means}
+use Rattle.segment_state.specs.Known.{IsKnown, Conflicts}
+use Rattle.segment_state.specs.Learning.{StoresAdvance}
+use Rattle.segment_state.proofs.Joining.{join_law}
+use Rattle.segment_state.proofs.Knowing.{takes_known, no_conflict}
+use Rattle.segment_state.proofs.Learnt.{takes_record, takes_cut, takes_advance}
+use Rattle.segment_state.proofs.Booked.{points_as, epoch_of}
+use Rattle.segment_core.specs.Taking.{Stores}
+use Rattle.segment_core.specs.Refusing.{Refuses}
+use Rattle.segment_core.specs.declared.answers.Refusal.{Refusal}
+use Rattle.segment_core.specs.declared.answers.Refusal.TheVariants.{OtherRoster}
+use Rattle.segment_core.proofs.Taking.{refuses_conflicts}
+use Rattle.segment_join.specs.Told.{point_facts, facts_told, AreTold}
+use Rattle.segment_join.specs.InOrder.{TakesOne, TakesEach, RefusesOne}
+use Rattle.segment_join.specs.Joining.{MeansUnion, AreOfOneLog, HaveOneRecordAKey, RefusesJoin, JoinsInto}
+use Rattle.segment_join.proofs.JoinedStates.{joins_whole}
+use Rattle.segment_join.proofs.TakingAll.{IsLate, leaves_one, leaves_all, epoch_grows}
+use Rattle.segment_join.proofs.ToldFacts.{IsPointIn, listed_cut, listed_advance, listed_record}
+
+-- ---- lists of facts that are taken
+-- no fact is refused, and the next state keeps the property
+record Goes (P : State → Type 0) (s : State) (fact : Fact) : Type 0 where
+  free : (why : Refusal) → Refuses s fact why → ⊥
+  next : (t : State) → TakesOne s fact t → P t
+
+all_go : (P : State → Type 0) (facts : List Fact) → ((fact : Fact) → Contains facts fact → (s : State) → P s → Goes P s fact)
+    → (s : State) → P s → ((t : State) → TakesEach s facts t → P t) × ((why : Refusal) → RefusesOne s facts why → ⊥)
+all_go P [] goes s h = (λ t e. subst P (sym e) h, λ why r. r)
+all_go P (fact ∷ facts) goes s h =
+    let one = goes fact (here fact facts) s h in
+    let rest = all_go P facts (λ f x. goes f (there fact facts f x)) in (
+      λ t takes. (rest takes.0 (one.next takes.0 takes.1)).0 t takes.2,
+      λ why r. ⊎_elim
+          (λ (x : Refuses s fact why). one.free why x)
+          (λ (x : (between : State) × TakesOne s fact between × RefusesOne between facts why). (rest x.0 (one.next x.0 x.1)).1 why x.2)
+          r,
+    )
+
+-- a refusal is of the first part, or of the second after the first
+refused_part : (F G : List Fact) (s : State) (why : Refusal) → RefusesOne s (F ++ G) why
+    → RefusesOne s F why ⊎ ((t : State) × TakesEach s F t × RefusesOne t G why)
+refused_part [] G s why r = inr (s, refl, r)
+refused_part (fact ∷ F) G s why r =
+    ⊎_elim
+    (λ (x : Refuses s fact why). inl (inl x))
+    (λ (x : (between : State) × TakesOne s fact between × RefusesOne between (F ++ G) why). ⊎_elim
+    (λ (y : RefusesOne x.0 F why). inl (inr (x.0, x.1, y)))
+    (λ (y : (t : State) × TakesEach x.0 F t × RefusesOne t G why). inr (y.0, (x.0, x.1, y.1), y.2))
+    (refused_part F G x.0 why x.2))
+    r
+
+-- a book and records tell nothing but what facts of the log, which stand at p, have
+pub record TellsPart (roster : ℕ) (log G : List Fact) (p : Position) (b : BookData) (rs : List RecordData) : Type 0 where
+  pub part : IsPart G log
+  pub position : IsPosition roster G p
+  pub complete : IsCompleteEpoch b.cuts b.complete
+  pub epoch : b.complete ≡ p.epoch
+  pub points : b.points ≡ p.points
+  pub cuts : (c : CutData) → Contains b.cuts c → Contains G (Cut c)
+  pub waits : (a : AdvanceData) → Contains b.waits a → Contains G (Advance a)
+  pub records : (r : RecordData) → Contains rs r → Contains log (Record r)
+
+-- ---- one fact of the log
+module _ (roster : ℕ) (log : List Fact) (sound : IsSound roster log) where
+  -- the state means a part of the log
+  InLog : State → Type 0
+  InLog s = (H : List Fact) × Means roster log H s
+
+  late_in : (s : State) → InLog s → IsLate s
+  unfolding InLog
+  late_in s h =
+      let m = h.1.1 in
+      record { epoch = epoch_of m; later = λ a w. ((m.book.waits a).0 w).1 }
+
+  takes_in : (s t : State) (fact : Fact) → InLog s → Contains log fact → TakesOne s fact t → InLog t
+  unfolding InLog
+  takes_in s t fact h inside takes =
+      ⊎_elim
+      (λ (known : IsKnown s fact × (t ≡ s)). (
+        h.0 ++ fact ∷ [],
+        subst (Means roster log (h.0 ++ fact ∷ [])) (sym known.1) (takes_known s fact known.0 roster log h.0 sound inside h.1),
+      ))
+      (λ (new : (IsKnown s fact → ⊥) × Stores s fact t). (h.0 ++ fact ∷ [], stored fact inside new.1))
+      takes.takes
+    where
+      stored : (f : Fact) → Contains log f → Stores s f t → Means roster log (h.0 ++ f ∷ []) t
+      stored (Record r) inside' puts = takes_record s t r puts roster log h.0 sound inside' h.1
+      stored (Cut c) inside' learns = takes_cut s t c learns roster log h.0 sound inside' h.1
+      stored (Advance a) inside' learns = takes_advance s t a learns roster log h.0 sound inside' h.1
+
+  goes_in : (s : State) (fact : Fact) → InLog s → Contains log fact → Goes InLog s fact
+  unfolding InLog
+  goes_in s fact h inside = record {
+    free = λ why r. no_conflict roster log h.0 s fact sound inside h.1 (refuses_conflicts s fact why r);
+    next = λ t takes. takes_in s t fact h inside takes;
+  }
+
+  -- ---- an advance that stands for one of the log: of the same reader and point, and of an epoch from that one's on which is complete
+  record StandsFor (a b : AdvanceData) : Type 0 where
+    inside : Contains log (Advance b)
+    epochs : b.epoch ≤ a.epoch
+    reader_is : a.reader ≡ b.reader
+    point_is : a.point ≡ b.point
+
+  conflicts_as : (s : State) (a b : AdvanceData) → StandsFor a b → Conflicts s (Advance a) → Conflicts s (Advance b)
+  conflicts_as s a b f x =
+      ⊎_elim
+      (λ (no : IsReader (roster_of s.book) a.reader → ⊥). inl (λ r. no (subst (IsReader (roster_of s.book)) (sym f.reader_is) r)))
+      (λ (o : (c : CutData) × Contains s.book.cuts c × CutsBelow s.book.complete s.book.points s.book.waits c a). inr (o.0, o.1, cuts_as o.0 o.2))
+      x
+    where
+      cuts_as : (c : CutData) → CutsBelow s.book.complete s.book.points s.book.waits c a → CutsBelow s.book.complete s.book.points s.book.waits c b
+      cuts_as c o = (
+        (omega (arith, o.0.0, f.epochs), subst (λ p. c.lo < p) f.point_is o.0.1),
+        subst (λ i. (roster_of s.book ≡ 1) ⊎ ((s.book.complete < c.epoch) × OthersPast s.book.points s.book.waits c i)) f.reader_is o.1,
+      )
+
+  raises_as : (k : ℕ) (old new : List ℕ) (a b : AdvanceData) → StandsFor a b → a.epoch ≤ k → RaisesPoints k old (a ∷ []) new
+      → RaisesPoints k old (b ∷ []) new
+  raises_as k old new a b f le raises = record {
+    count = raises.count;
+    each = λ reader r.
+        let g = raises.each reader r in (
+          ⊎_elim
+              (λ (z : point_of new reader ≡ 0). inl z)
+              (λ h. inr (⊎_elim
+              (λ (e : point_of new reader ≡ point_of old reader). inl e)
+              (λ (w : HasAdvance (a ∷ []) k reader (point_of new reader)).
+              let e : a ≡ w.0 = one a w.0 w.1 in
+              inr (b, here b [], omega (arith, le, f.epochs), sym f.reader_is ∙ ap (λ v. v.reader) e ∙ w.3, sym f.point_is ∙ ap (λ v. v.point) e ∙ w.4))
+              h))
+              g.0,
+          λ n h. g.1 n (⊎_elim
+              (λ (e : n ≡ point_of old reader). inl e)
+              (λ (w : HasAdvance (b ∷ []) k reader n).
+              let e : b ≡ w.0 = one b w.0 w.1 in
+              inr (a, here a [], le, f.reader_is ∙ ap (λ v. v.reader) e ∙ w.3, f.point_is ∙ ap (λ v. v.point) e ∙ w.4))
+              h),
+        );
+  }
+    where
+      one : (v w : AdvanceData) → Contains (v ∷ []) w → v ≡ w
+      one v w h = ⊎_elim (λ (e : v ≡ w). e) (λ (x : Contains [] w). absurd (none_in w x)) (which v [] w h)
+
+  learns_as : (old new : BookData) (a b : AdvanceData) → StandsFor a b → a.epoch ≤ old.complete → LearnsAdvance old a new → LearnsAdvance old b new
+  learns_as old new a b f le learns =
+      let counts = learns.known le in
+      record {
+        cuts = learns.cuts;
+        complete = learns.complete;
+        known = λ low. record { points = raises_as old.complete old.points new.points a b f le counts.points; waits = counts.waits };
+        later = λ late. absurd (omega (arith, late, le, f.epochs));
+      }
+
+  goes_as : (s : State) (a b : AdvanceData) → InLog s → StandsFor a b → a.epoch ≤ s.book.complete → Goes InLog s (Advance a)
+  unfolding InLog
+  goes_as s a b h f le = record {
+    free = λ why r. no_conflict roster log h.0 s (Advance b) sound f.inside h.1 (conflicts_as s a b f (refuses_conflicts s (Advance a) why r));
+    next = λ t takes. ⊎_elim
+        (λ (known : IsKnown s (Advance a) × (t ≡ s)). (h.0, subst (Means roster log h.0) (sym known.1) h.1))
+        (λ (new : (IsKnown s (Advance a) → ⊥) × StoresAdvance s a t).
+        let stores : StoresAdvance s b t =
+        record { book = learns_as s.book t.book a b f le new.1.book; held = new.1.held; rest = new.1.rest } in
+        (h.0 ++ Advance b ∷ [], takes_advance s t b stores roster log h.0 sound f.inside h.1))
+        takes.takes;
+  }
+
+  -- ---- what a book and records of the log tell
+  record AreOfLog (b : BookData) (rs : List RecordData) : Type 0 where
+    epoch : IsCompleteEpoch b.cuts b.complete
+    cuts : (c : CutData) → Contains b.cuts c → Contains log (Cut c)
+    waits : (a : AdvanceData) → Contains b.waits a → Contains log (Advance a)
+    points : (a : AdvanceData) → IsPointIn b.complete b.points a → (of : AdvanceData) × StandsFor a of
+    records : (r : RecordData) → Contains rs r → Contains log (Record r)
+
+  module _ (b : BookData) (rs : List RecordData) (facts : List Fact) (is : facts ≡ facts_told b rs) (inside : AreOfLog b rs) where
+    -- a part of the log, with the book's truncations
+    HasCuts : State → Type 0
+    HasCuts s = InLog s × ((c : CutData) → Contains b.cuts c → Contains s.book.cuts c)
+
+    goes_told : (fact : Fact) → Contains facts fact → (s : State) → HasCuts s → Goes InLog s fact
+    unfolding HasCuts
+    goes_told (Cut c) h s x = goes_in s (Cut c) x.0 (inside.cuts c ((listed_cut b rs facts is c).0 h))
+    goes_told (Record r) h s x = goes_in s (Record r) x.0 (inside.records r ((listed_record b rs facts is r).0 h))
+    goes_told (Advance a) h s x =
+        ⊎_elim
+        (λ (w : Contains b.waits a). goes_in s (Advance a) x.0 (inside.waits a w))
+        (λ (at : IsPointIn b.complete b.points a).
+        let of = inside.points a at in
+        let up : b.complete ≤ s.book.complete =
+        epoch_grows b.cuts s.book.cuts b.complete s.book.complete x.1 inside.epoch (late_in s x.0).epoch in
+        goes_as s a of.0 x.0 of.1 (omega (arith, up, at.epoch_is)))
+        ((listed_advance b rs facts is a).0 h)
+
+    keeps_cuts : (fact : Fact) → Contains facts fact → (s : State) → HasCuts s → Goes HasCuts s fact
+    unfolding HasCuts
+    keeps_cuts fact h s x =
+        let goes = goes_told fact h s x in
+        record {
+          free = goes.free;
+          next = λ t takes. (goes.next t takes, λ c y. ((leaves_one s fact t (late_in s x.0) takes).cuts c).1 (inl (x.1 c y)));
+        }
+
+    first_part : List Fact
+    first_part = map Cut b.cuts
+
+    rest_part : List Fact
+    rest_part = point_facts b.complete 1 b.points ++ (map Advance b.waits ++ map Record rs)
+
+    cuts_go : (fact : Fact) → Contains first_part fact → (s : State) → InLog s → Goes InLog s fact
+    unfolding first_part
+    cuts_go fact h s x =
+        let u = from_map Cut b.cuts fact h in
+        goes_in s fact x (subst (Contains log) u.2 (inside.cuts u.0 u.1))
+
+    after_cuts : (s t : State) → InLog s → TakesEach s first_part t → HasCuts t
+    unfolding HasCuts first_part
+    after_cuts s t x takes =
+        let all = leaves_all s (map Cut b.cuts) t (late_in s x) takes in
+        ((all_go InLog first_part cuts_go s x).0 t takes, λ c h. (all.cuts c).1 (inr (in_map Cut b.cuts c h)))
+
+    -- nothing that is told is refused
+    none_refused : (s : State) (why : Refusal) → InLog s → RefusesOne s facts why → ⊥
+    unfolding first_part rest_part
+    none_refused s why x r =
+        ⊎_elim
+        (λ (early : RefusesOne s (map Cut b.cuts) why). (all_go InLog first_part cuts_go s x).1 why early)
+        (λ (late : (t : State) × TakesEach s (map Cut b.cuts) t × RefusesOne t rest_part why).
+        (all_go HasCuts rest_part (λ fact h. keeps_cuts fact (subst (λ fs. Contains fs fact) (sym is)
+        (Contains-append_right first_part rest_part fact h))) late.0 (after_cuts s late.0 x late.1)).1 why late.2)
+        (refused_part (map Cut b.cuts) rest_part s why (subst (λ fs. RefusesOne s fs why) is r))
+
+  -- each reader's point is that of an advance of the log
+  point_of_part : (G : List Fact) (p : Position) (b : BookData) (rs : List RecordData) → TellsPart roster log G p b rs
+      → (a : AdvanceData) → IsPointIn b.complete b.points a → (of : AdvanceData) × StandsFor a of
+  point_of_part G p b rs t a at =
+      let same : point_of b.points a.reader ≡ point_of p.points a.reader = ap (λ ps. point_of ps a.reader) t.points in
+      let count : length b.points ≡ roster = ap length t.points ∙ t.position.points.count in
+      ⊎_elim
+      (λ (z : point_of p.points a.reader ≡ 0). absurd (omega (arith, z, same, at.point_is, at.above)))
+      (λ (of : HasAdvance (advances G) p.epoch a.reader (point_of p.points a.reader)). (
+        of.0,
+        record {
+          inside = t.part (Advance of.0) ((advance_in G of.0).0 of.1);
+          epochs = omega (arith, of.2, t.epoch, at.epoch_is);
+          reader_is = sym of.3;
+          point_is = at.point_is ∙ same ∙ sym of.4;
+        },
+      ))
+      (t.position.points.each a.reader (subst (λ n. IsReader n a.reader) count at.reader)).0
+
+  -- nothing that they tell is refused
+  pub none_of_part : (s : State) (F G : List Fact) (p : Position) (b : BookData) (rs : List RecordData) → Means roster log F s → TellsPart roster log G p b rs
+      → (why : Refusal) → RefusesOne s (facts_told b rs) why → ⊥
+  unfolding InLog
+  none_of_part s F G p b rs m t why r =
+      none_refused b rs (facts_told b rs) refl
+      (record {
+        epoch = t.complete;
+        cuts = λ c h. t.part (Cut c) (t.cuts c h);
+        waits = λ a h. t.part (Advance a) (t.waits a h);
+        points = point_of_part G p b rs t;
+        records = t.records;
+      })
+      s why (F, m) r
+
+  -- ---- what a state of the log tells
+  module _ (other : State) (facts G : List Fact) (means : Means roster log G other) (told : AreTold other facts) where
+    m : MeansAt roster log G means.0 other
+    m = means.1
+
+    part_of : TellsPart roster log G means.0 other.book told.kept
+    unfolding m
+    part_of = record {
+      part = m.part;
+      position = m.position;
+      complete = epoch_of m;
+      epoch = m.epoch;
+      points = points_as m;
+      cuts = λ c h. (cut_in G c).0 ((m.book.same_cuts c).0 h);
+      waits = λ a h. (advance_in G a).0 ((m.book.waits a).0 h).0;
+      records = λ r h. (record_in log r).0 (m.of_log r ((told.kept_are.members r).0 h).0);
+    }
+
+  not_refused : (s other : State) (F G : List Fact) → Means roster log F s → Means roster log G other → (why : Refusal) → RefusesJoin s other why → ⊥
+  not_refused s other F G a b why r =
+      ⊎_elim
+      (λ (x : (roster_of s.book ≢ roster_of other.book) × (why ≡ OtherRoster (roster_of s.book) (roster_of other.book))). x.0 (a.1.readers ∙ sym b.1.readers))
+      (λ (x : (roster_of s.book ≡ roster_of other.book) × (facts : List Fact) × AreTold other facts × RefusesOne s facts why).
+      none_of_part s F G b.0 other.book x.2.kept a (part_of other x.1 G b x.2) why (subst (λ fs. RefusesOne s fs why) x.2.facts_are x.3))
+      r
+
+  one_record_a_key : (s other : State) (F G : List Fact) → Means roster log F s → Means roster log G other → HaveOneRecordAKey s other
+  one_record_a_key s other F G a b r q hr hq e n = (log_of_sound roster log sound).same_record r q (a.1.of_log r hr) (b.1.of_log q hq) e n
+
+-- a join of two states of one sound log is not refused
+pub sound_join : (s other : State) (why : Refusal) → RefusesJoin s other why → AreOfOneLog s other → ⊥
+sound_join s other why r one = not_refused one.0 one.1 one.4 s other one.2 one.3 one.5 one.6 why r
+
+-- no two records of one key stand in them
+pub of_one_log : (s other : State) → AreOfOneLog s other → HaveOneRecordAKey s other
+of_one_log s other one = one_record_a_key one.0 one.1 one.4 s other one.2 one.3 one.5 one.6
+
+-- and joined they mean the union
+pub means_union : (s other new : State) → JoinsInto s other new → MeansUnion s other new
+means_union s other new joins roster log F G sound a b =
+    join_law log F G s other new (log_of_sound roster log sound) a b (joins_whole s other new joins (one_record_a_key roster log sound s other F G a b))

@@ -1,0 +1,349 @@
+-- What a state and another one know together, when each fact that the other tells was taken.
+use Rattle.std.proofs.Common.{◌≡◌, ℕ, ◌<◌, ◌≤◌, ◌⊎◌, ◌↔◌, inl, inr, ⊎_elim, List, max, refl, sym, ap, ◌∙◌, subst, arith}
+use Rattle.std.specs.List.{Contains}
+use Rattle.std.proofs.Math.Nat.{le-max_left, le-max_right, max-eq_left, max-eq_right}
+use Rattle.std.proofs.lemmas.List.Elements.{All-contains}
+use Rattle.redo_core.specs.Data.{RecordData, CutData, AdvanceData, advance_of}
+use Rattle.redo_core.specs.Order.{IsGreatest}
+use Rattle.redo_core.specs.Roster.{IsReader, point_of, least}
+use Rattle.redo_core.specs.Standing.{IsAlive, IsDead, IsWaiting}
+use Rattle.redo_core.specs.CompleteEpoch.{IsCompleteEpoch}
+use Rattle.redo_core.specs.Book.{BookData, roster_of}
+use Rattle.redo_core.specs.declared.facts.Fact.{Fact}
+use Rattle.redo_core.specs.declared.facts.Fact.TheVariants.{Record, Cut, Advance}
+use Rattle.redo_core.proofs.Points.{least_mono}
+use Rattle.redo_laws.proofs.Deciding.{settled_lt, settled_eq, some_or_none}
+use Rattle.redo_laws.proofs.Storing.{stored_images}
+use Rattle.page_base.specs.Raising.{SamePage}
+use Rattle.page_base.specs.Merging.{IsTaken, IsFloored, Merges}
+use Rattle.segment_state.specs.State.{State, StoredImage, min_of, version_of, image_of}
+use Rattle.segment_state.specs.Means.{Matters, IsInImage}
+use Rattle.segment_state.specs.Joining.{JoinedPoint, JoinsBooks, Joins}
+use Rattle.segment_core.specs.Form.{IsSegment}
+use Rattle.segment_core.specs.Refusing.{HoldsOther}
+use Rattle.segment_core.specs.Uniting.{draft_of, Unites}
+use Rattle.segment_join.specs.Told.{AreTold}
+use Rattle.segment_join.specs.InOrder.{TakesEach}
+use Rattle.segment_join.specs.Joining.{HaveOneRecordAKey, JoinsInto}
+use Rattle.segment_join.specs.Holding.{InOtherImage, IsSpared, HoldsRest}
+use Rattle.segment_join.specs.Newer.{AreNewer}
+use Rattle.segment_join.proofs.Keeping.{one_of_key}
+use Rattle.segment_join.proofs.TakingAll.{IsLate, IsToldAdvance, ToldPoint, LeavesAll, leaves_all, epoch_grows}
+use Rattle.segment_join.proofs.ToldFacts.{IsPointIn, told_cut, told_advance, told_record}
+
+pub late_of : (s : State) → IsSegment s → IsLate s
+late_of s form = record {
+  epoch = form.book.complete;
+  later = λ a h. All-contains (λ w. s.book.complete < w.epoch) s.book.waits a form.book.waits_later h;
+}
+
+-- a draft has taken what the other tells
+pub record IsTold (old other taken : State) (facts : List Fact) : Type 0 where
+  pub own : IsSegment old
+  pub shown : IsSegment other
+  pub one_roster : roster_of old.book ≡ roster_of other.book
+  pub told : AreTold other facts
+  pub takes : TakesEach (draft_of old) facts taken
+
+-- and holds the rest, and the new state is what the two know together
+pub record IsUnion (old other taken draft : State) (facts : List Fact) (images : List StoredImage) (new : State) : Type 0 where
+  pub first : IsTold old other taken facts
+  pub holds : HoldsRest taken other draft
+  pub newer : AreNewer old.store other.store images
+  pub unites : Unites old draft other.base other.store.floor images new
+
+-- a draft has taken what a book tells, among other facts
+pub record HasBook (old : State) (b : BookData) (facts : List Fact) (taken : State) : Type 0 where
+  pub own : IsLate old
+  pub epoch : IsCompleteEpoch b.cuts b.complete
+  pub one_roster : roster_of old.book ≡ roster_of b
+  pub cut : (c : CutData) → Contains facts (Cut c) ↔ Contains b.cuts c
+  pub advance : (a : AdvanceData) → Contains facts (Advance a) ↔ (Contains b.waits a ⊎ IsPointIn b.complete b.points a)
+  pub takes : TakesEach (draft_of old) facts taken
+
+module _ (old taken : State) (b : BookData) (facts : List Fact) (d : HasBook old b facts taken) where
+  pub all : LeavesAll (draft_of old) facts taken
+  all = leaves_all (draft_of old) facts taken (record { epoch = d.own.epoch; later = d.own.later }) d.takes
+
+  -- the other's complete epoch is at most the new one
+  epochs : b.complete ≤ taken.book.complete
+  epochs = epoch_grows b.cuts taken.book.cuts b.complete taken.book.complete
+      (λ c h. (all.cuts c).1 (inr ((d.cut c).1 h))) d.epoch all.epoch
+
+  cuts_joined : (c : CutData) → Contains taken.book.cuts c ↔ (Contains old.book.cuts c ⊎ Contains b.cuts c)
+  cuts_joined c = (
+    λ h. ⊎_elim (λ (x : Contains old.book.cuts c). inl x) (λ (x : Contains facts (Cut c)). inr ((d.cut c).0 x)) ((all.cuts c).0 h),
+    λ h. (all.cuts c).1 (⊎_elim (λ (x : Contains old.book.cuts c). inl x) (λ (x : Contains b.cuts c). inr ((d.cut c).1 x)) h),
+  )
+
+  -- an advance that is told waits on a side, or is a reader's point of the other
+  sides : (a : AdvanceData) → IsToldAdvance (draft_of old) facts a
+      → (Contains old.book.waits a ⊎ Contains b.waits a) ⊎ IsPointIn b.complete b.points a
+  sides a h =
+      ⊎_elim
+      (λ (x : Contains old.book.waits a). inl (inl x))
+      (λ (x : Contains facts (Advance a)). ⊎_elim
+      (λ (y : Contains b.waits a). inl (inr y))
+      (λ (y : IsPointIn b.complete b.points a). inr y)
+      ((d.advance a).0 x))
+      h
+
+  told_wait : (a : AdvanceData) → Contains old.book.waits a ⊎ Contains b.waits a → IsToldAdvance (draft_of old) facts a
+  told_wait a h =
+      ⊎_elim (λ (x : Contains old.book.waits a). inl x) (λ (x : Contains b.waits a). inr ((d.advance a).1 (inl x))) h
+
+  waits_joined : (a : AdvanceData) → Contains taken.book.waits a ↔ ((Contains old.book.waits a ⊎ Contains b.waits a) × (taken.book.complete < a.epoch))
+  waits_joined a = (
+    λ h. let x = (all.waits a).0 h in (
+      ⊎_elim
+          (λ (y : Contains old.book.waits a ⊎ Contains b.waits a). y)
+          (λ (y : IsPointIn b.complete b.points a).
+          let le = epochs in
+          let up : taken.book.complete < a.epoch = x.1 in
+          absurd (omega (arith, le, up, y.epoch_is)))
+          (sides a x.0),
+      x.1,
+    ),
+    λ h. (all.waits a).1 (told_wait a h.0, h.1),
+  )
+
+  -- a reader's point of the other has been told, unless it is 0
+  point_reached : (reader : ℕ) → IsReader (roster_of old.book) reader → point_of b.points reader ≤ point_of taken.book.points reader
+  point_reached reader r =
+      ⊎_elim
+      (λ (up : 0 < point_of b.points reader).
+      let a : AdvanceData = advance_of b.complete reader (point_of b.points reader) in
+      let at : IsPointIn b.complete b.points a =
+      record { epoch_is = refl; reader = subst (λ n. IsReader n reader) d.one_roster r; point_is = refl; above = omega (arith, up) } in
+      (all.points reader r).1 (point_of b.points reader) (inr (a, inr ((d.advance a).1 (inr at)), epochs, refl, refl)))
+      (λ (down : 0 < point_of b.points reader → ⊥). omega (arith, down))
+      (settled_lt 0 (point_of b.points reader))
+
+  point_joined : (reader : ℕ) → IsReader (roster_of old.book) reader
+      → IsGreatest (JoinedPoint taken.book.complete old.book.points old.book.waits b.points b.waits reader)
+      (point_of taken.book.points reader)
+  point_joined reader r =
+      let g : IsGreatest (ToldPoint taken.book.complete (draft_of old) facts reader) (point_of taken.book.points reader) = all.points reader r in (
+        ⊎_elim
+            (λ (z : point_of taken.book.points reader ≡ 0). inl z)
+            (λ (h : ToldPoint taken.book.complete (draft_of old) facts reader (point_of taken.book.points reader)). inr (⊎_elim
+            (λ (e : point_of taken.book.points reader ≡ point_of old.book.points reader). inl e)
+            (λ (a : (a : AdvanceData) × IsToldAdvance (draft_of old) facts a × (a.epoch ≤ taken.book.complete) × (a.reader ≡ reader)
+            × (a.point ≡ point_of taken.book.points reader)).
+            inr (⊎_elim
+            (λ (x : Contains old.book.waits a.0 ⊎ Contains b.waits a.0). inr (a.0, x, a.2, a.3, a.4))
+            (λ (x : IsPointIn b.complete b.points a.0). inl (sym a.4 ∙ x.point_is ∙ ap (λ i. point_of b.points i) a.3))
+            (sides a.0 a.1)))
+            h))
+            g.0,
+        λ n h. ⊎_elim
+            (λ (e : n ≡ point_of old.book.points reader). g.1 n (inl e))
+            (λ rest. ⊎_elim
+            (λ (e : n ≡ point_of b.points reader). let x = point_reached reader r in omega (arith, e, x))
+            (λ (a : (a : AdvanceData) × (Contains old.book.waits a ⊎ Contains b.waits a) × (a.epoch ≤ taken.book.complete)
+            × (a.reader ≡ reader) × (a.point ≡ n)).
+            g.1 n (inr (a.0, told_wait a.0 a.1, a.2, a.3, a.4)))
+            rest)
+            h,
+      )
+
+  pub book_joined : JoinsBooks old.book b taken.book
+  book_joined = record {
+    cuts = cuts_joined;
+    complete = all.epoch;
+    points = record { count = all.count; each = point_joined };
+    waits = waits_joined;
+  }
+
+  -- the book's least point is at most that of what took the facts
+  pub least_fits : least b.points ≤ min_of taken
+  least_fits = least_mono (roster_of old.book) b.points taken.book.points (sym d.one_roster) all.count point_reached
+
+-- what another state tells is its book's
+module _ (old other taken : State) (facts : List Fact) (d : IsTold old other taken facts) where
+  pub of_told : HasBook old other.book facts taken
+  of_told = record {
+    own = late_of old d.own;
+    epoch = d.shown.book.complete;
+    one_roster = d.one_roster;
+    cut = told_cut other facts d.told;
+    advance = told_advance other facts d.told;
+    takes = d.takes;
+  }
+
+  told_all : LeavesAll (draft_of old) facts taken
+  told_all = all old taken other.book facts of_told
+
+  -- the other's base point is at most the least point of what took the facts and holds the rest
+  pub base_fits_draft : (draft : State) → HoldsRest taken other draft → other.base ≤ min_of draft
+  base_fits_draft draft holds =
+      let low : least other.book.points ≤ min_of taken = least_fits old taken other.book facts of_told in
+      let base : other.base ≤ least other.book.points = d.shown.base in
+      subst (λ k. other.base ≤ least k.points) (sym holds.book) (omega (arith, low, base))
+
+-- ---- images
+-- an image that is stored is its page's
+pub shown_image : (s : State) → IsSegment s → (i : StoredImage) → Contains s.store.images i
+    → (version_of s.store i.page ≡ i.version) × (image_of s.store i.page ≡ i.bytes)
+shown_image s form i h = (stored_images s.store form.store.rising).0 i h
+
+module _ (old other taken draft new : State) (facts : List Fact) (images : List StoredImage) (u : IsUnion old other taken draft facts images new) where
+  merges : Merges old.store other.store.floor images new.store
+  merges = u.unites.store
+
+  -- an image of the other that a page of a lower version lacks is taken in
+  image_up : (i : StoredImage) → Contains other.store.images i → i.version ≤ version_of new.store i.page
+  image_up i h =
+      ⊎_elim
+      (λ (up : version_of old.store i.page < i.version). merges.not_below i ((u.newer i).1 (h, up)))
+      (λ (down : version_of old.store i.page < i.version
+      → ⊥). let x : version_of old.store i.page ≤ version_of new.store i.page = merges.not_older i.page in omega (arith, x, down))
+      (settled_lt (version_of old.store i.page) i.version)
+
+  newest_of : (g : ℕ) → version_of other.store g ≤ version_of new.store g
+  newest_of g =
+      ⊎_elim
+      (λ (s : (i : StoredImage) × Contains other.store.images i × (i.page ≡ g)).
+      let e : version_of other.store s.0.page ≡ s.0.version = (shown_image other u.first.shown s.0 s.1).0 in
+      let x : s.0.version ≤ version_of new.store s.0.page = image_up s.0 s.1 in
+      subst (λ p. version_of other.store p ≤ version_of new.store p) s.2 (omega (arith, e, x)))
+      (λ (none : (i : StoredImage) → Contains other.store.images i → i.page ≡ g → ⊥).
+      let e : version_of other.store g ≡ other.store.floor = ((stored_images other.store u.first.shown.store.rising).1 g none).0 in
+      let x : other.store.floor ≤ version_of new.store g = merges.floored g in
+      omega (arith, e, x))
+      (some_or_none (λ (i : StoredImage). i.page ≡ g) (λ i. settled_eq i.page g) other.store.images)
+
+  -- a page that is zeros at the floor has no image in the other
+  floored_of : (g : ℕ) → version_of old.store g < version_of new.store g → IsFloored other.store.floor images new.store g
+      → (version_of new.store g ≡ version_of other.store g) × (image_of new.store g ≡ image_of other.store g)
+  floored_of g up floored =
+      let none = (stored_images other.store u.first.shown.store.rising).1 g (λ i h e.
+      let high : other.store.floor ≤ i.version = u.first.shown.store.high i h in
+      let is : version_of new.store g ≡ other.store.floor = floored.1 in
+      let above : version_of old.store i.page < i.version = subst (λ p. version_of old.store p < i.version) (sym e) (omega (arith, up, high, is)) in
+      let low : i.version < other.store.floor = floored.0 i ((u.newer i).1 (h, above)) e in
+      omega (arith, low, high)) in
+      (floored.1 ∙ sym none.0, floored.2 ∙ sym none.1)
+
+  taken_of : (g : ℕ) → IsTaken images new.store g → (version_of new.store g ≡ version_of other.store g) × (image_of new.store g ≡ image_of other.store g)
+  taken_of g t =
+      let own = shown_image other u.first.shown t.0 ((u.newer t.0).0 t.1).0 in
+      (t.3 ∙ sym own.0 ∙ ap (λ p. version_of other.store p) t.2, t.4 ∙ sym own.1 ∙ ap (λ p. image_of other.store p) t.2)
+
+  images_joined : (g : ℕ) → SamePage old.store new.store g
+      ⊎ ((version_of old.store g < version_of new.store g) × SamePage other.store new.store g)
+  images_joined g =
+      ⊎_elim
+      (λ (x : SamePage old.store new.store g). inl x)
+      (λ (x : (version_of old.store g < version_of new.store g) × (IsTaken images new.store g ⊎ IsFloored other.store.floor images new.store g)).
+      inr (x.0, ⊎_elim (taken_of g) (floored_of g x.0) x.1))
+      (merges.page g)
+
+  -- ---- base point and records
+  base_is : new.base ≡ max old.base other.base
+  base_is =
+      u.unites.base_is ∙ ap (λ b. max b other.base) (u.holds.rest.base ∙ (told_all old other taken facts u.first).base)
+
+  base_joined : ((new.base ≡ old.base) ⊎ (new.base ≡ other.base)) × (old.base ≤ new.base) × (other.base ≤ new.base)
+  base_joined =
+      let e = base_is in
+      let x : old.base ≤ max old.base other.base = le-max_left old.base other.base in
+      let y : other.base ≤ max old.base other.base = le-max_right old.base other.base in (
+        ⊎_elim
+            (λ (up : old.base < other.base). inr (let z : max old.base other.base ≡ other.base = max-eq_right (omega (arith, up)) in e ∙ z))
+            (λ (down : old.base < other.base → ⊥). inl (let z : max old.base other.base ≡ old.base = max-eq_left (omega (arith, down)) in e ∙ z))
+            (settled_lt old.base other.base),
+        omega (arith, e, x),
+        omega (arith, e, y),
+      )
+
+  held_is : (r : RecordData) → Contains draft.held r ↔ Contains new.held r
+  held_is r = (λ h. subst (λ hs. Contains hs r) (sym u.unites.held) h, λ h. subst (λ hs. Contains hs r) u.unites.held h)
+
+  -- what is held after the facts comes from a side
+  from_sides : (r : RecordData) → Contains taken.held r → Contains old.held r ⊎ Contains other.held r
+  from_sides r h =
+      ⊎_elim
+      (λ (x : Contains old.held r). inl x)
+      (λ (x : Contains facts (Record r)). inr ((told_record other facts u.first.told r).0 x).0)
+      ((told_all old other taken facts u.first).more r h)
+
+  of_both : (r : RecordData) → Contains new.held r → Contains old.held r ⊎ Contains other.held r
+  of_both r h = ⊎_elim (from_sides r) (λ (x : Contains other.held r). inr x) (u.holds.more r ((held_is r).1 h))
+
+  -- another record of its key was held before
+  held_before : (r : RecordData) → Contains other.held r → HoldsOther taken r → HoldsOther old r
+  held_before r h o =
+      ⊎_elim
+      (λ (x : Contains old.held o.0). (o.0, x, o.2, o.3, o.4))
+      (λ (x : Contains other.held o.0). absurd (o.4 (one_of_key other.held o.0 r u.first.shown.held.rising x h o.2 o.3)))
+      (from_sides o.0 o.1)
+
+  book_is : new.book ≡ taken.book
+  book_is = u.unites.book ∙ u.holds.book
+
+  own_joined : (r : RecordData) → Contains old.held r → Contains new.held r
+  own_joined r h = (held_is r).0 (u.holds.before r ((told_all old other taken facts u.first).before r h))
+
+  others_joined : (r : RecordData) → Contains other.held r → Matters new.book.cuts new.book.complete r
+      → Contains new.held r ⊎ (IsInImage new r ⊎ HoldsOther old r)
+  others_joined r h mat =
+      ⊎_elim
+      (λ (y : Contains draft.held r). inl ((held_is r).0 y))
+      (λ (spared : IsSpared taken other r). ⊎_elim
+      (λ (o : HoldsOther taken r). inr (inr (held_before r h o)))
+      (λ rest. ⊎_elim
+      (λ (dead : IsDead taken.book.cuts taken.book.complete r.epoch r.number). absurd (not_dead dead))
+      (λ (f : InOtherImage taken other r). inr (inl (in_image f)))
+      rest)
+      spared)
+      (u.holds.each r h)
+    where
+      not_dead : IsDead taken.book.cuts taken.book.complete r.epoch r.number → ⊥
+      not_dead dead =
+          ⊎_elim
+          (λ (w : IsWaiting taken.book.complete r.epoch). let x : r.epoch ≤ taken.book.complete = dead.0 in omega (arith, w, x))
+          (λ (a : IsAlive taken.book.cuts taken.book.complete r.epoch r.number). dead.1 a)
+          (subst (λ b. Matters b.cuts b.complete r) book_is mat)
+
+      in_image : InOtherImage taken other r → IsInImage new r
+      in_image f =
+          let b : other.base ≤ new.base = base_joined.2 in
+          let v : version_of other.store r.page ≤ version_of new.store r.page = newest_of r.page in
+          (subst (λ b. r.epoch ≤ b.complete) (sym book_is) f.0, omega (arith, f.1, b), omega (arith, f.2, v))
+
+  pub joins_both : JoinsInto old other new
+  joins_both = record {
+    book = subst (JoinsBooks old.book other.book) (sym book_is) (book_joined old taken other.book facts (of_told old other taken facts u.first));
+    base = base_joined;
+    own = own_joined;
+    others = others_joined;
+    of_both = of_both;
+    images = images_joined;
+    newest = newest_of;
+  }
+
+-- where no two records of one key stand in them, that is what the two know together
+pub joins_whole : (old other new : State) → JoinsInto old other new → HaveOneRecordAKey old other → Joins old other new
+joins_whole old other new j one = record {
+  book = j.book;
+  base = j.base;
+  of_both = j.of_both;
+  kept = λ r h mat. ⊎_elim (λ (x : Contains old.held r). inl (j.own r x)) (λ (x : Contains other.held r). from_other r x mat) h;
+  images = λ g. ⊎_elim (λ (x : SamePage old.store new.store g). inl x) (λ x. inr x.1) (j.images g);
+  newest = λ g. (not_older g, j.newest g);
+}
+  where
+    from_other : (r : RecordData) → Contains other.held r → Matters new.book.cuts new.book.complete r → Contains new.held r ⊎ IsInImage new r
+    from_other r x mat =
+        ⊎_elim
+        (λ (y : Contains new.held r). inl y)
+        (λ rest. ⊎_elim (λ (y : IsInImage new r). inr y) (λ (o : HoldsOther old r). absurd (o.4 (one o.0 r o.1 x o.2 o.3))) rest)
+        (j.others r x mat)
+
+    not_older : (g : ℕ) → version_of old.store g ≤ version_of new.store g
+    not_older g =
+        ⊎_elim
+        (λ (x : SamePage old.store new.store g). let e : version_of new.store g ≡ version_of old.store g = x.0 in omega (arith, e))
+        (λ x. let lt : version_of old.store g < version_of new.store g = x.0 in omega (arith, lt))
+        (j.images g)

@@ -1,0 +1,171 @@
+-- What a draft holds after a loop over the other state's held records, and which images a loop has picked.
+use Rattle.std.proofs.Common.{◌≡◌, ◌↔◌, ℕ, ◌+◌, ◌<◌, ◌≤◌, ◌⊎◌, inl, inr, ⊎_elim, List, [], ◌∷◌, ◌++◌, length, get_or, take, Some, None, Result, Ok, Err, OnOk, refl, sym, ap, subst, ◌∙◌}
+use Rattle.std.specs.List.{Contains}
+use Rattle.std.proofs.lemmas.List.{take_more, take_all}
+use Rattle.std.proofs.lemmas.List.Elements.{Contains-append_left, Contains-append_right, Contains-append_cases}
+use Rattle.redo_core.specs.Data.{RecordData}
+use Rattle.redo_core.specs.Order.{IsRising, RecordBefore}
+use Rattle.redo_core.specs.Standing.{IsDead}
+use Rattle.redo_core.proofs.Members.{none_in, here, which}
+use Rattle.hot_log.specs.Held.{HasKey, IsRecordAt}
+use Rattle.segment_state.specs.State.{State, SameBase}
+use Rattle.segment_core.specs.Uniting.{Holds}
+use Rattle.segment_core.specs.Refusing.{HoldsOther}
+use Rattle.segment_core.specs.Keys.{key_of}
+use Rattle.segment_join.specs.Holding.{InOtherImage, IsSpared, HoldsRest}
+use Rattle.segment_join.specs.Drafting.{HoldsAt}
+use Rattle.segment_join.proofs.Keeping.{one_of_key}
+
+pub ok_as : {X E : Type 0} (result : Result X E) (P Q : Type 0) → (P → Q) → OnOk result P → OnOk result Q
+ok_as (Ok x) P Q to p = to p
+ok_as (Err e) P Q to p = tt
+
+-- the one there is, or one of those before it
+last_or : {X : Type 0} (xs : List X) (i : ℕ) (x r : X) → i < length xs → x ≡ get_or xs i x → Contains (take (i + 1) xs) r → Contains (take i xs) r ⊎ (r ≡ x)
+last_or xs i x r lt is has =
+    ⊎_elim
+    (λ (h : Contains (take i xs) r). inl h)
+    (λ (h : Contains (get_or xs i x ∷ []) r). inr (⊎_elim (λ (e : get_or xs i x ≡ r). sym (is ∙ e)) (λ (e : Contains [] r). absurd (none_in r e)) (which (get_or xs i x) [] r h)))
+    (Contains-append_cases (take i xs) (get_or xs i x ∷ []) r (subst (λ ys. Contains ys r) (take_more xs i x lt) has))
+
+-- ---- one key
+pub holds_none : (s other : State) (key : ℕ × ℕ) → IsRecordAt other.held key.0 key.1 None → HoldsAt s other key s
+holds_none s other key none = record {
+  book = refl;
+  rest = record { base = refl; store = refl };
+  before = λ r h. h;
+  more = λ r h. inl h;
+  each = λ r has is. absurd (none r has is);
+}
+
+pub holds_spared : (s other : State) (key : ℕ × ℕ) (redo : RecordData) → IsRising RecordBefore other.held → IsRecordAt other.held key.0 key.1 (Some redo)
+    → (IsDead s.book.cuts s.book.complete redo.epoch redo.number ⊎ InOtherImage s other redo) → HoldsAt s other key s
+holds_spared s other key redo rising at spared = record {
+  book = refl;
+  rest = record { base = refl; store = refl };
+  before = λ r h. h;
+  more = λ r h. inl h;
+  each = λ r has is.
+      let same : redo ≡ r = one_of_key other.held redo r rising at.0 has (at.1.0 ∙ sym is.0) (at.1.1 ∙ sym is.1) in
+      inr (inr (subst (λ x. IsDead s.book.cuts s.book.complete x.epoch x.number ⊎ InOtherImage s other x) same spared));
+}
+
+pub holds_copy : (s other : State) (key : ℕ × ℕ) (redo : RecordData) (t : State) → IsRising RecordBefore other.held → IsRecordAt other.held key.0 key.1 (Some redo)
+    → Holds s redo t → HoldsAt s other key t
+holds_copy s other key redo t rising at holds = record {
+  book = holds.book;
+  rest = holds.rest;
+  before = holds.before;
+  more = λ r h. ⊎_elim (λ (x : Contains s.held r). inl x) (λ (x : r ≡ redo). inr (subst (Contains other.held) (sym x) at.0)) (holds.more r h);
+  each = λ r has is.
+      let same : redo ≡ r = one_of_key other.held redo r rising at.0 has (at.1.0 ∙ sym is.0) (at.1.1 ∙ sym is.1) in
+      ⊎_elim
+      (λ (x : Contains t.held redo). inl (subst (Contains t.held) same x))
+      (λ (x : HoldsOther s redo). inr (inl (subst (HoldsOther s) same x)))
+      holds.held;
+}
+
+-- ---- the keys of the held records up to a place
+pub record HoldsFirst (i : ℕ) (draft other new : State) : Type 0 where
+  pub book : new.book ≡ draft.book
+  pub rest : SameBase draft new
+  pub before : (r : RecordData) → Contains draft.held r → Contains new.held r
+  pub more : (r : RecordData) → Contains new.held r → Contains draft.held r ⊎ Contains other.held r
+  pub each : (r : RecordData) → Contains (take i other.held) r → Contains new.held r ⊎ IsSpared draft other r
+
+pub first_none : (draft other : State) → HoldsFirst 0 draft other draft
+first_none draft other = record {
+  book = refl;
+  rest = record { base = refl; store = refl };
+  before = λ r h. h;
+  more = λ r h. inl h;
+  each = λ r has. absurd (none_in r has);
+}
+
+-- another one under its key is not of the other state's held records, so the draft held it
+spared_before : (draft other mid : State) (r : RecordData) → IsRising RecordBefore other.held → Contains other.held r
+    → ((x : RecordData) → Contains mid.held x → Contains draft.held x ⊎ Contains other.held x) → mid.book ≡ draft.book
+    → IsSpared mid other r → IsSpared draft other r
+spared_before draft other mid r rising has more same spared =
+    ⊎_elim
+    (λ (h : HoldsOther mid r). ⊎_elim
+    (λ (x : Contains draft.held h.0). inl (h.0, x, h.2, h.3, h.4))
+    (λ (x : Contains other.held h.0). absurd (h.4 (one_of_key other.held h.0 r rising x has h.2 h.3)))
+    (more h.0 h.1))
+    (λ (h : IsDead mid.book.cuts mid.book.complete r.epoch r.number ⊎ InOtherImage mid other r). inr (⊎_elim
+    (λ (x : IsDead mid.book.cuts mid.book.complete r.epoch r.number). inl (subst (λ b. IsDead b.cuts b.complete r.epoch r.number) same x))
+    (λ (x : InOtherImage mid other r). inr (subst (λ b. r.epoch ≤ b.complete) same x.0, x.1, x.2)) h))
+    spared
+
+pub first_next : (i : ℕ) (draft other mid new : State) (key : ℕ × ℕ) (x : RecordData) → IsRising RecordBefore other.held
+    → i < length other.held → x ≡ get_or other.held i x → key_of x ≡ key → Contains other.held x
+    → HoldsFirst i draft other mid → HoldsAt mid other key new → HoldsFirst (i + 1) draft other new
+first_next i draft other mid new key x rising lt is at has first holds = record {
+  book = holds.book ∙ first.book;
+  rest = record { base = holds.rest.base ∙ first.rest.base; store = holds.rest.store ∙ first.rest.store };
+  before = λ r h. holds.before r (first.before r h);
+  more = λ r h. ⊎_elim (λ (y : Contains mid.held r). first.more r y) (λ (y : Contains other.held r). inr y) (holds.more r h);
+  each = λ r h.
+      ⊎_elim
+      (λ (y : Contains (take i other.held) r). ⊎_elim (λ (z : Contains mid.held r). inl (holds.before r z)) (λ (z : IsSpared draft other r). inr z) (first.each r y))
+      (λ (y : r ≡ x).
+      let there : Contains other.held r = subst (Contains other.held) (sym y) has in
+      let of_key : HasKey key.0 key.1 r = (ap (λ (z : RecordData). z.epoch) y ∙ ap (λ (z : ℕ × ℕ). z.0) at, ap (λ (z : RecordData). z.number) y ∙ ap (λ (z : ℕ × ℕ). z.1) at) in
+      ⊎_elim
+      (λ (z : Contains new.held r). inl z)
+      (λ (z : IsSpared mid other r). inr (spared_before draft other mid r rising there first.more first.book z))
+      (holds.each r there of_key))
+      (last_or other.held i x r lt is h);
+}
+
+pub first_all : (i : ℕ) (draft other new : State) → length other.held ≤ i → HoldsFirst i draft other new → HoldsRest draft other new
+first_all i draft other new end first = record {
+  book = first.book;
+  rest = first.rest;
+  before = first.before;
+  more = first.more;
+  each = λ r h. first.each r (subst (λ rs. Contains rs r) (sym (take_all i other.held end)) h);
+}
+
+-- ---- the things with P among the first of a list
+abbrev pub Picks : {X : Type 0} (P : X → Type 0) → List X → ℕ → List X → Type 0
+Picks {X} P xs i picked = (y : X) → Contains picked y ↔ (Contains (take i xs) y × P y)
+
+pub picks_none : {X : Type 0} (P : X → Type 0) (xs : List X) → Picks P xs 0 []
+picks_none P xs y = (λ h. absurd (none_in y h), λ h. h.0)
+
+seen_next : {X : Type 0} (xs : List X) (i : ℕ) (x y : X) → i < length xs → Contains (take i xs) y → Contains (take (i + 1) xs) y
+seen_next xs i x y lt h = subst (λ ys. Contains ys y) (sym (take_more xs i x lt)) (Contains-append_left (take i xs) (get_or xs i x ∷ []) y h)
+
+seen_last : {X : Type 0} (xs : List X) (i : ℕ) (x : X) → i < length xs → x ≡ get_or xs i x → Contains (take (i + 1) xs) x
+seen_last xs i x lt is =
+    subst (λ ys. Contains ys x) (sym (take_more xs i x lt))
+    (Contains-append_right (take i xs) (get_or xs i x ∷ []) x (subst (λ z. Contains (z ∷ []) x) is (here x [])))
+
+pub picks_more : {X : Type 0} (P : X → Type 0) (xs picked : List X) (i : ℕ) (x : X) → i < length xs → x ≡ get_or xs i x → P x
+    → Picks P xs i picked → Picks P xs (i + 1) (picked ++ x ∷ [])
+picks_more P xs picked i x lt is p picks y = (
+  λ h. ⊎_elim
+      (λ (z : Contains picked y). let s = (picks y).0 z in (seen_next xs i x y lt s.0, s.1))
+      (λ (z : Contains (x ∷ []) y). ⊎_elim
+      (λ (e : x ≡ y). (subst (Contains (take (i + 1) xs)) e (seen_last xs i x lt is), subst P e p))
+      (λ (e : Contains [] y). absurd (none_in y e)) (which x [] y z))
+      (Contains-append_cases picked (x ∷ []) y h),
+  λ h. ⊎_elim
+      (λ (z : Contains (take i xs) y). Contains-append_left picked (x ∷ []) y ((picks y).1 (z, h.1)))
+      (λ (z : y ≡ x). Contains-append_right picked (x ∷ []) y (subst (Contains (x ∷ [])) (sym z) (here x [])))
+      (last_or xs i x y lt is h.0),
+)
+
+pub picks_left : {X : Type 0} (P : X → Type 0) (xs picked : List X) (i : ℕ) (x : X) → i < length xs → x ≡ get_or xs i x → (P x → ⊥)
+    → Picks P xs i picked → Picks P xs (i + 1) picked
+picks_left P xs picked i x lt is not picks y = (
+  λ h. let s = (picks y).0 h in (seen_next xs i x y lt s.0, s.1),
+  λ h. ⊎_elim
+      (λ (z : Contains (take i xs) y). (picks y).1 (z, h.1))
+      (λ (z : y ≡ x). absurd (not (subst P z h.1)))
+      (last_or xs i x y lt is h.0),
+)
+
+pub picks_all : {X : Type 0} (P : X → Type 0) (xs picked : List X) (i : ℕ) → length xs ≤ i → Picks P xs i picked → (y : X) → Contains picked y ↔ (Contains xs y × P y)
+picks_all P xs picked i end picks y = subst (λ ys. Contains picked y ↔ (Contains ys y × P y)) (take_all i xs end) (picks y)

@@ -1,0 +1,8 @@
+use Rattle.std.proofs.Common.{take}
+use Rattle.segment_join.specs.Told.{point_facts}
+use Rattle.segment_join.specs.InOrder.{TakesEach}
+use Rattle.segment_join.proofs.told.take_points.Given as goal
+
+-- those so far are taken
+abbrev pub invariant-loop-place : goal.invariant-loop-place
+invariant-loop-place l = TakesEach l.fn.draft (point_facts l.epoch 1 (take l.place l.points)) l.draft

@@ -1,0 +1,28 @@
+-- When two segments mean the same.
+use Rattle.std.specs.Prelude.{◌≡◌, ℕ, ◌↔◌, List, Bool, IsTrue}
+use Rattle.redo_core.specs.Sound.{IsSound}
+use Rattle.redo_core.specs.Meaning.{Meaning, IsMeaning}
+use Rattle.redo_core.specs.declared.facts.Fact.{Fact}
+use Rattle.segment_state.specs.State.{State}
+use Rattle.segment_state.specs.Means.{Means}
+use Rattle.segment_state.specs.Shows.{Shows}
+use Rattle.segment_state.specs.HasMeaning.{HasMeaning}
+
+-- By the meanings that the two tell by themselves, over any facts.
+abbrev pub TellsSame : State → State → Bool → Type 0
+TellsSame s t answer = (y x : Meaning) → HasMeaning s y → HasMeaning t x → IsTrue answer ↔ (y ≡ x)
+
+-- Inside one sound log: the parts that the two mean have one meaning.
+abbrev pub SameByParts : State → State → Bool → Type 0
+SameByParts s t answer =
+    (roster : ℕ) (log F G : List Fact) (y x : Meaning)
+    → IsSound roster log → Means roster log F s → Means roster log G t → IsMeaning roster F y → IsMeaning roster G x
+    → IsTrue answer ↔ (y ≡ x)
+
+-- the two states show the same of a page, each at a point of its own
+abbrev pub ShowOne : State → ℕ → State → ℕ → ℕ → Type 0
+ShowOne s point t other page = (image : List ℕ) × Shows s page point image × Shows t page other image
+
+-- They show the same of just these pages.
+abbrev pub TellsPages : State → ℕ → State → ℕ → ((ℕ → Type 0) → Type 0) → Bool → Type 0
+TellsPages s point t other ThesePages answer = IsTrue answer ↔ ThesePages (ShowOne s point t other)
