@@ -1,7 +1,7 @@
 -- What takes name, and steps that differ in nothing else.
 use Rattle.std.specs.Prelude.{◌≡◌}
 use Rattle.fleet_steps.specs.declared.steps.Step.{Step}
-use Rattle.fleet_steps.specs.declared.steps.Step.TheVariants.{Take, Fold, Discard, Front, Read}
+use Rattle.fleet_steps.specs.declared.steps.Step.TheVariants.{Take, Fold, Discard, Front, Read, Join, Same, Covers, Wipe}
 
 -- what the step takes, if it is a take, is of the kind P
 abbrev pub NamedIs : {F : Type 0} → (F → Type 0) → Step F → Type 0
@@ -10,6 +10,10 @@ NamedIs P (Fold node page) = Unit {0}
 NamedIs P (Discard node) = Unit {0}
 NamedIs P (Front node) = Unit {0}
 NamedIs P (Read node page point offset len) = Unit {0}
+NamedIs P (Join node from) = Unit {0}
+NamedIs P (Same node other) = Unit {0}
+NamedIs P (Covers node other) = Unit {0}
+NamedIs P (Wipe node) = Unit {0}
 
 -- the same step, but that a take names another thing, to which R leads
 abbrev pub SameBut : {F G : Type 0} → (F → G → Type 0) → Step F → Step G → Type 0
@@ -18,3 +22,7 @@ SameBut R (Fold node page) other = other ≡ Fold node page
 SameBut R (Discard node) other = other ≡ Discard node
 SameBut R (Front node) other = other ≡ Front node
 SameBut R (Read node page point offset len) other = other ≡ Read node page point offset len
+SameBut R (Join node from) other = other ≡ Join node from
+SameBut R (Same node than) other = other ≡ Same node than
+SameBut R (Covers node than) other = other ≡ Covers node than
+SameBut R (Wipe node) other = other ≡ Wipe node

@@ -1,7 +1,7 @@
 -- The nodes that a step names.
 use Rattle.std.specs.Prelude.{ℕ, ◌==◌, ◌||◌, nat_lt, if◌then◌else◌, List, [], ◌∷◌, Option, Some, None}
 use Rattle.fleet_steps.specs.declared.steps.Step.{Step}
-use Rattle.fleet_steps.specs.declared.steps.Step.TheVariants.{Take, Fold, Discard, Front, Read}
+use Rattle.fleet_steps.specs.declared.steps.Step.TheVariants.{Take, Fold, Discard, Front, Read, Join, Same, Covers, Wipe}
 
 -- the node that carries out the step
 abbrev pub node_of : {F : Type 0} → Step F → ℕ
@@ -10,6 +10,22 @@ node_of (Fold node page) = node
 node_of (Discard node) = node
 node_of (Front node) = node
 node_of (Read node page point offset len) = node
+node_of (Join node from) = node
+node_of (Same node other) = node
+node_of (Covers node other) = node
+node_of (Wipe node) = node
+
+-- the node that it looks at besides: the last that it names
+abbrev pub other_of : {F : Type 0} → Step F → ℕ
+other_of (Take node fact) = node
+other_of (Fold node page) = node
+other_of (Discard node) = node
+other_of (Front node) = node
+other_of (Read node page point offset len) = node
+other_of (Join node from) = from
+other_of (Same node other) = other
+other_of (Covers node other) = other
+other_of (Wipe node) = node
 
 -- all nodes that it names, in the order named
 abbrev pub nodes_of : {F : Type 0} → Step F → List ℕ
@@ -18,6 +34,10 @@ nodes_of (Fold node page) = node ∷ []
 nodes_of (Discard node) = node ∷ []
 nodes_of (Front node) = node ∷ []
 nodes_of (Read node page point offset len) = node ∷ []
+nodes_of (Join node from) = node ∷ from ∷ []
+nodes_of (Same node other) = node ∷ other ∷ []
+nodes_of (Covers node other) = node ∷ other ∷ []
+nodes_of (Wipe node) = node ∷ []
 
 -- the first of the numbers that is none of 1 to count
 abbrev pub first_missing : ℕ → List ℕ → Option ℕ

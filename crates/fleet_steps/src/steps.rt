@@ -1,5 +1,5 @@
 ghost use Rattle.std.specs.Prelude.{◌≡◌, Ok, Err, IfOk, IfErr};
-ghost use Rattle.fleet_steps.specs.Nodes.{node_of, nodes_of, first_missing};
+ghost use Rattle.fleet_steps.specs.Nodes.{node_of, other_of, nodes_of, first_missing};
 ghost use Rattle.fleet_steps.specs.Naming.{NamedIs, SameBut};
 
 /// A step of a script. Nodes are counted from 1; a step may name one that its fleet has not.
@@ -32,6 +32,25 @@ pub enum Step<F> {
         offset: u16,
         len: u16,
     },
+    /// What another node means is brought into a node. The two may be one.
+    Join {
+        node: u16,
+        from: u16,
+    },
+    /// A node is asked whether it and another one mean the same.
+    Same {
+        node: u16,
+        other: u16,
+    },
+    /// A node is asked whether what it means covers what another one means.
+    Covers {
+        node: u16,
+        other: u16,
+    },
+    /// A node forgets all that reached it.
+    Wipe {
+        node: u16,
+    },
 }
 
 impl<F> Step<F> {
@@ -44,7 +63,22 @@ impl<F> Step<F> {
             | Step::Fold { node, .. }
             | Step::Discard { node }
             | Step::Front { node }
-            | Step::Read { node, .. } => *node,
+            | Step::Read { node, .. }
+            | Step::Join { node, .. }
+            | Step::Same { node, .. }
+            | Step::Covers { node, .. }
+            | Step::Wipe { node } => *node,
+        }
+    }
+
+    /// The node that the step looks at besides: the last that it names.
+    pub fn other(&self) -> u16
+        ensures { result ≡ other_of self.now }
+    {
+        match self {
+            Step::Join { from, .. } => *from,
+            Step::Same { other, .. } | Step::Covers { other, .. } => *other,
+            _ => self.node(),
         }
     }
 
@@ -55,6 +89,10 @@ impl<F> Step<F> {
         let node = self.node();
         if node == 0 || usize::from(node) > nodes {
             return Some(node);
+        }
+        let other = self.other();
+        if other == 0 || usize::from(other) > nodes {
+            return Some(other);
         }
         None
     }
@@ -86,6 +124,10 @@ impl<F> Step<F> {
                 offset,
                 len,
             }),
+            Step::Join { node, from } => Ok(Step::Join { node, from }),
+            Step::Same { node, other } => Ok(Step::Same { node, other }),
+            Step::Covers { node, other } => Ok(Step::Covers { node, other }),
+            Step::Wipe { node } => Ok(Step::Wipe { node }),
         }
     }
 }

@@ -19,6 +19,18 @@ fn nodes(rt: HostRuntime) -> Result<(), Fail> {
 }
 
 #[test]
+fn two_nodes(rt: HostRuntime) -> Result<(), Fail> {
+    let join: Step<usize> = Step::Join { node: 4, from: 3 };
+    assert!(rt; join.node() == 4 && join.other() == 3);
+    assert!(rt; join.missing(2) == Some(4) && join.missing(3) == Some(4));
+    let same: Step<usize> = Step::Same { node: 1, other: 0 };
+    assert!(rt; same.missing(2) == Some(0));
+    let covers: Step<usize> = Step::Covers { node: 1, other: 2 };
+    assert!(rt; covers.missing(1) == Some(2) && covers.missing(2) == None);
+    Ok(())
+}
+
+#[test]
 fn names(rt: HostRuntime) -> Result<(), Fail> {
     let letters = ["a", "b", "c"];
     let letter = |place: usize| letters.get(place).copied().ok_or(place);
