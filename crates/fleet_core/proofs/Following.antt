@@ -1,5 +1,5 @@
 -- A segment's answers are those of a node that has the facts which it means.
-use Rattle.std.proofs.Common.{◌≡◌, ℕ, ◌<◌, ◌≤◌, inl, inr, arith, List, refl, sym, subst, Result, Ok, Err, OnOk, OnErr, IfOk, IfErr}
+use Rattle.std.proofs.Common.{◌≡◌, ℕ, ◌<◌, ◌≤◌, inl, inr, arith, List, refl, sym, subst, Option, Result, Ok, Err, OnOk, OnErr, IfOk, IfErr}
 use Rattle.redo_core.specs.Sound.{IsSound}
 use Rattle.redo_core.specs.Position.{Position}
 use Rattle.redo_core.specs.Answer.ReadAnswer.{Image as OfImage, Below as OfBelow, Above as OfAbove}
@@ -10,9 +10,7 @@ use Rattle.segment_state.specs.Means.{Means, MeansAt}
 use Rattle.segment_state.specs.HasMeaning.{HasAnchor, IsLinkedIn}
 use Rattle.segment_state.specs.Promises.{TakesFact, KeepsMeaning, KeepsMeaningWith, IsFinalPage}
 use Rattle.redo_core.specs.PageAt.{IsPageAt}
-use Rattle.redo_core.specs.CompleteEpoch.{IsCompleteEpoch}
 use Rattle.redo_laws.proofs.Numbers.{greatest_unique}
-use Rattle.redo_laws.proofs.Fronts.{epoch_exists}
 use Rattle.segment_core.specs.Folding.{IsFoldOf, PlansFold, RefusesCommit}
 use Rattle.segment_core.specs.declared.fold_plan.Folded.{Folded}
 use Rattle.segment_core.specs.declared.fold_plan.CommitFault.TheVariants as commit
@@ -33,66 +31,103 @@ use Rattle.fleet_core.specs.Replying.{refusal_reply, taken_reply, read_reply, fa
 use Rattle.fleet_core.specs.AtNode.{NodeFollows}
 
 -- a step that is replied Memory, and changes nothing
-pub take_without_memory : (s : State) (node : ℕ) (fact : Fact) → NodeFollows s (Take node fact) Memory s
-take_without_memory s node fact = λ roster log facts sound t means. (inl refl, means)
+pub take_without_memory : (readers : ℕ) (other : Option State) (s : State) (node : ℕ) (fact : Fact) → NodeFollows readers s other (Take node fact) Memory s
+take_without_memory readers other s node fact = λ roster log facts others size sound t means beside. (inl refl, means)
 
-fold_without_memory : (s : State) (node g : ℕ) → NodeFollows s (Fold node g) Memory s
-fold_without_memory s node g = λ roster log facts sound t means. (inl refl, means)
+fold_without_memory : (readers : ℕ) (other : Option State) (s : State) (node g : ℕ) → NodeFollows readers s other (Fold node g) Memory s
+fold_without_memory readers other s node g = λ roster log facts others size sound t means beside. (inl refl, means)
 
 -- a refusal of a fact that fits a sound log is for want of memory
-refused_at : (old new : State) (node : ℕ) (fact : Fact) (why : Refusal) (reply : Reply) → (FitsSoundLog old fact → why ≡ refusal.Memory) → new ≡ old → reply ≡ refusal_reply why → NodeFollows old (Take node fact) reply new
-refused_at old new node fact why reply sound same is = λ roster log facts s t means.
+refused_at : (readers : ℕ) (other : Option State) (old new : State) (node : ℕ) (fact : Fact) (why : Refusal) (reply : Reply)
+    → (FitsSoundLog old fact → why ≡ refusal.Memory) → new ≡ old → reply ≡ refusal_reply why → NodeFollows readers old other (Take node fact) reply new
+refused_at readers other old new node fact why reply sound same is = λ roster log facts others size s t means beside.
     let e : why ≡ refusal.Memory = sound (roster, log, facts, s, t, means) in
     let told : reply ≡ Memory = subst (λ w. reply ≡ refusal_reply w) e is in
-    subst (λ r. NodeFollows old (Take node fact) r new) (sym told) (subst (λ x. NodeFollows old (Take node fact) Memory x) (sym same) (take_without_memory old node fact)) roster log facts s t means
+    subst (λ r. NodeFollows readers old other (Take node fact) r new) (sym told)
+    (subst (λ x. NodeFollows readers old other (Take node fact) Memory x) (sym same)
+    (take_without_memory readers other old node fact)) roster log facts others size s t means beside
 
-pub follows_take : (old new : State) (node : ℕ) (fact : Fact) (answer : Result Taken (Refused Fact Refusal)) (reply : Reply) → OnOk answer (TakesFact old fact new) → IfOk answer (TellsChange old fact) → IfErr answer (λ e. FitsSoundLog old fact → e.fault ≡ refusal.Memory) → OnErr answer (new ≡ old) → reply ≡ taken_reply answer → NodeFollows old (Take node fact) reply new
-follows_take old new node fact (Ok taken.Changed) reply takes tells sound same is =
-    subst (λ r. NodeFollows old (Take node fact) r new) (sym is)
-    (λ roster log facts s t means. (inr (inl (refl, λ m before later. let e : taken.Changed ≡ taken.Unchanged = (tells roster log facts m s t means before).1 later in cc)), takes roster log facts s t means))
-follows_take old new node fact (Ok taken.Unchanged) reply takes tells sound same is =
-    subst (λ r. NodeFollows old (Take node fact) r new) (sym is)
-    (λ roster log facts s t means. (inr (inr (refl, λ m before. (tells roster log facts m s t means before).0 refl)), takes roster log facts s t means))
-follows_take old new node fact (Err refused) reply takes tells sound same is = refused_at old new node fact refused.fault reply sound same is
+pub follows_take : (readers : ℕ) (other : Option State) (old new : State) (node : ℕ) (fact : Fact) (answer : Result Taken (Refused Fact Refusal))
+    (reply : Reply) → OnOk answer (TakesFact old fact new) → IfOk answer (TellsChange old fact) → IfErr answer
+    (λ e. FitsSoundLog old fact → e.fault ≡ refusal.Memory) → OnErr answer (new ≡ old) → reply ≡ taken_reply answer → NodeFollows readers old other
+    (Take node fact) reply new
+follows_take readers other old new node fact (Ok taken.Changed) reply takes tells sound same is =
+    subst (λ r. NodeFollows readers old other (Take node fact) r new) (sym is)
+    (λ roster log facts others size s t means beside. (
+      inr (inl (
+        refl,
+        λ m before later. let e : taken.Changed ≡ taken.Unchanged = (tells roster log facts m s t means before).1 later in
+            cc,
+      )),
+      takes roster log facts s t means,
+    ))
+follows_take readers other old new node fact (Ok taken.Unchanged) reply takes tells sound same is =
+    subst (λ r. NodeFollows readers old other (Take node fact) r new) (sym is)
+    (λ roster log facts others size s t means beside.
+    (inr (inr (refl, λ m before. (tells roster log facts m s t means before).0 refl)), takes roster log facts s t means))
+follows_take readers other old new node fact (Err refused) reply takes tells sound same is =
+    refused_at readers other old new node fact refused.fault reply sound same is
 
-pub follows_front : (s : State) (node : ℕ) (front : Front) → ((roster : ℕ) (log facts : List Fact) (p : Position) → IsSound roster log → MeansAt roster log facts p s → IsFrontAt p front) → NodeFollows s (AskFront node) (FrontIs front) s
-follows_front s node front says = λ roster log facts sound t means. (record { p = means.0; position = means.1.position; front = front; tells = says roster log facts means.0 sound means.1; is = refl }, means)
+pub follows_front : (readers : ℕ) (other : Option State) (s : State) (node : ℕ) (front : Front)
+    → ((roster : ℕ) (log facts : List Fact) (p : Position) → IsSound roster log → MeansAt roster log facts p s → IsFrontAt p front)
+    → NodeFollows readers s other (AskFront node) (FrontIs front) s
+follows_front readers other s node front says =
+    λ roster log facts others size sound t means beside.
+    (record { p = means.0; position = means.1.position; front = front; tells = says roster log facts means.0 sound means.1; is = refl }, means)
 
-pub follows_read : (s : State) (node g q offset len : ℕ) (answer : Result (List ℕ) ReadFault) (reply : Reply) → ((roster : ℕ) (log facts : List Fact) (p : Position) → IsSound roster log → MeansAt roster log facts p s → IsReadResult facts p g q answer) → reply ≡ read_reply answer → NodeFollows s (Read node g q offset len) reply s
-follows_read s node g q offset len (Ok image) reply says is = λ roster log facts sound t means. (inr (record { p = means.0; position = means.1.position; answer = OfImage image; tells = says roster log facts means.0 sound means.1; is = is }), means)
-follows_read s node g q offset len (Err (fault.Below min)) reply says is = λ roster log facts sound t means. (inr (record { p = means.0; position = means.1.position; answer = OfBelow min; tells = says roster log facts means.0 sound means.1; is = is }), means)
-follows_read s node g q offset len (Err (fault.Above complete)) reply says is = λ roster log facts sound t means. (inr (record { p = means.0; position = means.1.position; answer = OfAbove complete; tells = says roster log facts means.0 sound means.1; is = is }), means)
-follows_read s node g q offset len (Err (fault.BrokenBlockChain page number)) reply says is = λ roster log facts sound t means. absurd (says roster log facts means.0 sound means.1)
-follows_read s node g q offset len (Err fault.Memory) reply says is = λ roster log facts sound t means. (inl is, means)
+pub follows_read : (readers : ℕ) (other : Option State) (s : State) (node g q offset len : ℕ) (answer : Result (List ℕ) ReadFault) (reply : Reply)
+    → ((roster : ℕ) (log facts : List Fact) (p : Position) → IsSound roster log → MeansAt roster log facts p s → IsReadResult facts p g q answer)
+    → reply ≡ read_reply answer → NodeFollows readers s other (Read node g q offset len) reply s
+follows_read readers other s node g q offset len (Ok image) reply says is =
+    λ roster log facts others size sound t means beside.
+    (inr (record { p = means.0; position = means.1.position; answer = OfImage image; tells = says roster log facts means.0 sound means.1; is = is }), means)
+follows_read readers other s node g q offset len (Err (fault.Below min)) reply says is =
+    λ roster log facts others size sound t means beside.
+    (inr (record { p = means.0; position = means.1.position; answer = OfBelow min; tells = says roster log facts means.0 sound means.1; is = is }), means)
+follows_read readers other s node g q offset len (Err (fault.Above complete)) reply says is =
+    λ roster log facts others size sound t means beside.
+    (inr (record { p = means.0; position = means.1.position; answer = OfAbove complete; tells = says roster log facts means.0 sound means.1; is = is }), means)
+follows_read readers other s node g q offset len (Err (fault.BrokenBlockChain page number)) reply says is =
+    λ roster log facts others size sound t means beside. absurd (says roster log facts means.0 sound means.1)
+follows_read readers other s node g q offset len (Err fault.Memory) reply says is = λ roster log facts others size sound t means beside. (inl is, means)
 
 -- a page that was folded for facts of the log is final
-fold_is_final : (roster : ℕ) (log facts : List Fact) (s : State) (g : ℕ) (folded : Folded) → (m : Means roster log facts s) → IsFoldOf facts m.0 g folded → IsFinalPage roster log folded.page folded.version folded.image
+fold_is_final : (roster : ℕ) (log facts : List Fact) (s : State) (g : ℕ) (folded : Folded) → (m : Means roster log facts s) → IsFoldOf facts m.0 g folded
+    → IsFinalPage roster log folded.page folded.version folded.image
 fold_is_final roster log facts s g folded m is =
     let shown : IsPageAt facts m.0.epoch folded.page folded.version folded.image =
-    subst (λ n. IsPageAt facts m.0.epoch folded.page n folded.image) (sym is.version_is) (subst (λ n. IsPageAt facts m.0.epoch n m.0.anchor folded.image) (sym is.page_is) is.image_is) in
+    subst (λ n. IsPageAt facts m.0.epoch folded.page n folded.image) (sym is.version_is)
+    (subst (λ n. IsPageAt facts m.0.epoch n m.0.anchor folded.image) (sym is.page_is) is.image_is) in
     record { facts = facts; part = m.1.part; p = m.0; position = m.1.position; settled = omega (arith, is.version_is); shown = shown }
 
-pub follows_fold : (old new : State) (node g : ℕ) (folded : Folded) → ((roster : ℕ) (log facts : List Fact) (p : Position) → IsSound roster log → MeansAt roster log facts p old → IsFoldOf facts p g folded) → KeepsMeaningWith old folded.page folded.version folded.image new → NodeFollows old (Fold node g) FoldedIs new
-follows_fold old new node g folded plans keeps = λ roster log facts sound t means.
+pub follows_fold : (readers : ℕ) (other : Option State) (old new : State) (node g : ℕ) (folded : Folded)
+    → ((roster : ℕ) (log facts : List Fact) (p : Position) → IsSound roster log → MeansAt roster log facts p old → IsFoldOf facts p g folded)
+    → KeepsMeaningWith old folded.page folded.version folded.image new → NodeFollows readers old other (Fold node g) FoldedIs new
+follows_fold readers other old new node g folded plans keeps = λ roster log facts others size sound t means beside.
     (inr refl, keeps roster log facts sound (fold_is_final roster log facts old g folded means (plans roster log facts means.0 sound means.1)) means)
 
 -- a page that could not be planned
-pub follows_no_plan : (s : State) (node g : ℕ) (why : ReadFault) (reply : Reply) → ((roster : ℕ) (log facts : List Fact) (p : Position) → IsSound roster log → MeansAt roster log facts p s → why ≡ fault.Memory) → reply ≡ fault_reply why → NodeFollows s (Fold node g) reply s
-follows_no_plan s node g why reply says is = λ roster log facts sound t means.
+pub follows_no_plan : (readers : ℕ) (other : Option State) (s : State) (node g : ℕ) (why : ReadFault) (reply : Reply)
+    → ((roster : ℕ) (log facts : List Fact) (p : Position) → IsSound roster log → MeansAt roster log facts p s → why ≡ fault.Memory) → reply ≡ fault_reply why
+    → NodeFollows readers s other (Fold node g) reply s
+follows_no_plan readers other s node g why reply says is = λ roster log facts others size sound t means beside.
     let e : why ≡ fault.Memory = says roster log facts means.0 sound means.1 in
     let told : reply ≡ Memory = subst (λ w. reply ≡ fault_reply w) e is in
-    subst (λ r. NodeFollows s (Fold node g) r s) (sym told) (fold_without_memory s node g) roster log facts sound t means
+    subst (λ r. NodeFollows readers s other (Fold node g) r s) (sym told)
+    (fold_without_memory readers other s node g) roster log facts others size sound t means beside
 
-pub follows_discard : (old new : State) (node : ℕ) → KeepsMeaning old new → NodeFollows old (Discard node) Discarded new
-follows_discard old new node keeps = λ roster log facts sound t means. (refl, keeps roster log facts sound means)
+pub follows_discard : (readers : ℕ) (other : Option State) (old new : State) (node : ℕ) → KeepsMeaning old new
+    → NodeFollows readers old other (Discard node) Discarded new
+follows_discard readers other old new node keeps = λ roster log facts others size sound t means beside. (refl, keeps roster log facts sound means)
 
 -- the version of a plan is the anchor, so its commit is never ahead of it
-pub never_ahead : (s : State) (g : ℕ) (folded : Folded) (version anchor : ℕ) → ((k : ℕ) → IsCompleteEpoch s.cuts k → PlansFold s k g (Ok folded)) → RefusesCommit s folded (commit.Ahead version anchor) → ⊥
+pub never_ahead : (s : State) (g : ℕ) (folded : Folded) (version anchor : ℕ) → PlansFold s g (Ok folded) → RefusesCommit s folded (commit.Ahead version anchor)
+    → ⊥
 never_ahead s g folded version anchor plans why =
-    let k = epoch_exists s.cuts in
-    let planned : HasAnchor s k.0 folded.version = (plans k.0 k.1).0.version_is in
-    let found : HasAnchor s k.0 anchor = why.2 k.0 k.1 in
-    let one : folded.version ≡ anchor = greatest_unique (λ n. IsLinkedIn s k.0 n × (n ≤ min_of s)) (λ n. IsLinkedIn s k.0 n × (n ≤ min_of s)) (λ n. (λ h. h, λ h. h)) folded.version anchor planned found in
+    let planned : HasAnchor s folded.version = plans.0.version_is in
+    let found : HasAnchor s anchor = why.2 in
+    let one : folded.version ≡ anchor =
+    greatest_unique (λ n. IsLinkedIn s n × (n ≤ min_of s)) (λ n. IsLinkedIn s n × (n ≤ min_of s)) (λ n. (λ h. h, λ h. h)) folded.version anchor planned found in
     let above : anchor < version = why.1 in
     let same : version ≡ folded.version = why.0 in
     omega (arith, one, above, same)

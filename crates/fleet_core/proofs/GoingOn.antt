@@ -11,19 +11,23 @@ use Rattle.fleet_core.specs.Runs.{TakesFrom, MeansMachine, FollowsStep, FollowsM
 use Rattle.fleet_core.specs.Laws.{RunsGoOn, CallsGoOn}
 use Rattle.fleet_core.proofs.Places.{all_but_last}
 
-replies_more : (roster : ℕ) (m : Machine) (steps : List (Step Fact)) (replies : List Reply) (step : Step Fact) (reply : Reply) → AreReplies roster m steps replies → IsReply roster (after_all m steps replies) step reply → AreReplies roster m (steps ++ step ∷ []) (replies ++ reply ∷ [])
+replies_more : (roster : ℕ) (m : Machine) (steps : List (Step Fact)) (replies : List Reply) (step : Step Fact) (reply : Reply)
+    → AreReplies roster m steps replies → IsReply roster (after_all m steps replies) step reply → AreReplies roster m (steps ++ step ∷ [])
+    (replies ++ reply ∷ [])
 replies_more roster m [] [] step reply are is = (is, tt)
 replies_more roster m [] (r ∷ rs) step reply are is = absurd are
 replies_more roster m (s ∷ ss) [] step reply are is = absurd are
 replies_more roster m (s ∷ ss) (r ∷ rs) step reply are is = (are.0, replies_more roster (after m s r) ss rs step reply are.1 is)
 
-after_more : (roster : ℕ) (m : Machine) (steps : List (Step Fact)) (replies : List Reply) (step : Step Fact) (reply : Reply) → AreReplies roster m steps replies → after_all m (steps ++ step ∷ []) (replies ++ reply ∷ []) ≡ after (after_all m steps replies) step reply
+after_more : (roster : ℕ) (m : Machine) (steps : List (Step Fact)) (replies : List Reply) (step : Step Fact) (reply : Reply)
+    → AreReplies roster m steps replies → after_all m (steps ++ step ∷ []) (replies ++ reply ∷ []) ≡ after (after_all m steps replies) step reply
 after_more roster m [] [] step reply are = refl
 after_more roster m [] (r ∷ rs) step reply are = absurd are
 after_more roster m (s ∷ ss) [] step reply are = absurd are
 after_more roster m (s ∷ ss) (r ∷ rs) step reply are = after_more roster (after m s r) ss rs step reply are.1
 
-pub follows_more : (start old new : FleetState) (steps : List (Step Fact)) (replies : List Reply) (step : Step Fact) (reply : Reply) → FollowsMachine start steps replies old → FollowsStep old step reply new → FollowsMachine start (steps ++ step ∷ []) (replies ++ reply ∷ []) new
+pub follows_more : (start old new : FleetState) (steps : List (Step Fact)) (replies : List Reply) (step : Step Fact) (reply : Reply)
+    → FollowsMachine start steps replies old → FollowsStep old step reply new → FollowsMachine start (steps ++ step ∷ []) (replies ++ reply ∷ []) new
 follows_more start old new steps replies step reply run one = λ roster log m sound takes mean.
     let parts = all_but_last (TakesFrom log) steps step takes in
     let so_far = run roster log m sound parts.0 mean in
@@ -32,7 +36,8 @@ follows_more start old new steps replies step reply run one = λ roster log m so
       subst (λ n. MeansMachine roster log n new) (sym (after_more roster m steps replies step reply so_far.0)) last.1,
     )
 
-pub calls_more : (start old new : FleetState) (steps : List (Step Fact)) (replies : List Reply) (step : Step Fact) (reply : Reply) → RunCalls start steps replies old → StepCalls old step reply new → RunCalls start (steps ++ step ∷ []) (replies ++ reply ∷ []) new
+pub calls_more : (start old new : FleetState) (steps : List (Step Fact)) (replies : List Reply) (step : Step Fact) (reply : Reply)
+    → RunCalls start steps replies old → StepCalls old step reply new → RunCalls start (steps ++ step ∷ []) (replies ++ reply ∷ []) new
 calls_more start old new [] [] step reply run one = (new, subst (λ s. StepCalls s step reply new) run one, refl)
 calls_more start old new [] (r ∷ rs) step reply run one = absurd run
 calls_more start old new (s ∷ ss) [] step reply run one = absurd run

@@ -1,125 +1,157 @@
 -- The machine's sets beside the segments, node by node.
-use Rattle.std.proofs.Common.{◌≡◌, ℕ, zero, suc, ◌+◌, ◌-◌, List, [], length, get_or, set, replicate, refl, sym, ap, ◌∙◌, subst, arith, Some, None}
-use Rattle.std.specs.Prelude.{MatchOption, slice_get}
+use Rattle.std.proofs.Common.{◌≡◌, ℕ, zero, suc, ◌+◌, ◌-◌, List, [], length, get_or, set, replicate, refl, sym, ap, ◌∙◌, subst, arith, Option, Some, None}
+use Rattle.std.specs.Prelude.{MatchOption, slice_get, unwrap_or}
 use Rattle.std.specs.List.{AllZip}
-use Rattle.std.proofs.lemmas.List.{set-get_or}
-use Rattle.std.proofs.lemmas.Option.{slice_get_read}
+use Rattle.std.specs.Vec.{with_items}
+use Rattle.std.specs.declared.vec.Vec.{Vec}
+use Rattle.std.proofs.lemmas.List.{length-set, set-get_or, with_items_is}
+use Rattle.std.proofs.lemmas.Option.{get_or_from_slice_get}
 use Rattle.redo_core.specs.declared.facts.Fact.{Fact}
 use Rattle.segment_state.specs.State.{State}
 use Rattle.segment_state.specs.Means.{Means}
-use Rattle.fleet_steps.specs.Nodes.{node_of, nodes_of, first_missing}
+use Rattle.fleet_steps.specs.Nodes.{node_of, other_of, nodes_of, first_missing}
 use Rattle.fleet_steps.specs.declared.steps.Step.{Step}
 use Rattle.fleet_steps.specs.declared.steps.Step.TheVariants as step
 use Rattle.fleet_core.specs.declared.replies.Reply.{Reply}
-use Rattle.fleet_core.specs.declared.replies.Reply.TheVariants.{Changed, Unchanged, Folded, Discarded, Front as FrontIs, Page, Below, Above, NoNode, Refused as IsRefused, BrokenBlockChain, Memory}
-use Rattle.fleet_core.specs.Machine.{Machine, facts_of, with_facts, after}
+use Rattle.fleet_core.specs.declared.replies.Reply.TheVariants.{NoNode}
+use Rattle.fleet_core.specs.Machine.{Machine, facts_of, with_facts, facts_after, after}
 use Rattle.fleet_core.specs.Replies.{Replies}
-use Rattle.fleet_core.specs.FleetState.{FleetState, with_segment}
-use Rattle.fleet_core.specs.AtNode.{NodeReplies, NodeFollows, NodeCalls, facts_after}
-use Rattle.fleet_core.specs.Calls.{Calls, StepCalls}
+use Rattle.fleet_core.specs.FleetState.{FleetState, other_than}
+use Rattle.fleet_core.specs.Refused.{IsRefusal}
+use Rattle.fleet_core.specs.AtNode.{CarriesOut}
+use Rattle.fleet_core.specs.Calls.{NodeCalls, Calls, StepCalls}
 use Rattle.fleet_core.specs.Runs.{MeansMachine, FollowsStep}
-use Rattle.fleet_core.proofs.Places.{is_there, zip_at, zip_set, zip_count}
+use Rattle.fleet_core.proofs.Places.{AreThere, none_named, are_there, beside_is, zip_at, zip_set, zip_count}
 
--- ---- one node of the machine
-
--- what the step's node replies, the machine replies
-pub machine_replies : (roster : ℕ) (m : Machine) (s : Step Fact) (reply : Reply) → NodeReplies roster (facts_of m (node_of s)) s reply → Replies roster m s reply
-machine_replies roster m (step.Take node fact) reply h = h
-machine_replies roster m (step.Fold node page) reply h = h
-machine_replies roster m (step.Discard node) reply h = h
-machine_replies roster m (step.Front node) reply h = h
-machine_replies roster m (step.Read node page point offset len) reply h = h
-
-pub node_replies : (roster : ℕ) (m : Machine) (s : Step Fact) (reply : Reply) → Replies roster m s reply → NodeReplies roster (facts_of m (node_of s)) s reply
-node_replies roster m (step.Take node fact) reply h = h
-node_replies roster m (step.Fold node page) reply h = h
-node_replies roster m (step.Discard node) reply h = h
-node_replies roster m (step.Front node) reply h = h
-node_replies roster m (step.Read node page point offset len) reply h = h
+-- ---- a named node that is not there
 
 -- nothing has changed
 same : (m : Machine) (node : ℕ) → m ≡ with_facts m node (facts_of m node)
 same m node = ap (λ (nodes : List (List Fact)). let n : Machine = record { nodes = nodes; messages = m.messages } in n) (sym (set-get_or m.nodes (node - 1) []))
 
--- what comes after is what comes after at the step's node
-pub machine_after : (m : Machine) (s : Step Fact) (reply : Reply) → after m s reply ≡ with_facts m (node_of s) (facts_after (facts_of m (node_of s)) s reply)
-machine_after m (step.Take node fact) Changed = refl
-machine_after m (step.Take node fact) Unchanged = refl
-machine_after m (step.Take node fact) Folded = same m node
-machine_after m (step.Take node fact) Discarded = same m node
-machine_after m (step.Take node fact) (FrontIs front) = same m node
-machine_after m (step.Take node fact) (Page image) = same m node
-machine_after m (step.Take node fact) (Below min) = same m node
-machine_after m (step.Take node fact) (Above complete) = same m node
-machine_after m (step.Take node fact) (NoNode i) = same m node
-machine_after m (step.Take node fact) (IsRefused why) = same m node
-machine_after m (step.Take node fact) (BrokenBlockChain page number) = same m node
-machine_after m (step.Take node fact) Memory = same m node
-machine_after m (step.Fold node page) reply = same m node
-machine_after m (step.Discard node) reply = same m node
-machine_after m (step.Front node) reply = same m node
-machine_after m (step.Read node page point offset len) reply = same m node
+as_they_were : (facts others : List Fact) (s : Step Fact) (i : ℕ) → facts ≡ facts_after facts others s (NoNode i)
+as_they_were facts others (step.Take node fact) i = refl
+as_they_were facts others (step.Fold node page) i = refl
+as_they_were facts others (step.Discard node) i = refl
+as_they_were facts others (step.Front node) i = refl
+as_they_were facts others (step.Read node page point offset len) i = refl
+as_they_were facts others (step.Join node from) i = refl
+as_they_were facts others (step.Same node other) i = refl
+as_they_were facts others (step.Covers node other) i = refl
+as_they_were facts others (step.Wipe node) i = refl
 
-after_no_node : (m : Machine) (s : Step Fact) (i : ℕ) → after m s (NoNode i) ≡ m
-after_no_node m (step.Take node fact) i = refl
-after_no_node m (step.Fold node page) i = refl
-after_no_node m (step.Discard node) i = refl
-after_no_node m (step.Front node) i = refl
-after_no_node m (step.Read node page point offset len) i = refl
+after_no_node : (m : Machine) (s : Step Fact) (i : ℕ) → m ≡ after m s (NoNode i)
+after_no_node m s i = same m (node_of s) ∙ ap (with_facts m (node_of s)) (as_they_were (facts_of m (node_of s)) (facts_of m (other_of s)) s i)
 
--- ---- steps
-
--- a named node that is not there
-pub follows_no_node : (fleet : FleetState) (s : Step Fact) (i : ℕ) → first_missing (length fleet.segments) (nodes_of s) ≡ Some i → FollowsStep fleet s (NoNode i) fleet
+pub follows_no_node : (fleet : FleetState) (s : Step Fact) (i : ℕ) → first_missing (length fleet.segments) (nodes_of s) ≡ Some i
+    → FollowsStep fleet s (NoNode i) fleet
 follows_no_node fleet s i missing = λ roster log m sound takes mean.
     let count : length m.nodes ≡ length fleet.segments = zip_count (λ facts segment. Means roster log facts segment) m.nodes fleet.segments mean.nodes in
     let here : first_missing (length m.nodes) (nodes_of s) ≡ Some i = ap (λ n. first_missing n (nodes_of s)) count ∙ missing in (
       subst (λ o. MatchOption o (Replies roster m s (NoNode i)) (λ node. NoNode i ≡ NoNode node)) (sym here) refl,
-      subst (λ n. MeansMachine roster log n fleet) (sym (after_no_node m s i)) mean,
+      subst (λ n. MeansMachine roster log n fleet) (after_no_node m s i) mean,
     )
 
-pub calls_no_node : (fleet : FleetState) (s : Step Fact) (i : ℕ) → first_missing (length fleet.segments) (nodes_of s) ≡ Some i → StepCalls fleet s (NoNode i) fleet
-calls_no_node fleet s i missing = subst (λ o. MatchOption o (Calls fleet s (NoNode i) fleet) (λ node. (NoNode i ≡ NoNode node) × (fleet ≡ fleet))) (sym missing) (refl, refl)
+pub calls_no_node : (fleet : FleetState) (s : Step Fact) (i : ℕ) → first_missing (length fleet.segments) (nodes_of s) ≡ Some i
+    → StepCalls fleet s (NoNode i) fleet
+calls_no_node fleet s i missing =
+    subst (λ o. MatchOption o (Calls fleet s (NoNode i) fleet) (λ node. (NoNode i ≡ NoNode node) × (fleet ≡ fleet))) (sym missing) (refl, refl)
 
--- the fleet with another segment at a place, counted from 0
-abbrev pub with_at : FleetState → ℕ → State → FleetState
-with_at fleet place s = record { segments = set fleet.segments place s }
+-- ---- a step whose nodes are there
 
--- a step at a node that is there
-pub follows_at : (fleet : FleetState) (s : Step Fact) (reply : Reply) (old new : State) (place : ℕ) → first_missing (length fleet.segments) (nodes_of s) ≡ None → node_of s ≡ place + 1 → old ≡ get_or fleet.segments place old → NodeFollows old s reply new → FollowsStep fleet s reply (with_at fleet place new)
-follows_at fleet s reply old new place none named is follows = λ roster log m sound takes mean.
+-- the fleet with other segments
+abbrev pub with_all : FleetState → List State → FleetState
+with_all fleet segments = record fleet { segments = segments }
+
+-- the places of the step's nodes, counted from 0, and none of the nodes is missing
+pub record AreAt (count : ℕ) (s : Step Fact) (place other : ℕ) : Type 0 where
+  pub none : first_missing count (nodes_of s) ≡ None
+  pub node : node_of s ≡ place + 1
+  pub beside : other_of s ≡ other + 1
+
+pub follows_at : (fleet : FleetState) (s : Step Fact) (reply : Reply) (new : List State) (place other : ℕ) → AreAt (length fleet.segments) s place other
+    → CarriesOut fleet.roster fleet.segments place other s reply new → FollowsStep fleet s reply (with_all fleet new)
+follows_at fleet s reply new place other at out = λ roster log m sound takes mean.
     let Mean : List Fact → State → Type 0 = λ facts segment. Means roster log facts segment in
     let count : length m.nodes ≡ length fleet.segments = zip_count Mean m.nodes fleet.segments mean.nodes in
-    let here : first_missing (length m.nodes) (nodes_of s) ≡ None = ap (λ n. first_missing n (nodes_of s)) count ∙ none in
-    let there = is_there (length fleet.segments) s none in
-    let low : node_of s - 1 ≡ place = omega (arith, named) in
+    let here : first_missing (length m.nodes) (nodes_of s) ≡ None = ap (λ n. first_missing n (nodes_of s)) count ∙ at.none in
+    let there : AreThere (length fleet.segments) (node_of s) (other_of s) = are_there (length fleet.segments) s at.none in
+    let low : place ≡ node_of s - 1 = omega (arith, at.node) in
+    let aside : other ≡ other_of s - 1 = omega (arith, at.beside) in
+    let old : State = out.before in
     let facts = facts_of m (node_of s) in
-    let at : Means roster log (get_or m.nodes place []) (get_or fleet.segments place old) = zip_at Mean m.nodes fleet.segments place [] old mean.nodes (omega (arith, named, there.1)) in
-    let means : Means roster log facts old = subst (λ x. Means roster log facts x) (sym is) (subst (λ i. Means roster log (get_or m.nodes i []) (get_or fleet.segments place old)) (sym low) at) in
-    let both = follows roster log facts sound takes means in (
-      subst (λ o. MatchOption o (Replies roster m s reply) (λ node. reply ≡ NoNode node)) (sym here) (machine_replies roster m s reply both.0),
-      subst (λ n. MeansMachine roster log n (with_at fleet place new)) (sym (machine_after m s reply))
-          (record { nodes = subst (λ i. AllZip Mean (set m.nodes (node_of s - 1) (facts_after facts s reply)) (set fleet.segments i new)) low (zip_set Mean m.nodes fleet.segments (node_of s - 1) (facts_after facts s reply) new mean.nodes both.1) }),
+    let others = facts_of m (other_of s) in
+    let own : Mean (get_or m.nodes place []) (get_or fleet.segments place old) =
+    zip_at Mean m.nodes fleet.segments place [] old mean.nodes (omega (arith, at.node, there.high)) in
+    let its : Mean (get_or m.nodes other []) (get_or fleet.segments other old) =
+    zip_at Mean m.nodes fleet.segments other [] old mean.nodes (omega (arith, at.beside, there.other_high)) in
+    let means : Mean facts old =
+    subst (λ i. Mean (get_or m.nodes i []) old) low
+    (subst (λ x. Mean (get_or m.nodes place []) x) (get_or_from_slice_get fleet.segments place old old out.there) own) in
+    let means_other : Mean others (unwrap_or (other_than fleet.segments place other) old) =
+    subst (λ i. Mean (get_or m.nodes i []) (unwrap_or (other_than fleet.segments place other) old)) aside
+    (subst (λ x. Mean (get_or m.nodes other []) x) (beside_is fleet.segments place other old out.there) its) in
+    let both = out.follows roster log facts others mean.roster_is sound takes means means_other in
+    let later : List (List Fact) = set m.nodes (node_of s - 1) (facts_after facts others s reply) in
+    let changed : AllZip Mean later (set fleet.segments (node_of s - 1) out.later) =
+    zip_set Mean m.nodes fleet.segments (node_of s - 1) (facts_after facts others s reply) out.later mean.nodes both.1 in (
+      subst (λ o. MatchOption o (Replies roster m s reply) (λ node. reply ≡ NoNode node)) (sym here) both.0,
+      record {
+        roster_is = mean.roster_is;
+        nodes = subst (AllZip Mean later) (ap (λ i. set fleet.segments i out.later) (sym low) ∙ sym out.others) changed;
+      },
     )
 
-pub calls_at : (fleet : FleetState) (s : Step Fact) (reply : Reply) (old new : State) (place : ℕ) → first_missing (length fleet.segments) (nodes_of s) ≡ None → node_of s ≡ place + 1 → old ≡ get_or fleet.segments place old → NodeCalls old s reply new → StepCalls fleet s reply (with_at fleet place new)
-calls_at fleet s reply old new place none named is calls =
-    let there = is_there (length fleet.segments) s none in
-    let at : slice_get fleet.segments place ≡ Some old = slice_get_read fleet.segments (length fleet.segments) place old refl (omega (arith, named, there.1)) is in
-    let own : slice_get fleet.segments (node_of s - 1) ≡ Some old = subst (λ i. slice_get fleet.segments i ≡ Some old) (let t : place ≡ node_of s - 1 = omega (arith, named) in t) at in
-    let next : FleetState = with_at fleet place new in
-    subst (λ o. MatchOption o (Calls fleet s reply next) (λ node. (reply ≡ NoNode node) × (next ≡ fleet))) (sym none)
-    (at_node s own (ap (λ i. with_at fleet i new) (let t : place ≡ node_of s - 1 = omega (arith, named) in t)) calls)
-  where
-    at_node : (t : Step Fact) → slice_get fleet.segments (node_of t - 1) ≡ Some old → with_at fleet place new ≡ with_segment fleet (node_of t) new → NodeCalls old t reply new → Calls fleet t reply (with_at fleet place new)
-    at_node (step.Take node fact) own others does = record { before = old; there = own; later = new; does = does; others = others }
-    at_node (step.Fold node page) own others does = record { before = old; there = own; later = new; does = does; others = others }
-    at_node (step.Discard node) own others does = record { before = old; there = own; later = new; does = does; others = others }
-    at_node (step.Front node) own others does = record { before = old; there = own; later = new; does = does; others = others }
-    at_node (step.Read node page point offset len) own others does = record { before = old; there = own; later = new; does = does; others = others }
+pub calls_at : (fleet : FleetState) (s : Step Fact) (reply : Reply) (new : List State) (place other : ℕ) → AreAt (length fleet.segments) s place other
+    → CarriesOut fleet.roster fleet.segments place other s reply new → StepCalls fleet s reply (with_all fleet new)
+calls_at fleet s reply new place other at out =
+    let low : place ≡ node_of s - 1 = omega (arith, at.node) in
+    let aside : other ≡ other_of s - 1 = omega (arith, at.beside) in
+    let next : FleetState = with_all fleet new in
+    subst (λ o. MatchOption o (Calls fleet s reply next) (λ node. (reply ≡ NoNode node) × (next ≡ fleet))) (sym at.none)
+    (record {
+      before = out.before;
+      there = subst (λ i. slice_get fleet.segments i ≡ Some out.before) low out.there;
+      later = out.later;
+      does = subst (λ i. NodeCalls fleet.roster out.before (other_than fleet.segments (node_of s - 1) i) s reply out.later) aside
+          (subst (λ i. NodeCalls fleet.roster out.before (other_than fleet.segments i other) s reply out.later) low out.calls);
+      others = ap (with_all fleet) (out.others ∙ ap (λ i. set fleet.segments i out.later) low);
+    })
+
+-- the nodes that the step names, none of which is missing
+pub named_at : (count : ℕ) (s : Step Fact) (missing : Option ℕ) (node other : ℕ) → missing ≡ first_missing count (nodes_of s)
+    → ((x : ℕ) → missing ≡ Some x → ⊥) → node ≡ node_of s → other ≡ other_of s → AreAt count s (node - 1) (other - 1)
+named_at count s missing node other is named own its =
+    let none : first_missing count (nodes_of s) ≡ None = sym is ∙ none_named missing named in
+    let there : AreThere count (node_of s) (other_of s) = are_there count s none in
+    record { none = none; node = omega (arith, there.low, own); beside = omega (arith, there.other_low, its) }
+
+-- the segments of a fleet, as its list stores them
+pub record StepsIn (old : FleetState) (s : Step Fact) (reply : Reply) (new : FleetState) : Type 0 where
+  pub follows : FollowsStep old s reply new
+  pub calls : StepCalls old s reply new
+  pub refused : IsRefusal reply → new ≡ old
+
+pub steps_in : {Z : Type 0} (readers : ℕ) (nodes : Vec State Z) (given : List State) (s : Step Fact) (reply : Reply) (new : List State) (place other : ℕ)
+    → AreAt (length nodes.items) s place other → given ≡ nodes.items → CarriesOut readers given place other s reply new
+    → StepsIn (record { roster = readers; segments = nodes.items }) s reply (record { roster = readers; segments = (with_items nodes new).items })
+steps_in readers nodes given s reply new place other at same out_of =
+    let out : CarriesOut readers nodes.items place other s reply new = subst (λ segments. CarriesOut readers segments place other s reply new) same out_of in
+    let old : FleetState = record { roster = readers; segments = nodes.items } in
+    let fit : length new ≡ nodes.len = ap length out.others ∙ length-set nodes.items place out.later ∙ sym nodes.ok.0 in
+    let put : (with_items nodes new).items ≡ new = with_items_is nodes new fit in
+    let as_left : IsRefusal reply → new ≡ nodes.items =
+    λ refused. out.others ∙ ap (set nodes.items place) (out.refused refused ∙ sym (get_or_from_slice_get nodes.items place out.before out.before out.there))
+    ∙ set-get_or nodes.items place out.before in
+    record {
+      follows = subst (λ segments. FollowsStep old s reply (with_all old segments)) (sym put) (follows_at old s reply new place other at out);
+      calls = subst (λ segments. StepCalls old s reply (with_all old segments)) (sym put) (calls_at old s reply new place other at out);
+      refused = λ refused. ap (with_all old) (put ∙ as_left refused);
+    }
 
 -- ---- the machine's first state
 
-pub none_mean : (roster : ℕ) (log : List Fact) (count : ℕ) (s : State) → Means roster log [] s → AllZip (λ facts segment. Means roster log facts segment) (replicate count []) (replicate count s)
+pub none_mean : (roster : ℕ) (log : List Fact) (count : ℕ) (s : State) → Means roster log [] s
+    → AllZip (λ facts segment. Means roster log facts segment) (replicate count []) (replicate count s)
 none_mean roster log zero s means = tt
 none_mean roster log (suc count) s means = (means, none_mean roster log count s means)

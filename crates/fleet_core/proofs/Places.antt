@@ -1,44 +1,78 @@
 -- Nodes that a step names, and lists changed at one place.
-use Rattle.std.proofs.Common.{◌≡◌, ℕ, zero, suc, ◌<◌, ◌≤◌, List, [], ◌∷◌, ◌++◌, length, get_or, set, refl, ap, subst, arith, Bool, true, false, Option, Some, None}
-use Rattle.std.specs.Prelude.{◌==◌, ◌||◌, nat_lt, if◌then◌else◌}
+use Rattle.std.proofs.Common.{◌≡◌, ℕ, zero, suc, ◌<◌, ◌≤◌, List, [], ◌∷◌, ◌++◌, length, get_or}
+use Rattle.std.proofs.Common.{set, refl, sym, ap, ◌∙◌, arith, Bool, true, false, Option, Some, None}
+use Rattle.std.specs.Prelude.{◌==◌, ◌||◌, nat_lt, if◌then◌else◌, slice_get, unwrap_or}
 use Rattle.std.specs.List.{AllZip, AllByRecursion}
 use Rattle.std.proofs.lemmas.Bool.Decides.{nat_tests}
-use Rattle.fleet_steps.specs.Nodes.{node_of, nodes_of, first_missing}
+use Rattle.std.proofs.lemmas.Option.{get_or_from_slice_get, unwrap_or-slice_get}
+use Rattle.segment_state.specs.State.{State}
+use Rattle.fleet_steps.specs.Nodes.{node_of, other_of, nodes_of, first_missing}
 use Rattle.fleet_steps.specs.declared.steps.Step.{Step}
-use Rattle.fleet_steps.specs.declared.steps.Step.TheVariants.{Take, Fold, Discard, Front, Read}
+use Rattle.fleet_steps.specs.declared.steps.Step.TheVariants.{Take, Fold, Discard, Front, Read, Join, Same, Covers, Wipe}
+use Rattle.fleet_core.specs.FleetState.{other_than}
 
--- each step so far names one node
-one_node : {F : Type 0} (step : Step F) → nodes_of step ≡ node_of step ∷ []
-one_node (Take node fact) = refl
-one_node (Fold node page) = refl
-one_node (Discard node) = refl
-one_node (Front node) = refl
-one_node (Read node page point offset len) = refl
+-- two nodes that are there, of so many
+pub record AreThere (count node other : ℕ) : Type 0 where
+  pub low : 0 < node
+  pub high : node ≤ count
+  pub other_low : 0 < other
+  pub other_high : other ≤ count
 
-none_missing : (count node : ℕ) (b : Bool) → b ≡ (node == 0 || nat_lt count node) → (if b then Some node else None) ≡ None → (0 < node) × (node ≤ count)
-none_missing count node true e none = absurd (cc)
-none_missing count node false e none = (grind (arith, nat_tests), grind (arith, nat_tests))
+none_missing : (count node : ℕ) (rest : Option ℕ) (b : Bool) → b ≡ (node == 0 || nat_lt count node) → (if b then Some node else rest) ≡ None
+    → (0 < node) × (node ≤ count) × (rest ≡ None)
+none_missing count node rest true e none = absurd (cc)
+none_missing count node rest false e none = (grind (arith, nat_tests), grind (arith, nat_tests), none)
 
--- where none of its nodes is missing, the node is one from 1 on
-pub is_there : {F : Type 0} (count : ℕ) (step : Step F) → first_missing count (nodes_of step) ≡ None → (0 < node_of step) × (node_of step ≤ count)
-is_there count step none =
-    let single : first_missing count (node_of step ∷ []) ≡ None = subst (λ nodes. first_missing count nodes ≡ None) (one_node step) none in
-    none_missing count (node_of step) (node_of step == 0 || nat_lt count (node_of step)) refl single
+is_there : (count node : ℕ) (nodes : List ℕ) → first_missing count (node ∷ nodes) ≡ None → (0 < node) × (node ≤ count) × (first_missing count nodes ≡ None)
+is_there count node nodes none = none_missing count node (first_missing count nodes) (node == 0 || nat_lt count node) refl none
+
+one_there : (count node : ℕ) → first_missing count (node ∷ []) ≡ None → AreThere count node node
+one_there count node none = let h = is_there count node [] none in record { low = h.0; high = h.1; other_low = h.0; other_high = h.1 }
+
+two_there : (count node other : ℕ) → first_missing count (node ∷ other ∷ []) ≡ None → AreThere count node other
+two_there count node other none =
+    let h = is_there count node (other ∷ []) none in
+    let k = is_there count other [] h.2 in
+    record { low = h.0; high = h.1; other_low = k.0; other_high = k.1 }
+
+-- where none of its nodes is missing, they are nodes from 1 on
+pub are_there : {F : Type 0} (count : ℕ) (step : Step F) → first_missing count (nodes_of step) ≡ None → AreThere count (node_of step) (other_of step)
+are_there count (Take node fact) none = one_there count node none
+are_there count (Fold node page) none = one_there count node none
+are_there count (Discard node) none = one_there count node none
+are_there count (Front node) none = one_there count node none
+are_there count (Read node page point offset len) none = one_there count node none
+are_there count (Join node from) none = two_there count node from none
+are_there count (Same node other) none = two_there count node other none
+are_there count (Covers node other) none = two_there count node other none
+are_there count (Wipe node) none = one_there count node none
 
 pub none_named : (o : Option ℕ) → ((x : ℕ) → o ≡ Some x → ⊥) → o ≡ None
 none_named None h = refl
 none_named (Some x) h = absurd (h x refl)
 
+-- the segment at the other place, which is the first one where the places are one
+beside_by : (xs : List State) (place other : ℕ) (x : State) (b : Bool) → b ≡ (place == other) → slice_get xs place ≡ Some x
+    → get_or xs other x ≡ unwrap_or (if b then None else slice_get xs other) x
+beside_by xs place other x true e there = let same : place ≡ other = grind (arith, nat_tests) in
+    ap (λ i. get_or xs i x) (sym same) ∙ get_or_from_slice_get xs place x x there
+beside_by xs place other x false e there = sym (unwrap_or-slice_get xs other x)
+
+pub beside_is : (xs : List State) (place other : ℕ) (x : State) → slice_get xs place ≡ Some x → get_or xs other x ≡ unwrap_or (other_than xs place other) x
+beside_is xs place other x there = beside_by xs place other x (place == other) refl there
+
 -- ---- lists changed at one place
 
-pub zip_at : {A B : Type 0} (R : A → B → Type 0) (xs : List A) (ys : List B) (i : ℕ) (d : A) (e : B) → AllZip R xs ys → i < length ys → R (get_or xs i d) (get_or ys i e)
+pub zip_at : {A B : Type 0} (R : A → B → Type 0) (xs : List A) (ys : List B) (i : ℕ) (d : A) (e : B) → AllZip R xs ys → i < length ys
+    → R (get_or xs i d) (get_or ys i e)
 zip_at R [] [] i d e all lt = absurd (omega (arith, lt))
 zip_at R [] (y ∷ ys) i d e all lt = absurd all
 zip_at R (x ∷ xs) [] i d e all lt = absurd all
 zip_at R (x ∷ xs) (y ∷ ys) zero d e all lt = all.0
 zip_at R (x ∷ xs) (y ∷ ys) (suc i) d e all lt = zip_at R xs ys i d e all.1 (omega (arith, lt))
 
-pub zip_set : {A B : Type 0} (R : A → B → Type 0) (xs : List A) (ys : List B) (i : ℕ) (x : A) (y : B) → AllZip R xs ys → R x y → AllZip R (set xs i x) (set ys i y)
+pub zip_set : {A B : Type 0} (R : A → B → Type 0) (xs : List A) (ys : List B) (i : ℕ) (x : A) (y : B) → AllZip R xs ys → R x y
+    → AllZip R (set xs i x) (set ys i y)
 zip_set R [] [] i x y all r = all
 zip_set R [] (b ∷ bs) i x y all r = absurd all
 zip_set R (a ∷ as') [] i x y all r = absurd all

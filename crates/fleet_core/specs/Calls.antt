@@ -1,9 +1,12 @@
 -- What a step does over any facts: each reply, and each new state, is that of the segment's call.
-use Rattle.std.specs.Prelude.{◌≡◌, ℕ, ◌⊎◌, ◌<◌, List, [], ◌∷◌, length, Result, Ok, Err, IfOk, MatchOption}
-use Rattle.redo_core.specs.CompleteEpoch.{IsCompleteEpoch}
+use Rattle.std.specs.Prelude.{◌≡◌, ℕ, ◌⊎◌, ◌↔◌, ◌<◌, List, [], ◌∷◌, length, Bool, IsTrue, Option}
+use Rattle.std.specs.Prelude.{Some, None, unwrap_or, Result, Ok, Err, IfOk, IfErr, OnOk, OnErr, MatchOption}
 use Rattle.redo_core.specs.declared.facts.Fact.{Fact}
 use Rattle.redo_core.specs.declared.refusal.Refused.{Refused}
-use Rattle.segment_state.specs.State.{State, version_of}
+use Rattle.redo_core.specs.Meaning.{Meaning}
+use Rattle.redo_laws.specs.OrderOfMeanings.{Covers}
+use Rattle.segment_state.specs.State.{State, version_of, empty_state}
+use Rattle.segment_state.specs.HasMeaning.{HasMeaning}
 use Rattle.segment_state.specs.Shows.{Shows}
 use Rattle.segment_core.specs.BlockChain.{TellsBreak}
 use Rattle.segment_core.specs.Exactly.{TakesExactly}
@@ -13,15 +16,18 @@ use Rattle.segment_core.specs.Reading.{IsFrontOf, TellsOutside}
 use Rattle.segment_core.specs.declared.answers.Front.{Front}
 use Rattle.segment_core.specs.declared.answers.ReadFault.{ReadFault}
 use Rattle.segment_core.specs.declared.answers.Refusal.{Refusal}
+use Rattle.segment_core.specs.declared.answers.Refusal.TheVariants as refusal
 use Rattle.segment_core.specs.declared.answers.Taken.{Taken}
 use Rattle.segment_core.specs.declared.fold_plan.Folded.{Folded}
-use Rattle.fleet_steps.specs.Nodes.{nodes_of, first_missing}
+use Rattle.segment_join.specs.Joining.{MeansUnion, TakesTold, RefusesJoin, AreOfOneLog, JoinsInto}
+use Rattle.segment_join.specs.Sameness.{TellsSame}
+use Rattle.fleet_steps.specs.Nodes.{node_of, nodes_of, first_missing}
 use Rattle.fleet_steps.specs.declared.steps.Step.{Step}
 use Rattle.fleet_steps.specs.declared.steps.Step.TheVariants as step
 use Rattle.fleet_core.specs.declared.replies.Reply.{Reply}
-use Rattle.fleet_core.specs.declared.replies.Reply.TheVariants.{Folded as FoldedIs, Discarded, Front as FrontIs, NoNode, Memory}
-use Rattle.fleet_core.specs.FleetState.{FleetState, ChangesNode}
-use Rattle.fleet_core.specs.Replying.{taken_reply, fault_reply, read_reply}
+use Rattle.fleet_core.specs.declared.replies.Reply.TheVariants.{Folded as FoldedIs, Discarded, Front as FrontIs, Joined, Answer, Wiped, NoNode, Memory}
+use Rattle.fleet_core.specs.FleetState.{FleetState, ChangesNode, beside}
+use Rattle.fleet_core.specs.Replying.{taken_reply, fault_reply, read_reply, joined_reply}
 
 -- there was no memory, and nothing has changed
 abbrev pub LacksMemory : State → Reply → State → Type 0
@@ -43,13 +49,13 @@ CommitsPlan old (Err fault) reply new = (reply ≡ fault_reply fault) × (new �
 -- the segment plans a fold of the page, and commits it
 pub record Folds (old : State) (page : ℕ) (reply : Reply) (new : State) : Type 0 where
   pub plan : Result Folded ReadFault
-  pub plans : (k : ℕ) → IsCompleteEpoch old.cuts k → PlansFold old k page plan
+  pub plans : PlansFold old page plan
   pub commits : CommitsPlan old plan reply new
 
 -- the segment forgets what it has folded
 pub record Discards (old : State) (reply : Reply) (new : State) : Type 0 where
   pub told : reply ≡ Discarded
-  pub discards : (k : ℕ) → IsCompleteEpoch old.cuts k → DiscardsJust k old new
+  pub discards : DiscardsJust old new
 
 -- the segment tells its own front
 pub record Fronts (s : State) (reply : Reply) : Type 0 where
@@ -60,22 +66,60 @@ pub record Fronts (s : State) (reply : Reply) : Type 0 where
 -- the segment reads the page
 pub record Reads (s : State) (page point : ℕ) (reply : Reply) : Type 0 where
   pub answer : Result (List ℕ) ReadFault
-  pub own : IfOk answer (λ image. (k : ℕ) → IsCompleteEpoch s.cuts k → Shows s k page point image)
+  pub own : IfOk answer (Shows s page point)
   pub outside : TellsOutside s point answer
   pub broken : TellsBreak s page point answer
   pub told : reply ≡ read_reply answer
 
+-- another segment is joined into the segment
+pub record JoinsOther (old other : State) (reply : Reply) (new : State) : Type 0 where
+  pub answer : Result (Unit {0}) Refusal
+  pub means : OnOk answer (MeansUnion old other new)
+  pub joins : OnOk answer (JoinsInto old other new)
+  pub sound : IfErr answer (λ why. AreOfOneLog old other → why ≡ refusal.Memory)
+  pub takes : OnOk answer (TakesTold old other)
+  pub refused : IfErr answer (λ why. (why ≡ refusal.Memory) ⊎ RefusesJoin old other why)
+  pub unchanged : OnErr answer (new ≡ old)
+  pub told : reply ≡ joined_reply answer
+
+-- the segment of the other node is joined into the segment; a node that is joined with itself stays as it is
+abbrev pub JoinsBeside : State → Option State → Reply → State → Type 0
+JoinsBeside old None reply new = (reply ≡ Joined) × (new ≡ old)
+JoinsBeside old (Some other) reply new = JoinsOther old other reply new
+
+-- the answer tells whether the first segment's meaning covers the second's
+abbrev pub TellsCovers : State → State → Bool → Type 0
+TellsCovers upper lower answer = (y x : Meaning) → HasMeaning upper y → HasMeaning lower x → IsTrue answer ↔ Covers y x
+
+-- there was no memory, or the reply is an answer that tells this
+abbrev pub Answers : (Bool → Type 0) → Reply → Type 0
+Answers Tells reply = (reply ≡ Memory) ⊎ ((answer : Bool) × Tells answer × (reply ≡ Answer answer))
+
+-- the segment is as new
+abbrev pub Wipes : ℕ → State → Reply → State → Type 0
+Wipes roster old reply new = LacksMemory old reply new ⊎ ((reply ≡ Wiped) × (new ≡ empty_state roster))
+
+-- The calls of a step at the segment of its node, of a fleet of so many readers. Of the segments that are compared the other one is
+-- the node's own where the step names no other node.
+abbrev pub NodeCalls : ℕ → State → Option State → Step Fact → Reply → State → Type 0
+NodeCalls roster old other (step.Take node fact) reply new = Takes old fact reply new
+NodeCalls roster old other (step.Fold node page) reply new = Folds old page reply new
+NodeCalls roster old other (step.Discard node) reply new = Discards old reply new
+NodeCalls roster old other (step.Front node) reply new = Fronts old reply × (new ≡ old)
+NodeCalls roster old other (step.Read node page point offset len) reply new = Reads old page point reply × (new ≡ old)
+NodeCalls roster old other (step.Join node from) reply new = JoinsBeside old other reply new
+NodeCalls roster old other (step.Same node than) reply new = Answers (TellsSame old (unwrap_or other old)) reply × (new ≡ old)
+NodeCalls roster old other (step.Covers node than) reply new = Answers (TellsCovers old (unwrap_or other old)) reply × (new ≡ old)
+NodeCalls roster old other (step.Wipe node) reply new = Wipes roster old reply new
+
 -- the calls of a step whose nodes are all there
 abbrev pub Calls : FleetState → Step Fact → Reply → FleetState → Type 0
-Calls old (step.Take node fact) reply new = ChangesNode node (λ s t. Takes s fact reply t) old new
-Calls old (step.Fold node page) reply new = ChangesNode node (λ s t. Folds s page reply t) old new
-Calls old (step.Discard node) reply new = ChangesNode node (λ s t. Discards s reply t) old new
-Calls old (step.Front node) reply new = ChangesNode node (λ s t. Fronts s reply × (t ≡ s)) old new
-Calls old (step.Read node page point offset len) reply new = ChangesNode node (λ s t. Reads s page point reply × (t ≡ s)) old new
+Calls old step reply new = ChangesNode (node_of step) (λ s t. NodeCalls old.roster s (beside old step) step reply t) old new
 
 -- a step: the first named node that is not there, or its calls
 abbrev pub StepCalls : FleetState → Step Fact → Reply → FleetState → Type 0
-StepCalls old step reply new = MatchOption (first_missing (length old.segments) (nodes_of step)) (Calls old step reply new) (λ node. (reply ≡ NoNode node) × (new ≡ old))
+StepCalls old step reply new =
+    MatchOption (first_missing (length old.segments) (nodes_of step)) (Calls old step reply new) (λ node. (reply ≡ NoNode node) × (new ≡ old))
 
 -- a whole run
 abbrev pub RunCalls : FleetState → List (Step Fact) → List Reply → FleetState → Type 0

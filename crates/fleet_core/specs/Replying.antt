@@ -9,7 +9,7 @@ use Rattle.segment_core.specs.declared.answers.Refusal.TheVariants as refusal
 use Rattle.segment_core.specs.declared.answers.ReadFault.{ReadFault}
 use Rattle.segment_core.specs.declared.answers.ReadFault.TheVariants as fault
 use Rattle.fleet_core.specs.declared.replies.Reply.{Reply}
-use Rattle.fleet_core.specs.declared.replies.Reply.TheVariants.{Changed, Unchanged, Page, Below, Above, Refused as IsRefused, BrokenBlockChain, Memory}
+use Rattle.fleet_core.specs.declared.replies.Reply.TheVariants.{Changed, Unchanged, Page, Below, Above, Joined, Refused as IsRefused, BrokenBlockChain, Memory}
 
 -- want of memory is replied as such
 abbrev pub refusal_reply : Refusal → Reply
@@ -30,3 +30,7 @@ fault_reply fault.Memory = Memory
 abbrev pub read_reply : Result (List ℕ) ReadFault → Reply
 read_reply (Ok image) = Page image
 read_reply (Err f) = fault_reply f
+
+abbrev pub joined_reply : Result (Unit {0}) Refusal → Reply
+joined_reply (Ok done) = Joined
+joined_reply (Err why) = refusal_reply why

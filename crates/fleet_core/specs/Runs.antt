@@ -1,5 +1,5 @@
 -- Whole runs of the fleet machine, and the fleets that follow it.
-use Rattle.std.specs.Prelude.{ℕ, List, [], ◌∷◌}
+use Rattle.std.specs.Prelude.{◌≡◌, ℕ, List, [], ◌∷◌}
 use Rattle.std.specs.List.{Contains, AllZip, AllByRecursion}
 use Rattle.redo_core.specs.Sound.{IsSound}
 use Rattle.redo_core.specs.declared.facts.Fact.{Fact}
@@ -28,8 +28,9 @@ after_all m [] replies = m
 after_all m (step ∷ steps) [] = m
 after_all m (step ∷ steps) (reply ∷ replies) = after_all (after m step reply) steps replies
 
--- each segment means its node's facts
+-- the fleet is of the roster, and each segment means its node's facts
 pub record MeansMachine (roster : ℕ) (log : List Fact) (m : Machine) (fleet : FleetState) : Type 0 where
+  pub roster_is : fleet.roster ≡ roster
   pub nodes : AllZip (λ facts segment. Means roster log facts segment) m.nodes fleet.segments
 
 -- One step: where the fleet means the machine, the reply is the machine's, and it means the machine's next state.

@@ -1,16 +1,20 @@
-ghost use Rattle.std.specs.Prelude.{◌≡◌, ℕ, ◌↔◌, List, Some, length, replicate, IfOk, OnErr};
+ghost use Rattle.std.specs.Prelude.{◌≡◌, ℕ, ◌<◌, ◌↔◌, List, Option, Some, length, IfOk, OnErr};
+ghost use Rattle.std.specs.Option.{option_copied};
 ghost use Rattle.redo_core.specs.declared.facts.Fact.{Fact as AnyFact};
-ghost use Rattle.segment_state.specs.State.{empty_state};
+ghost use Rattle.segment_state.specs.State.{State};
 ghost use Rattle.fleet_steps.specs.Nodes.{nodes_of, first_missing};
-ghost use Rattle.fleet_steps.specs.declared.steps.Step.TheVariants.{Take as TakeOf, Fold as FoldOf};
-ghost use Rattle.fleet_core.specs.AtNode.{NodeFollows, NodeCalls};
-ghost use Rattle.fleet_core.specs.Calls.{StepCalls, RunCalls, Takes, Folds};
+ghost use Rattle.fleet_steps.specs.declared.steps.Step.TheVariants.{Take as TakeOf, Fold as FoldOf, Wipe as WipeOf};
+ghost use Rattle.fleet_core.specs.AtNode.{NodeFollows, CarriesOut};
+ghost use Rattle.fleet_core.specs.Calls.{NodeCalls, StepCalls, RunCalls, Takes, Folds, Wipes};
+ghost use Rattle.fleet_core.specs.FleetState.{empty_fleet};
 ghost use Rattle.fleet_core.specs.Machine.{empty_machine};
 ghost use Rattle.fleet_core.specs.Refused.{IsRefusal};
-ghost use Rattle.fleet_core.specs.Replying.{taken_reply as taken_reply_of, refusal_reply as refusal_reply_of, read_reply as read_reply_of, fault_reply as fault_reply_of};
+ghost use Rattle.fleet_core.specs.Replying.{taken_reply as taken_reply_of, refusal_reply as refusal_reply_of};
+ghost use Rattle.fleet_core.specs.Replying.{read_reply as read_reply_of, fault_reply as fault_reply_of};
 ghost use Rattle.fleet_core.specs.Runs.{MeansMachine, FollowsStep, FollowsMachine};
 ghost use Rattle.fleet_core.specs.declared.replies.Reply.TheVariants.{NoNode};
 
+use crate::pairs::{covers_beside, join_beside, same_beside};
 use crate::replies::Reply;
 use fleet_steps::Step;
 use redo_core::{Fact, Page, Refused, Roster};
@@ -18,9 +22,10 @@ use segment_core::{CommitFault, ReadFault, Refusal, Segment, Taken};
 use std::alloc::{AllocError, Global};
 use std::marker::Model;
 
-/// Some segments, counted from 1.
+/// Some segments of one roster of readers, counted from 1.
 #[derive(Drop)]
 pub struct Fleet {
+    roster: Roster,
     nodes: Vec<Segment>,
 }
 
@@ -29,20 +34,23 @@ impl Model for Fleet {
 
     ghost Value = { FleetState };
 
-    ghost view = { λ f. record { segments = f.nodes.items } };
+    ghost view = { λ f. record { roster = f.roster; segments = f.nodes.items } };
 }
 
 impl Fleet {
     /// A fleet of segments of a roster of readers, that no fact has reached. Its only error is want of memory.
     pub fn new(alloc: Global, roster: Roster, nodes: u16) -> Result<Self, AllocError>
-        ensures empty { IfOk result (λ fleet. fleet.segments ≡ replicate nodes (empty_state roster)) }
+        ensures empty { IfOk result (λ fleet. fleet ≡ empty_fleet roster nodes) }
         ensures means { IfOk result (λ fleet. (log : List AnyFact) → MeansMachine roster log (empty_machine nodes) fleet) }
     {
         let mut segments = Vec::new(alloc);
         for _ in 0..nodes {
             segments.push(Segment::new(alloc, roster)?)?;
         }
-        Ok(Fleet { nodes: segments })
+        Ok(Fleet {
+            roster,
+            nodes: segments,
+        })
     }
 
     /// Carries out one step. A step that replies `Memory`, `NoNode` or a refusal changes nothing.
@@ -58,7 +66,8 @@ impl Fleet {
             return Reply::NoNode(node);
         }
         let place = usize::from(step.node()) - 1;
-        carry_out(&mut self.nodes[place], step)
+        let other = usize::from(step.other()) - 1;
+        carry_out_at(&mut self.nodes, place, other, self.roster, step)
     }
 
     /// Carries out steps, and gives their replies in order. Its only error is want of memory for the list of replies, which is
@@ -80,11 +89,39 @@ impl Fleet {
     }
 }
 
-/// Carries out a step at its node.
-fn carry_out(segment: &mut Segment, step: &Step<Fact>) -> Reply
-    ensures follows { NodeFollows segment.old step.now result segment.new }
-    ensures calls { NodeCalls segment.old step.now result segment.new }
-    ensures there { (i : ℕ) → result ≡ NoNode i → ⊥ }
+/// Carries out a step at a place, counted from 0, beside the segment at another place.
+fn carry_out_at(
+    segments: &mut [Segment],
+    place: usize,
+    other: usize,
+    roster: Roster,
+    step: &Step<Fact>,
+) -> Reply
+    requires place { place < length segments.old }
+    requires other { other < length segments.old }
+    ensures { CarriesOut roster segments.old place other step.now result segments.new }
+{
+    if place < other {
+        let (front, back) = segments.split_at_mut(other);
+        return carry_out(&mut front[place], Some(&back[0]), roster, step);
+    }
+    if other < place {
+        let (front, back) = segments.split_at_mut(place);
+        return carry_out(&mut back[0], Some(&front[other]), roster, step);
+    }
+    carry_out(&mut segments[place], None, roster, step)
+}
+
+/// Carries out a step at its node, beside the other node where the step names another one.
+fn carry_out(
+    segment: &mut Segment,
+    other: Option<&Segment>,
+    roster: Roster,
+    step: &Step<Fact>,
+) -> Reply
+    ensures follows { NodeFollows roster segment.old (option_copied other.entry) step.now result segment.new }
+    ensures calls { NodeCalls roster segment.old (option_copied other.entry) step.now result segment.new }
+    ensures found { (node : ℕ) → result ≡ NoNode node → ⊥ }
     ensures refused { IsRefusal result → segment.new ≡ segment.old }
 {
     match step {
@@ -96,14 +133,18 @@ fn carry_out(segment: &mut Segment, step: &Step<Fact>) -> Reply
         }
         Step::Front { .. } => Reply::Front(segment.front()),
         Step::Read { page, point, .. } => read_reply(segment.read(*page, *point)),
+        Step::Join { .. } => join_beside(segment, other),
+        Step::Same { .. } => same_beside(segment, other),
+        Step::Covers { .. } => covers_beside(segment, other),
+        Step::Wipe { .. } => wipe(segment, roster),
     }
 }
 
 /// Takes a copy of a fact.
 fn take_copy(segment: &mut Segment, fact: &Fact) -> Reply
-    ensures follows { (node : ℕ) → NodeFollows segment.old (TakeOf node fact.now) result segment.new }
+    ensures follows { (readers node : ℕ) (other : Option State) → NodeFollows readers segment.old other (TakeOf node fact.now) result segment.new }
     ensures calls { Takes segment.old fact.now result segment.new }
-    ensures there { (i : ℕ) → result ≡ NoNode i → ⊥ }
+    ensures found { (node : ℕ) → result ≡ NoNode node → ⊥ }
     ensures refused { IsRefusal result → segment.new ≡ segment.old }
 {
     match fact.copy() {
@@ -114,9 +155,9 @@ fn take_copy(segment: &mut Segment, fact: &Fact) -> Reply
 
 /// Folds a page to the segment's anchor, and commits it.
 fn fold_page(segment: &mut Segment, page: u16) -> Reply
-    ensures follows { (node : ℕ) → NodeFollows segment.old (FoldOf node page) result segment.new }
+    ensures follows { (readers node : ℕ) (other : Option State) → NodeFollows readers segment.old other (FoldOf node page) result segment.new }
     ensures calls { Folds segment.old page result segment.new }
-    ensures there { (i : ℕ) → result ≡ NoNode i → ⊥ }
+    ensures found { (node : ℕ) → result ≡ NoNode node → ⊥ }
     ensures refused { IsRefusal result → segment.new ≡ segment.old }
 {
     let folded = match segment.plan_fold(page) {
@@ -130,6 +171,22 @@ fn fold_page(segment: &mut Segment, page: u16) -> Reply
             // The plan's version is the anchor itself.
             CommitFault::Ahead { .. } => unreachable!(),
         },
+    }
+}
+
+/// Puts a segment that nothing has reached in place of the segment.
+fn wipe(segment: &mut Segment, roster: Roster) -> Reply
+    ensures follows { (node : ℕ) (other : Option State) → NodeFollows roster segment.old other (WipeOf node) result segment.new }
+    ensures calls { Wipes roster segment.old result segment.new }
+    ensures found { (node : ℕ) → result ≡ NoNode node → ⊥ }
+    ensures refused { IsRefusal result → segment.new ≡ segment.old }
+{
+    match Segment::new(segment.allocator(), roster) {
+        Ok(fresh) => {
+            *segment = fresh;
+            Reply::Wiped
+        }
+        Err(_) => Reply::Memory,
     }
 }
 

@@ -18,9 +18,15 @@ pub enum Reply {
     Below(u64),
     /// The read point is above the complete point, which is shown.
     Above(u64),
+    /// The node means what it meant and what the other one means.
+    Joined,
+    /// Whether two nodes mean the same, or whether what the one means covers what the other means.
+    Answer(bool),
+    /// The node means no facts.
+    Wiped,
     /// There is no such node.
     NoNode(u16),
-    /// The fact contradicts what the node knows. It does not come over a sound log.
+    /// The fact, or what the other node knows, contradicts what the node knows. It does not come over a sound log.
     Refused(Refusal),
     /// The block chain of the page is broken at this number. It does not come over a sound log.
     BrokenBlockChain { page: u16, number: u64 },

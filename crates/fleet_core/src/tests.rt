@@ -22,6 +22,9 @@ enum Told {
     Byte(u8),
     Below(u64),
     Above(u64),
+    Joined,
+    Answer(bool),
+    Wiped,
     NoNode(u16),
     OtherRoster(u8, u8),
     Refused,
@@ -29,11 +32,12 @@ enum Told {
     Memory,
 }
 
+const fn take_at(node: u16, line: Line) -> Step<Line> {
+    Step::Take { node, fact: line }
+}
+
 const fn take(line: Line) -> Step<Line> {
-    Step::Take {
-        node: 1,
-        fact: line,
-    }
+    take_at(1, line)
 }
 
 const fn read(point: u64) -> Step<Line> {
@@ -52,6 +56,18 @@ const DISCARD: Step<Line> = Step::Discard { node: 1 };
 
 const fn fold(page: u16) -> Step<Line> {
     Step::Fold { node: 1, page }
+}
+
+const fn join(node: u16, from: u16) -> Step<Line> {
+    Step::Join { node, from }
+}
+
+const fn same(node: u16, other: u16) -> Step<Line> {
+    Step::Same { node, other }
+}
+
+const fn covers(node: u16, other: u16) -> Step<Line> {
+    Step::Covers { node, other }
 }
 
 fn fact(heap: Global, line: Line) -> Result<Fact, Fail> {
@@ -85,6 +101,9 @@ fn told_by(reply: &Reply) -> Told {
         Reply::Page(image) => Told::Byte(image.bytes()[0]),
         Reply::Below(min) => Told::Below(*min),
         Reply::Above(complete) => Told::Above(*complete),
+        Reply::Joined => Told::Joined,
+        Reply::Answer(answer) => Told::Answer(*answer),
+        Reply::Wiped => Told::Wiped,
         Reply::NoNode(node) => Told::NoNode(*node),
         Reply::Refused(Refusal::OtherRoster { own, shown }) => Told::OtherRoster(*own, *shown),
         Reply::Refused(_) => Told::Refused,
@@ -93,13 +112,18 @@ fn told_by(reply: &Reply) -> Told {
     }
 }
 
-// The answers of a fleet of one node to steps.
-fn answers(heap: Global, readers: u8, table: &[(Step<Line>, Told)]) -> Result<Vec<Told>, Fail> {
+// The answers of a fleet to steps.
+fn answers(
+    heap: Global,
+    readers: u8,
+    nodes: u16,
+    table: &[(Step<Line>, Told)],
+) -> Result<Vec<Told>, Fail> {
     let mut steps = Vec::new(heap);
     for (step, _) in table {
         steps.push(step.naming(|line| fact(heap, line))?)?;
     }
-    let mut fleet = Fleet::new(heap, Roster::new(readers)?, 1)?;
+    let mut fleet = Fleet::new(heap, Roster::new(readers)?, nodes)?;
     let replies = fleet.run(heap, &steps)?;
     let mut list = Vec::new(heap);
     for reply in &replies {
@@ -132,7 +156,7 @@ fn a_node_answers_whatever_the_order(rt: HostRuntime) -> Result<(), Fail> {
         (Step::Front { node: 2 }, Told::NoNode(2)),
         (Step::Discard { node: 0 }, Told::NoNode(0)),
     ];
-    assert_eq!(rt; answers(heap, 1, &table)?, wanted(heap, &table)?);
+    assert_eq!(rt; answers(heap, 1, 1, &table)?, wanted(heap, &table)?);
     Ok(())
 }
 
@@ -151,7 +175,7 @@ fn a_node_folds_and_discards(rt: HostRuntime) -> Result<(), Fail> {
         (FRONT, Told::Front(0, 5, 5)),
         (read(5), Told::Byte(0x62)),
     ];
-    assert_eq!(rt; answers(heap, 1, &table)?, wanted(heap, &table)?);
+    assert_eq!(rt; answers(heap, 1, 1, &table)?, wanted(heap, &table)?);
     Ok(())
 }
 
@@ -168,6 +192,90 @@ fn facts_of_no_sound_log(rt: HostRuntime) -> Result<(), Fail> {
         (read(5), Told::Broken(5)),
         (read(3), Told::Byte(0x61)),
     ];
-    assert_eq!(rt; answers(heap, 2, &table)?, wanted(heap, &table)?);
+    assert_eq!(rt; answers(heap, 2, 1, &table)?, wanted(heap, &table)?);
+    Ok(())
+}
+
+#[test]
+fn a_node_beside_itself_and_nodes_that_are_not_there(rt: HostRuntime) -> Result<(), Fail> {
+    let heap = rt.alloc();
+    let table = [
+        (take(Line::Rec(3, 0, 0, 0x61)), Told::Changed),
+        (join(1, 1), Told::Joined),
+        (FRONT, Told::Front(0, 3, 0)),
+        (same(1, 1), Told::Answer(true)),
+        (covers(1, 1), Told::Answer(true)),
+        (Step::Wipe { node: 1 }, Told::Wiped),
+        (FRONT, Told::Front(0, 0, 0)),
+        (take(Line::Rec(3, 0, 0, 0x62)), Told::Changed),
+        (join(4, 3), Told::NoNode(4)),
+        (join(1, 3), Told::NoNode(3)),
+        (same(0, 5), Told::NoNode(0)),
+        (covers(2, 0), Told::NoNode(0)),
+        (Step::Wipe { node: 3 }, Told::NoNode(3)),
+    ];
+    assert_eq!(rt; answers(heap, 1, 2, &table)?, wanted(heap, &table)?);
+    Ok(())
+}
+
+#[test]
+fn nodes_of_different_gaps_merge(rt: HostRuntime) -> Result<(), Fail> {
+    let heap = rt.alloc();
+    let table = [
+        (take(Line::Rec(3, 0, 0, 0x61)), Told::Changed),
+        (take(Line::Rec(9, 5, 5, 0x63)), Told::Changed),
+        (take_at(2, Line::Rec(5, 3, 3, 0x62)), Told::Changed),
+        (take_at(2, Line::Min(5, 1)), Told::Changed),
+        (FRONT, Told::Front(0, 3, 0)),
+        (Step::Front { node: 2 }, Told::Front(0, 0, 5)),
+        (covers(1, 2), Told::Answer(false)),
+        (join(1, 2), Told::Joined),
+        (FRONT, Told::Front(0, 9, 5)),
+        (covers(1, 2), Told::Answer(true)),
+        (covers(2, 1), Told::Answer(false)),
+        (Step::Wipe { node: 1 }, Told::Wiped),
+        (covers(2, 1), Told::Answer(true)),
+        (Step::Front { node: 2 }, Told::Front(0, 0, 5)),
+    ];
+    assert_eq!(rt; answers(heap, 1, 2, &table)?, wanted(heap, &table)?);
+    Ok(())
+}
+
+#[test]
+fn what_is_folded_shows_in_no_join(rt: HostRuntime) -> Result<(), Fail> {
+    let heap = rt.alloc();
+    let table = [
+        (take(Line::Rec(3, 0, 0, 0x61)), Told::Changed),
+        (take(Line::Rec(5, 3, 3, 0x62)), Told::Changed),
+        (take(Line::Min(5, 1)), Told::Changed),
+        (join(2, 1), Told::Joined),
+        (fold(7), Told::Folded),
+        (DISCARD, Told::Discarded),
+        (same(2, 1), Told::Answer(true)),
+        (take_at(2, Line::Rec(9, 5, 5, 0x63)), Told::Changed),
+        (same(1, 2), Told::Answer(false)),
+        (join(1, 2), Told::Joined),
+        (read(5), Told::Byte(0x62)),
+        (read(9), Told::Byte(0x63)),
+        (same(1, 2), Told::Answer(true)),
+        (join(2, 1), Told::Joined),
+        (same(2, 1), Told::Answer(true)),
+    ];
+    assert_eq!(rt; answers(heap, 1, 2, &table)?, wanted(heap, &table)?);
+    Ok(())
+}
+
+#[test]
+fn a_refused_join_changes_nothing(rt: HostRuntime) -> Result<(), Fail> {
+    let heap = rt.alloc();
+    let table = [
+        (take(Line::Rec(3, 0, 0, 0x61)), Told::Changed),
+        (take_at(2, Line::Rec(3, 0, 0, 0x62)), Told::Changed),
+        (join(3, 1), Told::Joined),
+        (join(1, 2), Told::Refused),
+        (same(1, 3), Told::Answer(true)),
+        (same(1, 2), Told::Answer(false)),
+    ];
+    assert_eq!(rt; answers(heap, 1, 3, &table)?, wanted(heap, &table)?);
     Ok(())
 }

@@ -7,14 +7,19 @@ use Rattle.fleet_core.proofs.fleets.fold_page.Goals as goal
 pub unreachable-requires : goal.unreachable-requires
 unreachable-requires c =
     let plan = c.in-Ok.plan in
-    let why : RefusesCommit c.args.segment.now plan (Ahead c.in-Ahead.version c.in-Ahead.anchor) = rw (c.fold-folded.ensures, c.in-Ahead.is) at c.in-Err-commit_fold.ensures.refused in
+    let why : RefusesCommit c.args.segment.now plan (Ahead c.in-Ahead.version c.in-Ahead.anchor) =
+    rw (c.fold-folded.ensures, c.in-Ahead.is) at c.in-Err-commit_fold.ensures.refused in
     never_ahead c.args.segment.now c.args.page plan c.in-Ahead.version c.in-Ahead.anchor c.in-Ok.ensures.own why
 
 pub returns-in-Err-clause-follows : goal.returns-in-Err-clause-follows
-returns-in-Err-clause-follows c = λ node. follows_no_plan c.args.segment.now node c.args.page c.in-Err.fault c.fault_reply.result c.in-Err.ensures.result c.fault_reply.ensures
+returns-in-Err-clause-follows c =
+    λ readers node other.
+    let says = c.in-Err.ensures.result in
+    follows_no_plan readers other c.args.segment.now node c.args.page c.in-Err.fault c.fault_reply.result says c.fault_reply.ensures
 
 pub returns-in-Ok-commit_fold-clause-follows : goal.returns-in-Ok-commit_fold-clause-follows
-returns-in-Ok-commit_fold-clause-follows c = λ node.
+returns-in-Ok-commit_fold-clause-follows c = λ readers node other.
     let plan = c.in-Ok.plan in
-    let keeps : KeepsMeaningWith c.args.segment.now plan.page plan.version plan.image c.commit_fold.new.self = rw c.fold-folded.ensures at c.in-Ok-commit_fold.ensures.keeps in
-    follows_fold c.args.segment.now c.commit_fold.new.self node c.args.page plan c.in-Ok.ensures.result keeps
+    let keeps : KeepsMeaningWith c.args.segment.now plan.page plan.version plan.image c.commit_fold.new.self =
+    rw c.fold-folded.ensures at c.in-Ok-commit_fold.ensures.keeps in
+    follows_fold readers other c.args.segment.now c.commit_fold.new.self node c.args.page plan c.in-Ok.ensures.result keeps

@@ -1,4 +1,4 @@
-use Rattle.std.proofs.Common.{◌≡◌, List, [], replicate, sym, subst, arith, ap, ◌∙◌}
+use Rattle.std.proofs.Common.{◌≡◌, List, [], replicate, refl, sym, subst, arith, ap, ◌∙◌}
 use Rattle.std.specs.List.{AllZip}
 use Rattle.segment_state.specs.State.{State, empty_state}
 use Rattle.segment_state.specs.Means.{Means}
@@ -9,8 +9,11 @@ use Rattle.fleet_core.proofs.fleets.Fleet.new.Goals as goal
 pub returns-clause-means : goal.returns-clause-means
 returns-clause-means c = λ log.
     let all : c.loop.counter ≡ c.args.nodes = omega arith in
-    let items : c.loop.segments.items ≡ replicate c.args.nodes (empty_state c.args.roster) = c.loop.invariant ∙ ap (λ n. replicate n (empty_state c.args.roster)) all in
+    let items : c.loop.segments.items ≡ replicate c.args.nodes (empty_state c.args.roster) =
+    c.loop.invariant ∙ ap (λ n. replicate n (empty_state c.args.roster)) all in
     record {
-      nodes = subst (λ (segments : List State). AllZip (λ facts segment. Means c.args.roster log facts segment) (replicate c.args.nodes []) segments) (sym items)
+      roster_is = refl;
+      nodes = subst (λ (segments : List State). AllZip (λ facts segment. Means c.args.roster log facts segment) (replicate c.args.nodes []) segments)
+          (sym items)
           (none_mean c.args.roster log c.args.nodes (empty_state c.args.roster) (empty_means c.args.roster log));
     }

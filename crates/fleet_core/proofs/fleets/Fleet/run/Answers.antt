@@ -14,16 +14,19 @@ loop-step-preserved c =
     let i = c.loop-step.step-index in
     let steps = c.args.steps.now in
     let pushed : c.push.new.self.items ≡ c.loop-step.replies.items ++ c.step-reply.result ∷ [] = grind (arith, common_steps) in
-    let taken : take (i + 1) steps ≡ take i steps ++ c.step-item.result ∷ [] = rw add-one (take-suc steps i c.step-item.result c.loop-step-test.true ∙ ap (λ s. take i steps ++ s ∷ []) (sym c.step-item.is)) in
+    let taken : take (i + 1) steps ≡ take i steps ++ c.step-item.result ∷ [] =
+    rw add-one (take-suc steps i c.step-item.result c.loop-step-test.true ∙ ap (λ s. take i steps ++ s ∷ []) (sym c.step-item.is)) in
     record {
       follows =
           subst (λ (xs : List (Step Fact)). FollowsMachine c.args.self.now xs c.push.new.self.items c.step-reply.new.self) (sym taken)
           (subst (λ (rs : List Reply). FollowsMachine c.args.self.now (take i steps ++ c.step-item.result ∷ []) rs c.step-reply.new.self) (sym pushed)
-          (follows_more c.args.self.now c.loop-step.self c.step-reply.new.self (take i steps) c.loop-step.replies.items c.step-item.result c.step-reply.result c.loop-step.invariant.follows c.step-reply.ensures.follows));
+          (follows_more c.args.self.now c.loop-step.self c.step-reply.new.self
+          (take i steps) c.loop-step.replies.items c.step-item.result c.step-reply.result c.loop-step.invariant.follows c.step-reply.ensures.follows));
       calls =
           subst (λ (xs : List (Step Fact)). RunCalls c.args.self.now xs c.push.new.self.items c.step-reply.new.self) (sym taken)
           (subst (λ (rs : List Reply). RunCalls c.args.self.now (take i steps ++ c.step-item.result ∷ []) rs c.step-reply.new.self) (sym pushed)
-          (calls_more c.args.self.now c.loop-step.self c.step-reply.new.self (take i steps) c.loop-step.replies.items c.step-item.result c.step-reply.result c.loop-step.invariant.calls c.step-reply.ensures.calls));
+          (calls_more c.args.self.now c.loop-step.self c.step-reply.new.self
+          (take i steps) c.loop-step.replies.items c.step-item.result c.step-reply.result c.loop-step.invariant.calls c.step-reply.ensures.calls));
       count = search rules;
       room = omega (arith, c.push.ensures.capacity, c.loop-step.invariant.room);
     }
