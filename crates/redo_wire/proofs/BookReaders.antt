@@ -1,9 +1,12 @@
 -- Books: what is read is spelled so, and what is spelled so is read.
 use Rattle.std.proofs.Common.{◌≡◌, ℕ, ◌^◌, ◌+◌, ◌<◌, ◌≤◌, Bool, true, false, ltb, eqb, List, [], ◌∷◌, ◌++◌, length, Ok, refl, sym, ap, subst, ◌∙◌, append_assoc, arith}
 use Rattle.std.specs.List.{AllByRecursion, flat_map}
+use Rattle.std.specs.Prelude.{None}
 use Rattle.std.proofs.lemmas.Bool.{lt-ltb, eqb-false}
+use Rattle.std.proofs.lemmas.List.Elements.{All-from_recursion, recursion_from_All}
+use Rattle.redo_core.specs.Book.{BookData, book_of, IsBook}
 use Rattle.redo_core.specs.Data.{CutData, AdvanceData}
-use Rattle.redo_core.specs.Shape.{max_number}
+use Rattle.redo_core.specs.Shape.{cut_fault, advance_fault, max_number, epoch_count}
 use Rattle.redo_core.specs.Roster.{IsReader, least}
 use Rattle.redo_core.specs.Order.{IsRising, CutBefore, AdvanceBefore}
 use Rattle.redo_core.specs.CompleteEpoch.{IsCompleteEpoch}
@@ -14,7 +17,7 @@ use Rattle.redo_wire.specs.Places.{WaitPlace, is_wait_above}
 use Rattle.redo_wire.specs.Forms.{within_at, byte_in}
 use Rattle.redo_wire.specs.Facts.{IsWireCut, IsWireAdvance, cut_bytes, advance_bytes}
 use Rattle.redo_wire.specs.FactReading.{cut_at, advance_at}
-use Rattle.redo_wire.specs.Books.{BookData, book_of, min_of, has_many, IsBook, IsWireBook, book_bytes}
+use Rattle.redo_wire.specs.Books.{min_of, has_many, IsWireBook, book_bytes}
 use Rattle.redo_wire.specs.BookReading.{complete, cut_epoch, last_point, wait_place, next_cut_at, next_point_at, next_wait_at, book_at}
 use Rattle.redo_wire.proofs.Readers.{IsBytes, bind_ok, ok_is, Takes, Takes-then, Reads, ordered_reads}
 use Rattle.redo_wire.proofs.FieldReaders.{u16_reads, u32_reads, u48_reads}
@@ -57,7 +60,7 @@ small_least (p ∷ ps) one h =
 
 -- the minimum read point of a book is a number
 pub min_small : (b : BookData) → IsBook b → min_of b ≤ max_number
-min_small b book = small_least b.points book.roster.0 book.points
+min_small b book = small_least b.points book.roster.0 (recursion_from_All (λ p. p ≤ max_number) b.points book.points_shaped)
 
 each_point : (last : ℕ) (ps : List ℕ) → AllByRecursion (λ p. p ≤ max_number) ps → EachFrom IsNextPoint last_point last ps
 each_point last [] h = tt
@@ -87,16 +90,23 @@ cuts_rise cs each = rising_from_each (λ last c. ltb last c.epoch) (λ (c : CutD
 complete_is : (cs : List CutData) → IsRising CutBefore cs → AllByRecursion IsWireCut cs → IsCompleteEpoch cs (complete cs)
 complete_is cs rising all = is_complete cs rising (All-weaker IsWireCut (λ c. 0 < c.epoch) epoch_above_zero cs all)
 
--- what was judged by the computed epoch waits at the complete one
-waits_at_complete : (cs : List CutData) (waits : List AdvanceData) → IsCompleteEpoch cs (complete cs) → AllByRecursion (λ a. complete cs < a.epoch) waits
-    → (k : ℕ) → IsCompleteEpoch cs k → AllByRecursion (λ a. k < a.epoch) waits
-waits_at_complete cs waits is all k other = subst (λ (n : ℕ). AllByRecursion (λ a. n < a.epoch) waits) (one_complete_epoch cs (complete cs) k is other) all
+-- the truncations of a book have the fields that their type holds
+wire_cuts : (b : BookData) → IsBook b → AllByRecursion IsWireCut b.cuts
+wire_cuts b book =
+    let fit = recursion_from_All (λ c. c.epoch < epoch_count) b.cuts book.epochs_fit in
+    let shaped = recursion_from_All (λ c. cut_fault c ≡ None) b.cuts book.cuts_shaped in
+    All-weaker (λ c. (c.epoch < epoch_count) × (cut_fault c ≡ None)) IsWireCut (λ c h. let lt = h.0 in record { epoch = omega (arith, lt); shape = h.1 })
+    b.cuts (All-both (λ c. c.epoch < epoch_count) (λ c. cut_fault c ≡ None) b.cuts fit shaped)
+
+-- the epoch that reading computes is the one that the book has
+complete_of_book : (b : BookData) → IsBook b → complete b.cuts ≡ b.complete
+complete_of_book b book = one_complete_epoch b.cuts (complete b.cuts) b.complete (complete_is b.cuts book.cuts_rise (wire_cuts b book)) book.complete
 
 -- the truncations, points and advances that were read make up a book
 book_shape : (many : Bool) (cs : List CutData) (ps : List ℕ) (waits : List AdvanceData) → IsWithin many 1 2 15 (length ps)
     → EachFrom IsNextCut cut_epoch 0 cs → EachFrom IsNextPoint last_point 0 ps
     → EachFrom (IsNextWait many (complete cs) (length ps)) wait_place (0, 0, 0) waits
-    → length cs < 2 ^ 16 → length waits < 2 ^ 32 → IsWireBook (book_of cs ps waits)
+    → length cs < 2 ^ 16 → length waits < 2 ^ 32 → IsWireBook (book_of cs (complete cs) ps waits)
 book_shape many cs ps waits roster cuts points each few_cuts few_waits =
     let rising = cuts_rise cs cuts in
     let k = complete cs in
@@ -107,16 +117,22 @@ book_shape many cs ps waits roster cuts points each few_cuts few_waits =
     let later = All-weaker (IsWait many k n) (λ a. k < a.epoch) (λ a w. let l = w.later in omega (arith, l)) waits waiting.2 in
     let readers = All-weaker (IsWait many k n) (λ a. IsReader n a.reader)
     (λ a w. let b = within_bounds many 1 n a.reader (omega arith) one w.reader in (b.0, b.1)) waits waiting.2 in
+    let cuts_shaped = All-weaker IsWireCut (λ c. cut_fault c ≡ None) (λ c w. w.shape) cs rising.2 in
+    let epochs_fit = All-weaker IsWireCut (λ c. c.epoch < epoch_count) (λ c w. let e = w.epoch in omega (arith, e)) cs rising.2 in
+    let waits_shaped = All-weaker (IsWait many k n) (λ a. advance_fault a ≡ None) (λ a w. w.wire.shape) waits waiting.2 in
     record {
       shape = record {
-        cuts = rising.1;
+        cuts_rise = rising.1;
+        cuts_shaped = All-from_recursion (λ c. cut_fault c ≡ None) cs cuts_shaped;
+        epochs_fit = All-from_recursion (λ c. c.epoch < epoch_count) cs epochs_fit;
+        complete = complete_is cs rising.1 rising.2;
         roster = (bounds.0, bounds.1);
-        points = small_points 0 ps points;
-        waits = waiting.1;
-        readers = readers;
-        waiting = waits_at_complete cs waits (complete_is cs rising.1 rising.2) later;
+        points_shaped = All-from_recursion (λ p. p ≤ max_number) ps (small_points 0 ps points);
+        waits_rise = waiting.1;
+        waits_shaped = All-from_recursion (λ a. advance_fault a ≡ None) waits waits_shaped;
+        waits_later = All-from_recursion (λ a. k < a.epoch) waits later;
+        waits_readers = All-from_recursion (λ a. IsReader n a.reader) waits readers;
       };
-      each_cut = rising.2;
       each_wait = All-weaker (IsWait many k n) IsWireAdvance (λ a w. w.wire) waits waiting.2;
       cut_count = few_cuts;
       wait_count = few_waits;
@@ -127,7 +143,7 @@ pub book_steps : (many : Bool) (bytes : List ℕ) (cut_count : ℕ × List ℕ) 
     → u16_at bytes ≡ Ok cut_count → each_at next_cut_at cut_epoch cut_count.0 0 cut_count.1 ≡ Ok cuts → within_at many 1 2 15 cuts.1 ≡ Ok readers
     → each_at next_point_at last_point readers.0 0 readers.1 ≡ Ok points → u32_at points.1 ≡ Ok wait_count
     → each_at (next_wait_at many (complete cuts.0) readers.0) wait_place wait_count.0 (0, 0, 0) wait_count.1 ≡ Ok waits
-    → let b = book_of cuts.0 points.0 waits.0 in Takes bytes (book_bytes many b) waits.1 × (IsWireBook b × (has_many b ≡ many))
+    → let b = book_of cuts.0 (complete cuts.0) points.0 waits.0 in Takes bytes (book_bytes many b) waits.1 × (IsWireBook b × (has_many b ≡ many))
 book_steps many bytes cut_count cuts readers points wait_count waits fits e0 e1 e2 e3 e4 e5 =
     let k = complete cuts.0 in
     let t0 = u16_reads.takes bytes cut_count fits e0 in
@@ -163,14 +179,15 @@ book_takes many bytes x fits e =
     let a3 = bind_ok (each_at next_point_at last_point a2.0.0 0 a2.0.1) _ x a2.2 in
     let a4 = bind_ok (u32_at a3.0.1) _ x a3.2 in
     let a5 = bind_ok (each_at (next_wait_at many (complete a1.0.0) a2.0.0) wait_place a4.0.0 (0, 0, 0) a4.0.1) _ x a4.2 in
-    let made : BookData × List ℕ = (book_of a1.0.0 a3.0.0 a5.0.0, a5.0.1) in
+    let made : BookData × List ℕ = (book_of a1.0.0 (complete a1.0.0) a3.0.0 a5.0.0, a5.0.1) in
     subst (λ (y : BookData × List ℕ). Takes bytes (book_bytes many y.0) y.1 × (IsWireBook y.0 × (has_many y.0 ≡ many))) (ok_is made x a5.2)
     (book_steps many bytes a0.0 a1.0 a2.0 a3.0 a4.0 a5.0 fits a0.1 a1.1 a2.1 a3.1 a4.1 a5.1)
 
 each_cut : (b : BookData) → IsWireBook b → EachFrom IsNextCut cut_epoch 0 b.cuts
 each_cut b wire =
-    let first = All-weaker IsWireCut (λ c. ltb 0 c.epoch ≡ true) (λ c w. lt-ltb 0 c.epoch (epoch_above_zero c w)) b.cuts wire.each_cut in
-    each_from_rising (λ last c. ltb last c.epoch) (λ (c : CutData). c.epoch) CutBefore IsWireCut cut_tests 0 b.cuts first wire.shape.cuts wire.each_cut
+    let cuts = wire_cuts b wire.shape in
+    let first = All-weaker IsWireCut (λ c. ltb 0 c.epoch ≡ true) (λ c w. lt-ltb 0 c.epoch (epoch_above_zero c w)) b.cuts cuts in
+    each_from_rising (λ last c. ltb last c.epoch) (λ (c : CutData). c.epoch) CutBefore IsWireCut cut_tests 0 b.cuts first wire.shape.cuts_rise cuts
 
 -- a reader of the roster may stand in the form for that roster
 reader_within : (many : Bool) (readers r : ℕ) → IsWithin many 1 2 15 readers → IsReader readers r → IsWithin many 1 1 readers r
@@ -184,13 +201,15 @@ each_wait many b wire roster =
     let n = length b.points in
     let first = All-weaker IsWireAdvance (λ a. is_wait_above (0, 0, 0) (place_of a) ≡ true)
     (λ a w. let f = (ranges a w).first in wait_above_zero a.epoch a.reader a.point (omega (arith, f))) b.waits wire.each_wait in
-    let later = wire.shape.waiting k (complete_is b.cuts wire.shape.cuts wire.each_cut) in
+    let later : AllByRecursion (λ a. k < a.epoch) b.waits = subst (λ (m : ℕ). AllByRecursion (λ a. m < a.epoch) b.waits)
+    (sym (complete_of_book b wire.shape)) (recursion_from_All (λ a. b.complete < a.epoch) b.waits wire.shape.waits_later) in
+    let readers = recursion_from_All (λ a. IsReader n a.reader) b.waits wire.shape.waits_readers in
     let both = All-both (λ a. k < a.epoch) (λ a. IsReader n a.reader × IsWireAdvance a) b.waits later
-    (All-both (λ a. IsReader n a.reader) IsWireAdvance b.waits wire.shape.readers wire.each_wait) in
+    (All-both (λ a. IsReader n a.reader) IsWireAdvance b.waits readers wire.each_wait) in
     let all = All-weaker (λ a. (k < a.epoch) × (IsReader n a.reader × IsWireAdvance a)) (IsWait many k n)
     (λ a h. let l = h.0 in record { later = omega (arith, l); reader = reader_within many n a.reader roster h.1.0; wire = h.1.1 }) b.waits both in
     each_from_rising (λ last a. is_wait_above last (place_of a)) place_of AdvanceBefore (IsWait many k n) wait_tests (0, 0, 0) b.waits first
-    wire.shape.waits all
+    wire.shape.waits_rise all
 
 book_again : (many : Bool) (b : BookData) (rest : List ℕ) → IsWireBook b × (has_many b ≡ many) → book_at many (book_bytes many b ++ rest) ≡ Ok (b, rest)
 unfolding book_at
@@ -216,9 +235,10 @@ book_again many b rest fits =
           (each_cut b wire),
       readers,
       each_again next_point_at last_point u48 IsNextPoint next_point_reads b.points 0 z3
-          (each_point 0 b.points wire.shape.points),
+          (each_point 0 b.points (recursion_from_All (λ p. p ≤ max_number) b.points wire.shape.points_shaped)),
       u32_reads.again (length b.waits) z4 wire.wait_count,
       waits,
+      complete_of_book b wire.shape,
     ) refl
 
 pub book_reads : (many : Bool) → Reads (book_at many) (book_bytes many) (λ b. IsWireBook b × (has_many b ≡ many))

@@ -1,11 +1,12 @@
 -- Deltas: what is read is spelled so, and what is spelled so is read.
 use Rattle.std.proofs.Common.{◌≡◌, ℕ, zero, suc, ◌<◌, ◌≤◌, Bool, true, false, ltb, leb, eqb, List, [], ◌∷◌, ◌++◌, length, replicate, Ok, refl, sym, ap, subst, ◌∙◌, append_assoc, arith, inl, inr}
 use Rattle.std.specs.Prelude.{◌≢◌, not}
-use Rattle.std.specs.List.{flat_map}
+use Rattle.std.specs.List.{AllByRecursion, flat_map}
 use Rattle.std.proofs.lemmas.Bool.{ltb-true, leb-true, lt-ltb, le-leb, eqb-true, eq-eqb, or_cases, or_left, or_right, or_parts, not-false, cases_Bool, cases_lt}
 use Rattle.std.proofs.lemmas.List.{nil_from_length}
+use Rattle.redo_core.specs.Book.{BookData}
 use Rattle.redo_core.specs.Data.{RecordData}
-use Rattle.redo_core.specs.Order.{RecordBefore}
+use Rattle.redo_core.specs.Order.{IsRising, RecordBefore}
 use Rattle.redo_core.specs.Writing.{zeros}
 use Rattle.redo_core.specs.Meaning.{ImageData, ImageBefore}
 use Rattle.redo_wire.specs.Reading.{shaped}
@@ -14,7 +15,7 @@ use Rattle.redo_wire.specs.Lists.{each_at}
 use Rattle.redo_wire.specs.Places.{Place, is_above}
 use Rattle.redo_wire.specs.Records.{IsWireRecord, record_bytes}
 use Rattle.redo_wire.specs.RecordReading.{record_at}
-use Rattle.redo_wire.specs.Books.{BookData, min_of, has_many, book_bytes}
+use Rattle.redo_wire.specs.Books.{min_of, has_many, book_bytes}
 use Rattle.redo_wire.specs.BookReading.{book_at}
 use Rattle.redo_wire.specs.Deltas.{DeltaData, delta_of, image_of, IsDelta, IsWireImage, IsWireDelta, image_bytes, delta_part_bytes, delta_bytes}
 use Rattle.redo_wire.specs.DeltaReading.{is_nonzero, may_have, image_at, page_after, next_image_at, record_place, next_record_at, delta_part_at, delta_at}
@@ -44,7 +45,7 @@ zeros_is : zeros ≡ replicate 4096 0
 unfolding zeros
 zeros_is = refl
 
-written_page : (bytes : List ℕ) → is_nonzero bytes ≡ true → bytes ≢ zeros
+pub written_page : (bytes : List ℕ) → is_nonzero bytes ≡ true → bytes ≢ zeros
 written_page bytes nonzero e =
     let none : is_nonzero bytes ≡ false = ap is_nonzero (e ∙ zeros_is) ∙ zeros_nonzero 4096 in
     absurd (cc (nonzero, none))
@@ -83,15 +84,18 @@ image_again p rest fits =
     let regrouped : image_bytes p ++ rest ≡ u16 p.page ++ (p.bytes ++ rest) = simp append_assoc in
     ap image_at regrouped ∙ rw (u16_reads.again p.page (p.bytes ++ rest) fits.0.page, bytes_again 4096 p.bytes rest fits.0.size, fits.1) refl
 
+pub image_reads : Reads image_at image_bytes IsReadImage
+image_reads = record { takes = image_takes; again = image_again }
+
 next_image_reads : (least : ℕ) → Reads (next_image_at least) image_bytes (IsNextImage least)
-next_image_reads least = ordered_reads (λ p. leb least p.page) image_at image_bytes IsReadImage (record { takes = image_takes; again = image_again })
+next_image_reads least = ordered_reads (λ p. leb least p.page) image_at image_bytes IsReadImage image_reads
 
 -- ---- records in their places
 
 abbrev pub IsNextRecord : Place → RecordData → Type 0
 IsNextRecord last r = IsNext (λ last r. is_above last (r.epoch, r.number)) IsWireRecord last r
 
-next_record_reads : (last : Place) → Reads (next_record_at last) record_bytes (IsNextRecord last)
+pub next_record_reads : (last : Place) → Reads (next_record_at last) record_bytes (IsNextRecord last)
 next_record_reads last = ordered_reads (λ r. is_above last (r.epoch, r.number)) record_at record_bytes IsWireRecord record_reads
 
 -- ---- deltas
@@ -171,7 +175,7 @@ delta_part_takes many bytes x fits e =
     subst (λ (y : DeltaData × List ℕ). Takes bytes (delta_part_bytes many y.0) y.1 × (IsWireDelta y.0 × (has_many y.0.book ≡ many))) (ok_is made x a5.2)
     (delta_steps many bytes a0.0 a1.0 a2.0 a3.0 a4.0 a5.0 fits a0.1 s1.0 (leb-true _ _ s1.1) s2.0 s2.1 a3.1 a4.1 a5.1)
 
-read_image : (p : ImageData) → IsWireImage p × (p.bytes ≢ zeros) → IsReadImage p
+pub read_image : (p : ImageData) → IsWireImage p × (p.bytes ≢ zeros) → IsReadImage p
 read_image p both = (both.0, nonzero_page p.bytes both.0.size both.1)
 
 each_image : (d : DeltaData) → IsWireDelta d → EachFrom IsNextImage page_after 0 d.pages
@@ -181,12 +185,12 @@ each_image d wire =
     let first = All-weaker IsWireImage (λ p. leb 0 p.page ≡ true) (λ p w. le-leb 0 p.page (omega arith)) d.pages wire.each_page in
     each_from_rising (λ least p. leb least p.page) (λ p. page_after 0 p) ImageBefore IsReadImage image_tests 0 d.pages first wire.shape.pages all
 
-each_record : (d : DeltaData) → IsWireDelta d → EachFrom IsNextRecord record_place (0, 0) d.records
-each_record d wire =
+pub each_record : (rs : List RecordData) → IsRising RecordBefore rs → AllByRecursion IsWireRecord rs → EachFrom IsNextRecord record_place (0, 0) rs
+each_record rs rising all =
     let first = All-weaker IsWireRecord (λ r. is_above (0, 0) (r.epoch, r.number) ≡ true) (λ r w. above_zero r.epoch r.number (number_above_zero r w))
-    d.records wire.each_record in
+    rs all in
     each_from_rising (λ last r. is_above last (r.epoch, r.number)) (λ (r : RecordData). (r.epoch, r.number)) RecordBefore IsWireRecord
-    (place_tests (λ (r : RecordData). r.epoch) (λ r. r.number)) (0, 0) d.records first wire.shape.records wire.each_record
+    (place_tests (λ (r : RecordData). r.epoch) (λ r. r.number)) (0, 0) rs first rising all
 
 delta_part_again : (many : Bool) (d : DeltaData) (rest : List ℕ) → IsWireDelta d × (has_many d.book ≡ many)
     → delta_part_at many (delta_part_bytes many d ++ rest) ≡ Ok (d, rest)
@@ -212,7 +216,7 @@ delta_part_again many d rest fits =
       each_again next_image_at page_after image_bytes IsNextImage next_image_reads d.pages 0 z3 (each_image d wire),
       u32_reads.again (length d.records) z4 wire.record_count,
       each_again next_record_at record_place record_bytes IsNextRecord next_record_reads d.records
-          (0, 0) rest (each_record d wire),
+          (0, 0) rest (each_record d.records wire.shape.records wire.each_record),
     ) refl
 
 delta_part_reads : (many : Bool) → Reads (delta_part_at many) (delta_part_bytes many) (λ d. IsWireDelta d × (has_many d.book ≡ many))

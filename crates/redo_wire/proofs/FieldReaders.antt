@@ -55,6 +55,14 @@ wide32 = record {
   below = λ bytes fits. omega (arith, fits 0, fits 1, fits 2, fits 3);
 }
 
+wide64 : IsWide w64 (2 ^ 64)
+wide64 = record {
+  len = λ n. refl;
+  back = λ bytes len fits. be_bytes_8 bytes _ len fits refl;
+  again = λ n lt. from_be_bytes-to_be_bytes_8 n lt;
+  below = λ bytes fits. omega (arith, fits 0, fits 1, fits 2, fits 3, fits 4, fits 5, fits 6, fits 7);
+}
+
 number_takes : (w : Width) (limit : ℕ) → IsWide w limit → (bytes text : List ℕ) (n : ℕ) (rest : List ℕ) → IsBytes bytes
     → bytes_at (byte_len w) bytes ≡ Ok (text, rest) → from_be_bytes w text ≡ n → Takes bytes (to_be_bytes w n) rest × (n < limit)
 number_takes w limit wide bytes text n rest fits read is_n =
@@ -74,6 +82,9 @@ u16_reads = number_reads w16 (2 ^ 16) wide16
 
 pub u32_reads : Reads (number_at w32) (number w32) (λ n. n < 2 ^ 32)
 u32_reads = number_reads w32 (2 ^ 32) wide32
+
+pub u64_reads : Reads (number_at w64) (number w64) (λ n. n < 2 ^ 64)
+u64_reads = number_reads w64 (2 ^ 64) wide64
 
 u48_back : (text : List ℕ) → length text ≡ 6 → IsBytes text → u48 (from_be_bytes w64 (0 ∷ 0 ∷ text)) ≡ text
 unfolding u48

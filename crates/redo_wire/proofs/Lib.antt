@@ -12,6 +12,7 @@ pub mod Epochs
 pub mod BookReaders
 pub mod SummaryReaders
 pub mod DeltaReaders
+pub mod PieceReaders
 pub mod Spellings
 pub mod ValueReaders
 pub mod Locality

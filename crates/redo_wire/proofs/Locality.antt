@@ -7,7 +7,7 @@ use Rattle.std.proofs.lemmas.Bool.Decides.{nat_tests}
 use Rattle.redo_core.specs.declared.patches.Patch.{Patch}
 use Rattle.redo_wire.specs.declared.faults.WireFault.{WireFault}
 use Rattle.redo_wire.specs.declared.faults.WireFault.TheVariants.{Short, UnknownTag, Shape, Order, Rest, TooLong}
-use Rattle.redo_wire.specs.Reading.{◌>>=◌, Read, shaped, ordered, mapped, whole}
+use Rattle.redo_wire.specs.Reading.{◌>>=◌, Read, shaped, known, ordered, mapped, whole}
 use Rattle.redo_wire.specs.Fields.{byte_at, bytes_at, number_at, u48_at}
 use Rattle.redo_wire.specs.Lists.{each_at}
 use Rattle.redo_wire.specs.Laws.{FaultsStay, BeginningsAreShort, RestIsBehind}
@@ -18,9 +18,10 @@ use Rattle.redo_wire.specs.FactReading.{cut_at, advance_at, tagged_advance_at, f
 use Rattle.redo_wire.specs.BookReading.{next_cut_at, cut_epoch, next_point_at, last_point, complete, next_wait_at, wait_place, book_at}
 use Rattle.redo_wire.specs.SummaryReading.{key_at, next_key_at, key_place, summary_part_at, summary_at, decoded_summary}
 use Rattle.redo_wire.specs.DeltaReading.{is_nonzero, image_at, next_image_at, page_after, next_record_at, record_place, delta_part_at, delta_at, decoded_delta}
+use Rattle.redo_wire.specs.PieceReading.{last_kind, is_in_place, head_content_at, records_content_at, content_at, piece_part_at, piece_at, decoded_piece}
 use Rattle.redo_wire.specs.declared.values.WireValue.{WireValue}
-use Rattle.redo_wire.specs.declared.values.WireValue.TheVariants.{Fact, Summary, Delta}
-use Rattle.redo_wire.specs.Values.{is_summary_tag, is_delta_tag, valued, decoded_value}
+use Rattle.redo_wire.specs.declared.values.WireValue.TheVariants.{Fact, Summary, Delta, Piece}
+use Rattle.redo_wire.specs.Values.{is_summary_tag, is_delta_tag, is_piece_tag, valued, decoded_value}
 
 -- what was read, with more bytes left
 abbrev extended : {A : Type 0} → List ℕ → Read A → Read A
@@ -96,6 +97,13 @@ ordered_is rule (Err f) = refl
 
 ordered_ext : {A : Type 0} (y : List ℕ) (rule : A → Bool) (r s : Read A) → Follows y r s → Follows y (ordered rule r) (ordered rule s)
 ordered_ext y rule r s h = rw (ordered_is rule r, ordered_is rule s) (judged_ext y rule Order r s (λ e. absurd cc) h)
+
+known_is : {A : Type 0} (rule : A → Bool) (r : Read A) → known rule r ≡ (r >>= λ x. cond (rule x.0) (Ok x) (Err UnknownTag))
+known_is rule (Ok x) = refl
+known_is rule (Err f) = refl
+
+known_ext : {A : Type 0} (y : List ℕ) (rule : A → Bool) (r s : Read A) → Follows y r s → Follows y (known rule r) (known rule s)
+known_ext y rule r s h = rw (known_is rule r, known_is rule s) (judged_ext y rule UnknownTag r s (λ e. absurd cc) h)
 
 mapped_is : {A B : Type 0} (f : A → B) (r : Read A) → mapped f r ≡ (r >>= λ x. Ok (f x.0, x.1))
 mapped_is f (Ok x) = refl
@@ -286,6 +294,37 @@ delta_ext : (y bytes : List ℕ) → Follows y (delta_at bytes) (delta_at (bytes
 unfolding delta_at
 delta_ext y bytes = bind_ext y _ _ _ (form_ext y 17 33 bytes) (λ many rest. delta_part_ext y many rest)
 
+head_content_ext : (y : List ℕ) (many : Bool) (bytes : List ℕ) → Follows y (head_content_at many bytes) (head_content_at many (bytes ++ y))
+unfolding head_content_at
+head_content_ext y many bytes =
+    bind_ext y _ _ _ (book_ext y many bytes) (λ book b1.
+    bind_ext y _ _ _ (shaped_ext y _ _ _ (u48_ext y b1)) (λ anchor b2. done y _ _))
+
+records_content_ext : (y bytes : List ℕ) → Follows y (records_content_at bytes) (records_content_at (bytes ++ y))
+unfolding records_content_at
+records_content_ext y bytes =
+    bind_ext y _ _ _ (shaped_ext y _ _ _ (byte_ext y bytes)) (λ count b1.
+    bind_ext y _ _ _ (each_ext y next_record_at record_place (next_record_ext y) count (0, 0) b1) (λ records b2. done y _ _))
+
+content_ext : (y : List ℕ) (many : Bool) (kind : ℕ) (bytes : List ℕ) → Follows y (content_at many kind bytes) (content_at many kind (bytes ++ y))
+unfolding content_at
+content_ext y many kind bytes =
+    choice_ext y _ _ _ _ _ (head_content_ext y many bytes)
+    (choice_ext y _ _ _ _ _ (mapped_ext y _ _ _ (image_ext y bytes)) (records_content_ext y bytes))
+
+piece_part_ext : (y : List ℕ) (many : Bool) (bytes : List ℕ) → Follows y (piece_part_at many bytes) (piece_part_at many (bytes ++ y))
+unfolding piece_part_at
+piece_part_ext y many bytes =
+    bind_ext y _ _ _ (number_ext y _ bytes) (λ name b1.
+    bind_ext y _ _ _ (number_ext y _ b1) (λ index b2.
+    bind_ext y _ _ _ (shaped_ext y _ _ _ (number_ext y _ b2)) (λ total b3.
+    bind_ext y _ _ _ (shaped_ext y (λ k. is_in_place index k) _ _ (known_ext y (λ k. leb k (last_kind many)) _ _ (byte_ext y b3))) (λ kind b4.
+    bind_ext y _ _ _ (content_ext y many kind b4) (λ content b5. done y _ _)))))
+
+piece_ext : (y bytes : List ℕ) → Follows y (piece_at bytes) (piece_at (bytes ++ y))
+unfolding piece_at
+piece_ext y bytes = bind_ext y _ _ _ (form_ext y 18 34 bytes) (λ many rest. piece_part_ext y many rest)
+
 -- ---- whole values
 
 rest_of : {A : Type 0} (b : Bool) (v : A) (f : WireFault) → cond b (Ok v) (Err Rest) ≡ Err f → f ≡ Rest
@@ -338,6 +377,15 @@ delta_beginnings = λ x y v l. shorts y (delta_at x) (delta_at (x ++ y)) v l (de
 pub delta_rest : RestIsBehind decoded_delta
 delta_rest = λ x y v l. rests y (delta_at x) (delta_at (x ++ y)) v l (delta_ext y x).extends
 
+pub piece_faults_stay : FaultsStay decoded_piece
+piece_faults_stay = λ x y f. stays y (piece_at x) (piece_at (x ++ y)) f (piece_ext y x).extends
+
+pub piece_beginnings : BeginningsAreShort decoded_piece
+piece_beginnings = λ x y v l. shorts y (piece_at x) (piece_at (x ++ y)) v l (piece_ext y x).extends
+
+pub piece_rest : RestIsBehind decoded_piece
+piece_rest = λ x y v l. rests y (piece_at x) (piece_at (x ++ y)) v l (piece_ext y x).extends
+
 -- ---- encoding's own fault
 
 whole_reads : {A : Type 0} (r : Read A) → IsReading r → IsReading (whole r)
@@ -352,6 +400,9 @@ decoded_summary_reads bytes = whole_reads (summary_at bytes) (summary_ext [] byt
 
 pub decoded_delta_reads : (bytes : List ℕ) → IsReading (decoded_delta bytes)
 decoded_delta_reads bytes = whole_reads (delta_at bytes) (delta_ext [] bytes).reads
+
+pub decoded_piece_reads : (bytes : List ℕ) → IsReading (decoded_piece bytes)
+decoded_piece_reads bytes = whole_reads (piece_at bytes) (piece_ext [] bytes).reads
 
 -- ---- values of any kind: with more bytes behind, the same decoder is asked
 
@@ -402,7 +453,9 @@ value_local (tag ∷ bytes) y =
     (local_value y Summary (decoded_summary x) (decoded_summary (x ++ y)) (local_whole y (summary_at x) (summary_at (x ++ y)) (summary_ext y x)))
     (local_choice y (is_delta_tag tag) _ _ _ _
     (local_value y Delta (decoded_delta x) (decoded_delta (x ++ y)) (local_whole y (delta_at x) (delta_at (x ++ y)) (delta_ext y x)))
-    (local_value y Fact (decoded_fact x) (decoded_fact (x ++ y)) (local_whole y (fact_at x) (fact_at (x ++ y)) (fact_ext y x))))
+    (local_choice y (is_piece_tag tag) _ _ _ _
+    (local_value y Piece (decoded_piece x) (decoded_piece (x ++ y)) (local_whole y (piece_at x) (piece_at (x ++ y)) (piece_ext y x)))
+    (local_value y Fact (decoded_fact x) (decoded_fact (x ++ y)) (local_whole y (fact_at x) (fact_at (x ++ y)) (fact_ext y x)))))
 
 pub value_faults_stay : FaultsStay decoded_value
 value_faults_stay = λ x y. (value_local x y).stay

@@ -7,7 +7,8 @@ use Rattle.redo_wire.specs.Reading.{shaped}
 use Rattle.redo_wire.specs.Fields.{u16_at, u32_at, u48_at, u16, u32, u48}
 use Rattle.redo_wire.specs.Lists.{each_at}
 use Rattle.redo_wire.specs.Places.{Place, is_above}
-use Rattle.redo_wire.specs.Books.{BookData, min_of, has_many, book_bytes}
+use Rattle.redo_core.specs.Book.{BookData}
+use Rattle.redo_wire.specs.Books.{min_of, has_many, book_bytes}
 use Rattle.redo_wire.specs.BookReading.{book_at}
 use Rattle.redo_wire.specs.Summaries.{SummaryData, summary_of, KeyBefore, IsKey, IsSummary, IsWireSummary, key_bytes, summary_part_bytes, summary_bytes}
 use Rattle.redo_wire.specs.SummaryReading.{key_at, key_place, next_key_at, summary_part_at, summary_at}

@@ -3,20 +3,22 @@ use Rattle.std.proofs.Common.{◌≡◌, Bool, true, false, cond, [], ◌∷◌,
 use Rattle.redo_wire.specs.declared.faults.WireFault.{WireFault}
 use Rattle.redo_wire.specs.declared.faults.WireFault.TheVariants.{Rest, TooLong}
 use Rattle.redo_wire.specs.declared.values.WireValue.{WireValue}
-use Rattle.redo_wire.specs.declared.values.WireValue.TheVariants.{Fact, Summary, Delta}
+use Rattle.redo_wire.specs.declared.values.WireValue.TheVariants.{Fact, Summary, Delta, Piece}
 use Rattle.redo_wire.specs.FactReading.{decoded_fact}
 use Rattle.redo_wire.specs.SummaryReading.{decoded_summary}
 use Rattle.redo_wire.specs.DeltaReading.{decoded_delta}
-use Rattle.redo_wire.specs.Values.{SpellsValue, is_summary_tag, is_delta_tag, valued, decoded_value}
+use Rattle.redo_wire.specs.PieceReading.{decoded_piece}
+use Rattle.redo_wire.specs.Values.{SpellsValue, is_summary_tag, is_delta_tag, is_piece_tag, valued, decoded_value}
 use Rattle.redo_wire.specs.Laws.{HasOneSpelling, HasOneValue, BeginsNoOther, ReadsSpellings, NeverTooLong}
 use Rattle.redo_wire.proofs.Spellings.{bytes_from_All}
 use Rattle.redo_wire.proofs.ValueReaders.{value_from_read, value_from_spelled}
-use Rattle.redo_wire.proofs.Locality.{decoded_fact_reads, decoded_summary_reads, decoded_delta_reads, value_rest}
+use Rattle.redo_wire.proofs.Locality.{decoded_fact_reads, decoded_summary_reads, decoded_delta_reads, decoded_piece_reads, value_rest}
 
 pub value_one_spelling : HasOneSpelling SpellsValue
 value_one_spelling (Fact f) x y p q = p.1 ∙ sym q.1
 value_one_spelling (Summary s) x y p q = p.1 ∙ sym q.1
 value_one_spelling (Delta d) x y p q = p.1 ∙ sym q.1
+value_one_spelling (Piece v) x y p q = p.1 ∙ sym q.1
 
 same_found : (v w : WireValue) (r : Result WireValue WireFault) → r ≡ Ok v → r ≡ Ok w → v ≡ w
 same_found v w r e f = cc
@@ -49,9 +51,13 @@ pub value_never_too_long : NeverTooLong decoded_value
 value_never_too_long [] e = absurd cc
 value_never_too_long (tag ∷ rest) e =
     let bytes = tag ∷ rest in
-    let last = valued_reads Fact (decoded_fact bytes) (decoded_fact_reads bytes) in
-    let middle = chosen_reads (is_delta_tag tag) (valued Delta (decoded_delta bytes)) (valued Fact (decoded_fact bytes))
-    (valued_reads Delta (decoded_delta bytes) (decoded_delta_reads bytes)) last in
+    let facts = valued_reads Fact (decoded_fact bytes) (decoded_fact_reads bytes) in
+    let pieces = chosen_reads (is_piece_tag tag) (valued Piece (decoded_piece bytes)) (valued Fact (decoded_fact bytes))
+    (valued_reads Piece (decoded_piece bytes) (decoded_piece_reads bytes)) facts in
+    let deltas = chosen_reads (is_delta_tag tag) (valued Delta (decoded_delta bytes))
+    (cond (is_piece_tag tag) (valued Piece (decoded_piece bytes)) (valued Fact (decoded_fact bytes)))
+    (valued_reads Delta (decoded_delta bytes) (decoded_delta_reads bytes)) pieces in
     chosen_reads (is_summary_tag tag) (valued Summary (decoded_summary bytes))
-    (cond (is_delta_tag tag) (valued Delta (decoded_delta bytes)) (valued Fact (decoded_fact bytes)))
-    (valued_reads Summary (decoded_summary bytes) (decoded_summary_reads bytes)) middle e
+    (cond (is_delta_tag tag) (valued Delta (decoded_delta bytes))
+    (cond (is_piece_tag tag) (valued Piece (decoded_piece bytes)) (valued Fact (decoded_fact bytes))))
+    (valued_reads Summary (decoded_summary bytes) (decoded_summary_reads bytes)) deltas e

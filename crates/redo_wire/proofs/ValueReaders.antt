@@ -6,7 +6,7 @@ use Rattle.redo_wire.specs.declared.faults.WireError.{WireError}
 use Rattle.redo_core.specs.declared.facts.Fact as fact
 use Rattle.redo_core.specs.declared.facts.Fact.TheVariants as facts
 use Rattle.redo_wire.specs.declared.values.WireValue.{WireValue}
-use Rattle.redo_wire.specs.declared.values.WireValue.TheVariants.{Fact, Summary, Delta}
+use Rattle.redo_wire.specs.declared.values.WireValue.TheVariants.{Fact, Summary, Delta, Piece}
 use Rattle.redo_wire.specs.Outcomes.{Answers}
 use Rattle.redo_wire.specs.Forms.{form_bytes}
 use Rattle.redo_wire.specs.Records.{is_full, record_part_bytes}
@@ -17,11 +17,14 @@ use Rattle.redo_wire.specs.Summaries.{IsWireSummary, summary_part_bytes, summary
 use Rattle.redo_wire.specs.SummaryReading.{summary_at, decoded_summary}
 use Rattle.redo_wire.specs.Deltas.{IsWireDelta, delta_part_bytes, delta_bytes}
 use Rattle.redo_wire.specs.DeltaReading.{delta_at, decoded_delta}
-use Rattle.redo_wire.specs.Values.{SpellsValue, is_summary_tag, is_delta_tag, valued, decoded_value}
+use Rattle.redo_wire.specs.Pieces.{IsWirePiece, is_for_many, piece_part_bytes, piece_bytes}
+use Rattle.redo_wire.specs.PieceReading.{piece_at, decoded_piece}
+use Rattle.redo_wire.specs.Values.{SpellsValue, is_summary_tag, is_delta_tag, is_piece_tag, valued, decoded_value}
 use Rattle.redo_wire.proofs.Readers.{IsBytes}
 use Rattle.redo_wire.proofs.FactReaders.{fact_reads}
 use Rattle.redo_wire.proofs.SummaryReaders.{summary_reads}
 use Rattle.redo_wire.proofs.DeltaReaders.{delta_reads}
+use Rattle.redo_wire.proofs.PieceReaders.{piece_reads}
 use Rattle.redo_wire.proofs.Spellings.{spelled_from_read, read_from_spelled}
 
 valued_ok : {A : Type 0} (kind : A → WireValue) (r : Result A WireFault) (v : WireValue) → valued kind r ≡ Ok v → (x : A) × (r ≡ Ok x) × (kind x ≡ v)
@@ -37,21 +40,29 @@ pub value_from_read : (bytes : List ℕ) (v : WireValue) → IsBytes bytes → d
 value_from_read [] v fits e = absurd cc
 value_from_read (tag ∷ rest) v fits e =
     let bytes = tag ∷ rest in
+    let fact = valued Fact (decoded_fact bytes) in
+    let piece = valued Piece (decoded_piece bytes) in
+    let delta = valued Delta (decoded_delta bytes) in
     ⊎_elim
     (λ (h : valued Summary (decoded_summary bytes) ≡ Ok v).
     let x = valued_ok Summary (decoded_summary bytes) v h in
     subst (λ (u : WireValue). SpellsValue u bytes) x.2 (spelled_from_read summary_at summary_bytes IsWireSummary summary_reads bytes x.0 fits x.1))
-    (λ (h : cond (is_delta_tag tag) (valued Delta (decoded_delta bytes)) (valued Fact (decoded_fact bytes)) ≡ Ok v).
+    (λ (h : cond (is_delta_tag tag) delta (cond (is_piece_tag tag) piece fact) ≡ Ok v).
     ⊎_elim
-    (λ (g : valued Delta (decoded_delta bytes) ≡ Ok v).
+    (λ (g : delta ≡ Ok v).
     let x = valued_ok Delta (decoded_delta bytes) v g in
     subst (λ (u : WireValue). SpellsValue u bytes) x.2 (spelled_from_read delta_at delta_bytes IsWireDelta delta_reads bytes x.0 fits x.1))
-    (λ (g : valued Fact (decoded_fact bytes) ≡ Ok v).
-    let x = valued_ok Fact (decoded_fact bytes) v g in
+    (λ (g : cond (is_piece_tag tag) piece fact ≡ Ok v).
+    ⊎_elim
+    (λ (f : piece ≡ Ok v).
+    let x = valued_ok Piece (decoded_piece bytes) v f in
+    subst (λ (u : WireValue). SpellsValue u bytes) x.2 (spelled_from_read piece_at piece_bytes IsWirePiece piece_reads bytes x.0 fits x.1))
+    (λ (f : fact ≡ Ok v).
+    let x = valued_ok Fact (decoded_fact bytes) v f in
     subst (λ (u : WireValue). SpellsValue u bytes) x.2 (spelled_from_read fact_at fact_bytes IsWireFact fact_reads bytes x.0 fits x.1))
-    (chosen (is_delta_tag tag) (valued Delta (decoded_delta bytes)) (valued Fact (decoded_fact bytes)) v h))
-    (chosen (is_summary_tag tag) (valued Summary (decoded_summary bytes))
-    (cond (is_delta_tag tag) (valued Delta (decoded_delta bytes)) (valued Fact (decoded_fact bytes))) v e)
+    (chosen (is_piece_tag tag) piece fact v g))
+    (chosen (is_delta_tag tag) delta (cond (is_piece_tag tag) piece fact) v h))
+    (chosen (is_summary_tag tag) (valued Summary (decoded_summary bytes)) (cond (is_delta_tag tag) delta (cond (is_piece_tag tag) piece fact)) v e)
 
 -- ---- the decoder that the first byte of a spelling names
 
@@ -63,6 +74,10 @@ summary_first true text = refl
 delta_first : (many : Bool) (text : List ℕ) → decoded_value (form_bytes 17 33 many ++ text) ≡ valued Delta (decoded_delta (form_bytes 17 33 many ++ text))
 delta_first false text = refl
 delta_first true text = refl
+
+piece_first : (many : Bool) (text : List ℕ) → decoded_value (form_bytes 18 34 many ++ text) ≡ valued Piece (decoded_piece (form_bytes 18 34 many ++ text))
+piece_first false text = refl
+piece_first true text = refl
 
 record_first : (full : Bool) (text : List ℕ) → decoded_value (form_bytes 1 6 full ++ text) ≡ valued Fact (decoded_fact (form_bytes 1 6 full ++ text))
 record_first false text = refl
@@ -85,6 +100,10 @@ value_from_spelled bytes (Summary s) spelled =
 value_from_spelled bytes (Delta d) spelled =
     let found = read_from_spelled delta_at delta_bytes IsWireDelta delta_reads (delta_bytes d) d (spelled.0, refl) in
     ap decoded_value spelled.1 ∙ delta_first (has_many d.book) (delta_part_bytes (has_many d.book) d) ∙ ap (valued Delta) found
+value_from_spelled bytes (Piece p) spelled =
+    let found = read_from_spelled piece_at piece_bytes IsWirePiece piece_reads (piece_bytes p) p (spelled.0, refl) in
+    let many = is_for_many p.content in
+    ap decoded_value spelled.1 ∙ piece_first many (piece_part_bytes many p) ∙ ap (valued Piece) found
 value_from_spelled bytes (Fact f) spelled =
     let found = read_from_spelled fact_at fact_bytes IsWireFact fact_reads (fact_bytes f) f (spelled.0, refl) in
     ap decoded_value spelled.1 ∙ fact_first f ∙ ap (valued Fact) found

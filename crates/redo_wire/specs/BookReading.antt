@@ -1,6 +1,7 @@
 -- Reading books. The order of the lines is the order of the faults.
 use Rattle.std.specs.Prelude.{ℕ, ◌+◌, Bool, List, [], ◌∷◌, Ok, nat_lt, ◌==◌, if◌then◌else◌}
 use Rattle.redo_core.specs.Data.{CutData, AdvanceData}
+use Rattle.redo_core.specs.Book.{BookData, book_of}
 use Rattle.redo_core.specs.Shape.{max_readers}
 use Rattle.redo_wire.specs.Reading.{◌>>=◌, Read, ordered}
 use Rattle.redo_wire.specs.Fields.{u16_at, u32_at, u48_at}
@@ -8,7 +9,6 @@ use Rattle.redo_wire.specs.Lists.{each_at}
 use Rattle.redo_wire.specs.Places.{WaitPlace, is_wait_above}
 use Rattle.redo_wire.specs.Forms.{within_at}
 use Rattle.redo_wire.specs.FactReading.{cut_at, advance_at}
-use Rattle.redo_wire.specs.Books.{BookData, book_of}
 
 -- the complete epoch of truncations that rise from above k, where those up to k are known
 abbrev pub complete_from : ℕ → List CutData → ℕ
@@ -40,7 +40,7 @@ wait_place last a = (a.epoch, a.reader, a.point)
 abbrev pub next_wait_at : Bool → ℕ → ℕ → WaitPlace → List ℕ → Read AdvanceData
 next_wait_at many k readers last bytes = ordered (λ a. is_wait_above last (a.epoch, a.reader, a.point)) (advance_at many (k + 1) 1 readers bytes)
 
--- a book in the form for one reader or for several
+-- a book in the form for one reader or for several, with the complete epoch of its truncations
 unfoldable pub book_at : Bool → List ℕ → Read BookData
 book_at many bytes = do
   cut_count ← u16_at bytes
@@ -49,4 +49,4 @@ book_at many bytes = do
   points ← each_at next_point_at last_point readers.0 0 readers.1
   wait_count ← u32_at points.1
   waits ← each_at (next_wait_at many (complete cuts.0) readers.0) wait_place wait_count.0 (0, 0, 0) wait_count.1
-  Ok (book_of cuts.0 points.0 waits.0, waits.1)
+  Ok (book_of cuts.0 (complete cuts.0) points.0 waits.0, waits.1)

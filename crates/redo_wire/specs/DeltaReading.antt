@@ -7,7 +7,7 @@ use Rattle.redo_wire.specs.declared.faults.WireFault.{WireFault}
 use Rattle.redo_wire.specs.Reading.{◌>>=◌, Read, shaped, ordered, whole}
 use Rattle.redo_wire.specs.Fields.{bytes_at, u16_at, u32_at, u48_at}
 use Rattle.redo_wire.specs.Lists.{each_at}
-use Rattle.redo_wire.specs.Limits.{page_len}
+use Rattle.redo_core.specs.Shape.{page_len}
 use Rattle.redo_wire.specs.Tags.{delta_tag, roster_delta_tag}
 use Rattle.redo_wire.specs.Forms.{form_at}
 use Rattle.redo_wire.specs.Places.{Place, is_above}

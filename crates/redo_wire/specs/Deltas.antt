@@ -1,16 +1,18 @@
 -- Deltas: which there are, and the one spelling of each.
 use Rattle.std.specs.Prelude.{◌≡◌, ◌≢◌, ℕ, ◌<◌, ◌≤◌, ◌^◌, Bool, List, [], ◌++◌, length, nat_le, ◌||◌}
 use Rattle.std.specs.List.{AllByRecursion, flat_map}
+use Rattle.redo_core.specs.Book.{BookData, IsBook}
 use Rattle.redo_core.specs.Data.{RecordData}
 use Rattle.redo_core.specs.Order.{IsRising, RecordBefore}
 use Rattle.redo_core.specs.Writing.{zeros}
 use Rattle.redo_core.specs.Meaning.{ImageData, ImageBefore}
 use Rattle.redo_wire.specs.Fields.{u16, u32, u48}
-use Rattle.redo_wire.specs.Limits.{page_len, count32_end}
+use Rattle.redo_core.specs.Shape.{page_len}
+use Rattle.redo_wire.specs.Limits.{count32_end}
 use Rattle.redo_wire.specs.Tags.{delta_tag, roster_delta_tag}
 use Rattle.redo_wire.specs.Forms.{form_bytes}
 use Rattle.redo_wire.specs.Records.{IsWireRecord, record_bytes}
-use Rattle.redo_wire.specs.Books.{BookData, IsBook, IsWireBook, min_of, has_many, is_long_book, book_bytes}
+use Rattle.redo_wire.specs.Books.{IsWireBook, min_of, has_many, is_long_book, book_bytes}
 
 -- the book, the base point with the pages there, and records
 pub record DeltaData : Type 0 where

@@ -4,10 +4,10 @@ use Rattle.redo_wire.specs.declared.faults.WireFault.{WireFault}
 use Rattle.redo_wire.specs.declared.faults.WireFault.TheVariants.{Short, UnknownTag, Shape, Order, Rest, TooLong}
 
 -- the number by which a fault is reported
-abbrev pub number_of : WireFault → ℕ
-number_of Short = 1
-number_of UnknownTag = 2
-number_of Shape = 3
-number_of Order = 4
-number_of Rest = 5
-number_of TooLong = 6
+abbrev pub fault_number : WireFault → ℕ
+fault_number Short = 1
+fault_number UnknownTag = 2
+fault_number Shape = 3
+fault_number Order = 4
+fault_number Rest = 5
+fault_number TooLong = 6

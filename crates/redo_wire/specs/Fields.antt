@@ -1,4 +1,4 @@
--- The fields: single bytes, runs of bytes, and numbers of 16, 32 and 48 bits, most significant byte first.
+-- The fields: single bytes, runs of bytes, and numbers of 16, 32, 48 and 64 bits, most significant byte first.
 use Rattle.std.specs.Prelude.{ℕ, List, [], ◌∷◌, length, take, drop, Ok, Err, nat_lt, if◌then◌else◌}
 use Rattle.std.specs.Int.{Width, w16, w32, w64, byte_len, from_be_bytes, to_be_bytes}
 use Rattle.redo_wire.specs.declared.faults.WireFault.TheVariants.{Short}
@@ -22,6 +22,9 @@ u16_at bytes = number_at w16 bytes
 abbrev pub u32_at : List ℕ → Read ℕ
 u32_at bytes = number_at w32 bytes
 
+abbrev pub u64_at : List ℕ → Read ℕ
+u64_at bytes = number_at w64 bytes
+
 unfoldable pub u48_at : List ℕ → Read ℕ
 u48_at bytes = mapped (λ text. from_be_bytes w64 (0 ∷ 0 ∷ text)) (bytes_at 6 bytes)
 
@@ -35,6 +38,9 @@ u16 n = number w16 n
 
 abbrev pub u32 : ℕ → List ℕ
 u32 n = number w32 n
+
+abbrev pub u64 : ℕ → List ℕ
+u64 n = number w64 n
 
 -- the last six of eight bytes, for a number below 2^48
 unfoldable pub u48 : ℕ → List ℕ

@@ -17,5 +17,7 @@ pub mod Summaries
 pub mod SummaryReading
 pub mod Deltas
 pub mod DeltaReading
+pub mod Pieces
+pub mod PieceReading
 pub mod Values
 pub mod Laws

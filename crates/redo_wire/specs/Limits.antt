@@ -1,17 +1,5 @@
--- The limits of the formats, each with its unit.
+-- How long the lists of the formats may be: by the bits of their count fields, but for those of pieces.
 use Rattle.std.specs.Prelude.{ℕ}
-
--- bytes of a page
-abbrev pub page_len : ℕ
-page_len = 4096
-
--- patches of a record
-abbrev pub most_patches : ℕ
-most_patches = 64
-
--- bytes that the writes of a record bring
-abbrev pub most_bytes : ℕ
-most_bytes = 8192
 
 -- elements of a list whose count has 16 bits, and of one whose count has 32, are fewer than these
 abbrev pub count16_end : ℕ
@@ -19,3 +7,7 @@ count16_end = 65536
 
 abbrev pub count32_end : ℕ
 count32_end = 4294967296
+
+-- the most records of one piece
+abbrev pub max_batch : ℕ
+max_batch = 64

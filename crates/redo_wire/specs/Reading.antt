@@ -1,7 +1,7 @@
 -- Reading from front to back, up to the first fault.
 use Rattle.std.specs.Prelude.{ℕ, Bool, List, length, Result, Ok, Err, ◌==◌, if◌then◌else◌}
 use Rattle.redo_wire.specs.declared.faults.WireFault.{WireFault}
-use Rattle.redo_wire.specs.declared.faults.WireFault.TheVariants.{Shape, Order, Rest}
+use Rattle.redo_wire.specs.declared.faults.WireFault.TheVariants.{UnknownTag, Shape, Order, Rest}
 
 -- a value and the bytes after it, or the first fault
 abbrev pub Read : Type 0 → Type 0
@@ -17,6 +17,11 @@ abbrev pub ◌>>=◌ : {A B : Type 0} → Result A WireFault → (A → Result B
 abbrev pub shaped : {A : Type 0} → (A → Bool) → Read A → Read A
 shaped rule (Ok x) = if rule x.0 then Ok x else Err Shape
 shaped rule (Err f) = Err f
+
+-- a tag or a kind that may stand here, judged as soon as it is read
+abbrev pub known : {A : Type 0} → (A → Bool) → Read A → Read A
+known rule (Ok x) = if rule x.0 then Ok x else Err UnknownTag
+known rule (Err f) = Err f
 
 -- an element that is in order, judged as soon as the element is whole
 abbrev pub ordered : {A : Type 0} → (A → Bool) → Read A → Read A

@@ -10,7 +10,7 @@ use Rattle.redo_wire.specs.declared.faults.WireFault.TheVariants.{UnknownTag}
 use Rattle.redo_wire.specs.Reading.{◌>>=◌, Read, shaped, mapped}
 use Rattle.redo_wire.specs.Fields.{byte_at, bytes_at, u16_at, u48_at}
 use Rattle.redo_wire.specs.Lists.{each_at}
-use Rattle.redo_wire.specs.Limits.{page_len, most_patches, most_bytes}
+use Rattle.redo_core.specs.Shape.{page_len, max_patches, max_bytes}
 use Rattle.redo_wire.specs.Tags.{record_tag, full_record_tag, bytes_kind, fill_kind}
 use Rattle.redo_wire.specs.Forms.{form_at, within_at}
 use Rattle.redo_wire.specs.Records.{is_full_body}
@@ -64,8 +64,8 @@ unfoldable pub record_part_at : Bool → List ℕ → Read RecordData
 record_part_at full bytes = do
   head ← head_at bytes
   flags ← within_at full 0 0 1 head.1
-  count ← shaped (λ n. nat_le n most_patches) (byte_at flags.1)
-  patches ← shaped (λ ps. not full || is_full_body (flags.0 == 1) ps) (each_at (patch_at full) left_after count.0 most_bytes count.1)
+  count ← shaped (λ n. nat_le n max_patches) (byte_at flags.1)
+  patches ← shaped (λ ps. not full || is_full_body (flags.0 == 1) ps) (each_at (patch_at full) left_after count.0 max_bytes count.1)
   Ok (record_from head.0 (flags.0 == 1) patches.0, patches.1)
 
 -- a record with its tag; every other tag is unknown here, also that of another fact

@@ -1,6 +1,7 @@
 -- Summaries: which there are, and the one spelling of each.
 use Rattle.std.specs.Prelude.{◌≡◌, ℕ, ◌<◌, ◌≤◌, ◌^◌, Bool, List, ◌++◌, length, nat_le, ◌||◌}
 use Rattle.std.specs.List.{AllByRecursion, flat_map}
+use Rattle.redo_core.specs.Book.{BookData, IsBook}
 use Rattle.redo_core.specs.Shape.{max_number}
 use Rattle.redo_core.specs.Order.{IsRising, PairBefore}
 use Rattle.redo_wire.specs.declared.keys.Key.{Key}
@@ -8,7 +9,7 @@ use Rattle.redo_wire.specs.Fields.{u16, u32, u48}
 use Rattle.redo_wire.specs.Limits.{count32_end}
 use Rattle.redo_wire.specs.Tags.{summary_tag, roster_summary_tag}
 use Rattle.redo_wire.specs.Forms.{form_bytes}
-use Rattle.redo_wire.specs.Books.{BookData, IsBook, IsWireBook, min_of, has_many, is_long_book, book_bytes}
+use Rattle.redo_wire.specs.Books.{IsWireBook, min_of, has_many, is_long_book, book_bytes}
 
 -- the book, the anchor and the keys of the records that a segment keeps
 pub record SummaryData : Type 0 where

@@ -1,4 +1,4 @@
--- The first byte of each form, and the kinds of patches. A further form takes a tag of its own here; every other byte is unknown.
+-- The first byte of each form, and the kinds of patches and pieces. A further form takes a tag of its own here; every other byte is unknown.
 use Rattle.std.specs.Prelude.{ℕ}
 
 -- records: of writes alone, and with flags and kinds of patches
@@ -32,6 +32,13 @@ delta_tag = 17
 abbrev pub roster_delta_tag : ℕ
 roster_delta_tag = 33
 
+-- pieces of snapshots: the head for a roster of more than one reader, and every other
+abbrev pub piece_tag : ℕ
+piece_tag = 18
+
+abbrev pub roster_piece_tag : ℕ
+roster_piece_tag = 34
+
 -- ---- kinds of patches
 
 abbrev pub bytes_kind : ℕ
@@ -39,3 +46,14 @@ bytes_kind = 0
 
 abbrev pub fill_kind : ℕ
 fill_kind = 1
+
+-- ---- kinds of pieces
+
+abbrev pub head_kind : ℕ
+head_kind = 0
+
+abbrev pub page_kind : ℕ
+page_kind = 1
+
+abbrev pub records_kind : ℕ
+records_kind = 2

@@ -1,22 +1,25 @@
--- Values of any kind: a fact, a summary or a delta. The first byte tells which.
+-- Values of any kind: a fact, a summary, a delta or a piece. The first byte tells which.
 use Rattle.std.specs.Prelude.{ℕ, Bool, List, [], ◌∷◌, Result, Ok, Err, ◌==◌, ◌||◌, if◌then◌else◌}
 use Rattle.redo_wire.specs.declared.faults.WireFault.{WireFault}
 use Rattle.redo_wire.specs.declared.faults.WireFault.TheVariants.{Short}
 use Rattle.redo_wire.specs.declared.values.WireValue.{WireValue}
-use Rattle.redo_wire.specs.declared.values.WireValue.TheVariants.{Fact, Summary, Delta}
-use Rattle.redo_wire.specs.Tags.{summary_tag, roster_summary_tag, delta_tag, roster_delta_tag}
+use Rattle.redo_wire.specs.declared.values.WireValue.TheVariants.{Fact, Summary, Delta, Piece}
+use Rattle.redo_wire.specs.Tags.{summary_tag, roster_summary_tag, delta_tag, roster_delta_tag, piece_tag, roster_piece_tag}
 use Rattle.redo_wire.specs.Facts.{SpellsFact}
 use Rattle.redo_wire.specs.FactReading.{decoded_fact}
 use Rattle.redo_wire.specs.Summaries.{SpellsSummary}
 use Rattle.redo_wire.specs.SummaryReading.{decoded_summary}
 use Rattle.redo_wire.specs.Deltas.{SpellsDelta}
 use Rattle.redo_wire.specs.DeltaReading.{decoded_delta}
+use Rattle.redo_wire.specs.Pieces.{SpellsPiece}
+use Rattle.redo_wire.specs.PieceReading.{decoded_piece}
 
 -- the bytes spell the value
 abbrev pub SpellsValue : WireValue → List ℕ → Type 0
 SpellsValue (Fact f) bytes = SpellsFact f bytes
 SpellsValue (Summary s) bytes = SpellsSummary s bytes
 SpellsValue (Delta d) bytes = SpellsDelta d bytes
+SpellsValue (Piece p) bytes = SpellsPiece p bytes
 
 -- ---- reading
 
@@ -25,6 +28,9 @@ is_summary_tag tag = tag == summary_tag || tag == roster_summary_tag
 
 abbrev pub is_delta_tag : ℕ → Bool
 is_delta_tag tag = tag == delta_tag || tag == roster_delta_tag
+
+abbrev pub is_piece_tag : ℕ → Bool
+is_piece_tag tag = tag == piece_tag || tag == roster_piece_tag
 
 -- what was decoded, as a value of any kind
 abbrev pub valued : {A : Type 0} → (A → WireValue) → Result A WireFault → Result WireValue WireFault
@@ -37,4 +43,5 @@ decoded_value [] = Err Short
 decoded_value (tag ∷ rest) =
     if is_summary_tag tag then valued Summary (decoded_summary (tag ∷ rest))
     else if is_delta_tag tag then valued Delta (decoded_delta (tag ∷ rest))
+    else if is_piece_tag tag then valued Piece (decoded_piece (tag ∷ rest))
     else valued Fact (decoded_fact (tag ∷ rest))

@@ -1,8 +1,9 @@
 ghost use Rattle.std.specs.Prelude.{◌≡◌, ◌<◌, ◌++◌, false, length, OnOk, IfOk};
 ghost use Rattle.std.specs.List.{AllByRecursion, flat_map};
+ghost use Rattle.redo_core.specs.Book.{book_of, IsBook};
 ghost use Rattle.redo_core.specs.Roster.{least};
 ghost use Rattle.redo_wire.specs.Outcomes.{Gives};
-ghost use Rattle.redo_wire.specs.Books.{book_of, min_of, has_many, IsBook, IsWireBook, is_long_book, book_bytes};
+ghost use Rattle.redo_wire.specs.Books.{min_of, has_many, IsWireBook, is_long_book, book_bytes};
 ghost use Rattle.redo_wire.specs.BookReading.{complete, book_at};
 
 use crate::advances::{AdvanceList, WaitList};
@@ -24,33 +25,35 @@ const POINT_SIZE: usize = size_of::<u64>();
 
 const ADVANCE_SIZE: usize = size_of::<Advance>();
 
-/// The part that summaries and deltas share: the truncations by epoch, the point of each reader of the roster, and the waiting
-/// advances by epoch, reader and point, each of an epoch above the complete one.
+/// The part that summaries, deltas and pieces share: the truncations by epoch and their complete epoch, the point of each reader of
+/// the roster, and the waiting advances by epoch, reader and point, each of an epoch above the complete one.
 #[derive(Debug, Drop)]
 pub struct Book {
     cuts: Vec<Cut>,
+    complete: u16,
     points: Vec<u64>,
     waits: Vec<Advance>,
 }
 
 impl Model for Book {
-    ghost use Rattle.redo_wire.specs.Books.{BookData, book_of, IsBook};
+    ghost use Rattle.redo_core.specs.Book.{BookData, book_of, IsBook};
 
     ghost Value = { BookData };
 
-    ghost view = { λ b. book_of b.cuts.items b.points.items b.waits.items };
+    ghost view = { λ b. book_of b.cuts.items b.complete b.points.items b.waits.items };
 
-    ghost invariant = { λ b. IsBook (book_of b.cuts.items b.points.items b.waits.items) };
+    ghost invariant = { λ b. IsBook (book_of b.cuts.items b.complete b.points.items b.waits.items) };
 }
 
 impl Book {
-    /// A book of truncations, the points of 1 to 15 readers, each up to 2^48 - 1, and waiting advances.
-    pub fn new(cuts: Vec<Cut>, points: Vec<u64>, waits: Vec<Advance>) -> Self
-        requires { IsBook (book_of cuts.items points.items waits.items) }
-        ensures { result ≡ book_of cuts.items points.items waits.items }
+    /// A book of truncations with their complete epoch, the points of 1 to 15 readers, each up to 2^48 - 1, and waiting advances.
+    pub fn new(cuts: Vec<Cut>, complete: u16, points: Vec<u64>, waits: Vec<Advance>) -> Self
+        requires { IsBook (book_of cuts.items complete points.items waits.items) }
+        ensures { result ≡ book_of cuts.items complete points.items waits.items }
     {
         Book {
             cuts,
+            complete,
             points,
             waits,
         }
@@ -61,6 +64,14 @@ impl Book {
         ensures shape { IsBook self.now }
     {
         &self.cuts
+    }
+
+    /// The complete epoch: the last one up to which every truncation is there.
+    pub fn complete(&self) -> u16
+        ensures complete { result ≡ self.now.complete }
+        ensures shape { IsBook self.now }
+    {
+        self.complete
     }
 
     /// The point of each reader, from reader 1 on, each up to 2^48 - 1.
@@ -92,6 +103,7 @@ impl Book {
     {
         Ok(Book {
             cuts: self.cuts.clone()?,
+            complete: self.complete,
             points: self.points.clone()?,
             waits: self.waits.clone()?,
         })
@@ -183,7 +195,7 @@ impl ListWriter for PointList {
     }
 }
 
-/// A book in the form for one reader or for several.
+/// A book in the form for one reader or for several; its complete epoch is that of its truncations.
 #[tactic(auto, unfolding(crate::specs::BookReading::book_at))]
 pub fn read_book(alloc: Global, has_many: bool, bytes: &[u8]) -> Result<(Book, &[u8]), WireError>
     ensures { Gives (λ x. (x.0, x.1.now)) result (book_at has_many bytes.now) }
@@ -193,9 +205,10 @@ pub fn read_book(alloc: Global, has_many: bool, bytes: &[u8]) -> Result<(Book, &
     let (readers, rest) = read_within(has_many, 1, 2, MAX_READERS, rest)?;
     let (points, rest) = read_list(PointList, 0, POINT_SIZE, readers as usize, alloc, rest)?;
     let (count, rest) = read_u32(rest)?;
+    let complete = complete_of(&cuts);
     let waiting = WaitList {
         has_many,
-        complete: complete_of(&cuts),
+        complete,
         readers,
     };
     let (waits, rest) = read_list(
@@ -209,6 +222,7 @@ pub fn read_book(alloc: Global, has_many: bool, bytes: &[u8]) -> Result<(Book, &
     Ok((
         Book {
             cuts,
+            complete,
             points,
             waits,
         },
@@ -216,7 +230,7 @@ pub fn read_book(alloc: Global, has_many: bool, bytes: &[u8]) -> Result<(Book, &
     ))
 }
 
-/// Appends the book in the form for its roster.
+/// Appends the book in the form for its roster. The complete epoch has no bytes of its own.
 pub fn put_book(out: &mut BytesMut, book: &Book) -> Result<(), AllocError>
     requires { is_long_book book.now ≡ false }
     ensures ok { OnOk result (out.new.items ≡ out.old.items ++ book_bytes (has_many book.now) book.now) }

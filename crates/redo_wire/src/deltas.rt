@@ -3,7 +3,7 @@ ghost use Rattle.redo_wire.specs.declared.faults.WireError.{WireError};
 ghost use Rattle.redo_wire.specs.declared.faults.WireFault.TheVariants.{TooLong};
 ghost use Rattle.redo_wire.specs.Outcomes.{Gives, Answers};
 ghost use Rattle.redo_wire.specs.Deltas.{DeltaData, delta_of, IsDelta, IsWireDelta, is_long_delta, delta_bytes, SpellsDelta};
-ghost use Rattle.redo_wire.specs.DeltaReading.{may_have, next_record_at, delta_part_at, delta_at, decoded_delta};
+ghost use Rattle.redo_wire.specs.DeltaReading.{may_have, delta_part_at, delta_at, decoded_delta};
 
 use crate::books::{Book, put_book, read_book};
 use crate::faults::{WireError, WireFault};
@@ -11,9 +11,8 @@ use crate::fields::{put_u32, put_u48, read_u32, read_u48};
 use crate::forms::{put_form, read_form};
 use crate::images::{ImageList, PageImage};
 use crate::limits::COUNT32_END;
-use crate::lists::{ListReader, ListWriter, put_list, read_list};
-use crate::places::is_above;
-use crate::records::{put_record, read_record};
+use crate::lists::{put_list, read_list};
+use crate::record_lists::{RECORD_SIZE, RecordList};
 use crate::tags;
 use bytes::BytesMut;
 use redo_core::Record;
@@ -22,8 +21,6 @@ use std::marker::Model;
 use std::mem::size_of;
 
 const IMAGE_SIZE: usize = size_of::<PageImage>();
-
-const RECORD_SIZE: usize = size_of::<Record>();
 
 /// What one segment sends to another: its book, a base point up to the minimum read point with the pages there, none of
 /// zeros, by number, and records by epoch and number. At base 0 there are no pages.
@@ -95,8 +92,8 @@ impl Delta {
         Ok(Delta {
             book: self.book.copy()?,
             base: self.base,
-            pages: copied_pages(&self.pages)?,
-            records: copied_records(&self.records)?,
+            pages: self.pages.clone()?,
+            records: self.records.clone()?,
         })
     }
 
@@ -108,26 +105,6 @@ impl Delta {
             || self.pages().len() >= COUNT32_END
             || self.records().len() >= COUNT32_END
     }
-}
-
-fn copied_pages(pages: &Vec<PageImage>) -> Result<Vec<PageImage>, AllocError>
-    ensures { IfOk result (λ v. v.items ≡ pages.now.items) }
-{
-    let mut copied = Vec::new(*pages.allocator());
-    for image in pages {
-        copied.push(image.copy()?)?;
-    }
-    Ok(copied)
-}
-
-fn copied_records(records: &Vec<Record>) -> Result<Vec<Record>, AllocError>
-    ensures { IfOk result (λ v. v.items ≡ records.now.items) }
-{
-    let mut copied = Vec::new(*records.allocator());
-    for redo in records {
-        copied.push(redo.copy()?)?;
-    }
-    Ok(copied)
 }
 
 /// The delta that the bytes spell, all of them.
@@ -166,64 +143,6 @@ pub fn encode_delta(out: &mut BytesMut, delta: &Delta) -> Result<(), WireError>
 }
 
 // ---- reading
-
-/// Records by epoch and number, each with its tag.
-#[derive(Clone, Copy)]
-struct RecordList;
-
-impl ListReader for RecordList {
-    ghost use Rattle.redo_wire.specs.DeltaReading.{next_record_at, record_place};
-
-    type Item = Record;
-
-    /// The epoch and number of the record before.
-    type State = (u16, u64);
-
-    ghost step = { λ _. next_record_at };
-
-    ghost next = { record_place };
-
-    fn read_next(
-        self,
-        last: (u16, u64),
-        alloc: Global,
-        bytes: &[u8],
-    ) -> Result<(Record, &[u8]), WireError> {
-        read_next_record(alloc, last, bytes)
-    }
-
-    fn state_after(self, _last: (u16, u64), redo: &Record) -> (u16, u64) {
-        (redo.epoch(), redo.number())
-    }
-}
-
-impl ListWriter for RecordList {
-    ghost use Rattle.redo_wire.specs.Records.{IsWireRecord, record_bytes};
-
-    type Item = Record;
-
-    ghost spell = { λ _. record_bytes };
-
-    ghost fits = { λ _. IsWireRecord };
-
-    fn put(self, out: &mut BytesMut, redo: &Record) -> Result<(), AllocError> {
-        put_record(out, redo)
-    }
-}
-
-fn read_next_record(
-    alloc: Global,
-    last: (u16, u64),
-    bytes: &[u8],
-) -> Result<(Record, &[u8]), WireError>
-    ensures { Gives (λ x. (x.0, x.1.now)) result (next_record_at last bytes.now) }
-{
-    let (record, rest) = read_record(alloc, bytes)?;
-    if !is_above(last, (record.epoch(), record.number())) {
-        return Err(WireError::Fault(WireFault::Order));
-    }
-    Ok((record, rest))
-}
 
 fn may_have_pages(base: u64, pages: u32) -> bool
     ensures { result ≡ may_have base pages }

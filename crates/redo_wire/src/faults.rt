@@ -1,5 +1,5 @@
 ghost use Rattle.std.specs.Prelude.{◌≡◌};
-ghost use Rattle.redo_wire.specs.Faults.{number_of};
+ghost use Rattle.redo_wire.specs.Faults.{fault_number};
 ghost use Rattle.redo_wire.specs.declared.faults.WireError.TheVariants.{Memory};
 
 use std::alloc::{AllocError, AllocFailed};
@@ -24,11 +24,11 @@ pub enum WireFault {
 }
 
 impl WireFault {
-    ghost use Rattle.redo_wire.specs.Faults.{number_of};
+    ghost use Rattle.redo_wire.specs.Faults.{fault_number};
 
     /// The number by which the fault is reported: 1 to 5 where bytes are read, 6 where a value is written.
     pub fn number(self) -> u8
-        ensures { result ≡ number_of self }
+        ensures { result ≡ fault_number self }
     {
         match self {
             WireFault::Short => 1,

@@ -1,7 +1,7 @@
-//! The fields, both ways: single bytes, runs of bytes, and numbers of 16, 32 and 48 bits, most significant byte first.
+//! The fields, both ways: single bytes, runs of bytes, and numbers of 16, 32, 48 and 64 bits, most significant byte first.
 
 ghost use Rattle.std.specs.Prelude.{◌≡◌, ◌<◌, ◌^◌, ◌++◌, length, IfOk, OnOk};
-ghost use Rattle.redo_wire.specs.Fields.{byte_at, bytes_at, u16_at, u32_at, u48_at, u16, u32, u48};
+ghost use Rattle.redo_wire.specs.Fields.{byte_at, bytes_at, u16_at, u32_at, u48_at, u64_at, u16, u32, u48, u64};
 ghost use Rattle.redo_wire.specs.Outcomes.{Gives};
 
 use crate::faults::{WireError, WireFault};
@@ -46,6 +46,17 @@ pub fn read_u32(bytes: &[u8]) -> Result<(u32, &[u8]), WireError>
     ))
 }
 
+#[tactic(auto, unfolding(crate::specs::Fields::number_at))]
+pub fn read_u64(bytes: &[u8]) -> Result<(u64, &[u8]), WireError>
+    ensures { Gives (λ x. (x.0, x.1.now)) result (u64_at bytes.now) }
+{
+    let (text, rest) = read_bytes(8, bytes)?;
+    let number = u64::from_be_bytes([
+        text[0], text[1], text[2], text[3], text[4], text[5], text[6], text[7],
+    ]);
+    Ok((number, rest))
+}
+
 #[tactic(auto, unfolding(crate::specs::Fields::u48_at))]
 pub fn read_u48(bytes: &[u8]) -> Result<(u64, &[u8]), WireError>
     ensures value { Gives (λ x. (x.0, x.1.now)) result (u48_at bytes.now) }
@@ -68,6 +79,13 @@ pub fn put_u32(out: &mut BytesMut, n: u32) -> Result<(), AllocError>
     ensures { OnOk result (out.new.items ≡ out.old.items ++ u32 n) }
 {
     out.put_u32(n)
+}
+
+#[tactic(auto, unfolding(crate::specs::Fields::number))]
+pub fn put_u64(out: &mut BytesMut, n: u64) -> Result<(), AllocError>
+    ensures { OnOk result (out.new.items ≡ out.old.items ++ u64 n) }
+{
+    out.put_u64(n)
 }
 
 #[tactic(auto, unfolding(crate::specs::Fields::u48))]

@@ -49,10 +49,25 @@ impl PageImage {
         &self.page
     }
 
+    /// The page, without taking memory.
+    pub fn into_page(self) -> Page
+        ensures { result ≡ self.bytes }
+    {
+        self.page
+    }
+
     /// An equal image with memory of its own. Its only error is want of memory.
     pub fn copy(&self) -> Result<Self, AllocError>
         ensures { IfOk result (λ p. p ≡ self.now) }
     {
+        self.clone()
+    }
+}
+
+impl Clone for PageImage {
+    ghost is_clone = { λ p copied. copied ≡ p };
+
+    fn clone(&self) -> Result<Self, AllocError> {
         Ok(PageImage {
             number: self.number,
             page: self.page.copy()?,
@@ -113,7 +128,7 @@ fn has_nonzero(bytes: &[u8]) -> bool
 }
 
 #[tactic(auto, unfolding(crate::specs::DeltaReading::image_at))]
-fn read_image(alloc: Global, bytes: &[u8]) -> Result<(PageImage, &[u8]), WireError>
+pub fn read_image(alloc: Global, bytes: &[u8]) -> Result<(PageImage, &[u8]), WireError>
     ensures { Gives (λ x. (x.0, x.1.now)) result (image_at bytes.now) }
 {
     let (number, rest) = read_u16(bytes)?;

@@ -11,6 +11,8 @@ ghost use Rattle.redo_wire.specs.Summaries.{SpellsSummary};
 ghost use Rattle.redo_wire.specs.SummaryReading.{decoded_summary};
 ghost use Rattle.redo_wire.specs.Deltas.{SpellsDelta};
 ghost use Rattle.redo_wire.specs.DeltaReading.{decoded_delta};
+ghost use Rattle.redo_wire.specs.Pieces.{SpellsPiece};
+ghost use Rattle.redo_wire.specs.PieceReading.{decoded_piece};
 ghost use Rattle.redo_wire.specs.Values.{SpellsValue, decoded_value};
 ghost use Rattle.redo_wire.specs.BookReading.{complete};
 ghost use Rattle.redo_wire.specs.Laws.{HasOneSpelling, HasOneValue, BeginsNoOther, ReadsSpellings, NeverTooLong, FaultsStay, BeginningsAreShort, RestIsBehind};
@@ -51,6 +53,18 @@ pub fn delta_spellings()
     ensures stays { FaultsStay decoded_delta }
     ensures short { BeginningsAreShort decoded_delta }
     ensures rest { RestIsBehind decoded_delta }
+{}
+
+/// The same of pieces.
+pub fn piece_spellings()
+    ensures one_spelling { HasOneSpelling SpellsPiece }
+    ensures one_value { HasOneValue SpellsPiece }
+    ensures none_begins { BeginsNoOther SpellsPiece }
+    ensures reads { ReadsSpellings SpellsPiece decoded_piece }
+    ensures never_too_long { NeverTooLong decoded_piece }
+    ensures stays { FaultsStay decoded_piece }
+    ensures short { BeginningsAreShort decoded_piece }
+    ensures rest { RestIsBehind decoded_piece }
 {}
 
 /// The same of values of any kind.

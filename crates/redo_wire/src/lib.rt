@@ -1,4 +1,4 @@
-//! The wire: bytes of facts, and of the summaries and deltas that nodes exchange.
+//! The wire: bytes of facts, of the summaries and deltas that nodes exchange, and of the pieces of snapshots.
 //!
 //! Each value has one spelling. `encode_*` appends it; `decode_*` takes the whole of its input, which a hostile peer may have
 //! written, and answers the value exactly where the input is a spelling, else the first fault from front to back. `specs/`
@@ -6,7 +6,7 @@
 //! spelling begins another.
 //!
 //! Some values have two forms, told apart by their tags: records of writes alone and the others, advances of reader 1 and of
-//! the others, summaries and deltas for a roster of one reader and of several. Which form a value has follows from its data.
+//! the others, summaries, deltas and heads of snapshots for a roster of one reader and of several. Which form a value has follows from its data.
 #![tactic(auto)]
 
 mod advances;
@@ -16,6 +16,7 @@ mod deltas;
 mod facts;
 mod faults;
 mod fields;
+mod fixed;
 mod forms;
 mod images;
 mod keys;
@@ -23,7 +24,9 @@ pub mod laws;
 mod limits;
 mod lists;
 mod patches;
+mod pieces;
 mod places;
+mod record_lists;
 mod records;
 mod room;
 mod summaries;
@@ -36,6 +39,7 @@ pub use facts::{decode_fact, encode_fact};
 pub use faults::{WireError, WireFault};
 pub use images::PageImage;
 pub use keys::Key;
+pub use pieces::{Piece, PieceContent, RecordBatch, decode_piece, encode_piece};
 pub use summaries::{Summary, decode_summary, encode_summary};
 pub use values::{WireValue, decode_value};
 

@@ -9,12 +9,11 @@ ghost use Rattle.redo_wire.specs.RecordReading.{head_at, record_part_at, record_
 use crate::faults::{WireError, WireFault};
 use crate::fields::{put_u16, put_u48, read_byte, read_u16, read_u48};
 use crate::forms::{put_form, put_within, read_form, read_within};
-use crate::limits::{MOST_BYTES, MOST_PATCHES};
 use crate::lists::read_list;
 use crate::patches::{PatchList, body_has_fill, has_fill, patch_count, put_patches};
 use crate::tags;
 use bytes::{BufMut, BytesMut};
-use redo_core::{Body, Patch, Record};
+use redo_core::{Body, MAX_BYTES, MAX_PATCHES, Patch, Record};
 use std::alloc::{AllocError, Global};
 use std::mem::size_of;
 
@@ -74,11 +73,11 @@ fn read_record_part(
     let (flags, rest) = read_within(is_full, 0, 0, 1, rest)?;
     let init = flags == 1;
     let (count, rest) = read_byte(rest)?;
-    if count > MOST_PATCHES {
+    if count as usize > MAX_PATCHES {
         return Err(WireError::Fault(WireFault::Shape));
     }
     let form = PatchList { is_full };
-    let (patches, rest) = read_list(form, MOST_BYTES, PATCH_SIZE, count as usize, alloc, rest)?;
+    let (patches, rest) = read_list(form, MAX_BYTES, PATCH_SIZE, count as usize, alloc, rest)?;
     if !may_have_form(is_full, init, &patches) {
         return Err(WireError::Fault(WireFault::Shape));
     }

@@ -1,4 +1,4 @@
-// The first byte of each form, and the kinds of patches. A further form takes a tag of its own here; every other byte is an
+// The first byte of each form, and the kinds of patches and pieces. A further form takes a tag of its own here; every other byte is an
 // unknown tag.
 
 /// A record of writes alone.
@@ -27,8 +27,23 @@ pub const DELTA: u8 = 0x11;
 /// A delta for a roster of several readers.
 pub const ROSTER_DELTA: u8 = 0x21;
 
+/// A piece of a snapshot, but for the head for a roster of several readers.
+pub const PIECE: u8 = 0x12;
+
+/// The head of a snapshot for a roster of several readers.
+pub const ROSTER_PIECE: u8 = 0x22;
+
 /// A patch that is a write.
 pub const BYTES_KIND: u8 = 0x00;
 
 /// A patch that is a fill.
 pub const FILL_KIND: u8 = 0x01;
+
+/// A piece that is the head.
+pub const HEAD_KIND: u8 = 0x00;
+
+/// A piece that is a page.
+pub const PAGE_KIND: u8 = 0x01;
+
+/// A piece of records.
+pub const RECORDS_KIND: u8 = 0x02;

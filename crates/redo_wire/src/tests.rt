@@ -1,5 +1,5 @@
 ghost use Rattle.std.specs.Prelude.{◌≡◌, [], ◌∷◌, IfOk};
-ghost use Rattle.redo_wire.specs.Books.{book_of};
+ghost use Rattle.redo_core.specs.Book.{book_of};
 
 use super::*;
 use bytes::BytesMut;
@@ -21,6 +21,9 @@ const SPELLINGS: &str = "\
 20 0001 0001 000000000003 000000000014 02 000000000015 000000000005 00000003 0002 01 000000000007 0002 02 000000000001 0003 01 000000000002 000000000003 00000001 0001 000000000015
 11 0000 000000000005 00000000 000000000000 00000000 00000001 06 0000 000000000003 000000000000 0007 000000000000 01 00
 21 0000 02 000000000005 000000000003 00000000 000000000003 00000000 00000002 01 0000 000000000003 000000000000 0007 000000000000 01 0000 0002 6161 06 0000 000000000005 000000000003 0007 000000000003 01 01 00 0001 0001 62
+12 0000000000000009 00000000 00000003 00 0000 000000000005 00000000 000000000005
+22 0000000000000009 00000000 00000001 00 0000 02 000000000005 000000000003 00000001 0001 02 000000000007 000000000003
+12 0000000000000009 00000002 00000003 02 02 01 0000 000000000003 000000000000 0007 000000000000 01 0000 0002 6161 06 0000 000000000005 000000000003 0007 000000000003 01 00
 ";
 
 // In each row of the tables below: the decoder, the number of the fault (0 for none), and the bytes.
@@ -196,13 +199,65 @@ D 4 11 0000 000000000005 00000000 000000000000 00000000 00000002 06 0000 0000000
 D 5 21 0000 02 000000000005 000000000003 00000000 000000000003 00000000 00000000 00
 ";
 
+/// Pieces but for those with a whole page.
+const PIECES: &str = "\
+P 2 10
+P 2 21
+P 2 01
+P 1 
+P 1 12
+P 1 22
+P 0 12 0000000000000009 00000000 00000001 00 0000 000000000000 00000000 000000000000
+P 0 12 ffffffffffffffff fffffffe ffffffff 02 01 01 0000 000000000003 000000000000 0007 000000000000 01 0000 0002 6161
+P 0 12 0000000000000009 00000002 00000003 02 02 01 0000 000000000003 000000000000 0007 000000000000 01 0000 0002 6161 06 0000 000000000005 000000000003 0007 000000000003 01 00
+P 0 12 0000000000000009 00000000 00000003 00 0000 000000000005 00000000 000000000005
+P 0 22 0000000000000009 00000000 00000001 00 0000 02 000000000005 000000000003 00000001 0001 02 000000000007 000000000003
+P 1 12 0000000000000009 00000000
+P 3 12 0000000000000009 00000000 00000000
+P 3 12 0000000000000009 00000002 00000002
+P 1 12 0000000000000009 00000001 00000002
+P 2 12 0000000000000009 00000000 00000001 03
+P 2 12 0000000000000009 00000001 00000002 03
+P 2 12 0000000000000009 00000001 00000002 ff
+P 3 12 0000000000000009 00000001 00000002 00
+P 3 12 0000000000000009 00000000 00000002 01
+P 3 12 0000000000000009 00000000 00000002 02
+P 1 12 0000000000000009 00000001 00000002 01
+P 1 12 0000000000000009 00000001 00000002 01 0007 61
+P 1 12 0000000000000009 00000000 00000001 00 0000 000000000005
+P 3 12 0000000000000009 00000000 00000001 00 0000 000000000005 00000000 000000000006
+P 3 12 0000000000000009 00000000 00000001 00 0000 000000000005 00000001 0000
+P 5 12 0000000000000009 00000000 00000003 00 0000 000000000005 00000000 000000000005 00
+P 1 12 0000000000000009 00000001 00000002 02
+P 3 12 0000000000000009 00000001 00000002 02 00
+P 3 12 0000000000000009 00000001 00000002 02 41
+P 1 12 0000000000000009 00000001 00000002 02 40
+P 1 12 0000000000000009 00000001 00000002 02 02 01 0000 000000000003 000000000000 0007 000000000000 01 0000 0002 6161
+P 2 12 0000000000000009 00000001 00000002 02 01 02
+P 3 12 0000000000000009 00000001 00000002 02 01 01 0000 000000000000
+P 4 12 0000000000000009 00000001 00000002 02 02 01 0000 000000000003 000000000000 0007 000000000000 01 0000 0002 6161 01 0000 000000000003 000000000000 0007 000000000000 01 0000 0002 6161
+P 4 12 0000000000000009 00000001 00000002 02 02 06 0000 000000000005 000000000003 0007 000000000003 01 00 01 0000 000000000003 000000000000 0007 000000000000 01 0000 0002 6161
+P 5 12 0000000000000009 00000002 00000003 02 02 01 0000 000000000003 000000000000 0007 000000000000 01 0000 0002 6161 06 0000 000000000005 000000000003 0007 000000000003 01 00 01
+P 2 22 0000000000000009 00000001 00000002 01
+P 2 22 0000000000000009 00000001 00000002 02
+P 2 22 0000000000000009 00000000 00000001 01
+P 3 22 0000000000000009 00000001 00000001
+P 3 22 0000000000000009 00000001 00000002 00
+P 3 22 0000000000000009 00000000 00000001 00 0000 01
+P 3 22 0000000000000009 00000000 00000001 00 0000 10
+P 3 22 0000000000000009 00000000 00000001 00 0000 02 000000000005 000000000003 00000000 000000000004
+P 5 22 0000000000000009 00000000 00000001 00 0000 02 000000000005 000000000003 00000001 0001 02 000000000007 000000000003 00
+";
+
 /// Values of any kind.
 const VALUES: &str = "\
 V 1 
 V 2 04
 V 2 00
-V 2 12
-V 2 22
+V 2 13
+V 2 23
+V 1 12
+V 1 22
 V 1 10
 V 1 20
 V 1 11
@@ -251,6 +306,7 @@ fn decoded_by(decoder: &str, alloc: Global, bytes: &[u8]) -> u8 {
         "F" => outcome(decode_fact(alloc, bytes)),
         "S" => outcome(decode_summary(alloc, bytes)),
         "D" => outcome(decode_delta(alloc, bytes)),
+        "P" => outcome(decode_piece(alloc, bytes)),
         _ => outcome(decode_value(alloc, bytes)),
     }
 }
@@ -284,6 +340,7 @@ fn spelled(alloc: Global, value: &WireValue) -> Result<BytesMut, WireError> {
         WireValue::Fact(fact) => encode_fact(&mut out, fact)?,
         WireValue::Summary(summary) => encode_summary(&mut out, &summary.copy()?)?,
         WireValue::Delta(delta) => encode_delta(&mut out, &delta.copy()?)?,
+        WireValue::Piece(piece) => encode_piece(&mut out, piece)?,
     }
     Ok(out)
 }
@@ -335,6 +392,13 @@ fn faults_of_summaries(rt: HostRuntime) -> Result<(), Fail> {
 #[test]
 fn faults_of_deltas(rt: HostRuntime) -> Result<(), Fail> {
     let misjudged = first_misjudged(rt.alloc(), DELTAS)?;
+    assert_eq!(rt; misjudged, None);
+    Ok(())
+}
+
+#[test]
+fn faults_of_pieces(rt: HostRuntime) -> Result<(), Fail> {
+    let misjudged = first_misjudged(rt.alloc(), PIECES)?;
     assert_eq!(rt; misjudged, None);
     Ok(())
 }
@@ -410,6 +474,51 @@ fn pages_rise(rt: HostRuntime) -> Result<(), Fail> {
     Ok(())
 }
 
+/// The bytes of a piece that is page 7, whose bytes are all the same.
+fn page_piece(alloc: Global, byte: u8) -> Result<Vec<u8>, AllocError> {
+    let mut bytes = bytes_of(alloc, "12 0000000000000009 00000001 00000003 01 0007")?;
+    bytes.extend_from_slice(&[byte; 4096])?;
+    Ok(bytes)
+}
+
+/// The same without its last byte.
+fn page_piece_cut_off(alloc: Global) -> Result<Vec<u8>, AllocError> {
+    let mut bytes = page_piece(alloc, 97)?;
+    bytes.pop();
+    Ok(bytes)
+}
+
+#[test]
+fn pieces_of_pages(rt: HostRuntime) -> Result<(), Fail> {
+    let piece = page_piece(rt.alloc(), 97)?;
+    assert!(rt; matches!(is_spelling(rt.alloc(), &piece), Ok(true)));
+    let cut_off = page_piece_cut_off(rt.alloc())?;
+    assert_eq!(rt; outcome(decode_piece(rt.alloc(), &cut_off)), 1);
+    let zeros = page_piece(rt.alloc(), 0)?;
+    assert_eq!(rt; outcome(decode_piece(rt.alloc(), &zeros)), 3);
+    Ok(())
+}
+
+/// How long the first proper beginning of the bytes is that is not found short.
+fn first_long_beginning(alloc: Global, bytes: &[u8]) -> Option<usize> {
+    for len in 0..bytes.len() {
+        let (front, _) = bytes.split_at(len);
+        if outcome(decode_value(alloc, front)) != 1 {
+            return Some(len);
+        }
+    }
+    None
+}
+
+#[test]
+fn beginnings_are_short(rt: HostRuntime) -> Result<(), Fail> {
+    for text in SPELLINGS.lines() {
+        let bytes = bytes_of(rt.alloc(), text)?;
+        assert_eq!(rt; first_long_beginning(rt.alloc(), &bytes), None, "{text}");
+    }
+    Ok(())
+}
+
 // ---- parts of values
 
 /// Some numbers of a fact: number, page and whether the page begins anew; epoch, lo and hi; epoch, reader and point.
@@ -452,23 +561,38 @@ fn numbers_of_facts(rt: HostRuntime) -> Result<(), Fail> {
     Ok(())
 }
 
-/// The numbers of truncations, readers and waiting advances of a book, and its minimum.
-fn book_numbers(book: &Book) -> [u64; 4] {
+/// The number of truncations of a book, its complete epoch, the numbers of readers and of waiting advances, and its minimum.
+fn book_numbers(book: &Book) -> [u64; 5] {
     [
         book.cuts().len() as u64,
+        book.complete() as u64,
         book.points().len() as u64,
         book.waits().len() as u64,
         book.min(),
     ]
 }
 
+/// Of a head its book's, the anchor and how many pieces there are; of records how many there are.
+fn piece_numbers(piece: &Piece) -> ([u64; 5], u64, usize) {
+    match piece.content() {
+        PieceContent::Head { book, anchor } => (
+            book_numbers(book),
+            *anchor,
+            piece.total() as usize,
+        ),
+        PieceContent::Page(_) => ([0; 5], 0, 0),
+        PieceContent::Records(batch) => ([0; 5], 0, batch.records().len()),
+    }
+}
+
 /// Of a summary the book's, the anchor and the number of keys; of a delta the book's, the base and the number of records.
-fn value_numbers(alloc: Global, text: &str) -> Result<([u64; 4], u64, usize), WireError> {
+fn value_numbers(alloc: Global, text: &str) -> Result<([u64; 5], u64, usize), WireError> {
     let bytes = bytes_of(alloc, text)?;
     match decode_value(alloc, &bytes)? {
-        WireValue::Fact(_) => Ok(([0; 4], 0, 0)),
+        WireValue::Fact(_) => Ok(([0; 5], 0, 0)),
         WireValue::Summary(s) => Ok((book_numbers(s.book()), s.anchor(), s.keys().len())),
         WireValue::Delta(d) => Ok((book_numbers(d.book()), d.base(), d.records().len())),
+        WireValue::Piece(p) => Ok(piece_numbers(&p)),
     }
 }
 
@@ -477,15 +601,27 @@ fn numbers_of_values(rt: HostRuntime) -> Result<(), Fail> {
     for (text, numbers) in [
         (
             "10 0000 000000000005 00000000 000000000005 00000001 0000 000000000009",
-            ([0, 1, 0, 5], 5, 1),
+            ([0, 0, 1, 0, 5], 5, 1),
+        ),
+        (
+            "10 0003 0001 000000000005 000000000014 0002 000000000006 000000000014 0004 000000000007 000000000014 000000000005 00000001 0003 000000000009 000000000005 00000000",
+            ([3, 2, 1, 1, 5], 5, 0),
         ),
         (
             "20 0000 02 000000000005 000000000003 00000001 0001 02 000000000007 000000000003 00000000",
-            ([0, 2, 1, 3], 3, 0),
+            ([0, 0, 2, 1, 3], 3, 0),
         ),
         (
             "21 0000 02 000000000005 000000000003 00000000 000000000002 00000000 00000000",
-            ([0, 2, 0, 3], 2, 0),
+            ([0, 0, 2, 0, 3], 2, 0),
+        ),
+        (
+            "22 0000000000000009 00000000 00000001 00 0000 02 000000000005 000000000003 00000001 0001 02 000000000007 000000000003",
+            ([0, 0, 2, 1, 3], 3, 1),
+        ),
+        (
+            "12 0000000000000009 00000002 00000003 02 02 01 0000 000000000003 000000000000 0007 000000000000 01 0000 0002 6161 06 0000 000000000005 000000000003 0007 000000000003 01 00",
+            ([0; 5], 0, 2),
         ),
     ] {
         let found = value_numbers(rt.alloc(), text);
@@ -496,10 +632,10 @@ fn numbers_of_values(rt: HostRuntime) -> Result<(), Fail> {
 
 /// A book without truncations, of one reader with the point 5.
 fn made_book(alloc: Global) -> Result<Book, AllocError>
-    ensures { IfOk result (λ b. b ≡ book_of [] (5 ∷ []) []) }
+    ensures { IfOk result (λ b. b ≡ book_of [] 0 (5 ∷ []) []) }
 {
     let points = vec![in alloc; 5]?;
-    Ok(Book::new(Vec::new(alloc), points, Vec::new(alloc)))
+    Ok(Book::new(Vec::new(alloc), 0, points, Vec::new(alloc)))
 }
 
 fn made_summary(alloc: Global) -> Result<WireValue, AllocError> {
@@ -510,6 +646,11 @@ fn made_summary(alloc: Global) -> Result<WireValue, AllocError> {
 fn made_delta(alloc: Global) -> Result<WireValue, AllocError> {
     let book = made_book(alloc)?;
     Ok(WireValue::Delta(Delta::new(book, 5, Vec::new(alloc), Vec::new(alloc))))
+}
+
+fn made_head(alloc: Global) -> Result<WireValue, AllocError> {
+    let book = made_book(alloc)?;
+    Ok(WireValue::Piece(Piece::new(9, 0, 1, PieceContent::Head { book, anchor: 5 })))
 }
 
 fn is_spelled_as(alloc: Global, value: &WireValue, text: &str) -> Result<bool, WireError> {
@@ -526,6 +667,9 @@ fn made_values_are_spelled(rt: HostRuntime) -> Result<(), Fail> {
     let delta = made_delta(rt.alloc())?;
     let text = "11 0000 000000000005 00000000 000000000005 00000000 00000000";
     assert!(rt; matches!(is_spelled_as(rt.alloc(), &delta, text), Ok(true)));
+    let head = made_head(rt.alloc())?;
+    let text = "12 0000000000000009 00000000 00000001 00 0000 000000000005 00000000 000000000005";
+    assert!(rt; matches!(is_spelled_as(rt.alloc(), &head, text), Ok(true)));
     Ok(())
 }
 

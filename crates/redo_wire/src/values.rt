@@ -8,17 +8,19 @@ ghost use Rattle.redo_wire.specs.Values.{SpellsValue, decoded_value};
 use crate::deltas::{Delta, decode_delta};
 use crate::facts::decode_fact;
 use crate::faults::{WireError, WireFault};
+use crate::pieces::{Piece, decode_piece};
 use crate::summaries::{Summary, decode_summary};
 use crate::tags;
 use redo_core::Fact;
 use std::alloc::Global;
 
-/// A value of the wire: a fact, a summary or a delta.
+/// A value of the wire: a fact, a summary, a delta or a piece.
 #[derive(Debug, Drop)]
 pub enum WireValue {
     Fact(Fact),
     Summary(Summary),
     Delta(Delta),
+    Piece(Piece),
 }
 
 /// The value that the bytes spell, all of them: what the decoder of the first byte's form answers. A byte of no form, or none
@@ -47,6 +49,7 @@ fn value_by_tag(alloc: Global, bytes: &[u8]) -> Result<WireValue, WireError>
             Ok(WireValue::Summary(decode_summary(alloc, bytes)?))
         }
         [tags::DELTA | tags::ROSTER_DELTA, ..] => Ok(WireValue::Delta(decode_delta(alloc, bytes)?)),
+        [tags::PIECE | tags::ROSTER_PIECE, ..] => Ok(WireValue::Piece(decode_piece(alloc, bytes)?)),
         _ => Ok(WireValue::Fact(decode_fact(alloc, bytes)?)),
     }
 }

@@ -5,8 +5,9 @@ use Rattle.redo_wire.proofs.books.read_book.Goals as goal
 -- what was judged on the way has the shape of a book
 pub invariant_of-result : goal.invariant_of-result
 invariant_of-result c =
-    let waits = rw (c.complete_of.ensures, c.deref.ensures.value) at c.in_ok-waits.ensures in
-    (book_steps c.args.has_many c.args.bytes.now (c.in_ok-count.count, c.in_ok-count.rest.now) (c.in_ok-cuts.cuts.items, c.in_ok-cuts.rest.now)
+    let told = rw c.deref.ensures.value at c.complete_of-complete.ensures in
+    let waits = rw told at c.in_ok-waits.ensures in
+    rw told (book_steps c.args.has_many c.args.bytes.now (c.in_ok-count.count, c.in_ok-count.rest.now) (c.in_ok-cuts.cuts.items, c.in_ok-cuts.rest.now)
     (c.in_ok-readers.readers, c.in_ok-readers.rest.now) (c.in_ok-points.points.items, c.in_ok-points.rest.now)
     (c.in_ok-count-2.count, c.in_ok-count-2.rest.now) (c.in_ok-waits.waits.items, c.in_ok-waits.rest.now)
     (λ i. omega (arith, c.type_inv.bytes i)) c.in_ok-count.ensures c.in_ok-cuts.ensures c.in_ok-readers.ensures c.in_ok-points.ensures
