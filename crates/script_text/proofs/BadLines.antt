@@ -1,17 +1,16 @@
 -- The bad line is the least: the lines before it begin a good text, and with it they begin none.
-use Rattle.std.proofs.Common.{◌≡◌, ℕ, ◌+◌, ◌-◌, ◌<◌, ◌≤◌, ◌⊎◌, inl, inr, true, false, cond, eqb, leb, List, [], ◌∷◌, ◌++◌, length, take, drop, Option, Some, None, Result, Ok, Err, codes, refl, sym, ap, ◌∙◌, subst, arith, append_assoc, length-append}
+use Rattle.std.proofs.Common.{◌≡◌, ℕ, ◌+◌, ◌-◌, ◌<◌, ◌≤◌, inl, inr, true, false, cond, eqb, leb, List, [], ◌∷◌, ◌++◌, length, take, drop, Option, Some, None, Result, Ok, Err, codes, refl, sym, ap, ◌∙◌, subst, arith, append_assoc, length-append}
 use Rattle.std.specs.Prelude.{bytes_eq}
 use Rattle.std.proofs.Math.Seq.{take-add, take-append_seam}
 use Rattle.std.proofs.lemmas.List.{append_cancel_right}
 use Rattle.redo_core.specs.declared.facts.Fact.{Fact}
-use Rattle.fleet_steps.specs.declared.steps.Step.{Step}
 use Rattle.script_text.specs.FactLine.{fact_of}
 use Rattle.script_text.specs.Number.{digits_of}
 use Rattle.script_text.specs.StepLine.{step_of}
 use Rattle.script_text.specs.Parts.{parts_at}
-use Rattle.script_text.specs.Script.{ScriptData, Rostered, rostered, most, or_bad, within, asking, with_fact, nodes_of, roster_of, lines_from, nodes_from, script_from, opened, script_of, facts_of}
+use Rattle.script_text.specs.Script.{ScriptData, rostered, most, or_bad, within, asking, with_fact, nodes_of, roster_of, lines_from, nodes_from, script_from, opened, script_of, facts_of}
 use Rattle.script_text.specs.Laws.{BadScriptLineIsLeast, BadFactLineIsLeast}
-use Rattle.script_text.specs.Spelled.{worded, AreFacts, AsksSteps, IsLog, IsScript, Spells, Begins, IsLeastBadLine}
+use Rattle.script_text.specs.Spelled.{AreFacts, AsksSteps, IsLog, IsScript, Spells, Begins, IsLeastBadLine}
 use Rattle.script_text.proofs.Results.{end, bad_is, not_bad, refused, one_of, found, within_ok, within_bad, some_left, room_is, ended}
 use Rattle.script_text.proofs.Scripts.{lines_next, script_next}
 use Rattle.script_text.proofs.Rosters.{Reader, facts_reader, steps_reader, opened_plain, opened_named, opened_last, opened_read, rostered_is_spelled, rostered_is_read, scripts_are_spelled, logs_are_spelled}
@@ -38,17 +37,30 @@ record Refuses {A : Type 0} (read : List (List ℕ) → Result A ℕ) (at : ℕ)
   always : (others : List (List ℕ)) → 0 < length others → read (x ∷ others) ≡ Err at
 
 -- a reader stops at a line that it refuses whatever follows
-stops_here : {A : Type 0} (read : List (List ℕ) → Result A ℕ) (at stop : ℕ) (x : List ℕ) (rest more : List (List ℕ)) (said : A) → at ≡ stop → read (more ++ end) ≡ Ok said → Refuses read at x → Stops read at (x ∷ rest) stop
+stops_here : {A : Type 0} (read : List (List ℕ) → Result A ℕ) (at stop : ℕ) (x : List ℕ) (rest more : List (List ℕ)) (said : A) → at ≡ stop
+    → read (more ++ end) ≡ Ok said → Refuses read at x → Stops read at (x ∷ rest) stop
 stops_here read at stop x rest more said e h r =
-    record { before = []; here = x; after = rest; all = refl; place = at_start at stop e; more = more; said = said; good = h; bad = λ some others y more_than h. refused (read (x ∷ others)) at y (r.always others more_than) h }
+    record {
+      before = [];
+      here = x;
+      after = rest;
+      all = refl;
+      place = at_start at stop e;
+      more = more;
+      said = said;
+      good = h;
+      bad = λ some others y more_than h. refused (read (x ∷ others)) at y (r.always others more_than) h;
+    }
 
 -- behind the last LF
-stops_last : {A : Type 0} (read : List (List ℕ) → Result A ℕ) (at stop : ℕ) (x : List ℕ) (more : List (List ℕ)) (said : A) → at ≡ stop → read (more ++ end) ≡ Ok said → Stops read at (x ∷ []) stop
+stops_last : {A : Type 0} (read : List (List ℕ) → Result A ℕ) (at stop : ℕ) (x : List ℕ) (more : List (List ℕ)) (said : A) → at ≡ stop
+    → read (more ++ end) ≡ Ok said → Stops read at (x ∷ []) stop
 stops_last read at stop x more said e h =
     record { before = []; here = x; after = []; all = refl; place = at_start at stop e; more = more; said = said; good = h; bad = λ some. absurd (omega arith) }
 
 -- a reader that goes on with another behind a line stops where the other does
-stops_later : {A B : Type 0} (read : List (List ℕ) → Result A ℕ) (later : List (List ℕ) → Result B ℕ) (onto : Result B ℕ → Result A ℕ) (at stop : ℕ) (x : List ℕ) (rest : List (List ℕ))
+stops_later : {A B : Type 0} (read : List (List ℕ) → Result A ℕ) (later : List (List ℕ) → Result B ℕ) (onto : Result B ℕ → Result A ℕ) (at stop : ℕ)
+    (x : List ℕ) (rest : List (List ℕ))
     → ((others : List (List ℕ)) → 0 < length others → read (x ∷ others) ≡ onto (later others))
     → ((b : B) → (a : A) × (onto (Ok b) ≡ Ok a))
     → ((r : Result B ℕ) (a : A) → onto r ≡ Ok a → (b : B) × (r ≡ Ok b))
@@ -81,7 +93,8 @@ within_down onto r y h = let e = within_ok onto r y h in (e.0, e.1)
 lines_past : {A : Type 0} (said : List ℕ → Option A) (count at : ℕ) (x : List ℕ) → leb most count ≡ true → Refuses (lines_from said count at) at x
 lines_past said count at x late = record { always = λ others some. rw (some_left (length others) some, late) refl }
 
-lines_none : {A : Type 0} (said : List ℕ → Option A) (count at : ℕ) (x : List ℕ) → leb most count ≡ false → said x ≡ None → Refuses (lines_from said count at) at x
+lines_none : {A : Type 0} (said : List ℕ → Option A) (count at : ℕ) (x : List ℕ) → leb most count ≡ false → said x ≡ None
+    → Refuses (lines_from said count at) at x
 lines_none said count at x in_time none = record { always = λ others some. rw (some_left (length others) some, in_time, none) refl }
 
 abbrev good_none : {A : Type 0} → Result (List A) ℕ
@@ -91,18 +104,22 @@ lines_last : {A : Type 0} (x : List ℕ) (at stop : ℕ) → cond (eqb (length x
 lines_last {A} [] at stop h = absurd (not_bad {A = List A} [] stop h)
 lines_last {A} (b ∷ bs) at stop h = bad_is {A = List A} at stop (rw (some_left (length (b ∷ bs)) (omega arith)) at h)
 
-lines_stop : {A : Type 0} (said : List ℕ → Option A) (count at : ℕ) (parts : List (List ℕ)) (stop : ℕ) → 0 < length parts → lines_from said count at parts ≡ Err stop → Stops (lines_from said count at) at parts stop
+lines_stop : {A : Type 0} (said : List ℕ → Option A) (count at : ℕ) (parts : List (List ℕ)) (stop : ℕ) → 0 < length parts
+    → lines_from said count at parts ≡ Err stop → Stops (lines_from said count at) at parts stop
 lines_stop said count at [] stop some h = absurd (omega arith)
 lines_stop {A} said count at (x ∷ []) stop some h = stops_last (lines_from said count at) at stop x [] [] (lines_last {A = A} x at stop h) refl
 lines_stop {A} said count at (x ∷ y ∷ more) stop some h =
     let next : A → Result (List A) ℕ = λ a. within (λ xs. a ∷ xs) (lines_from said (count + 1) (at + 1) (y ∷ more)) in
     elim (one_of (leb most count) (Err at) (or_bad at (said x) next) (Err stop) (rw (some_left (length (y ∷ more)) (omega arith)) at h)) [
-      | inl late ↦ stops_here (lines_from said count at) at stop x (y ∷ more) [] [] (bad_is {A = List A} at stop late.1) refl (lines_past said count at x late.0)
+      | inl late ↦ stops_here (lines_from said count at) at stop x (y ∷ more) [] [] (bad_is {A = List A} at stop late.1) refl
+          (lines_past said count at x late.0)
       | inr time ↦
           elim (found (said x)) [
-            | inl none ↦ stops_here (lines_from said count at) at stop x (y ∷ more) [] [] (bad_is {A = List A} at stop (rw none at time.1)) refl (lines_none said count at x time.0 none)
+            | inl none ↦ stops_here (lines_from said count at) at stop x (y ∷ more) [] [] (bad_is {A = List A} at stop (rw none at time.1)) refl
+                (lines_none said count at x time.0 none)
             | inr one ↦
-                let rest = lines_stop said (count + 1) (at + 1) (y ∷ more) stop (omega arith) (within_bad (λ xs. one.0 ∷ xs) (lines_from said (count + 1) (at + 1) (y ∷ more)) stop (rw one.1 at time.1)) in
+                let rest = lines_stop said (count + 1) (at + 1) (y ∷ more) stop (omega arith)
+                (within_bad (λ xs. one.0 ∷ xs) (lines_from said (count + 1) (at + 1) (y ∷ more)) stop (rw one.1 at time.1)) in
                 let lt : count < most = room_is most count time.0 in
                 stops_later (lines_from said count at) (lines_from said (count + 1) (at + 1)) (within (λ xs. one.0 ∷ xs)) at stop x (y ∷ more)
                 (λ others left. lines_next said count at x others one.0 left lt one.1) (within_up (λ xs. one.0 ∷ xs)) (within_down (λ xs. one.0 ∷ xs)) rest
@@ -114,7 +131,8 @@ lines_stop {A} said count at (x ∷ y ∷ more) stop some h =
 nodes_refused : (facts at : ℕ) (x : List ℕ) → nodes_of x ≡ None → Refuses (nodes_from facts at) at x
 nodes_refused facts at x e = record { always = λ others some. rw (some_left (length others) some, e) refl }
 
-nodes_next : (facts at nodes : ℕ) (x : List ℕ) (others : List (List ℕ)) → 0 < length others → nodes_of x ≡ Some nodes → nodes_from facts at (x ∷ others) ≡ within (asking nodes) (lines_from (step_of facts) 0 (at + 1) others)
+nodes_next : (facts at nodes : ℕ) (x : List ℕ) (others : List (List ℕ)) → 0 < length others → nodes_of x ≡ Some nodes
+    → nodes_from facts at (x ∷ others) ≡ within (asking nodes) (lines_from (step_of facts) 0 (at + 1) others)
 nodes_next facts at nodes x others some e = rw (some_left (length others) some, e) refl
 
 one_node : nodes_of (codes "nodes 1") ≡ Some 1
@@ -137,17 +155,21 @@ go_nodes = codes "go" ∷ codes "nodes 1" ∷ []
 go_nodes_alone : (count at : ℕ) → script_from count at (go_nodes ++ end) ≡ Ok nothing
 go_nodes_alone count at = nodes_alone count (at + 1)
 
-nodes_stop : (facts at : ℕ) (parts : List (List ℕ)) (stop : ℕ) → 0 < length parts → nodes_from facts at parts ≡ Err stop → Stops (nodes_from facts at) at parts stop
+nodes_stop : (facts at : ℕ) (parts : List (List ℕ)) (stop : ℕ) → 0 < length parts → nodes_from facts at parts ≡ Err stop
+    → Stops (nodes_from facts at) at parts stop
 nodes_stop facts at [] stop some h = absurd (omega arith)
-nodes_stop facts at (x ∷ []) stop some h = stops_last (nodes_from facts at) at stop x only_nodes nothing (bad_is {A = ScriptData} at stop h) (nodes_alone facts at)
+nodes_stop facts at (x ∷ []) stop some h = stops_last (nodes_from facts at) at stop x only_nodes nothing (bad_is {A = ScriptData} at stop h)
+    (nodes_alone facts at)
 nodes_stop facts at (x ∷ y ∷ more) stop some h =
     elim (found (nodes_of x)) [
       | inl none ↦
           let wrong = rw (some_left (length (y ∷ more)) (omega arith), none) at h in
-          stops_here (nodes_from facts at) at stop x (y ∷ more) only_nodes nothing (bad_is {A = ScriptData} at stop wrong) (nodes_alone facts at) (nodes_refused facts at x none)
+          stops_here (nodes_from facts at) at stop x (y ∷ more) only_nodes nothing (bad_is {A = ScriptData} at stop wrong) (nodes_alone facts at)
+          (nodes_refused facts at x none)
       | inr is ↦
           let steps = sym (nodes_next facts at is.0 x (y ∷ more) (omega arith) is.1) ∙ h in
-          let rest = lines_stop (step_of facts) 0 (at + 1) (y ∷ more) stop (omega arith) (within_bad (asking is.0) (lines_from (step_of facts) 0 (at + 1) (y ∷ more)) stop steps) in
+          let rest = lines_stop (step_of facts) 0 (at + 1) (y ∷ more) stop (omega arith)
+          (within_bad (asking is.0) (lines_from (step_of facts) 0 (at + 1) (y ∷ more)) stop steps) in
           stops_later (nodes_from facts at) (lines_from (step_of facts) 0 (at + 1)) (within (asking is.0)) at stop x (y ∷ more)
           (λ others left. nodes_next facts at is.0 x others left is.1) (within_up (asking is.0)) (within_down (asking is.0)) rest
     ]
@@ -160,29 +182,36 @@ script_past count at x e late = record { always = λ others some. rw (some_left 
 script_none : (count at : ℕ) (x : List ℕ) → bytes_eq x (codes "go") ≡ false → leb most count ≡ false → fact_of x ≡ None → Refuses (script_from count at) at x
 script_none count at x e in_time none = record { always = λ others some. rw (some_left (length others) some, e, in_time, none) refl }
 
-go_next : (count at : ℕ) (x : List ℕ) (others : List (List ℕ)) → 0 < length others → bytes_eq x (codes "go") ≡ true → script_from count at (x ∷ others) ≡ nodes_from count (at + 1) others
+go_next : (count at : ℕ) (x : List ℕ) (others : List (List ℕ)) → 0 < length others → bytes_eq x (codes "go") ≡ true
+    → script_from count at (x ∷ others) ≡ nodes_from count (at + 1) others
 go_next count at x others some e = rw (some_left (length others) some, e) refl
 
-script_stop : (count at : ℕ) (parts : List (List ℕ)) (stop : ℕ) → 0 < length parts → script_from count at parts ≡ Err stop → Stops (script_from count at) at parts stop
+script_stop : (count at : ℕ) (parts : List (List ℕ)) (stop : ℕ) → 0 < length parts → script_from count at parts ≡ Err stop
+    → Stops (script_from count at) at parts stop
 script_stop count at [] stop some h = absurd (omega arith)
-script_stop count at (x ∷ []) stop some h = stops_last (script_from count at) at stop x go_nodes nothing (bad_is {A = ScriptData} at stop h) (go_nodes_alone count at)
+script_stop count at (x ∷ []) stop some h = stops_last (script_from count at) at stop x go_nodes nothing (bad_is {A = ScriptData} at stop h)
+    (go_nodes_alone count at)
 script_stop count at (x ∷ y ∷ more) stop some h =
     let next : Fact → Result ScriptData ℕ = λ f. within (with_fact f) (script_from (count + 1) (at + 1) (y ∷ more)) in
     let tried : Result ScriptData ℕ = cond (leb most count) (Err at) (or_bad at (fact_of x) next) in
     elim (one_of (bytes_eq x (codes "go")) (nodes_from count (at + 1) (y ∷ more)) tried (Err stop) (rw (some_left (length (y ∷ more)) (omega arith)) at h)) [
       | inl go ↦
           let rest = nodes_stop count (at + 1) (y ∷ more) stop (omega arith) go.1 in
-          stops_later (script_from count at) (nodes_from count (at + 1)) (λ r. r) at stop x (y ∷ more) (λ others left. go_next count at x others left go.0) (λ b. (b, refl)) (λ r a e. (a, e)) rest
+          stops_later (script_from count at) (nodes_from count (at + 1)) (λ r. r) at stop x (y ∷ more) (λ others left. go_next count at x others left go.0)
+          (λ b. (b, refl)) (λ r a e. (a, e)) rest
       | inr other ↦
           elim (one_of (leb most count) (Err at) (or_bad at (fact_of x) next) (Err stop) other.1) [
-            | inl late ↦ stops_here (script_from count at) at stop x (y ∷ more) go_nodes nothing (bad_is {A = ScriptData} at stop late.1) (go_nodes_alone count at) (script_past count at x other.0 late.0)
+            | inl late ↦ stops_here (script_from count at) at stop x (y ∷ more) go_nodes nothing (bad_is {A = ScriptData} at stop late.1)
+                (go_nodes_alone count at) (script_past count at x other.0 late.0)
             | inr time ↦
                 elim (found (fact_of x)) [
                   | inl none ↦
-                      stops_here (script_from count at) at stop x (y ∷ more) go_nodes nothing (bad_is {A = ScriptData} at stop (rw none at time.1)) (go_nodes_alone count at)
+                      stops_here (script_from count at) at stop x (y ∷ more) go_nodes nothing (bad_is {A = ScriptData} at stop (rw none at time.1))
+                      (go_nodes_alone count at)
                       (script_none count at x other.0 time.0 none)
                   | inr one ↦
-                      let rest = script_stop (count + 1) (at + 1) (y ∷ more) stop (omega arith) (within_bad (with_fact one.0) (script_from (count + 1) (at + 1) (y ∷ more)) stop (rw one.1 at time.1)) in
+                      let rest = script_stop (count + 1) (at + 1) (y ∷ more) stop (omega arith)
+                      (within_bad (with_fact one.0) (script_from (count + 1) (at + 1) (y ∷ more)) stop (rw one.1 at time.1)) in
                       let lt : count < most = room_is most count time.0 in
                       stops_later (script_from count at) (script_from (count + 1) (at + 1)) (within (with_fact one.0)) at stop x (y ∷ more)
                       (λ others left. script_next count at x others one.0 left lt one.1) (within_up (with_fact one.0)) (within_down (with_fact one.0)) rest
@@ -196,7 +225,8 @@ same_rest : (x y : List ℕ) (xs ys : List (List ℕ)) → x ∷ xs ≡ y ∷ ys
 same_rest x y xs ys h = (cc, cc)
 
 -- Without the line of a roster a text stops where the reader below it does.
-plain_stop : {A : Type 0} (Is : List (List ℕ) → A → Type 0) (read : ℕ → List (List ℕ) → Result A ℕ) → Reader Is read → (x here : List ℕ) (rest before after more : List (List ℕ)) (said : A) (stop : ℕ)
+plain_stop : {A : Type 0} (Is : List (List ℕ) → A → Type 0) (read : ℕ → List (List ℕ) → Result A ℕ) → Reader Is read
+    → (x here : List ℕ) (rest before after more : List (List ℕ)) (said : A) (stop : ℕ)
     → (0 < length rest → roster_of x ≡ None) → x ∷ rest ≡ before ++ here ∷ after → 1 + length before ≡ stop → read 1 (before ++ (more ++ end)) ≡ Ok said
     → (0 < length after → (others : List (List ℕ)) (y : A) → 0 < length others → read 1 (before ++ here ∷ others) ≡ Ok y → ⊥)
     → Stops (opened read) 1 (x ∷ rest) stop
@@ -249,8 +279,10 @@ opened_stop Is read r stops (x ∷ y ∷ rest) stop some h =
           let s = stops 1 (x ∷ y ∷ rest) stop some (within_bad (rostered 1) (read 1 (x ∷ y ∷ rest)) stop (sym (opened_plain read x (y ∷ rest) none) ∙ h)) in
           plain_stop Is read r x s.here (y ∷ rest) s.before s.after s.more s.said stop (λ long. none) s.all s.place s.good s.bad
       | inr one ↦
-          let s = stops 2 (y ∷ rest) stop (omega arith) (within_bad (rostered one.0) (read 2 (y ∷ rest)) stop (sym (opened_named read x (y ∷ rest) one.0 (omega arith) one.1) ∙ h)) in
-          stops_later (opened read) (read 2) (within (rostered one.0)) 1 stop x (y ∷ rest) (λ others left. opened_named read x others one.0 left one.1) (within_up (rostered one.0)) (within_down (rostered one.0)) s
+          let s = stops 2 (y ∷ rest) stop (omega arith)
+          (within_bad (rostered one.0) (read 2 (y ∷ rest)) stop (sym (opened_named read x (y ∷ rest) one.0 (omega arith) one.1) ∙ h)) in
+          stops_later (opened read) (read 2) (within (rostered one.0)) 1 stop x (y ∷ rest) (λ others left. opened_named read x others one.0 left one.1)
+          (within_up (rostered one.0)) (within_down (rostered one.0)) s
     ]
 
 -- ---- texts
@@ -287,12 +319,14 @@ least {A} Is read text stop spelled is_read err s =
 
 least_script_line : (text : List ℕ) (stop : ℕ) → script_of text ≡ Err stop → IsLeastBadLine IsScript text stop
 least_script_line text stop h =
-    least IsScript (opened (script_from 0)) text stop (rostered_is_spelled AsksSteps (script_from 0) steps_reader) (rostered_is_read AsksSteps (script_from 0) steps_reader) h
+    least IsScript (opened (script_from 0)) text stop (rostered_is_spelled AsksSteps (script_from 0) steps_reader)
+    (rostered_is_read AsksSteps (script_from 0) steps_reader) h
     (opened_stop AsksSteps (script_from 0) steps_reader (script_stop 0) (parts_at 10 text) stop (some_parts 10 text) h)
 
 least_fact_line : (text : List ℕ) (stop : ℕ) → facts_of text ≡ Err stop → IsLeastBadLine IsLog text stop
 least_fact_line text stop h =
-    least IsLog (opened (lines_from fact_of 0)) text stop (rostered_is_spelled AreFacts (lines_from fact_of 0) facts_reader) (rostered_is_read AreFacts (lines_from fact_of 0) facts_reader) h
+    least IsLog (opened (lines_from fact_of 0)) text stop (rostered_is_spelled AreFacts (lines_from fact_of 0) facts_reader)
+    (rostered_is_read AreFacts (lines_from fact_of 0) facts_reader) h
     (opened_stop AreFacts (lines_from fact_of 0) facts_reader (lines_stop fact_of 0) (parts_at 10 text) stop (some_parts 10 text) h)
 
 -- lines that begin a good text do so from their own beginning on
@@ -301,7 +335,8 @@ begins_before Is lines n m le b =
     let others : List (List ℕ) = take (m - n) (drop n lines) in
     let sum : n + (m - n) ≡ m = omega arith in
     let front : take m lines ≡ take n lines ++ others = ap (λ (k : ℕ). take k lines) (sym sum) ∙ take-add n (m - n) lines in
-    let all : take n lines ++ (others ++ b.0) ≡ take m lines ++ b.0 = sym (append_assoc (take n lines) others b.0) ∙ ap (λ (t : List (List ℕ)). t ++ b.0) (sym front) in
+    let all : take n lines ++ (others ++ b.0) ≡ take m lines ++ b.0 = sym (append_assoc (take n lines) others b.0) ∙ ap (λ (t : List (List ℕ)). t ++ b.0)
+    (sym front) in
     (others ++ b.0, b.1, subst (λ (t : List (List ℕ)). Is t b.1) (sym all) b.2)
 
 -- no bad line that is the least is below another
@@ -315,12 +350,21 @@ apart n m p q = omega (arith, p, q)
 one_line : {A : Type 0} (Is : List (List ℕ) → A → Type 0) (text : List ℕ) (n m : ℕ) → IsLeastBadLine Is text n → IsLeastBadLine Is text m → n ≡ m
 one_line Is text n m p q = apart n m (not_below Is text n m p q) (not_below Is text m n q p)
 
-reported : {A : Type 0} (Is : List (List ℕ) → A → Type 0) (text : List ℕ) (stop : ℕ) (r : Result A ℕ) → ((x : A) → r ≡ Ok x → Spells Is text x) → ((n : ℕ) → r ≡ Err n → IsLeastBadLine Is text n) → IsLeastBadLine Is text stop → r ≡ Err stop
+reported : {A : Type 0} (Is : List (List ℕ) → A → Type 0) (text : List ℕ) (stop : ℕ) (r : Result A ℕ) → ((x : A) → r ≡ Ok x → Spells Is text x)
+    → ((n : ℕ) → r ≡ Err n → IsLeastBadLine Is text n) → IsLeastBadLine Is text stop → r ≡ Err stop
 reported Is text stop (Ok x) spelled found h = absurd (h.none x (spelled x refl))
 reported Is text stop (Err n) spelled found h = ap (λ (k : ℕ). Err k) (one_line Is text n stop (found n refl) h)
 
 pub bad_script_line_is_least : BadScriptLineIsLeast
-bad_script_line_is_least text stop = (least_script_line text stop, reported IsScript text stop (script_of text) (λ s. (scripts_are_spelled text s).0) (least_script_line text))
+bad_script_line_is_least text stop = (
+  least_script_line text stop,
+  reported IsScript text stop (script_of text) (λ s. (scripts_are_spelled text s).0)
+      (least_script_line text),
+)
 
 pub bad_fact_line_is_least : BadFactLineIsLeast
-bad_fact_line_is_least text stop = (least_fact_line text stop, reported IsLog text stop (facts_of text) (λ log. (logs_are_spelled text log).0) (least_fact_line text))
+bad_fact_line_is_least text stop = (
+  least_fact_line text stop,
+  reported IsLog text stop (facts_of text) (λ log. (logs_are_spelled text log).0)
+      (least_fact_line text),
+)

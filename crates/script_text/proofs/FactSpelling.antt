@@ -1,5 +1,5 @@
 -- Fact lines are read exactly where they are spelled.
-use Rattle.std.proofs.Common.{◌≡◌, ℕ, ◌≤◌, ◌⊎◌, inl, inr, Bool, true, false, cond, eqb, List, [], ◌∷◌, ◌++◌, map, length, Option, Some, None, codes, refl, sym, ap, ◌∙◌, subst, arith}
+use Rattle.std.proofs.Common.{◌≡◌, ℕ, ◌≤◌, inl, inr, Bool, true, false, cond, eqb, List, [], ◌∷◌, ◌++◌, map, length, Option, Some, None, codes, refl, sym, ap, ◌∙◌, subst, arith}
 use Rattle.std.specs.Prelude.{bytes_eq}
 use Rattle.std.specs.Fmt.{decimal}
 use Rattle.std.proofs.lemmas.Bool.Decides.{nat_tests}
@@ -10,10 +10,9 @@ use Rattle.redo_core.specs.declared.facts.Fact.{Fact}
 use Rattle.redo_core.specs.declared.facts.Fact.TheVariants.{Record, Cut, Advance}
 use Rattle.script_text.specs.Parts.{◌>>=◌, parts_at}
 use Rattle.script_text.specs.Fields.{numbers_of, of_two, of_three, of_five}
-use Rattle.script_text.specs.FactLine.{Contents, contents, unless, shaped, contents_of, record_line, cut_line, advance_line, fact_line, fact_of}
+use Rattle.script_text.specs.FactLine.{Contents, unless, shaped, contents_of, record_line, cut_line, advance_line, fact_line, fact_of}
 use Rattle.script_text.specs.Laws.{FactLinesAreSpelled}
 use Rattle.script_text.specs.Spelled.{SpellsForm, SpellsRecord, SpellsCut, SpellsAdvance, SpellsFact}
-use Rattle.script_text.proofs.Numbers.{decimal_is_read, lacks_space}
 use Rattle.script_text.proofs.Forms.{AreLimits, AreWithin, two_is, three_is, five_is, numbers_are, numbers_are_read, numbers_lack_space, said_form, form_fields}
 use Rattle.script_text.proofs.Options.{some_is, bind_some, either, true_is}
 use Rattle.script_text.proofs.Split.{AllLack, parts_joined, joined_parts}
@@ -94,7 +93,14 @@ record_spelled line (a ∷ b ∷ c ∷ d ∷ e ∷ w ∷ []) f p h =
     let r : RecordData = record_with is.0 is.1 is.2 is.3 is.4 k.init k.patches in
     let whole = shaped_record r f is.6 in
     let all = parts_joined 32 line _ (p ∙ ap (λ (t : List (List ℕ)). codes "rec" ∷ (t ++ (w ∷ []))) said) in
-    let spelled : SpellsRecord line r = record { text = w; all = all; said = contents_are_spelled w k o2.1; epoch = limited.0; page = limited.1.1.1.0; shape = whole.0 } in
+    let spelled : SpellsRecord line r = record {
+      text = w;
+      all = all;
+      said = contents_are_spelled w k o2.1;
+      epoch = limited.0;
+      page = limited.1.1.1.0;
+      shape = whole.0;
+    } in
     subst (SpellsFact line) (sym whole.1) spelled
 
 cut_spelled : (line : List ℕ) (fields : List (List ℕ)) (f : Fact) → parts_at 32 line ≡ codes "cut" ∷ fields → cut_line fields ≡ Some f → SpellsFact line f
@@ -107,7 +113,8 @@ cut_spelled line fields f p h =
     let spelled : SpellsCut line (cut_of is.0 is.1 is.2) = record { all = s.all; epoch = s.limited.0; shape = whole.0 } in
     subst (SpellsFact line) (sym whole.1) spelled
 
-advance_spelled : (line : List ℕ) (fields : List (List ℕ)) (f : Fact) → parts_at 32 line ≡ codes "min" ∷ fields → advance_line fields ≡ Some f → SpellsFact line f
+advance_spelled : (line : List ℕ) (fields : List (List ℕ)) (f : Fact) → parts_at 32 line ≡ codes "min" ∷ fields → advance_line fields ≡ Some f
+    → SpellsFact line f
 unfolding advance_line
 advance_spelled line fields f p h =
     elim (either (eqb (length fields) 2) (numbers_of point_limits fields >>= made_advance) (numbers_of reader_limits fields >>= made_of_reader) f h) [
@@ -135,7 +142,8 @@ fact_spelled : (line : List ℕ) (parts : List (List ℕ)) (f : Fact) → parts_
 unfolding fact_line
 fact_spelled line [] f e h = absurd cc
 fact_spelled line (word ∷ fields) f e h =
-    let keyed : (key : List ℕ) → bytes_eq word key ≡ true → parts_at 32 line ≡ key ∷ fields = λ key t. e ∙ ap (λ (w : List ℕ). w ∷ fields) (true_is word key t) in
+    let keyed : (key : List ℕ) → bytes_eq word key ≡ true → parts_at 32 line ≡ key ∷ fields = λ key t. e ∙ ap (λ (w : List ℕ). w ∷ fields)
+    (true_is word key t) in
     let last = cond (bytes_eq word (codes "min")) (advance_line fields) None in
     let more = cond (bytes_eq word (codes "cut")) (cut_line fields) last in
     elim (either (bytes_eq word (codes "rec")) (record_line fields) more f h) [
@@ -143,7 +151,8 @@ fact_spelled line (word ∷ fields) f e h =
       | inr other ↦
           elim (either (bytes_eq word (codes "cut")) (cut_line fields) last f other.1) [
             | inl is ↦ cut_spelled line fields f (keyed (codes "cut") is.0) is.1
-            | inr another ↦ let is = nothing (bytes_eq word (codes "min")) (advance_line fields) f another.1 in advance_spelled line fields f (keyed (codes "min") is.0) is.1
+            | inr another ↦ let is = nothing (bytes_eq word (codes "min")) (advance_line fields) f another.1 in advance_spelled line fields f
+                (keyed (codes "min") is.0) is.1
           ]
     ]
 
@@ -165,11 +174,13 @@ shaped_none f o e = rw e refl
 record_fields : (line : List ℕ) (r : RecordData) (s : SpellsRecord line r) → AreWithin (r.epoch ∷ r.number ∷ r.back ∷ r.page ∷ r.block_back ∷ []) record_limits
     → parts_at 32 line ≡ codes "rec" ∷ decimal r.epoch ∷ decimal r.number ∷ decimal r.back ∷ decimal r.page ∷ decimal r.block_back ∷ s.text ∷ []
 record_fields line r s h =
-    let l : AllLack 32 (map decimal (r.epoch ∷ r.number ∷ r.back ∷ r.page ∷ r.block_back ∷ [])) = numbers_lack_space record_limits (r.epoch ∷ r.number ∷ r.back ∷ r.page ∷ r.block_back ∷ []) record_small h in
+    let l : AllLack 32 (map decimal (r.epoch ∷ r.number ∷ r.back ∷ r.page ∷ r.block_back ∷ [])) = numbers_lack_space record_limits
+    (r.epoch ∷ r.number ∷ r.back ∷ r.page ∷ r.block_back ∷ []) record_small h in
     let text = contents_lack_space s.text r.init r.patches s.said in
     let all : AllLack 32 (codes "rec" ∷ decimal r.epoch ∷ decimal r.number ∷ decimal r.back ∷ decimal r.page ∷ decimal r.block_back ∷ s.text ∷ []) =
     (refl, (l.0, (l.1.0, (l.1.1.0, (l.1.1.1.0, (l.1.1.1.1.0, (text, tt))))))) in
-    ap (parts_at 32) s.all ∙ joined_parts 32 (codes "rec") (decimal r.epoch ∷ decimal r.number ∷ decimal r.back ∷ decimal r.page ∷ decimal r.block_back ∷ s.text ∷ []) all
+    ap (parts_at 32) s.all ∙ joined_parts 32 (codes "rec")
+    (decimal r.epoch ∷ decimal r.number ∷ decimal r.back ∷ decimal r.page ∷ decimal r.block_back ∷ s.text ∷ []) all
 
 record_is_read : (line : List ℕ) (r : RecordData) → SpellsRecord line r → fact_of line ≡ Some (Record r)
 unfolding fact_line record_line shaped
@@ -190,7 +201,8 @@ cut_is_read line c s =
     let f = form_fields line (codes "cut") cut_limits (c.epoch ∷ c.lo ∷ c.hi ∷ []) cut_small form refl in
     ap fact_line f.fields ∙ ap (λ (o : Option (List ℕ)). o >>= made_cut) f.numbers ∙ shaped_none (Cut c) (cut_fault c) s.shape
 
-point_is_read : (line : List ℕ) (a : AdvanceData) → a.reader ≡ 1 → SpellsForm line (codes "min") point_limits (a.epoch ∷ a.point ∷ []) → advance_fault a ≡ None → fact_of line ≡ Some (Advance a)
+point_is_read : (line : List ℕ) (a : AdvanceData) → a.reader ≡ 1 → SpellsForm line (codes "min") point_limits (a.epoch ∷ a.point ∷ []) → advance_fault a ≡ None
+    → fact_of line ≡ Some (Advance a)
 unfolding fact_line advance_line shaped
 point_is_read line a one form shape =
     let f = form_fields line (codes "min") point_limits (a.epoch ∷ a.point ∷ []) point_small form refl in
@@ -199,7 +211,8 @@ point_is_read line a one form shape =
     ap (λ (b : AdvanceData). unless (advance_fault b) (Advance b)) same ∙ shaped_none (Advance a) (advance_fault a) shape in
     ap fact_line f.fields ∙ ap (λ (o : Option (List ℕ)). o >>= made_advance) f.numbers ∙ sound
 
-reader_is_read : (line : List ℕ) (a : AdvanceData) → SpellsForm line (codes "min") reader_limits (a.epoch ∷ a.point ∷ a.reader ∷ []) → advance_fault a ≡ None → fact_of line ≡ Some (Advance a)
+reader_is_read : (line : List ℕ) (a : AdvanceData) → SpellsForm line (codes "min") reader_limits (a.epoch ∷ a.point ∷ a.reader ∷ []) → advance_fault a ≡ None
+    → fact_of line ≡ Some (Advance a)
 unfolding fact_line advance_line shaped
 reader_is_read line a form shape =
     let f = form_fields line (codes "min") reader_limits (a.epoch ∷ a.point ∷ a.reader ∷ []) reader_small form refl in

@@ -1,5 +1,5 @@
 -- Fields that are numbers within limits.
-use Rattle.std.proofs.Common.{◌≡◌, ℕ, ◌^◌, ◌<◌, ◌≤◌, ◌≢◌, ◌⊎◌, inl, inr, Bool, true, false, cond, ◌&&◌, eqb, ltb, leb, List, [], ◌∷◌, map, length, Option, Some, None, refl, sym, ap, ◌∙◌, subst, arith}
+use Rattle.std.proofs.Common.{◌≡◌, ℕ, ◌≤◌, inl, inr, true, ◌&&◌, eqb, ltb, leb, List, [], ◌∷◌, map, length, Option, Some, None, refl, ap, ◌∙◌, subst, arith}
 use Rattle.std.specs.Prelude.{bytes_eq}
 use Rattle.std.specs.Fmt.{decimal}
 use Rattle.std.specs.Str.{all_ascii_digits}
@@ -7,7 +7,7 @@ use Rattle.std.proofs.lemmas.Option.{cond_some}
 use Rattle.std.proofs.lemmas.Bool.Decides.{nat_tests}
 use Rattle.std.specs.List.{AllByRecursion, AllZip}
 use Rattle.redo_core.specs.Shape.{max_number}
-use Rattle.script_text.specs.Number.{value_from, digits_of, number_of}
+use Rattle.script_text.specs.Number.{value_from, digits_of, decimal_value}
 use Rattle.script_text.specs.Parts.{◌>>=◌, parts_at}
 use Rattle.script_text.specs.Fields.{numbers_of, of_one, of_two, of_three, of_five, Form, read_by}
 use Rattle.script_text.specs.Spelled.{worded, SpellsForm}
@@ -34,20 +34,22 @@ pub numbers_apart : (limits : List ℕ) (fields : List (List ℕ)) → (length f
 numbers_apart [] [] ne = absurd (ne refl)
 numbers_apart [] (word ∷ words) ne = refl
 numbers_apart (limit ∷ limits) [] ne = refl
-numbers_apart (limit ∷ limits) (word ∷ words) ne = none_left (number_of limit word) (numbers_of limits words) (numbers_apart limits words (λ e. ne (omega (arith, e))))
+numbers_apart (limit ∷ limits) (word ∷ words) ne = none_left (decimal_value limit word) (numbers_of limits words)
+    (numbers_apart limits words (λ e. ne (omega (arith, e))))
 
 -- ---- what is read is spelled
 
 both_same : (x y : List ℕ) (xs ys : List (List ℕ)) → x ≡ y → xs ≡ ys → x ∷ xs ≡ y ∷ ys
 both_same x y xs ys p q = cc
 
-pub numbers_are : (limits : List ℕ) (fields : List (List ℕ)) (ns : List ℕ) → AreLimits limits → numbers_of limits fields ≡ Some ns → (fields ≡ map decimal ns) × AreWithin ns limits
+pub numbers_are : (limits : List ℕ) (fields : List (List ℕ)) (ns : List ℕ) → AreLimits limits → numbers_of limits fields ≡ Some ns
+    → (fields ≡ map decimal ns) × AreWithin ns limits
 numbers_are [] [] [] small h = (refl, tt)
 numbers_are [] [] (n ∷ ns) small h = absurd cc
 numbers_are [] (word ∷ words) ns small h = absurd cc
 numbers_are (limit ∷ limits) [] ns small h = absurd cc
 numbers_are (limit ∷ limits) (word ∷ words) ns small h =
-    let one = bind_some (number_of limit word) (λ n. numbers_of limits words >>= (λ others. Some (n ∷ others))) ns h in
+    let one = bind_some (decimal_value limit word) (λ n. numbers_of limits words >>= (λ others. Some (n ∷ others))) ns h in
     let more = bind_some (numbers_of limits words) (λ others. Some (one.0 ∷ others)) ns one.2 in
     let n = (numbers_are_decimals limit one.0 word (omega (arith, small.0))).0 one.1 in
     let others = numbers_are limits words more.0 small.1 more.1 in
@@ -69,7 +71,8 @@ numbers_lack_space (limit ∷ limits) [] small h = absurd h
 numbers_lack_space (limit ∷ limits) (n ∷ ns) small h = (lacks_space n (omega (arith, small.0, h.0)), numbers_lack_space limits ns small.1 h.1)
 
 -- the fields of a line of a word and numbers
-pub worded_fields : (line word limits ns : List ℕ) → AreLimits limits → AreWithin ns limits → lacks 32 word ≡ true → line ≡ worded word ns → parts_at 32 line ≡ word ∷ map decimal ns
+pub worded_fields : (line word limits ns : List ℕ) → AreLimits limits → AreWithin ns limits → lacks 32 word ≡ true → line ≡ worded word ns
+    → parts_at 32 line ≡ word ∷ map decimal ns
 worded_fields line word limits ns small h space e = ap (parts_at 32) e ∙ joined_parts 32 word (map decimal ns) (space, numbers_lack_space limits ns small h)
 
 -- ---- what so many numbers make
@@ -79,20 +82,23 @@ one_is make [] x h = absurd cc
 one_is make (a ∷ []) x h = (a, refl, h)
 one_is make (a ∷ b ∷ ns) x h = absurd cc
 
-pub two_is : {A : Type 0} (make : ℕ → ℕ → Option A) (ns : List ℕ) (x : A) → of_two make ns ≡ Some x → (a : ℕ) × (b : ℕ) × (ns ≡ a ∷ b ∷ []) × (make a b ≡ Some x)
+pub two_is : {A : Type 0} (make : ℕ → ℕ → Option A) (ns : List ℕ) (x : A) → of_two make ns ≡ Some x
+    → (a : ℕ) × (b : ℕ) × (ns ≡ a ∷ b ∷ []) × (make a b ≡ Some x)
 two_is make [] x h = absurd cc
 two_is make (a ∷ []) x h = absurd cc
 two_is make (a ∷ b ∷ []) x h = (a, b, refl, h)
 two_is make (a ∷ b ∷ c ∷ ns) x h = absurd cc
 
-pub three_is : {A : Type 0} (make : ℕ → ℕ → ℕ → Option A) (ns : List ℕ) (x : A) → of_three make ns ≡ Some x → (a : ℕ) × (b : ℕ) × (c : ℕ) × (ns ≡ a ∷ b ∷ c ∷ []) × (make a b c ≡ Some x)
+pub three_is : {A : Type 0} (make : ℕ → ℕ → ℕ → Option A) (ns : List ℕ) (x : A) → of_three make ns ≡ Some x
+    → (a : ℕ) × (b : ℕ) × (c : ℕ) × (ns ≡ a ∷ b ∷ c ∷ []) × (make a b c ≡ Some x)
 three_is make [] x h = absurd cc
 three_is make (a ∷ []) x h = absurd cc
 three_is make (a ∷ b ∷ []) x h = absurd cc
 three_is make (a ∷ b ∷ c ∷ []) x h = (a, b, c, refl, h)
 three_is make (a ∷ b ∷ c ∷ d ∷ ns) x h = absurd cc
 
-pub five_is : {A : Type 0} (make : ℕ → ℕ → ℕ → ℕ → ℕ → Option A) (ns : List ℕ) (x : A) → of_five make ns ≡ Some x → (a : ℕ) × (b : ℕ) × (c : ℕ) × (d : ℕ) × (e : ℕ) × (ns ≡ a ∷ b ∷ c ∷ d ∷ e ∷ []) × (make a b c d e ≡ Some x)
+pub five_is : {A : Type 0} (make : ℕ → ℕ → ℕ → ℕ → ℕ → Option A) (ns : List ℕ) (x : A) → of_five make ns ≡ Some x
+    → (a : ℕ) × (b : ℕ) × (c : ℕ) × (d : ℕ) × (e : ℕ) × (ns ≡ a ∷ b ∷ c ∷ d ∷ e ∷ []) × (make a b c d e ≡ Some x)
 five_is make [] x h = absurd cc
 five_is make (a ∷ []) x h = absurd cc
 five_is make (a ∷ b ∷ []) x h = absurd cc
@@ -126,7 +132,7 @@ read_has P (f ∷ forms) line (word ∷ fields) x all e h =
 
 -- ---- limits
 
-within_limit : (limit n : ℕ) (word : List ℕ) → number_of limit word ≡ Some n → n ≤ limit
+within_limit : (limit n : ℕ) (word : List ℕ) → decimal_value limit word ≡ Some n → n ≤ limit
 unfolding digits_of
 within_limit limit n [] h = absurd cc
 within_limit limit n (c ∷ cs) h = let outer = none_or (eqb c 48 && ltb 0 (length cs)) (digits_of limit (c ∷ cs)) n h in
@@ -141,9 +147,10 @@ numbers_within [] [] (n ∷ ns) h = absurd cc
 numbers_within [] (word ∷ words) ns h = absurd cc
 numbers_within (limit ∷ limits) [] ns h = absurd cc
 numbers_within (limit ∷ limits) (word ∷ words) ns h =
-    let one = bind_some (number_of limit word) (λ n. numbers_of limits words >>= (λ others. Some (n ∷ others))) ns h in
+    let one = bind_some (decimal_value limit word) (λ n. numbers_of limits words >>= (λ others. Some (n ∷ others))) ns h in
     let more = bind_some (numbers_of limits words) (λ others. Some (one.0 ∷ others)) ns one.2 in
-    subst (λ (t : List ℕ). AreWithin t (limit ∷ limits)) (some_is (one.0 ∷ more.0) ns more.2) (within_limit limit one.0 word one.1, numbers_within limits words more.0 more.1)
+    subst (λ (t : List ℕ). AreWithin t (limit ∷ limits)) (some_is (one.0 ∷ more.0) ns more.2)
+    (within_limit limit one.0 word one.1, numbers_within limits words more.0 more.1)
 
 -- ---- a line of a form
 
@@ -162,7 +169,8 @@ form_fields line word limits ns small s space = record {
 }
 
 -- the numbers of a line's fields
-pub said_form : (line word limits : List ℕ) (fields : List (List ℕ)) (ns : List ℕ) → AreLimits limits → parts_at 32 line ≡ word ∷ fields → numbers_of limits fields ≡ Some ns → SpellsForm line word limits ns
+pub said_form : (line word limits : List ℕ) (fields : List (List ℕ)) (ns : List ℕ) → AreLimits limits → parts_at 32 line ≡ word ∷ fields
+    → numbers_of limits fields ≡ Some ns → SpellsForm line word limits ns
 said_form line word limits fields ns small e h =
     let is = numbers_are limits fields ns small h in
     record { all = parts_joined 32 line (word ∷ map decimal ns) (e ∙ ap (λ (t : List (List ℕ)). word ∷ t) is.0); limited = is.1 }

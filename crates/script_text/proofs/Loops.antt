@@ -5,7 +5,7 @@ use Rattle.std.proofs.lemmas.List.{take_more_set, take_all, drop_all}
 use Rattle.std.proofs.lemmas.Bool.Decides.{nat_tests}
 use Rattle.std.specs.declared.option.Option.{Option}
 use Rattle.redo_core.specs.declared.facts.Fact.{Fact}
-use Rattle.script_text.specs.Number.{number_of}
+use Rattle.script_text.specs.Number.{decimal_value}
 use Rattle.script_text.specs.Parts.{◌>>=◌}
 use Rattle.script_text.specs.Fields.{numbers_of}
 use Rattle.script_text.specs.Script.{ScriptData, lines_from, script_from, most, with_fact, with_facts, within}
@@ -22,7 +22,7 @@ one_more : (front : List ℕ) (v : ℕ) (os : Option (List ℕ)) → with_front 
 one_more front v (Some ns) = ap (λ (t : List ℕ). Some t) (sym (append_assoc front (v ∷ []) ns))
 one_more front v None = refl
 
-pub next_number : (front limits : List ℕ) (words : List (List ℕ)) (limit v : ℕ) (word : List ℕ) → number_of limit word ≡ Some v
+pub next_number : (front limits : List ℕ) (words : List (List ℕ)) (limit v : ℕ) (word : List ℕ) → decimal_value limit word ≡ Some v
     → with_front front (numbers_of (limit ∷ limits) (word ∷ words)) ≡ with_front (front ++ v ∷ []) (numbers_of limits words)
 next_number front limits words limit v word e = rw e (one_more front v (numbers_of limits words))
 
@@ -32,7 +32,8 @@ script_from_last count at [] e = absurd (omega arith)
 script_from_last count at (line ∷ rest) e = grind (arith, nat_tests)
 
 -- a line more than may come
-pub lines_from_past : {A : Type 0} (said : List ℕ → Option A) (count at : ℕ) (lines : List (List ℕ)) → 1 < length lines → most ≤ count → lines_from said count at lines ≡ Err at
+pub lines_from_past : {A : Type 0} (said : List ℕ → Option A) (count at : ℕ) (lines : List (List ℕ)) → 1 < length lines → most ≤ count
+    → lines_from said count at lines ≡ Err at
 lines_from_past said count at [] e le = absurd (omega arith)
 lines_from_past said count at (line ∷ rest) e le = grind (arith, nat_tests)
 
@@ -42,15 +43,18 @@ record AtNumber (limits : List ℕ) (fields : List (Bor (List ℕ))) (i : ℕ) (
   limits_left : drop i limits ≡ get_or limits i 0 ∷ drop (i + 1) limits
   words_left : map (λ x. x.now) (drop i fields) ≡ word ∷ map (λ x. x.now) (drop (i + 1) fields)
 
-at_number : (limits : List ℕ) (fields : List (Bor (List ℕ))) (i : ℕ) (d : Bor (List ℕ)) → i < length limits → i < length fields → AtNumber limits fields i (get_or fields i d).now
+at_number : (limits : List ℕ) (fields : List (Bor (List ℕ))) (i : ℕ) (d : Bor (List ℕ)) → i < length limits → i < length fields
+    → AtNumber limits fields i (get_or fields i d).now
 at_number limits fields i d lt of = record {
   limits_left = drop-cons limits i 0 lt ∙ ap (λ (k : ℕ). get_or limits i 0 ∷ drop k limits) (sym (add-one i));
   words_left = ap (map (λ x. x.now)) (drop-cons fields i d of) ∙ ap (λ (k : ℕ). (get_or fields i d).now ∷ map (λ x. x.now) (drop k fields)) (sym (add-one i));
 }
 
-pub number_read : (limits numbers : List ℕ) (fields : List (Bor (List ℕ))) (i v : ℕ) (d : Bor (List ℕ)) → i < length limits → i < length fields → i < length numbers
-    → number_of (get_or limits i 0) (get_or fields i d).now ≡ Some v
-    → with_front (take (i + 1) (set numbers i v)) (numbers_of (drop (i + 1) limits) (map (λ x. x.now) (drop (i + 1) fields))) ≡ with_front (take i numbers) (numbers_of (drop i limits) (map (λ x. x.now) (drop i fields)))
+pub number_read : (limits numbers : List ℕ) (fields : List (Bor (List ℕ))) (i v : ℕ) (d : Bor (List ℕ)) → i < length limits → i < length fields
+    → i < length numbers
+    → decimal_value (get_or limits i 0) (get_or fields i d).now ≡ Some v
+    → with_front (take (i + 1) (set numbers i v)) (numbers_of (drop (i + 1) limits) (map (λ x. x.now) (drop (i + 1) fields))) ≡ with_front (take i numbers)
+    (numbers_of (drop i limits) (map (λ x. x.now) (drop i fields)))
 number_read limits numbers fields i v d lt of on e =
     let a = at_number limits fields i d lt of in
     let front = take_more_set numbers i v on in
@@ -58,15 +62,17 @@ number_read limits numbers fields i v d lt of on e =
     rw (front, a.limits_left, a.words_left) (sym next)
 
 pub number_not_read : (limits front : List ℕ) (fields : List (Bor (List ℕ))) (i : ℕ) (d : Bor (List ℕ)) → i < length limits → i < length fields
-    → number_of (get_or limits i 0) (get_or fields i d).now ≡ None → with_front front (numbers_of (drop i limits) (map (λ x. x.now) (drop i fields))) ≡ None
+    → decimal_value (get_or limits i 0) (get_or fields i d).now ≡ None → with_front front (numbers_of (drop i limits) (map (λ x. x.now) (drop i fields))) ≡ None
 number_not_read limits front fields i d lt of e = let a = at_number limits fields i d lt of in rw (a.limits_left, a.words_left, e) refl
 
 pub numbers_read : (limits numbers : List ℕ) (fields : List (Bor (List ℕ))) (i : ℕ) → length limits ≤ i → length fields ≤ i → length numbers ≤ i
     → with_front (take i numbers) (numbers_of (drop i limits) (map (λ x. x.now) (drop i fields))) ≡ Some numbers
-numbers_read limits numbers fields i l f n = rw (drop_all i limits l, drop_all i fields f, take_all i numbers n) (ap (λ (t : List ℕ). Some t) (append-nil numbers))
+numbers_read limits numbers fields i l f n = rw (drop_all i limits l, drop_all i fields f, take_all i numbers n)
+    (ap (λ (t : List ℕ). Some t) (append-nil numbers))
 
 -- ---- facts, one by one
 
-pub one_more_fact : (facts : List Fact) (f : Fact) (r : Result ScriptData ℕ) → within (with_facts facts) (within (with_fact f) r) ≡ within (with_facts (facts ++ f ∷ [])) r
+pub one_more_fact : (facts : List Fact) (f : Fact) (r : Result ScriptData ℕ) → within (with_facts facts) (within (with_fact f) r) ≡ within
+    (with_facts (facts ++ f ∷ [])) r
 one_more_fact facts f (Ok s) = ap (λ (t : List Fact). Ok (record s { facts = t })) (sym (append_assoc facts (f ∷ []) s.facts))
 one_more_fact facts f (Err at) = refl

@@ -8,7 +8,7 @@ use Rattle.std.specs.Fmt.{decimal}
 use Rattle.std.proofs.lemmas.Str.Parse.{IsNumeralModel, numerals_by_fold}
 use Rattle.std.proofs.lemmas.Fmt.{decimal-digits_value, digits_decimal, digits_value-decimal, decimal_nonempty, first_decimal, decimal_digit}
 use Rattle.std.proofs.lemmas.Grind.{common_steps}
-use Rattle.script_text.specs.Number.{value_from, digits_of, number_of}
+use Rattle.script_text.specs.Number.{value_from, digits_of, decimal_value}
 use Rattle.redo_core.specs.Shape.{max_number}
 use Rattle.script_text.specs.Laws.{NumbersAreDecimals}
 use Rattle.script_text.proofs.Split.{lacks, lacks_digits}
@@ -44,12 +44,13 @@ pub none_or : (b : Bool) (o : Option ℕ) (n : ℕ) → cond b None o ≡ Some n
 none_or true o n e = absurd cc
 none_or false o n e = (refl, e)
 
-number_from_word : (limit n : ℕ) (word : List ℕ) → limit < 2 ^ 64 → number_of limit word ≡ Some n → (word ≡ decimal n) × (n ≤ limit)
+number_from_word : (limit n : ℕ) (word : List ℕ) → limit < 2 ^ 64 → decimal_value limit word ≡ Some n → (word ≡ decimal n) × (n ≤ limit)
 unfolding digits_of
 number_from_word limit n [] lt e = absurd cc
 number_from_word limit n (d ∷ ds) lt e =
     let word : List ℕ = d ∷ ds in
-    let outer : ((eqb d 48 && ltb 0 (length ds)) ≡ false) × (digits_of limit word ≡ Some n) = none_or (eqb d 48 && ltb 0 (length ds)) (digits_of limit word) n e in
+    let outer : ((eqb d 48 && ltb 0 (length ds)) ≡ false) × (digits_of limit word ≡ Some n) = none_or (eqb d 48 && ltb 0 (length ds))
+    (digits_of limit word) n e in
     let parts = cond_some (all_ascii_digits word && leb (value_from 0 word) limit) (value_from 0 word) n outer.1 in
     let all : all_ascii_digits word ≡ true = grind (arith, nat_tests, parts.0) in
     let lead : d ≡ 48 → length word ≡ 1 = λ z. grind (arith, nat_tests, outer.0, z) in
@@ -68,23 +69,24 @@ lead_of n word small e long z =
       | inr more ↦ let first : 48 < get_or word 0 0 = rw e (first_decimal n more small) in omega arith
     ]
 
-number_of_good : (limit : ℕ) (word : List ℕ) → 0 < length word → (1 < length word → get_or word 0 0 ≡ 48 → ⊥) → number_of limit word ≡ digits_of limit word
-number_of_good limit [] some lead = absurd (omega arith)
-number_of_good limit (d ∷ ds) some lead = grind (arith, nat_tests, lead)
+decimal_value_good : (limit : ℕ) (word : List ℕ) → 0 < length word → (1 < length word → get_or word 0 0 ≡ 48 → ⊥)
+    → decimal_value limit word ≡ digits_of limit word
+decimal_value_good limit [] some lead = absurd (omega arith)
+decimal_value_good limit (d ∷ ds) some lead = grind (arith, nat_tests, lead)
 
-number_from_decimal : (limit n : ℕ) (word : List ℕ) → limit < 2 ^ 64 → word ≡ decimal n → n ≤ limit → number_of limit word ≡ Some n
+number_from_decimal : (limit n : ℕ) (word : List ℕ) → limit < 2 ^ 64 → word ≡ decimal n → n ≤ limit → decimal_value limit word ≡ Some n
 number_from_decimal limit n word lt e le =
     let small : n < 2 ^ 64 = omega arith in
     let all : all_ascii_digits word ≡ true = rw e (digits_decimal model n small) in
     let value : value_from 0 word ≡ n = rw e (digits_value-decimal model n small) in
     let some : 0 < length word = rw e (decimal_nonempty n small) in
-    number_of_good limit word some (lead_of n word small e) ∙ digits_of_good limit word all (omega arith) ∙ ap (λ (m : ℕ). Some m) value
+    decimal_value_good limit word some (lead_of n word small e) ∙ digits_of_good limit word all (omega arith) ∙ ap (λ (m : ℕ). Some m) value
 
 pub numbers_are_decimals : NumbersAreDecimals
 numbers_are_decimals limit n word lt = (number_from_word limit n word lt, λ h. number_from_decimal limit n word lt h.0 h.1)
 
 -- a decimal is read
-pub decimal_is_read : (limit n : ℕ) → limit < 2 ^ 64 → n ≤ limit → number_of limit (decimal n) ≡ Some n
+pub decimal_is_read : (limit n : ℕ) → limit < 2 ^ 64 → n ≤ limit → decimal_value limit (decimal n) ≡ Some n
 decimal_is_read limit n lt le = number_from_decimal limit n (decimal n) lt refl le
 
 -- a decimal has no other byte than digits

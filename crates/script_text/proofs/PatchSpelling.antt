@@ -1,5 +1,5 @@
 -- Patches are read exactly where they are spelled.
-use Rattle.std.proofs.Common.{◌≡◌, ℕ, ◌<◌, ◌≤◌, inl, inr, Bool, true, false, eqb, List, [], ◌∷◌, ◌++◌, length, Option, Some, None, Result, Ok, Err, codes, refl, sym, ap, ◌∙◌, subst, arith}
+use Rattle.std.proofs.Common.{◌≡◌, ℕ, ◌<◌, ◌≤◌, inl, inr, Bool, true, false, eqb, List, [], ◌∷◌, ◌++◌, length, Some, Result, Ok, Err, codes, refl, sym, ap, ◌∙◌, subst, arith}
 use Rattle.std.specs.Prelude.{bytes_eq}
 use Rattle.std.specs.Char.{is_ascii_digit}
 use Rattle.std.specs.Fmt.{decimal}
@@ -11,11 +11,11 @@ use Rattle.hex.proofs.HexLemmas.{decode_of-ok}
 use Rattle.redo_core.specs.Writes.{WriteData}
 use Rattle.redo_core.specs.declared.patches.Patch.{Patch}
 use Rattle.redo_core.specs.declared.patches.Patch.TheVariants.{Bytes, Fill}
-use Rattle.script_text.specs.Number.{number_of}
+use Rattle.script_text.specs.Number.{decimal_value}
 use Rattle.script_text.specs.Parts.{◌>>=◌, parts_at}
 use Rattle.script_text.specs.FactLine.{decoded, write_at, fill_at, patch_at, patch_from, patch_of, each_patch, Contents, contents, contents_from, contents_of}
 use Rattle.script_text.specs.FactText.{behind_init}
-use Rattle.script_text.specs.Spelled.{SpellsBytes, SpellsFill, SpellsPatch, SpellsContents}
+use Rattle.script_text.specs.Spelled.{SpellsPatch, SpellsContents}
 use Rattle.script_text.proofs.Numbers.{numbers_are_decimals, decimal_is_read, lacks_decimal}
 use Rattle.script_text.proofs.Options.{here, some_is, bind_some, either, true_is, no_test}
 use Rattle.script_text.proofs.Split.{lacks, AllLack, parts_joined, joined_parts, lacks_passing, lacks_append, lacks_joined}
@@ -37,18 +37,20 @@ record Halves (text place digits bytes : List ℕ) : Type 0 where
 write_is : (text place digits bytes : List ℕ) (p : Patch) → Halves text place digits bytes → write_at place bytes ≡ Some p → SpellsPatch text p
 write_is text place digits [] p t h = absurd cc
 write_is text place digits (b ∷ bs) p t h =
-    let o = bind_some (number_of 65535 place) (λ n. here (Bytes (write n (b ∷ bs)))) p h in
+    let o = bind_some (decimal_value 65535 place) (λ n. here (Bytes (write n (b ∷ bs)))) p h in
     let n = (numbers_are_decimals 65535 o.0 place (omega arith)).0 o.1 in
     let whole : text ≡ decimal o.0 ++ 58 ∷ digits = t.all ∙ ap (λ (x : List ℕ). x ++ 58 ∷ digits) n.0 in
-    let spelled : SpellsPatch text (Bytes (write o.0 (b ∷ bs))) = record { digits = digits; all = whole; offset = n.1; bytes = t.bytes_are; some = omega arith } in
+    let spelled : SpellsPatch text (Bytes (write o.0 (b ∷ bs))) =
+    record { digits = digits; all = whole; offset = n.1; bytes = t.bytes_are; some = omega arith } in
     subst (SpellsPatch text) (some_is (Bytes (write o.0 (b ∷ bs))) p o.2) spelled
 
-fill_is : (text place offset len digits bytes : List ℕ) (p : Patch) → Halves text place digits bytes → place ≡ offset ++ 42 ∷ len → fill_at offset len bytes ≡ Some p → SpellsPatch text p
+fill_is : (text place offset len digits bytes : List ℕ) (p : Patch) → Halves text place digits bytes → place ≡ offset ++ 42 ∷ len
+    → fill_at offset len bytes ≡ Some p → SpellsPatch text p
 fill_is text place offset len digits [] p t e h = absurd cc
 fill_is text place offset len digits (b ∷ c ∷ bs) p t e h = absurd cc
 fill_is text place offset len digits (b ∷ []) p t e h =
-    let o = bind_some (number_of 65535 offset) (λ n. number_of 4096 len >>= (λ l. here (Fill n l b))) p h in
-    let l = bind_some (number_of 4096 len) (λ l. here (Fill o.0 l b)) p o.2 in
+    let o = bind_some (decimal_value 65535 offset) (λ n. decimal_value 4096 len >>= (λ l. here (Fill n l b))) p h in
+    let l = bind_some (decimal_value 4096 len) (λ l. here (Fill o.0 l b)) p o.2 in
     let n = (numbers_are_decimals 65535 o.0 offset (omega arith)).0 o.1 in
     let m = (numbers_are_decimals 4096 l.0 len (omega arith)).0 l.1 in
     let at : place ≡ decimal o.0 ++ 42 ∷ decimal l.0 = e ∙ ap (λ (x : List ℕ). x ++ 42 ∷ len) n.0 ∙ ap (λ (x : List ℕ). decimal o.0 ++ 42 ∷ x) m.0 in
@@ -56,7 +58,8 @@ fill_is text place offset len digits (b ∷ []) p t e h =
     let spelled : SpellsPatch text (Fill o.0 l.0 b) = record { digits = digits; all = whole; in_offset = n.1; in_len = m.1; bytes = t.bytes_are } in
     subst (SpellsPatch text) (some_is (Fill o.0 l.0 b) p l.2) spelled
 
-patch_at_is : (text place digits bytes : List ℕ) (at : List (List ℕ)) (p : Patch) → Halves text place digits bytes → parts_at 42 place ≡ at → patch_at at bytes ≡ Some p → SpellsPatch text p
+patch_at_is : (text place digits bytes : List ℕ) (at : List (List ℕ)) (p : Patch) → Halves text place digits bytes → parts_at 42 place ≡ at
+    → patch_at at bytes ≡ Some p → SpellsPatch text p
 patch_at_is text place digits bytes [] p t e h = absurd cc
 patch_at_is text place digits bytes (offset ∷ []) p t e h =
     let is : place ≡ offset = parts_joined 42 place (offset ∷ []) e in
@@ -86,15 +89,18 @@ patches_are (t ∷ ts) ps h =
 pub some_parts : (c : ℕ) (text : List ℕ) → 0 < length (parts_at c text)
 some_parts c text = omega (arith, length-slice_split (λ b. eqb b c) text)
 
-from_parts : (text : List ℕ) (parts : List (List ℕ)) (c : Contents) → parts_at 44 text ≡ parts → contents_from parts ≡ Some c → SpellsContents text c.init c.patches
+from_parts : (text : List ℕ) (parts : List (List ℕ)) (c : Contents) → parts_at 44 text ≡ parts → contents_from parts ≡ Some c
+    → SpellsContents text c.init c.patches
 unfolding contents_from
 from_parts text [] c e h = absurd cc
 from_parts text (t ∷ ts) c e h =
     let joined : text ≡ join_with_byte 44 (t ∷ ts) = parts_joined 44 text (t ∷ ts) e in
-    elim (either (bytes_eq t (codes "init")) (each_patch ts >>= (λ ps. here (contents true ps))) (each_patch (t ∷ ts) >>= (λ ps. here (contents false ps))) c h) [
+    elim (either (bytes_eq t (codes "init")) (each_patch ts >>= (λ ps. here (contents true ps)))
+    (each_patch (t ∷ ts) >>= (λ ps. here (contents false ps))) c h) [
       | inl anew ↦
           let ps = bind_some (each_patch ts) (λ ps. here (contents true ps)) c anew.1 in
-          let whole : text ≡ join_with_byte 44 (codes "init" ∷ ts) = joined ∙ ap (λ (w : List ℕ). join_with_byte 44 (w ∷ ts)) (true_is t (codes "init") anew.0) in
+          let whole : text ≡ join_with_byte 44 (codes "init" ∷ ts) = joined ∙ ap (λ (w : List ℕ). join_with_byte 44 (w ∷ ts))
+          (true_is t (codes "init") anew.0) in
           let spelled : SpellsContents text true ps.0 = inr (ts, whole, patches_are ts ps.0 ps.1, omega arith) in
           subst (λ (d : Contents). SpellsContents text d.init d.patches) (some_is (contents true ps.0) c ps.2) spelled
       | inr other ↦
@@ -136,7 +142,8 @@ digits_lack : (c : ℕ) (digits bytes : List ℕ) → decode_of digits ≡ Ok by
 digits_lack c digits bytes e hex = lacks_passing is_hex_digit c digits (decode_of-ok digits bytes e).1 hex
 
 -- what stands in front of the colon of a fill
-place_lacks : (c offset len : ℕ) → offset ≤ 65535 → len ≤ 4096 → is_ascii_digit c ≡ false → eqb 42 c ≡ false → lacks c (decimal offset ++ 42 ∷ decimal len) ≡ true
+place_lacks : (c offset len : ℕ) → offset ≤ 65535 → len ≤ 4096 → is_ascii_digit c ≡ false → eqb 42 c ≡ false
+    → lacks c (decimal offset ++ 42 ∷ decimal len) ≡ true
 place_lacks c offset len lo ll digit asterisk =
     let front = lacks_decimal c offset (omega arith) digit in
     let back = lacks_decimal c len (omega arith) digit in
@@ -174,15 +181,20 @@ unfolding patch_from
 patch_is_read text (Bytes w) s =
     let front = lacks_decimal 58 w.offset (omega (arith, s.offset)) refl in
     let back = digits_lack 58 s.digits w.bytes s.bytes refl in
-    let halves : parts_at 58 text ≡ decimal w.offset ∷ s.digits ∷ [] = ap (parts_at 58) s.all ∙ joined_parts 58 (decimal w.offset) (s.digits ∷ []) (front, (back, tt)) in
-    let place : parts_at 42 (decimal w.offset) ≡ decimal w.offset ∷ [] = joined_parts 42 (decimal w.offset) [] (lacks_decimal 42 w.offset (omega (arith, s.offset)) refl, tt) in
+    let halves : parts_at 58 text ≡ decimal w.offset ∷ s.digits ∷ [] = ap (parts_at 58) s.all ∙ joined_parts 58 (decimal w.offset) (s.digits ∷ [])
+    (front, (back, tt)) in
+    let place : parts_at 42 (decimal w.offset) ≡ decimal w.offset ∷ [] = joined_parts 42 (decimal w.offset) []
+    (lacks_decimal 42 w.offset (omega (arith, s.offset)) refl, tt) in
     ap patch_from halves ∙ rw (s.bytes, place) (write_is_read w.offset w.bytes s.offset s.some)
 patch_is_read text (Fill offset len byte) s =
     let front = place_lacks 58 offset len s.in_offset s.in_len refl refl in
     let back = digits_lack 58 s.digits (byte ∷ []) s.bytes refl in
-    let halves : parts_at 58 text ≡ (decimal offset ++ 42 ∷ decimal len) ∷ s.digits ∷ [] = ap (parts_at 58) s.all ∙ joined_parts 58 (decimal offset ++ 42 ∷ decimal len) (s.digits ∷ []) (front, (back, tt)) in
-    let two : AllLack 42 (decimal offset ∷ decimal len ∷ []) = (lacks_decimal 42 offset (omega (arith, s.in_offset)) refl, (lacks_decimal 42 len (omega (arith, s.in_len)) refl, tt)) in
-    let place : parts_at 42 (decimal offset ++ 42 ∷ decimal len) ≡ decimal offset ∷ decimal len ∷ [] = joined_parts 42 (decimal offset) (decimal len ∷ []) two in
+    let halves : parts_at 58 text ≡ (decimal offset ++ 42 ∷ decimal len) ∷ s.digits ∷ [] = ap (parts_at 58) s.all ∙ joined_parts 58
+    (decimal offset ++ 42 ∷ decimal len) (s.digits ∷ []) (front, (back, tt)) in
+    let two : AllLack 42 (decimal offset ∷ decimal len ∷ []) =
+    (lacks_decimal 42 offset (omega (arith, s.in_offset)) refl, (lacks_decimal 42 len (omega (arith, s.in_len)) refl, tt)) in
+    let place : parts_at 42 (decimal offset ++ 42 ∷ decimal len) ≡ decimal offset ∷ decimal len ∷ [] = joined_parts 42 (decimal offset)
+    (decimal len ∷ []) two in
     let n = decimal_is_read 65535 offset (omega arith) s.in_offset in
     let m = decimal_is_read 4096 len (omega arith) s.in_len in
     ap patch_from halves ∙ rw (s.bytes, place, n, m) refl
@@ -199,13 +211,15 @@ unfolding patch_from
 init_is_no_patch p h = cc
 
 no_init : (text : List ℕ) (p : Patch) → SpellsPatch text p → bytes_eq text (codes "init") ≡ false
-no_init text p s = no_test (bytes_eq text (codes "init")) (λ t. let e : text ≡ codes "init" = true_is text (codes "init") t in init_is_no_patch p (sym (ap patch_of e) ∙ patch_is_read text p s))
+no_init text p s = no_test (bytes_eq text (codes "init"))
+    (λ t. let e : text ≡ codes "init" = true_is text (codes "init") t in init_is_no_patch p (sym (ap patch_of e) ∙ patch_is_read text p s))
 
 -- a text of patches is no dash
 no_dash : (text : List ℕ) → lacks 45 text ≡ true → bytes_eq text (codes "-") ≡ false
 no_dash text h = no_test (bytes_eq text (codes "-")) (λ t. let e : text ≡ codes "-" = true_is text (codes "-") t in absurd (cc (sym h ∙ ap (lacks 45) e)))
 
-from_is_read : (init : Bool) (texts : List (List ℕ)) (ps : List Patch) → AllZip SpellsPatch texts ps → 0 < length (behind_init init texts) → contents_from (behind_init init texts) ≡ Some (contents init ps)
+from_is_read : (init : Bool) (texts : List (List ℕ)) (ps : List Patch) → AllZip SpellsPatch texts ps → 0 < length (behind_init init texts)
+    → contents_from (behind_init init texts) ≡ Some (contents init ps)
 unfolding contents_from
 from_is_read true texts ps h some = rw (each_patch_is_read texts ps h) refl
 from_is_read false [] ps h some = absurd (omega arith)
@@ -216,7 +230,8 @@ pieces_parted : (pieces : List (List ℕ)) → AllLack 44 pieces → 0 < length 
 pieces_parted [] h some = absurd (omega arith)
 pieces_parted (x ∷ xs) h some = joined_parts 44 x xs h
 
-joined_is_read : (init : Bool) (texts : List (List ℕ)) (ps : List Patch) → AllZip SpellsPatch texts ps → 0 < length (behind_init init texts) → contents_of (join_with_byte 44 (behind_init init texts)) ≡ Some (contents init ps)
+joined_is_read : (init : Bool) (texts : List (List ℕ)) (ps : List Patch) → AllZip SpellsPatch texts ps → 0 < length (behind_init init texts)
+    → contents_of (join_with_byte 44 (behind_init init texts)) ≡ Some (contents init ps)
 unfolding contents_of
 joined_is_read init texts ps h some =
     let commas = pieces_parted (behind_init init texts) (pieces_lack 44 init texts ps comma h) some in

@@ -1,28 +1,22 @@
 -- A text with the line of a roster, or without, is read exactly where its lines are spelled.
-use Rattle.std.proofs.Common.{◌≡◌, ℕ, ◌+◌, ◌<◌, ◌≤◌, inl, inr, List, [], ◌∷◌, ◌++◌, length, Option, Some, None, Result, Ok, Err, codes, refl, sym, ap, ◌∙◌, subst, arith}
+use Rattle.std.proofs.Common.{◌≡◌, ℕ, ◌<◌, inl, inr, List, [], ◌∷◌, ◌++◌, length, Some, None, Result, Ok, codes, refl, sym, ap, ◌∙◌, subst, arith}
 use Rattle.std.specs.List.{All, AllByRecursion, AllZip}
-use Rattle.std.specs.Prelude.{IfOk}
-use Rattle.std.specs.Fmt.{decimal}
 use Rattle.std.proofs.lemmas.List.Elements.{All-from_recursion}
 use Rattle.std.proofs.lemmas.Slice.Zip.{AllZip-long}
-use Rattle.redo_core.specs.Roster.{IsRoster}
 use Rattle.redo_core.specs.declared.facts.Fact.{Fact}
 use Rattle.fleet_steps.specs.declared.steps.Step.{Step}
-use Rattle.fleet_steps.specs.declared.steps.Step.TheVariants.{Take, Fold, Discard, Front, Read}
+use Rattle.fleet_steps.specs.declared.steps.Step.TheVariants.{Take, Fold, Discard, Front, Read, Join, Same, Covers, Wipe}
 use Rattle.script_text.specs.Parts.{parts_at}
 use Rattle.script_text.specs.FactLine.{fact_line, fact_of}
 use Rattle.script_text.specs.StepLine.{IsInRange}
-use Rattle.script_text.specs.Script.{ScriptData, Rostered, rostered, within, roster_of, lines_from, script_from, Opening, opening, opening_by, opening_of, below, opened, script_of}
-use Rattle.script_text.specs.declared.script.Script.{Script}
-use Rattle.script_text.specs.declared.script.ScriptError.{ScriptError}
-use Rattle.script_text.specs.Outcome.{Gives, script_data}
+use Rattle.script_text.specs.Script.{ScriptData, Rostered, rostered, within, roster_of, lines_from, script_from, Opening, opening, opening_by, opening_of, below, opened}
 use Rattle.script_text.specs.Laws.{ScriptsAreSpelled, LogsAreSpelled}
-use Rattle.script_text.specs.Spelled.{worded, SpellsFact, SpellsStep, SpellsRoster, IsRostered, AreFacts, AsksSteps, IsScript}
+use Rattle.script_text.specs.Spelled.{worded, SpellsFact, SpellsStep, SpellsRoster, IsRostered, AreFacts, AsksSteps}
 use Rattle.script_text.proofs.FactSpelling.{fact_lines_are_spelled}
-use Rattle.script_text.proofs.Forms.{FormFields, form_fields}
+use Rattle.script_text.proofs.Forms.{form_fields}
 use Rattle.script_text.proofs.PatchSpelling.{some_parts}
-use Rattle.script_text.proofs.Results.{end, good_is, found, within_ok, ended}
-use Rattle.script_text.proofs.Scripts.{joined, Counts, count_is_spelled, count_is_read, facts_are_read, facts_are_spelled, steps_are_read, steps_are_spelled}
+use Rattle.script_text.proofs.Results.{end, found, within_ok, ended}
+use Rattle.script_text.proofs.Scripts.{Counts, count_is_spelled, count_is_read, facts_are_read, facts_are_spelled, steps_are_read, steps_are_spelled}
 
 -- ---- the line of a roster
 
@@ -61,7 +55,8 @@ nothing_is_no_roster = refl
 
 -- A reader that reads just the lines with Is, whatever number the first has, and no line of a roster among them in front.
 pub record Reader {A : Type 0} (Is : List (List ℕ) → A → Type 0) (read : ℕ → List (List ℕ) → Result A ℕ) : Type 0 where
-  pub spelled : (at : ℕ) (parts : List (List ℕ)) (x : A) → 0 < length parts → read at parts ≡ Ok x → (lines : List (List ℕ)) × (parts ≡ lines ++ end) × Is lines x
+  pub spelled : (at : ℕ) (parts : List (List ℕ)) (x : A) → 0 < length parts → read at parts ≡ Ok x → (lines : List (List ℕ)) × (parts ≡ lines ++ end)
+      × Is lines x
   pub is_read : (at : ℕ) (lines : List (List ℕ)) (x : A) → Is lines x → read at (lines ++ end) ≡ Ok x
   pub quiet : (line : List ℕ) (lines : List (List ℕ)) (x : A) → Is (line ∷ lines) x → roster_of line ≡ None
 
@@ -72,7 +67,8 @@ facts_quiet line lines (f ∷ fs) h = fact_is_no_roster line f (h.0).0
 first_same : (x y : List ℕ) (xs ys : List (List ℕ)) → x ∷ xs ≡ y ∷ ys → x ≡ y
 first_same x y xs ys h = cc
 
-steps_quiet_at : (line : List ℕ) (lines facts others : List (List ℕ)) (fs : List Fact) → line ∷ lines ≡ facts ++ (codes "go" ∷ others) → AllZip SpellsFact facts fs → roster_of line ≡ None
+steps_quiet_at : (line : List ℕ) (lines facts others : List (List ℕ)) (fs : List Fact) → line ∷ lines ≡ facts ++ (codes "go" ∷ others)
+    → AllZip SpellsFact facts fs → roster_of line ≡ None
 steps_quiet_at line lines [] others fs e h = ap roster_of (first_same line (codes "go") lines others e) ∙ go_is_no_roster
 steps_quiet_at line lines (x ∷ xs) others [] e h = absurd h
 steps_quiet_at line lines (x ∷ xs) others (f ∷ fs) e h = ap roster_of (first_same line x lines (xs ++ (codes "go" ∷ others)) e) ∙ fact_is_no_roster x f h.0
@@ -87,12 +83,14 @@ pub steps_reader : Reader AsksSteps (script_from 0)
 steps_reader = record { spelled = steps_are_spelled; is_read = steps_are_read; quiet = steps_quiet }
 
 -- what a reader reads begins with no line of a roster
-begins_quiet_at : {A : Type 0} (Is : List (List ℕ) → A → Type 0) (line : List ℕ) (rest lines : List (List ℕ)) (x : A) → ((l : List ℕ) (ls : List (List ℕ)) (y : A) → Is (l ∷ ls) y → roster_of l ≡ None)
+begins_quiet_at : {A : Type 0} (Is : List (List ℕ) → A → Type 0) (line : List ℕ) (rest lines : List (List ℕ)) (x : A)
+    → ((l : List ℕ) (ls : List (List ℕ)) (y : A) → Is (l ∷ ls) y → roster_of l ≡ None)
     → line ∷ rest ≡ lines ++ end → Is lines x → roster_of line ≡ None
 begins_quiet_at Is line rest [] x quiet e h = ap roster_of (first_same line [] rest [] e) ∙ nothing_is_no_roster
 begins_quiet_at Is line rest (l ∷ ls) x quiet e h = ap roster_of (first_same line l rest (ls ++ end) e) ∙ quiet l ls x h
 
-pub begins_quiet : {A : Type 0} (Is : List (List ℕ) → A → Type 0) (read : ℕ → List (List ℕ) → Result A ℕ) → Reader Is read → (at : ℕ) (line : List ℕ) (rest : List (List ℕ)) (x : A)
+pub begins_quiet : {A : Type 0} (Is : List (List ℕ) → A → Type 0) (read : ℕ → List (List ℕ) → Result A ℕ) → Reader Is read
+    → (at : ℕ) (line : List ℕ) (rest : List (List ℕ)) (x : A)
     → read at (line ∷ rest) ≡ Ok x → roster_of line ≡ None
 begins_quiet Is read r at line rest x h =
     let s = r.spelled at (line ∷ rest) x (omega arith) h in
@@ -105,7 +103,8 @@ unfolding opening_of
 opening_plain line [] e = refl
 opening_plain line (next ∷ rest) e = ap opening_by e
 
-pub opening_named : (line : List ℕ) (rest : List (List ℕ)) (roster : ℕ) → 0 < length rest → roster_of line ≡ Some roster → opening_of (line ∷ rest) ≡ opening roster 1
+pub opening_named : (line : List ℕ) (rest : List (List ℕ)) (roster : ℕ) → 0 < length rest → roster_of line ≡ Some roster
+    → opening_of (line ∷ rest) ≡ opening roster 1
 unfolding opening_of
 opening_named line [] roster some e = absurd (omega arith)
 opening_named line (next ∷ rest) roster some e = ap opening_by e
@@ -114,10 +113,12 @@ opening_last : (last : List ℕ) → opening_of (last ∷ []) ≡ opening 1 0
 unfolding opening_of
 opening_last last = refl
 
-pub opened_plain : {A : Type 0} (read : ℕ → List (List ℕ) → Result A ℕ) (line : List ℕ) (rest : List (List ℕ)) → roster_of line ≡ None → opened read (line ∷ rest) ≡ within (rostered 1) (read 1 (line ∷ rest))
+pub opened_plain : {A : Type 0} (read : ℕ → List (List ℕ) → Result A ℕ) (line : List ℕ) (rest : List (List ℕ)) → roster_of line ≡ None
+    → opened read (line ∷ rest) ≡ within (rostered 1) (read 1 (line ∷ rest))
 opened_plain read line rest e = ap (λ (o : Opening). below read o (line ∷ rest)) (opening_plain line rest e)
 
-pub opened_named : {A : Type 0} (read : ℕ → List (List ℕ) → Result A ℕ) (line : List ℕ) (rest : List (List ℕ)) (roster : ℕ) → 0 < length rest → roster_of line ≡ Some roster
+pub opened_named : {A : Type 0} (read : ℕ → List (List ℕ) → Result A ℕ) (line : List ℕ) (rest : List (List ℕ)) (roster : ℕ) → 0 < length rest
+    → roster_of line ≡ Some roster
     → opened read (line ∷ rest) ≡ within (rostered roster) (read 2 rest)
 opened_named read line rest roster some e = ap (λ (o : Opening). below read o (line ∷ rest)) (opening_named line rest roster some e)
 
@@ -125,13 +126,15 @@ pub opened_last : {A : Type 0} (read : ℕ → List (List ℕ) → Result A ℕ)
 opened_last read last = ap (λ (o : Opening). below read o (last ∷ [])) (opening_last last)
 
 -- what a reader reads is read with no line of a roster
-pub opened_read : {A : Type 0} (Is : List (List ℕ) → A → Type 0) (read : ℕ → List (List ℕ) → Result A ℕ) → Reader Is read → (parts : List (List ℕ)) (x : A) → 0 < length parts → read 1 parts ≡ Ok x → opened read parts ≡ Ok (rostered 1 x)
+pub opened_read : {A : Type 0} (Is : List (List ℕ) → A → Type 0) (read : ℕ → List (List ℕ) → Result A ℕ) → Reader Is read → (parts : List (List ℕ)) (x : A)
+    → 0 < length parts → read 1 parts ≡ Ok x → opened read parts ≡ Ok (rostered 1 x)
 opened_read Is read r [] x some h = absurd (omega arith)
 opened_read Is read r (line ∷ rest) x some h = opened_plain read line rest (begins_quiet Is read r 1 line rest x h) ∙ ap (within (rostered 1)) h
 
 -- ---- what is read is spelled
 
-plain_spelled : {A : Type 0} (Is : List (List ℕ) → A → Type 0) (read : ℕ → List (List ℕ) → Result A ℕ) → Reader Is read → (parts : List (List ℕ)) (y : Rostered A) → 0 < length parts → within (rostered 1) (read 1 parts) ≡ Ok y
+plain_spelled : {A : Type 0} (Is : List (List ℕ) → A → Type 0) (read : ℕ → List (List ℕ) → Result A ℕ) → Reader Is read
+    → (parts : List (List ℕ)) (y : Rostered A) → 0 < length parts → within (rostered 1) (read 1 parts) ≡ Ok y
     → (lines : List (List ℕ)) × (parts ≡ lines ++ end) × IsRostered Is lines y
 plain_spelled Is read r parts y some h =
     let o = within_ok (rostered 1) (read 1 parts) y h in
@@ -139,8 +142,10 @@ plain_spelled Is read r parts y some h =
     let is : IsRostered Is s.0 (rostered 1 o.0) = record { first = []; others = s.0; all = refl; named = inl (refl, refl); said = s.2 } in
     (s.0, s.1, subst (IsRostered Is s.0) (sym o.2) is)
 
-named_spelled : {A : Type 0} (Is : List (List ℕ) → A → Type 0) (read : ℕ → List (List ℕ) → Result A ℕ) → Reader Is read → (line : List ℕ) (rest : List (List ℕ)) (roster : ℕ) (y : Rostered A) → 0 < length rest
-    → roster_of line ≡ Some roster → within (rostered roster) (read 2 rest) ≡ Ok y → (lines : List (List ℕ)) × (line ∷ rest ≡ lines ++ end) × IsRostered Is lines y
+named_spelled : {A : Type 0} (Is : List (List ℕ) → A → Type 0) (read : ℕ → List (List ℕ) → Result A ℕ) → Reader Is read → (line : List ℕ) (rest : List (List ℕ))
+    (roster : ℕ) (y : Rostered A) → 0 < length rest
+    → roster_of line ≡ Some roster → within (rostered roster) (read 2 rest) ≡ Ok y → (lines : List (List ℕ)) × (line ∷ rest ≡ lines ++ end)
+    × IsRostered Is lines y
 named_spelled Is read r line rest roster y some e h =
     let o = within_ok (rostered roster) (read 2 rest) y h in
     let s = r.spelled 2 rest o.0 some o.1 in
@@ -149,19 +154,22 @@ named_spelled Is read r line rest roster y some e h =
     let is : IsRostered Is (line ∷ s.0) (rostered roster o.0) = record { first = line ∷ []; others = s.0; all = refl; named = named; said = s.2 } in
     (line ∷ s.0, ap (λ (t : List (List ℕ)). line ∷ t) s.1, subst (IsRostered Is (line ∷ s.0)) (sym o.2) is)
 
-pub rostered_is_spelled : {A : Type 0} (Is : List (List ℕ) → A → Type 0) (read : ℕ → List (List ℕ) → Result A ℕ) → Reader Is read → (parts : List (List ℕ)) (y : Rostered A) → 0 < length parts → opened read parts ≡ Ok y
+pub rostered_is_spelled : {A : Type 0} (Is : List (List ℕ) → A → Type 0) (read : ℕ → List (List ℕ) → Result A ℕ) → Reader Is read
+    → (parts : List (List ℕ)) (y : Rostered A) → 0 < length parts → opened read parts ≡ Ok y
     → (lines : List (List ℕ)) × (parts ≡ lines ++ end) × IsRostered Is lines y
 rostered_is_spelled Is read r [] y some h = absurd (omega arith)
 rostered_is_spelled Is read r (last ∷ []) y some h = plain_spelled Is read r (last ∷ []) y some (sym (opened_last read last) ∙ h)
 rostered_is_spelled Is read r (line ∷ next ∷ rest) y some h =
     elim (found (roster_of line)) [
       | inl none ↦ plain_spelled Is read r (line ∷ next ∷ rest) y some (sym (opened_plain read line (next ∷ rest) none) ∙ h)
-      | inr one ↦ named_spelled Is read r line (next ∷ rest) one.0 y (omega arith) one.1 (sym (opened_named read line (next ∷ rest) one.0 (omega arith) one.1) ∙ h)
+      | inr one ↦ named_spelled Is read r line (next ∷ rest) one.0 y (omega arith) one.1
+          (sym (opened_named read line (next ∷ rest) one.0 (omega arith) one.1) ∙ h)
     ]
 
 -- ---- what is spelled is read
 
-rostered_read_at : {A : Type 0} (Is : List (List ℕ) → A → Type 0) (read : ℕ → List (List ℕ) → Result A ℕ) → Reader Is read → (first others : List (List ℕ)) (roster : ℕ) (x : A) → SpellsRoster first roster → Is others x
+rostered_read_at : {A : Type 0} (Is : List (List ℕ) → A → Type 0) (read : ℕ → List (List ℕ) → Result A ℕ) → Reader Is read
+    → (first others : List (List ℕ)) (roster : ℕ) (x : A) → SpellsRoster first roster → Is others x
     → opened read ((first ++ others) ++ end) ≡ Ok (rostered roster x)
 rostered_read_at {A} Is read r first others roster x (inl none) h =
     let said = opened_read Is read r (others ++ end) x (ended others) (r.is_read 1 others x h) in
@@ -174,8 +182,10 @@ rostered_read_at Is read r first others roster x (inr one) h =
     let named = roster_is_read line roster (refl, (one.1).0, (one.1).1) in
     ap (opened read) parts ∙ opened_named read line (others ++ end) roster (ended others) named ∙ ap (within (rostered roster)) (r.is_read 2 others x h)
 
-pub rostered_is_read : {A : Type 0} (Is : List (List ℕ) → A → Type 0) (read : ℕ → List (List ℕ) → Result A ℕ) → Reader Is read → (lines : List (List ℕ)) (y : Rostered A) → IsRostered Is lines y → opened read (lines ++ end) ≡ Ok y
-rostered_is_read Is read r lines y i = ap (λ (t : List (List ℕ)). opened read (t ++ end)) i.all ∙ rostered_read_at Is read r i.first i.others y.roster y.said i.named i.said
+pub rostered_is_read : {A : Type 0} (Is : List (List ℕ) → A → Type 0) (read : ℕ → List (List ℕ) → Result A ℕ) → Reader Is read
+    → (lines : List (List ℕ)) (y : Rostered A) → IsRostered Is lines y → opened read (lines ++ end) ≡ Ok y
+rostered_is_read Is read r lines y i = ap (λ (t : List (List ℕ)). opened read (t ++ end)) i.all
+    ∙ rostered_read_at Is read r i.first i.others y.roster y.said i.named i.said
 
 -- ---- texts
 
@@ -199,6 +209,10 @@ step_in_range facts line (Fold node page) h = (tt, tt)
 step_in_range facts line (Discard node) h = (tt, tt)
 step_in_range facts line (Front node) h = (tt, tt)
 step_in_range facts line (Read node page point offset len) h = (tt, h.2)
+step_in_range facts line (Join node from) h = (tt, tt)
+step_in_range facts line (Same node other) h = (tt, tt)
+step_in_range facts line (Covers node other) h = (tt, tt)
+step_in_range facts line (Wipe node) h = (tt, tt)
 
 all_in_range : (facts : ℕ) (lines : List (List ℕ)) (steps : List (Step ℕ)) → AllZip (SpellsStep facts) lines steps → AllByRecursion (IsInRange facts) steps
 all_in_range facts [] [] h = tt
@@ -212,4 +226,5 @@ asked_in_range at [] s h = absurd cc
 asked_in_range at (line ∷ rest) s h =
     let i : AsksSteps (steps_are_spelled at (line ∷ rest) s (omega arith) h).0 s = (steps_are_spelled at (line ∷ rest) s (omega arith) h).2 in
     let as_many : length i.facts ≡ length s.facts = sym (AllZip-long SpellsFact i.facts s.facts i.said) in
-    subst (λ (n : ℕ). All (IsInRange n) s.steps) as_many (All-from_recursion (IsInRange (length i.facts)) s.steps (all_in_range (length i.facts) i.steps s.steps i.asked))
+    subst (λ (n : ℕ). All (IsInRange n) s.steps) as_many
+    (All-from_recursion (IsInRange (length i.facts)) s.steps (all_in_range (length i.facts) i.steps s.steps i.asked))

@@ -1,7 +1,7 @@
 -- Logs and scripts below the roster are read exactly where their lines are spelled.
-use Rattle.std.proofs.Common.{◌≡◌, ℕ, ◌+◌, ◌<◌, ◌≤◌, inl, inr, Bool, true, false, cond, eqb, leb, List, [], ◌∷◌, ◌++◌, length, Option, Some, None, Result, Ok, Err, codes, refl, sym, ap, ◌∙◌, subst, arith, append_assoc, length-append}
+use Rattle.std.proofs.Common.{◌≡◌, ℕ, ◌+◌, ◌<◌, ◌≤◌, inl, inr, true, false, cond, eqb, leb, List, [], ◌∷◌, ◌++◌, length, Option, Some, Result, Ok, Err, codes, refl, sym, ap, ◌∙◌, subst, arith, append_assoc, length-append}
 use Rattle.std.specs.Prelude.{bytes_eq}
-use Rattle.std.specs.List.{AllByRecursion, AllZip}
+use Rattle.std.specs.List.{AllZip}
 use Rattle.std.proofs.lemmas.Bool.Decides.{nat_tests}
 use Rattle.redo_core.specs.Shape.{max_number}
 use Rattle.redo_core.specs.declared.facts.Fact.{Fact}
@@ -11,9 +11,9 @@ use Rattle.script_text.specs.Fields.{Form, form, of_one, read_by}
 use Rattle.script_text.specs.FactLine.{fact_line, fact_of}
 use Rattle.script_text.specs.StepLine.{step_of}
 use Rattle.script_text.specs.Script.{ScriptData, most, most_nodes, positive, nodes_of, or_bad, within, asking, with_fact, lines_from, nodes_from, script_from}
-use Rattle.script_text.specs.Spelled.{worded, SpellsForm, SpellsFact, SpellsStep, AreFacts, AsksSteps}
+use Rattle.script_text.specs.Spelled.{worded, SpellsFact, SpellsStep, AreFacts, AsksSteps}
 use Rattle.script_text.proofs.FactSpelling.{fact_lines_are_spelled}
-use Rattle.script_text.proofs.Forms.{AreWithin, Reads, FormFields, one_is, form_fields, read_has}
+use Rattle.script_text.proofs.Forms.{AreWithin, Reads, one_is, form_fields, read_has}
 use Rattle.script_text.proofs.Options.{here, some_is, tested, true_is, no_test}
 use Rattle.script_text.proofs.Results.{end, good_is, not_good, past, one_of, or_bad_ok, within_ok, some_left, room, room_is, ended}
 use Rattle.script_text.proofs.Split.{lacks}
@@ -49,10 +49,13 @@ count_reads word limit small = record {
       subst (Counts word limit line) value (whole, one, limited.0);
 }
 
-pub count_is_spelled : (word line : List ℕ) (limit n : ℕ) → limit ≤ max_number → read_by (counting word limit ∷ []) (parts_at 32 line) ≡ Some n → Counts word limit line n
-count_is_spelled word line limit n small h = read_has (Counts word limit) (counting word limit ∷ []) line (parts_at 32 line) n (count_reads word limit small, tt) refl h
+pub count_is_spelled : (word line : List ℕ) (limit n : ℕ) → limit ≤ max_number → read_by (counting word limit ∷ []) (parts_at 32 line) ≡ Some n
+    → Counts word limit line n
+count_is_spelled word line limit n small h = read_has (Counts word limit) (counting word limit ∷ []) line (parts_at 32 line) n
+    (count_reads word limit small, tt) refl h
 
-pub count_is_read : (word line : List ℕ) (limit n : ℕ) → limit ≤ max_number → bytes_eq word word ≡ true → lacks 32 word ≡ true → Counts word limit line n → read_by (counting word limit ∷ []) (parts_at 32 line) ≡ Some n
+pub count_is_read : (word line : List ℕ) (limit n : ℕ) → limit ≤ max_number → bytes_eq word word ≡ true → lacks 32 word ≡ true → Counts word limit line n
+    → read_by (counting word limit ∷ []) (parts_at 32 line) ≡ Some n
 count_is_read word line limit n small same space c =
     let f = form_fields line word (limit ∷ []) (n ∷ []) (small, tt) (record { all = c.0; limited = (c.2, tt) }) space in
     let more : eqb n 0 ≡ false = grind (arith, nat_tests, c.1) in
@@ -76,7 +79,8 @@ last_ok [] at ys h = (refl, sym (good_is [] ys h))
 last_ok (b ∷ bs) at ys h = absurd (not_good at ys (rw (some_left (length (b ∷ bs)) (omega arith)) at h))
 
 -- the next line was read
-pub lines_next : {A : Type 0} (said : List ℕ → Option A) (count at : ℕ) (x : List ℕ) (rest : List (List ℕ)) (a : A) → 0 < length rest → count < most → said x ≡ Some a
+pub lines_next : {A : Type 0} (said : List ℕ → Option A) (count at : ℕ) (x : List ℕ) (rest : List (List ℕ)) (a : A) → 0 < length rest → count < most
+    → said x ≡ Some a
     → lines_from said count at (x ∷ rest) ≡ within (λ xs. a ∷ xs) (lines_from said (count + 1) (at + 1) rest)
 lines_next said count at x rest a some lt e = rw (some_left (length rest) some, room most count lt, e) refl
 
@@ -87,7 +91,8 @@ record Said {A : Type 0} (said : List ℕ → Option A) (count : ℕ) (parts : L
   each : AllZip (λ l x. said l ≡ Some x) lines xs
   few : count + length lines ≤ most
 
-lines_said : {A : Type 0} (said : List ℕ → Option A) (count at : ℕ) (parts : List (List ℕ)) (xs : List A) → 0 < length parts → count ≤ most → lines_from said count at parts ≡ Ok xs → Said said count parts xs
+lines_said : {A : Type 0} (said : List ℕ → Option A) (count at : ℕ) (parts : List (List ℕ)) (xs : List A) → 0 < length parts → count ≤ most
+    → lines_from said count at parts ≡ Ok xs → Said said count parts xs
 lines_said said count at [] xs some le h = absurd (omega arith)
 lines_said {A} said count at (x ∷ []) xs some le h =
     let e = last_ok x at xs h in
@@ -100,10 +105,12 @@ lines_said {A} said count at (x ∷ y ∷ more) xs some le h =
     let rest = within_ok (λ ys. one.0 ∷ ys) (lines_from said (count + 1) (at + 1) (y ∷ more)) xs one.2 in
     let lt : count < most = room_is most count tried.0 in
     let others = lines_said said (count + 1) (at + 1) (y ∷ more) rest.0 (omega arith) (omega arith) rest.1 in
-    let each : AllZip (λ l a. said l ≡ Some a) (x ∷ others.lines) xs = subst (AllZip (λ l a. said l ≡ Some a) (x ∷ others.lines)) (sym rest.2) (one.1, others.each) in
+    let each : AllZip (λ l a. said l ≡ Some a) (x ∷ others.lines) xs = subst (AllZip (λ l a. said l ≡ Some a) (x ∷ others.lines)) (sym rest.2)
+    (one.1, others.each) in
     record { lines = x ∷ others.lines; all = ap (λ (t : List (List ℕ)). x ∷ t) others.all; each = each; few = omega (arith, others.few) }
 
-lines_read : {A : Type 0} (said : List ℕ → Option A) (count at : ℕ) (lines : List (List ℕ)) (xs : List A) → AllZip (λ l x. said l ≡ Some x) lines xs → count + length lines ≤ most → lines_from said count at (lines ++ end) ≡ Ok xs
+lines_read : {A : Type 0} (said : List ℕ → Option A) (count at : ℕ) (lines : List (List ℕ)) (xs : List A) → AllZip (λ l x. said l ≡ Some x) lines xs
+    → count + length lines ≤ most → lines_from said count at (lines ++ end) ≡ Ok xs
 lines_read said count at [] [] h le = refl
 lines_read said count at [] (x ∷ xs) h le = absurd h
 lines_read said count at (l ∷ ls) [] h le = absurd h
@@ -118,7 +125,8 @@ facts_are_read at lines facts h =
     let each = AllZip-with SpellsFact (λ l f. fact_of l ≡ Some f) lines facts (λ l f. (fact_lines_are_spelled l f).1) h.0 in
     lines_read fact_of 0 at lines facts each (omega (arith, h.1))
 
-pub facts_are_spelled : (at : ℕ) (parts : List (List ℕ)) (facts : List Fact) → 0 < length parts → lines_from fact_of 0 at parts ≡ Ok facts → (lines : List (List ℕ)) × (parts ≡ lines ++ end) × AreFacts lines facts
+pub facts_are_spelled : (at : ℕ) (parts : List (List ℕ)) (facts : List Fact) → 0 < length parts → lines_from fact_of 0 at parts ≡ Ok facts
+    → (lines : List (List ℕ)) × (parts ≡ lines ++ end) × AreFacts lines facts
 facts_are_spelled at parts facts some h =
     let s = lines_said fact_of 0 at parts facts some (omega arith) h in
     (s.lines, s.all, (AllZip-with (λ l f. fact_of l ≡ Some f) SpellsFact s.lines facts (λ l f. (fact_lines_are_spelled l f).0) s.each, omega (arith, s.few)))
@@ -143,11 +151,21 @@ nodes_said facts at (x ∷ y ∷ more) s h =
     let steps = within_ok (asking one.0) (lines_from (step_of facts) 0 (at + 1) (y ∷ more)) s one.2 in
     let rest = lines_said (step_of facts) 0 (at + 1) (y ∷ more) steps.0 (omega arith) (omega arith) steps.1 in
     let named : SpellsNodes x s.nodes = subst (λ (t : ScriptData). SpellsNodes x t.nodes) (sym steps.2) (nodes_are_spelled x one.0 one.1) in
-    let each : AllZip (λ l a. step_of facts l ≡ Some a) rest.lines s.steps = subst (λ (t : ScriptData). AllZip (λ l a. step_of facts l ≡ Some a) rest.lines t.steps) (sym steps.2) rest.each in
+    let each : AllZip (λ l a. step_of facts l ≡ Some a) rest.lines s.steps = subst
+    (λ (t : ScriptData). AllZip (λ l a. step_of facts l ≡ Some a) rest.lines t.steps) (sym steps.2) rest.each in
     let none : s.facts ≡ [] = ap (λ (t : ScriptData). t.facts) steps.2 in
-    record { nodes = x; lines = rest.lines; all = ap (λ (t : List (List ℕ)). x ∷ t) rest.all; named = named; each = each; none = none; few = omega (arith, rest.few) }
+    record {
+      nodes = x;
+      lines = rest.lines;
+      all = ap (λ (t : List (List ℕ)). x ∷ t) rest.all;
+      named = named;
+      each = each;
+      none = none;
+      few = omega (arith, rest.few);
+    }
 
-nodes_read : (facts at nodes : ℕ) (line : List ℕ) (lines : List (List ℕ)) (steps : List (Step ℕ)) → SpellsNodes line nodes → AllZip (λ l a. step_of facts l ≡ Some a) lines steps → length lines ≤ most
+nodes_read : (facts at nodes : ℕ) (line : List ℕ) (lines : List (List ℕ)) (steps : List (Step ℕ)) → SpellsNodes line nodes
+    → AllZip (λ l a. step_of facts l ≡ Some a) lines steps → length lines ≤ most
     → nodes_from facts at (line ∷ (lines ++ end)) ≡ Ok (asking nodes steps)
 nodes_read facts at nodes line lines steps n h le =
     let rest = lines_read (step_of facts) 0 (at + 1) lines steps h (omega arith) in
@@ -168,7 +186,8 @@ script_go : (count at : ℕ) (rest : List (List ℕ)) → 0 < length rest → sc
 script_go count at rest some = rw (some_left (length rest) some) refl
 
 -- the next line was read as a fact
-pub script_next : (count at : ℕ) (x : List ℕ) (rest : List (List ℕ)) (f : Fact) → 0 < length rest → count < most → fact_of x ≡ Some f → script_from count at (x ∷ rest) ≡ within (with_fact f) (script_from (count + 1) (at + 1) rest)
+pub script_next : (count at : ℕ) (x : List ℕ) (rest : List (List ℕ)) (f : Fact) → 0 < length rest → count < most → fact_of x ≡ Some f
+    → script_from count at (x ∷ rest) ≡ within (with_fact f) (script_from (count + 1) (at + 1) rest)
 script_next count at x rest f some lt e = rw (some_left (length rest) some, fact_is_not_go x f e, room most count lt, e) refl
 
 -- what the lines from some fact on say
@@ -183,20 +202,35 @@ record Whole (count : ℕ) (parts : List (List ℕ)) (s : ScriptData) : Type 0 w
   few_facts : count + length facts ≤ most
   few_steps : length steps ≤ most
 
-whole_go : (count at : ℕ) (x : List ℕ) (rest : List (List ℕ)) (s : ScriptData) → count ≤ most → bytes_eq x (codes "go") ≡ true → nodes_from count (at + 1) rest ≡ Ok s → Whole count (x ∷ rest) s
+whole_go : (count at : ℕ) (x : List ℕ) (rest : List (List ℕ)) (s : ScriptData) → count ≤ most → bytes_eq x (codes "go") ≡ true
+    → nodes_from count (at + 1) rest ≡ Ok s → Whole count (x ∷ rest) s
 whole_go count at x rest s le go was =
     let tail = nodes_said count (at + 1) rest s was in
     let e : x ≡ codes "go" = true_is x (codes "go") go in
     let n : count ≡ count + 0 = omega arith in
     let said : AllZip (λ l f. fact_of l ≡ Some f) [] s.facts = subst (AllZip (λ l f. fact_of l ≡ Some f) []) (sym tail.none) tt in
-    let asked : AllZip (λ l a. step_of (count + 0) l ≡ Some a) tail.lines s.steps = subst (λ (k : ℕ). AllZip (λ l a. step_of k l ≡ Some a) tail.lines s.steps) n tail.each in
-    record { facts = []; nodes = tail.nodes; steps = tail.lines; all = joined x (codes "go") rest _ e tail.all; named = tail.named; said = said; asked = asked; few_facts = omega arith; few_steps = tail.few }
+    let asked : AllZip (λ l a. step_of (count + 0) l ≡ Some a) tail.lines s.steps = subst
+    (λ (k : ℕ). AllZip (λ l a. step_of k l ≡ Some a) tail.lines s.steps) n tail.each in
+    record {
+      facts = [];
+      nodes = tail.nodes;
+      steps = tail.lines;
+      all = joined x (codes "go") rest _ e tail.all;
+      named = tail.named;
+      said = said;
+      asked = asked;
+      few_facts = omega arith;
+      few_steps = tail.few;
+    }
 
-whole_more : (count : ℕ) (x : List ℕ) (rest : List (List ℕ)) (f : Fact) (others s : ScriptData) → fact_of x ≡ Some f → s ≡ with_fact f others → Whole (count + 1) rest others → Whole count (x ∷ rest) s
+whole_more : (count : ℕ) (x : List ℕ) (rest : List (List ℕ)) (f : Fact) (others s : ScriptData) → fact_of x ≡ Some f → s ≡ with_fact f others
+    → Whole (count + 1) rest others → Whole count (x ∷ rest) s
 whole_more count x rest f others s one e w =
     let n : count + 1 + length w.facts ≡ count + length (x ∷ w.facts) = omega arith in
-    let said : AllZip (λ l a. fact_of l ≡ Some a) (x ∷ w.facts) s.facts = subst (λ (t : ScriptData). AllZip (λ l a. fact_of l ≡ Some a) (x ∷ w.facts) t.facts) (sym e) (one, w.said) in
-    let moved : AllZip (λ l a. step_of (count + length (x ∷ w.facts)) l ≡ Some a) w.steps others.steps = subst (λ (k : ℕ). AllZip (λ l a. step_of k l ≡ Some a) w.steps others.steps) n w.asked in
+    let said : AllZip (λ l a. fact_of l ≡ Some a) (x ∷ w.facts) s.facts = subst (λ (t : ScriptData). AllZip (λ l a. fact_of l ≡ Some a) (x ∷ w.facts) t.facts)
+    (sym e) (one, w.said) in
+    let moved : AllZip (λ l a. step_of (count + length (x ∷ w.facts)) l ≡ Some a) w.steps others.steps = subst
+    (λ (k : ℕ). AllZip (λ l a. step_of k l ≡ Some a) w.steps others.steps) n w.asked in
     let asked : AllZip (λ l a. step_of (count + length (x ∷ w.facts)) l ≡ Some a) w.steps s.steps =
     subst (λ (t : ScriptData). AllZip (λ l a. step_of (count + length (x ∷ w.facts)) l ≡ Some a) w.steps t.steps) (sym e) moved in
     let named : SpellsNodes w.nodes s.nodes = subst (λ (t : ScriptData). SpellsNodes w.nodes t.nodes) (sym e) w.named in
@@ -228,21 +262,39 @@ whole_said count at (x ∷ y ∷ more) s le h =
           whole_more count x (y ∷ more) one.0 others.0 s one.1 others.2 (whole_said (count + 1) (at + 1) (y ∷ more) others.0 (omega arith) others.1)
     ]
 
-pub steps_are_spelled : (at : ℕ) (parts : List (List ℕ)) (s : ScriptData) → 0 < length parts → script_from 0 at parts ≡ Ok s → (lines : List (List ℕ)) × (parts ≡ lines ++ end) × AsksSteps lines s
+pub steps_are_spelled : (at : ℕ) (parts : List (List ℕ)) (s : ScriptData) → 0 < length parts → script_from 0 at parts ≡ Ok s
+    → (lines : List (List ℕ)) × (parts ≡ lines ++ end) × AsksSteps lines s
 steps_are_spelled at parts s some h =
     let w = whole_said 0 at parts s (omega arith) h in
     let nodes : w.nodes ≡ worded (codes "nodes") (s.nodes ∷ []) = (w.named).0 in
     let lines : List (List ℕ) = w.facts ++ (codes "go" ∷ w.nodes ∷ w.steps) in
     let all : parts ≡ lines ++ end = w.all ∙ sym (append_assoc w.facts (codes "go" ∷ w.nodes ∷ w.steps) end) in
-    let shown : lines ≡ w.facts ++ (codes "go" ∷ worded (codes "nodes") (s.nodes ∷ []) ∷ w.steps) = ap (λ (t : List ℕ). w.facts ++ (codes "go" ∷ t ∷ w.steps)) nodes in
+    let shown : lines ≡ w.facts ++ (codes "go" ∷ worded (codes "nodes") (s.nodes ∷ []) ∷ w.steps) = ap
+    (λ (t : List ℕ). w.facts ++ (codes "go" ∷ t ∷ w.steps)) nodes in
     let n : 0 + length w.facts ≡ length w.facts = omega arith in
     let few : length w.facts ≤ most = omega (arith, w.few_facts) in
     let said = AllZip-with (λ l f. fact_of l ≡ Some f) SpellsFact w.facts s.facts (λ l f. (fact_lines_are_spelled l f).0) w.said in
-    let own : AllZip (λ l a. step_of (length w.facts) l ≡ Some a) w.steps s.steps = subst (λ (k : ℕ). AllZip (λ l a. step_of k l ≡ Some a) w.steps s.steps) n w.asked in
-    let asked = AllZip-with (λ l a. step_of (length w.facts) l ≡ Some a) (SpellsStep (length w.facts)) w.steps s.steps (λ l a. (step_lines_are_spelled (length w.facts) l a few).0) own in
-    (lines, all, record { facts = w.facts; steps = w.steps; all = shown; said = said; some_nodes = (w.named).1; few_nodes = (w.named).2; asked = asked; few_facts = few; few_steps = w.few_steps })
+    let own : AllZip (λ l a. step_of (length w.facts) l ≡ Some a) w.steps s.steps = subst
+    (λ (k : ℕ). AllZip (λ l a. step_of k l ≡ Some a) w.steps s.steps) n w.asked in
+    let asked = AllZip-with (λ l a. step_of (length w.facts) l ≡ Some a) (SpellsStep (length w.facts)) w.steps s.steps
+    (λ l a. (step_lines_are_spelled (length w.facts) l a few).0) own in (
+      lines,
+      all,
+      record {
+        facts = w.facts;
+        steps = w.steps;
+        all = shown;
+        said = said;
+        some_nodes = (w.named).1;
+        few_nodes = (w.named).2;
+        asked = asked;
+        few_facts = few;
+        few_steps = w.few_steps;
+      },
+    )
 
-whole_read : (count at nodes : ℕ) (line : List ℕ) (facts steps : List (List ℕ)) (fs : List Fact) (ss : List (Step ℕ)) → SpellsNodes line nodes → AllZip (λ l f. fact_of l ≡ Some f) facts fs
+whole_read : (count at nodes : ℕ) (line : List ℕ) (facts steps : List (List ℕ)) (fs : List Fact) (ss : List (Step ℕ)) → SpellsNodes line nodes
+    → AllZip (λ l f. fact_of l ≡ Some f) facts fs
     → AllZip (λ l a. step_of (count + length facts) l ≡ Some a) steps ss → count + length facts ≤ most → length steps ≤ most
     → script_from count at (facts ++ (codes "go" ∷ line ∷ (steps ++ end))) ≡ Ok (record { facts = fs; nodes = nodes; steps = ss })
 whole_read count at nodes line [] steps [] ss named p q le few =
@@ -255,7 +307,8 @@ whole_read count at nodes line (x ∷ xs) steps (f ∷ fs) ss named p q le few =
     let n : count + length (x ∷ xs) ≡ count + 1 + length xs = omega arith in
     let others : List (List ℕ) = codes "go" ∷ line ∷ (steps ++ end) in
     let some : 0 < length (xs ++ others) = omega (arith, length-append xs others) in
-    let rest = whole_read (count + 1) (at + 1) nodes line xs steps fs ss named p.1 (subst (λ (k : ℕ). AllZip (λ l a. step_of k l ≡ Some a) steps ss) n q) (omega arith) few in
+    let rest = whole_read (count + 1) (at + 1) nodes line xs steps fs ss named p.1 (subst (λ (k : ℕ). AllZip (λ l a. step_of k l ≡ Some a) steps ss) n q)
+    (omega arith) few in
     script_next count at x (xs ++ others) f some (omega arith) p.0 ∙ ap (within (with_fact f)) rest
 
 pub steps_are_read : (at : ℕ) (lines : List (List ℕ)) (s : ScriptData) → AsksSteps lines s → script_from 0 at (lines ++ end) ≡ Ok s
@@ -263,7 +316,10 @@ steps_are_read at lines s i =
     let line : List ℕ = worded (codes "nodes") (s.nodes ∷ []) in
     let named : SpellsNodes line s.nodes = (refl, i.some_nodes, i.few_nodes) in
     let n : length i.facts ≡ 0 + length i.facts = omega arith in
-    let parts : lines ++ end ≡ i.facts ++ (codes "go" ∷ line ∷ (i.steps ++ end)) = ap (λ (t : List (List ℕ)). t ++ end) i.all ∙ append_assoc i.facts (codes "go" ∷ line ∷ i.steps) end in
+    let parts : lines ++ end ≡ i.facts ++ (codes "go" ∷ line ∷ (i.steps ++ end)) = ap (λ (t : List (List ℕ)). t ++ end) i.all ∙ append_assoc i.facts
+    (codes "go" ∷ line ∷ i.steps) end in
     let said = AllZip-with SpellsFact (λ l f. fact_of l ≡ Some f) i.facts s.facts (λ l f. (fact_lines_are_spelled l f).1) i.said in
-    let asked = AllZip-with (SpellsStep (length i.facts)) (λ l a. step_of (length i.facts) l ≡ Some a) i.steps s.steps (λ l a. (step_lines_are_spelled (length i.facts) l a i.few_facts).1) i.asked in
-    ap (script_from 0 at) parts ∙ whole_read 0 at s.nodes line i.facts i.steps s.facts s.steps named said (subst (λ (k : ℕ). AllZip (λ l a. step_of k l ≡ Some a) i.steps s.steps) n asked) (omega (arith, i.few_facts)) i.few_steps
+    let asked = AllZip-with (SpellsStep (length i.facts)) (λ l a. step_of (length i.facts) l ≡ Some a) i.steps s.steps
+    (λ l a. (step_lines_are_spelled (length i.facts) l a i.few_facts).1) i.asked in
+    ap (script_from 0 at) parts ∙ whole_read 0 at s.nodes line i.facts i.steps s.facts s.steps named said
+    (subst (λ (k : ℕ). AllZip (λ l a. step_of k l ≡ Some a) i.steps s.steps) n asked) (omega (arith, i.few_facts)) i.few_steps

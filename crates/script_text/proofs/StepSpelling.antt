@@ -1,17 +1,17 @@
 -- Step lines are read exactly where they are spelled.
-use Rattle.std.proofs.Common.{◌≡◌, ℕ, ◌+◌, ◌<◌, ◌≤◌, true, false, cond, eqb, ltb, List, [], ◌∷◌, map, Option, Some, None, codes, refl, sym, ap, ◌∙◌, subst, arith}
-use Rattle.std.specs.Fmt.{decimal}
+use Rattle.std.proofs.Common.{◌≡◌, ℕ, ◌+◌, ◌<◌, ◌≤◌, false, cond, eqb, ltb, List, [], ◌∷◌, Option, Some, None, codes, refl, ap, ◌∙◌, subst, arith}
+use Rattle.std.specs.List.{AllByRecursion}
 use Rattle.std.proofs.lemmas.Bool.Decides.{nat_tests}
 use Rattle.redo_core.specs.Shape.{max_number}
 use Rattle.fleet_steps.specs.declared.steps.Step.{Step}
-use Rattle.fleet_steps.specs.declared.steps.Step.TheVariants.{Take, Fold, Discard, Front, Read}
+use Rattle.fleet_steps.specs.declared.steps.Step.TheVariants.{Take, Fold, Discard, Front, Read, Join, Same, Covers, Wipe}
 use Rattle.script_text.specs.Parts.{◌>>=◌, parts_at}
-use Rattle.script_text.specs.Fields.{numbers_of, of_one, of_two, of_five, read_by}
-use Rattle.script_text.specs.StepLine.{take, read, take_form, fold_form, discard_form, front_form, read_form, step_forms, step_line, step_of}
+use Rattle.script_text.specs.Fields.{of_one, of_two, of_five}
+use Rattle.script_text.specs.StepLine.{take, read, take_form, fold_form, discard_form, front_form, read_form, join_form, same_form, covers_form, wipe_form, step_forms, step_line, step_of}
 use Rattle.script_text.specs.Script.{most}
 use Rattle.script_text.specs.Laws.{StepLinesAreSpelled}
-use Rattle.script_text.specs.Spelled.{worded, SpellsForm, SpellsStep}
-use Rattle.script_text.proofs.Forms.{AreLimits, AreWithin, Reads, FormFields, one_is, two_is, five_is, formed, form_fields, read_has}
+use Rattle.script_text.specs.Spelled.{SpellsStep}
+use Rattle.script_text.proofs.Forms.{AreLimits, Reads, one_is, two_is, five_is, formed, form_fields, read_has}
 use Rattle.script_text.proofs.Options.{here, some_is, tested}
 
 -- ---- what is read is spelled
@@ -66,10 +66,46 @@ read_reads facts = record {
       subst (SpellsStep facts line) (some_is (Read is.0 is.1 is.2 is.3 is.4) s inside.1) spelled;
 }
 
+join_reads : (facts : ℕ) → Reads (SpellsStep facts) join_form
+join_reads facts = record {
+  small = (omega arith, (omega arith, tt));
+  each = λ line ns s e w h.
+      let is = two_is (λ node from. here (Join node from)) ns s h in
+      subst (SpellsStep facts line) (some_is (Join is.0 is.1) s is.3) (formed line (codes "join") (65535 ∷ 65535 ∷ []) ns (is.0 ∷ is.1 ∷ []) is.2 e w);
+}
+
+same_reads : (facts : ℕ) → Reads (SpellsStep facts) same_form
+same_reads facts = record {
+  small = (omega arith, (omega arith, tt));
+  each = λ line ns s e w h.
+      let is = two_is (λ node other. here (Same node other)) ns s h in
+      subst (SpellsStep facts line) (some_is (Same is.0 is.1) s is.3) (formed line (codes "same") (65535 ∷ 65535 ∷ []) ns (is.0 ∷ is.1 ∷ []) is.2 e w);
+}
+
+covers_reads : (facts : ℕ) → Reads (SpellsStep facts) covers_form
+covers_reads facts = record {
+  small = (omega arith, (omega arith, tt));
+  each = λ line ns s e w h.
+      let is = two_is (λ node other. here (Covers node other)) ns s h in
+      subst (SpellsStep facts line) (some_is (Covers is.0 is.1) s is.3) (formed line (codes "covers") (65535 ∷ 65535 ∷ []) ns (is.0 ∷ is.1 ∷ []) is.2 e w);
+}
+
+wipe_reads : (facts : ℕ) → Reads (SpellsStep facts) wipe_form
+wipe_reads facts = record {
+  small = (omega arith, tt);
+  each = λ line ns s e w h.
+      let is = one_is (λ node. here (Wipe node)) ns s h in
+      subst (SpellsStep facts line) (some_is (Wipe is.0) s is.2) (formed line (codes "wipe") (65535 ∷ []) ns (is.0 ∷ []) is.1 e w);
+}
+
 step_is_spelled : (facts : ℕ) (line : List ℕ) (s : Step ℕ) → facts ≤ most → step_of facts line ≡ Some s → SpellsStep facts line s
 unfolding step_line
 step_is_spelled facts line s few h =
-    read_has (SpellsStep facts) (step_forms facts) line (parts_at 32 line) s (take_reads facts few, (fold_reads facts, (discard_reads facts, (front_reads facts, (read_reads facts, tt))))) refl h
+    let others : AllByRecursion (Reads (SpellsStep facts)) (join_form ∷ same_form ∷ covers_form ∷ wipe_form ∷ []) =
+    (join_reads facts, (same_reads facts, (covers_reads facts, (wipe_reads facts, tt)))) in
+    let all : AllByRecursion (Reads (SpellsStep facts)) (step_forms facts) =
+    (take_reads facts few, (fold_reads facts, (discard_reads facts, (front_reads facts, (read_reads facts, others))))) in
+    read_has (SpellsStep facts) (step_forms facts) line (parts_at 32 line) s all refl h
 
 -- ---- what is spelled is read
 
@@ -94,6 +130,18 @@ step_is_read facts line (Read node page point offset len) few s =
     let positive : eqb len 0 ≡ false = grind (arith, nat_tests, s.1) in
     let fits : ltb 4096 (offset + len) ≡ false = grind (arith, nat_tests, s.2) in
     ap (step_line facts) f.fields ∙ ap (λ (o : Option (List ℕ)). o >>= of_five read) f.numbers ∙ rw (positive, fits) refl
+step_is_read facts line (Join node from) few s =
+    let f = form_fields line (codes "join") (65535 ∷ 65535 ∷ []) (node ∷ from ∷ []) (omega arith, (omega arith, tt)) s refl in
+    ap (step_line facts) f.fields ∙ ap (λ (o : Option (List ℕ)). o >>= of_two (λ i j. here (Join i j))) f.numbers
+step_is_read facts line (Same node other) few s =
+    let f = form_fields line (codes "same") (65535 ∷ 65535 ∷ []) (node ∷ other ∷ []) (omega arith, (omega arith, tt)) s refl in
+    ap (step_line facts) f.fields ∙ ap (λ (o : Option (List ℕ)). o >>= of_two (λ i j. here (Same i j))) f.numbers
+step_is_read facts line (Covers node other) few s =
+    let f = form_fields line (codes "covers") (65535 ∷ 65535 ∷ []) (node ∷ other ∷ []) (omega arith, (omega arith, tt)) s refl in
+    ap (step_line facts) f.fields ∙ ap (λ (o : Option (List ℕ)). o >>= of_two (λ i j. here (Covers i j))) f.numbers
+step_is_read facts line (Wipe node) few s =
+    let f = form_fields line (codes "wipe") (65535 ∷ []) (node ∷ []) (omega arith, tt) s refl in
+    ap (step_line facts) f.fields ∙ ap (λ (o : Option (List ℕ)). o >>= of_one (λ i. here (Wipe i))) f.numbers
 
 pub step_lines_are_spelled : StepLinesAreSpelled
 step_lines_are_spelled facts line s few = (step_is_spelled facts line s few, step_is_read facts line s few)

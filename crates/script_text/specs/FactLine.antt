@@ -9,7 +9,7 @@ use Rattle.redo_core.specs.declared.patches.Patch.{Patch}
 use Rattle.redo_core.specs.declared.patches.Patch.TheVariants.{Bytes, Fill}
 use Rattle.redo_core.specs.declared.facts.Fact.{Fact}
 use Rattle.redo_core.specs.declared.facts.Fact.TheVariants.{Record, Cut, Advance}
-use Rattle.script_text.specs.Number.{number_of}
+use Rattle.script_text.specs.Number.{decimal_value}
 use Rattle.script_text.specs.Parts.{◌>>=◌, parts_at}
 use Rattle.script_text.specs.Fields.{numbers_of, of_two, of_three, of_five}
 
@@ -23,13 +23,13 @@ decoded (Err e) = None
 -- at least one byte, from an offset on
 abbrev pub write_at : List ℕ → List ℕ → Option Patch
 write_at offset [] = None
-write_at offset (b ∷ bs) = number_of 65535 offset >>= (λ o. Some (Bytes (record { offset = o; bytes = b ∷ bs })))
+write_at offset (b ∷ bs) = decimal_value 65535 offset >>= (λ o. Some (Bytes (record { offset = o; bytes = b ∷ bs })))
 
 -- just one byte, from an offset on, over a length
 abbrev pub fill_at : List ℕ → List ℕ → List ℕ → Option Patch
 fill_at offset len (byte ∷ []) = do
-  o ← number_of 65535 offset
-  l ← number_of 4096 len
+  o ← decimal_value 65535 offset
+  l ← decimal_value 4096 len
   Some (Fill o l byte)
 fill_at offset len _ = None
 

@@ -1,6 +1,6 @@
 -- Lines of a word and numbers, each with its limit.
 use Rattle.std.specs.Prelude.{ℕ, List, [], ◌∷◌, Option, Some, None, bytes_eq, if◌then◌else◌}
-use Rattle.script_text.specs.Number.{number_of}
+use Rattle.script_text.specs.Number.{decimal_value}
 use Rattle.script_text.specs.Parts.{◌>>=◌}
 
 -- as many numbers as there are limits, each at most its limit
@@ -9,7 +9,7 @@ numbers_of [] [] = Some []
 numbers_of [] (word ∷ words) = None
 numbers_of (limit ∷ limits) [] = None
 numbers_of (limit ∷ limits) (word ∷ words) = do
-  n ← number_of limit word
+  n ← decimal_value limit word
   ns ← numbers_of limits words
   Some (n ∷ ns)
 

@@ -3,7 +3,7 @@ use Rattle.std.specs.Prelude.{◌≡◌, ℕ, ◌<◌, ◌≤◌, ◌^◌, ◌�
 use Rattle.std.specs.Fmt.{decimal}
 use Rattle.redo_core.specs.declared.facts.Fact.{Fact}
 use Rattle.fleet_steps.specs.declared.steps.Step.{Step}
-use Rattle.script_text.specs.Number.{number_of}
+use Rattle.script_text.specs.Number.{decimal_value}
 use Rattle.script_text.specs.FactLine.{fact_of}
 use Rattle.script_text.specs.StepLine.{step_of}
 use Rattle.script_text.specs.Script.{ScriptData, Rostered, most, script_of, facts_of}
@@ -11,7 +11,7 @@ use Rattle.script_text.specs.Spelled.{SpellsFact, SpellsStep, IsLog, IsScript, S
 
 -- The words that are numbers are just those that decimal writes.
 abbrev pub NumbersAreDecimals : Type 0
-NumbersAreDecimals = (limit n : ℕ) (word : List ℕ) → limit < 2 ^ 64 → (number_of limit word ≡ Some n) ↔ ((word ≡ decimal n) × (n ≤ limit))
+NumbersAreDecimals = (limit n : ℕ) (word : List ℕ) → limit < 2 ^ 64 → (decimal_value limit word ≡ Some n) ↔ ((word ≡ decimal n) × (n ≤ limit))
 
 -- A line is read as a fact exactly where it spells it.
 abbrev pub FactLinesAreSpelled : Type 0

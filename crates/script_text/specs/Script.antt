@@ -28,7 +28,7 @@ most = 1000000
 
 -- how many nodes there may be
 abbrev pub most_nodes : ℕ
-most_nodes = 1
+most_nodes = 64
 
 -- one of 1, 2 and so on
 abbrev pub positive : ℕ → Option ℕ
@@ -41,7 +41,7 @@ roster_form = form (codes "roster") (max_readers ∷ []) (of_one positive)
 unfoldable pub roster_of : List ℕ → Option ℕ
 roster_of line = read_by (roster_form ∷ []) (parts_at 32 line)
 
--- the nodes of a line like nodes 1
+-- the nodes of a line like nodes 2
 abbrev pub nodes_form : Form ℕ
 nodes_form = form (codes "nodes") (most_nodes ∷ []) (of_one positive)
 

@@ -12,7 +12,7 @@ use Rattle.redo_core.specs.declared.patches.Patch.TheVariants.{Bytes, Fill}
 use Rattle.redo_core.specs.declared.facts.Fact.{Fact}
 use Rattle.redo_core.specs.declared.facts.Fact.TheVariants.{Record, Cut, Advance}
 use Rattle.fleet_steps.specs.declared.steps.Step.{Step}
-use Rattle.fleet_steps.specs.declared.steps.Step.TheVariants.{Take, Fold, Discard, Front, Read}
+use Rattle.fleet_steps.specs.declared.steps.Step.TheVariants.{Take, Fold, Discard, Front, Read, Join, Same, Covers, Wipe}
 use Rattle.script_text.specs.Parts.{parts_at}
 use Rattle.script_text.specs.FactText.{behind_init}
 use Rattle.script_text.specs.Script.{ScriptData, Rostered, most, most_nodes}
@@ -90,8 +90,13 @@ SpellsStep facts line (Take node place) = SpellsForm line (codes "take") (65535 
 SpellsStep facts line (Fold node page) = SpellsForm line (codes "fold") (65535 ∷ 65535 ∷ []) (node ∷ page ∷ [])
 SpellsStep facts line (Discard node) = SpellsForm line (codes "discard") (65535 ∷ []) (node ∷ [])
 SpellsStep facts line (Front node) = SpellsForm line (codes "front") (65535 ∷ []) (node ∷ [])
-SpellsStep facts line (Read node page point offset len) = SpellsForm line (codes "read") (65535 ∷ 65535 ∷ max_number ∷ 4096 ∷ 4096 ∷ []) (node ∷ page ∷ point ∷ offset ∷ len ∷ [])
+SpellsStep facts line (Read node page point offset len) = SpellsForm line (codes "read") (65535 ∷ 65535 ∷ max_number ∷ 4096 ∷ 4096 ∷ [])
+    (node ∷ page ∷ point ∷ offset ∷ len ∷ [])
     × (0 < len) × (offset + len ≤ 4096)
+SpellsStep facts line (Join node from) = SpellsForm line (codes "join") (65535 ∷ 65535 ∷ []) (node ∷ from ∷ [])
+SpellsStep facts line (Same node other) = SpellsForm line (codes "same") (65535 ∷ 65535 ∷ []) (node ∷ other ∷ [])
+SpellsStep facts line (Covers node other) = SpellsForm line (codes "covers") (65535 ∷ 65535 ∷ []) (node ∷ other ∷ [])
+SpellsStep facts line (Wipe node) = SpellsForm line (codes "wipe") (65535 ∷ []) (node ∷ [])
 
 -- ---- lists of lines
 

@@ -2,7 +2,7 @@
 use Rattle.std.specs.Prelude.{ℕ, ◌+◌, ◌<◌, ◌≤◌, ◌==◌, nat_lt, List, [], ◌∷◌, Option, Some, None, codes, if◌then◌else◌}
 use Rattle.redo_core.specs.Shape.{max_number}
 use Rattle.fleet_steps.specs.declared.steps.Step.{Step}
-use Rattle.fleet_steps.specs.declared.steps.Step.TheVariants.{Take, Fold, Discard, Front, Read}
+use Rattle.fleet_steps.specs.declared.steps.Step.TheVariants.{Take, Fold, Discard, Front, Read, Join, Same, Covers, Wipe}
 use Rattle.fleet_steps.specs.Naming.{NamedIs}
 use Rattle.fleet_steps.specs.Shown.{ShowsInside}
 use Rattle.script_text.specs.Parts.{parts_at}
@@ -32,8 +32,20 @@ front_form = form (codes "front") (65535 ∷ []) (of_one (λ node. Some (Front n
 abbrev pub read_form : Form (Step ℕ)
 read_form = form (codes "read") (65535 ∷ 65535 ∷ max_number ∷ 4096 ∷ 4096 ∷ []) (of_five read)
 
+abbrev pub join_form : Form (Step ℕ)
+join_form = form (codes "join") (65535 ∷ 65535 ∷ []) (of_two (λ node from. Some (Join node from)))
+
+abbrev pub same_form : Form (Step ℕ)
+same_form = form (codes "same") (65535 ∷ 65535 ∷ []) (of_two (λ node other. Some (Same node other)))
+
+abbrev pub covers_form : Form (Step ℕ)
+covers_form = form (codes "covers") (65535 ∷ 65535 ∷ []) (of_two (λ node other. Some (Covers node other)))
+
+abbrev pub wipe_form : Form (Step ℕ)
+wipe_form = form (codes "wipe") (65535 ∷ []) (of_one (λ node. Some (Wipe node)))
+
 abbrev pub step_forms : ℕ → List (Form (Step ℕ))
-step_forms facts = take_form facts ∷ fold_form ∷ discard_form ∷ front_form ∷ read_form ∷ []
+step_forms facts = take_form facts ∷ fold_form ∷ discard_form ∷ front_form ∷ read_form ∷ join_form ∷ same_form ∷ covers_form ∷ wipe_form ∷ []
 
 -- the step of a line's fields
 unfoldable pub step_line : ℕ → List (List ℕ) → Option (Step ℕ)

@@ -2,7 +2,7 @@
 
 ghost use Rattle.std.specs.Prelude.{◌≡◌, ◌≤◌, ◌<◌, ◌^◌, ℕ, IfSome, map};
 ghost use Rattle.std.specs.List.{All, AllZip};
-ghost use Rattle.script_text.specs.Number.{digits_of, number_of};
+ghost use Rattle.script_text.specs.Number.{digits_of, decimal_value};
 ghost use Rattle.script_text.specs.Fields.{numbers_of};
 
 /// The number that the word's digits stand for, if it is at most `limit`.
@@ -27,7 +27,7 @@ fn digits(word: &[u8], limit: u64) -> Option<u64>
 /// The number that the word spells, if it is at most `limit`.
 pub fn number(word: &[u8], limit: u64) -> Option<u64>
     requires { limit < 2 ^ 60 }
-    ensures value { result ≡ number_of limit word.now }
+    ensures value { result ≡ decimal_value limit word.now }
     ensures bound { IfSome result (λ n. n ≤ limit) }
 {
     match word {

@@ -69,7 +69,7 @@ impl<T: Drop> From<AllocFailed<T>> for ScriptError {
 const MOST: usize = 1000000;
 
 /// How many nodes there may be.
-const MOST_NODES: u64 = 1;
+const MOST_NODES: u64 = 64;
 
 /// Step lines to the end of the text, behind that many facts. The first has the number `at`.
 fn steps(
@@ -113,7 +113,7 @@ fn count(fields: &[&[u8]]) -> Option<u16>
     Some(nodes as u16)
 }
 
-/// The number of nodes that a line like `nodes 1` names.
+/// The number of nodes that a line like `nodes 2` names.
 #[tactic(auto, unfolding(crate::specs::Script::nodes_of))]
 fn nodes(alloc: Global, line: &[u8]) -> Result<Option<u16>, AllocError>
     ensures { IfOk result (λ o. o ≡ nodes_of line.now) }
@@ -201,7 +201,7 @@ fn facts(alloc: Global, lines: &[&[u8]], at: usize) -> Result<Vec<Fact>, ScriptE
     Ok(facts)
 }
 
-/// The script that the text spells: a roster or none, fact lines, `go`, `nodes 1`, step lines; or its least bad line.
+/// The script that the text spells: a roster or none, fact lines, `go`, a line like `nodes 2`, step lines; or its least bad line.
 pub fn read_script(alloc: Global, text: &[u8]) -> Result<Script, ScriptError>
     ensures script { Gives script_data result (script_of text.now) }
     ensures range { IfOk result (λ s. All (IsInRange (length s.facts.items)) s.steps.items) }

@@ -3,7 +3,7 @@
 ghost use Rattle.std.specs.Prelude.{◌≡◌, ◌≤◌, map};
 ghost use Rattle.script_text.specs.Script.{most};
 ghost use Rattle.script_text.specs.Fields.{made_by};
-ghost use Rattle.script_text.specs.StepLine.{take_form, fold_form, discard_form, front_form, read_form, step_line};
+ghost use Rattle.script_text.specs.StepLine.{take_form, fold_form, discard_form, front_form, read_form, join_form, same_form, covers_form, wipe_form, step_line};
 
 use crate::number::numbers;
 use fleet_steps::Step;
@@ -72,6 +72,43 @@ fn read(fields: &[&[u8]]) -> Option<Step<usize>>
     })
 }
 
+fn join(fields: &[&[u8]]) -> Option<Step<usize>>
+    ensures { result ≡ made_by join_form (map (λ x. x.now) fields.now) }
+{
+    let [node, from] = numbers([SHORT, SHORT], fields)?;
+    Some(Step::Join {
+        node: node as u16,
+        from: from as u16,
+    })
+}
+
+fn same(fields: &[&[u8]]) -> Option<Step<usize>>
+    ensures { result ≡ made_by same_form (map (λ x. x.now) fields.now) }
+{
+    let [node, other] = numbers([SHORT, SHORT], fields)?;
+    Some(Step::Same {
+        node: node as u16,
+        other: other as u16,
+    })
+}
+
+fn covers(fields: &[&[u8]]) -> Option<Step<usize>>
+    ensures { result ≡ made_by covers_form (map (λ x. x.now) fields.now) }
+{
+    let [node, other] = numbers([SHORT, SHORT], fields)?;
+    Some(Step::Covers {
+        node: node as u16,
+        other: other as u16,
+    })
+}
+
+fn wipe(fields: &[&[u8]]) -> Option<Step<usize>>
+    ensures { result ≡ made_by wipe_form (map (λ x. x.now) fields.now) }
+{
+    let [node] = numbers([SHORT], fields)?;
+    Some(Step::Wipe { node: node as u16 })
+}
+
 /// The step of a step line behind that many facts.
 #[tactic(auto, unfolding(crate::specs::StepLine::step_line))]
 pub fn step_line(facts: usize, fields: &[&[u8]]) -> Option<Step<usize>>
@@ -89,6 +126,14 @@ pub fn step_line(facts: usize, fields: &[&[u8]]) -> Option<Step<usize>>
         front(rest)
     } else if *word == b"read".as_slice() {
         read(rest)
+    } else if *word == b"join".as_slice() {
+        join(rest)
+    } else if *word == b"same".as_slice() {
+        same(rest)
+    } else if *word == b"covers".as_slice() {
+        covers(rest)
+    } else if *word == b"wipe".as_slice() {
+        wipe(rest)
     } else {
         None
     }

@@ -37,30 +37,75 @@ fn roster_of(alloc: Global, text: &str) -> u8 {
     }
 }
 
+/// The only step of a script.
+fn only_step(read: &Result<Script, ScriptError>) -> Option<Step<usize>> {
+    let steps = match read {
+        Ok(script) => &script.steps,
+        Err(_) => return None,
+    };
+    match steps.as_slice() {
+        [step] => Some(*step),
+        _ => None,
+    }
+}
+
+/// Each form of step lines, and what a line of it reads as.
+const STEPS: [(&str, Step<usize>); 11] = [
+    ("take 1 4", Step::Take { node: 1, fact: 4 }),
+    (
+        "fold 64 65535",
+        Step::Fold {
+            node: 64,
+            page: 65535,
+        },
+    ),
+    ("discard 0", Step::Discard { node: 0 }),
+    ("front 65535", Step::Front { node: 65535 }),
+    (
+        "read 1 7 9 4095 1",
+        Step::Read {
+            node: 1,
+            page: 7,
+            point: 9,
+            offset: 4095,
+            len: 1,
+        },
+    ),
+    ("join 2 1", Step::Join { node: 2, from: 1 }),
+    ("join 2 2", Step::Join { node: 2, from: 2 }),
+    (
+        "join 65535 0",
+        Step::Join {
+            node: 65535,
+            from: 0,
+        },
+    ),
+    ("same 3 64", Step::Same { node: 3, other: 64 }),
+    ("covers 64 3", Step::Covers { node: 64, other: 3 }),
+    ("wipe 65", Step::Wipe { node: 65 }),
+];
+
+#[test]
+fn step_lines(rt: HostRuntime) -> Result<(), Fail> {
+    for (line, step) in STEPS {
+        let text = format!(in rt.alloc(); "{FACTS}go\nnodes 64\n{line}\n")?;
+        let read = read_script(rt.alloc(), text.as_bytes());
+        assert!(rt; only_step(&read) == Some(step), "at {line}");
+    }
+    Ok(())
+}
+
 #[test]
 fn a_script(rt: HostRuntime) -> Result<(), Fail> {
-    let text = format!(in rt.alloc();
-        "{FACTS}go\nnodes 1\ntake 1 4\nfold 1 65535\ndiscard 0\nfront 65535\nread 1 7 9 4095 1\n"
-    )?;
+    let text = format!(in rt.alloc(); "{FACTS}go\nnodes 3\ntake 1 4\njoin 3 1\nwipe 1\n")?;
     let read = read_script(rt.alloc(), text.as_bytes());
     assert!(rt; read.is_ok());
     if let Ok(script) = read {
-        assert!(rt; script.facts.len() == 4 && script.roster.readers() == 1 && script.nodes == 1);
+        assert!(rt; script.facts.len() == 4 && script.roster.readers() == 1 && script.nodes == 3);
         let steps = [
             Step::Take { node: 1, fact: 4 },
-            Step::Fold {
-                node: 1,
-                page: 65535,
-            },
-            Step::Discard { node: 0 },
-            Step::Front { node: 65535 },
-            Step::Read {
-                node: 1,
-                page: 7,
-                point: 9,
-                offset: 4095,
-                len: 1,
-            },
+            Step::Join { node: 3, from: 1 },
+            Step::Wipe { node: 1 },
         ];
         assert!(rt; script.steps.as_slice() == steps.as_slice());
     }
@@ -143,8 +188,6 @@ fn bad_lines(rt: HostRuntime) -> Result<(), Fail> {
         ("min 0 5\n", 2),
         ("go\n", 2),
         ("go\nnodes 1", 2),
-        ("go\nnodes 2\n", 2),
-        ("go\nnodes 0\n", 2),
         ("go\nnodes 1\n\n", 3),
         ("go\nnodes 1\ntake 1 1\n", 3),
         ("min 0 5\ngo\nnodes 1\ntake 1 1\ntake 1 2\n", 5),
@@ -182,6 +225,41 @@ fn bad_lines(rt: HostRuntime) -> Result<(), Fail> {
     }
     let read = read_facts(rt.alloc(), "min 0 5\ngo\n".as_bytes());
     assert!(rt; matches!(&read, Err(ScriptError::BadLine(2))));
+    Ok(())
+}
+
+#[test]
+fn bad_lines_of_several_nodes(rt: HostRuntime) -> Result<(), Fail> {
+    let table = [
+        ("go\nnodes 2\njoin 4 3\n", 0),
+        ("go\nnodes 64\n", 0),
+        ("go\nnodes 65\n", 2),
+        ("go\nnodes 0\n", 2),
+        ("go\nnodes 064\n", 2),
+        ("go\nnodes\n", 2),
+        ("go\nnodes 2 2\n", 2),
+        ("go\nnodes 18446744073709551617\n", 2),
+        ("go\nnodes 2\njoin 1\n", 3),
+        ("go\nnodes 2\njoin 1 2 1\n", 3),
+        ("go\nnodes 2\njoin 1 65536\n", 3),
+        ("go\nnodes 2\njoin 65536 1\n", 3),
+        ("go\nnodes 2\njoin 1 02\n", 3),
+        ("go\nnodes 2\nJoin 1 2\n", 3),
+        ("go\nnodes 2\nmerge 1 2\n", 3),
+        ("go\nnodes 2\nsame 1\n", 3),
+        ("go\nnodes 2\nsame 1 2 1\n", 3),
+        ("go\nnodes 2\nsame 1 -2\n", 3),
+        ("go\nnodes 2\ncovers 1\n", 3),
+        ("go\nnodes 2\ncovers 1 2 1\n", 3),
+        ("go\nnodes 2\ncovers  1 2\n", 3),
+        ("go\nnodes 2\nwipe\n", 3),
+        ("go\nnodes 2\nwipe 1 2\n", 3),
+        ("go\nnodes 2\nwipe 65536\n", 3),
+    ];
+    for (text, line) in table {
+        let found = bad_line(&read_script(rt.alloc(), text.as_bytes()));
+        assert!(rt; found == line, "at {text}");
+    }
     Ok(())
 }
 
