@@ -19,7 +19,8 @@ not_found true q h = absurd cc
 not_found false q h = refl
 
 -- with an LF at this place, the first part ends there
-pub cut_at : (text : List ℕ) (at : ℕ) → position (λ b. eqb b 10) text ≡ Some at → (at < length text) × (parts_at 10 text ≡ take at text ∷ parts_at 10 (drop (at + 1) text))
+pub cut_at : (text : List ℕ) (at : ℕ) → position (λ b. eqb b 10) text ≡ Some at
+    → (at < length text) × (parts_at 10 text ≡ take at text ∷ parts_at 10 (drop (at + 1) text))
 cut_at text at h =
     let first = position_or_len (λ b. eqb b 10) text in
     let f = found (ltb first (length text)) first at h in
@@ -42,13 +43,15 @@ before_others : (line : List ℕ) (others : List (List ℕ)) → 0 < length othe
 before_others line [] some = absurd (omega arith)
 before_others line (next ∷ rest) some = refl
 
-next_told : (rest line after : List ℕ) → parts_at 10 rest ≡ line ∷ parts_at 10 after → parts_text (parts_at 10 rest) ≡ line_text line ++ parts_text (parts_at 10 after)
+next_told : (rest line after : List ℕ) → parts_at 10 rest ≡ line ∷ parts_at 10 after → parts_text (parts_at 10 rest) ≡ line_text line ++ parts_text
+    (parts_at 10 after)
 next_told rest line after h =
     let some : 0 < length (parts_at 10 after) = omega (arith, length-slice_split (λ b. eqb b 10) after) in
     ap parts_text h ∙ before_others line (parts_at 10 after) some
 
 -- one more line
-pub line_told : (old new rest line after all : List ℕ) → parts_at 10 rest ≡ line ∷ parts_at 10 after → new ≡ old ++ line_text line → old ++ parts_text (parts_at 10 rest) ≡ all → new ++ parts_text (parts_at 10 after) ≡ all
+pub line_told : (old new rest line after all : List ℕ) → parts_at 10 rest ≡ line ∷ parts_at 10 after → new ≡ old ++ line_text line
+    → old ++ parts_text (parts_at 10 rest) ≡ all → new ++ parts_text (parts_at 10 after) ≡ all
 line_told old new rest line after all h more told =
     let next = next_told rest line after h in
     let joined = append_assoc old (line_text line) (parts_text (parts_at 10 after)) in

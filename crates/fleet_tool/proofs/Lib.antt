@@ -2,7 +2,6 @@ pub mod Captures
 pub mod Devices
 pub mod Steps
 pub mod Outputs
-pub mod FirstFaults
 pub mod OneText
 pub mod TaskWords
 pub mod TakenWords

@@ -17,13 +17,14 @@ use Rattle.fleet_tool.specs.Output.{SaysBadLine, SaysUnsound, SaysReplies, SaysS
 use Rattle.fleet_tool.specs.OneOutput.{OneOutput}
 use Rattle.fleet_tool.specs.declared.answer.Verdict.{Verdict}
 use Rattle.fleet_tool.specs.declared.job.Task.TheVariants.{Run, Check, Inspect}
-use Rattle.fleet_tool.proofs.FirstFaults.{one_fault, no_fault}
+use Rattle.redo_laws.proofs.FirstFaults.{one_fault, no_fault}
 use Rattle.fleet_tool.proofs.Steps.{takes_from}
 
 one_bad_line : (at : ℕ) (text other : List ℕ) (v w : Verdict) → SaysBadLine at text v → SaysBadLine at other w → (text ≡ other) × (v ≡ w)
 one_bad_line at text other v w h k = (h.0 ∙ sym k.0, h.1 ∙ sym k.1)
 
-one_unsound : (roster : ℕ) (facts : List Fact) (text other : List ℕ) (v w : Verdict) → SaysUnsound roster facts text v → SaysUnsound roster facts other w → (text ≡ other) × (v ≡ w)
+one_unsound : (roster : ℕ) (facts : List Fact) (text other : List ℕ) (v w : Verdict) → SaysUnsound roster facts text v → SaysUnsound roster facts other w
+    → (text ≡ other) × (v ≡ w)
 one_unsound roster facts text other v w h k =
     let same = one_fault roster facts h.place k.place h.law k.law h.fault k.fault in
     let place : h.place ≡ k.place = same.0 in
@@ -39,7 +40,8 @@ one_fact_at facts place f g h k = let e : Some f ≡ Some g = sym h ∙ k in cc
 one_step : (facts : List Fact) (asked : Step ℕ) (s t : Step Fact) → IsStepOf facts asked s → IsStepOf facts asked t → s ≡ t
 one_step facts asked s t h k = same_one (λ place fact. slice_get facts (place - 1) ≡ Some fact) (λ place f g p q. one_fact_at facts place f g p q) asked s t h k
 
-one_list : (facts : List Fact) (asked : List (Step ℕ)) (ss ts : List (Step Fact)) → AllZip (IsStepOf facts) asked ss → AllZip (IsStepOf facts) asked ts → ss ≡ ts
+one_list : (facts : List Fact) (asked : List (Step ℕ)) (ss ts : List (Step Fact)) → AllZip (IsStepOf facts) asked ss → AllZip (IsStepOf facts) asked ts
+    → ss ≡ ts
 one_list facts [] [] [] h k = refl
 one_list facts [] [] (t ∷ ts) h k = absurd k
 one_list facts [] (s ∷ ss) ts h k = absurd h
@@ -62,20 +64,24 @@ no_facts facts (suc nodes) = (λ x i. absurd (none_in x i), no_facts facts nodes
 empty_of : (facts : List Fact) (nodes : ℕ) → IsMachineOf facts (empty_machine nodes)
 empty_of facts nodes = record { nodes = no_facts facts nodes }
 
-one_script : (roster : ℕ) (script : ScriptData) (text other : List ℕ) (v w : Verdict) → SaysReplies roster script text v → SaysReplies roster script other w → (text ≡ other) × (v ≡ w)
+one_script : (roster : ℕ) (script : ScriptData) (text other : List ℕ) (v w : Verdict) → SaysReplies roster script text v → SaysReplies roster script other w
+    → (text ≡ other) × (v ≡ w)
 one_script roster script text other v w h k =
     let a = h.says in
     let b = k.says in
     let steps : b.steps ≡ a.steps = one_list script.facts script.steps b.steps a.steps b.stands_for a.stands_for in
     let answered = subst (λ ss. AreReplies roster (empty_machine script.nodes) ss b.replies) steps b.answered in
     let among = all_take script.facts script.steps a.steps a.stands_for in
-    let replies : a.replies ≡ b.replies = one_run roster script.facts (empty_machine script.nodes) a.steps a.replies b.replies h.sound (empty_of script.facts script.nodes) among a.answered answered a.came b.came in
+    let replies : a.replies ≡ b.replies = one_run roster script.facts (empty_machine script.nodes) a.steps a.replies b.replies h.sound
+    (empty_of script.facts script.nodes) among a.answered answered a.came b.came in
     (a.says ∙ ap (lines_of script.steps) replies ∙ sym b.says, h.ends ∙ sym k.ends)
 
-one_count : (roster : ℕ) (facts : List Fact) (text other : List ℕ) (v w : Verdict) → SaysSound roster facts text v → SaysSound roster facts other w → (text ≡ other) × (v ≡ w)
+one_count : (roster : ℕ) (facts : List Fact) (text other : List ℕ) (v w : Verdict) → SaysSound roster facts text v → SaysSound roster facts other w
+    → (text ≡ other) × (v ≡ w)
 one_count roster facts text other v w h k = (h.says ∙ sym k.says, h.ends ∙ sym k.ends)
 
-one_of_run : (read : Result (Rostered ScriptData) ℕ) (text other : List ℕ) (v w : Verdict) → IsRunOutput read text v → IsRunOutput read other w → (text ≡ other) × (v ≡ w)
+one_of_run : (read : Result (Rostered ScriptData) ℕ) (text other : List ℕ) (v w : Verdict) → IsRunOutput read text v → IsRunOutput read other w
+    → (text ≡ other) × (v ≡ w)
 one_of_run (Err at) text other v w h k = one_bad_line at text other v w h k
 one_of_run (Ok script) text other v w h k =
     let facts : List Fact = (script.said).facts in
@@ -84,7 +90,8 @@ one_of_run (Ok script) text other v w h k =
     (λ x. ⊎_elim (λ y. absurd (no_fault script.roster facts y.place y.law x.sound y.fault)) (λ y. one_script script.roster script.said text other v w x y) k)
     h
 
-one_of_check : (read : Result (Rostered (List Fact)) ℕ) (text other : List ℕ) (v w : Verdict) → IsCheckOutput read text v → IsCheckOutput read other w → (text ≡ other) × (v ≡ w)
+one_of_check : (read : Result (Rostered (List Fact)) ℕ) (text other : List ℕ) (v w : Verdict) → IsCheckOutput read text v → IsCheckOutput read other w
+    → (text ≡ other) × (v ≡ w)
 one_of_check (Err at) text other v w h k = one_bad_line at text other v w h k
 one_of_check (Ok log) text other v w h k =
     ⊎_elim

@@ -24,7 +24,8 @@ length_of text (a ∷ []) task names = absurd (let e = names.1 in cc)
 length_of text (a ∷ b ∷ []) task names = refl
 length_of text (a ∷ b ∷ c ∷ rest) task names = absurd (let e = names.1 in cc)
 
-pub second_names : {S : Type 0} (text : S → List ℕ) (ws : List S) (w : S) (task : Task) → NameTask (map text ws) task → w ≡ get_or ws 1 w → text w ≡ name_of task
+pub second_names : {S : Type 0} (text : S → List ℕ) (ws : List S) (w : S) (task : Task) → NameTask (map text ws) task → w ≡ get_or ws 1 w
+    → text w ≡ name_of task
 second_names text [] w task names at = absurd (let e = names.1 in cc)
 second_names text (a ∷ []) w task names at = absurd (let e = names.1 in cc)
 second_names text (a ∷ b ∷ rest) w task names at = let e = names.1 in let s : text b ≡ name_of task = cc in ap text at ∙ s

@@ -10,6 +10,8 @@ two_words (a ∷ []) w least most at = absurd (omega (arith, least))
 two_words (a ∷ b ∷ []) w least most at = (a, ap (λ x. a ∷ x ∷ []) (sym at))
 two_words (a ∷ b ∷ c ∷ rest) w least most at = absurd (omega (arith, most))
 
-pub names_task : {S : Type 0} (text : S → List ℕ) (ws : List S) (w : S) (name : List ℕ) (result : Result Task LineFault) → 2 ≤ length ws → length ws < 3 → w ≡ get_or ws 1 w → name ≡ text w → IfOk result (λ task. name ≡ name_of task) → IfOk result (λ task. (program word : S) × (ws ≡ program ∷ word ∷ []) × (text word ≡ name_of task))
+pub names_task : {S : Type 0} (text : S → List ℕ) (ws : List S) (w : S) (name : List ℕ) (result : Result Task LineFault) → 2 ≤ length ws → length ws < 3
+    → w ≡ get_or ws 1 w → name ≡ text w → IfOk result (λ task. name ≡ name_of task)
+    → IfOk result (λ task. (program word : S) × (ws ≡ program ∷ word ∷ []) × (text word ≡ name_of task))
 names_task text ws w name (Ok task) least most at lent is = let two = two_words ws w least most at in (two.0, w, two.1, sym lent ∙ is)
 names_task text ws w name (Err fault) least most at lent is = is

@@ -13,7 +13,8 @@ simple : is_simple_and_free fleet_app ≡ true
 unfolding clap_on_literals
 simple = refl
 
-pub line_fails : {T : Type 0} (app : App) (words : List (List ℕ)) (r : Result T Error) → app ≡ fleet_app → (is_simple_and_free app ≡ true → FailsBy (fault_of app words) r) → FailsBy (line_faults words) r
+pub line_fails : {T : Type 0} (app : App) (words : List (List ℕ)) (r : Result T Error) → app ≡ fleet_app
+    → (is_simple_and_free app ≡ true → FailsBy (fault_of app words) r) → FailsBy (line_faults words) r
 unfolding line_faults
 line_fails {T} app words r e h = subst (λ (a : App). is_simple_and_free a ≡ true → FailsBy (fault_of a words) r) e h simple
 

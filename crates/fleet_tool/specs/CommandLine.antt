@@ -10,7 +10,13 @@ use Rattle.fleet_tool.specs.TaskName.{name_of}
 
 -- the command, with a version, and its subcommands, none with a word of its own
 abbrev pub top : App
-top = record (new_app (codes "fleet")) { top = record (new_app (codes "fleet")).top { subcommand_required = true; disable_help_subcommand = true; has_version = true } }
+top = record (new_app (codes "fleet")) {
+  top = record (new_app (codes "fleet")).top {
+    subcommand_required = true;
+    disable_help_subcommand = true;
+    has_version = true;
+  };
+}
 
 abbrev pub fleet_app : App
 fleet_app = with_subcommand (with_subcommand (with_subcommand top (new_app (codes "run")).top) (new_app (codes "check")).top) (new_app (codes "inspect")).top

@@ -4,13 +4,16 @@ use Rattle.std.specs.Fmt.{decimal}
 use Rattle.hex.specs.Hex.{decode_of}
 use Rattle.hex.specs.declared.error.FromHexError.{FromHexError}
 use Rattle.redo_wire.specs.declared.faults.WireFault.{WireFault}
-use Rattle.redo_wire.specs.Faults.{number_of}
+use Rattle.redo_wire.specs.Faults.{fault_number}
 use Rattle.redo_wire.specs.Summaries.{SummaryData}
 use Rattle.redo_wire.specs.Deltas.{DeltaData}
 use Rattle.redo_wire.specs.Books.{min_of}
+use Rattle.redo_wire.specs.declared.pieces.PieceContent.{PieceContent}
+use Rattle.redo_wire.specs.declared.pieces.PieceContent.TheVariants.{Head, Page, Records}
+use Rattle.redo_wire.specs.Pieces.{PieceData}
 use Rattle.redo_wire.specs.Values.{decoded_value}
 use Rattle.redo_wire.specs.declared.values.WireValue.{WireValue}
-use Rattle.redo_wire.specs.declared.values.WireValue.TheVariants.{Fact, Summary, Delta}
+use Rattle.redo_wire.specs.declared.values.WireValue.TheVariants.{Fact, Summary, Delta, Piece}
 use Rattle.script_text.specs.Parts.{parts_at}
 use Rattle.script_text.specs.FactText.{fact_text}
 
@@ -18,24 +21,37 @@ use Rattle.script_text.specs.FactText.{fact_text}
 
 -- the counts of a summary's lists, and its points
 abbrev pub summary_text : SummaryData → List ℕ
-summary_text s = codes "summary cuts " ++ (decimal (length s.book.cuts) ++ (codes " min " ++ (decimal (min_of s.book) ++ (codes " waits " ++ (decimal (length s.book.waits)
+summary_text s = codes "summary cuts " ++ (decimal (length s.book.cuts)
+    ++ (codes " min " ++ (decimal (min_of s.book) ++ (codes " waits " ++ (decimal (length s.book.waits)
     ++ (codes " anchor " ++ (decimal s.anchor ++ (codes " keys " ++ decimal (length s.keys)))))))))
 
 -- the counts of a delta's lists, and its points
 abbrev pub delta_text : DeltaData → List ℕ
-delta_text d = codes "delta cuts " ++ (decimal (length d.book.cuts) ++ (codes " min " ++ (decimal (min_of d.book) ++ (codes " waits " ++ (decimal (length d.book.waits)
+delta_text d = codes "delta cuts " ++ (decimal (length d.book.cuts)
+    ++ (codes " min " ++ (decimal (min_of d.book) ++ (codes " waits " ++ (decimal (length d.book.waits)
     ++ (codes " base " ++ (decimal d.base ++ (codes " pages " ++ (decimal (length d.pages) ++ (codes " records " ++ decimal (length d.records)))))))))))
+
+-- what a piece brings: the head, the number of its page, or how many records
+abbrev pub content_text : PieceContent → List ℕ
+content_text (Head book anchor) = codes "head"
+content_text (Page p) = codes "page " ++ decimal p.page
+content_text (Records rs) = codes "records " ++ decimal (length rs)
+
+-- which piece of how many
+abbrev pub piece_text : PieceData → List ℕ
+piece_text p = codes "piece " ++ (decimal p.index ++ (codes " of " ++ (decimal p.total ++ (codes " " ++ content_text p.content))))
 
 -- what is told of a value
 abbrev pub told : WireValue → List ℕ
 told (Fact f) = fact_text f
 told (Summary s) = summary_text s
 told (Delta d) = delta_text d
+told (Piece p) = piece_text p
 
 -- the value that was read, or the number of the first fault
 abbrev pub value_text : Result WireValue WireFault → List ℕ
 value_text (Ok value) = told value
-value_text (Err fault) = codes "wire " ++ decimal (number_of fault)
+value_text (Err fault) = codes "wire " ++ decimal (fault_number fault)
 
 -- ---- lines
 

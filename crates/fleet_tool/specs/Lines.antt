@@ -1,5 +1,5 @@
 -- The line that answers a step.
-use Rattle.std.specs.Prelude.{ℕ, List, [], ◌++◌, take, drop, codes}
+use Rattle.std.specs.Prelude.{ℕ, Bool, true, false, List, [], ◌++◌, take, drop, codes}
 use Rattle.std.specs.List.{flat_map, zip}
 use Rattle.std.specs.Fmt.{decimal}
 use Rattle.hex.specs.Hex.{encode_lower}
@@ -13,6 +13,11 @@ abbrev pub shown_bytes : Step ℕ → List ℕ → List ℕ
 shown_bytes (Read node page point offset len) image = take len (drop offset image)
 shown_bytes step image = []
 
+-- the answer to a comparison
+abbrev pub answer_text : Bool → List ℕ
+answer_text true = codes "yes\n"
+answer_text false = codes "no\n"
+
 -- The answer line of a reply to a step, with its LF. The refusals have none, since they do not come over a sound log.
 abbrev pub line_of : Step ℕ → Reply → List ℕ
 line_of step reply.Changed = codes "changed\n"
@@ -23,6 +28,9 @@ line_of step (reply.Front f) = codes "front " ++ (decimal f.epoch ++ (codes " " 
 line_of step (reply.Page image) = codes "page " ++ (encode_lower (shown_bytes step image) ++ codes "\n")
 line_of step (reply.Below min) = codes "below " ++ (decimal min ++ codes "\n")
 line_of step (reply.Above complete) = codes "above " ++ (decimal complete ++ codes "\n")
+line_of step reply.Joined = codes "joined\n"
+line_of step (reply.Answer answer) = answer_text answer
+line_of step reply.Wiped = codes "wiped\n"
 line_of step (reply.NoNode node) = codes "no node " ++ (decimal node ++ codes "\n")
 line_of step (reply.Refused refusal) = []
 line_of step (reply.BrokenBlockChain page number) = []

@@ -2,7 +2,7 @@
 use Rattle.std.specs.Prelude.{◌≡◌, ℕ, ◌+◌, ◌⊎◌, List, length, ◌++◌, Result, Ok, Err, codes}
 use Rattle.std.specs.Fmt.{decimal}
 use Rattle.redo_core.specs.Sound.{IsSound}
-use Rattle.redo_core.specs.Fault.{IsFirstFault, number_of}
+use Rattle.redo_core.specs.Fault.{IsFirstFault, law_number}
 use Rattle.redo_core.specs.declared.facts.Fact.{Fact}
 use Rattle.redo_core.specs.declared.laws.Law.{Law}
 use Rattle.fleet_core.specs.Machine.{empty_machine}
@@ -23,7 +23,7 @@ pub record SaysUnsound (roster : ℕ) (facts : List Fact) (text : List ℕ) (ver
   pub place : ℕ
   pub law : Law
   pub fault : IsFirstFault roster facts place law
-  pub says : text ≡ codes "unsound " ++ (decimal (place + 1) ++ (codes " law " ++ (decimal (number_of law) ++ codes "\n")))
+  pub says : text ≡ codes "unsound " ++ (decimal (place + 1) ++ (codes " law " ++ (decimal (law_number law) ++ codes "\n")))
   pub ends : verdict ≡ Unsound
 
 -- the text is the answers of a fleet of the script's nodes to its steps

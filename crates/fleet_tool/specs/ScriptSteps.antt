@@ -32,4 +32,5 @@ Answers fleet facts asked text = (roster : ℕ) (m : Machine) → IsSound roster
 
 -- the line is a fleet's answer to a step, and whatever it then answers to others stands behind
 abbrev pub AnswersFirst : FleetState → List Fact → Step ℕ → List ℕ → FleetState → Type 0
-AnswersFirst old facts step line new = (others : List (Step ℕ)) (rest : List ℕ) → Answers new facts others rest → Answers old facts (step ∷ others) (line ++ rest)
+AnswersFirst old facts step line new = (others : List (Step ℕ)) (rest : List ℕ) → Answers new facts others rest
+    → Answers old facts (step ∷ others) (line ++ rest)

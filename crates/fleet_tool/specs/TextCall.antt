@@ -19,7 +19,8 @@ pub record IsTextCall {R W V : Type 0} (remaining : R → Option (List ℕ)) (co
   -- with no input, or no memory, the writer is as it was; with no output it has a beginning of the answer
   pub input_leaves : IsErrOf result Input → device_of writer' ≡ device_of writer
   pub memory_leaves : IsErrOf result Memory → device_of writer' ≡ device_of writer
-  pub output_leaves : IsErrOf result Output → (input text : List ℕ) × (v : V) × (n : ℕ) × IfSome (remaining (device_of reader)) (λ known. input ≡ known) × IsAnswer input text v
+  pub output_leaves : IsErrOf result Output → (input text : List ℕ) × (v : V) × (n : ℕ) × IfSome (remaining (device_of reader)) (λ known. input ≡ known)
+      × IsAnswer input text v
       × Appends (contents (device_of writer)) (contents (device_of writer')) (take n text)
   -- the whole input is read before anything is written
   pub end : OnOk result (IsAtEnd (remaining (device_of reader')))

@@ -12,11 +12,14 @@ pub const RUN: &str = "Input, a line each; fields stand between single spaces:
   cut E LO HI              a truncation
   min E M [R]              an advance of reader R, or of reader 1
   go                       ends the facts
-  nodes 1                  the number of nodes
+  nodes K                  the number of nodes, 1 to 64
   take I F                 node I takes fact F, counted from 1
+  join I J                 node I takes all that node J means
   fold I G, discard I      folds page G to the anchor, forgets what is folded
+  wipe I                   node I forgets all
   front I                  answers epoch, complete point and minimum read point
   read I G Q OFF LEN       answers bytes of page G at point Q
+  same I J, covers I J     answers whether I means the same as J, or at least as much
 
 Statuses: 0 answered, 2 a bad line, 3 a log that is not sound, 4 a device that failed, 5 no memory.
 All forms and answers stand in docs/FORMATS.md.";
@@ -29,8 +32,8 @@ Statuses: 0 sound, 2 a bad line, 3 a log that is not sound, 4 a device that fail
 The laws stand in docs/RULES.md, the forms in docs/FORMATS.md.";
 
 pub const INSPECT: &str =
-    "Input, a line each: the bytes of a fact, a summary or a delta, in hexadecimal digits of either case.
-Output, a line each: the fact's line, or what the summary or the delta holds, or wire and the number of the fault, or bad hex.
+    "Input, a line each: the bytes of a fact, summary, delta or piece of a snapshot, in hexadecimal digits of either case.
+Output, a line each: the fact's line, or what the other values hold, or wire and the number of the fault, or bad hex.
 
 Statuses: 0 answered, 4 a device that failed, 5 no memory.
 The bytes stand in docs/FORMATS.md.";

@@ -2,18 +2,20 @@
 
 ghost use Rattle.std.specs.Prelude.{◌≡◌, ◌<◌, ◌==◌, ◌++◌, ◌∷◌, [], length, position, IfOk, IfSome, IfNone, OnOk, codes, string_bytes};
 ghost use Rattle.std.specs.Fmt.{decimal};
-ghost use Rattle.redo_wire.specs.Faults.{number_of};
+ghost use Rattle.redo_wire.specs.Faults.{fault_number};
 ghost use Rattle.redo_wire.specs.Values.{decoded_value};
 ghost use Rattle.script_text.specs.Parts.{parts_at};
-ghost use Rattle.fleet_tool.specs.Inspect.{summary_text, delta_text, told, value_text, line_text, inspected};
+ghost use Rattle.fleet_tool.specs.Inspect.{summary_text, delta_text, content_text, piece_text, told, value_text, line_text, inspected};
 
 use hex::FromHexError;
-use redo_wire::{Delta, Summary, WireError, WireFault, WireValue, decode_value};
+use redo_wire::{
+    Delta, Piece, PieceContent, Summary, WireError, WireFault, WireValue, decode_value,
+};
 use script_text::fact_text;
 use std::alloc::{AllocError, Global};
 
 fn fault_text(alloc: Global, fault: WireFault) -> Result<String, AllocError>
-    ensures { IfOk result (λ s. string_bytes s ≡ codes "wire " ++ decimal (number_of fault)) }
+    ensures { IfOk result (λ s. string_bytes s ≡ codes "wire " ++ decimal (fault_number fault)) }
 {
     let number = fault.number();
     format!(in alloc; "wire {number}")
@@ -44,6 +46,31 @@ fn delta_text(alloc: Global, delta: &Delta) -> Result<String, AllocError>
     )
 }
 
+fn content_text(alloc: Global, content: &PieceContent) -> Result<String, AllocError>
+    ensures { IfOk result (λ s. string_bytes s ≡ content_text content.now) }
+{
+    match content {
+        PieceContent::Head { book: _, anchor: _ } => format!(in alloc; "head"),
+        PieceContent::Page(image) => {
+            let number = image.number();
+            format!(in alloc; "page {number}")
+        }
+        PieceContent::Records(batch) => {
+            let count = batch.records().len();
+            format!(in alloc; "records {count}")
+        }
+    }
+}
+
+fn piece_text(alloc: Global, piece: &Piece) -> Result<String, AllocError>
+    ensures { IfOk result (λ s. string_bytes s ≡ piece_text piece.now) }
+{
+    let index = piece.index();
+    let total = piece.total();
+    let content = content_text(alloc, piece.content())?;
+    format!(in alloc; "piece {index} of {total} {content}")
+}
+
 /// What is told of a value.
 fn told(alloc: Global, value: &WireValue) -> Result<String, AllocError>
     ensures { IfOk result (λ s. string_bytes s ≡ told value.now) }
@@ -52,6 +79,7 @@ fn told(alloc: Global, value: &WireValue) -> Result<String, AllocError>
         WireValue::Fact(fact) => fact_text(alloc, fact),
         WireValue::Summary(summary) => summary_text(alloc, summary),
         WireValue::Delta(delta) => delta_text(alloc, delta),
+        WireValue::Piece(piece) => piece_text(alloc, piece),
     }
 }
 

@@ -47,6 +47,10 @@ pub fn line(alloc: Global, step: Step<usize>, reply: &Reply) -> Result<String, A
         }
         Reply::Below(min) => format!(in alloc; "below {min}\n"),
         Reply::Above(complete) => format!(in alloc; "above {complete}\n"),
+        Reply::Joined => String::from_str(alloc, "joined\n"),
+        Reply::Answer(true) => String::from_str(alloc, "yes\n"),
+        Reply::Answer(false) => String::from_str(alloc, "no\n"),
+        Reply::Wiped => String::from_str(alloc, "wiped\n"),
         Reply::NoNode(node) => format!(in alloc; "no node {node}\n"),
         Reply::Refused(_) => Ok(String::new(alloc)),
         Reply::BrokenBlockChain { .. } => Ok(String::new(alloc)),

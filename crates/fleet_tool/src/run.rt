@@ -62,8 +62,8 @@ pub fn check_text<R: Read, W: Write>(
     answer_text(alloc, Task::Check, reader, writer)
 }
 
-/// Tells what each line of hexadecimal digits spells: a fact's line, what a summary or a delta holds, the number of the first
-/// wire fault, or `bad hex`.
+/// Tells what each line of hexadecimal digits spells: a fact's line, what a summary, a delta or a piece of a snapshot holds,
+/// the number of the first wire fault, or `bad hex`.
 ///
 /// Errors as for `run_text`.
 pub fn inspect_text<R: Read, W: Write>(

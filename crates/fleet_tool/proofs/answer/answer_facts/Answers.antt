@@ -9,7 +9,8 @@ returns-in-Err-Unsound c =
     let read : facts_of c.args.input.now ≡ Ok (log_data c.in-Ok.log) = c.in-Ok.ensures in
     let facts : c.deref.result.now ≡ c.in-Ok.log.facts.items = search rules in
     let reported = rw facts at (rw c.in-Err-Unsound.field-0-is at (c.in-Err-Unsound.ensures.unsound)) in
-    check_unsound (facts_of c.args.input.now) (log_data c.in-Ok.log) c.unsound.result read (c.unsound.ensures c.in-Ok.log.roster c.in-Ok.log.facts.items reported)
+    check_unsound (facts_of c.args.input.now) (log_data c.in-Ok.log) c.unsound.result read
+    (c.unsound.ensures c.in-Ok.log.roster c.in-Ok.log.facts.items reported)
 
 pub returns : goal.returns
 returns c =

@@ -11,7 +11,8 @@ returns-in-Err-Unsound c =
     let read : script_of c.args.input.now ≡ Ok (script_data c.in-Ok.script) = c.in-Ok.ensures.script in
     let facts : c.deref.result.now ≡ c.in-Ok.script.facts.items = search rules in
     let reported = rw facts at (rw c.in-Err-Unsound.field-0-is at (c.in-Err-Unsound.ensures.unsound)) in
-    run_unsound (script_of c.args.input.now) (script_data c.in-Ok.script) c.unsound.result read (c.unsound.ensures c.in-Ok.script.roster c.in-Ok.script.facts.items reported)
+    run_unsound (script_of c.args.input.now) (script_data c.in-Ok.script) c.unsound.result read
+    (c.unsound.ensures c.in-Ok.script.roster c.in-Ok.script.facts.items reported)
 
 pub replies-requires-clause-sound : goal.replies-requires-clause-sound
 replies-requires-clause-sound c =

@@ -8,7 +8,8 @@ use Rattle.fleet_tool.proofs.script_steps.answers.Goals as goal
 pub loop-step-preserved : goal.loop-step-preserved
 loop-step-preserved c =
     let put = c.in_ok-put_answer.ensures in
-    answered_more c.args.fleet.now c.loop-step.fleet c.put_answer.new.fleet c.args.facts.now c.args.steps.now c.loop-step.step-index _ (string_bytes c.loop-step.text) (string_bytes c.put_answer.new.text) put.0
+    answered_more c.args.fleet.now c.loop-step.fleet c.put_answer.new.fleet c.args.facts.now c.args.steps.now c.loop-step.step-index _
+    (string_bytes c.loop-step.text) (string_bytes c.put_answer.new.text) put.0
     c.loop-step-test.true put.1 put.2 c.loop-step.invariant
 
 pub returns : goal.returns
