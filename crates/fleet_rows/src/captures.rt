@@ -106,7 +106,8 @@ fn faults(rt: HostRuntime) -> Result<(), Fail> {
             "wire 1\n",
         ),
         ("04", "wire 2\n"),
-        ("12", "wire 2\n"),
+        ("12", "wire 1\n"),
+        ("13", "wire 2\n"),
         ("030000000000000000", "wire 3\n"),
         ("020001000000000006000000000005", "wire 3\n"),
         (
@@ -131,6 +132,40 @@ fn faults(rt: HostRuntime) -> Result<(), Fail> {
             "0600000000000000030000000000000007000000000000010102",
             "wire 2\n",
         ),
+    ] {
+        assert!(rt; tells(rt.alloc(), input, output), "at {input}");
+    }
+    Ok(())
+}
+
+/// A piece that is page 7, of one byte throughout.
+fn page_piece(alloc: Global) -> Result<String, Fail> {
+    let mut text = String::from_str(alloc, "12000000000000000900000001000000030100")?;
+    for _ in 0..4097 {
+        text.push_str("07")?;
+    }
+    Ok(text)
+}
+
+#[test]
+fn pieces(rt: HostRuntime) -> Result<(), Fail> {
+    let page = page_piece(rt.alloc())?;
+    for (input, output) in [
+        (
+            "120000000000000009000000000000000300000000000000000500000000000000000005",
+            "piece 0 of 3 head\n",
+        ),
+        (
+            "22000000000000000900000000000000010000000200000000000500000000000300000000000000000003",
+            "piece 0 of 1 head\n",
+        ),
+        (&*page, "piece 1 of 3 page 7\n"),
+        (
+            "12000000000000000900000002000000030201010000000000000003000000000000000700000000000001000000026161",
+            "piece 2 of 3 records 1\n",
+        ),
+        ("120000000000000009000000010000000203", "wire 2\n"),
+        ("120000000000000009000000010000000200", "wire 3\n"),
     ] {
         assert!(rt; tells(rt.alloc(), input, output), "at {input}");
     }

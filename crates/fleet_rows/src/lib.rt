@@ -9,6 +9,10 @@ mod fail_at;
 #[cfg(test)]
 mod failing;
 #[cfg(test)]
+mod plain_nodes;
+#[cfg(test)]
 mod random;
 #[cfg(test)]
 mod rows;
+#[cfg(test)]
+mod several;

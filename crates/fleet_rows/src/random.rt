@@ -1,24 +1,25 @@
-//! Random scripts of takes, folds and discards over random sound logs of one to three readers. Each front and each page that the
-//! fleet replies is that of the facts that reached its node, computed anew by the plain model.
+//! Random scripts over random sound logs of one to three readers, for fleets of one node and of two to four. Each front, each page
+//! and each comparison that the fleet replies is that of the facts that reached its nodes, computed anew by the plain model.
 
-ghost use Rattle.std.specs.Prelude.{◌<◌};
+ghost use Rattle.std.specs.Prelude.{◌<◌, ◌≤◌};
 
+use crate::plain_nodes::PlainNodes;
 use fleet_core::{Fleet, Reply, Step};
 use log_law::Writer;
-use plain_model::{Position, page_at, position};
 use rand_core::utils::NextWord;
 use rand_pcg::Pcg32;
 use redo_core::{Fact, Patch, Record, Roster, Write};
-use segment_core::Front;
 use std::alloc::{AllocError, Global};
 use std::test::Fail;
 
-/// How many scripts are run, and how many steps each has.
+/// How many scripts are run for fleets of one node and of more, and how many draws make each.
 const SCRIPTS: u32 = 150;
 
-const STEPS: u32 = 48;
+const JOINING_SCRIPTS: u32 = 100;
 
-/// Facts in a log, at most, and pages that its records write. Each fact has three numbers of its own.
+const DRAWS: u16 = 48;
+
+/// Draws that make a log, and pages that its records write. Each draw has three numbers of its own.
 const FACTS: u16 = 14;
 
 const PAGES: u16 = 3;
@@ -56,12 +57,19 @@ fn random_patches(alloc: Global, rng: &mut Pcg32) -> Result<Vec<Patch>, AllocErr
     Ok(patches)
 }
 
+/// Advances each reader to the point, as far as the writer takes it.
+fn advance_all(writer: &mut Writer, readers: u8, point: u64) {
+    for before in 0..readers {
+        let _ = writer.advance_of(before + 1, point);
+    }
+}
+
 /// A writer with some records, advances and truncations. What it refuses is left out.
 fn random_log(alloc: Global, rng: &mut Pcg32, readers: u8) -> Result<Writer, Fail> {
     let mut writer = Writer::new(alloc, Roster::new(readers)?)?;
     for i in 0..FACTS {
         let floor = 3 * i;
-        match draw(rng, 9) {
+        match draw(rng, 10) {
             0 => {
                 let _ = writer.recover(u64::from(draw(rng, floor + 1)), u64::from(floor));
             }
@@ -69,6 +77,7 @@ fn random_log(alloc: Global, rng: &mut Pcg32, readers: u8) -> Result<Writer, Fai
                 let reader = draw(rng, 3) as u8 + 1;
                 let _ = writer.advance_of(reader, u64::from(draw(rng, floor + 1)));
             }
+            3 => advance_all(&mut writer, readers, u64::from(draw(rng, floor + 1))),
             _ => {
                 let number = floor + 1 + draw(rng, 3);
                 let page = draw(rng, PAGES);
@@ -107,9 +116,12 @@ fn random_facts(alloc: Global, rng: &mut Pcg32, readers: u8) -> Result<Vec<Fact>
     Ok(facts)
 }
 
-fn read(page: u16, point: u64) -> Step<usize> {
+/// A step that names a fact by its place in the log.
+type Asked = Step<usize>;
+
+fn read(node: u16, page: u16, point: u64) -> Asked {
     Step::Read {
-        node: 1,
+        node,
         page,
         point,
         offset: 0,
@@ -117,23 +129,127 @@ fn read(page: u16, point: u64) -> Step<usize> {
     }
 }
 
-/// A step at the one node; more than half of them take a fact, which is named by its place in the log.
-fn random_step(rng: &mut Pcg32, facts: usize) -> Step<usize> {
+/// A number from 1 on, up to the last node's.
+fn random_node(rng: &mut Pcg32, nodes: u16) -> u16
+    requires { 0 < nodes }
+    ensures { result ≤ nodes }
+{
+    draw(rng, nodes) + 1
+}
+
+/// A place in a log, or past its end.
+fn random_place(rng: &mut Pcg32) -> usize
+    ensures { result < 20 }
+{
+    usize::from(draw(rng, 20))
+}
+
+/// A step at one of the nodes, or a comparison of two; more than half of them take a fact.
+fn random_step(rng: &mut Pcg32, nodes: u16, facts: usize) -> Asked
+    requires { 0 < nodes }
+{
+    let node = random_node(rng, nodes);
+    let other = random_node(rng, nodes);
     let page = draw(rng, PAGES);
     let point = u64::from(draw(rng, 3 * FACTS + 3));
-    let fact = usize::from(draw(rng, FACTS));
-    match draw(rng, 16) {
-        0 => Step::Discard { node: 1 },
-        1 | 2 => Step::Fold { node: 1, page },
-        3 => Step::Front { node: 1 },
-        4 | 5 => read(page, point),
-        _ if fact < facts => Step::Take { node: 1, fact },
-        _ => Step::Discard { node: 1 },
+    let fact = random_place(rng);
+    match draw(rng, 18) {
+        0 => Step::Discard { node },
+        1 | 2 => Step::Fold { node, page },
+        3 => Step::Front { node },
+        4 | 5 => read(node, page, point),
+        6 => Step::Same { node, other },
+        7 => Step::Covers { node, other },
+        _ if fact < facts => Step::Take { node, fact },
+        _ => Step::Discard { node },
     }
 }
 
+/// A join of two nodes, before which the one has folded a page, the other two, and either of them has discarded.
+fn push_join(rng: &mut Pcg32, nodes: u16, steps: &mut Vec<Asked>) -> Result<(), Fail>
+    requires { 0 < nodes }
+{
+    let node = random_node(rng, nodes);
+    let from = random_node(rng, nodes);
+    let page = draw(rng, PAGES);
+    let forgets = if draw(rng, 2) == 0 { node } else { from };
+    steps.push(Step::Fold { node, page })?;
+    for _ in 0..2 {
+        let page = draw(rng, PAGES);
+        steps.push(Step::Fold { node: from, page })?;
+    }
+    steps.push(Step::Discard { node: forgets })?;
+    steps.push(Step::Join { node, from })?;
+    Ok(())
+}
+
+/// Takes of up to eight facts that follow one another in the log, at one node.
+fn push_takes(rng: &mut Pcg32, nodes: u16, facts: usize, steps: &mut Vec<Asked>) -> Result<(), Fail>
+    requires { 0 < nodes }
+{
+    let node = random_node(rng, nodes);
+    let first = random_place(rng);
+    for more in 0..usize::from(draw(rng, 8)) {
+        let fact = first + more;
+        if fact < facts {
+            steps.push(Step::Take { node, fact })?;
+        }
+    }
+    Ok(())
+}
+
+/// A script: of sixty draws about one wipes a node, five join two nodes, and six bring facts that follow one another.
+fn random_script(
+    alloc: Global,
+    rng: &mut Pcg32,
+    nodes: u16,
+    facts: usize,
+) -> Result<Vec<Asked>, Fail>
+    requires { 0 < nodes }
+{
+    let mut steps = Vec::new(alloc);
+    for _ in 0..DRAWS {
+        match draw(rng, 60) {
+            0 => steps.push(Step::Wipe {
+                node: random_node(rng, nodes),
+            })?,
+            1..=5 => push_join(rng, nodes, &mut steps)?,
+            6..=11 => push_takes(rng, nodes, facts, &mut steps)?,
+            _ => steps.push(random_step(rng, nodes, facts))?,
+        }
+    }
+    Ok(steps)
+}
+
+/// Each page of a node at each point.
+fn push_reads(node: u16, steps: &mut Vec<Asked>) -> Result<(), Fail> {
+    for place in 0..PAGES * (3 * FACTS + 3) {
+        steps.push(read(node, place % PAGES, u64::from(place / PAGES)))?;
+    }
+    Ok(())
+}
+
+/// How a node compares with each node.
+fn push_comparisons(node: u16, nodes: u16, steps: &mut Vec<Asked>) -> Result<(), Fail> {
+    for before in 0..nodes {
+        let other = before + 1;
+        steps.push(Step::Same { node, other })?;
+        steps.push(Step::Covers { node, other })?;
+    }
+    Ok(())
+}
+
+/// All that can be asked of a node.
+fn questions(alloc: Global, node: u16, nodes: u16) -> Result<Vec<Asked>, Fail> {
+    let mut steps = Vec::new(alloc);
+    steps.push(Step::Front { node })?;
+    push_reads(node, &mut steps)?;
+    push_comparisons(node, nodes, &mut steps)?;
+    Ok(steps)
+}
+
 /// Carries out a step that names a fact of the log by its place.
-fn carry_out(fleet: &mut Fleet, log: &[Fact], step: Step<usize>) -> Result<Reply, Fail> {
+fn carry_out(fleet: &mut Fleet, log: &[Fact], step: Asked) -> Result<Reply, Fail> {
     let named = step.naming(|place| match log.get(place) {
         Some(fact) => Ok(fact.copy()?),
         None => Err(Fail::from("no such fact")),
@@ -141,107 +257,39 @@ fn carry_out(fleet: &mut Fleet, log: &[Fact], step: Step<usize>) -> Result<Reply
     Ok(fleet.step(&named))
 }
 
-/// Adds the fact of a take to the facts that reached the node, where it is a new one.
-fn reach(reached: &mut Vec<Fact>, log: &[Fact], step: Step<usize>) -> Result<(), AllocError> {
-    if let Step::Take { fact, .. } = step {
-        if let Some(fact) = log.get(fact) {
-            if !reached.iter().any(|held| held.is_same(fact)) {
-                reached.push(fact.copy()?)?;
-            }
-        }
-    }
-    Ok(())
-}
-
-fn is_front(reply: &Reply, at: &Position) -> bool {
-    match reply {
-        Reply::Front(front) => *front
-            == Front {
-                epoch: at.epoch,
-                complete: at.complete,
-                min: at.min,
-            },
-        _ => false,
-    }
-}
-
-fn is_page(
-    alloc: Global,
-    reply: &Reply,
-    facts: &[Fact],
-    at: &Position,
-    page: u16,
-    point: u64,
-) -> Result<bool, AllocError> {
-    match reply {
-        Reply::Below(min) => Ok(point < at.min && *min == at.min),
-        Reply::Above(complete) => {
-            Ok(at.min <= point && at.complete < point && *complete == at.complete)
-        }
-        Reply::Page(image) => {
-            if point < at.min || at.complete < point {
-                return Ok(false);
-            }
-            let plain = page_at(alloc, facts, at.epoch, page, point)?;
-            Ok(image.bytes() == plain.bytes())
-        }
-        _ => Ok(false),
-    }
-}
-
-/// Whether the reply is what the facts that reached the node say.
-fn is_answer(
-    alloc: Global,
-    step: Step<usize>,
-    reply: &Reply,
-    facts: &[Fact],
-    roster: Roster,
-) -> Result<bool, AllocError> {
-    match step {
-        Step::Take { .. } => Ok(matches!(reply, Reply::Changed | Reply::Unchanged)),
-        Step::Fold { .. } => Ok(matches!(reply, Reply::Folded)),
-        Step::Discard { .. } => Ok(matches!(reply, Reply::Discarded)),
-        Step::Front { .. } => Ok(is_front(reply, &position(alloc, facts, roster)?)),
-        Step::Read { page, point, .. } => {
-            let at = position(alloc, facts, roster)?;
-            is_page(alloc, reply, facts, &at, page, point)
-        }
-    }
-}
-
-/// Whether a random script is answered as its facts say, and then its front and each page at each point.
-fn script_is_answered(alloc: Global, rng: &mut Pcg32) -> Result<bool, Fail> {
-    let readers = draw(rng, 3) as u8 + 1;
-    let roster = Roster::new(readers)?;
-    let log = random_facts(alloc, rng, readers)?;
-    let mut fleet = Fleet::new(alloc, roster, 1)?;
-    let mut reached = Vec::new(alloc);
-    for _ in 0..STEPS {
-        let step = random_step(rng, log.len());
-        reach(&mut reached, &log, step)?;
-        let reply = carry_out(&mut fleet, &log, step)?;
-        if !is_answer(alloc, step, &reply, &reached, roster)? {
+/// Whether each step is answered as the facts that reached its nodes say.
+fn are_answered(
+    fleet: &mut Fleet,
+    plain: &mut PlainNodes,
+    log: &[Fact],
+    steps: &[Asked],
+) -> Result<bool, Fail> {
+    for step in steps {
+        plain.carry_out(log, *step)?;
+        let reply = carry_out(fleet, log, *step)?;
+        if !plain.is_answer(*step, &reply)? {
             return Ok(false);
         }
     }
-    all_is_answered(alloc, &mut fleet, &reached, roster)
+    Ok(true)
 }
 
-fn all_is_answered(
-    alloc: Global,
-    fleet: &mut Fleet,
-    facts: &[Fact],
-    roster: Roster,
-) -> Result<bool, Fail> {
-    let at = position(alloc, facts, roster)?;
-    if !is_front(&carry_out(fleet, facts, Step::Front { node: 1 })?, &at) {
+/// Whether a random script is answered as its facts say, and then all that can be asked of each node.
+fn script_is_answered(alloc: Global, rng: &mut Pcg32, nodes: u16) -> Result<bool, Fail>
+    requires { 0 < nodes }
+{
+    let readers = draw(rng, 3) as u8 + 1;
+    let roster = Roster::new(readers)?;
+    let log = random_facts(alloc, rng, readers)?;
+    let script = random_script(alloc, rng, nodes, log.len())?;
+    let mut fleet = Fleet::new(alloc, roster, nodes)?;
+    let mut plain = PlainNodes::new(alloc, roster, nodes)?;
+    if !are_answered(&mut fleet, &mut plain, &log, &script)? {
         return Ok(false);
     }
-    for place in 0..PAGES * (3 * FACTS + 3) {
-        let page = place % PAGES;
-        let point = u64::from(place / PAGES);
-        let reply = carry_out(fleet, facts, read(page, point))?;
-        if !is_page(alloc, &reply, facts, &at, page, point)? {
+    for before in 0..nodes {
+        let asked = questions(alloc, before + 1, nodes)?;
+        if !are_answered(&mut fleet, &mut plain, &log, &asked)? {
             return Ok(false);
         }
     }
@@ -253,7 +301,20 @@ fn folds_and_discards_are_not_seen(rt: HostRuntime) -> Result<(), Fail> {
     let mut rng = Pcg32::new(20, 7);
     for script in 0..SCRIPTS {
         assert!(rt;
-            script_is_answered(rt.alloc(), &mut rng)?,
+            script_is_answered(rt.alloc(), &mut rng, 1)?,
+            "at script {script}"
+        );
+    }
+    Ok(())
+}
+
+#[test]
+fn joined_nodes_mean_unions(rt: HostRuntime) -> Result<(), Fail> {
+    let mut rng = Pcg32::new(22, 9);
+    for script in 0..JOINING_SCRIPTS {
+        let nodes = draw(&mut rng, 3) + 2;
+        assert!(rt;
+            script_is_answered(rt.alloc(), &mut rng, nodes)?,
             "at script {script}"
         );
     }

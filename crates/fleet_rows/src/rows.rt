@@ -6,7 +6,7 @@ use std::test::Fail;
 
 const LOG: &str = "rec 0 3 0 7 0 0:6161\nrec 0 5 3 7 3 1:62\nrec 0 9 5 8 0 0:63\nmin 0 5\n";
 
-const LONG_LOG: &str =
+pub const LONG_LOG: &str =
     "rec 0 3 0 7 0 0:6161\nrec 0 5 3 7 3 1:62\nrec 0 9 5 8 0 0:63\nmin 0 5\ncut 1 5 20\nrec 1 21 5 7 5 0:7a\nrec 0 12 9 7 5 0:78\n";
 
 /// A log of two readers: the second one's point is the least until the last fact.
@@ -18,7 +18,7 @@ const LOG_OF_PATCHES: &str =
     "rec 0 3 0 7 0 0:6161\nrec 0 5 3 7 3 init,1:62\nrec 0 9 5 7 5 0*2:7a\nmin 0 5\nrec 0 12 9 7 9 init\nmin 0 12\n";
 
 /// A step of a script, and its answer.
-type Row<'a> = (&'a str, &'a str);
+pub type Row<'a> = (&'a str, &'a str);
 
 /// Whether the task answers the input with that output, and ends so.
 pub fn answers(alloc: Global, task: Task, input: &str, output: &str, verdict: Verdict) -> bool {
@@ -35,25 +35,42 @@ pub fn answers(alloc: Global, task: Task, input: &str, output: &str, verdict: Ve
     ended == Ok(verdict) && writer.into_inner().as_slice() == output.as_bytes()
 }
 
-/// The script of a log and steps over one node.
-fn script(alloc: Global, log: &str, rows: &[Row<'_>]) -> Result<String, AllocError> {
-    let mut input = String::from_str(alloc, log)?;
-    input.push_str("go\nnodes 1\n")?;
-    for (step, _) in rows {
-        input.push_str(step)?;
-        input.push_str("\n")?;
-    }
-    Ok(input)
+/// The script of a log, of so many nodes, without steps.
+fn opening(alloc: Global, log: &str, nodes: u8) -> Result<String, AllocError> {
+    format!(in alloc; "{log}go\nnodes {nodes}\n")
 }
 
-/// Whether a node answers each step of the script so.
-fn rows_hold(alloc: Global, log: &str, rows: &[Row<'_>]) -> Result<bool, AllocError> {
-    let input = script(alloc, log, rows)?;
-    let mut output = String::new(alloc);
-    for (_, answer) in rows {
+/// Appends the rows' steps to the input, a line each, and their answers to the output.
+fn push_rows(input: &mut String, output: &mut String, rows: &[Row<'_>]) -> Result<(), AllocError> {
+    for (step, answer) in rows {
+        input.push_str(step)?;
+        input.push_str("\n")?;
         output.push_str(answer)?;
         output.push_str("\n")?;
     }
+    Ok(())
+}
+
+/// Whether so many nodes answer each step of the parts so, one part after another.
+pub fn rows_hold_of(
+    alloc: Global,
+    log: &str,
+    nodes: u8,
+    parts: &[&[Row<'_>]],
+) -> Result<bool, AllocError> {
+    let mut input = opening(alloc, log, nodes)?;
+    let mut output = String::new(alloc);
+    for rows in parts {
+        push_rows(&mut input, &mut output, rows)?;
+    }
+    Ok(answers(alloc, Task::Run, &input, &output, Verdict::Done))
+}
+
+/// Whether a node answers each step so.
+fn rows_hold(alloc: Global, log: &str, rows: &[Row<'_>]) -> Result<bool, AllocError> {
+    let mut input = opening(alloc, log, 1)?;
+    let mut output = String::new(alloc);
+    push_rows(&mut input, &mut output, rows)?;
     Ok(answers(alloc, Task::Run, &input, &output, Verdict::Done))
 }
 
@@ -244,7 +261,14 @@ fn bad_lines(rt: HostRuntime) -> Result<(), Fail> {
         ("min 0 5", 1),
         ("min 0 5\n", 2),
         ("rec 0 3 0 7 0 -\ngo\nnodes 1\ntake 1 1", 4),
-        ("go\nnodes 2\n", 2),
+        ("go\nnodes 65\n", 2),
+        ("go\nnodes 0\n", 2),
+        ("go\nnodes 2\njoin 1\n", 3),
+        ("go\nnodes 2\njoin 1 2 1\n", 3),
+        ("go\nnodes 2\nsame 1 65536\n", 3),
+        ("go\nnodes 2\ncovers 1  2\n", 3),
+        ("go\nnodes 2\nwipe 1 2\n", 3),
+        ("go\nnodes 2\nmerge 1 2\n", 3),
         ("go\nnodes 1\nfold 1\n", 3),
         ("go\nnodes 1\nfold 1 7 8\n", 3),
         ("go\nnodes 1\nfold 1 65536\n", 3),
@@ -304,7 +328,7 @@ fn logs_that_are_not_sound(rt: HostRuntime) -> Result<(), Fail> {
             answers(alloc, Task::Check, log, &output, Verdict::Unsound),
             "at {log}"
         );
-        let input = script(alloc, log, &[])?;
+        let input = opening(alloc, log, 1)?;
         assert!(rt;
             answers(alloc, Task::Run, &input, &output, Verdict::Unsound),
             "at {log}"
