@@ -1,0 +1,75 @@
+-- The first element of a list that fails a test, and how the standing of a key tells whether it is accounted for.
+use Rattle.std.proofs.Common.{◌≡◌, ◌↔◌, ℕ, ◌<◌, ◌≤◌, ◌⊎◌, inl, inr, ⊎_elim, List, [], ◌∷◌, zero, suc, length, get_or, take, Bool, true, IsTrue, refl, sym, subst, ◌∙◌, arith}
+use Rattle.std.specs.List.{All, AllByRecursion, Contains}
+use Rattle.redo_core.specs.Order.{IsRising, IsFirst}
+use Rattle.redo_core.specs.Standing.{IsAlive, IsDead, IsWaiting}
+use Rattle.redo_core.proofs.Members.{none_in, here, there, which}
+use Rattle.redo_wire.specs.declared.keys.Key.{Key}
+use Rattle.epoch_book.specs.declared.standing.Standing.TheVariants.{Alive, Dead}
+use Rattle.redo_laws.proofs.Numbers.{greatest_unique}
+use Rattle.segment_state.specs.State.{State, min_of}
+use Rattle.segment_state.specs.HasMeaning.{IsLinkedIn, HasAnchor}
+use Rattle.segment_core.specs.Standing.{StandsAt}
+use Rattle.gossip_core.specs.Answering.{HoldsKey, IsCovered}
+
+each_of : {X : Type 0} (P : X → Type 0) (xs : List X) → AllByRecursion P xs → (x : X) → Contains xs x → P x
+each_of P [] all x h = absurd (none_in x h)
+each_of P (y ∷ ys) all x h = ⊎_elim (λ (e : y ≡ x). subst P e all.0) (λ (t : Contains ys x). each_of P ys all.1 x t) (which y ys x h)
+
+tail_of : {X : Type 0} (P : X → Type 0) (y : X) (ys : List X) (i : ℕ) → All P (take (suc i) (y ∷ ys)) → All P (take i ys)
+tail_of P y ys i seen = λ j d lt. seen (suc j) d (omega (arith, lt))
+
+-- of rising elements the first that fails is the least that does
+pub first_fails : {X : Type 0} (Before : X → X → Type 0) (P : X → Type 0) (xs : List X) (i : ℕ) (x : X) → IsRising Before xs → i < length xs
+    → x ≡ get_or xs i x → All P (take i xs) → (P x → ⊥) → IsFirst Before (λ y. Contains xs y × (P y → ⊥)) x
+first_fails Before P [] i x rising lt is seen fails = absurd (omega (arith, lt))
+first_fails Before P (y ∷ ys) zero x rising lt is seen fails = record {
+  has = (subst (λ z. Contains (y ∷ ys) z) (sym is) (here y ys), fails);
+  least = λ z h. ⊎_elim
+      (λ (e : y ≡ z). inl (sym e ∙ sym is))
+      (λ (t : Contains ys z). inr (subst (λ w. Before w z) (sym is) (each_of (Before y) ys rising.0 z t)))
+      (which y ys z h.0);
+}
+first_fails Before P (y ∷ ys) (suc i) x rising lt is seen fails =
+    let rest = first_fails Before P ys i x rising.1 (omega (arith, lt)) is (tail_of P y ys i seen) fails in
+    record {
+      has = (there y ys x rest.has.0, fails);
+      least = λ z h. ⊎_elim
+          (λ (e : y ≡ z). absurd (h.1 (subst P e (seen 0 y (omega arith)))))
+          (λ (t : Contains ys z). rest.least z (t, h.1))
+          (which y ys z h.0);
+    }
+
+-- within a list the element at a place is the same whatever stands for one beyond it
+pub any_default : {X : Type 0} (xs : List X) (i : ℕ) (x y : X) → i < length xs → get_or xs i x ≡ get_or xs i y
+any_default [] i x y lt = absurd (omega (arith, lt))
+any_default (z ∷ zs) zero x y lt = refl
+any_default (z ∷ zs) (suc i) x y lt = any_default zs i x y (omega (arith, lt))
+
+-- a state has one anchor
+pub one_anchor : (s : State) (a b : ℕ) → HasAnchor s a → HasAnchor s b → a ≡ b
+one_anchor s a b = greatest_unique (λ n. IsLinkedIn s n × (n ≤ min_of s)) (λ n. IsLinkedIn s n × (n ≤ min_of s)) (λ i. (λ x. x, λ x. x)) a b
+
+pub dead_covers : (s : State) (anchor : ℕ) (key : Key) → StandsAt s key.epoch key.number Dead → IsTrue true ↔ IsCovered s anchor key
+dead_covers s anchor key stands = (λ h. inr (inl (stands.dead.0 refl)), λ h. refl)
+
+pub settled_covers : (s : State) (anchor : ℕ) (key : Key) → StandsAt s key.epoch key.number Alive → key.number ≤ anchor → IsTrue true ↔ IsCovered s anchor key
+settled_covers s anchor key stands low = (λ h. inr (inr ((stands.alive.0 refl).known, low)), λ h. refl)
+
+pub held_covers : (s : State) (anchor : ℕ) (key : Key) (is_held : Bool)
+    → IsWaiting s.book.complete key.epoch ⊎ (IsAlive s.book.cuts s.book.complete key.epoch key.number × (anchor < key.number))
+    → IsTrue is_held ↔ HoldsKey s key → IsTrue is_held ↔ IsCovered s anchor key
+held_covers s anchor key is_held wanted tells = (
+  λ h. inl (tells.0 h),
+  λ has. ⊎_elim
+      (λ (held : HoldsKey s key). tells.1 held)
+      (λ gone. absurd (⊎_elim
+      (λ (dead : IsDead s.book.cuts s.book.complete key.epoch key.number). ⊎_elim
+      (λ (w : IsWaiting s.book.complete key.epoch). omega (arith, w, dead.0))
+      (λ (a : IsAlive s.book.cuts s.book.complete key.epoch key.number × (anchor < key.number)). dead.1 a.0) wanted)
+      (λ (low : (key.epoch ≤ s.book.complete) × (key.number ≤ anchor)). ⊎_elim
+      (λ (w : IsWaiting s.book.complete key.epoch). omega (arith, w, low.0))
+      (λ (a : IsAlive s.book.cuts s.book.complete key.epoch key.number × (anchor < key.number)). omega (arith, a.1, low.1)) wanted)
+      gone))
+      has,
+)

@@ -1,0 +1,133 @@
+-- Inside one sound log: a state answers for a summary exactly where its facts do.
+use Rattle.std.proofs.Common.{◌≡◌, ℕ, ◌<◌, ◌≤◌, ◌⊎◌, ◌↔◌, inl, inr, ⊎_elim, List, Option, Some, None, refl, sym, subst, arith}
+use Rattle.std.specs.List.{Contains}
+use Rattle.redo_core.specs.Data.{RecordData}
+use Rattle.redo_core.specs.Position.{Position}
+use Rattle.redo_core.specs.Sets.{cuts}
+use Rattle.redo_core.specs.Sound.{IsSound}
+use Rattle.redo_core.specs.Standing.{IsAlive, IsDead, IsWaiting}
+use Rattle.redo_core.specs.Meaning.{IsKept}
+use Rattle.redo_core.specs.declared.facts.Fact.{Fact}
+use Rattle.redo_laws.proofs.Alike.{alive_by}
+use Rattle.redo_laws.proofs.Deciding.{settled_lt}
+use Rattle.redo_laws.proofs.Fronts.{settled_alive, same_sym}
+use Rattle.redo_laws.proofs.Log.{log_of_sound}
+use Rattle.redo_laws.proofs.Meanings.{in_map, from_map}
+use Rattle.redo_wire.specs.declared.keys.Key.{Key}
+use Rattle.redo_wire.specs.Summaries.{SummaryData}
+use Rattle.segment_state.specs.State.{State}
+use Rattle.segment_state.specs.Means.{MeansAt, Matters, IsInImage}
+use Rattle.segment_state.specs.HasMeaning.{HasAnchor}
+use Rattle.segment_state.specs.Gossip.{IsAccounted, AnswersFor}
+use Rattle.segment_state.proofs.Own.{anchor_law}
+use Rattle.segment_join.proofs.Scanning.{of_member}
+use Rattle.gossip_core.specs.Answering.{HoldsKey, IsCovered, IsUncovered, listed_key, listing_of}
+use Rattle.gossip_core.specs.declared.answering.Shown.{Shown}
+use Rattle.gossip_core.specs.declared.answering.Shown.TheVariants.{Anchor as OfAnchor, Key as OfKey}
+
+module _ (roster : ℕ) (log F : List Fact) (f : Position) (s : State) (sound : IsSound roster log) (m : MeansAt roster log F f s) where
+  -- the key waits, or is alive above the anchor
+  IsWanted : Key → Type 0
+  IsWanted key = IsWaiting f.epoch key.epoch ⊎ (IsAlive (cuts F) f.epoch key.epoch key.number × (f.anchor < key.number))
+
+  kept : (key : Key) (r : RecordData) → Contains s.held r → r.epoch ≡ key.epoch → r.number ≡ key.number → IsWanted key → IsAccounted F f (listed_key key)
+  unfolding IsWanted
+  kept key r has e n wanted =
+      let own : IsWaiting f.epoch r.epoch ⊎ (IsAlive (cuts F) f.epoch r.epoch r.number × (f.anchor < r.number)) =
+      subst (λ i. IsWaiting f.epoch i ⊎ (IsAlive (cuts F) f.epoch i r.number × (f.anchor < r.number))) (sym e)
+      (subst (λ i. IsWaiting f.epoch key.epoch ⊎ (IsAlive (cuts F) f.epoch key.epoch i × (f.anchor < i))) (sym n) wanted) in
+      let matters : Matters (cuts F) f.epoch r = ⊎_elim
+      (λ (w : IsWaiting f.epoch r.epoch). inl w)
+      (λ (x : IsAlive (cuts F) f.epoch r.epoch r.number × (f.anchor < r.number)). inr x.0) own in
+      inl (r, (m.of_facts r has matters, own), e, n)
+
+  of_held : (key : Key) → HoldsKey s key → IsAccounted F f (listed_key key)
+  unfolding IsWanted
+  of_held key held =
+      ⊎_elim
+      (λ (w : f.epoch < key.epoch). kept key held.0 held.1 held.2.0 held.2.1 (inl w))
+      (λ (known : f.epoch < key.epoch → ⊥). ⊎_elim
+      (λ (alive : IsAlive (cuts F) f.epoch key.epoch key.number). ⊎_elim
+      (λ (up : f.anchor < key.number). kept key held.0 held.1 held.2.0 held.2.1 (inr (alive, up)))
+      (λ (down : f.anchor < key.number → ⊥). inr (inr (omega (arith, known), omega (arith, down))))
+      (settled_lt f.anchor key.number))
+      (λ (not : IsAlive (cuts F) f.epoch key.epoch key.number → ⊥). inr (inl (omega (arith, known), not)))
+      (settled_alive (cuts F) f.epoch key.epoch key.number))
+      (settled_lt f.epoch key.epoch)
+
+  dead_there : (key : Key) → IsDead s.book.cuts s.book.complete key.epoch key.number → IsDead (cuts F) f.epoch key.epoch key.number
+  dead_there key dead =
+      let e = m.epoch in (
+        omega (arith, e, dead.0),
+        λ (alive : IsAlive (cuts F) f.epoch key.epoch key.number).
+            dead.1 (subst (λ k. IsAlive s.book.cuts k key.epoch key.number) (sym e)
+            (alive_by (cuts F) s.book.cuts (same_sym s.book.cuts (cuts F) m.book.same_cuts) f.epoch key.epoch key.number alive)),
+      )
+
+  dead_here : (key : Key) → IsDead (cuts F) f.epoch key.epoch key.number → IsDead s.book.cuts s.book.complete key.epoch key.number
+  dead_here key dead =
+      let e = m.epoch in (
+        omega (arith, e, dead.0),
+        λ (alive : IsAlive s.book.cuts s.book.complete key.epoch key.number).
+            dead.1 (alive_by s.book.cuts (cuts F) m.book.same_cuts f.epoch key.epoch key.number
+            (subst (λ k. IsAlive s.book.cuts k key.epoch key.number) e alive)),
+      )
+
+  -- a key that the state accounts for is one that its facts do
+  accounted : (anchor : ℕ) → anchor ≡ f.anchor → (key : Key) → IsCovered s anchor key → IsAccounted F f (listed_key key)
+  accounted anchor at key has =
+      let e = m.epoch in
+      ⊎_elim
+      (λ (held : HoldsKey s key). of_held key held)
+      (λ gone. inr (⊎_elim
+      (λ (dead : IsDead s.book.cuts s.book.complete key.epoch key.number). inl (dead_there key dead))
+      (λ (low : (key.epoch ≤ s.book.complete) × (key.number ≤ anchor)). inr (omega (arith, e, low.0), omega (arith, at, low.1)))
+      gone))
+      has
+
+  -- and the other way
+  covered : (anchor : ℕ) → anchor ≡ f.anchor → (key : Key) → IsAccounted F f (listed_key key) → IsCovered s anchor key
+  covered anchor at key has =
+      let e = m.epoch in
+      ⊎_elim
+      (λ (k : (r : RecordData) × IsKept F f r × (r.epoch ≡ key.epoch) × (r.number ≡ key.number)).
+      let matters : Matters (cuts F) f.epoch k.0 = ⊎_elim
+      (λ (w : IsWaiting f.epoch k.0.epoch). inl w)
+      (λ (x : IsAlive (cuts F) f.epoch k.0.epoch k.0.number × (f.anchor < k.0.number)). inr x.0) k.1.1 in
+      ⊎_elim
+      (λ (held : Contains s.held k.0). inl (k.0, held, (k.2, k.3)))
+      (λ (image : IsInImage s k.0).
+      let base : s.base ≤ f.anchor = m.base.1 in
+      inr (inr (omega (arith, image.0, k.2), omega (arith, image.1, k.3, base, at))))
+      (m.kept k.0 k.1.0 matters))
+      (λ gone. inr (⊎_elim
+      (λ (dead : IsDead (cuts F) f.epoch key.epoch key.number). inl (dead_here key dead))
+      (λ (low : (key.epoch ≤ f.epoch) × (key.number ≤ f.anchor)). inr (omega (arith, e, low.0), omega (arith, at, low.1)))
+      gone))
+      has
+
+  pub answers_for : (summary : SummaryData) (anchor : ℕ) → HasAnchor s anchor → IsUncovered s anchor summary None → AnswersFor F f (listing_of summary)
+  answers_for summary anchor above none =
+      let at : anchor ≡ f.anchor = (anchor_law log F f s anchor (log_of_sound roster log sound) m above).1 in
+      let low : summary.anchor ≤ anchor = none.0 in
+      record {
+        anchor = omega (arith, low, at);
+        keys = λ key h.
+            let from = from_map listed_key summary.keys key h in
+            subst (IsAccounted F f) from.2 (accounted anchor at from.0 (of_member (IsCovered s anchor) summary.keys none.1 from.0 from.1));
+      }
+
+  -- nothing is uncovered exactly where the facts answer
+  pub tells_answer : (summary : SummaryData) (anchor : ℕ) → HasAnchor s anchor → (found : Option Shown) → IsUncovered s anchor summary found
+      → (found ≡ None) ↔ AnswersFor F f (listing_of summary)
+  tells_answer summary anchor above None none = (λ e. answers_for summary anchor above none, λ a. refl)
+  tells_answer summary anchor above (Some (OfAnchor shown)) high = (
+    λ (e : Some (OfAnchor shown) ≡ None). absurd (cc),
+    λ a. absurd (let at : anchor ≡ f.anchor = (anchor_law log F f s anchor (log_of_sound roster log sound) m above).1 in
+        omega (arith, at, high.0, high.1, a.anchor)),
+  )
+  tells_answer summary anchor above (Some (OfKey key)) first = (
+    λ (e : Some (OfKey key) ≡ None). absurd (cc),
+    λ a. absurd (let at : anchor ≡ f.anchor = (anchor_law log F f s anchor (log_of_sound roster log sound) m above).1 in
+        first.1.has.1 (covered anchor at key (a.keys (listed_key key) (in_map listed_key summary.keys key first.1.has.0)))),
+  )

@@ -1,0 +1,102 @@
+-- A reply, as the law of replies has it.
+use Rattle.std.proofs.Common.{◌≡◌, ◌≢◌, ℕ, ◌<◌, ◌≤◌, ◌⊎◌, inl, inr, ⊎_elim, List, [], ◌∷◌, map, refl, sym, ap, subst, arith}
+use Rattle.std.specs.List.{Contains}
+use Rattle.redo_core.specs.Data.{RecordData}
+use Rattle.redo_core.specs.Order.{Lists, RecordBefore}
+use Rattle.redo_core.specs.Standing.{IsAlive, IsWaiting}
+use Rattle.redo_core.specs.Writing.{zeros}
+use Rattle.redo_core.specs.Meaning.{ImageBefore}
+use Rattle.redo_core.proofs.Members.{none_in, here, there, which}
+use Rattle.redo_laws.proofs.Deciding.{settled_eq, settled_and, some_or_none}
+use Rattle.redo_wire.specs.declared.keys.Key.{Key}
+use Rattle.redo_wire.specs.Summaries.{SummaryData}
+use Rattle.redo_wire.specs.Deltas.{DeltaData}
+use Rattle.segment_state.specs.State.{State}
+use Rattle.segment_state.specs.Shows.{Shows}
+use Rattle.segment_state.specs.HasMeaning.{IsKeptBy}
+use Rattle.segment_state.specs.Laws.{SameAnchor}
+use Rattle.segment_state.specs.Gossip.{IsListed, Replies, ReplyFills}
+use Rattle.gossip_core.specs.Summarizing.{wire_key}
+use Rattle.gossip_core.specs.Replying.{IsSent, SendsRecords, SendsPages, AnswersSummary, listed_key, listing_of, delta_sent, FillsSummary}
+use Rattle.gossip_core.proofs.Parts.{one_key}
+
+in_map : {X Y : Type 0} (f : X → Y) (xs : List X) (x : X) → Contains xs x → Contains (map f xs) (f x)
+in_map f [] x h = absurd (none_in x h)
+in_map f (y ∷ ys) x h =
+    ⊎_elim
+    (λ (e : y ≡ x). subst (λ z. Contains (f z ∷ map f ys) (f x)) (sym e) (here (f x) (map f ys)))
+    (λ (q : Contains ys x). there (f y) (map f ys) (f x) (in_map f ys x q))
+    (which y ys x h)
+
+listed_or_not : (keys : List Key) (r : RecordData) → Contains keys (wire_key r) ⊎ (Contains keys (wire_key r) → ⊥)
+listed_or_not keys r =
+    let P : Key → Type 0 = λ k. (k.epoch ≡ r.epoch) × (k.number ≡ r.number) in
+    ⊎_elim
+    (λ (t : (k : Key) × Contains keys k × P k). inl (subst (Contains keys) (let p : P t.0 = t.2 in one_key t.0 (wire_key r) p.0 p.1) t.1))
+    (λ (no : (k : Key) → Contains keys k → P k → ⊥). inr (λ has. no (wire_key r) has (refl, refl)))
+    (some_or_none P (λ k. settled_and _ _ (settled_eq k.epoch r.epoch) (λ _. settled_eq k.number r.number)) keys)
+
+is_listed : (summary : SummaryData) (r : RecordData) → Contains summary.keys (wire_key r) → IsListed (listing_of summary) r
+is_listed summary r has = (listed_key (wire_key r), in_map listed_key summary.keys (wire_key r) has, refl, refl)
+
+-- a kept record is sent or listed
+sent_or_listed : (s : State) (point : ℕ) (summary : SummaryData) (rs : List RecordData) → Lists RecordBefore (IsSent s point summary.keys) rs
+    → (r : RecordData) → IsKeptBy s point r → Contains rs r ⊎ IsListed (listing_of summary) r
+sent_or_listed s point summary rs lists r kept =
+    ⊎_elim
+    (λ (has : Contains summary.keys (wire_key r)). inr (is_listed summary r has))
+    (λ (not : Contains summary.keys (wire_key r) → ⊥). inl ((lists.members r).1 (kept, not)))
+    (listed_or_not summary.keys r)
+
+sent_is_held : (s : State) (point : ℕ) (keys : List Key) (r : RecordData) → IsSent s point keys r
+    → Contains s.held r × (IsWaiting s.book.complete r.epoch ⊎ IsAlive s.book.cuts s.book.complete r.epoch r.number)
+sent_is_held s point keys r sent = (
+  sent.0.0,
+  ⊎_elim
+      (λ (w : IsWaiting s.book.complete r.epoch). inl w)
+      (λ (a : IsAlive s.book.cuts s.book.complete r.epoch r.number × (point < r.number)). inr a.0)
+      sent.0.1,
+)
+
+of_records : (s : State) (anchor : ℕ) (summary : SummaryData) (d : DeltaData) → s.base ≤ summary.anchor → SendsRecords s summary d
+    → Replies anchor s (listing_of summary) (delta_sent d)
+of_records s anchor summary d low a = record {
+  same_cuts = λ c. (λ h. subst (λ b. Contains b.cuts c) a.book h, λ h. subst (λ b. Contains b.cuts c) (sym a.book) h);
+  epoch = ap (λ b. b.complete) a.book;
+  same_points = ap (λ b. b.points) a.book;
+  same_waits = λ w. (λ h. subst (λ b. Contains b.waits w) a.book h, λ h. subst (λ b. Contains b.waits w) (sym a.book) h);
+  of_held = λ r h. sent_is_held s summary.anchor summary.keys r ((a.records.members r).0 h);
+  rest = inl (low, a.base, a.pages, sent_or_listed s summary.anchor summary d.records a.records);
+}
+
+of_pages : (s : State) (anchor : ℕ) (summary : SummaryData) (d : DeltaData) → d.base ≡ anchor → SendsPages s summary d
+    → Replies anchor s (listing_of summary) (delta_sent d)
+of_pages s anchor summary d at a = record {
+  same_cuts = λ c. (λ h. subst (λ b. Contains b.cuts c) a.book h, λ h. subst (λ b. Contains b.cuts c) (sym a.book) h);
+  epoch = ap (λ b. b.complete) a.book;
+  same_points = ap (λ b. b.points) a.book;
+  same_waits = λ w. (λ h. subst (λ b. Contains b.waits w) a.book h, λ h. subst (λ b. Contains b.waits w) (sym a.book) h);
+  of_held = λ r h. sent_is_held s d.base summary.keys r ((a.records.members r).0 h);
+  rest = inr (
+    at,
+    subst (λ n. Lists ImageBefore (λ i. Shows s i.page n i.bytes × (i.bytes ≢ zeros)) d.pages) at a.pages,
+    λ r kept. sent_or_listed s d.base summary d.records a.records r (subst (λ n. IsKeptBy s n r) (sym at) kept),
+  );
+}
+
+-- so it fills what the summary lacks
+pub fills : ReplyFills → SameAnchor → (s : State) (summary : SummaryData) (d : DeltaData) → AnswersSummary s summary d → FillsSummary s summary d
+fills law same s summary d a = λ roster log facts p sound means.
+    law roster log facts p s (listing_of summary) (delta_sent d) sound means
+    (⊎_elim
+    (λ (low : s.base ≤ summary.anchor). of_records s p.anchor summary d low (a.short low))
+    (λ (high : summary.anchor < s.base).
+    let sends : SendsPages s summary d = a.whole high in
+    of_pages s p.anchor summary d ((same roster log facts p s d.base sound means sends.base).1) sends)
+    (let t : (s.base ≤ summary.anchor) ⊎ (summary.anchor < s.base) = grind arith in t))
+
+pub answers_short : (s : State) (summary : SummaryData) (d : DeltaData) → s.base ≤ summary.anchor → SendsRecords s summary d → AnswersSummary s summary d
+answers_short s summary d low a = record { short = λ _. a; whole = λ high. absurd (omega (arith, low, high)) }
+
+pub answers_whole : (s : State) (summary : SummaryData) (d : DeltaData) → summary.anchor < s.base → SendsPages s summary d → AnswersSummary s summary d
+answers_whole s summary d high a = record { short = λ low. absurd (omega (arith, low, high)); whole = λ _. a }

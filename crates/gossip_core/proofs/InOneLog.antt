@@ -1,0 +1,69 @@
+-- Inside one sound log: a state refuses nothing that a delta tells, and what it means after an absorb.
+use Rattle.std.proofs.Common.{◌≡◌, ℕ, ◌⊎◌, ⊎_elim, List, ◌++◌, sym, ap, ◌∙◌, length}
+use Rattle.redo_core.specs.Book.{roster_of}
+use Rattle.redo_core.specs.Position.{Position}
+use Rattle.redo_core.specs.declared.facts.Fact.{Fact}
+use Rattle.redo_core.proofs.FactParts.{record_in, cut_in, advance_in, part_records}
+use Rattle.redo_laws.proofs.Log.{log_of_sound}
+use Rattle.redo_wire.specs.Summaries.{SummaryData}
+use Rattle.redo_wire.specs.Deltas.{DeltaData, IsDelta}
+use Rattle.segment_state.specs.State.{State}
+use Rattle.segment_state.specs.Means.{MeansAt}
+use Rattle.segment_state.specs.Gossip.{Absorbs}
+use Rattle.segment_state.proofs.Absorbing.{absorb_law}
+use Rattle.segment_core.specs.declared.answers.Refusal.{Refusal}
+use Rattle.segment_core.specs.declared.answers.Refusal.TheVariants.{Memory, OtherRoster}
+use Rattle.segment_join.specs.Told.{facts_told}
+use Rattle.segment_join.specs.InOrder.{RefusesOne}
+use Rattle.segment_join.specs.Joining.{HaveOneRecordAKey}
+use Rattle.segment_join.proofs.JoinInLog.{TellsPart, none_of_part}
+use Rattle.gossip_core.specs.Answering.{listing_of}
+use Rattle.gossip_core.proofs.AnsweringFacts.{answers_for}
+use Rattle.gossip_core.specs.Absorbing.{filling_of, with_held, IsAnswered, MeansBoth, IsOfOneLog, Answers, RefusesDelta}
+
+module _ (roster : ℕ) (log F G : List Fact) (f g : Position) (s : State) (summary : SummaryData) (d : DeltaData)
+    (a : IsAnswered roster log F G f g s summary d) where
+  one_record : HaveOneRecordAKey s (with_held s d.records)
+  one_record r q hr hq e n =
+      (log_of_sound roster log a.sound).same_record r q (a.means.of_log r hr) (part_records G log a.part q (a.fills.of_facts q hq)) e n
+
+  pub means_both : (new : State) → Answers s summary → (HaveOneRecordAKey s (with_held s d.records) → Absorbs s (filling_of d) new)
+      → (p : Position) × MeansAt roster log (F ++ G) p new
+  means_both new own absorbs =
+      absorb_law log F G f g s new (listing_of summary) (filling_of d) (log_of_sound roster log a.sound) a.means a.part a.position a.fills
+      (answers_for roster log F f s a.sound a.means summary own.0 own.1 own.2) (absorbs one_record)
+
+  tells_part : IsDelta d → TellsPart roster log G g d.book d.records
+  tells_part shape = record {
+    part = a.part;
+    position = a.position;
+    complete = shape.book.complete;
+    epoch = a.fills.epoch;
+    points = a.fills.same_points;
+    cuts = λ c h. (cut_in G c).0 ((a.fills.same_cuts c).0 h);
+    waits = λ w h. (advance_in G w).0 ((a.fills.same_waits w).0 h).0;
+    records = λ r h. (record_in log r).0 (part_records G log a.part r (a.fills.of_facts r h));
+  }
+
+  pub nothing_refused : IsDelta d → (why : Refusal) → RefusesDelta s d why → ⊥
+  nothing_refused shape why refused =
+      ⊎_elim
+      (λ (x : (roster_of s.book ≡ roster_of d.book → ⊥) × (why ≡ OtherRoster (roster_of s.book) (roster_of d.book))).
+      x.0 (a.means.readers ∙ sym (ap length a.fills.same_points ∙ a.position.points.count)))
+      (λ (x : (roster_of s.book ≡ roster_of d.book) × RefusesOne s (facts_told d.book d.records) why).
+      none_of_part roster log a.sound s F G g d.book d.records (f, a.means) (tells_part shape) why x.1)
+      refused
+
+-- a refusal inside one sound log is want of memory
+pub only_memory : (s : State) (summary : SummaryData) (d : DeltaData) (why : Refusal) → IsDelta d → (why ≡ Memory) ⊎ RefusesDelta s d why
+    → IsOfOneLog s summary d → why ≡ Memory
+only_memory s summary d why shape refused one =
+    ⊎_elim
+    (λ (e : why ≡ Memory). e)
+    (λ (x : RefusesDelta s d why). absurd (nothing_refused one.0 one.1 one.2 one.3 one.4 one.5 s summary d one.6 shape why x))
+    refused
+
+-- an absorb means the union
+pub both : (s : State) (summary : SummaryData) (d : DeltaData) (new : State) → Answers s summary
+    → (HaveOneRecordAKey s (with_held s d.records) → Absorbs s (filling_of d) new) → MeansBoth s summary d new
+both s summary d new own absorbs = λ roster log F G f g a. means_both roster log F G f g s summary d a new own absorbs

@@ -1,0 +1,90 @@
+-- What a binary search finds among rising keys.
+use Rattle.std.proofs.Common.{◌≡◌, ◌↔◌, ℕ, ◌<◌, ◌≤◌, ◌⊎◌, inl, inr, ⊎_elim, List, length, get_or, refl, sym, subst, arith, true, false, IsTrue, Result, Ok, Err, Ordering, Less, Equal, Greater}
+use Rattle.std.specs.List.{Contains}
+use Rattle.std.specs.List.Sorted.{IsSearchInRange, IsBinarySearchResult, IsNonDecreasingBy}
+use Rattle.std.specs.Ordering.{nat_cmp, ordering_then, ordering_index, MatchOrdering}
+use Rattle.std.specs.Result.{is_ok}
+use Rattle.std.proofs.lemmas.Cmp.{ranked}
+use Rattle.redo_core.specs.Order.{IsRising}
+use Rattle.redo_core.proofs.Pairs.{pair_apart, pair_trans}
+use Rattle.redo_core.proofs.Rising.{rising_by}
+use Rattle.redo_wire.specs.declared.keys.Key.{Key}
+use Rattle.redo_wire.specs.Summaries.{KeyBefore}
+use Rattle.gossip_core.proofs.Parts.{one_key}
+
+abbrev pub key_cmp : Key → Key → Ordering
+key_cmp k l = ordering_then (nat_cmp k.epoch l.epoch) (nat_cmp k.number l.number)
+
+then_at : (o p : Ordering) (P Q R S T U : Type 0) → MatchOrdering o P Q R → MatchOrdering p S T U
+    → MatchOrdering (ordering_then o p) (P ⊎ (Q × S)) (Q × T) (R ⊎ (Q × U))
+then_at Less p P Q R S T U h k = inl h
+then_at Equal Less P Q R S T U h k = inr (h, k)
+then_at Equal Equal P Q R S T U h k = (h, k)
+then_at Equal Greater P Q R S T U h k = inr (h, k)
+then_at Greater p P Q R S T U h k = inl h
+
+turned : (o : Ordering) (P Q R P' Q' R' : Type 0) → (P → P') → (Q → Q') → (R → R') → MatchOrdering o P Q R → MatchOrdering o P' Q' R'
+turned Less P Q R P' Q' R' f g h x = f x
+turned Equal P Q R P' Q' R' f g h x = g x
+turned Greater P Q R P' Q' R' f g h x = h x
+
+above_key : (k l : Key) → (l.epoch < k.epoch) ⊎ ((k.epoch ≡ l.epoch) × (l.number < k.number)) → KeyBefore l k
+above_key k l h = grind arith
+
+key_ranked : (k l : Key) → MatchOrdering (key_cmp k l) (KeyBefore k l) (k ≡ l) (KeyBefore l k)
+key_ranked k l =
+    turned (key_cmp k l) _ _ _ _ _ _ (λ x. x) (λ e. one_key k l e.0 e.1) (above_key k l)
+    (then_at (nat_cmp k.epoch l.epoch) (nat_cmp k.number l.number) (k.epoch < l.epoch) (k.epoch ≡ l.epoch) (l.epoch < k.epoch) (k.number < l.number)
+    (k.number ≡ l.number) (l.number < k.number)
+    (ranked k.epoch l.epoch (nat_cmp k.epoch l.epoch) refl) (ranked k.number l.number (nat_cmp k.number l.number) refl))
+
+rank_le : (o p : Ordering) (P Q R S T U : Type 0) → MatchOrdering o P Q R → MatchOrdering p S T U → (Q → S → ⊥) → (R → S → ⊥) → (R → T → ⊥)
+    → ordering_index o ≤ ordering_index p
+rank_le Less p P Q R S T U h k qs rs rt = omega arith
+rank_le Equal Less P Q R S T U h k qs rs rt = absurd (qs h k)
+rank_le Equal Equal P Q R S T U h k qs rs rt = omega arith
+rank_le Equal Greater P Q R S T U h k qs rs rt = omega arith
+rank_le Greater Less P Q R S T U h k qs rs rt = absurd (rs h k)
+rank_le Greater Equal P Q R S T U h k qs rs rt = absurd (rt h k)
+rank_le Greater Greater P Q R S T U h k qs rs rt = omega arith
+
+apart : (k l : Key) → KeyBefore k l → KeyBefore l k → ⊥
+apart k l a b = pair_apart k.epoch k.number l.epoch l.number a b
+
+keys_ranked : (ks : List Key) (x : Key) → IsRising KeyBefore ks → IsNonDecreasingBy (λ k. ordering_index (key_cmp k x)) ks
+keys_ranked ks x rise = rising_by KeyBefore (λ k. ordering_index (key_cmp k x)) ks
+    (λ k l h. rank_le (key_cmp k x) (key_cmp l x) _ _ _ _ _ _ (key_ranked k x) (key_ranked l x)
+    (λ (q : k ≡ x) (s : KeyBefore l x). apart k l h (subst (KeyBefore l) (sym q) s))
+    (λ (q : KeyBefore x k) (s : KeyBefore l x). apart k l h (pair_trans l.epoch l.number x.epoch x.number k.epoch k.number s q))
+    (λ (q : KeyBefore x k) (s : l ≡ x). apart k l h (subst (λ y. KeyBefore y k) (sym s) q)))
+    rise
+
+at_less : (o : Ordering) (P Q R : Type 0) → MatchOrdering o P Q R → o ≡ Less → P
+at_less o P Q R h e = subst (λ v. MatchOrdering v P Q R) e h
+
+at_equal : (o : Ordering) (P Q R : Type 0) → MatchOrdering o P Q R → o ≡ Equal → Q
+at_equal o P Q R h e = subst (λ v. MatchOrdering v P Q R) e h
+
+at_greater : (o : Ordering) (P Q R : Type 0) → MatchOrdering o P Q R → o ≡ Greater → R
+at_greater o P Q R h e = subst (λ v. MatchOrdering v P Q R) e h
+
+never : (k : Key) → KeyBefore k k → ⊥
+never k h = apart k k h h
+
+-- a key is found exactly where it is among them
+pub key_found : (ks : List Key) (x : Key) (r : Result ℕ ℕ) → IsRising KeyBefore ks → IsSearchInRange r (length ks)
+    → IsBinarySearchResult (λ k. key_cmp k x) ks r → IsTrue (is_ok r) ↔ Contains ks x
+key_found ks x (Ok i) rise l h = (
+  λ _. (i, l, at_equal (key_cmp (get_or ks i x) x) _ _ _ (key_ranked (get_or ks i x) x) (h x)),
+  λ _. refl,
+)
+key_found ks x (Err i) rise l h =
+    let parted = h (keys_ranked ks x rise) in (
+      λ (no : false ≡ true). absurd (cc),
+      λ has. absurd (⊎_elim
+          (λ (low : has.0 < i). never x (subst (λ k. KeyBefore k x) has.2
+          (at_less (key_cmp (get_or ks has.0 x) x) _ _ _ (key_ranked (get_or ks has.0 x) x) (parted.0 has.0 x (omega arith) low))))
+          (λ (high : i ≤ has.0). never x (subst (λ k. KeyBefore x k) has.2
+          (at_greater (key_cmp (get_or ks has.0 x) x) _ _ _ (key_ranked (get_or ks has.0 x) x) (parted.1 has.0 x high has.1))))
+          (let t : (has.0 < i) ⊎ (i ≤ has.0) = grind arith in t)),
+    )

@@ -1,0 +1,12 @@
+pub mod Parts
+pub mod Summed
+pub mod KeySearch
+pub mod Sending
+pub mod NextPage
+pub mod PagesShown
+pub mod Filling
+pub mod Accounting
+pub mod AnsweringFacts
+pub mod TellingAll
+pub mod Absorbed
+pub mod InOneLog

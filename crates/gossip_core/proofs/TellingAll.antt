@@ -1,0 +1,37 @@
+-- What a delta tells: its book's facts, and then its records.
+use Rattle.std.proofs.Common.{◌≡◌, ℕ, List, [], ◌∷◌, ◌++◌, map, refl, sym, ap, ◌∙◌, subst}
+use Rattle.redo_core.specs.Data.{RecordData, CutData, AdvanceData}
+use Rattle.redo_core.specs.Book.{BookData, book_of}
+use Rattle.redo_core.specs.declared.facts.Fact.{Fact}
+use Rattle.redo_core.specs.declared.facts.Fact.TheVariants.{Record, Cut, Advance}
+use Rattle.segment_state.specs.State.{State}
+use Rattle.segment_core.specs.declared.answers.Refusal.{Refusal}
+use Rattle.segment_join.specs.Told.{point_facts, book_facts, facts_told}
+use Rattle.segment_join.specs.InOrder.{TakesEach, RefusesOne}
+use Rattle.segment_join.proofs.Ordered.{takes_append, refuses_sooner, refuses_later}
+
+-- a book is made of its parts
+pub same_book : (b : BookData) (cs : List CutData) (k : ℕ) (ps : List ℕ) (ws : List AdvanceData)
+    → cs ≡ b.cuts → k ≡ b.complete → ps ≡ b.points → ws ≡ b.waits → book_of cs k ps ws ≡ b
+same_book b cs k ps ws c e p w = let t : book_of cs k ps ws ≡ book_of b.cuts b.complete b.points b.waits = cc in t
+
+append_assoc : (xs ys zs : List Fact) → xs ++ (ys ++ zs) ≡ (xs ++ ys) ++ zs
+append_assoc [] ys zs = refl
+append_assoc (x ∷ xs) ys zs = ap (λ rest. x ∷ rest) (append_assoc xs ys zs)
+
+in_two : (b : BookData) (rs : List RecordData) → book_facts b ++ map Record rs ≡ facts_told b rs
+in_two b rs =
+    let cuts = map Cut b.cuts in let points = point_facts b.complete 1 b.points in let waits = map Advance b.waits in let records = map Record rs in
+    sym (ap (λ rest. cuts ++ rest) (append_assoc points waits records) ∙ append_assoc cuts (points ++ waits) records)
+
+pub takes_told : (s : State) (b : BookData) (rs : List RecordData) (t u : State) → TakesEach s (book_facts b) t → TakesEach t (map Record rs) u
+    → TakesEach s (facts_told b rs) u
+takes_told s b rs t u first rest = subst (λ fs. TakesEach s fs u) (in_two b rs) (takes_append s (book_facts b) t (map Record rs) u first rest)
+
+pub refuses_book : (s : State) (b : BookData) (rs : List RecordData) (why : Refusal) → RefusesOne s (book_facts b) why → RefusesOne s (facts_told b rs) why
+refuses_book s b rs why h = subst (λ fs. RefusesOne s fs why) (in_two b rs) (refuses_sooner s (book_facts b) (map Record rs) why h)
+
+pub refuses_records : (s : State) (b : BookData) (rs : List RecordData) (t : State) (why : Refusal) → TakesEach s (book_facts b) t
+    → RefusesOne t (map Record rs) why → RefusesOne s (facts_told b rs) why
+refuses_records s b rs t why first h =
+    subst (λ fs. RefusesOne s fs why) (in_two b rs) (refuses_later s (book_facts b) t (map Record rs) why first h)

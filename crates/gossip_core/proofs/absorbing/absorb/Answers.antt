@@ -1,0 +1,27 @@
+use Rattle.std.proofs.Common.{inl, ap}
+use Rattle.segment_core.specs.declared.answers.Refusal.{Refusal}
+use Rattle.gossip_core.specs.declared.absorbing.AbsorbRefusal.TheVariants.{Refused}
+use Rattle.gossip_core.specs.Absorbing.{Answers, IsOfOneLog}
+use Rattle.gossip_core.proofs.InOneLog.{both, only_memory}
+use Rattle.gossip_core.proofs.absorbing.absorb.Goals as goal
+
+pub returns-in-Ok-clause-answers : goal.returns-in-Ok-clause-answers
+returns-in-Ok-clause-answers c =
+    let anchor = c.anchor-anchor.result in let above = c.anchor-anchor.ensures.own in (anchor, above, c.in_default.ensures.own anchor above)
+
+pub returns-in-Err-clause-refused : goal.returns-in-Err-clause-refused
+returns-in-Err-clause-refused c =
+    let anchor = c.anchor-anchor.result in let above = c.anchor-anchor.ensures.own in
+    ((anchor, above, c.in_default.ensures.own anchor above), c.in-Err.ensures.refused)
+
+pub returns-in-Ok-clause-means : goal.returns-in-Ok-clause-means
+returns-in-Ok-clause-means c =
+    let s = c.args.segment.now in let summary = c.args.summary.now in let d = c.args.delta.now in
+    let anchor = c.anchor-anchor.result in let above = c.anchor-anchor.ensures.own in
+    let answers : Answers s summary = (anchor, above, c.in_default.ensures.own anchor above) in
+    both s summary d c.take_delta.new.segment answers c.in-Ok.ensures.absorbs
+
+pub returns-in-Err-clause-sound : goal.returns-in-Err-clause-sound
+returns-in-Err-clause-sound c = λ (one : IsOfOneLog c.args.segment.now c.args.summary.now c.args.delta.now).
+    inl (ap (λ (why : Refusal). Refused why)
+    (only_memory c.args.segment.now c.args.summary.now c.args.delta.now c.in-Err.why c.base-base.ensures.shape c.in-Err.ensures.refused one))

@@ -1,0 +1,4 @@
+pub mod Summarizing
+pub mod Replying
+pub mod Answering
+pub mod Absorbing

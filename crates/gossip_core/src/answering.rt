@@ -1,0 +1,86 @@
+ghost use Rattle.std.specs.Prelude.{◌≡◌, ℕ, ◌↔◌, List, None, IsTrue};
+ghost use Rattle.redo_core.specs.Order.{IsRising};
+ghost use Rattle.redo_core.specs.Position.{Position};
+ghost use Rattle.redo_core.specs.Sound.{IsSound};
+ghost use Rattle.redo_core.specs.declared.facts.Fact.{Fact as AnyFact};
+ghost use Rattle.redo_wire.specs.Summaries.{KeyBefore};
+ghost use Rattle.segment_state.specs.Means.{MeansAt};
+ghost use Rattle.segment_state.specs.HasMeaning.{HasAnchor};
+ghost use Rattle.segment_state.specs.Gossip.{AnswersFor};
+ghost use Rattle.gossip_core.specs.Answering.{HoldsKey, IsCovered, IsFirstUncovered, IsUncovered, listing_of};
+
+use redo_wire::{Key, Summary};
+use segment_core::{Segment, Standing};
+
+/// What of a summary a segment does not answer for.
+#[derive(Clone, Copy, Debug, PartialEq, Eq)]
+pub enum Shown {
+    /// The summary's anchor, which is above the segment's own.
+    Anchor(u64),
+    /// The least listed key that the segment cannot account for.
+    Key(Key),
+}
+
+/// What of a summary a segment does not answer for, or None where it answers for all of it: the anchor, where it is above the
+/// segment's own; else the least listed key that is neither held, nor dead, nor at or below the segment's anchor and not waiting.
+pub fn uncovered(segment: &Segment, summary: &Summary) -> Option<Shown>
+    // Inside one sound log: None exactly where the facts that the segment means answer for the summary.
+    ensures facts { (roster : ℕ) (log facts : List AnyFact) (p : Position) → IsSound roster log → MeansAt roster log facts p segment.now → (result ≡ None) ↔ AnswersFor facts p (listing_of summary.now) }
+    // Over any facts.
+    ensures own { (anchor : ℕ) → HasAnchor segment.now anchor → IsUncovered segment.now anchor summary.now result }
+{
+    uncovered_above(segment, segment.anchor(), summary)
+}
+
+/// What of a summary a segment with this anchor does not answer for.
+fn uncovered_above(segment: &Segment, anchor: u64, summary: &Summary) -> Option<Shown>
+    ensures { IsUncovered segment.now anchor summary.now result }
+{
+    if anchor < summary.anchor() {
+        return Some(Shown::Anchor(summary.anchor()));
+    }
+    match first_uncovered(segment, anchor, summary.keys()) {
+        Some(key) => Some(Shown::Key(key)),
+        None => None,
+    }
+}
+
+/// The first of rising keys that a segment with this anchor cannot account for.
+fn first_uncovered(segment: &Segment, anchor: u64, keys: &[Key]) -> Option<Key>
+    requires { IsRising KeyBefore keys.now }
+    ensures { IsFirstUncovered segment.now anchor keys.now result }
+{
+    for key in keys {
+        if !is_covered(segment, anchor, *key) {
+            return Some(*key);
+        }
+    }
+    None
+}
+
+/// Whether a segment with this anchor accounts for a key.
+fn is_covered(segment: &Segment, anchor: u64, key: Key) -> bool
+    ensures { IsTrue result ↔ IsCovered segment.now anchor key }
+{
+    match segment.stands(key.epoch, key.number) {
+        Standing::Dead => true,
+        Standing::Waiting => holds(segment, key),
+        Standing::Alive => {
+            if key.number <= anchor {
+                true
+            } else {
+                holds(segment, key)
+            }
+        }
+    }
+}
+
+/// Whether a segment holds a record of the key.
+fn holds(segment: &Segment, key: Key) -> bool
+    ensures { IsTrue result ↔ HoldsKey segment.now key }
+{
+    match segment.get(key.epoch, key.number) {
+        Some(_) => true,
+        None => false,
+    }
+}
