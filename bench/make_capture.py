@@ -23,7 +23,7 @@ class Forms:
         self.has_patches = has_patches
 
     def tag(self, plain):
-        """The tag of a summary or a delta."""
+        """The tag of a summary, a delta or the head of a snapshot."""
         return whole(plain + (0x10 if self.readers > 1 else 0), 1)
 
 
@@ -109,12 +109,27 @@ def delta(choose, forms):
     return head + whole(pages, 4) + images + whole(records, 4) + spelled
 
 
+def piece(choose, forms):
+    """A piece of a snapshot of 1000 pieces: the head, a page, or up to 64 records."""
+    kind = choose.randrange(3)
+    tag = forms.tag(0x12) if kind == 0 else whole(0x12, 1)
+    head = tag + whole(1, 8) + whole(choose.randint(1, 999) if kind else 0, 4) + whole(1000, 4) + whole(kind, 1)
+    if kind == 0:
+        return head + book(choose, forms) + whole(choose.randrange(1001), 6)
+    if kind == 1:
+        return head + whole(choose.randrange(65536), 2) + b"\x01" + choose.randbytes(4095)
+    records = choose.randint(1, 64)
+    return head + whole(records, 1) + b"".join(record(choose, forms, 3, 1 + i) for i in range(records))
+
+
 def value(choose, forms):
     kind = choose.randrange(100)
     if kind == 0:
         return delta(choose, forms)
     if kind == 1:
         return summary(choose, forms, choose.randrange(1000))
+    if kind < 4:
+        return piece(choose, forms)
     return fact(choose, forms)
 
 

@@ -97,12 +97,15 @@ def main():
     parser.add_argument("--inits", action="store_true", help=f"one of {INIT_EACH} records begins its page anew")
     parser.add_argument("--fills", action="store_true", help=f"one of {FILL_EACH} records fills a range")
     parser.add_argument("--shuffle", type=int, metavar="SEED", help="put the facts in a random order")
-    parser.add_argument("--run", action="store_true", help="end with `go` and `nodes 1`: a script without steps")
+    parser.add_argument("--run", action="store_true", help="end with `go` and the nodes: a script without steps")
+    parser.add_argument("--nodes", type=int, default=1, help="how many nodes the script has, 1 to 64")
     given = parser.parse_args()
     if not 1 <= given.pages <= 65536 or not 0 <= given.epochs <= 65535:
         parser.error("pages go from 1 to 65536, epochs from 0 to 65535")
     if not 1 <= given.readers <= 15:
         parser.error("readers go from 1 to 15")
+    if not 1 <= given.nodes <= 64:
+        parser.error("nodes go from 1 to 64")
     patches = given.inits, given.fills
     lines = list(facts(given.records, given.pages, given.epochs, given.advances, given.readers, *patches))
     if given.shuffle is not None:
@@ -110,7 +113,7 @@ def main():
     if given.readers > 1:
         lines.insert(0, f"roster {given.readers}")
     if given.run:
-        lines += ["go", "nodes 1"]
+        lines += ["go", f"nodes {given.nodes}"]
     sys.stdout.write("".join(line + "\n" for line in lines))
 
 

@@ -28,12 +28,12 @@ def difference(program, task, text, grammar):
     return status, f"{task}:\n{text}{wanted}--- the program, status {done.returncode}:\n{said}"
 
 
-def compare(program, rounds, seed, is_fleet=False):
+def compare(program, rounds, seed, make=scripts.random_input, has_messages=False):
     """How many inputs of each status agree, and the first difference in words, or nothing."""
-    grammar = oracle.Grammar(is_fleet)
+    grammar = oracle.Grammar(has_messages)
     counts = dict.fromkeys(NAMES, 0)
     for i in range(rounds):
-        task, text = scripts.random_input(random.Random(f"{seed} {i}"), is_fleet)
+        task, text = make(random.Random(f"{seed} {i}"), has_messages)
         status, differs = difference(program, task, text, grammar)
         if differs:
             return counts, f"round {i}, {differs}"
@@ -46,9 +46,11 @@ def main():
     parser.add_argument("--rounds", type=int, default=1000, help="how many inputs")
     parser.add_argument("--seed", type=int, default=1, help="of the random inputs")
     parser.add_argument("--program", type=pathlib.Path, default=PROGRAM, help="the built program")
-    parser.add_argument("--fleet", action="store_true", help="scripts of many nodes too, which the program does not read yet")
+    parser.add_argument("--joins", action="store_true", help="scripts of nodes that all join at the end, over sound logs")
+    parser.add_argument("--messages", action="store_true", help="nodes exchange messages too, which the program does not read")
     given = parser.parse_args()
-    counts, differs = compare(given.program, given.rounds, given.seed, given.fleet)
+    make = scripts.input_of_joins if given.joins else scripts.random_input
+    counts, differs = compare(given.program, given.rounds, given.seed, make, given.messages)
     if differs:
         print(differs, end="")
         sys.exit(1)

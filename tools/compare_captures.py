@@ -165,8 +165,8 @@ def piece(choose):
 # Captures
 
 
-def value(choose, forms):
-    data = bytearray(choose.choice(forms)(choose))
+def value(choose):
+    data = bytearray(choose.choice(FORMS)(choose))
     how = choose.random()
     if how < 0.15:
         data[choose.randrange(len(data))] = choose.choice((0, 1, 2, 3, 5, 6, 16, 17, 18, 32, 33, 34, 255))
@@ -177,8 +177,8 @@ def value(choose, forms):
     return bytes(data)
 
 
-def digits(choose, forms):
-    text = value(choose, forms).hex()
+def digits(choose):
+    text = value(choose).hex()
     if choose.random() < 0.2:
         text = text.upper()
     if choose.random() < 0.03:
@@ -187,21 +187,21 @@ def digits(choose, forms):
     return text.encode()
 
 
-FORMS = (record, record, summary, summary, delta, plain_cut, advance)
+FORMS = (record, record, summary, summary, delta, piece, plain_cut, advance)
 
 
-def capture(choose, many, forms=FORMS):
-    text = b"\n".join(digits(choose, forms) for _ in range(many))
+def capture(choose, many):
+    text = b"\n".join(digits(choose) for _ in range(many))
     return text + choose.choice((b"", b"\n", b"\n\n"))
 
 
-def compare(program, rounds, lines, seed, has_pieces=False):
+def compare(program, rounds, lines, seed):
     """How many answers there are of each kind, and the first difference in words, or nothing."""
     answers = {}
     for number in range(rounds):
-        text = capture(random.Random(f"{seed} {number}"), lines, FORMS + (piece,) * has_pieces)
+        text = capture(random.Random(f"{seed} {number}"), lines)
         done = subprocess.run([program, "inspect"], input=text, capture_output=True)
-        wanted = wire_oracle.told(text, has_pieces)
+        wanted = wire_oracle.told(text)
         if done.returncode != 0 or done.stderr or done.stdout != wanted:
             pairs = zip(text.split(b"\n"), done.stdout.split(b"\n"), wanted.split(b"\n"))
             line = next((p for p in pairs if p[1] != p[2]), None)
@@ -218,9 +218,8 @@ def main():
     parser.add_argument("--lines", type=int, default=200, help="values in each")
     parser.add_argument("--seed", type=int, default=1)
     parser.add_argument("--program", type=pathlib.Path, default=PROGRAM, help="the built program")
-    parser.add_argument("--pieces", action="store_true", help="pieces of snapshots too, which the program does not know yet")
     given = parser.parse_args()
-    answers, differs = compare(given.program, given.rounds, given.lines, given.seed, given.pieces)
+    answers, differs = compare(given.program, given.rounds, given.lines, given.seed)
     if differs:
         print(differs)
         sys.exit(1)

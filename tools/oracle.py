@@ -2,9 +2,9 @@
 """Answers `check` and `run` from the rules alone, for comparison with the program.
 
 A node is the set of facts that reached it, and each answer is computed anew from that set.
-Usage: oracle.py [--fleet] check|run < input
+Usage: oracle.py [--messages] check|run < input
 
-With --fleet it reads scripts of many nodes that join and exchange messages, a form that the program does not read yet.
+With --messages it reads scripts of nodes that exchange messages too, a form that the program does not read.
 """
 
 import sys
@@ -14,6 +14,7 @@ from rules import Advance, Cut, Fill, Meaning, Record, Write
 from rules import first_fault, has_shape, is_at_most, refused, uncovered
 
 MOST_LINES = 1000000
+MOST_NODES = 64
 BAD_LINE, UNSOUND = 2, 3
 
 
@@ -111,17 +112,19 @@ STEPS = {
 }
 
 
-class Grammar:
-    """The steps that scripts may have, and how many nodes."""
+OF_MESSAGES = ("ask", "answer", "absorb")
 
-    def __init__(self, is_fleet=False):
-        self.steps = tuple(STEPS) if is_fleet else ("take", "fold", "discard", "front", "read")
-        self.most_nodes = 64 if is_fleet else 1
+
+class Grammar:
+    """The steps that scripts may have."""
+
+    def __init__(self, has_messages=False):
+        self.steps = {kind: forms for kind, forms in STEPS.items() if has_messages or kind not in OF_MESSAGES}
 
 
 def step_of(grammar, line, count):
     kind, *words = line.split(" ")
-    forms = STEPS.get(kind) if kind in grammar.steps else None
+    forms = grammar.steps.get(kind)
     if forms is None or len(words) != len(forms):
         raise BadLine
     tops = {"n": 65535, "f": count, "m": 2**32 - 1, "g": 65535, "q": MAX_NUMBER, "o": PAGE_LEN, "l": PAGE_LEN}
@@ -169,7 +172,7 @@ class ScriptReader(Reader):
         elif not self.has_gone:
             self.fact_line(place, line)
         elif self.nodes is None:
-            self.nodes = named_number(line, "nodes", self.grammar.most_nodes)
+            self.nodes = named_number(line, "nodes", MOST_NODES)
         else:
             if len(self.steps) == MOST_LINES:
                 raise BadLine
@@ -318,10 +321,10 @@ TASKS = {"check": check, "run": run}
 
 def main():
     words = sys.argv[1:]
-    grammar = Grammar("--fleet" in words)
-    tasks = [word for word in words if word != "--fleet"]
+    grammar = Grammar("--messages" in words)
+    tasks = [word for word in words if word != "--messages"]
     if len(tasks) != 1 or tasks[0] not in TASKS:
-        sys.exit("usage: oracle.py [--fleet] check|run < input")
+        sys.exit("usage: oracle.py [--messages] check|run < input")
     output, status = TASKS[tasks[0]](sys.stdin.buffer.read().decode("latin-1"), grammar)
     sys.stdout.write(output)
     sys.exit(status)

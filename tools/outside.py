@@ -15,6 +15,7 @@ from functools import partial
 
 import compare
 import compare_captures
+import scripts
 
 sys.path.insert(0, str(pathlib.Path(__file__).resolve().parent / "fail_alloc"))
 import sweep
@@ -72,6 +73,8 @@ TEXTS = [
     ("check", b"", 0, b"sound 0\n"),
     ("run", SCRIPT, 0, b"changed\npage 61\n"),
     ("run", b"go\nnodes 1\n", 0, b""),
+    ("run", b"go\nnodes 64\njoin 64 1\nsame 1 64\njoin 65 64\nwipe 0\n", 0, b"joined\nyes\nno node 65\nno node 0\n"),
+    ("run", b"go\nnodes 65\n", 2, b"bad line 2\n"),
     ("inspect", b"04\nzz\n", 0, b"wire 2\nbad hex\n"),
     ("inspect", b"", 0, b""),
     ("check", b"min 0 5", 2, b"bad line 1\n"),
@@ -142,8 +145,8 @@ def failing_output(program):
     return f"{len(lost)} texts"
 
 
-def random_scripts(program, rounds, seed):
-    counts, differs = compare.compare(program, rounds, seed)
+def random_scripts(program, rounds, seed, make):
+    counts, differs = compare.compare(program, rounds, seed, make)
     if differs:
         raise Failed(differs)
     return ", ".join(f"{counts[status]} {name}" for status, name in compare.NAMES.items())
@@ -165,7 +168,7 @@ def refused_allocations(program):
     told = []
     with tempfile.TemporaryDirectory() as folder:
         shim = sweep.build_shim(folder)
-        for name, task, slack in (("readers", "run", TABLES), ("unsound", "check", TABLES), ("capture", "inspect", SLACK)):
+        for name, task, slack in (("readers", "run", TABLES), ("merge", "run", TABLES), ("unsound", "check", TABLES), ("capture", "inspect", SLACK)):
             text = (ROOT / f"examples/{name}.txt").read_bytes()
             total, wanting, bad = sweep.sweep([program, task], text, shim)
             if bad or not wanting:
@@ -219,7 +222,8 @@ def tests(rounds, seed):
         "status 4, an output that fails": failing_output,
         "status 5, each allocation refused": refused_allocations,
         "counts that promise too much": hostile_counts,
-        "random logs and scripts": partial(random_scripts, rounds=rounds, seed=seed),
+        "random logs and scripts": partial(random_scripts, rounds=rounds, seed=seed, make=scripts.random_input),
+        "random nodes that join": partial(random_scripts, rounds=rounds, seed=seed, make=scripts.input_of_joins),
         "random captures": partial(random_captures, rounds=max(1, rounds // 10), seed=seed),
     }
 

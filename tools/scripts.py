@@ -1,4 +1,5 @@
-"""Random small logs and scripts: sound and unsound, with truncations, waiting facts, several readers, repeats and spoilt lines."""
+"""Random small logs and scripts: sound and unsound, with truncations, waiting facts, several readers, repeats and spoilt lines, and
+scripts of several nodes that join, each after folds and discards of its own."""
 
 from dataclasses import replace
 
@@ -117,24 +118,28 @@ def spoil(choose, log):
 
 # Steps
 
-ALONE = ["take"] * 10 + ["fold"] * 4 + ["discard"] * 3 + ["read"] * 10 + ["front"] * 3
-TOGETHER = ALONE + ["join"] * 3 + ["ask"] * 5 + ["answer"] * 5 + ["absorb"] * 6 + ["same"] * 3 + ["covers"] * 4 + ["wipe"]
+KINDS = ["take"] * 10 + ["fold"] * 4 + ["discard"] * 3 + ["read"] * 10 + ["front"] * 3
+KINDS += ["join"] * 4 + ["same"] * 3 + ["covers"] * 4 + ["wipe"]
+KINDS_OF_MESSAGES = ["ask"] * 5 + ["answer"] * 5 + ["absorb"] * 6
+PAGES = 4
 
 
 class Steps:
     """Steps that mostly take facts first, read near their numbers, and use messages of the right kind."""
 
-    def __init__(self, choose, log, nodes, is_fleet):
+    def __init__(self, choose, log, nodes, has_messages):
         self.choose = choose
         self.facts = len(log)
         self.nodes = nodes
-        self.kinds = TOGETHER if is_fleet else ALONE
+        self.kinds = KINDS + KINDS_OF_MESSAGES if has_messages else KINDS
         self.points = [0] + [r.number + d for r in log if isinstance(r, Record) for d in (0, 0, 0, -1, 1)]
         self.points += [a.point for a in log if isinstance(a, Advance)]
         self.uses = []  # of each message: the kind of step that it is for
 
     def takes(self, node):
-        places = [place for place in range(1, self.facts + 1) if self.choose.random() < 0.93]
+        """Most facts of the log, or few."""
+        share = self.choose.choice((0.93, 0.93, 0.6, 0.3))
+        places = [place for place in range(1, self.facts + 1) if self.choose.random() < share]
         if self.choose.random() < 0.6:
             self.choose.shuffle(places)
         return [f"take {node} {place}" for place in places]
@@ -150,12 +155,17 @@ class Steps:
         if self.choose.random() < 0.002:
             return self.choose.choice((0, 4095, 4096, 4097, 65535, 65536, 2**32 - 1, 2**32, MAX_NUMBER, MAX_NUMBER + 1))
         if form in "go":
-            return self.choose.randrange(4)
+            return self.choose.randrange(PAGES)
         if form == "q":
             return max(0, self.choose.choice(self.points))
         if form in "fl":
             return self.choose.randrange(1, (self.facts if form == "f" else 8) + 1)
         return self.node() if form == "n" else self.message(kind)
+
+    def shed(self, node):
+        """Folds of some pages, and perhaps a discard: no answer may show them."""
+        pages = [page for page in range(PAGES) if self.choose.random() < 0.5]
+        return [f"fold {node} {page}" for page in pages] + [f"discard {node}"] * (self.choose.random() < 0.7)
 
     def note(self, kind, values):
         """Follows which messages there are."""
@@ -175,9 +185,18 @@ class Steps:
             if kind == "take" and self.facts == 0:
                 continue
             values = [self.value(form, kind) for form in oracle.STEPS[kind]]
+            if kind == "join" and self.choose.random() < 0.8:
+                lines += [line for node in values for line in self.shed(node)]
             lines.append(" ".join([kind, *(str(v) for v in values)]))
             self.note(kind, values)
         return lines
+
+    def looks(self):
+        """What every node answers, and how every two compare."""
+        nodes = range(1, self.nodes + 1)
+        lines = [f"front {node}" for node in nodes]
+        lines += [f"read {node} {page} {point} 0 12" for node in nodes for page in range(PAGES) for point in sorted(set(self.points)) if point >= 0]
+        return lines + [f"{kind} {i} {j}" for kind in ("same", "covers") for i in nodes for j in nodes]
 
 
 # Lines at the edges of what the grammar takes
@@ -244,7 +263,7 @@ def spoilt(choose, text):
     return text[:place] + character + text[place + choose.randrange(2) :]
 
 
-def random_input(choose, is_fleet=False):
+def random_input(choose, has_messages=False):
     """A task and a text for it."""
     if choose.random() < 0.1:
         return "check", edge_line(choose) + "\n"
@@ -255,9 +274,23 @@ def random_input(choose, is_fleet=False):
     task = choose.choice(("check", "run", "run", "run"))
     lines = first_lines(choose, roster) + [fact.line() for fact in log]
     if task == "run":
-        nodes = choose.choice((1, 2, 2, 3, 4)) if is_fleet else choose.choice((1,) * 11 + (2,))
-        lines += ["go", f"nodes {nodes}", *Steps(choose, log, nodes, is_fleet).lines()]
+        nodes = choose.choice((1, 1, 1, 2, 2, 2, 3, 3, 4, 4, 64))
+        named = nodes if choose.random() < 0.97 else choose.choice((0, 1, 64, 65))
+        lines += ["go", f"nodes {named}", *Steps(choose, log, nodes, has_messages).lines()]
     text = "".join(line + "\n" for line in lines)
     if text and choose.random() < 0.1:
         text = spoilt(choose, text)
     return task, text
+
+
+def input_of_joins(choose, has_messages=False):
+    """A script of several nodes over a sound log that joins them all, and then asks each node for all that it can answer."""
+    roster, nodes = choose.choice((1, 1, 2, 3)), choose.choice((2, 2, 3, 4))
+    log = random_log(choose, roster)
+    steps = Steps(choose, log, nodes, has_messages)
+    lines = [f"roster {roster}"] * (roster > 1) + [fact.line() for fact in log] + ["go", f"nodes {nodes}"] + steps.lines()
+    order = list(range(1, nodes + 1))
+    choose.shuffle(order)
+    for i, j in zip(order, order[1:] + order[:1]):
+        lines += [*steps.shed(i), *steps.shed(j), f"join {i} {j}"]
+    return "run", "".join(line + "\n" for line in lines + steps.looks())

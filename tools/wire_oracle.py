@@ -1,7 +1,7 @@
 #!/usr/bin/env python3
 """Tells what each line of a capture on standard input spells, from the layouts and the order of faults alone.
 
-Usage: wire_oracle.py [--pieces] < capture. With --pieces it knows the pieces of snapshots, which the program does not yet.
+Usage: wire_oracle.py < capture
 """
 
 import sys
@@ -211,35 +211,35 @@ FORMS = {
     0x11: lambda front: delta(front, False),
     0x20: lambda front: summary(front, True),
     0x21: lambda front: delta(front, True),
+    0x12: lambda front: piece(front, False),
+    0x22: lambda front: piece(front, True),
 }
-PIECES = {0x12: lambda front: piece(front, False), 0x22: lambda front: piece(front, True)}
 
 
-def value(data, forms):
+def value(data):
     front = Front(data)
     tag = front.whole(1)
-    need(tag in forms, TAG)
-    text = forms[tag](front)
+    need(tag in FORMS, TAG)
+    text = FORMS[tag](front)
     need(front.at == len(data), REST)
     return text
 
 
-def line(digits, forms):
+def line(digits):
     if len(digits) % 2 or not all(c in b"0123456789abcdefABCDEF" for c in digits):
         return "bad hex"
     try:
-        return value(bytes.fromhex(digits.decode()), forms)
+        return value(bytes.fromhex(digits.decode()))
     except Fault as fault:
         return f"wire {fault.args[0]}"
 
 
-def told(text, has_pieces=False):
-    forms = {**FORMS, **PIECES} if has_pieces else FORMS
+def told(text):
     lines = text.split(b"\n")
     if lines[-1] == b"":
         lines.pop()
-    return "".join(line(digits, forms) + "\n" for digits in lines).encode()
+    return "".join(line(digits) + "\n" for digits in lines).encode()
 
 
 if __name__ == "__main__":
-    sys.stdout.buffer.write(told(sys.stdin.buffer.read(), "--pieces" in sys.argv[1:]))
+    sys.stdout.buffer.write(told(sys.stdin.buffer.read()))
