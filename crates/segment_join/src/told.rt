@@ -45,7 +45,7 @@ fn take_told(draft: &mut Segment, other: &Segment) -> Result<(), Refusal>
 
 /// Takes what a book tells: truncations, each reader's point as an advance in the complete epoch, waiting advances.
 ///
-/// Errors: as of the first of these facts that `take` refuses; those before it are taken.
+/// Errors: as of the first of these facts that `take` refuses; what the draft knows then is not said.
 pub fn take_book(
     draft: &mut Segment,
     cuts: &[Cut],
@@ -69,7 +69,7 @@ pub fn take_book(
 
 /// Takes one fact, whether or not it tells anything new.
 ///
-/// Errors: as `take` refuses it; the segment is then as it was.
+/// Errors: as `take` refuses it.
 pub fn take_one(draft: &mut Segment, fact: Fact) -> Result<(), Refusal>
     ensures takes { OnOk result (TakesOne draft.old fact draft.new) }
     ensures refused { IfErr result (λ e. (e ≡ MemoryOf) ⊎ RefusesOne draft.old (fact ∷ []) e) }
