@@ -46,16 +46,21 @@ def script(roster, facts, pages, times):
     return text([*roster, *facts, *steps])
 
 
-def main():
-    parser = argparse.ArgumentParser(description=__doc__)
-    parser.add_argument("sizes", type=int, nargs="+", help="numbers of records")
+def log_options(parser):
+    """What a measure asks of the logs that it makes, and of which program."""
     parser.add_argument("--pages", type=int, default=64, help="how many pages")
     parser.add_argument("--epochs", type=int, default=0, help="how many truncations")
     parser.add_argument("--readers", type=int, default=1, help="how many readers advance in turn")
     parser.add_argument("--patches", action="store_true", help="with fills, and records that begin their page anew")
+    parser.add_argument("--program", type=pathlib.Path, default=PROGRAM, help="the built program")
+
+
+def main():
+    parser = argparse.ArgumentParser(description=__doc__)
+    parser.add_argument("sizes", type=int, nargs="+", help="numbers of records")
+    log_options(parser)
     parser.add_argument("--reads", type=int, default=1, help="how many times each page is read")
     parser.add_argument("--shuffled", action="store_true", help="the facts in a random order")
-    parser.add_argument("--program", type=pathlib.Path, default=PROGRAM, help="the built program")
     given = parser.parse_args()
     print("| records | check, s | MB | run, s | MB | front |\n|---|---|---|---|---|---|")
     for size in given.sizes:

@@ -7,10 +7,9 @@ Prints one row for each size: seconds, and the most memory that the program held
 """
 
 import argparse
-import pathlib
 
 import make_log
-from measure import PROGRAM, measure, text
+from measure import log_options, measure, text
 
 STRIDE = 4  # of so many pages a node folds one before it is joined
 
@@ -45,11 +44,7 @@ def main():
     parser.add_argument("sizes", type=int, nargs="+", help="numbers of records")
     parser.add_argument("--nodes", type=int, default=3, help="how many nodes, 2 to 64")
     parser.add_argument("--joins", type=int, default=100, help="after how many shares of the facts a node is joined into another")
-    parser.add_argument("--pages", type=int, default=64, help="how many pages")
-    parser.add_argument("--epochs", type=int, default=0, help="how many truncations")
-    parser.add_argument("--readers", type=int, default=1, help="how many readers advance in turn")
-    parser.add_argument("--patches", action="store_true", help="with fills, and records that begin their page anew")
-    parser.add_argument("--program", type=pathlib.Path, default=PROGRAM, help="the built program")
+    log_options(parser)
     given = parser.parse_args()
     if not 2 <= given.nodes <= 64:
         parser.error("nodes go from 2 to 64")
