@@ -1,6 +1,6 @@
 use crate::facts::fact_at_place;
 use named_log::LogName;
-use redo_core::Fact;
+use redo_core::{Fact, Roster};
 use std::alloc::{AllocError, Global};
 
 /// The log of N records of epoch 0, an advance, a truncation at N / 2 and N records of epoch 1, for N from 2 to 1,048,576.
@@ -15,6 +15,13 @@ impl<const N: u64> LogName for Drill<N> {
     ghost roster = { 1 };
 
     ghost log = { drill_log N };
+
+    fn roster() -> Roster {
+        match Roster::new(1) {
+            Ok(roster) => roster,
+            Err(_) => unreachable!(),
+        }
+    }
 
     fn fact(alloc: Global, place: u64) -> Result<Option<Fact>, AllocError> {
         if N < 2 || N > 1048576 {

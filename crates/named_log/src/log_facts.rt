@@ -26,6 +26,18 @@ impl<L: LogName> Model for LogFact<L> {
 }
 
 impl<L: LogName> LogFact<L> {
+    /// The fact of a place of the log, from 1, of which the caller knows that it stands there.
+    pub fn new(place: u64, fact: Fact) -> LogFact<L>
+        requires { fact_at L.log place ≡ Some fact }
+        ensures { result ≡ record { place = place; fact = fact } }
+    {
+        LogFact {
+            place,
+            fact,
+            of: PhantomData,
+        }
+    }
+
     /// The fact at a place of the log, from 1, or none outside it. Its only error is want of memory.
     pub fn at(alloc: Global, place: u64) -> Result<Option<LogFact<L>>, AllocError>
         ensures value { IfOk result (λ found. found ≡ placed place (fact_at L.log place)) }

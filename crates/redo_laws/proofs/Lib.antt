@@ -13,3 +13,4 @@ pub mod Single
 pub mod Passed
 pub mod Sampled
 pub mod Storing
+pub mod OfWholeLog

@@ -1,15 +1,16 @@
 //! The laws of what sets of facts mean, over the definitions alone: each is a function with an empty body, and its contract is
 //! the law.
 //!
-//! A part of a sound log knows its own prefix of the log (prefix), what it knows up to its anchor is final (finality), and a
-//! meaning stands for its part in every union, order and answer (congruence, order by parts, least upper bound, answers).
-//! A quorum's place is kept by every union that meets it (overlap). The other laws say that the definitions are well formed.
+//! A part of a sound log knows its own prefix of the log (prefix), what it knows up to its anchor is final (finality), its front and
+//! its pages up to its complete point are the whole log's (front of part, page of part), and a meaning stands for its part in every
+//! union, order and answer (congruence, order by parts, least upper bound, answers). A quorum's place is kept by every union that meets
+//! it (overlap). The other laws say that the definitions are well formed.
 #![tactic(auto)]
 
 ghost use Rattle.redo_laws.specs.OrderOfMeanings.{Congruence, OrderByParts, LeastUpperBound, Associativity, Commutativity, Idempotence};
 ghost use Rattle.redo_laws.specs.OneReader.{OneReader, OneReaderKeeps};
 ghost use Rattle.redo_laws.specs.Overlap.{Overlap};
-ghost use Rattle.redo_laws.specs.Parts.{Prefix, Finality};
+ghost use Rattle.redo_laws.specs.Parts.{Prefix, Finality, FrontOfPart, PageOfPart};
 ghost use Rattle.redo_laws.specs.Passing.{PastByPoints, NonePassed};
 ghost use Rattle.redo_laws.specs.Sample.{SampleIsSound};
 ghost use Rattle.redo_laws.specs.Stored.{StoredImages};
@@ -23,6 +24,16 @@ pub fn prefix()
 /// What is linked up to the anchor stays so in every larger part of the log, and the anchor never falls.
 pub fn finality()
     ensures { Finality }
+{}
+
+/// The complete epoch and the complete point of a part of a sound log are a front of the log.
+pub fn front_of_part()
+    ensures { FrontOfPart }
+{}
+
+/// Up to the complete point, a page of a part is the log's own in the view of the part's complete epoch.
+pub fn page_of_part()
+    ensures { PageOfPart }
 {}
 
 /// Two parts of one meaning have one meaning after a union with the same facts.
