@@ -1,67 +1,165 @@
--- The least page above one given, record by record.
-use Rattle.std.proofs.Common.{◌≡◌, ℕ, ◌<◌, ◌≤◌, ◌+◌, ◌⊎◌, inl, inr, ⊎_elim, List, length, take, get_or, Option, Some, None, refl, sym, subst, arith}
+-- The records of a page, one after the other, and what removals leave.
+use Rattle.std.proofs.Common.{◌≡◌, ℕ, ◌-◌, ◌<◌, ◌≤◌, ◌↔◌, inl, inr, ⊎_elim, List, [], sym, ◌∙◌, ap, subst, arith, Option, Some, None}
+use Rattle.std.specs.List.{Contains}
 use Rattle.std.proofs.lemmas.Bool.{cases_lt}
 use Rattle.redo_core.specs.Data.{RecordData}
-use Rattle.hot_log.specs.Found.{IsPageAbove, IsPageBelow, IsPageAfter}
+use Rattle.redo_core.specs.Order.{Lists, BeforeByNumber, PairBefore}
+use Rattle.redo_core.specs.Standing.{IsAlive}
 use Rattle.redo_core.proofs.Members.{none_in}
-use Rattle.redo_core.proofs.Rising.{front_to, up_to, take_grows, in_take, whole}
+use Rattle.redo_core.proofs.Listing.{lists_as}
+use Rattle.epoch_book.specs.Book.{BookData, IsBook}
+use Rattle.hot_log.specs.Held.{IsHeld, HasKey, IsRecordAt}
+use Rattle.hot_log.specs.Alive.{IsHeldOf, IsPageAlive, IsAliveBetween, PartsAt}
+use Rattle.hot_log.specs.Found.{IsLeastRecord, IsGreatestRecord}
+use Rattle.hot_log.specs.Removing.{IsFolded, Removes}
+use Rattle.hot_log.specs.Indexing.{IsLastHeld}
+use Rattle.hot_log.proofs.Indexed.{one_key}
+use Rattle.hot_log.proofs.Views.{view_of, number_before}
+use Rattle.hot_log.proofs.Climb.{alive_key, up_to, fewer, not_after, past, still, passed}
 
-above_or : (after : Option ℕ) (page : ℕ) → IsPageAbove after page ⊎ (IsPageAbove after page → ⊥)
-above_or None page = inl tt
-above_or (Some a) page = ⊎_elim (λ (h : a < page). inl h) (λ (h : page ≤ a). inr (λ (l : a < page). omega (arith, h, l))) (cases_lt a page)
+-- the alive records between the keys that part them at two numbers are those between the numbers
+pub by_number : (b : BookData) (held : List RecordData) (page from to low high : ℕ) (xs : List RecordData) → PartsAt b from low → PartsAt b to high → Lists BeforeByNumber (IsAliveBetween b held page (low, from) (high, to)) xs → Lists BeforeByNumber (IsHeldOf b held page from to) xs
+by_number b held page from to low high xs above up lists =
+    lists_as BeforeByNumber (IsAliveBetween b held page (low, from) (high, to)) (IsHeldOf b held page from to) xs
+    (λ r. (
+      λ h. (
+        h.0.0,
+        h.0.1,
+        h.0.2,
+        (above.0 r.epoch r.number h.0.1).1 h.1,
+        ⊎_elim
+            (λ (l : to < r.number). absurd (h.2 ((up.0 r.epoch r.number h.0.1).0 l)))
+            (λ (l : r.number ≤ to). l)
+            (cases_lt to r.number),
+      ),
+      λ h. (
+        (h.0, h.1, h.2),
+        (above.0 r.epoch r.number h.1).0 h.3,
+        λ p. let l : to < r.number = (up.0 r.epoch r.number h.1).1 p in let le : r.number ≤ to = h.4 in omega arith,
+      ),
+    ))
+    lists
 
-below_or : (page : ℕ) (least : Option ℕ) → IsPageBelow page least ⊎ (IsPageBelow page least → ⊥)
-below_or page None = inl tt
-below_or page (Some b) = ⊎_elim (λ (h : page < b). inl h) (λ (h : b ≤ page). inr (λ (l : page < b). omega (arith, h, l))) (cases_lt page b)
+-- there are none where the keys, or the numbers, do not rise
+pub none_between : (b : BookData) (held : List RecordData) (page from to low high : ℕ) (xs : List RecordData) → PartsAt b from low → PartsAt b to high → (low ≤ high → from < to → ⊥) → xs ≡ [] → Lists BeforeByNumber (IsHeldOf b held page from to) xs
+none_between b held page from to low high xs above up apart is =
+    subst (λ (l : List RecordData). Lists BeforeByNumber (IsHeldOf b held page from to) l) (sym is)
+    (record {
+      rising = tt;
+      members = λ r. (
+        λ h. absurd (none_in r h),
+        λ h.
+            let over : PairBefore low from r.epoch r.number = (above.0 r.epoch r.number h.1).0 h.3 in
+            let under : PairBefore high to r.epoch r.number → ⊥ = λ p. let l : to < r.number = (up.0 r.epoch r.number h.1).1 p in let le : r.number ≤ to = h.4 in omega arith in
+            let lt : from < r.number = h.3 in
+            let le : r.number ≤ to = h.4 in
+            absurd (apart (rise low from high to r.epoch r.number over under) (omega arith)),
+      );
+    })
+  where
+    rise : (a b c d e n : ℕ) → PairBefore a b e n → (PairBefore c d e n → ⊥) → a ≤ c
+    rise a b c d e n p q = grind arith
 
--- no record, no page
-pub none_yet : (hs : List RecordData) (after : Option ℕ) → IsPageAfter (take 0 hs) after None
-none_yet hs after = λ r h above. none_in r h
+pub least_over : (b : BookData) (held : List RecordData) (page at to : ℕ) (x : RecordData) → IsLeastRecord (λ r. IsPageAlive b held page r × (at < r.number)) (Some x) → to < x.number → (r : RecordData) → IsPageAlive b held page r × (at < r.number) → to < r.number
+least_over b held page at to x found over r h = ⊎_elim (λ (e : r ≡ x). let same : r.number ≡ x.number = ap (λ (y : RecordData). y.number) e in omega arith) (λ (l : x.number < r.number). omega arith) (found.1 r h)
 
--- a nearer page takes the place of the least so far
-takes_place : (hs : List RecordData) (i : ℕ) (x : RecordData) (after least : Option ℕ) → i < length hs → x ≡ get_or hs i x → IsPageAfter (take i hs) after least
-    → IsPageAbove after x.page → IsPageBelow x.page least → IsPageAfter (take (i + 1) hs) after (Some x.page)
-takes_place hs i x after None lt at so_far above below = (
-  (x, up_to hs i x lt at, refl, above),
-  λ r h a. ⊎_elim (λ (e : x ≡ r). subst (λ (y : RecordData). x.page ≤ y.page) e (omega arith)) (λ old. absurd (so_far r old a)) (front_to hs i x r lt at h),
+-- what a removal of a page has left so far
+pub record Shed (b : BookData) (page version point at : ℕ) (old now : List RecordData) : Type 0 where
+  pub left : (r : RecordData) → Contains now r ↔ (Contains old r × (IsFolded b page version point r × (r.number ≤ at) → ⊥))
+
+pub shed_none : (b : BookData) (page version point : ℕ) (held : List RecordData) → ((r : RecordData) → Contains held r → 0 < r.number) → Shed b page version point 0 held held
+shed_none b page version point held up = record { left = λ r. (λ h. (h, λ k. let p : 0 < r.number = up r h in let z : r.number ≤ 0 = k.1 in omega arith), λ h. h.0) }
+
+pub shed_next : (b : BookData) (page version point at : ℕ) (old now after : List RecordData) (x : RecordData) (e n : ℕ) → IsHeld now → Shed b page version point at old now → IsLeastRecord (λ r. IsPageAlive b now page r × (at < r.number)) (Some x) → x.number ≤ version → x.number ≤ point → e ≡ x.epoch → n ≡ x.number → Removes (HasKey e n) now after → Shed b page version point n old after
+shed_next b page version point at old now after x e n is shed found low small p q removes = record {
+  left = λ r. (
+    λ h.
+        let k = (removes r).0 h in
+        let s = (shed.left r).0 k.0 in (
+          s.0,
+          λ f. ⊎_elim
+              (λ (l : at < r.number). ⊎_elim
+              (λ (same : r ≡ x). k.1 (ap (λ (y : RecordData). y.epoch) same ∙ sym p, ap (λ (y : RecordData). y.number) same ∙ sym q))
+              (λ (l2 : x.number < r.number). let z : r.number ≤ n = f.1 in omega arith)
+              (found.1 r ((k.0, f.0.0, f.0.1), l)))
+              (λ (l : r.number ≤ at). s.1 (f.0, l))
+              (cases_lt at r.number),
+        ),
+    λ h.
+        let up : at < x.number = found.0.1 in
+        let in_now = (shed.left r).1 (h.0, λ f. h.1 (f.0, let z : r.number ≤ at = f.1 in let t : r.number ≤ n = omega arith in t)) in
+        (removes r).1 (
+          in_now,
+          λ key.
+              let same : r ≡ x = one_key now is.rising r x in_now found.0.0.0 (key.0 ∙ p) (key.1 ∙ q) in
+              let number : r.number ≡ x.number = ap (λ (y : RecordData). y.number) same in
+              let fold : IsFolded b page version point r = subst (IsFolded b page version point) (sym same) (found.0.0.1, found.0.0.2, low, small) in
+              h.1 (fold, let t : r.number ≤ n = omega arith in t),
+        ),
+  );
+}
+
+pub shed_all : (b : BookData) (page version point at : ℕ) (old now : List RecordData) → Shed b page version point at old now → ((r : RecordData) → IsPageAlive b now page r × (at < r.number) → (r.number ≤ version) → (r.number ≤ point) → ⊥) → Removes (IsFolded b page version point) old now
+shed_all b page version point at old now shed none r = (
+  λ h.
+      let s = (shed.left r).0 h in (
+        s.0,
+        λ f. ⊎_elim
+            (λ (l : at < r.number). none r ((h, f.0, f.1), l) f.2 f.3)
+            (λ (l : r.number ≤ at). s.1 (f, l))
+            (cases_lt at r.number),
+      ),
+  λ h. (shed.left r).1 (h.0, λ f. h.1 f.0),
 )
-takes_place hs i x after (Some least) lt at so_far above below = (
-  (x, up_to hs i x lt at, refl, above),
-  λ r h a. ⊎_elim (λ (e : x ≡ r). subst (λ (y : RecordData). x.page ≤ y.page) e (omega arith))
-      (λ old. let le : least ≤ r.page = so_far.1 r old a in omega (arith, below, le)) (front_to hs i x r lt at h),
-)
 
--- a page that is not nearer leaves the least as it is
-leaves : (hs : List RecordData) (i : ℕ) (x : RecordData) (after least : Option ℕ) → i < length hs → x ≡ get_or hs i x → IsPageAfter (take i hs) after least
-    → (IsPageAbove after x.page → IsPageBelow x.page least → ⊥) → IsPageAfter (take (i + 1) hs) after least
-leaves hs i x after None lt at so_far not =
-    λ r h a. ⊎_elim (λ (e : x ≡ r). not (subst (λ (y : RecordData). IsPageAbove after y.page) (sym e) a) tt) (λ old. so_far r old a) (front_to hs i x r lt at h)
-leaves hs i x after (Some least) lt at so_far not = (
-  (so_far.0.0, take_grows hs i so_far.0.0 so_far.0.1, so_far.0.2, so_far.0.3),
-  λ r h a. ⊎_elim
-      (λ (e : x ≡ r).
-      let above : IsPageAbove after x.page = subst (λ (y : RecordData). IsPageAbove after y.page) (sym e) a in
-      let far : x.page < least → ⊥ = not above in
-      subst (λ (y : RecordData). least ≤ y.page) e (omega (arith, far)))
-      (λ old. so_far.1 r old a)
-      (front_to hs i x r lt at h),
-)
+-- what is left of a search downwards from a number
+pub record Under (b : BookData) (held : List RecordData) (page number : ℕ) (at : ℕ × ℕ) : Type 0 where
+  pub below : (r : RecordData) → IsPageAlive b held page r → r.number ≤ number → PairBefore at.0 at.1 r.epoch r.number → ⊥
+  pub high : (r : RecordData) → IsAlive b.cuts b.complete r.epoch r.number → (PairBefore at.0 at.1 r.epoch r.number → ⊥) → r.number ≤ number
 
-pub one_more : (hs : List RecordData) (i : ℕ) (x : RecordData) (after least result : Option ℕ) → i < length hs → x ≡ get_or hs i x
-    → IsPageAfter (take i hs) after least → (IsPageAbove after x.page → IsPageBelow x.page least → result ≡ Some x.page)
-    → ((IsPageAbove after x.page → IsPageBelow x.page least → ⊥) → result ≡ least) → IsPageAfter (take (i + 1) hs) after result
-one_more hs i x after least result lt at so_far near far =
-    ⊎_elim
-    (λ above. ⊎_elim
-    (λ below. subst (IsPageAfter (take (i + 1) hs) after) (sym (near above below)) (takes_place hs i x after least lt at so_far above below))
-    (λ not. subst (IsPageAfter (take (i + 1) hs) after) (sym (far (λ a b. not b))) (leaves hs i x after least lt at so_far (λ a b. not b)))
-    (below_or x.page least))
-    (λ not. subst (IsPageAfter (take (i + 1) hs) after) (sym (far (λ a b. not a))) (leaves hs i x after least lt at so_far (λ a b. not a)))
-    (above_or after x.page)
+pub under_start : (b : BookData) (held : List RecordData) (page number epoch : ℕ) → PartsAt b number epoch → Under b held page number (epoch, number)
+under_start b held page number epoch parts = record {
+  below = λ r h le p. let lt : number < r.number = (parts.0 r.epoch r.number h.1).1 p in omega arith;
+  high = λ r a not. ⊎_elim (λ (l : number < r.number). absurd (not ((parts.0 r.epoch r.number a).0 l))) (λ (l : r.number ≤ number). l) (cases_lt number r.number);
+}
 
-pub of_all : (hs : List RecordData) (i : ℕ) (after least : Option ℕ) → length hs ≤ i → IsPageAfter (take i hs) after least → IsPageAfter hs after least
-of_all hs i after None past so_far = λ r h a. so_far r (whole hs i r past h) a
-of_all hs i after (Some least) past so_far = (
-  (so_far.0.0, in_take i hs so_far.0.0 so_far.0.1, so_far.0.2, so_far.0.3),
-  λ r h a. so_far.1 r (whole hs i r past h) a,
-)
+pub under_step : (b : BookData) (held : List RecordData) (page number : ℕ) (at key : ℕ × ℕ) → Under b held page number at → IsLastHeld (λ r. r.page) held page at (Some key) → 0 < key.1 → (IsAlive b.cuts b.complete key.0 key.1 → ⊥) → Under b held page number (key.0, key.1 - 1)
+under_step b held page number at key under last up dead = record {
+  below = λ r h le p.
+      let below_at = λ (q : PairBefore at.0 at.1 r.epoch r.number). under.below r h le q in
+      ⊎_elim
+      (λ (k : HasKey key.0 key.1 r). dead (subst (λ (x : ℕ). IsAlive b.cuts b.complete x key.1) k.0 (subst (λ (x : ℕ). IsAlive b.cuts b.complete r.epoch x) k.1 h.1)))
+      (λ (q : PairBefore r.epoch r.number key.0 key.1). apart r.epoch r.number key.0 key.1 p q up)
+      (last.1 r h.0 h.2 below_at);
+  high = λ r a not. under.high r a (λ q. last.0.4 (subst (λ (x : ℕ). PairBefore at.0 at.1 x last.0.0.number) (sym last.0.3.0) (subst (λ (x : ℕ). PairBefore at.0 at.1 key.0 x) (sym last.0.3.1) (above_both at.0 at.1 key.0 key.1 r.epoch r.number q not))));
+}
+  where
+    apart : (e n a b : ℕ) → PairBefore a (b - 1) e n → PairBefore e n a b → 0 < b → ⊥
+    apart e n a b p q up = grind arith
+
+    above_both : (x y a b e n : ℕ) → PairBefore x y e n → (PairBefore a (b - 1) e n → ⊥) → PairBefore x y a b
+    above_both x y a b e n q not = grind arith
+
+pub under_found : (b : BookData) (held : List RecordData) (page number : ℕ) (at key : ℕ × ℕ) (o : Option RecordData) → IsBook b → IsHeld held → Under b held page number at → IsLastHeld (λ r. r.page) held page at (Some key) → IsAlive b.cuts b.complete key.0 key.1 → IsRecordAt held key.0 key.1 o → IsGreatestRecord (λ r. IsPageAlive b held page r × (r.number ≤ number)) o
+under_found b held page number at key None book is under last alive none = absurd (none last.0.0 last.0.1 last.0.3)
+under_found b held page number at key (Some x) book is under last alive at_key =
+    let t = last.0 in
+    let same : t.0 ≡ x = one_key held is.rising t.0 x t.1 at_key.0 (t.3.0 ∙ sym at_key.1.0) (t.3.1 ∙ sym at_key.1.1) in
+    let a : IsAlive b.cuts b.complete x.epoch x.number = alive_key b x key at_key.1 alive in
+    let not : PairBefore at.0 at.1 x.epoch x.number → ⊥ = subst (λ (r : RecordData). PairBefore at.0 at.1 r.epoch r.number → ⊥) same t.4 in (
+      ((at_key.0, a, subst (λ (r : RecordData). r.page ≡ page) same t.2), under.high x a not),
+      λ s h. ⊎_elim
+          (λ (k : HasKey key.0 key.1 s). inl (one_key held is.rising s x h.0.0 at_key.0 (k.0 ∙ sym at_key.1.0) (k.1 ∙ sym at_key.1.1)))
+          (λ (p : PairBefore s.epoch s.number key.0 key.1). inr (number_before b.cuts b.complete (view_of b book) s x h.0.1 a (subst (λ (e : ℕ). PairBefore s.epoch s.number e x.number) (sym at_key.1.0) (subst (λ (n : ℕ). PairBefore s.epoch s.number key.0 n) (sym at_key.1.1) p))))
+          (last.1 s h.0.0 h.0.2 (λ p. under.below s h.0 h.1 p)),
+    )
+
+pub up_to_falls : (at key : ℕ × ℕ) (n : ℕ) (held : List RecordData) (r : RecordData) → Contains held r → HasKey key.0 key.1 r → (PairBefore at.0 at.1 r.epoch r.number → ⊥) → 0 < r.number → n ≡ key.1 - 1 → up_to (key.0, n) held < up_to at held
+up_to_falls at key n held r h k not up e =
+    fewer (λ s. not_after (key.0, n) s) (λ s. not_after at s) held r h
+    (past (key.0, n) r (let e0 : r.epoch ≡ key.0 = k.0 in let n0 : r.number ≡ key.1 = k.1 in let t : PairBefore key.0 n r.epoch r.number = grind arith in t))
+    (still at r not)
+    (λ y q. still at y (λ p. back key n r y at k up e not (passed (key.0, n) y q) p))
+  where
+    back : (key : ℕ × ℕ) (n : ℕ) (r y : RecordData) (at : ℕ × ℕ) → HasKey key.0 key.1 r → 0 < r.number → n ≡ key.1 - 1 → (PairBefore at.0 at.1 r.epoch r.number → ⊥) → (PairBefore key.0 n y.epoch y.number → ⊥) → PairBefore at.0 at.1 y.epoch y.number → ⊥
+    back key n r y at k up e not low p = let e0 : r.epoch ≡ key.0 = k.0 in let n0 : r.number ≡ key.1 = k.1 in grind arith

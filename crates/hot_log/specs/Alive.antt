@@ -1,5 +1,6 @@
 -- Which of the held records are alive in a book's view, and which numbers they link.
-use Rattle.std.specs.Prelude.{◌≡◌, ℕ, ◌<◌, ◌≤◌, List}
+use Rattle.std.specs.Prelude.{◌≡◌, ℕ, ◌+◌, ◌<◌, ◌≤◌, ◌↔◌, List}
+use Rattle.redo_core.specs.Order.{PairBefore}
 use Rattle.std.specs.List.{Contains}
 use Rattle.redo_core.specs.Data.{RecordData}
 use Rattle.redo_core.specs.Standing.{IsAlive}
@@ -23,3 +24,29 @@ IsHeldOf book held page from to r =
 abbrev pub IsLinkedHeld : BookData → List RecordData → ℕ → RecordData → Type 0
 IsLinkedHeld book held from r =
     Contains held r × IsAlive book.cuts book.complete r.epoch r.number × IsLinkedFrom book held from r.number
+
+-- an alive record of a page
+abbrev pub IsPageAlive : BookData → List RecordData → ℕ → RecordData → Type 0
+IsPageAlive book held page r = Contains held r × IsAlive book.cuts book.complete r.epoch r.number × (r.page ≡ page)
+
+-- an alive record of a page with a key above one and at most another
+abbrev pub IsAliveBetween : BookData → List RecordData → ℕ → ℕ × ℕ → ℕ × ℕ → RecordData → Type 0
+IsAliveBetween book held page above to r =
+    IsPageAlive book held page r × PairBefore above.0 above.1 r.epoch r.number × (PairBefore to.0 to.1 r.epoch r.number → ⊥)
+
+-- the epoch parts the alive records at a number: those with a higher number are those with a higher key, and the next number
+-- can be alive in this epoch alone
+abbrev pub PartsAt : BookData → ℕ → ℕ → Type 0
+PartsAt book number epoch =
+    ((e n : ℕ) → IsAlive book.cuts book.complete e n → (number < n) ↔ PairBefore epoch number e n)
+    × ((e : ℕ) → IsAlive book.cuts book.complete e (number + 1) → e ≡ epoch)
+
+-- a held record whose backlink is linked from a base and at most a limit: one that a search for linked numbers has to look at
+abbrev pub IsReached : BookData → List RecordData → ℕ → ℕ → RecordData → Type 0
+IsReached book held from limit r = Contains held r × IsLinkedFrom book held from r.back × (r.back ≤ limit)
+
+-- From one number to another the chain is straight: each alive record above the one and up to the other is linked, and each
+-- linked number is linked from each lower one. So there is no stray and no fork.
+pub record IsStraight (book : BookData) (held : List RecordData) (from to : ℕ) : Type 0 where
+  pub linked : (r : RecordData) → IsHeldAlive book held r → from < r.number → r.number ≤ to → IsLinkedFrom book held from r.number
+  pub onward : (m n : ℕ) → IsLinkedFrom book held from m → IsLinkedFrom book held from n → m ≤ n → n ≤ to → IsLinkedFrom book held m n

@@ -3,3 +3,5 @@ pub mod Putting
 pub mod Alive
 pub mod Found
 pub mod Removing
+pub mod Indexing
+pub mod Paged

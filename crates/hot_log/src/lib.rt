@@ -4,13 +4,21 @@
 //! refused. Against a book of truncations it answers which numbers are linked from a base, the alive records of a page in
 //! order of their numbers, and the successor of a number; it removes what an image has and what is dead. Every answer is exact
 //! over every set of records, also one that no sound log has. Only `put`, `copy` and `records_of` want memory.
+//!
+//! The records stand by page and, within a page, by key (`records`); beside them are the page of each key (`key_pages`) and the
+//! keys by segment backlink (`index`). `search` goes from key to key, `links` along backlinks, `removal` removes one by one.
 #![tactic(auto)]
 
+mod index;
+mod key_pages;
 mod links;
 mod log;
+mod records;
 mod removal;
 mod search;
+mod steps;
 #[cfg(test)]
 mod tests;
 
 pub use log::{HotLog, Put, PutFault};
+pub use steps::Steps;

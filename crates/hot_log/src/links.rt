@@ -1,25 +1,87 @@
 // The numbers that held records link, from a base on.
-ghost use Rattle.std.specs.Prelude.{◌≡◌, ℕ, ◌<◌, ◌≤◌, ◌↔◌, IsTrue};
+ghost use Rattle.std.specs.Prelude.{◌≡◌, ℕ, ◌<◌, ◌≤◌, ◌↔◌, List, length, IsTrue, false};
 ghost use Rattle.std.specs.Option.{option_copied};
 ghost use Rattle.redo_core.specs.Data.{RecordData};
-ghost use Rattle.redo_core.specs.Standing.{IsAlive};
-ghost use Rattle.epoch_book.specs.Book.{IsBook};
+ghost use Rattle.std.specs.List.{Contains};
+ghost use Rattle.redo_core.specs.Order.{Lists, RecordBefore, PairBefore};
 ghost use Rattle.hot_log.specs.Held.{IsHeld};
-ghost use Rattle.hot_log.specs.Alive.{IsHeldAlive, IsLinkedFrom, IsLinkedHeld};
-ghost use Rattle.hot_log.specs.Found.{IsOnlyRecord, IsGreatestRecord};
+ghost use Rattle.hot_log.specs.Alive.{IsLinkedFrom, IsLinkedHeld, IsReached, IsStraight};
+ghost use Rattle.hot_log.specs.Found.{IsGreatestRecord};
 
-use crate::search::{alive_of, is_alive};
+use crate::log::HotLog;
+use crate::search::is_alive;
+use crate::steps::Steps;
 use epoch_book::EpochBook;
 use redo_core::Record;
 
+// The greatest number up to a limit that is linked. The search goes down each chain in turn, and where one ends it climbs back
+// to the last fork, if there was one: so each record whose backlink is linked is looked at once, and no memory is taken.
+pub fn linked_counted(
+    log: &HotLog,
+    book: &EpochBook,
+    from: u64,
+    limit: u64,
+    steps: &mut Steps,
+) -> u64
+    requires ordered { from ≤ limit }
+    requires fresh { steps.old.count ≡ 0 }
+    ensures linked { IsLinkedFrom book.now log.now from result }
+    ensures bound { result ≤ limit }
+    ensures greatest { (n : ℕ) → IsLinkedFrom book.now log.now from n → n ≤ limit → n ≤ result }
+    ensures counted { (xs : List RecordData) → Lists RecordBefore (IsReached book.now log.now from limit) xs → steps.new.count ≡ length xs }
+    ensures form { IsHeld log.now }
+{
+    // No more records are looked at than are held, so the count fits.
+    let _held = log.len();
+    let _complete = book.complete_epoch();
+    let mut top = from;
+    let mut back = from;
+    let mut at = (0, 0);
+    let mut forked = false;
+    loop {
+        match log.next_of_back(back, at) {
+            Some(key) => {
+                steps.step();
+                if key.1 <= limit && is_alive(book, key.0, key.1) {
+                    top = top.max(key.1);
+                    forked = passes_fork(log, back, key, forked);
+                    back = key.1;
+                    at = (0, 0);
+                } else {
+                    at = key;
+                }
+            }
+            None => {
+                if !forked {
+                    return top;
+                }
+                if back <= from {
+                    return top;
+                }
+                let Some(redo) = log.alive_of(book, back) else {
+                    return top;
+                };
+                back = redo.back();
+                at = (redo.epoch(), redo.number());
+            }
+        }
+    }
+}
+
+// Whether a fork was passed: one was before, or a held record with this backlink has a key above the one given.
+fn passes_fork(log: &HotLog, back: u64, key: (u16, u64), forked: bool) -> bool
+    ensures { result ≡ false → (forked ≡ false) × ((r : RecordData) → Contains log.now r → r.back ≡ back → PairBefore key.0 key.1 r.epoch r.number → ⊥) }
+{
+    forked || log.next_of_back(back, key).is_some()
+}
+
 // Whether a number is linked, by a walk down the backlinks.
-fn is_linked_down(held: &[Record], book: &EpochBook, from: u64, number: u64) -> bool
-    requires { IsHeld held.now }
-    ensures { IsTrue result ↔ IsLinkedFrom book.now held.now from number }
+pub fn is_linked(log: &HotLog, book: &EpochBook, from: u64, number: u64) -> bool
+    ensures { IsTrue result ↔ IsLinkedFrom book.now log.now from number }
 {
     let mut at = number;
     while at > from {
-        match alive_of(held, book, at) {
+        match log.alive_of(book, at) {
             Some(redo) => at = redo.back(),
             None => return false,
         }
@@ -27,109 +89,43 @@ fn is_linked_down(held: &[Record], book: &EpochBook, from: u64, number: u64) -> 
     at == from
 }
 
-// Whether the backlink of a record is linked, where `top` is the greatest linked number below the record's own.
-fn is_back_linked(held: &[Record], book: &EpochBook, from: u64, top: u64, redo: &Record) -> bool
-    requires held { IsHeld held.now }
-    requires linked { IsLinkedFrom book.now held.now from top }
-    requires greatest { (n : ℕ) → IsLinkedFrom book.now held.now from n → n < redo.now.number → n ≤ top }
-    ensures { IsTrue result ↔ IsLinkedFrom book.now held.now from redo.now.back }
-{
-    let back = redo.back();
-    if back >= top {
-        return back == top;
-    }
-    is_linked_down(held, book, from, back)
-}
-
-// Whether a record is alive, with a number above `from` and up to `limit`.
-fn is_within(book: &EpochBook, redo: &Record, from: u64, limit: u64) -> bool
-    ensures is { IsTrue result ↔ (IsAlive book.now.cuts book.now.complete redo.now.epoch redo.now.number × (from < redo.now.number) × (redo.now.number ≤ limit)) }
-    ensures book { IsTrue result → IsBook book.now }
-{
-    from < redo.number() && redo.number() <= limit && is_alive(book, redo)
-}
-
-// The greatest number up to a limit that is linked.
-pub fn linked_to(held: &[Record], book: &EpochBook, from: u64, limit: u64) -> u64
-    requires held { IsHeld held.now }
-    requires ordered { from ≤ limit }
-    ensures linked { IsLinkedFrom book.now held.now from result }
-    ensures bound { result ≤ limit }
-    ensures greatest { (n : ℕ) → IsLinkedFrom book.now held.now from n → n ≤ limit → n ≤ result }
-{
-    let mut top = from;
-    for redo in held {
-        if is_within(book, redo, from, limit) {
-            if is_back_linked(held, book, from, top, redo) {
-                top = redo.number();
-            }
-        }
-    }
-    top
-}
-
-// Whether a number is linked.
-fn is_linked(held: &[Record], book: &EpochBook, from: u64, number: u64) -> bool
-    requires { IsHeld held.now }
-    ensures { IsTrue result ↔ IsLinkedFrom book.now held.now from number }
-{
-    from <= number && linked_to(held, book, from, number) == number
-}
-
-// The alive record of a number that is linked.
-pub fn linked_record<'a>(
-    held: &'a [Record],
-    book: &EpochBook,
-    from: u64,
-    number: u64,
-) -> Option<&'a Record>
-    requires { IsHeld held.now }
-    ensures { IsOnlyRecord (λ r. IsLinkedHeld book.now held.now from r × (r.number ≡ number)) (option_copied result) }
-{
-    if is_linked(held, book, from, number) {
-        alive_of(held, book, number)
-    } else {
-        None
-    }
-}
-
-// Whether a record is a linked one of a page, with a number up to `limit`.
-fn is_linked_of(
-    held: &[Record],
-    book: &EpochBook,
-    redo: &Record,
-    page: u16,
-    from: u64,
-    limit: u64,
-) -> bool
-    requires { IsHeld held.now }
-    ensures is { IsTrue result ↔ (IsAlive book.now.cuts book.now.complete redo.now.epoch redo.now.number × IsLinkedFrom book.now held.now from redo.now.number × (redo.now.page ≡ page) × (redo.now.number ≤ limit)) }
-    ensures book { IsTrue result → IsBook book.now }
-{
-    redo.page() == page
-        && redo.number() <= limit
-        && is_alive(book, redo)
-        && is_linked(held, book, from, redo.number())
-}
-
 // The last linked record of a page with a number up to a limit.
 pub fn greatest_linked_of<'a>(
-    held: &'a [Record],
+    log: &'a HotLog,
     book: &EpochBook,
     page: u16,
     from: u64,
     limit: u64,
 ) -> Option<&'a Record>
-    requires { IsHeld held.now }
-    ensures { IsGreatestRecord (λ r. IsLinkedHeld book.now held.now from r × (r.page ≡ page) × (r.number ≤ limit)) (option_copied result) }
+    ensures { IsGreatestRecord (λ r. IsLinkedHeld book.now log.now from r × (r.page ≡ page) × (r.number ≤ limit)) (option_copied result) }
 {
-    let mut end = held.len();
-    while end > 0 {
-        end -= 1;
-        let redo = &held[end];
-        if is_linked_of(held, book, redo, page, from, limit) {
+    let mut to = limit;
+    while let Some(redo) = log.alive_to(book, page, to) {
+        if is_linked(log, book, from, redo.number()) {
             return Some(redo);
         }
+        to = redo.number() - 1;
     }
     None
+}
+
+// Whether the chain is straight from one number to another.
+pub fn is_straight(log: &HotLog, book: &EpochBook, from: u64, to: u64) -> bool
+    ensures { IsTrue result ↔ IsStraight book.now log.now from to }
+{
+    let _complete = book.complete_epoch();
+    let mut top = from;
+    while top < to {
+        let Some(redo) = log.alive_after(book, top) else {
+            return true;
+        };
+        if redo.number() > to {
+            return true;
+        }
+        if redo.back() != top {
+            return false;
+        }
+        top = redo.number();
+    }
+    true
 }

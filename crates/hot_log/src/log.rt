@@ -1,14 +1,23 @@
-ghost use Rattle.std.specs.Prelude.{◌≡◌, ℕ, ◌<◌, ◌≤◌, ◌↔◌, [], length, map, IsTrue, IfOk, IfErr, OnErr};
+ghost use Rattle.std.specs.Prelude.{◌≡◌, ℕ, Some, ◌<◌, ◌≤◌, ◌⊎◌, ◌↔◌, [], None, List, length, map, IsTrue, IfOk, IfErr, OnErr};
 ghost use Rattle.std.specs.Option.{option_copied};
 ghost use Rattle.redo_core.specs.Data.{RecordData};
-ghost use Rattle.redo_core.specs.Order.{Lists, BeforeByNumber};
+ghost use Rattle.redo_core.specs.Order.{Lists, BeforeByNumber, RecordBefore};
 ghost use Rattle.redo_core.specs.Standing.{IsDead};
-ghost use Rattle.hot_log.specs.Held.{IsHeld, IsRecordAt, IsKeyAfter, SplitsAt, SplitsAbove, is_before};
-ghost use Rattle.hot_log.specs.Alive.{IsHeldAlive, IsHeldOf, IsLinkedFrom, IsLinkedHeld};
+ghost use Rattle.hot_log.specs.Held.{IsHeld, IsRecordAt, IsKeyAfter, HasKey};
+ghost use Rattle.hot_log.specs.Alive.{IsHeldAlive, IsHeldOf, IsLinkedFrom, IsLinkedHeld, IsReached, IsStraight};
 ghost use Rattle.hot_log.specs.Found.{IsLeast, IsLeastRecord, IsGreatestRecord, IsOnlyRecord, IsPageAfter};
+ghost use Rattle.hot_log.specs.Indexing.{IsNextHeld, IsNextRecord, IsLastRecord};
 ghost use Rattle.hot_log.specs.Putting.{Puts, RefusesPut};
 ghost use Rattle.hot_log.specs.Removing.{IsFolded, Removes};
+ghost use Rattle.hot_log.specs.declared.log.Put.TheVariants.{New as PutNew};
+ghost use Rattle.hot_log.specs.declared.log.PutFault.TheVariants.{Memory as OfMemory};
+ghost use Rattle.std.specs.List.{Contains};
 
+use crate::index::KeyIndex;
+use crate::key_pages::KeyPages;
+use crate::records::PagedRecords;
+use crate::search::epoch_above;
+use crate::steps::Steps;
 use crate::{links, removal, search};
 use epoch_book::EpochBook;
 use redo_core::{Record, Refused};
@@ -16,22 +25,26 @@ use std::alloc::{AllocError, Global};
 use std::marker::Model;
 use thiserror::Error;
 
-/// The redo records that a segment holds, by key.
+/// The redo records that a segment holds, by page and key.
+///
+/// Beside them stand the page of each key, and the keys by segment backlink: those of the held records and no others.
 #[derive(Debug, Drop)]
 pub struct HotLog {
-    records: Vec<Record>,
+    records: PagedRecords,
+    by_key: KeyPages,
+    by_back: KeyIndex,
 }
 
 impl Model for HotLog {
     ghost use Rattle.std.specs.Prelude.{List};
     ghost use Rattle.redo_core.specs.Data.{RecordData};
-    ghost use Rattle.hot_log.specs.Held.{IsHeld};
+    ghost use Rattle.hot_log.specs.Indexing.{IsIndexed};
 
     ghost Value = { List RecordData };
 
-    ghost view = { λ h. h.records.items };
+    ghost view = { λ h. h.records };
 
-    ghost invariant = { λ h. IsHeld h.records.items };
+    ghost invariant = { λ h. IsIndexed h.records h.by_key h.by_back };
 }
 
 /// What a put found: no record of that key, or an equal one.
@@ -56,7 +69,9 @@ impl HotLog {
         ensures { result ≡ [] }
     {
         HotLog {
-            records: Vec::new(alloc),
+            records: PagedRecords::new(alloc),
+            by_key: KeyPages::new(alloc),
+            by_back: KeyIndex::new(alloc),
         }
     }
 
@@ -64,7 +79,11 @@ impl HotLog {
     pub fn copy(&self) -> Result<Self, AllocError>
         ensures { IfOk result (λ h. h ≡ self.now) }
     {
-        self.clone()
+        Ok(HotLog {
+            records: self.records.copy()?,
+            by_key: self.by_key.copy()?,
+            by_back: self.by_back.copy()?,
+        })
     }
 
     /// How many records are held.
@@ -79,45 +98,23 @@ impl HotLog {
         ensures value { IsTrue result ↔ (self.now ≡ []) }
         ensures form { IsHeld self.now }
     {
-        self.records.is_empty()
-    }
-
-    // The held records, rising by key.
-    pub(crate) fn records(&self) -> &[Record]
-        ensures value { result.now ≡ self.now }
-        ensures form { IsHeld self.now }
-    {
-        &self.records
+        self.len() == 0
     }
 
     /// The record of a key, or None where none is held.
     pub fn get(&self, epoch: u16, number: u64) -> Option<&Record>
         ensures { IsRecordAt self.now epoch number (option_copied result) }
     {
-        let records = self.records();
-        let place = place_of(records, epoch, number);
-        if place == records.len() {
-            return None;
-        }
-        let redo = &records[place];
-        if redo.epoch() == epoch && redo.number() == number {
-            Some(redo)
-        } else {
-            None
-        }
+        let key = (epoch, number);
+        let page = self.by_key.page_of(key)?;
+        self.records.get(page, key)
     }
 
     /// The least key above the one given, or the least of all for None.
     pub fn key_after(&self, after: Option<(u16, u64)>) -> Option<(u16, u64)>
         ensures { IsKeyAfter self.now after result }
     {
-        let records = self.records();
-        let place = place_above(records, after);
-        if place == records.len() {
-            return None;
-        }
-        let redo = &records[place];
-        Some((redo.epoch(), redo.number()))
+        self.by_key.key_after(after)
     }
 
     /// Holds one more record. Each error hands the record back and leaves the log as it was.
@@ -127,6 +124,7 @@ impl HotLog {
         ensures unchanged { OnErr result (self.new ≡ self.old) }
         ensures form { IsHeld self.new }
     {
+        let _held = self.len();
         if let Some(held) = self.get(redo.epoch(), redo.number()) {
             if held.is_same(&redo) {
                 return Ok(Put::Known);
@@ -136,21 +134,98 @@ impl HotLog {
                 fault: PutFault::OtherRecord,
             });
         }
-        let place = place_of(&self.records, redo.epoch(), redo.number());
-        match self.records.insert(place, redo) {
-            Ok(()) => Ok(Put::New),
-            Err(failed) => Err(Refused {
-                value: failed.value,
+        self.add(redo)
+    }
+
+    // Holds a record under its key, which is free.
+    fn add(&mut self, redo: Record) -> Result<Put, Refused<Record, PutFault>>
+        requires { IsRecordAt self.old redo.epoch redo.number None }
+        ensures put { IfOk result (λ put. (put ≡ PutNew) × ((r : RecordData) → Contains self.new r ↔ (Contains self.old r ⊎ (r ≡ redo)))) }
+        ensures refused { IfErr result (λ e. (e.value ≡ redo) × (e.fault ≡ OfMemory)) }
+        ensures unchanged { OnErr result (self.new ≡ self.old) }
+        ensures form { IsHeld self.new }
+    {
+        let key = (redo.epoch(), redo.number());
+        let back = redo.back();
+        if self.by_key.insert(key, redo.page()).is_err() {
+            return Err(Refused {
+                value: redo,
                 fault: PutFault::Memory,
-            }),
+            });
         }
+        if self.by_back.insert(back, key).is_err() {
+            self.by_key.remove(key);
+            return Err(Refused {
+                value: redo,
+                fault: PutFault::Memory,
+            });
+        }
+        match self.records.insert(redo) {
+            Ok(()) => Ok(Put::New),
+            Err(refused) => {
+                self.by_key.remove(key);
+                self.by_back.remove(back, key);
+                Err(Refused {
+                    value: refused.value,
+                    fault: PutFault::Memory,
+                })
+            }
+        }
+    }
+
+    // Removes the record of a key, if one is held.
+    pub(crate) fn remove(&mut self, epoch: u16, number: u64)
+        ensures removes { Removes (HasKey epoch number) self.old self.new }
+        ensures form { IsHeld self.new }
+    {
+        let key = (epoch, number);
+        let Some(page) = self.by_key.page_of(key) else {
+            return;
+        };
+        let Some(redo) = self.records.remove(page, key) else {
+            return;
+        };
+        self.by_key.remove(key);
+        self.by_back.remove(redo.back(), key);
+    }
+
+    // The record of a page with the least key above the one given.
+    pub(crate) fn next_of_page(&self, page: u16, after: (u16, u64)) -> Option<&Record>
+        ensures next { IsNextRecord self.now page after (option_copied result) }
+        ensures form { IsHeld self.now }
+    {
+        self.records.next(page, after)
+    }
+
+    // The record of a page with the greatest key at or below the one given.
+    pub(crate) fn last_of_page(&self, page: u16, to: (u16, u64)) -> Option<&Record>
+        ensures last { IsLastRecord self.now page to (option_copied result) }
+        ensures form { IsHeld self.now }
+    {
+        self.records.last(page, to)
+    }
+
+    // The least key above the one given.
+    pub(crate) fn next_key(&self, after: (u16, u64)) -> Option<(u16, u64)>
+        ensures next { IsKeyAfter self.now (Some after) result }
+        ensures form { IsHeld self.now }
+    {
+        self.by_key.key_after(Some(after))
+    }
+
+    // The least key above the one given of the records with a segment backlink.
+    pub(crate) fn next_of_back(&self, back: u64, after: (u16, u64)) -> Option<(u16, u64)>
+        ensures next { IsNextHeld (λ r. r.back) self.now back after result }
+        ensures form { IsHeld self.now }
+    {
+        self.by_back.next(back, after)
     }
 
     /// The least alive number with this segment backlink, or None where there is none.
     pub fn next_after(&self, book: &EpochBook, back: u64) -> Option<u64>
         ensures { IsLeast (λ n. (r : RecordData) × IsHeldAlive book.now self.now r × (r.back ≡ back) × (r.number ≡ n)) result }
     {
-        search::next_after(self.records(), book, back)
+        search::next_after(self, book, back)
     }
 
     /// The greatest number up to a limit that is linked from a base.
@@ -161,14 +236,39 @@ impl HotLog {
         ensures greatest { (n : ℕ) → IsLinkedFrom book.now self.now from n → n ≤ limit → n ≤ result }
         ensures form { IsHeld self.now }
     {
-        links::linked_to(self.records(), book, from, limit)
+        let mut steps = Steps::new();
+        self.linked_counted(book, from, limit, &mut steps)
+    }
+
+    /// The same; `steps`, handed in at 0, counts the held records that it looks at: each whose backlink is linked and at most `limit`, once.
+    pub fn linked_counted(&self, book: &EpochBook, from: u64, limit: u64, steps: &mut Steps) -> u64
+        requires ordered { from ≤ limit }
+        requires fresh { steps.old.count ≡ 0 }
+        ensures linked { IsLinkedFrom book.now self.now from result }
+        ensures bound { result ≤ limit }
+        ensures greatest { (n : ℕ) → IsLinkedFrom book.now self.now from n → n ≤ limit → n ≤ result }
+        ensures counted { (xs : List RecordData) → Lists RecordBefore (IsReached book.now self.now from limit) xs → steps.new.count ≡ length xs }
+        ensures form { IsHeld self.now }
+    {
+        links::linked_counted(self, book, from, limit, steps)
+    }
+
+    /// Whether the chain is straight from a number to another: each alive record between them is linked, and there is no fork.
+    pub fn is_straight(&self, book: &EpochBook, from: u64, to: u64) -> bool
+        ensures { IsTrue result ↔ IsStraight book.now self.now from to }
+    {
+        links::is_straight(self, book, from, to)
     }
 
     /// The alive record with this number, where the number is linked from a base; else None.
     pub fn linked_record(&self, book: &EpochBook, from: u64, number: u64) -> Option<&Record>
         ensures { IsOnlyRecord (λ r. IsLinkedHeld book.now self.now from r × (r.number ≡ number)) (option_copied result) }
     {
-        links::linked_record(self.records(), book, from, number)
+        if links::is_linked(self, book, from, number) {
+            self.alive_of(book, number)
+        } else {
+            None
+        }
     }
 
     /// The last alive record of a page whose number is linked from a base and at most `limit`, or None where there is none.
@@ -181,28 +281,38 @@ impl HotLog {
     ) -> Option<&Record>
         ensures { IsGreatestRecord (λ r. IsLinkedHeld book.now self.now from r × (r.page ≡ page) × (r.number ≤ limit)) (option_copied result) }
     {
-        links::greatest_linked_of(self.records(), book, page, from, limit)
+        links::greatest_linked_of(self, book, page, from, limit)
     }
 
     /// The first alive record of a page with a number above `from` and up to `to`, or None where there is none.
     pub fn next_of(&self, book: &EpochBook, page: u16, from: u64, to: u64) -> Option<&Record>
         ensures { IsLeastRecord (IsHeldOf book.now self.now page from to) (option_copied result) }
     {
-        search::next_of(self.records(), book, page, from, to)
+        let redo = self.alive_above(book, page, from)?;
+        if redo.number() <= to {
+            Some(redo)
+        } else {
+            None
+        }
     }
 
     /// The last alive record of a page with a number above `from` and up to `to`, or None where there is none.
     pub fn last_of(&self, book: &EpochBook, page: u16, from: u64, to: u64) -> Option<&Record>
         ensures { IsGreatestRecord (IsHeldOf book.now self.now page from to) (option_copied result) }
     {
-        search::last_of(self.records(), book, page, from, to)
+        let redo = self.alive_to(book, page, to)?;
+        if from < redo.number() {
+            Some(redo)
+        } else {
+            None
+        }
     }
 
     /// The least page above the one given that a held record writes, whatever its standing; the least of all for None.
     pub fn page_after(&self, after: Option<u16>) -> Option<u16>
         ensures { IsPageAfter self.now after result }
     {
-        search::page_after(self.records(), after)
+        self.records.page_after(after)
     }
 
     /// The alive records of a page with numbers above `from` and up to `to`, rising. Its only error is want of memory.
@@ -216,7 +326,12 @@ impl HotLog {
     ) -> Result<Vec<&Record>, AllocError>
         ensures { IfOk result (λ v. Lists BeforeByNumber (IsHeldOf book.now self.now page from to) (map (λ x. x.now) v.items)) }
     {
-        search::records_of(self.records(), alloc, book, page, from, to)
+        let above = (epoch_above(book, from), from);
+        let to = (epoch_above(book, to), to);
+        if above.0 > to.0 || from >= to.1 {
+            return Ok(Vec::new(alloc));
+        }
+        self.records.alive_between(alloc, book, page, above, to)
     }
 
     /// Removes the alive records of a page with numbers at most the version of its image and at most a point.
@@ -224,7 +339,7 @@ impl HotLog {
         ensures removes { Removes (IsFolded book.now page version point) self.old self.new }
         ensures form { IsHeld self.new }
     {
-        removal::remove_folded(&mut self.records, book, page, version, point);
+        removal::remove_folded(self, book, page, version, point);
     }
 
     /// Removes the dead records.
@@ -232,7 +347,7 @@ impl HotLog {
         ensures removes { Removes (λ r. IsDead book.now.cuts book.now.complete r.epoch r.number) self.old self.new }
         ensures form { IsHeld self.new }
     {
-        removal::remove_dead(&mut self.records, book);
+        removal::remove_dead(self, book);
     }
 }
 
@@ -240,40 +355,6 @@ impl Clone for HotLog {
     ghost is_clone = { λ h copied. copied ≡ h };
 
     fn clone(&self) -> Result<Self, AllocError> {
-        Ok(HotLog {
-            records: self.records.clone()?,
-        })
-    }
-}
-
-// Where a record of that key stands, or would stand, among rising records.
-fn place_of(records: &[Record], epoch: u16, number: u64) -> usize
-    requires { IsHeld records.now }
-    ensures { SplitsAt epoch number records.now result }
-{
-    records.partition_point(
-        |redo: &Record| -> bool
-            ensures { result ≡ is_before epoch number redo.now }
-        { redo.epoch() < epoch || (redo.epoch() == epoch && redo.number() < number) },
-    )
-}
-
-// Where the records above that key begin, or all of them for None.
-fn place_above(records: &[Record], after: Option<(u16, u64)>) -> usize
-    requires { IsHeld records.now }
-    ensures { SplitsAbove after records.now result }
-{
-    let Some((epoch, number)) = after else {
-        return 0;
-    };
-    let place = place_of(records, epoch, number);
-    if place == records.len() {
-        return place;
-    }
-    let redo = &records[place];
-    if redo.epoch() == epoch && redo.number() == number {
-        place + 1
-    } else {
-        place
+        self.copy()
     }
 }

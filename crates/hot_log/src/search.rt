@@ -1,160 +1,120 @@
 // Searches of held records in a book's view.
-ghost use Rattle.std.specs.Prelude.{◌≡◌, ℕ, ◌<◌, ◌≤◌, ◌↔◌, map, IsTrue, IfOk, Some};
+ghost use Rattle.std.specs.Prelude.{◌≡◌, ℕ, ◌<◌, ◌≤◌, ◌↔◌, map, IsTrue, IfOk, length, Some};
 ghost use Rattle.std.specs.Option.{option_copied};
 ghost use Rattle.redo_core.specs.Data.{RecordData};
 ghost use Rattle.redo_core.specs.Order.{Lists, BeforeByNumber};
 ghost use Rattle.redo_core.specs.Standing.{IsAlive};
 ghost use Rattle.epoch_book.specs.Book.{IsBook};
-ghost use Rattle.hot_log.specs.Held.{IsHeld};
-ghost use Rattle.hot_log.specs.Alive.{IsHeldAlive, IsHeldOf};
-ghost use Rattle.hot_log.specs.Found.{IsLeast, IsLeastRecord, IsGreatestRecord, IsOnlyRecord, IsPageAbove, IsPageBelow, IsPageAfter};
+ghost use Rattle.hot_log.specs.Held.{IsHeld, IsKeyAfter};
+ghost use Rattle.hot_log.specs.Indexing.{IsNextHeld, IsLastHeld};
+ghost use Rattle.hot_log.specs.Alive.{IsHeldAlive, IsHeldOf, IsPageAlive, PartsAt};
+ghost use Rattle.hot_log.specs.Found.{IsLeast, IsLeastRecord, IsGreatestRecord, IsOnlyRecord};
 
+use crate::log::HotLog;
 use epoch_book::{EpochBook, Standing};
 use redo_core::Record;
 use std::alloc::{AllocError, Global};
 
 // Whether a record is alive; one that waits is not looked up.
-pub fn is_alive(book: &EpochBook, redo: &Record) -> bool
-    ensures alive { IsTrue result ↔ IsAlive book.now.cuts book.now.complete redo.now.epoch redo.now.number }
+pub fn is_alive(book: &EpochBook, epoch: u16, number: u64) -> bool
+    ensures alive { IsTrue result ↔ IsAlive book.now.cuts book.now.complete epoch number }
     ensures book { IsBook book.now }
 {
-    redo.epoch() <= book.complete_epoch()
-        && matches!(book.stands(redo.epoch(), redo.number()), Standing::Alive)
+    epoch <= book.complete_epoch() && matches!(book.stands(epoch, number), Standing::Alive)
 }
 
-// The alive record with this number.
-pub fn alive_of<'a>(held: &'a [Record], book: &EpochBook, number: u64) -> Option<&'a Record>
-    requires { IsHeld held.now }
-    ensures { IsOnlyRecord (λ r. IsHeldAlive book.now held.now r × (r.number ≡ number)) (option_copied result) }
+// The epoch that parts the alive records at a number: those above the number are those above this epoch and number by key.
+pub fn epoch_above(book: &EpochBook, number: u64) -> u16
+    ensures parts { PartsAt book.now number result }
+    ensures book { IsBook book.now }
 {
-    for redo in held {
-        if redo.number() == number && is_alive(book, redo) {
-            return Some(redo);
+    let cuts = book.cuts();
+    let complete = book.complete_epoch();
+    let mut end = cuts.len();
+    while end > 0 {
+        end -= 1;
+        let cut = &cuts[end];
+        if cut.epoch() <= complete && cut.lo() <= number {
+            return cut.epoch();
         }
     }
-    None
+    0
+}
+
+impl HotLog {
+    // The alive record with this number.
+    pub(crate) fn alive_of(&self, book: &EpochBook, number: u64) -> Option<&Record>
+        ensures { IsOnlyRecord (λ r. IsHeldAlive book.now self.now r × (r.number ≡ number)) (option_copied result) }
+    {
+        let _held = self.len();
+        if number == 0 {
+            return None;
+        }
+        let epoch = epoch_above(book, number - 1);
+        if is_alive(book, epoch, number) {
+            self.get(epoch, number)
+        } else {
+            None
+        }
+    }
+
+    // The first alive record of a page above a number.
+    pub(crate) fn alive_above(&self, book: &EpochBook, page: u16, number: u64) -> Option<&Record>
+        ensures found { IsLeastRecord (λ r. IsPageAlive book.now self.now page r × (number < r.number)) (option_copied result) }
+        ensures form { IsHeld self.now }
+    {
+        let mut at = (epoch_above(book, number), number);
+        while let Some(redo) = self.next_of_page(page, at) {
+            at = (redo.epoch(), redo.number());
+            if is_alive(book, at.0, at.1) {
+                return Some(redo);
+            }
+        }
+        None
+    }
+
+    // The last alive record of a page up to a number.
+    pub(crate) fn alive_to(&self, book: &EpochBook, page: u16, number: u64) -> Option<&Record>
+        ensures found { IsGreatestRecord (λ r. IsPageAlive book.now self.now page r × (r.number ≤ number)) (option_copied result) }
+        ensures form { IsHeld self.now }
+    {
+        let mut at = (epoch_above(book, number), number);
+        while let Some(redo) = self.last_of_page(page, at) {
+            let key = (redo.epoch(), redo.number());
+            if is_alive(book, key.0, key.1) {
+                return Some(redo);
+            }
+            at = (key.0, key.1.saturating_sub(1));
+        }
+        None
+    }
+
+    // The first alive record above a number.
+    pub(crate) fn alive_after(&self, book: &EpochBook, number: u64) -> Option<&Record>
+        ensures found { IsLeastRecord (λ r. IsHeldAlive book.now self.now r × (number < r.number)) (option_copied result) }
+        ensures form { IsHeld self.now }
+    {
+        let mut at = (epoch_above(book, number), number);
+        while let Some(key) = self.next_key(at) {
+            if is_alive(book, key.0, key.1) {
+                return self.get(key.0, key.1);
+            }
+            at = key;
+        }
+        None
+    }
 }
 
 // The least alive number with this segment backlink.
-pub fn next_after(held: &[Record], book: &EpochBook, back: u64) -> Option<u64>
-    requires { IsHeld held.now }
-    ensures { IsLeast (λ n. (r : RecordData) × IsHeldAlive book.now held.now r × (r.back ≡ back) × (r.number ≡ n)) result }
+pub fn next_after(log: &HotLog, book: &EpochBook, back: u64) -> Option<u64>
+    ensures { IsLeast (λ n. (r : RecordData) × IsHeldAlive book.now log.now r × (r.back ≡ back) × (r.number ≡ n)) result }
 {
-    for redo in held {
-        if redo.back() == back && is_alive(book, redo) {
-            return Some(redo.number());
+    let mut at = (0, 0);
+    while let Some(key) = log.next_of_back(back, at) {
+        if is_alive(book, key.0, key.1) {
+            return Some(key.1);
         }
+        at = key;
     }
     None
-}
-
-// Whether a record is an alive one of a page, above one number and up to another.
-fn is_of(book: &EpochBook, redo: &Record, page: u16, from: u64, to: u64) -> bool
-    ensures is { IsTrue result ↔ (IsAlive book.now.cuts book.now.complete redo.now.epoch redo.now.number × (redo.now.page ≡ page) × (from < redo.now.number) × (redo.now.number ≤ to)) }
-    ensures book { IsTrue result → IsBook book.now }
-{
-    redo.page() == page && from < redo.number() && redo.number() <= to && is_alive(book, redo)
-}
-
-// The first alive record of a page above one number and up to another.
-pub fn next_of<'a>(
-    held: &'a [Record],
-    book: &EpochBook,
-    page: u16,
-    from: u64,
-    to: u64,
-) -> Option<&'a Record>
-    requires { IsHeld held.now }
-    ensures { IsLeastRecord (IsHeldOf book.now held.now page from to) (option_copied result) }
-{
-    for redo in held {
-        if is_of(book, redo, page, from, to) {
-            return Some(redo);
-        }
-    }
-    None
-}
-
-// The last alive record of a page above one number and up to another.
-pub fn last_of<'a>(
-    held: &'a [Record],
-    book: &EpochBook,
-    page: u16,
-    from: u64,
-    to: u64,
-) -> Option<&'a Record>
-    requires { IsHeld held.now }
-    ensures { IsGreatestRecord (IsHeldOf book.now held.now page from to) (option_copied result) }
-{
-    let mut end = held.len();
-    while end > 0 {
-        end -= 1;
-        let redo = &held[end];
-        if is_of(book, redo, page, from, to) {
-            return Some(redo);
-        }
-    }
-    None
-}
-
-// The least page above one given that a record writes.
-pub fn page_after(held: &[Record], after: Option<u16>) -> Option<u16>
-    ensures { IsPageAfter held.now after result }
-{
-    let mut least = None;
-    for redo in held {
-        least = nearer(after, redo.page(), least);
-    }
-    least
-}
-
-// The page where it is above one given and below the least so far, else that.
-fn nearer(after: Option<u16>, page: u16, least: Option<u16>) -> Option<u16>
-    ensures near { IsPageAbove after page → IsPageBelow page least → result ≡ Some page }
-    ensures far { (IsPageAbove after page → IsPageBelow page least → ⊥) → result ≡ least }
-{
-    if is_above(after, page) && is_below(page, least) {
-        Some(page)
-    } else {
-        least
-    }
-}
-
-fn is_above(after: Option<u16>, page: u16) -> bool
-    ensures { IsTrue result ↔ IsPageAbove after page }
-{
-    match after {
-        Some(after) => after < page,
-        None => true,
-    }
-}
-
-fn is_below(page: u16, least: Option<u16>) -> bool
-    ensures { IsTrue result ↔ IsPageBelow page least }
-{
-    match least {
-        Some(least) => page < least,
-        None => true,
-    }
-}
-
-// The alive records of a page above one number and up to another, rising.
-pub fn records_of<'a>(
-    held: &'a [Record],
-    alloc: Global,
-    book: &EpochBook,
-    page: u16,
-    from: u64,
-    to: u64,
-) -> Result<Vec<&'a Record>, AllocError>
-    requires { IsHeld held.now }
-    ensures { IfOk result (λ v. Lists BeforeByNumber (IsHeldOf book.now held.now page from to) (map (λ x. x.now) v.items)) }
-{
-    let mut found = Vec::new(alloc);
-    for redo in held {
-        if is_of(book, redo, page, from, to) {
-            found.push(redo)?;
-        }
-    }
-    Ok(found)
 }

@@ -1,4 +1,6 @@
-use crate::{HotLog, Put, PutFault};
+ghost use Rattle.std.specs.Prelude.{◌≤◌};
+
+use crate::{HotLog, Put, PutFault, Steps};
 use epoch_book::EpochBook;
 use redo_core::{Cut, Record, Roster};
 use std::alloc::Global;
@@ -39,23 +41,66 @@ fn book(alloc: Global) -> Result<EpochBook, Fail> {
 
 const CHAIN: [Row; 4] = [(0, 9, 5, 1), (0, 3, 0, 1), (0, 5, 3, 2), (0, 12, 10, 2)];
 
+// The greatest linked number, and how many records the search for it looks at.
+fn linked(log: &HotLog, book: &EpochBook, from: u64, limit: u64) -> (u64, u64)
+    requires { from ≤ limit }
+{
+    let mut steps = Steps::new();
+    let linked = log.linked_counted(book, from, limit, &mut steps);
+    (linked, steps.count)
+}
+
 #[test]
 fn linked_numbers(rt: HostRuntime) -> Result<(), Fail> {
     let book = book(rt.alloc())?;
     let log = log_of(rt.alloc(), &CHAIN)?;
-    for (from, limit, linked) in [
-        (0, 8, 5),
-        (5, 100, 9),
-        (3, 100, 9),
-        (10, 100, 12),
-        (4, 100, 4),
+    for (from, limit, found) in [
+        (0, 8, (5, 3)),
+        (5, 100, (9, 1)),
+        (3, 100, (9, 2)),
+        (10, 100, (12, 1)),
+        (4, 100, (4, 0)),
     ] {
-        assert_eq!(rt; log.linked_to(&book, from, limit), linked);
+        assert_eq!(rt; linked(&log, &book, from, limit), found);
+        assert_eq!(rt; log.linked_to(&book, from, limit), found.0);
     }
-    let forked = log_of(rt.alloc(), &[(0, 3, 0, 1), (0, 5, 0, 1), (0, 9, 3, 1)])?;
-    assert_eq!(rt; forked.linked_to(&book, 0, 100), 9);
-    assert_eq!(rt; forked.linked_to(&book, 0, 8), 5);
-    assert_eq!(rt; forked.next_after(&book, 0), Some(3));
+    Ok(())
+}
+
+#[test]
+fn linked_numbers_over_forks(rt: HostRuntime) -> Result<(), Fail> {
+    let book = book(rt.alloc())?;
+    let rows = [
+        (0, 3, 0, 1),
+        (0, 5, 0, 1),
+        (0, 9, 3, 1),
+        (0, 7, 3, 1),
+        (0, 20, 3, 1),
+    ];
+    let log = log_of(rt.alloc(), &rows)?;
+    for (from, limit, found) in [
+        (0, 100, (20, 5)),
+        (0, 8, (7, 5)),
+        (0, 2, (0, 2)),
+        (3, 19, (9, 3)),
+    ] {
+        assert_eq!(rt; linked(&log, &book, from, limit), found);
+    }
+    assert_eq!(rt; log.next_after(&book, 0), Some(3));
+    Ok(())
+}
+
+#[test]
+fn straight_chains(rt: HostRuntime) -> Result<(), Fail> {
+    let mut book = book(rt.alloc())?;
+    assert!(rt; book.learn_cut(Cut::new(1, 5, 20)?).is_ok());
+    let log = log_of(rt.alloc(), &TRUNCATED)?;
+    for (from, to, straight) in [(0, 100, true), (5, 21, true), (3, 4, true)] {
+        assert_eq!(rt; log.is_straight(&book, from, to), straight);
+    }
+    let forked = log_of(rt.alloc(), &[(0, 3, 0, 1), (0, 5, 0, 1)])?;
+    assert_eq!(rt; forked.is_straight(&book, 0, 4), true);
+    assert_eq!(rt; forked.is_straight(&book, 0, 5), false);
     Ok(())
 }
 
@@ -94,12 +139,31 @@ fn records_of_a_page(rt: HostRuntime) -> Result<(), Fail> {
     Ok(())
 }
 
+// A truncation of epoch 1 from 5 to 20 makes the record 9 dead.
+const TRUNCATED: [Row; 4] = [(0, 3, 0, 1), (0, 5, 3, 1), (0, 9, 5, 1), (1, 21, 5, 1)];
+
+#[test]
+fn records_over_a_truncation(rt: HostRuntime) -> Result<(), Fail> {
+    let mut book = book(rt.alloc())?;
+    assert!(rt; book.learn_cut(Cut::new(1, 5, 20)?).is_ok());
+    let log = log_of(rt.alloc(), &TRUNCATED)?;
+    let found = log.records_of(rt.alloc(), &book, 1, 3, 100)?;
+    assert_eq!(rt; numbers(&found), [5, 21]);
+    assert_eq!(rt; log.last_of(&book, 1, 0, 20).map(|r| r.number()), Some(5));
+    assert_eq!(rt; log.next_of(&book, 1, 5, 100).map(|r| r.number()), Some(21));
+    assert_eq!(rt; linked(&log, &book, 0, 100), (21, 4));
+    Ok(())
+}
+
 #[test]
 fn pages_and_keys(rt: HostRuntime) -> Result<(), Fail> {
     let log = log_of(rt.alloc(), &CHAIN)?;
     for (after, page) in [(None, Some(1)), (Some(1), Some(2)), (Some(2), None)] {
         assert_eq!(rt; log.page_after(after), page);
     }
+    let last = log_of(rt.alloc(), &[(0, 3, 0, u16::MAX)])?;
+    assert_eq!(rt; last.page_after(Some(7)), Some(u16::MAX));
+    assert_eq!(rt; last.page_after(Some(u16::MAX)), None);
     let copied = log.copy()?;
     let keys = [
         (None, Some((0, 3))),
@@ -110,7 +174,7 @@ fn pages_and_keys(rt: HostRuntime) -> Result<(), Fail> {
         assert_eq!(rt; copied.key_after(after), key);
     }
     assert_eq!(rt; copied.get(0, 9).map(|r| r.back()), Some(5));
-    assert_eq!(rt; (copied.records().len(), copied.is_empty()), (4, false));
+    assert_eq!(rt; (copied.len(), copied.is_empty()), (4, false));
     Ok(())
 }
 

@@ -1,0 +1,228 @@
+-- Searches that go up or down from key to key.
+use Rattle.std.proofs.Common.{◌≡◌, ℕ, ◌+◌, ◌<◌, ◌≤◌, ◌⊎◌, ◌↔◌, inl, inr, ⊎_elim, List, [], ◌∷◌, length, get_or, take, drop, refl, sym, ◌∙◌, ap, subst, arith, Option, Some, None, Bool, true, false, not, nat_lt, ◌==◌, ◌&&◌, ◌||◌, cond}
+use Rattle.std.specs.List.{Contains, filter}
+use Rattle.std.proofs.lemmas.Bool.{cases_lt}
+use Rattle.redo_core.specs.Data.{RecordData, CutData}
+use Rattle.redo_core.specs.Order.{IsRising, PairBefore, CutBefore}
+use Rattle.redo_core.specs.Shape.{record_fault}
+use Rattle.redo_core.specs.Standing.{IsAlive}
+use Rattle.redo_core.proofs.Members.{none_in, which}
+use Rattle.redo_core.proofs.Pairs.{pair_trans}
+use Rattle.redo_core.proofs.Rising.{side, front_to, across, item_drop, rest_from}
+use Rattle.epoch_book.specs.Book.{BookData, IsBook}
+use Rattle.hot_log.specs.Held.{IsHeld, HasKey, IsRecordAt}
+use Rattle.hot_log.specs.Alive.{PartsAt, IsHeldAlive}
+use Rattle.hot_log.specs.Found.{IsLeastRecord, IsOnlyRecord}
+use Rattle.hot_log.proofs.Keys.{pair_not_same}
+use Rattle.hot_log.proofs.Views.{IsView, view_of, number_before}
+use Rattle.hot_log.proofs.Indexed.{one_key}
+
+-- the truncations behind the one at a place are those of later epochs
+later_behind : (cs : List CutData) → IsRising CutBefore cs → (i : ℕ) (x d : CutData) → i < length cs → x ≡ get_or cs i x → Contains cs d → x.epoch < d.epoch → Contains (drop (i + 1) cs) d
+later_behind cs rising i x d l e h up =
+    ⊎_elim
+    (λ (q : Contains (take (i + 1) cs) d). absurd (⊎_elim
+    (λ (u : x ≡ d). let same : x.epoch ≡ d.epoch = ap (λ (c : CutData). c.epoch) u in omega arith)
+    (λ (u : Contains (take i cs) d). let low : d.epoch < x.epoch = across CutBefore cs i d x rising u (item_drop cs i x l e) in omega arith)
+    (front_to cs i x d l e q)))
+    (λ (q : Contains (drop (i + 1) cs) d). q)
+    (side (i + 1) cs d h)
+
+parts : (cs : List CutData) (k number epoch : ℕ) → IsView cs k → ((d : CutData) → Contains cs d → epoch < d.epoch → d.epoch ≤ k → number < d.lo) → ((e n : ℕ) → IsAlive cs k e n → e < epoch → n ≤ number) → (e n : ℕ) → IsAlive cs k e n → (number < n) ↔ PairBefore epoch number e n
+parts cs k number epoch v late early e n a = (
+  λ lt. ⊎_elim
+      (λ (l : epoch < e). inl l)
+      (λ (l : (epoch ≡ e) ⊎ (e < epoch)). ⊎_elim (λ (q : epoch ≡ e). inr (q, lt)) (λ (q : e < epoch). absurd (let low : n ≤ number = early e n a q in omega arith)) l)
+      (let t : (epoch < e) ⊎ ((epoch ≡ e) ⊎ (e < epoch)) = grind arith in t),
+  λ p. ⊎_elim
+      (λ (l : epoch < e).
+      let c = v.begun e (omega arith) a.known in
+      let same : c.0.epoch ≡ e = c.2 in
+      let low : number < c.0.lo = late c.0 c.1 (omega arith) (omega (arith, a.known)) in
+      let le : c.0.lo ≤ c.0.hi = v.ordered c.0 c.1 in
+      let up : c.0.hi < n = a.begun c.0 c.1 same in
+      omega arith)
+      (λ (q : (epoch ≡ e) × (number < n)). q.1)
+      p,
+)
+
+own : (cs : List CutData) (k number epoch : ℕ) → IsView cs k → ((d : CutData) → Contains cs d → epoch < d.epoch → d.epoch ≤ k → number < d.lo) → ((e n : ℕ) → IsAlive cs k e n → e < epoch → n ≤ number) → (e : ℕ) → IsAlive cs k e (number + 1) → e ≡ epoch
+own cs k number epoch v late early e a =
+    ⊎_elim
+    (λ (l : epoch < e). absurd (
+    let c = v.begun e (omega arith) a.known in
+    let same : c.0.epoch ≡ e = c.2 in
+    let low : number < c.0.lo = late c.0 c.1 (omega arith) (omega (arith, a.known)) in
+    let le : c.0.lo ≤ c.0.hi = v.ordered c.0 c.1 in
+    let up : c.0.hi < number + 1 = a.begun c.0 c.1 same in
+    omega arith))
+    (λ (l : (epoch ≡ e) ⊎ (e < epoch)). ⊎_elim (λ (q : epoch ≡ e). sym q) (λ (q : e < epoch). absurd (let low : number + 1 ≤ number = early e (number + 1) a q in omega arith)) l)
+    (let t : (epoch < e) ⊎ ((epoch ≡ e) ⊎ (e < epoch)) = grind arith in t)
+
+pub parts_at : (b : BookData) (cs : List CutData) (k number i : ℕ) (x : CutData) → IsBook b → cs ≡ b.cuts → k ≡ b.complete → i < length cs → x ≡ get_or cs i x → ((c : CutData) → Contains (drop (i + 1) cs) c → (c.epoch ≤ k) × (c.lo ≤ number) → ⊥) → x.epoch ≤ k → x.lo ≤ number → Contains cs x → PartsAt b number x.epoch
+parts_at b cs k number i x is same known l e none up low among =
+    let P : List CutData → Type 0 = λ l. ((d : CutData) → Contains l d → x.epoch < d.epoch → d.epoch ≤ k → number < d.lo) in
+    let rise : IsRising CutBefore cs = subst (IsRising CutBefore) (sym same) is.cuts_rise in
+    let late : P cs = λ d h lt le. let not : (d.epoch ≤ k) × (d.lo ≤ number) → ⊥ = none d (later_behind cs rise i x d l e h lt) in ⊎_elim (λ (u : number < d.lo). u) (λ (u : d.lo ≤ number). absurd (not (le, u))) (cases_lt number d.lo) in
+    let here : Contains b.cuts x = subst (λ (l : List CutData). Contains l x) same among in
+    let late_on = λ (d : CutData) (h : Contains b.cuts d) (lt : x.epoch < d.epoch) (le : d.epoch ≤ b.complete). (subst P same late) d h lt (omega arith) in
+    let early = λ (f n : ℕ) (a : IsAlive b.cuts b.complete f n) (lt : f < x.epoch). let le : n ≤ x.lo = a.spared x here lt (omega arith) in let t : n ≤ number = omega arith in t in
+    (parts b.cuts b.complete number x.epoch (view_of b is) late_on early, own b.cuts b.complete number x.epoch (view_of b is) late_on early)
+
+pub parts_zero : (b : BookData) (cs : List CutData) (k number : ℕ) → IsBook b → cs ≡ b.cuts → k ≡ b.complete → ((c : CutData) → Contains cs c → (c.epoch ≤ k) × (c.lo ≤ number) → ⊥) → PartsAt b number 0
+parts_zero b cs k number is same known none =
+    let P : List CutData → Type 0 = λ l. ((c : CutData) → Contains l c → (c.epoch ≤ k) × (c.lo ≤ number) → ⊥) in
+    let late = λ (d : CutData) (h : Contains b.cuts d) (up : 0 < d.epoch) (le : d.epoch ≤ b.complete). let t : number < d.lo = ⊎_elim (λ (u : number < d.lo). u) (λ (u : d.lo ≤ number). absurd ((subst P same none) d h (omega arith, u))) (cases_lt number d.lo) in t in
+    let early = λ (f n : ℕ) (a : IsAlive b.cuts b.complete f n) (lt : f < 0). let t : n ≤ number = absurd (omega arith) in t in
+    (parts b.cuts b.complete number 0 (view_of b is) late early, own b.cuts b.complete number 0 (view_of b is) late early)
+
+pub none_cut : (cs : List CutData) (P : CutData → Type 0) (i : ℕ) (x : CutData) → i < length cs → x ≡ get_or cs i x → ((c : CutData) → Contains (drop (i + 1) cs) c → P c → ⊥) → (P x → ⊥) → (c : CutData) → Contains (drop i cs) c → P c → ⊥
+none_cut cs P i x l e none not c h p =
+    ⊎_elim
+    (λ (u : x ≡ c). not (subst P (sym u) p))
+    (λ (u : Contains (drop (i + 1) cs) c). none c u p)
+    (rest_from cs i x c l e h)
+
+-- how many records have a key above one
+abbrev pub is_after : ℕ × ℕ → RecordData → Bool
+is_after at r = nat_lt at.0 r.epoch || (at.0 == r.epoch && nat_lt at.1 r.number)
+
+abbrev pub above : ℕ × ℕ → List RecordData → ℕ
+above at held = length (filter (is_after at) held)
+
+abbrev pub not_after : ℕ × ℕ → RecordData → Bool
+not_after at r = not (is_after at r)
+
+-- how many have a key at or below one
+abbrev pub up_to : ℕ × ℕ → List RecordData → ℕ
+up_to at held = length (filter (λ r. not_after at r) held)
+
+after_of : (at : ℕ × ℕ) (r : RecordData) → PairBefore at.0 at.1 r.epoch r.number → is_after at r ≡ true
+after_of at r p = grind arith
+
+after_is : (at : ℕ × ℕ) (r : RecordData) → is_after at r ≡ true → PairBefore at.0 at.1 r.epoch r.number
+after_is at r h = grind arith
+
+is_not_after : (at : ℕ × ℕ) (r : RecordData) → (PairBefore at.0 at.1 r.epoch r.number → ⊥) → is_after at r ≡ false
+is_not_after at r h = elim (is_after at r) as (λ b. (b ≡ true → PairBefore at.0 at.1 r.epoch r.number) → b ≡ false) [ true ↦ λ f. absurd (h (f refl)) | false ↦ λ f. refl ] (after_is at r)
+
+no_more : {X : Type 0} (p q : X → Bool) (xs : List X) → ((y : X) → p y ≡ true → q y ≡ true) → length (filter p xs) ≤ length (filter q xs)
+no_more p q [] h = omega arith
+no_more {X} p q (x ∷ xs) h =
+    let rest : length (filter p xs) ≤ length (filter q xs) = no_more p q xs h in
+    step (filter p xs) (filter q xs) x (p x) (q x) (h x) rest
+  where
+    step : {X : Type 0} (ps qs : List X) (x : X) (b c : Bool) → (b ≡ true → c ≡ true) → length ps ≤ length qs → length (cond b (x ∷ ps) ps) ≤ length (cond c (x ∷ qs) qs)
+    step ps qs x true true f le = omega (arith, le)
+    step ps qs x true false f le = absurd (let e : false ≡ true = f refl in cc)
+    step ps qs x false true f le = omega (arith, le)
+    step ps qs x false false f le = le
+
+pub fewer : {X : Type 0} (p q : X → Bool) (xs : List X) (x : X) → Contains xs x → p x ≡ false → q x ≡ true → ((y : X) → p y ≡ true → q y ≡ true) → length (filter p xs) < length (filter q xs)
+fewer p q [] x h a b f = absurd (none_in x h)
+fewer {X} p q (z ∷ xs) x h a b f =
+    ⊎_elim
+    (λ (u : z ≡ x). here (filter p xs) (filter q xs) z (p z) (q z) (subst (λ (y : X). p y ≡ false) (sym u) a) (subst (λ (y : X). q y ≡ true) (sym u) b) (no_more p q xs f))
+    (λ (u : Contains xs x). step (filter p xs) (filter q xs) z (p z) (q z) (f z) (fewer p q xs x u a b f))
+    (which z xs x h)
+  where
+    here : {X : Type 0} (ps qs : List X) (x : X) (b c : Bool) → b ≡ false → c ≡ true → length ps ≤ length qs → length (cond b (x ∷ ps) ps) < length (cond c (x ∷ qs) qs)
+    here ps qs x true c e g le = absurd (cc)
+    here ps qs x false true e g le = omega (arith, le)
+    here ps qs x false false e g le = absurd (cc)
+
+    step : {X : Type 0} (ps qs : List X) (x : X) (b c : Bool) → (b ≡ true → c ≡ true) → length ps < length qs → length (cond b (x ∷ ps) ps) < length (cond c (x ∷ qs) qs)
+    step ps qs x true true f lt = omega (arith, lt)
+    step ps qs x true false f lt = absurd (let e : false ≡ true = f refl in cc)
+    step ps qs x false true f lt = omega (arith, lt)
+    step ps qs x false false f lt = lt
+
+pub above_falls : (at key : ℕ × ℕ) (held : List RecordData) (r : RecordData) → Contains held r → HasKey key.0 key.1 r → PairBefore at.0 at.1 r.epoch r.number → above key held < above at held
+above_falls at key held r h k p =
+    fewer (is_after key) (is_after at) held r h
+    (is_not_after key r (λ q. pair_not_same key.0 key.1 r.epoch r.number q (sym k.0) (sym k.1)))
+    (after_of at r p)
+    (λ y q. after_of at y (pair_trans at.0 at.1 r.epoch r.number y.epoch y.number p (subst (λ (a : ℕ). PairBefore a r.number y.epoch y.number) (sym k.0) (subst (λ (a : ℕ). PairBefore key.0 a y.epoch y.number) (sym k.1) (after_is key y q)))))
+
+-- what is left of a search upwards from a number: the candidates, which have Q, are above a key, and what is above it is above the number
+pub record Rest (b : BookData) (held : List RecordData) (Q : RecordData → Type 0) (number : ℕ) (at : ℕ × ℕ) : Type 0 where
+  pub above : (r : RecordData) → Contains held r → IsAlive b.cuts b.complete r.epoch r.number → Q r → number < r.number → PairBefore at.0 at.1 r.epoch r.number
+  pub low : (e n : ℕ) → IsAlive b.cuts b.complete e n → PairBefore at.0 at.1 e n → number < n
+
+pub rest_start : (b : BookData) (held : List RecordData) (Q : RecordData → Type 0) (number epoch : ℕ) → PartsAt b number epoch → Rest b held Q number (epoch, number)
+rest_start b held Q number epoch parts = record {
+  above = λ r h a q lt. (parts.0 r.epoch r.number a).0 lt;
+  low = λ e n a p. (parts.0 e n a).1 p;
+}
+
+pub rest_step : (b : BookData) (held : List RecordData) (Q : RecordData → Type 0) (number : ℕ) (at key : ℕ × ℕ) → Rest b held Q number at → ((r : RecordData) → Contains held r → Q r → PairBefore at.0 at.1 r.epoch r.number → HasKey key.0 key.1 r ⊎ PairBefore key.0 key.1 r.epoch r.number) → PairBefore at.0 at.1 key.0 key.1 → (IsAlive b.cuts b.complete key.0 key.1 → ⊥) → Rest b held Q number key
+rest_step b held Q number at key rest next up dead = record {
+  above = λ r h a q lt. ⊎_elim
+      (λ (k : HasKey key.0 key.1 r). absurd (dead (subst (λ (x : ℕ). IsAlive b.cuts b.complete x key.1) k.0 (subst (λ (x : ℕ). IsAlive b.cuts b.complete r.epoch x) k.1 a))))
+      (λ (p : PairBefore key.0 key.1 r.epoch r.number). p)
+      (next r h q (rest.above r h a q lt));
+  low = λ e n a p. rest.low e n a (pair_trans at.0 at.1 key.0 key.1 e n up p);
+}
+
+-- the record of the first alive key is the least
+pub rest_found : (b : BookData) (held : List RecordData) (Q P : RecordData → Type 0) (number : ℕ) (at key : ℕ × ℕ) (o : Option RecordData) → IsBook b → IsHeld held → Rest b held Q number at → ((r : RecordData) × Contains held r × Q r × HasKey key.0 key.1 r × PairBefore at.0 at.1 r.epoch r.number) → ((r : RecordData) → Contains held r → Q r → PairBefore at.0 at.1 r.epoch r.number → HasKey key.0 key.1 r ⊎ PairBefore key.0 key.1 r.epoch r.number) → IsAlive b.cuts b.complete key.0 key.1 → IsRecordAt held key.0 key.1 o → ((r : RecordData) → Contains held r → IsAlive b.cuts b.complete r.epoch r.number → Q r → number < r.number → P r) → ((r : RecordData) → P r → Contains held r × IsAlive b.cuts b.complete r.epoch r.number × Q r × (number < r.number)) → IsLeastRecord P o
+rest_found b held Q P number at key None book is rest found next alive none to fro = absurd (none found.0 found.1 found.3)
+rest_found b held Q P number at key (Some x) book is rest found next alive at_key to fro =
+    let same : found.0 ≡ x = one_key held is.rising found.0 x found.1 at_key.0 (found.3.0 ∙ sym at_key.1.0) (found.3.1 ∙ sym at_key.1.1) in
+    let a : IsAlive b.cuts b.complete x.epoch x.number = subst (λ (e : ℕ). IsAlive b.cuts b.complete e x.number) (sym at_key.1.0) (subst (λ (n : ℕ). IsAlive b.cuts b.complete key.0 n) (sym at_key.1.1) alive) in
+    let up : PairBefore at.0 at.1 x.epoch x.number = subst (λ (r : RecordData). PairBefore at.0 at.1 r.epoch r.number) same found.4 in (
+      to x at_key.0 a (subst Q same found.2) (rest.low x.epoch x.number a up),
+      λ s h.
+          let t = fro s h in
+          ⊎_elim
+          (λ (k : HasKey key.0 key.1 s). inl (one_key held is.rising s x t.0 at_key.0 (k.0 ∙ sym at_key.1.0) (k.1 ∙ sym at_key.1.1)))
+          (λ (p : PairBefore key.0 key.1 s.epoch s.number). inr (number_before b.cuts b.complete (view_of b book) x s a t.1 (subst (λ (e : ℕ). PairBefore e x.number s.epoch s.number) (sym at_key.1.0) (subst (λ (n : ℕ). PairBefore key.0 n s.epoch s.number) (sym at_key.1.1) p))))
+          (next s t.0 t.2 (rest.above s t.0 t.1 t.2 t.3)),
+    )
+
+pub positive : (r : RecordData) → record_fault r ≡ None → 0 < r.number
+positive r h = grind arith
+
+-- the record that a look-up in the epoch that may have the number finds
+pub only_there : (b : BookData) (held : List RecordData) (number epoch : ℕ) (o : Option RecordData) → IsBook b → IsHeld held → ((e : ℕ) → IsAlive b.cuts b.complete e number → e ≡ epoch) → IsAlive b.cuts b.complete epoch number → IsRecordAt held epoch number o → IsOnlyRecord (λ r. IsHeldAlive b held r × (r.number ≡ number)) o
+only_there b held number epoch None book is own alive none = λ r h. none r h.0.0 (own r.epoch (subst (λ (n : ℕ). IsAlive b.cuts b.complete r.epoch n) h.1 h.0.1), h.1)
+only_there b held number epoch (Some x) book is own alive at = (
+  ((at.0, subst (λ (e : ℕ). IsAlive b.cuts b.complete e x.number) (sym at.1.0) (subst (λ (n : ℕ). IsAlive b.cuts b.complete epoch n) (sym at.1.1) alive)), at.1.1),
+  λ s h. one_key held is.rising s x h.0.0 at.0 (own s.epoch (subst (λ (n : ℕ). IsAlive b.cuts b.complete s.epoch n) h.1 h.0.1) ∙ sym at.1.0) (h.1 ∙ sym at.1.1),
+)
+
+-- every key is above (0, 0)
+pub from_zero : (held : List RecordData) (r : RecordData) → IsHeld held → Contains held r → PairBefore 0 0 r.epoch r.number
+from_zero held r is h = let up : 0 < r.number = positive r (is.shaped r h) in grind arith
+
+pub alive_key : (b : BookData) (r : RecordData) (key : ℕ × ℕ) → HasKey key.0 key.1 r → IsAlive b.cuts b.complete key.0 key.1 → IsAlive b.cuts b.complete r.epoch r.number
+alive_key b r key k a = subst (λ (e : ℕ). IsAlive b.cuts b.complete e r.number) (sym k.0) (subst (λ (n : ℕ). IsAlive b.cuts b.complete key.0 n) (sym k.1) a)
+
+pub key_alive : (b : BookData) (r : RecordData) (key : ℕ × ℕ) → HasKey key.0 key.1 r → IsAlive b.cuts b.complete r.epoch r.number → IsAlive b.cuts b.complete key.0 key.1
+key_alive b r key k a = subst (λ (e : ℕ). IsAlive b.cuts b.complete e key.1) k.0 (subst (λ (n : ℕ). IsAlive b.cuts b.complete r.epoch n) k.1 a)
+
+pub least_number : (b : BookData) (held : List RecordData) (r s : RecordData) (key : ℕ × ℕ) (n : ℕ) → IsBook b → HasKey key.0 key.1 r → IsAlive b.cuts b.complete r.epoch r.number → IsAlive b.cuts b.complete s.epoch s.number → s.number ≡ n → HasKey key.0 key.1 s ⊎ PairBefore key.0 key.1 s.epoch s.number → key.1 ≤ n
+least_number b held r s key n book k a c e either =
+    ⊎_elim
+    (λ (h : HasKey key.0 key.1 s). let same : s.number ≡ key.1 = h.1 in omega arith)
+    (λ (p : PairBefore key.0 key.1 s.epoch s.number).
+    let up : r.number < s.number = number_before b.cuts b.complete (view_of b book) r s a c (subst (λ (x : ℕ). PairBefore x r.number s.epoch s.number) (sym k.0) (subst (λ (x : ℕ). PairBefore key.0 x s.epoch s.number) (sym k.1) p)) in
+    let same : r.number ≡ key.1 = k.1 in
+    omega arith)
+    either
+
+pub past : (at : ℕ × ℕ) (r : RecordData) → PairBefore at.0 at.1 r.epoch r.number → not_after at r ≡ false
+past at r p = ap not (after_of at r p)
+
+pub still : (at : ℕ × ℕ) (r : RecordData) → (PairBefore at.0 at.1 r.epoch r.number → ⊥) → not_after at r ≡ true
+still at r h = ap not (is_not_after at r h)
+
+pub passed : (at : ℕ × ℕ) (r : RecordData) → not_after at r ≡ true → PairBefore at.0 at.1 r.epoch r.number → ⊥
+passed at r h p = let no : not_after at r ≡ false = past at r p in cc
+
+-- a key that was read off a record
+pub key_is : (a b e n : ℕ) → a ≡ e → b ≡ n → ◌≡◌ {A = ℕ × ℕ} (e, n) (a, b)
+key_is a b e n p q = let one : ℕ → ℕ × ℕ = λ x. (x, n) in let two : ℕ → ℕ × ℕ = λ x. (a, x) in ap one (sym p) ∙ ap two (sym q)
+
+pub alive_as : (b : BookData) (a n e m : ℕ) → a ≡ e → n ≡ m → IsAlive b.cuts b.complete a n → IsAlive b.cuts b.complete e m
+alive_as b a n e m p q h = subst (λ (x : ℕ). IsAlive b.cuts b.complete x m) p (subst (λ (x : ℕ). IsAlive b.cuts b.complete a x) q h)

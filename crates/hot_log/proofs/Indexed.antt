@@ -1,0 +1,225 @@
+-- What keeps an index the index of the held records.
+use Rattle.std.proofs.Common.{◌≡◌, ℕ, ◌⊎◌, ◌↔◌, inl, inr, ⊎_elim, List, [], refl, sym, ◌∙◌, ap, subst, Option, Some, None, Bool, true, false, Result, Ok, Err}
+use Rattle.std.specs.Result.{is_err, OnOk, OnErr, IfOk, IfErr}
+use Rattle.hot_log.specs.Putting.{Puts, RefusesPut}
+use Rattle.hot_log.specs.declared.log.PutFault.{PutFault}
+use Rattle.hot_log.specs.declared.log.PutFault.TheVariants.{Memory}
+use Rattle.hot_log.specs.declared.log.Put.{Put}
+use Rattle.hot_log.specs.declared.log.Put.TheVariants.{New}
+use Rattle.std.specs.List.{Contains}
+use Rattle.redo_core.specs.Data.{RecordData}
+use Rattle.redo_core.specs.Order.{IsRising, RecordBefore, PairBefore}
+use Rattle.redo_core.proofs.Members.{none_in}
+use Rattle.redo_core.proofs.Rising.{rising_members}
+use Rattle.hot_log.specs.Held.{IsHeld, HasKey, IsRecordAt, IsAbove, IsKeyAfter}
+use Rattle.hot_log.specs.Removing.{Removes}
+use Rattle.hot_log.specs.Indexing.{GainsKey, LosesKey, IsIndexBy, IsNextKey, IsLastKey, IsNextHeld, IsLastHeld, GainsPage, LosesPage, IsPageOf, IsAboveKey, IsLeastKey, IsKeyPages, IsRecordOf}
+use Rattle.hot_log.proofs.Keys.{pair_not_same}
+use Rattle.hot_log.proofs.Places.{Place}
+
+pub place_as : (g e n h a b : ℕ) → g ≡ h → e ≡ a → n ≡ b → ◌≡◌ {A = Place} (g, (e, n)) (h, (a, b))
+place_as g e n h a b p q r =
+    let one : ℕ → Place = λ x. (x, (e, n)) in
+    let two : ℕ → Place = λ x. (h, (x, n)) in
+    let three : ℕ → Place = λ x. (h, (a, x)) in
+    ap one p ∙ ap two q ∙ ap three r
+
+-- a key belongs to one record
+pub one_key : (held : List RecordData) → IsRising RecordBefore held → (r s : RecordData) → Contains held r → Contains held s → r.epoch ≡ s.epoch → r.number ≡ s.number → r ≡ s
+one_key held rising r s h k e n =
+    ⊎_elim
+    (λ (u : r ≡ s). u)
+    (λ (u : RecordBefore r s ⊎ RecordBefore s r). absurd (⊎_elim
+    (λ (v : RecordBefore r s). pair_not_same r.epoch r.number s.epoch s.number v e n)
+    (λ (v : RecordBefore s r). pair_not_same s.epoch s.number r.epoch r.number v (sym e) (sym n))
+    u))
+    (rising_members RecordBefore held r s rising h k)
+
+-- one more record, one more key
+pub index_grows : (f : RecordData → ℕ) (old new : List RecordData) (keys more : List Place) (redo : RecordData) (g e n : ℕ) → IsIndexBy f old keys → ((r : RecordData) → Contains new r ↔ (Contains old r ⊎ (r ≡ redo))) → g ≡ f redo → e ≡ redo.epoch → n ≡ redo.number → GainsKey keys g (e, n) more → IsIndexBy f new more
+index_grows f old new keys more redo g e n is grows p q r gains = record {
+  listed = λ s h. ⊎_elim
+      (λ (u : Contains old s). (gains (f s, (s.epoch, s.number))).1 (inl (is.listed s u)))
+      (λ (u : s ≡ redo). (gains (f s, (s.epoch, s.number))).1 (inr (place_as (f s) s.epoch s.number g e n (ap f u ∙ sym p) (ap (λ (x : RecordData). x.epoch) u ∙ sym q) (ap (λ (x : RecordData). x.number) u ∙ sym r))))
+      ((grows s).0 h);
+  backed = λ h a b k. ⊎_elim
+      (λ (u : Contains keys (h, (a, b))). let t = is.backed h a b u in (t.0, (grows t.0).1 (inl t.1), t.2, t.3))
+      (λ (u : (h, (a, b)) ≡ (g, (e, n))). (redo, (grows redo).1 (inr refl), sym (ap (λ (x : Place). x.0) u ∙ p), (sym (ap (λ (x : Place). x.1.0) u ∙ q), sym (ap (λ (x : Place). x.1.1) u ∙ r))))
+      ((gains (h, (a, b))).0 k);
+}
+
+-- a key that was added and taken out again
+pub index_undone : (f : RecordData → ℕ) (held : List RecordData) (keys more back : List Place) (redo : RecordData) (g e n : ℕ) → IsIndexBy f held keys → IsRecordAt held redo.epoch redo.number None → e ≡ redo.epoch → n ≡ redo.number → GainsKey keys g (e, n) more → LosesKey more g (e, n) back → IsIndexBy f held back
+index_undone f held keys more back redo g e n is free q r gains loses = record {
+  listed = λ s h. (loses (f s, (s.epoch, s.number))).1 (
+    (gains (f s, (s.epoch, s.number))).1 (inl (is.listed s h)),
+    λ u. free s h (ap (λ (x : Place). x.1.0) u ∙ q, ap (λ (x : Place). x.1.1) u ∙ r),
+  );
+  backed = λ h a b k.
+      let l = (loses (h, (a, b))).0 k in
+      ⊎_elim
+      (λ (u : Contains keys (h, (a, b))). is.backed h a b u)
+      (λ (u : (h, (a, b)) ≡ (g, (e, n))). absurd (l.1 u))
+      ((gains (h, (a, b))).0 l.0);
+}
+
+-- one record less, one key less
+pub index_shrinks : (f : RecordData → ℕ) (old new : List RecordData) (keys less : List Place) (redo : RecordData) (g e n : ℕ) → IsHeld old → IsIndexBy f old keys → Contains old redo → HasKey e n redo → g ≡ f redo → Removes (HasKey e n) old new → LosesKey keys g (e, n) less → IsIndexBy f new less
+index_shrinks f old new keys less redo g e n form is among key p removes loses = record {
+  listed = λ s h.
+      let t = (removes s).0 h in
+      (loses (f s, (s.epoch, s.number))).1 (is.listed s t.0, λ u. t.1 (ap (λ (x : Place). x.1.0) u, ap (λ (x : Place). x.1.1) u));
+  backed = λ h a b k.
+      let l = (loses (h, (a, b))).0 k in
+      let t = is.backed h a b l.0 in
+      let other : HasKey e n t.0 → ⊥ = λ same.
+      let it : t.0 ≡ redo = one_key old form.rising t.0 redo t.1 among (same.0 ∙ sym key.0) (same.1 ∙ sym key.1) in
+      l.1 (place_as h a b g e n (sym t.2 ∙ ap f it ∙ sym p) (sym t.3.0 ∙ same.0) (sym t.3.1 ∙ same.1)) in
+      (t.0, (removes t.0).1 (t.1, other), t.2, t.3);
+}
+
+-- no record, no key
+pub index_of_none : (f : RecordData → ℕ) (held : List RecordData) (keys : List Place) → held ≡ [] → keys ≡ [] → IsIndexBy f held keys
+index_of_none f held keys p q = record {
+  listed = λ r h. absurd (none_in r (subst (λ (l : List RecordData). Contains l r) p h));
+  backed = λ g e n h. absurd (none_in (g, (e, n)) (subst (λ (l : List Place). Contains l (g, (e, n))) q h));
+}
+
+pub removes_none : (held : List RecordData) (e n : ℕ) → IsRecordAt held e n None → Removes (HasKey e n) held held
+removes_none held e n none r = (λ h. (h, λ k. none r h k), λ h. h.0)
+
+pub on_ok : {T E : Type 0} (r : Result T E) (b : Bool) (P : Type 0) → b ≡ is_err r → b ≡ false → OnOk r P → P
+on_ok (Ok x) b P e f h = h
+on_ok (Err x) b P e f h = absurd (cc)
+
+pub on_err : {T E : Type 0} (r : Result T E) (b : Bool) (P : Type 0) → b ≡ is_err r → b ≡ true → OnErr r P → P
+on_err (Ok x) b P e f h = absurd (cc)
+on_err (Err x) b P e f h = h
+
+pub put_ok : {E : Type 0} (r : Result Put E) (old new : List RecordData) (redo : RecordData) → IsRecordAt old redo.epoch redo.number None → IfOk r (λ p. (p ≡ New) × ((s : RecordData) → Contains new s ↔ (Contains old s ⊎ (s ≡ redo)))) → IfOk r (Puts old redo new)
+put_ok (Ok p) old new redo free h = subst (λ (q : Put). Puts old redo new q) (sym h.0) (free, h.1)
+put_ok (Err e) old new redo free h = tt
+
+pub none_for : (held : List RecordData) (e n a b : ℕ) → e ≡ a → n ≡ b → IsRecordAt held e n None → IsRecordAt held a b None
+none_for held e n a b p q none r h key = none r h (key.0 ∙ sym p, key.1 ∙ sym q)
+
+pub put_err : {T E : Type 0} (r : Result T E) (v : E → RecordData) (f : E → PutFault) (old : List RecordData) (redo : RecordData) → IsRecordAt old redo.epoch redo.number None → IfErr r (λ e. (v e ≡ redo) × (f e ≡ Memory)) → IfErr r (λ e. (v e ≡ redo) × RefusesPut old redo (f e))
+put_err (Ok p) v f old redo free h = tt
+put_err (Err e) v f old redo free h = (h.0, subst (λ (x : PutFault). RefusesPut old redo x) (sym h.1) free)
+
+pub next_held : (f : RecordData → ℕ) (held : List RecordData) (keys : List Place) (g : ℕ) (after : ℕ × ℕ) (o : Option (ℕ × ℕ)) → IsIndexBy f held keys → IsNextKey keys g after o → IsNextHeld f held g after o
+next_held f held keys g after None is next = λ r h e p. next r.epoch r.number (subst (λ (x : ℕ). Contains keys (x, (r.epoch, r.number))) e (is.listed r h)) p
+next_held f held keys g after (Some key) is next =
+    let t = is.backed g key.0 key.1 next.0 in
+    let up : PairBefore after.0 after.1 t.0.epoch t.0.number = subst (λ (x : ℕ). PairBefore after.0 after.1 x t.0.number) (sym t.3.0) (subst (λ (x : ℕ). PairBefore after.0 after.1 key.0 x) (sym t.3.1) next.1) in (
+      (t.0, t.1, t.2, t.3, up),
+      λ r h e p. next.2 r.epoch r.number (subst (λ (x : ℕ). Contains keys (x, (r.epoch, r.number))) e (is.listed r h)) p,
+    )
+
+pub last_held : (f : RecordData → ℕ) (held : List RecordData) (keys : List Place) (g : ℕ) (to : ℕ × ℕ) (o : Option (ℕ × ℕ)) → IsIndexBy f held keys → IsLastKey keys g to o → IsLastHeld f held g to o
+last_held f held keys g to None is last = λ r h e. last r.epoch r.number (subst (λ (x : ℕ). Contains keys (x, (r.epoch, r.number))) e (is.listed r h))
+last_held f held keys g to (Some key) is last =
+    let t = is.backed g key.0 key.1 last.0 in
+    let down : PairBefore to.0 to.1 t.0.epoch t.0.number → ⊥ = subst (λ (x : ℕ). PairBefore to.0 to.1 x t.0.number → ⊥) (sym t.3.0) (subst (λ (x : ℕ). PairBefore to.0 to.1 key.0 x → ⊥) (sym t.3.1) last.1) in (
+      (t.0, t.1, t.2, t.3, down),
+      λ r h e p. last.2 r.epoch r.number (subst (λ (x : ℕ). Contains keys (x, (r.epoch, r.number))) e (is.listed r h)) p,
+    )
+
+-- the pages of keys: one more record, one that was added and taken out again, one record less, no record
+entry_as : (e n p a b q : ℕ) → e ≡ a → n ≡ b → p ≡ q → ◌≡◌ {A = (ℕ × ℕ) × ℕ} ((e, n), p) ((a, b), q)
+entry_as e n p a b q x y z =
+    let one : ℕ → (ℕ × ℕ) × ℕ = λ w. ((w, n), p) in
+    let two : ℕ → (ℕ × ℕ) × ℕ = λ w. ((a, w), p) in
+    let three : ℕ → (ℕ × ℕ) × ℕ = λ w. ((a, b), w) in
+    ap one x ∙ ap two y ∙ ap three z
+
+pub pages_grow : (old new : List RecordData) (keys more : List ((ℕ × ℕ) × ℕ)) (redo : RecordData) (e n p : ℕ) → IsKeyPages old keys → ((r : RecordData) → Contains new r ↔ (Contains old r ⊎ (r ≡ redo))) → e ≡ redo.epoch → n ≡ redo.number → p ≡ redo.page → GainsPage keys (e, n) p more → IsKeyPages new more
+pages_grow old new keys more redo e n p is grows x y z gains = record {
+  listed = λ s h. ⊎_elim
+      (λ (u : Contains old s). (gains ((s.epoch, s.number), s.page)).1 (inl (is.listed s u)))
+      (λ (u : s ≡ redo). (gains ((s.epoch, s.number), s.page)).1 (inr (entry_as s.epoch s.number s.page e n p
+      (ap (λ (r : RecordData). r.epoch) u ∙ sym x) (ap (λ (r : RecordData). r.number) u ∙ sym y) (ap (λ (r : RecordData). r.page) u ∙ sym z))))
+      ((grows s).0 h);
+  backed = λ a b q h. ⊎_elim
+      (λ (u : Contains keys ((a, b), q)). let t = is.backed a b q u in (t.0, (grows t.0).1 (inl t.1), t.2, t.3))
+      (λ (u : ((a, b), q) ≡ ((e, n), p)). (
+        redo,
+        (grows redo).1 (inr refl),
+        (sym (ap (λ (w : (ℕ × ℕ) × ℕ). w.0.0) u ∙ x), sym (ap (λ (w : (ℕ × ℕ) × ℕ). w.0.1) u ∙ y)),
+        sym (ap (λ (w : (ℕ × ℕ) × ℕ). w.1) u ∙ z),
+      ))
+      ((gains ((a, b), q)).0 h);
+}
+
+pub pages_undone : (held : List RecordData) (keys more back : List ((ℕ × ℕ) × ℕ)) (redo : RecordData) (e n p : ℕ) → IsKeyPages held keys → IsRecordAt held redo.epoch redo.number None → e ≡ redo.epoch → n ≡ redo.number → GainsPage keys (e, n) p more → LosesPage more (e, n) back → IsKeyPages held back
+pages_undone held keys more back redo e n p is free x y gains loses = record {
+  listed = λ s h. (loses ((s.epoch, s.number), s.page)).1 (
+    (gains ((s.epoch, s.number), s.page)).1 (inl (is.listed s h)),
+    λ u. free s h (ap (λ (k : ℕ × ℕ). k.0) u ∙ x, ap (λ (k : ℕ × ℕ). k.1) u ∙ y),
+  );
+  backed = λ a b q h.
+      let l = (loses ((a, b), q)).0 h in
+      ⊎_elim
+      (λ (u : Contains keys ((a, b), q)). is.backed a b q u)
+      (λ (u : ((a, b), q) ≡ ((e, n), p)). absurd (l.1 (ap (λ (w : (ℕ × ℕ) × ℕ). w.0) u)))
+      ((gains ((a, b), q)).0 l.0);
+}
+
+pub pages_shrink : (old new : List RecordData) (keys less : List ((ℕ × ℕ) × ℕ)) (e n : ℕ) → IsKeyPages old keys → Removes (HasKey e n) old new → LosesPage keys (e, n) less → IsKeyPages new less
+pages_shrink old new keys less e n is removes loses = record {
+  listed = λ s h.
+      let t = (removes s).0 h in
+      (loses ((s.epoch, s.number), s.page)).1 (is.listed s t.0, λ u. t.1 (ap (λ (k : ℕ × ℕ). k.0) u, ap (λ (k : ℕ × ℕ). k.1) u));
+  backed = λ a b q h.
+      let l = (loses ((a, b), q)).0 h in
+      let t = is.backed a b q l.0 in
+      let key : (t.0.epoch, t.0.number) ≡ (a, b) = ap (λ (x : ℕ). (x, t.0.number)) t.2.0 ∙ ap (λ (x : ℕ). (a, x)) t.2.1 in
+      (t.0, (removes t.0).1 (t.1, λ k. l.1 (sym key ∙ ap (λ (x : ℕ). (x, t.0.number)) k.0 ∙ ap (λ (x : ℕ). (e, x)) k.1)), t.2, t.3);
+}
+
+pub pages_of_none : (held : List RecordData) (keys : List ((ℕ × ℕ) × ℕ)) → held ≡ [] → keys ≡ [] → IsKeyPages held keys
+pages_of_none held keys p q = record {
+  listed = λ r h. absurd (none_in r (subst (λ (l : List RecordData). Contains l r) p h));
+  backed = λ e n page h. absurd (none_in ((e, n), page) (subst (λ (l : List ((ℕ × ℕ) × ℕ)). Contains l ((e, n), page)) q h));
+}
+
+-- a free key has no page, and each other key leads to its record
+pub free_key : (held : List RecordData) (keys : List ((ℕ × ℕ) × ℕ)) (e n a b : ℕ) → IsKeyPages held keys → IsRecordAt held a b None → e ≡ a → n ≡ b → IsPageOf keys (e, n) None
+free_key held keys e n a b is free x y page h = let t = is.backed e n page h in free t.0 t.1 (t.2.0 ∙ x, t.2.1 ∙ y)
+
+pub unpaged : (held : List RecordData) (keys : List ((ℕ × ℕ) × ℕ)) (e n : ℕ) → IsKeyPages held keys → IsPageOf keys (e, n) None → IsRecordAt held e n None
+unpaged held keys e n is none r h k = none r.page (subst (λ (x : ℕ). Contains keys ((x, n), r.page)) k.0 (subst (λ (x : ℕ). Contains keys ((r.epoch, x), r.page)) k.1 (is.listed r h)))
+
+pub paged_at : (held : List RecordData) (keys : List ((ℕ × ℕ) × ℕ)) (e n page : ℕ) (o : Option RecordData) → IsHeld held → IsKeyPages held keys → IsPageOf keys (e, n) (Some page) → IsRecordOf held page (e, n) o → IsRecordAt held e n o
+paged_at held keys e n page None form is at none = let t = is.backed e n page at in absurd (none t.0 t.1 t.3 t.2)
+paged_at held keys e n page (Some r) form is at found = (found.0, found.2)
+
+-- a key's record is of the key's page
+pub key_page : (held : List RecordData) (keys : List ((ℕ × ℕ) × ℕ)) (e n page : ℕ) → IsHeld held → IsKeyPages held keys → IsPageOf keys (e, n) (Some page) → (r : RecordData) → Contains held r → HasKey e n r → r.page ≡ page
+key_page held keys e n page form is at r h k =
+    let t = is.backed e n page at in
+    let same : r ≡ t.0 = one_key held form.rising r t.0 h t.1 (k.0 ∙ sym t.2.0) (k.1 ∙ sym t.2.1) in
+    ap (λ (x : RecordData). x.page) same ∙ t.3
+
+pub removes_key : (old new : List RecordData) (keys : List ((ℕ × ℕ) × ℕ)) (e n page : ℕ) → IsHeld old → IsKeyPages old keys → IsPageOf keys (e, n) (Some page) → Removes (λ r. (r.page ≡ page) × HasKey e n r) old new → Removes (HasKey e n) old new
+removes_key old new keys e n page form is at removes r = (
+  λ h. let t = (removes r).0 h in (t.0, λ k. t.1 (key_page old keys e n page form is at r t.0 k, k)),
+  λ h. (removes r).1 (h.0, λ k. h.1 k.1),
+)
+
+-- the least key above one
+key_above : (after : Option (ℕ × ℕ)) (r : RecordData) → IsAbove after r → IsAboveKey after r.epoch r.number
+key_above None r h = tt
+key_above (Some key) r h = h
+
+above_key : (after : Option (ℕ × ℕ)) (r : RecordData) (e n : ℕ) → HasKey e n r → IsAboveKey after e n → IsAbove after r
+above_key None r e n k h = tt
+above_key (Some key) r e n k h = subst (λ (x : ℕ). PairBefore key.0 key.1 x r.number) (sym k.0) (subst (λ (x : ℕ). PairBefore key.0 key.1 e x) (sym k.1) h)
+
+pub key_held : (held : List RecordData) (keys : List ((ℕ × ℕ) × ℕ)) (after o : Option (ℕ × ℕ)) → IsKeyPages held keys → IsLeastKey keys after o → IsKeyAfter held after o
+key_held held keys after None is least = λ r h up. least r.epoch r.number r.page (is.listed r h) (key_above after r up)
+key_held held keys after (Some key) is least =
+    let t = is.backed key.0 key.1 least.0.0 least.0.1 in (
+      (t.0, t.1, t.2, above_key after t.0 key.0 key.1 t.2 least.0.2),
+      λ r h up. least.1 r.epoch r.number r.page (is.listed r h) (key_above after r up),
+    )

@@ -1,0 +1,130 @@
+-- The order of keys in groups, and what stands first and last among the members of a rising list that pass a test.
+use Rattle.std.proofs.Common.{◌≡◌, ℕ, ◌<◌, ◌⊎◌, inl, inr, ⊎_elim, List, [], ◌∷◌, ◌++◌, refl, sym, subst, arith, Bool, true}
+use Rattle.std.specs.List.{Contains, filter}
+use Rattle.std.specs.List.Sorted.{IsStrictlySortedBy}
+use Rattle.std.specs.Ordering.{nat_cmp, ordering_then}
+use Rattle.std.specs.Cmp.{IsTotalOrder, nat_cmp_total, then_total, on_total}
+use Rattle.std.specs.declared.cmp.Ordering.{Ordering}
+use Rattle.std.specs.declared.cmp.Ordering.TheVariants.{Less, Equal, Greater}
+use Rattle.std.proofs.lemmas.Map.Lookups.{CmpEqualImpliesEq, exact_pairs, exact_unsigned}
+use Rattle.std.proofs.lemmas.List.Elements.{Contains-append_cases}
+use Rattle.redo_core.specs.Order.{IsRising, PairBefore}
+use Rattle.hot_log.specs.Paged.{key_cmp, place_cmp}
+use Rattle.hot_log.proofs.Maps.{IsExact}
+use Rattle.redo_core.proofs.Members.{none_in, here, there, which, each, filtered, passed}
+use Rattle.redo_core.proofs.Rising.{rising_filter}
+
+pub key_total : IsTotalOrder key_cmp
+key_total = then_total (on_total (λ (t : ℕ × ℕ). t.0) nat_cmp_total) (on_total (λ (t : ℕ × ℕ). t.1) nat_cmp_total)
+
+pub place_total : IsTotalOrder place_cmp
+place_total = then_total (on_total (λ (t : ℕ × (ℕ × ℕ)). t.0) nat_cmp_total) (on_total (λ (t : ℕ × (ℕ × ℕ)). t.1) key_total)
+
+pub key_exact : CmpEqualImpliesEq key_cmp
+key_exact = exact_pairs nat_cmp nat_cmp exact_unsigned exact_unsigned
+
+pub place_exact : CmpEqualImpliesEq place_cmp
+place_exact = exact_pairs nat_cmp key_cmp exact_unsigned key_exact
+
+key_same : (p : ℕ × ℕ) → key_cmp p p ≡ Equal
+key_same p = grind arith
+
+place_same : (p : ℕ × (ℕ × ℕ)) → place_cmp p p ≡ Equal
+place_same p = grind arith
+
+pub keys_exact : IsExact key_cmp
+keys_exact = record { total = key_total; exact = key_exact; same = key_same }
+
+pub places_exact : IsExact place_cmp
+places_exact = record { total = place_total; exact = place_exact; same = place_same }
+
+pub key_less : (x y : ℕ × ℕ) → key_cmp x y ≡ Less → PairBefore x.0 x.1 y.0 y.1
+key_less x y h = grind arith
+
+pub key_less_of : (x y : ℕ × ℕ) → PairBefore x.0 x.1 y.0 y.1 → key_cmp x y ≡ Less
+key_less_of x y h = grind arith
+
+then_less : (o p : Ordering) → ordering_then o p ≡ Less → (o ≡ Less) ⊎ ((o ≡ Equal) × (p ≡ Less))
+then_less Less p h = inl refl
+then_less Equal p h = inr (refl, h)
+then_less Greater p h = cc
+
+less_then : (o p : Ordering) → (o ≡ Less) ⊎ ((o ≡ Equal) × (p ≡ Less)) → ordering_then o p ≡ Less
+less_then Less p h = refl
+less_then Equal p h = ⊎_elim (λ (u : Equal ≡ Less). cc) (λ (u : (Equal ≡ Equal) × (p ≡ Less)). u.1) h
+less_then Greater p h = ⊎_elim (λ (u : Greater ≡ Less). cc) (λ (u : (Greater ≡ Equal) × (p ≡ Less)). let e = u.0 in cc) h
+
+nat_less : (a b : ℕ) → nat_cmp a b ≡ Less → a < b
+nat_less a b h = grind arith
+
+nat_less_of : (a b : ℕ) → a < b → nat_cmp a b ≡ Less
+nat_less_of a b h = grind arith
+
+nat_same : (a b : ℕ) → a ≡ b → nat_cmp a b ≡ Equal
+nat_same a b h = grind arith
+
+pub place_less : (x y : ℕ × (ℕ × ℕ)) → place_cmp x y ≡ Less → (x.0 < y.0) ⊎ ((x.0 ≡ y.0) × PairBefore x.1.0 x.1.1 y.1.0 y.1.1)
+place_less x y h =
+    ⊎_elim
+    (λ (u : nat_cmp x.0 y.0 ≡ Less). inl (nat_less x.0 y.0 u))
+    (λ (u : (nat_cmp x.0 y.0 ≡ Equal) × (key_cmp x.1 y.1 ≡ Less)). inr (exact_unsigned x.0 y.0 u.0, key_less x.1 y.1 u.1))
+    (then_less (nat_cmp x.0 y.0) (key_cmp x.1 y.1) h)
+
+pub place_less_of : (x y : ℕ × (ℕ × ℕ)) → (x.0 < y.0) ⊎ ((x.0 ≡ y.0) × PairBefore x.1.0 x.1.1 y.1.0 y.1.1) → place_cmp x y ≡ Less
+place_less_of x y h =
+    less_then (nat_cmp x.0 y.0) (key_cmp x.1 y.1)
+    (⊎_elim
+    (λ (u : x.0 < y.0). inl (nat_less_of x.0 y.0 u))
+    (λ (u : (x.0 ≡ y.0) × PairBefore x.1.0 x.1.1 y.1.0 y.1.1). inr (nat_same x.0 y.0 u.0, key_less_of x.1 y.1 u.1))
+    h)
+
+-- the order of keys is that of the list
+pub rises : {K : Type 0} (c : K → K → Ordering) (xs : List K) → IsStrictlySortedBy c xs → IsRising (λ x y. c x y ≡ Less) xs
+unfolding IsStrictlySortedBy
+rises c [] s = tt
+rises c (x ∷ xs) s = (s.0, rises c xs s.1)
+
+pub first_kept : {X : Type 0} (Before : X → X → Type 0) (p : X → Bool) (xs : List X) (x : X) (t : List X) → IsRising Before xs → filter p xs ≡ x ∷ t → Contains xs x × (p x ≡ true) × ((y : X) → Contains xs y → p y ≡ true → (x ≡ y) ⊎ Before x y)
+first_kept {X} Before p xs x t rising is =
+    let front : Contains (filter p xs) x = subst (λ (l : List X). Contains l x) (sym is) (here x t) in
+    let in_order : IsRising Before (x ∷ t) = subst (IsRising Before) is (rising_filter Before p xs rising) in
+    let q = filtered p xs x front in (
+      q.0,
+      q.1,
+      λ y h k. ⊎_elim
+          (λ (e : x ≡ y). inl e)
+          (λ (u : Contains t y). inr (each (Before x) t y in_order.0 u))
+          (which x t y (subst (λ (l : List X). Contains l y) is (passed p xs y k h))),
+    )
+
+pub none_kept : {X : Type 0} (p : X → Bool) (xs : List X) → filter p xs ≡ [] → (y : X) → Contains xs y → p y ≡ true → ⊥
+none_kept {X} p xs is y h k = none_in y (subst (λ (l : List X). Contains l y) is (passed p xs y k h))
+
+before_last : {X : Type 0} (Before : X → X → Type 0) (t : List X) (x y : X) → IsRising Before (t ++ x ∷ []) → Contains t y → Before y x
+before_last Before [] x y r h = absurd (none_in y h)
+before_last {X} Before (z ∷ t) x y r h =
+    ⊎_elim
+    (λ (e : z ≡ y). subst (λ (w : X). Before w x) e (each (Before z) (t ++ x ∷ []) x r.0 (at_end t x)))
+    (λ (u : Contains t y). before_last Before t x y r.1 u)
+    (which z t y h)
+  where
+    at_end : {X : Type 0} (t : List X) (x : X) → Contains (t ++ x ∷ []) x
+    at_end [] x = here x []
+    at_end (z ∷ t) x = there z (t ++ x ∷ []) x (at_end t x)
+
+pub last_kept : {X : Type 0} (Before : X → X → Type 0) (p : X → Bool) (xs : List X) (x : X) (t : List X) → IsRising Before xs → filter p xs ≡ t ++ x ∷ [] → Contains xs x × (p x ≡ true) × ((y : X) → Contains xs y → p y ≡ true → (x ≡ y) ⊎ Before y x)
+last_kept {X} Before p xs x t rising is =
+    let back : Contains (filter p xs) x = subst (λ (l : List X). Contains l x) (sym is) (at_end t x) in
+    let in_order : IsRising Before (t ++ x ∷ []) = subst (IsRising Before) is (rising_filter Before p xs rising) in
+    let q = filtered p xs x back in (
+      q.0,
+      q.1,
+      λ y h k. ⊎_elim
+          (λ (u : Contains t y). inr (before_last Before t x y in_order u))
+          (λ (u : Contains (x ∷ []) y). ⊎_elim (λ (e : x ≡ y). inl e) (λ (v : Contains [] y). absurd (none_in y v)) (which x [] y u))
+          (Contains-append_cases t (x ∷ []) y (subst (λ (l : List X). Contains l y) is (passed p xs y k h))),
+    )
+  where
+    at_end : {X : Type 0} (t : List X) (x : X) → Contains (t ++ x ∷ []) x
+    at_end [] x = here x []
+    at_end (z ∷ t) x = there z (t ++ x ∷ []) x (at_end t x)

@@ -1,0 +1,325 @@
+-- Records by page and key, and the same in the order of their keys.
+use Rattle.std.proofs.Common.{◌≡◌, ℕ, ◌+◌, ◌<◌, ◌⊎◌, ◌↔◌, inl, inr, ⊎_elim, List, [], ◌∷◌, length, refl, sym, ◌∙◌, ap, subst, arith, Bool, true, false, cond, Option, Some, None}
+use Rattle.std.specs.List.{Contains}
+use Rattle.std.specs.Ordering.{is_eq}
+use Rattle.std.specs.declared.cmp.Ordering.TheVariants.{Less, Equal}
+use Rattle.std.specs.BTreeMap.{BTreeMap, IsOrdered, get}
+use Rattle.std.specs.Map.{keys_of}
+use Rattle.redo_core.specs.Data.{RecordData}
+use Rattle.redo_core.specs.Shape.{record_fault}
+use Rattle.redo_core.specs.Order.{IsRising, RecordBefore}
+use Rattle.redo_core.proofs.Members.{none_in, here, there, which, each, all_of}
+use Rattle.redo_core.proofs.Pairs.{pair_order}
+use Rattle.hot_log.specs.Held.{IsHeld, HasKey, IsRecordAt}
+use Rattle.hot_log.specs.Indexing.{IsRecordOf, IsIndexBy}
+use Rattle.hot_log.specs.Removing.{Removes}
+use Rattle.hot_log.specs.Paged.{place_cmp, place_of, records_in, is_below, insert_by_key, by_key, IsPaged}
+use Rattle.hot_log.proofs.Maps.{key_in, value_of, rising_entries, held_at, grown, shrunk}
+use Rattle.hot_log.proofs.Orders.{places_exact}
+use Rattle.hot_log.proofs.Places.{Place}
+
+abbrev pub Entry : Type 0
+Entry = Place × RecordData
+
+abbrev pub Map : Type 0
+Map = BTreeMap Place RecordData
+
+-- the records of a map, seen in the order of their keys
+abbrev pub seen : Map → List RecordData
+seen m = by_key (records_in m.entries)
+
+-- the order by key has the same members, and as many
+branch : (r s x : RecordData) (ss : List RecordData) (b : Bool) → (Contains (insert_by_key r ss) x ↔ ((r ≡ x) ⊎ Contains ss x)) → Contains (cond b (r ∷ s ∷ ss) (s ∷ insert_by_key r ss)) x ↔ ((r ≡ x) ⊎ Contains (s ∷ ss) x)
+branch r s x ss true same = (
+  λ h. which r (s ∷ ss) x h,
+  λ h. ⊎_elim (λ (u : r ≡ x). subst (Contains (r ∷ s ∷ ss)) u (here r (s ∷ ss))) (λ (u : Contains (s ∷ ss) x). there r (s ∷ ss) x u) h,
+)
+branch r s x ss false same = (
+  λ h. ⊎_elim
+      (λ (u : s ≡ x). inr (subst (Contains (s ∷ ss)) u (here s ss)))
+      (λ (u : Contains (insert_by_key r ss) x). ⊎_elim (λ (v : r ≡ x). inl v) (λ (v : Contains ss x). inr (there s ss x v)) (same.0 u))
+      (which s (insert_by_key r ss) x h),
+  λ h. ⊎_elim
+      (λ (u : r ≡ x). there s (insert_by_key r ss) x (same.1 (inl u)))
+      (λ (u : Contains (s ∷ ss) x). ⊎_elim
+      (λ (v : s ≡ x). subst (Contains (s ∷ insert_by_key r ss)) v (here s (insert_by_key r ss)))
+      (λ (v : Contains ss x). there s (insert_by_key r ss) x (same.1 (inr v)))
+      (which s ss x u))
+      h,
+)
+
+inserted : (r : RecordData) (ss : List RecordData) (x : RecordData) → Contains (insert_by_key r ss) x ↔ ((r ≡ x) ⊎ Contains ss x)
+inserted r [] x = (λ h. which r [] x h, λ h. ⊎_elim (λ (u : r ≡ x). subst (Contains (r ∷ [])) u (here r [])) (λ (u : Contains [] x). absurd (none_in x u)) h)
+inserted r (s ∷ ss) x = branch r s x ss (is_below r s) (inserted r ss x)
+
+pub in_order : (rs : List RecordData) (x : RecordData) → Contains (by_key rs) x ↔ Contains rs x
+in_order [] x = (λ h. h, λ h. h)
+in_order (r ∷ rs) x = (
+  λ h. ⊎_elim
+      (λ (u : r ≡ x). subst (Contains (r ∷ rs)) u (here r rs))
+      (λ (u : Contains (by_key rs) x). there r rs x ((in_order rs x).0 u))
+      ((inserted r (by_key rs) x).0 h),
+  λ h. (inserted r (by_key rs) x).1 (⊎_elim (λ (u : r ≡ x). inl u) (λ (u : Contains rs x). inr ((in_order rs x).1 u)) (which r rs x h)),
+)
+
+one_longer : (r : RecordData) (ss : List RecordData) → length (insert_by_key r ss) ≡ length ss + 1
+one_longer r [] = refl
+one_longer r (s ∷ ss) = either (is_below r s) (one_longer r ss)
+  where
+    either : (b : Bool) → length (insert_by_key r ss) ≡ length ss + 1 → length (cond b (r ∷ s ∷ ss) (s ∷ insert_by_key r ss)) ≡ length (s ∷ ss) + 1
+    either true e = omega arith
+    either false e = omega (arith, e)
+
+pub as_long : (rs : List RecordData) → length (by_key rs) ≡ length rs
+as_long [] = refl
+as_long (r ∷ rs) = let more : length (insert_by_key r (by_key rs)) ≡ length (by_key rs) + 1 = one_longer r (by_key rs) in let same : length (by_key rs) ≡ length rs = as_long rs in omega arith
+
+count_in : (es : List Entry) → length (records_in es) ≡ length es
+count_in [] = refl
+count_in (e ∷ es) = let rest : length (records_in es) ≡ length es = count_in es in omega arith
+
+pub seen_long : (m : Map) → length (seen m) ≡ length m.entries
+seen_long m = as_long (records_in m.entries) ∙ count_in m.entries
+
+below_of : (r s : RecordData) → is_below r s ≡ true → RecordBefore r s
+below_of r s h = grind arith
+
+not_below : (r s : RecordData) → is_below r s ≡ false → RecordBefore r s → ⊥
+not_below r s h p = grind arith
+
+later : (r s x : RecordData) → RecordBefore r s → RecordBefore s x → RecordBefore r x
+later r s x p q = grind arith
+
+-- a record stands where it is apart from each of them
+rising_insert : (r : RecordData) (ss : List RecordData) → IsRising RecordBefore ss → ((s : RecordData) → Contains ss s → RecordBefore r s ⊎ RecordBefore s r) → IsRising RecordBefore (insert_by_key r ss)
+rising_insert r [] rising apart = (tt, tt)
+rising_insert r (s ∷ ss) rising apart = either (is_below r s) refl (rising_insert r ss rising.1 (λ x h. apart x (there s ss x h)))
+  where
+    either : (b : Bool) → is_below r s ≡ b → IsRising RecordBefore (insert_by_key r ss) → IsRising RecordBefore (cond b (r ∷ s ∷ ss) (s ∷ insert_by_key r ss))
+    either true e rest = (
+      all_of (RecordBefore r) (s ∷ ss) (λ x h. ⊎_elim
+          (λ (u : s ≡ x). subst (RecordBefore r) u (below_of r s e))
+          (λ (u : Contains ss x). later r s x (below_of r s e) (each (RecordBefore s) ss x rising.0 u))
+          (which s ss x h)),
+      rising,
+    )
+    either false e rest = (
+      all_of (RecordBefore s) (insert_by_key r ss) (λ x h. ⊎_elim
+          (λ (u : r ≡ x). subst (RecordBefore s) u (⊎_elim (λ (p : RecordBefore r s). absurd (not_below r s e p)) (λ (p : RecordBefore s r). p) (apart s (here s ss))))
+          (λ (u : Contains ss x). each (RecordBefore s) ss x rising.0 u)
+          ((inserted r ss x).0 h)),
+      rest,
+    )
+
+pub record_in : (es : List Entry) (e : Entry) → Contains es e → Contains (records_in es) e.1
+record_in [] e h = absurd (none_in e h)
+record_in (f ∷ es) e h =
+    ⊎_elim
+    (λ (u : f ≡ e). subst (λ (x : Entry). Contains (records_in (f ∷ es)) x.1) u (here f.1 (records_in es)))
+    (λ (u : Contains es e). there f.1 (records_in es) e.1 (record_in es e u))
+    (which f es e h)
+
+pub entry_of : (es : List Entry) (r : RecordData) → Contains (records_in es) r → (k : Place) × Contains es (k, r)
+entry_of [] r h = absurd (none_in r h)
+entry_of (f ∷ es) r h =
+    ⊎_elim
+    (λ (u : f.1 ≡ r). (f.0, subst (λ (x : RecordData). Contains (f ∷ es) (f.0, x)) u (here f es)))
+    (λ (u : Contains (records_in es) r). let t = entry_of es r u in (t.0, there f es (t.0, r) t.1))
+    (which f.1 (records_in es) r h)
+
+pub place_as : (g e n h a b : ℕ) → g ≡ h → e ≡ a → n ≡ b → ◌≡◌ {A = Place} (g, (e, n)) (h, (a, b))
+place_as g e n h a b p q r =
+    let one : ℕ → Place = λ x. (x, (e, n)) in
+    let two : ℕ → Place = λ x. (h, (x, n)) in
+    let three : ℕ → Place = λ x. (h, (a, x)) in
+    ap one p ∙ ap two q ∙ ap three r
+
+-- records with different places and no key twice, in the order of their keys
+pub record IsApart (es : List Entry) : Type 0 where
+  pub rising : IsRising (λ (x y : Entry). place_cmp x.0 y.0 ≡ Less) es
+  pub placed : (e : Entry) → Contains es e → e.0 ≡ place_of e.1
+  pub apart : (r s : RecordData) → Contains (records_in es) r → Contains (records_in es) s → r.epoch ≡ s.epoch → r.number ≡ s.number → r.page ≡ s.page
+
+pub rising_seen : (es : List Entry) → IsApart es → IsRising RecordBefore (by_key (records_in es))
+rising_seen [] is = tt
+rising_seen (f ∷ es) is = rising_insert f.1 (by_key (records_in es)) (rising_seen es rest) other
+  where
+    rest : IsApart es
+    rest = record {
+      rising = is.rising.1;
+      placed = λ e h. is.placed e (there f es e h);
+      apart = λ r s h k. is.apart r s (there f.1 (records_in es) r h) (there f.1 (records_in es) s k);
+    }
+
+    other : (s : RecordData) → Contains (by_key (records_in es)) s → RecordBefore f.1 s ⊎ RecordBefore s f.1
+    other s h =
+        let among = (in_order (records_in es) s).0 h in
+        let t = entry_of es s among in
+        let low : place_cmp f.0 t.0 ≡ Less = each (λ (y : Entry). place_cmp f.0 y.0 ≡ Less) es (t.0, s) is.rising.0 t.1 in
+        let not = λ (e : f.1.epoch ≡ s.epoch) (n : f.1.number ≡ s.number).
+        let page : f.1.page ≡ s.page = is.apart f.1 s (here f.1 (records_in es)) (there f.1 (records_in es) s among) e n in
+        let same : f.0 ≡ t.0 = is.placed f (here f es) ∙ place_as f.1.page f.1.epoch f.1.number s.page s.epoch s.number page e n ∙ sym (is.placed (t.0, s) (there f es (t.0, s) t.1)) in
+        let equal : place_cmp f.0 t.0 ≡ Equal = subst (λ (p : Place). place_cmp f.0 p ≡ Equal) same (places_exact.same f.0) in
+        let no : ⊥ = cc in
+        no in
+        ⊎_elim
+        (λ (p : RecordBefore f.1 s). inl p)
+        (λ (p : ((f.1.epoch ≡ s.epoch) × (f.1.number ≡ s.number)) ⊎ RecordBefore s f.1). ⊎_elim
+        (λ (q : (f.1.epoch ≡ s.epoch) × (f.1.number ≡ s.number)). absurd (not q.0 q.1))
+        (λ (q : RecordBefore s f.1). inr q)
+        p)
+        (pair_order f.1.epoch f.1.number s.epoch s.number)
+
+pub held_of : (m : Map) → IsPaged m → IsHeld (seen m)
+held_of m is = record {
+  rising = rising_seen m.entries (record { rising = rising_entries place_cmp m.entries is.ordered; placed = is.placed; apart = is.apart });
+  shaped = λ r h. is.shaped r ((in_order (records_in m.entries) r).0 h);
+}
+
+-- each record stands under its page and key
+pub own_entry : (m : Map) → IsPaged m → (r : RecordData) → Contains (seen m) r → Contains m.entries (place_of r, r)
+own_entry m is r h =
+    let t = entry_of m.entries r ((in_order (records_in m.entries) r).0 h) in
+    subst (λ (k : Place). Contains m.entries (k, r)) (is.placed (t.0, r) t.1) t.1
+
+pub seen_in : (m : Map) (e : Entry) → Contains m.entries e → Contains (seen m) e.1
+seen_in m e h = (in_order (records_in m.entries) e.1).1 (record_in m.entries e h)
+
+pub page_index : (m : Map) → IsPaged m → IsIndexBy (λ r. r.page) (seen m) (keys_of m.entries)
+page_index m is = record {
+  listed = λ r h. key_in m.entries (place_of r, r) (own_entry m is r h);
+  backed = λ g e n h.
+      let t = value_of m.entries (g, (e, n)) h in
+      let k : (g, (e, n)) ≡ place_of t.0 = is.placed ((g, (e, n)), t.0) t.1 in (
+        t.0,
+        seen_in m ((g, (e, n)), t.0) t.1,
+        sym (ap (λ (p : Place). p.0) k),
+        (sym (ap (λ (p : Place). p.1.0) k), sym (ap (λ (p : Place). p.1.1) k)),
+      );
+}
+
+pub got : (m : Map) → IsPaged m → (page : ℕ) (key : ℕ × ℕ) (o : Option RecordData) → o ≡ get place_cmp m (page, key) → IsRecordOf (seen m) page key o
+got m is page key None e = λ r h p k.
+    let at : place_of r ≡ (page, key) = place_as r.page r.epoch r.number page key.0 key.1 p k.0 k.1 in
+    let found : get place_cmp m (page, key) ≡ Some r = (held_at place_cmp places_exact m is.ordered (page, key) r).1 (subst (λ (x : Place). Contains m.entries (x, r)) at (own_entry m is r h)) in
+    cc
+got m is page key (Some r) e =
+    let at : Contains m.entries ((page, key), r) = (held_at place_cmp places_exact m is.ordered (page, key) r).0 (sym e) in
+    let k : (page, key) ≡ place_of r = is.placed ((page, key), r) at in
+    (seen_in m ((page, key), r) at, sym (ap (λ (p : Place). p.0) k), (sym (ap (λ (p : Place). p.1.0) k), sym (ap (λ (p : Place). p.1.1) k)))
+
+-- what a map that gains a record under its free key holds
+pub record Grows (old new : Map) (redo : RecordData) : Type 0 where
+  pub was : IsPaged old
+  pub ordered : IsOrdered place_cmp new
+  pub free : IsRecordAt (seen old) redo.epoch redo.number None
+  pub shaped : record_fault redo ≡ None
+  pub fits : redo.page < 65536
+  pub at : (q : Place) → get place_cmp new q ≡ cond (is_eq (place_cmp (place_of redo) q)) (Some redo) (get place_cmp old q)
+
+pub grown_members : (old new : Map) (redo : RecordData) → Grows old new redo → (r : RecordData) → Contains (seen new) r ↔ (Contains (seen old) r ⊎ (r ≡ redo))
+grown_members old new redo g r = (
+  λ h.
+      let t = entry_of new.entries r ((in_order (records_in new.entries) r).0 h) in
+      ⊎_elim
+      (λ (u : (t.0 ≡ place_of redo) × (r ≡ redo)). inr u.1)
+      (λ (u : (t.0 ≡ place_of redo → ⊥) × Contains old.entries (t.0, r)). inl (seen_in old (t.0, r) u.1))
+      ((grown place_cmp places_exact old new (place_of redo) redo g.was.ordered g.ordered g.at t.0 r).0 t.1),
+  λ h. ⊎_elim
+      (λ (u : Contains (seen old) r).
+      let other : place_of r ≡ place_of redo → ⊥ = λ e. g.free r u (ap (λ (x : Place). x.1.0) e, ap (λ (x : Place). x.1.1) e) in
+      seen_in new (place_of r, r) ((grown place_cmp places_exact old new (place_of redo) redo g.was.ordered g.ordered g.at (place_of r) r).1 (inr (other, own_entry old g.was r u))))
+      (λ (u : r ≡ redo).
+      subst (Contains (seen new)) (sym u) (seen_in new (place_of redo, redo) ((grown place_cmp places_exact old new (place_of redo) redo g.was.ordered g.ordered g.at (place_of redo) redo).1 (inl (refl, refl)))))
+      h,
+)
+
+grown_apart : (old new : Map) (redo : RecordData) → Grows old new redo → (r s : RecordData) → Contains (seen old) r ⊎ (r ≡ redo) → Contains (seen old) s ⊎ (s ≡ redo) → r.epoch ≡ s.epoch → r.number ≡ s.number → r.page ≡ s.page
+grown_apart old new redo g r s h k e n =
+    ⊎_elim
+    (λ (u : Contains (seen old) r). ⊎_elim
+    (λ (v : Contains (seen old) s). g.was.apart r s ((in_order (records_in old.entries) r).0 u) ((in_order (records_in old.entries) s).0 v) e n)
+    (λ (v : s ≡ redo). absurd (g.free r u (e ∙ ap (λ (x : RecordData). x.epoch) v, n ∙ ap (λ (x : RecordData). x.number) v)))
+    k)
+    (λ (u : r ≡ redo). ⊎_elim
+    (λ (v : Contains (seen old) s). absurd (g.free s v (sym e ∙ ap (λ (x : RecordData). x.epoch) u, sym n ∙ ap (λ (x : RecordData). x.number) u)))
+    (λ (v : s ≡ redo). ap (λ (x : RecordData). x.page) (u ∙ sym v))
+    k)
+    h
+
+pub grown_paged : (old new : Map) (redo : RecordData) → Grows old new redo → IsPaged new
+grown_paged old new redo g = record {
+  ordered = g.ordered;
+  placed = λ e h. ⊎_elim
+      (λ (u : (e.0 ≡ place_of redo) × (e.1 ≡ redo)). subst (λ (x : RecordData). e.0 ≡ place_of x) (sym u.1) u.0)
+      (λ (u : (e.0 ≡ place_of redo → ⊥) × Contains old.entries (e.0, e.1)). g.was.placed e u.1)
+      ((grown place_cmp places_exact old new (place_of redo) redo g.was.ordered g.ordered g.at e.0 e.1).0 h);
+  shaped = λ r h. ⊎_elim
+      (λ (u : Contains (seen old) r). g.was.shaped r ((in_order (records_in old.entries) r).0 u))
+      (λ (u : r ≡ redo). subst (λ (x : RecordData). record_fault x ≡ None) (sym u) g.shaped)
+      (was r h);
+  fits = λ r h. ⊎_elim
+      (λ (u : Contains (seen old) r). g.was.fits r ((in_order (records_in old.entries) r).0 u))
+      (λ (u : r ≡ redo). subst (λ (x : RecordData). x.page < 65536) (sym u) g.fits)
+      (was r h);
+  apart = λ r s h k. grown_apart old new redo g r s (was r h) (was s k);
+}
+  where
+    was : (r : RecordData) → Contains (records_in new.entries) r → Contains (seen old) r ⊎ (r ≡ redo)
+    was r h = (grown_members old new redo g r).0 ((in_order (records_in new.entries) r).1 h)
+
+-- what a map that loses a place holds
+pub record Shrinks (old new : Map) (page : ℕ) (key : ℕ × ℕ) : Type 0 where
+  pub was : IsPaged old
+  pub ordered : IsOrdered place_cmp new
+  pub at : (q : Place) → get place_cmp new q ≡ cond (is_eq (place_cmp (page, key) q)) None (get place_cmp old q)
+
+pub shrunk_members : (old new : Map) (page : ℕ) (key : ℕ × ℕ) → Shrinks old new page key → Removes (λ r. (r.page ≡ page) × HasKey key.0 key.1 r) (seen old) (seen new)
+shrunk_members old new page key s r = (
+  λ h.
+      let t = entry_of new.entries r ((in_order (records_in new.entries) r).0 h) in
+      let u = (shrunk place_cmp places_exact old new (page, key) s.was.ordered s.ordered s.at t.0 r).0 t.1 in (
+        seen_in old (t.0, r) u.1,
+        λ k. u.0 (s.was.placed (t.0, r) u.1 ∙ place_as r.page r.epoch r.number page key.0 key.1 k.0 k.1.0 k.1.1),
+      ),
+  λ h. seen_in new (place_of r, r) ((shrunk place_cmp places_exact old new (page, key) s.was.ordered s.ordered s.at (place_of r) r).1 (
+    λ e. h.1 (ap (λ (x : Place). x.0) e, (ap (λ (x : Place). x.1.0) e, ap (λ (x : Place). x.1.1) e)),
+    own_entry old s.was r h.0,
+  )),
+)
+
+pub shrunk_paged : (old new : Map) (page : ℕ) (key : ℕ × ℕ) → Shrinks old new page key → IsPaged new
+shrunk_paged old new page key s = record {
+  ordered = s.ordered;
+  placed = λ e h. s.was.placed e ((shrunk place_cmp places_exact old new (page, key) s.was.ordered s.ordered s.at e.0 e.1).0 h).1;
+  shaped = λ r h. s.was.shaped r (was r h);
+  fits = λ r h. s.was.fits r (was r h);
+  apart = λ r t h k. s.was.apart r t (was r h) (was t k);
+}
+  where
+    was : (r : RecordData) → Contains (records_in new.entries) r → Contains (records_in old.entries) r
+    was r h = (in_order (records_in old.entries) r).0 ((shrunk_members old new page key s r).0 ((in_order (records_in new.entries) r).1 h)).0
+
+pub empty_paged : (m : Map) → IsOrdered place_cmp m → m.entries ≡ [] → IsPaged m
+empty_paged m ordered e = record {
+  ordered = ordered;
+  placed = λ x h. absurd (none_in x (subst (λ (l : List Entry). Contains l x) e h));
+  shaped = λ r h. absurd (none r h);
+  fits = λ r h. absurd (none r h);
+  apart = λ r s h k. absurd (none r h);
+}
+  where
+    none : (r : RecordData) → Contains (records_in m.entries) r → ⊥
+    none r h = none_in r (subst (λ (l : List Entry). Contains (records_in l) r) e h)
+
+pub same_paged : (m n : Map) → IsPaged m → IsOrdered place_cmp n → n.entries ≡ m.entries → IsPaged n
+same_paged m n is ordered e = record {
+  ordered = ordered;
+  placed = λ x h. is.placed x (subst (λ (l : List Entry). Contains l x) e h);
+  shaped = λ r h. is.shaped r (was r h);
+  fits = λ r h. is.fits r (was r h);
+  apart = λ r s h k. is.apart r s (was r h) (was s k);
+}
+  where
+    was : (r : RecordData) → Contains (records_in n.entries) r → Contains (records_in m.entries) r
+    was r h = subst (λ (l : List Entry). Contains (records_in l) r) e h

@@ -1,0 +1,193 @@
+-- What the ends of a range of keys in groups are.
+use Rattle.std.proofs.Common.{◌≡◌, ℕ, ◌<◌, ◌≤◌, ◌⊎◌, ◌↔◌, inl, inr, ⊎_elim, List, [], ◌∷◌, ◌++◌, refl, sym, ap, subst, arith, Bool, true, false, not, ◌&&◌, cond, Some, None}
+use Rattle.std.specs.List.{Contains, filter}
+use Rattle.std.specs.Ordering.{is_lt, is_le, is_eq}
+use Rattle.std.specs.BTreeSet.{BTreeSet, contains}
+use Rattle.std.proofs.lemmas.Map.Views.{btree_set_contains_iff}
+use Rattle.std.specs.declared.cmp.Ordering.{Ordering}
+use Rattle.std.specs.declared.cmp.Ordering.TheVariants.{Less, Equal, Greater}
+use Rattle.std.specs.declared.ops.Bound.TheVariants.{Included, Excluded, Unbounded}
+use Rattle.std.specs.BTreeMap.Range.{range_contains}
+use Rattle.redo_core.specs.Order.{IsRising, PairBefore}
+use Rattle.hot_log.specs.Indexing.{IsNextKey, IsLastKey}
+use Rattle.hot_log.specs.Paged.{place_cmp}
+use Rattle.hot_log.proofs.Maps.{lt_true, lt_of}
+use Rattle.hot_log.proofs.Orders.{place_total, place_exact, place_less, place_less_of, first_kept, none_kept, last_kept}
+
+abbrev pub Place : Type 0
+Place = ℕ × (ℕ × ℕ)
+
+abbrev pub Below : Place → Place → Type 0
+Below x y = place_cmp x y ≡ Less
+
+not_lt_true : (o : Ordering) → (true && not (is_lt o)) ≡ true → o ≡ Less → ⊥
+not_lt_true Less h e = cc
+not_lt_true Equal h e = cc
+not_lt_true Greater h e = cc
+
+not_lt_of : (o : Ordering) → (o ≡ Less → ⊥) → (true && not (is_lt o)) ≡ true
+not_lt_of Less h = absurd (h refl)
+not_lt_of Equal h = refl
+not_lt_of Greater h = refl
+
+le_true : (o : Ordering) → (is_le o && not false) ≡ true → o ≡ Greater → ⊥
+le_true Less h e = cc
+le_true Equal h e = cc
+le_true Greater h e = cc
+
+le_of : (o : Ordering) → (o ≡ Greater → ⊥) → (is_le o && not false) ≡ true
+le_of Less h = refl
+le_of Equal h = refl
+le_of Greater h = absurd (h refl)
+
+-- a key of the group above another, as the order of places says it
+in_group_above : (g a b e n : ℕ) → PairBefore a b e n → Below (g, (a, b)) (g, (e, n))
+in_group_above g a b e n p = place_less_of (g, (a, b)) (g, (e, n)) (inr (refl, p))
+
+group_and_key : (x y : Place) → x.0 ≡ y.0 → Below x y → PairBefore x.1.0 x.1.1 y.1.0 y.1.1
+group_and_key x y e b =
+    ⊎_elim
+    (λ (l : x.0 < y.0). absurd (omega arith))
+    (λ (p : (x.0 ≡ y.0) × PairBefore x.1.0 x.1.1 y.1.0 y.1.1). p.1)
+    (place_less x y b)
+
+pub next_none : (keys : List Place) (g : ℕ) (after : ℕ × ℕ) → filter (range_contains place_cmp (Excluded (g, after)) Unbounded) keys ≡ [] → IsNextKey keys g after None
+next_none keys g after is e n h p =
+    none_kept (range_contains place_cmp (Excluded (g, after)) Unbounded) keys is (g, (e, n)) h (lt_of (place_cmp (g, after) (g, (e, n))) (in_group_above g after.0 after.1 e n p))
+
+pub next_some : (keys : List Place) (g : ℕ) (after : ℕ × ℕ) (x : Place) (t : List Place) → IsRising Below keys → filter (range_contains place_cmp (Excluded (g, after)) Unbounded) keys ≡ x ∷ t → x.0 ≡ g → IsNextKey keys g after (Some x.1)
+next_some keys g after x t rising is same =
+    let test : Place → Bool = range_contains place_cmp (Excluded (g, after)) Unbounded in
+    let f = first_kept Below test keys x t rising is in
+    let above : Below (g, after) x = lt_true (place_cmp (g, after) x) f.1 in
+    let P : ℕ → Type 0 = λ h. Contains keys (h, x.1) in (
+      subst P same f.0,
+      group_and_key (g, after) x (sym same) above,
+      λ e n h p. ⊎_elim
+          (λ (q : x ≡ (g, (e, n))). inl (ap (λ (y : Place). y.1.0) (sym q), ap (λ (y : Place). y.1.1) (sym q)))
+          (λ (b : Below x (g, (e, n))). inr (group_and_key x (g, (e, n)) same b))
+          (f.2 (g, (e, n)) h (lt_of (place_cmp (g, after) (g, (e, n))) (in_group_above g after.0 after.1 e n p))),
+    )
+
+pub next_other : (keys : List Place) (g : ℕ) (after : ℕ × ℕ) (x : Place) (t : List Place) → IsRising Below keys → filter (range_contains place_cmp (Excluded (g, after)) Unbounded) keys ≡ x ∷ t → (x.0 ≡ g → ⊥) → IsNextKey keys g after None
+next_other keys g after x t rising is other e n h p =
+    let test : Place → Bool = range_contains place_cmp (Excluded (g, after)) Unbounded in
+    let f = first_kept Below test keys x t rising is in
+    let above : Below (g, after) x = lt_true (place_cmp (g, after) x) f.1 in
+    let up : g < x.0 = ⊎_elim (λ (l : g < x.0). l) (λ (q : (g ≡ x.0) × PairBefore after.0 after.1 x.1.0 x.1.1). absurd (other (sym q.0))) (place_less (g, after) x above) in
+    ⊎_elim
+    (λ (q : x ≡ (g, (e, n))). other (ap (λ (y : Place). y.0) q))
+    (λ (b : Below x (g, (e, n))). ⊎_elim (λ (l : x.0 < g). omega arith) (λ (q : (x.0 ≡ g) × PairBefore x.1.0 x.1.1 e n). other q.0) (place_less x (g, (e, n)) b))
+    (f.2 (g, (e, n)) h (lt_of (place_cmp (g, after) (g, (e, n))) (in_group_above g after.0 after.1 e n p)))
+
+-- the range up to a key of a group
+up_to_group : (g e n : ℕ) (to : ℕ × ℕ) → (PairBefore to.0 to.1 e n → ⊥) → range_contains place_cmp Unbounded (Included (g, to)) (g, (e, n)) ≡ true
+up_to_group g e n to not = not_lt_of (place_cmp (g, to) (g, (e, n))) (λ b. not (group_and_key (g, to) (g, (e, n)) refl b))
+
+pair_or_not : (a b c d : ℕ) → PairBefore a b c d ⊎ (PairBefore a b c d → ⊥)
+pair_or_not a b c d = grind arith
+
+pub last_none : (keys : List Place) (g : ℕ) (to : ℕ × ℕ) → filter (range_contains place_cmp Unbounded (Included (g, to))) keys ≡ [] → IsLastKey keys g to None
+last_none keys g to is e n h =
+    ⊎_elim
+    (λ (p : PairBefore to.0 to.1 e n). p)
+    (λ (q : PairBefore to.0 to.1 e n → ⊥). absurd (none_kept (range_contains place_cmp Unbounded (Included (g, to))) keys is (g, (e, n)) h (up_to_group g e n to q)))
+    (pair_or_not to.0 to.1 e n)
+
+pub last_some : (keys : List Place) (g : ℕ) (to : ℕ × ℕ) (x : Place) (t : List Place) → IsRising Below keys → filter (range_contains place_cmp Unbounded (Included (g, to))) keys ≡ t ++ x ∷ [] → x.0 ≡ g → IsLastKey keys g to (Some x.1)
+last_some keys g to x t rising is same =
+    let test : Place → Bool = range_contains place_cmp Unbounded (Included (g, to)) in
+    let f = last_kept Below test keys x t rising is in
+    let P : ℕ → Type 0 = λ h. Contains keys (h, x.1) in (
+      subst P same f.0,
+      λ p. not_lt_true (place_cmp (g, to) x) f.1 (place_less_of (g, to) x (inr (sym same, p))),
+      λ e n h p. ⊎_elim
+          (λ (q : x ≡ (g, (e, n))). inl (ap (λ (y : Place). y.1.0) (sym q), ap (λ (y : Place). y.1.1) (sym q)))
+          (λ (b : Below (g, (e, n)) x). inr (group_and_key (g, (e, n)) x (sym same) b))
+          (f.2 (g, (e, n)) h (up_to_group g e n to p)),
+    )
+
+pub last_other : (keys : List Place) (g : ℕ) (to : ℕ × ℕ) (x : Place) (t : List Place) → IsRising Below keys → filter (range_contains place_cmp Unbounded (Included (g, to))) keys ≡ t ++ x ∷ [] → (x.0 ≡ g → ⊥) → IsLastKey keys g to None
+last_other keys g to x t rising is other e n h =
+    let test : Place → Bool = range_contains place_cmp Unbounded (Included (g, to)) in
+    let f = last_kept Below test keys x t rising is in
+    ⊎_elim
+    (λ (p : PairBefore to.0 to.1 e n). p)
+    (λ (q : PairBefore to.0 to.1 e n → ⊥). absurd (⊎_elim
+    (λ (u : x ≡ (g, (e, n))). other (ap (λ (y : Place). y.0) u))
+    (λ (b : Below (g, (e, n)) x). ⊎_elim
+    (λ (l : g < x.0). not_lt_true (place_cmp (g, to) x) f.1 (place_less_of (g, to) x (inl l)))
+    (λ (v : (g ≡ x.0) × PairBefore e n x.1.0 x.1.1). other (sym v.0))
+    (place_less (g, (e, n)) x b))
+    (f.2 (g, (e, n)) h (up_to_group g e n to q))))
+    (pair_or_not to.0 to.1 e n)
+
+-- the range from the start of a group
+not_above_zero : (group g e n : ℕ) → group ≤ g → place_cmp (group, (0, 0)) (g, (e, n)) ≡ Greater → ⊥
+not_above_zero group g e n le h = grind arith
+
+group_le : (group : ℕ) (x : Place) → (place_cmp (group, (0, 0)) x ≡ Greater → ⊥) → group ≤ x.0
+group_le group x not = grind arith
+
+pub group_none : (keys : List Place) (group : ℕ) → filter (range_contains place_cmp (Included (group, (0, 0))) Unbounded) keys ≡ [] → (x : Place) → Contains keys x → group ≤ x.0 → ⊥
+group_none keys group is x h le =
+    none_kept (range_contains place_cmp (Included (group, (0, 0))) Unbounded) keys is x h (le_of (place_cmp (group, (0, 0)) x) (not_above_zero group x.0 x.1.0 x.1.1 le))
+
+-- the least group from one on that has a key
+pub record IsGroup (keys : List Place) (group : ℕ) (x : Place) : Type 0 where
+  pub among : Contains keys x
+  pub from : group ≤ x.0
+  pub least : (y : Place) → Contains keys y → group ≤ y.0 → x.0 ≤ y.0
+
+pub group_some : (keys : List Place) (group : ℕ) (x : Place) (t : List Place) → IsRising Below keys → filter (range_contains place_cmp (Included (group, (0, 0))) Unbounded) keys ≡ x ∷ t → IsGroup keys group x
+group_some keys group x t rising is =
+    let test : Place → Bool = range_contains place_cmp (Included (group, (0, 0))) Unbounded in
+    let f = first_kept Below test keys x t rising is in
+    record {
+      among = f.0;
+      from = group_le group x (le_true (place_cmp (group, (0, 0)) x) f.1);
+      least = λ y h le. ⊎_elim
+          (λ (u : x ≡ y). let same : x.0 ≡ y.0 = ap (λ (z : Place). z.0) u in omega arith)
+          (λ (b : Below x y). ⊎_elim (λ (l : x.0 < y.0). omega arith) (λ (v : (x.0 ≡ y.0) × PairBefore x.1.0 x.1.1 y.1.0 y.1.1). omega arith) (place_less x y b))
+          (f.2 y h (le_of (place_cmp (group, (0, 0)) y) (not_above_zero group y.0 y.1.0 y.1.1 le)));
+    }
+
+place_same : (p : Place) → place_cmp p p ≡ Equal
+place_same p = grind arith
+
+set_cases : (o : Ordering) (a b : Bool) → a ≡ cond (is_eq o) true b → (a ≡ true) ↔ ((b ≡ true) ⊎ (o ≡ Equal))
+set_cases Less a b e = (λ h. inl (cc), λ h. ⊎_elim (λ (u : b ≡ true). cc) (λ (u : Less ≡ Equal). cc) h)
+set_cases Equal a b e = (λ h. inr refl, λ h. e)
+set_cases Greater a b e = (λ h. inl (cc), λ h. ⊎_elim (λ (u : b ≡ true). cc) (λ (u : Greater ≡ Equal). cc) h)
+
+unset_cases : (o : Ordering) (a b : Bool) → a ≡ cond (is_eq o) false b → (a ≡ true) ↔ ((b ≡ true) × (o ≡ Equal → ⊥))
+unset_cases Less a b e = (λ h. (cc, λ (u : Less ≡ Equal). cc), λ h. let k = h.0 in cc)
+unset_cases Equal a b e = (λ h. cc, λ h. absurd (h.1 refl))
+unset_cases Greater a b e = (λ h. (cc, λ (u : Greater ≡ Equal). cc), λ h. let k = h.0 in cc)
+
+at_place : (p q : Place) → (place_cmp p q ≡ Equal) ↔ (q ≡ p)
+at_place p q = (λ h. sym (place_exact p q h), λ h. subst (λ (x : Place). place_cmp p x ≡ Equal) (sym h) (place_same p))
+
+pub gained : (old new : BTreeSet Place) (p : Place) → ((q : Place) → contains place_cmp new q ≡ cond (is_eq (place_cmp p q)) true (contains place_cmp old q)) → (q : Place) → Contains new.keys q ↔ (Contains old.keys q ⊎ (q ≡ p))
+gained old new p h q =
+    let cases = set_cases (place_cmp p q) (contains place_cmp new q) (contains place_cmp old q) (h q) in
+    let here = btree_set_contains_iff place_total place_exact new q in
+    let before = btree_set_contains_iff place_total place_exact old q in (
+      λ k. ⊎_elim
+          (λ (u : contains place_cmp old q ≡ true). inl (before.0 u))
+          (λ (u : place_cmp p q ≡ Equal). inr ((at_place p q).0 u))
+          (cases.0 (here.1 k)),
+      λ k. here.0 (cases.1 (⊎_elim
+          (λ (u : Contains old.keys q). inl (before.1 u))
+          (λ (u : q ≡ p). inr ((at_place p q).1 u))
+          k)),
+    )
+
+pub lost : (old new : BTreeSet Place) (p : Place) → ((q : Place) → contains place_cmp new q ≡ cond (is_eq (place_cmp p q)) false (contains place_cmp old q)) → (q : Place) → Contains new.keys q ↔ (Contains old.keys q × (q ≡ p → ⊥))
+lost old new p h q =
+    let cases = unset_cases (place_cmp p q) (contains place_cmp new q) (contains place_cmp old q) (h q) in
+    let here = btree_set_contains_iff place_total place_exact new q in
+    let before = btree_set_contains_iff place_total place_exact old q in (
+      λ k. let c = cases.0 (here.1 k) in (before.0 c.0, λ u. c.1 ((at_place p q).1 u)),
+      λ k. here.0 (cases.1 (before.1 k.0, λ u. k.1 ((at_place p q).0 u))),
+    )

@@ -1,0 +1,261 @@
+-- What ranges of a map by page and key hold.
+use Rattle.std.proofs.Common.{◌≡◌, ℕ, ◌+◌, ◌<◌, ◌≤◌, ◌⊎◌, ◌↔◌, inl, inr, ⊎_elim, List, [], ◌∷◌, ◌++◌, refl, sym, ◌∙◌, ap, subst, arith, Bool, true, not, ◌&&◌, Option, Some, None}
+use Rattle.std.specs.List.{Contains, filter}
+use Rattle.std.specs.Ordering.{is_lt}
+use Rattle.std.specs.declared.cmp.Ordering.{Ordering}
+use Rattle.std.specs.declared.cmp.Ordering.TheVariants.{Less, Equal, Greater}
+use Rattle.std.specs.declared.ops.Bound.TheVariants.{Included, Excluded, Unbounded}
+use Rattle.std.specs.BTreeMap.Range.{range_contains}
+use Rattle.std.specs.Map.{keys_of}
+use Rattle.redo_core.specs.Data.{RecordData}
+use Rattle.redo_core.specs.Order.{IsRising, Lists, BeforeByNumber, PairBefore, RecordBefore}
+use Rattle.redo_core.specs.Standing.{IsAlive}
+use Rattle.std.proofs.lemmas.List.Elements.{Contains-append_left, Contains-append_right}
+use Rattle.redo_core.proofs.Members.{none_in, here, there, which, filtered, passed}
+use Rattle.redo_core.proofs.Listing.{lists_push, lists_as}
+use Rattle.redo_core.proofs.Rising.{rising_filter}
+use Rattle.epoch_book.specs.Book.{BookData, IsBook}
+use Rattle.hot_log.specs.Alive.{IsAliveBetween}
+use Rattle.hot_log.specs.Found.{IsPageAbove, IsPageAfter}
+use Rattle.hot_log.specs.Indexing.{IsNextRecord, IsLastRecord, IsNextHeld, IsLastHeld}
+use Rattle.hot_log.specs.Paged.{place_cmp, place_of, records_in, IsPaged}
+use Rattle.hot_log.proofs.Maps.{keys_filter, key_in, rising_entries, before_join}
+use Rattle.hot_log.proofs.Orders.{place_less, place_less_of, rises}
+use Rattle.hot_log.proofs.Places.{Place, next_none, next_some, next_other, last_none, last_some, last_other, group_none, group_some, IsGroup}
+use Rattle.hot_log.proofs.Indexed.{next_held, last_held}
+use Rattle.hot_log.proofs.Views.{view_of, number_before}
+use Rattle.hot_log.proofs.Paged.{Entry, Map, seen, in_order, record_in, entry_of, own_entry, seen_in, page_index}
+
+-- a range of the entries is that range of their keys
+keys_range : (p : Place → Bool) (m : Map) (es : List Entry) → filter (λ (e : Entry). p e.0) m.entries ≡ es → filter p (keys_of m.entries) ≡ keys_of es
+keys_range p m es is = sym (keys_filter p m.entries) ∙ ap (λ (l : List Entry). keys_of l) is
+
+entry_in : (p : Place → Bool) (m : Map) (es : List Entry) (x : Entry) → filter (λ (e : Entry). p e.0) m.entries ≡ es → Contains es x → Contains m.entries x
+entry_in p m es x is h = (filtered (λ (e : Entry). p e.0) m.entries x (subst (λ (l : List Entry). Contains l x) (sym is) h)).0
+
+own_key : (m : Map) (x : Entry) → IsPaged m → Contains m.entries x → x.0.1 ≡ (x.1.epoch, x.1.number)
+own_key m x is h = ap (λ (p : Place). p.1) (is.placed x h)
+
+pub no_next : (m : Map) (page : ℕ) (after : ℕ × ℕ) → IsPaged m → filter (λ (e : Entry). range_contains place_cmp (Excluded (page, after)) Unbounded e.0) m.entries ≡ [] → IsNextRecord (seen m) page after None
+no_next m page after paged is =
+    next_held (λ r. r.page) (seen m) (keys_of m.entries) page after None (page_index m paged)
+    (next_none (keys_of m.entries) page after (keys_range (range_contains place_cmp (Excluded (page, after)) Unbounded) m [] is))
+
+pub next_is : (m : Map) (page : ℕ) (after : ℕ × ℕ) (x : Entry) (t : List Entry) → IsPaged m → filter (λ (e : Entry). range_contains place_cmp (Excluded (page, after)) Unbounded e.0) m.entries ≡ x ∷ t → x.0.0 ≡ page → IsNextRecord (seen m) page after (Some x.1)
+next_is m page after x t paged is same =
+    let test : Place → Bool = range_contains place_cmp (Excluded (page, after)) Unbounded in
+    let among : Contains m.entries x = entry_in test m (x ∷ t) x is (here x t) in
+    let found : IsNextHeld (λ r. r.page) (seen m) page after (Some x.0.1) =
+    next_held (λ r. r.page) (seen m) (keys_of m.entries) page after (Some x.0.1) (page_index m paged)
+    (next_some (keys_of m.entries) page after x.0 (keys_of t) (rises place_cmp (keys_of m.entries) paged.ordered) (keys_range test m (x ∷ t) is) same) in
+    (seen_in m x among, subst (λ (k : ℕ × ℕ). IsNextHeld (λ r. r.page) (seen m) page after (Some k)) (own_key m x paged among) found)
+
+pub next_elsewhere : (m : Map) (page : ℕ) (after : ℕ × ℕ) (x : Entry) (t : List Entry) → IsPaged m → filter (λ (e : Entry). range_contains place_cmp (Excluded (page, after)) Unbounded e.0) m.entries ≡ x ∷ t → (x.0.0 ≡ page → ⊥) → IsNextRecord (seen m) page after None
+next_elsewhere m page after x t paged is other =
+    next_held (λ r. r.page) (seen m) (keys_of m.entries) page after None (page_index m paged)
+    (next_other (keys_of m.entries) page after x.0 (keys_of t) (rises place_cmp (keys_of m.entries) paged.ordered) (keys_range (range_contains place_cmp (Excluded (page, after)) Unbounded) m (x ∷ t) is) other)
+
+pub no_last : (m : Map) (page : ℕ) (to : ℕ × ℕ) → IsPaged m → filter (λ (e : Entry). range_contains place_cmp Unbounded (Included (page, to)) e.0) m.entries ≡ [] → IsLastRecord (seen m) page to None
+no_last m page to paged is =
+    last_held (λ r. r.page) (seen m) (keys_of m.entries) page to None (page_index m paged)
+    (last_none (keys_of m.entries) page to (keys_range (range_contains place_cmp Unbounded (Included (page, to))) m [] is))
+
+keys_end : (t : List Entry) (x : Entry) → keys_of (t ++ x ∷ []) ≡ keys_of t ++ x.0 ∷ []
+keys_end [] x = refl
+keys_end (e ∷ t) x = ap (λ (l : List Place). e.0 ∷ l) (keys_end t x)
+
+at_end : (t : List Entry) (x : Entry) → Contains (t ++ x ∷ []) x
+at_end t x = Contains-append_right t (x ∷ []) x (here x [])
+
+pub last_is : (m : Map) (page : ℕ) (to : ℕ × ℕ) (x : Entry) (t : List Entry) → IsPaged m → filter (λ (e : Entry). range_contains place_cmp Unbounded (Included (page, to)) e.0) m.entries ≡ t ++ x ∷ [] → x.0.0 ≡ page → IsLastRecord (seen m) page to (Some x.1)
+last_is m page to x t paged is same =
+    let test : Place → Bool = range_contains place_cmp Unbounded (Included (page, to)) in
+    let among : Contains m.entries x = entry_in test m (t ++ x ∷ []) x is (at_end t x) in
+    let found : IsLastHeld (λ r. r.page) (seen m) page to (Some x.0.1) =
+    last_held (λ r. r.page) (seen m) (keys_of m.entries) page to (Some x.0.1) (page_index m paged)
+    (last_some (keys_of m.entries) page to x.0 (keys_of t) (rises place_cmp (keys_of m.entries) paged.ordered) (keys_range test m (t ++ x ∷ []) is ∙ keys_end t x) same) in
+    (seen_in m x among, subst (λ (k : ℕ × ℕ). IsLastHeld (λ r. r.page) (seen m) page to (Some k)) (own_key m x paged among) found)
+
+pub last_elsewhere : (m : Map) (page : ℕ) (to : ℕ × ℕ) (x : Entry) (t : List Entry) → IsPaged m → filter (λ (e : Entry). range_contains place_cmp Unbounded (Included (page, to)) e.0) m.entries ≡ t ++ x ∷ [] → (x.0.0 ≡ page → ⊥) → IsLastRecord (seen m) page to None
+last_elsewhere m page to x t paged is other =
+    last_held (λ r. r.page) (seen m) (keys_of m.entries) page to None (page_index m paged)
+    (last_other (keys_of m.entries) page to x.0 (keys_of t) (rises place_cmp (keys_of m.entries) paged.ordered) (keys_range (range_contains place_cmp Unbounded (Included (page, to))) m (t ++ x ∷ []) is ∙ keys_end t x) other)
+
+-- a page is above the one given where it is from another on
+abbrev pub Above_from : Option ℕ → ℕ → Type 0
+Above_from after from = (p : ℕ) → (IsPageAbove after p → from ≤ p) × (from ≤ p → IsPageAbove after p)
+
+pub no_page : (m : Map) (after : Option ℕ) (from : ℕ) → IsPaged m → Above_from after from → filter (λ (e : Entry). range_contains place_cmp (Included (from, (0, 0))) Unbounded e.0) m.entries ≡ [] → IsPageAfter (seen m) after None
+no_page m after from paged up is r h above =
+    group_none (keys_of m.entries) from (keys_range (range_contains place_cmp (Included (from, (0, 0))) Unbounded) m [] is) (place_of r)
+    (key_in m.entries (place_of r, r) (own_entry m paged r h)) ((up r.page).0 above)
+
+pub page_is : (m : Map) (after : Option ℕ) (from : ℕ) (x : Entry) (t : List Entry) → IsPaged m → Above_from after from → filter (λ (e : Entry). range_contains place_cmp (Included (from, (0, 0))) Unbounded e.0) m.entries ≡ x ∷ t → IsPageAfter (seen m) after (Some x.0.0)
+page_is m after from x t paged up is =
+    let test : Place → Bool = range_contains place_cmp (Included (from, (0, 0))) Unbounded in
+    let among : Contains m.entries x = entry_in test m (x ∷ t) x is (here x t) in
+    let found : IsGroup (keys_of m.entries) from x.0 = group_some (keys_of m.entries) from x.0 (keys_of t) (rises place_cmp (keys_of m.entries) paged.ordered) (keys_range test m (x ∷ t) is) in (
+      (x.1, seen_in m x among, sym (ap (λ (p : Place). p.0) (paged.placed x among)), (up x.0.0).1 found.from),
+      λ r h above. found.least (place_of r) (key_in m.entries (place_of r, r) (own_entry m paged r h)) ((up r.page).0 above),
+    )
+
+pub past_pages : (m : Map) (page : ℕ) → IsPaged m → (page + 1 < 65536 → ⊥) → IsPageAfter (seen m) (Some page) None
+past_pages m page paged over r h above = over (let fits : r.page < 65536 = paged.fits r ((in_order (records_in m.entries) r).0 h) in let up : page < r.page = above in omega arith)
+
+-- the keys of a page above one and up to another
+both : (o p : Ordering) → (is_lt o && not (is_lt p)) ≡ true → (o ≡ Less) × (p ≡ Less → ⊥)
+both Less Less h = cc
+both Less Equal h = (refl, λ u. cc)
+both Less Greater h = (refl, λ u. cc)
+both Equal p h = cc
+both Greater p h = cc
+
+both_of : (o p : Ordering) → (o ≡ Less) × (p ≡ Less → ⊥) → (is_lt o && not (is_lt p)) ≡ true
+both_of Less Less h = absurd (h.1 refl)
+both_of Less Equal h = refl
+both_of Less Greater h = refl
+both_of Equal p h = let e = h.0 in cc
+both_of Greater p h = let e = h.0 in cc
+
+pub record InPage (group : ℕ) (low high : ℕ × ℕ) (q : Place) : Type 0 where
+  pub page : q.0 ≡ group
+  pub above : PairBefore low.0 low.1 q.1.0 q.1.1
+  pub up_to : PairBefore high.0 high.1 q.1.0 q.1.1 → ⊥
+
+in_page : (page : ℕ) (above to : ℕ × ℕ) (q : Place) → range_contains place_cmp (Excluded (page, above)) (Included (page, to)) q ≡ true → InPage page above to q
+in_page page above to q h =
+    let t = both (place_cmp (page, above) q) (place_cmp (page, to) q) h in
+    let not_up : ((page < q.0) ⊎ ((page ≡ q.0) × PairBefore to.0 to.1 q.1.0 q.1.1)) → ⊥ = λ u. t.1 (place_less_of (page, to) q u) in
+    ⊎_elim
+    (λ (u : page < q.0). absurd (not_up (inl u)))
+    (λ (u : (page ≡ q.0) × PairBefore above.0 above.1 q.1.0 q.1.1). record { page = sym u.0; above = u.1; up_to = λ p. not_up (inr (u.0, p)) })
+    (place_less (page, above) q t.0)
+
+in_range : (page : ℕ) (above to : ℕ × ℕ) (q : Place) → InPage page above to q → range_contains place_cmp (Excluded (page, above)) (Included (page, to)) q ≡ true
+in_range page above to q is =
+    both_of (place_cmp (page, above) q) (place_cmp (page, to) q) (
+      place_less_of (page, above) q (inr (sym is.page, is.above)),
+      λ b. ⊎_elim
+          (λ (u : page < q.0). let e : q.0 ≡ page = is.page in omega arith)
+          (λ (u : (page ≡ q.0) × PairBefore to.0 to.1 q.1.0 q.1.1). is.up_to u.1)
+          (place_less (page, to) q b),
+    )
+
+-- the entries of a map in such a range
+pub record IsRange (m : Map) (page : ℕ) (above to : ℕ × ℕ) (es : List Entry) : Type 0 where
+  pub rising : IsRising (λ (x y : Entry). place_cmp x.0 y.0 ≡ Less) es
+  pub members : (e : Entry) → Contains es e ↔ (Contains m.entries e × InPage page above to e.0)
+
+pub range_of : (m : Map) (page : ℕ) (above to : ℕ × ℕ) (es : List Entry) → IsPaged m → es ≡ filter (λ (e : Entry). range_contains place_cmp (Excluded (page, above)) (Included (page, to)) e.0) m.entries → IsRange m page above to es
+range_of m page above to es paged is =
+    let test : Entry → Bool = λ e. range_contains place_cmp (Excluded (page, above)) (Included (page, to)) e.0 in
+    let Before : Entry → Entry → Type 0 = λ x y. place_cmp x.0 y.0 ≡ Less in
+    record {
+      rising = subst (IsRising Before) (sym is) (rising_filter Before test m.entries (rising_entries place_cmp m.entries paged.ordered));
+      members = λ e. (
+        λ h. let t = filtered test m.entries e (subst (λ (l : List Entry). Contains l e) is h) in (t.0, in_page page above to e.0 t.1),
+        λ h. subst (λ (l : List Entry). Contains l e) (sym is) (passed test m.entries e (in_range page above to e.0 h.1) h.0),
+      );
+    }
+
+-- the alive of the records of some entries
+abbrev pub AliveIn : BookData → List Entry → RecordData → Type 0
+AliveIn b es r = Contains (records_in es) r × IsAlive b.cuts b.complete r.epoch r.number
+
+abbrev pub ListsAlive : BookData → List Entry → List RecordData → Type 0
+ListsAlive b es ys = Lists BeforeByNumber (AliveIn b es) ys
+
+pub alive_none : (b : BookData) (ys : List RecordData) → ys ≡ [] → ListsAlive b [] ys
+alive_none b ys is = subst (λ (l : List RecordData). ListsAlive b [] l) (sym is) (record { rising = tt; members = λ r. (λ h. absurd (none_in r h), λ h. absurd (none_in r h.0)) })
+
+joined : (xs : List Entry) (x : Entry) (r : RecordData) → Contains (records_in (xs ++ x ∷ [])) r ↔ (Contains (records_in xs) r ⊎ (r ≡ x.1))
+joined [] x r = (
+  λ h. ⊎_elim (λ (u : x.1 ≡ r). inr (sym u)) (λ (u : Contains [] r). inl u) (which x.1 [] r h),
+  λ h. ⊎_elim (λ (u : Contains [] r). absurd (none_in r u)) (λ (u : r ≡ x.1). subst (λ (s : RecordData). Contains (x.1 ∷ []) s) (sym u) (here x.1 [])) h,
+)
+joined (z ∷ xs) x r = (
+  λ h. ⊎_elim
+      (λ (u : z.1 ≡ r). inl (subst (λ (s : RecordData). Contains (z.1 ∷ records_in xs) s) u (here z.1 (records_in xs))))
+      (λ (u : Contains (records_in (xs ++ x ∷ [])) r). ⊎_elim (λ (v : Contains (records_in xs) r). inl (there z.1 (records_in xs) r v)) (λ (v : r ≡ x.1). inr v) ((joined xs x r).0 u))
+      (which z.1 (records_in (xs ++ x ∷ [])) r h),
+  λ h. ⊎_elim
+      (λ (u : Contains (z.1 ∷ records_in xs) r). ⊎_elim
+      (λ (v : z.1 ≡ r). subst (λ (s : RecordData). Contains (z.1 ∷ records_in (xs ++ x ∷ [])) s) v (here z.1 (records_in (xs ++ x ∷ []))))
+      (λ (v : Contains (records_in xs) r). there z.1 (records_in (xs ++ x ∷ [])) r ((joined xs x r).1 (inl v)))
+      (which z.1 (records_in xs) r u))
+      (λ (u : r ≡ x.1). there z.1 (records_in (xs ++ x ∷ [])) r ((joined xs x r).1 (inr u)))
+      h,
+)
+
+-- within one page, a place below another is that of a record with a lower key
+same_page : (page : ℕ) (p q : Place) (r s : RecordData) → p ≡ place_of r → q ≡ place_of s → p.0 ≡ page → q.0 ≡ page → place_cmp p q ≡ Less → RecordBefore r s
+same_page page p q r s at bt e f low =
+    let below : PairBefore p.1.0 p.1.1 q.1.0 q.1.1 = ⊎_elim
+    (λ (u : p.0 < q.0). absurd (omega arith))
+    (λ (u : (p.0 ≡ q.0) × PairBefore p.1.0 p.1.1 q.1.0 q.1.1). u.1)
+    (place_less p q low) in
+    let half : PairBefore r.epoch r.number q.1.0 q.1.1 = subst (λ (x : Place). PairBefore x.1.0 x.1.1 q.1.0 q.1.1) at below in
+    subst (λ (x : Place). PairBefore r.epoch r.number x.1.0 x.1.1) bt half
+
+-- a walk through a range that has come to an entry
+pub record Walks (m : Map) (page : ℕ) (above to : ℕ × ℕ) (xs : List Entry) (x : Entry) : Type 0 where
+  pub es : List Entry
+  pub rest : List Entry
+  pub range : IsRange m page above to es
+  pub split : es ≡ xs ++ x ∷ rest
+  pub paged : IsPaged m
+
+pub in_front : (m : Map) (page : ℕ) (above to : ℕ × ℕ) (xs : List Entry) (x : Entry) → Walks m page above to xs x → (r : RecordData) → Contains (records_in xs) r → RecordBefore r x.1
+in_front m page above to xs x w r h =
+    let t = entry_of xs r h in
+    let member = λ (e : Entry) (k : Contains (xs ++ x ∷ w.rest) e). (w.range.members e).0 (subst (λ (l : List Entry). Contains l e) (sym w.split) k) in
+    let left = member (t.0, r) (Contains-append_left xs (x ∷ w.rest) (t.0, r) t.1) in
+    let right = member x (Contains-append_right xs (x ∷ w.rest) x (here x w.rest)) in
+    let Before : Entry → Entry → Type 0 = λ x y. place_cmp x.0 y.0 ≡ Less in
+    same_page page t.0 x.0 r x.1 (w.paged.placed (t.0, r) left.0) (w.paged.placed x right.0) left.1.page right.1.page
+    (before_join Before xs w.rest x (t.0, r) (subst (IsRising Before) w.split w.range.rising) t.1)
+
+pub alive_more : (b : BookData) (m : Map) (page : ℕ) (above to : ℕ × ℕ) (xs : List Entry) (x : Entry) (ys : List RecordData) → IsBook b → Walks m page above to xs x → ListsAlive b xs ys → IsAlive b.cuts b.complete x.1.epoch x.1.number → ListsAlive b (xs ++ x ∷ []) (ys ++ x.1 ∷ [])
+alive_more b m page above to xs x ys book w lists alive =
+    lists_push BeforeByNumber (AliveIn b xs) (AliveIn b (xs ++ x ∷ [])) ys x.1 lists
+    (λ r h. number_before b.cuts b.complete (view_of b book) r x.1 h.1 alive (in_front m page above to xs x w r h.0))
+    (λ r. (
+      λ h. ⊎_elim (λ (u : Contains (records_in xs) r). inl (u, h.1)) (λ (u : r ≡ x.1). inr u) ((joined xs x r).0 h.0),
+      λ h. ⊎_elim
+          (λ (u : AliveIn b xs r). ((joined xs x r).1 (inl u.0), u.1))
+          (λ (u : r ≡ x.1). ((joined xs x r).1 (inr u), subst (λ (s : RecordData). IsAlive b.cuts b.complete s.epoch s.number) (sym u) alive))
+          h,
+    ))
+
+pub alive_left : (b : BookData) (xs : List Entry) (x : Entry) (ys : List RecordData) → ListsAlive b xs ys → (IsAlive b.cuts b.complete x.1.epoch x.1.number → ⊥) → ListsAlive b (xs ++ x ∷ []) ys
+alive_left b xs x ys lists dead =
+    lists_as BeforeByNumber (AliveIn b xs) (AliveIn b (xs ++ x ∷ [])) ys
+    (λ r. (
+      λ h. ((joined xs x r).1 (inl h.0), h.1),
+      λ h. ⊎_elim
+          (λ (u : Contains (records_in xs) r). (u, h.1))
+          (λ (u : r ≡ x.1). absurd (dead (subst (λ (s : RecordData). IsAlive b.cuts b.complete s.epoch s.number) u h.1)))
+          ((joined xs x r).0 h.0),
+    ))
+    lists
+
+pub alive_all : (b : BookData) (m : Map) (page : ℕ) (above to : ℕ × ℕ) (es : List Entry) (ys : List RecordData) → IsPaged m → IsRange m page above to es → ListsAlive b es ys → Lists BeforeByNumber (IsAliveBetween b (seen m) page above to) ys
+alive_all b m page above to es ys paged range lists =
+    lists_as BeforeByNumber (AliveIn b es) (IsAliveBetween b (seen m) page above to) ys
+    (λ r. (
+      λ h.
+          let t = entry_of es r h.0 in
+          let k = (range.members (t.0, r)).0 t.1 in
+          let at : t.0 ≡ place_of r = paged.placed (t.0, r) k.0 in
+          let P : Place → Type 0 = λ p. PairBefore above.0 above.1 p.1.0 p.1.1 in
+          let Q : Place → Type 0 = λ p. PairBefore to.0 to.1 p.1.0 p.1.1 → ⊥ in (
+            (seen_in m (t.0, r) k.0, h.1, sym (ap (λ (p : Place). p.0) at) ∙ k.1.page),
+            subst P at k.1.above,
+            subst Q at k.1.up_to,
+          ),
+      λ h.
+          let own = own_entry m paged r h.0.0 in
+          let there_in = (range.members (place_of r, r)).1 (own, record { page = h.0.2; above = h.1; up_to = h.2 }) in
+          (record_in es (place_of r, r) there_in, h.0.1),
+    ))
+    lists

@@ -1,0 +1,109 @@
+-- Straight chains: no stray and no fork from one number to another.
+use Rattle.std.proofs.Common.{◌≡◌, ℕ, ◌<◌, ◌≤◌, ⊎_elim, List, sym, ◌∙◌, ap, subst, arith, Some}
+use Rattle.std.proofs.lemmas.Bool.{cases_lt}
+use Rattle.redo_core.specs.Data.{RecordData}
+use Rattle.redo_core.specs.Linked.{Linked}
+use Rattle.redo_core.specs.Linked.Linked.{start, next}
+use Rattle.epoch_book.specs.Book.{BookData, IsBook}
+use Rattle.hot_log.specs.Held.{IsHeld}
+use Rattle.hot_log.specs.Alive.{IsHeldAlive, IsLinkedFrom, IsStraight}
+use Rattle.hot_log.specs.Found.{IsLeastRecord}
+use Rattle.hot_log.proofs.Chain.{Link, link_cases, link_at_least}
+use Rattle.hot_log.proofs.Views.{view_of, one_number}
+
+-- a straight chain
+pub record Straight (b : BookData) (held : List RecordData) (from top : ℕ) : Type 0 where
+  pub is : IsStraight b held from top
+  pub linked : IsLinkedFrom b held from top
+
+-- a linked number above top is that of an alive record above top
+linked_above : (b : BookData) (held : List RecordData) (from top : ℕ) → from ≤ top → (n : ℕ) → IsLinkedFrom b held from n → top < n → (r : RecordData) × IsHeldAlive b held r × (r.number ≡ n)
+linked_above b held from top le n l up =
+    ⊎_elim
+    (λ (e : n ≡ from). absurd (omega arith))
+    (λ (u : Link b.cuts held b.complete from n). (u.by, (u.among, u.alive), u.at))
+    (link_cases b.cuts held b.complete from n l)
+
+pub straight_start : (b : BookData) (held : List RecordData) (from : ℕ) → Straight b held from from
+straight_start b held from = record {
+  is = record {
+    linked = λ r h up le. absurd (omega arith);
+    onward = λ m n l k le low.
+        let at_least : from ≤ m = link_at_least b.cuts held b.complete from m l in
+        let same : m ≡ n = omega arith in
+        subst (Linked b.cuts held b.complete m) same start;
+  };
+  linked = start;
+}
+
+pub straight_next : (b : BookData) (held : List RecordData) (from top : ℕ) (x : RecordData) → Straight b held from top → IsLeastRecord (λ r. IsHeldAlive b held r × (top < r.number)) (Some x) → x.back ≡ top → Straight b held from x.number
+straight_next b held from top x s found back =
+    let low : from ≤ top = link_at_least b.cuts held b.complete from top s.linked in
+    let up : top < x.number = found.0.1 in
+    let linked : IsLinkedFrom b held from x.number = next x found.0.0.0 found.0.0.1 (omega arith) (subst (IsLinkedFrom b held from) (sym back) s.linked) in
+    let only = λ (n : ℕ) (l : IsLinkedFrom b held from n) (over : top < n) (le : n ≤ x.number).
+    let t = linked_above b held from top low n l over in
+    let same : t.0.number ≡ n = t.2 in
+    let it : n ≡ x.number = ⊎_elim
+    (λ (e : t.0 ≡ x). let same2 : t.0.number ≡ x.number = ap (λ (y : RecordData). y.number) e in omega arith)
+    (λ (l2 : x.number < t.0.number). absurd (omega arith))
+    (found.1 t.0 (t.1, omega arith)) in
+    it in
+    record {
+      is = record {
+        linked = λ r h above le. ⊎_elim
+            (λ (over : top < r.number). ⊎_elim
+            (λ (e : r ≡ x). subst (λ (y : RecordData). IsLinkedFrom b held from y.number) (sym e) linked)
+            (λ (l2 : x.number < r.number). absurd (omega arith))
+            (found.1 r (h, over)))
+            (λ (l : r.number ≤ top). s.is.linked r h above l)
+            (cases_lt top r.number);
+        onward = λ m n l k le to. ⊎_elim
+            (λ (over : top < n).
+            let here : n ≡ x.number = only n k over to in
+            ⊎_elim
+            (λ (m_over : top < m). let there : m ≡ x.number = only m l m_over (omega arith) in subst (Linked b.cuts held b.complete m) (there ∙ sym here) start)
+            (λ (m_low : m ≤ top). subst (Linked b.cuts held b.complete m) (sym here) (next x found.0.0.0 found.0.0.1 (omega arith) (subst (Linked b.cuts held b.complete m) (sym back) (s.is.onward m top l s.linked m_low (let t : top ≤ top = omega arith in t)))))
+            (cases_lt top m))
+            (λ (l2 : n ≤ top). s.is.onward m n l k le l2)
+            (cases_lt top n);
+      };
+      linked = linked;
+    }
+
+pub straight_to : (b : BookData) (held : List RecordData) (from top to : ℕ) → Straight b held from top → ((r : RecordData) → IsHeldAlive b held r × (top < r.number) → to < r.number) → IsStraight b held from to
+straight_to b held from top to s none =
+    let low : from ≤ top = link_at_least b.cuts held b.complete from top s.linked in
+    record {
+      linked = λ r h above le. ⊎_elim
+          (λ (over : top < r.number). absurd (let t : to < r.number = none r (h, over) in omega arith))
+          (λ (l : r.number ≤ top). s.is.linked r h above l)
+          (cases_lt top r.number);
+      onward = λ m n l k le bound. ⊎_elim
+          (λ (over : top < n). absurd (let t = linked_above b held from top low n k over in let same : t.0.number ≡ n = t.2 in let far : to < t.0.number = none t.0 (t.1, let z : top < t.0.number = omega arith in z) in omega arith))
+          (λ (l2 : n ≤ top). s.is.onward m n l k le l2)
+          (cases_lt top n);
+    }
+
+-- the chain is not straight where the next alive record has another backlink
+pub not_straight : (b : BookData) (held : List RecordData) (from top to : ℕ) (x : RecordData) → IsBook b → IsHeld held → Straight b held from top → IsLeastRecord (λ r. IsHeldAlive b held r × (top < r.number)) (Some x) → x.back < x.number → x.number ≤ to → (x.back ≡ top → ⊥) → IsStraight b held from to → ⊥
+not_straight b held from top to x book is s found below le other straight =
+    let low : from ≤ top = link_at_least b.cuts held b.complete from top s.linked in
+    let up : top < x.number = found.0.1 in
+    let linked : IsLinkedFrom b held from x.number = straight.linked x found.0.0 (omega arith) le in
+    let onward : IsLinkedFrom b held top x.number = straight.onward top x.number s.linked linked (omega arith) le in
+    ⊎_elim
+    (λ (e : x.number ≡ top). omega arith)
+    (λ (w : Link b.cuts held b.complete top x.number).
+    let same : w.by ≡ x = one_number b.cuts b.complete held (view_of b book) is.rising w.by x w.among found.0.0.0 w.alive found.0.0.1 w.at in
+    let back : IsLinkedFrom b held top x.back = subst (λ (y : RecordData). IsLinkedFrom b held top y.back) same w.back in
+    ⊎_elim
+    (λ (e : x.back ≡ top). other e)
+    (λ (v : Link b.cuts held b.complete top x.back).
+    let at : v.by.number ≡ x.back = v.at in
+    ⊎_elim
+    (λ (e : v.by ≡ x). let number : v.by.number ≡ x.number = ap (λ (y : RecordData). y.number) e in omega arith)
+    (λ (l : x.number < v.by.number). omega arith)
+    (found.1 v.by ((v.among, v.alive), v.above)))
+    (link_cases b.cuts held b.complete top x.back back))
+    (link_cases b.cuts held b.complete top x.number onward)

@@ -1,0 +1,152 @@
+ghost use Rattle.std.specs.Prelude.{◌≡◌, ◌⊎◌, ◌↔◌, [], None, length, map, IfOk, IfErr, OnOk, OnErr};
+ghost use Rattle.std.specs.Option.{option_copied};
+ghost use Rattle.std.specs.List.{Contains};
+ghost use Rattle.redo_core.specs.Data.{RecordData};
+ghost use Rattle.redo_core.specs.Order.{Lists, BeforeByNumber, PairBefore};
+ghost use Rattle.hot_log.specs.Held.{IsHeld, HasKey, IsRecordAt};
+ghost use Rattle.hot_log.specs.Alive.{IsAliveBetween};
+ghost use Rattle.hot_log.specs.Found.{IsPageAfter};
+ghost use Rattle.hot_log.specs.Indexing.{IsRecordOf, IsNextRecord, IsLastRecord};
+ghost use Rattle.hot_log.specs.Removing.{Removes};
+
+use crate::search::is_alive;
+use epoch_book::EpochBook;
+use redo_core::{Record, Refused};
+use std::alloc::{AllocError, Global};
+use std::collections::BTreeMap;
+use std::marker::Model;
+use std::ops::Bound;
+
+/// Records by page and, within a page, by key: epoch, then number. No two have one key.
+#[derive(Debug, Drop)]
+pub struct PagedRecords {
+    map: BTreeMap<(u16, (u16, u64)), Record>,
+}
+
+impl Model for PagedRecords {
+    ghost use Rattle.std.specs.Prelude.{List};
+    ghost use Rattle.redo_core.specs.Data.{RecordData};
+    ghost use Rattle.hot_log.specs.Paged.{IsPaged, records_in, by_key};
+
+    ghost Value = { List RecordData };
+
+    ghost view = { λ p. by_key (records_in p.map.entries) };
+
+    ghost invariant = { λ p. IsPaged p.map };
+}
+
+impl PagedRecords {
+    pub fn new(alloc: Global) -> Self
+        ensures { result ≡ [] }
+    {
+        PagedRecords {
+            map: BTreeMap::new(alloc),
+        }
+    }
+
+    /// Equal records with memory of their own. Its only error is want of memory.
+    pub fn copy(&self) -> Result<Self, AllocError>
+        ensures { IfOk result (λ p. p ≡ self.now) }
+    {
+        Ok(PagedRecords {
+            map: self.map.clone()?,
+        })
+    }
+
+    pub fn len(&self) -> usize
+        ensures value { result ≡ length self.now }
+        ensures form { IsHeld self.now }
+    {
+        self.map.len()
+    }
+
+    /// The record of a page and a key, or None where there is none.
+    pub fn get(&self, page: u16, key: (u16, u64)) -> Option<&Record>
+        ensures { IsRecordOf self.now page key (option_copied result) }
+    {
+        self.map.get(&(page, key))
+    }
+
+    /// Holds a record under its page and key. Its only error is want of memory: the records are then as they were, and it comes back.
+    pub fn insert(&mut self, redo: Record) -> Result<(), Refused<Record, AllocError>>
+        requires { IsRecordAt self.old redo.epoch redo.number None }
+        ensures gains { OnOk result ((r : RecordData) → Contains self.new r ↔ (Contains self.old r ⊎ (r ≡ redo))) }
+        ensures refused { IfErr result (λ e. e.value ≡ redo) }
+        ensures unchanged { OnErr result (self.new ≡ self.old) }
+        ensures form { IsHeld self.new }
+    {
+        let place = (redo.page(), (redo.epoch(), redo.number()));
+        match self.map.insert(place, redo) {
+            Ok(_) => Ok(()),
+            Err(failed) => Err(Refused {
+                value: failed.value.1,
+                fault: AllocError,
+            }),
+        }
+    }
+
+    /// Takes out the record of a page and a key, if there is one.
+    pub fn remove(&mut self, page: u16, key: (u16, u64)) -> Option<Record>
+        ensures value { IsRecordOf self.old page key result }
+        ensures removes { Removes (λ r. (r.page ≡ page) × HasKey key.0 key.1 r) self.old self.new }
+        ensures form { IsHeld self.new }
+    {
+        self.map.remove(&(page, key))
+    }
+
+    /// The record of a page with the least key above the one given.
+    pub fn next(&self, page: u16, after: (u16, u64)) -> Option<&Record>
+        ensures next { IsNextRecord self.now page after (option_copied result) }
+        ensures form { IsHeld self.now }
+    {
+        let bounds = (Bound::Excluded((page, after)), Bound::Unbounded);
+        let (place, redo) = self.map.range(bounds).next()?;
+        if place.0 == page { Some(redo) } else { None }
+    }
+
+    /// The record of a page with the greatest key at or below the one given.
+    pub fn last(&self, page: u16, to: (u16, u64)) -> Option<&Record>
+        ensures last { IsLastRecord self.now page to (option_copied result) }
+        ensures form { IsHeld self.now }
+    {
+        let bounds = (Bound::Unbounded, Bound::Included((page, to)));
+        let (place, redo) = self.map.range(bounds).next_back()?;
+        if place.0 == page { Some(redo) } else { None }
+    }
+
+    /// The least page above the one given that has a record; the least of all for None.
+    pub fn page_after(&self, after: Option<u16>) -> Option<u16>
+        ensures { IsPageAfter self.now after result }
+    {
+        let map = &self.map;
+        let from = match after {
+            Some(page) => page.checked_add(1)?,
+            None => 0,
+        };
+        let bounds = (Bound::Included((from, (0, 0))), Bound::Unbounded);
+        let (place, _) = map.range(bounds).next()?;
+        Some(place.0)
+    }
+
+    /// The alive records of a page with keys above one and up to another, rising. Its only error is want of memory.
+    pub fn alive_between(
+        &self,
+        alloc: Global,
+        book: &EpochBook,
+        page: u16,
+        above: (u16, u64),
+        to: (u16, u64),
+    ) -> Result<Vec<&Record>, AllocError>
+        requires { PairBefore above.0 above.1 to.0 to.1 }
+        ensures { IfOk result (λ v. Lists BeforeByNumber (IsAliveBetween book.now self.now page above to) (map (λ x. x.now) v.items)) }
+    {
+        let mut found = Vec::new(alloc);
+        let bounds = (Bound::Excluded((page, above)), Bound::Included((page, to)));
+        for (_, redo) in self.map.range(bounds) {
+            if is_alive(book, redo.epoch(), redo.number()) {
+                found.push(redo)?;
+            }
+        }
+        Ok(found)
+    }
+}
