@@ -4,3 +4,4 @@ pub mod Learning
 pub mod Refusing
 pub mod Scanning
 pub mod SoundFacts
+pub mod Contradicted

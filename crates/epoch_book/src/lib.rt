@@ -10,12 +10,14 @@ mod book;
 mod cuts;
 mod known;
 mod laws;
+mod parts;
 mod points;
 mod refusals;
 mod standing;
 
 pub use book::EpochBook;
 pub use laws::sound_facts_are_learnt;
+pub use parts::is_contradicted;
 pub use refusals::{BookRefusal, Held, Learnt};
 pub use standing::Standing;
 

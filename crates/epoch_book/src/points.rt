@@ -39,7 +39,7 @@ fn is_known_past(points: &ReadPoints, waits: &[Advance], cut: Cut, reader: u8) -
     cut.lo() < points.of(reader) || is_past(waits, cut, reader)
 }
 
-fn is_past(waits: &[Advance], cut: Cut, reader: u8) -> bool
+pub fn is_past(waits: &[Advance], cut: Cut, reader: u8) -> bool
     ensures { IsTrue result ↔ IsPast waits.now cut reader }
 {
     for wait in waits {

@@ -29,7 +29,7 @@ use Rattle.segment_core.specs.Reading.{IsFrontAt, IsFrontOf}
 use Rattle.segment_core.specs.declared.answers.Front.{Front}
 use Rattle.segment_core.specs.declared.answers.ReadFault.{ReadFault}
 use Rattle.segment_core.specs.declared.answers.ReadFault.TheVariants.{Below, Above, BrokenBlockChain, Memory}
-use Rattle.segment_core.specs.BlockChain.{IsKnownLinked, IsLinkedOf, OnBlockChain, BreaksFrom, BreaksAt, TellsBreak}
+use Rattle.segment_core.specs.BlockChain.{IsKnownLinked, IsLinkedOf, IsLinkedUpTo, OnBlockChain, BreaksFrom, BreaksAt, TellsBreak}
 use Rattle.segment_core.specs.BlockChain.OnBlockChain.{start, down}
 
 -- ---- steps of the walk
@@ -109,7 +109,7 @@ breaks_first s page q r n linked greatest only = (
 -- ---- what a search among the held records finds of the linked ones
 
 -- no linked number is below the base
-from_base : (cs : List CutData) (hs : List RecordData) (k base n : ℕ) → Linked cs hs k base n → base ≤ n
+pub from_base : (cs : List CutData) (hs : List RecordData) (k base n : ℕ) → Linked cs hs k base n → base ≤ n
 from_base cs hs k base _ first = omega arith
 from_base cs hs k base _ (next r among alive above rest) = omega (arith, above)
 
@@ -142,6 +142,16 @@ last_linked b hs base store page q r h = ((h.0.0.0, h.0.0.1, inr h.0.0.2, h.0.1,
         (λ linked. h.1 x ((l.0, l.1, linked), l.3, l.4))
         l.2
 
+-- where each alive record up to the point is linked, the last alive one of the page is the last of all
+pub last_sure : (b : BookData) (hs : List RecordData) (base : ℕ) (store : Store) (page q : ℕ) (found : Option RecordData) → IsHeld hs
+    → IsLinkedUpTo (state_of b hs base store) q → IsGreatestRecord (IsHeldOf b hs page 0 q) found
+    → IsGreatestRecord (IsLinkedOf (state_of b hs base store) page q) found
+last_sure b hs base store page q found held sure =
+    greatest_by (IsHeldOf b hs page 0 q) (IsLinkedOf (state_of b hs base store) page q) (λ r. (
+      λ h. (h.0, h.1, sure r h.0 h.1 h.4, h.2, h.4),
+      λ l. (l.0, l.1, l.3, positive_number hs r held l.0, l.4),
+    )) found
+
 -- where they link none, the last alive record of the page up to the base point is the last of all
 pub last_unlinked : (b : BookData) (hs : List RecordData) (base : ℕ) (store : Store) (page q top : ℕ) (found : Option RecordData) → IsHeld hs
     → IsGreatestRecord (λ x. IsLinkedHeld b hs base x × (x.page ≡ page) × (x.number ≤ q)) None → top ≡ min base q
@@ -162,19 +172,19 @@ last_unlinked b hs base store page q top found held none least =
 abbrev pub IsLinkedAt : State → ℕ → ℕ → RecordData → Type 0
 IsLinkedAt s page number r = IsLinkedOf s page number r × (r.number ≡ number)
 
--- up to the base point each alive record is linked
+-- up to a number up to which each alive record is linked, the alive one of a number is the only one
 pub only_low : (b : BookData) (hs : List RecordData) (base : ℕ) (store : Store) (page from number : ℕ) (found : Option RecordData) → IsHeld hs
-    → number ≤ base → from ≡ number - 1 → IsLeastRecord (IsHeldOf b hs page from number) found
+    → IsLinkedUpTo (state_of b hs base store) number → from ≡ number - 1 → IsLeastRecord (IsHeldOf b hs page from number) found
     → IsOnlyRecord (IsLinkedAt (state_of b hs base store) page number) found
-only_low b hs base store page from number None held low is none = λ r l.
+only_low b hs base store page from number None held sure is none = λ r l.
     let n : r.number ≡ number = l.1 in
     let positive = positive_number hs r held l.0.0 in
     none r (l.0.0, l.0.1, l.0.3, omega (arith, n, positive, is), omega (arith, n))
-only_low b hs base store page from number (Some r) held low is h =
+only_low b hs base store page from number (Some r) held sure is h =
     let n : r.number ≤ number = h.0.4 in
     let above : from < r.number = h.0.3 in
     let at : r.number ≡ number = omega (arith, n, above, is) in (
-      ((h.0.0, h.0.1, inl (omega (arith, n, low)), h.0.2, n), at),
+      ((h.0.0, h.0.1, sure r h.0.0 h.0.1 n, h.0.2, n), at),
       λ x l.
           let m : x.number ≡ number = l.1 in
           let positive = positive_number hs x held l.0.0 in
@@ -253,7 +263,7 @@ walk_breaks s page q r follows above none n = breaks_here s page q r n follows a
 -- ---- over a sound log no block chain breaks
 
 -- each record on the walk is a linked one of the page
-on_linked : (s : State) (page q : ℕ) (r t : RecordData) → IsLinkedOf s page q r → OnBlockChain s page q r t → IsLinkedOf s page q t
+pub on_linked : (s : State) (page q : ℕ) (r t : RecordData) → IsLinkedOf s page q r → OnBlockChain s page q r t → IsLinkedOf s page q t
 on_linked s page q r _ l start = l
 on_linked s page q r _ l (down m c on f lt h e) = h
 

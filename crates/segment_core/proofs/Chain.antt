@@ -1,21 +1,19 @@
 -- What a front and an anchor answer, from the greatest linked number.
-use Rattle.std.proofs.Common.{◌≡◌, ℕ, ◌<◌, ◌≤◌, inl, inr, ⊎_elim, List, length, get_or, ◌-◌, refl, ◌∙◌, subst, arith, rules, None, true, false, ◌↔◌, IsTrue, nat_le}
+use Rattle.std.proofs.Common.{◌≡◌, ℕ, ◌<◌, ◌≤◌, inl, inr, ⊎_elim, List, refl, ◌∙◌, subst, arith, rules, None, true, false, ◌↔◌, IsTrue, nat_le}
 use Rattle.std.proofs.lemmas.Bool.{leb-true, le-leb}
 use Rattle.std.specs.List.{Contains}
 use Rattle.redo_core.specs.Data.{RecordData, CutData}
-use Rattle.redo_core.specs.Order.{IsGreatest}
 use Rattle.redo_core.specs.Linked.{Linked}
 use Rattle.redo_core.specs.Linked.Linked.{start, next}
-use Rattle.redo_core.specs.Shape.{record_fault, max_number}
+use Rattle.redo_core.specs.Shape.{record_fault}
 use Rattle.redo_core.specs.Sound.{IsSound}
 use Rattle.redo_core.specs.Position.{Position}
 use Rattle.redo_core.specs.Roster.{least}
-use Rattle.redo_core.proofs.Points.{least_le}
 use Rattle.redo_core.specs.declared.facts.Fact.{Fact}
 use Rattle.redo_laws.proofs.Log.{log_of_sound}
 use Rattle.epoch_book.specs.Book.{BookData, IsBook}
 use Rattle.hot_log.specs.Held.{IsHeld}
-use Rattle.segment_state.specs.State.{State, state_of, Store, min_of}
+use Rattle.segment_state.specs.State.{State, state_of, Store}
 use Rattle.segment_state.specs.Means.{MeansAt}
 use Rattle.segment_state.specs.HasMeaning.{HasAnchor, IsSettled}
 use Rattle.segment_state.proofs.Own.{complete_as}
@@ -24,6 +22,8 @@ use Rattle.redo_core.specs.Standing.{IsAlive, IsDead, IsWaiting}
 use Rattle.segment_core.specs.Refusing.{IsDeadOrSettled}
 use Rattle.segment_core.specs.Reading.{IsFrontAt, IsFrontOf}
 use Rattle.segment_core.specs.Form.{IsSegment}
+use Rattle.segment_core.specs.Points.{IsTop, IsTopTo, HasPoints}
+use Rattle.segment_core.specs.declared.points.Points.{Points}
 use Rattle.segment_core.specs.Standing.{StandsAt}
 use Rattle.page_base.specs.Stored.{IsStored}
 use Rattle.epoch_book.specs.declared.standing.Standing.{Standing}
@@ -31,54 +31,27 @@ use Rattle.epoch_book.specs.declared.standing.Standing.TheVariants.{Alive, Dead,
 use Rattle.segment_core.specs.declared.answers.Front.{Front}
 
 -- a linked number is the base or a held record's
-linked_small : (cs : List CutData) (hs : List RecordData) (k base top n : ℕ) → ((r : RecordData) → Contains hs r → r.number ≤ top) → base ≤ top
+pub linked_small : (cs : List CutData) (hs : List RecordData) (k base top n : ℕ) → ((r : RecordData) → Contains hs r → r.number ≤ top) → base ≤ top
     → Linked cs hs k base n → n ≤ top
 linked_small cs hs k base top _ small low start = low
 linked_small cs hs k base top _ small low (next r among alive above rest) = small r among
 
 -- a record has its shape, so its number is small
-small_number : (r : RecordData) → record_fault r ≡ None → r.number ≤ 281474976710655
+pub small_number : (r : RecordData) → record_fault r ≡ None → r.number ≤ 281474976710655
 small_number r shaped = search (rules, shaped)
 
--- with a limit that no linked number is above, the greatest is the greatest of all
-pub greatest_of_all : (cs : List CutData) (hs : List RecordData) (k base top n : ℕ) → ((r : RecordData) → Contains hs r → r.number ≤ top) → base ≤ top
-    → IsGreatest (λ m. Linked cs hs k base m × (m ≤ top)) n → IsGreatest (Linked cs hs k base) n
-greatest_of_all cs hs k base top n small low g =
-    (⊎_elim (λ (z : n ≡ 0). inl z) (λ h. inr h.0) g.0, λ m h. g.1 m (h, linked_small cs hs k base top m small low h))
-
--- n is the greatest number up to a limit that the held records link from the base point on, in the book's view
-abbrev pub IsGreatestLinked : BookData → List RecordData → ℕ → ℕ → ℕ → Type 0
-IsGreatestLinked b hs base limit n = IsGreatest (λ m. Linked b.cuts hs b.complete base m × (m ≤ limit)) n
-
-pub greatest_linked : (b : BookData) (hs : List RecordData) (base limit n : ℕ) → Linked b.cuts hs b.complete base n → n ≤ limit
-    → ((m : ℕ) → Linked b.cuts hs b.complete base m → m ≤ limit → m ≤ n) → IsGreatestLinked b hs base limit n
-greatest_linked b hs base limit n linked bound greatest = (inr (linked, bound), λ m h. greatest m h.0 h.1)
-
-pub own_anchor : (b : BookData) (hs : List RecordData) (base : ℕ) (store : Store) (n : ℕ) → IsGreatestLinked b hs base (least b.points) n
+pub own_anchor : (b : BookData) (hs : List RecordData) (base : ℕ) (store : Store) (n : ℕ) → IsTopTo b hs base (least b.points) n
     → HasAnchor (state_of b hs base store) n
-own_anchor b hs base store n g = g
+own_anchor b hs base store n top = (inr (top.linked, top.bound), λ m h. top.most m h.0 h.1)
 
 pub true_anchor : (s : State) (n : ℕ) → HasAnchor s n → (roster : ℕ) (log facts : List Fact) (p : Position)
     → IsSound roster log → MeansAt roster log facts p s → n ≡ p.anchor
 true_anchor s n own roster log facts p sound means = anchor_as log facts p s (log_of_sound roster log sound) means n own
 
--- each point has its shape, so the least of them is small
-least_small : (b : BookData) → IsBook b → least b.points ≤ max_number
-least_small b is_book =
-    let one : 1 ≤ length b.points = is_book.roster.0 in
-    let first = least_le (length b.points) b.points 1 refl (omega arith, one) in
-    let small : get_or b.points 0 0 ≤ max_number = is_book.points_shaped 0 0 (omega arith) in
-    let at : least b.points ≤ get_or b.points 0 0 = subst (λ i. least b.points ≤ get_or b.points i 0) (let z : 1 - 1 ≡ 0 = refl in z) first in
-    omega arith
-
--- the base point is not above the minimum read point, so it is small as that is
-pub small_base : (b : BookData) (base : ℕ) → IsBook b → base ≤ least b.points → base ≤ 281474976710655
-small_base b base is_book low = let small = least_small b is_book in omega (arith, low, small)
-
 -- what the parts of a segment keep, it keeps
-pub form_of : (b : BookData) (hs : List RecordData) (base : ℕ) (store : Store) → IsBook b × IsHeld hs × IsStored store × (base ≤ least b.points)
-    → IsSegment (state_of b hs base store)
-form_of b hs base store parts = record { book = parts.0; held = parts.1; store = parts.2; base = parts.3 }
+pub form_of : (b : BookData) (hs : List RecordData) (base : ℕ) (store : Store) (p : Points)
+    → IsBook b × IsHeld hs × IsStored store × (base ≤ least b.points) × HasPoints b hs base p → IsSegment (state_of b hs base store)
+form_of b hs base store p parts = record { book = parts.0; held = parts.1; store = parts.2; base = parts.3 }
 
 -- a record stands as in the book
 pub stands_at : (b : BookData) (hs : List RecordData) (base : ℕ) (store : Store) (epoch number : ℕ) (standing : Standing)
@@ -87,17 +60,13 @@ pub stands_at : (b : BookData) (hs : List RecordData) (base : ℕ) (store : Stor
     → StandsAt (state_of b hs base store) epoch number standing
 stands_at b hs base store epoch number standing alive dead waiting = record { alive = alive; dead = dead; waiting = waiting }
 
-pub own_front : (b : BookData) (hs : List RecordData) (base : ℕ) (store : Store) (front : Front) → IsBook b → IsHeld hs → base ≤ least b.points
-    → front.epoch ≡ b.complete → front.min ≡ least b.points → IsGreatestLinked b hs base 281474976710655 front.complete
-    → IsFrontOf (state_of b hs base store) front
-own_front b hs base store front is_book held low e m g =
-    let top = greatest_of_all b.cuts hs b.complete base 281474976710655 front.complete (λ r among. small_number r (held.shaped r among))
-    (small_base b base is_book low) g in
-    record {
-      epoch = e;
-      complete = top;
-      min = m;
-    }
+pub own_front : (b : BookData) (hs : List RecordData) (base : ℕ) (store : Store) (front : Front) → front.epoch ≡ b.complete
+    → front.min ≡ least b.points → IsTop b hs base front.complete → IsFrontOf (state_of b hs base store) front
+own_front b hs base store front e m top = record {
+  epoch = e;
+  complete = (inr top.linked, top.most);
+  min = m;
+}
 
 pub true_front : (s : State) (front : Front) → IsFrontOf s front → (roster : ℕ) (log facts : List Fact) (p : Position) → IsSound roster log
     → MeansAt roster log facts p s → IsFrontAt p front
@@ -137,20 +106,4 @@ alive_is s r e n m anchor g positive se sn sm alive =
       λ t. let le : m ≤ anchor = leb-true m anchor t in inr (is_alive, settled_at s anchor r.number g (omega (arith, le, sm)) (omega (arith, positive, sm))),
       λ h. ⊎_elim (λ dead. absurd (dead.1 is_alive))
           (λ settled. let le = settled_below s anchor r.number g settled.1 in le-leb m anchor (omega (arith, le, sm))) h,
-    )
-
--- an alive record above the minimum read point is not settled
-pub above_minimum : (s : State) (r : RecordData) (e n m lowest : ℕ) → lowest ≡ min_of s → e ≡ r.epoch → n ≡ r.number → m ≡ r.number → lowest < m
-    → IsAlive s.book.cuts s.book.complete e n → IsTrue (nat_le m lowest) ↔ IsDeadOrSettled s r
-above_minimum s r e n m lowest min se sn sm over alive =
-    let is_alive : IsAlive s.book.cuts s.book.complete r.epoch r.number =
-    subst (λ x. IsAlive s.book.cuts s.book.complete x r.number) se (subst (λ x. IsAlive s.book.cuts s.book.complete e x) sn alive) in (
-      λ t. absurd (let le : m ≤ lowest = leb-true m lowest t in omega arith),
-      λ h. absurd (⊎_elim
-          (λ (dead : IsDead s.book.cuts s.book.complete r.epoch r.number). dead.1 is_alive)
-          (λ (settled : IsAlive s.book.cuts s.book.complete r.epoch r.number × IsSettled s r.number).
-          let low : settled.1.0 ≤ min_of s = settled.1.2 in
-          let up : r.number ≤ settled.1.0 = settled.1.3 in
-          omega arith)
-          h),
     )

@@ -14,3 +14,7 @@ pub mod FirstBreak
 pub mod Tidying
 pub mod Forgotten
 pub mod Holding
+pub mod Chained
+pub mod Moving
+pub mod Following
+pub mod Restored

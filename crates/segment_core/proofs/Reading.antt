@@ -1,5 +1,5 @@
 -- What a read answers, from the front and the shown page.
-use Rattle.std.proofs.Common.{◌≡◌, ℕ, ◌<◌, ◌≤◌, List, subst, arith}
+use Rattle.std.proofs.Common.{◌≡◌, ℕ, ◌<◌, ◌≤◌, List, Result, Ok, Err, IfOk, IsOkAnd, arith}
 use Rattle.redo_core.specs.Data.{RecordData}
 use Rattle.redo_core.specs.Order.{Lists, BeforeByNumber}
 use Rattle.redo_core.specs.Writing.{after_records}
@@ -9,22 +9,25 @@ use Rattle.redo_core.specs.PageAt.{IsPageAt}
 use Rattle.redo_core.specs.declared.facts.Fact.{Fact}
 use Rattle.redo_laws.proofs.Log.{log_of_sound}
 use Rattle.redo_laws.proofs.Views.{anchor_is}
-use Rattle.epoch_book.specs.Book.{BookData}
-use Rattle.hot_log.specs.Alive.{IsHeldOf}
-use Rattle.segment_state.specs.State.{State, state_of, Store, version_of, image_of}
+use Rattle.segment_state.specs.State.{State, image_of}
 use Rattle.segment_state.specs.Means.{MeansAt}
-use Rattle.segment_state.specs.Shows.{Shows}
+use Rattle.segment_state.specs.Shows.{IsApplied, Shows}
 use Rattle.segment_state.proofs.Reading.{pages_law}
 use Rattle.segment_core.specs.Reading.{IsFrontAt}
 use Rattle.segment_core.specs.declared.answers.Front.{Front}
 
--- the listed records over the page's image are the page that the state shows
-pub shown : (b : BookData) (hs : List RecordData) (base : ℕ) (store : Store) (page version q : ℕ) (written : List RecordData) (image : List ℕ)
-    → version ≡ version_of store page → Lists BeforeByNumber (IsHeldOf b hs page version q) written
-    → image ≡ after_records (image_of store page) written → Shows (state_of b hs base store) page q image
-shown b hs base store page version q written image same lists result =
-    let listed = subst (λ v. Lists BeforeByNumber (IsHeldOf b hs page v q) written) same lists in
-    record { written = written; lists = listed; result = result }
+-- the records that are applied, over the page's image, are the page that the state shows
+pub shown : {A E : Type 0} (seen : A → List RecordData) (s : State) (page q : ℕ) (image : List ℕ) (records : Result A E)
+    → IfOk records (λ v. Lists BeforeByNumber (IsApplied s page q) (seen v))
+    → IsOkAnd records (λ v. image ≡ after_records (image_of s.store page) (seen v)) → Shows s page q image
+shown seen s page q image (Ok v) lists is = record { written = seen v; lists = lists; result = is }
+shown seen s page q image (Err e) lists is = absurd is
+
+pub shown_where : {A E F : Type 0} (seen : A → List RecordData) (s : State) (page q : ℕ) (result : Result (List ℕ) F) (records : Result A E)
+    → IfOk records (λ v. Lists BeforeByNumber (IsApplied s page q) (seen v))
+    → IfOk result (λ image. IsOkAnd records (λ v. image ≡ after_records (image_of s.store page) (seen v))) → IfOk result (Shows s page q)
+shown_where seen s page q (Ok image) records lists is = shown seen s page q image records lists is
+shown_where seen s page q (Err e) records lists is = tt
 
 -- below the minimum read point
 pub below : (p : Position) (front : Front) (q : ℕ) → IsFrontAt p front → q < front.min → (front.min ≡ p.min) × (q < p.min)

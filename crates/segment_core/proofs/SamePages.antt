@@ -1,7 +1,7 @@
 -- What two states show of a page.
-use Rattle.std.proofs.Common.{◌≡◌, ℕ, ◌↔◌, List, [], Bool, IsTrue, None, refl, sym, ap, ◌∙◌, arith}
+use Rattle.std.proofs.Common.{◌≡◌, ℕ, ◌↔◌, List, [], Bool, IsTrue, None, refl, sym, ap, ◌∙◌, subst, arith}
 use Rattle.redo_core.specs.Data.{RecordData}
-use Rattle.redo_core.specs.Order.{BeforeByNumber}
+use Rattle.redo_core.specs.Order.{Lists, BeforeByNumber}
 use Rattle.redo_core.specs.Writing.{after_records}
 use Rattle.redo_core.proofs.Members.{none_in, lists_unique}
 use Rattle.epoch_book.specs.Book.{BookData}
@@ -10,7 +10,6 @@ use Rattle.hot_log.specs.Found.{IsLeastRecord}
 use Rattle.segment_state.specs.State.{State, state_of, Store, version_of, image_of}
 use Rattle.segment_state.specs.Shows.{IsApplied, Shows}
 use Rattle.segment_core.specs.Comparing.{TellsSamePage}
-use Rattle.segment_core.proofs.Reading.{shown}
 
 -- a state shows one page at a point
 shows_one : (s : State) (page q : ℕ) (i j : List ℕ) → Shows s page q i → Shows s page q j → i ≡ j
@@ -24,8 +23,10 @@ pub shows_image : (b : BookData) (hs : List RecordData) (base : ℕ) (store : St
     → version ≡ version_of store page → IsLeastRecord (IsHeldOf b hs page version q) None
     → Shows (state_of b hs base store) page q (image_of store page)
 shows_image b hs base store page version q same none =
-    shown b hs base store page version q [] (image_of store page) same
-    (record { rising = tt; members = λ r. (λ h. absurd (none_in r h), λ h. absurd (none r h)) }) refl
+    record { written = []; lists = subst (λ v. Lists BeforeByNumber (IsHeldOf b hs page v q) []) same nothing; result = refl }
+  where
+    nothing : Lists BeforeByNumber (IsHeldOf b hs page version q) []
+    nothing = record { rising = tt; members = λ r. (λ h. absurd (none_in r h), λ h. absurd (none r h)) }
 
 -- a test of the shown pages tells whether they are one
 pub tells_same : (s t : State) (point other_point page : ℕ) (own others : List ℕ) (same : Bool)

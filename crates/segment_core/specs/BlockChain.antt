@@ -47,3 +47,13 @@ abbrev pub TellsBreak : State → ℕ → ℕ → Result (List ℕ) ReadFault �
 TellsBreak s page q result =
     (g n : ℕ)
     → (result ≡ Err (BrokenBlockChain g n)) ↔ ((g ≡ page) × IsReadable s q × BreaksAt s page q n)
+
+-- each alive record with a number up to n is known to be linked
+abbrev pub IsLinkedUpTo : State → ℕ → Type 0
+IsLinkedUpTo s n = (r : RecordData) → Contains s.held r → IsAlive s.book.cuts s.book.complete r.epoch r.number → r.number ≤ n → IsKnownLinked s r.number
+
+-- of these records, each that does not begin its page anew, and whose block backlink is above a version, has it to one of them
+abbrev pub IsChained : ℕ → List RecordData → Type 0
+IsChained version xs =
+    (r : RecordData) → Contains xs r → r.init ≡ false → version < r.block_back
+    → (below : RecordData) × Contains xs below × (below.number ≡ r.block_back)

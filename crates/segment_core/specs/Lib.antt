@@ -1,6 +1,7 @@
 pub mod Taking
 pub mod Refusing
 pub mod Form
+pub mod Points
 pub mod Standing
 pub mod Reading
 pub mod BlockChain
@@ -13,3 +14,4 @@ pub mod Uniting
 pub mod Comparing
 pub mod Keys
 pub mod Laws
+pub mod Restoring

@@ -9,10 +9,13 @@
 #![tactic(auto)]
 
 mod answers;
+mod at_anchor;
 mod comparing;
 mod fold_plan;
 mod known;
 pub mod laws;
+mod points;
+mod restoring;
 #[cfg(test)]
 mod samples;
 mod segment;

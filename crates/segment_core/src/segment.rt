@@ -1,10 +1,10 @@
-ghost use Rattle.std.specs.Prelude.{◌≡◌, ℕ, ◌≤◌, ◌⊎◌, ◌++◌, ◌∷◌, ◌↔◌, [], List, None, Some, IfOk, OnOk, OnErr, IfErr, IsErrAnd, IsTrue, map};
+ghost use Rattle.std.specs.Prelude.{◌≡◌, ℕ, ◌≤◌, ◌⊎◌, ◌++◌, ◌∷◌, ◌↔◌, [], List, None, Some, IfOk, OnOk, OnErr, IfErr, IsOkAnd, IsErrAnd, IsTrue, map};
 ghost use Rattle.std.specs.Option.{option_copied};
 ghost use Rattle.redo_core.specs.Position.{Position};
 ghost use Rattle.redo_core.specs.Sound.{IsSound};
 ghost use Rattle.redo_core.specs.declared.facts.Fact.{Fact as AnyFact};
 ghost use Rattle.redo_core.specs.declared.facts.Fact.TheVariants.{Record as OfRecord, Cut as OfCut, Advance as OfAdvance};
-ghost use Rattle.segment_state.specs.State.{State, empty_state};
+ghost use Rattle.segment_state.specs.State.{State, empty_state, image_of};
 ghost use Rattle.segment_state.specs.Means.{MeansAt, Means};
 ghost use Rattle.segment_state.specs.HasMeaning.{HasAnchor, IsSettled};
 ghost use Rattle.redo_core.specs.Writing.{after_records};
@@ -27,15 +27,21 @@ ghost use Rattle.segment_core.specs.declared.answers.Refusal.TheVariants.{Memory
 ghost use Rattle.segment_core.specs.declared.answers.Taken.TheVariants.{Changed as ChangedOf, Unchanged as UnchangedOf};
 
 use crate::answers::{Front, ReadFault, Refusal, Taken};
+use crate::points::Points;
 use epoch_book::{BookRefusal, EpochBook, Learnt, Standing};
 use hot_log::{HotLog, Put, PutFault};
 use page_base::BaseStore;
-use redo_core::{Advance, Cut, Fact, MAX_NUMBER, Page, Record, Refused, Roster, apply};
+use redo_core::{Advance, Cut, Fact, Page, Record, Refused, Roster, apply};
 use std::alloc::{AllocError, Global};
 use std::marker::Model;
 
 /// A segment of a protection group: its truncations and advances, its redo records by key, the base images of its pages, and
-/// a base point up to which it knows that nothing is missing. The base point is never above the minimum read point.
+/// a base point up to which it knows that nothing is missing.
+///
+/// At all times the base point is not above the minimum read point; the complete point that `points` keeps is the greatest number
+/// that the held records link from the base point on, and the anchor the greatest of those up to the minimum read point; and
+/// where `points` calls the chain straight, each held alive record from the base point to the complete point is linked, and none
+/// of them has two successors there.
 #[derive(Drop)]
 pub struct Segment {
     pub(crate) alloc: Global,
@@ -43,6 +49,7 @@ pub struct Segment {
     pub(crate) hot: HotLog,
     pub(crate) base: u64,
     pub(crate) store: BaseStore,
+    pub(crate) points: Points,
 }
 
 impl Model for Segment {
@@ -52,12 +59,13 @@ impl Model for Segment {
     ghost use Rattle.hot_log.specs.Held.{IsHeld};
     ghost use Rattle.page_base.specs.Stored.{IsStored};
     ghost use Rattle.redo_core.specs.Roster.{least};
+    ghost use Rattle.segment_core.specs.Points.{HasPoints};
 
     ghost Value = { State };
 
     ghost view = { λ s. state_of s.book s.hot s.base s.store };
 
-    ghost invariant = { λ s. IsBook s.book × IsHeld s.hot × IsStored s.store × (s.base ≤ least s.book.points) };
+    ghost invariant = { λ s. IsBook s.book × IsHeld s.hot × IsStored s.store × (s.base ≤ least s.book.points) × HasPoints s.book s.hot s.base s.points };
 }
 
 impl Segment {
@@ -67,12 +75,15 @@ impl Segment {
         ensures means { IfOk result (λ s. (log : List AnyFact) → Means roster log [] s) }
     {
         let book = EpochBook::new(alloc, roster)?;
+        let hot = HotLog::new(alloc);
+        let points = Points::anew(&hot, &book, 0);
         Ok(Segment {
             alloc,
             book,
-            hot: HotLog::new(alloc),
+            hot,
             base: 0,
             store: BaseStore::new(alloc),
+            points,
         })
     }
 
@@ -86,6 +97,7 @@ impl Segment {
             hot: self.hot.copy()?,
             base: self.base,
             store: self.store.copy()?,
+            points: self.points,
         })
     }
 
@@ -120,7 +132,7 @@ impl Segment {
     {
         Front {
             epoch: self.book.complete_epoch(),
-            complete: self.hot.linked_to(&self.book, self.base, MAX_NUMBER),
+            complete: self.points.complete,
             min: self.book.min_point(),
         }
     }
@@ -139,8 +151,7 @@ impl Segment {
         ensures anchor { (roster : ℕ) (log facts : List AnyFact) (p : Position) → IsSound roster log → MeansAt roster log facts p self.now → result ≡ p.anchor }
         ensures own { HasAnchor self.now result }
     {
-        self.hot
-            .linked_to(&self.book, self.base, self.book.min_point())
+        self.points.anchor
     }
 
     /// The number up to which the segment knows that it is complete, whatever it has thrown away.
@@ -181,10 +192,11 @@ impl Segment {
                 complete: front.complete,
             });
         }
-        if let Some(number) = self.broken_link(page, point) {
+        let records = self.records_at(page, point);
+        if let Some(number) = self.broken_of(&records, page, point) {
             return Err(ReadFault::BrokenBlockChain { page, number });
         }
-        match self.page_at(page, point) {
+        match self.page_with(page, records) {
             Ok(image) => Ok(image),
             Err(_) => Err(ReadFault::Memory),
         }
@@ -194,10 +206,18 @@ impl Segment {
     pub(crate) fn page_at(&self, page: u16, point: u64) -> Result<Page, AllocError>
         ensures { IfOk result (λ image. Shows self.now page point image) }
     {
-        let version = self.store.version(page);
-        let records = self
-            .hot
-            .records_of(self.alloc, &self.book, page, version, point)?;
+        self.page_with(page, self.records_at(page, point))
+    }
+
+    /// The page's image with the records that are applied to it.
+    fn page_with(
+        &self,
+        page: u16,
+        records: Result<Vec<&Record>, AllocError>,
+    ) -> Result<Page, AllocError>
+        ensures { IfOk result (λ image. IsOkAnd records.entry (λ v. image ≡ after_records (image_of self.now.store page) (map (λ x. x.now) v.items))) }
+    {
+        let records = records?;
         let mut image = self.store.image(page)?;
         apply_all(&records, &mut image);
         Ok(image)
@@ -227,13 +247,20 @@ impl Segment {
     fn take_cut(&mut self, cut: Cut) -> Result<Taken, Refused<Fact, Refusal>>
         ensures { TakesExactly self.old (OfCut cut) result self.new }
     {
-        book_answer(Fact::Cut(cut), self.book.learn_cut(cut))
+        let epoch = self.book.complete_epoch();
+        let learnt = self.book.learn_cut(cut);
+        if self.book.complete_epoch() != epoch {
+            self.points = Points::anew(&self.hot, &self.book, self.base);
+        }
+        book_answer(Fact::Cut(cut), learnt)
     }
 
     fn take_advance(&mut self, advance: Advance) -> Result<Taken, Refused<Fact, Refusal>>
         ensures { TakesExactly self.old (OfAdvance advance) result self.new }
     {
-        book_answer(Fact::Advance(advance), self.book.learn_advance(advance))
+        let learnt = self.book.learn_advance(advance);
+        self.points = self.points.with_anchor(&self.hot, &self.book, self.base);
+        book_answer(Fact::Advance(advance), learnt)
     }
 
     /// Whether a record is dead, or alive at or below the anchor.
@@ -243,10 +270,7 @@ impl Segment {
         match self.book.stands(redo.epoch(), redo.number()) {
             Standing::Dead => true,
             Standing::Waiting => false,
-            // No anchor is above the minimum read point, so most records need no walk to it.
-            Standing::Alive => {
-                redo.number() <= self.book.min_point() && redo.number() <= self.anchor()
-            }
+            Standing::Alive => redo.number() <= self.anchor(),
         }
     }
 
@@ -256,7 +280,7 @@ impl Segment {
         if self.is_dead_or_settled(&redo) {
             return Ok(Taken::Unchanged);
         }
-        put_answer(self.hot.put(redo))
+        put_answer(self.points.put(&mut self.hot, &self.book, self.base, redo))
     }
 }
 

@@ -9,7 +9,8 @@ ghost use Rattle.page_base.specs.Stored.{IsStored};
 ghost use Rattle.page_base.specs.Raising.{Raises};
 ghost use Rattle.segment_state.specs.State.{State, version_of};
 ghost use Rattle.segment_state.specs.Means.{MeansAt};
-ghost use Rattle.segment_state.specs.Shows.{Shows};
+ghost use Rattle.redo_core.specs.Order.{Lists, BeforeByNumber};
+ghost use Rattle.segment_state.specs.Shows.{IsApplied, Shows};
 ghost use Rattle.segment_state.specs.Promises.{KeepsMeaning, KeepsMeaningWith};
 ghost use Rattle.segment_core.specs.Folding.{IsPlanResult, PlansFold, Commits, RefusesCommit, RefusesAhead};
 ghost use Rattle.segment_core.specs.Forgetting.{DiscardsJust, FoldsAll, Tidies, HoldsJustKept, IsSoundState, IsWhole, IsFirstBreak, TellsFirstBreak, RefusesTidy};
@@ -34,10 +35,11 @@ impl Segment {
         ensures own { PlansFold self.now page result }
     {
         let anchor = self.anchor();
-        if let Some(number) = self.broken_link(page, anchor) {
+        let records = self.records_at(page, anchor);
+        if let Some(number) = self.broken_of(&records, page, anchor) {
             return Err(ReadFault::BrokenBlockChain { page, number });
         }
-        match self.plan_at(page, anchor) {
+        match self.plan_with(page, anchor, records) {
             Ok(plan) => Ok(plan),
             Err(_) => Err(ReadFault::Memory),
         }
@@ -49,10 +51,22 @@ impl Segment {
         ensures version { IfOk result (λ plan. plan.version ≡ point) }
         ensures image { IfOk result (λ plan. Shows self.now page point plan.image) }
     {
-        let version = self.store.version(page);
-        let held = self
-            .hot
-            .records_of(self.alloc, &self.book, page, version, point)?;
+        self.plan_with(page, point, self.records_at(page, point))
+    }
+
+    /// A plan of the page with the records that are applied to its image up to the point.
+    fn plan_with(
+        &self,
+        page: u16,
+        point: u64,
+        records: Result<Vec<&Record>, AllocError>,
+    ) -> Result<FoldPlan, AllocError>
+        requires { IfOk records (λ v. Lists BeforeByNumber (IsApplied self.now page point) (map (λ x. x.now) v.items)) }
+        ensures page { IfOk result (λ plan. plan.page ≡ page) }
+        ensures version { IfOk result (λ plan. plan.version ≡ point) }
+        ensures image { IfOk result (λ plan. Shows self.now page point plan.image) }
+    {
+        let held = records?;
         Ok(FoldPlan {
             page,
             version: point,
@@ -92,8 +106,10 @@ impl Segment {
         ensures keeps { KeepsMeaning self.old self.new }
         ensures discards { DiscardsJust self.old self.new }
     {
-        self.base = self.anchor();
-        remove_all_folded(&mut self.hot, &self.book, &self.store, self.base);
+        let anchor = self.points.anchor;
+        self.points = self.points.over(&self.hot, &self.book, self.base, anchor);
+        self.base = anchor;
+        remove_all_folded(&mut self.hot, &self.book, &self.store, anchor);
     }
 
     /// Folds each page that has held records to the anchor, discards, and forgets the dead records: what stays is what the

@@ -125,7 +125,9 @@ impl Segment {
     {
         match self.store.adopt(base, pages) {
             Ok(()) => {
-                self.base = self.base.max(base);
+                let raised = self.base.max(base);
+                self.points = self.points.over(&self.hot, &self.book, self.base, raised);
+                self.base = raised;
                 Ok(())
             }
             Err(refused) => Err(refused),

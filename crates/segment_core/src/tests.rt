@@ -284,3 +284,47 @@ fn pages_compared(rt: HostRuntime) -> Result<(), Fail> {
     assert!(rt; tidy && same == [true, false, false]);
     Ok(())
 }
+
+// A segment that has taken records of page 7, each by its number and its segment backlink, in this order.
+fn chained(alloc: Global, links: &[(u64, u64)]) -> Result<Segment, Fail> {
+    let mut one = segment(alloc, 1)?;
+    for link in links {
+        let fact = redo(alloc, (0, link.0), link.1, (7, 0), true, (0, b"a"))?;
+        take(&mut one, fact);
+    }
+    Ok(one)
+}
+
+#[test]
+fn forks_and_strays(rt: HostRuntime) -> Result<(), Fail> {
+    let chains: [([(u64, u64); 3], u64); 5] = [
+        ([(3, 0), (9, 0), (20, 3)], 20),
+        ([(3, 0), (20, 9), (9, 3)], 20),
+        ([(9, 0), (3, 0), (5, 3)], 9),
+        ([(9, 0), (5, 4), (20, 9)], 20),
+        ([(9, 0), (5, 4), (20, 5)], 9),
+    ];
+    for chain in chains {
+        let one = chained(rt.alloc(), &chain.0)?;
+        assert!(rt; one.front() == front(0, chain.1, 0), "{}", chain.1);
+    }
+    Ok(())
+}
+
+// The base point and the front before a discard and after it.
+fn discards(segment: &mut Segment, min: u64) -> Result<[(u64, Front); 2], Fail> {
+    let advance = advance(1, 0, min)?;
+    take(segment, Fact::Advance(advance));
+    let before = (segment.base_point(), segment.front());
+    segment.discard();
+    Ok([before, (segment.base_point(), segment.front())])
+}
+
+// The base point rises to the side of a fork that leads no further.
+#[test]
+fn a_discard_beside_a_fork(rt: HostRuntime) -> Result<(), Fail> {
+    let mut one = chained(rt.alloc(), &[(3, 0), (9, 3), (5, 0)])?;
+    let fronts = discards(&mut one, 5)?;
+    assert!(rt; fronts == [(0, front(0, 9, 5)), (5, front(0, 5, 5))]);
+    Ok(())
+}

@@ -20,6 +20,7 @@ impl Segment {
             hot: self.hot.copy()?,
             base: self.base,
             store: BaseStore::new(self.alloc),
+            points: self.points,
         })
     }
 
@@ -29,7 +30,7 @@ impl Segment {
         ensures holds { OnOk result (Holds self.old redo self.new) }
         ensures unchanged { OnErr result (self.new ≡ self.old) }
     {
-        match self.hot.put(redo) {
+        match self.points.put(&mut self.hot, &self.book, self.base, redo) {
             Ok(_) => Ok(()),
             Err(refused) => match refused.fault {
                 PutFault::OtherRecord => Ok(()),
@@ -58,6 +59,9 @@ impl Segment {
                 self.base = draft.base.max(base);
                 self.book = draft.book;
                 self.hot = draft.hot;
+                self.points = draft
+                    .points
+                    .over(&self.hot, &self.book, draft.base, self.base);
                 Ok(())
             }
             Err(_) => Err(AllocError),

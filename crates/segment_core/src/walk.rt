@@ -1,16 +1,69 @@
-ghost use Rattle.std.specs.Prelude.{◌≡◌, ℕ, ◌<◌, ◌≤◌, ◌↔◌, List, None, Some, IsTrue, false};
+ghost use Rattle.std.specs.Prelude.{◌≡◌, ℕ, ◌<◌, ◌≤◌, ◌↔◌, List, None, Some, map, IsTrue, IfOk, false};
 ghost use Rattle.std.specs.Option.{option_copied};
 ghost use Rattle.redo_core.specs.Position.{Position};
 ghost use Rattle.redo_core.specs.Sound.{IsSound};
 ghost use Rattle.redo_core.specs.declared.facts.Fact.{Fact as AnyFact};
 ghost use Rattle.hot_log.specs.Found.{IsGreatestRecord, IsOnlyRecord};
 ghost use Rattle.segment_state.specs.Means.{MeansAt};
-ghost use Rattle.segment_core.specs.BlockChain.{BreaksAt, IsLinkedOf};
+ghost use Rattle.redo_core.specs.Order.{Lists, BeforeByNumber};
+ghost use Rattle.segment_state.specs.Shows.{IsApplied};
+ghost use Rattle.segment_core.specs.Form.{IsSegment};
+ghost use Rattle.segment_core.specs.BlockChain.{BreaksAt, IsLinkedOf, IsLinkedUpTo, IsChained};
 
 use crate::segment::Segment;
 use redo_core::Record;
+use std::alloc::AllocError;
 
 impl Segment {
+    /// The records that are applied to the page's image up to a point, rising. Its only error is want of memory.
+    pub(crate) fn records_at(&self, page: u16, point: u64) -> Result<Vec<&Record>, AllocError>
+        ensures { IfOk result (λ v. Lists BeforeByNumber (IsApplied self.now page point) (map (λ x. x.now) v.items)) }
+    {
+        let version = self.store.version(page);
+        self.hot
+            .records_of(self.alloc, &self.book, page, version, point)
+    }
+
+    /// The number of the record at which the walk down the page's block chain breaks, where these records are applied up to the point.
+    ///
+    /// Where each record up to the point is known to be linked, and each follows the one before it, no walk is needed.
+    pub(crate) fn broken_of(
+        &self,
+        records: &Result<Vec<&Record>, AllocError>,
+        page: u16,
+        point: u64,
+    ) -> Option<u64>
+        requires { IfOk records.now (λ v. Lists BeforeByNumber (IsApplied self.now page point) (map (λ x. x.now) v.items)) }
+        ensures breaks { (n : ℕ) → (result ≡ Some n) ↔ BreaksAt self.now page point n }
+        ensures sound { (roster : ℕ) (log facts : List AnyFact) (p : Position) → IsSound roster log → MeansAt roster log facts p self.now → point ≤ p.complete → result ≡ None }
+    {
+        match records {
+            Ok(found) if self.is_whole(found, page, point) => None,
+            _ => self.broken_link(page, point),
+        }
+    }
+
+    /// Whether each record up to the point is known to be linked, and each of these follows the one before it.
+    fn is_whole(&self, records: &[&Record], page: u16, point: u64) -> bool
+        requires { Lists BeforeByNumber (IsApplied self.now page point) (map (λ x. x.now) records.now) }
+        ensures { IsTrue result → (n : ℕ) → BreaksAt self.now page point n → ⊥ }
+    {
+        point <= self.sure_point() && is_chained(records, self.store.version(page))
+    }
+
+    /// A number up to which each alive record is known to be linked.
+    fn sure_point(&self) -> u64
+        ensures linked { IsLinkedUpTo self.now result }
+        ensures above { self.now.base ≤ result }
+        ensures form { IsSegment self.now }
+    {
+        if self.points.straight {
+            self.points.complete
+        } else {
+            self.base
+        }
+    }
+
     /// The number of the record at which the walk down the page's block chain breaks.
     pub(crate) fn broken_link(&self, page: u16, point: u64) -> Option<u64>
         ensures breaks { (n : ℕ) → (result ≡ Some n) ↔ BreaksAt self.now page point n }
@@ -31,6 +84,9 @@ impl Segment {
     fn last_linked_of(&self, page: u16, point: u64) -> Option<&Record>
         ensures { IsGreatestRecord (IsLinkedOf self.now page point) (option_copied result) }
     {
+        if point <= self.sure_point() {
+            return self.hot.last_of(&self.book, page, 0, point);
+        }
         match self
             .hot
             .greatest_linked_of(&self.book, page, self.base, point)
@@ -44,7 +100,7 @@ impl Segment {
     fn linked_of(&self, page: u16, number: u64) -> Option<&Record>
         ensures { IsOnlyRecord (λ r. IsLinkedOf self.now page number r × (r.number ≡ number)) (option_copied result) }
     {
-        if number <= self.base {
+        if number <= self.sure_point() {
             return self
                 .hot
                 .next_of(&self.book, page, number.saturating_sub(1), number);
@@ -63,4 +119,18 @@ fn leads_on(redo: &Record, version: u64) -> bool
     ensures { IsTrue result ↔ ((redo.now.init ≡ false) × (version < redo.now.block_back)) }
 {
     !redo.init() && version < redo.block_back()
+}
+
+/// Whether each record follows the one before it: the first one the image, unless it begins its page anew.
+fn is_chained(records: &[&Record], version: u64) -> bool
+    ensures { IsTrue result → IsChained version (map (λ x. x.now) records.now) }
+{
+    let mut below = version;
+    for redo in records {
+        if leads_on(redo, version) && redo.block_back() != below {
+            return false;
+        }
+        below = redo.number();
+    }
+    true
 }

@@ -14,3 +14,4 @@ pub mod Storing
 pub mod Absorbing
 pub mod Replying
 pub mod Anew
+pub mod Restoring

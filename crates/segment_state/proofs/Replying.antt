@@ -26,7 +26,7 @@ use Rattle.segment_state.proofs.Reading.{alive_in_facts}
 use Rattle.segment_state.proofs.Same.{image_as, waiting_as}
 
 -- nothing is written up to 0
-dry : {roster : ℕ} (log G : List Fact) → IsLog roster log → IsPart G log → (k p : ℕ) (bytes : List ℕ) → IsPageAt G k p 0 bytes → bytes ≡ zeros
+pub dry : {roster : ℕ} (log G : List Fact) → IsLog roster log → IsPart G log → (k p : ℕ) (bytes : List ℕ) → IsPageAt G k p 0 bytes → bytes ≡ zeros
 dry log G l q k p bytes page = at page.written page.lists page.result
   where
     at : (ws : List RecordData) → Lists BeforeByNumber (λ r. IsLinkedRecord G k r × (r.page ≡ p) × (r.number ≤ 0)) ws → bytes ≡ after_records zeros ws

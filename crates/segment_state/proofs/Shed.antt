@@ -77,7 +77,7 @@ anchor_page_is_final log F s anchor page image sound a top shows =
     }
 
 -- other held records, base point and images
-with_others : {roster : ℕ} (log F : List Fact) (p : Position) (old new : State) → MeansAt roster log F p old → new.book ≡ old.book
+pub with_others : {roster : ℕ} (log F : List Fact) (p : Position) (old new : State) → MeansAt roster log F p old → new.book ≡ old.book
     → IsLinked F p.epoch new.base × (new.base ≤ p.anchor)
     → ((r : RecordData) → Contains new.held r → Contains old.held r)
     → ((r : RecordData) → Matters (cuts F) p.epoch r → Contains old.held r ⊎ IsInImage old r → Contains new.held r ⊎ IsInImage new r)

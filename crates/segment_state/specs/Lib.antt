@@ -11,3 +11,4 @@ pub mod Gossip
 pub mod Stored
 pub mod Known
 pub mod Laws
+pub mod Restoring

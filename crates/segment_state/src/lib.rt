@@ -12,6 +12,7 @@ ghost use Rattle.segment_state.specs.Laws.{FinalPages, AnchorPageIsFinal, Commit
 ghost use Rattle.segment_state.specs.FromInit.{InitBeginsAnew};
 ghost use Rattle.segment_state.specs.Gossip.{AbsorbMeansUnion, ReplyFills};
 ghost use Rattle.segment_state.specs.Joining.{JoinMeansUnion};
+ghost use Rattle.segment_state.specs.Restoring.{RestoreKeeps};
 ghost use Rattle.segment_state.specs.Stored.{PutCommits};
 
 /// A segment that stores nothing means no facts.
@@ -112,6 +113,11 @@ pub fn discard_keeps()
 /// A removal of dead records keeps the meaning.
 pub fn removal_keeps()
     ensures { RemovalKeeps }
+{}
+
+/// A segment made anew from another one's book, its pages at the anchor and its kept records means what that one means.
+pub fn restore_keeps()
+    ensures { RestoreKeeps }
 {}
 
 /// An image put in its page's place is committed, and no other page changes.

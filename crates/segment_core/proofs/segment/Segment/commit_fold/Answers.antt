@@ -18,7 +18,7 @@ returns-then-anchor-folded-clause-ahead c = λ anchor has above. ahead_at c.args
     has
 
 pub invariant_of-self : goal.invariant_of-self
-invariant_of-self c = (c.self.invariant.0, c.self.invariant.1, c.raise.ensures.form, c.self.invariant.3)
+invariant_of-self c = (c.self.invariant.0, c.self.invariant.1, c.raise.ensures.form, c.self.invariant.3, c.self.invariant.4)
 
 pub returns-clause-keeps : goal.returns-clause-keeps
 unfolding before after

@@ -1,9 +1,11 @@
-use Rattle.std.proofs.Common.{sym, subst}
-use Rattle.segment_state.specs.State.{State, state_of}
+use Rattle.std.proofs.Common.{◌≤◌, subst, arith}
+use Rattle.redo_core.specs.Standing.{IsAlive}
+use Rattle.segment_state.specs.State.{State, state_of, version_of}
 use Rattle.segment_state.specs.HasMeaning.{HasAnchor}
 use Rattle.segment_state.specs.Promises.{KeepsMeaning}
 use Rattle.segment_core.specs.Forgetting.{DiscardsJust}
-use Rattle.segment_core.proofs.OneView.{anchor_low}
+use Rattle.segment_core.proofs.Chain.{own_anchor}
+use Rattle.segment_core.proofs.Following.{removal_keeps_points}
 use Rattle.segment_core.proofs.Forget.{discards_just, discards_keep}
 use Rattle.segment_core.proofs.segment.Segment.discard.Goals as goal
 
@@ -12,20 +14,31 @@ unfoldable before : goal.After-remove_all_folded → State
 before c = state_of c.self.inside.book c.self.inside.hot c.self.inside.base c.self.inside.store
 
 unfoldable after : goal.After-remove_all_folded → State
-after c = state_of c.self.inside.book c.remove_all_folded.new.hot c.anchor-self-inside.result c.self.inside.store
+after c = state_of c.self.inside.book c.remove_all_folded.new.hot c.self.inside.points.anchor c.self.inside.store
 
-own : (c : goal.After-remove_all_folded) → HasAnchor (before c) c.anchor-self-inside.result
+own : (c : goal.After-remove_all_folded) → HasAnchor (before c) c.self.inside.points.anchor
 unfolding before
-own c = subst (λ (s : State). HasAnchor s c.anchor-self-inside.result) (sym c.self.view_is) c.anchor-self-inside.ensures.own
+own c = own_anchor c.self.inside.book c.self.inside.hot c.self.inside.base c.self.inside.store c.self.inside.points.anchor c.self.invariant.4.anchor
 
 just : (c : goal.After-remove_all_folded) → DiscardsJust (before c) (after c)
 unfolding before after
-just c = discards_just c.self.inside.book c.self.inside.hot c.remove_all_folded.new.hot c.self.inside.base c.anchor-self-inside.result c.self.inside.store
+just c = discards_just c.self.inside.book c.self.inside.hot c.remove_all_folded.new.hot c.self.inside.base c.self.inside.points.anchor c.self.inside.store
     (own c) c.remove_all_folded.ensures.removes
 
 pub invariant_of-self : goal.invariant_of-self
-unfolding before
-invariant_of-self c = (c.self.invariant.0, c.remove_all_folded.ensures.form, c.self.invariant.2, anchor_low (before c) c.anchor-self-inside.result (own c))
+invariant_of-self c =
+    let i = c.self.inside in
+    let anchor = i.points.anchor in (
+      c.self.invariant.0,
+      c.remove_all_folded.ensures.form,
+      c.self.invariant.2,
+      c.self.invariant.4.anchor.bound,
+      removal_keeps_points i.book i.hot c.remove_all_folded.new.hot
+          (λ r. IsAlive i.book.cuts i.book.complete r.epoch r.number × (r.number ≤ anchor) × (r.number ≤ version_of i.store r.page)) anchor
+          c.over-self-inside.result c.remove_all_folded.ensures.removes
+          (λ r h lt gone. let le : r.number ≤ anchor = gone.1 in omega arith)
+          c.over-self-inside.ensures,
+    )
 
 pub returns-clause-keeps : goal.returns-clause-keeps
 unfolding before after

@@ -7,5 +7,5 @@ use Rattle.segment_core.proofs.segment.Segment.new.Goals as goal
 
 pub returns-clause-means : goal.returns-clause-means
 returns-clause-means c =
-    let same : state_of c.in_ok-book.book c.new-2.result 0 c.new-3.result ≡ empty_state c.args.roster = search (rules, c.in_ok-book.ensures.empty) in
+    let same : state_of c.in_ok-book.book c.new-hot.result 0 c.new-2.result ≡ empty_state c.args.roster = search (rules, c.in_ok-book.ensures.empty) in
     subst (λ (s : State). (log : List AnyFact) → Means c.args.roster log [] s) (sym same) (empty_means c.args.roster)

@@ -1,5 +1,5 @@
-use Rattle.std.proofs.Common.{◌≡◌, Some, None}
-use Rattle.segment_core.proofs.Reading.{below, above, true_page}
+use Rattle.std.proofs.Common.{◌≡◌, Some, None, map}
+use Rattle.segment_core.proofs.Reading.{below, above, shown, true_page}
 use Rattle.segment_core.proofs.BlockChain.{tells_below, tells_above, tells_broken, tells_whole, not_image, not_memory, within}
 use Rattle.segment_core.proofs.segment.Segment.read.Goals as goal
 
@@ -21,23 +21,30 @@ returns-then-front-point-clause-broken c = tells_above c.args.self.now c.front-f
 
 pub returns-in-Some-clause-result : goal.returns-in-Some-clause-result
 returns-in-Some-clause-result c = λ roster log facts p sound means.
-    let none : c.broken_link.result ≡ None = c.broken_link.ensures.sound roster log facts p sound means
+    let none : c.broken_of.result ≡ None = c.broken_of.ensures.sound roster log facts p sound means
     (within p c.front-front.result c.args.point (c.front-front.ensures.front roster log facts p sound means) c.if-front-point.false) in
-    let some : c.broken_link.result ≡ Some c.in-Some.number = c.in-Some.is in
+    let some : c.broken_of.result ≡ Some c.in-Some.number = c.in-Some.is in
     absurd (cc)
 
 pub returns-in-Some-clause-broken : goal.returns-in-Some-clause-broken
-returns-in-Some-clause-broken c = tells_broken c.args.self.now c.front-front.result c.args.page c.args.point c.in-Some.number c.broken_link.result
-    c.front-front.ensures.own c.if-point-front.false c.if-front-point.false c.broken_link.ensures.breaks c.in-Some.is
+returns-in-Some-clause-broken c = tells_broken c.args.self.now c.front-front.result c.args.page c.args.point c.in-Some.number c.broken_of.result
+    c.front-front.ensures.own c.if-point-front.false c.if-front-point.false c.broken_of.ensures.breaks c.in-Some.is
 
 pub returns-in-Ok-clause-result : goal.returns-in-Ok-clause-result
 returns-in-Ok-clause-result c = λ roster log facts p sound means. true_page log facts p c.args.self.now c.front-front.result c.args.page c.args.point
-    c.in-Ok.image sound means (c.front-front.ensures.front roster log facts p sound means) c.if-point-front.false c.if-front-point.false c.in-Ok.ensures
+    c.in-Ok.image sound means (c.front-front.ensures.front roster log facts p sound means) c.if-point-front.false c.if-front-point.false
+    (shown (λ v. map (λ x. x.now) v.items) c.args.self.now c.args.page c.args.point c.in-Ok.image c.records_at-records.result c.records_at-records.ensures
+    c.in-Ok.ensures)
+
+pub returns-in-Ok-clause-own : goal.returns-in-Ok-clause-own
+returns-in-Ok-clause-own c =
+    shown (λ v. map (λ x. x.now) v.items) c.args.self.now c.args.page c.args.point c.in-Ok.image c.records_at-records.result c.records_at-records.ensures
+    c.in-Ok.ensures
 
 pub returns-in-Ok-clause-broken : goal.returns-in-Ok-clause-broken
-returns-in-Ok-clause-broken c = tells_whole c.args.self.now c.args.page c.args.point c.broken_link.result _
-    (not_image c.in-Ok.image) c.broken_link.ensures.breaks c.in_default.is
+returns-in-Ok-clause-broken c = tells_whole c.args.self.now c.args.page c.args.point c.broken_of.result _
+    (not_image c.in-Ok.image) c.broken_of.ensures.breaks c.in_default.is
 
 pub returns-in-Err-clause-broken : goal.returns-in-Err-clause-broken
-returns-in-Err-clause-broken c = tells_whole c.args.self.now c.args.page c.args.point c.broken_link.result _ not_memory c.broken_link.ensures.breaks
+returns-in-Err-clause-broken c = tells_whole c.args.self.now c.args.page c.args.point c.broken_of.result _ not_memory c.broken_of.ensures.breaks
     c.in_default.is

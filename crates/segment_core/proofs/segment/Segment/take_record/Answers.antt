@@ -19,6 +19,6 @@ returns c =
     let compared = subst (λ (s : State). IsDeadOrSettled s c.args.redo → ⊥) (sym c.self.view_is)
     (λ h. let t : c.is_dead_or_settled.result ≡ true = c.is_dead_or_settled.ensures.1 h in let f : c.is_dead_or_settled.result ≡ false =
     c.if-is_dead_or_settled.false in absurd (cc)) in
-    subst (λ s. TakesExactly s (Record c.args.redo) c.put_answer.result (state_of book c.put.new.self c.self.inside.base c.self.inside.store)) c.self.view_is
-    (put_exact takes_record takes_known book held c.put.new.self c.self.inside.base c.self.inside.store c.args.redo c.put.result c.put_answer.result
+    subst (λ s. TakesExactly s (Record c.args.redo) c.put_answer.result (state_of book c.put.new.hot c.self.inside.base c.self.inside.store)) c.self.view_is
+    (put_exact takes_record takes_known book held c.put.new.hot c.self.inside.base c.self.inside.store c.args.redo c.put.result c.put_answer.result
     c.put.ensures.form compared c.put.ensures.put c.put.ensures.refused c.put.ensures.unchanged c.put_answer.ensures)

@@ -1,8 +1,10 @@
 use Rattle.std.proofs.Common.{◌≡◌, ℕ, Ok, Err, sym, subst}
+use Rattle.redo_core.specs.Standing.{IsDead}
 use Rattle.segment_state.specs.State.{State, state_of}
 use Rattle.segment_state.specs.Promises.{KeepsMeaning}
 use Rattle.segment_core.specs.Forgetting.{with_store, DiscardsJust, FoldsAll, Tidies, IsFirstBreak}
 use Rattle.segment_core.specs.declared.answers.ReadFault.TheVariants.{BrokenBlockChain, Memory}
+use Rattle.segment_core.proofs.Following.{removal_keeps_points}
 use Rattle.segment_core.proofs.FirstBreak.{tells_first, tells_whole, sound_whole}
 use Rattle.segment_core.proofs.Tidying.{RemovesJustDead, removes_just, removals_keep, tidies_of, holds_kept, keeps_on}
 use Rattle.segment_core.proofs.segment.Segment.tidy.Goals as goal
@@ -35,6 +37,18 @@ unfolding before
 tidies c =
     subst (λ (s : State). Tidies s (after c)) c.self.view_is
     (tidies_of (before c) (discarded c) (after c) c.in-Ok.store (folds c) (discards c) (removes c))
+
+pub invariant_of-self-2 : goal.invariant_of-self-2
+invariant_of-self-2 c =
+    let i = c.self-2.inside in
+    let is = c.self-2.invariant in (
+      is.0,
+      c.remove_dead.ensures.form,
+      is.2,
+      is.3,
+      removal_keeps_points i.book i.hot c.remove_dead.new.self (λ r. IsDead i.book.cuts i.book.complete r.epoch r.number) i.base i.points
+          c.remove_dead.ensures.removes (λ r h lt dead. dead.1 h.1) is.4,
+    )
 
 pub returns-clause-keeps : goal.returns-clause-keeps
 unfolding before discarded after

@@ -1,0 +1,76 @@
+-- Records of a page that follow one another, from its image or from a record with `init` on.
+use Rattle.std.proofs.Common.{◌≡◌, ℕ, ◌<◌, ◌≤◌, ◌⊎◌, inl, inr, ⊎_elim, List, [], ◌∷◌, ◌++◌, true, false, refl, sym, ap, ◌∙◌, subst, arith}
+use Rattle.std.specs.List.{Contains}
+use Rattle.std.proofs.lemmas.List.Elements.{Contains-append_left, Contains-append_right}
+use Rattle.redo_core.specs.Data.{RecordData}
+use Rattle.redo_core.specs.Order.{Lists, BeforeByNumber}
+use Rattle.redo_core.proofs.Members.{none_in, here, there, which}
+use Rattle.segment_state.specs.State.{State, state_of, Store, version_of}
+use Rattle.segment_state.specs.Shows.{IsApplied}
+use Rattle.segment_core.specs.BlockChain.{IsLinkedUpTo, IsChained, BreaksAt}
+use Rattle.segment_core.specs.Points.{HasPoints}
+use Rattle.segment_core.specs.declared.points.Points.{Points}
+use Rattle.segment_core.proofs.BlockChain.{on_linked, from_base}
+use Rattle.epoch_book.specs.Book.{BookData}
+
+-- chained records, of which the last has this number
+pub record IsChainedTo (version : ℕ) (xs : List RecordData) (below : ℕ) : Type 0 where
+  pub chained : IsChained version xs
+  pub last : (below ≡ version) ⊎ ((x : RecordData) × Contains xs x × (x.number ≡ below))
+
+pub none_chained : (version : ℕ) → IsChainedTo version [] version
+none_chained version = record { chained = λ r h. absurd (none_in r h); last = inl refl }
+
+-- one record more
+pub chained_more : (version : ℕ) (xs : List RecordData) (below n : ℕ) (r : RecordData) → IsChainedTo version xs below → n ≡ r.number
+    → (r.init ≡ false → version < r.block_back → r.block_back ≡ below) → IsChainedTo version (xs ++ r ∷ []) n
+chained_more version xs below n r was same follows = record {
+  chained = λ x h anew above. ⊎_elim
+      (λ (u : Contains xs x). let t = was.chained x u anew above in (t.0, Contains-append_left xs (r ∷ []) t.0 t.1, t.2))
+      (λ (u : x ≡ r). new x u (subst (λ (y : RecordData). y.init ≡ false) u anew) (subst (λ (y : RecordData). version < y.block_back) u above))
+      (joined xs x h);
+  last = inr (r, Contains-append_right xs (r ∷ []) r (here r []), sym same);
+}
+  where
+    joined : (ys : List RecordData) (x : RecordData) → Contains (ys ++ r ∷ []) x → Contains ys x ⊎ (x ≡ r)
+    joined [] x h = ⊎_elim (λ (u : r ≡ x). inr (sym u)) (λ (u : Contains [] x). inl u) (which r [] x h)
+    joined (y ∷ ys) x h = ⊎_elim
+        (λ (u : y ≡ x). inl (subst (Contains (y ∷ ys)) u (here y ys)))
+        (λ (u : Contains (ys ++ r ∷ []) x). ⊎_elim (λ (v : Contains ys x). inl (there y ys x v)) (λ (v : x ≡ r). inr v) (joined ys x u))
+        (which y (ys ++ r ∷ []) x h)
+
+    new : (x : RecordData) → x ≡ r → r.init ≡ false → version < r.block_back
+        → (below : RecordData) × Contains (xs ++ r ∷ []) below × (below.number ≡ x.block_back)
+    new x u anew above =
+        let at : r.block_back ≡ below = follows anew above in
+        let back : x.block_back ≡ r.block_back = ap (λ (y : RecordData). y.block_back) u in
+        ⊎_elim
+        (λ (z : below ≡ version). absurd (omega arith))
+        (λ (t : (y : RecordData) × Contains xs y × (y.number ≡ below)). (t.0, Contains-append_left xs (r ∷ []) t.0 t.1, t.2 ∙ sym (back ∙ at)))
+        was.last
+
+-- where each record up to the point is linked and those that are applied are chained, no chain is broken there
+pub none_breaks : (s : State) (page q n : ℕ) (xs : List RecordData) → Lists BeforeByNumber (IsApplied s page q) xs
+    → IsChained (version_of s.store page) xs → IsLinkedUpTo s q → ((r : RecordData) → Contains s.held r → r.block_back < r.number)
+    → BreaksAt s page q n → ⊥
+none_breaks s page q n xs lists chained sure lower h =
+    let at = h.breaks.at in
+    let linked = on_linked s page q h.first at h.linked h.breaks.on in
+    let above : version_of s.store page < at.block_back = h.breaks.above in
+    let low : at.block_back < at.number = lower at linked.0 in
+    let among = (lists.members at).1 (linked.0, linked.1, linked.3, omega (arith, above, low), linked.4) in
+    let t = chained at among h.breaks.follows above in
+    let is = (lists.members t.0).0 t.1 in
+    h.breaks.nowhere t.0 (is.0, is.1, sure t.0 is.0 is.1 is.4, is.2, is.4) t.2
+
+-- up to the complete point of a straight chain, each alive record is linked
+pub sure_complete : (b : BookData) (hs : List RecordData) (base : ℕ) (store : Store) (points : Points) → HasPoints b hs base points → points.straight ≡ true
+    → IsLinkedUpTo (state_of b hs base store) points.complete
+sure_complete b hs base store points has straight r among alive low =
+    ⊎_elim
+    (λ (le : r.number ≤ base). inl le)
+    (λ (lt : base < r.number). inr ((has.straight straight).linked r (among, alive) lt low))
+    (let t : (r.number ≤ base) ⊎ (base < r.number) = grind arith in t)
+
+pub base_complete : (b : BookData) (hs : List RecordData) (base : ℕ) (points : Points) → HasPoints b hs base points → base ≤ points.complete
+base_complete b hs base points has = from_base b.cuts hs b.complete base points.complete has.complete.linked

@@ -1,0 +1,119 @@
+ghost use Rattle.std.specs.Prelude.{◌≡◌, ◌≤◌, ◌↔◌, IsTrue, IfOk, IfErr, OnErr};
+ghost use Rattle.redo_core.specs.Roster.{least};
+ghost use Rattle.redo_core.specs.Shape.{max_number};
+ghost use Rattle.hot_log.specs.Held.{IsHeld};
+ghost use Rattle.hot_log.specs.Putting.{Puts, RefusesPut};
+ghost use Rattle.segment_core.specs.Points.{HasPoints, HasLowAnchor, MayLink, MoveOn, points_at};
+
+use epoch_book::{EpochBook, Standing};
+use hot_log::{HotLog, Put, PutFault};
+use redo_core::{MAX_NUMBER, Record, Refused};
+
+/// The complete point and the anchor of a segment, and whether the chain of its alive records is known to be straight from the
+/// base point to the complete point: without a fork and without a stray, as it is over a sound log.
+///
+/// Over a straight chain the points move forward from where they stand; over any other they are taken anew.
+#[derive(Clone, Copy, Debug)]
+pub(crate) struct Points {
+    pub(crate) complete: u64,
+    pub(crate) anchor: u64,
+    pub(crate) straight: bool,
+}
+
+impl Points {
+    /// The points over a base point.
+    pub(crate) fn anew(hot: &HotLog, book: &EpochBook, base: u64) -> Points
+        requires { base ≤ least book.now.points }
+        ensures { HasPoints book.now hot.now base result }
+    {
+        let _minimum = book.min_point();
+        let start = Points {
+            complete: base,
+            anchor: base,
+            straight: true,
+        };
+        start.onward(hot, book)
+    }
+
+    /// The points from where they stand on.
+    fn onward(self, hot: &HotLog, book: &EpochBook) -> Points
+        requires complete { self.complete ≤ max_number }
+        requires anchor { self.anchor ≤ least book.now.points }
+        ensures { MoveOn book.now hot.now self result }
+    {
+        let complete = hot.linked_to(book, self.complete, MAX_NUMBER);
+        Points {
+            complete,
+            anchor: hot.linked_to(book, self.anchor, book.min_point()),
+            straight: hot.is_straight(book, self.complete, complete),
+        }
+    }
+
+    /// The points where the minimum read point may have risen.
+    pub(crate) fn with_anchor(self, hot: &HotLog, book: &EpochBook, base: u64) -> Points
+        requires { HasLowAnchor book.now hot.now base self }
+        ensures { HasPoints book.now hot.now base result }
+    {
+        let from = if self.straight { self.anchor } else { base };
+        Points {
+            anchor: hot.linked_to(book, from, book.min_point()),
+            ..self
+        }
+    }
+
+    /// The points over a base point that is raised: where they stood, if that is the anchor of a straight chain, and else anew.
+    pub(crate) fn over(self, hot: &HotLog, book: &EpochBook, base: u64, raised: u64) -> Points
+        requires points { HasPoints book.now hot.now base self }
+        requires bound { raised ≤ least book.now.points }
+        ensures { HasPoints book.now hot.now raised result }
+    {
+        if raised == base {
+            return self;
+        }
+        if self.straight && raised == self.anchor {
+            return self;
+        }
+        Points::anew(hot, book, raised)
+    }
+
+    /// Holds one more record, and brings the points to where it links them. Each error hands the record back and leaves all as it was.
+    pub(crate) fn put(
+        &mut self,
+        hot: &mut HotLog,
+        book: &EpochBook,
+        base: u64,
+        redo: Record,
+    ) -> Result<Put, Refused<Record, PutFault>>
+        requires { HasPoints book.now hot.old base self.old }
+        ensures put { IfOk result (Puts hot.old redo hot.new) }
+        ensures refused { IfErr result (λ e. (e.value ≡ redo) × RefusesPut hot.old redo e.fault) }
+        ensures unchanged { OnErr result (hot.new ≡ hot.old) }
+        ensures form { IsHeld hot.new }
+        ensures points { HasPoints book.now hot.new base self.new }
+    {
+        let back = redo.back();
+        let may_link = self.may_link(book, base, &redo);
+        match hot.put(redo)? {
+            Put::Known => Ok(Put::Known),
+            Put::New => {
+                if may_link {
+                    *self = if self.straight && back == self.complete {
+                        self.onward(hot, book)
+                    } else {
+                        Points::anew(hot, book, base)
+                    };
+                }
+                Ok(Put::New)
+            }
+        }
+    }
+
+    /// Whether a record that joins the held ones may link a number: it is alive above the base point, and behind no gap.
+    fn may_link(self, book: &EpochBook, base: u64, redo: &Record) -> bool
+        ensures { IsTrue result ↔ MayLink book.now base self redo.now }
+    {
+        base < redo.number()
+            && redo.back() <= self.complete
+            && matches!(book.stands(redo.epoch(), redo.number()), Standing::Alive)
+    }
+}

@@ -1,0 +1,66 @@
+ghost use Rattle.std.specs.Prelude.{◌≡◌, ◌≤◌, [], IfOk, OnOk};
+ghost use Rattle.redo_core.specs.Order.{IsRising, RecordBefore};
+ghost use Rattle.redo_core.specs.Roster.{least};
+ghost use Rattle.segment_core.specs.Restoring.{IsMadeOf, Gains, GainsEach};
+
+use crate::points::Points;
+use crate::segment::Segment;
+use epoch_book::EpochBook;
+use hot_log::HotLog;
+use page_base::BaseStore;
+use redo_core::{Page, Record};
+use std::alloc::{AllocError, Global};
+
+impl Segment {
+    /// A segment of a book that holds these records, and whose pages are those given, and zeros else, at the base point.
+    ///
+    /// `base` is a number of the log, at most the minimum read point, and at base 0 there are no pages; the records rise by key.
+    /// Its only error is want of memory.
+    pub fn restore(
+        alloc: Global,
+        book: EpochBook,
+        records: Vec<Record>,
+        base: u64,
+        pages: Vec<(u16, Page)>,
+    ) -> Result<Self, AllocError>
+        requires base { base ≤ least book.points }
+        requires none_at_0 { base ≡ 0 → pages.items ≡ [] }
+        requires rising { IsRising RecordBefore records.items }
+        ensures { IfOk result (IsMadeOf book records.items base pages.items) }
+    {
+        let mut hot = HotLog::new(alloc);
+        hold_all(&mut hot, records)?;
+        let points = Points::anew(&hot, &book, 0);
+        let mut segment = Segment {
+            alloc,
+            book,
+            hot,
+            base: 0,
+            store: BaseStore::new(alloc),
+            points,
+        };
+        match segment.adopt(base, pages) {
+            Ok(()) => Ok(segment),
+            Err(_) => Err(AllocError),
+        }
+    }
+}
+
+/// Holds records in a log, under no key that is taken there, so that memory alone can be wanting.
+fn hold_all(hot: &mut HotLog, records: Vec<Record>) -> Result<(), AllocError>
+    ensures { OnOk result (GainsEach hot.old records.items hot.new) }
+{
+    for redo in records {
+        hold(hot, redo)?;
+    }
+    Ok(())
+}
+
+fn hold(hot: &mut HotLog, redo: Record) -> Result<(), AllocError>
+    ensures { OnOk result (Gains hot.old redo hot.new) }
+{
+    match hot.put(redo) {
+        Ok(_) => Ok(()),
+        Err(_) => Err(AllocError),
+    }
+}
