@@ -20,7 +20,7 @@ pub(crate) fn first_key_conflict(
     requires { Describes facts.now cuts.now }
     ensures { IfOk result (IsFirstKeyConflict facts.now) }
 {
-    let mut seen = HashMap::new(alloc);
+    let mut seen = HashMap::with_capacity(alloc, facts.len())?;
     for (place, fact) in facts.iter().enumerate() {
         match fact {
             Fact::Record(redo) => {

@@ -75,7 +75,7 @@ fn begun_items(alloc: Global, facts: &[Fact], cuts: &CountedCuts) -> Result<Vec<
     requires { Describes facts.now cuts.now }
     ensures { IfOk result (λ v. AreItems facts.now v.items) }
 {
-    let mut items = Vec::new(alloc);
+    let mut items = Vec::with_capacity(alloc, facts.len())?;
     for (place, fact) in facts.iter().enumerate() {
         if let Fact::Record(redo) = fact {
             if cuts.admits(redo.epoch(), redo.number()) {

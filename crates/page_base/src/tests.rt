@@ -40,54 +40,87 @@ fn pages_never_raised(rt: HostRuntime) -> Result<(), Fail> {
     Ok(())
 }
 
+// Whether the store raises the page to an image whose every byte is the one given.
+fn raise_to(
+    store: &mut BaseStore,
+    page: u16,
+    version: u64,
+    byte: u8,
+    alloc: Global,
+) -> Result<bool, AllocError> {
+    let image = page_of(alloc, byte)?;
+    Ok(store.raise(page, version, image).is_ok())
+}
+
+// Whether the store adopts images, each of one byte, at the version.
+fn adopt_at(
+    store: &mut BaseStore,
+    version: u64,
+    images: &[(u16, u8)],
+    alloc: Global,
+) -> Result<bool, AllocError> {
+    let mut given = Vec::new(alloc);
+    for (page, byte) in images {
+        given.push((*page, page_of(alloc, *byte)?))?;
+    }
+    Ok(store.adopt(version, given).is_ok())
+}
+
+// The version of a page and the last byte of its image.
+fn version_and_byte(store: &BaseStore, page: u16) -> Result<(u64, u8), AllocError> {
+    let image = store.image(page)?;
+    Ok((store.version(page), image.bytes()[4095]))
+}
+
 #[test]
 fn raises(rt: HostRuntime) -> Result<(), Fail> {
     let mut store = two_pages(rt.alloc())?;
-    assert_eq!(rt; rows(&store), [(2, 8, 2), (9, 5, 1), (0, 0, 0), (0, 0, 0)]);
-    assert_eq!(rt; store.version(9), 5);
-    assert_eq!(rt; store.image(9)?.bytes()[4095], 1);
-    assert_eq!(rt; store.version(3), 0);
-    assert!(rt; store.raise(9, 4, page_of(rt.alloc(), 3)?).is_ok());
-    assert!(rt; store.raise(9, 5, page_of(rt.alloc(), 4)?).is_ok());
-    assert_eq!(rt; rows(&store), [(2, 8, 2), (9, 5, 1), (0, 0, 0), (0, 0, 0)]);
-    assert!(rt; store.raise(9, 6, page_of(rt.alloc(), 5)?).is_ok());
-    assert_eq!(rt; rows(&store), [(2, 8, 2), (9, 6, 5), (0, 0, 0), (0, 0, 0)]);
-    assert_eq!(rt; store.image(9)?.bytes()[0], 5);
+    for (version, byte, shown) in [(4, 3, (9, 5, 1)), (5, 4, (9, 5, 1)), (6, 5, (9, 6, 5))] {
+        let taken = raise_to(&mut store, 9, version, byte, rt.alloc())?;
+        assert!(rt; taken);
+        assert_eq!(rt; rows(&store), [(2, 8, 2), shown, (0, 0, 0), (0, 0, 0)]);
+    }
+    let (raised, other) = (version_and_byte(&store, 9)?, version_and_byte(&store, 3)?);
+    assert_eq!(rt; (raised, other), ((6, 5), (0, 0)));
     Ok(())
 }
 
 #[test]
 fn copies(rt: HostRuntime) -> Result<(), Fail> {
     let mut store = two_pages(rt.alloc())?;
-    assert!(rt; store.adopt(3, Vec::new(rt.alloc())).is_ok());
+    let adopted = adopt_at(&mut store, 3, &[], rt.alloc())?;
     let copied = store.copy()?;
-    assert!(rt; store.raise(9, 6, page_of(rt.alloc(), 5)?).is_ok());
+    let raised = raise_to(&mut store, 9, 6, 5, rt.alloc())?;
+    assert!(rt; adopted && raised);
     assert_eq!(rt; rows(&copied), [(2, 8, 2), (9, 5, 1), (0, 0, 0), (0, 0, 0)]);
-    assert_eq!(rt; copied.version(4), 3);
-    assert!(rt; copied.image(4)?.is_zero());
+    assert_eq!(rt; version_and_byte(&copied, 4)?, (3, 0));
     Ok(())
 }
 
 #[test]
 fn adoptions(rt: HostRuntime) -> Result<(), Fail> {
     let mut store = two_pages(rt.alloc())?;
-    assert!(rt; store.raise(4, 6, page_of(rt.alloc(), 3)?).is_ok());
-    let mut given = Vec::new(rt.alloc());
-    for (page, byte) in [(4, 7), (1, 8), (2, 9), (4, 10), (1, 11)] {
-        given.push((page, page_of(rt.alloc(), byte)?))?;
-    }
-    assert!(rt; store.adopt(7, given).is_ok());
+    let raised = raise_to(&mut store, 4, 6, 3, rt.alloc())?;
+    let images = [(4, 7), (1, 8), (2, 9), (4, 10), (1, 11)];
+    let adopted = adopt_at(&mut store, 7, &images, rt.alloc())?;
+    assert!(rt; raised && adopted);
     assert_eq!(rt; rows(&store), [(1, 7, 8), (2, 8, 2), (4, 7, 7), (0, 0, 0)]);
-    assert_eq!(rt; store.version(9), 7);
-    assert!(rt; store.image(9)?.is_zero());
-    assert_eq!(rt; store.version(500), 7);
-    let mut late = Vec::new(rt.alloc());
-    late.push((9, page_of(rt.alloc(), 12)?))?;
-    assert!(rt; store.adopt(7, late).is_ok());
-    assert!(rt; store.image(9)?.is_zero());
-    assert!(rt; store.adopt(8, Vec::new(rt.alloc())).is_ok());
+    let (replaced, other) = (version_and_byte(&store, 9)?, version_and_byte(&store, 500)?);
+    assert_eq!(rt; (replaced, other), ((7, 0), (7, 0)));
+    Ok(())
+}
+
+#[test]
+fn later_adoptions(rt: HostRuntime) -> Result<(), Fail> {
+    let mut store = two_pages(rt.alloc())?;
+    for (version, images, shown) in [(7, [(1, 8)], (1, 7, 8)), (7, [(9, 12)], (1, 7, 8))] {
+        let adopted = adopt_at(&mut store, version, &images, rt.alloc())?;
+        assert!(rt; adopted);
+        assert_eq!(rt; rows(&store), [shown, (2, 8, 2), (0, 0, 0), (0, 0, 0)]);
+    }
+    let adopted = adopt_at(&mut store, 8, &[], rt.alloc())?;
+    assert!(rt; adopted);
     assert_eq!(rt; rows(&store), [(2, 8, 2), (0, 0, 0), (0, 0, 0), (0, 0, 0)]);
-    assert_eq!(rt; store.version(1), 8);
     Ok(())
 }
 
