@@ -1,0 +1,59 @@
+-- What a segment shows, where it knows and holds more or less.
+use Rattle.std.proofs.Common.{◌≡◌, ℕ, ◌<◌, ◌≤◌, ◌↔◌, List, sym, ap, ◌∙◌}
+use Rattle.std.specs.List.{Contains}
+use Rattle.redo_core.specs.Data.{RecordData, CutData}
+use Rattle.redo_core.specs.Order.{BeforeByNumber}
+use Rattle.redo_core.specs.Standing.{IsAlive}
+use Rattle.redo_core.specs.Linked.{Linked}
+use Rattle.redo_core.specs.Linked.Linked.{start, next}
+use Rattle.redo_core.specs.Writing.{after_records}
+use Rattle.redo_laws.proofs.Meanings.{lists_as}
+use Rattle.segment_state.specs.State.{State, version_of, image_of}
+use Rattle.segment_state.specs.HasMeaning.{IsLinkedIn}
+use Rattle.segment_state.specs.Shows.{Shows, IsApplied}
+
+-- the two states have one view: which records are alive
+pub record SameView (s t : State) : Type 0 where
+  pub cuts : t.book.cuts ≡ s.book.cuts
+  pub complete : t.book.complete ≡ s.book.complete
+
+-- the two states have one image of the page
+pub record SameImage (s t : State) (page : ℕ) : Type 0 where
+  pub version : version_of t.store page ≡ version_of s.store page
+  pub image : image_of t.store page ≡ image_of s.store page
+
+-- the two states hold the same records of the page above its version and up to the point
+abbrev pub SameHeld : State → State → ℕ → ℕ → Type 0
+SameHeld s t page q = (r : RecordData) → IsAlive s.book.cuts s.book.complete r.epoch r.number → r.page ≡ page → version_of s.store page < r.number → r.number ≤ q
+    → Contains s.held r ↔ Contains t.held r
+
+alive_as : (s t : State) → SameView s t → (r : RecordData)
+    → IsAlive s.book.cuts s.book.complete r.epoch r.number ↔ IsAlive t.book.cuts t.book.complete r.epoch r.number
+alive_as s t v r = rw (v.cuts, v.complete) (λ a. a, λ a. a)
+
+above_as : (s t : State) (page n : ℕ) → SameImage s t page → (version_of s.store page < n) ↔ (version_of t.store page < n)
+above_as s t page n i = rw i.version (λ a. a, λ a. a)
+
+applied_as : (s t : State) (page q : ℕ) → SameView s t → SameImage s t page → SameHeld s t page q → (r : RecordData) → IsApplied s page q r ↔ IsApplied t page q r
+applied_as s t page q v i held r =
+    let alive = alive_as s t v r in
+    let above = above_as s t page r.number i in (
+      λ h. ((held r h.1 h.2 h.3 h.4).0 h.0, alive.0 h.1, h.2, above.0 h.3, h.4),
+      λ h. ((held r (alive.1 h.1) h.2 (above.1 h.3) h.4).1 h.0, alive.1 h.1, h.2, above.1 h.3, h.4),
+    )
+
+pub shows_as : (s t : State) (page q : ℕ) (image : List ℕ) → SameView s t → SameImage s t page → SameHeld s t page q → Shows s page q image → Shows t page q image
+shows_as s t page q image v i held h = record {
+  written = h.written;
+  lists = lists_as BeforeByNumber (IsApplied s page q) (IsApplied t page q) (applied_as s t page q v i held) h.written h.lists;
+  result = h.result ∙ ap (λ (own : List ℕ). after_records own h.written) (sym i.image);
+}
+
+-- more records link no less
+pub linked_more : (cs : List CutData) (rs more : List RecordData) (k base n : ℕ) → ((r : RecordData) → Contains rs r → Contains more r) → Linked cs rs k base n
+    → Linked cs more k base n
+linked_more cs rs more k base n sub start = start
+linked_more cs rs more k base n sub (next r held alive above back) = next r (sub r held) alive above (linked_more cs rs more k base r.back sub back)
+
+pub linked_in : (s t : State) (n : ℕ) → SameView s t → t.base ≡ s.base → ((r : RecordData) → Contains s.held r → Contains t.held r) → IsLinkedIn s n → IsLinkedIn t n
+linked_in s t n v base sub l = rw (v.cuts, v.complete, base) (linked_more s.book.cuts s.held t.held s.book.complete s.base n sub l)

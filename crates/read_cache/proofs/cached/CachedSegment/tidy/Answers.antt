@@ -1,0 +1,13 @@
+use Rattle.read_cache.proofs.cached.CachedSegment.tidy.Goals as goal
+
+pub returns-in-Ok-clause-kept : goal.returns-in-Ok-clause-kept
+returns-in-Ok-clause-kept c = rw (← c.self.view_is) c.in-Ok.ensures.kept
+
+pub returns-in-Ok-clause-broken : goal.returns-in-Ok-clause-broken
+returns-in-Ok-clause-broken c = rw (← c.self.view_is) c.in-Ok.ensures.broken
+
+pub returns-in-Err-clause-broken : goal.returns-in-Err-clause-broken
+returns-in-Err-clause-broken c = rw (← c.self.view_is) c.in-Err.ensures.broken
+
+pub returns-in-Err-clause-refused : goal.returns-in-Err-clause-refused
+returns-in-Err-clause-refused c = rw (← c.self.view_is) c.in-Err.ensures.refused

@@ -1,0 +1,8 @@
+use Rattle.read_cache.proofs.images.Images.find.Goals.{in-Some, in-None}
+use Rattle.read_cache.proofs.images.Images.find.Goals as goal
+
+pub returns-clause-among : goal.returns-clause-among
+returns-clause-among c = λ e at. elim c.match-self.branch [
+  | in-Some w ↦ rw (← c.self.view_is, w.in-Some.is) (w.copy_at.ensures.among e (rw w.self-inside-is at at))
+  | in-None w ↦ rw (← c.self.view_is) (rw w.self-inside-is at at)
+]

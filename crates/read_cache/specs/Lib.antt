@@ -1,0 +1,4 @@
+pub mod Cached
+pub mod Images
+pub mod Reading
+pub mod UpToDate

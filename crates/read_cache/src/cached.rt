@@ -1,0 +1,315 @@
+ghost use Rattle.std.specs.Prelude.{◌≡◌, ℕ, ◌≤◌, List, [], true, false, Ok, IfOk, IfSome, OnOk, OnErr, IfErr, IsTrue, ◌↔◌, length};
+ghost use Rattle.std.specs.Borrow.{Lends, sem};
+ghost use Rattle.redo_core.specs.Data.{CutData};
+ghost use Rattle.redo_core.specs.Position.{Position};
+ghost use Rattle.redo_core.specs.Roster.{least};
+ghost use Rattle.redo_core.specs.Sound.{IsSound};
+ghost use Rattle.redo_core.specs.declared.facts.Fact.{Fact as AnyFact};
+ghost use Rattle.redo_core.specs.declared.facts.Fact.TheVariants.{Cut as OfCut};
+ghost use Rattle.segment_state.specs.Means.{MeansAt};
+ghost use Rattle.segment_state.specs.Shows.{Shows};
+ghost use Rattle.segment_state.specs.Promises.{KeepsMeaning, KeepsMeaningWith};
+ghost use Rattle.segment_core.specs.BlockChain.{TellsBreak};
+ghost use Rattle.segment_core.specs.Exactly.{TakesExactly};
+ghost use Rattle.segment_core.specs.Folding.{Commits, RefusesCommit, RefusesAhead};
+ghost use Rattle.segment_core.specs.Forgetting.{DiscardsJust, Tidies, HoldsJustKept, IsSoundState, TellsFirstBreak, RefusesTidy};
+ghost use Rattle.segment_core.specs.Reading.{IsReadResult, TellsOutside};
+ghost use Rattle.segment_core.specs.Refusing.{FitsSoundLog};
+ghost use Rattle.segment_core.specs.Taking.{TellsChange};
+ghost use Rattle.segment_core.specs.declared.answers.ReadFault.TheVariants.{Memory as OfMemory};
+ghost use Rattle.segment_core.specs.declared.answers.Refusal.TheVariants.{Memory as MemoryOf};
+ghost use Rattle.segment_core.specs.declared.answers.Taken.TheVariants.{Changed as ChangedOf, Unchanged as UnchangedOf};
+ghost use Rattle.lru.specs.LruCache.{lru_cache};
+ghost use Rattle.read_cache.specs.Cached.{IsCached, IsShown, cached};
+ghost use Rattle.read_cache.specs.Images.{kept_at};
+ghost use Rattle.read_cache.specs.Reading.{TellsUnkeptBreak, IsHit};
+ghost use Rattle.read_cache.specs.UpToDate.{Touches};
+
+use crate::images::Images;
+use redo_core::{Fact, Page, Refused};
+use segment_core::{CommitFault, Folded, ReadFault, Refusal, Segment, Taken};
+use std::alloc::AllocError;
+use std::marker::Model;
+
+/// A segment with a cache of page images, which answers as the segment does.
+///
+/// Each image is what the segment shows at its point. No point is above `top`, which is not above the complete point.
+#[derive(Drop)]
+pub struct CachedSegment {
+    segment: Segment,
+    images: Images,
+    top: u64,
+}
+
+impl Model for CachedSegment {
+    ghost use Rattle.read_cache.specs.Cached.{Cached, cached};
+    ghost use Rattle.read_cache.specs.UpToDate.{IsUpToDate};
+
+    ghost Value = { Cached };
+
+    ghost view = { λ c. cached c.segment c.images.cap c.images.entries };
+
+    ghost invariant = { λ c. IsUpToDate c.segment c.top c.images.entries };
+}
+
+impl CachedSegment {
+    /// A segment that keeps at most so many images, at first none; with 0 pages it never keeps one.
+    ///
+    /// The only error is want of memory: the segment comes back.
+    pub fn new(segment: Segment, pages: usize) -> Result<Self, Refused<Segment, AllocError>>
+        ensures made { IfOk result (λ c. c ≡ cached segment pages []) }
+        ensures back { IfErr result (λ e. e.value ≡ segment) }
+    {
+        match Images::new(segment.allocator(), pages) {
+            Ok(images) => Ok(CachedSegment {
+                segment,
+                images,
+                top: 0,
+            }),
+            Err(fault) => Err(Refused {
+                value: segment,
+                fault,
+            }),
+        }
+    }
+
+    /// The segment, to be asked what takes no change. Its own reads go past the cache.
+    pub fn segment(&self) -> &Segment
+        ensures { result.now ≡ self.now.segment }
+    {
+        &self.segment
+    }
+
+    /// How many images are kept.
+    pub fn kept(&self) -> usize
+        ensures count { result ≡ length self.now.images }
+        ensures form { IsCached self.now }
+    {
+        self.images.len()
+    }
+
+    /// The segment itself. The images go.
+    pub fn into_segment(self) -> Segment
+        ensures { result ≡ self.segment }
+    {
+        self.segment
+    }
+}
+
+impl CachedSegment {
+    ghost use Rattle.segment_core.specs.contracts.segment.Segment.{the_row as segment_row};
+    ghost use Rattle.read_cache.specs.contracts.cached.CachedSegment.{the_row};
+
+    /// The segment, to be changed in any way. Every image goes first.
+    pub fn segment_mut(&mut self) -> &mut Segment
+        ensures* lends { sem 𝓛 (Lends the_row segment_row self.entry result (λ segment. cached segment self.old.pages [])) }
+        ensures lent { result.now ≡ self.old.segment }
+    {
+        self.images.clear();
+        self.top = 0;
+        &mut self.segment
+    }
+}
+
+impl CachedSegment {
+    /// Takes one fact into the segment, as `Segment::take` does. Every image goes with a truncation that is new, and with a record at
+    /// or below a point that one was read at.
+    ///
+    /// Errors: `OtherRoster`, `OtherCut`, `Contradiction`, `OtherRecord`, `Memory`; nothing has changed then, and the fact comes back.
+    pub fn take(&mut self, fact: Fact) -> Result<Taken, Refused<Fact, Refusal>>
+        // For the facts that the segment means.
+        ensures tells { IfOk result (TellsChange self.old.segment fact) }
+        ensures sound { IfErr result (λ e. FitsSoundLog self.old.segment fact → e.fault ≡ MemoryOf) }
+
+        // Over any facts.
+        ensures takes { TakesExactly self.old.segment fact result self.new.segment }
+        ensures drops { (cut : CutData) → fact ≡ OfCut cut → result ≡ Ok ChangedOf → self.new.images ≡ [] }
+        ensures idle { IfOk result (λ taken. taken ≡ UnchangedOf → self.new ≡ self.old) }
+        ensures unchanged { OnErr result (self.new ≡ self.old) }
+        ensures pages { self.new.pages ≡ self.old.pages }
+    {
+        let touched = touches(&fact, self.top);
+        let taken = self.segment.take(fact);
+        let stale = is_stale(touched, &taken);
+        clear_if(stale, &mut self.images, &mut self.top);
+        taken
+    }
+
+    /// The page at a read point, as `Segment::read` tells it. A copy of the image is kept where memory allows.
+    ///
+    /// Errors: `Below` with the minimum read point where the point is below it, else `Above` with the complete point where the
+    /// point is above it, else `BrokenBlockChain` with the record whose block backlink leads nowhere, unless an image is kept that was
+    /// read there before; `Memory`.
+    pub fn read(&mut self, page: u16, point: u64) -> Result<Page, ReadFault>
+        ensures result { (roster : ℕ) (log facts : List AnyFact) (p : Position) → IsSound roster log → MeansAt roster log facts p self.old.segment → IsReadResult facts p page point result }
+        // Over any facts.
+        ensures own { IfOk result (λ image. Shows self.old.segment page point image) }
+        ensures outside { TellsOutside self.old.segment point result }
+        ensures broken { TellsUnkeptBreak self.old page point result }
+        ensures segment { self.new.segment ≡ self.old.segment }
+        ensures pages { self.new.pages ≡ self.old.pages }
+    {
+        match self.find(page, point) {
+            Some(answer) => answer,
+            None => self.read_anew(page, point),
+        }
+    }
+
+    /// Takes a folded page as the base image of its page, as `Segment::commit_fold` does. The page's image goes.
+    ///
+    /// `image` has to be the page at `version`. Errors: `Ahead` where the version is above the anchor; `Memory`; nothing has changed
+    /// then, and the fold comes back.
+    pub fn commit_fold(&mut self, folded: Folded) -> Result<(), Refused<Folded, CommitFault>>
+        // For a page of the log that is final.
+        ensures keeps { OnOk result (KeepsMeaningWith self.old.segment folded.page folded.version folded.image self.new.segment) }
+        // Over any image.
+        ensures commits { OnOk result (Commits self.old.segment folded self.new.segment) }
+        ensures ahead { RefusesAhead self.old.segment folded result }
+        ensures refused { IfErr result (λ e. RefusesCommit self.old.segment folded e.fault) }
+        ensures back { IfErr result (λ e. e.value ≡ folded) }
+        ensures unchanged { OnErr result (self.new ≡ self.old) }
+        ensures pages { self.new.pages ≡ self.old.pages }
+    {
+        let page = folded.page;
+        match self.segment.commit_fold(folded) {
+            Ok(()) => {
+                self.images.forget(page);
+                Ok(())
+            }
+            Err(refused) => Err(refused),
+        }
+    }
+
+    /// Raises the base point to the anchor, and forgets each record at or below it that its page's base image has. It takes no
+    /// memory.
+    pub fn discard(&mut self)
+        ensures keeps { KeepsMeaning self.old.segment self.new.segment }
+        ensures discards { DiscardsJust self.old.segment self.new.segment }
+        ensures pages { self.new.pages ≡ self.old.pages }
+    {
+        self.segment.discard();
+        // Over a sound log the complete point is as it was.
+        let stale = self.segment.front().complete < self.top;
+        clear_if(stale, &mut self.images, &mut self.top);
+    }
+
+    /// Folds each page that has held records to the anchor, discards, and forgets the dead records, as `Segment::tidy` does. Every
+    /// image goes.
+    ///
+    /// Errors: `BrokenBlockChain` of the least page with such a chain at or below the anchor, never over a sound log; `Memory`;
+    /// nothing has changed then.
+    pub fn tidy(&mut self) -> Result<(), ReadFault>
+        ensures keeps { OnOk result (KeepsMeaning self.old.segment self.new.segment) }
+        ensures kept { OnOk result (HoldsJustKept self.old.segment self.new.segment) }
+        ensures tidies { OnOk result (Tidies self.old.segment self.new.segment) }
+        ensures sound { IfErr result (λ e. IsSoundState self.old.segment → e ≡ OfMemory) }
+        ensures broken { TellsFirstBreak self.old.segment result }
+        ensures refused { IfErr result (RefusesTidy self.old.segment) }
+        ensures unchanged { OnErr result (self.new ≡ self.old) }
+        ensures pages { self.new.pages ≡ self.old.pages }
+    {
+        match self.segment.tidy() {
+            Ok(()) => {
+                self.images.clear();
+                self.top = 0;
+                Ok(())
+            }
+            Err(fault) => Err(fault),
+        }
+    }
+}
+
+impl CachedSegment {
+    /// What a read answers from the page's image, where one is kept that was read at the point, and the point may be read.
+    pub(crate) fn find(&mut self, page: u16, point: u64) -> Option<Result<Page, ReadFault>>
+        ensures hit { IfSome result (IsHit self.old page point) }
+        ensures segment { self.new.segment ≡ self.old.segment }
+        ensures pages { self.new.pages ≡ self.old.pages }
+    {
+        if !is_reached(self.segment.points(), point) {
+            return None;
+        }
+        match self.images.find(page, point) {
+            Some(copied) => Some(served(copied)),
+            None => None,
+        }
+    }
+
+    /// What the segment answers to a read, of which a copy is kept.
+    fn read_anew(&mut self, page: u16, point: u64) -> Result<Page, ReadFault>
+        ensures result { (roster : ℕ) (log facts : List AnyFact) (p : Position) → IsSound roster log → MeansAt roster log facts p self.old.segment → IsReadResult facts p page point result }
+        ensures own { IfOk result (λ image. Shows self.old.segment page point image) }
+        ensures outside { TellsOutside self.old.segment point result }
+        ensures broken { TellsBreak self.old.segment page point result }
+        ensures segment { self.new.segment ≡ self.old.segment }
+        ensures pages { self.new.pages ≡ self.old.pages }
+    {
+        let answer = self.segment.read(page, point);
+        if let Ok(image) = &answer {
+            self.keep(page, point, image);
+        }
+        answer
+    }
+
+    /// Keeps a copy of the image that the segment shows at a point, where memory allows.
+    fn keep(&mut self, page: u16, point: u64, image: &Page)
+        requires shown { IsShown self.old.segment page (kept_at point image.now) }
+        ensures segment { self.new.segment ≡ self.old.segment }
+        ensures pages { self.new.pages ≡ self.old.pages }
+    {
+        if let Ok(copied) = image.copy() {
+            self.images.keep(page, point, copied);
+            self.top = self.top.max(point);
+        }
+    }
+}
+
+fn clear_if(stale: bool, images: &mut Images, top: &mut u64)
+    ensures cleared { stale ≡ true → (images.new ≡ lru_cache [] images.old.cap) × (top.new ≡ 0) }
+    ensures same { stale ≡ false → (images.new ≡ images.old) × (top.new ≡ top.old) }
+    ensures pages { images.new.cap ≡ images.old.cap }
+{
+    if stale {
+        images.clear();
+        *top = 0;
+    }
+}
+
+/// Whether a fact, where it is new, can change what is shown at points up to `top`.
+fn touches(fact: &Fact, top: u64) -> bool
+    ensures { Touches fact.now top result }
+{
+    match fact {
+        Fact::Record(redo) => redo.number() <= top,
+        Fact::Cut(_) => true,
+        Fact::Advance(_) => false,
+    }
+}
+
+fn is_stale(touched: bool, taken: &Result<Taken, Refused<Fact, Refusal>>) -> bool
+    ensures { IsTrue result ↔ (IsTrue touched × (taken.now ≡ Ok ChangedOf)) }
+{
+    touched && matches!(taken, Ok(Taken::Changed))
+}
+
+/// Whether a point is at or above the least of the readers' points.
+fn is_reached(points: &[u64], point: u64) -> bool
+    ensures { IsTrue result → least points.now ≤ point }
+{
+    for own in points {
+        if *own <= point {
+            return true;
+        }
+    }
+    false
+}
+
+fn served(copied: Result<Page, AllocError>) -> Result<Page, ReadFault>
+    ensures page { IfOk result (λ image. copied ≡ Ok image) }
+    ensures memory { IfErr result (λ fault. fault ≡ OfMemory) }
+{
+    match copied {
+        Ok(image) => Ok(image),
+        Err(_) => Err(ReadFault::Memory),
+    }
+}
