@@ -1,11 +1,10 @@
--- What a state is after it took over a draft that has taken and holds what a delta tells, with the delta's pages.
+-- What a state is after it took over a draft that has taken what a delta tells, with the delta's pages.
 use Rattle.std.proofs.Common.{◌≡◌, ℕ, ◌<◌, ◌≤◌, ◌⊎◌, inl, inr, ⊎_elim, map, max, refl, sym, ap, ◌∙◌, subst, arith}
 use Rattle.std.specs.List.{Contains}
 use Rattle.std.proofs.Math.Nat.{le-max_left, max-eq_left, max-eq_right}
 use Rattle.redo_core.specs.Data.{RecordData}
 use Rattle.redo_core.specs.Meaning.{ImageData}
 use Rattle.redo_core.specs.Roster.{least}
-use Rattle.redo_core.specs.Standing.{IsAlive, IsDead, IsWaiting}
 use Rattle.redo_core.specs.Book.{roster_of}
 use Rattle.redo_core.specs.declared.facts.Fact.TheVariants.{Record}
 use Rattle.redo_laws.proofs.Deciding.{settled_lt}
@@ -18,43 +17,42 @@ use Rattle.segment_state.specs.Means.{Matters, IsInImage}
 use Rattle.segment_state.specs.Joining.{JoinsBooks}
 use Rattle.segment_state.specs.Gossip.{HasImage, Absorbs}
 use Rattle.segment_core.specs.Form.{IsSegment}
-use Rattle.segment_core.specs.Refusing.{HoldsOther}
+use Rattle.segment_core.specs.Forgetting.{with_store}
 use Rattle.segment_core.specs.Uniting.{draft_of, Unites}
 use Rattle.segment_join.specs.Told.{facts_told}
-use Rattle.segment_join.specs.Joining.{HaveOneRecordAKey}
-use Rattle.segment_join.specs.Holding.{InOtherImage, IsSpared}
-use Rattle.segment_join.proofs.Keeping.{one_of_key}
-use Rattle.segment_join.proofs.TakingAll.{LeavesAll}
+use Rattle.segment_join.specs.InOrder.{TakesEach}
+use Rattle.segment_join.proofs.OtherImages.{takes_of_draft}
+use Rattle.segment_join.proofs.TakingAll.{IsLate, LeavesAll, leaves_all}
 use Rattle.segment_join.proofs.ToldFacts.{listed_cut, listed_advance, listed_record}
 use Rattle.segment_join.proofs.JoinedStates.{HasBook, all, book_joined, least_fits, late_of}
-use Rattle.gossip_core.specs.Absorbing.{filling_of, with_held, IsFilled, image_at}
+use Rattle.gossip_core.specs.Absorbing.{filling_of, image_at, AbsorbsInto}
 
--- a draft of the state has what the delta tells
+-- a draft of the state has taken what the delta tells
 pub record HasDelta (s : State) (d : DeltaData) (draft : State) : Type 0 where
   pub form : IsSegment s
   pub shape : IsDelta d
   pub one_roster : roster_of s.book ≡ roster_of d.book
-  pub filled : IsFilled s d draft
+  pub takes : TakesEach (draft_of s) (facts_told d.book d.records) draft
 
 module _ (s : State) (d : DeltaData) (draft : State) (h : HasDelta s d draft) where
-  pub has_book : HasBook s d.book (facts_told d.book d.records) h.filled.taken
+  has_book : HasBook s d.book (facts_told d.book d.records) draft
   has_book = record {
     own = late_of s h.form;
     epoch = h.shape.book.complete;
     one_roster = h.one_roster;
     cut = listed_cut d.book d.records (facts_told d.book d.records) refl;
     advance = listed_advance d.book d.records (facts_told d.book d.records) refl;
-    takes = h.filled.takes;
+    takes = h.takes;
   }
 
-  pub left : LeavesAll (draft_of s) (facts_told d.book d.records) h.filled.taken
-  left = all s h.filled.taken d.book (facts_told d.book d.records) has_book
+  left : LeavesAll (draft_of s) (facts_told d.book d.records) draft
+  left = all s draft d.book (facts_told d.book d.records) has_book
 
   pub base_fits : d.base ≤ min_of draft
   base_fits =
-      let low : least d.book.points ≤ min_of h.filled.taken = least_fits s h.filled.taken d.book (facts_told d.book d.records) has_book in
+      let low : least d.book.points ≤ min_of draft = least_fits s draft d.book (facts_told d.book d.records) has_book in
       let base : d.base ≤ least d.book.points = h.shape.base in
-      subst (λ k. d.base ≤ least k.points) (sym h.filled.holds.book) (omega (arith, low, base))
+      omega (arith, low, base)
 
 module _ (s : State) (d : DeltaData) (draft new : State) (h : HasDelta s d draft)
     (unites : Unites s draft d.base d.base (map (image_at d.base) d.pages) new) where
@@ -82,11 +80,14 @@ module _ (s : State) (d : DeltaData) (draft new : State) (h : HasDelta s d draft
     ),
   )
 
-  images : (g : ℕ) → ((version_of new.store g ≡ version_of s.store g) × (image_of new.store g ≡ image_of s.store g))
-      ⊎ ((version_of s.store g ≤ d.base) × (version_of new.store g ≡ d.base) × HasImage (filling_of d) g (image_of new.store g))
+  images : (g : ℕ) → ((d.base ≤ version_of s.store g) × SamePage s.store new.store g)
+      ⊎ ((version_of s.store g < d.base) × (version_of new.store g ≡ d.base) × HasImage (filling_of d) g (image_of new.store g))
   images g =
       ⊎_elim
-      (λ (x : SamePage s.store new.store g). inl x)
+      (λ (x : SamePage s.store new.store g).
+      let low : d.base ≤ version_of new.store g = merges.floored g in
+      let same : version_of new.store g ≡ version_of s.store g = x.0 in
+      inl (omega (arith, low, same), x))
       (λ (x : (version_of s.store g < version_of new.store g)
       × (IsTaken (map (image_at d.base) d.pages) new.store g ⊎ IsFloored d.base (map (image_at d.base) d.pages) new.store g)).
       let is : (version_of new.store g ≡ d.base) × HasImage (filling_of d) g (image_of new.store g) = ⊎_elim (taken_of g) (floored_of g) x.1 in
@@ -94,78 +95,91 @@ module _ (s : State) (d : DeltaData) (draft new : State) (h : HasDelta s d draft
       inr (omega (arith, up, is.0), is.0, is.1))
       (merges.page g)
 
-  base_is : new.base ≡ max s.base d.base
-  base_is = unites.base_is ∙ ap (λ b. max b d.base) (h.filled.holds.rest.base ∙ (left s d draft h).base)
+  pub absorbs : AbsorbsInto s d new
+  absorbs = record {
+    one_roster = h.one_roster;
+    taken = with_store draft s.store;
+    takes = takes_of_draft s (facts_told d.book d.records) draft h.takes;
+    book = (
+      unites.book,
+      subst (JoinsBooks s.book d.book) (sym unites.book) (book_joined s draft d.book (facts_told d.book d.records) (has_book s d draft h)),
+    );
+    held = unites.held;
+    base = unites.base_is ∙ ap (λ b. max b d.base) (left s d draft h).base;
+    images = images;
+  }
 
-  base : ((d.base ≤ s.base) × (new.base ≡ s.base)) ⊎ ((s.base < d.base) × (new.base ≡ d.base) × ((g : ℕ) → d.base ≤ version_of new.store g))
-  base =
+-- ---- what the two know together, where each told record that is not dead is held or in its page's image
+module _ (s : State) (d : DeltaData) (new : State) (late : IsLate s) (a : AbsorbsInto s d new)
+    (told : (r : RecordData) → Contains d.records r → Matters a.taken.book.cuts a.taken.book.complete r → Contains a.taken.held r ⊎ IsInImage a.taken r) where
+  all_left : LeavesAll s (facts_told d.book d.records) a.taken
+  all_left = leaves_all s (facts_told d.book d.records) a.taken late a.takes
+
+  base_known : ((d.base ≤ s.base) × (new.base ≡ s.base)) ⊎ ((s.base < d.base) × (new.base ≡ d.base) × ((g : ℕ) → d.base ≤ version_of new.store g))
+  base_known =
       ⊎_elim
-      (λ (up : s.base < d.base). inr (up, (let z : max s.base d.base ≡ d.base = max-eq_right (omega (arith, up)) in base_is ∙ z), merges.floored))
-      (λ (down : s.base < d.base → ⊥). inl (omega (arith, down), (let z : max s.base d.base ≡ s.base = max-eq_left (omega (arith, down)) in base_is ∙ z)))
+      (λ (up : s.base < d.base). inr (up, (let z : max s.base d.base ≡ d.base = max-eq_right (omega (arith, up)) in a.base ∙ z), reached))
+      (λ (down : s.base < d.base → ⊥). inl (omega (arith, down), (let z : max s.base d.base ≡ s.base = max-eq_left (omega (arith, down)) in a.base ∙ z)))
       (settled_lt s.base d.base)
+    where
+      reached : (g : ℕ) → d.base ≤ version_of new.store g
+      reached g =
+          ⊎_elim
+          (λ (x : (d.base ≤ version_of s.store g) × SamePage s.store new.store g).
+          let low : d.base ≤ version_of s.store g = x.0 in
+          let same : version_of new.store g ≡ version_of s.store g = x.1.0 in
+          omega (arith, low, same))
+          (λ (x : (version_of s.store g < d.base) × (version_of new.store g ≡ d.base) × HasImage (filling_of d) g (image_of new.store g)).
+          let is : version_of new.store g ≡ d.base = x.1 in omega (arith, is))
+          (a.images g)
 
-  book_is : new.book ≡ h.filled.taken.book
-  book_is = unites.book ∙ h.filled.holds.book
-
-  -- what is held after the facts comes from a side
-  from_sides : (r : RecordData) → Contains h.filled.taken.held r → Contains s.held r ⊎ Contains d.records r
-  from_sides r x =
+  not_older : (g : ℕ) → version_of s.store g ≤ version_of new.store g
+  not_older g =
       ⊎_elim
-      (λ (y : Contains s.held r). inl y)
-      (λ (y : Contains (facts_told d.book d.records) (Record r)). inr ((listed_record d.book d.records (facts_told d.book d.records) refl r).0 y))
-      ((left s d draft h).more r x)
+      (λ (x : (d.base ≤ version_of s.store g) × SamePage s.store new.store g).
+      let same : version_of new.store g ≡ version_of s.store g = x.1.0 in omega (arith, same))
+      (λ (x : (version_of s.store g < d.base) × (version_of new.store g ≡ d.base) × HasImage (filling_of d) g (image_of new.store g)).
+      let low : version_of s.store g < d.base = x.0 in
+      let is : version_of new.store g ≡ d.base = x.1 in omega (arith, low, is))
+      (a.images g)
+
+  images_known : (g : ℕ) → ((version_of new.store g ≡ version_of s.store g) × (image_of new.store g ≡ image_of s.store g))
+      ⊎ ((version_of s.store g ≤ d.base) × (version_of new.store g ≡ d.base) × HasImage (filling_of d) g (image_of new.store g))
+  images_known g =
+      ⊎_elim
+      (λ (x : (d.base ≤ version_of s.store g) × SamePage s.store new.store g). inl x.1)
+      (λ (x : (version_of s.store g < d.base) × (version_of new.store g ≡ d.base) × HasImage (filling_of d) g (image_of new.store g)).
+      let low : version_of s.store g < d.base = x.0 in inr (omega (arith, low), x.1, x.2))
+      (a.images g)
+
+  held_now : (r : RecordData) → Contains a.taken.held r → Contains new.held r
+  held_now r x = subst (λ hs. Contains hs r) (sym a.held) x
 
   of_both : (r : RecordData) → Contains new.held r → Contains s.held r ⊎ Contains d.records r
   of_both r x =
-      ⊎_elim (from_sides r) (λ (y : Contains d.records r). inr y) (h.filled.holds.more r (subst (λ hs. Contains hs r) unites.held x))
-
-  held_now : (r : RecordData) → Contains draft.held r → Contains new.held r
-  held_now r x = subst (λ hs. Contains hs r) (sym unites.held) x
-
-  -- no other record of its key is there
-  no_other : HaveOneRecordAKey s (with_held s d.records) → (r : RecordData) → Contains d.records r → HoldsOther h.filled.taken r → ⊥
-  no_other one r has o =
-      o.4 (⊎_elim
-      (λ (x : Contains s.held o.0). one o.0 r x has o.2 o.3)
-      (λ (x : Contains d.records o.0). one_of_key d.records o.0 r h.shape.records x has o.2 o.3)
-      (from_sides o.0 o.1))
-
-  not_dead : (r : RecordData) → Matters new.book.cuts new.book.complete r → IsDead h.filled.taken.book.cuts h.filled.taken.book.complete r.epoch r.number → ⊥
-  not_dead r mat dead =
       ⊎_elim
-      (λ (w : IsWaiting h.filled.taken.book.complete r.epoch). let x : r.epoch ≤ h.filled.taken.book.complete = dead.0 in omega (arith, w, x))
-      (λ (a : IsAlive h.filled.taken.book.cuts h.filled.taken.book.complete r.epoch r.number). dead.1 a)
-      (subst (λ b. Matters b.cuts b.complete r) book_is mat)
+      (λ (y : Contains s.held r). inl y)
+      (λ (y : Contains (facts_told d.book d.records) (Record r)). inr ((listed_record d.book d.records (facts_told d.book d.records) refl r).0 y))
+      (all_left.more r (subst (λ hs. Contains hs r) a.held x))
 
-  in_image : (r : RecordData) → InOtherImage h.filled.taken (with_held s d.records) r → IsInImage new r
+  in_image : (r : RecordData) → IsInImage a.taken r → IsInImage new r
   in_image r f =
       let b : s.base ≤ max s.base d.base = le-max_left s.base d.base in
-      let v : version_of s.store r.page ≤ version_of new.store r.page = merges.not_older r.page in
-      let e = base_is in
-      (subst (λ b. r.epoch ≤ b.complete) (sym book_is) f.0, omega (arith, f.1, b, e), omega (arith, f.2, v))
+      let v : version_of s.store r.page ≤ version_of new.store r.page = not_older r.page in
+      let own : r.number ≤ version_of s.store r.page = subst (λ st. r.number ≤ version_of st r.page) all_left.store f.2 in
+      let low : r.number ≤ s.base = subst (λ n. r.number ≤ n) all_left.base f.1 in
+      let e = a.base in
+      (subst (λ b. r.epoch ≤ b.complete) (sym a.book.0) f.0, omega (arith, low, b, e), omega (arith, own, v))
 
-  kept : HaveOneRecordAKey s (with_held s d.records) → (r : RecordData) → Contains s.held r ⊎ Contains d.records r
-      → Matters new.book.cuts new.book.complete r → Contains new.held r ⊎ IsInImage new r
-  kept one r has mat =
+  kept : (r : RecordData) → Contains s.held r ⊎ Contains d.records r → Matters new.book.cuts new.book.complete r → Contains new.held r ⊎ IsInImage new r
+  kept r has mat =
       ⊎_elim
-      (λ (x : Contains s.held r). inl (held_now r (h.filled.holds.before r ((left s d draft h).before r x))))
+      (λ (x : Contains s.held r). inl (held_now r (all_left.before r x)))
       (λ (x : Contains d.records r). ⊎_elim
-      (λ (y : Contains draft.held r). inl (held_now r y))
-      (λ (spared : IsSpared h.filled.taken (with_held s d.records) r). ⊎_elim
-      (λ (o : HoldsOther h.filled.taken r). absurd (no_other one r x o))
-      (λ rest. ⊎_elim
-      (λ (dead : IsDead h.filled.taken.book.cuts h.filled.taken.book.complete r.epoch r.number). absurd (not_dead r mat dead))
-      (λ (f : InOtherImage h.filled.taken (with_held s d.records) r). inr (in_image r f))
-      rest)
-      spared)
-      (h.filled.holds.each r x))
+      (λ (y : Contains a.taken.held r). inl (held_now r y))
+      (λ (y : IsInImage a.taken r). inr (in_image r y))
+      (told r x (subst (λ b. Matters b.cuts b.complete r) a.book.0 mat)))
       has
 
-  pub absorbs : HaveOneRecordAKey s (with_held s d.records) → Absorbs s (filling_of d) new
-  absorbs one = record {
-    book = subst (JoinsBooks s.book d.book) (sym book_is) (book_joined s h.filled.taken d.book (facts_told d.book d.records) (has_book s d draft h));
-    base = base;
-    images = images;
-    of_both = of_both;
-    kept = kept one;
-  }
+  pub known_together : Absorbs s (filling_of d) new
+  known_together = record { book = a.book.1; base = base_known; images = images_known; of_both = of_both; kept = kept }

@@ -17,7 +17,9 @@ use Rattle.segment_state.specs.HasMeaning.{IsKeptBy}
 use Rattle.segment_state.specs.Laws.{SameAnchor}
 use Rattle.segment_state.specs.Gossip.{IsListed, Replies, ReplyFills}
 use Rattle.gossip_core.specs.Summarizing.{wire_key}
-use Rattle.gossip_core.specs.Replying.{IsSent, SendsRecords, SendsPages, AnswersSummary, listed_key, listing_of, delta_sent, FillsSummary}
+use Rattle.gossip_core.specs.Answering.{listed_key, listing_of}
+use Rattle.gossip_core.specs.Absorbing.{filling_of}
+use Rattle.gossip_core.specs.Replying.{IsSent, SendsRecords, SendsPages, AnswersSummary, FillsSummary}
 use Rattle.gossip_core.proofs.Parts.{one_key}
 
 in_map : {X Y : Type 0} (f : X → Y) (xs : List X) (x : X) → Contains xs x → Contains (map f xs) (f x)
@@ -59,7 +61,7 @@ sent_is_held s point keys r sent = (
 )
 
 of_records : (s : State) (anchor : ℕ) (summary : SummaryData) (d : DeltaData) → s.base ≤ summary.anchor → SendsRecords s summary d
-    → Replies anchor s (listing_of summary) (delta_sent d)
+    → Replies anchor s (listing_of summary) (filling_of d)
 of_records s anchor summary d low a = record {
   same_cuts = λ c. (λ h. subst (λ b. Contains b.cuts c) a.book h, λ h. subst (λ b. Contains b.cuts c) (sym a.book) h);
   epoch = ap (λ b. b.complete) a.book;
@@ -70,7 +72,7 @@ of_records s anchor summary d low a = record {
 }
 
 of_pages : (s : State) (anchor : ℕ) (summary : SummaryData) (d : DeltaData) → d.base ≡ anchor → SendsPages s summary d
-    → Replies anchor s (listing_of summary) (delta_sent d)
+    → Replies anchor s (listing_of summary) (filling_of d)
 of_pages s anchor summary d at a = record {
   same_cuts = λ c. (λ h. subst (λ b. Contains b.cuts c) a.book h, λ h. subst (λ b. Contains b.cuts c) (sym a.book) h);
   epoch = ap (λ b. b.complete) a.book;
@@ -87,7 +89,7 @@ of_pages s anchor summary d at a = record {
 -- so it fills what the summary lacks
 pub fills : ReplyFills → SameAnchor → (s : State) (summary : SummaryData) (d : DeltaData) → AnswersSummary s summary d → FillsSummary s summary d
 fills law same s summary d a = λ roster log facts p sound means.
-    law roster log facts p s (listing_of summary) (delta_sent d) sound means
+    law roster log facts p s (listing_of summary) (filling_of d) sound means
     (⊎_elim
     (λ (low : s.base ≤ summary.anchor). of_records s p.anchor summary d low (a.short low))
     (λ (high : summary.anchor < s.base).

@@ -9,30 +9,21 @@ use Rattle.redo_wire.specs.Summaries.{SummaryData}
 use Rattle.redo_wire.specs.Deltas.{DeltaData, IsDelta}
 use Rattle.segment_state.specs.State.{State}
 use Rattle.segment_state.specs.Means.{MeansAt}
-use Rattle.segment_state.specs.Gossip.{Absorbs}
 use Rattle.segment_state.proofs.Absorbing.{absorb_law}
+use Rattle.segment_state.proofs.Booked.{epoch_of}
 use Rattle.segment_core.specs.declared.answers.Refusal.{Refusal}
 use Rattle.segment_core.specs.declared.answers.Refusal.TheVariants.{Memory, OtherRoster}
 use Rattle.segment_join.specs.Told.{facts_told}
 use Rattle.segment_join.specs.InOrder.{RefusesOne}
-use Rattle.segment_join.specs.Joining.{HaveOneRecordAKey}
-use Rattle.segment_join.proofs.JoinInLog.{TellsPart, none_of_part}
+use Rattle.segment_join.proofs.TakingAll.{IsLate}
+use Rattle.segment_join.proofs.JoinInLog.{TellsPart, none_of_part, kept_of_part}
 use Rattle.gossip_core.specs.Answering.{listing_of}
 use Rattle.gossip_core.proofs.AnsweringFacts.{answers_for}
-use Rattle.gossip_core.specs.Absorbing.{filling_of, with_held, IsAnswered, MeansBoth, IsOfOneLog, Answers, RefusesDelta}
+use Rattle.gossip_core.specs.Absorbing.{filling_of, IsAnswered, MeansBoth, IsOfOneLog, Answers, AbsorbsInto, RefusesDelta}
+use Rattle.gossip_core.proofs.Absorbed.{known_together}
 
 module _ (roster : ℕ) (log F G : List Fact) (f g : Position) (s : State) (summary : SummaryData) (d : DeltaData)
     (a : IsAnswered roster log F G f g s summary d) where
-  one_record : HaveOneRecordAKey s (with_held s d.records)
-  one_record r q hr hq e n =
-      (log_of_sound roster log a.sound).same_record r q (a.means.of_log r hr) (part_records G log a.part q (a.fills.of_facts q hq)) e n
-
-  pub means_both : (new : State) → Answers s summary → (HaveOneRecordAKey s (with_held s d.records) → Absorbs s (filling_of d) new)
-      → (p : Position) × MeansAt roster log (F ++ G) p new
-  means_both new own absorbs =
-      absorb_law log F G f g s new (listing_of summary) (filling_of d) (log_of_sound roster log a.sound) a.means a.part a.position a.fills
-      (answers_for roster log F f s a.sound a.means summary own.0 own.1 own.2) (absorbs one_record)
-
   tells_part : IsDelta d → TellsPart roster log G g d.book d.records
   tells_part shape = record {
     part = a.part;
@@ -44,6 +35,16 @@ module _ (roster : ℕ) (log F G : List Fact) (f g : Position) (s : State) (summ
     waits = λ w h. (advance_in G w).0 ((a.fills.same_waits w).0 h).0;
     records = λ r h. (record_in log r).0 (part_records G log a.part r (a.fills.of_facts r h));
   }
+
+  late : IsLate s
+  late = record { epoch = epoch_of a.means; later = λ w h. ((a.means.book.waits w).0 h).1 }
+
+  pub means_both : (new : State) → IsDelta d → Answers s summary → AbsorbsInto s d new → (p : Position) × MeansAt roster log (F ++ G) p new
+  means_both new shape own absorbs =
+      absorb_law log F G f g s new (listing_of summary) (filling_of d) (log_of_sound roster log a.sound) a.means a.part a.position a.fills
+      (answers_for roster log F f s a.sound a.means summary own.0 own.1 own.2)
+      (known_together s d new late absorbs
+      (kept_of_part roster log a.sound s absorbs.taken F G g d.book d.records (f, a.means) (tells_part shape) absorbs.takes))
 
   pub nothing_refused : IsDelta d → (why : Refusal) → RefusesDelta s d why → ⊥
   nothing_refused shape why refused =
@@ -64,6 +65,6 @@ only_memory s summary d why shape refused one =
     refused
 
 -- an absorb means the union
-pub both : (s : State) (summary : SummaryData) (d : DeltaData) (new : State) → Answers s summary
-    → (HaveOneRecordAKey s (with_held s d.records) → Absorbs s (filling_of d) new) → MeansBoth s summary d new
-both s summary d new own absorbs = λ roster log F G f g a. means_both roster log F G f g s summary d a new own absorbs
+pub both : (s : State) (summary : SummaryData) (d : DeltaData) (new : State) → IsDelta d → Answers s summary → AbsorbsInto s d new
+    → MeansBoth s summary d new
+both s summary d new shape own absorbs = λ roster log F G f g a. means_both roster log F G f g s summary d a new shape own absorbs

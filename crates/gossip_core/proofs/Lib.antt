@@ -7,6 +7,6 @@ pub mod PagesShown
 pub mod Filling
 pub mod Accounting
 pub mod AnsweringFacts
-pub mod TellingAll
+pub mod OneUncovered
 pub mod Absorbed
 pub mod InOneLog

@@ -1,26 +1,24 @@
 -- What an absorbed delta does to a segment.
-use Rattle.std.specs.Prelude.{◌≡◌, ◌≢◌, ℕ, ◌⊎◌, List, ◌++◌, None, Some}
+use Rattle.std.specs.Prelude.{◌≡◌, ◌≢◌, ℕ, ◌<◌, ◌≤◌, ◌⊎◌, List, ◌++◌, None, Some, max}
 use Rattle.redo_core.specs.Book.{roster_of}
-use Rattle.redo_core.specs.Data.{RecordData}
 use Rattle.redo_core.specs.Meaning.{ImageData}
 use Rattle.redo_core.specs.Position.{Position, IsPosition}
 use Rattle.redo_core.specs.Sets.{IsPart}
 use Rattle.redo_core.specs.Sound.{IsSound}
-use Rattle.redo_core.specs.Standing.{IsDead}
 use Rattle.redo_core.specs.declared.facts.Fact.{Fact}
+use Rattle.page_base.specs.Raising.{SamePage}
 use Rattle.page_base.specs.Stored.{stored}
 use Rattle.redo_wire.specs.Summaries.{SummaryData}
 use Rattle.redo_wire.specs.Deltas.{DeltaData}
-use Rattle.segment_state.specs.State.{State, StoredImage, state_of}
+use Rattle.segment_state.specs.State.{State, StoredImage, version_of, image_of}
 use Rattle.segment_state.specs.Means.{MeansAt, Means}
 use Rattle.segment_state.specs.HasMeaning.{HasAnchor}
-use Rattle.segment_state.specs.Gossip.{Delta, Fills}
-use Rattle.segment_core.specs.Uniting.{draft_of, Holds}
+use Rattle.segment_state.specs.Joining.{JoinsBooks}
+use Rattle.segment_state.specs.Gossip.{Delta, Fills, HasImage}
 use Rattle.segment_core.specs.declared.answers.Refusal.{Refusal}
 use Rattle.segment_core.specs.declared.answers.Refusal.TheVariants.{OtherRoster, Memory}
 use Rattle.segment_join.specs.Told.{facts_told}
 use Rattle.segment_join.specs.InOrder.{TakesEach, RefusesOne}
-use Rattle.segment_join.specs.Holding.{InOtherImage, HoldsRest}
 use Rattle.gossip_core.specs.Answering.{IsUncovered, listing_of}
 use Rattle.gossip_core.specs.declared.absorbing.AbsorbRefusal.{AbsorbRefusal}
 use Rattle.gossip_core.specs.declared.absorbing.AbsorbRefusal.TheVariants.{Uncovered, Refused}
@@ -58,31 +56,23 @@ RefusesDelta s d why =
     ((roster_of s.book ≢ roster_of d.book) × (why ≡ OtherRoster (roster_of s.book) (roster_of d.book)))
     ⊎ ((roster_of s.book ≡ roster_of d.book) × RefusesOne s (facts_told d.book d.records) why)
 
+-- Of one roster, and each fact that the delta tells is taken in order: the state has what those leave, and the greater base point. A page
+-- below the delta's base has the delta's image there, or zeros where that has none, and each other page what it had.
+pub record AbsorbsInto (old : State) (d : DeltaData) (new : State) : Type 0 where
+  pub one_roster : roster_of old.book ≡ roster_of d.book
+  pub taken : State
+  pub takes : TakesEach old (facts_told d.book d.records) taken
+  pub book : (new.book ≡ taken.book) × JoinsBooks old.book d.book new.book
+  pub held : new.held ≡ taken.held
+  pub base : new.base ≡ max old.base d.base
+  pub images : (page : ℕ)
+      → ((d.base ≤ version_of old.store page) × SamePage old.store new.store page)
+      ⊎ ((version_of old.store page < d.base) × (version_of new.store page ≡ d.base) × HasImage (filling_of d) page (image_of new.store page))
+
 -- why an absorb is refused: what is uncovered, else want of memory or what the delta tells
 abbrev pub RefusesAbsorb : State → SummaryData → DeltaData → AbsorbRefusal → Type 0
 RefusesAbsorb s summary d (Uncovered shown) = (anchor : ℕ) × HasAnchor s anchor × IsUncovered s anchor summary (Some shown)
 RefusesAbsorb s summary d (Refused why) = Answers s summary × ((why ≡ Memory) ⊎ RefusesDelta s d why)
-
--- ---- drafts
--- a state with other held records
-abbrev pub with_held : State → List RecordData → State
-with_held s held = state_of s.book held s.base s.store
-
--- the record is held, or it is dead in the draft's view or in its page's image
-abbrev pub HoldsOrSpares : State → State → RecordData → State → Type 0
-HoldsOrSpares draft s r new =
-    Holds draft r new
-    ⊎ ((new ≡ draft) × (IsDead draft.book.cuts draft.book.complete r.epoch r.number ⊎ InOtherImage draft s r))
-
--- a draft of the state has taken each fact that the delta tells
-abbrev pub TakesDelta : State → DeltaData → State → Type 0
-TakesDelta s d draft = TakesEach (draft_of s) (facts_told d.book d.records) draft
-
--- and holds each record of the delta that it needs
-pub record IsFilled (s : State) (d : DeltaData) (draft : State) : Type 0 where
-  pub taken : State
-  pub takes : TakesDelta s d taken
-  pub holds : HoldsRest taken (with_held s d.records) draft
 
 -- a page of a delta at its base
 abbrev pub image_at : ℕ → ImageData → StoredImage

@@ -1,5 +1,5 @@
 -- What a reply to a summary sends.
-use Rattle.std.specs.Prelude.{◌≡◌, ◌≢◌, ℕ, ◌<◌, ◌≤◌, ◌⊎◌, List, [], map, length, take, slice_index_or, Option, Some, None}
+use Rattle.std.specs.Prelude.{◌≡◌, ◌≢◌, ℕ, ◌<◌, ◌≤◌, ◌⊎◌, List, [], length, take, slice_index_or, Option, Some, None}
 use Rattle.std.specs.List.{Contains, All}
 use Rattle.redo_core.specs.Data.{RecordData}
 use Rattle.redo_core.specs.Order.{Lists, RecordBefore}
@@ -17,13 +17,14 @@ use Rattle.segment_state.specs.State.{State, StoredImage}
 use Rattle.segment_state.specs.Means.{MeansAt}
 use Rattle.segment_state.specs.Shows.{Shows}
 use Rattle.segment_state.specs.HasMeaning.{HasAnchor, IsKeptBy}
-use Rattle.segment_state.specs.Gossip.{KeyData, Listing, Fills}
-use Rattle.segment_state.specs.Gossip.{Delta as AnyDelta}
+use Rattle.segment_state.specs.Gossip.{Fills}
 use Rattle.segment_core.specs.Folding.{BreaksBelowAnchor}
 use Rattle.segment_core.specs.Forgetting.{IsFirstBreak}
 use Rattle.segment_core.specs.declared.answers.ReadFault.{ReadFault}
 use Rattle.segment_core.specs.declared.answers.ReadFault.TheVariants.{BrokenBlockChain}
 use Rattle.gossip_core.specs.Summarizing.{wire_key}
+use Rattle.gossip_core.specs.Answering.{listing_of}
+use Rattle.gossip_core.specs.Absorbing.{filling_of}
 
 -- ---- the records
 
@@ -94,17 +95,8 @@ pub record AnswersSummary (s : State) (summary : SummaryData) (d : DeltaData) : 
 
 -- ---- inside a sound log
 
-abbrev pub listed_key : Key → KeyData
-listed_key k = record { epoch = k.epoch; number = k.number }
-
-abbrev pub listing_of : SummaryData → Listing
-listing_of s = record { anchor = s.anchor; keys = map listed_key s.keys }
-
-abbrev pub delta_sent : DeltaData → AnyDelta
-delta_sent d = record { book = d.book; base = d.base; pages = d.pages; records = d.records }
-
 -- whatever part of a sound log the state means, the delta has what that has beyond the summary
 abbrev pub FillsSummary : State → SummaryData → DeltaData → Type 0
 FillsSummary s summary d =
     (roster : ℕ) (log facts : List Fact) (p : Position)
-    → IsSound roster log → MeansAt roster log facts p s → Fills facts p (listing_of summary) (delta_sent d)
+    → IsSound roster log → MeansAt roster log facts p s → Fills facts p (listing_of summary) (filling_of d)

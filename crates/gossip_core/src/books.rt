@@ -8,7 +8,7 @@ use std::alloc::AllocError;
 use std::vec::Vec;
 
 /// The book of a segment: its truncations, complete epoch, readers' points and waiting advances. Its only error is want of memory.
-pub(crate) fn book_of(segment: &Segment) -> Result<Book, AllocError>
+pub fn book_of(segment: &Segment) -> Result<Book, AllocError>
     ensures book { IfOk result (λ b. b ≡ segment.now.book) }
     ensures form { IsSegment segment.now }
 {

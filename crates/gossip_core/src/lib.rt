@@ -12,6 +12,7 @@ mod absorbing;
 mod absorbing_tests;
 mod answering;
 mod books;
+mod fixed;
 mod pages;
 mod replies;
 #[cfg(test)]
@@ -23,5 +24,7 @@ mod unlisted;
 
 pub use absorbing::{AbsorbRefusal, absorb};
 pub use answering::{Shown, uncovered};
+pub use books::book_of;
+pub use pages::stored_page_after;
 pub use replies::reply;
 pub use summaries::summary;

@@ -4,12 +4,12 @@ ghost use Rattle.std.specs.List.{Contains};
 ghost use Rattle.std.specs.Option.{option_copied};
 ghost use Rattle.redo_core.specs.Order.{IsRising, Lists, RecordBefore};
 ghost use Rattle.redo_wire.specs.Summaries.{KeyBefore};
-ghost use Rattle.segment_join.specs.Keeping.{IsKeptAt};
 ghost use Rattle.gossip_core.specs.Replying.{IsSent, IsSentAt, key_data};
 
 use redo_core::Record;
 use redo_wire::Key;
-use segment_core::{Segment, Standing};
+use segment_core::Segment;
+use segment_join::kept_at;
 use std::alloc::AllocError;
 
 /// Copies of the held records that wait, or are alive above a point, and whose keys are not listed, rising by key.
@@ -44,25 +44,7 @@ fn sent_at<'a>(
     if is_listed(keys, key) {
         return None;
     }
-    kept_above(segment, point, key)
-}
-
-/// The held record of a key, where it waits or is alive above a point.
-fn kept_above(segment: &Segment, point: u64, key: (u16, u64)) -> Option<&Record>
-    ensures { IsKeptAt segment.now point key (option_copied result) }
-{
-    let (epoch, number) = key;
-    match segment.stands(epoch, number) {
-        Standing::Dead => None,
-        Standing::Waiting => segment.get(epoch, number),
-        Standing::Alive => {
-            if point < number {
-                segment.get(epoch, number)
-            } else {
-                None
-            }
-        }
-    }
+    kept_at(segment, point, key)
 }
 
 /// Whether a key is among keys that rise.

@@ -1,10 +1,12 @@
 -- Two states of one sound log: what the one tells the other takes, and joined they mean the union.
 use Rattle.std.proofs.Common.{◌≡◌, ◌≢◌, ℕ, ◌<◌, ◌≤◌, ◌⊎◌, inl, inr, ⊎_elim, List, [], ◌∷◌, ◌++◌, length, map, refl, sym, ap, ◌∙◌, subst, arith}
 use Rattle.std.specs.List.{Contains}
-use Rattle.std.proofs.lemmas.List.Elements.{Contains-append_right}
+use Rattle.std.proofs.lemmas.List.{append-nil, append_assoc}
+use Rattle.std.proofs.lemmas.List.Elements.{Contains-append_left, Contains-append_right}
 use Rattle.redo_core.specs.Data.{RecordData, CutData, AdvanceData}
 use Rattle.redo_core.specs.CompleteEpoch.{IsCompleteEpoch}
 use Rattle.redo_core.specs.Past.{CutsBelow, OthersPast}
+use Rattle.redo_core.specs.Standing.{IsAlive}
 use Rattle.redo_core.specs.Points.{HasAdvance, RaisesPoints}
 use Rattle.redo_core.specs.Roster.{IsReader, point_of}
 use Rattle.redo_core.specs.Sets.{IsPart, advances}
@@ -19,13 +21,14 @@ use Rattle.redo_core.proofs.Members.{none_in, here, there, which}
 use Rattle.redo_laws.proofs.Log.{log_of_sound}
 use Rattle.redo_laws.proofs.Meanings.{in_map, from_map}
 use Rattle.segment_state.specs.State.{State}
-use Rattle.segment_state.specs.Means.{MeansAt, Means}
+use Rattle.segment_state.specs.Means.{MeansAt, Means, Matters, IsInImage}
 use Rattle.segment_state.specs.Known.{IsKnown, Conflicts}
 use Rattle.segment_state.specs.Learning.{StoresAdvance}
 use Rattle.segment_state.proofs.Joining.{join_law}
 use Rattle.segment_state.proofs.Knowing.{takes_known, no_conflict}
 use Rattle.segment_state.proofs.Learnt.{takes_record, takes_cut, takes_advance}
 use Rattle.segment_state.proofs.Booked.{points_as, epoch_of}
+use Rattle.segment_state.proofs.Reading.{alive_in_facts}
 use Rattle.segment_core.specs.Taking.{Stores}
 use Rattle.segment_core.specs.Refusing.{Refuses}
 use Rattle.segment_core.specs.declared.answers.Refusal.{Refusal}
@@ -33,8 +36,8 @@ use Rattle.segment_core.specs.declared.answers.Refusal.TheVariants.{OtherRoster}
 use Rattle.segment_core.proofs.Taking.{refuses_conflicts}
 use Rattle.segment_join.specs.Told.{point_facts, facts_told, AreTold}
 use Rattle.segment_join.specs.InOrder.{TakesOne, TakesEach, RefusesOne}
-use Rattle.segment_join.specs.Joining.{MeansUnion, AreOfOneLog, HaveOneRecordAKey, RefusesJoin, JoinsInto}
-use Rattle.segment_join.proofs.JoinedStates.{joins_whole}
+use Rattle.segment_join.specs.Joining.{MeansUnion, AreOfOneLog, RefusesJoin, JoinsInto}
+use Rattle.segment_join.proofs.JoinedStates.{HaveOneRecordAKey, joins_whole}
 use Rattle.segment_join.proofs.TakingAll.{IsLate, leaves_one, leaves_all, epoch_grows}
 use Rattle.segment_join.proofs.ToldFacts.{IsPointIn, listed_cut, listed_advance, listed_record}
 
@@ -70,6 +73,13 @@ refused_part (fact ∷ F) G s why r =
     (refused_part F G x.0 why x.2))
     r
 
+-- the first part is taken, and then the second
+taken_parts : (F G : List Fact) (s t : State) → TakesEach s (F ++ G) t → (u : State) × TakesEach s F u × TakesEach u G t
+taken_parts [] G s t takes = (s, refl, takes)
+taken_parts (fact ∷ F) G s t takes =
+    let rest = taken_parts F G takes.0 t takes.2 in
+    (rest.0, (takes.0, takes.1, rest.1), rest.2)
+
 -- a book and records tell nothing but what facts of the log, which stand at p, have
 pub record TellsPart (roster : ℕ) (log G : List Fact) (p : Position) (b : BookData) (rs : List RecordData) : Type 0 where
   pub part : IsPart G log
@@ -93,21 +103,34 @@ module _ (roster : ℕ) (log : List Fact) (sound : IsSound roster log) where
       let m = h.1.1 in
       record { epoch = epoch_of m; later = λ a w. ((m.book.waits a).0 w).1 }
 
-  takes_in : (s t : State) (fact : Fact) → InLog s → Contains log fact → TakesOne s fact t → InLog t
-  unfolding InLog
-  takes_in s t fact h inside takes =
+  -- with a taken fact of the log it means one more
+  means_more : (H : List Fact) (s t : State) (fact : Fact) → Means roster log H s → Contains log fact → TakesOne s fact t
+      → Means roster log (H ++ fact ∷ []) t
+  means_more H s t fact m inside takes =
       ⊎_elim
-      (λ (known : IsKnown s fact × (t ≡ s)). (
-        h.0 ++ fact ∷ [],
-        subst (Means roster log (h.0 ++ fact ∷ [])) (sym known.1) (takes_known s fact known.0 roster log h.0 sound inside h.1),
-      ))
-      (λ (new : (IsKnown s fact → ⊥) × Stores s fact t). (h.0 ++ fact ∷ [], stored fact inside new.1))
+      (λ (known : IsKnown s fact × (t ≡ s)).
+      subst (Means roster log (H ++ fact ∷ [])) (sym known.1) (takes_known s fact known.0 roster log H sound inside m))
+      (λ (new : (IsKnown s fact → ⊥) × Stores s fact t). stored fact inside new.1)
       takes.takes
     where
-      stored : (f : Fact) → Contains log f → Stores s f t → Means roster log (h.0 ++ f ∷ []) t
-      stored (Record r) inside' puts = takes_record s t r puts roster log h.0 sound inside' h.1
-      stored (Cut c) inside' learns = takes_cut s t c learns roster log h.0 sound inside' h.1
-      stored (Advance a) inside' learns = takes_advance s t a learns roster log h.0 sound inside' h.1
+      stored : (f : Fact) → Contains log f → Stores s f t → Means roster log (H ++ f ∷ []) t
+      stored (Record r) inside' puts = takes_record s t r puts roster log H sound inside' m
+      stored (Cut c) inside' learns = takes_cut s t c learns roster log H sound inside' m
+      stored (Advance a) inside' learns = takes_advance s t a learns roster log H sound inside' m
+
+  takes_in : (s t : State) (fact : Fact) → InLog s → Contains log fact → TakesOne s fact t → InLog t
+  unfolding InLog
+  takes_in s t fact h inside takes = (h.0 ++ fact ∷ [], means_more h.0 s t fact h.1 inside takes)
+
+  -- with each of these records
+  means_records : (H : List Fact) (rs : List RecordData) (s t : State) → Means roster log H s → ((r : RecordData) → Contains rs r → Contains log (Record r))
+      → TakesEach s (map Record rs) t → Means roster log (H ++ map Record rs) t
+  means_records H [] s t m inside takes = subst (λ u. Means roster log (H ++ []) u) (sym takes) (subst (λ G. Means roster log G s) (sym (append-nil H)) m)
+  means_records H (r ∷ rs) s t m inside takes =
+      subst (λ G. Means roster log G t) (append_assoc H (Record r ∷ []) (map Record rs))
+      (means_records (H ++ Record r ∷ []) rs takes.0 t
+      (means_more H s takes.0 (Record r) m (inside r (here r rs)) takes.1)
+      (λ q h. inside q (there r rs q h)) takes.2)
 
   goes_in : (s : State) (fact : Fact) → InLog s → Contains log fact → Goes InLog s fact
   unfolding InLog
@@ -251,6 +274,38 @@ module _ (roster : ℕ) (log : List Fact) (sound : IsSound roster log) where
         (Contains-append_right first_part rest_part fact h))) late.0 (after_cuts s late.0 x late.1)).1 why late.2)
         (refused_part (map Cut b.cuts) rest_part s why (subst (λ fs. RefusesOne s fs why) is r))
 
+    -- the book's facts are taken before the records
+    after_book : (s t : State) → InLog s → TakesEach s facts t → (u : State) × InLog u × TakesEach u (map Record rs) t
+    unfolding first_part rest_part HasCuts
+    after_book s t x takes =
+        let points = point_facts b.complete 1 b.points in let waits = map Advance b.waits in
+        let one = taken_parts first_part rest_part s t (subst (λ fs. TakesEach s fs t) is takes) in
+        let two = taken_parts points (waits ++ map Record rs) one.0 t one.2 in
+        let three = taken_parts waits (map Record rs) two.0 t two.2 in
+        let in_rest : (fact : Fact) → Contains rest_part fact → Contains facts fact =
+        λ fact h. subst (λ fs. Contains fs fact) (sym is) (Contains-append_right first_part rest_part fact h) in
+        let pointed : HasCuts two.0 =
+        (all_go HasCuts points (λ fact h. keeps_cuts fact (in_rest fact (Contains-append_left points (waits ++ map Record rs) fact h)))
+        one.0 (after_cuts s one.0 x one.1)).0 two.0 two.1 in
+        let waited : HasCuts three.0 =
+        (all_go HasCuts waits (λ fact h. keeps_cuts fact (in_rest fact (Contains-append_right points (waits ++ map Record rs) fact
+        (Contains-append_left waits (map Record rs) fact h)))) two.0 pointed).0 three.0 three.1 in
+        (three.0, waited.0, three.2)
+
+    -- a told record that is not dead then is held, or in its page's image
+    kept_of_told : (s t : State) → InLog s → TakesEach s facts t → (r : RecordData) → Contains rs r → Matters t.book.cuts t.book.complete r
+        → Contains t.held r ⊎ IsInImage t r
+    unfolding InLog
+    kept_of_told s t x takes r has mat =
+        let u = after_book s t x takes in
+        let H = u.1.0 ++ map Record rs in
+        let m : Means roster log H t = means_records u.1.0 rs u.0 t u.1.1 inside.records u.2 in
+        m.1.kept r ((record_in H r).1 (Contains-append_right u.1.0 (map Record rs) (Record r) (in_map Record rs r has)))
+        (⊎_elim
+        (λ (w : t.book.complete < r.epoch). inl (omega (arith, w, m.1.epoch)))
+        (λ (a : IsAlive t.book.cuts t.book.complete r.epoch r.number). inr ((alive_in_facts log H m.0 t m.1 r.epoch r.number).0 a))
+        mat)
+
   -- each reader's point is that of an advance of the log
   point_of_part : (G : List Fact) (p : Position) (b : BookData) (rs : List RecordData) → TellsPart roster log G p b rs
       → (a : AdvanceData) → IsPointIn b.complete b.points a → (of : AdvanceData) × StandsFor a of
@@ -270,20 +325,27 @@ module _ (roster : ℕ) (log : List Fact) (sound : IsSound roster log) where
       ))
       (t.position.points.each a.reader (subst (λ n. IsReader n a.reader) count at.reader)).0
 
+  of_part : (G : List Fact) (p : Position) (b : BookData) (rs : List RecordData) → TellsPart roster log G p b rs → AreOfLog b rs
+  of_part G p b rs t = record {
+    epoch = t.complete;
+    cuts = λ c h. t.part (Cut c) (t.cuts c h);
+    waits = λ a h. t.part (Advance a) (t.waits a h);
+    points = point_of_part G p b rs t;
+    records = t.records;
+  }
+
   -- nothing that they tell is refused
   pub none_of_part : (s : State) (F G : List Fact) (p : Position) (b : BookData) (rs : List RecordData) → Means roster log F s → TellsPart roster log G p b rs
       → (why : Refusal) → RefusesOne s (facts_told b rs) why → ⊥
   unfolding InLog
-  none_of_part s F G p b rs m t why r =
-      none_refused b rs (facts_told b rs) refl
-      (record {
-        epoch = t.complete;
-        cuts = λ c h. t.part (Cut c) (t.cuts c h);
-        waits = λ a h. t.part (Advance a) (t.waits a h);
-        points = point_of_part G p b rs t;
-        records = t.records;
-      })
-      s why (F, m) r
+  none_of_part s F G p b rs m t why r = none_refused b rs (facts_told b rs) refl (of_part G p b rs t) s why (F, m) r
+
+  -- and what they tell is kept
+  pub kept_of_part : (s t : State) (F G : List Fact) (p : Position) (b : BookData) (rs : List RecordData) → Means roster log F s
+      → TellsPart roster log G p b rs → TakesEach s (facts_told b rs) t → (r : RecordData) → Contains rs r → Matters t.book.cuts t.book.complete r
+      → Contains t.held r ⊎ IsInImage t r
+  unfolding InLog
+  kept_of_part s t F G p b rs m of takes = kept_of_told b rs (facts_told b rs) refl (of_part G p b rs of) s t (F, m) takes
 
   -- ---- what a state of the log tells
   module _ (other : State) (facts G : List Fact) (means : Means roster log G other) (told : AreTold other facts) where

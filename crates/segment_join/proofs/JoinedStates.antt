@@ -24,7 +24,7 @@ use Rattle.segment_core.specs.Refusing.{HoldsOther}
 use Rattle.segment_core.specs.Uniting.{draft_of, Unites}
 use Rattle.segment_join.specs.Told.{AreTold}
 use Rattle.segment_join.specs.InOrder.{TakesEach}
-use Rattle.segment_join.specs.Joining.{HaveOneRecordAKey, JoinsInto}
+use Rattle.segment_join.specs.Joining.{JoinsInto}
 use Rattle.segment_join.specs.Holding.{InOtherImage, IsSpared, HoldsRest}
 use Rattle.segment_join.specs.Newer.{AreNewer}
 use Rattle.segment_join.proofs.Keeping.{one_of_key}
@@ -322,6 +322,11 @@ module _ (old other taken draft new : State) (facts : List Fact) (images : List 
     images = images_joined;
     newest = newest_of;
   }
+
+-- no two different records stand under one key
+abbrev pub HaveOneRecordAKey : State → State → Type 0
+HaveOneRecordAKey s t =
+    (r q : RecordData) → Contains s.held r → Contains t.held q → r.epoch ≡ q.epoch → r.number ≡ q.number → r ≡ q
 
 -- where no two records of one key stand in them, that is what the two know together
 pub joins_whole : (old other new : State) → JoinsInto old other new → HaveOneRecordAKey old other → Joins old other new

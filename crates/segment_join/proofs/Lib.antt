@@ -3,6 +3,7 @@ pub mod Scanning
 pub mod Comparing
 pub mod Ordered
 pub mod Sparing
+pub mod TellingAll
 pub mod Telling
 pub mod TakingAll
 pub mod ToldFacts

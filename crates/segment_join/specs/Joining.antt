@@ -37,11 +37,6 @@ pub record JoinsInto (old other new : State) : Type 0 where
       ⊎ ((version_of old.store page < version_of new.store page) × SamePage other.store new.store page)
   pub newest : (page : ℕ) → version_of other.store page ≤ version_of new.store page
 
--- no two different records stand under one key
-abbrev pub HaveOneRecordAKey : State → State → Type 0
-HaveOneRecordAKey s t =
-    (r q : RecordData) → Contains s.held r → Contains t.held q → r.epoch ≡ q.epoch → r.number ≡ q.number → r ≡ q
-
 -- of one roster, and each fact that the other tells is taken in order
 pub record TakesTold (old other : State) : Type 0 where
   pub one_roster : roster_of old.book ≡ roster_of other.book

@@ -40,7 +40,7 @@ fn hold_at(draft: &mut Segment, other: &Segment, key: (u16, u64)) -> Result<(), 
 
 /// Whether a draft needs no copy of a record: yes only where it is dead in the draft's view, or folded in another segment and not
 /// waiting in the draft's view.
-pub fn is_spared(draft: &Segment, other: &Segment, redo: &Record) -> bool
+fn is_spared(draft: &Segment, other: &Segment, redo: &Record) -> bool
     ensures { IsTrue result → IsDead draft.now.book.cuts draft.now.book.complete redo.now.epoch redo.now.number ⊎ InOtherImage draft.now other.now redo.now }
 {
     match draft.stands(redo.epoch(), redo.number()) {

@@ -4,9 +4,10 @@ ghost use Rattle.segment_core.specs.Form.{IsSegment};
 ghost use Rattle.segment_core.specs.Uniting.{draft_of};
 ghost use Rattle.segment_core.specs.declared.answers.Refusal.TheVariants.{Memory as MemoryOf};
 ghost use Rattle.segment_join.specs.Joining.{MeansUnion, AreOfOneLog, JoinsInto, TakesTold, RefusesJoin};
-ghost use Rattle.segment_join.specs.Drafting.{RefusesAll, IsJoined};
+ghost use Rattle.segment_join.specs.Drafting.{TakesAll, RefusesAll, IsJoined};
 
 use crate::holding::{hold_rest, newer_images};
+use crate::kept::kept_of;
 use crate::told::draft_told;
 use segment_core::{Refusal, Segment};
 
@@ -51,9 +52,30 @@ fn joined_draft(segment: &Segment, other: &Segment) -> Result<Segment, Refusal>
     ensures joined { IfOk result (IsJoined segment.now other.now) }
     ensures refused { IfErr result (λ e. (e ≡ MemoryOf) ⊎ RefusesAll (draft_of segment.now) other.now e) }
 {
-    let mut draft = draft_told(segment, other)?;
+    let mut draft = draft_taking(segment, other)?;
     match hold_rest(&mut draft, other) {
         Ok(()) => Ok(draft),
         Err(_) => Err(Refusal::Memory),
     }
+}
+
+/// A draft of a segment that has taken each fact that another one tells.
+fn draft_taking(segment: &Segment, other: &Segment) -> Result<Segment, Refusal>
+    ensures takes { IfOk result (TakesAll (draft_of segment.now) other.now) }
+    ensures refused { IfErr result (λ e. (e ≡ MemoryOf) ⊎ RefusesAll (draft_of segment.now) other.now e) }
+{
+    let Ok(kept) = kept_of(other) else {
+        return Err(Refusal::Memory);
+    };
+    // It is called for what it ensures: the kept records are those above the anchor.
+    let _anchor = other.anchor();
+    let complete = other.front().epoch;
+    draft_told(
+        segment,
+        other.cuts(),
+        complete,
+        other.points(),
+        other.waits(),
+        &kept,
+    )
 }

@@ -23,16 +23,16 @@ pub fn kept_of(segment: &Segment) -> Result<Vec<&Record>, AllocError>
     Ok(kept)
 }
 
-/// The held record of a key, where it waits or is alive above the anchor.
-fn kept_at(segment: &Segment, anchor: u64, key: (u16, u64)) -> Option<&Record>
-    ensures { IsKeptAt segment.now anchor key (option_copied result) }
+/// The held record of a key, where it waits or is alive above a point.
+pub fn kept_at(segment: &Segment, point: u64, key: (u16, u64)) -> Option<&Record>
+    ensures { IsKeptAt segment.now point key (option_copied result) }
 {
     let (epoch, number) = key;
     match segment.stands(epoch, number) {
         Standing::Dead => None,
         Standing::Waiting => segment.get(epoch, number),
         Standing::Alive => {
-            if anchor < number {
+            if point < number {
                 segment.get(epoch, number)
             } else {
                 None

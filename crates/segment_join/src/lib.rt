@@ -5,8 +5,9 @@
 //! the union, and over any facts it is refused as the first told fact would be. `covers` tells whether one meaning is at or above
 //! another, part by part and over any facts; inside one sound log that is so exactly where the one segment means a part of the log that
 //! holds a part of the other's meaning. `same` tells whether the two meanings are one: each covers the other, and the pages at their
-//! anchors are the same. `kept_of` lists what a meaning keeps. `laws` says what merging keeps. `joining`, `told` and `holding` have the
-//! join, `covering` and `sameness` the comparisons, `kept` the list.
+//! anchors are the same. `kept_of` lists what a meaning keeps, and `draft_told` makes a draft that takes a told book and records, whoever
+//! tells them. `laws` says what merging keeps. `joining`, `told` and `holding` have the join, `covering` and `sameness` the comparisons,
+//! `kept` the list.
 #![tactic(auto)]
 
 mod covering;
@@ -24,8 +25,7 @@ mod tests;
 mod told;
 
 pub use covering::covers;
-pub use holding::is_spared;
 pub use joining::join;
-pub use kept::kept_of;
+pub use kept::{kept_at, kept_of};
 pub use sameness::same;
-pub use told::{take_book, take_one};
+pub use told::draft_told;

@@ -6,47 +6,43 @@ ghost use Rattle.redo_core.specs.Roster.{IsReader};
 ghost use Rattle.redo_core.specs.declared.facts.Fact.TheVariants.{Record as OfRecord, Cut as OfCut, Advance as OfAdvance};
 ghost use Rattle.segment_core.specs.Uniting.{draft_of};
 ghost use Rattle.segment_core.specs.declared.answers.Refusal.TheVariants.{Memory as MemoryOf};
-ghost use Rattle.segment_join.specs.Told.{point_facts, book_facts};
+ghost use Rattle.segment_join.specs.Told.{point_facts, book_facts, facts_told};
 ghost use Rattle.segment_join.specs.InOrder.{TakesOne, TakesEach, RefusesOne};
-ghost use Rattle.segment_join.specs.Drafting.{TakesAll, RefusesAll};
 
-use crate::kept::kept_of;
 use redo_core::{Advance, Cut, Fact, Record};
 use segment_core::{Refusal, Segment};
 
-/// A draft of a segment that has taken each fact that another segment tells.
-pub(crate) fn draft_told(segment: &Segment, other: &Segment) -> Result<Segment, Refusal>
-    ensures takes { IfOk result (TakesAll (draft_of segment.now) other.now) }
-    ensures refused { IfErr result (λ e. (e ≡ MemoryOf) ⊎ RefusesAll (draft_of segment.now) other.now e) }
+/// A draft of a segment that has taken what is told: truncations, each reader's point as an advance in the complete epoch, waiting
+/// advances, and records, in that order. The points are one for each reader.
+///
+/// Errors: as of the first of these facts that `take` refuses; `Memory`.
+pub fn draft_told(
+    segment: &Segment,
+    cuts: &[Cut],
+    complete: u16,
+    points: &[u64],
+    waits: &[Advance],
+    records: &[&Record],
+) -> Result<Segment, Refusal>
+    requires roster { length points.now ≤ max_readers }
+    requires shaped { All (λ p. p ≤ max_number) points.now }
+    ensures takes { IfOk result (TakesEach (draft_of segment.now) (facts_told (book_of cuts.now complete points.now waits.now) (map (λ r. r.now) records.now))) }
+    ensures refused { IfErr result (λ e. (e ≡ MemoryOf) ⊎ RefusesOne (draft_of segment.now) (facts_told (book_of cuts.now complete points.now waits.now) (map (λ r. r.now) records.now)) e) }
 {
     let Ok(mut draft) = segment.draft() else {
         return Err(Refusal::Memory);
     };
-    take_told(&mut draft, other)?;
-    Ok(draft)
-}
-
-/// Takes what another segment tells: truncations, each reader's point, waiting advances, kept records.
-fn take_told(draft: &mut Segment, other: &Segment) -> Result<(), Refusal>
-    ensures takes { OnOk result (TakesAll draft.old other.now draft.new) }
-    ensures refused { IfErr result (λ e. (e ≡ MemoryOf) ⊎ RefusesAll draft.old other.now e) }
-{
-    let Ok(kept) = kept_of(other) else {
-        return Err(Refusal::Memory);
-    };
-    // It is called for what it ensures: the kept records are those above the anchor.
-    let _anchor = other.anchor();
-    let complete = other.front().epoch;
-    take_cuts(draft, other.cuts())?;
-    take_points(draft, complete, other.points())?;
-    take_waits(draft, other.waits())?;
-    take_records(draft, &kept)
+    if let Err(why) = take_book(&mut draft, cuts, complete, points, waits) {
+        return Err(why);
+    }
+    match take_records(&mut draft, records) {
+        Ok(()) => Ok(draft),
+        Err(why) => Err(why),
+    }
 }
 
 /// Takes what a book tells: truncations, each reader's point as an advance in the complete epoch, waiting advances.
-///
-/// Errors: as of the first of these facts that `take` refuses; what the draft knows then is not said.
-pub fn take_book(
+fn take_book(
     draft: &mut Segment,
     cuts: &[Cut],
     complete: u16,
@@ -68,9 +64,7 @@ pub fn take_book(
 }
 
 /// Takes one fact, whether or not it tells anything new.
-///
-/// Errors: as `take` refuses it.
-pub fn take_one(draft: &mut Segment, fact: Fact) -> Result<(), Refusal>
+fn take_one(draft: &mut Segment, fact: Fact) -> Result<(), Refusal>
     ensures takes { OnOk result (TakesOne draft.old fact draft.new) }
     ensures refused { IfErr result (λ e. (e ≡ MemoryOf) ⊎ RefusesOne draft.old (fact ∷ []) e) }
 {

@@ -19,7 +19,7 @@ returns-in-Ok-clause-means c =
     let s = c.args.segment.now in let summary = c.args.summary.now in let d = c.args.delta.now in
     let anchor = c.anchor-anchor.result in let above = c.anchor-anchor.ensures.own in
     let answers : Answers s summary = (anchor, above, c.in_default.ensures.own anchor above) in
-    both s summary d c.take_delta.new.segment answers c.in-Ok.ensures.absorbs
+    both s summary d c.take_delta.new.segment c.base-base.ensures.shape answers c.in-Ok.ensures.absorbs
 
 pub returns-in-Err-clause-sound : goal.returns-in-Err-clause-sound
 returns-in-Err-clause-sound c = λ (one : IsOfOneLog c.args.segment.now c.args.summary.now c.args.delta.now).

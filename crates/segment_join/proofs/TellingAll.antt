@@ -1,8 +1,8 @@
--- What a delta tells: its book's facts, and then its records.
-use Rattle.std.proofs.Common.{◌≡◌, ℕ, List, [], ◌∷◌, ◌++◌, map, refl, sym, ap, ◌∙◌, subst}
+-- What a book and records tell: the facts of the book, and then the records.
+use Rattle.std.proofs.Common.{◌≡◌, ℕ, List, [], ◌∷◌, ◌++◌, map, refl, ap, ◌∙◌, subst, Bor}
+use Rattle.std.proofs.lemmas.List.{append_assoc}
 use Rattle.redo_core.specs.Data.{RecordData, CutData, AdvanceData}
 use Rattle.redo_core.specs.Book.{BookData, book_of}
-use Rattle.redo_core.specs.declared.facts.Fact.{Fact}
 use Rattle.redo_core.specs.declared.facts.Fact.TheVariants.{Record, Cut, Advance}
 use Rattle.segment_state.specs.State.{State}
 use Rattle.segment_core.specs.declared.answers.Refusal.{Refusal}
@@ -15,14 +15,15 @@ pub same_book : (b : BookData) (cs : List CutData) (k : ℕ) (ps : List ℕ) (ws
     → cs ≡ b.cuts → k ≡ b.complete → ps ≡ b.points → ws ≡ b.waits → book_of cs k ps ws ≡ b
 same_book b cs k ps ws c e p w = let t : book_of cs k ps ws ≡ book_of b.cuts b.complete b.points b.waits = cc in t
 
-append_assoc : (xs ys zs : List Fact) → xs ++ (ys ++ zs) ≡ (xs ++ ys) ++ zs
-append_assoc [] ys zs = refl
-append_assoc (x ∷ xs) ys zs = ap (λ rest. x ∷ rest) (append_assoc xs ys zs)
+-- the records behind references
+pub records_behind : (rs : List (Bor RecordData)) → map (λ r. Record r.now) rs ≡ map Record (map (λ r. r.now) rs)
+records_behind [] = refl
+records_behind (r ∷ rs) = ap (λ fs. Record r.now ∷ fs) (records_behind rs)
 
 in_two : (b : BookData) (rs : List RecordData) → book_facts b ++ map Record rs ≡ facts_told b rs
 in_two b rs =
     let cuts = map Cut b.cuts in let points = point_facts b.complete 1 b.points in let waits = map Advance b.waits in let records = map Record rs in
-    sym (ap (λ rest. cuts ++ rest) (append_assoc points waits records) ∙ append_assoc cuts (points ++ waits) records)
+    append_assoc cuts (points ++ waits) records ∙ ap (λ rest. cuts ++ rest) (append_assoc points waits records)
 
 pub takes_told : (s : State) (b : BookData) (rs : List RecordData) (t u : State) → TakesEach s (book_facts b) t → TakesEach t (map Record rs) u
     → TakesEach s (facts_told b rs) u

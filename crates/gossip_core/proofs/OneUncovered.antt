@@ -1,0 +1,62 @@
+-- What a state does not answer for is one thing, and an absorb tells it.
+use Rattle.std.proofs.Common.{◌≡◌, ◌↔◌, ℕ, ◌<◌, ⊎_elim, Option, Some, None, Result, Ok, Err, OnOk, IfErr, refl, sym, ap, ◌∙◌, arith}
+use Rattle.std.proofs.lemmas.List.Elements.{All-contains}
+use Rattle.redo_core.specs.Order.{IsFirst}
+use Rattle.redo_wire.specs.declared.keys.Key.{Key}
+use Rattle.redo_wire.specs.Summaries.{SummaryData, KeyBefore}
+use Rattle.redo_wire.specs.Deltas.{DeltaData}
+use Rattle.segment_state.specs.State.{State}
+use Rattle.segment_state.specs.HasMeaning.{HasAnchor}
+use Rattle.gossip_core.specs.declared.answering.Shown.{Shown}
+use Rattle.gossip_core.specs.declared.answering.Shown.TheVariants.{Anchor as OfAnchor, Key as OfKey}
+use Rattle.gossip_core.specs.declared.absorbing.AbsorbRefusal.{AbsorbRefusal}
+use Rattle.gossip_core.specs.declared.absorbing.AbsorbRefusal.TheVariants.{Uncovered, Refused}
+use Rattle.gossip_core.specs.Answering.{IsCovered, IsMissing, IsUncovered}
+use Rattle.gossip_core.specs.Absorbing.{Answers, RefusesAbsorb}
+
+not_both : (k l : Key) → KeyBefore k l → KeyBefore l k → ⊥
+not_both k l a b =
+    ⊎_elim
+    (λ (x : k.epoch < l.epoch). ⊎_elim
+    (λ (y : l.epoch < k.epoch). omega (arith, x, y))
+    (λ (y : (l.epoch ≡ k.epoch) × (l.number < k.number)). omega (arith, x, y.0)) b)
+    (λ (x : (k.epoch ≡ l.epoch) × (k.number < l.number)). ⊎_elim
+    (λ (y : l.epoch < k.epoch). omega (arith, x.0, y))
+    (λ (y : (l.epoch ≡ k.epoch) × (l.number < k.number)). omega (arith, x.1, y.1)) b)
+    a
+
+one_first : (P : Key → Type 0) (k l : Key) → IsFirst KeyBefore P k → IsFirst KeyBefore P l → k ≡ l
+one_first P k l a b =
+    ⊎_elim
+    (λ (e : l ≡ k). sym e)
+    (λ (x : KeyBefore k l). ⊎_elim (λ (e : k ≡ l). e) (λ (y : KeyBefore l k). absurd (not_both k l x y)) (b.least k a.has))
+    (a.least l b.has)
+
+-- there is nothing besides
+pub one_uncovered : (s : State) (anchor : ℕ) (summary : SummaryData) (x y : Option Shown) → IsUncovered s anchor summary x → IsUncovered s anchor summary y → x ≡ y
+one_uncovered s anchor summary None None a b = refl
+one_uncovered s anchor summary None (Some (OfAnchor n)) a b = absurd (omega (arith, a.0, b.0, b.1))
+one_uncovered s anchor summary None (Some (OfKey k)) a b = absurd (b.1.has.1 (All-contains (IsCovered s anchor) summary.keys k a.1 b.1.has.0))
+one_uncovered s anchor summary (Some (OfAnchor n)) None a b = absurd (omega (arith, a.0, a.1, b.0))
+one_uncovered s anchor summary (Some (OfAnchor n)) (Some (OfAnchor m)) a b = ap (λ i. Some (OfAnchor i)) (a.0 ∙ sym b.0)
+one_uncovered s anchor summary (Some (OfAnchor n)) (Some (OfKey k)) a b = absurd (omega (arith, a.0, a.1, b.0))
+one_uncovered s anchor summary (Some (OfKey k)) None a b = absurd (a.1.has.1 (All-contains (IsCovered s anchor) summary.keys k b.1 a.1.has.0))
+one_uncovered s anchor summary (Some (OfKey k)) (Some (OfAnchor n)) a b = absurd (omega (arith, a.0, b.0, b.1))
+one_uncovered s anchor summary (Some (OfKey k)) (Some (OfKey l)) a b =
+    ap (λ i. Some (OfKey i)) (one_first (IsMissing s anchor summary.keys) k l a.1 b.1)
+
+-- what an absorb answers where this is uncovered
+pub tells_uncovered : (s : State) (summary : SummaryData) (d : DeltaData) (found : Option Shown) (answer : Result (Unit {0}) AbsorbRefusal)
+    → ((anchor : ℕ) → HasAnchor s anchor → IsUncovered s anchor summary found) → OnOk answer (Answers s summary) → IfErr answer (RefusesAbsorb s summary d)
+    → (shown : Shown) → (answer ≡ Err (Uncovered shown)) ↔ (found ≡ Some shown)
+tells_uncovered s summary d found (Ok u) own answers refused shown =
+    let none : None ≡ found = one_uncovered s answers.0 summary None found answers.2 (own answers.0 answers.1) in
+    (λ e. absurd (cc), λ e. let x : None ≡ Some shown = none ∙ e in absurd (cc))
+tells_uncovered s summary d found (Err (Refused why)) own answers refused shown =
+    let none : None ≡ found = one_uncovered s refused.0.0 summary None found refused.0.2 (own refused.0.0 refused.0.1) in
+    (λ e. absurd (cc), λ e. let x : None ≡ Some shown = none ∙ e in absurd (cc))
+tells_uncovered s summary d found (Err (Uncovered told)) own answers refused shown =
+    let one : Some told ≡ found = one_uncovered s refused.0 summary (Some told) found refused.2 (own refused.0 refused.1) in (
+      λ e. let x : told ≡ shown = cc in sym one ∙ ap (λ i. Some i) x,
+      λ e. let y : Some told ≡ Some shown = one ∙ e in let x : told ≡ shown = cc in ap (λ i. Err (Uncovered i)) x,
+    )

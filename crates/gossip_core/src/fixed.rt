@@ -1,0 +1,29 @@
+//! What the contracts fix, so that no other body meets them. Each function states its law and is called by nobody.
+
+ghost use Rattle.std.specs.Prelude.{◌≡◌, ◌↔◌, Some, Err};
+ghost use Rattle.gossip_core.specs.declared.absorbing.AbsorbRefusal.TheVariants.{Uncovered as UncoveredBy};
+ghost use Rattle.gossip_core.specs.declared.answering.Shown.{Shown as AnyShown};
+
+use crate::absorbing::{AbsorbRefusal, absorb};
+use crate::answering::{Shown, uncovered};
+use redo_wire::{Delta, Summary};
+use segment_core::Segment;
+
+fn what_is_uncovered_is_one(segment: &Segment, summary: &Summary) -> (Option<Shown>, Option<Shown>)
+    ensures { result.0 ≡ result.1 }
+{
+    // It is called for what it ensures: there is an anchor.
+    let _anchor = segment.anchor();
+    (uncovered(segment, summary), uncovered(segment, summary))
+}
+
+fn absorb_tells_what_is_uncovered(
+    segment: &mut Segment,
+    summary: &Summary,
+    delta: &Delta,
+) -> (Option<Shown>, Result<(), AbsorbRefusal>)
+    ensures { (shown : AnyShown) → (result.1 ≡ Err (UncoveredBy shown)) ↔ (result.0 ≡ Some shown) }
+{
+    let shown = uncovered(segment, summary);
+    (shown, absorb(segment, summary, delta))
+}
