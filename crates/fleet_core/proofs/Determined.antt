@@ -1,8 +1,8 @@
 -- A step that was carried out has one reply, and a script has one list of replies.
-use Rattle.std.proofs.Common.{◌≡◌, ℕ, ◌-◌, ◌⊎◌, ⊎_elim, ◌↔◌, Bool, true, false, IsTrue, List, []}
+use Rattle.std.proofs.Common.{◌≡◌, ℕ, ◌+◌, ◌-◌, ◌≤◌, ◌⊎◌, ⊎_elim, ◌↔◌, Bool, true, false, IsTrue, List, []}
 use Rattle.std.proofs.Common.{◌∷◌, ◌++◌, refl, sym, ap, ◌∙◌, subst, arith, Option, Some, None}
 use Rattle.std.specs.Prelude.{MatchOption, length}
-use Rattle.std.specs.List.{Contains}
+use Rattle.std.specs.List.{Contains, AllByRecursion}
 use Rattle.redo_core.specs.Sets.{IsPart}
 use Rattle.redo_core.specs.Position.{Position, IsPosition}
 use Rattle.redo_core.specs.Sound.{IsSound}
@@ -12,7 +12,14 @@ use Rattle.redo_core.specs.declared.facts.Fact.{Fact}
 use Rattle.redo_laws.specs.OrderOfMeanings.{Covers}
 use Rattle.redo_laws.proofs.Log.{log_of_sound}
 use Rattle.redo_laws.proofs.Fronts.{front_unique, page_unique}
-use Rattle.redo_laws.proofs.Meanings.{meaning_exists}
+use Rattle.redo_laws.proofs.Meanings.{meaning_exists, in_map}
+use Rattle.redo_core.specs.Meaning.{Meaning}
+use Rattle.redo_core.proofs.Pairs.{pair_apart}
+use Rattle.redo_wire.specs.Summaries.{KeyBefore}
+use Rattle.segment_state.specs.Gossip.{AnswersFor}
+use Rattle.gossip_core.specs.Answering.{listed_key}
+use Rattle.gossip_core.specs.declared.answering.Shown.{Shown}
+use Rattle.gossip_core.specs.declared.answering.Shown.TheVariants.{Anchor as OfAnchor, Key as OfKey}
 use Rattle.redo_core.proofs.Members.{none_in, which}
 use Rattle.redo_laws.proofs.Union.{both}
 use Rattle.segment_core.specs.Reading.{IsFrontAt}
@@ -22,11 +29,16 @@ use Rattle.fleet_steps.specs.declared.steps.Step.{Step}
 use Rattle.fleet_steps.specs.declared.steps.Step.TheVariants as step
 use Rattle.fleet_core.specs.declared.replies.Reply.{Reply}
 use Rattle.fleet_core.specs.declared.replies.Reply.TheVariants.{Changed, Unchanged, Folded, Front as FrontIs, Joined, Answer, Wiped, NoNode, Memory}
-use Rattle.fleet_core.specs.Machine.{Machine, facts_of, facts_after, after}
+use Rattle.fleet_core.specs.declared.replies.Reply.TheVariants.{Message as MessageIs, Absorbed, Uncovered, NoMessage}
+use Rattle.fleet_core.specs.Machine.{Message, Machine, facts_of, numbered, asked_by, asked_in, answered_by, answered_in, brought_by, facts_after}
+use Rattle.fleet_core.specs.Machine.{answers_to, messages_after, after}
+use Rattle.fleet_core.specs.Machine.Message.{Asked, Answered}
 use Rattle.fleet_core.specs.Replies.{RepliesTake, RepliesFront, RepliesRead, RepliesSame, RepliesCovers, reply_of, NodeReplies, Replies, HasCome}
+use Rattle.fleet_core.specs.Replies.{keys_of, summary_of, LeavesUncovered, RepliesAbsorb, Makes}
 use Rattle.fleet_core.specs.Runs.{TakesFrom, AreReplies}
-use Rattle.fleet_core.specs.Laws.{IsMachineOf, OneReply, OneRun}
+use Rattle.fleet_core.specs.Laws.{IsMessageOf, IsMachineOf, OneReply, OneRun}
 use Rattle.fleet_core.proofs.Places.{all_at, all_set}
+use Rattle.fleet_core.proofs.Numbering.{number_has, all_more}
 
 -- ---- a node has one reply
 
@@ -94,25 +106,111 @@ one_covers roster log facts others r s sound part its h k =
     let x = meaning_exists log others (log_of_sound roster log sound) its in
     h.is ∙ ap Answer (one_bool h.answer k.answer (Covers y.0 x.0) (h.tells y.0 x.0 y.1 x.1) (k.tells y.0 x.0 y.1 x.1)) ∙ sym k.is
 
+-- what is not answered for is one thing, and then not everything is answered for
+
+not_both : (facts : List Fact) (p : Position) (m : Meaning) (shown : Shown) → AnswersFor facts p (summary_of m) → LeavesUncovered facts p m shown → ⊥
+not_both facts p m (OfAnchor a) all h = let low : m.anchor ≤ p.anchor = all.anchor in
+    omega (arith, low, h.1)
+not_both facts p m (OfKey key) all h = h.1.has.1 (all.keys (listed_key key) (in_map listed_key (keys_of m) key h.1.has.0))
+
+one_shown : (facts : List Fact) (p : Position) (m : Meaning) (x y : Shown) → LeavesUncovered facts p m x → LeavesUncovered facts p m y → x ≡ y
+one_shown facts p m (OfAnchor a) (OfAnchor b) h k = ap OfAnchor (h.0 ∙ sym k.0)
+one_shown facts p m (OfAnchor a) (OfKey l) h k = absurd (omega (arith, h.1, k.0))
+one_shown facts p m (OfKey l) (OfAnchor a) h k = absurd (omega (arith, h.0, k.1))
+one_shown facts p m (OfKey a) (OfKey b) h k =
+    ⊎_elim
+    (λ (e : b ≡ a). ap OfKey (sym e))
+    (λ (x : KeyBefore a b). ⊎_elim
+    (λ (e : a ≡ b). ap OfKey e)
+    (λ (y : KeyBefore b a). absurd (pair_apart a.epoch a.number b.epoch b.number x y))
+    (k.1.least a h.1.has))
+    (h.1.least b k.1.has)
+
+one_absorb : (roster : ℕ) (log facts asked : List Fact) (r s : Reply) → IsSound roster log → IsPart asked log → RepliesAbsorb roster facts asked r
+    → RepliesAbsorb roster facts asked s → r ≡ s
+one_absorb roster log facts asked r s sound its h k =
+    let meaning = meaning_exists log asked (log_of_sound roster log sound) its in
+    let m = meaning.0 in
+    let p = k.p in
+    let Tells : Position → Reply → Type 0 =
+    λ q t. ((t ≡ Absorbed) × AnswersFor facts q (summary_of m)) ⊎ ((shown : Shown) × (t ≡ Uncovered shown) × LeavesUncovered facts q m shown) in
+    let one : Tells p r = subst (λ q. Tells q r) (one_place facts h.p k.p h.position k.position) (h.tells m meaning.1) in
+    ⊎_elim
+    (λ (x : (r ≡ Absorbed) × AnswersFor facts p (summary_of m)). ⊎_elim
+    (λ (y : (s ≡ Absorbed) × AnswersFor facts p (summary_of m)). x.0 ∙ sym y.0)
+    (λ (y : (shown : Shown) × (s ≡ Uncovered shown) × LeavesUncovered facts p m shown). absurd (not_both facts p m y.0 x.1 y.2))
+    (k.tells m meaning.1))
+    (λ (x : (shown : Shown) × (r ≡ Uncovered shown) × LeavesUncovered facts p m shown). ⊎_elim
+    (λ (y : (s ≡ Absorbed) × AnswersFor facts p (summary_of m)). absurd (not_both facts p m x.0 y.1 x.2))
+    (λ (y : (shown : Shown) × (s ≡ Uncovered shown) × LeavesUncovered facts p m shown).
+    x.1 ∙ ap (λ z. Uncovered z) (one_shown facts p m x.0 y.0 x.2 y.2) ∙ sym y.1)
+    (k.tells m meaning.1))
+    one
+
 -- both have come, so neither lacked memory
 one_of_two : (r s : Reply) (P : Reply → Type 0) → (P r → P s → r ≡ s) → (r ≡ Memory) ⊎ P r → (s ≡ Memory) ⊎ P s → HasCome r → HasCome s → r ≡ s
 one_of_two r s P one h k come came = ⊎_elim (λ e. absurd (lacking r e come)) (λ x. ⊎_elim (λ e. absurd (lacking s e came)) (λ y. one x y) k) h
 
-one_of_node : (roster : ℕ) (log facts others : List Fact) (x : Step Fact) (r s : Reply) → IsSound roster log → IsPart facts log → IsPart others log
-    → NodeReplies roster facts others x r → NodeReplies roster facts others x s → HasCome r → HasCome s → r ≡ s
-one_of_node roster log facts others (step.Take i fact) r s sound part its h k =
+-- there is no such message, or one reply where there is
+one_if_there : {A : Type 0} (o : Option A) (n : ℕ) (P : A → Reply → Type 0) (r s : Reply) → MatchOption o (r ≡ NoMessage n) (λ a. P a r)
+    → MatchOption o (s ≡ NoMessage n) (λ a. P a s) → ((a : A) → o ≡ Some a → P a r → P a s → r ≡ s) → r ≡ s
+one_if_there None n P r s h k one = h ∙ sym k
+one_if_there (Some a) n P r s h k one = one a refl h k
+
+-- ---- the sets that messages speak of are of the log
+
+answered_part_by : (log : List Fact) (messages : List Message) → AllByRecursion (IsMessageOf log) messages → (n : ℕ) (x : List Fact × List Fact)
+    (o : Option Message) → numbered messages n ≡ o → answered_by o ≡ Some x → IsPart x.0 log × IsPart x.1 log
+answered_part_by log messages all n x None is there = absurd (cc)
+answered_part_by log messages all n x (Some (Asked asked)) is there = absurd (cc)
+answered_part_by log messages all n x (Some (Answered asked facts)) is there =
+    let pair : List Fact × List Fact = (asked, facts) in
+    let same : pair ≡ x = cc in
+    subst (λ (y : List Fact × List Fact). IsPart y.0 log × IsPart y.1 log) same (number_has (IsMessageOf log) messages n (Answered asked facts) all is)
+
+answered_part : (log : List Fact) (messages : List Message) → AllByRecursion (IsMessageOf log) messages → (n : ℕ) (x : List Fact × List Fact)
+    → answered_in messages n ≡ Some x → IsPart x.0 log × IsPart x.1 log
+answered_part log messages all n x there = answered_part_by log messages all n x (numbered messages n) refl there
+
+asked_part_by : (log : List Fact) (messages : List Message) → AllByRecursion (IsMessageOf log) messages → (n : ℕ) (x : List Fact) (o : Option Message)
+    → numbered messages n ≡ o → asked_by o ≡ Some x → IsPart x log
+asked_part_by log messages all n x None is there = absurd (cc)
+asked_part_by log messages all n x (Some (Asked asked)) is there =
+    let same : asked ≡ x = cc in
+    subst (λ y. IsPart y log) same (number_has (IsMessageOf log) messages n (Asked asked) all is)
+asked_part_by log messages all n x (Some (Answered asked facts)) is there = absurd (cc)
+
+asked_part : (log : List Fact) (messages : List Message) → AllByRecursion (IsMessageOf log) messages → (n : ℕ) (x : List Fact)
+    → asked_in messages n ≡ Some x → IsPart x log
+asked_part log messages all n x there = asked_part_by log messages all n x (numbered messages n) refl there
+
+-- ---- a node has one reply to a step
+
+one_of_node : (roster : ℕ) (log facts others : List Fact) (messages : List Message) (x : Step Fact) (r s : Reply) → IsSound roster log
+    → IsPart facts log → IsPart others log → AllByRecursion (IsMessageOf log) messages → NodeReplies roster facts others messages x r
+    → NodeReplies roster facts others messages x s → HasCome r → HasCome s → r ≡ s
+one_of_node roster log facts others messages (step.Take i fact) r s sound part its all h k =
     one_of_two r s (RepliesTake roster facts fact) (one_take roster log facts fact r s sound part) h k
-one_of_node roster log facts others (step.Fold i g) r s sound part its h k = one_of_two r s (λ t. t ≡ Folded) (λ x y. x ∙ sym y) h k
-one_of_node roster log facts others (step.Discard i) r s sound part its h k = λ come came. h ∙ sym k
-one_of_node roster log facts others (step.Front i) r s sound part its h k = λ come came. one_told_front roster facts r s h k
-one_of_node roster log facts others (step.Read i g q offset len) r s sound part its h k =
+one_of_node roster log facts others messages (step.Fold i g) r s sound part its all h k = one_of_two r s (λ t. t ≡ Folded) (λ x y. x ∙ sym y) h k
+one_of_node roster log facts others messages (step.Discard i) r s sound part its all h k = λ come came. h ∙ sym k
+one_of_node roster log facts others messages (step.Front i) r s sound part its all h k = λ come came. one_told_front roster facts r s h k
+one_of_node roster log facts others messages (step.Read i g q offset len) r s sound part its all h k =
     one_of_two r s (RepliesRead roster facts g q) (one_told_read roster facts g q r s) h k
-one_of_node roster log facts others (step.Join i j) r s sound part its h k = one_of_two r s (λ t. t ≡ Joined) (λ x y. x ∙ sym y) h k
-one_of_node roster log facts others (step.Same i j) r s sound part its h k =
+one_of_node roster log facts others messages (step.Join i j) r s sound part its all h k = one_of_two r s (λ t. t ≡ Joined) (λ x y. x ∙ sym y) h k
+one_of_node roster log facts others messages (step.Same i j) r s sound part its all h k =
     one_of_two r s (RepliesSame roster facts others) (one_same roster log facts others r s sound part its) h k
-one_of_node roster log facts others (step.Covers i j) r s sound part its h k =
+one_of_node roster log facts others messages (step.Covers i j) r s sound part its all h k =
     one_of_two r s (RepliesCovers roster facts others) (one_covers roster log facts others r s sound part its) h k
-one_of_node roster log facts others (step.Wipe i) r s sound part its h k = one_of_two r s (λ t. t ≡ Wiped) (λ x y. x ∙ sym y) h k
+one_of_node roster log facts others messages (step.Wipe i) r s sound part its all h k = one_of_two r s (λ t. t ≡ Wiped) (λ x y. x ∙ sym y) h k
+one_of_node roster log facts others messages (step.Ask i) r s sound part its all h k =
+    one_of_two r s (λ t. t ≡ MessageIs (length messages + 1)) (λ x y. x ∙ sym y) h k
+one_of_node roster log facts others messages (step.Answer i n) r s sound part its all h k = λ come came.
+    one_if_there (asked_in messages n) n (λ asked. Makes messages) r s h k
+    (λ asked there x y. one_of_two r s (λ t. t ≡ MessageIs (length messages + 1)) (λ e f. e ∙ sym f) x y come came)
+one_of_node roster log facts others messages (step.Absorb i n) r s sound part its all h k = λ come came.
+    one_if_there (answered_in messages n) n (λ a t. (t ≡ Memory) ⊎ RepliesAbsorb roster facts a.0 t) r s h k
+    (λ a there x y. one_of_two r s (RepliesAbsorb roster facts a.0)
+    (one_absorb roster log facts a.0 r s sound (answered_part log messages all n a there).0) x y come came)
 
 -- ---- and so has the machine
 
@@ -130,8 +228,8 @@ one_matched (Some i) P r s h k one = h ∙ sym k
 pub one_reply : OneReply
 one_reply roster log m x r s sound of h k come came =
     one_matched (first_missing (length m.nodes) (nodes_of x)) (Replies roster m x) r s h k
-    (λ p q. one_of_node roster log (facts_of m (node_of x)) (facts_of m (other_of x)) x r s sound (part_of log m (node_of x) of)
-    (part_of log m (other_of x) of) p q come came)
+    (λ p q. one_of_node roster log (facts_of m (node_of x)) (facts_of m (other_of x)) m.messages x r s sound (part_of log m (node_of x) of)
+    (part_of log m (other_of x) of) of.messages p q come came)
 
 -- ---- scripts
 
@@ -139,20 +237,47 @@ with_one : (log facts : List Fact) (fact : Fact) → IsPart facts log → Contai
 with_one log facts fact part among =
     both facts (fact ∷ []) log part (λ x h. ⊎_elim (λ (e : fact ≡ x). subst (Contains log) e among) (λ none. absurd (none_in x none)) (which fact [] x h))
 
-part_after : (log facts others : List Fact) (x : Step Fact) (r : Reply) → IsPart facts log → IsPart others log → TakesFrom log x
-    → IsPart (facts_after facts others x r) log
-part_after log facts others (step.Take i fact) Changed part its among = with_one log facts fact part among
-part_after log facts others (step.Take i fact) Unchanged part its among = with_one log facts fact part among
-part_after log facts others (step.Join i j) Joined part its among = both facts others log part its
-part_after log facts others (step.Wipe i) Wiped part its among = none_of log
-part_after log facts others x r part its among = part
+brought_part : (log : List Fact) (o : Option (List Fact × List Fact)) → ((x : List Fact × List Fact) → o ≡ Some x → IsPart x.0 log × IsPart x.1 log)
+    → IsPart (brought_by o) log
+brought_part log None parts = none_of log
+brought_part log (Some x) parts = (parts x refl).1
+
+part_after : (log facts others : List Fact) (messages : List Message) (x : Step Fact) (r : Reply) → IsPart facts log → IsPart others log
+    → AllByRecursion (IsMessageOf log) messages → TakesFrom log x → IsPart (facts_after facts others messages x r) log
+part_after log facts others messages (step.Take i fact) Changed part its all among = with_one log facts fact part among
+part_after log facts others messages (step.Take i fact) Unchanged part its all among = with_one log facts fact part among
+part_after log facts others messages (step.Join i j) Joined part its all among = both facts others log part its
+part_after log facts others messages (step.Wipe i) Wiped part its all among = none_of log
+part_after log facts others messages (step.Absorb i n) Absorbed part its all among =
+    both facts (brought_by (answered_in messages n)) log part (brought_part log (answered_in messages n) (answered_part log messages all n))
+part_after log facts others messages x r part its all among = part
+
+none_more : {A : Type 0} (P : A → Type 0) (xs : List A) → AllByRecursion P xs → AllByRecursion P (xs ++ [])
+none_more P [] all = tt
+none_more P (x ∷ xs) all = (all.0, none_more P xs all.1)
+
+with_answer : (log : List Fact) (messages : List Message) (facts : List Fact) (o : Option (List Fact)) → AllByRecursion (IsMessageOf log) messages
+    → IsPart facts log → ((x : List Fact) → o ≡ Some x → IsPart x log) → AllByRecursion (IsMessageOf log) (messages ++ answers_to o facts)
+with_answer log messages facts None all part parts = none_more (IsMessageOf log) messages all
+with_answer log messages facts (Some asked) all part parts = all_more (IsMessageOf log) messages (Answered asked facts) all (parts asked refl, part)
+
+messages_part : (log : List Fact) (messages : List Message) (facts : List Fact) (x : Step Fact) (r : Reply) → AllByRecursion (IsMessageOf log) messages
+    → IsPart facts log → AllByRecursion (IsMessageOf log) (messages_after messages facts x r)
+messages_part log messages facts (step.Ask i) (MessageIs n) all part = all_more (IsMessageOf log) messages (Asked facts) all part
+messages_part log messages facts (step.Answer i k) (MessageIs n) all part =
+    with_answer log messages facts (asked_in messages k) all part (asked_part log messages all k)
+messages_part log messages facts x r all part = all
 
 machine_of_after : (log : List Fact) (m : Machine) (x : Step Fact) (r : Reply) → IsMachineOf log m → TakesFrom log x → IsMachineOf log (after m x r)
 machine_of_after log m x r of takes =
     let facts = facts_of m (node_of x) in
     let others = facts_of m (other_of x) in
-    let part = part_after log facts others x r (part_of log m (node_of x) of) (part_of log m (other_of x) of) takes in
-    record { nodes = all_set (λ xs. IsPart xs log) m.nodes (node_of x - 1) (facts_after facts others x r) part of.nodes }
+    let own = part_of log m (node_of x) of in
+    let part = part_after log facts others m.messages x r own (part_of log m (other_of x) of) of.messages takes in
+    record {
+      nodes = all_set (λ xs. IsPart xs log) m.nodes (node_of x - 1) (facts_after facts others m.messages x r) part of.nodes;
+      messages = messages_part log m.messages facts x r of.messages own;
+    }
 
 pub one_run : OneRun
 one_run roster log m [] [] [] sound of takes h k come came = refl

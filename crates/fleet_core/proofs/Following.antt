@@ -28,32 +28,32 @@ use Rattle.fleet_steps.specs.declared.steps.Step.TheVariants.{Take, Fold, Discar
 use Rattle.fleet_core.specs.declared.replies.Reply.{Reply}
 use Rattle.fleet_core.specs.declared.replies.Reply.TheVariants.{Folded as FoldedIs, Discarded, Front as FrontIs, Memory}
 use Rattle.fleet_core.specs.Replying.{refusal_reply, taken_reply, read_reply, fault_reply}
-use Rattle.fleet_core.specs.AtNode.{NodeFollows}
+use Rattle.fleet_core.specs.AtNode.{OwnFollows}
 
 -- a step that is replied Memory, and changes nothing
-pub take_without_memory : (readers : ℕ) (other : Option State) (s : State) (node : ℕ) (fact : Fact) → NodeFollows readers s other (Take node fact) Memory s
-take_without_memory readers other s node fact = λ roster log facts others size sound t means beside. (inl refl, means)
+pub take_without_memory : (readers : ℕ) (other : Option State) (s : State) (node : ℕ) (fact : Fact) → OwnFollows readers s other (Take node fact) Memory s
+take_without_memory readers other s node fact = λ roster log facts others messages size sound t means beside. (inl refl, means)
 
-fold_without_memory : (readers : ℕ) (other : Option State) (s : State) (node g : ℕ) → NodeFollows readers s other (Fold node g) Memory s
-fold_without_memory readers other s node g = λ roster log facts others size sound t means beside. (inl refl, means)
+fold_without_memory : (readers : ℕ) (other : Option State) (s : State) (node g : ℕ) → OwnFollows readers s other (Fold node g) Memory s
+fold_without_memory readers other s node g = λ roster log facts others messages size sound t means beside. (inl refl, means)
 
 -- a refusal of a fact that fits a sound log is for want of memory
 refused_at : (readers : ℕ) (other : Option State) (old new : State) (node : ℕ) (fact : Fact) (why : Refusal) (reply : Reply)
-    → (FitsSoundLog old fact → why ≡ refusal.Memory) → new ≡ old → reply ≡ refusal_reply why → NodeFollows readers old other (Take node fact) reply new
-refused_at readers other old new node fact why reply sound same is = λ roster log facts others size s t means beside.
+    → (FitsSoundLog old fact → why ≡ refusal.Memory) → new ≡ old → reply ≡ refusal_reply why → OwnFollows readers old other (Take node fact) reply new
+refused_at readers other old new node fact why reply sound same is = λ roster log facts others messages size s t means beside.
     let e : why ≡ refusal.Memory = sound (roster, log, facts, s, t, means) in
     let told : reply ≡ Memory = subst (λ w. reply ≡ refusal_reply w) e is in
-    subst (λ r. NodeFollows readers old other (Take node fact) r new) (sym told)
-    (subst (λ x. NodeFollows readers old other (Take node fact) Memory x) (sym same)
-    (take_without_memory readers other old node fact)) roster log facts others size s t means beside
+    subst (λ r. OwnFollows readers old other (Take node fact) r new) (sym told)
+    (subst (λ x. OwnFollows readers old other (Take node fact) Memory x) (sym same)
+    (take_without_memory readers other old node fact)) roster log facts others messages size s t means beside
 
 pub follows_take : (readers : ℕ) (other : Option State) (old new : State) (node : ℕ) (fact : Fact) (answer : Result Taken (Refused Fact Refusal))
     (reply : Reply) → OnOk answer (TakesFact old fact new) → IfOk answer (TellsChange old fact) → IfErr answer
-    (λ e. FitsSoundLog old fact → e.fault ≡ refusal.Memory) → OnErr answer (new ≡ old) → reply ≡ taken_reply answer → NodeFollows readers old other
+    (λ e. FitsSoundLog old fact → e.fault ≡ refusal.Memory) → OnErr answer (new ≡ old) → reply ≡ taken_reply answer → OwnFollows readers old other
     (Take node fact) reply new
 follows_take readers other old new node fact (Ok taken.Changed) reply takes tells sound same is =
-    subst (λ r. NodeFollows readers old other (Take node fact) r new) (sym is)
-    (λ roster log facts others size s t means beside. (
+    subst (λ r. OwnFollows readers old other (Take node fact) r new) (sym is)
+    (λ roster log facts others messages size s t means beside. (
       inr (inl (
         refl,
         λ m before later. let e : taken.Changed ≡ taken.Unchanged = (tells roster log facts m s t means before).1 later in
@@ -62,34 +62,35 @@ follows_take readers other old new node fact (Ok taken.Changed) reply takes tell
       takes roster log facts s t means,
     ))
 follows_take readers other old new node fact (Ok taken.Unchanged) reply takes tells sound same is =
-    subst (λ r. NodeFollows readers old other (Take node fact) r new) (sym is)
-    (λ roster log facts others size s t means beside.
+    subst (λ r. OwnFollows readers old other (Take node fact) r new) (sym is)
+    (λ roster log facts others messages size s t means beside.
     (inr (inr (refl, λ m before. (tells roster log facts m s t means before).0 refl)), takes roster log facts s t means))
 follows_take readers other old new node fact (Err refused) reply takes tells sound same is =
     refused_at readers other old new node fact refused.fault reply sound same is
 
 pub follows_front : (readers : ℕ) (other : Option State) (s : State) (node : ℕ) (front : Front)
     → ((roster : ℕ) (log facts : List Fact) (p : Position) → IsSound roster log → MeansAt roster log facts p s → IsFrontAt p front)
-    → NodeFollows readers s other (AskFront node) (FrontIs front) s
+    → OwnFollows readers s other (AskFront node) (FrontIs front) s
 follows_front readers other s node front says =
-    λ roster log facts others size sound t means beside.
+    λ roster log facts others messages size sound t means beside.
     (record { p = means.0; position = means.1.position; front = front; tells = says roster log facts means.0 sound means.1; is = refl }, means)
 
 pub follows_read : (readers : ℕ) (other : Option State) (s : State) (node g q offset len : ℕ) (answer : Result (List ℕ) ReadFault) (reply : Reply)
     → ((roster : ℕ) (log facts : List Fact) (p : Position) → IsSound roster log → MeansAt roster log facts p s → IsReadResult facts p g q answer)
-    → reply ≡ read_reply answer → NodeFollows readers s other (Read node g q offset len) reply s
+    → reply ≡ read_reply answer → OwnFollows readers s other (Read node g q offset len) reply s
 follows_read readers other s node g q offset len (Ok image) reply says is =
-    λ roster log facts others size sound t means beside.
+    λ roster log facts others messages size sound t means beside.
     (inr (record { p = means.0; position = means.1.position; answer = OfImage image; tells = says roster log facts means.0 sound means.1; is = is }), means)
 follows_read readers other s node g q offset len (Err (fault.Below min)) reply says is =
-    λ roster log facts others size sound t means beside.
+    λ roster log facts others messages size sound t means beside.
     (inr (record { p = means.0; position = means.1.position; answer = OfBelow min; tells = says roster log facts means.0 sound means.1; is = is }), means)
 follows_read readers other s node g q offset len (Err (fault.Above complete)) reply says is =
-    λ roster log facts others size sound t means beside.
+    λ roster log facts others messages size sound t means beside.
     (inr (record { p = means.0; position = means.1.position; answer = OfAbove complete; tells = says roster log facts means.0 sound means.1; is = is }), means)
 follows_read readers other s node g q offset len (Err (fault.BrokenBlockChain page number)) reply says is =
-    λ roster log facts others size sound t means beside. absurd (says roster log facts means.0 sound means.1)
-follows_read readers other s node g q offset len (Err fault.Memory) reply says is = λ roster log facts others size sound t means beside. (inl is, means)
+    λ roster log facts others messages size sound t means beside. absurd (says roster log facts means.0 sound means.1)
+follows_read readers other s node g q offset len (Err fault.Memory) reply says is =
+    λ roster log facts others messages size sound t means beside. (inl is, means)
 
 -- a page that was folded for facts of the log is final
 fold_is_final : (roster : ℕ) (log facts : List Fact) (s : State) (g : ℕ) (folded : Folded) → (m : Means roster log facts s) → IsFoldOf facts m.0 g folded
@@ -102,23 +103,23 @@ fold_is_final roster log facts s g folded m is =
 
 pub follows_fold : (readers : ℕ) (other : Option State) (old new : State) (node g : ℕ) (folded : Folded)
     → ((roster : ℕ) (log facts : List Fact) (p : Position) → IsSound roster log → MeansAt roster log facts p old → IsFoldOf facts p g folded)
-    → KeepsMeaningWith old folded.page folded.version folded.image new → NodeFollows readers old other (Fold node g) FoldedIs new
-follows_fold readers other old new node g folded plans keeps = λ roster log facts others size sound t means beside.
+    → KeepsMeaningWith old folded.page folded.version folded.image new → OwnFollows readers old other (Fold node g) FoldedIs new
+follows_fold readers other old new node g folded plans keeps = λ roster log facts others messages size sound t means beside.
     (inr refl, keeps roster log facts sound (fold_is_final roster log facts old g folded means (plans roster log facts means.0 sound means.1)) means)
 
 -- a page that could not be planned
 pub follows_no_plan : (readers : ℕ) (other : Option State) (s : State) (node g : ℕ) (why : ReadFault) (reply : Reply)
     → ((roster : ℕ) (log facts : List Fact) (p : Position) → IsSound roster log → MeansAt roster log facts p s → why ≡ fault.Memory) → reply ≡ fault_reply why
-    → NodeFollows readers s other (Fold node g) reply s
-follows_no_plan readers other s node g why reply says is = λ roster log facts others size sound t means beside.
+    → OwnFollows readers s other (Fold node g) reply s
+follows_no_plan readers other s node g why reply says is = λ roster log facts others messages size sound t means beside.
     let e : why ≡ fault.Memory = says roster log facts means.0 sound means.1 in
     let told : reply ≡ Memory = subst (λ w. reply ≡ fault_reply w) e is in
-    subst (λ r. NodeFollows readers s other (Fold node g) r s) (sym told)
-    (fold_without_memory readers other s node g) roster log facts others size sound t means beside
+    subst (λ r. OwnFollows readers s other (Fold node g) r s) (sym told)
+    (fold_without_memory readers other s node g) roster log facts others messages size sound t means beside
 
 pub follows_discard : (readers : ℕ) (other : Option State) (old new : State) (node : ℕ) → KeepsMeaning old new
-    → NodeFollows readers old other (Discard node) Discarded new
-follows_discard readers other old new node keeps = λ roster log facts others size sound t means beside. (refl, keeps roster log facts sound means)
+    → OwnFollows readers old other (Discard node) Discarded new
+follows_discard readers other old new node keeps = λ roster log facts others messages size sound t means beside. (refl, keeps roster log facts sound means)
 
 -- the version of a plan is the anchor, so its commit is never ahead of it
 pub never_ahead : (s : State) (g : ℕ) (folded : Folded) (version anchor : ℕ) → PlansFold s g (Ok folded) → RefusesCommit s folded (commit.Ahead version anchor)

@@ -1,7 +1,12 @@
 pub mod Following
 pub mod Merging
+pub mod Numbering
+pub mod Uncovering
+pub mod Exchanging
+pub mod Carrying
 pub mod Places
 pub mod Nodes
 pub mod Pairing
 pub mod GoingOn
 pub mod Determined
+pub mod Staying

@@ -22,7 +22,7 @@ use Rattle.fleet_steps.specs.declared.steps.Step.TheVariants.{Join, Same, Covers
 use Rattle.fleet_core.specs.declared.replies.Reply.{Reply}
 use Rattle.fleet_core.specs.declared.replies.Reply.TheVariants.{Joined, Answer, Wiped, Memory}
 use Rattle.fleet_core.specs.Replying.{refusal_reply, joined_reply}
-use Rattle.fleet_core.specs.AtNode.{NodeFollows}
+use Rattle.fleet_core.specs.AtNode.{OwnFollows}
 use Rattle.fleet_core.specs.Calls.{TellsCovers}
 
 -- ---- joins
@@ -59,31 +59,31 @@ itself log F s means =
     }
 
 -- a node that is joined with itself
-pub follows_own_join : (readers : ℕ) (s : State) (node from : ℕ) → NodeFollows readers s None (Join node from) Joined s
-follows_own_join readers s node from = λ roster log facts others size sound t means beside.
+pub follows_own_join : (readers : ℕ) (s : State) (node from : ℕ) → OwnFollows readers s None (Join node from) Joined s
+follows_own_join readers s node from = λ roster log facts others messages size sound t means beside.
     (inr refl, join_law log facts others s s s (log_of_sound roster log sound) means beside (itself log facts s means))
 
-join_without_memory : (readers : ℕ) (s other : State) (node from : ℕ) → NodeFollows readers s (Some other) (Join node from) Memory s
-join_without_memory readers s other node from = λ roster log facts others size sound t means beside. (inl refl, means)
+join_without_memory : (readers : ℕ) (s other : State) (node from : ℕ) → OwnFollows readers s (Some other) (Join node from) Memory s
+join_without_memory readers s other node from = λ roster log facts others messages size sound t means beside. (inl refl, means)
 
 pub follows_join : (readers : ℕ) (old other new : State) (node from : ℕ) (answer : Result (Unit {0}) Refusal) (reply : Reply)
     → OnOk answer (MeansUnion old other new) → IfErr answer (λ e. AreOfOneLog old other → e ≡ refusal.Memory) → OnErr answer (new ≡ old)
-    → reply ≡ joined_reply answer → NodeFollows readers old (Some other) (Join node from) reply new
+    → reply ≡ joined_reply answer → OwnFollows readers old (Some other) (Join node from) reply new
 follows_join readers old other new node from (Ok done) reply union sound same is =
-    subst (λ r. NodeFollows readers old (Some other) (Join node from) r new) (sym is)
-    (λ roster log facts others size s t means beside. (inr refl, union roster log facts others s means beside))
-follows_join readers old other new node from (Err why) reply union sound same is = λ roster log facts others size s t means beside.
+    subst (λ r. OwnFollows readers old (Some other) (Join node from) r new) (sym is)
+    (λ roster log facts others messages size s t means beside. (inr refl, union roster log facts others s means beside))
+follows_join readers old other new node from (Err why) reply union sound same is = λ roster log facts others messages size s t means beside.
     let e : why ≡ refusal.Memory = sound (roster, log, facts, others, s, means, beside) in
     let told : reply ≡ Memory = subst (λ w. reply ≡ refusal_reply w) e is in
-    subst (λ r. NodeFollows readers old (Some other) (Join node from) r new) (sym told)
-    (subst (λ x. NodeFollows readers old (Some other) (Join node from) Memory x) (sym same)
-    (join_without_memory readers old other node from)) roster log facts others size s t means beside
+    subst (λ r. OwnFollows readers old (Some other) (Join node from) r new) (sym told)
+    (subst (λ x. OwnFollows readers old (Some other) (Join node from) Memory x) (sym same)
+    (join_without_memory readers old other node from)) roster log facts others messages size s t means beside
 
 -- ---- comparisons
 
 pub follows_same : (readers : ℕ) (s : State) (other : Option State) (node than : ℕ) (answer : Bool) → TellsSame s (unwrap_or other s) answer
-    → NodeFollows readers s other (Same node than) (Answer answer) s
-follows_same readers s other node than answer tells = λ roster log facts others size sound t means beside.
+    → OwnFollows readers s other (Same node than) (Answer answer) s
+follows_same readers s other node than answer tells = λ roster log facts others messages size sound t means beside.
     let l = log_of_sound roster log sound in (
       inr (record {
         answer = answer;
@@ -95,8 +95,8 @@ follows_same readers s other node than answer tells = λ roster log facts others
     )
 
 pub follows_covers : (readers : ℕ) (s : State) (other : Option State) (node than : ℕ) (answer : Bool) → TellsCovers s (unwrap_or other s) answer
-    → NodeFollows readers s other (Covers node than) (Answer answer) s
-follows_covers readers s other node than answer tells = λ roster log facts others size sound t means beside.
+    → OwnFollows readers s other (Covers node than) (Answer answer) s
+follows_covers readers s other node than answer tells = λ roster log facts others messages size sound t means beside.
     let l = log_of_sound roster log sound in (
       inr (record {
         answer = answer;
@@ -107,17 +107,18 @@ follows_covers readers s other node than answer tells = λ roster log facts othe
       means,
     )
 
-pub same_without_memory : (readers : ℕ) (s : State) (other : Option State) (node than : ℕ) → NodeFollows readers s other (Same node than) Memory s
-same_without_memory readers s other node than = λ roster log facts others size sound t means beside. (inl refl, means)
+pub same_without_memory : (readers : ℕ) (s : State) (other : Option State) (node than : ℕ) → OwnFollows readers s other (Same node than) Memory s
+same_without_memory readers s other node than = λ roster log facts others messages size sound t means beside. (inl refl, means)
 
-pub covers_without_memory : (readers : ℕ) (s : State) (other : Option State) (node than : ℕ) → NodeFollows readers s other (Covers node than) Memory s
-covers_without_memory readers s other node than = λ roster log facts others size sound t means beside. (inl refl, means)
+pub covers_without_memory : (readers : ℕ) (s : State) (other : Option State) (node than : ℕ) → OwnFollows readers s other (Covers node than) Memory s
+covers_without_memory readers s other node than = λ roster log facts others messages size sound t means beside. (inl refl, means)
 
 -- ---- wipes
 
-pub follows_wipe : (readers : ℕ) (s : State) (other : Option State) (node : ℕ) → NodeFollows readers s other (Wipe node) Wiped (empty_state readers)
+pub follows_wipe : (readers : ℕ) (s : State) (other : Option State) (node : ℕ) → OwnFollows readers s other (Wipe node) Wiped (empty_state readers)
 follows_wipe readers s other node =
-    λ roster log facts others size sound t means beside. (inr refl, subst (λ n. Means roster log [] (empty_state n)) (sym size) (empty_means roster log))
+    λ roster log facts others messages size sound t means beside.
+    (inr refl, subst (λ n. Means roster log [] (empty_state n)) (sym size) (empty_means roster log))
 
-pub wipe_without_memory : (readers : ℕ) (s : State) (other : Option State) (node : ℕ) → NodeFollows readers s other (Wipe node) Memory s
-wipe_without_memory readers s other node = λ roster log facts others size sound t means beside. (inl refl, means)
+pub wipe_without_memory : (readers : ℕ) (s : State) (other : Option State) (node : ℕ) → OwnFollows readers s other (Wipe node) Memory s
+wipe_without_memory readers s other node = λ roster log facts others messages size sound t means beside. (inl refl, means)

@@ -1,5 +1,5 @@
 -- The machine's sets beside the segments, node by node.
-use Rattle.std.proofs.Common.{◌≡◌, ℕ, zero, suc, ◌+◌, ◌-◌, List, [], length, get_or, set, replicate, refl, sym, ap, ◌∙◌, subst, arith, Option, Some, None}
+use Rattle.std.proofs.Common.{◌≡◌, ℕ, zero, suc, ◌+◌, ◌-◌, ◌↔◌, List, [], length, get_or, set, replicate, refl, sym, ap, ◌∙◌, subst, arith, Option, Some, None}
 use Rattle.std.specs.Prelude.{MatchOption, slice_get, unwrap_or}
 use Rattle.std.specs.List.{AllZip}
 use Rattle.std.specs.Vec.{with_items}
@@ -13,8 +13,10 @@ use Rattle.fleet_steps.specs.Nodes.{node_of, other_of, nodes_of, first_missing}
 use Rattle.fleet_steps.specs.declared.steps.Step.{Step}
 use Rattle.fleet_steps.specs.declared.steps.Step.TheVariants as step
 use Rattle.fleet_core.specs.declared.replies.Reply.{Reply}
-use Rattle.fleet_core.specs.declared.replies.Reply.TheVariants.{NoNode}
-use Rattle.fleet_core.specs.Machine.{Machine, facts_of, with_facts, facts_after, after}
+use Rattle.fleet_core.specs.declared.replies.Reply.TheVariants.{NoNode, NoMessage}
+use Rattle.fleet_core.specs.declared.messages.Made.{Made}
+use Rattle.fleet_core.specs.Messages.{LacksMessage}
+use Rattle.fleet_core.specs.Machine.{Message, Machine, facts_of, facts_after, messages_after, after}
 use Rattle.fleet_core.specs.Replies.{Replies}
 use Rattle.fleet_core.specs.FleetState.{FleetState, other_than}
 use Rattle.fleet_core.specs.Refused.{IsRefusal}
@@ -26,22 +28,47 @@ use Rattle.fleet_core.proofs.Places.{AreThere, none_named, are_there, beside_is,
 -- ---- a named node that is not there
 
 -- nothing has changed
-same : (m : Machine) (node : ℕ) → m ≡ with_facts m node (facts_of m node)
-same m node = ap (λ (nodes : List (List Fact)). let n : Machine = record { nodes = nodes; messages = m.messages } in n) (sym (set-get_or m.nodes (node - 1) []))
+as_left : (m : Machine) (node : ℕ) (facts : List Fact) (messages : List Message) → facts_of m node ≡ facts → m.messages ≡ messages
+    → m ≡ (let n : Machine = record { nodes = set m.nodes (node - 1) facts; messages = messages } in n)
+as_left m node facts messages own kept =
+    ap (λ (nodes : List (List Fact)). let n : Machine = record { nodes = nodes; messages = m.messages } in n)
+    (sym (set-get_or m.nodes (node - 1) []) ∙ ap (set m.nodes (node - 1)) own)
+    ∙ ap (λ (ms : List Message). let n : Machine = record { nodes = set m.nodes (node - 1) facts; messages = ms } in n) kept
 
-as_they_were : (facts others : List Fact) (s : Step Fact) (i : ℕ) → facts ≡ facts_after facts others s (NoNode i)
-as_they_were facts others (step.Take node fact) i = refl
-as_they_were facts others (step.Fold node page) i = refl
-as_they_were facts others (step.Discard node) i = refl
-as_they_were facts others (step.Front node) i = refl
-as_they_were facts others (step.Read node page point offset len) i = refl
-as_they_were facts others (step.Join node from) i = refl
-as_they_were facts others (step.Same node other) i = refl
-as_they_were facts others (step.Covers node other) i = refl
-as_they_were facts others (step.Wipe node) i = refl
+as_they_were : (facts others : List Fact) (messages : List Message) (s : Step Fact) (i : ℕ) → facts ≡ facts_after facts others messages s (NoNode i)
+as_they_were facts others messages (step.Take node fact) i = refl
+as_they_were facts others messages (step.Fold node page) i = refl
+as_they_were facts others messages (step.Discard node) i = refl
+as_they_were facts others messages (step.Front node) i = refl
+as_they_were facts others messages (step.Read node page point offset len) i = refl
+as_they_were facts others messages (step.Join node from) i = refl
+as_they_were facts others messages (step.Same node other) i = refl
+as_they_were facts others messages (step.Covers node other) i = refl
+as_they_were facts others messages (step.Wipe node) i = refl
+as_they_were facts others messages (step.Ask node) i = refl
+as_they_were facts others messages (step.Answer node message) i = refl
+as_they_were facts others messages (step.Absorb node message) i = refl
+
+none_made : (messages : List Message) (facts : List Fact) (s : Step Fact) (i : ℕ) → messages ≡ messages_after messages facts s (NoNode i)
+none_made messages facts (step.Take node fact) i = refl
+none_made messages facts (step.Fold node page) i = refl
+none_made messages facts (step.Discard node) i = refl
+none_made messages facts (step.Front node) i = refl
+none_made messages facts (step.Read node page point offset len) i = refl
+none_made messages facts (step.Join node from) i = refl
+none_made messages facts (step.Same node other) i = refl
+none_made messages facts (step.Covers node other) i = refl
+none_made messages facts (step.Wipe node) i = refl
+none_made messages facts (step.Ask node) i = refl
+none_made messages facts (step.Answer node message) i = refl
+none_made messages facts (step.Absorb node message) i = refl
 
 after_no_node : (m : Machine) (s : Step Fact) (i : ℕ) → m ≡ after m s (NoNode i)
-after_no_node m s i = same m (node_of s) ∙ ap (with_facts m (node_of s)) (as_they_were (facts_of m (node_of s)) (facts_of m (other_of s)) s i)
+after_no_node m s i =
+    let facts = facts_of m (node_of s) in
+    let others = facts_of m (other_of s) in
+    as_left m (node_of s) (facts_after facts others m.messages s (NoNode i)) (messages_after m.messages facts s (NoNode i))
+    (as_they_were facts others m.messages s i) (none_made m.messages facts s i)
 
 pub follows_no_node : (fleet : FleetState) (s : Step Fact) (i : ℕ) → first_missing (length fleet.segments) (nodes_of s) ≡ Some i
     → FollowsStep fleet s (NoNode i) fleet
@@ -57,11 +84,19 @@ pub calls_no_node : (fleet : FleetState) (s : Step Fact) (i : ℕ) → first_mis
 calls_no_node fleet s i missing =
     subst (λ o. MatchOption o (Calls fleet s (NoNode i) fleet) (λ node. (NoNode i ≡ NoNode node) × (fleet ≡ fleet))) (sym missing) (refl, refl)
 
+pub no_message_of_none : (fleet : FleetState) (s : Step Fact) (i : ℕ) → first_missing (length fleet.segments) (nodes_of s) ≡ Some i → (number : ℕ)
+    → (NoNode i ≡ NoMessage number) ↔ LacksMessage fleet s number
+no_message_of_none fleet s i missing number = (
+  λ (e : NoNode i ≡ NoMessage number). absurd (cc),
+  λ lacks. absurd (let there : first_missing (length fleet.segments) (nodes_of s) ≡ None = lacks.0 in
+      cc),
+)
+
 -- ---- a step whose nodes are there
 
--- the fleet with other segments
-abbrev pub with_all : FleetState → List State → FleetState
-with_all fleet segments = record fleet { segments = segments }
+-- the fleet with other segments and messages
+abbrev pub with_all : FleetState → List State → List Made → FleetState
+with_all fleet segments made = record { roster = fleet.roster; segments = segments; messages = made }
 
 -- the places of the step's nodes, counted from 0, and none of the nodes is missing
 pub record AreAt (count : ℕ) (s : Step Fact) (place other : ℕ) : Type 0 where
@@ -69,9 +104,10 @@ pub record AreAt (count : ℕ) (s : Step Fact) (place other : ℕ) : Type 0 wher
   pub node : node_of s ≡ place + 1
   pub beside : other_of s ≡ other + 1
 
-pub follows_at : (fleet : FleetState) (s : Step Fact) (reply : Reply) (new : List State) (place other : ℕ) → AreAt (length fleet.segments) s place other
-    → CarriesOut fleet.roster fleet.segments place other s reply new → FollowsStep fleet s reply (with_all fleet new)
-follows_at fleet s reply new place other at out = λ roster log m sound takes mean.
+pub follows_at : (fleet : FleetState) (s : Step Fact) (reply : Reply) (new : List State) (made : List Made) (place other : ℕ)
+    → AreAt (length fleet.segments) s place other → CarriesOut fleet.roster fleet.segments place other fleet.messages s reply new made
+    → FollowsStep fleet s reply (with_all fleet new made)
+follows_at fleet s reply new made place other at out = λ roster log m sound takes mean.
     let Mean : List Fact → State → Type 0 = λ facts segment. Means roster log facts segment in
     let count : length m.nodes ≡ length fleet.segments = zip_count Mean m.nodes fleet.segments mean.nodes in
     let here : first_missing (length m.nodes) (nodes_of s) ≡ None = ap (λ n. first_missing n (nodes_of s)) count ∙ at.none in
@@ -91,31 +127,34 @@ follows_at fleet s reply new place other at out = λ roster log m sound takes me
     let means_other : Mean others (unwrap_or (other_than fleet.segments place other) old) =
     subst (λ i. Mean (get_or m.nodes i []) (unwrap_or (other_than fleet.segments place other) old)) aside
     (subst (λ x. Mean (get_or m.nodes other []) x) (beside_is fleet.segments place other old out.there) its) in
-    let both = out.follows roster log facts others mean.roster_is sound takes means means_other in
-    let later : List (List Fact) = set m.nodes (node_of s - 1) (facts_after facts others s reply) in
+    let all = out.does.follows roster log facts others m.messages mean.roster_is sound takes means means_other mean.messages in
+    let later : List (List Fact) = set m.nodes (node_of s - 1) (facts_after facts others m.messages s reply) in
     let changed : AllZip Mean later (set fleet.segments (node_of s - 1) out.later) =
-    zip_set Mean m.nodes fleet.segments (node_of s - 1) (facts_after facts others s reply) out.later mean.nodes both.1 in (
-      subst (λ o. MatchOption o (Replies roster m s reply) (λ node. reply ≡ NoNode node)) (sym here) both.0,
+    zip_set Mean m.nodes fleet.segments (node_of s - 1) (facts_after facts others m.messages s reply) out.later mean.nodes all.1 in (
+      subst (λ o. MatchOption o (Replies roster m s reply) (λ node. reply ≡ NoNode node)) (sym here) all.0,
       record {
         roster_is = mean.roster_is;
         nodes = subst (AllZip Mean later) (ap (λ i. set fleet.segments i out.later) (sym low) ∙ sym out.others) changed;
+        messages = all.2;
       },
     )
 
-pub calls_at : (fleet : FleetState) (s : Step Fact) (reply : Reply) (new : List State) (place other : ℕ) → AreAt (length fleet.segments) s place other
-    → CarriesOut fleet.roster fleet.segments place other s reply new → StepCalls fleet s reply (with_all fleet new)
-calls_at fleet s reply new place other at out =
+pub calls_at : (fleet : FleetState) (s : Step Fact) (reply : Reply) (new : List State) (made : List Made) (place other : ℕ)
+    → AreAt (length fleet.segments) s place other → CarriesOut fleet.roster fleet.segments place other fleet.messages s reply new made
+    → StepCalls fleet s reply (with_all fleet new made)
+calls_at fleet s reply new made place other at out =
     let low : place ≡ node_of s - 1 = omega (arith, at.node) in
     let aside : other ≡ other_of s - 1 = omega (arith, at.beside) in
-    let next : FleetState = with_all fleet new in
+    let next : FleetState = with_all fleet new made in
+    let Does : Option State → Type 0 = λ o. NodeCalls fleet.roster out.before o fleet.messages s reply out.later made in
     subst (λ o. MatchOption o (Calls fleet s reply next) (λ node. (reply ≡ NoNode node) × (next ≡ fleet))) (sym at.none)
     (record {
       before = out.before;
       there = subst (λ i. slice_get fleet.segments i ≡ Some out.before) low out.there;
       later = out.later;
-      does = subst (λ i. NodeCalls fleet.roster out.before (other_than fleet.segments (node_of s - 1) i) s reply out.later) aside
-          (subst (λ i. NodeCalls fleet.roster out.before (other_than fleet.segments i other) s reply out.later) low out.calls);
-      others = ap (with_all fleet) (out.others ∙ ap (λ i. set fleet.segments i out.later) low);
+      does = subst (λ i. Does (other_than fleet.segments (node_of s - 1) i)) aside
+          (subst (λ i. Does (other_than fleet.segments i other)) low out.does.calls);
+      others = ap (λ (segments : List State). with_all fleet segments made) (out.others ∙ ap (λ i. set fleet.segments i out.later) low);
     })
 
 -- the nodes that the step names, none of which is missing
@@ -130,23 +169,36 @@ named_at count s missing node other is named own its =
 pub record StepsIn (old : FleetState) (s : Step Fact) (reply : Reply) (new : FleetState) : Type 0 where
   pub follows : FollowsStep old s reply new
   pub calls : StepCalls old s reply new
+  pub no_node : (node : ℕ) → (reply ≡ NoNode node) ↔ (first_missing (length old.segments) (nodes_of s) ≡ Some node)
+  pub no_message : (number : ℕ) → (reply ≡ NoMessage number) ↔ LacksMessage old s number
   pub refused : IsRefusal reply → new ≡ old
 
-pub steps_in : {Z : Type 0} (readers : ℕ) (nodes : Vec State Z) (given : List State) (s : Step Fact) (reply : Reply) (new : List State) (place other : ℕ)
-    → AreAt (length nodes.items) s place other → given ≡ nodes.items → CarriesOut readers given place other s reply new
-    → StepsIn (record { roster = readers; segments = nodes.items }) s reply (record { roster = readers; segments = (with_items nodes new).items })
-steps_in readers nodes given s reply new place other at same out_of =
-    let out : CarriesOut readers nodes.items place other s reply new = subst (λ segments. CarriesOut readers segments place other s reply new) same out_of in
-    let old : FleetState = record { roster = readers; segments = nodes.items } in
+pub steps_in : {Z : Type 0} (readers : ℕ) (nodes : Vec State Z) (kept : List Made) (given : List State) (s : Step Fact) (reply : Reply) (new : List State)
+    (made : List Made) (place other : ℕ) → AreAt (length nodes.items) s place other → given ≡ nodes.items
+    → CarriesOut readers given place other kept s reply new made
+    → StepsIn (record { roster = readers; segments = nodes.items; messages = kept }) s reply
+    (record { roster = readers; segments = (with_items nodes new).items; messages = made })
+steps_in readers nodes kept given s reply new made place other at same out_of =
+    let out : CarriesOut readers nodes.items place other kept s reply new made =
+    subst (λ segments. CarriesOut readers segments place other kept s reply new made) same out_of in
+    let old : FleetState = record { roster = readers; segments = nodes.items; messages = kept } in
     let fit : length new ≡ nodes.len = ap length out.others ∙ length-set nodes.items place out.later ∙ sym nodes.ok.0 in
     let put : (with_items nodes new).items ≡ new = with_items_is nodes new fit in
-    let as_left : IsRefusal reply → new ≡ nodes.items =
-    λ refused. out.others ∙ ap (set nodes.items place) (out.refused refused ∙ sym (get_or_from_slice_get nodes.items place out.before out.before out.there))
+    let left : IsRefusal reply → new ≡ nodes.items =
+    λ refused. out.others
+    ∙ ap (set nodes.items place) ((out.does.refused refused).0 ∙ sym (get_or_from_slice_get nodes.items place out.before out.before out.there))
     ∙ set-get_or nodes.items place out.before in
     record {
-      follows = subst (λ segments. FollowsStep old s reply (with_all old segments)) (sym put) (follows_at old s reply new place other at out);
-      calls = subst (λ segments. StepCalls old s reply (with_all old segments)) (sym put) (calls_at old s reply new place other at out);
-      refused = λ refused. ap (with_all old) (put ∙ as_left refused);
+      follows = subst (λ segments. FollowsStep old s reply (with_all old segments made)) (sym put) (follows_at old s reply new made place other at out);
+      calls = subst (λ segments. StepCalls old s reply (with_all old segments made)) (sym put) (calls_at old s reply new made place other at out);
+      no_node = λ node. (
+        λ e. absurd (out.does.found node e),
+        λ e. absurd (let none : first_missing (length nodes.items) (nodes_of s) ≡ None = at.none in
+            cc),
+      );
+      no_message = λ number. (λ e. (at.none, (out.does.no_message number).0 e), λ lacks. (out.does.no_message number).1 lacks.1);
+      refused = λ refused.
+          ap (λ (segments : List State). with_all old segments made) (put ∙ left refused) ∙ ap (with_all old nodes.items) (out.does.refused refused).1;
     }
 
 -- ---- the machine's first state

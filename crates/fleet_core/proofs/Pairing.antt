@@ -10,23 +10,14 @@ use Rattle.redo_core.specs.declared.facts.Fact.{Fact}
 use Rattle.segment_state.specs.State.{State}
 use Rattle.fleet_steps.specs.declared.steps.Step.{Step}
 use Rattle.fleet_core.specs.declared.replies.Reply.{Reply}
-use Rattle.fleet_core.specs.declared.replies.Reply.TheVariants.{NoNode}
+use Rattle.fleet_core.specs.declared.messages.Made.{Made}
 use Rattle.fleet_core.specs.FleetState.{other_than}
-use Rattle.fleet_core.specs.Refused.{IsRefusal}
-use Rattle.fleet_core.specs.Calls.{NodeCalls}
-use Rattle.fleet_core.specs.AtNode.{NodeFollows, CarriesOut}
+use Rattle.fleet_core.specs.AtNode.{IsCarriedOut, CarriesOut}
 
 -- the segment behind the reference that was given, or the own one
 pub unwrap_now : {S : Type 0} (other : Option (Bor S)) (own : Bor S) → (unwrap_or other own).now ≡ unwrap_or (option_copied other) own.now
 unwrap_now None own = refl
 unwrap_now (Some other) own = refl
-
--- a segment that a step was carried out at, beside another one
-pub record Carried (readers : ℕ) (old : State) (other : Option State) (step : Step Fact) (reply : Reply) (new : State) : Type 0 where
-  pub follows : NodeFollows readers old other step reply new
-  pub calls : NodeCalls readers old other step reply new
-  pub found : (node : ℕ) → reply ≡ NoNode node → ⊥
-  pub refused : IsRefusal reply → new ≡ old
 
 -- it stands at a place of the list, and the other one at the other place
 pub record Stands (old : List State) (place other : ℕ) (s : State) (o : Option State) (later : State) (new : List State) : Type 0 where
@@ -34,16 +25,14 @@ pub record Stands (old : List State) (place other : ℕ) (s : State) (o : Option
   pub beside : o ≡ other_than old place other
   pub others : new ≡ set old place later
 
-pub carried : (readers : ℕ) (old : List State) (place other : ℕ) (s : State) (o : Option State) (step : Step Fact) (reply : Reply) (later : State)
-    (new : List State) → Stands old place other s o later new → Carried readers s o step reply later → CarriesOut readers old place other step reply new
-carried readers old place other s o step reply later new stands out = record {
+pub carried : (readers : ℕ) (old : List State) (place other : ℕ) (s : State) (o : Option State) (messages : List Made) (step : Step Fact) (reply : Reply)
+    (later : State) (new : List State) (made : List Made) → Stands old place other s o later new
+    → IsCarriedOut readers s o messages step reply later made → CarriesOut readers old place other messages step reply new made
+carried readers old place other s o messages step reply later new made stands out = record {
   before = s;
   there = stands.there;
   later = later;
-  follows = subst (λ x. NodeFollows readers s x step reply later) stands.beside out.follows;
-  calls = subst (λ x. NodeCalls readers s x step reply later) stands.beside out.calls;
-  found = out.found;
-  refused = out.refused;
+  does = subst (λ x. IsCarriedOut readers s x messages step reply later made) stands.beside out;
   others = stands.others;
 }
 

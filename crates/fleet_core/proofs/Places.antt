@@ -8,7 +8,7 @@ use Rattle.std.proofs.lemmas.Option.{get_or_from_slice_get, unwrap_or-slice_get}
 use Rattle.segment_state.specs.State.{State}
 use Rattle.fleet_steps.specs.Nodes.{node_of, other_of, nodes_of, first_missing}
 use Rattle.fleet_steps.specs.declared.steps.Step.{Step}
-use Rattle.fleet_steps.specs.declared.steps.Step.TheVariants.{Take, Fold, Discard, Front, Read, Join, Same, Covers, Wipe}
+use Rattle.fleet_steps.specs.declared.steps.Step.TheVariants.{Take, Fold, Discard, Front, Read, Join, Same, Covers, Wipe, Ask, Answer, Absorb}
 use Rattle.fleet_core.specs.FleetState.{other_than}
 
 -- two nodes that are there, of so many
@@ -46,6 +46,9 @@ are_there count (Join node from) none = two_there count node from none
 are_there count (Same node other) none = two_there count node other none
 are_there count (Covers node other) none = two_there count node other none
 are_there count (Wipe node) none = one_there count node none
+are_there count (Ask node) none = one_there count node none
+are_there count (Answer node message) none = one_there count node none
+are_there count (Absorb node message) none = one_there count node none
 
 pub none_named : (o : Option ℕ) → ((x : ℕ) → o ≡ Some x → ⊥) → o ≡ None
 none_named None h = refl

@@ -27,6 +27,8 @@ use Rattle.fleet_steps.specs.declared.steps.Step.TheVariants as step
 use Rattle.fleet_core.specs.declared.replies.Reply.{Reply}
 use Rattle.fleet_core.specs.declared.replies.Reply.TheVariants.{Folded as FoldedIs, Discarded, Front as FrontIs, Joined, Answer, Wiped, NoNode, Memory}
 use Rattle.fleet_core.specs.FleetState.{FleetState, ChangesNode, beside}
+use Rattle.fleet_core.specs.declared.messages.Made.{Made}
+use Rattle.fleet_core.specs.MessageCalls.{Asks, AnswersNumber, AbsorbsNumber}
 use Rattle.fleet_core.specs.Replying.{taken_reply, fault_reply, read_reply, joined_reply}
 
 -- there was no memory, and nothing has changed
@@ -99,22 +101,28 @@ Answers Tells reply = (reply ≡ Memory) ⊎ ((answer : Bool) × Tells answer ×
 abbrev pub Wipes : ℕ → State → Reply → State → Type 0
 Wipes roster old reply new = LacksMemory old reply new ⊎ ((reply ≡ Wiped) × (new ≡ empty_state roster))
 
--- The calls of a step at the segment of its node, of a fleet of so many readers. Of the segments that are compared the other one is
--- the node's own where the step names no other node.
-abbrev pub NodeCalls : ℕ → State → Option State → Step Fact → Reply → State → Type 0
-NodeCalls roster old other (step.Take node fact) reply new = Takes old fact reply new
-NodeCalls roster old other (step.Fold node page) reply new = Folds old page reply new
-NodeCalls roster old other (step.Discard node) reply new = Discards old reply new
-NodeCalls roster old other (step.Front node) reply new = Fronts old reply × (new ≡ old)
-NodeCalls roster old other (step.Read node page point offset len) reply new = Reads old page point reply × (new ≡ old)
-NodeCalls roster old other (step.Join node from) reply new = JoinsBeside old other reply new
-NodeCalls roster old other (step.Same node than) reply new = Answers (TellsSame old (unwrap_or other old)) reply × (new ≡ old)
-NodeCalls roster old other (step.Covers node than) reply new = Answers (TellsCovers old (unwrap_or other old)) reply × (new ≡ old)
-NodeCalls roster old other (step.Wipe node) reply new = Wipes roster old reply new
+-- The calls of a step at the segment of its node, of a fleet of so many readers with these messages. Of the segments that are compared
+-- the other one is the node's own where the step names no other node.
+abbrev pub NodeCalls : ℕ → State → Option State → List Made → Step Fact → Reply → State → List Made → Type 0
+NodeCalls roster old other messages (step.Take node fact) reply new made = Takes old fact reply new × (made ≡ messages)
+NodeCalls roster old other messages (step.Fold node page) reply new made = Folds old page reply new × (made ≡ messages)
+NodeCalls roster old other messages (step.Discard node) reply new made = Discards old reply new × (made ≡ messages)
+NodeCalls roster old other messages (step.Front node) reply new made = Fronts old reply × (new ≡ old) × (made ≡ messages)
+NodeCalls roster old other messages (step.Read node page point offset len) reply new made = Reads old page point reply × (new ≡ old) × (made ≡ messages)
+NodeCalls roster old other messages (step.Join node from) reply new made = JoinsBeside old other reply new × (made ≡ messages)
+NodeCalls roster old other messages (step.Same node than) reply new made =
+    Answers (TellsSame old (unwrap_or other old)) reply × (new ≡ old) × (made ≡ messages)
+NodeCalls roster old other messages (step.Covers node than) reply new made =
+    Answers (TellsCovers old (unwrap_or other old)) reply × (new ≡ old) × (made ≡ messages)
+NodeCalls roster old other messages (step.Wipe node) reply new made = Wipes roster old reply new × (made ≡ messages)
+NodeCalls roster old other messages (step.Ask node) reply new made = Asks old messages reply made × (new ≡ old)
+NodeCalls roster old other messages (step.Answer node message) reply new made = AnswersNumber old messages message reply made × (new ≡ old)
+NodeCalls roster old other messages (step.Absorb node message) reply new made = AbsorbsNumber old messages message reply new × (made ≡ messages)
 
 -- the calls of a step whose nodes are all there
 abbrev pub Calls : FleetState → Step Fact → Reply → FleetState → Type 0
-Calls old step reply new = ChangesNode (node_of step) (λ s t. NodeCalls old.roster s (beside old step) step reply t) old new
+Calls old step reply new =
+    ChangesNode (node_of step) (λ s t. NodeCalls old.roster s (beside old step) old.messages step reply t new.messages) old new
 
 -- a step: the first named node that is not there, or its calls
 abbrev pub StepCalls : FleetState → Step Fact → Reply → FleetState → Type 0

@@ -6,15 +6,23 @@ use Rattle.redo_core.specs.Sound.{IsSound}
 use Rattle.redo_core.specs.declared.facts.Fact.{Fact}
 use Rattle.fleet_steps.specs.declared.steps.Step.{Step}
 use Rattle.fleet_core.specs.declared.replies.Reply.{Reply}
-use Rattle.fleet_core.specs.Machine.{Machine}
+use Rattle.fleet_core.specs.Machine.{Message, Machine}
+use Rattle.fleet_core.specs.Machine.Message.{Asked, Answered}
 use Rattle.fleet_core.specs.Replies.{IsReply, HasCome}
 use Rattle.fleet_core.specs.Runs.{TakesFrom, AreReplies, FollowsStep, FollowsMachine}
 use Rattle.fleet_core.specs.Calls.{StepCalls, RunCalls}
 use Rattle.fleet_core.specs.FleetState.{FleetState}
+use Rattle.fleet_core.specs.declared.messages.Made.{Made}
 
--- each node's facts are of the log
+-- the facts that a message speaks of are of the log
+abbrev pub IsMessageOf : List Fact → Message → Type 0
+IsMessageOf log (Asked asked) = IsPart asked log
+IsMessageOf log (Answered asked facts) = IsPart asked log × IsPart facts log
+
+-- so are each node's facts
 pub record IsMachineOf (log : List Fact) (m : Machine) : Type 0 where
   pub nodes : AllByRecursion (λ facts. IsPart facts log) m.nodes
+  pub messages : AllByRecursion (IsMessageOf log) m.messages
 
 -- A step that was carried out has one reply.
 abbrev pub OneReply : Type 0
@@ -42,3 +50,8 @@ pub record CallsGoOn : Type 0 where
   pub goes_on :
       (start old new : FleetState) (steps : List (Step Fact)) (replies : List Reply) (step : Step Fact) (reply : Reply)
       → RunCalls start steps replies old → StepCalls old step reply new → RunCalls start (steps ++ step ∷ []) (replies ++ reply ∷ []) new
+
+-- No step takes a message away or changes one, over any facts: those that there were stay, at their numbers.
+abbrev pub MessagesStay : Type 0
+MessagesStay =
+    (old new : FleetState) (step : Step Fact) (reply : Reply) → StepCalls old step reply new → (more : List Made) × (new.messages ≡ old.messages ++ more)

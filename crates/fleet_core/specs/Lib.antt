@@ -1,8 +1,10 @@
 pub mod Machine
 pub mod Replies
 pub mod FleetState
+pub mod Messages
 pub mod Runs
 pub mod Replying
+pub mod MessageCalls
 pub mod Calls
 pub mod Refused
 pub mod Laws

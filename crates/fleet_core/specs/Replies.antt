@@ -1,20 +1,30 @@
 -- What the fleet machine replies: it is read off the sets of facts alone.
-use Rattle.std.specs.Prelude.{◌≡◌, ℕ, ◌⊎◌, ◌↔◌, Bool, IsTrue, List, [], ◌∷◌, ◌++◌, length, MatchOption}
+use Rattle.std.specs.Prelude.{◌≡◌, ℕ, ◌+◌, ◌<◌, ◌≤◌, ◌⊎◌, ◌↔◌, Bool, IsTrue, List, [], ◌∷◌, ◌++◌, map, length, MatchOption}
+use Rattle.std.specs.List.{Contains}
+use Rattle.redo_core.specs.Order.{IsFirst}
 use Rattle.redo_core.specs.Position.{Position, IsPosition}
 use Rattle.redo_core.specs.Answer.{ReadAnswer, IsReadAnswer}
 use Rattle.redo_core.specs.Answer.ReadAnswer.{Image as OfImage, Below as OfBelow, Above as OfAbove}
 use Rattle.redo_core.specs.Meaning.{Meaning, IsMeaning}
 use Rattle.redo_core.specs.declared.facts.Fact.{Fact}
 use Rattle.redo_laws.specs.OrderOfMeanings.{Covers}
+use Rattle.redo_wire.specs.declared.keys.Key.{Key}
+use Rattle.redo_wire.specs.Summaries.{KeyBefore}
+use Rattle.segment_state.specs.Gossip.{Listing, IsAccounted, AnswersFor}
 use Rattle.segment_core.specs.Reading.{IsFrontAt}
 use Rattle.segment_core.specs.declared.answers.Front.{Front}
+use Rattle.gossip_core.specs.Summarizing.{wire_key}
+use Rattle.gossip_core.specs.Answering.{listed_key}
+use Rattle.gossip_core.specs.declared.answering.Shown.{Shown}
+use Rattle.gossip_core.specs.declared.answering.Shown.TheVariants.{Anchor as OfAnchor, Key as OfKey}
 use Rattle.fleet_steps.specs.Nodes.{node_of, other_of, nodes_of, first_missing}
 use Rattle.fleet_steps.specs.declared.steps.Step.{Step}
 use Rattle.fleet_steps.specs.declared.steps.Step.TheVariants as step
 use Rattle.fleet_core.specs.declared.replies.Reply.{Reply}
 use Rattle.fleet_core.specs.declared.replies.Reply.TheVariants.{Changed, Unchanged, Folded, Discarded, Front as FrontIs, Page, Below}
 use Rattle.fleet_core.specs.declared.replies.Reply.TheVariants.{Above, Joined, Answer, Wiped, NoNode, Memory}
-use Rattle.fleet_core.specs.Machine.{Machine, facts_of}
+use Rattle.fleet_core.specs.declared.replies.Reply.TheVariants.{Message as MessageIs, Absorbed, Uncovered, NoMessage}
+use Rattle.fleet_core.specs.Machine.{Message, Machine, facts_of, asked_in, answered_in}
 
 -- the facts, and the facts with one more, have one meaning
 abbrev pub HasOneMeaningWith : ℕ → List Fact → Fact → Type 0
@@ -63,22 +73,56 @@ pub record RepliesCovers (roster : ℕ) (facts others : List Fact) (reply : Repl
   pub tells : (y x : Meaning) → IsMeaning roster facts y → IsMeaning roster others x → IsTrue answer ↔ Covers y x
   pub is : reply ≡ Answer answer
 
+-- the keys of the records that a meaning keeps
+abbrev pub keys_of : Meaning → List Key
+keys_of m = map wire_key m.kept
+
+-- the summary of a meaning
+abbrev pub summary_of : Meaning → Listing
+summary_of m = record { anchor = m.anchor; keys = map listed_key (keys_of m) }
+
+-- the summary has a key that facts which stand at p do not account for
+abbrev pub LacksKey : List Fact → Position → Meaning → Key → Type 0
+LacksKey facts p m key = Contains (keys_of m) key × (IsAccounted facts p (listed_key key) → ⊥)
+
+-- what of the summary they do not answer for: its anchor where that is above theirs, else the least such key
+abbrev pub LeavesUncovered : List Fact → Position → Meaning → Shown → Type 0
+LeavesUncovered facts p m (OfAnchor shown) = (shown ≡ m.anchor) × (p.anchor < m.anchor)
+LeavesUncovered facts p m (OfKey key) = (m.anchor ≤ p.anchor) × IsFirst KeyBefore (LacksKey facts p m) key
+
+-- whether the facts answer for the summary of the asked facts, which is that of their meaning
+pub record RepliesAbsorb (roster : ℕ) (facts asked : List Fact) (reply : Reply) : Type 0 where
+  pub p : Position
+  pub position : IsPosition roster facts p
+  pub tells : (m : Meaning) → IsMeaning roster asked m
+      → ((reply ≡ Absorbed) × AnswersFor facts p (summary_of m)) ⊎ ((shown : Shown) × (reply ≡ Uncovered shown) × LeavesUncovered facts p m shown)
+
+-- a new message has the next number
+abbrev pub Makes : List Message → Reply → Type 0
+Makes messages reply = (reply ≡ Memory) ⊎ (reply ≡ MessageIs (length messages + 1))
+
 -- What a node with these facts replies to a step, where `others` are those of the other node that it names. A fold, a discard, a
--- join and a wipe are answered without a look at the facts. A step that found no memory counts as not having come.
-abbrev pub NodeReplies : ℕ → List Fact → List Fact → Step Fact → Reply → Type 0
-NodeReplies roster facts others (step.Take node fact) reply = (reply ≡ Memory) ⊎ RepliesTake roster facts fact reply
-NodeReplies roster facts others (step.Fold node page) reply = (reply ≡ Memory) ⊎ (reply ≡ Folded)
-NodeReplies roster facts others (step.Discard node) reply = reply ≡ Discarded
-NodeReplies roster facts others (step.Front node) reply = RepliesFront roster facts reply
-NodeReplies roster facts others (step.Read node page point offset len) reply = (reply ≡ Memory) ⊎ RepliesRead roster facts page point reply
-NodeReplies roster facts others (step.Join node from) reply = (reply ≡ Memory) ⊎ (reply ≡ Joined)
-NodeReplies roster facts others (step.Same node other) reply = (reply ≡ Memory) ⊎ RepliesSame roster facts others reply
-NodeReplies roster facts others (step.Covers node other) reply = (reply ≡ Memory) ⊎ RepliesCovers roster facts others reply
-NodeReplies roster facts others (step.Wipe node) reply = (reply ≡ Memory) ⊎ (reply ≡ Wiped)
+-- join, a wipe, and the making of a message are answered without a look at the facts. A step that found no memory counts as not
+-- having come.
+abbrev pub NodeReplies : ℕ → List Fact → List Fact → List Message → Step Fact → Reply → Type 0
+NodeReplies roster facts others messages (step.Take node fact) reply = (reply ≡ Memory) ⊎ RepliesTake roster facts fact reply
+NodeReplies roster facts others messages (step.Fold node page) reply = (reply ≡ Memory) ⊎ (reply ≡ Folded)
+NodeReplies roster facts others messages (step.Discard node) reply = reply ≡ Discarded
+NodeReplies roster facts others messages (step.Front node) reply = RepliesFront roster facts reply
+NodeReplies roster facts others messages (step.Read node page point offset len) reply = (reply ≡ Memory) ⊎ RepliesRead roster facts page point reply
+NodeReplies roster facts others messages (step.Join node from) reply = (reply ≡ Memory) ⊎ (reply ≡ Joined)
+NodeReplies roster facts others messages (step.Same node other) reply = (reply ≡ Memory) ⊎ RepliesSame roster facts others reply
+NodeReplies roster facts others messages (step.Covers node other) reply = (reply ≡ Memory) ⊎ RepliesCovers roster facts others reply
+NodeReplies roster facts others messages (step.Wipe node) reply = (reply ≡ Memory) ⊎ (reply ≡ Wiped)
+NodeReplies roster facts others messages (step.Ask node) reply = Makes messages reply
+NodeReplies roster facts others messages (step.Answer node message) reply =
+    MatchOption (asked_in messages message) (reply ≡ NoMessage message) (λ asked. Makes messages reply)
+NodeReplies roster facts others messages (step.Absorb node message) reply =
+    MatchOption (answered_in messages message) (reply ≡ NoMessage message) (λ answer. (reply ≡ Memory) ⊎ RepliesAbsorb roster facts answer.0 reply)
 
 -- the reply to a step whose nodes are all there
 abbrev pub Replies : ℕ → Machine → Step Fact → Reply → Type 0
-Replies roster m step reply = NodeReplies roster (facts_of m (node_of step)) (facts_of m (other_of step)) step reply
+Replies roster m step reply = NodeReplies roster (facts_of m (node_of step)) (facts_of m (other_of step)) m.messages step reply
 
 -- what the machine replies: the first named node that is not there comes before all else
 abbrev pub IsReply : ℕ → Machine → Step Fact → Reply → Type 0

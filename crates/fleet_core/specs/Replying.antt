@@ -8,8 +8,11 @@ use Rattle.segment_core.specs.declared.answers.Refusal.{Refusal}
 use Rattle.segment_core.specs.declared.answers.Refusal.TheVariants as refusal
 use Rattle.segment_core.specs.declared.answers.ReadFault.{ReadFault}
 use Rattle.segment_core.specs.declared.answers.ReadFault.TheVariants as fault
+use Rattle.gossip_core.specs.declared.absorbing.AbsorbRefusal.{AbsorbRefusal}
+use Rattle.gossip_core.specs.declared.absorbing.AbsorbRefusal.TheVariants as absorb
 use Rattle.fleet_core.specs.declared.replies.Reply.{Reply}
-use Rattle.fleet_core.specs.declared.replies.Reply.TheVariants.{Changed, Unchanged, Page, Below, Above, Joined, Refused as IsRefused, BrokenBlockChain, Memory}
+use Rattle.fleet_core.specs.declared.replies.Reply.TheVariants.{Changed, Unchanged, Page, Below, Above, Joined, Absorbed}
+use Rattle.fleet_core.specs.declared.replies.Reply.TheVariants.{Uncovered, Refused as IsRefused, BrokenBlockChain, Memory}
 
 -- want of memory is replied as such
 abbrev pub refusal_reply : Refusal → Reply
@@ -34,3 +37,8 @@ read_reply (Err f) = fault_reply f
 abbrev pub joined_reply : Result (Unit {0}) Refusal → Reply
 joined_reply (Ok done) = Joined
 joined_reply (Err why) = refusal_reply why
+
+abbrev pub absorbed_reply : Result (Unit {0}) AbsorbRefusal → Reply
+absorbed_reply (Ok done) = Absorbed
+absorbed_reply (Err (absorb.Uncovered shown)) = Uncovered shown
+absorbed_reply (Err (absorb.Refused why)) = refusal_reply why

@@ -10,6 +10,7 @@ use Rattle.fleet_core.specs.declared.replies.Reply.{Reply}
 use Rattle.fleet_core.specs.Machine.{Machine, after}
 use Rattle.fleet_core.specs.Replies.{IsReply}
 use Rattle.fleet_core.specs.FleetState.{FleetState}
+use Rattle.fleet_core.specs.Messages.{AreMade}
 
 -- what a step takes is in the log
 abbrev pub TakesFrom : List Fact → Step Fact → Type 0
@@ -28,10 +29,11 @@ after_all m [] replies = m
 after_all m (step ∷ steps) [] = m
 after_all m (step ∷ steps) (reply ∷ replies) = after_all (after m step reply) steps replies
 
--- the fleet is of the roster, and each segment means its node's facts
+-- the fleet is of the roster, each segment means its node's facts, and each message stands for the machine's
 pub record MeansMachine (roster : ℕ) (log : List Fact) (m : Machine) (fleet : FleetState) : Type 0 where
   pub roster_is : fleet.roster ≡ roster
   pub nodes : AllZip (λ facts segment. Means roster log facts segment) m.nodes fleet.segments
+  pub messages : AreMade roster log m.messages fleet.messages
 
 -- One step: where the fleet means the machine, the reply is the machine's, and it means the machine's next state.
 abbrev pub FollowsStep : FleetState → Step Fact → Reply → FleetState → Type 0
@@ -39,7 +41,7 @@ FollowsStep old step reply new =
     (roster : ℕ) (log : List Fact) (m : Machine) → IsSound roster log → TakesFrom log step → MeansMachine roster log m old
     → IsReply roster m step reply × MeansMachine roster log (after m step reply) new
 
--- A whole run, likewise: this is the headline for the steps there are.
+-- A whole run, likewise: this is the headline.
 abbrev pub FollowsMachine : FleetState → List (Step Fact) → List Reply → FleetState → Type 0
 FollowsMachine old steps replies new =
     (roster : ℕ) (log : List Fact) (m : Machine) → IsSound roster log → AllByRecursion (TakesFrom log) steps → MeansMachine roster log m old

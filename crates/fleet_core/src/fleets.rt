@@ -4,29 +4,32 @@ ghost use Rattle.redo_core.specs.declared.facts.Fact.{Fact as AnyFact};
 ghost use Rattle.segment_state.specs.State.{State};
 ghost use Rattle.fleet_steps.specs.Nodes.{nodes_of, first_missing};
 ghost use Rattle.fleet_steps.specs.declared.steps.Step.TheVariants.{Take as TakeOf, Fold as FoldOf, Wipe as WipeOf};
-ghost use Rattle.fleet_core.specs.AtNode.{NodeFollows, CarriesOut};
-ghost use Rattle.fleet_core.specs.Calls.{NodeCalls, StepCalls, RunCalls, Takes, Folds, Wipes};
+ghost use Rattle.fleet_core.specs.AtNode.{OwnFollows, IsCarriedOut, CarriesOut};
+ghost use Rattle.fleet_core.specs.Calls.{StepCalls, RunCalls, Takes, Folds, Wipes};
 ghost use Rattle.fleet_core.specs.FleetState.{empty_fleet};
 ghost use Rattle.fleet_core.specs.Machine.{empty_machine};
+ghost use Rattle.fleet_core.specs.Messages.{LacksMessage};
 ghost use Rattle.fleet_core.specs.Refused.{IsRefusal};
-ghost use Rattle.fleet_core.specs.Replying.{taken_reply as taken_reply_of, refusal_reply as refusal_reply_of};
-ghost use Rattle.fleet_core.specs.Replying.{read_reply as read_reply_of, fault_reply as fault_reply_of};
 ghost use Rattle.fleet_core.specs.Runs.{MeansMachine, FollowsStep, FollowsMachine};
-ghost use Rattle.fleet_core.specs.declared.replies.Reply.TheVariants.{NoNode};
+ghost use Rattle.fleet_core.specs.declared.replies.Reply.TheVariants.{NoNode, NoMessage};
 
+use crate::asking::{absorb_answer, answer_question, ask};
+use crate::messages::Made;
 use crate::pairs::{covers_beside, join_beside, same_beside};
 use crate::replies::Reply;
+use crate::replying::{fault_reply, read_reply, taken_reply};
 use fleet_steps::Step;
-use redo_core::{Fact, Page, Refused, Roster};
-use segment_core::{CommitFault, ReadFault, Refusal, Segment, Taken};
+use redo_core::{Fact, Roster};
+use segment_core::{CommitFault, Segment};
 use std::alloc::{AllocError, Global};
 use std::marker::Model;
 
-/// Some segments of one roster of readers, counted from 1.
+/// Some segments of one roster of readers, and the messages that were made of them, both counted from 1.
 #[derive(Drop)]
 pub struct Fleet {
     roster: Roster,
     nodes: Vec<Segment>,
+    messages: Vec<Made>,
 }
 
 impl Model for Fleet {
@@ -34,7 +37,7 @@ impl Model for Fleet {
 
     ghost Value = { FleetState };
 
-    ghost view = { λ f. record { roster = f.roster; segments = f.nodes.items } };
+    ghost view = { λ f. record { roster = f.roster; segments = f.nodes.items; messages = f.messages.items } };
 }
 
 impl Fleet {
@@ -50,16 +53,19 @@ impl Fleet {
         Ok(Fleet {
             roster,
             nodes: segments,
+            messages: Vec::new(alloc),
         })
     }
 
-    /// Carries out one step. A step that replies `Memory`, `NoNode` or a refusal changes nothing.
+    /// Carries out one step. A step that replies `Memory`, `NoNode`, `NoMessage`, `Uncovered` or a refusal makes no message, and
+    /// changes nothing.
     pub fn step(&mut self, step: &Step<Fact>) -> Reply
         // For the facts that the segments mean.
         ensures follows { FollowsStep self.old step.now result self.new }
         // Over any facts.
         ensures calls { StepCalls self.old step.now result self.new }
         ensures no_node { (node : ℕ) → (result ≡ NoNode node) ↔ (first_missing (length self.old.segments) (nodes_of step.now) ≡ Some node) }
+        ensures no_message { (number : ℕ) → (result ≡ NoMessage number) ↔ LacksMessage self.old step.now number }
         ensures refused { IsRefusal result → self.new ≡ self.old }
     {
         if let Some(node) = step.missing(self.nodes.len()) {
@@ -67,7 +73,14 @@ impl Fleet {
         }
         let place = usize::from(step.node()) - 1;
         let other = usize::from(step.other()) - 1;
-        carry_out_at(&mut self.nodes, place, other, self.roster, step)
+        carry_out_at(
+            &mut self.nodes,
+            place,
+            other,
+            &mut self.messages,
+            self.roster,
+            step,
+        )
     }
 
     /// Carries out steps, and gives their replies in order. Its only error is want of memory for the list of replies, which is
@@ -94,35 +107,34 @@ fn carry_out_at(
     segments: &mut [Segment],
     place: usize,
     other: usize,
+    messages: &mut Vec<Made>,
     roster: Roster,
     step: &Step<Fact>,
 ) -> Reply
     requires place { place < length segments.old }
     requires other { other < length segments.old }
-    ensures { CarriesOut roster segments.old place other step.now result segments.new }
+    ensures { CarriesOut roster segments.old place other messages.old.items step.now result segments.new messages.new.items }
 {
     if place < other {
         let (front, back) = segments.split_at_mut(other);
-        return carry_out(&mut front[place], Some(&back[0]), roster, step);
+        return carry_out(&mut front[place], Some(&back[0]), messages, roster, step);
     }
     if other < place {
         let (front, back) = segments.split_at_mut(place);
-        return carry_out(&mut back[0], Some(&front[other]), roster, step);
+        return carry_out(&mut back[0], Some(&front[other]), messages, roster, step);
     }
-    carry_out(&mut segments[place], None, roster, step)
+    carry_out(&mut segments[place], None, messages, roster, step)
 }
 
 /// Carries out a step at its node, beside the other node where the step names another one.
 fn carry_out(
     segment: &mut Segment,
     other: Option<&Segment>,
+    messages: &mut Vec<Made>,
     roster: Roster,
     step: &Step<Fact>,
 ) -> Reply
-    ensures follows { NodeFollows roster segment.old (option_copied other.entry) step.now result segment.new }
-    ensures calls { NodeCalls roster segment.old (option_copied other.entry) step.now result segment.new }
-    ensures found { (node : ℕ) → result ≡ NoNode node → ⊥ }
-    ensures refused { IsRefusal result → segment.new ≡ segment.old }
+    ensures { IsCarriedOut roster segment.old (option_copied other.entry) messages.old.items step.now result segment.new messages.new.items }
 {
     match step {
         Step::Take { fact, .. } => take_copy(segment, fact),
@@ -137,14 +149,18 @@ fn carry_out(
         Step::Same { .. } => same_beside(segment, other),
         Step::Covers { .. } => covers_beside(segment, other),
         Step::Wipe { .. } => wipe(segment, roster),
+        Step::Ask { .. } => ask(segment, messages),
+        Step::Answer { message, .. } => answer_question(segment, messages, *message),
+        Step::Absorb { message, .. } => absorb_answer(segment, messages, *message),
     }
 }
 
 /// Takes a copy of a fact.
 fn take_copy(segment: &mut Segment, fact: &Fact) -> Reply
-    ensures follows { (readers node : ℕ) (other : Option State) → NodeFollows readers segment.old other (TakeOf node fact.now) result segment.new }
+    ensures follows { (readers node : ℕ) (other : Option State) → OwnFollows readers segment.old other (TakeOf node fact.now) result segment.new }
     ensures calls { Takes segment.old fact.now result segment.new }
     ensures found { (node : ℕ) → result ≡ NoNode node → ⊥ }
+    ensures named { (number : ℕ) → result ≡ NoMessage number → ⊥ }
     ensures refused { IsRefusal result → segment.new ≡ segment.old }
 {
     match fact.copy() {
@@ -155,9 +171,10 @@ fn take_copy(segment: &mut Segment, fact: &Fact) -> Reply
 
 /// Folds a page to the segment's anchor, and commits it.
 fn fold_page(segment: &mut Segment, page: u16) -> Reply
-    ensures follows { (readers node : ℕ) (other : Option State) → NodeFollows readers segment.old other (FoldOf node page) result segment.new }
+    ensures follows { (readers node : ℕ) (other : Option State) → OwnFollows readers segment.old other (FoldOf node page) result segment.new }
     ensures calls { Folds segment.old page result segment.new }
     ensures found { (node : ℕ) → result ≡ NoNode node → ⊥ }
+    ensures named { (number : ℕ) → result ≡ NoMessage number → ⊥ }
     ensures refused { IsRefusal result → segment.new ≡ segment.old }
 {
     let folded = match segment.plan_fold(page) {
@@ -176,9 +193,10 @@ fn fold_page(segment: &mut Segment, page: u16) -> Reply
 
 /// Puts a segment that nothing has reached in place of the segment.
 fn wipe(segment: &mut Segment, roster: Roster) -> Reply
-    ensures follows { (node : ℕ) (other : Option State) → NodeFollows roster segment.old other (WipeOf node) result segment.new }
+    ensures follows { (node : ℕ) (other : Option State) → OwnFollows roster segment.old other (WipeOf node) result segment.new }
     ensures calls { Wipes roster segment.old result segment.new }
     ensures found { (node : ℕ) → result ≡ NoNode node → ⊥ }
+    ensures named { (number : ℕ) → result ≡ NoMessage number → ⊥ }
     ensures refused { IsRefusal result → segment.new ≡ segment.old }
 {
     match Segment::new(segment.allocator(), roster) {
@@ -187,44 +205,5 @@ fn wipe(segment: &mut Segment, roster: Roster) -> Reply
             Reply::Wiped
         }
         Err(_) => Reply::Memory,
-    }
-}
-
-fn taken_reply(taken: Result<Taken, Refused<Fact, Refusal>>) -> Reply
-    ensures { result ≡ taken_reply_of taken }
-{
-    match taken {
-        Ok(Taken::Changed) => Reply::Changed,
-        Ok(Taken::Unchanged) => Reply::Unchanged,
-        Err(refused) => refusal_reply(refused.fault),
-    }
-}
-
-fn refusal_reply(refusal: Refusal) -> Reply
-    ensures { result ≡ refusal_reply_of refusal }
-{
-    match refusal {
-        Refusal::Memory => Reply::Memory,
-        other => Reply::Refused(other),
-    }
-}
-
-fn read_reply(read: Result<Page, ReadFault>) -> Reply
-    ensures { result ≡ read_reply_of read }
-{
-    match read {
-        Ok(image) => Reply::Page(image),
-        Err(fault) => fault_reply(fault),
-    }
-}
-
-fn fault_reply(fault: ReadFault) -> Reply
-    ensures { result ≡ fault_reply_of fault }
-{
-    match fault {
-        ReadFault::Below { min } => Reply::Below(min),
-        ReadFault::Above { complete } => Reply::Above(complete),
-        ReadFault::BrokenBlockChain { page, number } => Reply::BrokenBlockChain { page, number },
-        ReadFault::Memory => Reply::Memory,
     }
 }

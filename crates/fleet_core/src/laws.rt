@@ -1,5 +1,5 @@
 //! The laws of the fleet machine, and of the fleets that follow it.
-ghost use Rattle.fleet_core.specs.Laws.{OneReply, OneRun, RunsGoOn, CallsGoOn};
+ghost use Rattle.fleet_core.specs.Laws.{OneReply, OneRun, RunsGoOn, CallsGoOn, MessagesStay};
 
 /// From given sets of facts of one sound log a step has one reply, want of memory aside.
 pub fn one_reply()
@@ -16,4 +16,9 @@ pub fn one_run()
 pub fn runs_go_on()
     ensures follows { RunsGoOn }
     ensures calls { CallsGoOn }
+{}
+
+/// A message stays for ever, whatever is asked, absorbed or wiped.
+pub fn messages_stay()
+    ensures { MessagesStay }
 {}

@@ -1,23 +1,23 @@
 ghost use Rattle.std.specs.Prelude.{◌≡◌, ℕ, unwrap_or};
 ghost use Rattle.std.specs.Option.{option_copied};
-ghost use Rattle.segment_core.specs.declared.answers.Refusal.{Refusal as AnyRefusal};
 ghost use Rattle.segment_join.specs.Sameness.{TellsSame};
 ghost use Rattle.fleet_steps.specs.declared.steps.Step.TheVariants.{Join as JoinOf, Same as SameOf, Covers as CoversOf};
-ghost use Rattle.fleet_core.specs.AtNode.{NodeFollows};
+ghost use Rattle.fleet_core.specs.AtNode.{OwnFollows};
 ghost use Rattle.fleet_core.specs.Calls.{JoinsBeside, Answers, TellsCovers};
 ghost use Rattle.fleet_core.specs.Refused.{IsRefusal};
-ghost use Rattle.fleet_core.specs.Replying.{joined_reply as joined_reply_of};
-ghost use Rattle.fleet_core.specs.declared.replies.Reply.TheVariants.{NoNode};
+ghost use Rattle.fleet_core.specs.declared.replies.Reply.TheVariants.{NoNode, NoMessage};
 
 use crate::replies::Reply;
-use segment_core::{Refusal, Segment};
+use crate::replying::joined_reply;
+use segment_core::Segment;
 use segment_join::{covers, join, same};
 
 /// Brings what the other node means into a node; a node that is joined with itself stays as it is.
 pub fn join_beside(segment: &mut Segment, other: Option<&Segment>) -> Reply
-    ensures follows { (readers node from : ℕ) → NodeFollows readers segment.old (option_copied other.entry) (JoinOf node from) result segment.new }
+    ensures follows { (readers node from : ℕ) → OwnFollows readers segment.old (option_copied other.entry) (JoinOf node from) result segment.new }
     ensures calls { JoinsBeside segment.old (option_copied other.entry) result segment.new }
     ensures found { (node : ℕ) → result ≡ NoNode node → ⊥ }
+    ensures named { (number : ℕ) → result ≡ NoMessage number → ⊥ }
     ensures refused { IsRefusal result → segment.new ≡ segment.old }
 {
     match other {
@@ -28,9 +28,10 @@ pub fn join_beside(segment: &mut Segment, other: Option<&Segment>) -> Reply
 
 /// Whether a node and the other one mean the same. A node means the same as itself.
 pub fn same_beside(segment: &Segment, other: Option<&Segment>) -> Reply
-    ensures follows { (readers node than : ℕ) → NodeFollows readers segment.now (option_copied other.entry) (SameOf node than) result segment.now }
+    ensures follows { (readers node than : ℕ) → OwnFollows readers segment.now (option_copied other.entry) (SameOf node than) result segment.now }
     ensures calls { Answers (TellsSame segment.now (unwrap_or (option_copied other.entry) segment.now)) result }
     ensures found { (node : ℕ) → result ≡ NoNode node → ⊥ }
+    ensures named { (number : ℕ) → result ≡ NoMessage number → ⊥ }
 {
     match same(segment, other.unwrap_or(segment)) {
         Ok(answer) => Reply::Answer(answer),
@@ -40,22 +41,13 @@ pub fn same_beside(segment: &Segment, other: Option<&Segment>) -> Reply
 
 /// Whether what a node means covers what the other one means. A node covers itself.
 pub fn covers_beside(segment: &Segment, other: Option<&Segment>) -> Reply
-    ensures follows { (readers node than : ℕ) → NodeFollows readers segment.now (option_copied other.entry) (CoversOf node than) result segment.now }
+    ensures follows { (readers node than : ℕ) → OwnFollows readers segment.now (option_copied other.entry) (CoversOf node than) result segment.now }
     ensures calls { Answers (TellsCovers segment.now (unwrap_or (option_copied other.entry) segment.now)) result }
     ensures found { (node : ℕ) → result ≡ NoNode node → ⊥ }
+    ensures named { (number : ℕ) → result ≡ NoMessage number → ⊥ }
 {
     match covers(segment, other.unwrap_or(segment)) {
         Ok(answer) => Reply::Answer(answer),
         Err(_) => Reply::Memory,
-    }
-}
-
-fn joined_reply(joined: Result<(), Refusal>) -> Reply
-    ensures { result ≡ joined_reply_of joined }
-{
-    match joined {
-        Ok(()) => Reply::Joined,
-        Err(Refusal::Memory) => Reply::Memory,
-        Err(refusal) => Reply::Refused(refusal),
     }
 }

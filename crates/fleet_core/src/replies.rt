@@ -1,3 +1,4 @@
+use gossip_core::Shown;
 use redo_core::Page;
 use segment_core::{Front, Refusal};
 
@@ -24,6 +25,14 @@ pub enum Reply {
     Answer(bool),
     /// The node means no facts.
     Wiped,
+    /// A message was made, which has this number.
+    Message(usize),
+    /// The node means what it meant and what the answering node meant.
+    Absorbed,
+    /// The node does not answer for what the asking node told: so much of it is uncovered.
+    Uncovered(Shown),
+    /// There is no such message, or it is not one that the step can use: only what was asked is answered, only answers are absorbed.
+    NoMessage(usize),
     /// There is no such node.
     NoNode(u16),
     /// The fact, or what the other node knows, contradicts what the node knows. It does not come over a sound log.

@@ -1,5 +1,7 @@
 use crate::{Fleet, Reply, Step};
+use gossip_core::Shown;
 use redo_core::{Advance, Fact, Patch, Record, Roster};
+use redo_wire::Key;
 use segment_core::{Front, Refusal};
 use std::alloc::Global;
 use std::test::Fail;
@@ -25,6 +27,10 @@ enum Told {
     Joined,
     Answer(bool),
     Wiped,
+    Message(usize),
+    Absorbed,
+    Uncovered(Shown),
+    NoMessage(usize),
     NoNode(u16),
     OtherRoster(u8, u8),
     Refused,
@@ -70,6 +76,27 @@ const fn covers(node: u16, other: u16) -> Step<Line> {
     Step::Covers { node, other }
 }
 
+const fn ask(node: u16) -> Step<Line> {
+    Step::Ask { node }
+}
+
+const fn answer(node: u16, message: usize) -> Step<Line> {
+    Step::Answer { node, message }
+}
+
+const fn absorb(node: u16, message: usize) -> Step<Line> {
+    Step::Absorb { node, message }
+}
+
+// Three records of one page, each linked to the one before it, and a minimum read point at the second.
+const ONE: Line = Line::Rec(3, 0, 0, 0x61);
+
+const TWO: Line = Line::Rec(5, 3, 3, 0x62);
+
+const THREE: Line = Line::Rec(9, 5, 5, 0x63);
+
+const FOUR: Line = Line::Min(5, 1);
+
 fn fact(heap: Global, line: Line) -> Result<Fact, Fail> {
     Ok(match line {
         Line::Rec(number, back, block_back, byte) => {
@@ -104,6 +131,10 @@ fn told_by(reply: &Reply) -> Told {
         Reply::Joined => Told::Joined,
         Reply::Answer(answer) => Told::Answer(*answer),
         Reply::Wiped => Told::Wiped,
+        Reply::Message(number) => Told::Message(*number),
+        Reply::Absorbed => Told::Absorbed,
+        Reply::Uncovered(shown) => Told::Uncovered(*shown),
+        Reply::NoMessage(number) => Told::NoMessage(*number),
         Reply::NoNode(node) => Told::NoNode(*node),
         Reply::Refused(Refusal::OtherRoster { own, shown }) => Told::OtherRoster(*own, *shown),
         Reply::Refused(_) => Told::Refused,
@@ -277,5 +308,132 @@ fn a_refused_join_changes_nothing(rt: HostRuntime) -> Result<(), Fail> {
         (same(1, 2), Told::Answer(false)),
     ];
     assert_eq!(rt; answers(heap, 1, 3, &table)?, wanted(heap, &table)?);
+    Ok(())
+}
+
+#[test]
+fn a_gap_is_filled_as_often_as_the_answer_comes(rt: HostRuntime) -> Result<(), Fail> {
+    let heap = rt.alloc();
+    let table = [
+        (take_at(2, ONE), Told::Changed),
+        (take_at(2, TWO), Told::Changed),
+        (take_at(2, THREE), Told::Changed),
+        (take(ONE), Told::Changed),
+        (ask(1), Told::Message(1)),
+        (take(THREE), Told::Changed),
+        (FRONT, Told::Front(0, 3, 0)),
+        (answer(2, 1), Told::Message(2)),
+        (absorb(1, 2), Told::Absorbed),
+        (FRONT, Told::Front(0, 9, 0)),
+        (absorb(1, 2), Told::Absorbed),
+        (FRONT, Told::Front(0, 9, 0)),
+        (same(1, 2), Told::Answer(true)),
+    ];
+    assert_eq!(rt; answers(heap, 1, 2, &table)?, wanted(heap, &table)?);
+    Ok(())
+}
+
+#[test]
+fn a_wiped_node_does_not_answer_for_what_it_listed(rt: HostRuntime) -> Result<(), Fail> {
+    let heap = rt.alloc();
+    let table = [
+        (take(ONE), Told::Changed),
+        (take_at(2, ONE), Told::Changed),
+        (take_at(2, TWO), Told::Changed),
+        (ask(1), Told::Message(1)),
+        (answer(2, 1), Told::Message(2)),
+        (Step::Wipe { node: 1 }, Told::Wiped),
+        (
+            absorb(1, 2),
+            Told::Uncovered(Shown::Key(Key {
+                epoch: 0,
+                number: 3,
+            })),
+        ),
+        (FRONT, Told::Front(0, 0, 0)),
+        (ask(1), Told::Message(3)),
+        (answer(2, 3), Told::Message(4)),
+        (absorb(1, 4), Told::Absorbed),
+        (FRONT, Told::Front(0, 5, 0)),
+        (absorb(1, 2), Told::Absorbed),
+    ];
+    assert_eq!(rt; answers(heap, 1, 2, &table)?, wanted(heap, &table)?);
+    Ok(())
+}
+
+#[test]
+fn a_wiped_node_does_not_answer_for_its_anchor(rt: HostRuntime) -> Result<(), Fail> {
+    let heap = rt.alloc();
+    let table = [
+        (take(ONE), Told::Changed),
+        (take(TWO), Told::Changed),
+        (take(FOUR), Told::Changed),
+        (ask(1), Told::Message(1)),
+        (take_at(2, ONE), Told::Changed),
+        (answer(2, 1), Told::Message(2)),
+        (Step::Wipe { node: 1 }, Told::Wiped),
+        (absorb(1, 2), Told::Uncovered(Shown::Anchor(5))),
+    ];
+    assert_eq!(rt; answers(heap, 1, 2, &table)?, wanted(heap, &table)?);
+    Ok(())
+}
+
+#[test]
+fn what_is_thrown_away_comes_as_a_page(rt: HostRuntime) -> Result<(), Fail> {
+    let heap = rt.alloc();
+    let table = [
+        (take(ONE), Told::Changed),
+        (take(TWO), Told::Changed),
+        (take(THREE), Told::Changed),
+        (take(FOUR), Told::Changed),
+        (fold(7), Told::Folded),
+        (DISCARD, Told::Discarded),
+        (ask(2), Told::Message(1)),
+        (answer(1, 1), Told::Message(2)),
+        (Step::Wipe { node: 1 }, Told::Wiped),
+        (absorb(2, 2), Told::Absorbed),
+        (Step::Front { node: 2 }, Told::Front(0, 9, 5)),
+        (absorb(1, 2), Told::Absorbed),
+        (read(5), Told::Byte(0x62)),
+        (same(1, 2), Told::Answer(true)),
+    ];
+    assert_eq!(rt; answers(heap, 1, 2, &table)?, wanted(heap, &table)?);
+    Ok(())
+}
+
+#[test]
+fn messages_that_are_not_there(rt: HostRuntime) -> Result<(), Fail> {
+    let heap = rt.alloc();
+    let table = [
+        (answer(1, 0), Told::NoMessage(0)),
+        (answer(1, 1), Told::NoMessage(1)),
+        (answer(3, 1), Told::NoNode(3)),
+        (ask(0), Told::NoNode(0)),
+        (ask(1), Told::Message(1)),
+        (absorb(1, 1), Told::NoMessage(1)),
+        (answer(2, 1), Told::Message(2)),
+        (answer(2, 2), Told::NoMessage(2)),
+        (absorb(1, 0), Told::NoMessage(0)),
+        (absorb(1, 3), Told::NoMessage(3)),
+        (absorb(3, 3), Told::NoNode(3)),
+        (absorb(2, 2), Told::Absorbed),
+    ];
+    assert_eq!(rt; answers(heap, 1, 2, &table)?, wanted(heap, &table)?);
+    Ok(())
+}
+
+#[test]
+fn no_answer_of_a_broken_block_chain(rt: HostRuntime) -> Result<(), Fail> {
+    let heap = rt.alloc();
+    let table = [
+        (take(ONE), Told::Changed),
+        (take(Line::Rec(5, 3, 2, 0x62)), Told::Changed),
+        (take(FOUR), Told::Changed),
+        (DISCARD, Told::Discarded),
+        (ask(2), Told::Message(1)),
+        (answer(1, 1), Told::Broken(5)),
+        (ask(2), Told::Message(2)),
+    ];
+    assert_eq!(rt; answers(heap, 1, 2, &table)?, wanted(heap, &table)?);
     Ok(())
 }

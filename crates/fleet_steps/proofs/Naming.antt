@@ -1,7 +1,7 @@
 -- What takes name, form by form.
 use Rattle.std.proofs.Common.{◌≡◌, sym, ap, ◌∙◌, subst}
 use Rattle.fleet_steps.specs.declared.steps.Step.{Step}
-use Rattle.fleet_steps.specs.declared.steps.Step.TheVariants.{Take, Fold, Discard, Front, Read, Join, Same, Covers, Wipe}
+use Rattle.fleet_steps.specs.declared.steps.Step.TheVariants.{Take, Fold, Discard, Front, Read, Join, Same, Covers, Wipe, Ask, Answer, Absorb}
 use Rattle.fleet_steps.specs.Naming.{NamedIs, SameBut}
 
 -- what is named is of a wider kind
@@ -15,6 +15,9 @@ named_weaker P Q f (Join node from) h = tt
 named_weaker P Q f (Same node other) h = tt
 named_weaker P Q f (Covers node other) h = tt
 named_weaker P Q f (Wipe node) h = tt
+named_weaker P Q f (Ask node) h = tt
+named_weaker P Q f (Answer node message) h = tt
+named_weaker P Q f (Absorb node message) h = tt
 
 -- what is named instead is so by a wider relation
 pub same_weaker : {F G : Type 0} (R S : F → G → Type 0) → ((x : F) (y : G) → R x y → S x y) → (s : Step F) (t : Step G) → SameBut R s t → SameBut S s t
@@ -27,6 +30,9 @@ same_weaker R S f (Join node from) t h = h
 same_weaker R S f (Same node other) t h = h
 same_weaker R S f (Covers node other) t h = h
 same_weaker R S f (Wipe node) t h = h
+same_weaker R S f (Ask node) t h = h
+same_weaker R S f (Answer node message) t h = h
+same_weaker R S f (Absorb node message) t h = h
 
 -- what is named instead is of a kind
 pub same_named : {F G : Type 0} (R : F → G → Type 0) (P : G → Type 0) → ((x : F) (y : G) → R x y → P y) → (s : Step F) (t : Step G) → SameBut R s t
@@ -40,6 +46,9 @@ same_named R P f (Join node from) t h = subst (NamedIs P) (sym h) tt
 same_named R P f (Same node other) t h = subst (NamedIs P) (sym h) tt
 same_named R P f (Covers node other) t h = subst (NamedIs P) (sym h) tt
 same_named R P f (Wipe node) t h = subst (NamedIs P) (sym h) tt
+same_named R P f (Ask node) t h = subst (NamedIs P) (sym h) tt
+same_named R P f (Answer node message) t h = subst (NamedIs P) (sym h) tt
+same_named R P f (Absorb node message) t h = subst (NamedIs P) (sym h) tt
 
 -- there is one such step, where there is one thing to be named instead
 pub same_one : {F G : Type 0} (R : F → G → Type 0) → ((x : F) (y z : G) → R x y → R x z → y ≡ z) → (s : Step F) (t u : Step G) → SameBut R s t → SameBut R s u
@@ -53,3 +62,6 @@ same_one R one (Join node from) t u h k = h ∙ sym k
 same_one R one (Same node other) t u h k = h ∙ sym k
 same_one R one (Covers node other) t u h k = h ∙ sym k
 same_one R one (Wipe node) t u h k = h ∙ sym k
+same_one R one (Ask node) t u h k = h ∙ sym k
+same_one R one (Answer node message) t u h k = h ∙ sym k
+same_one R one (Absorb node message) t u h k = h ∙ sym k

@@ -1,7 +1,7 @@
 -- What takes name, and steps that differ in nothing else.
 use Rattle.std.specs.Prelude.{◌≡◌}
 use Rattle.fleet_steps.specs.declared.steps.Step.{Step}
-use Rattle.fleet_steps.specs.declared.steps.Step.TheVariants.{Take, Fold, Discard, Front, Read, Join, Same, Covers, Wipe}
+use Rattle.fleet_steps.specs.declared.steps.Step.TheVariants.{Take, Fold, Discard, Front, Read, Join, Same, Covers, Wipe, Ask, Answer, Absorb}
 
 -- what the step takes, if it is a take, is of the kind P
 abbrev pub NamedIs : {F : Type 0} → (F → Type 0) → Step F → Type 0
@@ -14,6 +14,9 @@ NamedIs P (Join node from) = Unit {0}
 NamedIs P (Same node other) = Unit {0}
 NamedIs P (Covers node other) = Unit {0}
 NamedIs P (Wipe node) = Unit {0}
+NamedIs P (Ask node) = Unit {0}
+NamedIs P (Answer node message) = Unit {0}
+NamedIs P (Absorb node message) = Unit {0}
 
 -- the same step, but that a take names another thing, to which R leads
 abbrev pub SameBut : {F G : Type 0} → (F → G → Type 0) → Step F → Step G → Type 0
@@ -26,3 +29,6 @@ SameBut R (Join node from) other = other ≡ Join node from
 SameBut R (Same node than) other = other ≡ Same node than
 SameBut R (Covers node than) other = other ≡ Covers node than
 SameBut R (Wipe node) other = other ≡ Wipe node
+SameBut R (Ask node) other = other ≡ Ask node
+SameBut R (Answer node message) other = other ≡ Answer node message
+SameBut R (Absorb node message) other = other ≡ Absorb node message

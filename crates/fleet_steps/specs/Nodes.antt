@@ -1,7 +1,7 @@
 -- The nodes that a step names.
 use Rattle.std.specs.Prelude.{ℕ, ◌==◌, ◌||◌, nat_lt, if◌then◌else◌, List, [], ◌∷◌, Option, Some, None}
 use Rattle.fleet_steps.specs.declared.steps.Step.{Step}
-use Rattle.fleet_steps.specs.declared.steps.Step.TheVariants.{Take, Fold, Discard, Front, Read, Join, Same, Covers, Wipe}
+use Rattle.fleet_steps.specs.declared.steps.Step.TheVariants.{Take, Fold, Discard, Front, Read, Join, Same, Covers, Wipe, Ask, Answer, Absorb}
 
 -- the node that carries out the step
 abbrev pub node_of : {F : Type 0} → Step F → ℕ
@@ -14,6 +14,9 @@ node_of (Join node from) = node
 node_of (Same node other) = node
 node_of (Covers node other) = node
 node_of (Wipe node) = node
+node_of (Ask node) = node
+node_of (Answer node message) = node
+node_of (Absorb node message) = node
 
 -- the node that it looks at besides: the last that it names
 abbrev pub other_of : {F : Type 0} → Step F → ℕ
@@ -26,6 +29,9 @@ other_of (Join node from) = from
 other_of (Same node other) = other
 other_of (Covers node other) = other
 other_of (Wipe node) = node
+other_of (Ask node) = node
+other_of (Answer node message) = node
+other_of (Absorb node message) = node
 
 -- all nodes that it names, in the order named
 abbrev pub nodes_of : {F : Type 0} → Step F → List ℕ
@@ -38,6 +44,9 @@ nodes_of (Join node from) = node ∷ from ∷ []
 nodes_of (Same node other) = node ∷ other ∷ []
 nodes_of (Covers node other) = node ∷ other ∷ []
 nodes_of (Wipe node) = node ∷ []
+nodes_of (Ask node) = node ∷ []
+nodes_of (Answer node message) = node ∷ []
+nodes_of (Absorb node message) = node ∷ []
 
 -- the first of the numbers that is none of 1 to count
 abbrev pub first_missing : ℕ → List ℕ → Option ℕ

@@ -51,6 +51,20 @@ pub enum Step<F> {
     Wipe {
         node: u16,
     },
+    /// A node is asked what it has: that makes a message, which any node may answer. Messages are counted from 1.
+    Ask {
+        node: u16,
+    },
+    /// A node answers a message that was made by asking: that makes another one, which any node may absorb.
+    Answer {
+        node: u16,
+        message: usize,
+    },
+    /// A node takes in what an answer tells.
+    Absorb {
+        node: u16,
+        message: usize,
+    },
 }
 
 impl<F> Step<F> {
@@ -67,7 +81,10 @@ impl<F> Step<F> {
             | Step::Join { node, .. }
             | Step::Same { node, .. }
             | Step::Covers { node, .. }
-            | Step::Wipe { node } => *node,
+            | Step::Wipe { node }
+            | Step::Ask { node }
+            | Step::Answer { node, .. }
+            | Step::Absorb { node, .. } => *node,
         }
     }
 
@@ -128,6 +145,9 @@ impl<F> Step<F> {
             Step::Same { node, other } => Ok(Step::Same { node, other }),
             Step::Covers { node, other } => Ok(Step::Covers { node, other }),
             Step::Wipe { node } => Ok(Step::Wipe { node }),
+            Step::Ask { node } => Ok(Step::Ask { node }),
+            Step::Answer { node, message } => Ok(Step::Answer { node, message }),
+            Step::Absorb { node, message } => Ok(Step::Absorb { node, message }),
         }
     }
 }

@@ -31,6 +31,23 @@ fn two_nodes(rt: HostRuntime) -> Result<(), Fail> {
 }
 
 #[test]
+fn messages_are_no_nodes(rt: HostRuntime) -> Result<(), Fail> {
+    let answer: Step<usize> = Step::Answer {
+        node: 2,
+        message: 9,
+    };
+    assert!(rt; answer.node() == 2 && answer.other() == 2);
+    assert!(rt; answer.missing(2) == None && answer.missing(1) == Some(2));
+    assert!(rt; answer.naming(|fact: usize| Err::<usize, usize>(fact)) == Ok(answer));
+    let absorb: Step<usize> = Step::Absorb {
+        node: 0,
+        message: 1,
+    };
+    assert!(rt; absorb.missing(64) == Some(0));
+    Ok(())
+}
+
+#[test]
 fn names(rt: HostRuntime) -> Result<(), Fail> {
     let letters = ["a", "b", "c"];
     let letter = |place: usize| letters.get(place).copied().ok_or(place);

@@ -8,7 +8,6 @@ returns-then-place-other c =
     let front = c.split_at_mut-front.result.0.now in
     let back = c.split_at_mut-front.result.1.now in
     let some : 0 < length back = omega (arith, split.back_len, c.requires.other) in
-    let e = c.carry_out.ensures in
     let own = get_or front c.args.place c.index-front-place.result in
     let its = get_or back 0 c.index-back-0.result in
     let own_at : own ≡ get_or front c.args.place own = ap (get_or front c.args.place) c.index-front-place.is in
@@ -16,8 +15,8 @@ returns-then-place-other c =
     let later = c.carry_out.new.segment in
     let before : c.args.place < c.args.other = c.if-place-other.true in
     let stands = place_in_front c.args.segments.now front back c.args.place c.args.other own its later split.value split.front_len before some own_at its_at in
-    carried c.args.roster c.args.segments.now c.args.place c.args.other own (Some its) c.args.step.now c.carry_out.result later _ stands
-    (record { follows = e.follows; calls = e.calls; found = e.found; refused = e.refused })
+    carried c.args.roster c.args.segments.now c.args.place c.args.other own (Some its) c.args.messages.now.items c.args.step.now c.carry_out.result later _
+    c.carry_out.new.messages.items stands c.carry_out.ensures
 
 pub returns-then-other-place : goal.returns-then-other-place
 returns-then-other-place c =
@@ -25,7 +24,6 @@ returns-then-other-place c =
     let front = c.split_at_mut-front-then-other-place.result.0.now in
     let back = c.split_at_mut-front-then-other-place.result.1.now in
     let some : 0 < length back = omega (arith, split.back_len, c.requires.place) in
-    let e = c.carry_out-then-other-place.ensures in
     let own = get_or back 0 c.index-back-0-then-other-place.result in
     let its = get_or front c.args.other c.index-front-other.result in
     let own_at : own ≡ get_or back 0 own = ap (get_or back 0) c.index-back-0-then-other-place.is in
@@ -33,15 +31,15 @@ returns-then-other-place c =
     let later = c.carry_out-then-other-place.new.segment in
     let before : c.args.other < c.args.place = c.if-other-place.true in
     let stands = place_in_back c.args.segments.now front back c.args.place c.args.other own its later split.value split.front_len before some own_at its_at in
-    carried c.args.roster c.args.segments.now c.args.place c.args.other own (Some its) c.args.step.now c.carry_out-then-other-place.result later _ stands
-    (record { follows = e.follows; calls = e.calls; found = e.found; refused = e.refused })
+    carried c.args.roster c.args.segments.now c.args.place c.args.other own (Some its) c.args.messages.now.items c.args.step.now
+    c.carry_out-then-other-place.result later _ c.carry_out-then-other-place.new.messages.items stands c.carry_out-then-other-place.ensures
 
 pub returns : goal.returns
 returns c =
     let same : c.args.place ≡ c.args.other = omega (arith, c.if-place-other.false, c.if-other-place.false) in
-    let e = c.carry_out-2.ensures in
     let own = get_or c.args.segments.now c.args.place c.index-segments-place.result in
-    carried c.args.roster c.args.segments.now c.args.place c.args.other own None c.args.step.now c.carry_out-2.result c.carry_out-2.new.segment _
+    carried c.args.roster c.args.segments.now c.args.place c.args.other own None c.args.messages.now.items c.args.step.now c.carry_out-2.result
+    c.carry_out-2.new.segment _ c.carry_out-2.new.messages.items
     (one_place c.args.segments.now c.args.place c.args.other own c.carry_out-2.new.segment c.requires.place same
     (ap (get_or c.args.segments.now c.args.place) c.index-segments-place.is))
-    (record { follows = e.follows; calls = e.calls; found = e.found; refused = e.refused })
+    c.carry_out-2.ensures

@@ -1,11 +1,11 @@
 use Rattle.std.proofs.Common.{sym, subst}
 use Rattle.fleet_steps.specs.declared.steps.Step.TheVariants.{Wipe}
 use Rattle.fleet_core.specs.declared.replies.Reply.TheVariants.{Wiped}
-use Rattle.fleet_core.specs.AtNode.{NodeFollows}
+use Rattle.fleet_core.specs.AtNode.{OwnFollows}
 use Rattle.fleet_core.proofs.Merging.{follows_wipe}
 use Rattle.fleet_core.proofs.fleets.wipe.Goals as goal
 
 pub returns-in-Ok-clause-follows : goal.returns-in-Ok-clause-follows
 returns-in-Ok-clause-follows c = λ node other.
-    subst (λ s. NodeFollows c.args.roster c.args.segment.now other (Wipe node) Wiped s) (sym c.in-Ok.ensures.empty)
+    subst (λ s. OwnFollows c.args.roster c.args.segment.now other (Wipe node) Wiped s) (sym c.in-Ok.ensures.empty)
     (follows_wipe c.args.roster c.args.segment.now other node)

@@ -1,8 +1,10 @@
-use Rattle.std.proofs.Common.{◌≡◌, List, [], replicate, refl, sym, subst, arith, ap, ◌∙◌}
+use Rattle.std.proofs.Common.{◌≡◌, List, [], replicate, refl, sym, subst, rules, arith, ap, ◌∙◌}
 use Rattle.std.specs.List.{AllZip}
 use Rattle.segment_state.specs.State.{State, empty_state}
 use Rattle.segment_state.specs.Means.{Means}
 use Rattle.segment_state.proofs.Bare.{empty_means}
+use Rattle.fleet_core.specs.declared.messages.Made.{Made}
+use Rattle.fleet_core.specs.Messages.{AreMade}
 use Rattle.fleet_core.proofs.Nodes.{none_mean}
 use Rattle.fleet_core.proofs.fleets.Fleet.new.Goals as goal
 
@@ -11,9 +13,11 @@ returns-clause-means c = λ log.
     let all : c.loop.counter ≡ c.args.nodes = omega arith in
     let items : c.loop.segments.items ≡ replicate c.args.nodes (empty_state c.args.roster) =
     c.loop.invariant ∙ ap (λ n. replicate n (empty_state c.args.roster)) all in
+    let none : c.new-2.result.items ≡ [] = search rules in
     record {
       roster_is = refl;
       nodes = subst (λ (segments : List State). AllZip (λ facts segment. Means c.args.roster log facts segment) (replicate c.args.nodes []) segments)
           (sym items)
           (none_mean c.args.roster log c.args.nodes (empty_state c.args.roster) (empty_means c.args.roster log));
+      messages = subst (λ (made : List Made). AreMade c.args.roster log [] made) (sym none) tt;
     }

@@ -1,0 +1,225 @@
+-- A step that was carried out at its node, from what the node's call ensures.
+use Rattle.std.proofs.Common.{◌≡◌, ℕ, ◌+◌, ⊎_elim, ◌↔◌, List, [], ◌∷◌, ◌++◌, length, refl, sym, ap, ◌∙◌, subst, Option, Some, None, Result, Ok, Err}
+use Rattle.std.specs.Prelude.{MatchOption}
+use Rattle.redo_core.specs.declared.facts.Fact.{Fact}
+use Rattle.redo_wire.specs.Summaries.{SummaryData}
+use Rattle.redo_wire.specs.Deltas.{DeltaData}
+use Rattle.segment_state.specs.State.{State}
+use Rattle.segment_core.specs.declared.answers.ReadFault.{ReadFault}
+use Rattle.segment_core.specs.declared.answers.ReadFault.TheVariants as fault
+use Rattle.segment_core.specs.declared.answers.Refusal.{Refusal}
+use Rattle.segment_core.specs.declared.answers.Refusal.TheVariants as refusal
+use Rattle.gossip_core.specs.declared.absorbing.AbsorbRefusal.{AbsorbRefusal}
+use Rattle.gossip_core.specs.declared.absorbing.AbsorbRefusal.TheVariants as absorb
+use Rattle.fleet_steps.specs.declared.steps.Step.{Step}
+use Rattle.fleet_steps.specs.declared.steps.Step.TheVariants as step
+use Rattle.fleet_core.specs.declared.replies.Reply.{Reply}
+use Rattle.fleet_core.specs.declared.replies.Reply.TheVariants.{Message as MessageIs, NoNode, NoMessage, Memory}
+use Rattle.fleet_core.specs.declared.messages.Made.{Made}
+use Rattle.fleet_core.specs.declared.messages.Made.TheVariants.{Question, Answer}
+use Rattle.fleet_core.specs.Machine.{Message, messages_after}
+use Rattle.fleet_core.specs.Messages.{question_in, answer_in, lacking, missing_message, AreMade}
+use Rattle.fleet_core.specs.Refused.{IsRefusal}
+use Rattle.fleet_core.specs.Replying.{fault_reply, read_reply, refusal_reply, absorbed_reply}
+use Rattle.fleet_core.specs.MessageCalls.{Makes, SumsUp, Asks, MakesAnswer, AnswersQuestion, AnswersNumber, AbsorbsDelta, AbsorbsAnswer, AbsorbsNumber}
+use Rattle.fleet_core.specs.Calls.{NodeCalls}
+use Rattle.fleet_core.specs.AtNode.{OwnFollows, IsCarriedOut}
+use Rattle.fleet_core.proofs.Exchanging.{follows_ask, follows_answer, follows_absorb}
+
+-- ---- steps that speak of no message
+
+pub own_step : (readers : ℕ) (old : State) (other : Option State) (messages : List Made) (step : Step Fact) (reply : Reply) (new : State)
+    → ((told : List Message) (facts : List Fact) → messages_after told facts step reply ≡ told) → missing_message messages step ≡ None
+    → OwnFollows readers old other step reply new → NodeCalls readers old other messages step reply new messages
+    → ((node : ℕ) → reply ≡ NoNode node → ⊥) → ((number : ℕ) → reply ≡ NoMessage number → ⊥) → (IsRefusal reply → new ≡ old)
+    → IsCarriedOut readers old other messages step reply new messages
+own_step readers old other messages step reply new kept none follows calls found named refused = record {
+  follows = λ roster log facts others told size sound t means beside are.
+      let own = follows roster log facts others told size sound t means beside in
+      (own.0, own.1, subst (λ ms. AreMade roster log ms messages) (sym (kept told facts)) are);
+  calls = calls;
+  found = found;
+  no_message = λ number. (λ e. absurd (named number e), λ (e : missing_message messages step ≡ Some number). absurd (cc));
+  refused = λ is. (refused is, refl);
+}
+
+-- ---- replies of nodes
+
+-- it tells of no node or message that is not there
+abbrev IsOfNode : Reply → Type 0
+IsOfNode (NoNode node) = ⊥
+IsOfNode (NoMessage number) = ⊥
+IsOfNode reply = Unit {0}
+
+of_fault : (why : ReadFault) → IsOfNode (fault_reply why)
+of_fault (fault.Below min) = tt
+of_fault (fault.Above complete) = tt
+of_fault (fault.BrokenBlockChain page number) = tt
+of_fault fault.Memory = tt
+
+of_read : (answer : Result (List ℕ) ReadFault) → IsOfNode (read_reply answer)
+of_read (Ok image) = tt
+of_read (Err why) = of_fault why
+
+of_refusal : (why : Refusal) → IsOfNode (refusal_reply why)
+of_refusal refusal.Memory = tt
+of_refusal other = tt
+
+of_absorbed : (answer : Result (Unit {0}) AbsorbRefusal) → IsOfNode (absorbed_reply answer)
+of_absorbed (Ok done) = tt
+of_absorbed (Err (absorb.Uncovered shown)) = tt
+of_absorbed (Err (absorb.Refused why)) = of_refusal why
+
+not_missing : (reply : Reply) → IsOfNode reply → (node : ℕ) → reply ≡ NoNode node → ⊥
+not_missing reply of node e = subst IsOfNode e of
+
+not_lacking : (reply : Reply) → IsOfNode reply → (number : ℕ) → reply ≡ NoMessage number → ⊥
+not_lacking reply of number e = subst IsOfNode e of
+
+pub never_no_node : (answer : Result (List ℕ) ReadFault) (reply : Reply) → reply ≡ read_reply answer → (node : ℕ) → reply ≡ NoNode node → ⊥
+never_no_node answer reply told = not_missing reply (subst IsOfNode (sym told) (of_read answer))
+
+pub never_no_message : (answer : Result (List ℕ) ReadFault) (reply : Reply) → reply ≡ read_reply answer → (number : ℕ) → reply ≡ NoMessage number → ⊥
+never_no_message answer reply told = not_lacking reply (subst IsOfNode (sym told) (of_read answer))
+
+of_told : (reply told : Reply) → reply ≡ told → IsOfNode told → IsOfNode reply
+of_told reply told e of = subst IsOfNode (sym e) of
+
+of_made : (messages : List Made) (message : Made) (reply : Reply) (made : List Made) → Makes messages message reply made → IsOfNode reply
+of_made messages message reply made makes =
+    ⊎_elim
+    (λ (none : (reply ≡ Memory) × (made ≡ messages)). of_told reply Memory none.0 tt)
+    (λ (one : (reply ≡ MessageIs (length messages + 1)) × (made ≡ messages ++ message ∷ [])). of_told reply (MessageIs (length messages + 1)) one.0 tt)
+    makes
+
+-- no message is made where the step is refused
+none_made : (messages : List Made) (message : Made) (reply : Reply) (made : List Made) → Makes messages message reply made → IsRefusal reply
+    → made ≡ messages
+none_made messages message reply made makes is =
+    ⊎_elim
+    (λ (none : (reply ≡ Memory) × (made ≡ messages)). none.1)
+    (λ (one : (reply ≡ MessageIs (length messages + 1)) × (made ≡ messages ++ message ∷ [])). absurd (subst IsRefusal one.0 is))
+    makes
+
+of_answer : (messages : List Made) (number : ℕ) (answer : Result DeltaData ReadFault) (reply : Reply) (made : List Made)
+    → MakesAnswer messages number answer reply made → IsOfNode reply
+of_answer messages number (Ok delta) reply made makes = of_made messages (Answer number delta) reply made makes
+of_answer messages number (Err why) reply made makes = of_told reply (fault_reply why) makes.0 (of_fault why)
+
+none_answered : (messages : List Made) (number : ℕ) (answer : Result DeltaData ReadFault) (reply : Reply) (made : List Made)
+    → MakesAnswer messages number answer reply made → IsRefusal reply → made ≡ messages
+none_answered messages number (Ok delta) reply made makes is = none_made messages (Answer number delta) reply made makes is
+none_answered messages number (Err why) reply made makes is = makes.1
+
+none_absorbed : (old : State) (x : SummaryData × DeltaData) (answer : Result (Unit {0}) AbsorbRefusal) (new : State) → AbsorbsDelta old x.0 x.1 answer new
+    → (reply : Reply) → reply ≡ absorbed_reply answer → IsRefusal reply → new ≡ old
+none_absorbed old x (Ok done) new absorbs reply told is = absurd (subst IsRefusal told is)
+none_absorbed old x (Err why) new absorbs reply told is = absorbs.unchanged
+
+-- ---- steps that do
+
+pub ask_step : (readers : ℕ) (s : State) (other : Option State) (messages : List Made) (node : ℕ) (reply : Reply) (made : List Made)
+    → Asks s messages reply made → IsCarriedOut readers s other messages (step.Ask node) reply s made
+ask_step readers s other messages node reply made asks =
+    let of : IsOfNode reply = ⊎_elim
+    (λ (none : (reply ≡ Memory) × (made ≡ messages)). of_told reply Memory none.0 tt)
+    (λ (some : (summary : SummaryData) × SumsUp s summary × Makes messages (Question summary) reply made).
+    of_made messages (Question some.0) reply made some.2)
+    asks in
+    record {
+      follows = follows_ask readers s other messages node reply made asks;
+      calls = (asks, refl);
+      found = not_missing reply of;
+      no_message = λ number. (λ e. absurd (not_lacking reply of number e), λ (e : None ≡ Some number). absurd (cc));
+      refused = λ is. (
+        refl,
+        ⊎_elim
+            (λ (none : (reply ≡ Memory) × (made ≡ messages)). none.1)
+            (λ (some : (summary : SummaryData) × SumsUp s summary × Makes messages (Question summary) reply made).
+            none_made messages (Question some.0) reply made some.2 is)
+            asks,
+      );
+    }
+
+-- of two answers the one is that there is nothing of the number
+lacks : {A : Type 0} (o : Option A) (number : ℕ) (reply : Reply) → o ≡ None → reply ≡ NoMessage number → (n : ℕ)
+    → (reply ≡ NoMessage n) ↔ (lacking o number ≡ Some n)
+lacks o number reply none told n = (
+  λ e. let same : number ≡ n = (let both : NoMessage number ≡ NoMessage n = sym told ∙ e in
+      cc) in
+      subst (λ x. lacking x number ≡ Some n) (sym none) (ap (λ x. Some x) same),
+  λ e. let same : number ≡ n = (let both : Some number ≡ Some n = subst (λ x. lacking x number ≡ Some n) none e in
+      cc) in
+      told ∙ ap (λ x. NoMessage x) same,
+)
+
+-- and the other is of the node
+lacks_none : {A : Type 0} (o : Option A) (x : A) (number : ℕ) (reply : Reply) → o ≡ Some x → IsOfNode reply → (n : ℕ)
+    → (reply ≡ NoMessage n) ↔ (lacking o number ≡ Some n)
+lacks_none o x number reply some of n = (
+  λ e. absurd (not_lacking reply of n e),
+  λ e. absurd (let never : None ≡ Some n = subst (λ y. lacking y number ≡ Some n) some e in
+      cc),
+)
+
+answer_by : (readers : ℕ) (s : State) (other : Option State) (messages : List Made) (node number : ℕ) (reply : Reply) (made : List Made)
+    → AnswersNumber s messages number reply made → (o : Option SummaryData) → question_in messages number ≡ o
+    → IsCarriedOut readers s other messages (step.Answer node number) reply s made
+answer_by readers s other messages node number reply made calls None is =
+    let call : (reply ≡ NoMessage number) × (made ≡ messages) =
+    subst (λ o. MatchOption o ((reply ≡ NoMessage number) × (made ≡ messages)) (λ x. AnswersQuestion s messages number x reply made)) is calls in
+    record {
+      follows = follows_answer readers s other messages node number reply made calls;
+      calls = (calls, refl);
+      found = λ i e. absurd (let told : reply ≡ NoMessage number = call.0 in
+          cc);
+      no_message = lacks (question_in messages number) number reply is call.0;
+      refused = λ none. (refl, call.1);
+    }
+answer_by readers s other messages node number reply made calls (Some summary) is =
+    let call : AnswersQuestion s messages number summary reply made =
+    subst (λ o. MatchOption o ((reply ≡ NoMessage number) × (made ≡ messages)) (λ x. AnswersQuestion s messages number x reply made)) is calls in
+    let of : IsOfNode reply = of_answer messages number call.answer reply made call.makes in
+    record {
+      follows = follows_answer readers s other messages node number reply made calls;
+      calls = (calls, refl);
+      found = not_missing reply of;
+      no_message = lacks_none (question_in messages number) summary number reply is of;
+      refused = λ refusal. (refl, none_answered messages number call.answer reply made call.makes refusal);
+    }
+
+pub answer_step : (readers : ℕ) (s : State) (other : Option State) (messages : List Made) (node number : ℕ) (reply : Reply) (made : List Made)
+    → AnswersNumber s messages number reply made → IsCarriedOut readers s other messages (step.Answer node number) reply s made
+answer_step readers s other messages node number reply made calls =
+    answer_by readers s other messages node number reply made calls (question_in messages number) refl
+
+absorb_by : (readers : ℕ) (old : State) (other : Option State) (messages : List Made) (node number : ℕ) (reply : Reply) (new : State)
+    → AbsorbsNumber old messages number reply new → (o : Option (SummaryData × DeltaData)) → answer_in messages number ≡ o
+    → IsCarriedOut readers old other messages (step.Absorb node number) reply new messages
+absorb_by readers old other messages node number reply new calls None is =
+    let call : (reply ≡ NoMessage number) × (new ≡ old) =
+    subst (λ o. MatchOption o ((reply ≡ NoMessage number) × (new ≡ old)) (λ x. AbsorbsAnswer old x.0 x.1 reply new)) is calls in
+    record {
+      follows = follows_absorb readers old other messages node number reply new calls;
+      calls = (calls, refl);
+      found = λ i e. absurd (let told : reply ≡ NoMessage number = call.0 in
+          cc);
+      no_message = lacks (answer_in messages number) number reply is call.0;
+      refused = λ none. (call.1, refl);
+    }
+absorb_by readers old other messages node number reply new calls (Some x) is =
+    let call : AbsorbsAnswer old x.0 x.1 reply new =
+    subst (λ o. MatchOption o ((reply ≡ NoMessage number) × (new ≡ old)) (λ x. AbsorbsAnswer old x.0 x.1 reply new)) is calls in
+    let of : IsOfNode reply = of_told reply (absorbed_reply call.answer) call.told (of_absorbed call.answer) in
+    record {
+      follows = follows_absorb readers old other messages node number reply new calls;
+      calls = (calls, refl);
+      found = not_missing reply of;
+      no_message = lacks_none (answer_in messages number) x number reply is of;
+      refused = λ refusal. (none_absorbed old x call.answer new call.absorbs reply call.told refusal, refl);
+    }
+
+pub absorb_step : (readers : ℕ) (old : State) (other : Option State) (messages : List Made) (node number : ℕ) (reply : Reply) (new : State)
+    → AbsorbsNumber old messages number reply new → IsCarriedOut readers old other messages (step.Absorb node number) reply new messages
+absorb_step readers old other messages node number reply new calls =
+    absorb_by readers old other messages node number reply new calls (answer_in messages number) refl

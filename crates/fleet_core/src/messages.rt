@@ -1,0 +1,42 @@
+ghost use Rattle.std.specs.Prelude.{◌≡◌};
+ghost use Rattle.std.specs.Option.{option_copied, option_map};
+ghost use Rattle.fleet_core.specs.Messages.{question_in, answer_in};
+
+use redo_wire::{Delta, Summary};
+
+/// A message that was made. It stays, whatever becomes of the node that made it, and may be used again.
+#[derive(Debug, Drop)]
+pub enum Made {
+    /// What a node told of itself when it was asked.
+    Question(Summary),
+    /// What a node had beyond what the question of this number tells.
+    Answer { question: usize, delta: Delta },
+}
+
+/// What was told by the question of a number, counted from 1; None where there is no such question.
+pub fn question(messages: &[Made], number: usize) -> Option<&Summary>
+    ensures { option_copied result ≡ question_in messages.now number }
+{
+    match messages.get(number.checked_sub(1)?) {
+        Some(Made::Question(summary)) => Some(summary),
+        _ => None,
+    }
+}
+
+/// The answer of a number, counted from 1, beside the question that it answers; None where there is no such answer.
+pub fn answer(messages: &[Made], number: usize) -> Option<(&Summary, &Delta)>
+    ensures { option_map (λ x. (x.0.now, x.1.now)) result ≡ answer_in messages.now number }
+{
+    match messages.get(number.checked_sub(1)?) {
+        Some(
+            Made::Answer {
+                question: asked,
+                delta,
+            },
+        ) => match question(messages, *asked) {
+            Some(summary) => Some((summary, delta)),
+            None => None,
+        },
+        _ => None,
+    }
+}
