@@ -1,0 +1,11 @@
+pub mod Shaped
+pub mod Frozen
+pub mod Batches
+pub mod Following
+pub mod Placed
+pub mod AllPieces
+pub mod Hydrated
+pub mod SoundPieces
+pub mod InOrder
+pub mod Brought
+pub mod Restored

@@ -1,0 +1,22 @@
+use Rattle.std.proofs.Common.{◌≤◌, sym, List, subst, arith}
+use Rattle.std.specs.List.{All}
+use Rattle.redo_core.specs.Data.{CutData}
+use Rattle.epoch_book.specs.Scanning.{SparesIn}
+use Rattle.hydration.proofs.Placed.{kept, spared}
+use Rattle.hydration.proofs.placing.is_kept.Goals as goal
+
+pub returns-then-anchor-number : goal.returns-then-anchor-number
+returns-then-anchor-number c =
+    let b = c.args.book.now in
+    let r = c.args.redo.now in
+    let e = c.epoch.ensures in
+    let k = c.complete.ensures.complete in
+    let known : r.epoch ≤ b.complete = omega (arith, e, k, c.if-epoch-complete.false) in (
+      λ t. kept b c.args.anchor r known (omega (arith, c.number.ensures.value, c.if-anchor-number.true))
+          (subst (λ n. All (SparesIn n r.epoch r.number) b.cuts) c.complete-then-anchor-number.ensures.complete
+          (subst (λ (cs : List CutData). All (SparesIn c.complete-then-anchor-number.result r.epoch r.number) cs) c.cuts.ensures.cuts
+          (c.are_sparing.ensures.0 t))),
+      λ h. c.are_sparing.ensures.1
+          (subst (λ (cs : List CutData). All (SparesIn c.complete-then-anchor-number.result r.epoch r.number) cs) (sym c.cuts.ensures.cuts)
+          (subst (λ n. All (SparesIn n r.epoch r.number) b.cuts) (sym c.complete-then-anchor-number.ensures.complete) (spared b c.args.anchor r known h))),
+    )

@@ -1,0 +1,36 @@
+use Rattle.std.proofs.Common.{◌≡◌, ℕ, false, ⊎_elim, List, Some, sym, ap, ◌∙◌, subst, arith}
+use Rattle.std.specs.Ordering.{nat_cmp}
+use Rattle.std.specs.BTreeMap.{is_at}
+use Rattle.std.specs.Map.{lookup}
+use Rattle.std.proofs.lemmas.Bool.{cases_eq}
+use Rattle.std.proofs.lemmas.Grind.{common_steps}
+use Rattle.redo_wire.specs.Pieces.{PieceData, IsPiece}
+use Rattle.hydration.specs.Stagings.{staging_of, IsStranger}
+use Rattle.hydration.proofs.staging.Staging.add.Goals as goal
+
+is_elsewhere : (a b : ℕ) → (a ≡ b → ⊥) → is_at (nat_cmp a) b ≡ false
+is_elsewhere a b ne = grind (arith, common_steps)
+
+-- what is staged of the piece that comes
+staged : (name total index : ℕ) (pieces : List (ℕ × PieceData)) (own p : PieceData) → Some own ≡ Some p → own.index ≡ index → own.name ≡ name
+    → own.total ≡ total → IsPiece own → (p.index ≡ index) × (IsStranger (staging_of name total pieces) p → ⊥) × IsPiece p
+staged name total index pieces own p is at named counted shape =
+    let same : own ≡ p = cc in
+    subst (λ (q : PieceData). (q.index ≡ index) × (IsStranger (staging_of name total pieces) q → ⊥) × IsPiece q) same
+    (at, λ s. ⊎_elim (λ ne. ne named) (λ ne. ne counted) s, shape)
+
+pub invariant_of-self : goal.invariant_of-self
+invariant_of-self c = λ index p is.
+    let k = c.index-index.result in
+    let u = c.in-Ok.ensures.updates in
+    let entries : List (ℕ × PieceData) = c.insert.new.self.entries in
+    ⊎_elim
+    (λ (e : k ≡ index). staged c.self.inside.name c.self.inside.total index entries c.args.piece p
+    (sym u.1 ∙ ap (λ j. lookup (is_at (nat_cmp j)) entries) e ∙ is) (sym c.index-index.ensures.index ∙ e)
+    (cc) (cc) c.index-index.ensures.shape)
+    (λ ne. c.self.invariant index p (sym (u.2 index (is_elsewhere k index ne)) ∙ is))
+    (cases_eq k index)
+
+pub invariant_of-self-2 : goal.invariant_of-self-2
+invariant_of-self-2 c = λ index p is.
+    c.self.invariant index p (ap (λ (es : List (ℕ × PieceData)). lookup (is_at (nat_cmp index)) es) (sym c.in-Err.ensures.err) ∙ is)

@@ -1,0 +1,26 @@
+use Rattle.std.proofs.Common.{◌≡◌, ◌+◌, ◌-◌, Some, sym, subst, arith}
+use Rattle.redo_wire.specs.Pieces.{PieceData}
+use Rattle.hydration.specs.Stagings.{piece_at}
+use Rattle.hydration.specs.Placing.{CanFollow}
+use Rattle.redo_wire.specs.declared.pieces.PieceContent.{PieceContent}
+use Rattle.hydration.proofs.Placed.{stands, follows}
+use Rattle.hydration.proofs.staging.Staging.can_stand.Goals as goal
+
+pub returns : goal.returns
+returns c =
+    let st = c.args.self.now in
+    let book = c.args.book.now in
+    let anchor = c.args.anchor in
+    let before : PieceData = c.in-Some.before.now in
+    let here : PieceData = c.in-Some-get.here.now in
+    let next : c.args.index - 1 + 1 ≡ c.args.index = omega (arith, c.requires.behind) in
+    let b : piece_at st (c.args.index - 1) ≡ Some before = sym c.in-Some.ensures.value in
+    let h : piece_at st c.args.index ≡ Some here = sym c.in-Some-get.ensures.value in (
+      λ t. stands st book anchor (c.args.index - 1) c.args.index before here c.requires.head next b h
+          (subst (λ (x : PieceContent). CanFollow book anchor x here.content) c.content.ensures.content
+          (subst (λ (x : PieceContent). CanFollow book anchor c.content.result.now x) c.content-2.ensures.content (c.can_follow.ensures.0 t))),
+      λ can. c.can_follow.ensures.1
+          (subst (λ (x : PieceContent). CanFollow book anchor c.content.result.now x) (sym c.content-2.ensures.content)
+          (subst (λ (x : PieceContent). CanFollow book anchor x here.content) (sym c.content.ensures.content)
+          (follows st book anchor (c.args.index - 1) c.args.index before here c.requires.head next b h can))),
+    )

@@ -1,0 +1,20 @@
+use Rattle.std.proofs.Common.{subst}
+use Rattle.redo_laws.proofs.Log.{log_of_sound}
+use Rattle.hydration.specs.Stagings.{IsStaging}
+use Rattle.hydration.proofs.AllPieces.{has_all}
+use Rattle.hydration.proofs.Hydrated.{restores}
+use Rattle.hydration.proofs.SoundPieces.{none_misplaced}
+use Rattle.hydration.proofs.staging.Staging.finish.Goals as goal
+
+pub returns-in-Some-first_misplaced-clause-sound : goal.returns-in-Some-first_misplaced-clause-sound
+returns-in-Some-first_misplaced-clause-sound c = λ of index _.
+    let form : IsStaging c.args.self.now = subst IsStaging c.self.view_is c.self.invariant in
+    none_misplaced c.args.self.now c.in-Some-first_misplaced.index form c.in_default.ensures of c.in-Some-first_misplaced.ensures.0
+
+pub returns-in-Ok-clause-means : goal.returns-in-Ok-clause-means
+returns-in-Ok-clause-means c = λ s d of roster log facts sound means.
+    let st = c.args.self.now in
+    let form : IsStaging st = subst IsStaging c.self.view_is c.self.invariant in
+    let all = has_all s d st of form c.in_default.ensures in
+    let made = restores log facts means.0 s d st (log_of_sound roster log sound) means.1 of all c.in-Ok.segment c.in-Ok.ensures in
+    c.restore_keeps.ensures s c.in-Ok.segment made roster log facts sound means

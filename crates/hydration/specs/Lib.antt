@@ -1,0 +1,4 @@
+pub mod Snapshots
+pub mod Stagings
+pub mod Placing
+pub mod Hydrating
