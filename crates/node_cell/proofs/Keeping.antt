@@ -1,0 +1,177 @@
+-- What the lock keeps, through the calls on the state.
+use Rattle.std.proofs.Common.{◌≡◌, ℕ, List, [], ◌∷◌, ◌++◌, sym, ap, subst, ◌∙◌, arith, Result, Some}
+use Rattle.redo_core.specs.Sets.{IsPart, cuts}
+use Rattle.redo_core.specs.Position.{Position, IsPosition}
+use Rattle.redo_core.specs.PageAt.{IsPageAt}
+use Rattle.redo_core.specs.LogFront.{IsLogFront}
+use Rattle.redo_core.specs.CompleteEpoch.{HasCutsTo}
+use Rattle.redo_core.specs.Answer.{IsReadAnswer}
+use Rattle.redo_core.specs.Answer.ReadAnswer.{Image as OfImage}
+use Rattle.redo_core.specs.Sound.{IsSound}
+use Rattle.redo_core.specs.declared.facts.Fact.{Fact}
+use Rattle.redo_core.proofs.Members.{here}
+use Rattle.redo_laws.specs.WellFormed.{OnePage}
+use Rattle.redo_laws.proofs.Log.{log_of_sound}
+use Rattle.redo_laws.proofs.OfWholeLog.{front_law, page_law}
+use Rattle.redo_laws.proofs.Union.{left, right}
+use Rattle.named_log.specs.Places.{fact_at}
+use Rattle.segment_state.specs.State.{State}
+use Rattle.segment_state.specs.Means.{Means, MeansAt}
+use Rattle.segment_state.specs.Promises.{IsFinalPage}
+use Rattle.segment_state.proofs.Own.{anchor_law}
+use Rattle.segment_core.specs.Folding.{IsFoldOf, RefusesCommit}
+use Rattle.segment_core.specs.Reading.{IsFrontAt}
+use Rattle.segment_core.specs.declared.answers.Front.{Front}
+use Rattle.segment_core.specs.declared.answers.ReadFault.{ReadFault}
+use Rattle.segment_core.specs.declared.fold_plan.Folded.{Folded}
+use Rattle.segment_core.specs.declared.fold_plan.CommitFault.{CommitFault}
+use Rattle.segment_core.specs.declared.fold_plan.CommitFault.TheVariants.{Ahead, Memory}
+use Rattle.front_board.specs.FrontWord.{FrontData}
+use Rattle.node_lock.specs.Trail.{Entry, Receipt, HasReceipts}
+use Rattle.node_cell.specs.Receipt.{ReceiptData}
+use Rattle.node_cell.specs.Settling.{Stands}
+use Rattle.node_cell.specs.Folding.{IsFoldOfLog, RefusesFold}
+use Rattle.node_cell.specs.Kept.{IsKept}
+use Rattle.node_cell.specs.View.{ViewData, IsLogPage}
+use Rattle.node_cell.specs.Reading.{IsViewResult, TellsRead}
+use Rattle.node_cell.specs.Delivering.{IsFrontWith}
+use Rattle.node_cell.proofs.Places.{wider, longer, of_receipts, found}
+
+module _ (roster : ℕ) (log : List Fact) where
+  pub none_kept : (s : State) → Means roster log [] s → IsKept roster log s []
+  none_kept s means = record { facts = []; means = means; has = tt }
+
+  -- ---- a fact more, and its entry
+
+  pub keeps : (old new : State) (trail : List Entry) (pass place : ℕ) (f : Fact) → (k : IsKept roster log old trail) → fact_at log place ≡ Some f
+      → Means roster log (k.facts ++ f ∷ []) new → IsKept roster log new (trail ++ (pass, place) ∷ [])
+  keeps old new trail pass place f k at means =
+      let more = k.facts ++ f ∷ [] in record {
+        facts = more;
+        means = means;
+        has = longer log more trail (pass, place) (wider log k.facts more trail (left k.facts (f ∷ [])) k.has) (f, at, right k.facts (f ∷ []) f (here f []));
+      }
+
+  pub front_with : (old new : State) (trail : List Entry) (place : ℕ) (f : Fact) (front : Front) (told : FrontData) → (k : IsKept roster log old trail)
+      → fact_at log place ≡ Some f → (m : Means roster log (k.facts ++ f ∷ []) new) → IsFrontAt m.0 front
+      → told ≡ record { epoch = front.epoch; number = front.complete } → IsFrontWith roster log trail place told
+  front_with old new trail place f front told k at m is same =
+      let more = k.facts ++ f ∷ [] in record {
+        facts = more;
+        p = m.0;
+        part = m.1.part;
+        position = m.1.position;
+        has = (f, at, right k.facts (f ∷ []) f (here f []));
+        had = wider log k.facts more trail (left k.facts (f ∷ [])) k.has;
+        epoch = ap (λ t. t.epoch) same ∙ is.epoch;
+        number = ap (λ t. t.number) same ∙ is.complete;
+      }
+
+  pub front_of_list : (trail : List Entry) (pass : ℕ) (list : List Receipt) (place : ℕ) (front : FrontData) → IsFrontWith roster log trail place front
+      → HasReceipts trail pass list → IsFrontWith roster log list place front
+  front_of_list trail pass list place front f has = record {
+    facts = f.facts;
+    p = f.p;
+    part = f.part;
+    position = f.position;
+    has = f.has;
+    had = of_receipts log f.facts trail pass list f.had has;
+    epoch = f.epoch;
+    number = f.number;
+  }
+
+  -- the front of what a state means is a front of the log
+  pub log_front : (facts : List Fact) (s : State) (front : Front) → IsSound roster log → (m : Means roster log facts s) → IsFrontAt m.0 front
+      → IsLogFront log front.epoch front.complete
+  log_front facts s front sound m is =
+      subst (λ e. IsLogFront log e front.complete) (sym is.epoch)
+      (subst (λ n. IsLogFront log m.0.epoch n) (sym is.complete) (front_law log facts m.0 (log_of_sound roster log sound) m.1.part m.1.position))
+
+  -- ---- reads
+
+  pub log_page : (facts : List Fact) (p : Position) (k page q : ℕ) (image : List ℕ) → IsSound roster log → IsPart facts log → IsPosition roster facts p
+      → k ≡ p.epoch → IsReadAnswer facts p page q (OfImage image) → IsLogPage log k page q image
+  log_page facts p k page q image sound part at same answer = let l = log_of_sound roster log sound in
+      subst (λ n. IsLogPage log n page q image) (sym same) (record {
+        number = p.complete;
+        front = front_law log facts p l part at;
+        within = answer.0.1;
+        shown = page_law log facts p page q image l part at answer.0.1 answer.1;
+      })
+
+  pub tells : (segment : State) (trail : List Entry) (page q : ℕ) (result : Result ViewData ReadFault) → (k : IsKept roster log segment trail)
+      → IsViewResult k.facts k.means.0 page q result → TellsRead roster log trail page q result
+  tells segment trail page q result k answer = record {
+    facts = k.facts;
+    p = k.means.0;
+    part = k.means.1.part;
+    position = k.means.1.position;
+    has = k.has;
+    answer = answer;
+  }
+
+  pub tells_of : (trail : List Entry) (pass : ℕ) (list : List Receipt) (page q : ℕ) (result : Result ViewData ReadFault)
+      → TellsRead roster log trail page q result → HasReceipts trail pass list → TellsRead roster log list page q result
+  tells_of trail pass list page q result t has = record {
+    facts = t.facts;
+    p = t.p;
+    part = t.part;
+    position = t.position;
+    has = of_receipts log t.facts trail pass list t.has has;
+    answer = t.answer;
+  }
+
+  pub tells_after : (trail : List Entry) (r : ReceiptData) (page q : ℕ) (result : Result ViewData ReadFault) → TellsRead roster log trail page q result
+      → Stands trail r → TellsRead roster log ((r.place, r.log_place) ∷ []) page q result
+  tells_after trail r page q result t there = record {
+    facts = t.facts;
+    p = t.p;
+    part = t.part;
+    position = t.position;
+    has = (found log t.facts trail r.place r.log_place t.has there, tt);
+    answer = t.answer;
+  }
+
+  -- images of one page at one point in one view are one
+  pub one_image : (k j g h q r : ℕ) (image other : List ℕ) → k ≡ j → g ≡ h → q ≡ r → OnePage → IsSound roster log → HasCutsTo (cuts log) k
+      → IsPageAt log k g q image → IsPageAt log j h r other → image ≡ other
+  one_image k j g h q r image other ek eg eq law sound has one two =
+      let only = law roster log log k g q sound (λ f c. c) has in
+      let same : IsPageAt log k g q other =
+      subst (λ n. IsPageAt log k g n other) (sym eq) (subst (λ n. IsPageAt log k n r other) (sym eg) (subst (λ n. IsPageAt log n h r other) (sym ek) two)) in
+      only.2 image one ∙ sym (only.2 other same)
+
+  -- ---- folds
+
+  pub final : (folded : Folded) → IsFoldOfLog roster log folded → IsFinalPage roster log folded.page folded.version folded.image
+  final folded f = record {
+    facts = f.facts;
+    part = f.part;
+    p = f.p;
+    position = f.position;
+    settled = let e : folded.version ≡ f.p.anchor = f.fold.version_is in omega arith;
+    shown = subst (λ v. IsPageAt f.facts f.p.epoch folded.page v folded.image) (sym f.fold.version_is) f.fold.image_is;
+  }
+
+  pub fold_of_log : (facts : List Fact) (p : Position) (page : ℕ) (folded : Folded) → IsPart facts log → IsPosition roster facts p
+      → IsFoldOf facts p page folded → IsFoldOfLog roster log folded
+  fold_of_log facts p page folded part at f = record {
+    facts = facts;
+    p = p;
+    part = part;
+    position = at;
+    fold = subst (λ n. IsFoldOf facts p n folded) (sym f.page_is) f;
+  }
+
+  pub keeps_still : (old new : State) (trail : List Entry) → (k : IsKept roster log old trail) → Means roster log k.facts new → IsKept roster log new trail
+  keeps_still old new trail k means = record { facts = k.facts; means = means; has = k.has }
+
+  pub refuses_fold : (F : List Fact) (p : Position) (s : State) (folded : Folded) (fault : CommitFault) → IsSound roster log → MeansAt roster log F p s
+      → RefusesCommit s folded fault → RefusesFold roster log folded fault
+  refuses_fold F p s folded (Ahead version anchor) sound means r =
+      let l = log_of_sound roster log sound in (
+        r.0,
+        r.1,
+        record { facts = F; p = p; part = means.part; position = means.position; anchor = (anchor_law log F p s anchor l means r.2).1 },
+      )
+  refuses_fold F p s folded Memory sound means r = tt

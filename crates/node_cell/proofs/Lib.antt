@@ -1,0 +1,5 @@
+pub mod Places
+pub mod Standing
+mod Keeping
+mod Uncovering
+mod Gossiped

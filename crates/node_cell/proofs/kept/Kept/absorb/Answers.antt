@@ -1,0 +1,76 @@
+use Rattle.std.proofs.Common.{◌++◌, subst, sym, ap}
+use Rattle.segment_state.specs.Means.{MeansAt}
+use Rattle.gossip_core.specs.Absorbing.{MeansBoth}
+use Rattle.node_cell.specs.Kept.{IsKept}
+use Rattle.node_cell.specs.Gossiping.{RefusesMail}
+use Rattle.node_cell.proofs.Keeping.{log_front}
+use Rattle.node_cell.proofs.Gossiped.{both_meant, keeps_both, front_with_mail, refuses_mail}
+use Rattle.node_cell.proofs.kept.Kept.absorb.Goals as goal
+
+pub new-requires : goal.new-requires
+new-requires g c =
+    let roster = g.L.LogName.roster in
+    let log = g.L.LogName.log in
+    let sound = g.met.L.LogName.sound in
+    let trail = c.self.inside.trail.items in
+    let old = c.segment_mut-segment.result.now in
+    let new = c.absorb-absorbed.new.segment in
+    let k : IsKept roster log old trail = subst (λ s. IsKept roster log s trail) (sym c.segment_mut-segment.ensures.lent) c.self.invariant in
+    let own = c.summary.ensures.own in
+    let m = both_meant roster log old new trail c.args.mail c.summary.result.now c.delta.result.now sound k own c.summary.ensures.value
+    c.delta.ensures.value c.in_default.ensures.means in
+    let both = k.facts ++ own.facts in
+    log_front roster log both new c.front-front.result sound m
+    (c.front-front.ensures.front roster log both m.0 sound (subst (MeansAt roster log both m.0) (sym c.segment.ensures) m.1))
+
+pub invariant_of-self-2 : goal.invariant_of-self-2
+invariant_of-self-2 g c =
+    let roster = g.L.LogName.roster in
+    let log = g.L.LogName.log in
+    let sound = g.met.L.LogName.sound in
+    let trail = c.self.inside.trail.items in
+    let old = c.segment_mut-segment.result.now in
+    let new = c.absorb-absorbed.new.segment in
+    let k : IsKept roster log old trail = subst (λ s. IsKept roster log s trail) (sym c.segment_mut-segment.ensures.lent) c.self.invariant in
+    let own = c.summary.ensures.own in
+    let m = both_meant roster log old new trail c.args.mail c.summary.result.now c.delta.result.now sound k own c.summary.ensures.value
+    c.delta.ensures.value c.in_default.ensures.means in
+    keeps_both roster log old new trail own.facts k m
+
+pub returns-clause-keeps : goal.returns-clause-keeps
+returns-clause-keeps g c = invariant_of-self-2 g c
+
+pub returns-clause-meaning : goal.returns-clause-meaning
+returns-clause-meaning g c =
+    let new = c.absorb-absorbed.new.segment in
+    subst (λ s. MeansBoth s c.args.mail.summary c.args.mail.delta new) (ap (λ k. k.segment) c.self.view_is)
+    (subst (λ s. MeansBoth s c.args.mail.summary c.args.mail.delta new) c.segment_mut-segment.ensures.lent
+    (subst (λ x. MeansBoth c.segment_mut-segment.result.now x c.args.mail.delta new) c.summary.ensures.value
+    (subst (λ d. MeansBoth c.segment_mut-segment.result.now c.summary.result.now d new) c.delta.ensures.value c.in_default.ensures.means)))
+
+pub returns-clause-front : goal.returns-clause-front
+returns-clause-front g c =
+    let roster = g.L.LogName.roster in
+    let log = g.L.LogName.log in
+    let sound = g.met.L.LogName.sound in
+    let trail = c.self.inside.trail.items in
+    let old = c.segment_mut-segment.result.now in
+    let new = c.absorb-absorbed.new.segment in
+    let k : IsKept roster log old trail = subst (λ s. IsKept roster log s trail) (sym c.segment_mut-segment.ensures.lent) c.self.invariant in
+    let own = c.summary.ensures.own in
+    let m = both_meant roster log old new trail c.args.mail c.summary.result.now c.delta.result.now sound k own c.summary.ensures.value
+    c.delta.ensures.value c.in_default.ensures.means in
+    let both = k.facts ++ own.facts in
+    front_with_mail roster log new c.args.mail k.facts c.front-front.result c.new.result own m
+    (c.front-front.ensures.front roster log both m.0 sound (subst (MeansAt roster log both m.0) (sym c.segment.ensures) m.1)) c.new.ensures
+
+pub returns-in-Err-clause-refused : goal.returns-in-Err-clause-refused
+returns-in-Err-clause-refused g c =
+    let roster = g.L.LogName.roster in
+    let log = g.L.LogName.log in
+    let trail = c.self.inside.trail.items in
+    let old = c.segment_mut-segment.result.now in
+    let k : IsKept roster log old trail = subst (λ s. IsKept roster log s trail) (sym c.segment_mut-segment.ensures.lent) c.self.invariant in
+    subst (λ f. RefusesMail roster log c.args.mail f) (sym c.absorb_fault.ensures)
+    (refuses_mail roster log old trail c.args.mail c.summary.result.now c.delta.result.now c.in-Err.why g.met.L.LogName.sound k
+    c.summary.ensures.value c.in-Err.ensures.refused)

@@ -1,0 +1,63 @@
+use Rattle.std.proofs.Common.{rules, ◌≡◌, ◌++◌, ◌∷◌, [], subst, sym, ap}
+use Rattle.segment_state.specs.Means.{MeansAt}
+use Rattle.node_cell.specs.Kept.{IsKept}
+use Rattle.node_cell.specs.Delivering.{IsFrontWith}
+use Rattle.node_cell.proofs.Places.{in_log}
+use Rattle.node_cell.proofs.Keeping.{keeps, front_with, log_front}
+use Rattle.node_cell.proofs.kept.Kept.put.Goals as goal
+
+pub new-requires : goal.new-requires
+new-requires g c =
+    let roster = g.L.LogName.roster in
+    let log = g.L.LogName.log in
+    let sound = g.met.L.LogName.sound in
+    let k = c.self.invariant in
+    let f = c.into_fact.result in
+    let m = c.in-Ok.ensures.takes.means roster log k.facts sound (in_log log c.args.fact.place f c.into_fact.ensures.stands) k.means in
+    log_front roster log (k.facts ++ f ∷ []) c.take.new.self.segment c.front-front.result sound m
+    (c.front-front.ensures.front roster log (k.facts ++ f ∷ []) m.0 sound (subst (MeansAt roster log (k.facts ++ f ∷ []) m.0) (sym c.segment.ensures) m.1))
+
+pub invariant_of-self-in-Ok : goal.invariant_of-self-in-Ok
+invariant_of-self-in-Ok g c =
+    let roster = g.L.LogName.roster in
+    let log = g.L.LogName.log in
+    let sound = g.met.L.LogName.sound in
+    let k = c.self.invariant in
+    let f = c.into_fact.result in
+    let at = c.into_fact.ensures.stands in
+    let m = c.in-Ok.ensures.takes.means roster log k.facts sound (in_log log c.args.fact.place f at) k.means in
+    let items : c.push_reserved.new.self.items ≡ c.self.inside.trail.items ++ (c.args.number, c.args.fact.place) ∷ [] = search rules in
+    subst (IsKept roster log c.take.new.self.segment) (sym items)
+    (keeps roster log c.self.inside.segment.segment c.take.new.self.segment c.self.inside.trail.items c.args.number c.args.fact.place f k at m)
+
+pub returns-in-Ok-clause-keeps : goal.returns-in-Ok-clause-keeps
+returns-in-Ok-clause-keeps g c = invariant_of-self-in-Ok g c
+
+pub returns-in-Ok-clause-front : goal.returns-in-Ok-clause-front
+returns-in-Ok-clause-front g c =
+    let roster = g.L.LogName.roster in
+    let log = g.L.LogName.log in
+    let sound = g.met.L.LogName.sound in
+    let k = c.self.invariant in
+    let f = c.into_fact.result in
+    let at = c.into_fact.ensures.stands in
+    let m = c.in-Ok.ensures.takes.means roster log k.facts sound (in_log log c.args.fact.place f at) k.means in
+    let is = c.front-front.ensures.front roster log (k.facts ++ f ∷ []) m.0 sound
+    (subst (MeansAt roster log (k.facts ++ f ∷ []) m.0) (sym c.segment.ensures) m.1) in
+    subst (λ t. IsFrontWith roster log t c.args.fact.place c.new.result) (ap (λ k. k.trail) c.self.view_is)
+    (front_with roster log c.self.inside.segment.segment c.take.new.self.segment c.self.inside.trail.items c.args.fact.place f c.front-front.result
+    c.new.result k at m is c.new.ensures)
+
+pub unreachable-requires : goal.unreachable-requires
+unreachable-requires g c =
+    let roster = g.L.LogName.roster in
+    let log = g.L.LogName.log in
+    let k = c.self.invariant in
+    c.in_default.not-Memory (c.in-Err.ensures.sound (
+      roster,
+      log,
+      k.facts,
+      g.met.L.LogName.sound,
+      in_log log c.args.fact.place c.into_fact.result c.into_fact.ensures.stands,
+      k.means,
+    ))

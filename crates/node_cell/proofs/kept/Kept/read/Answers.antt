@@ -1,0 +1,39 @@
+use Rattle.std.proofs.Common.{sym, refl, ap, subst, Result, Ok}
+use Rattle.segment_core.specs.declared.answers.ReadFault.{ReadFault}
+use Rattle.segment_state.specs.Means.{MeansAt}
+use Rattle.node_cell.specs.View.{ViewData}
+use Rattle.node_cell.specs.Reading.{IsViewResult, TellsRead}
+use Rattle.node_cell.proofs.Keeping.{log_page, tells}
+use Rattle.node_cell.proofs.kept.Kept.read.Goals.{in-Ok, in-Err}
+use Rattle.node_cell.proofs.kept.Kept.read.Goals as goal
+
+pub new-requires : goal.new-requires
+new-requires g c =
+    let roster = g.L.LogName.roster in
+    let log = g.L.LogName.log in
+    let sound = g.met.L.LogName.sound in
+    let k = c.self.invariant in
+    let m = k.means.1 in
+    log_page roster log k.facts k.means.0 c.front-epoch.result.epoch c.args.page c.args.point c.in-Ok.image sound m.part m.position
+    (c.front-epoch.ensures.front roster log k.facts k.means.0 sound (subst (MeansAt roster log k.facts k.means.0) (sym c.segment.ensures) m)).epoch
+    (c.in-Ok.ensures.result roster log k.facts k.means.0 sound m)
+
+pub returns-clause-answer : goal.returns-clause-answer
+returns-clause-answer g c =
+    let roster = g.L.LogName.roster in
+    let log = g.L.LogName.log in
+    let sound = g.met.L.LogName.sound in
+    let k = c.self.invariant in
+    let m = k.means.1 in
+    let Tells : Result ViewData ReadFault → Type 0 = λ r. IsViewResult k.facts k.means.0 c.args.page c.args.point r in
+    let answer : Tells c.match-read.result = elim c.match-read.branch [
+      | in-Ok w ↦ subst Tells (sym w.result-is) (subst (λ v. Tells (Ok v)) (sym w.new.ensures) (
+        (c.front-epoch.ensures.front roster log k.facts k.means.0 sound (subst (MeansAt roster log k.facts k.means.0) (sym c.segment.ensures) m)).epoch,
+        refl,
+        refl,
+        w.in-Ok.ensures.result roster log k.facts k.means.0 sound m,
+      ))
+      | in-Err w ↦ subst Tells (sym w.result-is) (w.in-Err.ensures.result roster log k.facts k.means.0 sound m)
+    ] in
+    subst (λ t. TellsRead roster log t c.args.page c.args.point c.match-read.result) (ap (λ k. k.trail) c.self.view_is)
+    (tells roster log c.self.inside.segment.segment c.self.inside.trail.items c.args.page c.args.point c.match-read.result k answer)

@@ -1,0 +1,31 @@
+-- What a delivery answers.
+use Rattle.std.specs.Prelude.{◌≡◌, ℕ, ◌≤◌, ◌<◌, List}
+use Rattle.redo_core.specs.Sets.{IsPart}
+use Rattle.redo_core.specs.Position.{Position, IsPosition}
+use Rattle.redo_core.specs.declared.facts.Fact.{Fact}
+use Rattle.front_board.specs.FrontWord.{FrontData}
+use Rattle.node_cell.specs.Kept.{HasPlace, HasPlaces}
+use Rattle.node_cell.specs.declared.answers.DeliverFault.{DeliverFault}
+use Rattle.node_cell.specs.declared.answers.DeliverFault.TheVariants.{TrailFull, Memory}
+
+-- the complete epoch and the complete point of one part of the log, which has the fact at the place, and those of these earlier
+-- entries or receipts
+pub record IsFrontWith (roster : ℕ) (log : List Fact) (earlier : List (ℕ × ℕ)) (place : ℕ) (front : FrontData) : Type 0 where
+  pub facts : List Fact
+  pub p : Position
+  pub part : IsPart facts log
+  pub position : IsPosition roster facts p
+  pub has : HasPlace log facts place
+  pub had : HasPlaces log facts earlier
+  pub epoch : front.epoch ≡ p.epoch
+  pub number : front.number ≡ p.complete
+
+-- why a fact does not come into a trail of so many entries: it is full, or else memory is wanting
+abbrev pub RefusesPut : ℕ → ℕ → DeliverFault → Type 0
+RefusesPut capacity count (TrailFull shown) = (shown ≡ capacity) × (capacity ≤ count)
+RefusesPut capacity count Memory = count < capacity
+
+-- why a delivery is refused: the trail is full, or memory is wanting
+abbrev pub RefusesDelivery : ℕ → DeliverFault → Type 0
+RefusesDelivery capacity (TrailFull shown) = shown ≡ capacity
+RefusesDelivery capacity Memory = Unit {0}

@@ -1,0 +1,30 @@
+-- Folds of a log's pages.
+use Rattle.std.specs.Prelude.{◌≡◌, ℕ, ◌<◌, List}
+use Rattle.redo_core.specs.Sets.{IsPart}
+use Rattle.redo_core.specs.Position.{Position, IsPosition}
+use Rattle.redo_core.specs.declared.facts.Fact.{Fact}
+use Rattle.segment_core.specs.Folding.{IsFoldOf}
+use Rattle.segment_core.specs.declared.fold_plan.Folded.{Folded}
+use Rattle.segment_core.specs.declared.fold_plan.CommitFault.{CommitFault}
+use Rattle.segment_core.specs.declared.fold_plan.CommitFault.TheVariants.{Ahead, Memory}
+
+-- the page of a part of the log at the part's anchor
+pub record IsFoldOfLog (roster : ℕ) (log : List Fact) (folded : Folded) : Type 0 where
+  pub facts : List Fact
+  pub p : Position
+  pub part : IsPart facts log
+  pub position : IsPosition roster facts p
+  pub fold : IsFoldOf facts p folded.page folded
+
+-- n is the anchor of a part of the log
+pub record IsAnchorOfPart (roster : ℕ) (log : List Fact) (n : ℕ) : Type 0 where
+  pub facts : List Fact
+  pub p : Position
+  pub part : IsPart facts log
+  pub position : IsPosition roster facts p
+  pub anchor : n ≡ p.anchor
+
+-- why a fold is not committed: its version is above the anchor of what the segment means, or memory is wanting
+abbrev pub RefusesFold : ℕ → List Fact → Folded → CommitFault → Type 0
+RefusesFold roster log folded (Ahead version anchor) = (version ≡ folded.version) × (anchor < version) × IsAnchorOfPart roster log anchor
+RefusesFold roster log folded Memory = Unit {0}

@@ -1,0 +1,10 @@
+pub mod Kept
+pub mod Receipt
+pub mod View
+pub mod Node
+pub mod Reading
+pub mod Delivering
+pub mod Settling
+pub mod Folding
+pub mod Gossiping
+pub mod Laws

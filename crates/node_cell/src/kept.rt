@@ -1,0 +1,297 @@
+ghost use Rattle.std.specs.Prelude.{◌≡◌, ◌≢◌, ◌≤◌, ◌<◌, ◌⊎◌, ◌↔◌, ◌+◌, ◌++◌, ◌∷◌, [], length, IfOk, IfErr, OnErr, OnOk, Some, None};
+ghost use Rattle.node_cell.specs.Kept.{IsKept, KeepsParts};
+ghost use Rattle.node_cell.specs.Reading.{TellsRead, TellsReadAfter};
+ghost use Rattle.node_cell.specs.Delivering.{IsFrontWith, RefusesPut};
+ghost use Rattle.node_cell.specs.Folding.{IsFoldOfLog, RefusesFold};
+ghost use Rattle.node_cell.specs.Gossiping.{IsSummaryOfLog, IsMail, IsFrontWithMail, RefusesMail, fault_of};
+ghost use Rattle.gossip_core.specs.Absorbing.{MeansBoth};
+ghost use Rattle.node_cell.specs.Settling.{Stands, IsStranger, found_at};
+
+use crate::answers::{AbsorbFault, DeliverFault, ReadAfterFault, Stranger};
+use crate::folds::{FoldPlan, Folded};
+use crate::mail::Mail;
+use crate::receipts::Receipt;
+use crate::views::View;
+use front_board::LogFront;
+use gossip_core::AbsorbRefusal;
+use named_log::{LogFact, LogName};
+use node_lock::Trailed;
+use read_cache::CachedSegment;
+use redo_core::Refused;
+use redo_laws::one_meaning;
+use redo_wire::Summary;
+use segment_core::{CommitFault, ReadFault, Refusal, Segment};
+use std::alloc::{AllocError, Global};
+use std::marker::{Model, PhantomData};
+
+/// How many page images a node keeps of what it last read.
+const CACHED_IMAGES: usize = 64;
+
+/// A segment with a cache, and the trail: of each acknowledged fact the number of the pass that brought it, and its place in the log.
+/// The segment means a part of the log that has every fact of the trail.
+#[derive(Drop)]
+pub struct Kept<L: LogName> {
+    segment: CachedSegment,
+    trail: Vec<(u64, u64)>,
+    of: PhantomData<L>,
+}
+
+impl<L: LogName> Model for Kept<L> {
+    ghost use Rattle.node_cell.specs.Kept.{KeptData, IsKept};
+
+    ghost Value = { KeptData };
+
+    ghost view = { λ k. record { segment = k.segment.segment; trail = k.trail.items } };
+
+    ghost invariant = { λ k. IsKept L.roster L.log k.segment.segment k.trail.items };
+}
+
+impl<L: LogName> Trailed for Kept<L> {
+    ghost use Rattle.node_cell.specs.Kept.{IsKept, KeepsParts};
+
+    ghost trail = { λ k. k.trail };
+
+    ghost keeps = { λ k. IsKept L.roster L.log k.segment k.trail };
+}
+
+impl<L: LogName> Kept<L> {
+    /// No fact, and an empty trail. Its only error is want of memory.
+    pub(crate) fn new(alloc: Global) -> Result<Self, AllocError>
+        ensures trail { IfOk result (λ k. k.trail ≡ []) }
+        ensures keeps { IfOk result (λ k. IsKept L.roster L.log k.segment k.trail) }
+    {
+        let segment = Segment::new(alloc, L::roster())?;
+        match CachedSegment::new(segment, CACHED_IMAGES) {
+            Ok(segment) => Ok(Kept {
+                segment,
+                trail: Vec::new(alloc),
+                of: PhantomData,
+            }),
+            Err(refused) => Err(refused.fault),
+        }
+    }
+
+    /// Takes a fact, and notes it in the trail under the number of a pass. The answer is the place there, from 1, and the front
+    /// with the fact.
+    pub(crate) fn put(
+        &mut self,
+        number: u64,
+        capacity: u64,
+        fact: LogFact<L>,
+    ) -> Result<(u64, LogFront<L>), Refused<LogFact<L>, DeliverFault>>
+        ensures trail { IfOk result (λ t. (self.new.trail ≡ self.old.trail ++ (number, fact.place) ∷ []) × (t.0 ≡ length self.new.trail)) }
+        ensures front { IfOk result (λ t. IsFrontWith L.roster L.log self.old.trail fact.place t.1) }
+        ensures keeps { IsKept L.roster L.log self.new.segment self.new.trail }
+        ensures refused { IfErr result (λ e. RefusesPut capacity (length self.old.trail) e.fault) }
+        ensures back { IfErr result (λ e. e.value ≡ fact) }
+        ensures unchanged { OnErr result (self.new ≡ self.old) }
+    {
+        if self.trail.len() as u64 >= capacity {
+            return Err(Refused {
+                value: fact,
+                fault: DeliverFault::TrailFull { capacity },
+            });
+        }
+        if self.trail.reserve(1).is_err() {
+            return Err(Refused {
+                value: fact,
+                fault: DeliverFault::Memory,
+            });
+        }
+        let place = fact.place();
+        match self.segment.take(fact.into_fact()) {
+            Ok(_) => {
+                self.trail.push_reserved((number, place));
+                let front = self.segment.segment().front();
+                Ok((
+                    self.trail.len() as u64,
+                    LogFront::new(front.epoch, front.complete),
+                ))
+            }
+            Err(refused) => {
+                let Refusal::Memory = refused.fault else {
+                    unreachable!()
+                };
+                Err(Refused {
+                    value: LogFact::new(place, refused.value),
+                    fault: DeliverFault::Memory,
+                })
+            }
+        }
+    }
+
+    /// The page at a read point.
+    pub(crate) fn read(&mut self, page: u16, point: u64) -> Result<View<L>, ReadFault>
+        ensures answer { TellsRead L.roster L.log self.old.trail page point result }
+        ensures keeps { IsKept L.roster L.log self.new.segment self.new.trail }
+        ensures same { self.new ≡ self.old }
+    {
+        let epoch = self.segment.segment().front().epoch;
+        match self.segment.read(page, point) {
+            Ok(image) => Ok(View::new(epoch, page, point, image)),
+            Err(fault) => Err(fault),
+        }
+    }
+
+    /// The page at a read point, where the fact of a receipt stands at its place in the trail.
+    pub(crate) fn read_after(
+        &mut self,
+        receipt: &Receipt<L>,
+        page: u16,
+        point: u64,
+    ) -> Result<View<L>, ReadAfterFault>
+        ensures answer { TellsReadAfter L.roster L.log receipt.now page point result }
+        ensures keeps { IsKept L.roster L.log self.new.segment self.new.trail }
+        ensures same { self.new ≡ self.old }
+    {
+        if let Err(stranger) = self.seek(receipt) {
+            return Err(ReadAfterFault::Stranger(stranger));
+        }
+        match self.read(page, point) {
+            Ok(view) => Ok(view),
+            Err(fault) => Err(ReadAfterFault::Read(fault)),
+        }
+    }
+
+    /// A plan to fold a page to the anchor.
+    pub(crate) fn fold_plan(&self, page: u16) -> Result<FoldPlan<L>, AllocError>
+        ensures page { IfOk result (λ plan. plan.page ≡ page) }
+        ensures fold { IfOk result (λ plan. IsFoldOfLog L.roster L.log plan) }
+        ensures keeps { IsKept L.roster L.log self.now.segment self.now.trail }
+    {
+        match self.segment.segment().plan_fold(page) {
+            Ok(plan) => Ok(FoldPlan::new(plan)),
+            Err(_) => Err(AllocError),
+        }
+    }
+
+    /// Takes a fold of the log as its page's base image.
+    pub(crate) fn commit(
+        &mut self,
+        folded: Folded<L>,
+    ) -> Result<(), Refused<Folded<L>, CommitFault>>
+        ensures trail { self.new.trail ≡ self.old.trail }
+        ensures keeps { IsKept L.roster L.log self.new.segment self.new.trail }
+        ensures meaning { OnOk result (KeepsParts L.roster L.log self.old.segment self.new.segment) }
+        ensures refused { IfErr result (λ e. RefusesFold L.roster L.log folded e.fault) }
+        ensures back { IfErr result (λ e. e.value ≡ folded) }
+        ensures unchanged { OnErr result (self.new ≡ self.old) }
+    {
+        match self.segment.commit_fold(folded.into_segment_fold()) {
+            Ok(()) => Ok(()),
+            Err(refused) => Err(Refused {
+                value: Folded::new(refused.value),
+                fault: refused.fault,
+            }),
+        }
+    }
+
+    /// Forgets what is folded up to the anchor.
+    pub(crate) fn discard(&mut self)
+        ensures meaning { KeepsParts L.roster L.log self.old.segment self.new.segment }
+        ensures trail { self.new.trail ≡ self.old.trail }
+        ensures keeps { IsKept L.roster L.log self.new.segment self.new.trail }
+    {
+        self.segment.discard();
+    }
+
+    /// What the segment tells of itself. Its only error is want of memory.
+    pub(crate) fn summary(&self) -> Result<Summary, AllocError>
+        ensures told { IfOk result (IsSummaryOfLog L.roster L.log) }
+        ensures keeps { IsKept L.roster L.log self.now.segment self.now.trail }
+    {
+        one_meaning();
+        gossip_core::summary(self.segment.segment())
+    }
+
+    /// What the segment has beyond a summary, as mail.
+    pub(crate) fn reply(&self, summary: Summary) -> Result<Mail<L>, Refused<Summary, AllocError>>
+        ensures summary { IfOk result (λ mail. mail.summary ≡ summary) }
+        ensures mail { IfOk result (IsMail L.roster L.log) }
+        ensures back { IfErr result (λ e. e.value ≡ summary) }
+        ensures keeps { IsKept L.roster L.log self.now.segment self.now.trail }
+    {
+        match gossip_core::reply(self.segment.segment(), &summary) {
+            Ok(delta) => Ok(Mail::new(summary, delta)),
+            Err(_) => Err(Refused {
+                value: summary,
+                fault: AllocError,
+            }),
+        }
+    }
+
+    /// Brings in what mail has, where the segment answers for its summary. The answer is the front with all of that.
+    pub(crate) fn absorb(
+        &mut self,
+        mail: Mail<L>,
+    ) -> Result<LogFront<L>, Refused<Mail<L>, AbsorbFault>>
+        ensures trail { self.new.trail ≡ self.old.trail }
+        ensures keeps { IsKept L.roster L.log self.new.segment self.new.trail }
+        ensures meaning { OnOk result (MeansBoth self.old.segment mail.summary mail.delta self.new.segment) }
+        ensures front { IfOk result (IsFrontWithMail L.roster L.log mail) }
+        ensures refused { IfErr result (λ e. RefusesMail L.roster L.log mail e.fault) }
+        ensures back { IfErr result (λ e. e.value ≡ mail) }
+        ensures unchanged { OnErr result (self.new ≡ self.old) }
+    {
+        let segment = self.segment.segment_mut();
+        let absorbed = gossip_core::absorb(segment, mail.summary(), mail.delta());
+        if let Err(why) = absorbed {
+            return Err(Refused {
+                value: mail,
+                fault: absorb_fault(why),
+            });
+        }
+        let front = self.segment.segment().front();
+        Ok(LogFront::new(front.epoch, front.complete))
+    }
+
+    pub(crate) fn segment(&self) -> &Segment
+        ensures value { result.now ≡ self.now.segment }
+        ensures keeps { IsKept L.roster L.log result.now self.now.trail }
+    {
+        self.segment.segment()
+    }
+
+    pub(crate) fn trail(&self) -> &[(u64, u64)]
+        ensures { result.now ≡ self.now.trail }
+    {
+        self.trail.as_slice()
+    }
+
+    /// Whether the fact of a receipt stands at its place in the trail; else what stands there.
+    pub(crate) fn seek(&self, receipt: &Receipt<L>) -> Result<(), Stranger>
+        ensures ok { OnOk result (Stands self.now.trail receipt.now) }
+        ensures err { IfErr result (λ e. IsStranger self.now.trail receipt.now e.found) }
+        ensures keeps { IsKept L.roster L.log self.now.segment self.now.trail }
+    {
+        let found = log_place_at(self.trail.as_slice(), receipt.place());
+        if found == Some(receipt.log_place()) {
+            Ok(())
+        } else {
+            Err(Stranger { found })
+        }
+    }
+}
+
+// Mail of the log is refused for no other cause.
+fn absorb_fault(why: AbsorbRefusal) -> AbsorbFault
+    ensures { result ≡ fault_of why }
+{
+    match why {
+        AbsorbRefusal::Uncovered { shown } => AbsorbFault::Uncovered { shown },
+        AbsorbRefusal::Refused(_) => AbsorbFault::Memory,
+    }
+}
+
+// The place in the log of the entry at a place of the trail, from 1.
+fn log_place_at(trail: &[(u64, u64)], place: u64) -> Option<u64>
+    ensures { result ≡ found_at trail.now place }
+{
+    if place == 0 {
+        return None;
+    }
+    match trail.get((place - 1) as usize) {
+        Some(entry) => Some(entry.1),
+        None => None,
+    }
+}
