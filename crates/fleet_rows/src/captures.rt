@@ -6,7 +6,7 @@ use std::alloc::Global;
 use std::test::Fail;
 
 /// Whether that is what is told of the capture.
-fn tells(alloc: Global, input: &str, output: &str) -> bool {
+pub fn tells(alloc: Global, input: &str, output: &str) -> bool {
     answers(alloc, Task::Inspect, input, output, Verdict::Done)
 }
 

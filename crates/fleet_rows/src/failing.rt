@@ -1,7 +1,8 @@
 //! A reader and a writer that fail at call j, for every j until a run ends well.
 
 use crate::fail_at::{FailingReader, FailingWriter};
-use fleet_tool::{RunFault, Verdict, Watched, check_text, inspect_text, run_text};
+use fleet_tool::{RunFault, Task, Verdict, Watched, check_text, inspect_text, run_text};
+use std::alloc::Global;
 use std::test::Fail;
 
 const SCRIPT: &str =
@@ -9,125 +10,111 @@ const SCRIPT: &str =
 
 const ANSWER: &str = "changed\nfront 0 0 0\n";
 
+/// Two nodes that exchange messages.
+const GOSSIP: &str =
+    "rec 0 3 0 7 0 0:6161\ngo\nnodes 2\ntake 2 1\nask 1\nanswer 2 1\nabsorb 1 2\nabsorb 1 1\n";
+
+const GOSSIPED: &str = "changed\nmessage 1\nmessage 2\nabsorbed\nno message 1\n";
+
 const CAPTURE: &str = "030000000000000005\n\nzz\n020001000000000005000000000014";
 
 const TOLD: &str = "min 0 5\nwire 1\nbad hex\ncut 1 5 20\n";
 
-#[test]
-fn failing_reader(rt: HostRuntime) -> Result<(), Fail> {
-    for at in 1..100u64 {
-        let mut reader = Watched::new(FailingReader {
-            bytes: SCRIPT.as_bytes(),
-            step: 7,
-            at,
-            calls: 0,
-        });
-        let mut writer = Watched::new(Vec::new(rt.alloc()));
-        let result = run_text(rt.alloc(), &mut reader, &mut writer);
-        let failed = reader.has_failed();
-        let written = writer.into_inner();
-        if result == Ok(Verdict::Done) {
-            assert!(rt; written.as_slice() == ANSWER.as_bytes());
-            assert!(rt; !failed && at > 10);
-            return Ok(());
-        }
-        assert!(rt; result == Err(RunFault::Input) && failed, "at {at}");
-        assert!(rt; written.is_empty(), "at {at}");
-    }
-    assert!(rt; false, "never well");
-    Ok(())
+/// A task, an input, what is answered, and the calls of the reader and of the writer that this takes.
+type Case = (Task, &'static str, &'static str, u64, u64);
+
+/// Reads of up to 7 bytes, the last of which finds none; writes of up to 3 bytes, and one flush.
+const CASES: [Case; 4] = [
+    (Task::Run, SCRIPT, ANSWER, 15, 8),
+    (Task::Run, GOSSIP, GOSSIPED, 13, 18),
+    (Task::Check, "min 0 5\n", "sound 1\n", 3, 4),
+    (Task::Inspect, CAPTURE, TOLD, 9, 13),
+];
+
+/// How a run ended, which devices failed, and what was written.
+#[derive(Drop)]
+struct Seen {
+    ended: Result<Verdict, RunFault>,
+    is_read: bool,
+    is_written: bool,
+    written: Vec<u8>,
 }
 
-#[test]
-fn failing_writer(rt: HostRuntime) -> Result<(), Fail> {
-    for at in 1..100u64 {
-        let mut reader = Watched::new(SCRIPT.as_bytes());
-        let mut writer = Watched::new(FailingWriter {
-            bytes: Vec::new(rt.alloc()),
-            step: 3,
-            at,
-            calls: 0,
-        });
-        let result = run_text(rt.alloc(), &mut reader, &mut writer);
-        let failed = writer.has_failed();
-        let written = writer.into_inner().bytes;
-        if result == Ok(Verdict::Done) {
-            // Seven writes and one flush, and no call more.
-            assert!(rt; written.as_slice() == ANSWER.as_bytes());
-            assert!(rt; !failed && at == 9);
-            return Ok(());
-        }
-        assert!(rt; result == Err(RunFault::Output) && failed, "at {at}");
-        assert!(rt;
-            ANSWER.as_bytes().starts_with(written.as_slice()),
-            "at {at}"
-        );
-    }
-    assert!(rt; false, "never well");
-    Ok(())
-}
-
-#[test]
-fn failing_check(rt: HostRuntime) -> Result<(), Fail> {
+/// A run whose reader fails at one call, and whose writer at another; none fails at call 0.
+fn failing_run(alloc: Global, task: Task, input: &str, reading: u64, writing: u64) -> Seen {
     let mut reader = Watched::new(FailingReader {
-        bytes: "min 0 5\n".as_bytes(),
-        step: 3,
-        at: 2,
+        bytes: input.as_bytes(),
+        step: 7,
+        at: reading,
         calls: 0,
     });
-    let mut writer = Watched::new(Vec::new(rt.alloc()));
-    assert!(rt; check_text(rt.alloc(), &mut reader, &mut writer) == Err(RunFault::Input));
-    assert!(rt; writer.into_inner().is_empty());
+    let mut writer = Watched::new(FailingWriter {
+        bytes: Vec::new(alloc),
+        step: 3,
+        at: writing,
+        calls: 0,
+    });
+    let ended = match task {
+        Task::Run => run_text(alloc, &mut reader, &mut writer),
+        Task::Check => check_text(alloc, &mut reader, &mut writer),
+        Task::Inspect => inspect_text(alloc, &mut reader, &mut writer).map(|()| Verdict::Done),
+    };
+    Seen {
+        ended,
+        is_read: !reader.has_failed(),
+        is_written: !writer.has_failed(),
+        written: writer.into_inner().bytes,
+    }
+}
+
+/// Whether the whole answer was written, and no device failed.
+fn is_well(seen: &Seen, answer: &str) -> bool {
+    seen.ended == Ok(Verdict::Done)
+        && seen.is_read
+        && seen.is_written
+        && seen.written.as_slice() == answer.as_bytes()
+}
+
+/// Whether the run ended for its reader, and wrote nothing.
+fn lacks_input(seen: &Seen) -> bool {
+    seen.ended == Err(RunFault::Input)
+        && !seen.is_read
+        && seen.is_written
+        && seen.written.is_empty()
+}
+
+/// Whether the run ended for its writer, and wrote a beginning of the answer.
+fn lacks_output(seen: &Seen, answer: &str) -> bool {
+    seen.ended == Err(RunFault::Output)
+        && seen.is_read
+        && !seen.is_written
+        && answer.as_bytes().starts_with(seen.written.as_slice())
+}
+
+#[test]
+fn failing_readers(rt: HostRuntime) -> Result<(), Fail> {
+    for (task, input, answer, calls, _) in CASES {
+        let enough = calls.saturating_add(1);
+        for at in 1..enough {
+            let lost = failing_run(rt.alloc(), task, input, at, 0);
+            assert!(rt; lacks_input(&lost), "at {at} of {input}");
+        }
+        let all = failing_run(rt.alloc(), task, input, enough, 0);
+        assert!(rt; is_well(&all, answer), "of {input}");
+    }
     Ok(())
 }
 
 #[test]
-fn failing_reader_of_a_capture(rt: HostRuntime) -> Result<(), Fail> {
-    for at in 1..100u64 {
-        let mut reader = Watched::new(FailingReader {
-            bytes: CAPTURE.as_bytes(),
-            step: 7,
-            at,
-            calls: 0,
-        });
-        let mut writer = Watched::new(Vec::new(rt.alloc()));
-        let result = inspect_text(rt.alloc(), &mut reader, &mut writer);
-        let failed = reader.has_failed();
-        let written = writer.into_inner();
-        if result == Ok(()) {
-            assert!(rt; written.as_slice() == TOLD.as_bytes());
-            assert!(rt; !failed && at > 7);
-            return Ok(());
+fn failing_writers(rt: HostRuntime) -> Result<(), Fail> {
+    for (task, input, answer, _, calls) in CASES {
+        let enough = calls.saturating_add(1);
+        for at in 1..enough {
+            let lost = failing_run(rt.alloc(), task, input, 0, at);
+            assert!(rt; lacks_output(&lost, answer), "at {at} of {input}");
         }
-        assert!(rt; result == Err(RunFault::Input) && failed, "at {at}");
-        assert!(rt; written.is_empty(), "at {at}");
+        let all = failing_run(rt.alloc(), task, input, 0, enough);
+        assert!(rt; is_well(&all, answer), "of {input}");
     }
-    assert!(rt; false, "never well");
-    Ok(())
-}
-
-#[test]
-fn failing_writer_of_a_capture(rt: HostRuntime) -> Result<(), Fail> {
-    for at in 1..100u64 {
-        let mut reader = Watched::new(CAPTURE.as_bytes());
-        let mut writer = Watched::new(FailingWriter {
-            bytes: Vec::new(rt.alloc()),
-            step: 3,
-            at,
-            calls: 0,
-        });
-        let result = inspect_text(rt.alloc(), &mut reader, &mut writer);
-        let failed = writer.has_failed();
-        let written = writer.into_inner().bytes;
-        if result == Ok(()) {
-            // Twelve writes and one flush, and no call more.
-            assert!(rt; written.as_slice() == TOLD.as_bytes());
-            assert!(rt; !failed && at == 14);
-            return Ok(());
-        }
-        assert!(rt; result == Err(RunFault::Output) && failed, "at {at}");
-        assert!(rt; TOLD.as_bytes().starts_with(written.as_slice()), "at {at}");
-    }
-    assert!(rt; false, "never well");
     Ok(())
 }

@@ -5,9 +5,15 @@
 #[cfg(test)]
 mod captures;
 #[cfg(test)]
+mod deltas;
+#[cfg(test)]
+mod exchanges;
+#[cfg(test)]
 mod fail_at;
 #[cfg(test)]
 mod failing;
+#[cfg(test)]
+mod gossip;
 #[cfg(test)]
 mod plain_nodes;
 #[cfg(test)]

@@ -1,8 +1,10 @@
-//! Random scripts over random sound logs of one to three readers, for fleets of one node and of two to four. Each front, each page
-//! and each comparison that the fleet replies is that of the facts that reached its nodes, computed anew by the plain model.
+//! Random scripts over random sound logs of one to three readers, for fleets of one node, of two to four that join, and of two to
+//! eight that gossip. Each front, each page, each comparison and each message that the fleet replies is that of the facts that
+//! reached its nodes, computed anew by the plain model.
 
 ghost use Rattle.std.specs.Prelude.{◌<◌, ◌≤◌};
 
+use crate::exchanges::Exchanges;
 use crate::plain_nodes::PlainNodes;
 use fleet_core::{Fleet, Reply, Step};
 use log_law::Writer;
@@ -17,15 +19,17 @@ const SCRIPTS: u32 = 150;
 
 const JOINING_SCRIPTS: u32 = 100;
 
+const GOSSIPING_SCRIPTS: u32 = 60;
+
 const DRAWS: u16 = 48;
 
 /// Draws that make a log, and pages that its records write. Each draw has three numbers of its own.
 const FACTS: u16 = 14;
 
-const PAGES: u16 = 3;
+pub const PAGES: u16 = 3;
 
 /// A number below the bound.
-fn draw(rng: &mut Pcg32, bound: u16) -> u16
+pub fn draw(rng: &mut Pcg32, bound: u16) -> u16
     requires { 0 < bound }
     ensures { result < bound }
 {
@@ -117,7 +121,7 @@ fn random_facts(alloc: Global, rng: &mut Pcg32, readers: u8) -> Result<Vec<Fact>
 }
 
 /// A step that names a fact by its place in the log.
-type Asked = Step<usize>;
+pub type Asked = Step<usize>;
 
 fn read(node: u16, page: u16, point: u64) -> Asked {
     Step::Read {
@@ -130,7 +134,7 @@ fn read(node: u16, page: u16, point: u64) -> Asked {
 }
 
 /// A number from 1 on, up to the last node's.
-fn random_node(rng: &mut Pcg32, nodes: u16) -> u16
+pub fn random_node(rng: &mut Pcg32, nodes: u16) -> u16
     requires { 0 < nodes }
     ensures { result ≤ nodes }
 {
@@ -138,7 +142,7 @@ fn random_node(rng: &mut Pcg32, nodes: u16) -> u16
 }
 
 /// A place in a log, or past its end.
-fn random_place(rng: &mut Pcg32) -> usize
+pub fn random_place(rng: &mut Pcg32) -> usize
     ensures { result < 20 }
 {
     usize::from(draw(rng, 20))
@@ -184,7 +188,12 @@ fn push_join(rng: &mut Pcg32, nodes: u16, steps: &mut Vec<Asked>) -> Result<(), 
 }
 
 /// Takes of up to eight facts that follow one another in the log, at one node.
-fn push_takes(rng: &mut Pcg32, nodes: u16, facts: usize, steps: &mut Vec<Asked>) -> Result<(), Fail>
+pub fn push_takes(
+    rng: &mut Pcg32,
+    nodes: u16,
+    facts: usize,
+    steps: &mut Vec<Asked>,
+) -> Result<(), Fail>
     requires { 0 < nodes }
 {
     let node = random_node(rng, nodes);
@@ -219,6 +228,26 @@ fn random_script(
         }
     }
     Ok(steps)
+}
+
+/// A script of nodes that hear of facts, and exchange messages.
+fn gossiping_script(
+    alloc: Global,
+    rng: &mut Pcg32,
+    nodes: u16,
+    facts: usize,
+) -> Result<Vec<Asked>, Fail>
+    requires { 0 < nodes }
+{
+    let mut exchanges = Exchanges::new(alloc);
+    for _ in 0..DRAWS {
+        if draw(rng, 3) == 0 {
+            push_takes(rng, nodes, facts, &mut exchanges.steps)?;
+        } else {
+            exchanges.push(rng, nodes)?;
+        }
+    }
+    Ok(exchanges.steps)
 }
 
 /// Each page of a node at each point.
@@ -265,23 +294,32 @@ fn are_answered(
     steps: &[Asked],
 ) -> Result<bool, Fail> {
     for step in steps {
-        plain.carry_out(log, *step)?;
         let reply = carry_out(fleet, log, *step)?;
         if !plain.is_answer(*step, &reply)? {
             return Ok(false);
         }
+        plain.carry_out(log, *step)?;
     }
     Ok(true)
 }
 
 /// Whether a random script is answered as its facts say, and then all that can be asked of each node.
-fn script_is_answered(alloc: Global, rng: &mut Pcg32, nodes: u16) -> Result<bool, Fail>
+fn script_is_answered(
+    alloc: Global,
+    rng: &mut Pcg32,
+    nodes: u16,
+    gossips: bool,
+) -> Result<bool, Fail>
     requires { 0 < nodes }
 {
     let readers = draw(rng, 3) as u8 + 1;
     let roster = Roster::new(readers)?;
     let log = random_facts(alloc, rng, readers)?;
-    let script = random_script(alloc, rng, nodes, log.len())?;
+    let script = if gossips {
+        gossiping_script(alloc, rng, nodes, log.len())?
+    } else {
+        random_script(alloc, rng, nodes, log.len())?
+    };
     let mut fleet = Fleet::new(alloc, roster, nodes)?;
     let mut plain = PlainNodes::new(alloc, roster, nodes)?;
     if !are_answered(&mut fleet, &mut plain, &log, &script)? {
@@ -301,7 +339,7 @@ fn folds_and_discards_are_not_seen(rt: HostRuntime) -> Result<(), Fail> {
     let mut rng = Pcg32::new(20, 7);
     for script in 0..SCRIPTS {
         assert!(rt;
-            script_is_answered(rt.alloc(), &mut rng, 1)?,
+            script_is_answered(rt.alloc(), &mut rng, 1, false)?,
             "at script {script}"
         );
     }
@@ -314,7 +352,20 @@ fn joined_nodes_mean_unions(rt: HostRuntime) -> Result<(), Fail> {
     for script in 0..JOINING_SCRIPTS {
         let nodes = draw(&mut rng, 3) + 2;
         assert!(rt;
-            script_is_answered(rt.alloc(), &mut rng, nodes)?,
+            script_is_answered(rt.alloc(), &mut rng, nodes, false)?,
+            "at script {script}"
+        );
+    }
+    Ok(())
+}
+
+#[test]
+fn gossiping_nodes_mean_what_reached_them(rt: HostRuntime) -> Result<(), Fail> {
+    let mut rng = Pcg32::new(24, 11);
+    for script in 0..GOSSIPING_SCRIPTS {
+        let nodes = draw(&mut rng, 7) + 2;
+        assert!(rt;
+            script_is_answered(rt.alloc(), &mut rng, nodes, true)?,
             "at script {script}"
         );
     }

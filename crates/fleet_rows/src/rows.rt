@@ -14,7 +14,7 @@ const LOG_OF_TWO: &str =
     "roster 2\nrec 0 3 0 7 0 0:61\nrec 0 5 3 7 3 0:62\nmin 0 5\nmin 0 3 2\ncut 1 3 20\nrec 1 21 3 7 3 0:63\nmin 1 21 2\n";
 
 /// A log in which records begin their page anew, and fill ranges.
-const LOG_OF_PATCHES: &str =
+pub const LOG_OF_PATCHES: &str =
     "rec 0 3 0 7 0 0:6161\nrec 0 5 3 7 3 init,1:62\nrec 0 9 5 7 5 0*2:7a\nmin 0 5\nrec 0 12 9 7 9 init\nmin 0 12\n";
 
 /// A step of a script, and its answer.

@@ -62,7 +62,7 @@ no_facts facts zero = tt
 no_facts facts (suc nodes) = (λ x i. absurd (none_in x i), no_facts facts nodes)
 
 empty_of : (facts : List Fact) (nodes : ℕ) → IsMachineOf facts (empty_machine nodes)
-empty_of facts nodes = record { nodes = no_facts facts nodes }
+empty_of facts nodes = record { nodes = no_facts facts nodes; messages = tt }
 
 one_script : (roster : ℕ) (script : ScriptData) (text other : List ℕ) (v w : Verdict) → SaysReplies roster script text v → SaysReplies roster script other w
     → (text ≡ other) × (v ≡ w)

@@ -3,6 +3,8 @@ use Rattle.std.specs.Prelude.{ℕ, Bool, true, false, List, [], ◌++◌, take, 
 use Rattle.std.specs.List.{flat_map, zip}
 use Rattle.std.specs.Fmt.{decimal}
 use Rattle.hex.specs.Hex.{encode_lower}
+use Rattle.gossip_core.specs.declared.answering.Shown.{Shown}
+use Rattle.gossip_core.specs.declared.answering.Shown.TheVariants.{Anchor, Key}
 use Rattle.fleet_steps.specs.declared.steps.Step.{Step}
 use Rattle.fleet_steps.specs.declared.steps.Step.TheVariants.{Read}
 use Rattle.fleet_core.specs.declared.replies.Reply.{Reply}
@@ -18,6 +20,11 @@ abbrev pub answer_text : Bool → List ℕ
 answer_text true = codes "yes\n"
 answer_text false = codes "no\n"
 
+-- what an answer tells that a node does not answer for
+abbrev pub uncovered_text : Shown → List ℕ
+uncovered_text (Anchor anchor) = codes "anchor " ++ decimal anchor
+uncovered_text (Key key) = codes "key " ++ (decimal key.epoch ++ (codes " " ++ decimal key.number))
+
 -- The answer line of a reply to a step, with its LF. The refusals have none, since they do not come over a sound log.
 abbrev pub line_of : Step ℕ → Reply → List ℕ
 line_of step reply.Changed = codes "changed\n"
@@ -31,6 +38,10 @@ line_of step (reply.Above complete) = codes "above " ++ (decimal complete ++ cod
 line_of step reply.Joined = codes "joined\n"
 line_of step (reply.Answer answer) = answer_text answer
 line_of step reply.Wiped = codes "wiped\n"
+line_of step (reply.Message number) = codes "message " ++ (decimal number ++ codes "\n")
+line_of step reply.Absorbed = codes "absorbed\n"
+line_of step (reply.Uncovered shown) = codes "uncovered " ++ (uncovered_text shown ++ codes "\n")
+line_of step (reply.NoMessage number) = codes "no message " ++ (decimal number ++ codes "\n")
 line_of step (reply.NoNode node) = codes "no node " ++ (decimal node ++ codes "\n")
 line_of step (reply.Refused refusal) = []
 line_of step (reply.BrokenBlockChain page number) = []

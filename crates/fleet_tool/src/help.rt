@@ -15,6 +15,9 @@ pub const RUN: &str = "Input, a line each; fields stand between single spaces:
   nodes K                  the number of nodes, 1 to 64
   take I F                 node I takes fact F, counted from 1
   join I J                 node I takes all that node J means
+  ask I                    makes a message of what node I has
+  answer J M               makes a message of what node J has beyond message M of ask
+  absorb I M               node I takes in message M of answer
   fold I G, discard I      folds page G to the anchor, forgets what is folded
   wipe I                   node I forgets all
   front I                  answers epoch, complete point and minimum read point

@@ -1,17 +1,16 @@
 //! What is told of a capture: one line for each line of hexadecimal digits.
 
-ghost use Rattle.std.specs.Prelude.{◌≡◌, ◌<◌, ◌==◌, ◌++◌, ◌∷◌, [], length, position, IfOk, IfSome, IfNone, OnOk, codes, string_bytes};
+ghost use Rattle.std.specs.Prelude.{◌≡◌, ◌++◌, IfOk, OnOk, codes, string_bytes};
 ghost use Rattle.std.specs.Fmt.{decimal};
 ghost use Rattle.redo_wire.specs.Faults.{fault_number};
 ghost use Rattle.redo_wire.specs.Values.{decoded_value};
-ghost use Rattle.script_text.specs.Parts.{parts_at};
 ghost use Rattle.fleet_tool.specs.Inspect.{summary_text, delta_text, content_text, piece_text, told, value_text, line_text, inspected};
 
 use hex::FromHexError;
 use redo_wire::{
     Delta, Piece, PieceContent, Summary, WireError, WireFault, WireValue, decode_value,
 };
-use script_text::fact_text;
+use script_text::{fact_text, first_part};
 use std::alloc::{AllocError, Global};
 
 fn fault_text(alloc: Global, fault: WireFault) -> Result<String, AllocError>
@@ -109,36 +108,13 @@ fn put_line(alloc: Global, text: &mut String, digits: &[u8]) -> Result<(), Alloc
     text.push_str("\n")
 }
 
-/// The place of the first LF.
-fn first_end(text: &[u8]) -> Option<usize>
-    ensures { result ≡ position (λ b. b == 10) text.now }
-{
-    text.iter().position(|b| *b == b'\n')
-}
-
-/// The part in front of the first LF, and what stands behind it; None where there is no LF.
-fn first_line(text: &[u8]) -> Option<(&[u8], &[u8])>
-    ensures some { IfSome result (λ p. parts_at 10 text.now ≡ p.0.now ∷ parts_at 10 p.1.now) }
-    ensures shorter { IfSome result (λ p. length p.1.now < length text.now) }
-    ensures none { IfNone result (parts_at 10 text.now ≡ text.now ∷ []) }
-{
-    match first_end(text) {
-        None => None,
-        Some(at) => {
-            let (line, _) = text.split_at(at);
-            let (_, after) = text.split_at(at + 1);
-            Some((line, after))
-        }
-    }
-}
-
 /// What is told of the text, a line for each of its lines. Its only error is want of memory.
 pub fn inspected(alloc: Global, input: &[u8]) -> Result<String, AllocError>
     ensures { IfOk result (λ s. string_bytes s ≡ inspected input.now) }
 {
     let mut text = String::new(alloc);
     let mut rest = input;
-    while let Some((line, after)) = first_line(rest) {
+    while let Some((line, after)) = first_part(rest, b'\n') {
         put_line(alloc, &mut text, line)?;
         rest = after;
     }

@@ -3,10 +3,11 @@
 ghost use Rattle.std.specs.Prelude.{◌≡◌, IfOk, OnOk, string_bytes};
 ghost use Rattle.fleet_steps.specs.Shown.{ShowsInside};
 ghost use Rattle.fleet_core.specs.Replies.{HasCome};
-ghost use Rattle.fleet_tool.specs.Lines.{shown_bytes, line_of};
+ghost use Rattle.fleet_tool.specs.Lines.{shown_bytes, uncovered_text, line_of};
 
 use fleet_core::Reply;
 use fleet_steps::Step;
+use gossip_core::Shown;
 use redo_core::Page;
 use std::alloc::{AllocError, Global};
 
@@ -21,6 +22,20 @@ fn shown_bytes<'a>(step: Step<usize>, page: &'a Page) -> &'a [u8]
             &page.bytes()[start..start + usize::from(len)]
         }
         _ => &page.bytes()[..0],
+    }
+}
+
+/// What of a summary a node does not answer for.
+fn uncovered_text(alloc: Global, shown: Shown) -> Result<String, AllocError>
+    ensures { IfOk result (λ s. string_bytes s ≡ uncovered_text shown) }
+{
+    match shown {
+        Shown::Anchor(anchor) => format!(in alloc; "anchor {anchor}"),
+        Shown::Key(key) => {
+            let epoch = key.epoch;
+            let number = key.number;
+            format!(in alloc; "key {epoch} {number}")
+        }
     }
 }
 
@@ -51,6 +66,13 @@ pub fn line(alloc: Global, step: Step<usize>, reply: &Reply) -> Result<String, A
         Reply::Answer(true) => String::from_str(alloc, "yes\n"),
         Reply::Answer(false) => String::from_str(alloc, "no\n"),
         Reply::Wiped => String::from_str(alloc, "wiped\n"),
+        Reply::Message(number) => format!(in alloc; "message {number}\n"),
+        Reply::Absorbed => String::from_str(alloc, "absorbed\n"),
+        Reply::Uncovered(shown) => {
+            let shown = uncovered_text(alloc, *shown)?;
+            format!(in alloc; "uncovered {shown}\n")
+        }
+        Reply::NoMessage(number) => format!(in alloc; "no message {number}\n"),
         Reply::NoNode(node) => format!(in alloc; "no node {node}\n"),
         Reply::Refused(_) => Ok(String::new(alloc)),
         Reply::BrokenBlockChain { .. } => Ok(String::new(alloc)),

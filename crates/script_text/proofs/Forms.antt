@@ -10,7 +10,7 @@ use Rattle.redo_core.specs.Shape.{max_number}
 use Rattle.script_text.specs.Number.{value_from, digits_of, decimal_value}
 use Rattle.script_text.specs.Parts.{◌>>=◌, parts_at}
 use Rattle.script_text.specs.Fields.{numbers_of, of_one, of_two, of_three, of_five, Form, read_by}
-use Rattle.script_text.specs.Spelled.{worded, SpellsForm}
+use Rattle.script_text.specs.Spelled.{worded, SpellsForm, SpellsBy}
 use Rattle.script_text.proofs.Numbers.{none_or, numbers_are_decimals, decimal_is_read, lacks_space}
 use Rattle.script_text.proofs.Options.{here, some_is, bind_some, either, true_is}
 use Rattle.script_text.proofs.Split.{AllLack, parts_joined, joined_parts, lacks}
@@ -167,6 +167,13 @@ form_fields line word limits ns small s space = record {
   fields = worded_fields line word limits ns small s.limited space s.all;
   numbers = numbers_are_read limits ns small s.limited;
 }
+
+pub formed_by : {A : Type 0} (f : Form A) (line ns ms : List ℕ) → ns ≡ ms → line ≡ worded f.word ns → AreWithin ns f.limits → SpellsBy f line ms
+formed_by f line ns ms e all h = formed line f.word f.limits ns ms e all h
+
+pub fields_by : {A : Type 0} (f : Form A) (line ns : List ℕ) → AreLimits f.limits → SpellsBy f line ns → lacks 32 f.word ≡ true
+    → FormFields line f.word f.limits ns
+fields_by f line ns small s space = form_fields line f.word f.limits ns small s space
 
 -- the numbers of a line's fields
 pub said_form : (line word limits : List ℕ) (fields : List (List ℕ)) (ns : List ℕ) → AreLimits limits → parts_at 32 line ≡ word ∷ fields

@@ -1,5 +1,6 @@
 pub mod Options
 pub mod Split
+pub mod FirstPart
 pub mod Numbers
 pub mod Forms
 pub mod Loops

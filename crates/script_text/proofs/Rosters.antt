@@ -5,7 +5,7 @@ use Rattle.std.proofs.lemmas.List.Elements.{All-from_recursion}
 use Rattle.std.proofs.lemmas.Slice.Zip.{AllZip-long}
 use Rattle.redo_core.specs.declared.facts.Fact.{Fact}
 use Rattle.fleet_steps.specs.declared.steps.Step.{Step}
-use Rattle.fleet_steps.specs.declared.steps.Step.TheVariants.{Take, Fold, Discard, Front, Read, Join, Same, Covers, Wipe}
+use Rattle.fleet_steps.specs.declared.steps.Step.TheVariants.{Take, Fold, Discard, Front, Read, Join, Same, Covers, Wipe, Ask, Answer, Absorb}
 use Rattle.script_text.specs.Parts.{parts_at}
 use Rattle.script_text.specs.FactLine.{fact_line, fact_of}
 use Rattle.script_text.specs.StepLine.{IsInRange}
@@ -213,6 +213,9 @@ step_in_range facts line (Join node from) h = (tt, tt)
 step_in_range facts line (Same node other) h = (tt, tt)
 step_in_range facts line (Covers node other) h = (tt, tt)
 step_in_range facts line (Wipe node) h = (tt, tt)
+step_in_range facts line (Ask node) h = (tt, tt)
+step_in_range facts line (Answer node message) h = (tt, tt)
+step_in_range facts line (Absorb node message) h = (tt, tt)
 
 all_in_range : (facts : ℕ) (lines : List (List ℕ)) (steps : List (Step ℕ)) → AllZip (SpellsStep facts) lines steps → AllByRecursion (IsInRange facts) steps
 all_in_range facts [] [] h = tt

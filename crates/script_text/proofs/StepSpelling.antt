@@ -1,17 +1,16 @@
 -- Step lines are read exactly where they are spelled.
-use Rattle.std.proofs.Common.{◌≡◌, ℕ, ◌+◌, ◌<◌, ◌≤◌, false, cond, eqb, ltb, List, [], ◌∷◌, Option, Some, None, codes, refl, ap, ◌∙◌, subst, arith}
+use Rattle.std.proofs.Common.{◌≡◌, ℕ, ◌+◌, ◌<◌, ◌≤◌, false, cond, eqb, ltb, List, [], ◌∷◌, Option, Some, None, refl, ap, ◌∙◌, subst, arith}
 use Rattle.std.specs.List.{AllByRecursion}
 use Rattle.std.proofs.lemmas.Bool.Decides.{nat_tests}
-use Rattle.redo_core.specs.Shape.{max_number}
 use Rattle.fleet_steps.specs.declared.steps.Step.{Step}
-use Rattle.fleet_steps.specs.declared.steps.Step.TheVariants.{Take, Fold, Discard, Front, Read, Join, Same, Covers, Wipe}
+use Rattle.fleet_steps.specs.declared.steps.Step.TheVariants.{Take, Fold, Discard, Front, Read, Join, Same, Covers, Wipe, Ask, Answer, Absorb}
 use Rattle.script_text.specs.Parts.{◌>>=◌, parts_at}
 use Rattle.script_text.specs.Fields.{of_one, of_two, of_five}
-use Rattle.script_text.specs.StepLine.{take, read, take_form, fold_form, discard_form, front_form, read_form, join_form, same_form, covers_form, wipe_form, step_forms, step_line, step_of}
+use Rattle.script_text.specs.StepLine.{take, read, take_form, fold_form, discard_form, front_form, read_form, join_form, same_form, covers_form, wipe_form, ask_form, answer_form, absorb_form, message_forms, step_forms, step_line, step_of}
 use Rattle.script_text.specs.Script.{most}
 use Rattle.script_text.specs.Laws.{StepLinesAreSpelled}
 use Rattle.script_text.specs.Spelled.{SpellsStep}
-use Rattle.script_text.proofs.Forms.{AreLimits, Reads, one_is, two_is, five_is, formed, form_fields, read_has}
+use Rattle.script_text.proofs.Forms.{Reads, one_is, two_is, five_is, formed_by, fields_by, read_has}
 use Rattle.script_text.proofs.Options.{here, some_is, tested}
 
 -- ---- what is read is spelled
@@ -23,7 +22,7 @@ take_reads facts few = record {
       let is = two_is take ns s h in
       let some = tested (eqb is.1 0) (here (Take is.0 is.1)) s is.3 in
       let positive : 0 < is.1 = grind (arith, nat_tests, some.0) in
-      let spelled : SpellsStep facts line (Take is.0 is.1) = (formed line (codes "take") (65535 ∷ facts ∷ []) ns (is.0 ∷ is.1 ∷ []) is.2 e w, positive) in
+      let spelled : SpellsStep facts line (Take is.0 is.1) = (formed_by (take_form facts) line ns (is.0 ∷ is.1 ∷ []) is.2 e w, positive) in
       subst (SpellsStep facts line) (some_is (Take is.0 is.1) s some.1) spelled;
 }
 
@@ -32,7 +31,7 @@ fold_reads facts = record {
   small = (omega arith, (omega arith, tt));
   each = λ line ns s e w h.
       let is = two_is (λ node page. here (Fold node page)) ns s h in
-      subst (SpellsStep facts line) (some_is (Fold is.0 is.1) s is.3) (formed line (codes "fold") (65535 ∷ 65535 ∷ []) ns (is.0 ∷ is.1 ∷ []) is.2 e w);
+      subst (SpellsStep facts line) (some_is (Fold is.0 is.1) s is.3) (formed_by fold_form line ns (is.0 ∷ is.1 ∷ []) is.2 e w);
 }
 
 discard_reads : (facts : ℕ) → Reads (SpellsStep facts) discard_form
@@ -40,7 +39,7 @@ discard_reads facts = record {
   small = (omega arith, tt);
   each = λ line ns s e w h.
       let is = one_is (λ node. here (Discard node)) ns s h in
-      subst (SpellsStep facts line) (some_is (Discard is.0) s is.2) (formed line (codes "discard") (65535 ∷ []) ns (is.0 ∷ []) is.1 e w);
+      subst (SpellsStep facts line) (some_is (Discard is.0) s is.2) (formed_by discard_form line ns (is.0 ∷ []) is.1 e w);
 }
 
 front_reads : (facts : ℕ) → Reads (SpellsStep facts) front_form
@@ -48,7 +47,7 @@ front_reads facts = record {
   small = (omega arith, tt);
   each = λ line ns s e w h.
       let is = one_is (λ node. here (Front node)) ns s h in
-      subst (SpellsStep facts line) (some_is (Front is.0) s is.2) (formed line (codes "front") (65535 ∷ []) ns (is.0 ∷ []) is.1 e w);
+      subst (SpellsStep facts line) (some_is (Front is.0) s is.2) (formed_by front_form line ns (is.0 ∷ []) is.1 e w);
 }
 
 read_reads : (facts : ℕ) → Reads (SpellsStep facts) read_form
@@ -62,7 +61,7 @@ read_reads facts = record {
       let positive : 0 < is.4 = grind (arith, nat_tests, some.0) in
       let fits : is.3 + is.4 ≤ 4096 = grind (arith, nat_tests, inside.0) in
       let spelled : SpellsStep facts line (Read is.0 is.1 is.2 is.3 is.4) =
-      (formed line (codes "read") (65535 ∷ 65535 ∷ max_number ∷ 4096 ∷ 4096 ∷ []) ns (is.0 ∷ is.1 ∷ is.2 ∷ is.3 ∷ is.4 ∷ []) is.5 e w, positive, fits) in
+      (formed_by read_form line ns (is.0 ∷ is.1 ∷ is.2 ∷ is.3 ∷ is.4 ∷ []) is.5 e w, positive, fits) in
       subst (SpellsStep facts line) (some_is (Read is.0 is.1 is.2 is.3 is.4) s inside.1) spelled;
 }
 
@@ -71,7 +70,7 @@ join_reads facts = record {
   small = (omega arith, (omega arith, tt));
   each = λ line ns s e w h.
       let is = two_is (λ node from. here (Join node from)) ns s h in
-      subst (SpellsStep facts line) (some_is (Join is.0 is.1) s is.3) (formed line (codes "join") (65535 ∷ 65535 ∷ []) ns (is.0 ∷ is.1 ∷ []) is.2 e w);
+      subst (SpellsStep facts line) (some_is (Join is.0 is.1) s is.3) (formed_by join_form line ns (is.0 ∷ is.1 ∷ []) is.2 e w);
 }
 
 same_reads : (facts : ℕ) → Reads (SpellsStep facts) same_form
@@ -79,7 +78,7 @@ same_reads facts = record {
   small = (omega arith, (omega arith, tt));
   each = λ line ns s e w h.
       let is = two_is (λ node other. here (Same node other)) ns s h in
-      subst (SpellsStep facts line) (some_is (Same is.0 is.1) s is.3) (formed line (codes "same") (65535 ∷ 65535 ∷ []) ns (is.0 ∷ is.1 ∷ []) is.2 e w);
+      subst (SpellsStep facts line) (some_is (Same is.0 is.1) s is.3) (formed_by same_form line ns (is.0 ∷ is.1 ∷ []) is.2 e w);
 }
 
 covers_reads : (facts : ℕ) → Reads (SpellsStep facts) covers_form
@@ -87,7 +86,7 @@ covers_reads facts = record {
   small = (omega arith, (omega arith, tt));
   each = λ line ns s e w h.
       let is = two_is (λ node other. here (Covers node other)) ns s h in
-      subst (SpellsStep facts line) (some_is (Covers is.0 is.1) s is.3) (formed line (codes "covers") (65535 ∷ 65535 ∷ []) ns (is.0 ∷ is.1 ∷ []) is.2 e w);
+      subst (SpellsStep facts line) (some_is (Covers is.0 is.1) s is.3) (formed_by covers_form line ns (is.0 ∷ is.1 ∷ []) is.2 e w);
 }
 
 wipe_reads : (facts : ℕ) → Reads (SpellsStep facts) wipe_form
@@ -95,14 +94,39 @@ wipe_reads facts = record {
   small = (omega arith, tt);
   each = λ line ns s e w h.
       let is = one_is (λ node. here (Wipe node)) ns s h in
-      subst (SpellsStep facts line) (some_is (Wipe is.0) s is.2) (formed line (codes "wipe") (65535 ∷ []) ns (is.0 ∷ []) is.1 e w);
+      subst (SpellsStep facts line) (some_is (Wipe is.0) s is.2) (formed_by wipe_form line ns (is.0 ∷ []) is.1 e w);
+}
+
+ask_reads : (facts : ℕ) → Reads (SpellsStep facts) ask_form
+ask_reads facts = record {
+  small = (omega arith, tt);
+  each = λ line ns s e w h.
+      let is = one_is (λ node. here (Ask node)) ns s h in
+      subst (SpellsStep facts line) (some_is (Ask is.0) s is.2) (formed_by ask_form line ns (is.0 ∷ []) is.1 e w);
+}
+
+answer_reads : (facts : ℕ) → Reads (SpellsStep facts) answer_form
+answer_reads facts = record {
+  small = (omega arith, (omega arith, tt));
+  each = λ line ns s e w h.
+      let is = two_is (λ node message. here (Answer node message)) ns s h in
+      subst (SpellsStep facts line) (some_is (Answer is.0 is.1) s is.3) (formed_by answer_form line ns (is.0 ∷ is.1 ∷ []) is.2 e w);
+}
+
+absorb_reads : (facts : ℕ) → Reads (SpellsStep facts) absorb_form
+absorb_reads facts = record {
+  small = (omega arith, (omega arith, tt));
+  each = λ line ns s e w h.
+      let is = two_is (λ node message. here (Absorb node message)) ns s h in
+      subst (SpellsStep facts line) (some_is (Absorb is.0 is.1) s is.3) (formed_by absorb_form line ns (is.0 ∷ is.1 ∷ []) is.2 e w);
 }
 
 step_is_spelled : (facts : ℕ) (line : List ℕ) (s : Step ℕ) → facts ≤ most → step_of facts line ≡ Some s → SpellsStep facts line s
 unfolding step_line
 step_is_spelled facts line s few h =
-    let others : AllByRecursion (Reads (SpellsStep facts)) (join_form ∷ same_form ∷ covers_form ∷ wipe_form ∷ []) =
-    (join_reads facts, (same_reads facts, (covers_reads facts, (wipe_reads facts, tt)))) in
+    let messages : AllByRecursion (Reads (SpellsStep facts)) message_forms = (ask_reads facts, (answer_reads facts, (absorb_reads facts, tt))) in
+    let others : AllByRecursion (Reads (SpellsStep facts)) (join_form ∷ same_form ∷ covers_form ∷ wipe_form ∷ message_forms) =
+    (join_reads facts, (same_reads facts, (covers_reads facts, (wipe_reads facts, messages)))) in
     let all : AllByRecursion (Reads (SpellsStep facts)) (step_forms facts) =
     (take_reads facts few, (fold_reads facts, (discard_reads facts, (front_reads facts, (read_reads facts, others))))) in
     read_has (SpellsStep facts) (step_forms facts) line (parts_at 32 line) s all refl h
@@ -112,36 +136,44 @@ step_is_spelled facts line s few h =
 step_is_read : (facts : ℕ) (line : List ℕ) (s : Step ℕ) → facts ≤ most → SpellsStep facts line s → step_of facts line ≡ Some s
 unfolding step_line
 step_is_read facts line (Take node place) few s =
-    let f = form_fields line (codes "take") (65535 ∷ facts ∷ []) (node ∷ place ∷ []) (omega arith, (omega (arith, few), tt)) s.0 refl in
+    let f = fields_by (take_form facts) line (node ∷ place ∷ []) (take_reads facts few).small s.0 refl in
     let positive : eqb place 0 ≡ false = grind (arith, nat_tests, s.1) in
     ap (step_line facts) f.fields ∙ ap (λ (o : Option (List ℕ)). o >>= of_two take) f.numbers ∙ rw positive refl
 step_is_read facts line (Fold node page) few s =
-    let f = form_fields line (codes "fold") (65535 ∷ 65535 ∷ []) (node ∷ page ∷ []) (omega arith, (omega arith, tt)) s refl in
+    let f = fields_by fold_form line (node ∷ page ∷ []) (fold_reads facts).small s refl in
     ap (step_line facts) f.fields ∙ ap (λ (o : Option (List ℕ)). o >>= of_two (λ i g. here (Fold i g))) f.numbers
 step_is_read facts line (Discard node) few s =
-    let f = form_fields line (codes "discard") (65535 ∷ []) (node ∷ []) (omega arith, tt) s refl in
+    let f = fields_by discard_form line (node ∷ []) (discard_reads facts).small s refl in
     ap (step_line facts) f.fields ∙ ap (λ (o : Option (List ℕ)). o >>= of_one (λ i. here (Discard i))) f.numbers
 step_is_read facts line (Front node) few s =
-    let f = form_fields line (codes "front") (65535 ∷ []) (node ∷ []) (omega arith, tt) s refl in
+    let f = fields_by front_form line (node ∷ []) (front_reads facts).small s refl in
     ap (step_line facts) f.fields ∙ ap (λ (o : Option (List ℕ)). o >>= of_one (λ i. here (Front i))) f.numbers
 step_is_read facts line (Read node page point offset len) few s =
-    let small : AreLimits (65535 ∷ 65535 ∷ max_number ∷ 4096 ∷ 4096 ∷ []) = (omega arith, (omega arith, (omega arith, (omega arith, (omega arith, tt))))) in
-    let f = form_fields line (codes "read") (65535 ∷ 65535 ∷ max_number ∷ 4096 ∷ 4096 ∷ []) (node ∷ page ∷ point ∷ offset ∷ len ∷ []) small s.0 refl in
+    let f = fields_by read_form line (node ∷ page ∷ point ∷ offset ∷ len ∷ []) (read_reads facts).small s.0 refl in
     let positive : eqb len 0 ≡ false = grind (arith, nat_tests, s.1) in
     let fits : ltb 4096 (offset + len) ≡ false = grind (arith, nat_tests, s.2) in
     ap (step_line facts) f.fields ∙ ap (λ (o : Option (List ℕ)). o >>= of_five read) f.numbers ∙ rw (positive, fits) refl
 step_is_read facts line (Join node from) few s =
-    let f = form_fields line (codes "join") (65535 ∷ 65535 ∷ []) (node ∷ from ∷ []) (omega arith, (omega arith, tt)) s refl in
+    let f = fields_by join_form line (node ∷ from ∷ []) (join_reads facts).small s refl in
     ap (step_line facts) f.fields ∙ ap (λ (o : Option (List ℕ)). o >>= of_two (λ i j. here (Join i j))) f.numbers
 step_is_read facts line (Same node other) few s =
-    let f = form_fields line (codes "same") (65535 ∷ 65535 ∷ []) (node ∷ other ∷ []) (omega arith, (omega arith, tt)) s refl in
+    let f = fields_by same_form line (node ∷ other ∷ []) (same_reads facts).small s refl in
     ap (step_line facts) f.fields ∙ ap (λ (o : Option (List ℕ)). o >>= of_two (λ i j. here (Same i j))) f.numbers
 step_is_read facts line (Covers node other) few s =
-    let f = form_fields line (codes "covers") (65535 ∷ 65535 ∷ []) (node ∷ other ∷ []) (omega arith, (omega arith, tt)) s refl in
+    let f = fields_by covers_form line (node ∷ other ∷ []) (covers_reads facts).small s refl in
     ap (step_line facts) f.fields ∙ ap (λ (o : Option (List ℕ)). o >>= of_two (λ i j. here (Covers i j))) f.numbers
 step_is_read facts line (Wipe node) few s =
-    let f = form_fields line (codes "wipe") (65535 ∷ []) (node ∷ []) (omega arith, tt) s refl in
+    let f = fields_by wipe_form line (node ∷ []) (wipe_reads facts).small s refl in
     ap (step_line facts) f.fields ∙ ap (λ (o : Option (List ℕ)). o >>= of_one (λ i. here (Wipe i))) f.numbers
+step_is_read facts line (Ask node) few s =
+    let f = fields_by ask_form line (node ∷ []) (ask_reads facts).small s refl in
+    ap (step_line facts) f.fields ∙ ap (λ (o : Option (List ℕ)). o >>= of_one (λ i. here (Ask i))) f.numbers
+step_is_read facts line (Answer node message) few s =
+    let f = fields_by answer_form line (node ∷ message ∷ []) (answer_reads facts).small s refl in
+    ap (step_line facts) f.fields ∙ ap (λ (o : Option (List ℕ)). o >>= of_two (λ i m. here (Answer i m))) f.numbers
+step_is_read facts line (Absorb node message) few s =
+    let f = fields_by absorb_form line (node ∷ message ∷ []) (absorb_reads facts).small s refl in
+    ap (step_line facts) f.fields ∙ ap (λ (o : Option (List ℕ)). o >>= of_two (λ i m. here (Absorb i m))) f.numbers
 
 pub step_lines_are_spelled : StepLinesAreSpelled
 step_lines_are_spelled facts line s few = (step_is_spelled facts line s few, step_is_read facts line s few)

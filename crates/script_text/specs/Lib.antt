@@ -1,5 +1,6 @@
 pub mod Number
 pub mod Parts
+pub mod Parting
 pub mod Fields
 pub mod FactLine
 pub mod FactText

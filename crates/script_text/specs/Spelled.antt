@@ -6,15 +6,17 @@ use Rattle.hex.specs.Hex.{decode_of}
 use Rattle.redo_core.specs.Data.{RecordData, CutData, AdvanceData}
 use Rattle.redo_core.specs.Writes.{WriteData}
 use Rattle.redo_core.specs.Roster.{IsRoster}
-use Rattle.redo_core.specs.Shape.{max_number, record_fault, cut_fault, advance_fault}
+use Rattle.redo_core.specs.Shape.{record_fault, cut_fault, advance_fault}
 use Rattle.redo_core.specs.declared.patches.Patch.{Patch}
 use Rattle.redo_core.specs.declared.patches.Patch.TheVariants.{Bytes, Fill}
 use Rattle.redo_core.specs.declared.facts.Fact.{Fact}
 use Rattle.redo_core.specs.declared.facts.Fact.TheVariants.{Record, Cut, Advance}
 use Rattle.fleet_steps.specs.declared.steps.Step.{Step}
-use Rattle.fleet_steps.specs.declared.steps.Step.TheVariants.{Take, Fold, Discard, Front, Read, Join, Same, Covers, Wipe}
+use Rattle.fleet_steps.specs.declared.steps.Step.TheVariants.{Take, Fold, Discard, Front, Read, Join, Same, Covers, Wipe, Ask, Answer, Absorb}
 use Rattle.script_text.specs.Parts.{parts_at}
+use Rattle.script_text.specs.Fields.{Form}
 use Rattle.script_text.specs.FactText.{behind_init}
+use Rattle.script_text.specs.StepLine.{take_form, fold_form, discard_form, front_form, read_form, join_form, same_form, covers_form, wipe_form, ask_form, answer_form, absorb_form}
 use Rattle.script_text.specs.Script.{ScriptData, Rostered, most, most_nodes}
 
 -- ---- lines
@@ -84,19 +86,25 @@ pub record SpellsForm (line word limits numbers : List ℕ) : Type 0 where
   pub all : line ≡ worded word numbers
   pub limited : AllZip (λ n limit. n ≤ limit) numbers limits
 
+-- the word of a form, and numbers within its limits
+abbrev pub SpellsBy : {A : Type 0} → Form A → List ℕ → List ℕ → Type 0
+SpellsBy f line numbers = SpellsForm line f.word f.limits numbers
+
 -- the line spells the step, behind that many facts
 abbrev pub SpellsStep : ℕ → List ℕ → Step ℕ → Type 0
-SpellsStep facts line (Take node place) = SpellsForm line (codes "take") (65535 ∷ facts ∷ []) (node ∷ place ∷ []) × (0 < place)
-SpellsStep facts line (Fold node page) = SpellsForm line (codes "fold") (65535 ∷ 65535 ∷ []) (node ∷ page ∷ [])
-SpellsStep facts line (Discard node) = SpellsForm line (codes "discard") (65535 ∷ []) (node ∷ [])
-SpellsStep facts line (Front node) = SpellsForm line (codes "front") (65535 ∷ []) (node ∷ [])
-SpellsStep facts line (Read node page point offset len) = SpellsForm line (codes "read") (65535 ∷ 65535 ∷ max_number ∷ 4096 ∷ 4096 ∷ [])
-    (node ∷ page ∷ point ∷ offset ∷ len ∷ [])
-    × (0 < len) × (offset + len ≤ 4096)
-SpellsStep facts line (Join node from) = SpellsForm line (codes "join") (65535 ∷ 65535 ∷ []) (node ∷ from ∷ [])
-SpellsStep facts line (Same node other) = SpellsForm line (codes "same") (65535 ∷ 65535 ∷ []) (node ∷ other ∷ [])
-SpellsStep facts line (Covers node other) = SpellsForm line (codes "covers") (65535 ∷ 65535 ∷ []) (node ∷ other ∷ [])
-SpellsStep facts line (Wipe node) = SpellsForm line (codes "wipe") (65535 ∷ []) (node ∷ [])
+SpellsStep facts line (Take node place) = SpellsBy (take_form facts) line (node ∷ place ∷ []) × (0 < place)
+SpellsStep facts line (Fold node page) = SpellsBy fold_form line (node ∷ page ∷ [])
+SpellsStep facts line (Discard node) = SpellsBy discard_form line (node ∷ [])
+SpellsStep facts line (Front node) = SpellsBy front_form line (node ∷ [])
+SpellsStep facts line (Read node page point offset len) =
+    SpellsBy read_form line (node ∷ page ∷ point ∷ offset ∷ len ∷ []) × (0 < len) × (offset + len ≤ 4096)
+SpellsStep facts line (Join node from) = SpellsBy join_form line (node ∷ from ∷ [])
+SpellsStep facts line (Same node other) = SpellsBy same_form line (node ∷ other ∷ [])
+SpellsStep facts line (Covers node other) = SpellsBy covers_form line (node ∷ other ∷ [])
+SpellsStep facts line (Wipe node) = SpellsBy wipe_form line (node ∷ [])
+SpellsStep facts line (Ask node) = SpellsBy ask_form line (node ∷ [])
+SpellsStep facts line (Answer node message) = SpellsBy answer_form line (node ∷ message ∷ [])
+SpellsStep facts line (Absorb node message) = SpellsBy absorb_form line (node ∷ message ∷ [])
 
 -- ---- lists of lines
 

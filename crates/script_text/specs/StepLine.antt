@@ -2,7 +2,7 @@
 use Rattle.std.specs.Prelude.{ℕ, ◌+◌, ◌<◌, ◌≤◌, ◌==◌, nat_lt, List, [], ◌∷◌, Option, Some, None, codes, if◌then◌else◌}
 use Rattle.redo_core.specs.Shape.{max_number}
 use Rattle.fleet_steps.specs.declared.steps.Step.{Step}
-use Rattle.fleet_steps.specs.declared.steps.Step.TheVariants.{Take, Fold, Discard, Front, Read, Join, Same, Covers, Wipe}
+use Rattle.fleet_steps.specs.declared.steps.Step.TheVariants.{Take, Fold, Discard, Front, Read, Join, Same, Covers, Wipe, Ask, Answer, Absorb}
 use Rattle.fleet_steps.specs.Naming.{NamedIs}
 use Rattle.fleet_steps.specs.Shown.{ShowsInside}
 use Rattle.script_text.specs.Parts.{parts_at}
@@ -16,7 +16,7 @@ take node place = if place == 0 then None else Some (Take node place)
 abbrev pub read : ℕ → ℕ → ℕ → ℕ → ℕ → Option (Step ℕ)
 read node page point offset len = if len == 0 then None else if nat_lt 4096 (offset + len) then None else Some (Read node page point offset len)
 
--- the forms of step lines; nodes and pages are numbers of 16 bits
+-- the forms of step lines; nodes and pages are numbers of 16 bits, messages of 32
 abbrev pub take_form : ℕ → Form (Step ℕ)
 take_form facts = form (codes "take") (65535 ∷ facts ∷ []) (of_two take)
 
@@ -44,8 +44,21 @@ covers_form = form (codes "covers") (65535 ∷ 65535 ∷ []) (of_two (λ node ot
 abbrev pub wipe_form : Form (Step ℕ)
 wipe_form = form (codes "wipe") (65535 ∷ []) (of_one (λ node. Some (Wipe node)))
 
+abbrev pub ask_form : Form (Step ℕ)
+ask_form = form (codes "ask") (65535 ∷ []) (of_one (λ node. Some (Ask node)))
+
+abbrev pub answer_form : Form (Step ℕ)
+answer_form = form (codes "answer") (65535 ∷ 4294967295 ∷ []) (of_two (λ node message. Some (Answer node message)))
+
+abbrev pub absorb_form : Form (Step ℕ)
+absorb_form = form (codes "absorb") (65535 ∷ 4294967295 ∷ []) (of_two (λ node message. Some (Absorb node message)))
+
+-- the forms of messages
+abbrev pub message_forms : List (Form (Step ℕ))
+message_forms = ask_form ∷ answer_form ∷ absorb_form ∷ []
+
 abbrev pub step_forms : ℕ → List (Form (Step ℕ))
-step_forms facts = take_form facts ∷ fold_form ∷ discard_form ∷ front_form ∷ read_form ∷ join_form ∷ same_form ∷ covers_form ∷ wipe_form ∷ []
+step_forms facts = take_form facts ∷ fold_form ∷ discard_form ∷ front_form ∷ read_form ∷ join_form ∷ same_form ∷ covers_form ∷ wipe_form ∷ message_forms
 
 -- the step of a line's fields
 unfoldable pub step_line : ℕ → List (List ℕ) → Option (Step ℕ)

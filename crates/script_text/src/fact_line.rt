@@ -3,19 +3,15 @@
 ghost use Rattle.std.specs.Prelude.{◌≡◌, IfOk, map, option_map};
 ghost use Rattle.hex.specs.Hex.{decode_of};
 ghost use Rattle.redo_core.specs.Data.{record_with};
-ghost use Rattle.script_text.specs.FactLine.{decoded, write_at, fill_at, patch_at, patch_from, each_patch, contents, contents_from, contents_of, shaped, record_line, cut_line, advance_line, fact_line};
+ghost use Rattle.script_text.specs.Parts.{parts_at};
+ghost use Rattle.script_text.specs.FactLine.{decoded, write_at, fill_at, patch_at, patch_of, each_patch, contents, contents_from, contents_of, shaped, record_line, cut_line, advance_line, fact_line};
 
-use crate::fields::parts;
+use crate::fields::{Parted, part_at, parts_into};
+use crate::limits::{PAGE, SHORT};
 use crate::number::{number, numbers};
 use hex::FromHexError;
 use redo_core::{Advance, Cut, Fact, MAX_NUMBER, MAX_READERS, Patch, Record, Write};
 use std::alloc::{AllocError, Global};
-
-/// The greatest number of an epoch, a page or an offset.
-const SHORT: u64 = 65535;
-
-/// The greatest length of a fill.
-const PAGE: u64 = 4096;
 
 /// Whether a record begins its page anew, and its patches.
 struct Contents {
@@ -62,39 +58,37 @@ fn fill(offset: &[u8], len: &[u8], bytes: &[u8]) -> Option<Patch>
 }
 
 /// The patch of bytes at a place.
-fn patch_at(place: &[&[u8]], bytes: Vec<u8>) -> Option<Patch>
-    ensures { result ≡ patch_at (map (λ x. x.now) place.now) bytes.items }
+fn patch_at(place: &[u8], bytes: Vec<u8>) -> Option<Patch>
+    ensures { result ≡ patch_at (parts_at 42 place.now) bytes.items }
 {
-    match place {
-        [offset] => write(offset, bytes),
-        [offset, len] => fill(offset, len, &bytes),
-        _ => None,
+    match part_at(place, b'*') {
+        Parted::Whole => write(place, bytes),
+        Parted::Halves(offset, len) => fill(offset, len, &bytes),
+        Parted::More => None,
     }
 }
 
-/// The patch of a place and of hexadecimal digits.
+/// The patch that a place and hexadecimal digits spell.
 #[tactic(auto, unfolding(crate::specs::FactLine::patch_from))]
-fn patch(alloc: Global, halves: &[&[u8]]) -> Result<Option<Patch>, AllocError>
-    ensures { IfOk result (λ o. o ≡ patch_from (map (λ x. x.now) halves.now)) }
+fn patch(alloc: Global, text: &[u8]) -> Result<Option<Patch>, AllocError>
+    ensures { IfOk result (λ o. o ≡ patch_of text.now) }
 {
-    let [place, digits] = halves else {
+    let Parted::Halves(place, digits) = part_at(text, b':') else {
         return Ok(None);
     };
-    let place = parts(alloc, place, b'*')?;
     let Some(bytes) = decoded(alloc, digits)? else {
         return Ok(None);
     };
-    Ok(patch_at(&place, bytes))
+    Ok(patch_at(place, bytes))
 }
 
 /// The patches between commas.
 fn each_patch(alloc: Global, pieces: &[&[u8]]) -> Result<Option<Vec<Patch>>, AllocError>
     ensures { IfOk result (λ o. option_map (λ v. v.items) o ≡ each_patch (map (λ x. x.now) pieces.now)) }
 {
-    let mut patches = Vec::new(alloc);
+    let mut patches = Vec::with_capacity(alloc, pieces.len())?;
     for piece in pieces {
-        let halves = parts(alloc, piece, b':')?;
-        let Some(next) = patch(alloc, &halves)? else {
+        let Some(next) = patch(alloc, piece)? else {
             return Ok(None);
         };
         patches.push(next)?;
@@ -120,7 +114,11 @@ fn contents_from(alloc: Global, pieces: &[&[u8]]) -> Result<Option<Contents>, Al
 
 /// What a record does to its page; nothing for `-`.
 #[tactic(auto, unfolding(crate::specs::FactLine::contents_of))]
-fn record_contents(alloc: Global, text: &[u8]) -> Result<Option<Contents>, AllocError>
+fn record_contents<'a>(
+    alloc: Global,
+    text: &'a [u8],
+    pieces: &mut Vec<&'a [u8]>,
+) -> Result<Option<Contents>, AllocError>
     ensures { IfOk result (λ o. option_map (λ c. contents c.init c.patches.items) o ≡ contents_of text.now) }
 {
     if text == b"-".as_slice() {
@@ -130,8 +128,8 @@ fn record_contents(alloc: Global, text: &[u8]) -> Result<Option<Contents>, Alloc
             patches,
         }));
     }
-    let pieces = parts(alloc, text, b',')?;
-    contents_from(alloc, &pieces)
+    parts_into(text, b',', pieces)?;
+    contents_from(alloc, pieces)
 }
 
 /// The record, where its shape has no fault.
@@ -153,7 +151,11 @@ fn shaped(
 
 /// The fields behind `rec`.
 #[tactic(auto, unfolding(crate::specs::FactLine::record_line))]
-fn record_line(alloc: Global, fields: &[&[u8]]) -> Result<Option<Fact>, AllocError>
+fn record_line<'a>(
+    alloc: Global,
+    fields: &[&'a [u8]],
+    pieces: &mut Vec<&'a [u8]>,
+) -> Result<Option<Fact>, AllocError>
     ensures { IfOk result (λ o. o ≡ record_line (map (λ x. x.now) fields.now)) }
 {
     let [epoch, number, back, page, block_back, text] = fields else {
@@ -165,7 +167,7 @@ fn record_line(alloc: Global, fields: &[&[u8]]) -> Result<Option<Fact>, AllocErr
         return Ok(None);
     };
     let [epoch, number, back, page, block_back] = numbers;
-    let Some(contents) = record_contents(alloc, text)? else {
+    let Some(contents) = record_contents(alloc, text, pieces)? else {
         return Ok(None);
     };
     let (epoch, page) = (epoch as u16, page as u16);
@@ -198,13 +200,17 @@ fn advance_line(fields: &[&[u8]]) -> Option<Fact>
     Some(Fact::Advance(advance))
 }
 
-/// The fact of a fact line.
+/// The fact of a fact line. The list of pieces is room that is used again.
 #[tactic(auto, unfolding(crate::specs::FactLine::fact_line))]
-pub fn fact_line(alloc: Global, fields: &[&[u8]]) -> Result<Option<Fact>, AllocError>
+pub fn fact_line<'a>(
+    alloc: Global,
+    fields: &[&'a [u8]],
+    pieces: &mut Vec<&'a [u8]>,
+) -> Result<Option<Fact>, AllocError>
     ensures { IfOk result (λ o. o ≡ fact_line (map (λ x. x.now) fields.now)) }
 {
     match fields {
-        [b"rec", rest @ ..] => record_line(alloc, rest),
+        [b"rec", rest @ ..] => record_line(alloc, rest, pieces),
         [b"cut", rest @ ..] => Ok(cut_line(rest)),
         [b"min", rest @ ..] => Ok(advance_line(rest)),
         _ => Ok(None),

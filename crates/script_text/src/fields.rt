@@ -1,13 +1,71 @@
 //! The parts of a text round a separator: lines, fields, writes.
 
-ghost use Rattle.std.specs.Prelude.{◌≡◌, IfOk, map};
+ghost use Rattle.std.specs.Prelude.{◌≡◌, ◌<◌, ◌==◌, [], ◌∷◌, IfOk, OnOk, IfSome, IfNone, length, map, position};
 ghost use Rattle.script_text.specs.Parts.{parts_at};
+ghost use Rattle.script_text.specs.Parting.{IsParted};
 
 use std::alloc::{AllocError, Global};
+
+/// How often a separator stands in a text.
+#[derive(Clone, Copy)]
+pub enum Parted<'a> {
+    Whole,
+    /// The parts in front of the one separator and behind it.
+    Halves(&'a [u8], &'a [u8]),
+    More,
+}
 
 /// The parts between the bytes of that value: one more than there are such bytes.
 pub fn parts(alloc: Global, text: &[u8], separator: u8) -> Result<Vec<&[u8]>, AllocError>
     ensures { IfOk result (λ v. map (λ x. x.now) v.items ≡ parts_at separator text.now) }
 {
     text.split(|b| *b == separator).collect(alloc)
+}
+
+/// The same parts in a list whose room is used again.
+pub fn parts_into<'a>(
+    text: &'a [u8],
+    separator: u8,
+    list: &mut Vec<&'a [u8]>,
+) -> Result<(), AllocError>
+    ensures { OnOk result (map (λ x. x.now) list.new.items ≡ parts_at separator text.now) }
+{
+    list.clear();
+    list.extend(text.split(|b| *b == separator))
+}
+
+/// The place of the first byte of that value.
+fn first_at(text: &[u8], separator: u8) -> Option<usize>
+    ensures { result ≡ position (λ b. b == separator) text.now }
+{
+    text.iter().position(|b| *b == separator)
+}
+
+/// The part in front of the first byte of that value, and what stands behind it; None where there is none.
+pub fn first_part(text: &[u8], separator: u8) -> Option<(&[u8], &[u8])>
+    ensures some { IfSome result (λ p. parts_at separator text.now ≡ p.0.now ∷ parts_at separator p.1.now) }
+    ensures shorter { IfSome result (λ p. length p.1.now < length text.now) }
+    ensures none { IfNone result (parts_at separator text.now ≡ text.now ∷ []) }
+{
+    match first_at(text, separator) {
+        None => None,
+        Some(at) => {
+            let (front, _) = text.split_at(at);
+            let (_, behind) = text.split_at(at + 1);
+            Some((front, behind))
+        }
+    }
+}
+
+/// How often that byte stands in a text, and the parts round it where it stands once.
+pub fn part_at(text: &[u8], separator: u8) -> Parted<'_>
+    ensures { IsParted separator text.now result }
+{
+    match first_part(text, separator) {
+        None => Parted::Whole,
+        Some((front, behind)) => match first_part(behind, separator) {
+            None => Parted::Halves(front, behind),
+            Some(_) => Parted::More,
+        },
+    }
 }

@@ -9,6 +9,7 @@
 mod fact_line;
 mod fields;
 mod laws;
+mod limits;
 mod number;
 mod opening;
 mod script;
@@ -17,6 +18,7 @@ mod step_line;
 #[cfg(test)]
 mod tests;
 
+pub use fields::first_part;
 pub use laws::{bad_lines_are_least, lines_are_spelled, numbers_are_decimals, scripts_are_spelled};
 pub use script::{Log, Script, ScriptError, read_facts, read_script};
 pub use spelling::fact_text;

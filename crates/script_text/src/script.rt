@@ -9,7 +9,7 @@ ghost use Rattle.script_text.specs.Outcome.{Gives, log_data, script_data, asked_
 ghost use Rattle.script_text.specs.declared.script.ScriptError.TheVariants.{Memory};
 
 use crate::fact_line::fact_line;
-use crate::fields::parts;
+use crate::fields::{parts, parts_into};
 use crate::number::numbers;
 use crate::opening::read_opening;
 use crate::step_line::step_line;
@@ -83,6 +83,7 @@ fn steps(
     ensures { Gives (λ v. v.items) result (lines_from (step_of facts) 0 at (map (λ x. x.now) lines.now)) }
 {
     let mut steps = Vec::new(alloc);
+    let mut fields = Vec::new(alloc);
     for (i, line) in lines.iter().enumerate() {
         if i + 1 == lines.len() {
             if line.is_empty() {
@@ -93,7 +94,7 @@ fn steps(
         if i >= MOST {
             return Err(ScriptError::BadLine(at + i));
         }
-        let fields = parts(alloc, line, b' ')?;
+        parts_into(line, b' ', &mut fields)?;
         let Some(next) = step_line(facts, &fields) else {
             return Err(ScriptError::BadLine(at + i));
         };
@@ -158,6 +159,7 @@ fn script_lines(alloc: Global, lines: &[&[u8]], at: usize) -> Result<Asked, Scri
     ensures { Gives asked_data result (script_from 0 at (map (λ x. x.now) lines.now)) }
 {
     let mut facts = Vec::new(alloc);
+    let (mut fields, mut pieces) = (Vec::new(alloc), Vec::new(alloc));
     for (i, line) in lines.iter().enumerate() {
         if i + 1 == lines.len() {
             return Err(ScriptError::BadLine(at + i));
@@ -168,8 +170,8 @@ fn script_lines(alloc: Global, lines: &[&[u8]], at: usize) -> Result<Asked, Scri
         if i >= MOST {
             return Err(ScriptError::BadLine(at + i));
         }
-        let fields = parts(alloc, line, b' ')?;
-        let Some(next) = fact_line(alloc, &fields)? else {
+        parts_into(line, b' ', &mut fields)?;
+        let Some(next) = fact_line(alloc, &fields, &mut pieces)? else {
             return Err(ScriptError::BadLine(at + i));
         };
         facts.push(next)?;
@@ -182,6 +184,7 @@ fn facts(alloc: Global, lines: &[&[u8]], at: usize) -> Result<Vec<Fact>, ScriptE
     ensures { Gives (λ v. v.items) result (lines_from fact_of 0 at (map (λ x. x.now) lines.now)) }
 {
     let mut facts = Vec::new(alloc);
+    let (mut fields, mut pieces) = (Vec::new(alloc), Vec::new(alloc));
     for (i, line) in lines.iter().enumerate() {
         if i + 1 == lines.len() {
             if line.is_empty() {
@@ -192,8 +195,8 @@ fn facts(alloc: Global, lines: &[&[u8]], at: usize) -> Result<Vec<Fact>, ScriptE
         if i >= MOST {
             return Err(ScriptError::BadLine(at + i));
         }
-        let fields = parts(alloc, line, b' ')?;
-        let Some(next) = fact_line(alloc, &fields)? else {
+        parts_into(line, b' ', &mut fields)?;
+        let Some(next) = fact_line(alloc, &fields, &mut pieces)? else {
             return Err(ScriptError::BadLine(at + i));
         };
         facts.push(next)?;

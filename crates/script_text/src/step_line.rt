@@ -3,17 +3,12 @@
 ghost use Rattle.std.specs.Prelude.{◌≡◌, ◌≤◌, map};
 ghost use Rattle.script_text.specs.Script.{most};
 ghost use Rattle.script_text.specs.Fields.{made_by};
-ghost use Rattle.script_text.specs.StepLine.{take_form, fold_form, discard_form, front_form, read_form, join_form, same_form, covers_form, wipe_form, step_line};
+ghost use Rattle.script_text.specs.StepLine.{take_form, fold_form, discard_form, front_form, read_form, join_form, same_form, covers_form, wipe_form, ask_form, answer_form, absorb_form, step_line};
 
+use crate::limits::{MESSAGE, PAGE, SHORT};
 use crate::number::numbers;
 use fleet_steps::Step;
 use redo_core::MAX_NUMBER;
-
-/// The greatest number of a node or a page, also of one that there is not.
-const SHORT: u64 = 65535;
-
-/// The bytes of a page.
-const PAGE: u64 = 4096;
 
 fn take(facts: usize, fields: &[&[u8]]) -> Option<Step<usize>>
     requires { facts ≤ most }
@@ -109,6 +104,33 @@ fn wipe(fields: &[&[u8]]) -> Option<Step<usize>>
     Some(Step::Wipe { node: node as u16 })
 }
 
+fn ask(fields: &[&[u8]]) -> Option<Step<usize>>
+    ensures { result ≡ made_by ask_form (map (λ x. x.now) fields.now) }
+{
+    let [node] = numbers([SHORT], fields)?;
+    Some(Step::Ask { node: node as u16 })
+}
+
+fn answer(fields: &[&[u8]]) -> Option<Step<usize>>
+    ensures { result ≡ made_by answer_form (map (λ x. x.now) fields.now) }
+{
+    let [node, message] = numbers([SHORT, MESSAGE], fields)?;
+    Some(Step::Answer {
+        node: node as u16,
+        message: message as usize,
+    })
+}
+
+fn absorb(fields: &[&[u8]]) -> Option<Step<usize>>
+    ensures { result ≡ made_by absorb_form (map (λ x. x.now) fields.now) }
+{
+    let [node, message] = numbers([SHORT, MESSAGE], fields)?;
+    Some(Step::Absorb {
+        node: node as u16,
+        message: message as usize,
+    })
+}
+
 /// The step of a step line behind that many facts.
 #[tactic(auto, unfolding(crate::specs::StepLine::step_line))]
 pub fn step_line(facts: usize, fields: &[&[u8]]) -> Option<Step<usize>>
@@ -134,6 +156,12 @@ pub fn step_line(facts: usize, fields: &[&[u8]]) -> Option<Step<usize>>
         covers(rest)
     } else if *word == b"wipe".as_slice() {
         wipe(rest)
+    } else if *word == b"ask".as_slice() {
+        ask(rest)
+    } else if *word == b"answer".as_slice() {
+        answer(rest)
+    } else if *word == b"absorb".as_slice() {
+        absorb(rest)
     } else {
         None
     }

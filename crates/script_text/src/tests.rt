@@ -50,7 +50,7 @@ fn only_step(read: &Result<Script, ScriptError>) -> Option<Step<usize>> {
 }
 
 /// Each form of step lines, and what a line of it reads as.
-const STEPS: [(&str, Step<usize>); 11] = [
+const STEPS: [(&str, Step<usize>); 15] = [
     ("take 1 4", Step::Take { node: 1, fact: 4 }),
     (
         "fold 64 65535",
@@ -83,6 +83,28 @@ const STEPS: [(&str, Step<usize>); 11] = [
     ("same 3 64", Step::Same { node: 3, other: 64 }),
     ("covers 64 3", Step::Covers { node: 64, other: 3 }),
     ("wipe 65", Step::Wipe { node: 65 }),
+    ("ask 0", Step::Ask { node: 0 }),
+    (
+        "answer 2 1",
+        Step::Answer {
+            node: 2,
+            message: 1,
+        },
+    ),
+    (
+        "absorb 65535 4294967295",
+        Step::Absorb {
+            node: 65535,
+            message: 4294967295,
+        },
+    ),
+    (
+        "absorb 1 0",
+        Step::Absorb {
+            node: 1,
+            message: 0,
+        },
+    ),
 ];
 
 #[test]
@@ -255,6 +277,32 @@ fn bad_lines_of_several_nodes(rt: HostRuntime) -> Result<(), Fail> {
         ("go\nnodes 2\nwipe\n", 3),
         ("go\nnodes 2\nwipe 1 2\n", 3),
         ("go\nnodes 2\nwipe 65536\n", 3),
+    ];
+    for (text, line) in table {
+        let found = bad_line(&read_script(rt.alloc(), text.as_bytes()));
+        assert!(rt; found == line, "at {text}");
+    }
+    Ok(())
+}
+
+#[test]
+fn bad_lines_of_messages(rt: HostRuntime) -> Result<(), Fail> {
+    let table = [
+        ("go\nnodes 1\nabsorb 9 9\nanswer 0 0\n", 0),
+        ("go\nnodes 1\nanswer 1 4294967295\n", 0),
+        ("go\nnodes 1\nanswer 1 4294967296\n", 3),
+        ("go\nnodes 1\nabsorb 1 4294967296\n", 3),
+        ("go\nnodes 1\nabsorb 65536 1\n", 3),
+        ("go\nnodes 1\nabsorb 1 01\n", 3),
+        ("go\nnodes 1\nabsorb 1\n", 3),
+        ("go\nnodes 1\nabsorb 1 1 1\n", 3),
+        ("go\nnodes 1\nanswer 65536 1\n", 3),
+        ("go\nnodes 1\nanswer 1\n", 3),
+        ("go\nnodes 1\nanswer 1 18446744073709551617\n", 3),
+        ("go\nnodes 1\nask\n", 3),
+        ("go\nnodes 1\nask 65536\n", 3),
+        ("go\nnodes 1\nask 1 1\n", 3),
+        ("go\nnodes 1\nAsk 1\n", 3),
     ];
     for (text, line) in table {
         let found = bad_line(&read_script(rt.alloc(), text.as_bytes()));

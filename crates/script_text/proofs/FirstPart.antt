@@ -1,0 +1,43 @@
+-- The first part of a text.
+use Rattle.std.proofs.Common.{◌≡◌, ℕ, ◌+◌, ◌<◌, ◌≤◌, Bool, true, false, cond, eqb, ltb, List, [], ◌∷◌, length, take, drop, Some, None, refl, subst, ap, ◌∙◌, arith}
+use Rattle.std.specs.Prelude.{position}
+use Rattle.std.specs.List.{position_or_len, slice_split}
+use Rattle.std.proofs.lemmas.List.Splits.{slice_split_first, slice_split_none, length-slice_split}
+use Rattle.std.proofs.lemmas.List.Sums.{fails_before_first}
+use Rattle.std.proofs.lemmas.Bool.Decides.{nat_tests}
+use Rattle.script_text.specs.Parts.{parts_at}
+
+found : (b : Bool) (q at : ℕ) → cond b (Some q) None ≡ Some at → (b ≡ true) × (q ≡ at)
+found true q at h = (refl, cc)
+found false q at h = absurd cc
+
+not_found : (b : Bool) (q : ℕ) → cond b (Some q) None ≡ None → b ≡ false
+not_found true q h = absurd cc
+not_found false q h = refl
+
+-- with the separator at this place, the first part ends there
+pub parted_at : (c : ℕ) (text : List ℕ) (at : ℕ) → position (λ b. eqb b c) text ≡ Some at
+    → (at < length text) × (parts_at c text ≡ take at text ∷ parts_at c (drop (at + 1) text))
+parted_at c text at h =
+    let first = position_or_len (λ b. eqb b c) text in
+    let f = found (ltb first (length text)) first at h in
+    let within : first < length text = grind (arith, nat_tests, f.0) in
+    let cut = slice_split_first (λ b. eqb b c) text 0 within in
+    (omega (arith, within, f.1), subst (λ (n : ℕ). parts_at c text ≡ take n text ∷ parts_at c (drop (n + 1) text)) f.1 cut)
+
+-- with no separator the text is one part
+one_part : (c : ℕ) (text : List ℕ) → ltb (position_or_len (λ b. eqb b c) text) (length text) ≡ false → slice_split (λ b. eqb b c) text ≡ text ∷ []
+one_part c text h =
+    let all : length text ≤ position_or_len (λ b. eqb b c) text = grind (arith, nat_tests, h) in
+    slice_split_none (λ b. eqb b c) text (λ k d lt. fails_before_first (λ b. eqb b c) text k d (omega (arith, lt, all)))
+
+pub not_parted : (c : ℕ) (text : List ℕ) → position (λ b. eqb b c) text ≡ None → parts_at c text ≡ text ∷ []
+not_parted c text h = one_part c text (not_found (ltb (position_or_len (λ b. eqb b c) text) (length text)) (position_or_len (λ b. eqb b c) text) h)
+
+-- a first part twice, and what is left
+pub three_parts : (c : ℕ) (text first behind second rest : List ℕ) → parts_at c text ≡ first ∷ parts_at c behind → parts_at c behind ≡ second ∷ parts_at c rest
+    → 3 ≤ length (parts_at c text)
+three_parts c text first behind second rest h k =
+    let all : length (parts_at c text) ≡ length (first ∷ second ∷ parts_at c rest) = ap length (h ∙ ap (λ (t : List (List ℕ)). first ∷ t) k) in
+    let some : 0 < length (parts_at c rest) = omega (arith, length-slice_split (λ b. eqb b c) rest) in
+    omega (arith, all, some)
