@@ -1,10 +1,9 @@
 #!/usr/bin/env python3
 """Answers `check` and `run` from the rules alone, for comparison with the program.
 
-A node is the set of facts that reached it, and each answer is computed anew from that set.
-Usage: oracle.py [--messages] check|run < input
-
-With --messages it reads scripts of nodes that exchange messages too, a form that the program does not read.
+A node is the set of facts that reached it, and each answer is computed anew from that set. A message is a summary of the set
+that a node had, or that and the whole set of the node that answered it.
+Usage: oracle.py check|run < input
 """
 
 import sys
@@ -112,19 +111,9 @@ STEPS = {
 }
 
 
-OF_MESSAGES = ("ask", "answer", "absorb")
-
-
-class Grammar:
-    """The steps that scripts may have."""
-
-    def __init__(self, has_messages=False):
-        self.steps = {kind: forms for kind, forms in STEPS.items() if has_messages or kind not in OF_MESSAGES}
-
-
-def step_of(grammar, line, count):
+def step_of(line, count):
     kind, *words = line.split(" ")
-    forms = grammar.steps.get(kind)
+    forms = STEPS.get(kind)
     if forms is None or len(words) != len(forms):
         raise BadLine
     tops = {"n": 65535, "f": count, "m": 2**32 - 1, "g": 65535, "q": MAX_NUMBER, "o": PAGE_LEN, "l": PAGE_LEN}
@@ -159,9 +148,8 @@ class Reader:
 
 
 class ScriptReader(Reader):
-    def __init__(self, grammar):
+    def __init__(self):
         super().__init__()
-        self.grammar = grammar
         self.has_gone = False
         self.nodes = None
         self.steps = []
@@ -176,7 +164,7 @@ class ScriptReader(Reader):
         else:
             if len(self.steps) == MOST_LINES:
                 raise BadLine
-            self.steps.append(step_of(self.grammar, line, len(self.facts)))
+            self.steps.append(step_of(line, len(self.facts)))
 
 
 def bad_line(text, read_line):
@@ -289,7 +277,7 @@ class Fleet:
 # Texts
 
 
-def check(text, _grammar=None):
+def check(text):
     """The output and the status."""
     reader = Reader()
     bad = bad_line(text, reader.fact_line)
@@ -301,9 +289,9 @@ def check(text, _grammar=None):
     return f"sound {len(reader.facts)}\n", 0
 
 
-def run(text, grammar):
+def run(text):
     """The output and the status."""
-    reader = ScriptReader(grammar)
+    reader = ScriptReader()
     bad = bad_line(text, reader.line)
     if bad is None and reader.nodes is None:
         bad = text.count("\n") + 1
@@ -321,11 +309,9 @@ TASKS = {"check": check, "run": run}
 
 def main():
     words = sys.argv[1:]
-    grammar = Grammar("--messages" in words)
-    tasks = [word for word in words if word != "--messages"]
-    if len(tasks) != 1 or tasks[0] not in TASKS:
-        sys.exit("usage: oracle.py [--messages] check|run < input")
-    output, status = TASKS[tasks[0]](sys.stdin.buffer.read().decode("latin-1"), grammar)
+    if len(words) != 1 or words[0] not in TASKS:
+        sys.exit("usage: oracle.py check|run < input")
+    output, status = TASKS[words[0]](sys.stdin.buffer.read().decode("latin-1"))
     sys.stdout.write(output)
     sys.exit(status)
 

@@ -15,6 +15,7 @@ from functools import partial
 
 import compare
 import compare_captures
+import oracle
 import scripts
 
 sys.path.insert(0, str(pathlib.Path(__file__).resolve().parent / "fail_alloc"))
@@ -74,6 +75,7 @@ TEXTS = [
     ("run", SCRIPT, 0, b"changed\npage 61\n"),
     ("run", b"go\nnodes 1\n", 0, b""),
     ("run", b"go\nnodes 64\njoin 64 1\nsame 1 64\njoin 65 64\nwipe 0\n", 0, b"joined\nyes\nno node 65\nno node 0\n"),
+    ("run", b"go\nnodes 2\nask 2\nanswer 1 1\nabsorb 2 2\nabsorb 2 1\nanswer 3 2\n", 0, b"message 1\nmessage 2\nabsorbed\nno message 1\nno node 3\n"),
     ("run", b"go\nnodes 65\n", 2, b"bad line 2\n"),
     ("inspect", b"04\nzz\n", 0, b"wire 2\nbad hex\n"),
     ("inspect", b"", 0, b""),
@@ -146,7 +148,7 @@ def failing_output(program):
 
 
 def random_scripts(program, rounds, seed, make):
-    counts, differs = compare.compare(program, rounds, seed, make)
+    counts, differs = compare.compare([program], rounds, seed, make)
     if differs:
         raise Failed(differs)
     return ", ".join(f"{counts[status]} {name}" for status, name in compare.NAMES.items())
@@ -163,20 +165,36 @@ SLACK = 64 * 1024  # of what an inspection holds beside its input
 TABLES = 4 * 1024 * 1024  # of what the laws of a log hold for each epoch
 
 
+SWEPT = (
+    # example, task, what an allocation may ask for beyond the input's size
+    ("readers", "run", TABLES),
+    ("merge", "run", TABLES),
+    ("gossip", "run", TABLES),
+    ("unsound", "check", TABLES),
+    ("capture", "inspect", SLACK),
+)
+
+
+def example(name):
+    return (ROOT / f"examples/{name}.txt").read_bytes()
+
+
 def refused_allocations(program):
     """Each allocation of a small run, check and inspection is refused in turn, and none is much larger than there is cause for."""
     told = []
+    asked = {line.split(b" ")[0].decode() for line in example("gossip").split(b"go\n")[1].splitlines()}
+    expect("the steps that the script of gossip lacks", set(oracle.STEPS) - asked, set())
     with tempfile.TemporaryDirectory() as folder:
         shim = sweep.build_shim(folder)
-        for name, task, slack in (("readers", "run", TABLES), ("merge", "run", TABLES), ("unsound", "check", TABLES), ("capture", "inspect", SLACK)):
-            text = (ROOT / f"examples/{name}.txt").read_bytes()
+        for name, task, slack in SWEPT:
+            text = example(name)
             total, wanting, bad = sweep.sweep([program, task], text, shim)
             if bad or not wanting:
-                raise Failed(f"{task}: {wanting} of {total} refusals answered by status 5; otherwise {bad[:3]}")
+                raise Failed(f"{name}: {wanting} of {total} refusals answered by status 5; otherwise {bad[:3]}")
             most = sweep.greatest([program, task], text, shim)[1]
             if most > len(text) + slack:
-                raise Failed(f"{task}: an allocation of {most} bytes for an input of {len(text)}")
-            told.append(f"{task} {wanting} of {total}, the greatest {most} bytes")
+                raise Failed(f"{name}: an allocation of {most} bytes for an input of {len(text)}")
+            told.append(f"{name} {wanting} of {total}, the greatest {most} bytes")
     return "; ".join(told)
 
 
@@ -224,6 +242,7 @@ def tests(rounds, seed):
         "counts that promise too much": hostile_counts,
         "random logs and scripts": partial(random_scripts, rounds=rounds, seed=seed, make=scripts.random_input),
         "random nodes that join": partial(random_scripts, rounds=rounds, seed=seed, make=scripts.input_of_joins),
+        "random nodes that gossip": partial(random_scripts, rounds=rounds, seed=seed, make=scripts.input_of_gossip),
         "random captures": partial(random_captures, rounds=max(1, rounds // 10), seed=seed),
     }
 

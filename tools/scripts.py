@@ -1,5 +1,5 @@
 """Random small logs and scripts: sound and unsound, with truncations, waiting facts, several readers, repeats and spoilt lines, and
-scripts of several nodes that join, each after folds and discards of its own."""
+scripts of several nodes that join, each after folds and discards of its own, or that gossip, by late and repeated messages."""
 
 from dataclasses import replace
 
@@ -120,18 +120,17 @@ def spoil(choose, log):
 
 KINDS = ["take"] * 10 + ["fold"] * 4 + ["discard"] * 3 + ["read"] * 10 + ["front"] * 3
 KINDS += ["join"] * 4 + ["same"] * 3 + ["covers"] * 4 + ["wipe"]
-KINDS_OF_MESSAGES = ["ask"] * 5 + ["answer"] * 5 + ["absorb"] * 6
+KINDS += ["ask"] * 5 + ["answer"] * 5 + ["absorb"] * 6
 PAGES = 4
 
 
 class Steps:
     """Steps that mostly take facts first, read near their numbers, and use messages of the right kind."""
 
-    def __init__(self, choose, log, nodes, has_messages):
+    def __init__(self, choose, log, nodes):
         self.choose = choose
         self.facts = len(log)
         self.nodes = nodes
-        self.kinds = KINDS + KINDS_OF_MESSAGES if has_messages else KINDS
         self.points = [0] + [r.number + d for r in log if isinstance(r, Record) for d in (0, 0, 0, -1, 1)]
         self.points += [a.point for a in log if isinstance(a, Advance)]
         self.uses = []  # of each message: the kind of step that it is for
@@ -167,13 +166,38 @@ class Steps:
         pages = [page for page in range(PAGES) if self.choose.random() < 0.5]
         return [f"fold {node} {page}" for page in pages] + [f"discard {node}"] * (self.choose.random() < 0.7)
 
-    def note(self, kind, values):
-        """Follows which messages there are."""
+    def line(self, kind, *values):
+        """The line of a step. Follows which messages there are."""
         is_there = 1 <= values[0] <= self.nodes
         if is_there and kind == "ask":
             self.uses.append("answer")
         if is_there and kind == "answer" and 1 <= values[1] <= len(self.uses) and self.uses[values[1] - 1] == "answer":
             self.uses.append("absorb")
+        return " ".join([kind, *(str(v) for v in values)])
+
+    def between(self, node):
+        """What may come between two messages: folds and a discard, some facts, a wipe, or nothing."""
+        way = self.choose.random()
+        if way < 0.35:
+            return self.shed(node)
+        if way < 0.55:
+            return [f"take {node} {place}" for place in range(1, self.facts + 1) if self.choose.random() < 0.3]
+        return [f"wipe {node}"] * (way < 0.65)
+
+    def latest(self, kind):
+        """Mostly the last message that is for the step."""
+        fits = [i + 1 for i, use in enumerate(self.uses) if use == kind]
+        return fits[-1] if fits and self.choose.random() < 0.7 else self.message(kind)
+
+    def exchange(self):
+        """A node asks, another one answers, and the first one absorbs, or a third one, perhaps twice, or an older answer."""
+        asker, answerer = self.node(), self.node()
+        lines = [self.line("ask", asker), *self.between(asker), *self.between(answerer)]
+        lines += [self.line("answer", answerer, self.latest("answer")), *self.between(asker), *self.between(answerer)]
+        for _ in range(self.choose.choice((0, 1, 1, 1, 2, 3))):
+            node = asker if self.choose.random() < 0.75 else self.node()
+            lines += [self.line("absorb", node, self.latest("absorb")), *self.between(node)]
+        return lines
 
     def lines(self):
         lines = []
@@ -181,21 +205,21 @@ class Steps:
             if self.choose.random() < 0.8:
                 lines += self.takes(node)
         for _ in range(self.choose.randrange(0, 60)):
-            kind = self.choose.choice(self.kinds)
+            kind = self.choose.choice(KINDS)
             if kind == "take" and self.facts == 0:
                 continue
             values = [self.value(form, kind) for form in oracle.STEPS[kind]]
             if kind == "join" and self.choose.random() < 0.8:
                 lines += [line for node in values for line in self.shed(node)]
-            lines.append(" ".join([kind, *(str(v) for v in values)]))
-            self.note(kind, values)
+            lines.append(self.line(kind, *values))
         return lines
 
-    def looks(self):
-        """What every node answers, and how every two compare."""
-        nodes = range(1, self.nodes + 1)
+    def looks(self, most=1000):
+        """What every node answers, and how every two compare. Of the points to read at, so many at most."""
+        nodes, points = range(1, self.nodes + 1), sorted({point for point in self.points if point >= 0})
+        chosen = self.choose.sample(points, min(most, len(points)))
         lines = [f"front {node}" for node in nodes]
-        lines += [f"read {node} {page} {point} 0 12" for node in nodes for page in range(PAGES) for point in sorted(set(self.points)) if point >= 0]
+        lines += [f"read {node} {page} {point} 0 12" for node in nodes for page in range(PAGES) for point in chosen]
         return lines + [f"{kind} {i} {j}" for kind in ("same", "covers") for i in nodes for j in nodes]
 
 
@@ -263,7 +287,7 @@ def spoilt(choose, text):
     return text[:place] + character + text[place + choose.randrange(2) :]
 
 
-def random_input(choose, has_messages=False):
+def random_input(choose):
     """A task and a text for it."""
     if choose.random() < 0.1:
         return "check", edge_line(choose) + "\n"
@@ -276,21 +300,35 @@ def random_input(choose, has_messages=False):
     if task == "run":
         nodes = choose.choice((1, 1, 1, 2, 2, 2, 3, 3, 4, 4, 64))
         named = nodes if choose.random() < 0.97 else choose.choice((0, 1, 64, 65))
-        lines += ["go", f"nodes {named}", *Steps(choose, log, nodes, has_messages).lines()]
+        lines += ["go", f"nodes {named}", *Steps(choose, log, nodes).lines()]
     text = "".join(line + "\n" for line in lines)
     if text and choose.random() < 0.1:
         text = spoilt(choose, text)
     return task, text
 
 
-def input_of_joins(choose, has_messages=False):
+def sound_script(choose, roster, nodes):
+    """The steps of a script over a sound log, and the lines before those that all nodes have to make in the end."""
+    log = random_log(choose, roster)
+    steps = Steps(choose, log, nodes)
+    return steps, [f"roster {roster}"] * (roster > 1) + [fact.line() for fact in log] + ["go", f"nodes {nodes}"] + steps.lines()
+
+
+def input_of_joins(choose):
     """A script of several nodes over a sound log that joins them all, and then asks each node for all that it can answer."""
     roster, nodes = choose.choice((1, 1, 2, 3)), choose.choice((2, 2, 3, 4))
-    log = random_log(choose, roster)
-    steps = Steps(choose, log, nodes, has_messages)
-    lines = [f"roster {roster}"] * (roster > 1) + [fact.line() for fact in log] + ["go", f"nodes {nodes}"] + steps.lines()
+    steps, lines = sound_script(choose, roster, nodes)
     order = list(range(1, nodes + 1))
     choose.shuffle(order)
     for i, j in zip(order, order[1:] + order[:1]):
         lines += [*steps.shed(i), *steps.shed(j), f"join {i} {j}"]
     return "run", "".join(line + "\n" for line in lines + steps.looks())
+
+
+def input_of_gossip(choose):
+    """A script of two to eight nodes over a sound log that exchange messages, and then answer what each has of it."""
+    roster, nodes = choose.choice((1, 1, 2, 3)), choose.randrange(2, 9)
+    steps, lines = sound_script(choose, roster, nodes)
+    for _ in range(choose.randrange(2, 3 * nodes)):
+        lines += steps.exchange()
+    return "run", "".join(line + "\n" for line in lines + steps.looks(5))
