@@ -33,6 +33,14 @@ impl ReadPoints {
         Ok(ReadPoints { by_reader })
     }
 
+    /// These points of 1 to 15 readers, reader 1's first. It takes no memory.
+    pub fn from_vec(points: Vec<u64>) -> Self
+        requires { IsRoster (length points.items) }
+        ensures { result ≡ points.items }
+    {
+        ReadPoints { by_reader: points }
+    }
+
     /// Equal points with memory of their own. Its only error is want of memory.
     pub fn copy(&self) -> Result<Self, AllocError>
         ensures { IfOk result (λ p. p ≡ self.now) }
