@@ -13,12 +13,13 @@ use std::alloc::{AllocError, Global};
 /// A record's key, page and backlinks, and its place in the log (from 0).
 #[derive(Clone, Copy, Drop)]
 struct Item {
+    // By falling size, so that little is padded: a log has many.
     place: usize,
-    epoch: u16,
     number: u64,
-    page: u16,
     back: u64,
     block_back: u64,
+    epoch: u16,
+    page: u16,
 }
 
 /// A place (from 0) whose record keeps law 2 and breaks law 3 or 4.

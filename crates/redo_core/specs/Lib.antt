@@ -1,6 +1,7 @@
 pub mod Writes
 pub mod Data
 pub mod Body
+pub mod KeptBody
 pub mod Shape
 pub mod Writing
 pub mod Sets

@@ -1,10 +1,10 @@
-ghost use Rattle.std.specs.Prelude.{◌≡◌, ◌↔◌, IsTrue, IfOk, None};
+ghost use Rattle.std.specs.Prelude.{◌≡◌, ◌↔◌, IsTrue, IfOk, IfErr, None};
 ghost use Rattle.redo_core.specs.Sound.{HasShape};
 
 use crate::advances::Advance;
 use crate::cuts::Cut;
 use crate::records::Record;
-use std::alloc::AllocError;
+use std::alloc::{AllocError, AllocFailed};
 
 /// What a database tells its segments: a redo record, a truncation, or an advance of a reader's point.
 #[derive(Debug, Drop)]
@@ -15,11 +15,28 @@ pub enum Fact {
 }
 
 impl Fact {
-    /// An equal fact with memory of its own. Its only error is want of memory.
+    /// An equal fact: with memory of its own, unless this one is shared. Its only error is want of memory.
     pub fn copy(&self) -> Result<Self, AllocError>
         ensures { IfOk result (λ f. f ≡ self.now) }
     {
         self.clone()
+    }
+
+    /// An equal fact, whose copies share its patches as those of a shared record do. The only error is want of memory, and gives
+    /// the fact back.
+    pub fn share(self) -> Result<Self, AllocFailed<Self>>
+        ensures ok { IfOk result (λ f. f ≡ self) }
+        ensures err { IfErr result (λ e. e.value ≡ self) }
+    {
+        match self {
+            Fact::Record(redo) => match redo.share() {
+                Ok(redo) => Ok(Fact::Record(redo)),
+                Err(refused) => Err(AllocFailed {
+                    value: Fact::Record(refused.value),
+                }),
+            },
+            other => Ok(other),
+        }
     }
 
     /// Whether the other fact is this one.

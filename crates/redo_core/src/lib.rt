@@ -10,6 +10,7 @@ mod contents;
 mod cuts;
 mod facts;
 mod fixed;
+mod kept_bodies;
 mod laws;
 mod pages;
 mod patches;

@@ -5,7 +5,7 @@ ghost use Rattle.redo_core.specs.Shape.{is_empty_patch, is_patch_off_page, bytes
 
 use crate::shapes::PAGE_LEN;
 use crate::writes::Write;
-use std::alloc::AllocError;
+use std::alloc::{AllocError, Global};
 
 /// What a redo record does at one place of its page: a write of bytes, or one byte over a length.
 #[derive(Debug, Drop)]
@@ -82,6 +82,14 @@ impl Patch {
 }
 
 impl Body {
+    /// Where its memory comes from.
+    pub(crate) fn allocator(&self) -> Global {
+        match self {
+            Body::Writes(writes) => *writes.allocator(),
+            Body::Patches(patches) => *patches.allocator(),
+        }
+    }
+
     /// An equal body with memory of its own. Its only error is want of memory.
     pub fn copy(&self) -> Result<Self, AllocError>
         ensures { IfOk result (λ b. patches_of b ≡ patches_of self.now) }

@@ -5,37 +5,38 @@ ghost use Rattle.redo_core.specs.Shape.{record_fault, patches_fault, max_number}
 ghost use Rattle.redo_core.specs.declared.patches.Patch.{Patch};
 
 use crate::contents::{patches_fault, writes_fault};
+use crate::kept_bodies::KeptBody;
 use crate::patches::{Body, Patch};
 use crate::refusal::Refused;
 use crate::shapes::{MAX_NUMBER, ShapeFault};
 use crate::writes::Write;
-use std::alloc::AllocError;
+use std::alloc::{AllocError, AllocFailed};
 use std::marker::Model;
 
 /// A redo record: patches to one page, with a number, a backlink in the segment's chain and one in the page's.
 /// With `init` its page begins anew, whatever was written to it before.
 #[derive(Debug, Drop)]
 pub struct Record {
-    epoch: u16,
+    // By falling size, so that nothing is padded: logs hold many records.
     number: u64,
     back: u64,
-    page: u16,
     block_back: u64,
+    body: KeptBody,
+    epoch: u16,
+    page: u16,
     init: bool,
-    body: Body,
 }
 
 impl Model for Record {
     ghost use Rattle.std.specs.Prelude.{◌≡◌, None};
     ghost use Rattle.redo_core.specs.Data.{RecordData, record_with};
-    ghost use Rattle.redo_core.specs.Body.{patches_of};
     ghost use Rattle.redo_core.specs.Shape.{record_fault};
 
     ghost Value = { RecordData };
 
-    ghost view = { λ r. record_with r.epoch r.number r.back r.page r.block_back r.init (patches_of r.body) };
+    ghost view = { λ r. record_with r.epoch r.number r.back r.page r.block_back r.init r.body };
 
-    ghost invariant = { λ r. record_fault (record_with r.epoch r.number r.back r.page r.block_back r.init (patches_of r.body)) ≡ None };
+    ghost invariant = { λ r. record_fault (record_with r.epoch r.number r.back r.page r.block_back r.init r.body) ≡ None };
 }
 
 impl Record {
@@ -66,7 +67,7 @@ impl Record {
                 page,
                 block_back,
                 init: false,
-                body: Body::Writes(writes),
+                body: KeptBody::of_one(Body::Writes(writes)),
             }),
         }
     }
@@ -98,7 +99,7 @@ impl Record {
                 page,
                 block_back,
                 init,
-                body: Body::Patches(patches),
+                body: KeptBody::of_one(Body::Patches(patches)),
             }),
         }
     }
@@ -165,14 +166,49 @@ impl Record {
         ensures patches { patches_of result.now ≡ self.now.patches }
         ensures shape { record_fault self.now ≡ None }
     {
-        &self.body
+        self.body.body()
     }
 
-    /// An equal record with memory of its own. Its only error is want of memory.
+    /// An equal record: with memory of its own, unless this one is shared. Its only error is want of memory.
     pub fn copy(&self) -> Result<Self, AllocError>
         ensures { IfOk result (λ r. r ≡ self.now) }
     {
         self.clone()
+    }
+
+    /// An equal record whose copies share its patches, so that a copy allocates nothing. The only error is want of memory, and gives
+    /// the record back.
+    pub fn share(self) -> Result<Self, AllocFailed<Self>>
+        ensures ok { IfOk result (λ r. r ≡ self) }
+        ensures err { IfErr result (λ e. e.value ≡ self) }
+    {
+        let Record {
+            epoch,
+            number,
+            back,
+            page,
+            block_back,
+            init,
+            body,
+        } = self;
+        let (body, is_shared) = match body.share() {
+            Ok(body) => (body, true),
+            Err(refused) => (refused.value, false),
+        };
+        let redo = Record {
+            epoch,
+            number,
+            back,
+            page,
+            block_back,
+            init,
+            body,
+        };
+        if is_shared {
+            Ok(redo)
+        } else {
+            Err(AllocFailed { value: redo })
+        }
     }
 
     /// Whether the other record is this one, patch by patch: a fill is another patch than a write of equal bytes.
@@ -185,7 +221,7 @@ impl Record {
             && self.page == other.page
             && self.block_back == other.block_back
             && self.init == other.init
-            && self.body.is_same(&other.body)
+            && self.body.body().is_same(other.body.body())
     }
 }
 

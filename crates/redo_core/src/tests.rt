@@ -228,6 +228,17 @@ fn records_of_two_forms_are_the_same_by_their_patches(rt: HostRuntime) -> Result
 }
 
 #[test]
+fn a_copy_of_a_shared_record_outlives_it(rt: HostRuntime) -> Result<(), Fail> {
+    let alloc = rt.alloc();
+    let shared = filled(alloc, true)?.share()?;
+    let copied = shared.copy()?;
+    drop(shared);
+    assert!(rt; copied.is_same(&filled(alloc, true)?));
+    assert!(rt; copied.copy()?.share()?.is_same(&copied));
+    Ok(())
+}
+
+#[test]
 fn laws_are_numbered(rt: HostRuntime) {
     let laws = [
         (Law::OneFactPerKey, 1),

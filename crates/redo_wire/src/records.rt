@@ -90,7 +90,7 @@ fn read_record_part(
         init,
         patches,
     ) {
-        Ok(record) => Ok((record, rest)),
+        Ok(record) => Ok((record.share()?, rest)),
         Err(_) => Err(WireError::Fault(WireFault::Shape)),
     }
 }
