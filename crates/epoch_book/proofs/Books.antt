@@ -1,6 +1,6 @@
 -- What a book is, and knows, after a fact.
-use Rattle.std.proofs.Common.{◌≡◌, ◌≢◌, ℕ, zero, suc, ◌-◌, ◌<◌, ◌≤◌, ◌⊎◌, ◌↔◌, inl, inr, ⊎_elim, List, [], ◌∷◌, ◌++◌, length, get_or, replicate, drop, max, ltb, refl, sym, ap, ◌∙◌, subst, arith, true, None}
-use Rattle.std.specs.List.{Contains, All, AllWithin, filter, insert}
+use Rattle.std.proofs.Common.{◌≡◌, ◌≢◌, ℕ, zero, suc, ◌-◌, ◌<◌, ◌≤◌, ◌⊎◌, ◌↔◌, inl, inr, ⊎_elim, List, [], ◌∷◌, ◌++◌, length, get_or, replicate, max, ltb, refl, sym, ap, ◌∙◌, subst, arith, true, None}
+use Rattle.std.specs.List.{Contains, All, filter, insert}
 use Rattle.std.specs.List.Sorted.{IsPartitionPoint}
 use Rattle.std.proofs.lemmas.List.Elements.{All-contains, All-filter}
 use Rattle.std.proofs.lemmas.Bool.Decides.{nat_tests}
@@ -12,13 +12,11 @@ use Rattle.redo_core.specs.Order.{IsRising, IsGreatest, CutBefore, AdvanceBefore
 use Rattle.redo_core.specs.Roster.{IsRoster, IsReader, point_of}
 use Rattle.redo_core.specs.Points.{HasAdvance, ArePoints, RaisesPoints}
 use Rattle.redo_core.specs.CompleteEpoch.{HasCutsTo, IsCompleteEpoch}
-use Rattle.redo_core.specs.Standing.{IsAlive}
 use Rattle.redo_core.specs.declared.facts.Fact.TheVariants.{Cut, Advance}
 use Rattle.epoch_book.specs.Book.{BookData, book_of, roster_of, IsBook}
 use Rattle.epoch_book.specs.Knowing.{KnowsFacts, KnowsMore}
 use Rattle.epoch_book.specs.Learning.{LearnsCut, LearnsAdvance}
-use Rattle.epoch_book.specs.Scanning.{SparesIn}
-use Rattle.redo_core.proofs.Members.{none_in, here, there, which, all_members, contains_insert, filtered, passed}
+use Rattle.redo_core.proofs.Members.{none_in, here, which, all_members, contains_insert, filtered, passed}
 use Rattle.redo_core.proofs.Rising.{rising_insert_at, rising_filter}
 use Rattle.epoch_book.proofs.Facts.{cuts_with_cut, advances_with_cut, cuts_with_advance, advances_with_advance, no_cuts, no_advances}
 
@@ -190,6 +188,9 @@ inserted P xs i x p all = all_members P (insert xs i x)
 pub epochs_fit : (b : BookData) (i : ℕ) (c : CutData) → IsBook b → c.epoch < 65536 → All (λ d. d.epoch < 65536) (insert b.cuts i c)
 epochs_fit b i c book l = inserted (λ d. d.epoch < 65536) b.cuts i c l book.epochs_fit
 
+pub cuts_shaped : (b : BookData) (i : ℕ) (c : CutData) → IsBook b → cut_fault c ≡ None → All (λ d. cut_fault d ≡ None) (insert b.cuts i c)
+cuts_shaped b i c book shaped = inserted (λ d. cut_fault d ≡ None) b.cuts i c shaped book.cuts_shaped
+
 -- the truncations known before are known with one more
 pub still_known : (b : BookData) (i : ℕ) (c : CutData) → IsBook b → HasCutsTo (insert b.cuts i c) b.complete
 still_known b i c book = more_known b.cuts (insert b.cuts i c) b.complete (λ d h. (contains_insert b.cuts i c d).1 (inl h))
@@ -200,7 +201,7 @@ pub cut_book : (b : BookData) (i : ℕ) (c : CutData) (k : ℕ) (n : List ℕ) (
     → RaisesPoints k b.points b.waits n → ws ≡ filter (λ a. ltb k a.epoch) b.waits → IsBook (book_of (insert b.cuts i c) k n ws)
 cut_book b i c k n ws book l gap shaped fits complete greatest e = record {
   cuts_rise = cuts_rise b i c book l gap;
-  cuts_shaped = inserted (λ d. cut_fault d ≡ None) b.cuts i c shaped book.cuts_shaped;
+  cuts_shaped = cuts_shaped b i c book shaped;
   epochs_fit = epochs_fit b i c book fits;
   complete = complete;
   roster = subst IsRoster (sym greatest.count) book.roster;
@@ -394,30 +395,3 @@ advance_knows old a new learns facts knows = record {
         (λ (q : w ≡ a). inr q)
         ((advances_with_advance facts a w).0 h.0)))
         cases
-
--- the truncations from a place on decide a standing
-split_from : (cs : List CutData) (e i : ℕ) (c : CutData) → AllWithin (λ d. d.epoch < e) cs 0 i → Contains cs c → (c.epoch < e) ⊎ Contains (drop i cs) c
-split_from cs e zero c before h = inr h
-split_from [] e (suc i) c before h = absurd (none_in c h)
-split_from (d ∷ cs) e (suc i) c before h =
-    ⊎_elim
-    (λ (q : d ≡ c). inl (subst (λ x. x.epoch < e) q (before 0 d (omega arith) (omega arith))))
-    (λ (p : Contains cs c). split_from cs e i c (λ k x l m. before (suc k) x (omega arith) (omega arith)) p)
-    (which d cs c h)
-
-rest_in : (cs : List CutData) (i : ℕ) (c : CutData) → Contains (drop i cs) c → Contains cs c
-rest_in cs zero c h = h
-rest_in [] (suc i) c h = h
-rest_in (d ∷ cs) (suc i) c h = there d cs c (rest_in cs i c h)
-
-pub alive_from : (cs : List CutData) (k e n i : ℕ) → e ≤ k → AllWithin (λ d. d.epoch < e) cs 0 i → All (SparesIn k e n) (drop i cs) → IsAlive cs k e n
-alive_from cs k e n i l before all = record {
-  known = l;
-  begun = λ c h q. ⊎_elim (λ (s : c.epoch < e). absurd (omega arith)) (λ (r : Contains (drop i cs) c). (All-contains (SparesIn k e n) (drop i cs) c all r).0 q)
-      (split_from cs e i c before h);
-  spared = λ c h q m. ⊎_elim (λ (s : c.epoch < e). absurd (omega arith))
-      (λ (r : Contains (drop i cs) c). (All-contains (SparesIn k e n) (drop i cs) c all r).1 q m) (split_from cs e i c before h);
-}
-
-pub spared_from : (cs : List CutData) (k e n i : ℕ) → IsAlive cs k e n → All (SparesIn k e n) (drop i cs)
-spared_from cs k e n i alive = all_members (SparesIn k e n) (drop i cs) (λ c h. (alive.begun c (rest_in cs i c h), alive.spared c (rest_in cs i c h)))

@@ -1,5 +1,5 @@
 -- What a search among a book's truncations and waiting advances tells of membership.
-use Rattle.std.proofs.Common.{◌≡◌, ℕ, ◌<◌, ◌≤◌, ◌⊎◌, ◌↔◌, inr, ⊎_elim, List, length, get_or, refl, sym, ap, subst, arith, Result, Ok, Err, IfOk, IfErr, IsTrue}
+use Rattle.std.proofs.Common.{◌≡◌, ℕ, ◌<◌, ◌≤◌, ◌⊎◌, ◌↔◌, inr, ⊎_elim, List, length, get_or, refl, sym, subst, arith, Result, Ok, Err, IfOk, IfErr, IsTrue}
 use Rattle.std.specs.List.{Contains}
 use Rattle.std.specs.List.Sorted.{IsPartitionPoint}
 use Rattle.std.specs.Result.{is_ok}

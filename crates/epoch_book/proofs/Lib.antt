@@ -3,6 +3,7 @@ pub mod Places
 pub mod Scans
 pub mod Facts
 pub mod Books
+pub mod Least
 pub mod OneReason
 pub mod SoundLogs
 mod Raising

@@ -1,13 +1,11 @@
 -- Scans of a book's lists.
 use Rattle.std.proofs.Common.{◌≡◌, ℕ, zero, suc, ◌<◌, ◌≤◌, ◌⊎◌, ◌↔◌, ⊎_elim, List, [], ◌∷◌, length, get_or, refl, ap, arith, Result, Ok, Err, IfOk, IfErr, IsTrue}
-use Rattle.std.specs.List.{AllWithin, HoldsAt}
+use Rattle.std.specs.List.{HoldsAt}
 use Rattle.std.specs.List.Sorted.{IsPartitionPoint}
 use Rattle.redo_core.specs.Data.{CutData}
-use Rattle.redo_core.specs.Order.{IsRising, CutBefore}
 use Rattle.epoch_book.specs.Scanning.{HasCut}
 use Rattle.epoch_book.specs.Refusing.{LacksCut}
 use Rattle.std.specs.Result.{is_ok}
-use Rattle.redo_core.proofs.Rising.{rising_at}
 
 -- the truncation at a place
 pub cut_at : (cs : List CutData) (e i : ℕ) → i < length cs → HoldsAt (λ c. c.epoch ≡ e) cs i → HasCut cs e
@@ -27,28 +25,6 @@ no_cut cs e i gap d h q = ⊎_elim
     (λ (l : i ≤ h.0). let b : e < (get_or cs h.0 d).epoch = gap.1 h.0 d l h.1 in let s : (get_or cs h.0 d).epoch ≡ d.epoch = ap (λ x. x.epoch) h.2 in
     omega arith)
     (let t : (h.0 < i) ⊎ (i ≤ h.0) = grind arith in t)
-
--- the truncations before the one of an epoch
-pub before_place : (cs : List CutData) (e i : ℕ) → IsRising CutBefore cs → (i < length cs) × HoldsAt (λ c. c.epoch ≡ e) cs i
-    → AllWithin (λ c. c.epoch < e) cs 0 i
-before_place cs e i rise at k d a b =
-    let l : (get_or cs k d).epoch < (get_or cs i d).epoch = rising_at CutBefore cs k i d d rise b at.0 in
-    let q : (get_or cs i d).epoch ≡ e = at.1 d in
-    omega arith
-
--- the truncation of an epoch and those after it
-pub from_place : (cs : List CutData) (e i : ℕ) → IsRising CutBefore cs → (i < length cs) × HoldsAt (λ c. c.epoch ≡ e) cs i
-    → AllWithin (λ c. e ≤ c.epoch) cs i (length cs)
-from_place cs e i rise at k d a b =
-    let q : (get_or cs i d).epoch ≡ e = at.1 d in
-    ⊎_elim
-    (λ (l : i < k). let m : (get_or cs i d).epoch < (get_or cs k d).epoch = rising_at CutBefore cs i k d d rise l b in omega arith)
-    (λ (s : i ≡ k). let t : (get_or cs i d).epoch ≡ (get_or cs k d).epoch = ap (λ n. (get_or cs n d).epoch) s in omega arith)
-    (let t : (i < k) ⊎ (i ≡ k) = grind arith in t)
-
--- those after a gap
-pub from_gap : (cs : List CutData) (e i : ℕ) → IsPartitionPoint (λ c. c.epoch < e) (λ c. e < c.epoch) cs i → AllWithin (λ c. e ≤ c.epoch) cs i (length cs)
-from_gap cs e i gap k d a b = let l : e < (get_or cs k d).epoch = gap.1 k d a b in omega arith
 
 -- whether a search finds a truncation
 pub found_cut : (cs : List CutData) (e : ℕ) (r : Result ℕ ℕ) → IfOk r (λ i. (i < length cs) × HoldsAt (λ c. c.epoch ≡ e) cs i)

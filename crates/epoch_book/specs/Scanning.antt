@@ -1,5 +1,5 @@
 -- Words for the scans of a book's lists.
-use Rattle.std.specs.Prelude.{◌≡◌, ℕ, ◌<◌, ◌≤◌, List}
+use Rattle.std.specs.Prelude.{◌≡◌, ℕ, ◌<◌, ◌≤◌, List, Option, Some, None}
 use Rattle.std.specs.List.{Contains}
 use Rattle.redo_core.specs.Data.{CutData}
 
@@ -7,6 +7,9 @@ use Rattle.redo_core.specs.Data.{CutData}
 abbrev pub HasCut : List CutData → ℕ → Type 0
 HasCut cs epoch = (c : CutData) × Contains cs c × (c.epoch ≡ epoch)
 
--- a truncation spares a number of an epoch in the view of epoch k
-abbrev pub SparesIn : ℕ → ℕ → ℕ → CutData → Type 0
-SparesIn k epoch number c = (c.epoch ≡ epoch → c.hi < number) × (epoch < c.epoch → c.epoch ≤ k → number ≤ c.lo)
+-- the least lo of the truncations of epochs above one and up to another, or none where there is no such truncation
+abbrev pub IsLeastLo : List CutData → ℕ → ℕ → Option ℕ → Type 0
+IsLeastLo cs above to None = (c : CutData) → Contains cs c → above < c.epoch → c.epoch ≤ to → ⊥
+IsLeastLo cs above to (Some lo) =
+    ((c : CutData) × Contains cs c × (above < c.epoch) × (c.epoch ≤ to) × (c.lo ≡ lo))
+    × ((c : CutData) → Contains cs c → above < c.epoch → c.epoch ≤ to → lo ≤ c.lo)

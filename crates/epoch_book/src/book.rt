@@ -1,16 +1,18 @@
-ghost use Rattle.std.specs.Prelude.{◌≡◌, ◌<◌, ◌≤◌, ◌⊎◌, ◌↔◌, List, [], length, replicate, IfOk, OnOk, OnErr, IfErr, IfSome, IsNone, Err as ErrOf, None};
+ghost use Rattle.std.specs.Prelude.{◌≡◌, ◌<◌, ◌≤◌, ◌⊎◌, ◌↔◌, List, [], length, replicate, IfOk, OnOk, OnErr, IfErr, IfSome, IsNone, IsTrue, Err as ErrOf, None};
 ghost use Rattle.std.specs.List.{Contains};
 ghost use Rattle.std.specs.List.Sorted.{IsPartitionPoint};
 ghost use Rattle.redo_core.specs.Shape.{cut_fault, advance_fault, epoch_count};
-ghost use Rattle.redo_core.specs.Order.{IsRising, CutBefore, AdvanceBefore};
+ghost use Rattle.redo_core.specs.Order.{IsRising, IsGreatest, CutBefore, AdvanceBefore};
 ghost use Rattle.redo_core.specs.CompleteEpoch.{IsCompleteEpoch};
 ghost use Rattle.redo_core.specs.Standing.{IsAlive, IsDead, IsWaiting};
 ghost use Rattle.redo_core.specs.declared.facts.Fact.TheVariants.{Cut as OfCut, Advance as OfAdvance};
 ghost use Rattle.redo_core.specs.Roster.{IsReader, point_of, least};
 ghost use Rattle.epoch_book.specs.Book.{IsBook, book_of, roster_of};
+ghost use Rattle.epoch_book.specs.Lows.{CutsAt};
 ghost use Rattle.epoch_book.specs.Knowing.{KnowsFacts, KnowsMore};
 ghost use Rattle.epoch_book.specs.Learning.{LearnsCut, LearnsAdvance, KnowsAdvance};
 ghost use Rattle.epoch_book.specs.Refusing.{LacksCut, RefusesCut, RefusesAdvance};
+ghost use Rattle.epoch_book.specs.Scanning.{IsLeastLo};
 ghost use Rattle.epoch_book.specs.declared.refusals.BookRefusal.{BookRefusal as AnyRefusal};
 ghost use Rattle.epoch_book.specs.declared.refusals.BookRefusal.TheVariants.{Contradiction as ContradictionOf, Memory as MemoryOf};
 ghost use Rattle.epoch_book.specs.declared.refusals.Held.{Held as AnyHeld};
@@ -19,7 +21,7 @@ ghost use Rattle.epoch_book.specs.declared.standing.Standing.TheVariants.{Alive 
 
 use crate::refusals::{BookRefusal, Held, Learnt};
 use crate::standing::Standing;
-use crate::{advances, cuts, points};
+use crate::{advances, cuts, lows, points};
 use redo_core::{Advance, Cut, ReadPoints, Roster};
 use std::alloc::{AllocError, Global};
 use std::marker::Model;
@@ -28,6 +30,8 @@ use std::marker::Model;
 #[derive(Debug, Drop)]
 pub struct EpochBook {
     pub(crate) cuts: Vec<Cut>,
+    // Below the complete epoch, the least `lo` of the truncations above each epoch and up to it.
+    pub(crate) lows: Vec<u64>,
     pub(crate) complete: u16,
     pub(crate) points: ReadPoints,
     pub(crate) waits: Vec<Advance>,
@@ -35,12 +39,13 @@ pub struct EpochBook {
 
 impl Model for EpochBook {
     ghost use Rattle.epoch_book.specs.Book.{BookData, IsBook, book_of};
+    ghost use Rattle.epoch_book.specs.Lows.{AreLows};
 
     ghost Value = { BookData };
 
     ghost view = { λ b. book_of b.cuts.items b.complete b.points b.waits.items };
 
-    ghost invariant = { λ b. IsBook (book_of b.cuts.items b.complete b.points b.waits.items) };
+    ghost invariant = { λ b. IsBook (book_of b.cuts.items b.complete b.points b.waits.items) × AreLows b.cuts.items b.complete b.lows.items };
 }
 
 impl EpochBook {
@@ -53,6 +58,7 @@ impl EpochBook {
         let points = ReadPoints::new(alloc, roster)?;
         Ok(EpochBook {
             cuts: Vec::new(alloc),
+            lows: Vec::new(alloc),
             complete: 0,
             points,
             waits: Vec::new(alloc),
@@ -65,6 +71,7 @@ impl EpochBook {
     {
         Ok(EpochBook {
             cuts: self.cuts.clone()?,
+            lows: self.lows.clone()?,
             complete: self.complete,
             points: self.points.clone()?,
             waits: self.waits.clone()?,
@@ -136,6 +143,10 @@ impl EpochBook {
     {
         self.cuts.insert(place, cut)?;
         let complete = cuts::complete_epoch_from(&self.cuts, self.complete);
+        let Ok(()) = lows::raise(&mut self.lows, &self.cuts, complete) else {
+            let _ = self.cuts.remove(place);
+            return Err(BookRefusal::Memory);
+        };
         points::raise_points(&mut self.points, &self.waits, complete);
         self.complete = complete;
         advances::keep_later(&mut self.waits, complete);
@@ -281,11 +292,34 @@ impl EpochBook {
         if epoch > self.complete {
             return Standing::Waiting;
         }
-        let from = cuts::first_from(&self.cuts, epoch);
-        if cuts::spare(&self.cuts[from..], self.complete, epoch, number) {
+        if self.is_alive(epoch, number) {
             Standing::Alive
         } else {
             Standing::Dead
         }
+    }
+
+    // Whether a record of a known epoch is alive.
+    fn is_alive(&self, epoch: u16, number: u64) -> bool
+        requires { epoch ≤ self.now.complete }
+        ensures { IsTrue result ↔ IsAlive self.now.cuts self.now.complete epoch number }
+    {
+        cuts::is_begun(&self.cuts, epoch, number) && lows::spare(&self.lows, epoch, number)
+    }
+
+    /// The greatest epoch up to the complete one whose truncation has its `lo` at or below a number, or 0 where none has.
+    pub fn last_cut_at(&self, number: u64) -> u16
+        ensures value { IsGreatest (CutsAt self.now number) result }
+        ensures book { IsBook self.now }
+    {
+        lows::count_to(&self.lows, number) as u16
+    }
+
+    /// The least `lo` of the truncations of the epochs above one and up to the complete one, or None where there is none.
+    pub fn least_lo(&self, above: u16) -> Option<u64>
+        ensures least { IsLeastLo self.now.cuts above self.now.complete result }
+        ensures book { IsBook self.now }
+    {
+        lows::low_above(&self.lows, above)
     }
 }

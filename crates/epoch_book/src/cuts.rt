@@ -1,12 +1,13 @@
-ghost use Rattle.std.specs.Prelude.{◌≡◌, ◌<◌, ◌≤◌, ◌↔◌, length, IsTrue, IfOk, IfErr, IfSome, IsNone};
-ghost use Rattle.std.specs.List.{All, AllWithin, HoldsAt, Contains};
+ghost use Rattle.std.specs.Prelude.{◌≡◌, ◌<◌, ◌≤◌, ◌↔◌, length, IsTrue, IfOk, IfErr, IfSome, IsNone, None};
+ghost use Rattle.std.specs.List.{All, HoldsAt, Contains};
 ghost use Rattle.std.specs.List.Sorted.{IsPartitionPoint};
-ghost use Rattle.redo_core.specs.Shape.{epoch_count};
+ghost use Rattle.redo_core.specs.Data.{CutData};
+ghost use Rattle.redo_core.specs.Shape.{cut_fault, epoch_count};
 ghost use Rattle.redo_core.specs.Order.{IsRising, CutBefore};
 ghost use Rattle.redo_core.specs.CompleteEpoch.{HasCutsTo, IsCompleteEpoch};
 ghost use Rattle.redo_core.specs.Roster.{IsReader};
 ghost use Rattle.epoch_book.specs.Refusing.{CutsBelow, IsFirst};
-ghost use Rattle.epoch_book.specs.Scanning.{HasCut, SparesIn};
+ghost use Rattle.epoch_book.specs.Scanning.{HasCut};
 
 use crate::points::others_past;
 use redo_core::{Advance, Cut, ReadPoints};
@@ -19,18 +20,6 @@ pub fn place_of_epoch(cuts: &[Cut], epoch: u16) -> Result<usize, usize>
         × IsPartitionPoint (λ c. c.epoch < epoch) (λ c. epoch < c.epoch) cuts.now i) }
 {
     cuts.binary_search_by_key(&epoch, |cut| cut.epoch())
-}
-
-// How many truncations of earlier epochs there are: where those from the epoch on begin.
-pub fn first_from(cuts: &[Cut], epoch: u16) -> usize
-    requires { IsRising CutBefore cuts.now }
-    ensures within { result ≤ length cuts.now }
-    ensures before { AllWithin (λ c. c.epoch < epoch) cuts.now 0 result }
-    ensures from { AllWithin (λ c. epoch ≤ c.epoch) cuts.now result (length cuts.now) }
-{
-    match place_of_epoch(cuts, epoch) {
-        Ok(place) | Err(place) => place,
-    }
 }
 
 fn has_epoch(cuts: &[Cut], epoch: u32) -> bool
@@ -95,23 +84,12 @@ pub fn first_against(
     None
 }
 
-fn is_spared(cut: &Cut, complete: u16, epoch: u16, number: u64) -> bool
-    ensures { IsTrue result ↔ SparesIn complete epoch number cut.now }
+// Whether a number is above the `hi` of its epoch's truncation, where all up to the epoch are there.
+pub fn is_begun(cuts: &[Cut], epoch: u16, number: u64) -> bool
+    requires rising { IsRising CutBefore cuts.now }
+    requires shaped { All (λ c. cut_fault c ≡ None) cuts.now }
+    requires known { HasCutsTo cuts.now epoch }
+    ensures { IsTrue result ↔ ((c : CutData) → Contains cuts.now c → c.epoch ≡ epoch → c.hi < number) }
 {
-    if cut.epoch() == epoch {
-        return cut.hi() < number;
-    }
-    cut.epoch() < epoch || cut.epoch() > complete || number <= cut.lo()
-}
-
-// Whether no truncation annuls the number of an epoch.
-pub fn spare(cuts: &[Cut], complete: u16, epoch: u16, number: u64) -> bool
-    ensures { IsTrue result ↔ All (SparesIn complete epoch number) cuts.now }
-{
-    for cut in cuts {
-        if !is_spared(cut, complete, epoch, number) {
-            return false;
-        }
-    }
-    true
+    epoch == 0 || cuts[usize::from(epoch) - 1].hi() < number
 }

@@ -10,6 +10,7 @@ mod book;
 mod cuts;
 mod known;
 mod laws;
+mod lows;
 mod parts;
 mod points;
 mod refusals;

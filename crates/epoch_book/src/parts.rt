@@ -1,32 +1,38 @@
 //! Books that are told as a whole, and not one fact after another.
-ghost use Rattle.std.specs.Prelude.{◌≡◌, ◌↔◌, ◌<◌, length, IsTrue};
+ghost use Rattle.std.specs.Prelude.{◌≡◌, ◌↔◌, ◌<◌, length, IsTrue, IfOk};
 ghost use Rattle.redo_core.specs.Roster.{IsRoster};
 ghost use Rattle.epoch_book.specs.Book.{IsBook, book_of};
 ghost use Rattle.epoch_book.specs.Contradicted.{IsContradicted};
 ghost use Rattle.epoch_book.specs.Refusing.{OthersPast};
 
 use crate::book::EpochBook;
+use crate::lows;
 use crate::points::is_past;
 use redo_core::{Advance, Cut, ReadPoints};
+use std::alloc::{AllocError, Global};
 
 impl EpochBook {
     /// The book of these truncations, with their complete epoch, each reader's point and the advances that wait. Whether they
-    /// contradict each other is not looked at. It takes no memory.
+    /// contradict each other is not looked at. Its only error is want of memory.
     pub fn from_parts(
+        alloc: Global,
         cuts: Vec<Cut>,
         complete: u16,
         points: ReadPoints,
         waits: Vec<Advance>,
-    ) -> Self
+    ) -> Result<Self, AllocError>
         requires { IsBook (book_of cuts.items complete points waits.items) }
-        ensures { result ≡ book_of cuts.items complete points waits.items }
+        ensures { IfOk result (λ b. b ≡ book_of cuts.items complete points waits.items) }
     {
-        EpochBook {
+        let mut least = Vec::new(alloc);
+        lows::raise(&mut least, &cuts, complete)?;
+        Ok(EpochBook {
             cuts,
+            lows: least,
             complete,
             points,
             waits,
-        }
+        })
     }
 }
 

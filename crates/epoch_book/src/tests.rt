@@ -110,6 +110,7 @@ fn standings(rt: HostRuntime) -> Result<(), Fail> {
         assert_eq!(rt; copied.stands(epoch, number), standing);
     }
     assert_eq!(rt; copied.cuts().len(), 2);
+    assert_eq!(rt; (copied.least_lo(0), copied.least_lo(2)), (Some(10), None));
     Ok(())
 }
 
@@ -139,5 +140,29 @@ fn a_reader_that_is_left_takes_no_harm(rt: HostRuntime) -> Result<(), Fail> {
     let passed = [Row::Min(2, 1, 9), Row::Min(1, 0, 5)];
     let waits = BookRefusal::Contradiction(Held::Advance(Advance::of_reader(2, 1, 9)?));
     assert!(rt; answers(heap, 2, &passed, held[1], Err(waits))?);
+    Ok(())
+}
+
+#[test]
+fn truncations_below_earlier_ones(rt: HostRuntime) -> Result<(), Fail> {
+    let rows = [
+        Row::Cut(3, 10, 60),
+        Row::Cut(2, 30, 50),
+        Row::Cut(4, 40, 70),
+        Row::Cut(1, 20, 20),
+    ];
+    let book = book_of(rt.alloc(), 1, &rows)?;
+    for (number, epoch) in [(9, 0), (10, 3), (39, 3), (40, 4)] {
+        assert_eq!(rt; book.last_cut_at(number), epoch);
+    }
+    let stands = [
+        (0, 10, Standing::Alive),
+        (0, 11, Standing::Dead),
+        (3, 61, Standing::Dead),
+        (4, 71, Standing::Alive),
+    ];
+    for (epoch, number, standing) in stands {
+        assert_eq!(rt; book.stands(epoch, number), standing);
+    }
     Ok(())
 }

@@ -1,6 +1,6 @@
-use Rattle.std.proofs.Common.{◌≡◌, ◌≢◌, ◌<◌, ◌+◌, ⊎_elim, length, arith}
-use Rattle.redo_core.specs.Roster.{IsReader, point_of}
-use Rattle.redo_core.specs.Past.{IsPast, IsKnownPast}
+use Rattle.std.proofs.Common.{◌<◌, ◌+◌, ⊎_elim, arith}
+use Rattle.redo_core.specs.Roster.{point_of}
+use Rattle.redo_core.specs.Past.{IsPast}
 use Rattle.epoch_book.proofs.parts.all_past.Goals as goal
 
 pub returns-then-not-is_past : goal.returns-then-not-is_past

@@ -1,4 +1,4 @@
-use Rattle.std.proofs.Common.{◌<◌, take, arith}
+use Rattle.std.proofs.Common.{◌<◌, arith}
 use Rattle.std.proofs.lemmas.List.Elements.{All-contains}
 use Rattle.redo_core.specs.Data.{CutData}
 use Rattle.redo_core.specs.Past.{OthersPast}

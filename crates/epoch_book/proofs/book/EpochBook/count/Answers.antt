@@ -6,15 +6,17 @@ use Rattle.epoch_book.proofs.book.EpochBook.count.Goals as goal
 pub invariant_of-self : goal.invariant_of-self
 invariant_of-self c =
     let b = book_of c.self.inside.cuts.items c.self.inside.complete c.self.inside.points c.self.inside.waits.items in
-    let counts = subst (λ x. c.args.advance.epoch ≤ x.complete) (sym c.self.view_is) c.requires.counts in
-    raised_book b c.args.advance c.raise.new.self c.self.invariant c.point.ensures.shape
-    (raises_one c.self.inside.complete c.self.inside.points c.raise.new.self c.args.advance counts c.raise.ensures.count c.raise.ensures.point
-    c.raise.ensures.others)
+    let counts = subst (λ x. c.args.advance.epoch ≤ x.complete) (sym c.self.view_is) c.requires.counts in (
+      raised_book b c.args.advance c.raise.new.self c.self.invariant.0 c.point.ensures.shape
+          (raises_one c.self.inside.complete c.self.inside.points c.raise.new.self c.args.advance counts c.raise.ensures.count c.raise.ensures.point
+          c.raise.ensures.others),
+      c.self.invariant.1,
+    )
 
 pub returns-clause-book : goal.returns-clause-book
 returns-clause-book c =
     let b = book_of c.self.inside.cuts.items c.self.inside.complete c.self.inside.points c.self.inside.waits.items in
     let counts = subst (λ x. c.args.advance.epoch ≤ x.complete) (sym c.self.view_is) c.requires.counts in
-    raised_book b c.args.advance c.raise.new.self c.self.invariant c.point.ensures.shape
+    raised_book b c.args.advance c.raise.new.self c.self.invariant.0 c.point.ensures.shape
     (raises_one c.self.inside.complete c.self.inside.points c.raise.new.self c.args.advance counts c.raise.ensures.count c.raise.ensures.point
     c.raise.ensures.others)

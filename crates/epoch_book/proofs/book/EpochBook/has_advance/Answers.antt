@@ -1,7 +1,5 @@
-use Rattle.std.proofs.Common.{◌≡◌, ◌<◌, ◌≤◌, ◌↔◌, IfOk, IfErr, length, sym, subst, arith, IsTrue}
+use Rattle.std.proofs.Common.{◌<◌, ◌↔◌, sym, subst, arith, IsTrue}
 use Rattle.std.specs.List.{Contains}
-use Rattle.std.specs.List.Sorted.{IsPartitionPoint}
-use Rattle.redo_core.specs.Order.{AdvanceBefore}
 use Rattle.epoch_book.specs.Book.{book_of}
 use Rattle.epoch_book.specs.Learning.{KnowsAdvance}
 use Rattle.epoch_book.proofs.Found.{found_wait, known_later}

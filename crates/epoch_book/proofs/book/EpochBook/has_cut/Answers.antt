@@ -17,7 +17,7 @@ returns-in-Ok c =
           let k : c.index.result.now.hi ≡ c.args.cut.hi = grind (arith, nat_tests) in
           subst (Contains b.cuts) (same_data c.index.result.now c.args.cut e l k) held.0,
       λ h.
-          let one : c.index.result.now ≡ c.args.cut = same_cut b c.index.result.now c.args.cut c.self.invariant held.0 h (held.1 ∙ c.epoch.ensures.value) in
+          let one : c.index.result.now ≡ c.args.cut = same_cut b c.index.result.now c.args.cut c.self.invariant.0 held.0 h (held.1 ∙ c.epoch.ensures.value) in
           let e : c.index.result.now.epoch ≡ c.args.cut.epoch = ap (λ x. x.epoch) one in
           let l : c.index.result.now.lo ≡ c.args.cut.lo = ap (λ x. x.lo) one in
           let k : c.index.result.now.hi ≡ c.args.cut.hi = ap (λ x. x.hi) one in

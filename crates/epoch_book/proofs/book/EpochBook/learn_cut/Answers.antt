@@ -36,7 +36,7 @@ returns-after-eq-clause-knows c =
           let there : Contains b.cuts c.args.cut = subst (Contains b.cuts) (same_data c.index.result.now c.args.cut e l h) held.0 in
           subst (λ r. OnOk r (KnowsMore c.args.self.now (Cut c.args.cut) c.args.self.now)) (sym w.result-is)
           (subst (λ x. KnowsMore x (Cut c.args.cut) x) c.self.view_is
-          (cut_knows b c.args.cut b c.self.invariant c.self.invariant (held_learns b c.args.cut c.self.invariant there)))
+          (cut_knows b c.args.cut b c.self.invariant.0 c.self.invariant.0 (held_learns b c.args.cut c.self.invariant.0 there)))
       | else-eq w ↦ subst (λ r. OnOk r (KnowsMore c.args.self.now (Cut c.args.cut) c.args.self.now)) (sym w.result-is) tt
     ]
 
@@ -50,9 +50,9 @@ returns-after-eq-clause-refuses c = λ e h.
           let e' : c.index.result.now.epoch ≡ c.args.cut.epoch = grind (arith, nat_tests) in
           let l : c.index.result.now.lo ≡ c.args.cut.lo = grind (arith, nat_tests) in
           let h' : c.index.result.now.hi ≡ c.args.cut.hi = grind (arith, nat_tests) in
-          absurd (held_unrefused b c.args.cut c.self.invariant (subst (Contains b.cuts) (same_data c.index.result.now c.args.cut e' l h') held.0) e refused)
+          absurd (held_unrefused b c.args.cut c.self.invariant.0 (subst (Contains b.cuts) (same_data c.index.result.now c.args.cut e' l h') held.0) e refused)
       | else-eq w ↦
-          w.result-is ∙ ap Err (one_cut_refusal b c.args.cut c.self.invariant (OtherCut c.index.result.now) e (
+          w.result-is ∙ ap Err (one_cut_refusal b c.args.cut c.self.invariant.0 (OtherCut c.index.result.now) e (
             held.0,
             held.1 ∙ c.epoch.ensures.value,
             λ q. absurd (
