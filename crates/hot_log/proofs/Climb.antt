@@ -1,32 +1,21 @@
 -- Searches that go up or down from key to key.
-use Rattle.std.proofs.Common.{◌≡◌, ℕ, ◌+◌, ◌<◌, ◌≤◌, ◌⊎◌, ◌↔◌, inl, inr, ⊎_elim, List, [], ◌∷◌, length, get_or, take, drop, refl, sym, ◌∙◌, ap, subst, arith, Option, Some, None, Bool, true, false, not, nat_lt, ◌==◌, ◌&&◌, ◌||◌, cond}
+use Rattle.std.proofs.Common.{◌≡◌, ℕ, ◌+◌, ◌<◌, ◌≤◌, ◌⊎◌, ◌↔◌, inl, inr, ⊎_elim, List, [], ◌∷◌, length, refl, sym, ◌∙◌, ap, subst, arith, Option, Some, None, Bool, true, false, not, nat_lt, ◌==◌, ◌&&◌, ◌||◌, cond}
 use Rattle.std.specs.List.{Contains, filter}
 use Rattle.std.proofs.lemmas.Bool.{cases_lt}
 use Rattle.redo_core.specs.Data.{RecordData, CutData}
-use Rattle.redo_core.specs.Order.{IsRising, PairBefore, CutBefore}
+use Rattle.redo_core.specs.Order.{IsGreatest, PairBefore}
 use Rattle.redo_core.specs.Shape.{record_fault}
 use Rattle.redo_core.specs.Standing.{IsAlive}
 use Rattle.redo_core.proofs.Members.{none_in, which}
 use Rattle.redo_core.proofs.Pairs.{pair_trans}
-use Rattle.redo_core.proofs.Rising.{side, front_to, across, item_drop, rest_from}
 use Rattle.epoch_book.specs.Book.{BookData, IsBook}
+use Rattle.epoch_book.specs.Lows.{CutsAt}
 use Rattle.hot_log.specs.Held.{IsHeld, HasKey, IsRecordAt}
 use Rattle.hot_log.specs.Alive.{PartsAt, IsHeldAlive}
 use Rattle.hot_log.specs.Found.{IsLeastRecord, IsOnlyRecord}
 use Rattle.hot_log.proofs.Keys.{pair_not_same}
 use Rattle.hot_log.proofs.Views.{IsView, view_of, number_before}
 use Rattle.hot_log.proofs.Indexed.{one_key}
-
--- the truncations behind the one at a place are those of later epochs
-later_behind : (cs : List CutData) → IsRising CutBefore cs → (i : ℕ) (x d : CutData) → i < length cs → x ≡ get_or cs i x → Contains cs d → x.epoch < d.epoch → Contains (drop (i + 1) cs) d
-later_behind cs rising i x d l e h up =
-    ⊎_elim
-    (λ (q : Contains (take (i + 1) cs) d). absurd (⊎_elim
-    (λ (u : x ≡ d). let same : x.epoch ≡ d.epoch = ap (λ (c : CutData). c.epoch) u in omega arith)
-    (λ (u : Contains (take i cs) d). let low : d.epoch < x.epoch = across CutBefore cs i d x rising u (item_drop cs i x l e) in omega arith)
-    (front_to cs i x d l e q)))
-    (λ (q : Contains (drop (i + 1) cs) d). q)
-    (side (i + 1) cs d h)
 
 parts : (cs : List CutData) (k number epoch : ℕ) → IsView cs k → ((d : CutData) → Contains cs d → epoch < d.epoch → d.epoch ≤ k → number < d.lo) → ((e n : ℕ) → IsAlive cs k e n → e < epoch → n ≤ number) → (e n : ℕ) → IsAlive cs k e n → (number < n) ↔ PairBefore epoch number e n
 parts cs k number epoch v late early e n a = (
@@ -59,29 +48,26 @@ own cs k number epoch v late early e a =
     (λ (l : (epoch ≡ e) ⊎ (e < epoch)). ⊎_elim (λ (q : epoch ≡ e). sym q) (λ (q : e < epoch). absurd (let low : number + 1 ≤ number = early e (number + 1) a q in omega arith)) l)
     (let t : (epoch < e) ⊎ ((epoch ≡ e) ⊎ (e < epoch)) = grind arith in t)
 
-pub parts_at : (b : BookData) (cs : List CutData) (k number i : ℕ) (x : CutData) → IsBook b → cs ≡ b.cuts → k ≡ b.complete → i < length cs → x ≡ get_or cs i x → ((c : CutData) → Contains (drop (i + 1) cs) c → (c.epoch ≤ k) × (c.lo ≤ number) → ⊥) → x.epoch ≤ k → x.lo ≤ number → Contains cs x → PartsAt b number x.epoch
-parts_at b cs k number i x is same known l e none up low among =
-    let P : List CutData → Type 0 = λ l. ((d : CutData) → Contains l d → x.epoch < d.epoch → d.epoch ≤ k → number < d.lo) in
-    let rise : IsRising CutBefore cs = subst (IsRising CutBefore) (sym same) is.cuts_rise in
-    let late : P cs = λ d h lt le. let not : (d.epoch ≤ k) × (d.lo ≤ number) → ⊥ = none d (later_behind cs rise i x d l e h lt) in ⊎_elim (λ (u : number < d.lo). u) (λ (u : d.lo ≤ number). absurd (not (le, u))) (cases_lt number d.lo) in
-    let here : Contains b.cuts x = subst (λ (l : List CutData). Contains l x) same among in
-    let late_on = λ (d : CutData) (h : Contains b.cuts d) (lt : x.epoch < d.epoch) (le : d.epoch ≤ b.complete). (subst P same late) d h lt (omega arith) in
-    let early = λ (f n : ℕ) (a : IsAlive b.cuts b.complete f n) (lt : f < x.epoch). let le : n ≤ x.lo = a.spared x here lt (omega arith) in let t : n ≤ number = omega arith in t in
-    (parts b.cuts b.complete number x.epoch (view_of b is) late_on early, own b.cuts b.complete number x.epoch (view_of b is) late_on early)
+pub parts_from : (b : BookData) (number epoch : ℕ) → IsBook b → IsGreatest (CutsAt b number) epoch → PartsAt b number epoch
+parts_from b number epoch is last =
+    (parts b.cuts b.complete number epoch (view_of b is) late early, own b.cuts b.complete number epoch (view_of b is) late early)
+  where
+    late : (d : CutData) → Contains b.cuts d → epoch < d.epoch → d.epoch ≤ b.complete → number < d.lo
+    late d h up le =
+        ⊎_elim
+        (λ (u : number < d.lo). u)
+        (λ (u : d.lo ≤ number). absurd (let t : d.epoch ≤ epoch = last.1 d.epoch (d, h, refl, le, u) in omega arith))
+        (cases_lt number d.lo)
 
-pub parts_zero : (b : BookData) (cs : List CutData) (k number : ℕ) → IsBook b → cs ≡ b.cuts → k ≡ b.complete → ((c : CutData) → Contains cs c → (c.epoch ≤ k) × (c.lo ≤ number) → ⊥) → PartsAt b number 0
-parts_zero b cs k number is same known none =
-    let P : List CutData → Type 0 = λ l. ((c : CutData) → Contains l c → (c.epoch ≤ k) × (c.lo ≤ number) → ⊥) in
-    let late = λ (d : CutData) (h : Contains b.cuts d) (up : 0 < d.epoch) (le : d.epoch ≤ b.complete). let t : number < d.lo = ⊎_elim (λ (u : number < d.lo). u) (λ (u : d.lo ≤ number). absurd ((subst P same none) d h (omega arith, u))) (cases_lt number d.lo) in t in
-    let early = λ (f n : ℕ) (a : IsAlive b.cuts b.complete f n) (lt : f < 0). let t : n ≤ number = absurd (omega arith) in t in
-    (parts b.cuts b.complete number 0 (view_of b is) late early, own b.cuts b.complete number 0 (view_of b is) late early)
-
-pub none_cut : (cs : List CutData) (P : CutData → Type 0) (i : ℕ) (x : CutData) → i < length cs → x ≡ get_or cs i x → ((c : CutData) → Contains (drop (i + 1) cs) c → P c → ⊥) → (P x → ⊥) → (c : CutData) → Contains (drop i cs) c → P c → ⊥
-none_cut cs P i x l e none not c h p =
-    ⊎_elim
-    (λ (u : x ≡ c). not (subst P (sym u) p))
-    (λ (u : Contains (drop (i + 1) cs) c). none c u p)
-    (rest_from cs i x c l e h)
+    early : (e n : ℕ) → IsAlive b.cuts b.complete e n → e < epoch → n ≤ number
+    early e n a lt =
+        ⊎_elim
+        (λ (z : epoch ≡ 0). absurd (omega arith))
+        (λ (c : CutsAt b number epoch).
+        let at : c.0.epoch ≡ epoch = c.2 in let known : epoch ≤ b.complete = c.3 in let low : c.0.lo ≤ number = c.4 in
+        let le : n ≤ c.0.lo = a.spared c.0 c.1 (omega arith) (omega arith) in
+        omega arith)
+        last.0
 
 -- how many records have a key above one
 abbrev pub is_after : ℕ × ℕ → RecordData → Bool

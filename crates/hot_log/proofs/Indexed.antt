@@ -1,19 +1,15 @@
 -- What keeps an index the index of the held records.
 use Rattle.std.proofs.Common.{◌≡◌, ℕ, ◌⊎◌, ◌↔◌, inl, inr, ⊎_elim, List, [], refl, sym, ◌∙◌, ap, subst, Option, Some, None, Bool, true, false, Result, Ok, Err}
-use Rattle.std.specs.Result.{is_err, OnOk, OnErr, IfOk, IfErr}
-use Rattle.hot_log.specs.Putting.{Puts, RefusesPut}
-use Rattle.hot_log.specs.declared.log.PutFault.{PutFault}
-use Rattle.hot_log.specs.declared.log.PutFault.TheVariants.{Memory}
-use Rattle.hot_log.specs.declared.log.Put.{Put}
-use Rattle.hot_log.specs.declared.log.Put.TheVariants.{New}
+use Rattle.std.specs.Option.{is_some}
+use Rattle.std.specs.Result.{is_err, OnOk, OnErr}
 use Rattle.std.specs.List.{Contains}
 use Rattle.redo_core.specs.Data.{RecordData}
 use Rattle.redo_core.specs.Order.{IsRising, RecordBefore, PairBefore}
 use Rattle.redo_core.proofs.Members.{none_in}
 use Rattle.redo_core.proofs.Rising.{rising_members}
-use Rattle.hot_log.specs.Held.{IsHeld, HasKey, IsRecordAt, IsAbove, IsKeyAfter}
+use Rattle.hot_log.specs.Held.{IsHeld, HasKey, IsRecordAt, IsAbove, IsKeyAfter, IsKeyTo}
 use Rattle.hot_log.specs.Removing.{Removes}
-use Rattle.hot_log.specs.Indexing.{GainsKey, LosesKey, IsIndexBy, IsNextKey, IsLastKey, IsNextHeld, IsLastHeld, GainsPage, LosesPage, IsPageOf, IsAboveKey, IsLeastKey, IsKeyPages, IsRecordOf}
+use Rattle.hot_log.specs.Indexing.{GainsKey, LosesKey, IsIndexBy, IsNextKey, IsLastKey, IsNextHeld, IsLastHeld, AddsPage, GainsPage, LosesPage, IsPageOf, IsAboveKey, IsLeastKey, IsKeyPages, IsRecordOf, IsGreatestKey}
 use Rattle.hot_log.proofs.Keys.{pair_not_same}
 use Rattle.hot_log.proofs.Places.{Place}
 
@@ -96,16 +92,8 @@ pub on_err : {T E : Type 0} (r : Result T E) (b : Bool) (P : Type 0) → b ≡ i
 on_err (Ok x) b P e f h = absurd (cc)
 on_err (Err x) b P e f h = h
 
-pub put_ok : {E : Type 0} (r : Result Put E) (old new : List RecordData) (redo : RecordData) → IsRecordAt old redo.epoch redo.number None → IfOk r (λ p. (p ≡ New) × ((s : RecordData) → Contains new s ↔ (Contains old s ⊎ (s ≡ redo)))) → IfOk r (Puts old redo new)
-put_ok (Ok p) old new redo free h = subst (λ (q : Put). Puts old redo new q) (sym h.0) (free, h.1)
-put_ok (Err e) old new redo free h = tt
-
 pub none_for : (held : List RecordData) (e n a b : ℕ) → e ≡ a → n ≡ b → IsRecordAt held e n None → IsRecordAt held a b None
 none_for held e n a b p q none r h key = none r h (key.0 ∙ sym p, key.1 ∙ sym q)
-
-pub put_err : {T E : Type 0} (r : Result T E) (v : E → RecordData) (f : E → PutFault) (old : List RecordData) (redo : RecordData) → IsRecordAt old redo.epoch redo.number None → IfErr r (λ e. (v e ≡ redo) × (f e ≡ Memory)) → IfErr r (λ e. (v e ≡ redo) × RefusesPut old redo (f e))
-put_err (Ok p) v f old redo free h = tt
-put_err (Err e) v f old redo free h = (h.0, subst (λ (x : PutFault). RefusesPut old redo x) (sym h.1) free)
 
 pub next_held : (f : RecordData → ℕ) (held : List RecordData) (keys : List Place) (g : ℕ) (after : ℕ × ℕ) (o : Option (ℕ × ℕ)) → IsIndexBy f held keys → IsNextKey keys g after o → IsNextHeld f held g after o
 next_held f held keys g after None is next = λ r h e p. next r.epoch r.number (subst (λ (x : ℕ). Contains keys (x, (r.epoch, r.number))) e (is.listed r h)) p
@@ -183,10 +171,16 @@ pages_of_none held keys p q = record {
   backed = λ e n page h. absurd (none_in ((e, n), page) (subst (λ (l : List ((ℕ × ℕ) × ℕ)). Contains l ((e, n), page)) q h));
 }
 
--- a free key has no page, and each other key leads to its record
-pub free_key : (held : List RecordData) (keys : List ((ℕ × ℕ) × ℕ)) (e n a b : ℕ) → IsKeyPages held keys → IsRecordAt held a b None → e ≡ a → n ≡ b → IsPageOf keys (e, n) None
-free_key held keys e n a b is free x y page h = let t = is.backed e n page h in free t.0 t.1 (t.2.0 ∙ x, t.2.1 ∙ y)
+-- whether the key that was given a page had one
+pub had_page : (o : Option ℕ) (b : Bool) (old new : List ((ℕ × ℕ) × ℕ)) (key : ℕ × ℕ) (page : ℕ) → b ≡ is_some o → b ≡ true → AddsPage old key page new o → (p : ℕ) × Contains old (key, p)
+had_page None b old new key page e f h = absurd (cc)
+had_page (Some p) b old new key page e f h = (p, h.0)
 
+pub had_none : (o : Option ℕ) (b : Bool) (old new : List ((ℕ × ℕ) × ℕ)) (key : ℕ × ℕ) (page : ℕ) → b ≡ is_some o → b ≡ false → AddsPage old key page new o → IsPageOf old key None × GainsPage old key page new
+had_none None b old new key page e f h = h
+had_none (Some p) b old new key page e f h = absurd (cc)
+
+-- a key without a page is free, and each other key leads to its record
 pub unpaged : (held : List RecordData) (keys : List ((ℕ × ℕ) × ℕ)) (e n : ℕ) → IsKeyPages held keys → IsPageOf keys (e, n) None → IsRecordAt held e n None
 unpaged held keys e n is none r h k = none r.page (subst (λ (x : ℕ). Contains keys ((x, n), r.page)) k.0 (subst (λ (x : ℕ). Contains keys ((r.epoch, x), r.page)) k.1 (is.listed r h)))
 
@@ -222,4 +216,12 @@ key_held held keys after (Some key) is least =
     let t = is.backed key.0 key.1 least.0.0 least.0.1 in (
       (t.0, t.1, t.2, above_key after t.0 key.0 key.1 t.2 least.0.2),
       λ r h up. least.1 r.epoch r.number r.page (is.listed r h) (key_above after r up),
+    )
+
+pub key_held_to : (held : List RecordData) (keys : List ((ℕ × ℕ) × ℕ)) (to : ℕ × ℕ) (o : Option (ℕ × ℕ)) → IsKeyPages held keys → IsGreatestKey keys to o → IsKeyTo held to o
+key_held_to held keys to None is greatest = λ r h. greatest r.epoch r.number r.page (is.listed r h)
+key_held_to held keys to (Some key) is greatest =
+    let t = is.backed key.0 key.1 greatest.0.0 greatest.0.1 in (
+      (t.0, t.1, t.2, λ p. greatest.0.2 (subst (λ (x : ℕ). PairBefore to.0 to.1 x key.1) t.2.0 (subst (λ (x : ℕ). PairBefore to.0 to.1 t.0.epoch x) t.2.1 p))),
+      λ r h not. greatest.1 r.epoch r.number r.page (is.listed r h) not,
     )

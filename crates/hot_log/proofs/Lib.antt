@@ -10,8 +10,10 @@ pub mod Indexed
 pub mod Climb
 pub mod Forks
 pub mod Ranges
+pub mod Descent
 pub mod Pages
 pub mod Dead
 pub mod Kept
 pub mod Straight
+pub mod Ends
 pub mod Growth

@@ -82,7 +82,7 @@ pub record IsExact {K : Type 0} (c : K → K → Ordering) : Type 0 where
   pub exact : CmpEqualImpliesEq c
   pub same : (k : K) → c k k ≡ Equal
 
-at_key : {K : Type 0} (c : K → K → Ordering) → IsExact c → (p q : K) → (c p q ≡ Equal) ↔ (q ≡ p)
+pub at_key : {K : Type 0} (c : K → K → Ordering) → IsExact c → (p q : K) → (c p q ≡ Equal) ↔ (q ≡ p)
 at_key {K} c is p q = (λ h. sym (is.exact p q h), λ h. subst (λ (x : K). c p x ≡ Equal) (sym h) (is.same p))
 
 pub held_at : {K X : Type 0} (c : K → K → Ordering) → IsExact c → (m : BTreeMap K X) → IsOrdered c m → (k : K) (v : X) → (get c m k ≡ Some v) ↔ Contains m.entries (k, v)

@@ -20,12 +20,12 @@ Place = ℕ × (ℕ × ℕ)
 abbrev pub Below : Place → Place → Type 0
 Below x y = place_cmp x y ≡ Less
 
-not_lt_true : (o : Ordering) → (true && not (is_lt o)) ≡ true → o ≡ Less → ⊥
+pub not_lt_true : (o : Ordering) → (true && not (is_lt o)) ≡ true → o ≡ Less → ⊥
 not_lt_true Less h e = cc
 not_lt_true Equal h e = cc
 not_lt_true Greater h e = cc
 
-not_lt_of : (o : Ordering) → (o ≡ Less → ⊥) → (true && not (is_lt o)) ≡ true
+pub not_lt_of : (o : Ordering) → (o ≡ Less → ⊥) → (true && not (is_lt o)) ≡ true
 not_lt_of Less h = absurd (h refl)
 not_lt_of Equal h = refl
 not_lt_of Greater h = refl
@@ -84,7 +84,7 @@ next_other keys g after x t rising is other e n h p =
 up_to_group : (g e n : ℕ) (to : ℕ × ℕ) → (PairBefore to.0 to.1 e n → ⊥) → range_contains place_cmp Unbounded (Included (g, to)) (g, (e, n)) ≡ true
 up_to_group g e n to not = not_lt_of (place_cmp (g, to) (g, (e, n))) (λ b. not (group_and_key (g, to) (g, (e, n)) refl b))
 
-pair_or_not : (a b c d : ℕ) → PairBefore a b c d ⊎ (PairBefore a b c d → ⊥)
+pub pair_or_not : (a b c d : ℕ) → PairBefore a b c d ⊎ (PairBefore a b c d → ⊥)
 pair_or_not a b c d = grind arith
 
 pub last_none : (keys : List Place) (g : ℕ) (to : ℕ × ℕ) → filter (range_contains place_cmp Unbounded (Included (g, to))) keys ≡ [] → IsLastKey keys g to None

@@ -17,7 +17,7 @@ pub record Straight (b : BookData) (held : List RecordData) (from top : ℕ) : T
   pub linked : IsLinkedFrom b held from top
 
 -- a linked number above top is that of an alive record above top
-linked_above : (b : BookData) (held : List RecordData) (from top : ℕ) → from ≤ top → (n : ℕ) → IsLinkedFrom b held from n → top < n → (r : RecordData) × IsHeldAlive b held r × (r.number ≡ n)
+pub linked_above : (b : BookData) (held : List RecordData) (from top : ℕ) → from ≤ top → (n : ℕ) → IsLinkedFrom b held from n → top < n → (r : RecordData) × IsHeldAlive b held r × (r.number ≡ n)
 linked_above b held from top le n l up =
     ⊎_elim
     (λ (e : n ≡ from). absurd (omega arith))

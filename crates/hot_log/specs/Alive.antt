@@ -1,11 +1,12 @@
 -- Which of the held records are alive in a book's view, and which numbers they link.
-use Rattle.std.specs.Prelude.{◌≡◌, ℕ, ◌+◌, ◌<◌, ◌≤◌, ◌↔◌, List}
+use Rattle.std.specs.Prelude.{◌≡◌, ℕ, ◌+◌, ◌<◌, ◌≤◌, ◌⊎◌, ◌↔◌, List, Option, Some, None}
 use Rattle.redo_core.specs.Order.{PairBefore}
 use Rattle.std.specs.List.{Contains}
 use Rattle.redo_core.specs.Data.{RecordData}
 use Rattle.redo_core.specs.Standing.{IsAlive}
 use Rattle.redo_core.specs.Linked.{Linked}
 use Rattle.epoch_book.specs.Book.{BookData}
+use Rattle.hot_log.specs.Held.{HasKey}
 
 -- a held record that is alive
 abbrev pub IsHeldAlive : BookData → List RecordData → RecordData → Type 0
@@ -50,3 +51,27 @@ IsReached book held from limit r = Contains held r × IsLinkedFrom book held fro
 pub record IsStraight (book : BookData) (held : List RecordData) (from to : ℕ) : Type 0 where
   pub linked : (r : RecordData) → IsHeldAlive book held r → from < r.number → r.number ≤ to → IsLinkedFrom book held from r.number
   pub onward : (m n : ℕ) → IsLinkedFrom book held from m → IsLinkedFrom book held from n → m ≤ n → n ≤ to → IsLinkedFrom book held m n
+
+-- an alive record of an epoch above one, with a segment backlink below a number
+abbrev pub IsOpenedBelow : BookData → List RecordData → ℕ → ℕ → RecordData → Type 0
+IsOpenedBelow book held epoch number r = IsHeldAlive book held r × (epoch < r.epoch) × (r.back < number)
+
+-- the end of a chain that is straight from a number on: the greatest number that is linked from there
+pub record IsStraightEnd (book : BookData) (held : List RecordData) (from n : ℕ) : Type 0 where
+  pub linked : IsLinkedFrom book held from n
+  pub most : (m : ℕ) → IsLinkedFrom book held from m → m ≤ n
+  pub straight : IsStraight book held from n
+
+-- the key of the alive record with the least number above one, or none where there is none
+abbrev pub IsAliveKey : BookData → List RecordData → ℕ → Option (ℕ × ℕ) → Type 0
+IsAliveKey book held above None = (r : RecordData) → IsHeldAlive book held r → above < r.number → ⊥
+IsAliveKey book held above (Some key) =
+    ((r : RecordData) × IsHeldAlive book held r × HasKey key.0 key.1 r × (above < r.number))
+    × ((r : RecordData) → IsHeldAlive book held r → above < r.number → HasKey key.0 key.1 r ⊎ (key.1 < r.number))
+
+-- the least key above the one given of the alive records with this segment backlink, or none
+abbrev pub IsAliveOfBack : BookData → List RecordData → ℕ → ℕ × ℕ → Option (ℕ × ℕ) → Type 0
+IsAliveOfBack book held back after None = (r : RecordData) → IsHeldAlive book held r → r.back ≡ back → PairBefore after.0 after.1 r.epoch r.number → ⊥
+IsAliveOfBack book held back after (Some key) =
+    ((r : RecordData) × IsHeldAlive book held r × (r.back ≡ back) × HasKey key.0 key.1 r × PairBefore after.0 after.1 r.epoch r.number)
+    × ((r : RecordData) → IsHeldAlive book held r → r.back ≡ back → PairBefore after.0 after.1 r.epoch r.number → HasKey key.0 key.1 r ⊎ PairBefore key.0 key.1 r.epoch r.number)

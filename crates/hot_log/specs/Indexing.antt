@@ -49,6 +49,11 @@ abbrev pub IsPageOf : List ((ℕ × ℕ) × ℕ) → ℕ × ℕ → Option ℕ �
 IsPageOf keys key None = (page : ℕ) → Contains keys (key, page) → ⊥
 IsPageOf keys key (Some page) = Contains keys (key, page)
 
+-- a key without a page has been given one; that of another stays
+abbrev pub AddsPage : List ((ℕ × ℕ) × ℕ) → ℕ × ℕ → ℕ → List ((ℕ × ℕ) × ℕ) → Option ℕ → Type 0
+AddsPage old key page new None = IsPageOf old key None × GainsPage old key page new
+AddsPage old key page new (Some was) = IsPageOf old key (Some was) × (new ≡ old)
+
 -- the key (e, n) is above the one given; with none given each is
 abbrev pub IsAboveKey : Option (ℕ × ℕ) → ℕ → ℕ → Type 0
 IsAboveKey None e n = Unit {0}
@@ -60,6 +65,13 @@ IsLeastKey keys after None = (e n page : ℕ) → Contains keys ((e, n), page) �
 IsLeastKey keys after (Some key) =
     ((page : ℕ) × Contains keys (key, page) × IsAboveKey after key.0 key.1)
     × ((e n page : ℕ) → Contains keys ((e, n), page) → IsAboveKey after e n → ((e ≡ key.0) × (n ≡ key.1)) ⊎ PairBefore key.0 key.1 e n)
+
+-- the greatest key with a page at or below the one given, or none where each key is above it
+abbrev pub IsGreatestKey : List ((ℕ × ℕ) × ℕ) → ℕ × ℕ → Option (ℕ × ℕ) → Type 0
+IsGreatestKey keys to None = (e n page : ℕ) → Contains keys ((e, n), page) → PairBefore to.0 to.1 e n
+IsGreatestKey keys to (Some key) =
+    ((page : ℕ) × Contains keys (key, page) × (PairBefore to.0 to.1 key.0 key.1 → ⊥))
+    × ((e n page : ℕ) → Contains keys ((e, n), page) → (PairBefore to.0 to.1 e n → ⊥) → ((e ≡ key.0) × (n ≡ key.1)) ⊎ PairBefore e n key.0 key.1)
 
 -- the keys are those of the held records, each with the page of its record
 pub record IsKeyPages (held : List RecordData) (keys : List ((ℕ × ℕ) × ℕ)) : Type 0 where

@@ -1,9 +1,13 @@
-ghost use Rattle.std.specs.Prelude.{◌≡◌, ℕ, [], IfOk, OnOk, OnErr, Some, None};
+ghost use Rattle.std.specs.Prelude.{◌≡◌, [], IfOk, OnErr, Some, None, ℕ, OnOk};
+ghost use Rattle.std.specs.Option.{IsSome, IsNone};
+ghost use Rattle.std.specs.BTreeMap.{get, IsOrdered, insert_entry};
+ghost use Rattle.hot_log.specs.Paged.{key_cmp};
+ghost use Rattle.hot_log.specs.Indexing.{AddsPage, LosesPage, IsPageOf, IsLeastKey, GainsPage, IsGreatestKey};
 ghost use Rattle.std.specs.List.{Contains};
-ghost use Rattle.hot_log.specs.Indexing.{GainsPage, LosesPage, IsPageOf, IsLeastKey};
 
 use std::alloc::{AllocError, Global};
 use std::collections::BTreeMap;
+use std::collections::btree_map::Entry;
 use std::marker::Model;
 use std::ops::Bound;
 
@@ -50,21 +54,23 @@ impl KeyPages {
         self.map.get(&key).copied()
     }
 
-    /// Gives a key its page. Its only error is want of memory; the keys are then as they were.
-    pub fn insert(&mut self, key: (u16, u64), page: u16) -> Result<(), AllocError>
-        requires { IsPageOf self.old key None }
-        ensures gains { OnOk result (GainsPage self.old key page self.new) }
+    /// Gives a key a page where it has none, and tells the page that it had. Its only error is want of memory; the keys are then as
+    /// they were, without this one.
+    pub fn add(&mut self, key: (u16, u64), page: u16) -> Result<Option<u16>, AllocError>
+        ensures adds { IfOk result (AddsPage self.old key page self.new) }
+        ensures absent { OnErr result (IsPageOf self.old key None) }
         ensures unchanged { OnErr result (self.new ≡ self.old) }
     {
-        let _ = self.map.insert(key, page)?;
-        Ok(())
+        add_to(&mut self.map, key, page)
     }
 
-    /// Takes a key out.
-    pub fn remove(&mut self, key: (u16, u64))
-        ensures { LosesPage self.old key self.new }
+    /// Takes a key out, and tells the page that it had.
+    pub fn remove(&mut self, key: (u16, u64)) -> Option<u16>
+        ensures had { IsPageOf self.old key result }
+        ensures loses { LosesPage self.old key self.new }
+        ensures unchanged { IsNone result → self.new ≡ self.old }
     {
-        let _ = self.map.remove(&key);
+        self.map.remove(&key)
     }
 
     /// The least key above the one given, or the least of all for None.
@@ -90,5 +96,37 @@ impl KeyPages {
         let bounds = (Bound::Excluded(after), Bound::Unbounded);
         let (key, _) = self.map.range(bounds).next()?;
         Some(*key)
+    }
+
+    /// The greatest key at or below the one given.
+    pub fn key_to(&self, to: (u16, u64)) -> Option<(u16, u64)>
+        ensures { IsGreatestKey self.now to result }
+    {
+        let bounds = (Bound::Unbounded, Bound::Included(to));
+        let (key, _) = self.map.range(bounds).next_back()?;
+        Some(*key)
+    }
+}
+
+// Gives a key a page where it has none, in one descent of the map, and tells what it had.
+fn add_to(
+    map: &mut BTreeMap<(u16, u64), u16>,
+    key: (u16, u64),
+    page: u16,
+) -> Result<Option<u16>, AllocError>
+    ensures had { IfOk result (λ had. had ≡ get key_cmp map.old key) }
+    ensures kept { IfOk result (λ had. IsSome had → map.new.entries ≡ map.old.entries) }
+    ensures gains { IfOk result (λ had. IsNone had → map.new.entries ≡ insert_entry key_cmp map.old.entries key page) }
+    ensures absent { OnErr result (get key_cmp map.old key ≡ None) }
+    ensures unchanged { OnErr result (map.new.entries ≡ map.old.entries) }
+    ensures was_ordered { IsOrdered key_cmp map.old }
+    ensures ordered { IsOrdered key_cmp map.new }
+{
+    match map.entry(key)? {
+        Entry::Occupied(entry) => Ok(Some(*entry.get())),
+        Entry::Vacant(entry) => {
+            let _ = entry.insert(page);
+            Ok(None)
+        }
     }
 }

@@ -1,15 +1,15 @@
 // The numbers that held records link, from a base on.
-ghost use Rattle.std.specs.Prelude.{◌≡◌, ℕ, ◌<◌, ◌≤◌, ◌↔◌, List, length, IsTrue, false};
+ghost use Rattle.std.specs.Prelude.{◌≡◌, ℕ, ◌<◌, ◌≤◌, ◌↔◌, List, length, IsTrue, IfSome, IsNone, false};
 ghost use Rattle.std.specs.Option.{option_copied};
 ghost use Rattle.redo_core.specs.Data.{RecordData};
 ghost use Rattle.std.specs.List.{Contains};
 ghost use Rattle.redo_core.specs.Order.{Lists, RecordBefore, PairBefore};
 ghost use Rattle.hot_log.specs.Held.{IsHeld};
-ghost use Rattle.hot_log.specs.Alive.{IsLinkedFrom, IsLinkedHeld, IsReached, IsStraight};
+ghost use Rattle.hot_log.specs.Alive.{IsLinkedFrom, IsLinkedHeld, IsReached, IsStraight, IsStraightEnd};
 ghost use Rattle.hot_log.specs.Found.{IsGreatestRecord};
 
 use crate::log::HotLog;
-use crate::search::is_alive;
+use crate::search::{alive_of_back, is_alive};
 use crate::steps::Steps;
 use epoch_book::EpochBook;
 use redo_core::Record;
@@ -128,4 +128,22 @@ pub fn is_straight(log: &HotLog, book: &EpochBook, from: u64, to: u64) -> bool
         top = redo.number();
     }
     true
+}
+
+// The end of the chain from a number on, where it has no fork and no stray.
+pub fn straight_end(log: &HotLog, book: &EpochBook, from: u64) -> Option<u64>
+    ensures some { IfSome result (IsStraightEnd book.now log.now from) }
+    ensures none { IsNone result → (n : ℕ) → IsStraightEnd book.now log.now from n → ⊥ }
+{
+    let mut top = from;
+    while let Some(key) = alive_of_back(log, book, top, (0, 0)) {
+        if log.has_between(book, top, key.1) {
+            return None;
+        }
+        if alive_of_back(log, book, top, key).is_some() {
+            return None;
+        }
+        top = key.1;
+    }
+    Some(top)
 }

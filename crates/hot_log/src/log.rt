@@ -1,15 +1,14 @@
-ghost use Rattle.std.specs.Prelude.{◌≡◌, ℕ, Some, ◌<◌, ◌≤◌, ◌⊎◌, ◌↔◌, [], None, List, length, map, IsTrue, IfOk, IfErr, OnErr};
+ghost use Rattle.std.specs.Prelude.{◌≡◌, ℕ, Some, ◌<◌, ◌≤◌, ◌⊎◌, ◌↔◌, [], None, List, length, map, IsTrue, IfOk, IfErr, OnErr, IfSome, IsNone, OnOk};
 ghost use Rattle.std.specs.Option.{option_copied};
 ghost use Rattle.redo_core.specs.Data.{RecordData};
 ghost use Rattle.redo_core.specs.Order.{Lists, BeforeByNumber, RecordBefore};
 ghost use Rattle.redo_core.specs.Standing.{IsDead};
-ghost use Rattle.hot_log.specs.Held.{IsHeld, IsRecordAt, IsKeyAfter, HasKey};
-ghost use Rattle.hot_log.specs.Alive.{IsHeldAlive, IsHeldOf, IsLinkedFrom, IsLinkedHeld, IsReached, IsStraight};
+ghost use Rattle.hot_log.specs.Held.{IsHeld, IsRecordAt, IsKeyAfter, IsKeyTo, HasKey};
+ghost use Rattle.hot_log.specs.Alive.{IsHeldAlive, IsHeldOf, IsLinkedFrom, IsLinkedHeld, IsReached, IsStraight, IsStraightEnd};
 ghost use Rattle.hot_log.specs.Found.{IsLeast, IsLeastRecord, IsGreatestRecord, IsOnlyRecord, IsPageAfter};
-ghost use Rattle.hot_log.specs.Indexing.{IsNextHeld, IsNextRecord, IsLastRecord};
+ghost use Rattle.hot_log.specs.Indexing.{IsIndexBy, IsNextHeld, IsNextRecord, IsLastRecord};
 ghost use Rattle.hot_log.specs.Putting.{Puts, RefusesPut};
 ghost use Rattle.hot_log.specs.Removing.{IsFolded, Removes};
-ghost use Rattle.hot_log.specs.declared.log.Put.TheVariants.{New as PutNew};
 ghost use Rattle.hot_log.specs.declared.log.PutFault.TheVariants.{Memory as OfMemory};
 ghost use Rattle.std.specs.List.{Contains};
 
@@ -125,8 +124,15 @@ impl HotLog {
         ensures form { IsHeld self.new }
     {
         let _held = self.len();
-        if let Some(held) = self.get(redo.epoch(), redo.number()) {
-            if held.is_same(&redo) {
+        let key = (redo.epoch(), redo.number());
+        let Ok(page) = self.by_key.add(key, redo.page()) else {
+            return Err(Refused {
+                value: redo,
+                fault: PutFault::Memory,
+            });
+        };
+        if page.is_some() {
+            if self.records.has(&redo) {
                 return Ok(Put::Known);
             }
             return Err(Refused {
@@ -134,41 +140,11 @@ impl HotLog {
                 fault: PutFault::OtherRecord,
             });
         }
-        self.add(redo)
-    }
-
-    // Holds a record under its key, which is free.
-    fn add(&mut self, redo: Record) -> Result<Put, Refused<Record, PutFault>>
-        requires { IsRecordAt self.old redo.epoch redo.number None }
-        ensures put { IfOk result (λ put. (put ≡ PutNew) × ((r : RecordData) → Contains self.new r ↔ (Contains self.old r ⊎ (r ≡ redo)))) }
-        ensures refused { IfErr result (λ e. (e.value ≡ redo) × (e.fault ≡ OfMemory)) }
-        ensures unchanged { OnErr result (self.new ≡ self.old) }
-        ensures form { IsHeld self.new }
-    {
-        let key = (redo.epoch(), redo.number());
-        let back = redo.back();
-        if self.by_key.insert(key, redo.page()).is_err() {
-            return Err(Refused {
-                value: redo,
-                fault: PutFault::Memory,
-            });
-        }
-        if self.by_back.insert(back, key).is_err() {
-            self.by_key.remove(key);
-            return Err(Refused {
-                value: redo,
-                fault: PutFault::Memory,
-            });
-        }
-        match self.records.insert(redo) {
+        match hold(&mut self.records, &mut self.by_back, redo) {
             Ok(()) => Ok(Put::New),
             Err(refused) => {
-                self.by_key.remove(key);
-                self.by_back.remove(back, key);
-                Err(Refused {
-                    value: refused.value,
-                    fault: PutFault::Memory,
-                })
+                let _ = self.by_key.remove(key);
+                Err(refused)
             }
         }
     }
@@ -179,13 +155,12 @@ impl HotLog {
         ensures form { IsHeld self.new }
     {
         let key = (epoch, number);
-        let Some(page) = self.by_key.page_of(key) else {
+        let Some(page) = self.by_key.remove(key) else {
             return;
         };
         let Some(redo) = self.records.remove(page, key) else {
             return;
         };
-        self.by_key.remove(key);
         self.by_back.remove(redo.back(), key);
     }
 
@@ -349,6 +324,22 @@ impl HotLog {
     {
         removal::remove_dead(self, book);
     }
+
+    // The greatest key at or below the one given.
+    pub(crate) fn last_key(&self, to: (u16, u64)) -> Option<(u16, u64)>
+        ensures last { IsKeyTo self.now to result }
+        ensures form { IsHeld self.now }
+    {
+        self.by_key.key_to(to)
+    }
+
+    /// The end of the chain from a number on: the greatest number linked from there. None where the chain has a fork or a stray.
+    pub fn straight_end(&self, book: &EpochBook, from: u64) -> Option<u64>
+        ensures some { IfSome result (IsStraightEnd book.now self.now from) }
+        ensures none { IsNone result → (n : ℕ) → IsStraightEnd book.now self.now from n → ⊥ }
+    {
+        links::straight_end(self, book, from)
+    }
 }
 
 impl Clone for HotLog {
@@ -356,5 +347,41 @@ impl Clone for HotLog {
 
     fn clone(&self) -> Result<Self, AllocError> {
         self.copy()
+    }
+}
+
+// Holds a record whose key is free, and lists the key by the segment backlink. Its only error is want of memory: the record comes
+// back, and what is held and listed is as it was.
+fn hold(
+    records: &mut PagedRecords,
+    by_back: &mut KeyIndex,
+    redo: Record,
+) -> Result<(), Refused<Record, PutFault>>
+    requires free { IsRecordAt records.old redo.epoch redo.number None }
+    requires listed { IsIndexBy (λ r. r.back) records.old by_back.old }
+    ensures gains { OnOk result ((r : RecordData) → Contains records.new r ↔ (Contains records.old r ⊎ (r ≡ redo))) }
+    ensures refused { IfErr result (λ e. (e.value ≡ redo) × (e.fault ≡ OfMemory)) }
+    ensures unchanged { OnErr result (records.new ≡ records.old) }
+    ensures still_listed { IsIndexBy (λ r. r.back) records.new by_back.new }
+    ensures form { IsHeld records.new }
+{
+    let _held = records.len();
+    let key = (redo.epoch(), redo.number());
+    let back = redo.back();
+    if by_back.insert(back, key).is_err() {
+        return Err(Refused {
+            value: redo,
+            fault: PutFault::Memory,
+        });
+    }
+    match records.insert(redo) {
+        Ok(()) => Ok(()),
+        Err(refused) => {
+            by_back.remove(back, key);
+            Err(Refused {
+                value: refused.value,
+                fault: PutFault::Memory,
+            })
+        }
     }
 }

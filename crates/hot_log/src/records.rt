@@ -1,4 +1,4 @@
-ghost use Rattle.std.specs.Prelude.{◌≡◌, ◌⊎◌, ◌↔◌, [], None, length, map, IfOk, IfErr, OnOk, OnErr};
+ghost use Rattle.std.specs.Prelude.{◌≡◌, ◌⊎◌, ◌↔◌, [], None, length, map, IsTrue, IfOk, IfErr, OnOk, OnErr};
 ghost use Rattle.std.specs.Option.{option_copied};
 ghost use Rattle.std.specs.List.{Contains};
 ghost use Rattle.redo_core.specs.Data.{RecordData};
@@ -65,6 +65,17 @@ impl PagedRecords {
         ensures { IsRecordOf self.now page key (option_copied result) }
     {
         self.map.get(&(page, key))
+    }
+
+    /// Whether this record is held.
+    pub fn has(&self, redo: &Record) -> bool
+        ensures { IsTrue result ↔ Contains self.now redo.now }
+    {
+        let _held = self.len();
+        match self.get(redo.page(), (redo.epoch(), redo.number())) {
+            Some(held) => held.is_same(redo),
+            None => false,
+        }
     }
 
     /// Holds a record under its page and key. Its only error is want of memory: the records are then as they were, and it comes back.

@@ -5,9 +5,9 @@ ghost use Rattle.redo_core.specs.Data.{RecordData};
 ghost use Rattle.redo_core.specs.Order.{Lists, BeforeByNumber};
 ghost use Rattle.redo_core.specs.Standing.{IsAlive};
 ghost use Rattle.epoch_book.specs.Book.{IsBook};
-ghost use Rattle.hot_log.specs.Held.{IsHeld, IsKeyAfter};
+ghost use Rattle.hot_log.specs.Held.{IsHeld, IsKeyAfter, IsKeyTo, HasKey};
 ghost use Rattle.hot_log.specs.Indexing.{IsNextHeld, IsLastHeld};
-ghost use Rattle.hot_log.specs.Alive.{IsHeldAlive, IsHeldOf, IsPageAlive, PartsAt};
+ghost use Rattle.hot_log.specs.Alive.{IsAliveKey, IsAliveOfBack, IsHeldAlive, IsHeldOf, IsOpenedBelow, IsPageAlive, PartsAt};
 ghost use Rattle.hot_log.specs.Found.{IsLeast, IsLeastRecord, IsGreatestRecord, IsOnlyRecord};
 
 use crate::log::HotLog;
@@ -28,17 +28,7 @@ pub fn epoch_above(book: &EpochBook, number: u64) -> u16
     ensures parts { PartsAt book.now number result }
     ensures book { IsBook book.now }
 {
-    let cuts = book.cuts();
-    let complete = book.complete_epoch();
-    let mut end = cuts.len();
-    while end > 0 {
-        end -= 1;
-        let cut = &cuts[end];
-        if cut.epoch() <= complete && cut.lo() <= number {
-            return cut.epoch();
-        }
-    }
-    0
+    book.last_cut_at(number)
 }
 
 impl HotLog {
@@ -94,27 +84,125 @@ impl HotLog {
         ensures found { IsLeastRecord (λ r. IsHeldAlive book.now self.now r × (number < r.number)) (option_copied result) }
         ensures form { IsHeld self.now }
     {
+        let (epoch, number) = self.alive_key(book, number)?;
+        self.get(epoch, number)
+    }
+
+    // The key of the first alive record above a number.
+    fn alive_key(&self, book: &EpochBook, number: u64) -> Option<(u16, u64)>
+        ensures found { IsAliveKey book.now self.now number result }
+        ensures book { IsBook book.now }
+        ensures form { IsHeld self.now }
+    {
         let mut at = (epoch_above(book, number), number);
         while let Some(key) = self.next_key(at) {
             if is_alive(book, key.0, key.1) {
-                return self.get(key.0, key.1);
+                return Some(key);
             }
             at = key;
         }
         None
     }
+
+    /// Whether an alive record has a number between two.
+    pub fn has_between(&self, book: &EpochBook, above: u64, below: u64) -> bool
+        ensures found { IsTrue result ↔ ((r : RecordData) × IsHeldAlive book.now self.now r × (above < r.number) × (r.number < below)) }
+        ensures form { IsHeld self.now }
+    {
+        match self.alive_key(book, above) {
+            Some(key) => key.1 < below,
+            None => false,
+        }
+    }
+}
+
+// The least key above the one given of the alive records with this segment backlink.
+pub fn alive_of_back(
+    log: &HotLog,
+    book: &EpochBook,
+    back: u64,
+    after: (u16, u64),
+) -> Option<(u16, u64)>
+    ensures found { IsAliveOfBack book.now log.now back after result }
+    ensures book { IsBook book.now }
+    ensures form { IsHeld log.now }
+{
+    let _complete = book.complete_epoch();
+    let mut at = after;
+    while let Some(key) = log.next_of_back(back, at) {
+        if is_alive(book, key.0, key.1) {
+            return Some(key);
+        }
+        at = key;
+    }
+    None
 }
 
 // The least alive number with this segment backlink.
 pub fn next_after(log: &HotLog, book: &EpochBook, back: u64) -> Option<u64>
     ensures { IsLeast (λ n. (r : RecordData) × IsHeldAlive book.now log.now r × (r.back ≡ back) × (r.number ≡ n)) result }
 {
-    let mut at = (0, 0);
-    while let Some(key) = log.next_of_back(back, at) {
-        if is_alive(book, key.0, key.1) {
-            return Some(key.1);
-        }
-        at = key;
+    let key = alive_of_back(log, book, back, (0, 0))?;
+    Some(key.1)
+}
+
+// Below a dead key, where the alive numbers of its epoch end.
+fn next_down(book: &EpochBook, key: (u16, u64)) -> u64
+    requires { 0 < key.1 }
+    ensures below { result < key.1 }
+    ensures spares { (n : ℕ) → IsAlive book.now.cuts book.now.complete key.0 n → n < key.1 → n ≤ result }
+{
+    match book.least_lo(key.0) {
+        Some(lo) => lo.min(key.1 - 1),
+        None => key.1 - 1,
     }
-    None
+}
+
+// Whether the record of a key is alive, and its segment backlink below a number.
+fn is_below(log: &HotLog, book: &EpochBook, key: (u16, u64), number: u64) -> bool
+    ensures { IsTrue result ↔ ((r : RecordData) × IsHeldAlive book.now log.now r × HasKey key.0 key.1 r × (r.back < number)) }
+{
+    let _held = log.len();
+    if !is_alive(book, key.0, key.1) {
+        return false;
+    }
+    match log.get(key.0, key.1) {
+        Some(redo) => redo.back() < number,
+        None => false,
+    }
+}
+
+impl HotLog {
+    /// The last alive record up to a number, whatever its page, or None where there is none.
+    pub fn last_alive(&self, book: &EpochBook, to: u64) -> Option<&Record>
+        ensures found { IsGreatestRecord (λ r. IsHeldAlive book.now self.now r × (r.number ≤ to)) (option_copied result) }
+        ensures form { IsHeld self.now }
+    {
+        let mut at = (epoch_above(book, to), to);
+        while let Some(key) = self.last_key(at) {
+            if is_alive(book, key.0, key.1) {
+                return self.get(key.0, key.1);
+            }
+            at = (key.0, next_down(book, key));
+        }
+        None
+    }
+
+    /// Whether an alive record of an epoch above the one given has a segment backlink below a number.
+    pub fn opens_below(&self, book: &EpochBook, epoch: u16, number: u64) -> bool
+        ensures { IsTrue result ↔ ((r : RecordData) × IsOpenedBelow book.now self.now epoch number r) }
+    {
+        let complete = book.complete_epoch();
+        let mut at = (epoch, u64::MAX);
+        while let Some(key) = self.next_key(at) {
+            if key.0 > complete {
+                return false;
+            }
+            if is_below(self, book, key, number) {
+                return true;
+            }
+            at = key;
+        }
+        false
+    }
 }

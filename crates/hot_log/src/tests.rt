@@ -39,6 +39,15 @@ fn book(alloc: Global) -> Result<EpochBook, Fail> {
     Ok(EpochBook::new(alloc, Roster::new(1)?)?)
 }
 
+// One that knows the truncation of epoch 1 from 5 to 20.
+fn truncated_book(alloc: Global) -> Result<EpochBook, Fail> {
+    let mut book = book(alloc)?;
+    if book.learn_cut(Cut::new(1, 5, 20)?).is_err() {
+        return Err("refused".into());
+    }
+    Ok(book)
+}
+
 const CHAIN: [Row; 4] = [(0, 9, 5, 1), (0, 3, 0, 1), (0, 5, 3, 2), (0, 12, 10, 2)];
 
 // The greatest linked number, and how many records the search for it looks at.
@@ -92,8 +101,7 @@ fn linked_numbers_over_forks(rt: HostRuntime) -> Result<(), Fail> {
 
 #[test]
 fn straight_chains(rt: HostRuntime) -> Result<(), Fail> {
-    let mut book = book(rt.alloc())?;
-    assert!(rt; book.learn_cut(Cut::new(1, 5, 20)?).is_ok());
+    let book = truncated_book(rt.alloc())?;
     let log = log_of(rt.alloc(), &TRUNCATED)?;
     for (from, to, straight) in [(0, 100, true), (5, 21, true), (3, 4, true)] {
         assert_eq!(rt; log.is_straight(&book, from, to), straight);
@@ -144,8 +152,7 @@ const TRUNCATED: [Row; 4] = [(0, 3, 0, 1), (0, 5, 3, 1), (0, 9, 5, 1), (1, 21, 5
 
 #[test]
 fn records_over_a_truncation(rt: HostRuntime) -> Result<(), Fail> {
-    let mut book = book(rt.alloc())?;
-    assert!(rt; book.learn_cut(Cut::new(1, 5, 20)?).is_ok());
+    let book = truncated_book(rt.alloc())?;
     let log = log_of(rt.alloc(), &TRUNCATED)?;
     let found = log.records_of(rt.alloc(), &book, 1, 3, 100)?;
     assert_eq!(rt; numbers(&found), [5, 21]);
@@ -156,15 +163,36 @@ fn records_over_a_truncation(rt: HostRuntime) -> Result<(), Fail> {
 }
 
 #[test]
-fn pages_and_keys(rt: HostRuntime) -> Result<(), Fail> {
+fn ends_of_chains(rt: HostRuntime) -> Result<(), Fail> {
+    let mut book = book(rt.alloc())?;
+    assert!(rt; book.learn_cut(Cut::new(1, 5, 20)?).is_ok());
+    let log = log_of(rt.alloc(), &TRUNCATED)?;
+    for (to, found) in [(21, Some(21)), (20, Some(5)), (2, None)] {
+        assert_eq!(rt; log.last_alive(&book, to).map(|r| r.number()), found);
+    }
+    for (epoch, number, opens) in [(0, 6, true), (0, 5, false), (1, 6, false)] {
+        assert_eq!(rt; log.opens_below(&book, epoch, number), opens);
+    }
+    assert!(rt; log.straight_end(&book, 3) == Some(21) && log.straight_end(&book, 4) == Some(4));
+    Ok(())
+}
+
+#[test]
+fn pages(rt: HostRuntime) -> Result<(), Fail> {
     let log = log_of(rt.alloc(), &CHAIN)?;
     for (after, page) in [(None, Some(1)), (Some(1), Some(2)), (Some(2), None)] {
         assert_eq!(rt; log.page_after(after), page);
     }
     let last = log_of(rt.alloc(), &[(0, 3, 0, u16::MAX)])?;
-    assert_eq!(rt; last.page_after(Some(7)), Some(u16::MAX));
-    assert_eq!(rt; last.page_after(Some(u16::MAX)), None);
-    let copied = log.copy()?;
+    for (after, page) in [(7, Some(u16::MAX)), (u16::MAX, None)] {
+        assert_eq!(rt; last.page_after(Some(after)), page);
+    }
+    Ok(())
+}
+
+#[test]
+fn keys_of_a_copy(rt: HostRuntime) -> Result<(), Fail> {
+    let copied = log_of(rt.alloc(), &CHAIN)?.copy()?;
     let keys = [
         (None, Some((0, 3))),
         (Some((0, 4)), Some((0, 5))),
@@ -196,17 +224,14 @@ fn one_record_a_key(rt: HostRuntime) -> Result<(), Fail> {
 
 #[test]
 fn removals(rt: HostRuntime) -> Result<(), Fail> {
-    let mut book = book(rt.alloc())?;
-    let mut log = log_of(rt.alloc(), &CHAIN)?;
-    put(rt.alloc(), &mut log, (2, 3, 0, 1))?
-        .ok()
-        .ok_or("refused")?;
-    assert!(rt; book.learn_cut(Cut::new(1, 5, 20)?).is_ok());
+    let book = truncated_book(rt.alloc())?;
+    let rows = [(0, 3, 0, 1), (0, 5, 3, 2), (0, 9, 5, 1), (2, 3, 0, 1)];
+    let mut log = log_of(rt.alloc(), &rows)?;
     log.remove_dead(&book);
     assert_eq!(rt; log.key_after(Some((0, 5))), Some((2, 3)));
-    log.remove_folded(&book, 2, 4, 5);
-    assert_eq!(rt; log.len(), 3);
-    log.remove_folded(&book, 2, 5, 5);
-    assert_eq!(rt; log.len(), 2);
+    for (version, held) in [(4, 3), (5, 2)] {
+        log.remove_folded(&book, 2, version, 5);
+        assert_eq!(rt; log.len(), held);
+    }
     Ok(())
 }

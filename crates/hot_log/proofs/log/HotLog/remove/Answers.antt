@@ -1,32 +1,32 @@
-use Rattle.std.proofs.Common.{subst, List, None}
+use Rattle.std.proofs.Common.{subst, List}
 use Rattle.redo_core.specs.Data.{RecordData}
-use Rattle.hot_log.specs.Held.{HasKey, IsRecordAt}
+use Rattle.hot_log.specs.Held.{HasKey}
 use Rattle.hot_log.specs.Removing.{Removes}
 use Rattle.hot_log.proofs.Indexed.{index_shrinks, pages_shrink, unpaged, removes_none, removes_key}
 use Rattle.hot_log.proofs.log.HotLog.remove.Goals as goal
 
 pub returns-in_default-clause-removes : goal.returns-in_default-clause-removes
 returns-in_default-clause-removes c =
-    removes_none c.args.self.now c.args.epoch c.args.number
-    (subst (λ (l : List RecordData). IsRecordAt l c.args.epoch c.args.number None) c.self.view_is
-    (unpaged c.self.inside.records c.self.inside.by_key c.args.epoch c.args.number c.self.invariant.by_key c.in_default.ensures))
+    let held = c.self.inside.records in
+    subst (λ (l : List RecordData). Removes (HasKey c.args.epoch c.args.number) l held) c.self.view_is
+    (removes_none held c.args.epoch c.args.number (unpaged held c.self.inside.by_key c.args.epoch c.args.number c.self.invariant.by_key c.in_default.ensures.had))
 
 -- the record of a key that has a page is there
 never : (c : goal.In_default-remove) → ⊥
 never c =
-    let t = c.self.invariant.by_key.backed c.args.epoch c.args.number c.in-Some.page c.in-Some.ensures in
+    let t = c.self.invariant.by_key.backed c.args.epoch c.args.number c.in-Some.page c.in-Some.ensures.had in
     c.in_default-remove.ensures.value t.0 t.1 t.3 t.2
 
-pub invariant_of-self : goal.invariant_of-self
-invariant_of-self c = absurd (never c)
+pub invariant_of-self-in_default-remove : goal.invariant_of-self-in_default-remove
+invariant_of-self-in_default-remove c = absurd (never c)
 
 pub returns-in_default-remove-clause-removes : goal.returns-in_default-remove-clause-removes
 returns-in_default-remove-clause-removes c = absurd (never c)
 
-goes : (c : goal.Joined-redo) → Removes (HasKey c.args.epoch c.args.number) c.self.inside.records c.remove.new.self
+goes : (c : goal.Joined-redo) → Removes (HasKey c.args.epoch c.args.number) c.self.inside.records c.remove-2.new.self
 goes c =
-    removes_key c.self.inside.records c.remove.new.self c.self.inside.by_key c.args.epoch c.args.number c.in-Some.page c.self.invariant.form c.self.invariant.by_key
-    c.in-Some.ensures c.in-Some-remove.ensures.removes
+    removes_key c.self.inside.records c.remove-2.new.self c.self.inside.by_key c.args.epoch c.args.number c.in-Some.page c.self.invariant.form c.self.invariant.by_key
+    c.in-Some.ensures.had c.in-Some-remove.ensures.removes
 
 pub invariant_of-self-2 : goal.invariant_of-self-2
 invariant_of-self-2 c =
@@ -34,10 +34,10 @@ invariant_of-self-2 c =
     let found = c.in-Some-remove.ensures.value in
     record {
       form = c.in-Some-remove.ensures.form;
-      by_key = pages_shrink held c.remove.new.self c.self.inside.by_key c.remove-2.new.self c.args.epoch c.args.number c.self.invariant.by_key (goes c) c.remove-2.ensures;
-      by_back = index_shrinks (λ r. r.back) held c.remove.new.self c.self.inside.by_back c.remove-3.new.self redo c.back.result c.args.epoch c.args.number c.self.invariant.form
+      by_key = pages_shrink held c.remove-2.new.self c.self.inside.by_key c.remove.new.self c.args.epoch c.args.number c.self.invariant.by_key (goes c) c.in-Some.ensures.loses;
+      by_back = index_shrinks (λ r. r.back) held c.remove-2.new.self c.self.inside.by_back c.remove-3.new.self redo c.back.result c.args.epoch c.args.number c.self.invariant.form
           c.self.invariant.by_back found.0 found.2 c.back.ensures.value (goes c) c.remove-3.ensures;
     }
 
 pub returns-clause-removes : goal.returns-clause-removes
-returns-clause-removes c = subst (λ (l : List RecordData). Removes (HasKey c.args.epoch c.args.number) l c.remove.new.self) c.self.view_is (goes c)
+returns-clause-removes c = subst (λ (l : List RecordData). Removes (HasKey c.args.epoch c.args.number) l c.remove-2.new.self) c.self.view_is (goes c)

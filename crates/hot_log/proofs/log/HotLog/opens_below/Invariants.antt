@@ -1,0 +1,16 @@
+use Rattle.std.proofs.Common.{ℕ, ◌<◌, ◌≤◌}
+use Rattle.redo_core.specs.Data.{RecordData}
+use Rattle.redo_core.specs.Order.{PairBefore}
+use Rattle.hot_log.specs.Alive.{IsOpenedBelow}
+use Rattle.hot_log.proofs.Climb.{above}
+use Rattle.hot_log.proofs.log.HotLog.opens_below.Given as goal
+
+-- such a record has a key above this one, and what is above it is of a later epoch
+abbrev pub invariant-loop-key : goal.invariant-loop-key
+invariant-loop-key l = record {
+  above : (r : RecordData) → IsOpenedBelow l.book l.self l.epoch l.number r → PairBefore l.at.0 l.at.1 r.epoch r.number;
+  later : (e n : ℕ) → PairBefore l.at.0 l.at.1 e n → n ≤ 18446744073709551615 → l.epoch < e;
+}
+
+abbrev pub decreases-loop-key : goal.decreases-loop-key
+decreases-loop-key l = above l.at l.self
