@@ -13,13 +13,14 @@ use Rattle.redo_core.specs.Roster.{IsReader, point_of, least}
 use Rattle.redo_core.proofs.Points.{least_mono}
 use Rattle.redo_core.proofs.Rising.{rising_members}
 use Rattle.epoch_book.specs.Book.{BookData, IsBook}
+use Rattle.epoch_book.proofs.Books.{epoch_grows}
 use Rattle.epoch_book.specs.Learning.{LearnsCut, LearnsAdvance}
 use Rattle.epoch_book.specs.declared.refusals.Learnt.{Learnt}
 use Rattle.epoch_book.specs.declared.refusals.Learnt.TheVariants as learnt
 use Rattle.epoch_book.specs.declared.refusals.BookRefusal.{BookRefusal}
 use Rattle.hot_log.specs.Alive.{IsHeldAlive}
 use Rattle.hot_log.specs.Removing.{Removes}
-use Rattle.segment_core.specs.Points.{HasPoints, HasLowAnchor}
+use Rattle.segment_core.specs.Points.{HasPoints, HasLowAnchor, IsLaterBook, WerePoints}
 use Rattle.segment_core.specs.declared.points.Points.{Points}
 use Rattle.segment_core.proofs.Moving.{Agree, low_over, points_over}
 use Rattle.segment_core.proofs.Taking.{cut_bound, advance_bound}
@@ -127,3 +128,26 @@ pub cut_keeps_points : (b c : BookData) (held : List RecordData) (base : ℕ) (p
 cut_keeps_points b c held base p d (Ok l) is next learns same complete has =
     points_over b c held held base p (cut_agrees b c held base d is next learns complete) (cut_minimum b c d is learns complete) has
 cut_keeps_points b c held base p d (Err e) is next learns same complete has = subst (λ x. HasPoints x held base p) (sym same) has
+
+-- ---- a truncation, whatever it opens
+cut_is_later : (b c : BookData) (d : CutData) → IsBook b → IsBook c → LearnsCut b d c → IsLaterBook b c
+cut_is_later b c d is next learns = record {
+  form = is;
+  kept = λ x h. (learns.cuts x).1 (inl h);
+  known = λ x h. ⊎_elim
+      (λ (u : Contains b.cuts x). inl u)
+      (λ (e : x ≡ d). subst (λ y. Contains b.cuts y ⊎ (b.complete < y.epoch)) (sym e) (later_or_known b c d is next learns))
+      ((learns.cuts x).0 h);
+  complete = epoch_grows b.cuts c.cuts b.complete c.complete (λ x h. (learns.cuts x).1 (inl h)) is.complete next.complete;
+  minimum = cut_bound b c (least b.points) d (Ok learnt.New) learns tt (omega arith);
+}
+
+same_is_later : (b : BookData) → IsBook b → IsLaterBook b b
+same_is_later b is = record { form = is; kept = λ x h. h; known = λ x h. inl h; complete = omega arith; minimum = omega arith }
+
+pub cut_had_points : (b c : BookData) (held : List RecordData) (base epoch : ℕ) (p : Points) (d : CutData) (answer : Result Learnt BookRefusal)
+    → IsBook b → IsBook c → OnOk answer (LearnsCut b d c) → OnErr answer (c ≡ b) → epoch ≡ b.complete → HasPoints b held base p → WerePoints c held base epoch p
+cut_had_points b c held base epoch p d (Ok l) is next learns same at has =
+    record { earlier = b; later = cut_is_later b c d is next learns; at = sym at; had = has }
+cut_had_points b c held base epoch p d (Err e) is next learns same at has =
+    record { earlier = b; later = subst (IsLaterBook b) (sym same) (same_is_later b is); at = sym at; had = has }

@@ -18,3 +18,5 @@ pub mod Chained
 pub mod Moving
 pub mod Following
 pub mod Restored
+pub mod Opening
+pub mod OnTop

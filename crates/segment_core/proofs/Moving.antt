@@ -1,5 +1,5 @@
 -- How the kept points move with what is held and known.
-use Rattle.std.proofs.Common.{◌≡◌, ℕ, ◌<◌, ◌≤◌, ◌⊎◌, ◌↔◌, inl, inr, ⊎_elim, List, refl, sym, ◌∙◌, subst, arith, IsTrue, None}
+use Rattle.std.proofs.Common.{◌≡◌, ℕ, ◌<◌, ◌≤◌, ◌⊎◌, ◌↔◌, inl, inr, ⊎_elim, List, refl, sym, subst, arith, IsTrue, None}
 use Rattle.std.specs.List.{Contains}
 use Rattle.std.proofs.lemmas.Bool.{cases_lt}
 use Rattle.redo_core.specs.Data.{RecordData}
@@ -167,7 +167,7 @@ over_gap b old new base p r j gap has =
     }
 
 -- what is linked above a number of a straight chain is linked from there, where a record joins at the top
-from_there : (b : BookData) (old new : List RecordData) (base : ℕ) (p : Points) (r : RecordData) (m n : ℕ) → Joins b old new r → r.back ≡ p.complete
+pub from_there : (b : BookData) (old new : List RecordData) (base : ℕ) (p : Points) (r : RecordData) (m n : ℕ) → Joins b old new r → r.back ≡ p.complete
     → HasPoints b old base p → IsStraight b old base p.complete → IsLinkedFrom b old base m → m ≤ n → IsLinkedFrom b new base n → IsLinkedFrom b new m n
 from_there b old new base p r m n j back has is linked le l = ⊎_elim
     (λ (u : IsLinkedFrom b old base n). still_linked b old new r m n j (is.onward m n linked u le (has.complete.most n u)))
@@ -204,10 +204,10 @@ on_top b old new base p q r j back t has moved =
     }
 
 -- ---- what a put does to the points
-back_below : (r : RecordData) → record_fault r ≡ None → r.back < r.number
+pub back_below : (r : RecordData) → record_fault r ≡ None → r.back < r.number
 back_below r shaped = grind (arith, shaped)
 
-joins_of : (b : BookData) (old new : List RecordData) (r : RecordData) → IsHeld new → ((s : RecordData) → Contains new s ↔ (Contains old s ⊎ (s ≡ r)))
+pub joins_of : (b : BookData) (old new : List RecordData) (r : RecordData) → IsHeld new → ((s : RecordData) → Contains new s ↔ (Contains old s ⊎ (s ≡ r)))
     → IsAlive b.cuts b.complete r.epoch r.number → Joins b old new r
 joins_of b old new r is members alive = record {
   members = members;
@@ -225,8 +225,3 @@ links_none b old new base p r is puts not has = ⊎_elim
     (settled_alive b.cuts b.complete r.epoch r.number))
     (λ (le : r.back ≤ p.complete). beside b old new base p r puts.1 (λ a lt. not (a, lt, le)) has)
     (cases_lt p.complete r.back)
-
-pub links_on_top : (b : BookData) (old new : List RecordData) (base back : ℕ) (p q : Points) (r : RecordData) → IsHeld new → Puts old r new New
-    → MayLink b base p r → back ≡ r.back → back ≡ p.complete → IsTrue p.straight → HasPoints b old base p → MoveOn b new p q → HasPoints b new base q
-links_on_top b old new base back p q r is puts may same top t has moved =
-    on_top b old new base p q r (joins_of b old new r is puts.1 may.0) (sym same ∙ top) t has moved

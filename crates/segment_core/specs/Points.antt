@@ -1,10 +1,14 @@
 -- The points that a segment keeps beside its records, so that neither is searched for.
-use Rattle.std.specs.Prelude.{ℕ, ◌<◌, ◌≤◌, IsTrue, true, List}
-use Rattle.redo_core.specs.Data.{RecordData}
+use Rattle.std.specs.Prelude.{◌≡◌, ℕ, ◌<◌, ◌≤◌, ◌⊎◌, IsTrue, true, List}
+use Rattle.std.specs.List.{Contains}
+use Rattle.redo_core.specs.Data.{RecordData, CutData}
 use Rattle.redo_core.specs.Standing.{IsAlive}
 use Rattle.redo_core.specs.Roster.{least}
-use Rattle.epoch_book.specs.Book.{BookData}
-use Rattle.hot_log.specs.Alive.{IsLinkedFrom, IsStraight}
+use Rattle.epoch_book.specs.Book.{BookData, IsBook}
+use Rattle.hot_log.specs.Held.{IsHeld}
+use Rattle.hot_log.specs.Putting.{Puts}
+use Rattle.hot_log.specs.declared.log.Put.TheVariants.{New}
+use Rattle.hot_log.specs.Alive.{IsHeldAlive, IsLinkedFrom, IsStraight}
 use Rattle.segment_core.specs.declared.points.Points.{Points}
 
 -- n is the greatest number that the held records link from a number on
@@ -43,3 +47,46 @@ pub record HasLowAnchor (book : BookData) (held : List RecordData) (base : ℕ) 
 -- a record that is alive above the base point, and whose backlink is not above the complete point
 abbrev pub MayLink : BookData → ℕ → Points → RecordData → Type 0
 MayLink book base points r = IsAlive book.cuts book.complete r.epoch r.number × (base < r.number) × (r.back ≤ points.complete)
+
+-- A later book: up to the complete epoch of the earlier one both have the same truncations, and neither the complete epoch nor the
+-- minimum read point has fallen.
+pub record IsLaterBook (old new : BookData) : Type 0 where
+  pub form : IsBook old
+  pub kept : (c : CutData) → Contains old.cuts c → Contains new.cuts c
+  pub known : (c : CutData) → Contains new.cuts c → Contains old.cuts c ⊎ (old.complete < c.epoch)
+  pub complete : old.complete ≤ new.complete
+  pub minimum : least old.points ≤ least new.points
+
+-- the points were kept over an earlier book, whose complete epoch is given
+pub record WerePoints (book : BookData) (held : List RecordData) (base epoch : ℕ) (points : Points) : Type 0 where
+  pub earlier : BookData
+  pub later : IsLaterBook earlier book
+  pub at : earlier.complete ≡ epoch
+  pub had : HasPoints earlier held base points
+
+-- The number of an alive record above the base point and at most the complete point, to which the epochs above one have done
+-- nothing: none of their truncations cuts below it, and none of their records has a backlink below it.
+pub record IsUntouched (book : BookData) (held : List RecordData) (base epoch complete n : ℕ) : Type 0 where
+  pub by : RecordData
+  pub alive : IsHeldAlive book held by
+  pub number : by.number ≡ n
+  pub above : base < n
+  pub bound : n ≤ complete
+  pub spared : (c : CutData) → Contains book.cuts c → epoch < c.epoch → c.epoch ≤ book.complete → n ≤ c.lo
+  pub behind : (r : RecordData) → IsHeldAlive book held r → epoch < r.epoch → n ≤ r.back
+
+-- a record of this number has joined the held ones at the complete point of a straight chain
+pub record JoinsOnTop (book : BookData) (held : List RecordData) (base number : ℕ) (points : Points) : Type 0 where
+  pub earlier : List RecordData
+  pub redo : RecordData
+  pub form : IsHeld held
+  pub at : redo.number ≡ number
+  pub puts : Puts earlier redo held New
+  pub may : MayLink book base points redo
+  pub back : redo.back ≡ points.complete
+  pub straight : IsTrue points.straight
+  pub had : HasPoints book earlier base points
+
+-- where the chain goes on from a number, the anchor goes on from there if the minimum read point has come so far, and else stays
+abbrev pub AnchorsOn : BookData → List RecordData → ℕ → ℕ → ℕ → Type 0
+AnchorsOn book held from old new = (least book.points < from → new ≡ old) × (from ≤ least book.points → IsTopTo book held from (least book.points) new)

@@ -8,6 +8,7 @@
 //! does a broken block chain. A `draft` takes facts apart from the images, and `take_union` takes it over, whole or not at all.
 #![tactic(auto)]
 
+mod anew;
 mod answers;
 mod at_anchor;
 mod comparing;

@@ -1,9 +1,11 @@
-ghost use Rattle.std.specs.Prelude.{◌≡◌, ◌≤◌, ◌↔◌, IsTrue, IfOk, IfErr, OnErr};
+ghost use Rattle.std.specs.Prelude.{◌≡◌, ℕ, ◌≤◌, ◌↔◌, IsTrue, IfOk, IfErr, OnErr, IfSome};
 ghost use Rattle.redo_core.specs.Roster.{least};
 ghost use Rattle.redo_core.specs.Shape.{max_number};
+ghost use Rattle.epoch_book.specs.Book.{IsBook};
+ghost use Rattle.hot_log.specs.Alive.{IsStraightEnd};
 ghost use Rattle.hot_log.specs.Held.{IsHeld};
 ghost use Rattle.hot_log.specs.Putting.{Puts, RefusesPut};
-ghost use Rattle.segment_core.specs.Points.{HasPoints, HasLowAnchor, MayLink, MoveOn, points_at};
+ghost use Rattle.segment_core.specs.Points.{AnchorsOn, HasPoints, HasLowAnchor, IsUntouched, JoinsOnTop, MayLink, MoveOn, WerePoints, points_at};
 
 use epoch_book::{EpochBook, Standing};
 use hot_log::{HotLog, Put, PutFault};
@@ -76,6 +78,50 @@ impl Points {
         Points::anew(hot, book, raised)
     }
 
+    /// The points where a truncation has opened the epochs above one: over a straight chain they go on from the last number to which
+    /// those have done nothing.
+    pub(crate) fn after_opening(
+        self,
+        hot: &HotLog,
+        book: &EpochBook,
+        base: u64,
+        epoch: u16,
+    ) -> Points
+        requires { WerePoints book.now hot.now base epoch self }
+        ensures { HasPoints book.now hot.now base result }
+    {
+        if !self.straight {
+            return Points::anew(hot, book, base);
+        }
+        let Some(from) = self.untouched(hot, book, base, epoch) else {
+            return Points::anew(hot, book, base);
+        };
+        let start = Points {
+            complete: from,
+            anchor: self.anchor.min(from),
+            straight: true,
+        };
+        start.onward(hot, book)
+    }
+
+    /// The last number above the base point to which the epochs above one have done nothing.
+    fn untouched(self, hot: &HotLog, book: &EpochBook, base: u64, epoch: u16) -> Option<u64>
+        ensures untouched { IfSome result (IsUntouched book.now hot.now base epoch self.complete) }
+        ensures form { IsHeld hot.now }
+        ensures book { IsBook book.now }
+    {
+        let to = match book.least_lo(epoch) {
+            Some(lo) => lo.min(self.complete),
+            None => self.complete,
+        };
+        let from = hot.last_alive(book, to)?.number();
+        if base < from && !hot.opens_below(book, epoch, from) {
+            Some(from)
+        } else {
+            None
+        }
+    }
+
     /// Holds one more record, and brings the points to where it links them. Each error hands the record back and leaves all as it was.
     pub(crate) fn put(
         &mut self,
@@ -91,14 +137,14 @@ impl Points {
         ensures form { IsHeld hot.new }
         ensures points { HasPoints book.now hot.new base self.new }
     {
-        let back = redo.back();
+        let (number, back) = (redo.number(), redo.back());
         let may_link = self.may_link(book, base, &redo);
         match hot.put(redo)? {
             Put::Known => Ok(Put::Known),
             Put::New => {
                 if may_link {
                     *self = if self.straight && back == self.complete {
-                        self.onward(hot, book)
+                        self.on_top(hot, book, number)
                     } else {
                         Points::anew(hot, book, base)
                     };
@@ -106,6 +152,41 @@ impl Points {
                 Ok(Put::New)
             }
         }
+    }
+
+    /// The points after a record of this number has joined at the top of a straight chain. The chain is walked from the record on.
+    fn on_top(self, hot: &HotLog, book: &EpochBook, number: u64) -> Points
+        requires small { self.complete ≤ max_number }
+        requires anchor { self.anchor ≤ least book.now.points }
+        ensures { (base : ℕ) → JoinsOnTop book.now hot.now base number self → HasPoints book.now hot.now base result }
+    {
+        if hot.has_between(book, self.complete, number) {
+            return self.onward(hot, book);
+        }
+        let Some(complete) = hot.straight_end(book, number) else {
+            return self.onward(hot, book);
+        };
+        let anchor = self.anchor_on(hot, book, number, complete);
+        Points {
+            complete,
+            anchor,
+            straight: true,
+        }
+    }
+
+    /// The anchor where the chain goes on from a number to its end.
+    fn anchor_on(self, hot: &HotLog, book: &EpochBook, from: u64, end: u64) -> u64
+        requires { IsStraightEnd book.now hot.now from end }
+        ensures { AnchorsOn book.now hot.now from self.anchor result }
+    {
+        let min = book.min_point();
+        if min < from {
+            return self.anchor;
+        }
+        if end <= min {
+            return end;
+        }
+        hot.linked_to(book, from, min)
     }
 
     /// Whether a record that joins the held ones may link a number: it is alive above the base point, and behind no gap.

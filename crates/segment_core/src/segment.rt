@@ -26,6 +26,7 @@ ghost use Rattle.segment_core.specs.declared.answers.Refusal.{Refusal as AnyRefu
 ghost use Rattle.segment_core.specs.declared.answers.Refusal.TheVariants.{Memory as MemoryOf};
 ghost use Rattle.segment_core.specs.declared.answers.Taken.TheVariants.{Changed as ChangedOf, Unchanged as UnchangedOf};
 
+use crate::anew::from_last_init;
 use crate::answers::{Front, ReadFault, Refusal, Taken};
 use crate::points::Points;
 use epoch_book::{BookRefusal, EpochBook, Learnt, Standing};
@@ -228,7 +229,7 @@ impl Segment {
 fn apply_all(records: &[&Record], page: &mut Page)
     ensures { page.new ≡ after_records page.old (map (λ x. x.now) records.now) }
 {
-    for redo in records {
+    for redo in from_last_init(records) {
         apply(redo, page);
     }
 }
@@ -250,7 +251,9 @@ impl Segment {
         let epoch = self.book.complete_epoch();
         let learnt = self.book.learn_cut(cut);
         if self.book.complete_epoch() != epoch {
-            self.points = Points::anew(&self.hot, &self.book, self.base);
+            self.points = self
+                .points
+                .after_opening(&self.hot, &self.book, self.base, epoch);
         }
         book_answer(Fact::Cut(cut), learnt)
     }

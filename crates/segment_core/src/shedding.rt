@@ -17,6 +17,7 @@ ghost use Rattle.segment_core.specs.Forgetting.{DiscardsJust, FoldsAll, Tidies, 
 ghost use Rattle.segment_core.specs.declared.answers.ReadFault.TheVariants.{Memory as MemoryOf};
 ghost use Rattle.segment_core.specs.declared.fold_plan.CommitFault.TheVariants.{Memory as OfMemory};
 
+use crate::anew::from_last_init;
 use crate::answers::ReadFault;
 use crate::fold_plan::{CommitFault, FoldPlan, Folded};
 use crate::segment::Segment;
@@ -71,7 +72,7 @@ impl Segment {
             page,
             version: point,
             image: self.store.image(page)?,
-            records: copies(self.alloc, &held)?,
+            records: copies(self.alloc, from_last_init(&held))?,
         })
     }
 

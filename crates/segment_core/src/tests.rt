@@ -328,3 +328,23 @@ fn a_discard_beside_a_fork(rt: HostRuntime) -> Result<(), Fail> {
     assert!(rt; fronts == [(0, front(0, 9, 5)), (5, front(0, 5, 5))]);
     Ok(())
 }
+
+// The fronts before and after a truncation at 5, where record 21 of its epoch waits with this backlink.
+fn opens(alloc: Global, back: u64) -> Result<[Front; 2], Fail> {
+    let mut one = chained(alloc, &[(3, 0), (5, 3), (9, 5)])?;
+    let waiting = redo(alloc, (1, 21), back, (7, 0), true, (0, b"b"))?;
+    take(&mut one, waiting);
+    let before = one.front();
+    let held = cut(1, 5, 20)?;
+    take(&mut one, Fact::Cut(held));
+    Ok([before, one.front()])
+}
+
+#[test]
+fn an_epoch_that_opens(rt: HostRuntime) -> Result<(), Fail> {
+    for (back, complete) in [(5, 21), (3, 21), (4, 5)] {
+        let fronts = opens(rt.alloc(), back)?;
+        assert!(rt; fronts == [front(0, 9, 0), front(1, complete, 0)], "{back}");
+    }
+    Ok(())
+}

@@ -1,8 +1,8 @@
-use Rattle.std.proofs.Common.{◌≡◌, true, false, sym, subst}
+use Rattle.std.proofs.Common.{◌≡◌, true, false, sym, ◌∙◌, subst}
 use Rattle.hot_log.specs.Putting.{Puts}
 use Rattle.hot_log.specs.declared.log.Put.TheVariants.{New}
 use Rattle.segment_core.specs.Points.{HasPoints}
-use Rattle.segment_core.proofs.Moving.{links_none, links_on_top}
+use Rattle.segment_core.proofs.Moving.{links_none}
 use Rattle.segment_core.proofs.points.Points.put.Goals as goal
 use Rattle.segment_core.proofs.points.Points.put.Goals.{then-may_link+then-self+then-back-self, then-may_link+else-self, else-may_link}
 
@@ -16,8 +16,17 @@ returns-after-may_link-clause-points c =
     let puts : Puts old c.args.redo new New = subst (Puts old c.args.redo new) c.in-New.is c.in_ok-put.ensures.put in
     elim c.if-may_link.branch [
       | then-may_link+then-self+then-back-self w ↦ subst (HasPoints book new base) (sym w.self-is)
-          (links_on_top book old new base c.back-back.result p w.onward.result c.args.redo c.put.ensures.form puts (c.may_link-may_link.ensures.0 w.if-may_link.true)
-          c.back-back.ensures.value w.if-back-self.true w.if-self.true c.requires w.onward.ensures)
+          (w.on_top.ensures base (record {
+            earlier = old;
+            redo = c.args.redo;
+            form = c.put.ensures.form;
+            at = sym c.number-number.ensures.value;
+            puts = puts;
+            may = c.may_link-may_link.ensures.0 w.if-may_link.true;
+            back = sym c.back-back.ensures.value ∙ w.if-back-self.true;
+            straight = w.if-self.true;
+            had = c.requires;
+          }))
       | then-may_link+else-self w ↦ subst (HasPoints book new base) (sym w.self-is) w.anew.ensures
       | else-may_link w ↦ subst (HasPoints book new base) (sym w.self-is)
           (links_none book old new base p c.args.redo c.put.ensures.form puts

@@ -5,7 +5,7 @@ use Rattle.segment_state.proofs.Learnt.{takes_cut}
 use Rattle.segment_state.proofs.Knowing.{takes_known}
 use Rattle.segment_core.specs.Exactly.{TakesExactly}
 use Rattle.segment_core.proofs.Taking.{cut_exact, cut_bound}
-use Rattle.segment_core.proofs.Following.{cut_keeps_points}
+use Rattle.segment_core.proofs.Following.{cut_keeps_points, cut_had_points}
 use Rattle.segment_core.proofs.segment.Segment.take_cut.Goals as goal
 use Rattle.segment_core.proofs.segment.Segment.take_cut.Goals.{then-complete_epoch-epoch, else-complete_epoch-epoch}
 
@@ -23,10 +23,12 @@ returns c =
     (cut_exact takes_cut takes_known i.book c.learn_cut-learnt.new.self i.hot i.base i.store c.args.cut
     c.learn_cut-learnt.result c.book_answer.result c.self.invariant.0 e.book e.ok e.known e.unchanged e.err e.refuses e.refused e.memory c.book_answer.ensures))
 
-pub anew-self-inside-requires : goal.anew-self-inside-requires
-anew-self-inside-requires c =
+pub after_opening-self-inside-requires : goal.after_opening-self-inside-requires
+after_opening-self-inside-requires c =
     let e = c.learn_cut-learnt.ensures in
-    cut_bound c.self.inside.book c.learn_cut-learnt.new.self c.self.inside.base c.args.cut c.learn_cut-learnt.result e.ok e.err c.self.invariant.3
+    let i = c.self.inside in
+    cut_had_points i.book c.learn_cut-learnt.new.self i.hot i.base c.complete_epoch-epoch.result i.points c.args.cut c.learn_cut-learnt.result
+    c.self.invariant.0 e.book e.ok e.err c.complete_epoch-epoch.ensures.value c.self.invariant.4
 
 pub invariant_of-self : goal.invariant_of-self
 invariant_of-self c =
@@ -36,7 +38,7 @@ invariant_of-self c =
       c.self.invariant.2,
       cut_bound c.self.inside.book c.learn_cut-learnt.new.self c.self.inside.base c.args.cut c.learn_cut-learnt.result e.ok
           e.err c.self.invariant.3,
-      c.anew-self-inside.ensures,
+      c.after_opening-self-inside.ensures,
     )
 
 pub invariant_of-self-else-complete_epoch-epoch : goal.invariant_of-self-else-complete_epoch-epoch

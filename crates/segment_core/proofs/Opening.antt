@@ -1,0 +1,221 @@
+-- The kept points where epochs open.
+use Rattle.std.proofs.Common.{◌≡◌, ℕ, ◌<◌, ◌≤◌, ◌⊎◌, ⊎_elim, List, sym, subst, arith, IsTrue, true, min}
+use Rattle.std.specs.List.{Contains}
+use Rattle.std.proofs.lemmas.Bool.{cases_lt}
+use Rattle.redo_core.specs.Data.{RecordData}
+use Rattle.redo_core.specs.Linked.Linked.{start, next}
+use Rattle.redo_core.specs.Roster.{least}
+use Rattle.redo_core.specs.Shape.{max_number}
+use Rattle.epoch_book.specs.Book.{BookData, IsBook}
+use Rattle.hot_log.specs.Held.{IsHeld}
+use Rattle.hot_log.specs.Alive.{IsHeldAlive, IsLinkedFrom, IsStraight}
+use Rattle.hot_log.proofs.Chain.{link_at_least, link_down}
+use Rattle.hot_log.proofs.Forks.{link_trans}
+use Rattle.hot_log.proofs.Views.{view_of}
+use Rattle.segment_core.specs.Points.{MoveOn, HasPoints, IsLaterBook, WerePoints, IsUntouched}
+use Rattle.segment_core.specs.declared.points.Points.{Points}
+use Rattle.segment_core.proofs.Chain.{small_number}
+use Rattle.segment_core.proofs.Moving.{back_below}
+
+-- the points of a straight chain of book b, and a number of it that book c, which knows later epochs, leaves untouched
+pub record Opening (b c : BookData) (held : List RecordData) (base n : ℕ) (p : Points) : Type 0 where
+  pub form : IsHeld held
+  pub book : IsBook c
+  pub later : IsLaterBook b c
+  pub has : HasPoints b held base p
+  pub straight : IsStraight b held base p.complete
+  pub untouched : IsUntouched c held base b.complete p.complete n
+
+-- ---- up to that number the same records are alive
+pub alive_on : (b c : BookData) (held : List RecordData) (base n : ℕ) (p : Points) → Opening b c held base n p → (r : RecordData) → r.number ≤ n
+    → IsHeldAlive b held r → IsHeldAlive c held r
+alive_on b c held base n p o r small h =
+    let known : r.epoch ≤ b.complete = h.1.known in
+    let up : b.complete ≤ c.complete = o.later.complete in (
+      h.0,
+      record {
+        known = omega arith;
+        begun = λ d m same. ⊎_elim (λ (u : Contains b.cuts d). h.1.begun d u same) (λ (u : b.complete < d.epoch). absurd (omega arith)) (o.later.known d m);
+        spared = λ d m lt le. ⊎_elim
+            (λ (u : b.complete < d.epoch). let low : n ≤ d.lo = o.untouched.spared d m u le in let t : r.number ≤ d.lo = omega arith in t)
+            (λ (v : d.epoch ≤ b.complete). ⊎_elim
+            (λ (u : Contains b.cuts d). h.1.spared d u lt v)
+            (λ (u : b.complete < d.epoch). absurd (omega arith))
+            (o.later.known d m))
+            (cases_lt b.complete d.epoch);
+      },
+    )
+
+pub alive_before : (b c : BookData) (held : List RecordData) (r : RecordData) → IsLaterBook b c → r.epoch ≤ b.complete → IsHeldAlive c held r → IsHeldAlive b held r
+alive_before b c held r later known h =
+    let up : b.complete ≤ c.complete = later.complete in (
+      h.0,
+      record {
+        known = known;
+        begun = λ d m same. h.1.begun d (later.kept d m) same;
+        spared = λ d m lt le. h.1.spared d (later.kept d m) lt (omega arith);
+      },
+    )
+
+alive_back : (b c : BookData) (held : List RecordData) (base n : ℕ) (p : Points) → Opening b c held base n p → (r : RecordData) → r.number ≤ n
+    → IsHeldAlive c held r → IsHeldAlive b held r
+alive_back b c held base n p o r small h = ⊎_elim
+    (λ (u : b.complete < r.epoch). absurd (
+    let view = view_of c o.book in
+    let d = view.begun r.epoch (omega arith) h.1.known in
+    let same : d.0.epoch ≡ r.epoch = d.2 in
+    let known : r.epoch ≤ c.complete = h.1.known in
+    let low : n ≤ d.0.lo = o.untouched.spared d.0 d.1 (omega arith) (omega arith) in
+    let order : d.0.lo ≤ d.0.hi = view.ordered d.0 d.1 in
+    let above : d.0.hi < r.number = h.1.begun d.0 d.1 same in
+    omega arith))
+    (λ (u : r.epoch ≤ b.complete). alive_before b c held r o.later u h)
+    (cases_lt b.complete r.epoch)
+
+-- ---- and the same numbers are linked
+links_up_to : (b c : BookData) (held : List RecordData) (n from m : ℕ) → IsHeld held → ((r : RecordData) → r.number ≤ n → IsHeldAlive b held r → IsHeldAlive c held r)
+    → m ≤ n → IsLinkedFrom b held from m → IsLinkedFrom c held from m
+links_up_to b c held n from m is onto small start = start
+links_up_to b c held n from m is onto small (next r h a l p) =
+    let it = onto r small (h, a) in
+    let below : r.back < r.number = back_below r (is.shaped r h) in
+    next r it.0 it.1 l (links_up_to b c held n from r.back is onto (omega arith) p)
+
+linked_on : (b c : BookData) (held : List RecordData) (base n : ℕ) (p : Points) → Opening b c held base n p → (from m : ℕ) → m ≤ n → IsLinkedFrom b held from m
+    → IsLinkedFrom c held from m
+linked_on b c held base n p o from m small l = links_up_to b c held n from m o.form (alive_on b c held base n p o) small l
+
+linked_back : (b c : BookData) (held : List RecordData) (base n : ℕ) (p : Points) → Opening b c held base n p → (from m : ℕ) → m ≤ n → IsLinkedFrom c held from m
+    → IsLinkedFrom b held from m
+linked_back b c held base n p o from m small l = links_up_to c b held n from m o.form (alive_back b c held base n p o) small l
+
+-- the number was linked, and is
+was_linked : (b c : BookData) (held : List RecordData) (base n : ℕ) (p : Points) → Opening b c held base n p → IsLinkedFrom b held base n
+was_linked b c held base n p o =
+    let u = o.untouched in
+    let same : u.by.number ≡ n = u.number in
+    let above : base < n = u.above in
+    let bound : n ≤ p.complete = u.bound in
+    subst (IsLinkedFrom b held base) same (o.straight.linked u.by (alive_back b c held base n p o u.by (omega arith) u.alive) (omega arith) (omega arith))
+
+is_linked : (b c : BookData) (held : List RecordData) (base n : ℕ) (p : Points) → Opening b c held base n p → IsLinkedFrom c held base n
+is_linked b c held base n p o = linked_on b c held base n p o base n (omega arith) (was_linked b c held base n p o)
+
+-- ---- what is linked above the number is linked from it
+-- no alive record above it has a linked backlink below it
+behind : (b c : BookData) (held : List RecordData) (base n : ℕ) (p : Points) → Opening b c held base n p → (r : RecordData) → IsHeldAlive c held r → n < r.number
+    → IsLinkedFrom c held base r.back → n ≤ r.back
+behind b c held base n p o r h over l = ⊎_elim
+    (λ (u : b.complete < r.epoch). o.untouched.behind r h u)
+    (λ (u : r.epoch ≤ b.complete). ⊎_elim
+    (λ (under : r.back < n).
+    let a = alive_before b c held r o.later u h in
+    let above : base < n = o.untouched.above in
+    let lt : base < r.number = omega arith in
+    let linked : IsLinkedFrom b held base r.number = next r a.0 a.1 lt (linked_back b c held base n p o base r.back (omega arith) l) in
+    let onward : IsLinkedFrom b held n r.number = o.straight.onward n r.number (was_linked b c held base n p o) linked (omega arith) (o.has.complete.most r.number linked) in
+    link_at_least b.cuts held b.complete n r.back (link_down b.cuts held b.complete n (view_of b o.later.form) o.form.rising r a.0 a.1 over onward))
+    (λ (le : n ≤ r.back). le)
+    (cases_lt r.back n))
+    (cases_lt b.complete r.epoch)
+
+from_there : (b c : BookData) (held : List RecordData) (base n : ℕ) (p : Points) → Opening b c held base n p → (m : ℕ) → n ≤ m → IsLinkedFrom c held base m
+    → IsLinkedFrom c held n m
+from_there b c held base n p o m le start = let above : base < n = o.untouched.above in absurd (omega arith)
+from_there b c held base n p o m le (next r h a lt l) = ⊎_elim
+    (λ (over : n < r.number). next r h a over (from_there b c held base n p o r.back (behind b c held base n p o r (h, a) over l) l))
+    (λ (under : r.number ≤ n). subst (IsLinkedFrom c held n) (let t : n ≡ r.number = omega arith in t) start)
+    (cases_lt n r.number)
+
+-- each linked number at or below it is linked onward
+from_below : (b c : BookData) (held : List RecordData) (base n : ℕ) (p : Points) → Opening b c held base n p → (k m : ℕ) → k ≤ n → k ≤ m → IsLinkedFrom c held base k
+    → IsLinkedFrom c held base m → IsLinkedFrom c held k m
+from_below b c held base n p o k m small le low l =
+    let bound : n ≤ p.complete = o.untouched.bound in
+    let was : IsLinkedFrom b held base k = linked_back b c held base n p o base k small low in
+    ⊎_elim
+    (λ (over : n < m).
+    let to : IsLinkedFrom b held k n = o.straight.onward k n was (was_linked b c held base n p o) small bound in
+    link_trans c.cuts held c.complete k n m (linked_on b c held base n p o k n (omega arith) to) (from_there b c held base n p o m (omega arith) l))
+    (λ (under : m ≤ n). linked_on b c held base n p o k m under
+    (o.straight.onward k m was (linked_back b c held base n p o base m under l) le (omega arith)))
+    (cases_lt n m)
+
+straight_on : (b c : BookData) (held : List RecordData) (base n : ℕ) (p : Points) → Opening b c held base n p → (top : ℕ) → IsStraight c held n top
+    → IsStraight c held base top
+straight_on b c held base n p o top on = record {
+  linked = λ r h lt le. ⊎_elim
+      (λ (over : n < r.number). link_trans c.cuts held c.complete base n r.number (is_linked b c held base n p o) (on.linked r h over le))
+      (λ (under : r.number ≤ n).
+      let bound : n ≤ p.complete = o.untouched.bound in
+      linked_on b c held base n p o base r.number under (o.straight.linked r (alive_back b c held base n p o r under h) lt (omega arith)))
+      (cases_lt n r.number);
+  onward = λ k m l1 l2 le to. ⊎_elim
+      (λ (over : n < k). on.onward k m (from_there b c held base n p o k (omega arith) l1) (from_there b c held base n p o m (omega arith) l2) le to)
+      (λ (under : k ≤ n). from_below b c held base n p o k m under le l1 l2)
+      (cases_lt n k);
+}
+
+-- The points go on from there.
+pub opened : (b c : BookData) (held : List RecordData) (base n from : ℕ) (p q : Points) → Opening b c held base n p → from ≡ min p.anchor n
+    → MoveOn c held (record { complete = n; anchor = from; straight = true }) q → HasPoints c held base q
+opened b c held base n from p q o is moved =
+    let small : from ≤ n = grind arith in
+    let up : n ≤ q.complete = link_at_least c.cuts held c.complete n q.complete moved.complete.linked in
+    let onward : from ≤ q.anchor = link_at_least c.cuts held c.complete from q.anchor moved.anchor.linked in
+    let either : (from ≡ p.anchor) ⊎ (from ≡ n) = grind arith in
+    let was : IsLinkedFrom b held base from = ⊎_elim
+    (λ (e : from ≡ p.anchor). subst (IsLinkedFrom b held base) (sym e) o.has.anchor.linked)
+    (λ (e : from ≡ n). subst (IsLinkedFrom b held base) (sym e) (was_linked b c held base n p o))
+    either in
+    let low : IsLinkedFrom c held base from = linked_on b c held base n p o base from small was in
+    record {
+      complete = record {
+        linked = link_trans c.cuts held c.complete base n q.complete (is_linked b c held base n p o) moved.complete.linked;
+        most = λ m l. ⊎_elim
+            (λ (over : n < m). moved.complete.most m (from_there b c held base n p o m (omega arith) l))
+            (λ (under : m ≤ n). let t : m ≤ q.complete = omega arith in t)
+            (cases_lt n m);
+      };
+      anchor = record {
+        linked = link_trans c.cuts held c.complete base from q.anchor low moved.anchor.linked;
+        bound = moved.anchor.bound;
+        most = λ m l le. ⊎_elim
+            (λ (over : from < m). moved.anchor.most m (from_below b c held base n p o from m small (omega arith) low l) le)
+            (λ (under : m ≤ from). let t : m ≤ q.anchor = omega arith in t)
+            (cases_lt from m);
+      };
+      straight = λ u. straight_on b c held base n p o q.complete (moved.straight u);
+    }
+
+-- ---- from what the calls say
+pub opening : (c : BookData) (held : List RecordData) (base epoch n : ℕ) (p : Points) → IsHeld held → IsBook c → (were : WerePoints c held base epoch p)
+    → IsTrue p.straight → IsUntouched c held base epoch p.complete n → Opening were.earlier c held base n p
+opening c held base epoch n p form book were straight untouched = record {
+  form = form;
+  book = book;
+  later = were.later;
+  has = were.had;
+  straight = were.had.straight straight;
+  untouched = subst (λ e. IsUntouched c held base e p.complete n) (sym were.at) untouched;
+}
+
+pub base_bound : (c : BookData) (held : List RecordData) (base epoch : ℕ) (p : Points) → WerePoints c held base epoch p → base ≤ least c.points
+base_bound c held base epoch p were =
+    let b = were.earlier in
+    let up : base ≤ p.anchor = link_at_least b.cuts held b.complete base p.anchor were.had.anchor.linked in
+    let low : p.anchor ≤ least b.points = were.had.anchor.bound in
+    let grown : least b.points ≤ least c.points = were.later.minimum in
+    omega arith
+
+pub start_bound : (c : BookData) (held : List RecordData) (base epoch from n : ℕ) (p : Points) → WerePoints c held base epoch p → from ≡ min p.anchor n
+    → from ≤ least c.points
+start_bound c held base epoch from n p were is =
+    let low : p.anchor ≤ least were.earlier.points = were.had.anchor.bound in
+    let grown : least were.earlier.points ≤ least c.points = were.later.minimum in
+    let small : from ≤ p.anchor = grind arith in
+    omega arith
+
+pub start_small : (c : BookData) (held : List RecordData) (base epoch complete n : ℕ) → IsHeld held → IsUntouched c held base epoch complete n → n ≤ max_number
+start_small c held base epoch complete n form untouched =
+    subst (λ m. m ≤ max_number) untouched.number (small_number untouched.by (form.shaped untouched.by untouched.alive.0))
