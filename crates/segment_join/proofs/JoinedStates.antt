@@ -18,24 +18,29 @@ use Rattle.page_base.specs.Raising.{SamePage}
 use Rattle.page_base.specs.Merging.{IsTaken, IsFloored, Merges}
 use Rattle.segment_state.specs.State.{State, StoredImage, min_of, version_of, image_of}
 use Rattle.segment_state.specs.Means.{Matters, IsInImage}
+use Rattle.segment_state.specs.HasMeaning.{IsKeptBy}
 use Rattle.segment_state.specs.Joining.{JoinedPoint, JoinsBooks, Joins}
 use Rattle.segment_core.specs.Form.{IsSegment}
 use Rattle.segment_core.specs.Refusing.{HoldsOther}
 use Rattle.segment_core.specs.Uniting.{draft_of, Unites}
 use Rattle.segment_join.specs.Told.{AreTold}
 use Rattle.segment_join.specs.InOrder.{TakesEach}
-use Rattle.segment_join.specs.Joining.{JoinsInto}
-use Rattle.segment_join.specs.Holding.{InOtherImage, IsSpared, HoldsRest}
+use Rattle.segment_join.specs.Joining.{IsBroughtIn, JoinsInto}
+use Rattle.segment_join.specs.Holding.{InOtherImage, IsNeedless, IsSpared, HoldsRest}
 use Rattle.segment_join.specs.Newer.{AreNewer}
 use Rattle.segment_join.proofs.Keeping.{one_of_key}
 use Rattle.segment_join.proofs.TakingAll.{IsLate, IsToldAdvance, ToldPoint, LeavesAll, leaves_all, epoch_grows}
 use Rattle.segment_join.proofs.ToldFacts.{IsPointIn, told_cut, told_advance, told_record}
+use Rattle.segment_join.proofs.Bringing.{brings_told}
 
 pub late_of : (s : State) → IsSegment s → IsLate s
 late_of s form = record {
   epoch = form.book.complete;
   later = λ a h. All-contains (λ w. s.book.complete < w.epoch) s.book.waits a form.book.waits_later h;
 }
+
+draft_late : (s : State) → IsLate s → IsLate (draft_of s)
+draft_late s late = record { epoch = late.epoch; later = late.later }
 
 -- a draft has taken what the other tells
 pub record IsTold (old other taken : State) (facts : List Fact) : Type 0 where
@@ -63,7 +68,7 @@ pub record HasBook (old : State) (b : BookData) (facts : List Fact) (taken : Sta
 
 module _ (old taken : State) (b : BookData) (facts : List Fact) (d : HasBook old b facts taken) where
   pub all : LeavesAll (draft_of old) facts taken
-  all = leaves_all (draft_of old) facts taken (record { epoch = d.own.epoch; later = d.own.later }) d.takes
+  all = leaves_all (draft_of old) facts taken (draft_late old d.own) d.takes
 
   -- the other's complete epoch is at most the new one
   epochs : b.complete ≤ taken.book.complete
@@ -268,9 +273,6 @@ module _ (old other taken draft new : State) (facts : List Fact) (images : List 
       (λ (x : Contains facts (Record r)). inr ((told_record other facts u.first.told r).0 x).0)
       ((told_all old other taken facts u.first).more r h)
 
-  of_both : (r : RecordData) → Contains new.held r → Contains old.held r ⊎ Contains other.held r
-  of_both r h = ⊎_elim (from_sides r) (λ (x : Contains other.held r). inr x) (u.holds.more r ((held_is r).1 h))
-
   -- another record of its key was held before
   held_before : (r : RecordData) → Contains other.held r → HoldsOther taken r → HoldsOther old r
   held_before r h o =
@@ -281,6 +283,33 @@ module _ (old other taken draft new : State) (facts : List Fact) (images : List 
 
   book_is : new.book ≡ taken.book
   book_is = u.unites.book ∙ u.holds.book
+
+  -- what was dead when the facts were taken is dead, and an image that lacked a record lacks it
+  still_dead : (r : RecordData) → IsDead new.book.cuts new.book.complete r.epoch r.number → IsDead taken.book.cuts taken.book.complete r.epoch r.number
+  still_dead r dead = subst (λ b. IsDead b.cuts b.complete r.epoch r.number) book_is dead
+
+  still_in_image : (r : RecordData) → InOtherImage new other r → InOtherImage taken other r
+  still_in_image r image = (subst (λ b. r.epoch ≤ b.complete) book_is image.0, image.1, image.2)
+
+  -- what is told was kept by the other, and what the rest brings in is not needless
+  brought_told : (r : RecordData) → Contains taken.held r → Contains old.held r ⊎ IsBroughtIn other new r
+  brought_told r h =
+      let told = u.first.told in
+      ⊎_elim
+      (λ (x : Contains old.held r). inl x)
+      (λ (x : Contains told.kept r × (IsDead taken.book.cuts taken.book.complete r.epoch r.number → ⊥)).
+      let kept : IsKeptBy other told.anchor r = (told.kept_are.members r).0 x.0 in
+      inr (kept.0, λ dead. x.1 (still_dead r dead), inl (told.anchor, told.anchor_is, kept)))
+      (brings_told (draft_of old) other.book told.kept taken (draft_late old (late_of old u.first.own))
+      (subst (λ fs. TakesEach (draft_of old) fs taken) told.facts_are u.first.takes) r h)
+
+  brought_in : (r : RecordData) → Contains new.held r → Contains old.held r ⊎ IsBroughtIn other new r
+  brought_in r h =
+      ⊎_elim
+      (brought_told r)
+      (λ (x : Contains other.held r × (IsNeedless taken other r → ⊥)).
+      inr (x.0, λ dead. x.1 (inl (still_dead r dead)), inr (λ image. x.1 (inr (still_in_image r image)))))
+      (u.holds.more r ((held_is r).1 h))
 
   own_joined : (r : RecordData) → Contains old.held r → Contains new.held r
   own_joined r h = (held_is r).0 (u.holds.before r ((told_all old other taken facts u.first).before r h))
@@ -318,7 +347,7 @@ module _ (old other taken draft new : State) (facts : List Fact) (images : List 
     base = base_joined;
     own = own_joined;
     others = others_joined;
-    of_both = of_both;
+    of_both = brought_in;
     images = images_joined;
     newest = newest_of;
   }
@@ -333,7 +362,7 @@ pub joins_whole : (old other new : State) → JoinsInto old other new → HaveOn
 joins_whole old other new j one = record {
   book = j.book;
   base = j.base;
-  of_both = j.of_both;
+  of_both = λ r h. ⊎_elim (λ (x : Contains old.held r). inl x) (λ (x : IsBroughtIn other new r). inr x.0) (j.of_both r h);
   kept = λ r h mat. ⊎_elim (λ (x : Contains old.held r). inl (j.own r x)) (λ (x : Contains other.held r). from_other r x mat) h;
   images = λ g. ⊎_elim (λ (x : SamePage old.store new.store g). inl x) (λ x. inr x.1) (j.images g);
   newest = λ g. (not_older g, j.newest g);

@@ -4,6 +4,7 @@ pub mod Comparing
 pub mod Ordered
 pub mod Sparing
 pub mod TellingAll
+pub mod Bringing
 pub mod Telling
 pub mod TakingAll
 pub mod ToldFacts

@@ -12,7 +12,7 @@ use Rattle.segment_state.specs.State.{State, SameBase}
 use Rattle.segment_core.specs.Uniting.{Holds}
 use Rattle.segment_core.specs.Refusing.{HoldsOther}
 use Rattle.segment_core.specs.Keys.{key_of}
-use Rattle.segment_join.specs.Holding.{InOtherImage, IsSpared, HoldsRest}
+use Rattle.segment_join.specs.Holding.{InOtherImage, IsNeedless, IsSpared, HoldsRest}
 use Rattle.segment_join.specs.Drafting.{HoldsAt}
 use Rattle.segment_join.proofs.Keeping.{one_of_key}
 
@@ -39,7 +39,7 @@ holds_none s other key none = record {
 }
 
 pub holds_spared : (s other : State) (key : ℕ × ℕ) (redo : RecordData) → IsRising RecordBefore other.held → IsRecordAt other.held key.0 key.1 (Some redo)
-    → (IsDead s.book.cuts s.book.complete redo.epoch redo.number ⊎ InOtherImage s other redo) → HoldsAt s other key s
+    → IsNeedless s other redo → HoldsAt s other key s
 holds_spared s other key redo rising at spared = record {
   book = refl;
   rest = record { base = refl; store = refl };
@@ -47,16 +47,19 @@ holds_spared s other key redo rising at spared = record {
   more = λ r h. inl h;
   each = λ r has is.
       let same : redo ≡ r = one_of_key other.held redo r rising at.0 has (at.1.0 ∙ sym is.0) (at.1.1 ∙ sym is.1) in
-      inr (inr (subst (λ x. IsDead s.book.cuts s.book.complete x.epoch x.number ⊎ InOtherImage s other x) same spared));
+      inr (inr (subst (IsNeedless s other) same spared));
 }
 
 pub holds_copy : (s other : State) (key : ℕ × ℕ) (redo : RecordData) (t : State) → IsRising RecordBefore other.held → IsRecordAt other.held key.0 key.1 (Some redo)
-    → Holds s redo t → HoldsAt s other key t
-holds_copy s other key redo t rising at holds = record {
+    → (IsNeedless s other redo → ⊥) → Holds s redo t → HoldsAt s other key t
+holds_copy s other key redo t rising at needed holds = record {
   book = holds.book;
   rest = holds.rest;
   before = holds.before;
-  more = λ r h. ⊎_elim (λ (x : Contains s.held r). inl x) (λ (x : r ≡ redo). inr (subst (Contains other.held) (sym x) at.0)) (holds.more r h);
+  more = λ r h. ⊎_elim
+      (λ (x : Contains s.held r). inl x)
+      (λ (x : r ≡ redo). inr (subst (Contains other.held) (sym x) at.0, λ no. needed (subst (IsNeedless s other) x no)))
+      (holds.more r h);
   each = λ r has is.
       let same : redo ≡ r = one_of_key other.held redo r rising at.0 has (at.1.0 ∙ sym is.0) (at.1.1 ∙ sym is.1) in
       ⊎_elim
@@ -70,7 +73,7 @@ pub record HoldsFirst (i : ℕ) (draft other new : State) : Type 0 where
   pub book : new.book ≡ draft.book
   pub rest : SameBase draft new
   pub before : (r : RecordData) → Contains draft.held r → Contains new.held r
-  pub more : (r : RecordData) → Contains new.held r → Contains draft.held r ⊎ Contains other.held r
+  pub more : (r : RecordData) → Contains new.held r → Contains draft.held r ⊎ (Contains other.held r × (IsNeedless draft other r → ⊥))
   pub each : (r : RecordData) → Contains (take i other.held) r → Contains new.held r ⊎ IsSpared draft other r
 
 pub first_none : (draft other : State) → HoldsFirst 0 draft other draft
@@ -82,19 +85,25 @@ first_none draft other = record {
   each = λ r has. absurd (none_in r has);
 }
 
+-- in another state of the same book it is needless too
+needless_by : (s t other : State) (r : RecordData) → t.book ≡ s.book → IsNeedless s other r → IsNeedless t other r
+needless_by s t other r same h =
+    ⊎_elim
+    (λ (x : IsDead s.book.cuts s.book.complete r.epoch r.number). inl (subst (λ b. IsDead b.cuts b.complete r.epoch r.number) (sym same) x))
+    (λ (x : InOtherImage s other r). inr (subst (λ b. r.epoch ≤ b.complete) (sym same) x.0, x.1, x.2))
+    h
+
 -- another one under its key is not of the other state's held records, so the draft held it
 spared_before : (draft other mid : State) (r : RecordData) → IsRising RecordBefore other.held → Contains other.held r
-    → ((x : RecordData) → Contains mid.held x → Contains draft.held x ⊎ Contains other.held x) → mid.book ≡ draft.book
+    → ((x : RecordData) → Contains mid.held x → Contains draft.held x ⊎ (Contains other.held x × (IsNeedless draft other x → ⊥))) → mid.book ≡ draft.book
     → IsSpared mid other r → IsSpared draft other r
 spared_before draft other mid r rising has more same spared =
     ⊎_elim
     (λ (h : HoldsOther mid r). ⊎_elim
     (λ (x : Contains draft.held h.0). inl (h.0, x, h.2, h.3, h.4))
-    (λ (x : Contains other.held h.0). absurd (h.4 (one_of_key other.held h.0 r rising x has h.2 h.3)))
+    (λ (x : Contains other.held h.0 × (IsNeedless draft other h.0 → ⊥)). absurd (h.4 (one_of_key other.held h.0 r rising x.0 has h.2 h.3)))
     (more h.0 h.1))
-    (λ (h : IsDead mid.book.cuts mid.book.complete r.epoch r.number ⊎ InOtherImage mid other r). inr (⊎_elim
-    (λ (x : IsDead mid.book.cuts mid.book.complete r.epoch r.number). inl (subst (λ b. IsDead b.cuts b.complete r.epoch r.number) same x))
-    (λ (x : InOtherImage mid other r). inr (subst (λ b. r.epoch ≤ b.complete) same x.0, x.1, x.2)) h))
+    (λ (h : IsNeedless mid other r). inr (needless_by mid draft other r (sym same) h))
     spared
 
 pub first_next : (i : ℕ) (draft other mid new : State) (key : ℕ × ℕ) (x : RecordData) → IsRising RecordBefore other.held
@@ -104,7 +113,10 @@ first_next i draft other mid new key x rising lt is at has first holds = record 
   book = holds.book ∙ first.book;
   rest = record { base = holds.rest.base ∙ first.rest.base; store = holds.rest.store ∙ first.rest.store };
   before = λ r h. holds.before r (first.before r h);
-  more = λ r h. ⊎_elim (λ (y : Contains mid.held r). first.more r y) (λ (y : Contains other.held r). inr y) (holds.more r h);
+  more = λ r h. ⊎_elim
+      (λ (y : Contains mid.held r). first.more r y)
+      (λ (y : Contains other.held r × (IsNeedless mid other r → ⊥)). inr (y.0, λ no. y.1 (needless_by draft mid other r first.book no)))
+      (holds.more r h);
   each = λ r h.
       ⊎_elim
       (λ (y : Contains (take i other.held) r). ⊎_elim (λ (z : Contains mid.held r). inl (holds.before r z)) (λ (z : IsSpared draft other r). inr z) (first.each r y))

@@ -20,7 +20,7 @@ pub records_behind : (rs : List (Bor RecordData)) → map (λ r. Record r.now) r
 records_behind [] = refl
 records_behind (r ∷ rs) = ap (λ fs. Record r.now ∷ fs) (records_behind rs)
 
-in_two : (b : BookData) (rs : List RecordData) → book_facts b ++ map Record rs ≡ facts_told b rs
+pub in_two : (b : BookData) (rs : List RecordData) → book_facts b ++ map Record rs ≡ facts_told b rs
 in_two b rs =
     let cuts = map Cut b.cuts in let points = point_facts b.complete 1 b.points in let waits = map Advance b.waits in let records = map Record rs in
     append_assoc cuts (points ++ waits) records ∙ ap (λ rest. cuts ++ rest) (append_assoc points waits records)

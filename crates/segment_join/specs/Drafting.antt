@@ -9,7 +9,7 @@ use Rattle.segment_core.specs.Uniting.{draft_of}
 use Rattle.segment_core.specs.declared.answers.Refusal.{Refusal}
 use Rattle.segment_join.specs.Told.{AreTold}
 use Rattle.segment_join.specs.InOrder.{TakesEach, RefusesOne}
-use Rattle.segment_join.specs.Holding.{IsSpared, HoldsRest}
+use Rattle.segment_join.specs.Holding.{IsNeedless, IsSpared, HoldsRest}
 
 -- each fact that the other tells is taken, in order
 pub record TakesAll (old other new : State) : Type 0 where
@@ -21,12 +21,12 @@ pub record TakesAll (old other new : State) : Type 0 where
 abbrev pub RefusesAll : State → State → Refusal → Type 0
 RefusesAll old other why = (facts : List Fact) × AreTold other facts × RefusesOne old facts why
 
--- the other's held record of the key is held, unless it is spared
+-- the other's held record of the key is held, unless it is spared; none that is needless is
 pub record HoldsAt (old other : State) (key : ℕ × ℕ) (new : State) : Type 0 where
   pub book : new.book ≡ old.book
   pub rest : SameBase old new
   pub before : (r : RecordData) → Contains old.held r → Contains new.held r
-  pub more : (r : RecordData) → Contains new.held r → Contains old.held r ⊎ Contains other.held r
+  pub more : (r : RecordData) → Contains new.held r → Contains old.held r ⊎ (Contains other.held r × (IsNeedless old other r → ⊥))
   pub each : (r : RecordData) → Contains other.held r → HasKey key.0 key.1 r → Contains new.held r ⊎ IsSpared old other r
 
 -- a draft of the segment has taken what the other tells, and holds the rest of what it holds

@@ -10,16 +10,18 @@ use Rattle.segment_core.specs.Refusing.{HoldsOther}
 abbrev pub InOtherImage : State → State → RecordData → Type 0
 InOtherImage draft other r = (r.epoch ≤ draft.book.complete) × (r.number ≤ other.base) × (r.number ≤ version_of other.store r.page)
 
--- a record needs no place in a draft: the draft holds another one under its key, or has it dead, or the other's image has it
-abbrev pub IsSpared : State → State → RecordData → Type 0
-IsSpared draft other r =
-    HoldsOther draft r
-    ⊎ (IsDead draft.book.cuts draft.book.complete r.epoch r.number ⊎ InOtherImage draft other r)
+-- nothing of the record is missing: it is dead in the draft's view, or the other's image has it
+abbrev pub IsNeedless : State → State → RecordData → Type 0
+IsNeedless draft other r = IsDead draft.book.cuts draft.book.complete r.epoch r.number ⊎ InOtherImage draft other r
 
--- what the draft held is held, and of the other's held records each that is not spared
+-- a record needs no place in a draft: the draft holds another one under its key, or nothing of it is missing
+abbrev pub IsSpared : State → State → RecordData → Type 0
+IsSpared draft other r = HoldsOther draft r ⊎ IsNeedless draft other r
+
+-- what the draft held is held, and of the other's held records each that is not spared, and none that is needless
 pub record HoldsRest (draft other new : State) : Type 0 where
   pub book : new.book ≡ draft.book
   pub rest : SameBase draft new
   pub before : (r : RecordData) → Contains draft.held r → Contains new.held r
-  pub more : (r : RecordData) → Contains new.held r → Contains draft.held r ⊎ Contains other.held r
+  pub more : (r : RecordData) → Contains new.held r → Contains draft.held r ⊎ (Contains other.held r × (IsNeedless draft other r → ⊥))
   pub each : (r : RecordData) → Contains other.held r → Contains new.held r ⊎ IsSpared draft other r

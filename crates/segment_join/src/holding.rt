@@ -1,7 +1,5 @@
-ghost use Rattle.std.specs.Prelude.{◌≡◌, ℕ, ◌⊎◌, IfOk, OnOk, IsTrue};
-ghost use Rattle.redo_core.specs.Standing.{IsDead};
-ghost use Rattle.segment_join.specs.Holding.{InOtherImage};
-ghost use Rattle.segment_join.specs.Holding.{HoldsRest};
+ghost use Rattle.std.specs.Prelude.{◌↔◌, IfOk, OnOk, IsTrue};
+ghost use Rattle.segment_join.specs.Holding.{IsNeedless, HoldsRest};
 ghost use Rattle.segment_join.specs.Drafting.{HoldsAt};
 ghost use Rattle.segment_join.specs.Newer.{AreNewer};
 
@@ -29,7 +27,7 @@ fn hold_at(draft: &mut Segment, other: &Segment, key: (u16, u64)) -> Result<(), 
     match other.get(epoch, number) {
         None => Ok(()),
         Some(redo) => {
-            if is_spared(draft, other, redo) {
+            if is_needless(draft, other, redo) {
                 Ok(())
             } else {
                 draft.hold(redo.copy()?)
@@ -38,10 +36,10 @@ fn hold_at(draft: &mut Segment, other: &Segment, key: (u16, u64)) -> Result<(), 
     }
 }
 
-/// Whether a draft needs no copy of a record: yes only where it is dead in the draft's view, or folded in another segment and not
-/// waiting in the draft's view.
-fn is_spared(draft: &Segment, other: &Segment, redo: &Record) -> bool
-    ensures { IsTrue result → IsDead draft.now.book.cuts draft.now.book.complete redo.now.epoch redo.now.number ⊎ InOtherImage draft.now other.now redo.now }
+/// Whether a draft needs no copy of a record: it is dead in the draft's view, or folded in another segment and not waiting in the
+/// draft's view.
+fn is_needless(draft: &Segment, other: &Segment, redo: &Record) -> bool
+    ensures { IsTrue result ↔ IsNeedless draft.now other.now redo.now }
 {
     match draft.stands(redo.epoch(), redo.number()) {
         Standing::Dead => true,
