@@ -1,30 +1,38 @@
 -- Whether a record is kept, and which pieces stand where they are.
 use Rattle.std.proofs.Common.{◌≡◌, ℕ, zero, suc, ◌+◌, ◌<◌, ◌≤◌, ◌⊎◌, inr, ⊎_elim, List, Some, sym, ap, ◌∙◌, subst, arith}
 use Rattle.std.specs.List.{All}
+use Rattle.std.proofs.lemmas.List.Elements.{All-contains}
 use Rattle.redo_core.specs.Data.{CutData, AdvanceData, RecordData}
 use Rattle.redo_core.specs.Book.{BookData, book_of}
 use Rattle.redo_core.specs.Standing.{IsAlive}
+use Rattle.redo_core.proofs.Members.{all_members}
 use Rattle.epoch_book.specs.Contradicted.{IsContradicted}
-use Rattle.epoch_book.specs.Scanning.{SparesIn}
-use Rattle.epoch_book.proofs.Books.{alive_from, spared_from}
 use Rattle.hot_log.specs.Found.{IsLeast}
 use Rattle.redo_wire.specs.Pieces.{PieceData}
 use Rattle.redo_wire.specs.declared.pieces.PieceContent.TheVariants.{Head}
 use Rattle.hydration.specs.Stagings.{StagingData, piece_at}
-use Rattle.hydration.specs.Placing.{IsKeptFor, HasHead, CanFollow, CanStand, IsMisplaced}
+use Rattle.hydration.specs.Placing.{IsKeptFor, SparesIn, HasHead, CanFollow, CanStand, IsMisplaced}
 
 -- a record that does not wait is kept where it is above the anchor and all truncations spare it
 pub kept : (book : BookData) (anchor : ℕ) (r : RecordData) → r.epoch ≤ book.complete → anchor < r.number
     → All (SparesIn book.complete r.epoch r.number) book.cuts → IsKeptFor book anchor r
 kept book anchor r known above all =
-    inr (alive_from book.cuts book.complete r.epoch r.number 0 known (λ k d l m. absurd (omega (arith, m))) all, above)
+    inr (
+      record {
+        known = known;
+        begun = λ c h. (All-contains (SparesIn book.complete r.epoch r.number) book.cuts c all h).0;
+        spared = λ c h. (All-contains (SparesIn book.complete r.epoch r.number) book.cuts c all h).1;
+      },
+      above,
+    )
 
 pub spared : (book : BookData) (anchor : ℕ) (r : RecordData) → r.epoch ≤ book.complete → IsKeptFor book anchor r
     → All (SparesIn book.complete r.epoch r.number) book.cuts
 spared book anchor r known h =
     ⊎_elim
     (λ (w : book.complete < r.epoch). absurd (omega (arith, w, known)))
-    (λ (a : IsAlive book.cuts book.complete r.epoch r.number × (anchor < r.number)). spared_from book.cuts book.complete r.epoch r.number 0 a.0)
+    (λ (a : IsAlive book.cuts book.complete r.epoch r.number × (anchor < r.number)).
+    all_members (SparesIn book.complete r.epoch r.number) book.cuts (λ c h. (a.0.begun c h, a.0.spared c h)))
     h
 
 -- a staging has one piece of an index, and one head

@@ -1,8 +1,8 @@
 -- Which pieces can stand after one another.
-use Rattle.std.specs.Prelude.{◌≡◌, ℕ, ◌<◌, ◌⊎◌, zero, suc, List, length, Some}
+use Rattle.std.specs.Prelude.{◌≡◌, ℕ, ◌<◌, ◌≤◌, ◌⊎◌, zero, suc, List, length, Some}
 use Rattle.std.specs.List.{Contains}
 use Rattle.redo_core.specs.Book.{BookData}
-use Rattle.redo_core.specs.Data.{RecordData}
+use Rattle.redo_core.specs.Data.{CutData, RecordData}
 use Rattle.redo_core.specs.Meaning.{ImageData}
 use Rattle.redo_core.specs.Order.{RecordBefore}
 use Rattle.redo_core.specs.Standing.{IsAlive, IsWaiting}
@@ -12,6 +12,10 @@ use Rattle.redo_wire.specs.Pieces.{PieceData}
 use Rattle.redo_wire.specs.declared.pieces.PieceContent.{PieceContent}
 use Rattle.redo_wire.specs.declared.pieces.PieceContent.TheVariants.{Head, Page, Records}
 use Rattle.hydration.specs.Stagings.{StagingData, piece_at, IsMissing}
+
+-- a truncation spares a number of an epoch in the view of epoch k
+abbrev pub SparesIn : ℕ → ℕ → ℕ → CutData → Type 0
+SparesIn k epoch number c = (c.epoch ≡ epoch → c.hi < number) × (epoch < c.epoch → c.epoch ≤ k → number ≤ c.lo)
 
 -- a record that waits for the book, or is alive in its view above the anchor
 abbrev pub IsKeptFor : BookData → ℕ → RecordData → Type 0

@@ -4,7 +4,7 @@ ghost use Rattle.redo_core.specs.Meaning.{ImageData};
 ghost use Rattle.redo_core.specs.Order.{Lists, RecordBefore};
 ghost use Rattle.page_base.specs.Adopting.{first_given};
 ghost use Rattle.hot_log.specs.Found.{IsLeast};
-ghost use Rattle.hydration.specs.Stagings.{IsMissing};
+ghost use Rattle.hydration.specs.Stagings.{IsMissing, IsStaging};
 ghost use Rattle.hydration.specs.Placing.{IsMisplaced, IsComplete, IsInOrder};
 ghost use Rattle.hydration.specs.Hydrating.{Hydrates, MeansFrozen, IsOfSoundState, BringsPage, BringsRecord, IsBrought, records_of, pages_of};
 ghost use Rattle.hydration.specs.declared.finishing.FinishFault.TheVariants.{Missing as MissingOf, Malformed as MalformedOf, Memory as MemoryOf};
@@ -37,6 +37,8 @@ impl Staging {
     /// Errors: `Missing` with the least index whose piece has not come; else `Malformed` with the least one whose piece cannot stand
     /// there after those before it, never for the pieces of one snapshot of a sound log; `Memory`.
     pub fn finish(&self) -> Result<Segment, FinishFault>
+        // Each piece is of the staging's name and total, under its own index.
+        ensures form { IsStaging self.now }
         // Inside a sound log, for the pieces of one snapshot.
         ensures means { IfOk result (MeansFrozen self.now) }
         ensures sound { IfErr result (λ e. IsOfSoundState self.now → (index : ℕ) → e ≡ MalformedOf index → ⊥) }
@@ -134,5 +136,5 @@ fn book_from(alloc: Global, book: &Book) -> Result<EpochBook, AllocError>
     let cuts = Vec::from_slice(alloc, book.cuts())?;
     let points = ReadPoints::from_vec(Vec::from_slice(alloc, book.points())?);
     let waits = Vec::from_slice(alloc, book.waits())?;
-    Ok(EpochBook::from_parts(cuts, book.complete(), points, waits))
+    EpochBook::from_parts(alloc, cuts, book.complete(), points, waits)
 }

@@ -5,11 +5,10 @@ ghost use Rattle.redo_core.specs.Book.{BookData};
 ghost use Rattle.redo_core.specs.Data.{RecordData};
 ghost use Rattle.redo_core.specs.Order.{IsRising, RecordBefore};
 ghost use Rattle.epoch_book.specs.Contradicted.{IsContradicted as HasContradiction};
-ghost use Rattle.epoch_book.specs.Scanning.{SparesIn};
 ghost use Rattle.hot_log.specs.Found.{IsLeast};
 ghost use Rattle.redo_wire.specs.Pieces.{IsContent};
 ghost use Rattle.hydration.specs.Stagings.{IsMissing};
-ghost use Rattle.hydration.specs.Placing.{IsComplete, IsMisplaced, IsKeptFor, PageFollows, RecordsFollow, CanFollow, CanStand, HasHead};
+ghost use Rattle.hydration.specs.Placing.{IsComplete, IsMisplaced, IsKeptFor, SparesIn, PageFollows, RecordsFollow, CanFollow, CanStand, HasHead};
 
 use crate::snapshot::BATCH;
 use crate::staging::Staging;

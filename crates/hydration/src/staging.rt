@@ -44,7 +44,8 @@ impl Model for Staging {
 impl Staging {
     /// A staging for the snapshot of a name that has so many pieces, of which none has come.
     pub fn new(alloc: Global, name: u64, total: u32) -> Self
-        ensures { result ≡ staging_of name total [] }
+        ensures empty { result ≡ staging_of name total [] }
+        ensures form { IsStaging result }
     {
         Staging {
             alloc,
@@ -60,6 +61,7 @@ impl Staging {
     /// its index has come; `Memory`. The staging is then as it was, and the piece comes back.
     pub fn add(&mut self, piece: Piece) -> Result<(), Refused<Piece, AddFault>>
         ensures adds { OnOk result (Adds self.old piece self.new) }
+        ensures form { IsStaging self.new }
         ensures refused { IfErr result (λ e. RefusesPiece self.old piece e.fault) }
         ensures back { IfErr result (λ e. e.value ≡ piece) }
         ensures unchanged { OnErr result (self.new ≡ self.old) }

@@ -1,5 +1,5 @@
 use Rattle.std.proofs.Common.{refl}
-use Rattle.epoch_book.specs.Scanning.{SparesIn}
+use Rattle.hydration.specs.Placing.{SparesIn}
 use Rattle.redo_core.proofs.Scans.{whole, one_more}
 use Rattle.hydration.proofs.placing.are_sparing.Goals as goal
 

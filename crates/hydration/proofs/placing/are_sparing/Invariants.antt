@@ -1,6 +1,6 @@
 use Rattle.std.proofs.Common.{take}
 use Rattle.std.specs.List.{All}
-use Rattle.epoch_book.specs.Scanning.{SparesIn}
+use Rattle.hydration.specs.Placing.{SparesIn}
 use Rattle.hydration.proofs.placing.are_sparing.Given as goal
 
 -- the truncations so far spare the record

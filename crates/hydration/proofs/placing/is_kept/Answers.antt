@@ -1,7 +1,7 @@
 use Rattle.std.proofs.Common.{◌≤◌, sym, List, subst, arith}
 use Rattle.std.specs.List.{All}
 use Rattle.redo_core.specs.Data.{CutData}
-use Rattle.epoch_book.specs.Scanning.{SparesIn}
+use Rattle.hydration.specs.Placing.{SparesIn}
 use Rattle.hydration.proofs.Placed.{kept, spared}
 use Rattle.hydration.proofs.placing.is_kept.Goals as goal
 

@@ -1,11 +1,13 @@
-use Rattle.std.proofs.Common.{◌≡◌, ℕ, false, ⊎_elim, List, Some, sym, ap, ◌∙◌, subst, arith}
+use Rattle.std.proofs.Common.{◌≡◌, ℕ, true, false, ⊎_elim, List, Option, Some, None, Bor, refl, sym, ap, ◌∙◌, subst, arith}
+use Rattle.std.specs.Option.{option_copied, is_some}
 use Rattle.std.specs.Ordering.{nat_cmp}
 use Rattle.std.specs.BTreeMap.{is_at}
 use Rattle.std.specs.Map.{lookup}
 use Rattle.std.proofs.lemmas.Bool.{cases_eq}
 use Rattle.std.proofs.lemmas.Grind.{common_steps}
 use Rattle.redo_wire.specs.Pieces.{PieceData, IsPiece}
-use Rattle.hydration.specs.Stagings.{staging_of, IsStranger}
+use Rattle.hydration.specs.Stagings.{staging_of, IsStaging, IsStranger, RefusesPiece}
+use Rattle.hydration.specs.declared.staging.AddFault.TheVariants.{Double}
 use Rattle.hydration.proofs.staging.Staging.add.Goals as goal
 
 is_elsewhere : (a b : ℕ) → (a ≡ b → ⊥) → is_at (nat_cmp a) b ≡ false
@@ -34,3 +36,30 @@ invariant_of-self c = λ index p is.
 pub invariant_of-self-2 : goal.invariant_of-self-2
 invariant_of-self-2 c = λ index p is.
     c.self.invariant index p (ap (λ (es : List (ℕ × PieceData)). lookup (is_at (nat_cmp index)) es) (sym c.in-Err.ensures.err) ∙ is)
+
+pub returns-then-name-self-clause-form : goal.returns-then-name-self-clause-form
+returns-then-name-self-clause-form c = subst IsStaging c.self.view_is c.self.invariant
+
+pub returns-then-is_some-clause-form : goal.returns-then-is_some-clause-form
+returns-then-is_some-clause-form c = subst IsStaging c.self.view_is c.self.invariant
+
+-- what is found has come
+already : (found : Option (Bor PieceData)) → is_some found ≡ true → (p : PieceData) × (option_copied found ≡ Some p)
+already (Some x) is = (x.now, refl)
+already None is = absurd (grind (arith, is))
+
+pub returns-then-is_some-clause-refused : goal.returns-then-is_some-clause-refused
+returns-then-is_some-clause-refused c =
+    let p = c.args.piece in let index = c.index-index.result in
+    let named : p.name ≡ c.self.inside.name = (cc) in
+    let counted : p.total ≡ c.self.inside.total = (cc) in
+    let own = already c.get.result (sym c.is_some.ensures ∙ c.if-is_some.true) in
+    let refuses : RefusesPiece (staging_of c.self.inside.name c.self.inside.total c.self.inside.pieces.entries) p (Double index) =
+    (λ s. ⊎_elim (λ ne. ne named) (λ ne. ne counted) s, c.index-index.ensures.index, (own.0, sym c.get.ensures.value ∙ own.1)) in
+    subst (RefusesPiece c.args.self.now p) (sym c.refused-then-is_some.ensures.fault) (subst (λ s. RefusesPiece s p (Double index)) c.self.view_is refuses)
+
+pub returns-in-Ok-clause-form : goal.returns-in-Ok-clause-form
+returns-in-Ok-clause-form c = invariant_of-self c
+
+pub returns-clause-form : goal.returns-clause-form
+returns-clause-form c = invariant_of-self-2 c

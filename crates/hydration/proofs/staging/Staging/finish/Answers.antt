@@ -18,3 +18,15 @@ returns-in-Ok-clause-means c = λ s d of roster log facts sound means.
     let all = has_all s d st of form c.in_default.ensures in
     let made = restores log facts means.0 s d st (log_of_sound roster log sound) means.1 of all c.in-Ok.segment c.in-Ok.ensures in
     c.restore_keeps.ensures s c.in-Ok.segment made roster log facts sound means
+
+pub returns-in-Some-clause-form : goal.returns-in-Some-clause-form
+returns-in-Some-clause-form c = subst IsStaging c.self.view_is c.self.invariant
+
+pub returns-in-Some-first_misplaced-clause-form : goal.returns-in-Some-first_misplaced-clause-form
+returns-in-Some-first_misplaced-clause-form c = subst IsStaging c.self.view_is c.self.invariant
+
+pub returns-in-Ok-clause-form : goal.returns-in-Ok-clause-form
+returns-in-Ok-clause-form c = subst IsStaging c.self.view_is c.self.invariant
+
+pub returns-in-Err-clause-form : goal.returns-in-Err-clause-form
+returns-in-Err-clause-form c = subst IsStaging c.self.view_is c.self.invariant
