@@ -1,5 +1,5 @@
 -- The machine's sets beside the segments, node by node.
-use Rattle.std.proofs.Common.{◌≡◌, ℕ, zero, suc, ◌+◌, ◌-◌, ◌↔◌, List, [], length, get_or, set, replicate, refl, sym, ap, ◌∙◌, subst, arith, Option, Some, None}
+use Rattle.std.proofs.Common.{◌≡◌, ℕ, zero, suc, ◌+◌, ◌-◌, ◌<◌, ◌≤◌, ◌↔◌, List, [], length, get_or, set, replicate, refl, sym, ap, ◌∙◌, subst, arith, Option, Some, None}
 use Rattle.std.specs.Prelude.{MatchOption, slice_get, unwrap_or}
 use Rattle.std.specs.List.{AllZip}
 use Rattle.std.specs.Vec.{with_items}
@@ -23,7 +23,7 @@ use Rattle.fleet_core.specs.Refused.{IsRefusal}
 use Rattle.fleet_core.specs.AtNode.{CarriesOut}
 use Rattle.fleet_core.specs.Calls.{NodeCalls, Calls, StepCalls}
 use Rattle.fleet_core.specs.Runs.{MeansMachine, FollowsStep}
-use Rattle.fleet_core.proofs.Places.{AreThere, none_named, are_there, beside_is, zip_at, zip_set, zip_count}
+use Rattle.fleet_core.proofs.Places.{AreThere, none_named, none_is_missing, are_there, beside_is, zip_at, zip_set, zip_count}
 
 -- ---- a named node that is not there
 
@@ -200,6 +200,21 @@ steps_in readers nodes kept given s reply new made place other at same out_of =
       refused = λ refused.
           ap (λ (segments : List State). with_all old segments made) (put ∙ left refused) ∙ ap (with_all old nodes.items) (out.does.refused refused).1;
     }
+
+-- a take at its one node
+pub takes_in : {Z : Type 0} (readers : ℕ) (nodes : Vec State Z) (kept : List Made) (given new : List State) (node : ℕ) (fact : Fact) (reply : Reply)
+    (from : ℕ) → (node ≡ 0 → ⊥) → node ≤ length nodes.items → from ≡ node → given ≡ nodes.items
+    → CarriesOut readers given (from - 1) (from - 1) kept (step.Take node fact) reply new kept
+    → StepsIn (record { roster = readers; segments = nodes.items; messages = kept }) (step.Take node fact) reply
+    (record { roster = readers; segments = (with_items nodes new).items; messages = kept })
+takes_in readers nodes kept given new node fact reply from some high is same out =
+    let low : 0 < node = omega (arith, some) in
+    steps_in readers nodes kept given (step.Take node fact) reply new kept (from - 1) (from - 1)
+    (record {
+      none = none_is_missing (length nodes.items) node low high;
+      node = omega (arith, low, is);
+      beside = omega (arith, low, is);
+    }) same out
 
 -- ---- the machine's first state
 

@@ -1,6 +1,6 @@
 -- Nodes that a step names, and lists changed at one place.
 use Rattle.std.proofs.Common.{◌≡◌, ℕ, zero, suc, ◌<◌, ◌≤◌, List, [], ◌∷◌, ◌++◌, length, get_or}
-use Rattle.std.proofs.Common.{set, refl, sym, ap, ◌∙◌, arith, Bool, true, false, Option, Some, None}
+use Rattle.std.proofs.Common.{set, refl, sym, ap, ◌∙◌, arith, Bool, true, false, Option, Some, None, ◌⊎◌, inl, inr}
 use Rattle.std.specs.Prelude.{◌==◌, ◌||◌, nat_lt, if◌then◌else◌, slice_get, unwrap_or}
 use Rattle.std.specs.List.{AllZip, AllByRecursion}
 use Rattle.std.proofs.lemmas.Bool.Decides.{nat_tests}
@@ -28,6 +28,24 @@ is_there count node nodes none = none_missing count node (first_missing count no
 
 one_there : (count node : ℕ) → first_missing count (node ∷ []) ≡ None → AreThere count node node
 one_there count node none = let h = is_there count node [] none in record { low = h.0; high = h.1; other_low = h.0; other_high = h.1 }
+
+no_place : (count node : ℕ) (b : Bool) → b ≡ (node == 0 || nat_lt count node) → (node ≡ 0) ⊎ (count < node)
+    → (if b then Some node else None) ≡ Some node
+no_place count node true e out = refl
+no_place count node false e (inl out) = absurd (grind (arith, nat_tests))
+no_place count node false e (inr out) = absurd (grind (arith, nat_tests))
+
+-- a node that is not there
+pub is_missing : (count node : ℕ) → (node ≡ 0) ⊎ (count < node) → first_missing count (node ∷ []) ≡ Some node
+is_missing count node out = no_place count node (node == 0 || nat_lt count node) refl out
+
+a_place : (count node : ℕ) (b : Bool) → b ≡ (node == 0 || nat_lt count node) → 0 < node → node ≤ count → (if b then Some node else None) ≡ None
+a_place count node true e low high = absurd (grind (arith, nat_tests))
+a_place count node false e low high = refl
+
+-- a node that is
+pub none_is_missing : (count node : ℕ) → 0 < node → node ≤ count → first_missing count (node ∷ []) ≡ None
+none_is_missing count node low high = a_place count node (node == 0 || nat_lt count node) refl low high
 
 two_there : (count node other : ℕ) → first_missing count (node ∷ other ∷ []) ≡ None → AreThere count node other
 two_there count node other none =

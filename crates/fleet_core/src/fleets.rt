@@ -1,4 +1,4 @@
-ghost use Rattle.std.specs.Prelude.{◌≡◌, ℕ, ◌<◌, ◌↔◌, List, Option, Some, length, IfOk, OnErr};
+ghost use Rattle.std.specs.Prelude.{◌≡◌, ℕ, ◌<◌, ◌↔◌, List, [], ◌∷◌, Option, Some, length, IfOk, OnErr};
 ghost use Rattle.std.specs.Option.{option_copied};
 ghost use Rattle.redo_core.specs.declared.facts.Fact.{Fact as AnyFact};
 ghost use Rattle.segment_state.specs.State.{State};
@@ -9,6 +9,7 @@ ghost use Rattle.fleet_core.specs.Calls.{StepCalls, RunCalls, Takes, Folds, Wipe
 ghost use Rattle.fleet_core.specs.FleetState.{empty_fleet};
 ghost use Rattle.fleet_core.specs.Machine.{empty_machine};
 ghost use Rattle.fleet_core.specs.Messages.{LacksMessage};
+ghost use Rattle.fleet_core.specs.declared.messages.Made.{Made};
 ghost use Rattle.fleet_core.specs.Refused.{IsRefusal};
 ghost use Rattle.fleet_core.specs.Runs.{MeansMachine, FollowsStep, FollowsMachine};
 ghost use Rattle.fleet_core.specs.declared.replies.Reply.TheVariants.{NoNode, NoMessage};
@@ -83,6 +84,22 @@ impl Fleet {
         )
     }
 
+    /// Carries out the step by which a fact reaches a node, without a copy of the fact.
+    pub fn take(&mut self, node: u16, fact: Fact) -> Reply
+        // For the facts that the segments mean.
+        ensures follows { FollowsStep self.old (TakeOf node fact) result self.new }
+        // Over any facts.
+        ensures calls { StepCalls self.old (TakeOf node fact) result self.new }
+        ensures no_node { (missing : ℕ) → (result ≡ NoNode missing) ↔ (first_missing (length self.old.segments) (node ∷ []) ≡ Some missing) }
+        ensures no_message { (number : ℕ) → result ≡ NoMessage number → ⊥ }
+        ensures refused { IsRefusal result → self.new ≡ self.old }
+    {
+        if node == 0 || usize::from(node) > self.nodes.len() {
+            return Reply::NoNode(node);
+        }
+        take_at(&mut self.nodes, usize::from(node) - 1, node, fact)
+    }
+
     /// Carries out steps, and gives their replies in order. Its only error is want of memory for the list of replies, which is
     /// reserved before the first step: then nothing has changed.
     pub fn run(&mut self, alloc: Global, steps: &[Step<Fact>]) -> Result<Vec<Reply>, AllocError>
@@ -155,6 +172,25 @@ fn carry_out(
     }
 }
 
+/// Gives a fact to the segment at a place, counted from 0.
+fn take_at(segments: &mut [Segment], place: usize, node: u16, fact: Fact) -> Reply
+    requires { place < length segments.old }
+    ensures { (readers : ℕ) (messages : List Made) → CarriesOut readers segments.old place place messages (TakeOf node fact) result segments.new messages }
+{
+    take_fact(&mut segments[place], fact)
+}
+
+/// Takes a fact.
+fn take_fact(segment: &mut Segment, fact: Fact) -> Reply
+    ensures follows { (readers node : ℕ) (other : Option State) → OwnFollows readers segment.old other (TakeOf node fact) result segment.new }
+    ensures calls { Takes segment.old fact result segment.new }
+    ensures found { (node : ℕ) → result ≡ NoNode node → ⊥ }
+    ensures named { (number : ℕ) → result ≡ NoMessage number → ⊥ }
+    ensures refused { IsRefusal result → segment.new ≡ segment.old }
+{
+    taken_reply(segment.take(fact))
+}
+
 /// Takes a copy of a fact.
 fn take_copy(segment: &mut Segment, fact: &Fact) -> Reply
     ensures follows { (readers node : ℕ) (other : Option State) → OwnFollows readers segment.old other (TakeOf node fact.now) result segment.new }
@@ -164,7 +200,7 @@ fn take_copy(segment: &mut Segment, fact: &Fact) -> Reply
     ensures refused { IsRefusal result → segment.new ≡ segment.old }
 {
     match fact.copy() {
-        Ok(fact) => taken_reply(segment.take(fact)),
+        Ok(fact) => take_fact(segment, fact),
         Err(_) => Reply::Memory,
     }
 }

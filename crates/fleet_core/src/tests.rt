@@ -192,6 +192,22 @@ fn a_node_answers_whatever_the_order(rt: HostRuntime) -> Result<(), Fail> {
 }
 
 #[test]
+fn a_fact_is_taken_by_value(rt: HostRuntime) -> Result<(), Fail> {
+    let heap = rt.alloc();
+    let mut fleet = Fleet::new(heap, Roster::new(1)?, 1)?;
+    let rows = [
+        (1, Told::Changed),
+        (1, Told::Unchanged),
+        (2, Told::NoNode(2)),
+    ];
+    for (node, told) in rows {
+        let taken = fact(heap, Line::Rec(3, 0, 0, 0x61))?;
+        assert_eq!(rt; told_by(&fleet.take(node, taken)), told);
+    }
+    Ok(())
+}
+
+#[test]
 fn a_node_folds_and_discards(rt: HostRuntime) -> Result<(), Fail> {
     let heap = rt.alloc();
     let table = [

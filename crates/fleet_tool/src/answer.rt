@@ -7,7 +7,7 @@ ghost use Rattle.redo_core.specs.declared.facts.Fact.{Fact};
 ghost use Rattle.log_law.specs.Report.{Reports};
 ghost use Rattle.script_text.specs.StepLine.{IsInRange};
 ghost use Rattle.script_text.specs.Script.{script_of, facts_of};
-ghost use Rattle.script_text.specs.Outcome.{script_data};
+ghost use Rattle.script_text.specs.Outcome.{Gives, log_data, script_data};
 ghost use Rattle.fleet_tool.specs.Output.{SaysBadLine, SaysUnsound, SaysReplies, IsRunOutput, IsCheckOutput, IsInspectOutput, IsOutputOf};
 
 use crate::inspect::inspected;
@@ -16,7 +16,7 @@ use crate::script_steps::answers;
 use fleet_core::Fleet;
 use log_law::{CheckFault, check_log};
 use redo_core::LawFault;
-use script_text::{Script, ScriptError, read_facts, read_script};
+use script_text::{Log, Script, ScriptError, read_facts, read_script};
 use std::alloc::{AllocError, Global};
 
 /// How an answered input ended, beside its text.
@@ -71,10 +71,25 @@ fn replies(alloc: Global, script: &Script) -> Result<Answered, AllocError>
     })
 }
 
-fn answer_script(alloc: Global, input: &[u8]) -> Result<Answered, AllocError>
-    ensures { IfOk result (λ a. IsRunOutput (script_of input.now) (string_bytes a.text) a.verdict) }
+// The script of a text, which is let go: a long one takes as much room as what it says.
+fn script_in(alloc: Global, text: Vec<u8>) -> Result<Script, ScriptError>
+    ensures script { Gives script_data result (script_of text.items) }
+    ensures range { IfOk result (λ s. All (IsInRange (length s.facts.items)) s.steps.items) }
 {
-    match read_script(alloc, input) {
+    read_script(alloc, &text)
+}
+
+// The log of a text, which is let go likewise.
+fn log_in(alloc: Global, text: Vec<u8>) -> Result<Log, ScriptError>
+    ensures { Gives log_data result (facts_of text.items) }
+{
+    read_facts(alloc, &text)
+}
+
+fn answer_script(alloc: Global, input: Vec<u8>) -> Result<Answered, AllocError>
+    ensures { IfOk result (λ a. IsRunOutput (script_of input.items) (string_bytes a.text) a.verdict) }
+{
+    match script_in(alloc, input) {
         Err(ScriptError::Memory) => Err(AllocError),
         Err(ScriptError::BadLine(at)) => bad_line(alloc, at),
         Ok(script) => match check_log(alloc, &script.facts, script.roster) {
@@ -96,10 +111,10 @@ fn count(alloc: Global, facts: usize) -> Result<Answered, AllocError>
     })
 }
 
-fn answer_facts(alloc: Global, input: &[u8]) -> Result<Answered, AllocError>
-    ensures { IfOk result (λ a. IsCheckOutput (facts_of input.now) (string_bytes a.text) a.verdict) }
+fn answer_facts(alloc: Global, input: Vec<u8>) -> Result<Answered, AllocError>
+    ensures { IfOk result (λ a. IsCheckOutput (facts_of input.items) (string_bytes a.text) a.verdict) }
 {
-    match read_facts(alloc, input) {
+    match log_in(alloc, input) {
         Err(ScriptError::Memory) => Err(AllocError),
         Err(ScriptError::BadLine(at)) => bad_line(alloc, at),
         Ok(log) => match check_log(alloc, &log.facts, log.roster) {
@@ -120,12 +135,12 @@ fn answer_capture(alloc: Global, input: &[u8]) -> Result<Answered, AllocError>
 }
 
 /// The text that answers an input to the task. Its only error is want of memory.
-pub fn answer(alloc: Global, task: Task, input: &[u8]) -> Result<Answered, AllocError>
-    ensures { IfOk result (λ a. IsOutputOf task input.now (string_bytes a.text) a.verdict) }
+pub fn answer(alloc: Global, task: Task, input: Vec<u8>) -> Result<Answered, AllocError>
+    ensures { IfOk result (λ a. IsOutputOf task input.items (string_bytes a.text) a.verdict) }
 {
     match task {
         Task::Run => answer_script(alloc, input),
         Task::Check => answer_facts(alloc, input),
-        Task::Inspect => answer_capture(alloc, input),
+        Task::Inspect => answer_capture(alloc, &input),
     }
 }

@@ -26,7 +26,7 @@ fn answer_text<R: Read, W: Write>(
     ensures { IsTextCall R.remaining W.contents (IsOutputOf task) reader.old reader.new writer.old writer.new result }
 {
     let input = read_all(alloc, reader)?;
-    let output = answer(alloc, task, &input)?;
+    let output = answer(alloc, task, input)?;
     write_all(writer, output.text.as_bytes())?;
     Ok(output.verdict)
 }

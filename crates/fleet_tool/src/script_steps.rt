@@ -2,10 +2,11 @@
 
 ghost use Rattle.std.specs.Prelude.{◌≡◌, ◌++◌, ℕ, List, length, All, IfOk, OnOk, string_bytes};
 ghost use Rattle.script_text.specs.StepLine.{IsInRange};
+ghost use Rattle.fleet_core.specs.Runs.{FollowsStep};
 ghost use Rattle.fleet_tool.specs.ScriptSteps.{IsStepOf, Answers, AnswersFirst};
 
 use crate::lines::line;
-use fleet_core::Fleet;
+use fleet_core::{Fleet, Reply};
 use fleet_steps::Step;
 use redo_core::Fact;
 use std::alloc::{AllocError, Global};
@@ -16,6 +17,16 @@ fn step_of(facts: &[Fact], step: Step<usize>) -> Result<Step<Fact>, AllocError>
     ensures { IfOk result (IsStepOf facts.now step) }
 {
     step.naming(|place| facts[place - 1].copy())
+}
+
+/// Carries out a step; a take's fact is not copied once more.
+fn carry_out(fleet: &mut Fleet, step: Step<Fact>) -> Reply
+    ensures { FollowsStep fleet.old step result fleet.new }
+{
+    match step {
+        Step::Take { node, fact } => fleet.take(node, fact),
+        other => fleet.step(&other),
+    }
 }
 
 /// Carries out a step, and appends its answer line. A step that lacked memory is an error too.
@@ -30,7 +41,7 @@ fn put_answer(
     ensures { OnOk result ((line : List ℕ) × (string_bytes text.new ≡ string_bytes text.old ++ line) × AnswersFirst fleet.old facts.now step line fleet.new) }
 {
     let asked = step_of(facts, step)?;
-    let reply = fleet.step(&asked);
+    let reply = carry_out(fleet, asked);
     let line = line(alloc, step, &reply)?;
     text.push_str(&line)
 }

@@ -216,3 +216,17 @@ pub fn fact_line<'a>(
         _ => Ok(None),
     }
 }
+
+/// The same fact, shared by its copies.
+pub fn shared_fact_line<'a>(
+    alloc: Global,
+    fields: &[&'a [u8]],
+    pieces: &mut Vec<&'a [u8]>,
+) -> Result<Option<Fact>, AllocError>
+    ensures { IfOk result (λ o. o ≡ fact_line (map (λ x. x.now) fields.now)) }
+{
+    match fact_line(alloc, fields, pieces)? {
+        Some(fact) => Ok(Some(fact.share()?)),
+        None => Ok(None),
+    }
+}

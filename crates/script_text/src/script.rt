@@ -8,7 +8,7 @@ ghost use Rattle.script_text.specs.Script.{lines_from, nodes_from, nodes_form, n
 ghost use Rattle.script_text.specs.Outcome.{Gives, log_data, script_data, asked_data};
 ghost use Rattle.script_text.specs.declared.script.ScriptError.TheVariants.{Memory};
 
-use crate::fact_line::fact_line;
+use crate::fact_line::{fact_line, shared_fact_line};
 use crate::fields::{parts, parts_into};
 use crate::number::numbers;
 use crate::opening::read_opening;
@@ -171,7 +171,7 @@ fn script_lines(alloc: Global, lines: &[&[u8]], at: usize) -> Result<Asked, Scri
             return Err(ScriptError::BadLine(at + i));
         }
         parts_into(line, b' ', &mut fields)?;
-        let Some(next) = fact_line(alloc, &fields, &mut pieces)? else {
+        let Some(next) = shared_fact_line(alloc, &fields, &mut pieces)? else {
             return Err(ScriptError::BadLine(at + i));
         };
         facts.push(next)?;

@@ -8,10 +8,10 @@ use Rattle.fleet_tool.proofs.answer.answer_script.Goals as goal
 
 pub returns-in-Err-Unsound : goal.returns-in-Err-Unsound
 returns-in-Err-Unsound c =
-    let read : script_of c.args.input.now ≡ Ok (script_data c.in-Ok.script) = c.in-Ok.ensures.script in
+    let read : script_of c.args.input.items ≡ Ok (script_data c.in-Ok.script) = c.in-Ok.ensures.script in
     let facts : c.deref.result.now ≡ c.in-Ok.script.facts.items = search rules in
     let reported = rw facts at (rw c.in-Err-Unsound.field-0-is at (c.in-Err-Unsound.ensures.unsound)) in
-    run_unsound (script_of c.args.input.now) (script_data c.in-Ok.script) c.unsound.result read
+    run_unsound (script_of c.args.input.items) (script_data c.in-Ok.script) c.unsound.result read
     (c.unsound.ensures c.in-Ok.script.roster c.in-Ok.script.facts.items reported)
 
 pub replies-requires-clause-sound : goal.replies-requires-clause-sound
@@ -21,4 +21,4 @@ replies-requires-clause-sound c =
     subst (λ (fs : List Fact). IsSound c.in-Ok.script.roster fs) facts sound
 
 pub returns : goal.returns
-returns c = run_replies (script_of c.args.input.now) (script_data c.in-Ok.script) c.replies.result c.in-Ok.ensures.script c.replies.ensures
+returns c = run_replies (script_of c.args.input.items) (script_data c.in-Ok.script) c.replies.result c.in-Ok.ensures.script c.replies.ensures
