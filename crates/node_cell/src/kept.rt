@@ -1,4 +1,7 @@
 ghost use Rattle.std.specs.Prelude.{◌≡◌, ◌≢◌, ◌≤◌, ◌<◌, ◌⊎◌, ◌↔◌, ◌+◌, ◌++◌, ◌∷◌, [], length, IfOk, IfErr, OnErr, OnOk, Some, None};
+ghost use Rattle.segment_state.specs.Means.{Means};
+ghost use Rattle.segment_core.specs.Folding.{Commits};
+ghost use Rattle.segment_core.specs.Forgetting.{DiscardsJust};
 ghost use Rattle.node_cell.specs.Kept.{IsKept, KeepsParts};
 ghost use Rattle.node_cell.specs.Reading.{TellsRead, TellsReadAfter};
 ghost use Rattle.node_cell.specs.Delivering.{IsFrontWith, RefusesPut};
@@ -58,6 +61,7 @@ impl<L: LogName> Kept<L> {
     /// No fact, and an empty trail. Its only error is want of memory.
     pub(crate) fn new(alloc: Global) -> Result<Self, AllocError>
         ensures trail { IfOk result (λ k. k.trail ≡ []) }
+        ensures empty { IfOk result (λ k. Means L.roster L.log [] k.segment) }
         ensures keeps { IfOk result (λ k. IsKept L.roster L.log k.segment k.trail) }
     {
         let segment = Segment::new(alloc, L::roster())?;
@@ -173,6 +177,7 @@ impl<L: LogName> Kept<L> {
         ensures trail { self.new.trail ≡ self.old.trail }
         ensures keeps { IsKept L.roster L.log self.new.segment self.new.trail }
         ensures meaning { OnOk result (KeepsParts L.roster L.log self.old.segment self.new.segment) }
+        ensures commits { OnOk result (Commits self.old.segment folded self.new.segment) }
         ensures refused { IfErr result (λ e. RefusesFold L.roster L.log folded e.fault) }
         ensures back { IfErr result (λ e. e.value ≡ folded) }
         ensures unchanged { OnErr result (self.new ≡ self.old) }
@@ -189,6 +194,7 @@ impl<L: LogName> Kept<L> {
     /// Forgets what is folded up to the anchor.
     pub(crate) fn discard(&mut self)
         ensures meaning { KeepsParts L.roster L.log self.old.segment self.new.segment }
+        ensures discards { DiscardsJust self.old.segment self.new.segment }
         ensures trail { self.new.trail ≡ self.old.trail }
         ensures keeps { IsKept L.roster L.log self.new.segment self.new.trail }
     {

@@ -19,6 +19,8 @@ mod gossip_tests;
 mod kept;
 pub mod laws;
 mod mail;
+#[cfg(test)]
+mod memory_tests;
 mod node;
 mod receipts;
 #[cfg(test)]

@@ -49,7 +49,8 @@ pub fn take_places(
 ) -> Result<u8, Fail> {
     let mut changed = 0u8;
     for place in from..=to {
-        if take(cached, fact(alloc, place)?) == Some(Taken::Changed) && changed < 255 {
+        let taken = take(cached, fact(alloc, place)?).ok_or("refused")?;
+        if taken == Taken::Changed && changed < 255 {
             changed += 1;
         }
     }
@@ -64,7 +65,7 @@ pub fn take(cached: &mut CachedSegment, fact: Fact) -> Option<Taken> {
 }
 
 // The first two bytes of a page.
-fn start(page: &Page) -> (u8, u8) {
+pub fn start(page: &Page) -> (u8, u8) {
     let bytes = page.bytes();
     (bytes[0], bytes[1])
 }

@@ -1,3 +1,4 @@
+use crate::CachedSegment;
 use crate::samples::*;
 use segment_core::ReadFault;
 use std::test::Fail;
@@ -109,5 +110,29 @@ fn a_record_below_a_kept_point(rt: HostRuntime) -> Result<(), Fail> {
     assert!(rt; kept == 0);
     assert!(rt; read(&mut one, 7, 9) == read_past(&one, 7, 9));
     assert!(rt; read(&mut one, 7, 9) != AB);
+    Ok(())
+}
+
+// What a read answers that is made once more where memory is wanting.
+fn read_again(cached: &mut CachedSegment, page: u16, point: u64) -> Option<(u8, u8)> {
+    match cached.read(page, point) {
+        Err(ReadFault::Memory) => read(cached, page, point),
+        Err(_) => None,
+        Ok(page) => Some(start(&page)),
+    }
+}
+
+// Whichever one allocation is refused, the reads answer as they do with ample memory, whether or not their images are kept.
+#[test]
+fn reads_go_on(rt: HostRuntime) -> Result<(), Fail> {
+    let mut one = three_records(rt.alloc(), 1)?;
+    let before = [
+        read_again(&mut one, 7, 9),
+        read_again(&mut one, 8, 9),
+        read_again(&mut one, 7, 5),
+    ];
+    take_places(&mut one, rt.alloc(), 5, 6)?;
+    assert!(rt; before == [AB, Some((b'c', 0)), AB]);
+    assert!(rt; read_again(&mut one, 7, 21) == Some((b'z', b'b')));
     Ok(())
 }

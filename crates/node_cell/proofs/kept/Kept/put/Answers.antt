@@ -1,4 +1,5 @@
-use Rattle.std.proofs.Common.{rules, ◌≡◌, ◌++◌, ◌∷◌, [], subst, sym, ap}
+use Rattle.std.proofs.Common.{rules, arith, ◌≡◌, ◌∙◌, ◌<◌, ◌++◌, ◌∷◌, [], length, refl, subst, sym, ap}
+use Rattle.std.specs.Prelude.{vec_len}
 use Rattle.segment_state.specs.Means.{MeansAt}
 use Rattle.node_cell.specs.Kept.{IsKept}
 use Rattle.node_cell.specs.Delivering.{IsFrontWith}
@@ -26,7 +27,8 @@ invariant_of-self-in-Ok g c =
     let f = c.into_fact.result in
     let at = c.into_fact.ensures.stands in
     let m = c.in-Ok.ensures.takes.means roster log k.facts sound (in_log log c.args.fact.place f at) k.means in
-    let items : c.push_reserved.new.self.items ≡ c.self.inside.trail.items ++ (c.args.number, c.args.fact.place) ∷ [] = search rules in
+    let items : c.push_reserved.new.self.items ≡ c.self.inside.trail.items ++ (c.args.number, c.args.fact.place) ∷ [] =
+    c.push_reserved.ensures.items ∙ rw (c.reserve.ensures.items, c.place-place.ensures.value) refl in
     subst (IsKept roster log c.take.new.self.segment) (sym items)
     (keeps roster log c.self.inside.segment.segment c.take.new.self.segment c.self.inside.trail.items c.args.number c.args.fact.place f k at m)
 
@@ -61,3 +63,8 @@ unreachable-requires g c =
       in_log log c.args.fact.place c.into_fact.result c.into_fact.ensures.stands,
       k.means,
     ))
+
+pub returns-in-Memory-clause-refused : goal.returns-in-Memory-clause-refused
+returns-in-Memory-clause-refused g c =
+    let count : length c.self.inside.trail.items ≡ vec_len c.self.inside.trail = search rules in
+    subst (λ n. n < c.args.capacity) (ap (λ k. length k.trail) c.self.view_is) (omega (arith, c.len.ensures, c.if-len-capacity.false, count))
