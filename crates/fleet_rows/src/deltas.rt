@@ -13,7 +13,7 @@ use std::test::Fail;
 
 /// What a segment does: it takes a fact by its place in the log, counted from 1, folds a page, or discards what is folded.
 #[derive(Clone, Copy)]
-enum Own {
+pub enum Own {
     Take(usize),
     Fold(u16),
     Discard,
@@ -21,7 +21,7 @@ enum Own {
 
 const GIVES: [Own; 3] = [Own::Take(1), Own::Take(2), Own::Take(3)];
 
-const HAS_SHED: [Own; 6] = [
+pub const HAS_SHED: [Own; 6] = [
     Own::Take(1),
     Own::Take(2),
     Own::Take(3),
@@ -85,7 +85,7 @@ fn fold(segment: &mut Segment, page: u16) -> Result<(), Fail> {
     Ok(())
 }
 
-fn segment_of(alloc: Global, log: &Log, done: &[Own]) -> Result<Segment, Fail> {
+pub fn segment_of(alloc: Global, log: &Log, done: &[Own]) -> Result<Segment, Fail> {
     let mut segment = Segment::new(alloc, log.roster)?;
     for own in done {
         match own {
