@@ -3,7 +3,7 @@
 
     measure.py [--peer PROGRAM] [--program PROGRAM] [--only a,b] [--sizes N ..] [--runs N]
 
-Each task is a text of a size, in facts, which each program reads N times in turn. A row tells the processor time of both
+Each task is a text of a size, in facts or in steps, which each program reads N times in turn. A row tells the processor time of both
 (user and system, the median), their ratio, the exponent of growth from the least size to the greatest, and the most memory
 that each held. Then come three calls that are to cost the same however much is held: a fold of one page, a discard of one
 record, and a read of a page with ten records, each the difference of two scripts by the number of calls.
@@ -31,13 +31,20 @@ CALLS = 2_000  # calls of which the cost of one is taken
 READ_PAGE_RECORDS = 10
 
 
+def room_of(size):
+    """How many facts a script of a size has that asks for more than takes: a script has at most a million steps."""
+    return size * 4 // 5
+
+
 def pages_of(size):
     """About 250 records a page."""
     return max(16, min(65536, size // 250))
 
 
 def sound_log(size, epochs=20):
-    return list(make_log.facts(size, pages_of(size), epochs, 1 + size // 1000, 1, True, True))
+    """So many facts: an advance in a thousand, the truncations, and records."""
+    advances = 1 + size // 1000
+    return list(make_log.facts(size - epochs - advances, pages_of(size), epochs, advances, 1, True, True))
 
 
 def takes(places, node=1):
@@ -53,13 +60,13 @@ def last_point(facts):
 
 def ingest(size):
     """Every fact in the log's order."""
-    facts = sound_log(size)
+    facts = sound_log(size - 1)
     return [*facts, "go", "nodes 1", *takes(range(1, len(facts) + 1)), "front 1"]
 
 
 def shuffled(size):
     """Half as many facts, each twice, in any order."""
-    facts = sound_log(size // 2)
+    facts = sound_log(size // 2 - 1)
     places = [*range(1, len(facts) + 1)] * 2
     random.Random(1).shuffle(places)
     return [*facts, "go", "nodes 1", *takes(places), "front 1"]
@@ -67,10 +74,11 @@ def shuffled(size):
 
 def reads(size):
     """Every fact, and then as many reads of the pages at the last number, with folds of every fourth page in between."""
-    facts = sound_log(size // 2)
-    pages, point = pages_of(size // 2), last_point(facts)
+    half = room_of(size) // 2
+    facts = sound_log(half)
+    pages, point = pages_of(half), last_point(facts)
     steps = []
-    for turn in range(size // 2):
+    for turn in range(half):
         page = turn % pages
         steps.append(f"read 1 {page} {point} 0 16")
         if turn % 64 == 0:
@@ -93,7 +101,7 @@ def dealt(facts, nodes, shares, exchange):
 
 def join(size, nodes=3, shares=100):
     """After each share one node folds some pages, discards, is joined into the next one and compared with it."""
-    facts, pages = sound_log(size), pages_of(size)
+    facts, pages = sound_log(room_of(size)), pages_of(room_of(size))
 
     def exchange(done):
         node = done % nodes + 1
@@ -106,7 +114,7 @@ def join(size, nodes=3, shares=100):
 
 def gossip(size, nodes=3, shares=100):
     """After each share one node asks, the one before it answers, and it absorbs the answer."""
-    facts, pages = sound_log(size), pages_of(size)
+    facts, pages = sound_log(room_of(size)), pages_of(room_of(size))
 
     def exchange(done):
         node = done % nodes + 1
@@ -234,7 +242,7 @@ def both(values, form):
 
 
 def print_tasks(names, programs, given, folder):
-    print("| task | facts | s | peer, s | ratio | MB | peer, MB | ratio | growth |\n|---|---|---|---|---|---|---|---|---|")
+    print("| task | size | s | peer, s | ratio | MB | peer, MB | ratio | growth |\n|---|---|---|---|---|---|---|---|---|")
     for name in names:
         own = []
         for size in given.sizes:
@@ -261,7 +269,7 @@ def main():
     parser.add_argument("--program", type=pathlib.Path, default=PROGRAM, help="the built program")
     parser.add_argument("--peer", type=pathlib.Path, help="a program of the same forms to compare with")
     parser.add_argument("--only", default=",".join([*TASKS, *FLAT]), help="tasks and calls, by name")
-    parser.add_argument("--sizes", type=int, nargs="+", default=SIZES, help="how many facts, rising")
+    parser.add_argument("--sizes", type=int, nargs="+", default=SIZES, help="how many facts or steps, rising")
     parser.add_argument("--runs", type=int, default=5, help="how often each text is read")
     given = parser.parse_args()
     names = given.only.split(",")
