@@ -4,7 +4,7 @@ ghost use Rattle.std.specs.Prelude.{◌≡◌, IfOk, IfErr};
 ghost use Rattle.redo_core.specs.Body.{patches_of};
 
 use crate::patches::Body;
-use std::alloc::{AllocError, AllocFailed, Global};
+use std::alloc::{AllocError, AllocFailed};
 use std::marker::Model;
 use std::sync::Arc;
 
@@ -15,9 +15,16 @@ enum Holder {
 }
 
 /// The patches of one record, or of a record and its copies.
-#[derive(Debug, Drop)]
+#[derive(Debug)]
 pub struct KeptBody {
     holder: Holder,
+}
+
+// Written out, so that the cases of the holder are told apart here alone, and not wherever a record is dropped.
+impl Drop for KeptBody {
+    fn drop(self) {
+        let KeptBody { holder: _holder } = self;
+    }
 }
 
 impl Model for KeptBody {
@@ -53,7 +60,8 @@ impl KeptBody {
         ensures ok { IfOk result (λ k. k ≡ self) }
         ensures err { IfErr result (λ e. e.value ≡ self) }
     {
-        match self.holder {
+        let KeptBody { holder } = self;
+        match holder {
             Holder::Own(body) => match Arc::new(body.allocator(), body) {
                 Ok(body) => Ok(KeptBody {
                     holder: Holder::Shared(body),

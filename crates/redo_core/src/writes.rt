@@ -1,6 +1,6 @@
 ghost use Rattle.std.specs.Prelude.{◌≡◌, ◌↔◌, IsTrue, IfOk};
-ghost use Rattle.std.specs.Prelude.{map};
 
+use smallvec::SmallVec;
 use std::alloc::AllocError;
 use std::marker::Model;
 
@@ -8,7 +8,8 @@ use std::marker::Model;
 #[derive(Debug, Drop)]
 pub struct Write {
     offset: u16,
-    bytes: Vec<u8>,
+    // Most writes are short, and stand in the write itself, with no memory of their own.
+    bytes: SmallVec<u8, 16>,
 }
 
 impl Model for Write {
@@ -24,7 +25,10 @@ impl Write {
     pub fn new(offset: u16, bytes: Vec<u8>) -> Self
         ensures { result ≡ record { offset = offset; bytes = bytes.items } }
     {
-        Write { offset, bytes }
+        Write {
+            offset,
+            bytes: SmallVec::from_vec(bytes),
+        }
     }
 
     /// The place in the page of the first byte.
@@ -37,7 +41,7 @@ impl Write {
     pub fn bytes(&self) -> &[u8]
         ensures { result.now ≡ self.now.bytes }
     {
-        &self.bytes
+        self.bytes.as_slice()
     }
 
     /// An equal write with memory of its own. Its only error is want of memory.
@@ -60,7 +64,7 @@ impl Clone for Write {
     fn clone(&self) -> Result<Self, AllocError> {
         Ok(Write {
             offset: self.offset,
-            bytes: self.bytes.clone()?,
+            bytes: SmallVec::from_slice(*self.bytes.allocator(), self.bytes())?,
         })
     }
 }

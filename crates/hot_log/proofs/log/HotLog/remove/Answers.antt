@@ -23,7 +23,7 @@ invariant_of-self-in_default-remove c = absurd (never c)
 pub returns-in_default-remove-clause-removes : goal.returns-in_default-remove-clause-removes
 returns-in_default-remove-clause-removes c = absurd (never c)
 
-goes : (c : goal.Joined-redo) → Removes (HasKey c.args.epoch c.args.number) c.self.inside.records c.remove-2.new.self
+goes : (c : goal.After-drop-redo-inside) → Removes (HasKey c.args.epoch c.args.number) c.self.inside.records c.remove-2.new.self
 goes c =
     removes_key c.self.inside.records c.remove-2.new.self c.self.inside.by_key c.args.epoch c.args.number c.in-Some.page c.self.invariant.form c.self.invariant.by_key
     c.in-Some.ensures.had c.in-Some-remove.ensures.removes
