@@ -1,4 +1,4 @@
--- What a state is after it took over a draft that has taken what a delta tells, with the delta's pages.
+-- What a state is after it has taken what a delta tells, with the delta's pages.
 use Rattle.std.proofs.Common.{◌≡◌, ℕ, ◌<◌, ◌≤◌, ◌⊎◌, inl, inr, ⊎_elim, map, max, refl, sym, ap, ◌∙◌, subst, arith}
 use Rattle.std.specs.List.{Contains}
 use Rattle.std.proofs.Math.Nat.{le-max_left, max-eq_left, max-eq_right}
@@ -17,25 +17,23 @@ use Rattle.segment_state.specs.Means.{Matters, IsInImage}
 use Rattle.segment_state.specs.Joining.{JoinsBooks}
 use Rattle.segment_state.specs.Gossip.{HasImage, Absorbs}
 use Rattle.segment_core.specs.Form.{IsSegment}
-use Rattle.segment_core.specs.Forgetting.{with_store}
-use Rattle.segment_core.specs.Uniting.{draft_of, Unites}
+use Rattle.segment_core.specs.Uniting.{Unites}
 use Rattle.segment_join.specs.Told.{facts_told}
 use Rattle.segment_join.specs.InOrder.{TakesEach}
-use Rattle.segment_join.proofs.OtherImages.{takes_of_draft}
 use Rattle.segment_join.proofs.TakingAll.{IsLate, LeavesAll, leaves_all}
 use Rattle.segment_join.proofs.ToldFacts.{listed_cut, listed_advance, listed_record}
 use Rattle.segment_join.proofs.JoinedStates.{HasBook, all, book_joined, least_fits, late_of}
 use Rattle.gossip_core.specs.Absorbing.{filling_of, image_at, AbsorbsInto}
 
--- a draft of the state has taken what the delta tells
-pub record HasDelta (s : State) (d : DeltaData) (draft : State) : Type 0 where
+-- the state has taken what the delta tells
+pub record HasDelta (s : State) (d : DeltaData) (taken : State) : Type 0 where
   pub form : IsSegment s
   pub shape : IsDelta d
   pub one_roster : roster_of s.book ≡ roster_of d.book
-  pub takes : TakesEach (draft_of s) (facts_told d.book d.records) draft
+  pub takes : TakesEach s (facts_told d.book d.records) taken
 
-module _ (s : State) (d : DeltaData) (draft : State) (h : HasDelta s d draft) where
-  has_book : HasBook s d.book (facts_told d.book d.records) draft
+module _ (s : State) (d : DeltaData) (taken : State) (h : HasDelta s d taken) where
+  has_book : HasBook s d.book (facts_told d.book d.records) taken
   has_book = record {
     own = late_of s h.form;
     epoch = h.shape.book.complete;
@@ -45,19 +43,19 @@ module _ (s : State) (d : DeltaData) (draft : State) (h : HasDelta s d draft) wh
     takes = h.takes;
   }
 
-  left : LeavesAll (draft_of s) (facts_told d.book d.records) draft
-  left = all s draft d.book (facts_told d.book d.records) has_book
+  left : LeavesAll s (facts_told d.book d.records) taken
+  left = all s taken d.book (facts_told d.book d.records) has_book
 
-  pub base_fits : d.base ≤ min_of draft
+  pub base_fits : d.base ≤ min_of taken
   base_fits =
-      let low : least d.book.points ≤ min_of draft = least_fits s draft d.book (facts_told d.book d.records) has_book in
+      let low : least d.book.points ≤ min_of taken = least_fits s taken d.book (facts_told d.book d.records) has_book in
       let base : d.base ≤ least d.book.points = h.shape.base in
       omega (arith, low, base)
 
-module _ (s : State) (d : DeltaData) (draft new : State) (h : HasDelta s d draft)
-    (unites : Unites s draft d.base d.base (map (image_at d.base) d.pages) new) where
+module _ (s : State) (d : DeltaData) (taken new : State) (h : HasDelta s d taken)
+    (unites : Unites taken d.base d.base (map (image_at d.base) d.pages) new) where
   merges : Merges s.store d.base (map (image_at d.base) d.pages) new.store
-  merges = unites.store
+  merges = subst (λ store. Merges store d.base (map (image_at d.base) d.pages) new.store) (left s d taken h).store unites.store
 
   -- a page that was given shows it at the base
   taken_of : (g : ℕ) → IsTaken (map (image_at d.base) d.pages) new.store g
@@ -98,14 +96,14 @@ module _ (s : State) (d : DeltaData) (draft new : State) (h : HasDelta s d draft
   pub absorbs : AbsorbsInto s d new
   absorbs = record {
     one_roster = h.one_roster;
-    taken = with_store draft s.store;
-    takes = takes_of_draft s (facts_told d.book d.records) draft h.takes;
+    taken = taken;
+    takes = h.takes;
     book = (
       unites.book,
-      subst (JoinsBooks s.book d.book) (sym unites.book) (book_joined s draft d.book (facts_told d.book d.records) (has_book s d draft h)),
+      subst (JoinsBooks s.book d.book) (sym unites.book) (book_joined s taken d.book (facts_told d.book d.records) (has_book s d taken h)),
     );
     held = unites.held;
-    base = unites.base_is ∙ ap (λ b. max b d.base) (left s d draft h).base;
+    base = unites.base_is ∙ ap (λ b. max b d.base) (left s d taken h).base;
     images = images;
   }
 

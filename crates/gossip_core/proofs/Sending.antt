@@ -8,7 +8,7 @@ use Rattle.hot_log.specs.Held.{HasKey}
 use Rattle.segment_state.specs.State.{State}
 use Rattle.segment_core.specs.Keys.{key_of}
 use Rattle.segment_join.specs.Keeping.{IsKeptAt}
-use Rattle.segment_join.proofs.Keeping.{one_of_key}
+use Rattle.segment_core.proofs.Keys.{one_of_key}
 use Rattle.gossip_core.specs.Summarizing.{wire_key}
 use Rattle.gossip_core.specs.Replying.{IsSent, IsSentAt, key_data}
 use Rattle.gossip_core.proofs.Parts.{one_key}

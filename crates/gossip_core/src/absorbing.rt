@@ -1,5 +1,6 @@
 ghost use Rattle.std.specs.Prelude.{◌≡◌, ◌⊎◌, map, IfOk, OnOk, IfErr, OnErr};
-ghost use Rattle.segment_core.specs.Uniting.{draft_of};
+ghost use Rattle.redo_core.specs.Book.{roster_of};
+ghost use Rattle.segment_core.specs.Savepoint.{RollsBackAs};
 ghost use Rattle.segment_core.specs.declared.answers.Refusal.TheVariants.{Memory as MemoryOf};
 ghost use Rattle.segment_join.specs.Told.{facts_told};
 ghost use Rattle.segment_join.specs.InOrder.{TakesEach, RefusesOne};
@@ -11,8 +12,8 @@ use crate::answering::{Shown, uncovered};
 use page_base::BaseImage;
 use redo_core::Record;
 use redo_wire::{Delta, PageImage, Summary};
-use segment_core::{Refusal, Segment};
-use segment_join::draft_told;
+use segment_core::{Refusal, Savepoint, Segment};
+use segment_join::take_told;
 use std::alloc::{AllocError, Global};
 use thiserror::Error;
 
@@ -65,28 +66,53 @@ fn take_delta(segment: &mut Segment, delta: &Delta) -> Result<(), Refusal>
     if own != shown {
         return Err(Refusal::OtherRoster { own, shown });
     }
-    let draft = told_draft(segment, delta)?;
+    let Ok(mut saved) = segment.savepoint() else {
+        return Err(Refusal::Memory);
+    };
+    match take_in(segment, &mut saved, delta) {
+        Ok(()) => Ok(()),
+        Err(why) => {
+            segment.roll_back(saved);
+            Err(why)
+        }
+    }
+}
+
+/// Takes each fact that a delta of the same roster tells, and its pages.
+fn take_in(segment: &mut Segment, saved: &mut Savepoint, delta: &Delta) -> Result<(), Refusal>
+    requires { roster_of segment.old.book ≡ roster_of delta.now.book }
+    ensures absorbs { OnOk result (AbsorbsInto segment.old delta.now segment.new) }
+    ensures refused { IfErr result (λ e. (e ≡ MemoryOf) ⊎ RefusesOne segment.old (facts_told delta.now.book delta.now.records) e) }
+    ensures rolls_back { OnErr result (RollsBackAs saved.old segment.old saved.new segment.new) }
+{
+    // It is called for what it ensures: a segment has its form.
+    let _own = segment.base_point();
     let base = delta.base();
     let Ok(images) = images_at(segment.allocator(), base, delta.pages()) else {
         return Err(Refusal::Memory);
     };
-    match segment.take_union(draft, base, base, images) {
+    if let Err(why) = take_facts(segment, saved, delta) {
+        return Err(why);
+    }
+    match segment.unite(base, base, images) {
         Ok(()) => Ok(()),
         Err(_) => Err(Refusal::Memory),
     }
 }
 
-/// A draft of a segment that has taken each fact that a delta tells.
-fn told_draft(segment: &Segment, delta: &Delta) -> Result<Segment, Refusal>
-    ensures takes { IfOk result (TakesEach (draft_of segment.now) (facts_told delta.now.book delta.now.records)) }
-    ensures refused { IfErr result (λ e. (e ≡ MemoryOf) ⊎ RefusesOne (draft_of segment.now) (facts_told delta.now.book delta.now.records) e) }
+/// Takes each fact that a delta tells.
+fn take_facts(segment: &mut Segment, saved: &mut Savepoint, delta: &Delta) -> Result<(), Refusal>
+    ensures takes { OnOk result (TakesEach segment.old (facts_told delta.now.book delta.now.records) segment.new) }
+    ensures refused { IfErr result (λ e. (e ≡ MemoryOf) ⊎ RefusesOne segment.old (facts_told delta.now.book delta.now.records) e) }
+    ensures rolls_back { RollsBackAs saved.old segment.old saved.new segment.new }
 {
     let Ok(records) = each_of(segment.allocator(), delta.records()) else {
         return Err(Refusal::Memory);
     };
     let book = delta.book();
-    draft_told(
+    take_told(
         segment,
+        saved,
         book.cuts(),
         book.complete(),
         book.points(),

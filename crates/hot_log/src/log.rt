@@ -149,8 +149,8 @@ impl HotLog {
         }
     }
 
-    // Removes the record of a key, if one is held.
-    pub(crate) fn remove(&mut self, epoch: u16, number: u64)
+    /// Removes the record of a key, if one is held.
+    pub fn remove(&mut self, epoch: u16, number: u64)
         ensures removes { Removes (HasKey epoch number) self.old self.new }
         ensures form { IsHeld self.new }
     {

@@ -1,4 +1,4 @@
--- What a draft holds after a record was put there.
+-- What a state holds after a record was put there.
 use Rattle.std.proofs.Common.{◌≡◌, ℕ, ◌⊎◌, inl, inr, List, refl, sym, subst}
 use Rattle.std.specs.List.{Contains}
 use Rattle.redo_core.specs.Data.{RecordData}

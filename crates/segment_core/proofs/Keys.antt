@@ -1,11 +1,12 @@
 -- Going over the keys of held records, from the least on.
-use Rattle.std.proofs.Common.{◌≡◌, ℕ, ◌+◌, ◌<◌, ⊎_elim, List, [], ◌∷◌, ◌++◌, length, map, Option, Some, None, refl, sym, ap, ◌∙◌, subst, arith}
+use Rattle.std.proofs.Common.{◌≡◌, ℕ, ◌+◌, ◌<◌, ◌⊎◌, ⊎_elim, List, [], ◌∷◌, ◌++◌, length, map, Option, Some, None, refl, sym, ap, ◌∙◌, subst, arith}
 use Rattle.std.proofs.Common.{length-append}
 use Rattle.std.proofs.lemmas.List.{append_assoc, map-append, length-map, append-nil}
 use Rattle.std.specs.List.{Contains}
 use Rattle.redo_core.specs.Data.{RecordData}
 use Rattle.redo_core.specs.Order.{IsRising, RecordBefore, PairBefore}
 use Rattle.redo_core.proofs.Members.{here, there, which, each, none_in}
+use Rattle.redo_core.proofs.Rising.{rising_members}
 use Rattle.hot_log.specs.Held.{IsHeld, IsAbove, IsKeyAfter, HasKey}
 use Rattle.hot_log.proofs.Keys.{pair_not_same}
 use Rattle.segment_core.specs.Keys.{key_of}
@@ -66,6 +67,20 @@ above_rest (f ∷ fs) rest r x rising h above =
     absurd (pair_both f.epoch f.number r.epoch r.number before (subst (RecordBefore r) (sym e) above)))
     (λ (q : Contains (fs ++ r ∷ rest) x). above_rest fs rest r x rising.1 q above)
     (which f (fs ++ r ∷ rest) x h)
+
+-- of rising records there is one of a key
+pub one_of_key : (held : List RecordData) (r x : RecordData) → IsRising RecordBefore held → Contains held r → Contains held x → r.epoch ≡ x.epoch → r.number ≡ x.number → r ≡ x
+one_of_key held r x rising hr hx e n =
+    ⊎_elim
+    (λ (u : r ≡ x). u)
+    (λ (u : RecordBefore r x ⊎ RecordBefore x r).
+    absurd (⊎_elim
+    (λ (v : RecordBefore r x). apart r x e n v)
+    (λ (v : RecordBefore x r). apart x r (sym e) (sym n) v) u))
+    (rising_members RecordBefore held r x rising hr hx)
+  where
+    apart : (a b : RecordData) → a.epoch ≡ b.epoch → a.number ≡ b.number → RecordBefore a b → ⊥
+    apart a b e n before = ⊎_elim (λ (u : a.epoch < b.epoch). omega (arith, e, u)) (λ (u : (a.epoch ≡ b.epoch) × (a.number < b.number)). omega (arith, n, u.1)) before
 
 -- ---- the next key
 

@@ -14,6 +14,8 @@ pub mod FirstBreak
 pub mod Tidying
 pub mod Forgotten
 pub mod Holding
+pub mod Gone
+pub mod Savepoints
 pub mod Chained
 pub mod Moving
 pub mod Following

@@ -11,8 +11,7 @@ use Rattle.hot_log.specs.declared.log.Put.TheVariants.{New, Known}
 use Rattle.page_base.specs.Adopting.{first_given}
 use Rattle.segment_state.specs.State.{State, state_of, version_of, image_of}
 use Rattle.segment_core.specs.Adopting.{AdoptsBase}
-use Rattle.segment_core.specs.Uniting.{no_images}
-use Rattle.segment_core.specs.Restoring.{IsMadeOf, Gains, GainsEach}
+use Rattle.segment_core.specs.Restoring.{no_images, IsMadeOf, Gains, GainsEach}
 
 -- a put record is held, with those before
 pub put_gains : (old : List RecordData) (r : RecordData) (new : List RecordData) (put : Put) → Puts old r new put → Gains old r new

@@ -38,3 +38,8 @@ abbrev pub AnswersPut : Result Put (Refused RecordData PutFault) → Result Take
 AnswersPut (Ok put.New) result = result ≡ Ok Changed
 AnswersPut (Ok put.Known) result = result ≡ Ok Unchanged
 AnswersPut (Err e) result = result ≡ Err (record { value = Record e.value; fault = put_refusal_of e.fault })
+
+-- what was taken, or the fault alone of what was not
+abbrev pub FaultAlone : Result Taken (Refused Fact Refusal) → Result Taken Refusal → Type 0
+FaultAlone (Ok taken) result = result ≡ Ok taken
+FaultAlone (Err e) result = result ≡ Err e.fault

@@ -7,6 +7,8 @@ use Rattle.redo_core.specs.Position.{Position}
 use Rattle.redo_core.specs.Sound.{IsSound}
 use Rattle.redo_core.specs.Meaning.{IsKept}
 use Rattle.redo_core.specs.declared.facts.Fact.{Fact}
+use Rattle.epoch_book.specs.Book.{BookData}
+use Rattle.hot_log.specs.Removing.{IsFolded}
 use Rattle.segment_state.specs.State.{State, Store, StoredImage, state_of, version_of, image_of}
 use Rattle.segment_state.specs.Shows.{Shows}
 use Rattle.page_base.specs.Raising.{SamePage}
@@ -20,6 +22,11 @@ use Rattle.segment_core.specs.declared.answers.ReadFault.TheVariants.{BrokenBloc
 -- an alive record at or below a base point that its page's image has
 abbrev pub IsFoldedBelow : State → ℕ → RecordData → Type 0
 IsFoldedBelow s base r = IsAlive s.book.cuts s.book.complete r.epoch r.number × (r.number ≤ base) × (r.number ≤ version_of s.store r.page)
+
+-- of the records just those at or below a point that one of the images has are gone
+abbrev pub RemovesInImages : BookData → ℕ → List StoredImage → List RecordData → List RecordData → Type 0
+RemovesInImages book point images old new =
+    (r : RecordData) → Contains new r ↔ (Contains old r × ((i : StoredImage) → Contains images i → IsFolded book i.page i.version point r → ⊥))
 
 -- the base point is the anchor, and just the records that are folded then are gone
 pub record DiscardsJust (old new : State) : Type 0 where

@@ -11,6 +11,7 @@ pub mod Folding
 pub mod Forgetting
 pub mod Adopting
 pub mod Uniting
+pub mod Savepoint
 pub mod Comparing
 pub mod Keys
 pub mod Laws

@@ -4,7 +4,11 @@ use Rattle.std.specs.List.{Contains}
 use Rattle.redo_core.specs.Data.{RecordData}
 use Rattle.redo_core.specs.Book.{BookData}
 use Rattle.page_base.specs.Adopting.{first_given}
-use Rattle.segment_state.specs.State.{State, version_of, image_of}
+use Rattle.segment_state.specs.State.{State, Store, version_of, image_of}
+
+-- no image is stored, and each page is zeros at version 0
+abbrev pub no_images : Store
+no_images = record { images = []; floor = 0 }
 
 -- the state has the book and the base point, holds just the records, and each page is the first that is given for it, or zeros, there
 pub record IsMadeOf (book : BookData) (records : List RecordData) (base : ℕ) (given : List (ℕ × List ℕ)) (s : State) : Type 0 where

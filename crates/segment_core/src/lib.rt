@@ -5,7 +5,8 @@
 //! the part, whatever order its facts came in. A fold (`plan_fold`, `FoldPlan::fold`, `commit_fold`) brings a page's image to
 //! the anchor, a `discard` forgets the records that images have, a `tidy` leaves just the kept ones: all keep what the segment
 //! means. Over any facts a take says what it stored, each refusal but want of memory comes exactly where its definition says, and so
-//! does a broken block chain. A `draft` takes facts apart from the images, and `take_union` takes it over, whole or not at all.
+//! does a broken block chain. Facts that are taken with a savepoint can be rolled back, and `unite` takes images in: so a union is taken
+//! whole or not at all, and the held records are not copied for it.
 #![tactic(auto)]
 
 mod anew;
@@ -19,6 +20,7 @@ mod points;
 mod restoring;
 #[cfg(test)]
 mod samples;
+mod savepoint;
 mod segment;
 mod shedding;
 mod stored;
@@ -31,4 +33,5 @@ pub use answers::{Front, ReadFault, Refusal, Taken};
 pub use epoch_book::{Held, Standing};
 pub use fold_plan::{CommitFault, FoldPlan, Folded};
 pub use page_base::BaseImage;
+pub use savepoint::Savepoint;
 pub use segment::Segment;

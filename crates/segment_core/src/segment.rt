@@ -245,7 +245,7 @@ impl Segment {
         }
     }
 
-    fn take_cut(&mut self, cut: Cut) -> Result<Taken, Refused<Fact, Refusal>>
+    pub(crate) fn take_cut(&mut self, cut: Cut) -> Result<Taken, Refused<Fact, Refusal>>
         ensures { TakesExactly self.old (OfCut cut) result self.new }
     {
         let epoch = self.book.complete_epoch();
@@ -258,7 +258,7 @@ impl Segment {
         book_answer(Fact::Cut(cut), learnt)
     }
 
-    fn take_advance(&mut self, advance: Advance) -> Result<Taken, Refused<Fact, Refusal>>
+    pub(crate) fn take_advance(&mut self, advance: Advance) -> Result<Taken, Refused<Fact, Refusal>>
         ensures { TakesExactly self.old (OfAdvance advance) result self.new }
     {
         let learnt = self.book.learn_advance(advance);
@@ -277,7 +277,7 @@ impl Segment {
         }
     }
 
-    fn take_record(&mut self, redo: Record) -> Result<Taken, Refused<Fact, Refusal>>
+    pub(crate) fn take_record(&mut self, redo: Record) -> Result<Taken, Refused<Fact, Refusal>>
         ensures { TakesExactly self.old (OfRecord redo) result self.new }
     {
         if self.is_dead_or_settled(&redo) {

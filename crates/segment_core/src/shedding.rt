@@ -7,13 +7,13 @@ ghost use Rattle.hot_log.specs.Held.{IsHeld};
 ghost use Rattle.hot_log.specs.Removing.{Removes};
 ghost use Rattle.page_base.specs.Stored.{IsStored};
 ghost use Rattle.page_base.specs.Raising.{Raises};
-ghost use Rattle.segment_state.specs.State.{State, version_of};
+ghost use Rattle.segment_state.specs.State.{version_of};
 ghost use Rattle.segment_state.specs.Means.{MeansAt};
 ghost use Rattle.redo_core.specs.Order.{Lists, BeforeByNumber};
 ghost use Rattle.segment_state.specs.Shows.{IsApplied, Shows};
 ghost use Rattle.segment_state.specs.Promises.{KeepsMeaning, KeepsMeaningWith};
 ghost use Rattle.segment_core.specs.Folding.{IsPlanResult, PlansFold, Commits, RefusesCommit, RefusesAhead};
-ghost use Rattle.segment_core.specs.Forgetting.{DiscardsJust, FoldsAll, Tidies, HoldsJustKept, IsSoundState, IsWhole, IsFirstBreak, TellsFirstBreak, RefusesTidy};
+ghost use Rattle.segment_core.specs.Forgetting.{RemovesInImages, DiscardsJust, FoldsAll, Tidies, HoldsJustKept, IsSoundState, IsWhole, IsFirstBreak, TellsFirstBreak, RefusesTidy};
 ghost use Rattle.segment_core.specs.declared.answers.ReadFault.TheVariants.{Memory as MemoryOf};
 ghost use Rattle.segment_core.specs.declared.fold_plan.CommitFault.TheVariants.{Memory as OfMemory};
 
@@ -23,7 +23,7 @@ use crate::fold_plan::{CommitFault, FoldPlan, Folded};
 use crate::segment::Segment;
 use epoch_book::EpochBook;
 use hot_log::HotLog;
-use page_base::BaseStore;
+use page_base::{BaseImage, BaseStore};
 use redo_core::{Record, Refused};
 use std::alloc::{AllocError, Global};
 
@@ -213,6 +213,31 @@ fn copies(alloc: Global, records: &[&Record]) -> Result<Vec<Record>, AllocError>
 
 /// Removes the alive records at or below a point that the images have.
 fn remove_all_folded(hot: &mut HotLog, book: &EpochBook, store: &BaseStore, point: u64)
+    requires { IsHeld hot.old }
+    ensures removes { Removes (λ r. IsAlive book.now.cuts book.now.complete r.epoch r.number × (r.number ≤ point) × (r.number ≤ version_of store.now r.page)) hot.old hot.new }
+    ensures form { IsHeld hot.new }
+{
+    // At floor 0 a page without an image has none of its records in it: so pages that were never folded cost nothing.
+    if store.floor() == 0 {
+        remove_in_images(hot, book, store.pages(), point);
+    } else {
+        remove_page_by_page(hot, book, store, point);
+    }
+}
+
+/// Removes the alive records at or below a point that one of these images has.
+fn remove_in_images(hot: &mut HotLog, book: &EpochBook, images: &[BaseImage], point: u64)
+    requires { IsHeld hot.old }
+    ensures removes { RemovesInImages book.now point images.now hot.old hot.new }
+    ensures form { IsHeld hot.new }
+{
+    for image in images {
+        hot.remove_folded(book, image.page(), image.version(), point);
+    }
+}
+
+/// Removes the alive records at or below a point that the images have, from each page with held records.
+fn remove_page_by_page(hot: &mut HotLog, book: &EpochBook, store: &BaseStore, point: u64)
     requires { IsHeld hot.old }
     ensures removes { Removes (λ r. IsAlive book.now.cuts book.now.complete r.epoch r.number × (r.number ≤ point) × (r.number ≤ version_of store.now r.page)) hot.old hot.new }
     ensures form { IsHeld hot.new }

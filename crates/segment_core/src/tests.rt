@@ -232,25 +232,19 @@ fn two_images(alloc: Global) -> Result<Vec<BaseImage>, Fail> {
     Ok(images)
 }
 
-// A draft that knows the truncation more.
-fn drafted(segment: &Segment) -> Result<Segment, Fail> {
-    let held = cut(1, 5, 20)?;
-    let mut draft = segment.draft()?;
-    take(&mut draft, Fact::Cut(held));
-    Ok(draft)
-}
-
+// Takes the truncation, and then images.
 fn unites(segment: &mut Segment, alloc: Global) -> Result<bool, Fail> {
-    let draft = drafted(segment)?;
+    let held = cut(1, 5, 20)?;
+    take(segment, Fact::Cut(held));
     let images = two_images(alloc)?;
-    if draft.front().min < 5 {
+    if segment.front().min < 5 {
         return Ok(false);
     }
-    Ok(segment.take_union(draft, 5, 3, images).is_ok())
+    Ok(segment.unite(5, 3, images).is_ok())
 }
 
 #[test]
-fn a_union_of_a_draft_and_images(rt: HostRuntime) -> Result<(), Fail> {
+fn a_union_with_images(rt: HostRuntime) -> Result<(), Fail> {
     let mut one = four_facts(rt.alloc())?;
     let taken = unites(&mut one, rt.alloc())?;
     let united = Shown {
@@ -263,6 +257,32 @@ fn a_union_of_a_draft_and_images(rt: HostRuntime) -> Result<(), Fail> {
     };
     assert!(rt; taken);
     assert!(rt; what_shows(&one) == united);
+    Ok(())
+}
+
+// What shows after a known record, a truncation and a new record were taken and a settled one held, and after all was rolled back.
+fn rolled_back(segment: &mut Segment, alloc: Global) -> Result<(Shown, Shown), Fail> {
+    let held = cut(1, 5, 20)?;
+    let facts = (
+        fact(alloc, 3)?,
+        redo(alloc, (1, 21), 5, (7, 5), false, (0, b"z"))?,
+    );
+    let mut saved = segment.savepoint()?;
+    let _known = segment.take_noted(&mut saved, facts.0);
+    let _opened = segment.take_noted(&mut saved, Fact::Cut(held));
+    let _new = segment.take_noted(&mut saved, facts.1);
+    let after = what_shows(segment);
+    segment.roll_back(saved);
+    Ok((after, what_shows(segment)))
+}
+
+#[test]
+fn a_segment_rolled_back(rt: HostRuntime) -> Result<(), Fail> {
+    let mut one = four_facts(rt.alloc())?;
+    let before = what_shows(&one);
+    let shown = rolled_back(&mut one, rt.alloc())?;
+    assert!(rt; shown.0.front == front(1, 21, 5) && shown.0.held == 4);
+    assert!(rt; shown.1 == before && before.held == 3);
     Ok(())
 }
 

@@ -1,4 +1,4 @@
--- Which records a draft holds more, once it has taken what a book and records tell.
+-- Which records a state holds more, once it has taken what a book and records tell.
 use Rattle.std.proofs.Common.{◌≡◌, ◌⊎◌, inl, inr, ⊎_elim, List, [], ◌∷◌, ◌++◌, map, refl, sym, ap, ◌∙◌, subst}
 use Rattle.std.specs.List.{Contains}
 use Rattle.std.proofs.lemmas.List.Elements.{Contains-append_left}

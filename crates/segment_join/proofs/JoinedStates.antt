@@ -22,13 +22,13 @@ use Rattle.segment_state.specs.HasMeaning.{IsKeptBy}
 use Rattle.segment_state.specs.Joining.{JoinedPoint, JoinsBooks, Joins}
 use Rattle.segment_core.specs.Form.{IsSegment}
 use Rattle.segment_core.specs.Refusing.{HoldsOther}
-use Rattle.segment_core.specs.Uniting.{draft_of, Unites}
+use Rattle.segment_core.specs.Uniting.{Unites}
 use Rattle.segment_join.specs.Told.{AreTold}
 use Rattle.segment_join.specs.InOrder.{TakesEach}
 use Rattle.segment_join.specs.Joining.{IsBroughtIn, JoinsInto}
 use Rattle.segment_join.specs.Holding.{InOtherImage, IsNeedless, IsSpared, HoldsRest}
 use Rattle.segment_join.specs.Newer.{AreNewer}
-use Rattle.segment_join.proofs.Keeping.{one_of_key}
+use Rattle.segment_core.proofs.Keys.{one_of_key}
 use Rattle.segment_join.proofs.TakingAll.{IsLate, IsToldAdvance, ToldPoint, LeavesAll, leaves_all, epoch_grows}
 use Rattle.segment_join.proofs.ToldFacts.{IsPointIn, told_cut, told_advance, told_record}
 use Rattle.segment_join.proofs.Bringing.{brings_told}
@@ -39,36 +39,33 @@ late_of s form = record {
   later = λ a h. All-contains (λ w. s.book.complete < w.epoch) s.book.waits a form.book.waits_later h;
 }
 
-draft_late : (s : State) → IsLate s → IsLate (draft_of s)
-draft_late s late = record { epoch = late.epoch; later = late.later }
-
--- a draft has taken what the other tells
+-- a state has taken what the other tells
 pub record IsTold (old other taken : State) (facts : List Fact) : Type 0 where
   pub own : IsSegment old
   pub shown : IsSegment other
   pub one_roster : roster_of old.book ≡ roster_of other.book
   pub told : AreTold other facts
-  pub takes : TakesEach (draft_of old) facts taken
+  pub takes : TakesEach old facts taken
 
 -- and holds the rest, and the new state is what the two know together
-pub record IsUnion (old other taken draft : State) (facts : List Fact) (images : List StoredImage) (new : State) : Type 0 where
+pub record IsUnion (old other taken joined : State) (facts : List Fact) (images : List StoredImage) (new : State) : Type 0 where
   pub first : IsTold old other taken facts
-  pub holds : HoldsRest taken other draft
+  pub holds : HoldsRest taken other joined
   pub newer : AreNewer old.store other.store images
-  pub unites : Unites old draft other.base other.store.floor images new
+  pub unites : Unites joined other.base other.store.floor images new
 
--- a draft has taken what a book tells, among other facts
+-- a state has taken what a book tells, among other facts
 pub record HasBook (old : State) (b : BookData) (facts : List Fact) (taken : State) : Type 0 where
   pub own : IsLate old
   pub epoch : IsCompleteEpoch b.cuts b.complete
   pub one_roster : roster_of old.book ≡ roster_of b
   pub cut : (c : CutData) → Contains facts (Cut c) ↔ Contains b.cuts c
   pub advance : (a : AdvanceData) → Contains facts (Advance a) ↔ (Contains b.waits a ⊎ IsPointIn b.complete b.points a)
-  pub takes : TakesEach (draft_of old) facts taken
+  pub takes : TakesEach old facts taken
 
 module _ (old taken : State) (b : BookData) (facts : List Fact) (d : HasBook old b facts taken) where
-  pub all : LeavesAll (draft_of old) facts taken
-  all = leaves_all (draft_of old) facts taken (draft_late old d.own) d.takes
+  pub all : LeavesAll old facts taken
+  all = leaves_all old facts taken d.own d.takes
 
   -- the other's complete epoch is at most the new one
   epochs : b.complete ≤ taken.book.complete
@@ -82,7 +79,7 @@ module _ (old taken : State) (b : BookData) (facts : List Fact) (d : HasBook old
   )
 
   -- an advance that is told waits on a side, or is a reader's point of the other
-  sides : (a : AdvanceData) → IsToldAdvance (draft_of old) facts a
+  sides : (a : AdvanceData) → IsToldAdvance old facts a
       → (Contains old.book.waits a ⊎ Contains b.waits a) ⊎ IsPointIn b.complete b.points a
   sides a h =
       ⊎_elim
@@ -93,7 +90,7 @@ module _ (old taken : State) (b : BookData) (facts : List Fact) (d : HasBook old
       ((d.advance a).0 x))
       h
 
-  told_wait : (a : AdvanceData) → Contains old.book.waits a ⊎ Contains b.waits a → IsToldAdvance (draft_of old) facts a
+  told_wait : (a : AdvanceData) → Contains old.book.waits a ⊎ Contains b.waits a → IsToldAdvance old facts a
   told_wait a h =
       ⊎_elim (λ (x : Contains old.book.waits a). inl x) (λ (x : Contains b.waits a). inr ((d.advance a).1 (inl x))) h
 
@@ -128,12 +125,12 @@ module _ (old taken : State) (b : BookData) (facts : List Fact) (d : HasBook old
       → IsGreatest (JoinedPoint taken.book.complete old.book.points old.book.waits b.points b.waits reader)
       (point_of taken.book.points reader)
   point_joined reader r =
-      let g : IsGreatest (ToldPoint taken.book.complete (draft_of old) facts reader) (point_of taken.book.points reader) = all.points reader r in (
+      let g : IsGreatest (ToldPoint taken.book.complete old facts reader) (point_of taken.book.points reader) = all.points reader r in (
         ⊎_elim
             (λ (z : point_of taken.book.points reader ≡ 0). inl z)
-            (λ (h : ToldPoint taken.book.complete (draft_of old) facts reader (point_of taken.book.points reader)). inr (⊎_elim
+            (λ (h : ToldPoint taken.book.complete old facts reader (point_of taken.book.points reader)). inr (⊎_elim
             (λ (e : point_of taken.book.points reader ≡ point_of old.book.points reader). inl e)
-            (λ (a : (a : AdvanceData) × IsToldAdvance (draft_of old) facts a × (a.epoch ≤ taken.book.complete) × (a.reader ≡ reader)
+            (λ (a : (a : AdvanceData) × IsToldAdvance old facts a × (a.epoch ≤ taken.book.complete) × (a.reader ≡ reader)
             × (a.point ≡ point_of taken.book.points reader)).
             inr (⊎_elim
             (λ (x : Contains old.book.waits a.0 ⊎ Contains b.waits a.0). inr (a.0, x, a.2, a.3, a.4))
@@ -176,12 +173,12 @@ module _ (old other taken : State) (facts : List Fact) (d : IsTold old other tak
     takes = d.takes;
   }
 
-  told_all : LeavesAll (draft_of old) facts taken
+  told_all : LeavesAll old facts taken
   told_all = all old taken other.book facts of_told
 
   -- the other's base point is at most the least point of what took the facts and holds the rest
-  pub base_fits_draft : (draft : State) → HoldsRest taken other draft → other.base ≤ min_of draft
-  base_fits_draft draft holds =
+  pub base_fits_joined : (joined : State) → HoldsRest taken other joined → other.base ≤ min_of joined
+  base_fits_joined joined holds =
       let low : least other.book.points ≤ min_of taken = least_fits old taken other.book facts of_told in
       let base : other.base ≤ least other.book.points = d.shown.base in
       subst (λ k. other.base ≤ least k.points) (sym holds.book) (omega (arith, low, base))
@@ -192,9 +189,11 @@ pub shown_image : (s : State) → IsSegment s → (i : StoredImage) → Contains
     → (version_of s.store i.page ≡ i.version) × (image_of s.store i.page ≡ i.bytes)
 shown_image s form i h = (stored_images s.store form.store.rising).0 i h
 
-module _ (old other taken draft new : State) (facts : List Fact) (images : List StoredImage) (u : IsUnion old other taken draft facts images new) where
+module _ (old other taken joined new : State) (facts : List Fact) (images : List StoredImage) (u : IsUnion old other taken joined facts images new) where
   merges : Merges old.store other.store.floor images new.store
-  merges = u.unites.store
+  merges =
+      subst (λ store. Merges store other.store.floor images new.store)
+      (u.holds.rest.store ∙ (told_all old other taken facts u.first).store) u.unites.store
 
   -- an image of the other that a page of a lower version lacks is taken in
   image_up : (i : StoredImage) → Contains other.store.images i → i.version ≤ version_of new.store i.page
@@ -262,7 +261,7 @@ module _ (old other taken draft new : State) (facts : List Fact) (images : List 
         omega (arith, e, y),
       )
 
-  held_is : (r : RecordData) → Contains draft.held r ↔ Contains new.held r
+  held_is : (r : RecordData) → Contains joined.held r ↔ Contains new.held r
   held_is r = (λ h. subst (λ hs. Contains hs r) (sym u.unites.held) h, λ h. subst (λ hs. Contains hs r) u.unites.held h)
 
   -- what is held after the facts comes from a side
@@ -300,8 +299,8 @@ module _ (old other taken draft new : State) (facts : List Fact) (images : List 
       (λ (x : Contains told.kept r × (IsDead taken.book.cuts taken.book.complete r.epoch r.number → ⊥)).
       let kept : IsKeptBy other told.anchor r = (told.kept_are.members r).0 x.0 in
       inr (kept.0, λ dead. x.1 (still_dead r dead), inl (told.anchor, told.anchor_is, kept)))
-      (brings_told (draft_of old) other.book told.kept taken (draft_late old (late_of old u.first.own))
-      (subst (λ fs. TakesEach (draft_of old) fs taken) told.facts_are u.first.takes) r h)
+      (brings_told old other.book told.kept taken (late_of old u.first.own)
+      (subst (λ fs. TakesEach old fs taken) told.facts_are u.first.takes) r h)
 
   brought_in : (r : RecordData) → Contains new.held r → Contains old.held r ⊎ IsBroughtIn other new r
   brought_in r h =
@@ -318,7 +317,7 @@ module _ (old other taken draft new : State) (facts : List Fact) (images : List 
       → Contains new.held r ⊎ (IsInImage new r ⊎ HoldsOther old r)
   others_joined r h mat =
       ⊎_elim
-      (λ (y : Contains draft.held r). inl ((held_is r).0 y))
+      (λ (y : Contains joined.held r). inl ((held_is r).0 y))
       (λ (spared : IsSpared taken other r). ⊎_elim
       (λ (o : HoldsOther taken r). inr (inr (held_before r h o)))
       (λ rest. ⊎_elim

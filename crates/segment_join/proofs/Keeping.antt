@@ -5,7 +5,6 @@ use Rattle.std.proofs.lemmas.List.{get_or-map, length-map}
 use Rattle.redo_core.specs.Data.{RecordData}
 use Rattle.redo_core.specs.Standing.{IsAlive, IsDead, IsWaiting}
 use Rattle.redo_core.specs.Order.{IsRising, RecordBefore}
-use Rattle.redo_core.proofs.Rising.{rising_members}
 use Rattle.hot_log.specs.Held.{HasKey, IsRecordAt}
 use Rattle.epoch_book.specs.declared.standing.Standing.{Standing}
 use Rattle.epoch_book.specs.declared.standing.Standing.TheVariants.{Alive, Dead, Waiting}
@@ -13,6 +12,7 @@ use Rattle.segment_state.specs.State.{State}
 use Rattle.segment_state.specs.HasMeaning.{IsKeptBy}
 use Rattle.segment_core.specs.Keys.{key_of}
 use Rattle.segment_core.specs.Standing.{StandsAt}
+use Rattle.segment_core.proofs.Keys.{one_of_key}
 use Rattle.segment_join.specs.Keeping.{IsKeptAt}
 use Rattle.segment_join.specs.Covering.{HasRecord}
 
@@ -50,20 +50,6 @@ found_is_kept s anchor epoch number (Some r) some stands = (
   ),
   some.1,
 )
-
--- of rising records there is one of a key
-pub one_of_key : (held : List RecordData) (r x : RecordData) → IsRising RecordBefore held → Contains held r → Contains held x → r.epoch ≡ x.epoch → r.number ≡ x.number → r ≡ x
-one_of_key held r x rising hr hx e n =
-    ⊎_elim
-    (λ (u : r ≡ x). u)
-    (λ (u : RecordBefore r x ⊎ RecordBefore x r).
-    absurd (⊎_elim
-    (λ (v : RecordBefore r x). apart r x e n v)
-    (λ (v : RecordBefore x r). apart x r (sym e) (sym n) v) u))
-    (rising_members RecordBefore held r x rising hr hx)
-  where
-    apart : (a b : RecordData) → a.epoch ≡ b.epoch → a.number ≡ b.number → RecordBefore a b → ⊥
-    apart a b e n before = ⊎_elim (λ (u : a.epoch < b.epoch). omega (arith, e, u)) (λ (u : (a.epoch ≡ b.epoch) × (a.number < b.number)). omega (arith, n, u.1)) before
 
 -- the kept record at a key of the list is the one that stands there
 pub at_key : (s : State) (anchor : ℕ) (key : ℕ × ℕ) (r x : RecordData) → IsRising RecordBefore s.held → Contains s.held x → key_of x ≡ key

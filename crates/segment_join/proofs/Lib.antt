@@ -9,7 +9,6 @@ pub mod Telling
 pub mod TakingAll
 pub mod ToldFacts
 pub mod JoinedStates
-pub mod OtherImages
 pub mod JoinInLog
 pub mod Showing
 pub mod Visiting

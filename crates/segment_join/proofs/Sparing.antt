@@ -1,4 +1,4 @@
--- What a draft holds after a loop over the other state's held records, and which images a loop has picked.
+-- What a state holds after a loop over the other state's held records, and which images a loop has picked.
 use Rattle.std.proofs.Common.{◌≡◌, ◌↔◌, ℕ, ◌+◌, ◌<◌, ◌≤◌, ◌⊎◌, inl, inr, ⊎_elim, List, [], ◌∷◌, ◌++◌, length, get_or, take, Some, None, Result, Ok, Err, OnOk, refl, sym, ap, subst, ◌∙◌}
 use Rattle.std.specs.List.{Contains}
 use Rattle.std.proofs.lemmas.List.{take_more, take_all}
@@ -13,8 +13,8 @@ use Rattle.segment_core.specs.Uniting.{Holds}
 use Rattle.segment_core.specs.Refusing.{HoldsOther}
 use Rattle.segment_core.specs.Keys.{key_of}
 use Rattle.segment_join.specs.Holding.{InOtherImage, IsNeedless, IsSpared, HoldsRest}
-use Rattle.segment_join.specs.Drafting.{HoldsAt}
-use Rattle.segment_join.proofs.Keeping.{one_of_key}
+use Rattle.segment_join.specs.Knowing.{HoldsAt}
+use Rattle.segment_core.proofs.Keys.{one_of_key}
 
 pub ok_as : {X E : Type 0} (result : Result X E) (P Q : Type 0) → (P → Q) → OnOk result P → OnOk result Q
 ok_as (Ok x) P Q to p = to p
@@ -69,15 +69,15 @@ holds_copy s other key redo t rising at needed holds = record {
 }
 
 -- ---- the keys of the held records up to a place
-pub record HoldsFirst (i : ℕ) (draft other new : State) : Type 0 where
-  pub book : new.book ≡ draft.book
-  pub rest : SameBase draft new
-  pub before : (r : RecordData) → Contains draft.held r → Contains new.held r
-  pub more : (r : RecordData) → Contains new.held r → Contains draft.held r ⊎ (Contains other.held r × (IsNeedless draft other r → ⊥))
-  pub each : (r : RecordData) → Contains (take i other.held) r → Contains new.held r ⊎ IsSpared draft other r
+pub record HoldsFirst (i : ℕ) (old other new : State) : Type 0 where
+  pub book : new.book ≡ old.book
+  pub rest : SameBase old new
+  pub before : (r : RecordData) → Contains old.held r → Contains new.held r
+  pub more : (r : RecordData) → Contains new.held r → Contains old.held r ⊎ (Contains other.held r × (IsNeedless old other r → ⊥))
+  pub each : (r : RecordData) → Contains (take i other.held) r → Contains new.held r ⊎ IsSpared old other r
 
-pub first_none : (draft other : State) → HoldsFirst 0 draft other draft
-first_none draft other = record {
+pub first_none : (old other : State) → HoldsFirst 0 old other old
+first_none old other = record {
   book = refl;
   rest = record { base = refl; store = refl };
   before = λ r h. h;
@@ -93,45 +93,45 @@ needless_by s t other r same h =
     (λ (x : InOtherImage s other r). inr (subst (λ b. r.epoch ≤ b.complete) (sym same) x.0, x.1, x.2))
     h
 
--- another one under its key is not of the other state's held records, so the draft held it
-spared_before : (draft other mid : State) (r : RecordData) → IsRising RecordBefore other.held → Contains other.held r
-    → ((x : RecordData) → Contains mid.held x → Contains draft.held x ⊎ (Contains other.held x × (IsNeedless draft other x → ⊥))) → mid.book ≡ draft.book
-    → IsSpared mid other r → IsSpared draft other r
-spared_before draft other mid r rising has more same spared =
+-- another one under its key is not of the other state's held records, so the old state held it
+spared_before : (old other mid : State) (r : RecordData) → IsRising RecordBefore other.held → Contains other.held r
+    → ((x : RecordData) → Contains mid.held x → Contains old.held x ⊎ (Contains other.held x × (IsNeedless old other x → ⊥))) → mid.book ≡ old.book
+    → IsSpared mid other r → IsSpared old other r
+spared_before old other mid r rising has more same spared =
     ⊎_elim
     (λ (h : HoldsOther mid r). ⊎_elim
-    (λ (x : Contains draft.held h.0). inl (h.0, x, h.2, h.3, h.4))
-    (λ (x : Contains other.held h.0 × (IsNeedless draft other h.0 → ⊥)). absurd (h.4 (one_of_key other.held h.0 r rising x.0 has h.2 h.3)))
+    (λ (x : Contains old.held h.0). inl (h.0, x, h.2, h.3, h.4))
+    (λ (x : Contains other.held h.0 × (IsNeedless old other h.0 → ⊥)). absurd (h.4 (one_of_key other.held h.0 r rising x.0 has h.2 h.3)))
     (more h.0 h.1))
-    (λ (h : IsNeedless mid other r). inr (needless_by mid draft other r (sym same) h))
+    (λ (h : IsNeedless mid other r). inr (needless_by mid old other r (sym same) h))
     spared
 
-pub first_next : (i : ℕ) (draft other mid new : State) (key : ℕ × ℕ) (x : RecordData) → IsRising RecordBefore other.held
+pub first_next : (i : ℕ) (old other mid new : State) (key : ℕ × ℕ) (x : RecordData) → IsRising RecordBefore other.held
     → i < length other.held → x ≡ get_or other.held i x → key_of x ≡ key → Contains other.held x
-    → HoldsFirst i draft other mid → HoldsAt mid other key new → HoldsFirst (i + 1) draft other new
-first_next i draft other mid new key x rising lt is at has first holds = record {
+    → HoldsFirst i old other mid → HoldsAt mid other key new → HoldsFirst (i + 1) old other new
+first_next i old other mid new key x rising lt is at has first holds = record {
   book = holds.book ∙ first.book;
   rest = record { base = holds.rest.base ∙ first.rest.base; store = holds.rest.store ∙ first.rest.store };
   before = λ r h. holds.before r (first.before r h);
   more = λ r h. ⊎_elim
       (λ (y : Contains mid.held r). first.more r y)
-      (λ (y : Contains other.held r × (IsNeedless mid other r → ⊥)). inr (y.0, λ no. y.1 (needless_by draft mid other r first.book no)))
+      (λ (y : Contains other.held r × (IsNeedless mid other r → ⊥)). inr (y.0, λ no. y.1 (needless_by old mid other r first.book no)))
       (holds.more r h);
   each = λ r h.
       ⊎_elim
-      (λ (y : Contains (take i other.held) r). ⊎_elim (λ (z : Contains mid.held r). inl (holds.before r z)) (λ (z : IsSpared draft other r). inr z) (first.each r y))
+      (λ (y : Contains (take i other.held) r). ⊎_elim (λ (z : Contains mid.held r). inl (holds.before r z)) (λ (z : IsSpared old other r). inr z) (first.each r y))
       (λ (y : r ≡ x).
       let there : Contains other.held r = subst (Contains other.held) (sym y) has in
       let of_key : HasKey key.0 key.1 r = (ap (λ (z : RecordData). z.epoch) y ∙ ap (λ (z : ℕ × ℕ). z.0) at, ap (λ (z : RecordData). z.number) y ∙ ap (λ (z : ℕ × ℕ). z.1) at) in
       ⊎_elim
       (λ (z : Contains new.held r). inl z)
-      (λ (z : IsSpared mid other r). inr (spared_before draft other mid r rising there first.more first.book z))
+      (λ (z : IsSpared mid other r). inr (spared_before old other mid r rising there first.more first.book z))
       (holds.each r there of_key))
       (last_or other.held i x r lt is h);
 }
 
-pub first_all : (i : ℕ) (draft other new : State) → length other.held ≤ i → HoldsFirst i draft other new → HoldsRest draft other new
-first_all i draft other new end first = record {
+pub first_all : (i : ℕ) (old other new : State) → length other.held ≤ i → HoldsFirst i old other new → HoldsRest old other new
+first_all i old other new end first = record {
   book = first.book;
   rest = first.rest;
   before = first.before;

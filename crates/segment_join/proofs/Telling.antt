@@ -1,4 +1,4 @@
--- What a segment tells, and what of a draft that takes it.
+-- What a segment tells, and what of a state that takes it.
 use Rattle.std.proofs.Common.{ℕ, List, refl}
 use Rattle.redo_core.specs.Data.{RecordData}
 use Rattle.redo_core.specs.Order.{Lists, RecordBefore}
@@ -7,7 +7,7 @@ use Rattle.segment_state.specs.HasMeaning.{HasAnchor, IsKeptBy}
 use Rattle.segment_core.specs.declared.answers.Refusal.{Refusal}
 use Rattle.segment_join.specs.Told.{AreTold, facts_told}
 use Rattle.segment_join.specs.InOrder.{TakesEach, RefusesOne}
-use Rattle.segment_join.specs.Drafting.{TakesAll, RefusesAll}
+use Rattle.segment_join.specs.Knowing.{TakesAll, RefusesAll}
 
 module _ (other : State) (anchor : ℕ) (kept : List RecordData) (above : HasAnchor other anchor) (lists : Lists RecordBefore (IsKeptBy other anchor) kept) where
   told : AreTold other (facts_told other.book kept)

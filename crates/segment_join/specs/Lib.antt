@@ -6,5 +6,5 @@ pub mod Joining
 pub mod Sameness
 pub mod Holding
 pub mod Newer
-pub mod Drafting
+pub mod Knowing
 pub mod Laws

@@ -1,25 +1,37 @@
 ghost use Rattle.std.specs.Prelude.{◌↔◌, IfOk, OnOk, IsTrue};
+ghost use Rattle.segment_core.specs.Savepoint.{RollsBackAs};
 ghost use Rattle.segment_join.specs.Holding.{IsNeedless, HoldsRest};
-ghost use Rattle.segment_join.specs.Drafting.{HoldsAt};
+ghost use Rattle.segment_join.specs.Knowing.{HoldsAt};
 ghost use Rattle.segment_join.specs.Newer.{AreNewer};
 
 use redo_core::Record;
-use segment_core::{BaseImage, Segment, Standing};
+use segment_core::{BaseImage, Savepoint, Segment, Standing};
 use std::alloc::AllocError;
 
-/// Holds in a draft what another segment holds, but for what is dead in the draft's view or folded in the other segment.
-pub(crate) fn hold_rest(draft: &mut Segment, other: &Segment) -> Result<(), AllocError>
-    ensures { OnOk result (HoldsRest draft.old other.now draft.new) }
+/// Holds in a segment what another one holds, but for what is dead in the segment's view or folded in the other.
+pub(crate) fn hold_rest(
+    segment: &mut Segment,
+    saved: &mut Savepoint,
+    other: &Segment,
+) -> Result<(), AllocError>
+    ensures holds { OnOk result (HoldsRest segment.old other.now segment.new) }
+    ensures rolls_back { RollsBackAs saved.old segment.old saved.new segment.new }
 {
     for key in &other.stored()? {
-        hold_at(draft, other, *key)?;
+        hold_at(segment, saved, other, *key)?;
     }
     Ok(())
 }
 
 /// Holds the other segment's record of a key.
-fn hold_at(draft: &mut Segment, other: &Segment, key: (u16, u64)) -> Result<(), AllocError>
-    ensures { OnOk result (HoldsAt draft.old other.now key draft.new) }
+fn hold_at(
+    segment: &mut Segment,
+    saved: &mut Savepoint,
+    other: &Segment,
+    key: (u16, u64),
+) -> Result<(), AllocError>
+    ensures holds { OnOk result (HoldsAt segment.old other.now key segment.new) }
+    ensures rolls_back { RollsBackAs saved.old segment.old saved.new segment.new }
 {
     let (epoch, number) = key;
     // It opens the segment's form: at most one record stands under a key.
@@ -27,21 +39,21 @@ fn hold_at(draft: &mut Segment, other: &Segment, key: (u16, u64)) -> Result<(), 
     match other.get(epoch, number) {
         None => Ok(()),
         Some(redo) => {
-            if is_needless(draft, other, redo) {
+            if is_needless(segment, other, redo) {
                 Ok(())
             } else {
-                draft.hold(redo.copy()?)
+                segment.hold_noted(saved, redo.copy()?)
             }
         }
     }
 }
 
-/// Whether a draft needs no copy of a record: it is dead in the draft's view, or folded in another segment and not waiting in the
-/// draft's view.
-fn is_needless(draft: &Segment, other: &Segment, redo: &Record) -> bool
-    ensures { IsTrue result ↔ IsNeedless draft.now other.now redo.now }
+/// Whether a segment needs no copy of a record: it is dead in the segment's view, or folded in another one and not waiting in the
+/// segment's view.
+fn is_needless(segment: &Segment, other: &Segment, redo: &Record) -> bool
+    ensures { IsTrue result ↔ IsNeedless segment.now other.now redo.now }
 {
-    match draft.stands(redo.epoch(), redo.number()) {
+    match segment.stands(redo.epoch(), redo.number()) {
         Standing::Dead => true,
         Standing::Waiting => false,
         Standing::Alive => {

@@ -1,15 +1,15 @@
-ghost use Rattle.std.specs.Prelude.{◌≡◌, ◌⊎◌, OnOk, OnErr, IfOk, IfErr};
+ghost use Rattle.std.specs.Prelude.{◌≡◌, ◌⊎◌, OnOk, OnErr, IfErr};
 ghost use Rattle.redo_core.specs.Book.{roster_of};
 ghost use Rattle.segment_core.specs.Form.{IsSegment};
-ghost use Rattle.segment_core.specs.Uniting.{draft_of};
+ghost use Rattle.segment_core.specs.Savepoint.{RollsBackAs};
 ghost use Rattle.segment_core.specs.declared.answers.Refusal.TheVariants.{Memory as MemoryOf};
 ghost use Rattle.segment_join.specs.Joining.{MeansUnion, AreOfOneLog, JoinsInto, TakesTold, RefusesJoin};
-ghost use Rattle.segment_join.specs.Drafting.{TakesAll, RefusesAll, IsJoined};
+ghost use Rattle.segment_join.specs.Knowing.{TakesAll, RefusesAll, IsJoined};
 
 use crate::holding::{hold_rest, newer_images};
 use crate::kept::kept_of;
-use crate::told::draft_told;
-use segment_core::{Refusal, Segment};
+use crate::told::take_told;
+use segment_core::{Refusal, Savepoint, Segment};
 
 /// Brings what another segment means into a segment, whatever each has folded and thrown away.
 ///
@@ -29,13 +29,15 @@ pub fn join(segment: &mut Segment, other: &Segment) -> Result<(), Refusal>
     if own != shown {
         return Err(Refusal::OtherRoster { own, shown });
     }
-    let draft = joined_draft(segment, other)?;
-    let Ok(images) = newer_images(segment, other) else {
+    let Ok(mut saved) = segment.savepoint() else {
         return Err(Refusal::Memory);
     };
-    match segment.take_union(draft, other.base_point(), other.floor(), images) {
+    match bring_in(segment, &mut saved, other) {
         Ok(()) => Ok(()),
-        Err(_) => Err(Refusal::Memory),
+        Err(why) => {
+            segment.roll_back(saved);
+            Err(why)
+        }
     }
 }
 
@@ -47,22 +49,52 @@ fn readers(segment: &Segment) -> u8
     segment.points().len() as u8
 }
 
-/// A draft of a segment that knows and holds what another one does.
-fn joined_draft(segment: &Segment, other: &Segment) -> Result<Segment, Refusal>
-    ensures joined { IfOk result (IsJoined segment.now other.now) }
-    ensures refused { IfErr result (λ e. (e ≡ MemoryOf) ⊎ RefusesAll (draft_of segment.now) other.now e) }
+/// Takes what another segment of the same roster tells, holds the rest of what it holds, and takes its newer images.
+fn bring_in(segment: &mut Segment, saved: &mut Savepoint, other: &Segment) -> Result<(), Refusal>
+    requires { roster_of segment.old.book ≡ roster_of other.now.book }
+    ensures joins { OnOk result (JoinsInto segment.old other.now segment.new) }
+    ensures takes { OnOk result (TakesTold segment.old other.now) }
+    ensures refused { IfErr result (λ e. (e ≡ MemoryOf) ⊎ RefusesAll segment.old other.now e) }
+    ensures rolls_back { OnErr result (RollsBackAs saved.old segment.old saved.new segment.new) }
 {
-    let mut draft = draft_taking(segment, other)?;
-    match hold_rest(&mut draft, other) {
-        Ok(()) => Ok(draft),
+    // It is called for what it ensures: the segment has its form.
+    let _own = segment.base_point();
+    let Ok(images) = newer_images(segment, other) else {
+        return Err(Refusal::Memory);
+    };
+    if let Err(why) = know_and_hold(segment, saved, other) {
+        return Err(why);
+    }
+    match segment.unite(other.base_point(), other.floor(), images) {
+        Ok(()) => Ok(()),
         Err(_) => Err(Refusal::Memory),
     }
 }
 
-/// A draft of a segment that has taken each fact that another one tells.
-fn draft_taking(segment: &Segment, other: &Segment) -> Result<Segment, Refusal>
-    ensures takes { IfOk result (TakesAll (draft_of segment.now) other.now) }
-    ensures refused { IfErr result (λ e. (e ≡ MemoryOf) ⊎ RefusesAll (draft_of segment.now) other.now e) }
+/// Takes what another segment tells, and holds the rest of what it holds.
+fn know_and_hold(
+    segment: &mut Segment,
+    saved: &mut Savepoint,
+    other: &Segment,
+) -> Result<(), Refusal>
+    ensures joined { OnOk result (IsJoined segment.old other.now segment.new) }
+    ensures refused { IfErr result (λ e. (e ≡ MemoryOf) ⊎ RefusesAll segment.old other.now e) }
+    ensures rolls_back { RollsBackAs saved.old segment.old saved.new segment.new }
+{
+    if let Err(why) = take_all(segment, saved, other) {
+        return Err(why);
+    }
+    match hold_rest(segment, saved, other) {
+        Ok(()) => Ok(()),
+        Err(_) => Err(Refusal::Memory),
+    }
+}
+
+/// Takes each fact that another segment tells.
+fn take_all(segment: &mut Segment, saved: &mut Savepoint, other: &Segment) -> Result<(), Refusal>
+    ensures takes { OnOk result (TakesAll segment.old other.now segment.new) }
+    ensures refused { IfErr result (λ e. (e ≡ MemoryOf) ⊎ RefusesAll segment.old other.now e) }
+    ensures rolls_back { RollsBackAs saved.old segment.old saved.new segment.new }
 {
     let Ok(kept) = kept_of(other) else {
         return Err(Refusal::Memory);
@@ -70,8 +102,9 @@ fn draft_taking(segment: &Segment, other: &Segment) -> Result<Segment, Refusal>
     // It is called for what it ensures: the kept records are those above the anchor.
     let _anchor = other.anchor();
     let complete = other.front().epoch;
-    draft_told(
+    take_told(
         segment,
+        saved,
         other.cuts(),
         complete,
         other.points(),

@@ -1,49 +1,47 @@
-ghost use Rattle.std.specs.Prelude.{◌≡◌, ℕ, ◌≤◌, ◌⊎◌, [], ◌∷◌, length, map, OnOk, IfOk, IfErr};
+ghost use Rattle.std.specs.Prelude.{◌≡◌, ◌≤◌, ◌⊎◌, [], ◌∷◌, length, map, OnOk, IfErr};
 ghost use Rattle.std.specs.List.{All};
 ghost use Rattle.redo_core.specs.Shape.{max_readers, max_number};
 ghost use Rattle.redo_core.specs.Book.{book_of};
 ghost use Rattle.redo_core.specs.Roster.{IsReader};
 ghost use Rattle.redo_core.specs.declared.facts.Fact.TheVariants.{Record as OfRecord, Cut as OfCut, Advance as OfAdvance};
-ghost use Rattle.segment_core.specs.Uniting.{draft_of};
+ghost use Rattle.segment_core.specs.Savepoint.{RollsBackAs};
 ghost use Rattle.segment_core.specs.declared.answers.Refusal.TheVariants.{Memory as MemoryOf};
 ghost use Rattle.segment_join.specs.Told.{point_facts, book_facts, facts_told};
 ghost use Rattle.segment_join.specs.InOrder.{TakesOne, TakesEach, RefusesOne};
 
 use redo_core::{Advance, Cut, Fact, Record};
-use segment_core::{Refusal, Segment};
+use segment_core::{Refusal, Savepoint, Segment};
 
-/// A draft of a segment that has taken what is told: truncations, each reader's point as an advance in the complete epoch, waiting
-/// advances, and records, in that order. The points are one for each reader.
+/// Takes what is told into a segment: truncations, each reader's point as an advance in the complete epoch, waiting advances, and
+/// records, in that order. The points are at most 15, by reader.
 ///
-/// Errors: as of the first of these facts that `take` refuses; `Memory`.
-pub fn draft_told(
-    segment: &Segment,
+/// Errors: as of the first of these facts that `take` refuses; `Memory`. The segment is then to be rolled back: it can be to where it
+/// could be before.
+pub fn take_told(
+    segment: &mut Segment,
+    saved: &mut Savepoint,
     cuts: &[Cut],
     complete: u16,
     points: &[u64],
     waits: &[Advance],
     records: &[&Record],
-) -> Result<Segment, Refusal>
+) -> Result<(), Refusal>
     requires roster { length points.now ≤ max_readers }
     requires shaped { All (λ p. p ≤ max_number) points.now }
-    ensures takes { IfOk result (TakesEach (draft_of segment.now) (facts_told (book_of cuts.now complete points.now waits.now) (map (λ r. r.now) records.now))) }
-    ensures refused { IfErr result (λ e. (e ≡ MemoryOf) ⊎ RefusesOne (draft_of segment.now) (facts_told (book_of cuts.now complete points.now waits.now) (map (λ r. r.now) records.now)) e) }
+    ensures takes { OnOk result (TakesEach segment.old (facts_told (book_of cuts.now complete points.now waits.now) (map (λ r. r.now) records.now)) segment.new) }
+    ensures refused { IfErr result (λ e. (e ≡ MemoryOf) ⊎ RefusesOne segment.old (facts_told (book_of cuts.now complete points.now waits.now) (map (λ r. r.now) records.now)) e) }
+    ensures rolls_back { RollsBackAs saved.old segment.old saved.new segment.new }
 {
-    let Ok(mut draft) = segment.draft() else {
-        return Err(Refusal::Memory);
-    };
-    if let Err(why) = take_book(&mut draft, cuts, complete, points, waits) {
+    if let Err(why) = take_book(segment, saved, cuts, complete, points, waits) {
         return Err(why);
     }
-    match take_records(&mut draft, records) {
-        Ok(()) => Ok(draft),
-        Err(why) => Err(why),
-    }
+    take_records(segment, saved, records)
 }
 
 /// Takes what a book tells: truncations, each reader's point as an advance in the complete epoch, waiting advances.
 fn take_book(
-    draft: &mut Segment,
+    segment: &mut Segment,
+    saved: &mut Savepoint,
     cuts: &[Cut],
     complete: u16,
     points: &[u64],
@@ -51,37 +49,40 @@ fn take_book(
 ) -> Result<(), Refusal>
     requires roster { length points.now ≤ max_readers }
     requires shaped { All (λ p. p ≤ max_number) points.now }
-    ensures takes { OnOk result (TakesEach draft.old (book_facts (book_of cuts.now complete points.now waits.now)) draft.new) }
-    ensures refused { IfErr result (λ e. (e ≡ MemoryOf) ⊎ RefusesOne draft.old (book_facts (book_of cuts.now complete points.now waits.now)) e) }
+    ensures takes { OnOk result (TakesEach segment.old (book_facts (book_of cuts.now complete points.now waits.now)) segment.new) }
+    ensures refused { IfErr result (λ e. (e ≡ MemoryOf) ⊎ RefusesOne segment.old (book_facts (book_of cuts.now complete points.now waits.now)) e) }
+    ensures rolls_back { RollsBackAs saved.old segment.old saved.new segment.new }
 {
-    if let Err(why) = take_cuts(draft, cuts) {
+    if let Err(why) = take_cuts(segment, saved, cuts) {
         return Err(why);
     }
-    if let Err(why) = take_points(draft, complete, points) {
+    if let Err(why) = take_points(segment, saved, complete, points) {
         return Err(why);
     }
-    take_waits(draft, waits)
+    take_waits(segment, saved, waits)
 }
 
 /// Takes one fact, whether or not it tells anything new.
-fn take_one(draft: &mut Segment, fact: Fact) -> Result<(), Refusal>
-    ensures takes { OnOk result (TakesOne draft.old fact draft.new) }
-    ensures refused { IfErr result (λ e. (e ≡ MemoryOf) ⊎ RefusesOne draft.old (fact ∷ []) e) }
+fn take_one(segment: &mut Segment, saved: &mut Savepoint, fact: Fact) -> Result<(), Refusal>
+    ensures takes { OnOk result (TakesOne segment.old fact segment.new) }
+    ensures refused { IfErr result (λ e. (e ≡ MemoryOf) ⊎ RefusesOne segment.old (fact ∷ []) e) }
+    ensures rolls_back { RollsBackAs saved.old segment.old saved.new segment.new }
 {
     // It opens the segment's form: there is a complete epoch.
-    let _base = draft.base_point();
-    match draft.take(fact) {
+    let _base = segment.base_point();
+    match segment.take_noted(saved, fact) {
         Ok(_) => Ok(()),
-        Err(refused) => Err(refused.fault),
+        Err(why) => Err(why),
     }
 }
 
-fn take_cuts(draft: &mut Segment, cuts: &[Cut]) -> Result<(), Refusal>
-    ensures takes { OnOk result (TakesEach draft.old (map OfCut cuts.now) draft.new) }
-    ensures refused { IfErr result (λ e. (e ≡ MemoryOf) ⊎ RefusesOne draft.old (map OfCut cuts.now) e) }
+fn take_cuts(segment: &mut Segment, saved: &mut Savepoint, cuts: &[Cut]) -> Result<(), Refusal>
+    ensures takes { OnOk result (TakesEach segment.old (map OfCut cuts.now) segment.new) }
+    ensures refused { IfErr result (λ e. (e ≡ MemoryOf) ⊎ RefusesOne segment.old (map OfCut cuts.now) e) }
+    ensures rolls_back { RollsBackAs saved.old segment.old saved.new segment.new }
 {
     for cut in cuts {
-        if let Err(why) = take_one(draft, Fact::Cut(*cut)) {
+        if let Err(why) = take_one(segment, saved, Fact::Cut(*cut)) {
             return Err(why);
         }
     }
@@ -89,14 +90,20 @@ fn take_cuts(draft: &mut Segment, cuts: &[Cut]) -> Result<(), Refusal>
 }
 
 /// Takes each reader's point as an advance in an epoch.
-fn take_points(draft: &mut Segment, epoch: u16, points: &[u64]) -> Result<(), Refusal>
+fn take_points(
+    segment: &mut Segment,
+    saved: &mut Savepoint,
+    epoch: u16,
+    points: &[u64],
+) -> Result<(), Refusal>
     requires roster { length points.now ≤ max_readers }
     requires shaped { All (λ p. p ≤ max_number) points.now }
-    ensures takes { OnOk result (TakesEach draft.old (point_facts epoch 1 points.now) draft.new) }
-    ensures refused { IfErr result (λ e. (e ≡ MemoryOf) ⊎ RefusesOne draft.old (point_facts epoch 1 points.now) e) }
+    ensures takes { OnOk result (TakesEach segment.old (point_facts epoch 1 points.now) segment.new) }
+    ensures refused { IfErr result (λ e. (e ≡ MemoryOf) ⊎ RefusesOne segment.old (point_facts epoch 1 points.now) e) }
+    ensures rolls_back { RollsBackAs saved.old segment.old saved.new segment.new }
 {
     for (place, point) in points.iter().enumerate() {
-        if let Err(why) = take_point(draft, place as u8 + 1, epoch, *point) {
+        if let Err(why) = take_point(segment, saved, place as u8 + 1, epoch, *point) {
             return Err(why);
         }
     }
@@ -104,39 +111,56 @@ fn take_points(draft: &mut Segment, epoch: u16, points: &[u64]) -> Result<(), Re
 }
 
 /// Takes a reader's point as an advance in an epoch; a point of 0 makes none.
-fn take_point(draft: &mut Segment, reader: u8, epoch: u16, point: u64) -> Result<(), Refusal>
+fn take_point(
+    segment: &mut Segment,
+    saved: &mut Savepoint,
+    reader: u8,
+    epoch: u16,
+    point: u64,
+) -> Result<(), Refusal>
     requires reader { IsReader max_readers reader }
     requires shaped { point ≤ max_number }
-    ensures takes { OnOk result (TakesEach draft.old (point_facts epoch reader (point ∷ [])) draft.new) }
-    ensures refused { IfErr result (λ e. (e ≡ MemoryOf) ⊎ RefusesOne draft.old (point_facts epoch reader (point ∷ [])) e) }
+    ensures takes { OnOk result (TakesEach segment.old (point_facts epoch reader (point ∷ [])) segment.new) }
+    ensures refused { IfErr result (λ e. (e ≡ MemoryOf) ⊎ RefusesOne segment.old (point_facts epoch reader (point ∷ [])) e) }
+    ensures rolls_back { RollsBackAs saved.old segment.old saved.new segment.new }
 {
     match Advance::of_reader(reader, epoch, point) {
-        Ok(advance) => take_one(draft, Fact::Advance(advance)),
+        Ok(advance) => take_one(segment, saved, Fact::Advance(advance)),
         Err(_) => Ok(()),
     }
 }
 
-fn take_waits(draft: &mut Segment, waits: &[Advance]) -> Result<(), Refusal>
-    ensures takes { OnOk result (TakesEach draft.old (map OfAdvance waits.now) draft.new) }
-    ensures refused { IfErr result (λ e. (e ≡ MemoryOf) ⊎ RefusesOne draft.old (map OfAdvance waits.now) e) }
+fn take_waits(
+    segment: &mut Segment,
+    saved: &mut Savepoint,
+    waits: &[Advance],
+) -> Result<(), Refusal>
+    ensures takes { OnOk result (TakesEach segment.old (map OfAdvance waits.now) segment.new) }
+    ensures refused { IfErr result (λ e. (e ≡ MemoryOf) ⊎ RefusesOne segment.old (map OfAdvance waits.now) e) }
+    ensures rolls_back { RollsBackAs saved.old segment.old saved.new segment.new }
 {
     for wait in waits {
-        if let Err(why) = take_one(draft, Fact::Advance(*wait)) {
+        if let Err(why) = take_one(segment, saved, Fact::Advance(*wait)) {
             return Err(why);
         }
     }
     Ok(())
 }
 
-fn take_records(draft: &mut Segment, records: &[&Record]) -> Result<(), Refusal>
-    ensures takes { OnOk result (TakesEach draft.old (map (λ r. OfRecord r.now) records.now) draft.new) }
-    ensures refused { IfErr result (λ e. (e ≡ MemoryOf) ⊎ RefusesOne draft.old (map (λ r. OfRecord r.now) records.now) e) }
+fn take_records(
+    segment: &mut Segment,
+    saved: &mut Savepoint,
+    records: &[&Record],
+) -> Result<(), Refusal>
+    ensures takes { OnOk result (TakesEach segment.old (map (λ r. OfRecord r.now) records.now) segment.new) }
+    ensures refused { IfErr result (λ e. (e ≡ MemoryOf) ⊎ RefusesOne segment.old (map (λ r. OfRecord r.now) records.now) e) }
+    ensures rolls_back { RollsBackAs saved.old segment.old saved.new segment.new }
 {
     for redo in records {
         let Ok(copy) = redo.copy() else {
             return Err(Refusal::Memory);
         };
-        if let Err(why) = take_one(draft, Fact::Record(copy)) {
+        if let Err(why) = take_one(segment, saved, Fact::Record(copy)) {
             return Err(why);
         }
     }

@@ -11,12 +11,12 @@ use Rattle.segment_join.proofs.told.take_book.Goals as goal
 
 pub returns-in-Err-clause-refused : goal.returns-in-Err-clause-refused
 returns-in-Err-clause-refused c =
-    let s = c.args.draft.now in let why = c.in-Err.why in let cuts = map Cut c.args.cuts.now in
+    let s = c.args.segment.now in let why = c.in-Err.why in let cuts = map Cut c.args.cuts.now in
     memory_or why (RefusesOne s cuts why) _ (λ h. refuses_sooner s cuts _ why h) c.in-Err.ensures.refused
 
 pub returns-in-Err-take_points-clause-refused : goal.returns-in-Err-take_points-clause-refused
 returns-in-Err-take_points-clause-refused c =
-    let s = c.args.draft.now in let t = c.take_cuts.new.draft in let why = c.in-Err-take_points.why in
+    let s = c.args.segment.now in let t = c.take_cuts.new.segment in let why = c.in-Err-take_points.why in
     let cuts = map Cut c.args.cuts.now in let points = point_facts c.args.complete 1 c.args.points.now in
     memory_or why (RefusesOne t points why) _
     (λ h. refuses_later s cuts t _ why c.in_default.ensures.takes (refuses_sooner t points _ why h))
@@ -24,7 +24,7 @@ returns-in-Err-take_points-clause-refused c =
 
 pub returns-clause-takes : goal.returns-clause-takes
 returns-clause-takes c =
-    let s = c.args.draft.now in let t = c.take_cuts.new.draft in let u = c.take_points.new.draft in let v = c.take_waits.new.draft in
+    let s = c.args.segment.now in let t = c.take_cuts.new.segment in let u = c.take_points.new.segment in let v = c.take_waits.new.segment in
     let cuts = map Cut c.args.cuts.now in let points = point_facts c.args.complete 1 c.args.points.now in let waits = map Advance c.args.waits.now in
     on_ok_weaker c.take_waits.result
     (λ (h : TakesEach u waits v). takes_append s cuts t _ v c.in_default.ensures.takes
@@ -33,7 +33,7 @@ returns-clause-takes c =
 
 pub returns-clause-refused : goal.returns-clause-refused
 returns-clause-refused c =
-    let s = c.args.draft.now in let t = c.take_cuts.new.draft in let u = c.take_points.new.draft in
+    let s = c.args.segment.now in let t = c.take_cuts.new.segment in let u = c.take_points.new.segment in
     let cuts = map Cut c.args.cuts.now in let points = point_facts c.args.complete 1 c.args.points.now in let waits = map Advance c.args.waits.now in
     let all = book_facts (book_of c.args.cuts.now c.args.complete c.args.points.now c.args.waits.now) in
     IfErr-weaker c.take_waits.result
@@ -42,3 +42,10 @@ returns-clause-refused c =
     memory_or e (RefusesOne u waits e) _
     (λ h. refuses_later s cuts t _ e c.in_default.ensures.takes (refuses_later t points u waits e c.in_default-take_points.ensures.takes h)))
     c.take_waits.ensures.refused
+
+pub returns-in-Err-take_points-clause-rolls_back : goal.returns-in-Err-take_points-clause-rolls_back
+returns-in-Err-take_points-clause-rolls_back c = λ old h. c.take_points.ensures.rolls_back old (c.take_cuts.ensures.rolls_back old h)
+
+pub returns-clause-rolls_back : goal.returns-clause-rolls_back
+returns-clause-rolls_back c = λ old h.
+    c.take_waits.ensures.rolls_back old (c.take_points.ensures.rolls_back old (c.take_cuts.ensures.rolls_back old h))

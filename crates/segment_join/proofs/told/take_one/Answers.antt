@@ -15,6 +15,6 @@ known_or_stored s fact t Unchanged known stores idle = inl (known.0 refl, idle r
 pub returns-in-Ok-clause-takes : goal.returns-in-Ok-clause-takes
 returns-in-Ok-clause-takes c =
     record {
-      free = λ why h. c.in-Ok.ensures.refuses why h;
-      takes = known_or_stored c.args.draft.now c.args.fact c.take.new.self c.in-Ok.field-0 c.in-Ok.ensures.known c.in-Ok.ensures.stores c.in-Ok.ensures.idle;
+      free = c.in-Ok.ensures.takes.free;
+      takes = known_or_stored c.args.segment.now c.args.fact c.take_noted.new.self c.in-Ok.field-0 c.in-Ok.ensures.takes.known c.in-Ok.ensures.takes.stores c.in-Ok.ensures.takes.idle;
     }

@@ -1,0 +1,32 @@
+use Rattle.std.proofs.Common.{refl, subst}
+use Rattle.hot_log.specs.Putting.{Puts, RefusesPut}
+use Rattle.hot_log.specs.declared.log.Put.TheVariants.{New}
+use Rattle.segment_state.specs.State.{State, state_of}
+use Rattle.segment_core.specs.Savepoint.{RollsBackAs}
+use Rattle.segment_core.specs.Uniting.{Holds}
+use Rattle.segment_core.proofs.Holding.{put_holds, refused_holds}
+use Rattle.segment_core.proofs.Savepoints.{more_rolls_back, notes_key_of}
+use Rattle.segment_core.proofs.segment.Segment.hold_noted.Goals as goal
+
+pub returns-in-Ok-New-clause-holds : goal.returns-in-Ok-New-clause-holds
+returns-in-Ok-New-clause-holds c =
+    let i = c.self.inside in
+    subst (λ (s : State). Holds s c.args.redo (state_of i.book c.put.new.hot i.base i.store)) c.self.view_is
+    (put_holds i.book i.hot c.put.new.hot i.base i.store c.args.redo c.in-Ok-New.field-0 c.in-Ok-New.ensures.put)
+
+pub returns-in-Ok-New-clause-rolls_back : goal.returns-in-Ok-New-clause-rolls_back
+returns-in-Ok-New-clause-rolls_back c =
+    let i = c.self.inside in
+    let put : Puts i.hot c.args.redo c.put.new.hot New =
+    subst (λ p. Puts i.hot c.args.redo c.put.new.hot p) c.in-Ok-New.field-0-is c.in-Ok-New.ensures.put in
+    subst (λ (s : State). RollsBackAs c.args.saved.now s c.note.new.self (state_of i.book c.put.new.hot i.base i.store)) c.self.view_is
+    (more_rolls_back c.args.saved.now c.note.new.self (state_of i.book i.hot i.base i.store) (state_of i.book c.put.new.hot i.base i.store) c.args.redo
+    (notes_key_of c.args.saved.now c.note.new.self c.args.redo c.epoch.result c.number.result c.epoch.ensures c.number.ensures.value c.in_default.ensures.notes)
+    (record { base = refl; store = refl }) put.0 put.1)
+
+pub returns-in-OtherRecord-clause-holds : goal.returns-in-OtherRecord-clause-holds
+returns-in-OtherRecord-clause-holds c =
+    let i = c.self.inside in
+    subst (λ (s : State). Holds s c.args.redo (state_of i.book c.put.new.hot i.base i.store)) c.self.view_is
+    (refused_holds i.book i.hot c.put.new.hot i.base i.store c.args.redo
+    (subst (RefusesPut i.hot c.args.redo) c.in-OtherRecord.is c.in-Err-put.ensures.refused.1) c.in-Err-put.ensures.unchanged)

@@ -1,0 +1,46 @@
+use Rattle.std.proofs.Common.{◌≡◌, ◌⊎◌, List, map, Bor, subst}
+use Rattle.std.proofs.lemmas.Result.{on_ok_weaker, IfErr-weaker}
+use Rattle.redo_core.specs.Data.{RecordData}
+use Rattle.redo_core.specs.Book.{BookData, book_of}
+use Rattle.segment_state.specs.State.{State}
+use Rattle.segment_core.specs.declared.answers.Refusal.{Refusal}
+use Rattle.segment_core.specs.declared.answers.Refusal.TheVariants.{Memory}
+use Rattle.segment_join.specs.Told.{facts_told}
+use Rattle.segment_join.specs.InOrder.{TakesEach, RefusesOne}
+use Rattle.segment_join.specs.Knowing.{TakesAll, RefusesAll}
+use Rattle.segment_join.proofs.Ordered.{memory_or}
+use Rattle.segment_join.proofs.Telling.{takes_all, refuses_all}
+use Rattle.segment_join.proofs.TellingAll.{same_book}
+use Rattle.segment_join.proofs.joining.take_all.Goals as goal
+
+pub returns-clause-takes : goal.returns-clause-takes
+returns-clause-takes c =
+    let s = c.args.segment.now in let other = c.args.other.now in let anchor = c.anchor-anchor.result in let above = c.anchor-anchor.ensures.own in
+    let kept : List RecordData = map (λ r. r.now) c.in-Ok.kept.items in
+    let given = book_of c.cuts.result.now c.front-complete.result.epoch c.points.result.now c.waits.result.now in
+    let is : given ≡ other.book = same_book other.book c.cuts.result.now c.front-complete.result.epoch c.points.result.now c.waits.result.now
+    c.cuts.ensures.value c.front-complete.ensures.own.epoch c.points.ensures.own c.waits.ensures.value in
+    let t = c.take_told.new.segment in
+    on_ok_weaker c.take_told.result
+    (λ (h : TakesEach s (facts_told given (map (λ r. r.now) c.deref.result.now)) t).
+    takes_all other anchor kept above (c.in-Ok.ensures anchor above) s t
+    (subst (λ (b : BookData). TakesEach s (facts_told b kept) t) is
+    (subst (λ (rs : List (Bor RecordData)). TakesEach s (facts_told given (map (λ r. r.now) rs)) t) c.deref.ensures.value h)))
+    c.take_told.ensures.takes
+
+pub returns-clause-refused : goal.returns-clause-refused
+returns-clause-refused c =
+    let s = c.args.segment.now in let other = c.args.other.now in let anchor = c.anchor-anchor.result in let above = c.anchor-anchor.ensures.own in
+    let kept : List RecordData = map (λ r. r.now) c.in-Ok.kept.items in
+    let given = book_of c.cuts.result.now c.front-complete.result.epoch c.points.result.now c.waits.result.now in
+    let is : given ≡ other.book = same_book other.book c.cuts.result.now c.front-complete.result.epoch c.points.result.now c.waits.result.now
+    c.cuts.ensures.value c.front-complete.ensures.own.epoch c.points.ensures.own c.waits.ensures.value in
+    IfErr-weaker c.take_told.result
+    (λ e. (e ≡ Memory) ⊎ RefusesOne s (facts_told given (map (λ r. r.now) c.deref.result.now)) e) (λ e. (e ≡ Memory) ⊎ RefusesAll s other e)
+    (λ (e : Refusal).
+    memory_or e (RefusesOne s (facts_told given (map (λ r. r.now) c.deref.result.now)) e) _
+    (λ h.
+    refuses_all other anchor kept above (c.in-Ok.ensures anchor above) s e
+    (subst (λ (b : BookData). RefusesOne s (facts_told b kept) e) is
+    (subst (λ (rs : List (Bor RecordData)). RefusesOne s (facts_told given (map (λ r. r.now) rs)) e) c.deref.ensures.value h))))
+    c.take_told.ensures.refused

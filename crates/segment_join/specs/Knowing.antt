@@ -1,0 +1,35 @@
+-- How one segment comes to know and hold what another one tells.
+use Rattle.std.specs.Prelude.{◌≡◌, ℕ, ◌⊎◌, List}
+use Rattle.std.specs.List.{Contains}
+use Rattle.redo_core.specs.Data.{RecordData}
+use Rattle.redo_core.specs.declared.facts.Fact.{Fact}
+use Rattle.hot_log.specs.Held.{HasKey}
+use Rattle.segment_state.specs.State.{State, SameBase}
+use Rattle.segment_core.specs.declared.answers.Refusal.{Refusal}
+use Rattle.segment_join.specs.Told.{AreTold}
+use Rattle.segment_join.specs.InOrder.{TakesEach, RefusesOne}
+use Rattle.segment_join.specs.Holding.{IsNeedless, IsSpared, HoldsRest}
+
+-- each fact that the other tells is taken, in order
+pub record TakesAll (old other new : State) : Type 0 where
+  pub facts : List Fact
+  pub told : AreTold other facts
+  pub takes : TakesEach old facts new
+
+-- one of the facts that the other tells is refused
+abbrev pub RefusesAll : State → State → Refusal → Type 0
+RefusesAll old other why = (facts : List Fact) × AreTold other facts × RefusesOne old facts why
+
+-- the other's held record of the key is held, unless it is spared; none that is needless is
+pub record HoldsAt (old other : State) (key : ℕ × ℕ) (new : State) : Type 0 where
+  pub book : new.book ≡ old.book
+  pub rest : SameBase old new
+  pub before : (r : RecordData) → Contains old.held r → Contains new.held r
+  pub more : (r : RecordData) → Contains new.held r → Contains old.held r ⊎ (Contains other.held r × (IsNeedless old other r → ⊥))
+  pub each : (r : RecordData) → Contains other.held r → HasKey key.0 key.1 r → Contains new.held r ⊎ IsSpared old other r
+
+-- the segment has taken what the other tells, and holds the rest of what it holds
+pub record IsJoined (own other new : State) : Type 0 where
+  pub taken : State
+  pub takes : TakesAll own other taken
+  pub holds : HoldsRest taken other new
