@@ -27,13 +27,19 @@ import make_log
 
 PROGRAM = pathlib.Path(__file__).resolve().parent.parent / "crates/fleet/out/fleet"
 SIZES = [10_000, 100_000, 1_000_000]
-CALLS = 2_000  # calls of which the cost of one is taken
+CALLS = 50_000  # calls of which the cost of one is taken
+MOST = 1_000_000  # the fact lines, and the step lines, that a script may have
 READ_PAGE_RECORDS = 10
 
 
 def room_of(size):
     """How many facts a script of a size has that asks for more than takes: a script has at most a million steps."""
     return size * 4 // 5
+
+
+def held_of(size):
+    """How many records are held beside those that the calls go to, which want four steps each, and a last step."""
+    return min(size, MOST - 4 * CALLS - 1)
 
 
 def pages_of(size):
@@ -147,17 +153,17 @@ def held(size):
     """Records of other pages, all held, and the writer behind them."""
     writer = make_log.Writer()
     pages = pages_of(SIZES[0])
-    facts = [writer.record(1 + turn % pages) for turn in range(size)]
+    facts = [writer.record(1 + turn % pages) for turn in range(held_of(size))]
     return writer, facts
 
 
 def rounds(size, calls):
     """Records of page 0 after the held ones, each with an advance to it; what follows each of them is given."""
     writer, facts = held(size)
-    steps = takes(range(1, size + 1))
-    for turn in range(CALLS):
+    steps = takes(range(1, len(facts) + 1))
+    for _ in range(CALLS):
         facts += [writer.record(0), f"min 0 {writer.number}"]
-        steps += [*takes([size + 2 * turn + 1, size + 2 * turn + 2]), *calls]
+        steps += [*takes([len(facts) - 1, len(facts)]), *calls]
     return [*facts, "go", "nodes 1", *steps, "front 1"]
 
 

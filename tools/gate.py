@@ -10,6 +10,7 @@ import sys
 
 import documents
 import fleet_script
+import gate_time
 import outside
 
 BY_RATTLE = outside.PROGRAM.with_name("fleet.by-rattle")
@@ -18,11 +19,15 @@ BY_RATTLE = outside.PROGRAM.with_name("fleet.by-rattle")
 def proved():
     """Runs `rt ci`, passes its lines on, and answers whether all is well and what its last line counts, where it does."""
     last = b""
+    times = gate_time.GateTime()
+    times.start()
     with subprocess.Popen(["rt", "ci"], cwd=outside.ROOT, stdout=subprocess.PIPE) as gate:
         for line in gate.stdout:
             sys.stdout.buffer.write(line)
             sys.stdout.flush()
             last = line
+    times.stop()
+    print(*times.lines(), sep="\n", flush=True)
     count = re.fullmatch(rb"([0-9]+) passed, ([0-9]+) failed\n", last)
     return gate.returncode == 0 and count is not None, count and (int(count[1]), int(count[2]))
 

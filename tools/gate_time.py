@@ -1,0 +1,88 @@
+"""Where the gate's processor time goes: for each crate its proofs, its tests and its edits, in seconds.
+
+The processes below this one are looked at twice a second, so a process that lives less than that may be missed.
+"""
+
+import os
+import pathlib
+import re
+import threading
+
+TICK = os.sysconf("SC_CLK_TCK")
+KINDS = ("proofs", "tests", "edits")
+
+
+def stat_of(process):
+    """Its parent, when it began, and the processor seconds that it took, from the system's line on a process."""
+    line = pathlib.Path("/proc", process, "stat").read_text()
+    fields = line[line.rindex(")") + 2 :].split()
+    return fields[1], fields[19], (int(fields[11]) + int(fields[12])) / TICK
+
+
+def work_of(process):
+    """The crate that the prover is at, and for what; none where the process is no prover."""
+    words = pathlib.Path("/proc", process, "cmdline").read_text().split("\0")
+    if "--crate-name" not in words:
+        return None
+    if "rt-edit" in os.readlink(f"/proc/{process}/cwd"):
+        kind = "edits"
+    else:
+        kind = "tests" if "--test" in words else "proofs"
+    return words[words.index("--crate-name") + 1], kind
+
+
+class GateTime(threading.Thread):
+    """Looks at the processes below this one until it is stopped."""
+
+    def __init__(self):
+        super().__init__(daemon=True)
+        self.ended = threading.Event()
+        self.seconds = {}
+
+    def run(self):
+        while not self.ended.wait(0.5):
+            try:
+                self.look()
+            except (OSError, ValueError, IndexError):
+                pass
+
+    def look(self):
+        stats = {}
+        for process in filter(re.compile("[0-9]+").fullmatch, os.listdir("/proc")):
+            try:
+                stats[process] = stat_of(process)
+            except (OSError, ValueError, IndexError):
+                continue
+        for process, (_, began, seconds) in stats.items():
+            if not self.is_below(process, stats):
+                continue
+            try:
+                work = self.seconds.get((process, began), (None, 0))[0] or work_of(process)
+            except (OSError, ValueError, IndexError):
+                continue
+            if work:
+                self.seconds[process, began] = work, seconds
+
+    def is_below(self, process, stats):
+        """Whether a process is below this one; a line of parents has an end."""
+        own = str(os.getpid())
+        for _ in range(64):
+            if process not in stats:
+                return False
+            process = stats[process][0]
+            if process == own:
+                return True
+        return False
+
+    def lines(self):
+        """A line a crate, the dearest first."""
+        totals = {}
+        for (crate, kind), seconds in list(self.seconds.values()):
+            totals.setdefault(crate, dict.fromkeys(KINDS, 0.0))[kind] += seconds
+        yield "processor seconds: " + ", ".join(KINDS)
+        for crate, by_kind in sorted(totals.items(), key=lambda it: -sum(it[1].values())):
+            yield f"  {crate}: " + ", ".join(f"{by_kind[kind]:.0f}" for kind in KINDS)
+
+    def stop(self):
+        self.ended.set()
+        self.join(timeout=5)
