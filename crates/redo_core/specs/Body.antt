@@ -6,5 +6,5 @@ use Rattle.redo_core.specs.declared.patches.Body.{Body}
 use Rattle.redo_core.specs.declared.patches.Body.TheVariants.{Writes, Patches}
 
 abbrev pub patches_of : Body → List Patch
-patches_of (Writes ws) = plain ws.items
-patches_of (Patches ps) = ps.items
+patches_of (Writes ws) = plain ws.now
+patches_of (Patches ps) = ps.now

@@ -66,7 +66,7 @@ fn record_is_its_parts(one: &Record, other: &Record) -> bool
         && one.page() == other.page()
         && one.block_back() == other.block_back()
         && one.init() == other.init()
-        && one.body().is_same(other.body())
+        && one.body().is_same(&other.body())
 }
 
 fn shape_has_one_fault(

@@ -1,17 +1,25 @@
-//! The patches of a record where they are kept: for one record alone, or shared by its copies.
+//! The patches of a record where they are kept: one short patch in the record itself, and a list for one record alone or shared by
+//! its copies.
 
 ghost use Rattle.std.specs.Prelude.{◌≡◌, IfOk, IfErr};
 ghost use Rattle.redo_core.specs.Body.{patches_of};
+ghost use Rattle.redo_core.specs.Data.{plain};
 
-use crate::patches::Body;
+use crate::patches::{Body, Patch};
+use crate::writes::Write;
 use std::alloc::{AllocError, AllocFailed};
 use std::marker::Model;
+use std::slice;
 use std::sync::Arc;
 
 #[derive(Debug, Drop)]
 enum Holder {
-    Own(Body),
-    Shared(Arc<Body>),
+    // Most records have one patch of a few bytes: it wants no memory of its own, and a fold finds it where it finds the record.
+    Short(Patch),
+    Writes(Vec<Write>),
+    Patches(Vec<Patch>),
+    SharedWrites(Arc<Vec<Write>>),
+    SharedPatches(Arc<Vec<Patch>>),
 }
 
 /// The patches of one record, or of a record and its copies.
@@ -38,20 +46,45 @@ impl Model for KeptBody {
 }
 
 impl KeptBody {
-    pub fn of_one(body: Body) -> Self
-        ensures { result ≡ patches_of body }
+    pub fn of_writes(mut writes: Vec<Write>) -> Self
+        ensures { result ≡ plain writes.items }
     {
+        if writes.len() == 1 && writes[0].is_short() {
+            if let Some(only) = writes.pop() {
+                return KeptBody {
+                    holder: Holder::Short(Patch::Bytes(only)),
+                };
+            }
+        }
         KeptBody {
-            holder: Holder::Own(body),
+            holder: Holder::Writes(writes),
         }
     }
 
-    pub fn body(&self) -> &Body
-        ensures { patches_of result.now ≡ self.now }
+    pub fn of_patches(mut patches: Vec<Patch>) -> Self
+        ensures { result ≡ patches.items }
+    {
+        if patches.len() == 1 && patches[0].is_short() {
+            if let Some(only) = patches.pop() {
+                return KeptBody {
+                    holder: Holder::Short(only),
+                };
+            }
+        }
+        KeptBody {
+            holder: Holder::Patches(patches),
+        }
+    }
+
+    pub fn body(&self) -> Body<'_>
+        ensures { patches_of result ≡ self.now }
     {
         match &self.holder {
-            Holder::Own(body) => body,
-            Holder::Shared(body) => &**body,
+            Holder::Short(patch) => Body::Patches(slice::from_ref(patch)),
+            Holder::Writes(writes) => Body::Writes(writes),
+            Holder::Patches(patches) => Body::Patches(patches),
+            Holder::SharedWrites(writes) => Body::Writes(&**writes),
+            Holder::SharedPatches(patches) => Body::Patches(&**patches),
         }
     }
 
@@ -62,17 +95,9 @@ impl KeptBody {
     {
         let KeptBody { holder } = self;
         match holder {
-            Holder::Own(body) => match Arc::new(body.allocator(), body) {
-                Ok(body) => Ok(KeptBody {
-                    holder: Holder::Shared(body),
-                }),
-                Err(refused) => Err(AllocFailed {
-                    value: KeptBody::of_one(refused.value),
-                }),
-            },
-            Holder::Shared(body) => Ok(KeptBody {
-                holder: Holder::Shared(body),
-            }),
+            Holder::Writes(writes) => share_writes(writes),
+            Holder::Patches(patches) => share_patches(patches),
+            holder => Ok(KeptBody { holder }),
         }
     }
 
@@ -81,9 +106,44 @@ impl KeptBody {
         ensures { IfOk result (λ k. k ≡ self.now) }
     {
         let holder = match &self.holder {
-            Holder::Own(body) => Holder::Own(body.copy()?),
-            Holder::Shared(body) => Holder::Shared(Arc::try_clone(body)?),
+            Holder::Short(patch) => Holder::Short(patch.copy()?),
+            Holder::Writes(writes) => Holder::Writes(writes.clone()?),
+            Holder::Patches(patches) => Holder::Patches(patches.clone()?),
+            Holder::SharedWrites(writes) => Holder::SharedWrites(Arc::try_clone(writes)?),
+            Holder::SharedPatches(patches) => Holder::SharedPatches(Arc::try_clone(patches)?),
         };
         Ok(KeptBody { holder })
+    }
+}
+
+fn share_writes(writes: Vec<Write>) -> Result<KeptBody, AllocFailed<KeptBody>>
+    ensures ok { IfOk result (λ k. k ≡ plain writes.items) }
+    ensures err { IfErr result (λ e. e.value ≡ plain writes.items) }
+{
+    match Arc::new(*writes.allocator(), writes) {
+        Ok(shared) => Ok(KeptBody {
+            holder: Holder::SharedWrites(shared),
+        }),
+        Err(refused) => Err(AllocFailed {
+            value: KeptBody {
+                holder: Holder::Writes(refused.value),
+            },
+        }),
+    }
+}
+
+fn share_patches(patches: Vec<Patch>) -> Result<KeptBody, AllocFailed<KeptBody>>
+    ensures ok { IfOk result (λ k. k ≡ patches.items) }
+    ensures err { IfErr result (λ e. e.value ≡ patches.items) }
+{
+    match Arc::new(*patches.allocator(), patches) {
+        Ok(shared) => Ok(KeptBody {
+            holder: Holder::SharedPatches(shared),
+        }),
+        Err(refused) => Err(AllocFailed {
+            value: KeptBody {
+                holder: Holder::Patches(refused.value),
+            },
+        }),
     }
 }

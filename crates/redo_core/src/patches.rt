@@ -5,7 +5,7 @@ ghost use Rattle.redo_core.specs.Shape.{is_empty_patch, is_patch_off_page, bytes
 
 use crate::shapes::PAGE_LEN;
 use crate::writes::Write;
-use std::alloc::{AllocError, Global};
+use std::alloc::AllocError;
 
 /// What a redo record does at one place of its page: a write of bytes, or one byte over a length.
 #[derive(Debug, Drop)]
@@ -14,11 +14,11 @@ pub enum Patch {
     Fill { offset: u16, len: u16, byte: u8 },
 }
 
-/// The patches of a redo record. Writes alone are kept as the list that they came in.
-#[derive(Debug, Drop)]
-pub enum Body {
-    Writes(Vec<Write>),
-    Patches(Vec<Patch>),
+/// The patches of a redo record, as they are lent: the list of writes that they came in, or the patches.
+#[derive(Clone, Copy, Debug)]
+pub enum Body<'a> {
+    Writes(&'a [Write]),
+    Patches(&'a [Patch]),
 }
 
 impl Patch {
@@ -70,6 +70,14 @@ impl Patch {
         }
     }
 
+    /// Whether a copy of it wants no memory.
+    pub(crate) fn is_short(&self) -> bool {
+        match self {
+            Patch::Bytes(w) => w.is_short(),
+            Patch::Fill { .. } => true,
+        }
+    }
+
     /// How many bytes it brings; a fill brings none.
     pub fn bytes_in(&self) -> usize
         ensures { result ≡ bytes_in self.now }
@@ -81,25 +89,7 @@ impl Patch {
     }
 }
 
-impl Body {
-    /// Where its memory comes from.
-    pub(crate) fn allocator(&self) -> Global {
-        match self {
-            Body::Writes(writes) => *writes.allocator(),
-            Body::Patches(patches) => *patches.allocator(),
-        }
-    }
-
-    /// An equal body with memory of its own. Its only error is want of memory.
-    pub fn copy(&self) -> Result<Self, AllocError>
-        ensures { IfOk result (λ b. patches_of b ≡ patches_of self.now) }
-    {
-        match self {
-            Body::Writes(writes) => Ok(Body::Writes(writes.clone()?)),
-            Body::Patches(patches) => Ok(Body::Patches(patches.clone()?)),
-        }
-    }
-
+impl<'a> Body<'a> {
     /// Whether the other body has the same patches, in the same order.
     pub fn is_same(&self, other: &Body) -> bool
         ensures { IsTrue result ↔ (patches_of self.now ≡ patches_of other.now) }

@@ -67,7 +67,7 @@ impl Record {
                 page,
                 block_back,
                 init: false,
-                body: KeptBody::of_one(Body::Writes(writes)),
+                body: KeptBody::of_writes(writes),
             }),
         }
     }
@@ -99,7 +99,7 @@ impl Record {
                 page,
                 block_back,
                 init,
-                body: KeptBody::of_one(Body::Patches(patches)),
+                body: KeptBody::of_patches(patches),
             }),
         }
     }
@@ -162,8 +162,8 @@ impl Record {
     }
 
     /// The patches, in the order in which they are done.
-    pub fn body(&self) -> &Body
-        ensures patches { patches_of result.now ≡ self.now.patches }
+    pub fn body(&self) -> Body<'_>
+        ensures patches { patches_of result ≡ self.now.patches }
         ensures shape { record_fault self.now ≡ None }
     {
         self.body.body()
@@ -221,7 +221,7 @@ impl Record {
             && self.page == other.page
             && self.block_back == other.block_back
             && self.init == other.init
-            && self.body.body().is_same(other.body.body())
+            && self.body.body().is_same(&other.body.body())
     }
 }
 

@@ -227,6 +227,35 @@ fn records_of_two_forms_are_the_same_by_their_patches(rt: HostRuntime) -> Result
     Ok(())
 }
 
+// A record of one write of so many bytes, given as a write and as a patch.
+fn of_one_write(alloc: Global, len: usize) -> Result<(Record, Record), Fail> {
+    let mut list = Vec::new(alloc);
+    for w in writes(alloc, 1, 5, len)? {
+        list.push(Patch::Bytes(w))?;
+    }
+    let one = Record::new(2, 9, 5, 7, 3, writes(alloc, 1, 5, len)?)?;
+    Ok((one, Record::with(2, 9, 5, 7, 3, false, list)?))
+}
+
+#[test]
+fn records_of_one_patch_are_the_same_however_they_are_kept(rt: HostRuntime) -> Result<(), Fail> {
+    let alloc = rt.alloc();
+    // Sixteen bytes stand in the record, and seventeen do not.
+    for len in [1, 16, 17, 4090] {
+        let (one, two) = of_one_write(alloc, len)?;
+        assert!(rt; one.is_same(&two) && two.is_same(&one), "{len}");
+        let shared = one.share()?;
+        let copied = shared.copy()?;
+        drop(shared);
+        assert!(rt;
+            copied.is_same(&two) && two.copy()?.is_same(&copied),
+            "{len}"
+        );
+        assert!(rt; !copied.is_same(&of_one_write(alloc, len + 1)?.0), "{len}");
+    }
+    Ok(())
+}
+
 #[test]
 fn a_copy_of_a_shared_record_outlives_it(rt: HostRuntime) -> Result<(), Fail> {
     let alloc = rt.alloc();

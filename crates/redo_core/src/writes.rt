@@ -4,12 +4,15 @@ use smallvec::SmallVec;
 use std::alloc::AllocError;
 use std::marker::Model;
 
+/// How many bytes stand in the write itself.
+const SHORT: usize = 16;
+
 /// Bytes that a redo record puts into its page, from an offset on.
 #[derive(Debug, Drop)]
 pub struct Write {
     offset: u16,
     // Most writes are short, and stand in the write itself, with no memory of their own.
-    bytes: SmallVec<u8, 16>,
+    bytes: SmallVec<u8, SHORT>,
 }
 
 impl Model for Write {
@@ -42,6 +45,11 @@ impl Write {
         ensures { result.now ≡ self.now.bytes }
     {
         self.bytes.as_slice()
+    }
+
+    /// Whether a copy of it wants no memory.
+    pub(crate) fn is_short(&self) -> bool {
+        self.bytes.len() <= SHORT
     }
 
     /// An equal write with memory of its own. Its only error is want of memory.

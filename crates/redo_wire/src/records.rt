@@ -117,7 +117,7 @@ pub fn read_record(alloc: Global, bytes: &[u8]) -> Result<(Record, &[u8]), WireE
 fn is_full_record(redo: &Record) -> bool
     ensures { result ≡ is_full redo.now }
 {
-    redo.init() || body_has_fill(redo.body())
+    redo.init() || body_has_fill(&redo.body())
 }
 
 fn put_head(out: &mut BytesMut, redo: &Record) -> Result<(), AllocError>
@@ -137,8 +137,8 @@ fn put_body(out: &mut BytesMut, is_full: bool, redo: &Record) -> Result<(), Allo
 {
     let body = redo.body();
     put_within(out, is_full, if redo.init() { 1 } else { 0 })?;
-    out.put_u8(patch_count(body) as u8)?;
-    put_patches(out, is_full, body)?;
+    out.put_u8(patch_count(&body) as u8)?;
+    put_patches(out, is_full, &body)?;
     Ok(())
 }
 

@@ -105,7 +105,7 @@ fn record_text(alloc: Global, redo: &Record) -> Result<String, AllocError>
     let back = redo.back();
     let page = redo.page();
     let block_back = redo.block_back();
-    let texts = texts(alloc, redo.init(), redo.body())?;
+    let texts = texts(alloc, redo.init(), &redo.body())?;
     let contents = between_commas(alloc, &texts)?;
     format!(in alloc; "rec {epoch} {number} {back} {page} {block_back} {contents}")
 }

@@ -8,7 +8,6 @@ pub returns-in-Writes-Writes : goal.returns-in-Writes-Writes
 returns-in-Writes-Writes c =
     let one = ap patches_of c.in-Writes-Writes.is-0 in
     let two = ap patches_of c.in-Writes-Writes.is-1 in (
-      λ t. one ∙ ap plain (sym c.deref.ensures.value ∙ c.are_same_writes.ensures.0 t ∙ c.deref-in-Writes-Writes.ensures.value) ∙ sym two,
-      λ e. c.are_same_writes.ensures.1 (c.deref.ensures.value ∙ plain_injective c.in-Writes-Writes.one.items c.in-Writes-Writes.two.items (sym one ∙ e ∙ two)
-          ∙ sym c.deref-in-Writes-Writes.ensures.value),
+      λ t. one ∙ ap plain (c.are_same_writes.ensures.0 t) ∙ sym two,
+      λ e. c.are_same_writes.ensures.1 (plain_injective c.in-Writes-Writes.one.now c.in-Writes-Writes.two.now (sym one ∙ e ∙ two)),
     )

@@ -10,12 +10,12 @@ returns-in-Some-clause-fault c = (
 )
 
 pub returns-in-None-clause-ok : goal.returns-in-None-clause-ok
-returns-in-None-clause-ok c = rw c.of_one.ensures (
+returns-in-None-clause-ok c = rw c.of_patches.ensures (
   refl,
   sym (c.in-None.ensures c.args.epoch c.args.page c.args.init c.args.patches.items
       (ap patches_fault (sym c.deref.ensures.value) ∙ sym c.patches_fault.ensures)),
 )
 
 pub invariant_of-result : goal.invariant_of-result
-invariant_of-result c = rw c.of_one.ensures (sym (c.in-None.ensures c.args.epoch c.args.page c.args.init c.args.patches.items
+invariant_of-result c = rw c.of_patches.ensures (sym (c.in-None.ensures c.args.epoch c.args.page c.args.init c.args.patches.items
     (ap patches_fault (sym c.deref.ensures.value) ∙ sym c.patches_fault.ensures)))
