@@ -17,3 +17,4 @@ pub mod Kept
 pub mod Straight
 pub mod Ends
 pub mod Growth
+pub mod Descending

@@ -1,5 +1,5 @@
 -- The records of a page, one after the other, and what removals leave.
-use Rattle.std.proofs.Common.{◌≡◌, ℕ, ◌<◌, ◌≤◌, ◌↔◌, ⊎_elim, List, [], sym, ◌∙◌, ap, subst, arith, Some}
+use Rattle.std.proofs.Common.{◌≡◌, ℕ, ◌<◌, ◌≤◌, ◌↔◌, ⊎_elim, List, [], sym, ◌∙◌, ap, subst, arith, Some, Result, Ok, Err, IfOk}
 use Rattle.std.specs.List.{Contains}
 use Rattle.std.proofs.lemmas.Bool.{cases_lt}
 use Rattle.redo_core.specs.Data.{RecordData}
@@ -13,28 +13,35 @@ use Rattle.hot_log.specs.Found.{IsLeastRecord}
 use Rattle.hot_log.specs.Removing.{IsFolded, Removes}
 use Rattle.hot_log.proofs.Indexed.{one_key}
 
+-- what was answered, under another property
+pub if_ok : {T E : Type 0} (r : Result T E) (P Q : T → Type 0) → ((v : T) → P v → Q v) → IfOk r P → IfOk r Q
+if_ok (Ok v) P Q f h = f v h
+if_ok (Err e) P Q f h = tt
+
 -- the alive records between the keys that part them at two numbers are those between the numbers
+pub number_is : (b : BookData) (held : List RecordData) (page from to low high : ℕ) → PartsAt b from low → PartsAt b to high → (r : RecordData) → IsAliveBetween b held page (low, from) (high, to) r ↔ IsHeldOf b held page from to r
+number_is b held page from to low high above up r = (
+  λ h. (
+    h.0.0,
+    h.0.1,
+    h.0.2,
+    (above.0 r.epoch r.number h.0.1).1 h.1,
+    ⊎_elim
+        (λ (l : to < r.number). absurd (h.2 ((up.0 r.epoch r.number h.0.1).0 l)))
+        (λ (l : r.number ≤ to). l)
+        (cases_lt to r.number),
+  ),
+  λ h. (
+    (h.0, h.1, h.2),
+    (above.0 r.epoch r.number h.1).0 h.3,
+    λ p. let l : to < r.number = (up.0 r.epoch r.number h.1).1 p in let le : r.number ≤ to = h.4 in omega arith,
+  ),
+)
+
 pub by_number : (b : BookData) (held : List RecordData) (page from to low high : ℕ) (xs : List RecordData) → PartsAt b from low → PartsAt b to high → Lists BeforeByNumber (IsAliveBetween b held page (low, from) (high, to)) xs → Lists BeforeByNumber (IsHeldOf b held page from to) xs
 by_number b held page from to low high xs above up lists =
     lists_as BeforeByNumber (IsAliveBetween b held page (low, from) (high, to)) (IsHeldOf b held page from to) xs
-    (λ r. (
-      λ h. (
-        h.0.0,
-        h.0.1,
-        h.0.2,
-        (above.0 r.epoch r.number h.0.1).1 h.1,
-        ⊎_elim
-            (λ (l : to < r.number). absurd (h.2 ((up.0 r.epoch r.number h.0.1).0 l)))
-            (λ (l : r.number ≤ to). l)
-            (cases_lt to r.number),
-      ),
-      λ h. (
-        (h.0, h.1, h.2),
-        (above.0 r.epoch r.number h.1).0 h.3,
-        λ p. let l : to < r.number = (up.0 r.epoch r.number h.1).1 p in let le : r.number ≤ to = h.4 in omega arith,
-      ),
-    ))
-    lists
+    (number_is b held page from to low high above up) lists
 
 -- there are none where the keys, or the numbers, do not rise
 pub none_between : (b : BookData) (held : List RecordData) (page from to low high : ℕ) (xs : List RecordData) → PartsAt b from low → PartsAt b to high → (low ≤ high → from < to → ⊥) → xs ≡ [] → Lists BeforeByNumber (IsHeldOf b held page from to) xs

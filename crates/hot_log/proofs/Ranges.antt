@@ -188,7 +188,7 @@ joined (z ∷ xs) x r = (
 )
 
 -- within one page, a place below another is that of a record with a lower key
-same_page : (page : ℕ) (p q : Place) (r s : RecordData) → p ≡ place_of r → q ≡ place_of s → p.0 ≡ page → q.0 ≡ page → place_cmp p q ≡ Less → RecordBefore r s
+pub same_page : (page : ℕ) (p q : Place) (r s : RecordData) → p ≡ place_of r → q ≡ place_of s → p.0 ≡ page → q.0 ≡ page → place_cmp p q ≡ Less → RecordBefore r s
 same_page page p q r s at bt e f low =
     let below : PairBefore p.1.0 p.1.1 q.1.0 q.1.1 = ⊎_elim
     (λ (u : p.0 < q.0). absurd (omega arith))
@@ -239,23 +239,25 @@ alive_left b xs x ys lists dead =
     ))
     lists
 
+-- the alive of a range are the alive records between its keys
+pub between_is : (b : BookData) (m : Map) (page : ℕ) (above to : ℕ × ℕ) (es : List Entry) → IsPaged m → IsRange m page above to es → (r : RecordData) → AliveIn b es r ↔ IsAliveBetween b (seen m) page above to r
+between_is b m page above to es paged range r = (
+  λ h.
+      let t = entry_of es r h.0 in
+      let k = (range.members (t.0, r)).0 t.1 in
+      let at : t.0 ≡ place_of r = paged.placed (t.0, r) k.0 in
+      let P : Place → Type 0 = λ p. PairBefore above.0 above.1 p.1.0 p.1.1 in
+      let Q : Place → Type 0 = λ p. PairBefore to.0 to.1 p.1.0 p.1.1 → ⊥ in (
+        (seen_in m (t.0, r) k.0, h.1, sym (ap (λ (p : Place). p.0) at) ∙ k.1.page),
+        subst P at k.1.above,
+        subst Q at k.1.up_to,
+      ),
+  λ h.
+      let own = own_entry m paged r h.0.0 in
+      let there_in = (range.members (place_of r, r)).1 (own, record { page = h.0.2; above = h.1; up_to = h.2 }) in
+      (record_in es (place_of r, r) there_in, h.0.1),
+)
+
 pub alive_all : (b : BookData) (m : Map) (page : ℕ) (above to : ℕ × ℕ) (es : List Entry) (ys : List RecordData) → IsPaged m → IsRange m page above to es → ListsAlive b es ys → Lists BeforeByNumber (IsAliveBetween b (seen m) page above to) ys
 alive_all b m page above to es ys paged range lists =
-    lists_as BeforeByNumber (AliveIn b es) (IsAliveBetween b (seen m) page above to) ys
-    (λ r. (
-      λ h.
-          let t = entry_of es r h.0 in
-          let k = (range.members (t.0, r)).0 t.1 in
-          let at : t.0 ≡ place_of r = paged.placed (t.0, r) k.0 in
-          let P : Place → Type 0 = λ p. PairBefore above.0 above.1 p.1.0 p.1.1 in
-          let Q : Place → Type 0 = λ p. PairBefore to.0 to.1 p.1.0 p.1.1 → ⊥ in (
-            (seen_in m (t.0, r) k.0, h.1, sym (ap (λ (p : Place). p.0) at) ∙ k.1.page),
-            subst P at k.1.above,
-            subst Q at k.1.up_to,
-          ),
-      λ h.
-          let own = own_entry m paged r h.0.0 in
-          let there_in = (range.members (place_of r, r)).1 (own, record { page = h.0.2; above = h.1; up_to = h.2 }) in
-          (record_in es (place_of r, r) there_in, h.0.1),
-    ))
-    lists
+    lists_as BeforeByNumber (AliveIn b es) (IsAliveBetween b (seen m) page above to) ys (between_is b m page above to es paged range) lists

@@ -5,3 +5,4 @@ pub mod Found
 pub mod Removing
 pub mod Indexing
 pub mod Paged
+pub mod Anew

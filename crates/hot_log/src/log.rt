@@ -5,6 +5,7 @@ ghost use Rattle.redo_core.specs.Order.{Lists, BeforeByNumber, RecordBefore};
 ghost use Rattle.redo_core.specs.Standing.{IsDead};
 ghost use Rattle.hot_log.specs.Held.{IsHeld, IsRecordAt, IsKeyAfter, IsKeyTo, HasKey};
 ghost use Rattle.hot_log.specs.Alive.{IsHeldAlive, IsHeldOf, IsLinkedFrom, IsLinkedHeld, IsReached, IsStraight, IsStraightEnd};
+ghost use Rattle.hot_log.specs.Anew.{ListsAnew};
 ghost use Rattle.hot_log.specs.Found.{IsLeast, IsLeastRecord, IsGreatestRecord, IsOnlyRecord, IsPageAfter};
 ghost use Rattle.hot_log.specs.Indexing.{IsIndexBy, IsNextHeld, IsNextRecord, IsLastRecord};
 ghost use Rattle.hot_log.specs.Putting.{Puts, RefusesPut};
@@ -307,6 +308,26 @@ impl HotLog {
             return Ok(Vec::new(alloc));
         }
         self.records.alive_between(alloc, book, page, above, to)
+    }
+
+    /// The same from the last of them on that begins the page anew, where one does: what comes before that one does not show in the
+    /// page, and is not looked at. Its only error is want of memory.
+    pub fn records_anew(
+        &self,
+        alloc: Global,
+        book: &EpochBook,
+        page: u16,
+        from: u64,
+        to: u64,
+    ) -> Result<Vec<&Record>, AllocError>
+        ensures { IfOk result (λ v. ListsAnew (IsHeldOf book.now self.now page from to) (map (λ x. x.now) v.items)) }
+    {
+        let above = (epoch_above(book, from), from);
+        let to = (epoch_above(book, to), to);
+        if above.0 > to.0 || from >= to.1 {
+            return Ok(Vec::new(alloc));
+        }
+        self.records.alive_anew(alloc, book, page, above, to)
     }
 
     /// Removes the alive records of a page with numbers at most the version of its image and at most a point.

@@ -1,10 +1,11 @@
-ghost use Rattle.std.specs.Prelude.{◌≡◌, ◌⊎◌, ◌↔◌, [], None, length, map, IsTrue, IfOk, IfErr, OnOk, OnErr};
+ghost use Rattle.std.specs.Prelude.{◌≡◌, ◌⊎◌, ◌↔◌, [], None, length, map, reverse, IsTrue, IfOk, IfErr, OnOk, OnErr};
 ghost use Rattle.std.specs.Option.{option_copied};
 ghost use Rattle.std.specs.List.{Contains};
 ghost use Rattle.redo_core.specs.Data.{RecordData};
 ghost use Rattle.redo_core.specs.Order.{Lists, BeforeByNumber, PairBefore};
 ghost use Rattle.hot_log.specs.Held.{IsHeld, HasKey, IsRecordAt};
 ghost use Rattle.hot_log.specs.Alive.{IsAliveBetween};
+ghost use Rattle.hot_log.specs.Anew.{ListsAnew};
 ghost use Rattle.hot_log.specs.Found.{IsPageAfter};
 ghost use Rattle.hot_log.specs.Indexing.{IsRecordOf, IsNextRecord, IsLastRecord};
 ghost use Rattle.hot_log.specs.Removing.{Removes};
@@ -160,4 +161,37 @@ impl PagedRecords {
         }
         Ok(found)
     }
+
+    /// The same from the last of them on that begins the page anew, where one does. What comes before that one is not looked at.
+    pub fn alive_anew(
+        &self,
+        alloc: Global,
+        book: &EpochBook,
+        page: u16,
+        above: (u16, u64),
+        to: (u16, u64),
+    ) -> Result<Vec<&Record>, AllocError>
+        requires { PairBefore above.0 above.1 to.0 to.1 }
+        ensures { IfOk result (λ v. ListsAnew (IsAliveBetween book.now self.now page above to) (map (λ x. x.now) v.items)) }
+    {
+        let mut found = Vec::new(alloc);
+        let bounds = (Bound::Excluded((page, above)), Bound::Included((page, to)));
+        let mut left = self.map.range(bounds);
+        while let Some((_, redo)) = left.next_back() {
+            if is_alive(book, redo.epoch(), redo.number()) {
+                found.push(redo)?;
+                if redo.init() {
+                    return Ok(reversed(found));
+                }
+            }
+        }
+        Ok(reversed(found))
+    }
+}
+
+fn reversed(mut found: Vec<&Record>) -> Vec<&Record>
+    ensures { result.items ≡ reverse found.entry.items }
+{
+    found.reverse();
+    found
 }

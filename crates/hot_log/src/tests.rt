@@ -147,6 +147,39 @@ fn records_of_a_page(rt: HostRuntime) -> Result<(), Fail> {
     Ok(())
 }
 
+// Records of page 1 that write nothing: epoch, number, backlink, and whether the page begins anew.
+const ANEW: [(u16, u64, u64, bool); 5] = [
+    (0, 3, 0, true),
+    (0, 5, 3, false),
+    (0, 9, 5, true),
+    (1, 21, 5, true),
+    (1, 23, 21, false),
+];
+
+#[test]
+fn records_from_the_last_init_on(rt: HostRuntime) -> Result<(), Fail> {
+    let book = truncated_book(rt.alloc())?;
+    let mut log = HotLog::new(rt.alloc());
+    for (epoch, number, back, init) in ANEW {
+        let patches = Vec::new(rt.alloc());
+        let redo = Record::with(epoch, number, back, 1, 0, init, patches).ok();
+        log.put(redo.ok_or("shape")?).ok().ok_or("refused")?;
+    }
+    // Number 9 is dead: what it begins anew does not count.
+    for (from, to, listed) in [
+        (0, 100, [21, 23]),
+        (0, 20, [3, 5]),
+        (3, 20, [5, 0]),
+        (21, 100, [23, 0]),
+        (5, 20, [0, 0]),
+        (20, 5, [0, 0]),
+    ] {
+        let found = log.records_anew(rt.alloc(), &book, 1, from, to)?;
+        assert_eq!(rt; numbers(&found), listed, "{from} {to}");
+    }
+    Ok(())
+}
+
 // A truncation of epoch 1 from 5 to 20 makes the record 9 dead.
 const TRUNCATED: [Row; 4] = [(0, 3, 0, 1), (0, 5, 3, 1), (0, 9, 5, 1), (1, 21, 5, 1)];
 

@@ -7,7 +7,9 @@ use Rattle.redo_core.specs.Order.{Lists, BeforeByNumber}
 use Rattle.redo_core.proofs.Members.{none_in, here, there, which}
 use Rattle.segment_state.specs.State.{State, state_of, Store, version_of}
 use Rattle.segment_state.specs.Shows.{IsApplied}
-use Rattle.segment_core.specs.BlockChain.{IsLinkedUpTo, IsChained, BreaksAt}
+use Rattle.hot_log.specs.Anew.{ListsAnew}
+use Rattle.segment_core.specs.BlockChain.{IsLinkedOf, IsLinkedUpTo, IsChained, OnBlockChain, BreaksAt}
+use Rattle.segment_core.specs.BlockChain.OnBlockChain.{start, down}
 use Rattle.segment_core.specs.Points.{HasPoints}
 use Rattle.segment_core.specs.declared.points.Points.{Points}
 use Rattle.segment_core.proofs.BlockChain.{on_linked, from_base}
@@ -50,7 +52,7 @@ chained_more version xs below n r was same follows = record {
         was.last
 
 -- where each record up to the point is linked and those that are applied are chained, no chain is broken there
-pub none_breaks : (s : State) (page q n : ℕ) (xs : List RecordData) → Lists BeforeByNumber (IsApplied s page q) xs
+none_breaks : (s : State) (page q n : ℕ) (xs : List RecordData) → Lists BeforeByNumber (IsApplied s page q) xs
     → IsChained (version_of s.store page) xs → IsLinkedUpTo s q → ((r : RecordData) → Contains s.held r → r.block_back < r.number)
     → BreaksAt s page q n → ⊥
 none_breaks s page q n xs lists chained sure lower h =
@@ -62,6 +64,34 @@ none_breaks s page q n xs lists chained sure lower h =
     let t = chained at among h.breaks.follows above in
     let is = (lists.members t.0).0 t.1 in
     h.breaks.nowhere t.0 (is.0, is.1, sure t.0 is.0 is.1 is.4, is.2, is.4) t.2
+
+-- where some of those begin the page anew, those from one of them on are enough: each record on the walk is among them
+on_chain : (s : State) (page q : ℕ) (xs : List RecordData) (r first : RecordData) → IsApplied s page q r → IsLinkedUpTo s q
+    → Lists BeforeByNumber (λ x. IsApplied s page q x × (r.number ≤ x.number)) xs → IsChained (version_of s.store page) xs → IsLinkedOf s page q first
+    → ((other : RecordData) → IsLinkedOf s page q other → other.number ≤ first.number) → (t : RecordData) → OnBlockChain s page q first t → Contains xs t
+on_chain s page q xs r first applied sure lists chained linked greatest _ start =
+    let least : r.number ≤ first.number = greatest r (applied.0, applied.1, sure r applied.0 applied.1 applied.4, applied.2, applied.4) in
+    let low : version_of s.store page < r.number = applied.3 in
+    (lists.members first).1 ((linked.0, linked.1, linked.3, omega (arith, least, low), linked.4), least)
+on_chain s page q xs r first applied sure lists chained linked greatest _ (down m below on follows above l e) =
+    let t = chained m (on_chain s page q xs r first applied sure lists chained linked greatest m on) follows above in
+    let up : r.number ≤ t.0.number = ((lists.members t.0).0 t.1).1 in
+    let same : t.0.number ≡ m.block_back = t.2 in
+    let at : below.number ≡ m.block_back = e in
+    (lists.members below).1 ((l.0, l.1, l.3, omega (arith, above, at), l.4), omega (arith, up, same, at))
+
+pub none_breaks_anew : (s : State) (page q n : ℕ) (xs : List RecordData) → ListsAnew (IsApplied s page q) xs
+    → IsChained (version_of s.store page) xs → IsLinkedUpTo s q → ((r : RecordData) → Contains s.held r → r.block_back < r.number)
+    → BreaksAt s page q n → ⊥
+none_breaks_anew s page q n xs lists chained sure lower h = ⊎_elim
+    (λ (all : Lists BeforeByNumber (IsApplied s page q) xs). none_breaks s page q n xs all chained sure lower h)
+    (λ (from : (r : RecordData) × IsApplied s page q r × (r.init ≡ true) × Lists BeforeByNumber (λ x. IsApplied s page q x × (r.number ≤ x.number)) xs).
+    let at = h.breaks.at in
+    let among = on_chain s page q xs from.0 h.first from.1 sure from.3 chained h.linked h.greatest at h.breaks.on in
+    let t = chained at among h.breaks.follows h.breaks.above in
+    let is = ((from.3.members t.0).0 t.1).0 in
+    h.breaks.nowhere t.0 (is.0, is.1, sure t.0 is.0 is.1 is.4, is.2, is.4) t.2)
+    lists
 
 -- up to the complete point of a straight chain, each alive record is linked
 pub sure_complete : (b : BookData) (hs : List RecordData) (base : ℕ) (store : Store) (points : Points) → HasPoints b hs base points → points.straight ≡ true

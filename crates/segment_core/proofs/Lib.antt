@@ -16,6 +16,7 @@ pub mod Forgotten
 pub mod Holding
 pub mod Gone
 pub mod Savepoints
+pub mod Anew
 pub mod Chained
 pub mod Moving
 pub mod Following

@@ -1,16 +1,11 @@
 -- What a plan to fold a page answers.
-use Rattle.std.proofs.Common.{◌≡◌, ℕ, ◌≤◌, ◌↔◌, List, Option, Some, None, sym, ap, ◌∙◌, subst, arith}
-use Rattle.redo_core.specs.Data.{RecordData}
-use Rattle.redo_core.specs.Order.{Lists, BeforeByNumber}
-use Rattle.redo_core.specs.Writing.{after_records}
+use Rattle.std.proofs.Common.{◌≡◌, ℕ, ◌≤◌, ◌↔◌, List, Option, Some, None, sym, ◌∙◌, subst, arith}
 use Rattle.redo_core.specs.Position.{Position}
 use Rattle.redo_core.specs.Sound.{IsSound}
 use Rattle.redo_core.specs.declared.facts.Fact.{Fact}
 use Rattle.redo_laws.proofs.Log.{log_of_sound}
 use Rattle.redo_laws.proofs.Views.{anchor_is}
-use Rattle.epoch_book.specs.Book.{BookData}
-use Rattle.hot_log.specs.Alive.{IsHeldOf}
-use Rattle.segment_state.specs.State.{State, state_of, Store, version_of, image_of}
+use Rattle.segment_state.specs.State.{State}
 use Rattle.segment_state.specs.Means.{MeansAt}
 use Rattle.segment_state.specs.Shows.{Shows}
 use Rattle.segment_state.specs.HasMeaning.{HasAnchor}
@@ -19,18 +14,6 @@ use Rattle.segment_core.specs.BlockChain.{BreaksAt}
 use Rattle.segment_core.specs.Folding.{IsFoldOf, FoldsPage, BreaksBelowAnchor}
 use Rattle.segment_core.specs.declared.fold_plan.Folded.{Folded}
 use Rattle.segment_core.proofs.OneView.{one_anchor}
-
--- the listed records over the page's image are the page that the state shows
-pub plan_shows : (b : BookData) (hot : List RecordData) (base : ℕ) (store : Store) (page q version : ℕ) (image : List ℕ) (written copied : List RecordData)
-    → version ≡ version_of store page → image ≡ image_of store page
-    → Lists BeforeByNumber (IsHeldOf b hot page version q) written → copied ≡ written
-    → Shows (state_of b hot base store) page q (after_records image copied)
-plan_shows b hot base store page q version image written copied same_version same_image lists same =
-    record {
-      written = written;
-      lists = subst (λ v. Lists BeforeByNumber (IsHeldOf b hot page v q) written) same_version lists;
-      result = ap (λ i. after_records i copied) same_image ∙ ap (after_records (image_of store page)) same;
-    }
 
 -- an anchor is not above the complete point
 pub anchor_complete : {roster : ℕ} (facts log : List Fact) (p : Position) (s : State) (anchor : ℕ) → MeansAt roster log facts p s → anchor ≡ p.anchor

@@ -1,7 +1,6 @@
 -- What a read answers, from the front and the shown page.
 use Rattle.std.proofs.Common.{◌≡◌, ℕ, ◌<◌, ◌≤◌, List, Result, Ok, Err, IfOk, IsOkAnd, arith}
 use Rattle.redo_core.specs.Data.{RecordData}
-use Rattle.redo_core.specs.Order.{Lists, BeforeByNumber}
 use Rattle.redo_core.specs.Writing.{after_records}
 use Rattle.redo_core.specs.Sound.{IsSound}
 use Rattle.redo_core.specs.Position.{Position}
@@ -13,21 +12,25 @@ use Rattle.segment_state.specs.State.{State, image_of}
 use Rattle.segment_state.specs.Means.{MeansAt}
 use Rattle.segment_state.specs.Shows.{IsApplied, Shows}
 use Rattle.segment_state.proofs.Reading.{pages_law}
+use Rattle.epoch_book.specs.Book.{IsBook}
+use Rattle.hot_log.specs.Anew.{ListsAnew}
+use Rattle.hot_log.specs.Held.{IsHeld}
 use Rattle.segment_core.specs.Reading.{IsFrontAt}
+use Rattle.segment_core.proofs.Anew.{anew_shows}
 use Rattle.segment_core.specs.declared.answers.Front.{Front}
 
 -- the records that are applied, over the page's image, are the page that the state shows
-pub shown : {A E : Type 0} (seen : A → List RecordData) (s : State) (page q : ℕ) (image : List ℕ) (records : Result A E)
-    → IfOk records (λ v. Lists BeforeByNumber (IsApplied s page q) (seen v))
+pub shown : {A E : Type 0} (seen : A → List RecordData) (s : State) (page q : ℕ) (image : List ℕ) (records : Result A E) → IsBook s.book → IsHeld s.held
+    → IfOk records (λ v. ListsAnew (IsApplied s page q) (seen v))
     → IsOkAnd records (λ v. image ≡ after_records (image_of s.store page) (seen v)) → Shows s page q image
-shown seen s page q image (Ok v) lists is = record { written = seen v; lists = lists; result = is }
-shown seen s page q image (Err e) lists is = absurd is
+shown seen s page q image (Ok v) book held lists is = anew_shows s page q image (seen v) book held lists is
+shown seen s page q image (Err e) book held lists is = absurd is
 
 pub shown_where : {A E F : Type 0} (seen : A → List RecordData) (s : State) (page q : ℕ) (result : Result (List ℕ) F) (records : Result A E)
-    → IfOk records (λ v. Lists BeforeByNumber (IsApplied s page q) (seen v))
+    → IsBook s.book → IsHeld s.held → IfOk records (λ v. ListsAnew (IsApplied s page q) (seen v))
     → IfOk result (λ image. IsOkAnd records (λ v. image ≡ after_records (image_of s.store page) (seen v))) → IfOk result (Shows s page q)
-shown_where seen s page q (Ok image) records lists is = shown seen s page q image records lists is
-shown_where seen s page q (Err e) records lists is = tt
+shown_where seen s page q (Ok image) records book held lists is = shown seen s page q image records book held lists is
+shown_where seen s page q (Err e) records book held lists is = tt
 
 -- below the minimum read point
 pub below : (p : Position) (front : Front) (q : ℕ) → IsFrontAt p front → q < front.min → (front.min ≡ p.min) × (q < p.min)

@@ -9,7 +9,6 @@
 //! whole or not at all, and the held records are not copied for it.
 #![tactic(auto)]
 
-mod anew;
 mod answers;
 mod at_anchor;
 mod comparing;

@@ -26,7 +26,6 @@ ghost use Rattle.segment_core.specs.declared.answers.Refusal.{Refusal as AnyRefu
 ghost use Rattle.segment_core.specs.declared.answers.Refusal.TheVariants.{Memory as MemoryOf};
 ghost use Rattle.segment_core.specs.declared.answers.Taken.TheVariants.{Changed as ChangedOf, Unchanged as UnchangedOf};
 
-use crate::anew::from_last_init;
 use crate::answers::{Front, ReadFault, Refusal, Taken};
 use crate::points::Points;
 use epoch_book::{BookRefusal, EpochBook, Learnt, Standing};
@@ -229,7 +228,7 @@ impl Segment {
 fn apply_all(records: &[&Record], page: &mut Page)
     ensures { page.new ≡ after_records page.old (map (λ x. x.now) records.now) }
 {
-    for redo in from_last_init(records) {
+    for redo in records {
         apply(redo, page);
     }
 }

@@ -3,13 +3,13 @@ ghost use Rattle.redo_core.specs.Standing.{IsAlive};
 ghost use Rattle.redo_core.specs.Position.{Position};
 ghost use Rattle.redo_core.specs.Sound.{IsSound};
 ghost use Rattle.redo_core.specs.declared.facts.Fact.{Fact as AnyFact};
+ghost use Rattle.hot_log.specs.Anew.{ListsAnew};
 ghost use Rattle.hot_log.specs.Held.{IsHeld};
 ghost use Rattle.hot_log.specs.Removing.{Removes};
 ghost use Rattle.page_base.specs.Stored.{IsStored};
 ghost use Rattle.page_base.specs.Raising.{Raises};
 ghost use Rattle.segment_state.specs.State.{version_of};
 ghost use Rattle.segment_state.specs.Means.{MeansAt};
-ghost use Rattle.redo_core.specs.Order.{Lists, BeforeByNumber};
 ghost use Rattle.segment_state.specs.Shows.{IsApplied, Shows};
 ghost use Rattle.segment_state.specs.Promises.{KeepsMeaning, KeepsMeaningWith};
 ghost use Rattle.segment_core.specs.Folding.{IsPlanResult, PlansFold, Commits, RefusesCommit, RefusesAhead};
@@ -17,7 +17,6 @@ ghost use Rattle.segment_core.specs.Forgetting.{RemovesInImages, DiscardsJust, F
 ghost use Rattle.segment_core.specs.declared.answers.ReadFault.TheVariants.{Memory as MemoryOf};
 ghost use Rattle.segment_core.specs.declared.fold_plan.CommitFault.TheVariants.{Memory as OfMemory};
 
-use crate::anew::from_last_init;
 use crate::answers::ReadFault;
 use crate::fold_plan::{CommitFault, FoldPlan, Folded};
 use crate::segment::Segment;
@@ -55,14 +54,14 @@ impl Segment {
         self.plan_with(page, point, self.records_at(page, point))
     }
 
-    /// A plan of the page with the records that are applied to its image up to the point.
+    /// A plan of the page with the records that make it of its image up to the point.
     fn plan_with(
         &self,
         page: u16,
         point: u64,
         records: Result<Vec<&Record>, AllocError>,
     ) -> Result<FoldPlan, AllocError>
-        requires { IfOk records (λ v. Lists BeforeByNumber (IsApplied self.now page point) (map (λ x. x.now) v.items)) }
+        requires { IfOk records (λ v. ListsAnew (IsApplied self.now page point) (map (λ x. x.now) v.items)) }
         ensures page { IfOk result (λ plan. plan.page ≡ page) }
         ensures version { IfOk result (λ plan. plan.version ≡ point) }
         ensures image { IfOk result (λ plan. Shows self.now page point plan.image) }
@@ -72,7 +71,7 @@ impl Segment {
             page,
             version: point,
             image: self.store.image(page)?,
-            records: copies(self.alloc, from_last_init(&held))?,
+            records: copies(self.alloc, &held)?,
         })
     }
 

@@ -3,9 +3,9 @@ ghost use Rattle.std.specs.Option.{option_copied};
 ghost use Rattle.redo_core.specs.Position.{Position};
 ghost use Rattle.redo_core.specs.Sound.{IsSound};
 ghost use Rattle.redo_core.specs.declared.facts.Fact.{Fact as AnyFact};
+ghost use Rattle.hot_log.specs.Anew.{ListsAnew};
 ghost use Rattle.hot_log.specs.Found.{IsGreatestRecord, IsOnlyRecord};
 ghost use Rattle.segment_state.specs.Means.{MeansAt};
-ghost use Rattle.redo_core.specs.Order.{Lists, BeforeByNumber};
 ghost use Rattle.segment_state.specs.Shows.{IsApplied};
 ghost use Rattle.segment_core.specs.Form.{IsSegment};
 ghost use Rattle.segment_core.specs.BlockChain.{BreaksAt, IsLinkedOf, IsLinkedUpTo, IsChained};
@@ -15,13 +15,15 @@ use redo_core::Record;
 use std::alloc::AllocError;
 
 impl Segment {
-    /// The records that are applied to the page's image up to a point, rising. Its only error is want of memory.
+    /// The records that are applied to the page's image up to a point, rising, from the last one on that begins the page anew where
+    /// one does. Its only error is want of memory.
     pub(crate) fn records_at(&self, page: u16, point: u64) -> Result<Vec<&Record>, AllocError>
-        ensures { IfOk result (λ v. Lists BeforeByNumber (IsApplied self.now page point) (map (λ x. x.now) v.items)) }
+        ensures anew { IfOk result (λ v. ListsAnew (IsApplied self.now page point) (map (λ x. x.now) v.items)) }
+        ensures form { IsSegment self.now }
     {
         let version = self.store.version(page);
         self.hot
-            .records_of(self.alloc, &self.book, page, version, point)
+            .records_anew(self.alloc, &self.book, page, version, point)
     }
 
     /// The number of the record at which the walk down the page's block chain breaks, where these records are applied up to the point.
@@ -33,7 +35,7 @@ impl Segment {
         page: u16,
         point: u64,
     ) -> Option<u64>
-        requires { IfOk records.now (λ v. Lists BeforeByNumber (IsApplied self.now page point) (map (λ x. x.now) v.items)) }
+        requires { IfOk records.now (λ v. ListsAnew (IsApplied self.now page point) (map (λ x. x.now) v.items)) }
         ensures breaks { (n : ℕ) → (result ≡ Some n) ↔ BreaksAt self.now page point n }
         ensures sound { (roster : ℕ) (log facts : List AnyFact) (p : Position) → IsSound roster log → MeansAt roster log facts p self.now → point ≤ p.complete → result ≡ None }
     {
@@ -45,7 +47,7 @@ impl Segment {
 
     /// Whether each record up to the point is known to be linked, and each of these follows the one before it.
     fn is_whole(&self, records: &[&Record], page: u16, point: u64) -> bool
-        requires { Lists BeforeByNumber (IsApplied self.now page point) (map (λ x. x.now) records.now) }
+        requires { ListsAnew (IsApplied self.now page point) (map (λ x. x.now) records.now) }
         ensures { IsTrue result → (n : ℕ) → BreaksAt self.now page point n → ⊥ }
     {
         point <= self.sure_point() && is_chained(records, self.store.version(page))

@@ -1,8 +1,8 @@
-use Rattle.std.proofs.Common.{◌<◌, ◌≤◌, ⊎_elim, ap, subst, arith, List, map, Bor, Result, Ok, Err, IfOk}
+use Rattle.std.proofs.Common.{◌<◌, ◌≤◌, ⊎_elim, ap, subst, arith, List, map, Bor}
 use Rattle.redo_core.specs.Data.{RecordData}
 use Rattle.redo_core.specs.Order.{Lists, BeforeByNumber}
 use Rattle.hot_log.specs.Alive.{IsHeldOf}
-use Rattle.hot_log.proofs.Pages.{by_number, none_between}
+use Rattle.hot_log.proofs.Pages.{if_ok, by_number, none_between}
 use Rattle.hot_log.proofs.log.HotLog.records_of.Goals as goal
 
 pub returns-then-above-to : goal.returns-then-above-to
@@ -14,10 +14,6 @@ returns-then-above-to c =
     (λ (u : (c.epoch_above.result ≤ c.epoch_above-2.result) × (c.args.to ≤ c.args.from)). omega (arith, u.1))
     c.then-above-to.either)
     (ap (λ (l : List (Bor RecordData)). map (λ x. x.now) l) c.new.ensures.items)
-
-if_ok : {T E : Type 0} (r : Result T E) (P Q : T → Type 0) → ((v : T) → P v → Q v) → IfOk r P → IfOk r Q
-if_ok (Ok v) P Q f h = f v h
-if_ok (Err e) P Q f h = tt
 
 pub returns : goal.returns
 returns c =

@@ -33,12 +33,14 @@ returns-in-Some-clause-broken c = tells_broken c.args.self.now c.front-front.res
 pub returns-in-Ok-clause-result : goal.returns-in-Ok-clause-result
 returns-in-Ok-clause-result c = λ roster log facts p sound means. true_page log facts p c.args.self.now c.front-front.result c.args.page c.args.point
     c.in-Ok.image sound means (c.front-front.ensures.front roster log facts p sound means) c.if-point-front.false c.if-front-point.false
-    (shown (λ v. map (λ x. x.now) v.items) c.args.self.now c.args.page c.args.point c.in-Ok.image c.records_at-records.result c.records_at-records.ensures
+    (shown (λ v. map (λ x. x.now) v.items) c.args.self.now c.args.page c.args.point c.in-Ok.image c.records_at-records.result
+    c.front-front.ensures.form.book c.front-front.ensures.form.held c.records_at-records.ensures.anew
     c.in-Ok.ensures)
 
 pub returns-in-Ok-clause-own : goal.returns-in-Ok-clause-own
 returns-in-Ok-clause-own c =
-    shown (λ v. map (λ x. x.now) v.items) c.args.self.now c.args.page c.args.point c.in-Ok.image c.records_at-records.result c.records_at-records.ensures
+    shown (λ v. map (λ x. x.now) v.items) c.args.self.now c.args.page c.args.point c.in-Ok.image c.records_at-records.result
+    c.front-front.ensures.form.book c.front-front.ensures.form.held c.records_at-records.ensures.anew
     c.in-Ok.ensures
 
 pub returns-in-Ok-clause-broken : goal.returns-in-Ok-clause-broken

@@ -1,0 +1,10 @@
+-- The records that a page is made of.
+use Rattle.std.specs.Prelude.{◌≡◌, ◌≤◌, ◌⊎◌, true, List}
+use Rattle.redo_core.specs.Data.{RecordData}
+use Rattle.redo_core.specs.Order.{Lists, BeforeByNumber}
+
+-- the records with P in order of their numbers, or those from one on that begins its page anew: what comes before that one does not show
+abbrev pub ListsAnew : (RecordData → Type 0) → List RecordData → Type 0
+ListsAnew P xs =
+    Lists BeforeByNumber P xs
+    ⊎ ((r : RecordData) × P r × (r.init ≡ true) × Lists BeforeByNumber (λ x. P x × (r.number ≤ x.number)) xs)
