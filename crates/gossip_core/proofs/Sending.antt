@@ -1,12 +1,12 @@
 -- Which held records are sent.
-use Rattle.std.proofs.Common.{◌≡◌, ℕ, List, Option, Some, None, sym, ap, ◌∙◌, subst}
+use Rattle.std.proofs.Common.{◌≡◌, ℕ, List, take, Option, Some, None, sym, ap, ◌∙◌, subst}
 use Rattle.std.specs.List.{Contains}
 use Rattle.redo_core.specs.Data.{RecordData}
-use Rattle.redo_core.specs.Order.{IsRising, RecordBefore}
+use Rattle.redo_core.specs.Order.{IsRising, Lists, RecordBefore}
 use Rattle.redo_wire.specs.declared.keys.Key.{Key}
 use Rattle.hot_log.specs.Held.{HasKey}
 use Rattle.segment_state.specs.State.{State}
-use Rattle.segment_core.specs.Keys.{key_of}
+use Rattle.segment_core.specs.Keys.{key_of, HasKeysAbove}
 use Rattle.segment_join.specs.Keeping.{IsKeptAt}
 use Rattle.segment_core.proofs.Keys.{one_of_key}
 use Rattle.gossip_core.specs.Summarizing.{wire_key}
@@ -36,3 +36,8 @@ sent_at_key s point keys key r x rising has is at =
 pub not_sent_at_key : (s : State) (point : ℕ) (keys : List Key) (key : ℕ × ℕ) (x : RecordData) → key_of x ≡ key
     → IsSentAt s point keys key None → IsSent s point keys x → ⊥
 not_sent_at_key s point keys key x is at sent = at x sent (ap (λ (y : ℕ × ℕ). y.0) is, ap (λ (y : ℕ × ℕ). y.1) is)
+
+-- those so far of the records that are sent, which are among the ones with these keys
+pub record SendsTo (s : State) (point : ℕ) (keys : List Key) (stored : List (ℕ × ℕ)) (i : ℕ) (sent : List RecordData) : Type 0 where
+  pub among : HasKeysAbove s point stored
+  pub lists : Lists RecordBefore (λ r. Contains (take i among.high) r × IsSent s point keys r) sent

@@ -21,7 +21,7 @@ pub(crate) fn unlisted(
     requires { IsRising KeyBefore keys.now }
     ensures { IfOk result (λ v. Lists RecordBefore (IsSent segment.now point keys.now) v.items) }
 {
-    let stored = segment.stored()?;
+    let stored = segment.stored_above(point)?;
     let mut sent = Vec::new(segment.allocator());
     for key in &stored {
         if let Some(redo) = sent_at(segment, point, keys, *key) {

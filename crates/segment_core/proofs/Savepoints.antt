@@ -12,9 +12,7 @@ use Rattle.redo_core.proofs.Pairs.{pair_apart}
 use Rattle.hot_log.specs.Held.{IsHeld, HasKey}
 use Rattle.segment_state.specs.State.{State, SameBase, state_of}
 use Rattle.segment_state.specs.Known.{IsKnown}
-use Rattle.segment_core.specs.Form.{IsSegment}
 use Rattle.segment_core.specs.Keys.{key_of}
-use Rattle.segment_core.specs.Points.{HasPoints}
 use Rattle.segment_core.specs.Savepoint.{SavepointData, RollsBackTo, RollsBackAs, NotesKey, TakesNoted}
 use Rattle.segment_core.specs.Taking.{Stores}
 use Rattle.segment_core.specs.Answering.{FaultAlone}

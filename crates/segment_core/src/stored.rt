@@ -7,7 +7,8 @@ ghost use Rattle.hot_log.specs.Found.{IsPageAfter};
 ghost use Rattle.page_base.specs.Stored.{IsStored};
 ghost use Rattle.segment_state.specs.State.{min_of, version_of, image_of};
 ghost use Rattle.segment_core.specs.Adopting.{AdoptsBase};
-ghost use Rattle.segment_core.specs.Keys.{key_of};
+ghost use Rattle.segment_core.specs.Form.{IsSegment};
+ghost use Rattle.segment_core.specs.Keys.{key_of, HasKeysAfter, HasKeysAbove};
 
 use crate::segment::Segment;
 use page_base::BaseImage;
@@ -25,8 +26,25 @@ impl Segment {
         ensures keys { IfOk result (λ v. v.items ≡ map key_of self.now.held) }
         ensures rising { IsRising RecordBefore self.now.held }
     {
-        let mut keys = Vec::with_capacity(self.alloc, self.hot.len())?;
-        let mut next = self.hot.key_after(None);
+        self.keys_after(None)
+    }
+
+    /// The keys of held records from some place on, rising: each record that waits, or is alive above a point, is among those. Its
+    /// only error is want of memory.
+    pub fn stored_above(&self, point: u64) -> Result<Vec<(u16, u64)>, AllocError>
+        ensures keys { IfOk result (λ v. HasKeysAbove self.now point v.items) }
+        ensures rising { IsRising RecordBefore self.now.held }
+    {
+        self.keys_after(Some((self.book.last_cut_at(point), point)))
+    }
+
+    /// The keys of held records above the one given, rising; all for None.
+    fn keys_after(&self, above: Option<(u16, u64)>) -> Result<Vec<(u16, u64)>, AllocError>
+        ensures keys { IfOk result (λ v. HasKeysAfter self.now.held above v.items) }
+        ensures form { IsSegment self.now }
+    {
+        let mut keys = Vec::new(self.alloc);
+        let mut next = self.hot.key_after(above);
         while let Some(key) = next {
             keys.push(key)?;
             next = self.hot.key_after(Some(key));

@@ -1,18 +1,20 @@
 -- How the standing of a key tells whether its record is kept.
-use Rattle.std.proofs.Common.{◌≡◌, ℕ, ◌<◌, ◌≤◌, ◌⊎◌, ◌↔◌, inl, inr, ⊎_elim, Bool, true, false, IsTrue, List, [], ◌∷◌, zero, suc, length, get_or, map, Option, Some, None, refl, sym, ap, subst, arith, ◌∙◌}
+use Rattle.std.proofs.Common.{◌≡◌, ℕ, ◌<◌, ◌≤◌, ◌⊎◌, ◌↔◌, inl, inr, ⊎_elim, Bool, true, false, IsTrue, List, [], ◌∷◌, zero, suc, length, get_or, take, map, Option, Some, None, refl, sym, ap, subst, arith, ◌∙◌}
 use Rattle.std.specs.List.{Contains}
 use Rattle.std.proofs.lemmas.List.{get_or-map, length-map}
 use Rattle.redo_core.specs.Data.{RecordData}
+use Rattle.redo_core.proofs.Members.{none_in}
 use Rattle.redo_core.specs.Standing.{IsAlive, IsDead, IsWaiting}
-use Rattle.redo_core.specs.Order.{IsRising, RecordBefore}
+use Rattle.std.proofs.lemmas.List.Elements.{Contains-append_right, Contains-append_cases}
+use Rattle.redo_core.specs.Order.{IsRising, Lists, RecordBefore}
 use Rattle.hot_log.specs.Held.{HasKey, IsRecordAt}
 use Rattle.epoch_book.specs.declared.standing.Standing.{Standing}
 use Rattle.epoch_book.specs.declared.standing.Standing.TheVariants.{Alive, Dead, Waiting}
 use Rattle.segment_state.specs.State.{State}
 use Rattle.segment_state.specs.HasMeaning.{IsKeptBy}
-use Rattle.segment_core.specs.Keys.{key_of}
+use Rattle.segment_core.specs.Keys.{key_of, HasKeysAbove}
 use Rattle.segment_core.specs.Standing.{StandsAt}
-use Rattle.segment_core.proofs.Keys.{one_of_key}
+use Rattle.segment_core.proofs.Keys.{one_of_key, rising_behind}
 use Rattle.segment_join.specs.Keeping.{IsKeptAt}
 use Rattle.segment_join.specs.Covering.{HasRecord}
 
@@ -50,6 +52,29 @@ found_is_kept s anchor epoch number (Some r) some stands = (
   ),
   some.1,
 )
+
+-- those so far of the records that are kept, which are among the ones with these keys
+pub record KeepsTo (s : State) (anchor : ℕ) (keys : List (ℕ × ℕ)) (i : ℕ) (kept : List RecordData) : Type 0 where
+  pub among : HasKeysAbove s anchor keys
+  pub lists : Lists RecordBefore (λ r. Contains (take i among.high) r × IsKeptBy s anchor r) kept
+
+pub none_kept : (P : RecordData → Type 0) (high kept : List RecordData) → kept ≡ [] → Lists RecordBefore (λ r. Contains (take 0 high) r × P r) kept
+none_kept P high kept is =
+    subst (Lists RecordBefore (λ r. Contains (take 0 high) r × P r)) (sym is)
+    (record { rising = tt; members = λ r. (λ h. absurd (none_in r h), λ h. absurd (none_in r h.0)) })
+
+pub high_held : (s : State) (anchor : ℕ) (keys : List (ℕ × ℕ)) (has : HasKeysAbove s anchor keys) (r : RecordData) → Contains has.high r → Contains s.held r
+high_held s anchor keys has r h = subst (λ (l : List RecordData). Contains l r) (sym has.parts) (Contains-append_right has.low has.high r h)
+
+pub high_rising : (s : State) (anchor : ℕ) (keys : List (ℕ × ℕ)) (has : HasKeysAbove s anchor keys) → IsRising RecordBefore s.held → IsRising RecordBefore has.high
+high_rising s anchor keys has rising = rising_behind has.low has.high (subst (IsRising RecordBefore) has.parts rising)
+
+pub kept_is_high : (s : State) (anchor : ℕ) (keys : List (ℕ × ℕ)) (has : HasKeysAbove s anchor keys) (r : RecordData) → IsKeptBy s anchor r → Contains has.high r
+kept_is_high s anchor keys has r kept =
+    ⊎_elim
+    (λ (u : Contains has.low r). absurd (has.apart r u kept))
+    (λ (u : Contains has.high r). u)
+    (Contains-append_cases has.low has.high r (subst (λ (l : List RecordData). Contains l r) has.parts kept.0))
 
 -- the kept record at a key of the list is the one that stands there
 pub at_key : (s : State) (anchor : ℕ) (key : ℕ × ℕ) (r x : RecordData) → IsRising RecordBefore s.held → Contains s.held x → key_of x ≡ key

@@ -2,6 +2,7 @@ pub mod Keeping
 pub mod Scanning
 pub mod Comparing
 pub mod Ordered
+pub mod Alike
 pub mod Sparing
 pub mod TellingAll
 pub mod Bringing

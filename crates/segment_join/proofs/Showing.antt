@@ -1,21 +1,18 @@
 -- What states show of their pages: each something, and zeros where nothing is stored.
-use Rattle.std.proofs.Common.{◌≡◌, ℕ, ◌<◌, ◌≤◌, ◌⊎◌, inl, inr, ⊎_elim, List, [], ◌∷◌, Bool, refl, sym, ap, ◌∙◌, subst, arith}
+use Rattle.std.proofs.Common.{◌≡◌, ℕ, ◌⊎◌, inl, inr, ⊎_elim, List, [], ◌∷◌, ◌++◌, get_or, Bool, refl, sym, ap, ◌∙◌, subst, arith}
 use Rattle.std.specs.List.{Contains, All}
 use Rattle.redo_core.specs.Data.{RecordData}
 use Rattle.redo_core.specs.Order.{Lists, BeforeByNumber}
-use Rattle.redo_core.specs.Standing.{IsAlive}
 use Rattle.redo_core.specs.Writing.{zeros, after_records}
 use Rattle.redo_core.proofs.Members.{here, lists_unique}
-use Rattle.redo_laws.proofs.Deciding.{Settled, settled_le, settled_lt, settled_eq, settled_and, some_or_none, in_order}
-use Rattle.redo_laws.proofs.Fronts.{settled_alive}
-use Rattle.redo_laws.proofs.Meanings.{lists_as, nat_order}
+use Rattle.redo_laws.proofs.Deciding.{settled_eq, some_or_none}
 use Rattle.redo_laws.proofs.Storing.{stored_images}
-use Rattle.hot_log.proofs.Views.{view_of, one_number}
-use Rattle.segment_state.specs.State.{State, StoredImage, version_of, image_of}
+use Rattle.segment_state.specs.State.{State, StoredImage, image_of}
 use Rattle.segment_state.specs.Shows.{IsApplied, Shows}
+use Rattle.segment_core.proofs.Anew.{applied_in_order}
 use Rattle.segment_core.specs.Form.{IsSegment}
 use Rattle.segment_core.specs.Comparing.{TellsSamePage}
-use Rattle.segment_join.specs.Sameness.{ShowOne, TellsPages}
+use Rattle.segment_join.specs.Sameness.{ShowOne, TellsPages, IsUnwritten}
 use Rattle.segment_join.proofs.Scanning.{of_member}
 
 -- a state shows one page at a point
@@ -26,40 +23,10 @@ shows_one s page q i j a b =
     (λ r. (λ h. h, λ h. h)) a.written b.written a.lists b.lists in
     a.result ∙ (ap (after_records (image_of s.store page)) same ∙ sym b.result)
 
--- a held record with this is applied
-abbrev IsDue : State → ℕ → ℕ → RecordData → Type 0
-IsDue s page q r =
-    IsAlive s.book.cuts s.book.complete r.epoch r.number × ((r.page ≡ page) × ((version_of s.store page < r.number) × (r.number ≤ q)))
-
-settled_due : (s : State) (page q : ℕ) (r : RecordData) → Settled (IsDue s page q r)
-settled_due s page q r =
-    settled_and _ _ (settled_alive s.book.cuts s.book.complete r.epoch r.number)
-    (λ _. settled_and _ _ (settled_eq r.page page) (λ _. settled_and _ _ (settled_lt (version_of s.store page) r.number) (λ _. settled_le r.number q)))
-
--- the records that are applied can be put in order
-applied_in_order : (s : State) (page q : ℕ) → IsSegment s → (written : List RecordData) × Lists BeforeByNumber (IsApplied s page q) written
-applied_in_order s page q form =
-    let Good : RecordData → Type 0 = λ r. Contains s.held r × IsAlive s.book.cuts s.book.complete r.epoch r.number in
-    let w =
-    in_order BeforeByNumber Good (λ x y z a b. omega (arith, a, b))
-    (λ x y a b. ⊎_elim
-    (λ (lt : x.number < y.number). inl lt)
-    (λ (t : (x.number ≡ y.number) ⊎ (y.number < x.number)). ⊎_elim
-    (λ (e : x.number ≡ y.number).
-    inr (inl (one_number s.book.cuts s.book.complete s.held (view_of s.book form.book) form.held.rising x y a.0 b.0 a.1 b.1 e)))
-    (λ (gt : y.number < x.number). inr (inr gt))
-    t)
-    (nat_order x.number y.number))
-    (IsDue s page q) (settled_due s page q) s.held (λ r has due. (has, due.0)) in (
-      w.0,
-      lists_as BeforeByNumber (λ r. Contains s.held r × IsDue s page q r) (IsApplied s page q)
-          (λ r. (λ h. (h.0, h.1.0, h.1.1.0, h.1.1.1.0, h.1.1.1.1), λ h. (h.0, (h.1, (h.2, (h.3, h.4)))))) w.0 w.1,
-    )
-
 -- a segment shows something of each page at each point
 pub shows_some : (s : State) (page q : ℕ) → IsSegment s → (image : List ℕ) × Shows s page q image
 shows_some s page q form =
-    let w = applied_in_order s page q form in
+    let w = applied_in_order s page q form.book form.held in
     (after_records (image_of s.store page) w.0, record { written = w.0; lists = w.1; result = refl })
 
 -- no image of the page is stored, and no held record writes it
@@ -103,6 +70,16 @@ stored_or_bare s P page holds =
     (λ (redo : (r : RecordData) × Contains s.held r × (r.page ≡ page)). subst P redo.2 (holds.written redo.0 redo.1))
     t))
     (bare_or_not s page)
+
+-- what holds of the pages that are written and of those that are not, holds of each page with an image
+pub stored_of_both : (s t : State) (P : ℕ → Type 0) (images : List StoredImage) → All (λ (i : StoredImage). IsUnwritten s t i.page → P i.page) images
+    → ((r : RecordData) → Contains (s.held ++ t.held) r → P r.page) → All (λ (i : StoredImage). P i.page) images
+stored_of_both s t P images unwritten written k d lt =
+    let i = get_or images k d in
+    ⊎_elim
+    (λ (redo : (r : RecordData) × Contains (s.held ++ t.held) r × (r.page ≡ i.page)). subst P redo.2 (written redo.0 redo.1))
+    (λ (none : (r : RecordData) → Contains (s.held ++ t.held) r → r.page ≡ i.page → ⊥). unwritten k d lt none)
+    (some_or_none (λ (r : RecordData). r.page ≡ i.page) (λ r. settled_eq r.page i.page) (s.held ++ t.held))
 
 -- where the stored pages of both states are the same, all are
 pub all_pages : (s : State) (point : ℕ) (t : State) (other : ℕ) → IsSegment s → IsSegment t

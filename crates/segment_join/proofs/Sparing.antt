@@ -15,6 +15,7 @@ use Rattle.segment_core.specs.Keys.{key_of}
 use Rattle.segment_join.specs.Holding.{InOtherImage, IsNeedless, IsSpared, HoldsRest}
 use Rattle.segment_join.specs.Knowing.{HoldsAt}
 use Rattle.segment_core.proofs.Keys.{one_of_key}
+use Rattle.segment_join.proofs.Alike.{settled_record}
 
 pub ok_as : {X E : Type 0} (result : Result X E) (P Q : Type 0) → (P → Q) → OnOk result P → OnOk result Q
 ok_as (Ok x) P Q to p = to p
@@ -181,3 +182,16 @@ picks_left P xs picked i x lt is not picks y = (
 
 pub picks_all : {X : Type 0} (P : X → Type 0) (xs picked : List X) (i : ℕ) → length xs ≤ i → Picks P xs i picked → (y : X) → Contains picked y ↔ (Contains xs y × P y)
 picks_all P xs picked i end picks y = subst (λ ys. Contains picked y ↔ (Contains ys y × P y)) (take_all i xs end) (picks y)
+
+-- under a held key nothing comes in: it is the same record, or another one that spares it
+pub holds_known : (s other : State) (key : ℕ × ℕ) (own : RecordData) → Contains s.held own × HasKey key.0 key.1 own → HoldsAt s other key s
+holds_known s other key own at = record {
+  book = refl;
+  rest = record { base = refl; store = refl };
+  before = λ r h. h;
+  more = λ r h. inl h;
+  each = λ r h has. ⊎_elim
+      (λ (e : own ≡ r). inl (subst (Contains s.held) e at.0))
+      (λ (no : own ≡ r → ⊥). inr (inl (own, at.0, at.1.0 ∙ sym has.0, at.1.1 ∙ sym has.1, no)))
+      (settled_record own r);
+}

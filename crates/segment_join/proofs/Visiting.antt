@@ -1,8 +1,10 @@
 -- Going over the pages that held records write, from the least on.
-use Rattle.std.proofs.Common.{◌≡◌, ℕ, ◌<◌, ◌≤◌, ◌⊎◌, ◌↔◌, ⊎_elim, List, Option, Some, None, Bool, IsTrue, true, false, sym, subst, ◌∙◌, refl, arith}
+use Rattle.std.proofs.Common.{◌≡◌, ℕ, ◌-◌, ◌<◌, ◌≤◌, ◌⊎◌, ◌↔◌, ⊎_elim, List, ◌++◌, min, Option, Some, None, Bool, IsTrue, true, false, sym, subst, ◌∙◌, refl, arith}
 use Rattle.std.specs.List.{Contains}
+use Rattle.std.specs.Option.{SomeIff}
+use Rattle.std.proofs.lemmas.List.Elements.{Contains-append_left, Contains-append_right, Contains-append_cases}
 use Rattle.redo_core.specs.Data.{RecordData}
-use Rattle.hot_log.specs.Found.{IsPageAfter}
+use Rattle.hot_log.specs.Found.{IsPageAfter, IsPageAbove}
 use Rattle.segment_core.proofs.Pages.{IsPassed, none_passed, passed_to}
 
 -- a held record writes the next page, where there is one
@@ -40,3 +42,60 @@ fails_at P held page holds written fails tells = (
   λ (h : false ≡ true). absurd (cc),
   λ all. sym fails ∙ tells.1 (subst P written.2 (all written.0 written.1)),
 )
+
+-- the least page that either of two lists has above another
+pub page_of_both : (xs ys : List RecordData) (after : Option ℕ) (p q low : ℕ) → IsPageAfter xs after (Some p) → IsPageAfter ys after (Some q)
+    → low ≡ min p q → IsPageAfter (xs ++ ys) after (Some low)
+page_of_both xs ys after p q low one two is =
+    let split : (low ≡ p) ⊎ (low ≡ q) = grind (arith, is) in
+    let under : low ≤ p = grind (arith, is) in
+    let below : low ≤ q = grind (arith, is) in (
+      ⊎_elim
+          (λ (e : low ≡ p). (one.0.0, Contains-append_left xs ys one.0.0 one.0.1, one.0.2 ∙ sym e, subst (IsPageAbove after) (sym e) one.0.3))
+          (λ (e : low ≡ q). (two.0.0, Contains-append_right xs ys two.0.0 two.0.1, two.0.2 ∙ sym e, subst (IsPageAbove after) (sym e) two.0.3))
+          split,
+      λ r h above. ⊎_elim
+          (λ (u : Contains xs r). let t : p ≤ r.page = one.1 r u above in omega (arith, t, under))
+          (λ (u : Contains ys r). let t : q ≤ r.page = two.1 r u above in omega (arith, t, below))
+          (Contains-append_cases xs ys r h),
+    )
+
+pub page_of_one : (xs ys : List RecordData) (after : Option ℕ) (p : ℕ) → IsPageAfter xs after (Some p) → IsPageAfter ys after None
+    → IsPageAfter (xs ++ ys) after (Some p)
+page_of_one xs ys after p one none = (
+  (one.0.0, Contains-append_left xs ys one.0.0 one.0.1, one.0.2, one.0.3),
+  λ r h above. ⊎_elim (λ (u : Contains xs r). one.1 r u above) (λ (u : Contains ys r). absurd (none r u above)) (Contains-append_cases xs ys r h),
+)
+
+pub page_of_other : (xs ys : List RecordData) (after next : Option ℕ) → IsPageAfter xs after None → IsPageAfter ys after next
+    → IsPageAfter (xs ++ ys) after next
+page_of_other xs ys after None none other = λ r h above.
+    ⊎_elim (λ (u : Contains xs r). none r u above) (λ (u : Contains ys r). other r u above) (Contains-append_cases xs ys r h)
+page_of_other xs ys after (Some p) none other = (
+  (other.0.0, Contains-append_right xs ys other.0.0 other.0.1, other.0.2, other.0.3),
+  λ r h above. ⊎_elim (λ (u : Contains xs r). absurd (none r u above)) (λ (u : Contains ys r). other.1 r u above) (Contains-append_cases xs ys r h),
+)
+
+-- the pages above the one below a page are those from it on
+pub from_page_on : (page : ℕ) (below : Option ℕ) → SomeIff below (1 ≤ page) (page - 1)
+    → IsPageAbove below page × ((p : ℕ) → IsPageAbove below p → page ≤ p)
+from_page_on page None is = (tt, λ p above. let zero_is : page ≤ 0 = grind (arith, is) in omega (arith, zero_is))
+from_page_on page (Some b) is = let low : 1 ≤ page = is.0 in let at : b ≡ page - 1 = is.1 in
+    (omega (arith, low, at), λ p above. let up : b < p = above in omega (arith, low, at, up))
+
+-- the least page above the one below a page tells whether that page is written
+pub next_is_written : (held : List RecordData) (page : ℕ) (below : Option ℕ) (next : ℕ) → IsPageAfter held below (Some next) → next ≡ page
+    → ((r : RecordData) → Contains held r → r.page ≡ page → ⊥) → ⊥
+next_is_written held page below next is same none = none is.0.0 is.0.1 (is.0.2 ∙ same)
+
+pub next_is_above : (held : List RecordData) (page : ℕ) (below : Option ℕ) (next : ℕ) → SomeIff below (1 ≤ page) (page - 1)
+    → IsPageAfter held below (Some next) → (next ≡ page → ⊥) → (r : RecordData) → Contains held r → r.page ≡ page → ⊥
+next_is_above held page below next at is other r has same =
+    let from = from_page_on page below at in
+    let low : next ≤ r.page = is.1 r has (subst (IsPageAbove below) (sym same) from.0) in
+    let up : page ≤ next = from.1 next is.0.3 in
+    other (omega (arith, low, up, same))
+
+pub none_is_above : (held : List RecordData) (page : ℕ) (below : Option ℕ) → SomeIff below (1 ≤ page) (page - 1) → IsPageAfter held below None
+    → (r : RecordData) → Contains held r → r.page ≡ page → ⊥
+none_is_above held page below at none r has same = none r has (subst (IsPageAbove below) (sym same) (from_page_on page below at).0)

@@ -1,5 +1,7 @@
 -- When two segments mean the same.
-use Rattle.std.specs.Prelude.{◌≡◌, ℕ, ◌↔◌, List, Bool, IsTrue}
+use Rattle.std.specs.Prelude.{◌≡◌, ℕ, ◌↔◌, ◌++◌, List, Bool, IsTrue}
+use Rattle.std.specs.List.{Contains}
+use Rattle.redo_core.specs.Data.{RecordData}
 use Rattle.redo_core.specs.Sound.{IsSound}
 use Rattle.redo_core.specs.Meaning.{Meaning, IsMeaning}
 use Rattle.redo_core.specs.declared.facts.Fact.{Fact}
@@ -22,6 +24,10 @@ SameByParts s t answer =
 -- the two states show the same of a page, each at a point of its own
 abbrev pub ShowOne : State → ℕ → State → ℕ → ℕ → Type 0
 ShowOne s point t other page = (image : List ℕ) × Shows s page point image × Shows t page other image
+
+-- no held record of either state writes the page
+abbrev pub IsUnwritten : State → State → ℕ → Type 0
+IsUnwritten s t page = (r : RecordData) → Contains (s.held ++ t.held) r → r.page ≡ page → ⊥
 
 -- They show the same of just these pages.
 abbrev pub TellsPages : State → ℕ → State → ℕ → ((ℕ → Type 0) → Type 0) → Bool → Type 0

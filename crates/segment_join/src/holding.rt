@@ -23,7 +23,7 @@ pub(crate) fn hold_rest(
     Ok(())
 }
 
-/// Holds the other segment's record of a key.
+/// Holds the other segment's record of a key, where the segment holds none under it.
 fn hold_at(
     segment: &mut Segment,
     saved: &mut Savepoint,
@@ -36,6 +36,9 @@ fn hold_at(
     let (epoch, number) = key;
     // It opens the segment's form: at most one record stands under a key.
     let _base = other.base_point();
+    if let Some(_) = segment.get(epoch, number) {
+        return Ok(());
+    }
     match other.get(epoch, number) {
         None => Ok(()),
         Some(redo) => {

@@ -13,7 +13,7 @@ pub fn kept_of(segment: &Segment) -> Result<Vec<&Record>, AllocError>
     ensures { (anchor : ℕ) → HasAnchor segment.now anchor → IfOk result (λ v. Lists RecordBefore (IsKeptBy segment.now anchor) (map (λ x. x.now) v.items)) }
 {
     let anchor = segment.anchor();
-    let keys = segment.stored()?;
+    let keys = segment.stored_above(anchor)?;
     let mut kept = Vec::new(segment.allocator());
     for key in &keys {
         if let Some(redo) = kept_at(segment, anchor, *key) {

@@ -1,9 +1,10 @@
-ghost use Rattle.std.specs.Prelude.{◌≡◌, ℕ, IfOk, IfErr};
+ghost use Rattle.std.specs.Prelude.{◌≡◌, ℕ, ◌++◌, false, IsTrue, IfOk, IfErr};
 ghost use Rattle.std.specs.List.{All, Contains};
 ghost use Rattle.redo_core.specs.Data.{RecordData};
+ghost use Rattle.hot_log.specs.Found.{IsPageAfter};
 ghost use Rattle.segment_state.specs.HasMeaning.{HasAnchor};
 ghost use Rattle.segment_core.specs.declared.answers.ReadFault.TheVariants.{Memory as MemoryOf};
-ghost use Rattle.segment_join.specs.Sameness.{TellsSame, SameByParts, TellsPages};
+ghost use Rattle.segment_join.specs.Sameness.{TellsSame, SameByParts, TellsPages, IsUnwritten};
 
 use crate::covering::covers;
 use segment_core::{BaseImage, ReadFault, Segment};
@@ -55,19 +56,16 @@ fn has_same_pages(
     // They open the segments' forms.
     let _base = one.base_point();
     let _other_base = other.base_point();
+    if !has_same_written(one, point, other, other_point)? {
+        return Ok(false);
+    }
     if !has_same_images(one, point, other, other_point, one.pages())? {
         return Ok(false);
     }
-    if !has_same_images(one, point, other, other_point, other.pages())? {
-        return Ok(false);
-    }
-    if !has_same_written(one, point, other, other_point, one)? {
-        return Ok(false);
-    }
-    has_same_written(one, point, other, other_point, other)
+    has_same_images(one, point, other, other_point, other.pages())
 }
 
-/// Whether the page of each of these images is the same.
+/// Whether the page of each of these images is the same, where no held record writes it.
 fn has_same_images(
     one: &Segment,
     point: u64,
@@ -75,34 +73,71 @@ fn has_same_images(
     other_point: u64,
     images: &[BaseImage],
 ) -> Result<bool, AllocError>
-    ensures { IfOk result (TellsPages one.now point other.now other_point (λ P. All (λ i. P i.page) images.now)) }
+    ensures { IfOk result (TellsPages one.now point other.now other_point (λ P. All (λ i. IsUnwritten one.now other.now i.page → P i.page) images.now)) }
 {
     for image in images {
-        if !has_same_page(one, point, other, other_point, image.page())? {
+        if !has_same_unwritten(one, point, other, other_point, image.page())? {
             return Ok(false);
         }
     }
     Ok(true)
 }
 
-/// Whether each page that a held record of a segment writes is the same.
+/// Whether a page is the same, where no held record writes it.
+fn has_same_unwritten(
+    one: &Segment,
+    point: u64,
+    other: &Segment,
+    other_point: u64,
+    page: u16,
+) -> Result<bool, AllocError>
+    ensures { IfOk result (TellsPages one.now point other.now other_point (λ P. IsUnwritten one.now other.now page → P page)) }
+{
+    if is_written(one, other, page) {
+        return Ok(true);
+    }
+    has_same_page(one, point, other, other_point, page)
+}
+
+/// Whether each page that a held record of either segment writes is the same.
 fn has_same_written(
     one: &Segment,
     point: u64,
     other: &Segment,
     other_point: u64,
-    writer: &Segment,
 ) -> Result<bool, AllocError>
-    ensures { IfOk result (TellsPages one.now point other.now other_point (λ P. (r : RecordData) → Contains writer.now.held r → P r.page)) }
+    ensures { IfOk result (TellsPages one.now point other.now other_point (λ P. (r : RecordData) → Contains (one.now.held ++ other.now.held) r → P r.page)) }
 {
-    let mut next = writer.page_after(None);
+    let mut next = written_after(one, other, None);
     while let Some(page) = next {
         if !has_same_page(one, point, other, other_point, page)? {
             return Ok(false);
         }
-        next = writer.page_after(Some(page));
+        next = written_after(one, other, Some(page));
     }
     Ok(true)
+}
+
+/// The least page above the one given that a held record of either segment writes; the least of all for None.
+fn written_after(one: &Segment, other: &Segment, after: Option<u16>) -> Option<u16>
+    ensures { IsPageAfter (one.now.held ++ other.now.held) after result }
+{
+    match (one.page_after(after), other.page_after(after)) {
+        (Some(own), Some(others)) => Some(own.min(others)),
+        (Some(own), None) => Some(own),
+        (None, others) => others,
+    }
+}
+
+/// Whether a held record of either segment writes a page.
+fn is_written(one: &Segment, other: &Segment, page: u16) -> bool
+    ensures written { IsTrue result → IsUnwritten one.now other.now page → ⊥ }
+    ensures unwritten { result ≡ false → IsUnwritten one.now other.now page }
+{
+    match written_after(one, other, page.checked_sub(1)) {
+        Some(next) => next == page,
+        None => false,
+    }
 }
 
 /// Whether a page is the same, each segment at its point.

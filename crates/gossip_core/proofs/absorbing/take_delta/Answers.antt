@@ -1,4 +1,4 @@
-use Rattle.std.proofs.Common.{◌≡◌, ◌⊎◌, inr, ap, ◌∙◌, arith, length}
+use Rattle.std.proofs.Common.{◌≡◌, inr, ap, ◌∙◌, arith, length}
 use Rattle.redo_core.specs.Book.{BookData, roster_of}
 use Rattle.segment_join.specs.Told.{facts_told}
 use Rattle.segment_join.specs.InOrder.{RefusesOne}

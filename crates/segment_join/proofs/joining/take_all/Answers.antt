@@ -2,12 +2,11 @@ use Rattle.std.proofs.Common.{◌≡◌, ◌⊎◌, List, map, Bor, subst}
 use Rattle.std.proofs.lemmas.Result.{on_ok_weaker, IfErr-weaker}
 use Rattle.redo_core.specs.Data.{RecordData}
 use Rattle.redo_core.specs.Book.{BookData, book_of}
-use Rattle.segment_state.specs.State.{State}
 use Rattle.segment_core.specs.declared.answers.Refusal.{Refusal}
 use Rattle.segment_core.specs.declared.answers.Refusal.TheVariants.{Memory}
 use Rattle.segment_join.specs.Told.{facts_told}
 use Rattle.segment_join.specs.InOrder.{TakesEach, RefusesOne}
-use Rattle.segment_join.specs.Knowing.{TakesAll, RefusesAll}
+use Rattle.segment_join.specs.Knowing.{RefusesAll}
 use Rattle.segment_join.proofs.Ordered.{memory_or}
 use Rattle.segment_join.proofs.Telling.{takes_all, refuses_all}
 use Rattle.segment_join.proofs.TellingAll.{same_book}

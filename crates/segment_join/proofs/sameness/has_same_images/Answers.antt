@@ -1,27 +1,30 @@
 use Rattle.std.proofs.Common.{◌↔◌, ℕ, IsTrue, subst}
 use Rattle.segment_state.specs.State.{StoredImage}
-use Rattle.segment_join.specs.Sameness.{ShowOne}
+use Rattle.segment_join.specs.Sameness.{ShowOne, IsUnwritten}
 use Rattle.segment_join.proofs.Scanning.{one_fails, all_pass, next_passes}
 use Rattle.segment_join.proofs.sameness.has_same_images.Goals as goal
 
 pub loop-image-preserved : goal.loop-image-preserved
 loop-image-preserved c =
-    let Shown : ℕ → Type 0 = ShowOne c.args.one.now c.args.point c.args.other.now c.args.other_point in
-    let same = c.in_ok-has_same_page.field-0 in
-    let tells : IsTrue same ↔ Shown c.image-item.result.page = subst (λ g. IsTrue same ↔ Shown g) c.page.ensures c.in_ok-has_same_page.ensures in
+    let s = c.args.one.now in let t = c.args.other.now in
+    let Shown : ℕ → Type 0 = λ g. IsUnwritten s t g → ShowOne s c.args.point t c.args.other_point g in
+    let same = c.in_ok-has_same_unwritten.field-0 in
+    let tells : IsTrue same ↔ Shown c.image-item.result.page = subst (λ g. IsTrue same ↔ Shown g) c.page.ensures c.in_ok-has_same_unwritten.ensures in
     next_passes (λ (i : StoredImage). Shown i.page) c.args.images.now c.loop-image.image-index c.image-item.result same c.loop-image-test.true c.image-item.is
     c.if-not-branch.false tells c.loop-image.invariant
 
 pub returns-then-not-branch : goal.returns-then-not-branch
 returns-then-not-branch c =
-    let Shown : ℕ → Type 0 = ShowOne c.args.one.now c.args.point c.args.other.now c.args.other_point in
-    let same = c.in_ok-has_same_page.field-0 in
-    let tells : IsTrue same ↔ Shown c.image-item.result.page = subst (λ g. IsTrue same ↔ Shown g) c.page.ensures c.in_ok-has_same_page.ensures in
+    let s = c.args.one.now in let t = c.args.other.now in
+    let Shown : ℕ → Type 0 = λ g. IsUnwritten s t g → ShowOne s c.args.point t c.args.other_point g in
+    let same = c.in_ok-has_same_unwritten.field-0 in
+    let tells : IsTrue same ↔ Shown c.image-item.result.page = subst (λ g. IsTrue same ↔ Shown g) c.page.ensures c.in_ok-has_same_unwritten.ensures in
     one_fails (λ (i : StoredImage). Shown i.page) c.args.images.now c.loop-image.image-index c.image-item.result same c.loop-image-test.true c.image-item.is
     c.if-not-branch.true tells
 
 pub returns : goal.returns
 returns c =
-    all_pass (λ (i : StoredImage). ShowOne c.args.one.now c.args.point c.args.other.now c.args.other_point i.page) c.args.images.now
+    let s = c.args.one.now in let t = c.args.other.now in
+    all_pass (λ (i : StoredImage). IsUnwritten s t i.page → ShowOne s c.args.point t c.args.other_point i.page) c.args.images.now
     c.loop-image.image-index
     c.loop-image-test.false c.loop-image.invariant

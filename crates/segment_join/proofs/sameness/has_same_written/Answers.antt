@@ -1,32 +1,32 @@
-use Rattle.std.proofs.Common.{ℕ, Some, None, subst}
+use Rattle.std.proofs.Common.{ℕ, ◌++◌, Some, None, subst}
 use Rattle.segment_join.specs.Sameness.{ShowOne}
 use Rattle.segment_join.proofs.Visiting.{IsWritten, HoldsBefore, written_next, holds_at_first, holds_of_one_more, holds_at_last, fails_at}
 use Rattle.segment_join.proofs.sameness.has_same_written.Goals as goal
 
 pub loop-next-init : goal.loop-next-init
 loop-next-init c = record {
-  written = written_next c.args.writer.now.held None c.page_after-next.result c.page_after-next.ensures;
+  written = written_next (c.args.one.now.held ++ c.args.other.now.held) None c.written_after-next.result c.written_after-next.ensures;
   same =
-      holds_at_first (ShowOne c.args.one.now c.args.point c.args.other.now c.args.other_point) c.args.writer.now.held c.page_after-next.result
-      c.page_after-next.ensures;
+      holds_at_first (ShowOne c.args.one.now c.args.point c.args.other.now c.args.other_point) (c.args.one.now.held ++ c.args.other.now.held) c.written_after-next.result
+      c.written_after-next.ensures;
 }
 
 pub loop-next-preserved : goal.loop-next-preserved
 loop-next-preserved c = record {
-  written = written_next c.args.writer.now.held (Some c.in-Some.page) c.page_after-next-in-Some.result c.page_after-next-in-Some.ensures;
+  written = written_next (c.args.one.now.held ++ c.args.other.now.held) (Some c.in-Some.page) c.written_after-next-in-Some.result c.written_after-next-in-Some.ensures;
   same =
       let Shown : ℕ → Type 0 = ShowOne c.args.one.now c.args.point c.args.other.now c.args.other_point in
-      holds_of_one_more Shown c.args.writer.now.held c.in-Some.page c.page_after-next-in-Some.result c.page_after-next-in-Some.ensures
+      holds_of_one_more Shown (c.args.one.now.held ++ c.args.other.now.held) c.in-Some.page c.written_after-next-in-Some.result c.written_after-next-in-Some.ensures
       (c.in_ok-has_same_page.ensures.0 c.if-not-branch.false)
-      (subst (HoldsBefore Shown c.args.writer.now.held) c.in-Some.is c.loop-next.invariant.same);
+      (subst (HoldsBefore Shown (c.args.one.now.held ++ c.args.other.now.held)) c.in-Some.is c.loop-next.invariant.same);
 }
 
 pub returns-then-not-branch : goal.returns-then-not-branch
 returns-then-not-branch c =
-    fails_at (ShowOne c.args.one.now c.args.point c.args.other.now c.args.other_point) c.args.writer.now.held c.in-Some.page c.in_ok-has_same_page.field-0
-    (subst (IsWritten c.args.writer.now.held) c.in-Some.is c.loop-next.invariant.written) c.if-not-branch.true c.in_ok-has_same_page.ensures
+    fails_at (ShowOne c.args.one.now c.args.point c.args.other.now c.args.other_point) (c.args.one.now.held ++ c.args.other.now.held) c.in-Some.page c.in_ok-has_same_page.field-0
+    (subst (IsWritten (c.args.one.now.held ++ c.args.other.now.held)) c.in-Some.is c.loop-next.invariant.written) c.if-not-branch.true c.in_ok-has_same_page.ensures
 
 pub returns : goal.returns
 returns c =
     let Shown : ℕ → Type 0 = ShowOne c.args.one.now c.args.point c.args.other.now c.args.other_point in
-    holds_at_last Shown c.args.writer.now.held (subst (HoldsBefore Shown c.args.writer.now.held) c.in_default.is c.loop-next.invariant.same)
+    holds_at_last Shown (c.args.one.now.held ++ c.args.other.now.held) (subst (HoldsBefore Shown (c.args.one.now.held ++ c.args.other.now.held)) c.in_default.is c.loop-next.invariant.same)

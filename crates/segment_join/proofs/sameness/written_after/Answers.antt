@@ -1,0 +1,18 @@
+use Rattle.std.proofs.Common.{subst}
+use Rattle.hot_log.specs.Found.{IsPageAfter}
+use Rattle.segment_join.proofs.Visiting.{page_of_both, page_of_one, page_of_other}
+use Rattle.segment_join.proofs.sameness.written_after.Goals as goal
+
+pub returns-in-Some-Some : goal.returns-in-Some-Some
+returns-in-Some-Some c =
+    page_of_both c.args.one.now.held c.args.other.now.held c.args.after c.in-Some-Some.own c.in-Some-Some.others c.min.result c.in-Some-Some.ensures
+    c.in-Some-Some.ensures' c.min.ensures
+
+pub returns-in-Some-None : goal.returns-in-Some-None
+returns-in-Some-None c =
+    page_of_one c.args.one.now.held c.args.other.now.held c.args.after c.in-Some-None.own c.in-Some-None.ensures c.in-Some-None.ensures'
+
+pub returns-in-None-default : goal.returns-in-None-default
+returns-in-None-default c =
+    page_of_other c.args.one.now.held c.args.other.now.held c.args.after c.page_after-2.result
+    (subst (IsPageAfter c.args.one.now.held c.args.after) c.in-None-default.is-0 c.page_after.ensures) c.page_after-2.ensures
