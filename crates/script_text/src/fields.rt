@@ -4,6 +4,7 @@ ghost use Rattle.std.specs.Prelude.{◌≡◌, ◌<◌, ◌==◌, [], ◌∷◌,
 ghost use Rattle.script_text.specs.Parts.{parts_at};
 ghost use Rattle.script_text.specs.Parting.{IsParted};
 
+use memchr::memchr;
 use std::alloc::{AllocError, Global};
 
 /// How often a separator stands in a text.
@@ -19,7 +20,14 @@ pub enum Parted<'a> {
 pub fn parts(alloc: Global, text: &[u8], separator: u8) -> Result<Vec<&[u8]>, AllocError>
     ensures { IfOk result (λ v. map (λ x. x.now) v.items ≡ parts_at separator text.now) }
 {
-    text.split(|b| *b == separator).collect(alloc)
+    let mut list = Vec::new(alloc);
+    let mut rest = text;
+    while let Some((front, behind)) = first_part(rest, separator) {
+        list.push(front)?;
+        rest = behind;
+    }
+    list.push(rest)?;
+    Ok(list)
 }
 
 /// The same parts in a list whose room is used again.
@@ -38,7 +46,7 @@ pub fn parts_into<'a>(
 fn first_at(text: &[u8], separator: u8) -> Option<usize>
     ensures { result ≡ position (λ b. b == separator) text.now }
 {
-    text.iter().position(|b| *b == separator)
+    memchr(separator, text)
 }
 
 /// The part in front of the first byte of that value, and what stands behind it; None where there is none.
