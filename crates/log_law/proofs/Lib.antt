@@ -6,6 +6,7 @@ pub mod Least
 pub mod Judging
 pub mod Walking
 pub mod Repeats
+pub mod InOrder
 pub mod Verdict
 pub mod Lengthened
 pub mod Written

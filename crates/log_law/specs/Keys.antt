@@ -1,10 +1,11 @@
 -- The least place that breaks law 1.
-use Rattle.std.specs.Prelude.{◌≡◌, ℕ, ◌<◌, ◌==◌, ◌&&◌, Bool, List, take, slice_get, Option, Some, None}
+use Rattle.std.specs.Prelude.{◌≡◌, ℕ, ◌<◌, ◌==◌, ◌&&◌, Bool, List, length, take, slice_get, Option, Some, None, ⊤}
 use Rattle.std.specs.List.{Contains}
 use Rattle.std.specs.HashMap.{get, HashMap}
 use Rattle.std.specs.declared.hash.FoldHasher.{FoldHasher}
 use Rattle.std.specs.declared.hash.BuildHasherDefault.{BuildHasherDefault}
 use Rattle.redo_core.specs.Data.{RecordData}
+use Rattle.redo_core.specs.Order.{PairBefore, RecordBefore}
 use Rattle.redo_core.specs.Sound.{Law1}
 use Rattle.redo_core.specs.declared.facts.Fact.{Fact}
 use Rattle.redo_core.specs.declared.facts.Fact.TheVariants.{Record}
@@ -17,6 +18,18 @@ KeepLaw1To log p = (q : ℕ) (f : Fact) → q < p → slice_get log q ≡ Some f
 pub record IsFirstKeyConflict (log : List Fact) (p : ℕ) : Type 0 where
   pub before : KeepLaw1To log p
   pub breaks : (f : Fact) → slice_get log p ≡ Some f → Law1 (take p log) f → ⊥
+
+-- in the first places each record's key is above those of the earlier records
+abbrev pub HasRisingKeysTo : List Fact → ℕ → Type 0
+HasRisingKeysTo log p = (i j : ℕ) (r s : RecordData) → i < j → j < p → slice_get log i ≡ Some (Record r) → slice_get log j ≡ Some (Record s) → RecordBefore r s
+
+abbrev pub HasRisingKeys : List Fact → Type 0
+HasRisingKeys log = HasRisingKeysTo log (length log)
+
+-- the record's key is above this one, if there is one
+abbrev pub IsAboveKey : RecordData → Option (ℕ × ℕ) → Type 0
+IsAboveKey r None = ⊤
+IsAboveKey r (Some key) = PairBefore key.0 key.1 r.epoch r.number
 
 abbrev pub same_pair : (ℕ × ℕ) → (ℕ × ℕ) → Bool
 same_pair x y = (x.0 == y.0) && (x.1 == y.1)

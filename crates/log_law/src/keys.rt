@@ -1,7 +1,7 @@
-ghost use Rattle.std.specs.Prelude.{◌≡◌, ◌+◌, ◌<◌, ◌≤◌, length, take, slice_get, IfOk, MatchBool, Some, ⊤};
+ghost use Rattle.std.specs.Prelude.{◌≡◌, ◌+◌, ◌<◌, ◌≤◌, ◌↔◌, length, take, slice_get, IfOk, IsTrue, MatchBool, Some, ⊤};
 ghost use Rattle.redo_core.specs.Sound.{Law1};
 ghost use Rattle.log_law.specs.Counted.{Describes};
-ghost use Rattle.log_law.specs.Keys.{IsFirstKeyConflict, IsSeen};
+ghost use Rattle.log_law.specs.Keys.{IsFirstKeyConflict, IsSeen, HasRisingKeys, IsAboveKey};
 
 use crate::counted::CountedCuts;
 use redo_core::{Fact, Record};
@@ -20,6 +20,10 @@ pub(crate) fn first_key_conflict(
     requires { Describes facts.now cuts.now }
     ensures { IfOk result (IsFirstKeyConflict facts.now) }
 {
+    if has_rising_keys(facts) {
+        // Logs nearly always come so, and a map of their keys would be their greatest cost.
+        return Ok(first_cut_conflict(facts, cuts));
+    }
     let mut seen = HashMap::with_capacity(alloc, facts.len())?;
     for (place, fact) in facts.iter().enumerate() {
         match fact {
@@ -37,6 +41,50 @@ pub(crate) fn first_key_conflict(
         }
     }
     Ok(facts.len())
+}
+
+/// Whether each record's key is above those of all earlier records, so that no two records have one key.
+fn has_rising_keys(facts: &[Fact]) -> bool
+    ensures { IsTrue result ↔ HasRisingKeys facts.now }
+{
+    let mut last = None;
+    for fact in facts {
+        if let Fact::Record(redo) = fact {
+            if !is_above(redo, last) {
+                return false;
+            }
+            last = Some((redo.epoch(), redo.number()));
+        }
+    }
+    true
+}
+
+/// Whether a record's key is above the last one before it, if there is one.
+fn is_above(redo: &Record, last: Option<(u16, u64)>) -> bool
+    ensures { IsTrue result ↔ IsAboveKey redo.now last }
+{
+    match last {
+        Some((epoch, number)) => {
+            epoch < redo.epoch() || (epoch == redo.epoch() && number < redo.number())
+        }
+        None => true,
+    }
+}
+
+/// What `first_key_conflict` is of a log whose keys rise, where truncations alone can break law 1.
+fn first_cut_conflict(facts: &[Fact], cuts: &CountedCuts) -> usize
+    requires cuts { Describes facts.now cuts.now }
+    requires rising { HasRisingKeys facts.now }
+    ensures { IsFirstKeyConflict facts.now result }
+{
+    for (place, fact) in facts.iter().enumerate() {
+        if let Fact::Cut(cut) = fact {
+            if !cuts.counts(cut) {
+                return place;
+            }
+        }
+    }
+    facts.len()
 }
 
 fn is_other(

@@ -1,9 +1,9 @@
-ghost use Rattle.std.specs.Prelude.{◌≡◌, ℕ, ◌<◌, ◌≤◌, List, [], ◌∷◌, ◌++◌, length, slice_index_or, IfOk, OnOk, Some, Contains};
+ghost use Rattle.std.specs.Prelude.{◌≡◌, ℕ, ◌<◌, ◌≤◌, ◌↔◌, List, [], ◌∷◌, ◌++◌, length, slice_index_or, IfOk, OnOk, IsTrue, Some, Contains};
 ghost use Rattle.redo_core.specs.Shape.{epoch_count};
 ghost use Rattle.redo_core.specs.declared.facts.Fact.{Fact};
 ghost use Rattle.log_law.specs.Counted.{Describes};
 ghost use Rattle.log_law.specs.Alive.{stack_of, IsStack, Holds, CanFollow};
-ghost use Rattle.log_law.specs.Links.{AreItems, IsInKeyOrder, SameItemKey, law_broken, JudgesItem, IsLeastBroken, IsFirstBrokenLink};
+ghost use Rattle.log_law.specs.Links.{AreItems, IsInKeyOrder, KeyAtMost, SameItemKey, law_broken, JudgesItem, IsLeastBroken, IsFirstBrokenLink};
 
 use crate::alive::AliveRecords;
 use crate::counted::CountedCuts;
@@ -48,8 +48,30 @@ fn sort_by_key(items: &mut Vec<Item>) -> Result<(), AllocError>
     ensures order { OnOk result (IsInKeyOrder items.new.items) }
     ensures same { (log : List Fact) → AreItems log items.old.items → AreItems log items.new.items }
 {
+    if is_in_key_order(items) {
+        return Ok(());
+    }
     items.sort_by_key(|item| (item.epoch, item.number))?;
     Ok(())
+}
+
+/// Whether the items need no sorting, as those of most logs.
+fn is_in_key_order(items: &[Item]) -> bool
+    ensures { IsTrue result ↔ IsInKeyOrder items.now }
+{
+    for place in 1..items.len() {
+        if !is_key_at_most(&items[place - 1], &items[place]) {
+            return false;
+        }
+    }
+    true
+}
+
+/// Whether an item may stand before another in key order.
+fn is_key_at_most(item: &Item, other: &Item) -> bool
+    ensures { IsTrue result ↔ KeyAtMost item.now other.now }
+{
+    item.epoch < other.epoch || (item.epoch == other.epoch && item.number <= other.number)
 }
 
 fn item_of(place: usize, redo: &Record) -> Item

@@ -79,6 +79,23 @@ fn the_first_place_and_its_first_law(rt: HostRuntime) -> Result<(), Fail> {
 }
 
 #[test]
+fn the_order_of_keys_changes_no_answer(rt: HostRuntime) -> Result<(), Fail> {
+    let heap = rt.alloc();
+    let rows = [
+        (A[2], (0, 0)),
+        (A[1], (0, 0)),
+        (Row::Rec(0, 5, 3, 8, 0), (3, 1)),
+        (Row::Rec(0, 9, 3, 8, 0), (3, 3)),
+        (Row::Rec(0, 9, 5, 7, 3), (3, 4)),
+    ];
+    for (last, fault) in rows {
+        assert_eq!(rt; judged(heap, 1, &[A[0], A[1], last])?, fault);
+        assert_eq!(rt; judged(heap, 1, &[A[1], A[0], last])?, fault);
+    }
+    Ok(())
+}
+
+#[test]
 fn truncations_below_an_advance(rt: HostRuntime) -> Result<(), Fail> {
     let heap = rt.alloc();
     let rows = [
