@@ -1,43 +1,54 @@
 -- Which held records are sent.
-use Rattle.std.proofs.Common.{◌≡◌, ℕ, List, take, Option, Some, None, sym, ap, ◌∙◌, subst}
+use Rattle.std.proofs.Common.{◌≡◌, ℕ, inr, ⊎_elim, List, [], ◌∷◌, map, take, Option, Some, None, refl, sym, ap, subst}
 use Rattle.std.specs.List.{Contains}
 use Rattle.redo_core.specs.Data.{RecordData}
 use Rattle.redo_core.specs.Order.{IsRising, Lists, RecordBefore}
+use Rattle.redo_core.proofs.Members.{none_in}
 use Rattle.redo_wire.specs.declared.keys.Key.{Key}
-use Rattle.hot_log.specs.Held.{HasKey}
+use Rattle.hot_log.specs.Held.{IsRecordAt}
+use Rattle.hot_log.specs.Kept.{ListsKeysOf}
 use Rattle.segment_state.specs.State.{State}
-use Rattle.segment_core.specs.Keys.{key_of, HasKeysAbove}
-use Rattle.segment_join.specs.Keeping.{IsKeptAt}
-use Rattle.segment_core.proofs.Keys.{one_of_key}
+use Rattle.segment_state.specs.HasMeaning.{IsKeptBy}
+use Rattle.segment_core.specs.Keys.{key_of}
+use Rattle.segment_join.proofs.Keeping.{at_key, not_at_key}
 use Rattle.gossip_core.specs.Summarizing.{wire_key}
-use Rattle.gossip_core.specs.Replying.{IsSent, IsSentAt, key_data}
+use Rattle.gossip_core.specs.Replying.{IsSent, IsUnlistedAt, key_data}
 use Rattle.gossip_core.proofs.Parts.{one_key}
 
-of_key : (key : ℕ × ℕ) (r : RecordData) → HasKey key.0 key.1 r → wire_key r ≡ key_data key.0 key.1
-of_key key r is = one_key (wire_key r) (key_data key.0 key.1) is.0 is.1
+of_key : (key : ℕ × ℕ) (r : RecordData) → key_of r ≡ key → wire_key r ≡ key_data key.0 key.1
+of_key key r is = one_key (wire_key r) (key_data key.0 key.1) (ap (λ (k : ℕ × ℕ). k.0) is) (ap (λ (k : ℕ × ℕ). k.1) is)
 
--- the kept record of a key that is not listed is sent
-pub kept_is_sent : (s : State) (point : ℕ) (keys : List Key) (key : ℕ × ℕ) (found : Option RecordData)
-    → IsKeptAt s point key found → (Contains keys (key_data key.0 key.1) → ⊥) → IsSentAt s point keys key found
-kept_is_sent s point keys key None none not = λ r sent is. none r sent.0 is
-kept_is_sent s point keys key (Some r) kept not = ((kept.0, λ has. not (subst (Contains keys) (of_key key r kept.1) has)), kept.1)
+-- the keys of records, as messages carry them
+pub wire_keys : (rs : List RecordData) → map (λ (k : ℕ × ℕ). key_data k.0 k.1) (map key_of rs) ≡ map wire_key rs
+wire_keys [] = refl
+wire_keys (r ∷ rs) = ap (λ (ks : List Key). wire_key r ∷ ks) (wire_keys rs)
 
--- none of a listed key is
-pub listed_is_not_sent : (s : State) (point : ℕ) (keys : List Key) (key : ℕ × ℕ) → Contains keys (key_data key.0 key.1) → IsSentAt s point keys key None
-listed_is_not_sent s point keys key has = λ r sent is. sent.1 (subst (Contains keys) (sym (of_key key r is)) has)
+-- what is found under a key that is not listed
+pub found_unlisted : (held : List RecordData) (keys : List Key) (key : ℕ × ℕ) (found : Option RecordData) → (Contains keys (key_data key.0 key.1) → ⊥)
+    → IsRecordAt held key.0 key.1 found → IsUnlistedAt held keys key found
+found_unlisted held keys key None not none = inr none
+found_unlisted held keys key (Some r) not at = (not, at)
 
--- the sent record at a key of the list is the one that stands there
-pub sent_at_key : (s : State) (point : ℕ) (keys : List Key) (key : ℕ × ℕ) (r x : RecordData) → IsRising RecordBefore s.held → Contains s.held x
-    → key_of x ≡ key → IsSentAt s point keys key (Some r) → (r ≡ x) × IsSent s point keys x
-sent_at_key s point keys key r x rising has is at =
-    let same : r ≡ x = one_of_key s.held r x rising at.0.0.0 has (at.1.0 ∙ sym (ap (λ (y : ℕ × ℕ). y.0) is)) (at.1.1 ∙ sym (ap (λ (y : ℕ × ℕ). y.1) is)) in
-    (same, subst (IsSent s point keys) same at.0)
+-- where a kept record's key is not listed, the record that was found is that one, and is sent
+pub sent_at_key : (s : State) (point : ℕ) (keys : List Key) (key : ℕ × ℕ) (r x : RecordData) → IsRising RecordBefore s.held → IsKeptBy s point x
+    → key_of x ≡ key → IsUnlistedAt s.held keys key (Some r) → (r ≡ x) × IsSent s point keys x
+sent_at_key s point keys key r x rising kept is found =
+    (at_key s.held key r x rising kept.0 is found.1, (kept, λ has. found.0 (subst (Contains keys) (of_key key x is) has)))
 
-pub not_sent_at_key : (s : State) (point : ℕ) (keys : List Key) (key : ℕ × ℕ) (x : RecordData) → key_of x ≡ key
-    → IsSentAt s point keys key None → IsSent s point keys x → ⊥
-not_sent_at_key s point keys key x is at sent = at x sent (ap (λ (y : ℕ × ℕ). y.0) is, ap (λ (y : ℕ × ℕ). y.1) is)
+-- where none was found, its key is listed
+pub not_sent_at_key : (s : State) (point : ℕ) (keys : List Key) (key : ℕ × ℕ) (x : RecordData) → IsKeptBy s point x → key_of x ≡ key
+    → IsUnlistedAt s.held keys key None → IsSent s point keys x → ⊥
+not_sent_at_key s point keys key x kept is found sent = ⊎_elim
+    (λ (listed : Contains keys (key_data key.0 key.1)). sent.1 (subst (Contains keys) (sym (of_key key x is)) listed))
+    (λ (none : IsRecordAt s.held key.0 key.1 None). not_at_key s.held key x kept.0 is none)
+    found
 
--- those so far of the records that are sent, which are among the ones with these keys
+-- those so far of the records that are sent, which are among the kept ones with these keys
 pub record SendsTo (s : State) (point : ℕ) (keys : List Key) (stored : List (ℕ × ℕ)) (i : ℕ) (sent : List RecordData) : Type 0 where
-  pub among : HasKeysAbove s point stored
-  pub lists : Lists RecordBefore (λ r. Contains (take i among.high) r × IsSent s point keys r) sent
+  pub all : ListsKeysOf (IsKeptBy s point) stored
+  pub lists : Lists RecordBefore (λ r. Contains (take i all.kept) r × IsSent s point keys r) sent
+
+pub none_sent : (P : RecordData → Type 0) (kept sent : List RecordData) → sent ≡ [] → Lists RecordBefore (λ r. Contains (take 0 kept) r × P r) sent
+none_sent P kept sent is =
+    subst (Lists RecordBefore (λ r. Contains (take 0 kept) r × P r)) (sym is)
+    (record { rising = tt; members = λ r. (λ h. absurd (none_in r h), λ h. absurd (none_in r h.0)) })

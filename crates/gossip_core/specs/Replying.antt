@@ -11,7 +11,7 @@ use Rattle.redo_core.specs.declared.facts.Fact.{Fact}
 use Rattle.redo_wire.specs.declared.keys.Key.{Key}
 use Rattle.redo_wire.specs.Summaries.{SummaryData}
 use Rattle.redo_wire.specs.Deltas.{DeltaData}
-use Rattle.hot_log.specs.Held.{HasKey}
+use Rattle.hot_log.specs.Held.{IsRecordAt}
 use Rattle.hot_log.specs.Found.{IsPageAbove}
 use Rattle.segment_state.specs.State.{State, StoredImage}
 use Rattle.segment_state.specs.Means.{MeansAt}
@@ -35,10 +35,10 @@ key_data epoch number = record { epoch = epoch; number = number }
 abbrev pub IsSent : State → ℕ → List Key → RecordData → Type 0
 IsSent s point keys r = IsKeptBy s point r × (Contains keys (wire_key r) → ⊥)
 
--- the sent record of a key, or none where no record of the key is sent
-abbrev pub IsSentAt : State → ℕ → List Key → ℕ × ℕ → Option RecordData → Type 0
-IsSentAt s point keys key None = (r : RecordData) → IsSent s point keys r → HasKey key.0 key.1 r → ⊥
-IsSentAt s point keys key (Some r) = IsSent s point keys r × HasKey key.0 key.1 r
+-- the held record of a key that is not listed, or none where the key is listed or no record of it is held
+abbrev pub IsUnlistedAt : List RecordData → List Key → ℕ × ℕ → Option RecordData → Type 0
+IsUnlistedAt held keys key None = Contains keys (key_data key.0 key.1) ⊎ IsRecordAt held key.0 key.1 None
+IsUnlistedAt held keys key (Some r) = (Contains keys (key_data key.0 key.1) → ⊥) × IsRecordAt held key.0 key.1 (Some r)
 
 -- ---- the pages
 

@@ -79,8 +79,5 @@ fn is_covered(segment: &Segment, anchor: u64, key: Key) -> bool
 fn holds(segment: &Segment, key: Key) -> bool
     ensures { IsTrue result ↔ HoldsKey segment.now key }
 {
-    match segment.get(key.epoch, key.number) {
-        Some(_) => true,
-        None => false,
-    }
+    segment.holds_key(key.epoch, key.number)
 }

@@ -5,13 +5,12 @@ ghost use Rattle.redo_core.specs.declared.facts.Fact.{Fact as AnyFact};
 ghost use Rattle.segment_state.specs.Means.{Means};
 ghost use Rattle.segment_state.specs.HasMeaning.{HasMeaning};
 ghost use Rattle.segment_core.specs.Form.{IsSegment};
-ghost use Rattle.gossip_core.specs.Summarizing.{wire_key, Summarizes, IsSummaryOf};
+ghost use Rattle.gossip_core.specs.Replying.{key_data};
+ghost use Rattle.gossip_core.specs.Summarizing.{Summarizes, IsSummaryOf};
 
 use crate::books::book_of;
-use redo_core::Record;
 use redo_wire::{Key, Summary};
 use segment_core::Segment;
-use segment_join::kept_of;
 use segment_state::same_meaning;
 use std::alloc::{AllocError, Global};
 
@@ -36,20 +35,21 @@ fn own_summary(segment: &Segment) -> Result<Summary, AllocError>
     ensures form { IsSegment segment.now }
 {
     let book = book_of(segment)?;
-    let kept = kept_of(segment)?;
+    let anchor = segment.anchor();
+    let kept = segment.kept_keys(anchor)?;
     let keys = keys_of(segment.allocator(), &kept)?;
-    Ok(Summary::new(book, segment.anchor(), keys))
+    Ok(Summary::new(book, anchor, keys))
 }
 
-/// The keys of records, in order.
-fn keys_of(alloc: Global, records: &[&Record]) -> Result<Vec<Key>, AllocError>
-    ensures { IfOk result (λ v. v.items ≡ map wire_key (map (λ r. r.now) records.now)) }
+/// Keys as messages carry them, in order. Its only error is want of memory.
+fn keys_of(alloc: Global, kept: &[(u16, u64)]) -> Result<Vec<Key>, AllocError>
+    ensures { IfOk result (λ v. v.items ≡ map (λ k. key_data k.0 k.1) kept.now) }
 {
-    let mut keys = Vec::with_capacity(alloc, records.len())?;
-    for redo in records {
+    let mut keys = Vec::with_capacity(alloc, kept.len())?;
+    for key in kept {
         keys.push(Key {
-            epoch: redo.epoch(),
-            number: redo.number(),
+            epoch: key.0,
+            number: key.1,
         })?;
     }
     Ok(keys)

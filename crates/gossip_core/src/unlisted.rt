@@ -4,12 +4,11 @@ ghost use Rattle.std.specs.List.{Contains};
 ghost use Rattle.std.specs.Option.{option_copied};
 ghost use Rattle.redo_core.specs.Order.{IsRising, Lists, RecordBefore};
 ghost use Rattle.redo_wire.specs.Summaries.{KeyBefore};
-ghost use Rattle.gossip_core.specs.Replying.{IsSent, IsSentAt, key_data};
+ghost use Rattle.gossip_core.specs.Replying.{IsSent, IsUnlistedAt, key_data};
 
 use redo_core::Record;
 use redo_wire::Key;
 use segment_core::Segment;
-use segment_join::kept_at;
 use std::alloc::AllocError;
 
 /// Copies of the held records that wait, or are alive above a point, and whose keys are not listed, rising by key.
@@ -21,37 +20,51 @@ pub(crate) fn unlisted(
     requires { IsRising KeyBefore keys.now }
     ensures { IfOk result (λ v. Lists RecordBefore (IsSent segment.now point keys.now) v.items) }
 {
-    let stored = segment.stored_above(point)?;
+    let kept = segment.kept_keys(point)?;
     let mut sent = Vec::new(segment.allocator());
-    for key in &stored {
-        if let Some(redo) = sent_at(segment, point, keys, *key) {
+    let mut place = 0;
+    for key in &kept {
+        place = reach(keys, place, *key);
+        if let Some(redo) = unlisted_at(segment, keys, place, *key) {
             sent.push(redo.copy()?)?;
         }
     }
     Ok(sent)
 }
 
-/// The held record of a key, where it is sent.
-fn sent_at<'a>(
+/// The first place from one on where the listed key is not below a key. Held and listed keys are gone over side by side.
+fn reach(keys: &[Key], from: usize, key: (u16, u64)) -> usize {
+    let mut place = from;
+    while place < keys.len() && (keys[place].epoch, keys[place].number) < key {
+        place += 1;
+    }
+    place
+}
+
+/// The held record of a key that is not listed; if it is, it likely stands at the place given.
+fn unlisted_at<'a>(
     segment: &'a Segment,
-    point: u64,
     keys: &[Key],
+    place: usize,
     key: (u16, u64),
 ) -> Option<&'a Record>
     requires { IsRising KeyBefore keys.now }
-    ensures { IsSentAt segment.now point keys.now key (option_copied result) }
+    ensures { IsUnlistedAt segment.now.held keys.now key (option_copied result) }
 {
-    if is_listed(keys, key) {
+    if is_listed(keys, place, key) {
         return None;
     }
-    kept_at(segment, point, key)
+    segment.get(key.0, key.1)
 }
 
-/// Whether a key is among keys that rise.
-fn is_listed(keys: &[Key], key: (u16, u64)) -> bool
+/// Whether a key is among keys that rise. It is looked for at a place first.
+fn is_listed(keys: &[Key], place: usize, key: (u16, u64)) -> bool
     requires { IsRising KeyBefore keys.now }
     ensures { IsTrue result ↔ Contains keys.now (key_data key.0 key.1) }
 {
+    if place < keys.len() && (keys[place].epoch, keys[place].number) == key {
+        return true;
+    }
     keys.binary_search_by_key(&key, |listed| { (listed.epoch, listed.number) })
         .is_ok()
 }

@@ -18,3 +18,5 @@ pub mod Straight
 pub mod Ends
 pub mod Growth
 pub mod Descending
+pub mod Sides
+pub mod Sorting

@@ -6,3 +6,5 @@ pub mod Removing
 pub mod Indexing
 pub mod Paged
 pub mod Anew
+pub mod Missing
+pub mod Kept

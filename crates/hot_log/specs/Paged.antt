@@ -3,6 +3,7 @@ use Rattle.std.specs.Prelude.{◌≡◌, ℕ, ◌<◌, Bool, ◌==◌, nat_lt, �
 use Rattle.std.specs.List.{Contains}
 use Rattle.std.specs.Ordering.{nat_cmp, ordering_then}
 use Rattle.std.specs.declared.cmp.Ordering.{Ordering}
+use Rattle.std.specs.declared.cmp.Ordering.TheVariants.{Less}
 use Rattle.std.specs.BTreeMap.{BTreeMap, IsOrdered}
 use Rattle.redo_core.specs.Data.{RecordData}
 use Rattle.redo_core.specs.Shape.{record_fault}
@@ -21,6 +22,10 @@ key_of r = (r.epoch, r.number)
 -- a record's page and key
 abbrev pub place_of : RecordData → ℕ × (ℕ × ℕ)
 place_of r = (r.page, key_of r)
+
+-- a record's page, or on one page its key, is below that of another
+abbrev pub PlaceBefore : RecordData → RecordData → Type 0
+PlaceBefore r s = place_cmp (place_of r) (place_of s) ≡ Less
 
 abbrev pub records_in : List ((ℕ × (ℕ × ℕ)) × RecordData) → List RecordData
 records_in entries = map (λ (e : (ℕ × (ℕ × ℕ)) × RecordData). e.1) entries

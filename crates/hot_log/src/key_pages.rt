@@ -3,8 +3,12 @@ ghost use Rattle.std.specs.Option.{IsSome, IsNone};
 ghost use Rattle.std.specs.BTreeMap.{get, IsOrdered, insert_entry};
 ghost use Rattle.hot_log.specs.Paged.{key_cmp};
 ghost use Rattle.hot_log.specs.Indexing.{AddsPage, LosesPage, IsPageOf, IsLeastKey, GainsPage, IsGreatestKey};
+ghost use Rattle.hot_log.specs.Kept.{KeyBefore, IsKeyKept};
+ghost use Rattle.redo_core.specs.Order.{Lists};
 ghost use Rattle.std.specs.List.{Contains};
 
+use crate::search::is_kept;
+use epoch_book::EpochBook;
 use std::alloc::{AllocError, Global};
 use std::collections::BTreeMap;
 use std::collections::btree_map::Entry;
@@ -105,6 +109,26 @@ impl KeyPages {
         let bounds = (Bound::Unbounded, Bound::Included(to));
         let (key, _) = self.map.range(bounds).next_back()?;
         Some(*key)
+    }
+
+    /// The keys above one given that wait, or are alive above a number, rising. Its only error is want of memory.
+    pub fn kept_keys(
+        &self,
+        alloc: Global,
+        book: &EpochBook,
+        above: (u16, u64),
+        point: u64,
+    ) -> Result<Vec<(u16, u64)>, AllocError>
+        ensures { IfOk result (λ v. Lists KeyBefore (IsKeyKept book.now self.now above point) v.items) }
+    {
+        let mut kept = Vec::new(alloc);
+        let bounds = (Bound::Excluded(above), Bound::Unbounded);
+        for (key, _) in self.map.range(bounds) {
+            if is_kept(book, *key, point) {
+                kept.push(*key)?;
+            }
+        }
+        Ok(kept)
     }
 }
 

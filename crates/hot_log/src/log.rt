@@ -3,11 +3,13 @@ ghost use Rattle.std.specs.Option.{option_copied};
 ghost use Rattle.redo_core.specs.Data.{RecordData};
 ghost use Rattle.redo_core.specs.Order.{Lists, BeforeByNumber, RecordBefore};
 ghost use Rattle.redo_core.specs.Standing.{IsDead};
-ghost use Rattle.hot_log.specs.Held.{IsHeld, IsRecordAt, IsKeyAfter, IsKeyTo, HasKey};
+ghost use Rattle.hot_log.specs.Held.{IsHeld, IsRecordAt, IsKeyAfter, IsKeyTo, HasKey, HoldsKey};
 ghost use Rattle.hot_log.specs.Alive.{IsHeldAlive, IsHeldOf, IsLinkedFrom, IsLinkedHeld, IsReached, IsStraight, IsStraightEnd};
 ghost use Rattle.hot_log.specs.Anew.{ListsAnew};
 ghost use Rattle.hot_log.specs.Found.{IsLeast, IsLeastRecord, IsGreatestRecord, IsOnlyRecord, IsPageAfter};
+ghost use Rattle.hot_log.specs.Kept.{IsKeptAbove, ListsKeysOf};
 ghost use Rattle.hot_log.specs.Indexing.{IsIndexBy, IsNextHeld, IsNextRecord, IsLastRecord};
+ghost use Rattle.hot_log.specs.Missing.{IsMissing};
 ghost use Rattle.hot_log.specs.Putting.{Puts, RefusesPut};
 ghost use Rattle.hot_log.specs.Removing.{IsFolded, Removes};
 ghost use Rattle.hot_log.specs.declared.log.PutFault.TheVariants.{Memory as OfMemory};
@@ -108,6 +110,16 @@ impl HotLog {
         let key = (epoch, number);
         let page = self.by_key.page_of(key)?;
         self.records.get(page, key)
+    }
+
+    /// Whether a record of a key is held.
+    pub fn holds_key(&self, epoch: u16, number: u64) -> bool
+        ensures { IsTrue result ↔ HoldsKey self.now epoch number }
+    {
+        match self.by_key.page_of((epoch, number)) {
+            Some(_) => true,
+            None => false,
+        }
     }
 
     /// The least key above the one given, or the least of all for None.
@@ -328,6 +340,32 @@ impl HotLog {
             return Ok(Vec::new(alloc));
         }
         self.records.alive_anew(alloc, book, page, above, to)
+    }
+
+    /// The records of another log that this one does not hold, rising by key. Both are gone over side by side, so what both hold
+    /// costs no look-up. Its only error is want of memory.
+    pub fn missing<'a>(
+        &self,
+        alloc: Global,
+        other: &'a HotLog,
+    ) -> Result<Vec<&'a Record>, AllocError>
+        ensures { IfOk result (λ v. Lists RecordBefore (IsMissing self.now other.now) (map (λ x. x.now) v.items)) }
+    {
+        self.records.missing(alloc, &other.records)
+    }
+
+    /// The keys of the records that wait, or are alive above a number, rising. Its only error is want of memory.
+    pub fn kept_keys(
+        &self,
+        alloc: Global,
+        book: &EpochBook,
+        point: u64,
+    ) -> Result<Vec<(u16, u64)>, AllocError>
+        ensures { IfOk result (λ v. ListsKeysOf (IsKeptAbove book.now self.now point) v.items) }
+    {
+        // A record that waits, or is alive above the number, has a key above this one.
+        let above = (epoch_above(book, point), point);
+        self.by_key.kept_keys(alloc, book, above, point)
     }
 
     /// Removes the alive records of a page with numbers at most the version of its image and at most a point.

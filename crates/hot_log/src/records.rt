@@ -2,14 +2,17 @@ ghost use Rattle.std.specs.Prelude.{◌≡◌, ◌⊎◌, ◌↔◌, [], None, l
 ghost use Rattle.std.specs.Option.{option_copied};
 ghost use Rattle.std.specs.List.{Contains};
 ghost use Rattle.redo_core.specs.Data.{RecordData};
-ghost use Rattle.redo_core.specs.Order.{Lists, BeforeByNumber, PairBefore};
+ghost use Rattle.redo_core.specs.Order.{Lists, BeforeByNumber, PairBefore, RecordBefore};
 ghost use Rattle.hot_log.specs.Held.{IsHeld, HasKey, IsRecordAt};
 ghost use Rattle.hot_log.specs.Alive.{IsAliveBetween};
 ghost use Rattle.hot_log.specs.Anew.{ListsAnew};
 ghost use Rattle.hot_log.specs.Found.{IsPageAfter};
 ghost use Rattle.hot_log.specs.Indexing.{IsRecordOf, IsNextRecord, IsLastRecord};
+ghost use Rattle.hot_log.specs.Missing.{IsMissing};
+ghost use Rattle.hot_log.specs.Paged.{PlaceBefore};
 ghost use Rattle.hot_log.specs.Removing.{Removes};
 
+use crate::ahead::Ahead;
 use crate::search::is_alive;
 use epoch_book::EpochBook;
 use redo_core::{Record, Refused};
@@ -186,6 +189,41 @@ impl PagedRecords {
             }
         }
         Ok(reversed(found))
+    }
+}
+
+impl PagedRecords {
+    /// The records of another log that this one does not hold, rising by key. Its only error is want of memory.
+    pub fn missing<'a>(
+        &self,
+        alloc: Global,
+        other: &'a PagedRecords,
+    ) -> Result<Vec<&'a Record>, AllocError>
+        ensures { IfOk result (λ v. Lists RecordBefore (IsMissing self.now other.now) (map (λ x. x.now) v.items)) }
+    {
+        let _held = other.len();
+        let mut missing = self.missing_by_page(alloc, other)?;
+        missing.sort_unstable_by_key(|redo| (redo.epoch(), redo.number()));
+        Ok(missing)
+    }
+
+    // The same by page, and within a page by key. Both logs are gone over side by side: a look-up is spent on a missing record alone.
+    fn missing_by_page<'a>(
+        &self,
+        alloc: Global,
+        other: &'a PagedRecords,
+    ) -> Result<Vec<&'a Record>, AllocError>
+        ensures { IfOk result (λ v. Lists PlaceBefore (IsMissing self.now other.now) (map (λ x. x.now) v.items)) }
+    {
+        let mut missing = Vec::new(alloc);
+        let mut own = Ahead::new(self.map.values());
+        for redo in other.map.values() {
+            own.pass_to(redo);
+            if !own.is_at(redo) && !self.has(redo) {
+                missing.push(redo)?;
+            }
+        }
+        Ok(missing)
     }
 }
 

@@ -9,6 +9,7 @@ ghost use Rattle.hot_log.specs.Held.{IsHeld, IsKeyAfter, IsKeyTo, HasKey};
 ghost use Rattle.hot_log.specs.Indexing.{IsNextHeld, IsLastHeld};
 ghost use Rattle.hot_log.specs.Alive.{IsAliveKey, IsAliveOfBack, IsHeldAlive, IsHeldOf, IsOpenedBelow, IsPageAlive, PartsAt};
 ghost use Rattle.hot_log.specs.Found.{IsLeast, IsLeastRecord, IsGreatestRecord, IsOnlyRecord};
+ghost use Rattle.hot_log.specs.Kept.{KeepsKey};
 
 use crate::log::HotLog;
 use epoch_book::{EpochBook, Standing};
@@ -23,9 +24,17 @@ pub fn is_alive(book: &EpochBook, epoch: u16, number: u64) -> bool
     epoch <= book.complete_epoch() && matches!(book.stands(epoch, number), Standing::Alive)
 }
 
+// Whether a record of a key waits, or is alive above a number.
+pub fn is_kept(book: &EpochBook, key: (u16, u64), point: u64) -> bool
+    ensures { IsTrue result ↔ KeepsKey book.now point key }
+{
+    key.0 > book.complete_epoch() || (point < key.1 && is_alive(book, key.0, key.1))
+}
+
 // The epoch that parts the alive records at a number: those above the number are those above this epoch and number by key.
 pub fn epoch_above(book: &EpochBook, number: u64) -> u16
     ensures parts { PartsAt book.now number result }
+    ensures known { result ≤ book.now.complete }
     ensures book { IsBook book.now }
 {
     book.last_cut_at(number)

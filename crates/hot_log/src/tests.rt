@@ -180,6 +180,31 @@ fn records_from_the_last_init_on(rt: HostRuntime) -> Result<(), Fail> {
     Ok(())
 }
 
+// The rows of two logs, and the numbers of what the first lacks of the second.
+const LACKING: [(&[Row], &[Row], [u64; 2]); 6] = [
+    (&[], &[(0, 3, 0, 2), (0, 5, 3, 1)], [3, 5]),
+    (&[(0, 3, 0, 2), (0, 5, 3, 1)], &[], [0, 0]),
+    (&CHAIN, &CHAIN, [0, 0]),
+    (
+        &[(0, 3, 0, 1), (0, 12, 10, 2)],
+        &[(0, 3, 0, 1), (0, 5, 3, 2), (1, 2, 0, 1), (0, 12, 10, 2)],
+        [5, 2],
+    ),
+    // Another record under a held key is lacking, on its page and on another one.
+    (&CHAIN, &[(0, 9, 3, 1), (0, 5, 3, 1)], [5, 9]),
+    (&[(0, 9, 5, 3)], &[(0, 9, 5, 1), (0, 10, 9, 3)], [9, 10]),
+];
+
+#[test]
+fn lacking_records_by_key(rt: HostRuntime) -> Result<(), Fail> {
+    for (own, others, lacking) in LACKING {
+        let (own, others) = (log_of(rt.alloc(), own)?, log_of(rt.alloc(), others)?);
+        let found = own.missing(rt.alloc(), &others)?;
+        assert_eq!(rt; numbers(&found), lacking);
+    }
+    Ok(())
+}
+
 // A truncation of epoch 1 from 5 to 20 makes the record 9 dead.
 const TRUNCATED: [Row; 4] = [(0, 3, 0, 1), (0, 5, 3, 1), (0, 9, 5, 1), (1, 21, 5, 1)];
 
@@ -192,6 +217,24 @@ fn records_over_a_truncation(rt: HostRuntime) -> Result<(), Fail> {
     assert_eq!(rt; log.last_of(&book, 1, 0, 20).map(|r| r.number()), Some(5));
     assert_eq!(rt; log.next_of(&book, 1, 5, 100).map(|r| r.number()), Some(21));
     assert_eq!(rt; linked(&log, &book, 0, 100), (21, 4));
+    Ok(())
+}
+
+#[test]
+fn kept_keys(rt: HostRuntime) -> Result<(), Fail> {
+    let book = truncated_book(rt.alloc())?;
+    let mut log = log_of(rt.alloc(), &TRUNCATED)?;
+    // The truncation of epoch 2 is not known: this one waits.
+    assert!(rt; put(rt.alloc(), &mut log, (2, 4, 3, 1))?.is_ok());
+    for (point, count, first) in [
+        (0, 4, (0, 3)),
+        (4, 3, (0, 5)),
+        (5, 2, (1, 21)),
+        (21, 1, (2, 4)),
+    ] {
+        let kept = log.kept_keys(rt.alloc(), &book, point)?;
+        assert_eq!(rt; (kept.len(), kept.first().copied()), (count, Some(first)));
+    }
     Ok(())
 }
 

@@ -1,5 +1,5 @@
 -- Going over the keys of held records, from the least on.
-use Rattle.std.proofs.Common.{◌≡◌, ℕ, ◌+◌, ◌<◌, ◌≤◌, ◌⊎◌, inl, ⊎_elim, List, [], ◌∷◌, ◌++◌, length, map, Option, Some, None, refl, sym, ap, ◌∙◌, subst, arith}
+use Rattle.std.proofs.Common.{◌≡◌, ℕ, ◌+◌, ◌<◌, ◌⊎◌, inl, ⊎_elim, List, [], ◌∷◌, ◌++◌, length, map, Option, Some, None, refl, sym, ap, ◌∙◌, subst, arith}
 use Rattle.std.proofs.Common.{length-append}
 use Rattle.std.proofs.lemmas.List.{append_assoc, map-append, length-map, append-nil}
 use Rattle.std.proofs.lemmas.List.Elements.{Contains-append_right, Contains-append_cases}
@@ -11,10 +11,7 @@ use Rattle.redo_core.proofs.Rising.{rising_members}
 use Rattle.hot_log.specs.Held.{IsHeld, IsAbove, IsKeyAfter, HasKey}
 use Rattle.hot_log.proofs.Keys.{pair_not_same}
 use Rattle.hot_log.proofs.Places.{pair_or_not}
-use Rattle.hot_log.specs.Alive.{PartsAt}
-use Rattle.redo_core.specs.Standing.{IsAlive, IsWaiting}
-use Rattle.segment_state.specs.State.{State}
-use Rattle.segment_core.specs.Keys.{key_of, HasKeysAfter, HasKeysAbove}
+use Rattle.segment_core.specs.Keys.{key_of, HasKeysAfter}
 
 -- the key is that of the first of the records, or there is none
 abbrev pub IsFirstKey : List RecordData → Option (ℕ × ℕ) → Type 0
@@ -315,17 +312,3 @@ all_keys held keys has = at has.low has.high has.parts has.keys_are has.apart
     at : (low high : List RecordData) → held ≡ low ++ high → keys ≡ map key_of high → ((r : RecordData) → Contains low r → IsAbove None r → ⊥) → keys ≡ map key_of held
     at [] high parts is apart = is ∙ ap (map key_of) (sym parts)
     at (l ∷ ls) high parts is apart = absurd (apart l (here l ls) tt)
-
--- a record that waits, or is alive above a point, has a key above the one that parts the alive records there
-pub kept_above : (s : State) (point epoch : ℕ) (keys : List (ℕ × ℕ)) → PartsAt s.book point epoch → epoch ≤ s.book.complete
-    → HasKeysAfter s.held (Some (epoch, point)) keys → HasKeysAbove s point keys
-kept_above s point epoch keys parts known has = record {
-  low = has.low;
-  high = has.high;
-  parts = has.parts;
-  keys_are = has.keys_are;
-  apart = λ r h kept. has.apart r h (⊎_elim
-      (λ (waits : IsWaiting s.book.complete r.epoch). inl (omega (arith, waits, known)))
-      (λ (alive : IsAlive s.book.cuts s.book.complete r.epoch r.number × (point < r.number)). (parts.0 r.epoch r.number alive.0).0 alive.1)
-      kept.1);
-}

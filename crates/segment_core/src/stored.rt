@@ -1,14 +1,17 @@
-ghost use Rattle.std.specs.Prelude.{◌≡◌, ℕ, ◌≤◌, map, IfOk, IfErr, OnOk, OnErr};
+ghost use Rattle.std.specs.Prelude.{◌≡◌, ℕ, ◌≤◌, ◌↔◌, map, IsTrue, IfOk, IfErr, OnOk, OnErr};
 ghost use Rattle.std.specs.Option.{option_copied};
 ghost use Rattle.redo_core.specs.Order.{IsRising, CutBefore, AdvanceBefore, RecordBefore, Lists, BeforeByNumber};
-ghost use Rattle.hot_log.specs.Held.{IsRecordAt, IsKeyAfter};
+ghost use Rattle.hot_log.specs.Held.{IsRecordAt, IsKeyAfter, HoldsKey};
 ghost use Rattle.hot_log.specs.Alive.{IsHeldOf};
 ghost use Rattle.hot_log.specs.Found.{IsPageAfter};
+ghost use Rattle.hot_log.specs.Missing.{IsMissing};
+ghost use Rattle.hot_log.specs.Kept.{ListsKeysOf};
 ghost use Rattle.page_base.specs.Stored.{IsStored};
+ghost use Rattle.segment_state.specs.HasMeaning.{IsKeptBy};
 ghost use Rattle.segment_state.specs.State.{min_of, version_of, image_of};
 ghost use Rattle.segment_core.specs.Adopting.{AdoptsBase};
 ghost use Rattle.segment_core.specs.Form.{IsSegment};
-ghost use Rattle.segment_core.specs.Keys.{key_of, HasKeysAfter, HasKeysAbove};
+ghost use Rattle.segment_core.specs.Keys.{key_of, HasKeysAfter};
 
 use crate::segment::Segment;
 use page_base::BaseImage;
@@ -29,13 +32,12 @@ impl Segment {
         self.keys_after(None)
     }
 
-    /// The keys of held records from some place on, rising: each record that waits, or is alive above a point, is among those. Its
-    /// only error is want of memory.
-    pub fn stored_above(&self, point: u64) -> Result<Vec<(u16, u64)>, AllocError>
-        ensures keys { IfOk result (λ v. HasKeysAbove self.now point v.items) }
+    /// The keys of the held records that wait, or are alive above a point, rising. Its only error is want of memory.
+    pub fn kept_keys(&self, point: u64) -> Result<Vec<(u16, u64)>, AllocError>
+        ensures keys { IfOk result (λ v. ListsKeysOf (IsKeptBy self.now point) v.items) }
         ensures rising { IsRising RecordBefore self.now.held }
     {
-        self.keys_after(Some((self.book.last_cut_at(point), point)))
+        self.hot.kept_keys(self.alloc, &self.book, point)
     }
 
     /// The keys of held records above the one given, rising; all for None.
@@ -82,6 +84,13 @@ impl Segment {
         self.hot.page_after(after)
     }
 
+    /// Whether a record of a key is held.
+    pub fn holds_key(&self, epoch: u16, number: u64) -> bool
+        ensures { IsTrue result ↔ HoldsKey self.now.held epoch number }
+    {
+        self.hot.holds_key(epoch, number)
+    }
+
     /// The held record of a key.
     pub fn get(&self, epoch: u16, number: u64) -> Option<&Record>
         ensures { IsRecordAt self.now.held epoch number (option_copied result) }
@@ -117,6 +126,13 @@ impl Segment {
         ensures { result ≡ version_of self.now.store page }
     {
         self.store.version(page)
+    }
+
+    /// The records that another segment holds and this one does not, rising by key. Its only error is want of memory.
+    pub fn missing<'a>(&self, other: &'a Segment) -> Result<Vec<&'a Record>, AllocError>
+        ensures { IfOk result (λ v. Lists RecordBefore (IsMissing self.now.held other.now.held) (map (λ x. x.now) v.items)) }
+    {
+        self.hot.missing(self.alloc, &other.hot)
     }
 
     /// The alive records of a page with a number above `from` and at most `to`, in order. Its only error is want of memory.

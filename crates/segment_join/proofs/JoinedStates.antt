@@ -307,8 +307,15 @@ module _ (old other taken joined new : State) (facts : List Fact) (images : List
       ⊎_elim
       (brought_told r)
       (λ (x : Contains other.held r × (IsNeedless taken other r → ⊥)).
-      inr (x.0, λ dead. x.1 (inl (still_dead r dead)), inr (λ image. x.1 (inr (still_in_image r image)))))
+      inr (x.0, λ dead. x.1 (inl (still_dead r dead)), inr (λ image. x.1 (inr (inr (still_in_image r image))))))
       (u.holds.more r ((held_is r).1 h))
+
+  own_version : (page : ℕ) → version_of old.store page ≤ version_of new.store page
+  own_version page =
+      ⊎_elim
+      (λ (x : SamePage old.store new.store page). let e : version_of new.store page ≡ version_of old.store page = x.0 in omega (arith, e))
+      (λ x. let lt : version_of old.store page < version_of new.store page = x.0 in omega (arith, lt))
+      (images_joined page)
 
   own_joined : (r : RecordData) → Contains old.held r → Contains new.held r
   own_joined r h = (held_is r).0 (u.holds.before r ((told_all old other taken facts u.first).before r h))
@@ -322,7 +329,7 @@ module _ (old other taken joined new : State) (facts : List Fact) (images : List
       (λ (o : HoldsOther taken r). inr (inr (held_before r h o)))
       (λ rest. ⊎_elim
       (λ (dead : IsDead taken.book.cuts taken.book.complete r.epoch r.number). absurd (not_dead dead))
-      (λ (f : InOtherImage taken other r). inr (inl (in_image f)))
+      (λ images. inr (inl (⊎_elim (λ (f : IsInImage taken r). own_image f) (λ (f : InOtherImage taken other r). in_image f) images)))
       rest)
       spared)
       (u.holds.each r h)
@@ -333,6 +340,15 @@ module _ (old other taken joined new : State) (facts : List Fact) (images : List
           (λ (w : IsWaiting taken.book.complete r.epoch). let x : r.epoch ≤ taken.book.complete = dead.0 in omega (arith, w, x))
           (λ (a : IsAlive taken.book.cuts taken.book.complete r.epoch r.number). dead.1 a)
           (subst (λ b. Matters b.cuts b.complete r) book_is mat)
+
+      own_image : IsInImage taken r → IsInImage new r
+      own_image f =
+          let before = told_all old other taken facts u.first in
+          let b : old.base ≤ new.base = base_joined.1 in
+          let same : taken.base ≡ old.base = before.base in
+          let version : version_of taken.store r.page ≡ version_of old.store r.page = ap (λ store. version_of store r.page) before.store in
+          let v = own_version r.page in
+          (subst (λ b. r.epoch ≤ b.complete) (sym book_is) f.0, omega (arith, f.1, b, same), omega (arith, f.2, v, version))
 
       in_image : InOtherImage taken other r → IsInImage new r
       in_image f =

@@ -16,3 +16,4 @@ pub mod Visiting
 pub mod Agreeing
 pub mod Merging
 pub mod BothWays
+pub mod LeavingOut

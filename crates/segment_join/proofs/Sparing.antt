@@ -8,7 +8,8 @@ use Rattle.redo_core.specs.Order.{IsRising, RecordBefore}
 use Rattle.redo_core.specs.Standing.{IsDead}
 use Rattle.redo_core.proofs.Members.{none_in, here, which}
 use Rattle.hot_log.specs.Held.{HasKey, IsRecordAt}
-use Rattle.segment_state.specs.State.{State, SameBase}
+use Rattle.segment_state.specs.State.{State, Store, SameBase, version_of}
+use Rattle.segment_state.specs.Means.{IsInImage}
 use Rattle.segment_core.specs.Uniting.{Holds}
 use Rattle.segment_core.specs.Refusing.{HoldsOther}
 use Rattle.segment_core.specs.Keys.{key_of}
@@ -69,16 +70,16 @@ holds_copy s other key redo t rising at needed holds = record {
       holds.held;
 }
 
--- ---- the keys of the held records up to a place
-pub record HoldsFirst (i : ℕ) (old other new : State) : Type 0 where
+-- ---- the first of the records that the state lacks
+pub record HoldsFirst (missing : List RecordData) (i : ℕ) (old other new : State) : Type 0 where
   pub book : new.book ≡ old.book
   pub rest : SameBase old new
   pub before : (r : RecordData) → Contains old.held r → Contains new.held r
   pub more : (r : RecordData) → Contains new.held r → Contains old.held r ⊎ (Contains other.held r × (IsNeedless old other r → ⊥))
-  pub each : (r : RecordData) → Contains (take i other.held) r → Contains new.held r ⊎ IsSpared old other r
+  pub each : (r : RecordData) → Contains (take i missing) r → Contains new.held r ⊎ IsSpared old other r
 
-pub first_none : (old other : State) → HoldsFirst 0 old other old
-first_none old other = record {
+pub first_none : (missing : List RecordData) (old other : State) → HoldsFirst missing 0 old other old
+first_none missing old other = record {
   book = refl;
   rest = record { base = refl; store = refl };
   before = λ r h. h;
@@ -86,58 +87,75 @@ first_none old other = record {
   each = λ r has. absurd (none_in r has);
 }
 
--- in another state of the same book it is needless too
-needless_by : (s t other : State) (r : RecordData) → t.book ≡ s.book → IsNeedless s other r → IsNeedless t other r
-needless_by s t other r same h =
+-- in another state of the same book and images it is needless too
+needless_by : (s t other : State) (r : RecordData) → t.book ≡ s.book → SameBase s t → IsNeedless s other r → IsNeedless t other r
+needless_by s t other r same rest h =
     ⊎_elim
     (λ (x : IsDead s.book.cuts s.book.complete r.epoch r.number). inl (subst (λ b. IsDead b.cuts b.complete r.epoch r.number) (sym same) x))
-    (λ (x : InOtherImage s other r). inr (subst (λ b. r.epoch ≤ b.complete) (sym same) x.0, x.1, x.2))
+    (λ images. ⊎_elim
+    (λ (x : IsInImage s r). inr (inl (
+      known x.0,
+      subst (λ n. r.number ≤ n) (sym rest.base) x.1,
+      subst (λ (store : Store). r.number ≤ version_of store r.page) (sym rest.store) x.2,
+    )))
+    (λ (x : InOtherImage s other r). inr (inr (known x.0, x.1, x.2)))
+    images)
     h
+  where
+    known : r.epoch ≤ s.book.complete → r.epoch ≤ t.book.complete
+    known x = subst (λ b. r.epoch ≤ b.complete) (sym same) x
+
+-- the same the other way round
+same_back : (s t : State) → SameBase s t → SameBase t s
+same_back s t rest = record { base = sym rest.base; store = sym rest.store }
 
 -- another one under its key is not of the other state's held records, so the old state held it
 spared_before : (old other mid : State) (r : RecordData) → IsRising RecordBefore other.held → Contains other.held r
     → ((x : RecordData) → Contains mid.held x → Contains old.held x ⊎ (Contains other.held x × (IsNeedless old other x → ⊥))) → mid.book ≡ old.book
-    → IsSpared mid other r → IsSpared old other r
-spared_before old other mid r rising has more same spared =
+    → SameBase old mid → IsSpared mid other r → IsSpared old other r
+spared_before old other mid r rising has more same rest spared =
     ⊎_elim
     (λ (h : HoldsOther mid r). ⊎_elim
     (λ (x : Contains old.held h.0). inl (h.0, x, h.2, h.3, h.4))
     (λ (x : Contains other.held h.0 × (IsNeedless old other h.0 → ⊥)). absurd (h.4 (one_of_key other.held h.0 r rising x.0 has h.2 h.3)))
     (more h.0 h.1))
-    (λ (h : IsNeedless mid other r). inr (needless_by mid old other r (sym same) h))
+    (λ (h : IsNeedless mid other r). inr (needless_by mid old other r (sym same) (same_back old mid rest) h))
     spared
 
-pub first_next : (i : ℕ) (old other mid new : State) (key : ℕ × ℕ) (x : RecordData) → IsRising RecordBefore other.held
-    → i < length other.held → x ≡ get_or other.held i x → key_of x ≡ key → Contains other.held x
-    → HoldsFirst i old other mid → HoldsAt mid other key new → HoldsFirst (i + 1) old other new
-first_next i old other mid new key x rising lt is at has first holds = record {
+pub first_next : (missing : List RecordData) (i : ℕ) (old other mid new : State) (x : RecordData) → IsRising RecordBefore other.held
+    → i < length missing → x ≡ get_or missing i x → Contains other.held x
+    → HoldsFirst missing i old other mid → HoldsAt mid other (key_of x) new → HoldsFirst missing (i + 1) old other new
+first_next missing i old other mid new x rising lt is has first holds = record {
   book = holds.book ∙ first.book;
   rest = record { base = holds.rest.base ∙ first.rest.base; store = holds.rest.store ∙ first.rest.store };
   before = λ r h. holds.before r (first.before r h);
   more = λ r h. ⊎_elim
       (λ (y : Contains mid.held r). first.more r y)
-      (λ (y : Contains other.held r × (IsNeedless mid other r → ⊥)). inr (y.0, λ no. y.1 (needless_by old mid other r first.book no)))
+      (λ (y : Contains other.held r × (IsNeedless mid other r → ⊥)). inr (y.0, λ no. y.1 (needless_by old mid other r first.book first.rest no)))
       (holds.more r h);
   each = λ r h.
       ⊎_elim
-      (λ (y : Contains (take i other.held) r). ⊎_elim (λ (z : Contains mid.held r). inl (holds.before r z)) (λ (z : IsSpared old other r). inr z) (first.each r y))
+      (λ (y : Contains (take i missing) r). ⊎_elim (λ (z : Contains mid.held r). inl (holds.before r z)) (λ (z : IsSpared old other r). inr z) (first.each r y))
       (λ (y : r ≡ x).
       let there : Contains other.held r = subst (Contains other.held) (sym y) has in
-      let of_key : HasKey key.0 key.1 r = (ap (λ (z : RecordData). z.epoch) y ∙ ap (λ (z : ℕ × ℕ). z.0) at, ap (λ (z : RecordData). z.number) y ∙ ap (λ (z : ℕ × ℕ). z.1) at) in
       ⊎_elim
       (λ (z : Contains new.held r). inl z)
-      (λ (z : IsSpared mid other r). inr (spared_before old other mid r rising there first.more first.book z))
-      (holds.each r there of_key))
-      (last_or other.held i x r lt is h);
+      (λ (z : IsSpared mid other r). inr (spared_before old other mid r rising there first.more first.book first.rest z))
+      (holds.each r there (ap (λ (z : RecordData). z.epoch) y, ap (λ (z : RecordData). z.number) y)))
+      (last_or missing i x r lt is h);
 }
 
-pub first_all : (i : ℕ) (old other new : State) → length other.held ≤ i → HoldsFirst i old other new → HoldsRest old other new
-first_all i old other new end first = record {
+pub first_all : (missing : List RecordData) (i : ℕ) (old other new : State) → ((r : RecordData) → Contains other.held r → Contains old.held r ⊎ Contains missing r)
+    → length missing ≤ i → HoldsFirst missing i old other new → HoldsRest old other new
+first_all missing i old other new known end first = record {
   book = first.book;
   rest = first.rest;
   before = first.before;
   more = first.more;
-  each = λ r h. first.each r (subst (λ rs. Contains rs r) (sym (take_all i other.held end)) h);
+  each = λ r h. ⊎_elim
+      (λ (own : Contains old.held r). inl (first.before r own))
+      (λ (lacks : Contains missing r). first.each r (subst (λ rs. Contains rs r) (sym (take_all i missing end)) lacks))
+      (known r h);
 }
 
 -- ---- the things with P among the first of a list

@@ -4,15 +4,16 @@ use Rattle.std.specs.List.{Contains}
 use Rattle.redo_core.specs.Data.{RecordData}
 use Rattle.redo_core.specs.Standing.{IsDead}
 use Rattle.segment_state.specs.State.{State, SameBase, version_of}
+use Rattle.segment_state.specs.Means.{IsInImage}
 use Rattle.segment_core.specs.Refusing.{HoldsOther}
 
 -- a record does not wait in a state's view, and its page's image in the other state has it, at or below the other's base point
 abbrev pub InOtherImage : State → State → RecordData → Type 0
 InOtherImage s other r = (r.epoch ≤ s.book.complete) × (r.number ≤ other.base) × (r.number ≤ version_of other.store r.page)
 
--- nothing of the record is missing: it is dead in the state's view, or the other's image has it
+-- nothing of the record is missing: it is dead in the state's view, or its page's image has it, the state's own or the other's
 abbrev pub IsNeedless : State → State → RecordData → Type 0
-IsNeedless s other r = IsDead s.book.cuts s.book.complete r.epoch r.number ⊎ InOtherImage s other r
+IsNeedless s other r = IsDead s.book.cuts s.book.complete r.epoch r.number ⊎ (IsInImage s r ⊎ InOtherImage s other r)
 
 -- a record needs no place in a state: the state holds another one under its key, or nothing of it is missing
 abbrev pub IsSpared : State → State → RecordData → Type 0

@@ -1,4 +1,3 @@
-pub mod Keeping
 pub mod Covering
 pub mod Told
 pub mod InOrder

@@ -1,5 +1,6 @@
 ghost use Rattle.std.specs.Prelude.{◌≡◌, ℕ, ◌≤◌, ◌↔◌, List, map, IsTrue, IfOk};
 ghost use Rattle.std.specs.List.{Contains, AllZip, All};
+ghost use Rattle.redo_core.specs.Data.{RecordData};
 ghost use Rattle.redo_core.specs.Meaning.{Meaning, IsMeaning};
 ghost use Rattle.redo_core.specs.AtMost.{IsAtMost};
 ghost use Rattle.redo_core.specs.Sound.{IsSound};
@@ -11,7 +12,7 @@ ghost use Rattle.segment_state.specs.HasMeaning.{HasAnchor, HasMeaning};
 ghost use Rattle.segment_state.specs.Known.{IsKnown};
 ghost use Rattle.segment_join.specs.Covering.{HasRecord, CoversBook, CoversState, CoversByParts};
 
-use crate::kept::kept_of;
+use crate::missing::kept_among;
 use redo_core::{Advance, Cut, Record};
 use redo_laws::order_by_parts;
 use segment_core::{Segment, Standing};
@@ -46,7 +47,8 @@ fn covers_state(upper: &Segment, lower: &Segment) -> Result<bool, AllocError>
     if anchor < lower.anchor() {
         return Ok(false);
     }
-    let kept = kept_of(lower)?;
+    let missing = upper.missing(lower)?;
+    let kept = kept_among(lower, &missing)?;
     Ok(has_records(upper, anchor, &kept))
 }
 
@@ -98,36 +100,20 @@ fn are_at_most(lower: &[u64], upper: &[u64]) -> bool
     true
 }
 
-/// Whether a segment with this anchor keeps the record, or needs it no more: it is dead, or at or below the anchor.
+/// Whether a segment with this anchor needs a record no more that it does not hold: it is dead, or at or below the anchor.
 fn has_record(segment: &Segment, anchor: u64, redo: &Record) -> bool
+    requires { Contains segment.now.held redo.now → ⊥ }
     ensures { IsTrue result ↔ HasRecord segment.now anchor redo.now }
 {
     match segment.stands(redo.epoch(), redo.number()) {
         Standing::Dead => true,
-        Standing::Waiting => holds(segment, redo),
-        Standing::Alive => {
-            if redo.number() <= anchor {
-                true
-            } else {
-                holds(segment, redo)
-            }
-        }
-    }
-}
-
-/// Whether a segment holds the record.
-fn holds(segment: &Segment, redo: &Record) -> bool
-    ensures { IsTrue result ↔ Contains segment.now.held redo.now }
-{
-    // It opens the segment's form: at most one record stands under a key.
-    let _base = segment.base_point();
-    match segment.get(redo.epoch(), redo.number()) {
-        Some(held) => held.is_same(redo),
-        None => false,
+        Standing::Waiting => false,
+        Standing::Alive => redo.number() <= anchor,
     }
 }
 
 fn has_records(segment: &Segment, anchor: u64, records: &[&Record]) -> bool
+    requires { (r : RecordData) → Contains (map (λ x. x.now) records.now) r → Contains segment.now.held r → ⊥ }
     ensures { IsTrue result ↔ All (HasRecord segment.now anchor) (map (λ r. r.now) records.now) }
 {
     for redo in records {

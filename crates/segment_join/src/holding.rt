@@ -1,4 +1,8 @@
-ghost use Rattle.std.specs.Prelude.{◌↔◌, IfOk, OnOk, IsTrue};
+ghost use Rattle.std.specs.Prelude.{◌↔◌, ◌⊎◌, ◌≤◌, map, IfOk, OnOk, IsTrue};
+ghost use Rattle.std.specs.List.{Contains};
+ghost use Rattle.redo_core.specs.Data.{RecordData};
+ghost use Rattle.segment_state.specs.State.{version_of};
+ghost use Rattle.segment_core.specs.Keys.{key_of};
 ghost use Rattle.segment_core.specs.Savepoint.{RollsBackAs};
 ghost use Rattle.segment_join.specs.Holding.{IsNeedless, HoldsRest};
 ghost use Rattle.segment_join.specs.Knowing.{HoldsAt};
@@ -8,61 +12,67 @@ use redo_core::Record;
 use segment_core::{BaseImage, Savepoint, Segment, Standing};
 use std::alloc::AllocError;
 
-/// Holds in a segment what another one holds, but for what is dead in the segment's view or folded in the other.
+/// Holds in a segment what another one holds, but for what is dead in the segment's view or folded in one of the two. What the
+/// segment did not hold of it is given.
 pub(crate) fn hold_rest(
     segment: &mut Segment,
     saved: &mut Savepoint,
     other: &Segment,
+    missing: &[&Record],
 ) -> Result<(), AllocError>
+    requires known { (r : RecordData) → Contains other.now.held r → Contains segment.old.held r ⊎ Contains (map (λ x. x.now) missing.now) r }
+    requires held { (r : RecordData) → Contains (map (λ x. x.now) missing.now) r → Contains other.now.held r }
     ensures holds { OnOk result (HoldsRest segment.old other.now segment.new) }
     ensures rolls_back { RollsBackAs saved.old segment.old saved.new segment.new }
 {
-    for key in &other.stored()? {
-        hold_at(segment, saved, other, *key)?;
+    // It opens the segment's form: at most one record stands under a key.
+    let _base = other.base_point();
+    for redo in missing {
+        hold_one(segment, saved, other, redo)?;
     }
     Ok(())
 }
 
-/// Holds the other segment's record of a key, where the segment holds none under it.
-fn hold_at(
+/// Holds the other segment's record, where the segment holds none under its key.
+fn hold_one(
     segment: &mut Segment,
     saved: &mut Savepoint,
     other: &Segment,
-    key: (u16, u64),
+    redo: &Record,
 ) -> Result<(), AllocError>
-    ensures holds { OnOk result (HoldsAt segment.old other.now key segment.new) }
+    requires { Contains other.now.held redo.now }
+    ensures holds { OnOk result (HoldsAt segment.old other.now (key_of redo.now) segment.new) }
     ensures rolls_back { RollsBackAs saved.old segment.old saved.new segment.new }
 {
-    let (epoch, number) = key;
     // It opens the segment's form: at most one record stands under a key.
     let _base = other.base_point();
-    if let Some(_) = segment.get(epoch, number) {
+    // Much of what is missing was folded in the segment, and no look-up is spent on it.
+    if is_needless(segment, other, redo) {
         return Ok(());
     }
-    match other.get(epoch, number) {
-        None => Ok(()),
-        Some(redo) => {
-            if is_needless(segment, other, redo) {
-                Ok(())
-            } else {
-                segment.hold_noted(saved, redo.copy()?)
-            }
-        }
+    if segment.holds_key(redo.epoch(), redo.number()) {
+        return Ok(());
     }
+    segment.hold_noted(saved, redo.copy()?)
 }
 
-/// Whether a segment needs no copy of a record: it is dead in the segment's view, or folded in another one and not waiting in the
-/// segment's view.
+/// Whether a segment needs no copy of another one's record: it is dead in the segment's view, or does not wait in it and is folded in
+/// one of the two.
 fn is_needless(segment: &Segment, other: &Segment, redo: &Record) -> bool
     ensures { IsTrue result ↔ IsNeedless segment.now other.now redo.now }
 {
     match segment.stands(redo.epoch(), redo.number()) {
         Standing::Dead => true,
         Standing::Waiting => false,
-        Standing::Alive => {
-            redo.number() <= other.base_point() && redo.number() <= other.version(redo.page())
-        }
+        Standing::Alive => is_folded(segment, redo) || is_folded(other, redo),
     }
+}
+
+/// Whether a record is at or below a segment's base point and the version of its page there.
+fn is_folded(segment: &Segment, redo: &Record) -> bool
+    ensures { IsTrue result ↔ ((redo.now.number ≤ segment.now.base) × (redo.now.number ≤ version_of segment.now.store redo.now.page)) }
+{
+    redo.number() <= segment.base_point() && redo.number() <= segment.version(redo.page())
 }
 
 /// Copies of the other segment's images that are newer than the segment's own.

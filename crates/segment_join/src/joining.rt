@@ -1,5 +1,7 @@
-ghost use Rattle.std.specs.Prelude.{◌≡◌, ◌⊎◌, OnOk, OnErr, IfErr};
+ghost use Rattle.std.specs.Prelude.{◌≡◌, ◌⊎◌, map, OnOk, OnErr, IfErr};
+ghost use Rattle.redo_core.specs.Order.{Lists, RecordBefore};
 ghost use Rattle.redo_core.specs.Book.{roster_of};
+ghost use Rattle.hot_log.specs.Missing.{IsMissing};
 ghost use Rattle.segment_core.specs.Form.{IsSegment};
 ghost use Rattle.segment_core.specs.Savepoint.{RollsBackAs};
 ghost use Rattle.segment_core.specs.declared.answers.Refusal.TheVariants.{Memory as MemoryOf};
@@ -7,8 +9,9 @@ ghost use Rattle.segment_join.specs.Joining.{MeansUnion, AreOfOneLog, JoinsInto,
 ghost use Rattle.segment_join.specs.Knowing.{TakesAll, RefusesAll, IsJoined};
 
 use crate::holding::{hold_rest, newer_images};
-use crate::kept::kept_of;
+use crate::missing::kept_among;
 use crate::told::take_told;
+use redo_core::Record;
 use segment_core::{Refusal, Savepoint, Segment};
 
 /// Brings what another segment means into a segment, whatever each has folded and thrown away.
@@ -81,22 +84,36 @@ fn know_and_hold(
     ensures refused { IfErr result (λ e. (e ≡ MemoryOf) ⊎ RefusesAll segment.old other.now e) }
     ensures rolls_back { RollsBackAs saved.old segment.old saved.new segment.new }
 {
-    if let Err(why) = take_all(segment, saved, other) {
+    // It is called for what it ensures: the segment has its form.
+    let _own = segment.base_point();
+    let Ok(missing) = segment.missing(other) else {
+        return Err(Refusal::Memory);
+    };
+    if let Err(why) = take_all(segment, saved, other, &missing) {
         return Err(why);
     }
-    match hold_rest(segment, saved, other) {
+    match hold_rest(segment, saved, other, &missing) {
         Ok(()) => Ok(()),
         Err(_) => Err(Refusal::Memory),
     }
 }
 
-/// Takes each fact that another segment tells.
-fn take_all(segment: &mut Segment, saved: &mut Savepoint, other: &Segment) -> Result<(), Refusal>
+/// Takes each fact that another segment tells. What the segment holds already tells it nothing: it is not looked at.
+fn take_all(
+    segment: &mut Segment,
+    saved: &mut Savepoint,
+    other: &Segment,
+    missing: &[&Record],
+) -> Result<(), Refusal>
+    requires { Lists RecordBefore (IsMissing segment.old.held other.now.held) (map (λ x. x.now) missing.now) }
     ensures takes { OnOk result (TakesAll segment.old other.now segment.new) }
     ensures refused { IfErr result (λ e. (e ≡ MemoryOf) ⊎ RefusesAll segment.old other.now e) }
     ensures rolls_back { RollsBackAs saved.old segment.old saved.new segment.new }
 {
-    let Ok(kept) = kept_of(other) else {
+    // They are called for what they ensure: the segments have their form.
+    let _own = segment.base_point();
+    let _others = other.base_point();
+    let Ok(kept) = kept_among(other, missing) else {
         return Err(Refusal::Memory);
     };
     // It is called for what it ensures: the kept records are those above the anchor.

@@ -1,25 +1,23 @@
-use Rattle.std.proofs.Common.{◌≡◌, ◌<◌, ◌≤◌, length, map, ◌∙◌, arith}
+use Rattle.std.proofs.Common.{◌≡◌, ◌<◌, ◌≤◌, length, get_or, map, ◌∙◌, sym, ap, arith, Bor}
+use Rattle.std.proofs.Math.ListN.{get_or-map}
+use Rattle.std.proofs.lemmas.List.{length-map}
+use Rattle.redo_core.specs.Data.{RecordData}
 use Rattle.redo_core.proofs.Members.{item}
-use Rattle.segment_core.specs.Keys.{key_of}
-use Rattle.segment_join.proofs.Keeping.{item_at, key_at, same_length}
 use Rattle.segment_join.proofs.Sparing.{first_next, first_all}
 use Rattle.segment_join.proofs.holding.hold_rest.Goals as goal
 
-pub loop-key-preserved : goal.loop-key-preserved
-loop-key-preserved c =
-    let other = c.args.other.now in let held = other.held in let i = c.loop-key.key-index in
-    let is : c.deref-key-items.result.now ≡ map key_of held = c.deref-key-items.ensures.value ∙ c.in_ok-stored.ensures.keys in
-    let lt : i < length held = omega (arith, c.loop-key-test.true, same_length held c.deref-key-items.result.now is) in
-    let x = item_at held i lt in
-    let key = key_at held c.deref-key-items.result.now i x.0 (0, 0) is lt x.1 in (
-      first_next i c.args.segment.now other c.loop-key.segment c.hold_at.new.segment _ x.0 c.in_ok-stored.ensures.rising lt x.1 key (item held i x.0 lt x.1)
-          c.loop-key.invariant.0 c.in_ok-hold_at.ensures.holds,
-      λ old h. c.hold_at.ensures.rolls_back old (c.loop-key.invariant.1 old h),
+pub loop-redo-preserved : goal.loop-redo-preserved
+loop-redo-preserved c =
+    let now : Bor RecordData → RecordData = λ r. r.now in let rs = c.args.missing.now in let i = c.loop-redo.redo-index in let x = c.redo-item.result in
+    let is : x.now ≡ get_or (map now rs) i x.now = ap now c.redo-item.is ∙ sym (get_or-map now rs i x) in
+    let lt : i < length (map now rs) = omega (arith, c.loop-redo-test.true, length-map rs now) in (
+      first_next (map now rs) i c.args.segment.now c.args.other.now c.loop-redo.segment c.hold_one.new.segment x.now c.base_point-base.ensures.form.held.rising lt is
+          (c.requires.held x.now (item (map now rs) i x.now lt is)) c.loop-redo.invariant.0 c.in_ok-hold_one.ensures.holds,
+      λ old h. c.hold_one.ensures.rolls_back old (c.loop-redo.invariant.1 old h),
     )
 
 pub returns-clause-holds : goal.returns-clause-holds
 returns-clause-holds c =
-    let other = c.args.other.now in let held = other.held in
-    let is : c.deref-key-items.result.now ≡ map key_of held = c.deref-key-items.ensures.value ∙ c.in_ok-stored.ensures.keys in
-    let end : length held ≤ c.loop-key.key-index = omega (arith, c.loop-key-test.false, same_length held c.deref-key-items.result.now is) in
-    first_all c.loop-key.key-index c.args.segment.now other c.loop-key.segment end c.loop-key.invariant.0
+    let now : Bor RecordData → RecordData = λ r. r.now in let rs = c.args.missing.now in
+    let end : length (map now rs) ≤ c.loop-redo.redo-index = omega (arith, c.loop-redo-test.false, length-map rs now) in
+    first_all (map now rs) c.loop-redo.redo-index c.args.segment.now c.args.other.now c.loop-redo.segment c.requires.known end c.loop-redo.invariant.0

@@ -1,28 +1,40 @@
 use Rattle.std.proofs.Common.{◌≡◌, ◌⊎◌, List, map, Bor, subst}
+use Rattle.std.specs.List.{Contains}
 use Rattle.std.proofs.lemmas.Result.{on_ok_weaker, IfErr-weaker}
 use Rattle.redo_core.specs.Data.{RecordData}
 use Rattle.redo_core.specs.Book.{BookData, book_of}
+use Rattle.redo_core.specs.Order.{Lists, RecordBefore}
+use Rattle.redo_core.proofs.Listing.{lists_as}
+use Rattle.segment_state.specs.HasMeaning.{IsKeptBy}
 use Rattle.segment_core.specs.declared.answers.Refusal.{Refusal}
 use Rattle.segment_core.specs.declared.answers.Refusal.TheVariants.{Memory}
 use Rattle.segment_join.specs.Told.{facts_told}
 use Rattle.segment_join.specs.InOrder.{TakesEach, RefusesOne}
 use Rattle.segment_join.specs.Knowing.{RefusesAll}
+use Rattle.segment_join.proofs.LeavingOut.{takes_left_out, refuses_left_out}
 use Rattle.segment_join.proofs.Ordered.{memory_or}
-use Rattle.segment_join.proofs.Telling.{takes_all, refuses_all}
 use Rattle.segment_join.proofs.TellingAll.{same_book}
 use Rattle.segment_join.proofs.joining.take_all.Goals as goal
+
+pub kept_among-requires-clause-held : goal.kept_among-requires-clause-held
+kept_among-requires-clause-held c = λ r h. ((c.requires.members r).0 h).0
 
 pub returns-clause-takes : goal.returns-clause-takes
 returns-clause-takes c =
     let s = c.args.segment.now in let other = c.args.other.now in let anchor = c.anchor-anchor.result in let above = c.anchor-anchor.ensures.own in
     let kept : List RecordData = map (λ r. r.now) c.in-Ok.kept.items in
+    let missing : List RecordData = map (λ r. r.now) c.args.missing.now in
+    let lists : Lists RecordBefore (λ r. IsKeptBy other anchor r × (Contains s.held r → ⊥)) kept =
+    lists_as RecordBefore (λ r. Contains missing r × IsKeptBy other anchor r) (λ r. IsKeptBy other anchor r × (Contains s.held r → ⊥)) kept
+    (λ r. (λ h. (h.1, ((c.requires.members r).0 h.0).1), λ h. ((c.requires.members r).1 (h.0.0, h.1), h.0)))
+    (c.in-Ok.ensures anchor above) in
     let given = book_of c.cuts.result.now c.front-complete.result.epoch c.points.result.now c.waits.result.now in
     let is : given ≡ other.book = same_book other.book c.cuts.result.now c.front-complete.result.epoch c.points.result.now c.waits.result.now
     c.cuts.ensures.value c.front-complete.ensures.own.epoch c.points.ensures.own c.waits.ensures.value in
     let t = c.take_told.new.segment in
     on_ok_weaker c.take_told.result
     (λ (h : TakesEach s (facts_told given (map (λ r. r.now) c.deref.result.now)) t).
-    takes_all other anchor kept above (c.in-Ok.ensures anchor above) s t
+    takes_left_out s other anchor kept c.base_point-own.ensures.form.held c.base_point-others.ensures.form.held above lists t
     (subst (λ (b : BookData). TakesEach s (facts_told b kept) t) is
     (subst (λ (rs : List (Bor RecordData)). TakesEach s (facts_told given (map (λ r. r.now) rs)) t) c.deref.ensures.value h)))
     c.take_told.ensures.takes
@@ -31,6 +43,11 @@ pub returns-clause-refused : goal.returns-clause-refused
 returns-clause-refused c =
     let s = c.args.segment.now in let other = c.args.other.now in let anchor = c.anchor-anchor.result in let above = c.anchor-anchor.ensures.own in
     let kept : List RecordData = map (λ r. r.now) c.in-Ok.kept.items in
+    let missing : List RecordData = map (λ r. r.now) c.args.missing.now in
+    let lists : Lists RecordBefore (λ r. IsKeptBy other anchor r × (Contains s.held r → ⊥)) kept =
+    lists_as RecordBefore (λ r. Contains missing r × IsKeptBy other anchor r) (λ r. IsKeptBy other anchor r × (Contains s.held r → ⊥)) kept
+    (λ r. (λ h. (h.1, ((c.requires.members r).0 h.0).1), λ h. ((c.requires.members r).1 (h.0.0, h.1), h.0)))
+    (c.in-Ok.ensures anchor above) in
     let given = book_of c.cuts.result.now c.front-complete.result.epoch c.points.result.now c.waits.result.now in
     let is : given ≡ other.book = same_book other.book c.cuts.result.now c.front-complete.result.epoch c.points.result.now c.waits.result.now
     c.cuts.ensures.value c.front-complete.ensures.own.epoch c.points.ensures.own c.waits.ensures.value in
@@ -39,7 +56,7 @@ returns-clause-refused c =
     (λ (e : Refusal).
     memory_or e (RefusesOne s (facts_told given (map (λ r. r.now) c.deref.result.now)) e) _
     (λ h.
-    refuses_all other anchor kept above (c.in-Ok.ensures anchor above) s e
+    refuses_left_out s other anchor kept c.base_point-own.ensures.form.held c.base_point-others.ensures.form.held above lists e
     (subst (λ (b : BookData). RefusesOne s (facts_told b kept) e) is
     (subst (λ (rs : List (Bor RecordData)). RefusesOne s (facts_told given (map (λ r. r.now) rs)) e) c.deref.ensures.value h))))
     c.take_told.ensures.refused

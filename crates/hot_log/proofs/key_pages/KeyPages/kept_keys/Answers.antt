@@ -1,0 +1,45 @@
+use Rattle.std.proofs.Common.{◌≡◌, ℕ, sym, ◌∙◌, ap, subst, List, [], ◌∷◌, ◌++◌, map}
+use Rattle.std.specs.Map.Iter.{deref_pair}
+use Rattle.std.proofs.lemmas.Map.Iter.{rest_so_far}
+use Rattle.std.proofs.lemmas.List.{map-append, append-nil}
+use Rattle.redo_core.specs.Order.{Lists}
+use Rattle.hot_log.specs.Kept.{KeepsKey, KeyBefore, IsKeyKept}
+use Rattle.hot_log.proofs.Keyed.{Entry}
+use Rattle.hot_log.proofs.Kept.{ListsKept, kept_more, kept_left, kept_all}
+use Rattle.hot_log.proofs.key_pages.KeyPages.kept_keys.Goals as goal
+
+pub loop-key-preserved-in-Continue-1 : goal.loop-key-preserved-in-Continue-1
+loop-key-preserved-in-Continue-1 c =
+    let b = c.args.book.now in let m = c.self.inside.map in
+    let xs : List Entry = map deref_pair c.loop-key.yielded in
+    let x : Entry = (c.in-Some.key.now, c.in-Some.field-0-1.now) in
+    let es = c.range-key-items.result in
+    let start : c.into_iter-key-iterator.result ≡ es = cc in
+    let split : es ≡ xs ++ x ∷ c.next.new.self =
+    sym start ∙ rest_so_far deref_pair c.loop-key.yielded c.into_iter-key-iterator.result c.loop-key.key-iterator c.loop-key.yielded_by ∙ ap (λ (l : List Entry). xs ++ l) c.in-Some.ensures.steps in
+    let more = kept_more b c.args.point m c.args.above es xs c.next.new.self x c.loop-key.kept.items c.self.invariant (c.range-key-items.ensures.between tt) split c.loop-key.invariant (c.is_kept.ensures.0 c.if-is_kept.true) in
+    let joined : map deref_pair (c.loop-key.yielded ++ (c.in-Some.key, c.in-Some.field-0-1) ∷ []) ≡ xs ++ x ∷ [] = rw map-append in
+    subst (λ (l : List Entry). ListsKept b c.args.point l c.push.new.self.items) (sym joined)
+    (subst (ListsKept b c.args.point (xs ++ x ∷ [])) (sym c.in_ok-push.ensures.items) more)
+
+pub loop-key-preserved : goal.loop-key-preserved
+loop-key-preserved c =
+    let b = c.args.book.now in
+    let xs : List Entry = map deref_pair c.loop-key.yielded in
+    let x : Entry = (c.in-Some.key.now, c.in-Some.field-0-1.now) in
+    let joined : map deref_pair (c.loop-key.yielded ++ (c.in-Some.key, c.in-Some.field-0-1) ∷ []) ≡ xs ++ x ∷ [] = rw map-append in
+    subst (λ (l : List Entry). ListsKept b c.args.point l c.loop-key.kept.items) (sym joined)
+    (kept_left b c.args.point xs x c.loop-key.kept.items c.loop-key.invariant (λ (keeps : KeepsKey b c.args.point x.0). let yes = c.is_kept.ensures.1 keeps in absurd (cc)))
+
+pub returns : goal.returns
+returns c =
+    let b = c.args.book.now in let m = c.self.inside.map in
+    let xs : List Entry = map deref_pair c.loop-key.yielded in
+    let keys : List (ℕ × ℕ) = c.loop-key.kept.items in
+    let es = c.range-key-items.result in
+    let start : c.into_iter-key-iterator.result ≡ es = cc in
+    let all : es ≡ xs =
+    sym start ∙ rest_so_far deref_pair c.loop-key.yielded c.into_iter-key-iterator.result c.loop-key.key-iterator c.loop-key.yielded_by ∙ ap (λ (l : List Entry). xs ++ l) c.in-None.ensures.steps.0 ∙ append-nil xs in
+    subst (λ (l : List Entry). Lists KeyBefore (IsKeyKept b l c.args.above c.args.point) keys) c.self.view_is
+    (kept_all b c.args.point m c.args.above es keys (c.range-key-items.ensures.between tt)
+    (subst (λ (l : List Entry). ListsKept b c.args.point l keys) (sym all) c.loop-key.invariant))

@@ -1,0 +1,39 @@
+ghost use Rattle.std.specs.Prelude.{◌≡◌, ℕ, ◌↔◌, map, IsTrue, IfOk};
+ghost use Rattle.std.specs.List.{Contains};
+ghost use Rattle.redo_core.specs.Data.{RecordData};
+ghost use Rattle.redo_core.specs.Order.{IsRising, Lists, RecordBefore};
+ghost use Rattle.segment_state.specs.HasMeaning.{HasAnchor, IsKeptBy};
+
+use redo_core::Record;
+use segment_core::{Segment, Standing};
+use std::alloc::AllocError;
+
+/// Those of a segment's held records that its meaning keeps, of a list that rises by key. Its only error is want of memory.
+pub(crate) fn kept_among<'a>(
+    segment: &Segment,
+    records: &[&'a Record],
+) -> Result<Vec<&'a Record>, AllocError>
+    requires rising { IsRising RecordBefore (map (λ x. x.now) records.now) }
+    requires held { (r : RecordData) → Contains (map (λ x. x.now) records.now) r → Contains segment.now.held r }
+    ensures { (anchor : ℕ) → HasAnchor segment.now anchor → IfOk result (λ v. Lists RecordBefore (λ r. Contains (map (λ x. x.now) records.now) r × IsKeptBy segment.now anchor r) (map (λ x. x.now) v.items)) }
+{
+    let anchor = segment.anchor();
+    let mut kept = Vec::new(segment.allocator());
+    for redo in records {
+        if keeps(segment, anchor, redo) {
+            kept.push(*redo)?;
+        }
+    }
+    Ok(kept)
+}
+
+/// Whether a held record waits, or is alive above a point.
+fn keeps(segment: &Segment, point: u64, redo: &Record) -> bool
+    ensures { Contains segment.now.held redo.now → IsTrue result ↔ IsKeptBy segment.now point redo.now }
+{
+    match segment.stands(redo.epoch(), redo.number()) {
+        Standing::Dead => false,
+        Standing::Waiting => true,
+        Standing::Alive => point < redo.number(),
+    }
+}
