@@ -1,50 +1,103 @@
 #!/usr/bin/env python3
-"""The gate: `rt ci`, then the program that it built, from outside, the script `fleet` and the documents. The last line counts all.
+"""The gate: `rt ci` over a copy of the tree in which the must-fail edits stand aside, then the edits that are due, many in a check
+(`wrong_bodies.py`), then the program that `rt ci` built, from outside, the tools' own tests, the script `fleet` and the documents.
+The last line counts all.
 
-`rt ci` leaves the program where a build leaves it, as two compilers made it; nothing is proved or built again.
+`rt ci` at the top of the repository tries each edit by itself: that is the whole, for a new toolchain and before a release.
+With --record the sums of the crates whose edits were all refused are written into tools/tried.txt. With --all each edit is due.
 """
 
+import argparse
+import pathlib
 import re
+import shutil
 import subprocess
 import sys
+import tempfile
 
 import documents
 import fleet_script
 import gate_time
 import outside
+import wrong_bodies_tests
 
 BY_RATTLE = outside.PROGRAM.with_name("fleet.by-rattle")
+ASIDE = "edits-aside"
 
 
-def proved():
-    """Runs `rt ci`, passes its lines on, and answers whether all is well and what its last line counts, where it does."""
+def copied(room):
+    """A copy of the repository's files, and no other ones, in which `rt ci` finds no edit."""
+    words = ["git", "ls-files", "-z", "--cached", "--others", "--exclude-standard"]
+    names = subprocess.run(words, cwd=outside.ROOT, stdout=subprocess.PIPE, check=True).stdout.decode()
+    for name in filter(None, names.split("\0")):
+        source, copy = outside.ROOT / name, room / name
+        if source.is_file():
+            copy.parent.mkdir(parents=True, exist_ok=True)
+            shutil.copy2(source, copy)
+    for edits in room.glob("crates/*/must-fail"):
+        edits.rename(edits.with_name(ASIDE))
+
+
+def counted(words, folder):
+    """Runs a command, passes its lines on, and answers whether it ended well, and what its last line counts, where it does."""
     last = b""
-    times = gate_time.GateTime()
-    times.start()
-    with subprocess.Popen(["rt", "ci"], cwd=outside.ROOT, stdout=subprocess.PIPE) as gate:
-        for line in gate.stdout:
+    with subprocess.Popen(words, cwd=folder, stdout=subprocess.PIPE) as command:
+        for line in command.stdout:
             sys.stdout.buffer.write(line)
             sys.stdout.flush()
             last = line
-    times.stop()
-    print(*times.lines(), sep="\n", flush=True)
     count = re.fullmatch(rb"([0-9]+) passed, ([0-9]+) failed\n", last)
-    return gate.returncode == 0 and count is not None, count and (int(count[1]), int(count[2]))
+    return command.returncode == 0 and count is not None, (int(count[1]), int(count[2])) if count else (0, 1)
+
+
+def refused(room, flags):
+    """What the check of the edits that are due says, over the libraries that `rt ci` built in the copy."""
+    for edits in room.glob(f"crates/*/{ASIDE}"):
+        edits.rename(edits.with_name("must-fail"))
+    words = ["git", "rev-parse", "HEAD"]
+    commit = subprocess.run(words, cwd=outside.ROOT, stdout=subprocess.PIPE, check=True).stdout.decode().strip()
+    tool = [sys.executable, "tools/wrong_bodies.py", "--built", "--at", commit]
+    return counted([*tool, *flags], room)
+
+
+def judged(room, given):
+    """Whether the copy is proved and its edits are refused, and what that counts; the program that was built is brought here."""
+    copied(room)
+    is_well, (passed, failed) = counted(["rt", "ci"], room)
+    if not is_well:
+        return False, (passed, max(failed, 1))
+    built = room / "crates/fleet/out"
+    outside.PROGRAM.parent.mkdir(parents=True, exist_ok=True)
+    for name in (outside.PROGRAM.name, BY_RATTLE.name):
+        if (built / name).exists():
+            shutil.copy2(built / name, outside.PROGRAM.with_name(name))
+    is_well, tried = refused(room, [*([] if given.all else ["--due"]), *(["--record"] if given.record else [])])
+    if given.record:
+        shutil.copy2(room / "tools/tried.txt", outside.ROOT / "tools/tried.txt")
+    return is_well, (passed + tried[0], failed + max(tried[1], not is_well))
 
 
 def main():
-    is_well, counts = proved()
+    parser = argparse.ArgumentParser(description=__doc__, formatter_class=argparse.RawDescriptionHelpFormatter)
+    parser.add_argument("--all", action="store_true", help="try each edit, whether it is due or not")
+    parser.add_argument("--record", action="store_true", help="write the sums of the crates whose edits were refused")
+    given = parser.parse_args()
+    times = gate_time.GateTime()
+    times.start()
+    with tempfile.TemporaryDirectory(prefix="gate-") as room:
+        is_well, (passed, failed) = judged(pathlib.Path(room), given)
+    times.stop()
+    print(*times.lines(), sep="\n", flush=True)
     if not is_well:
-        if not counts or not counts[1]:
-            print("0 passed, 1 failed")
+        print(f"{passed} passed, {failed} failed")
         sys.exit(1)
     programs = [outside.PROGRAM]
     if BY_RATTLE.exists():
         programs.append(BY_RATTLE)
     else:
         print(f"{BY_RATTLE.name} is not there: Rattle's own compiler built no program, and what it would build is not tested")
-    passed, failed = counts
-    for more_passed, more_failed in (*map(outside.outside, programs), fleet_script.tests(), documents.documents()):
+    tests = (wrong_bodies_tests.tests, fleet_script.tests, documents.documents)
+    for more_passed, more_failed in (*map(outside.outside, programs), *(test() for test in tests)):
         passed, failed = passed + more_passed, failed + more_failed
     print(f"{passed} passed, {failed} failed")
     sys.exit(1 if failed else 0)

@@ -8,6 +8,7 @@ Nothing is left out in silence: where a test cannot be made here, it fails and s
 import argparse
 import os
 import pathlib
+import runpy
 import subprocess
 import sys
 import tempfile
@@ -49,11 +50,9 @@ def expect(what, seen, wanted):
 STATUS_OF = {b"bad": 2, b"unsound": 3}
 
 
-def examples(program):
-    """Each example's answers stand in the file NAME.TASK.out beside NAME.txt."""
-    answers = sorted((ROOT / "examples").glob("*.*.out"))
-    if not answers:
-        raise Failed("no example")
+def answers_hold(program, folder):
+    """How many answers stand in the folder: those to NAME.txt in the files NAME.TASK.out beside it."""
+    answers = sorted(folder.glob("*.*.out"))
     for path in answers:
         name, task, _ = path.name.split(".")
         wanted = path.read_bytes()
@@ -61,12 +60,33 @@ def examples(program):
         is_inspected = task == "inspect"
         status = 0 if is_inspected else STATUS_OF.get(wanted.split(b" ")[0], 0)
         expect(path.name, answer(program, [task], input=text), (status, wanted, b""))
-    return f"{len(answers)} answers"
+    unanswered = {it.stem for it in folder.glob("*.txt")} - {it.name.split(".")[0] for it in answers}
+    expect(f"texts of {folder.name} without an answer", sorted(unanswered), [])
+    return len(answers)
+
+
+def examples(program):
+    count = answers_hold(program, ROOT / "examples")
+    if not count:
+        raise Failed("no example")
+    return f"{count} answers"
+
+
+def rows(program):
+    """The rows of whole texts, and those of short ones: in each ROWS a task, its input, status and output."""
+    count = answers_hold(program, ROOT / "rows")
+    texts = [row for path in sorted((ROOT / "rows").glob("*.py")) for row in runpy.run_path(str(path))["ROWS"]]
+    for task, text, status, output in texts:
+        expect(f"{task} of {text[-200:]!r}", answer(program, [task], input=text), (status, output, b""))
+    if not count or not texts:
+        raise Failed(f"{count} whole texts and {len(texts)} short ones")
+    return f"{count} whole texts and {len(texts)} short ones"
 
 
 SOUND = b"rec 0 3 0 7 0 0:61\nmin 0 3\n"
 SCRIPT = SOUND + b"go\nnodes 1\ntake 1 1\nread 1 7 3 0 1\n"
 UNSOUND = b"rec 0 3 2 7 0 -\n"
+TWO_READERS = b"roster 2\nrec 0 3 0 7 0 0:61\nrec 0 5 3 7 3 0:62\nmin 0 5\nmin 0 3 2\ncut 1 3 20\nrec 1 21 3 7 3 0:63\nmin 1 21 2\n"
 
 TEXTS = [
     # task, input, status, output
@@ -83,7 +103,9 @@ TEXTS = [
     ("check", SOUND + b"\n", 2, b"bad line 3\n"),
     ("run", b"", 2, b"bad line 1\n"),
     ("run", SCRIPT + b"take 1 3\n", 2, b"bad line 7\n"),
+    ("run", b"roster 2\nmin 0 5\ngo\nnodes 1\ntake 1 1\ntake 1 2\n", 2, b"bad line 6\n"),
     ("check", UNSOUND, 3, b"unsound 1 law 3\n"),
+    ("check", TWO_READERS, 3, b"unsound 3 law 5\n"),
     ("run", UNSOUND + b"go\nnodes 1\n", 3, b"unsound 1 law 3\n"),
 ]
 
@@ -233,6 +255,7 @@ def hostile_counts(program):
 def tests(rounds, seed):
     return {
         "examples": examples,
+        "rows": rows,
         "statuses 0, 2 and 3, of texts": statuses_of_texts,
         "status 2, of command lines": bad_command_lines,
         "status 0, of the help": help_is_printed,
