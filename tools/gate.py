@@ -81,11 +81,12 @@ def main():
     parser = argparse.ArgumentParser(description=__doc__, formatter_class=argparse.RawDescriptionHelpFormatter)
     parser.add_argument("--all", action="store_true", help="try each edit, whether it is due or not")
     parser.add_argument("--record", action="store_true", help="write the sums of the crates whose edits were refused")
+    parser.add_argument("--room", type=pathlib.Path, help="an empty folder for the copy, which then stays")
     given = parser.parse_args()
     times = gate_time.GateTime()
     times.start()
     with tempfile.TemporaryDirectory(prefix="gate-") as room:
-        is_well, (passed, failed) = judged(pathlib.Path(room), given)
+        is_well, (passed, failed) = judged((given.room or pathlib.Path(room)).resolve(), given)
     times.stop()
     print(*times.lines(), sep="\n", flush=True)
     if not is_well:
