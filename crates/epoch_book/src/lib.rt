@@ -8,6 +8,7 @@
 mod advances;
 mod book;
 mod cuts;
+mod fixed;
 mod known;
 mod laws;
 mod lows;
@@ -21,6 +22,3 @@ pub use laws::sound_facts_are_learnt;
 pub use parts::is_contradicted;
 pub use refusals::{BookRefusal, Held, Learnt};
 pub use standing::Standing;
-
-#[cfg(test)]
-mod tests;

@@ -11,6 +11,7 @@
 #![tactic(auto)]
 
 mod ahead;
+mod fixed;
 mod index;
 mod key_pages;
 mod links;
@@ -19,8 +20,6 @@ mod records;
 mod removal;
 mod search;
 mod steps;
-#[cfg(test)]
-mod tests;
 
 pub use log::{HotLog, Put, PutFault};
 pub use steps::Steps;

@@ -6,12 +6,11 @@
 #![tactic(auto)]
 
 mod adopting;
+mod fixed;
 mod images;
 mod merging;
 mod places;
 mod store;
-#[cfg(test)]
-mod tests;
 
 pub use images::BaseImage;
 pub use store::BaseStore;

@@ -1,0 +1,68 @@
+//! What the contracts fix, so that no other body meets them: what is lent is the page's own, and what is taken in shows one way.
+//! Each function states its law and is called by nobody.
+
+ghost use Rattle.std.specs.Prelude.{◌≡◌, ℕ, IfSome, IsTrue};
+ghost use Rattle.redo_core.specs.Store.{version_of, image_of};
+
+use crate::images::BaseImage;
+use crate::store::BaseStore;
+use redo_core::Page;
+
+fn image_is_lent_one_way(store: &BaseStore, page: u16) -> Option<(&BaseImage, &BaseImage)>
+    ensures { IfSome result (λ both. both.0.now ≡ both.1.now) }
+{
+    Some((store.stored_image(page)?, store.stored_image(page)?))
+}
+
+// Whether both stores took the image in.
+fn image_is_raised_one_way(
+    one: &mut BaseStore,
+    other: &mut BaseStore,
+    image: (u16, u64, Page),
+    same: Page,
+) -> bool
+    requires stores { one.old ≡ other.old }
+    requires images { image.2 ≡ same }
+    ensures versions { IsTrue result → (p : ℕ) → version_of one.new p ≡ version_of other.new p }
+    ensures images { IsTrue result → (p : ℕ) → image_of one.new p ≡ image_of other.new p }
+{
+    let (page, version, image) = image;
+    let first = one.raise(page, version, image).is_ok();
+    let second = other.raise(page, version, same).is_ok();
+    first && second
+}
+
+// Whether both stores took the pages in.
+fn pages_are_adopted_one_way(
+    one: &mut BaseStore,
+    other: &mut BaseStore,
+    base: u64,
+    pages: Vec<(u16, Page)>,
+    same: Vec<(u16, Page)>,
+) -> bool
+    requires stores { one.old ≡ other.old }
+    requires pages { pages.items ≡ same.items }
+    ensures floors { IsTrue result → one.new.floor ≡ other.new.floor }
+    ensures versions { IsTrue result → (p : ℕ) → version_of one.new p ≡ version_of other.new p }
+    ensures images { IsTrue result → (p : ℕ) → image_of one.new p ≡ image_of other.new p }
+{
+    let first = one.adopt(base, pages).is_ok();
+    let second = other.adopt(base, same).is_ok();
+    first && second
+}
+
+// Whether both stores took the images in.
+fn floor_is_merged_one_way(
+    one: &mut BaseStore,
+    other: &mut BaseStore,
+    floor: u64,
+    images: (Vec<BaseImage>, Vec<BaseImage>),
+) -> bool
+    requires { one.old ≡ other.old }
+    ensures { IsTrue result → one.new.floor ≡ other.new.floor }
+{
+    let (own, others) = images;
+    let first = one.merge(floor, own).is_ok();
+    let second = other.merge(floor, others).is_ok();
+    first && second
+}

@@ -1,0 +1,42 @@
+//! What a segment stores, call by call: a line of the input names a call of a `HotLog`, an `EpochBook` or a `BaseStore` with its
+//! numbers, and is printed with what that call answers.
+//!
+//! A line that begins with '#' names a group of rows and is printed as it is. `fresh N` begins anew, with a book of N readers.
+//! A line that names no call answers '?'.
+#![tactic(auto)]
+
+mod answers;
+mod bench;
+mod book_calls;
+mod log_answers;
+mod log_changes;
+mod store_calls;
+mod words;
+
+use bench::Bench;
+use redo_core::Roster;
+use std::io;
+
+fn print_row(rt: &HostRuntime, bench: &mut Bench, line: &str) -> io::Result<()> {
+    if line.starts_with('#') {
+        return println!(rt; "{line}");
+    }
+    match bench.answer(rt.alloc(), words::of(line))? {
+        Some(answer) => println!(rt; "{line}: {answer:?}"),
+        None => println!(rt; "{line}: ?"),
+    }
+}
+
+fn print_rows(rt: &HostRuntime, mut bench: Bench) -> io::Result<()> {
+    for line in rt.lines(rt.alloc()) {
+        print_row(rt, &mut bench, line?.as_str())?;
+    }
+    Ok(())
+}
+
+fn main(rt: HostRuntime) -> io::Result<()> {
+    match Roster::new(1) {
+        Ok(roster) => print_rows(&rt, Bench::new(rt.alloc(), roster)?),
+        Err(_) => Ok(()),
+    }
+}
