@@ -27,16 +27,16 @@ fn print_row(rt: &HostRuntime, bench: &mut Bench, line: &str) -> io::Result<()> 
     }
 }
 
-fn print_rows(rt: &HostRuntime, mut bench: Bench) -> io::Result<()> {
+fn print_rows(rt: &HostRuntime, bench: &mut Bench) -> io::Result<()> {
     for line in rt.lines(rt.alloc()) {
-        print_row(rt, &mut bench, line?.as_str())?;
+        print_row(rt, bench, line?.as_str())?;
     }
     Ok(())
 }
 
 fn main(rt: HostRuntime) -> io::Result<()> {
     match Roster::new(1) {
-        Ok(roster) => print_rows(&rt, Bench::new(rt.alloc(), roster)?),
+        Ok(roster) => print_rows(&rt, &mut Bench::new(rt.alloc(), roster)?),
         Err(_) => Ok(()),
     }
 }
