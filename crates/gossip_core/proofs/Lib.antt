@@ -8,5 +8,6 @@ pub mod Filling
 pub mod Accounting
 pub mod AnsweringFacts
 pub mod OneUncovered
+pub mod OneReply
 pub mod Absorbed
 pub mod InOneLog

@@ -1,13 +1,16 @@
 //! What the contracts fix, so that no other body meets them. Each function states its law and is called by nobody.
 
-ghost use Rattle.std.specs.Prelude.{◌≡◌, ◌↔◌, Some, Err};
+ghost use Rattle.std.specs.Prelude.{◌≡◌, ◌↔◌, Some, Err, IfOk};
 ghost use Rattle.gossip_core.specs.declared.absorbing.AbsorbRefusal.TheVariants.{Uncovered as UncoveredBy};
 ghost use Rattle.gossip_core.specs.declared.answering.Shown.{Shown as AnyShown};
 
 use crate::absorbing::{AbsorbRefusal, absorb};
 use crate::answering::{Shown, uncovered};
+use crate::replies::reply;
+use crate::summaries::summary;
 use redo_wire::{Delta, Summary};
-use segment_core::Segment;
+use segment_core::{ReadFault, Segment};
+use std::alloc::AllocError;
 
 fn what_is_uncovered_is_one(segment: &Segment, summary: &Summary) -> (Option<Shown>, Option<Shown>)
     ensures { result.0 ≡ result.1 }
@@ -26,4 +29,23 @@ fn absorb_tells_what_is_uncovered(
 {
     let shown = uncovered(segment, summary);
     (shown, absorb(segment, summary, delta))
+}
+
+fn a_segment_has_one_summary(segment: &Segment) -> Result<(Summary, Summary), AllocError>
+    ensures { IfOk result (λ both. both.0 ≡ both.1) }
+{
+    let one = summary(segment)?;
+    let other = summary(segment)?;
+    Ok((one, other))
+}
+
+fn a_summary_has_one_reply(
+    segment: &Segment,
+    summary: &Summary,
+) -> Result<(Delta, Delta), ReadFault>
+    ensures { IfOk result (λ both. both.0 ≡ both.1) }
+{
+    let one = reply(segment, summary)?;
+    let other = reply(segment, summary)?;
+    Ok((one, other))
 }

@@ -8,18 +8,12 @@
 #![tactic(auto)]
 
 mod absorbing;
-#[cfg(test)]
-mod absorbing_tests;
 mod answering;
 mod books;
 mod fixed;
 mod pages;
 mod replies;
-#[cfg(test)]
-mod samples;
 mod summaries;
-#[cfg(test)]
-mod tests;
 mod unlisted;
 
 pub use absorbing::{AbsorbRefusal, absorb};

@@ -1,0 +1,56 @@
+-- A segment has one summary, and one reply to each.
+use Rattle.std.proofs.Common.{◌≡◌, ◌≢◌, ℕ, ◌<◌, ◌≤◌, ◌⊎◌, ⊎_elim, List, map, sym, ap, ◌∙◌, subst, arith}
+use Rattle.redo_core.specs.Data.{RecordData}
+use Rattle.redo_core.specs.Meaning.{ImageData, ImageBefore}
+use Rattle.redo_core.specs.Order.{Lists, RecordBefore}
+use Rattle.redo_core.specs.Writing.{zeros}
+use Rattle.redo_core.proofs.Members.{lists_unique}
+use Rattle.redo_core.proofs.Pairs.{pair_apart}
+use Rattle.redo_wire.specs.Summaries.{SummaryData, summary_of}
+use Rattle.redo_wire.specs.Deltas.{DeltaData, delta_of}
+use Rattle.segment_state.specs.State.{State}
+use Rattle.segment_state.specs.Shows.{Shows}
+use Rattle.segment_state.specs.HasMeaning.{IsKeptBy}
+use Rattle.segment_join.proofs.Comparing.{one_anchor}
+use Rattle.gossip_core.specs.Summarizing.{wire_key, Summarizes}
+use Rattle.gossip_core.specs.Replying.{IsSent, SendsRecords, SendsPages, AnswersSummary}
+
+one_list : {X : Type 0} (Before : X → X → Type 0) → ((x y : X) → Before x y → Before y x → ⊥) → (P : ℕ → X → Type 0) (m n : ℕ) (xs ys : List X) → m ≡ n
+    → Lists Before (P m) xs → Lists Before (P n) ys → xs ≡ ys
+one_list Before apart P m n xs ys same a b =
+    lists_unique Before apart (P n) (P n) (λ x. (λ h. h, λ h. h)) xs ys (subst (λ i. Lists Before (P i) xs) same a) b
+
+records : (P : ℕ → RecordData → Type 0) (m n : ℕ) (rs qs : List RecordData) → m ≡ n → Lists RecordBefore (P m) rs → Lists RecordBefore (P n) qs → rs ≡ qs
+records P m n rs qs = one_list RecordBefore (λ r q a b. pair_apart r.epoch r.number q.epoch q.number a b) P m n rs qs
+
+pub one_summary : (s : State) (x y : SummaryData) → Summarizes s x → Summarizes s y → x ≡ y
+one_summary s x y a b =
+    let anchor : x.anchor ≡ y.anchor = one_anchor s x.anchor y.anchor a.anchor b.anchor in
+    let kept : a.kept ≡ b.kept = records (IsKeptBy s) x.anchor y.anchor a.kept b.kept anchor a.kept_are b.kept_are in
+    ap (λ z. summary_of z x.anchor x.keys) (a.book ∙ sym b.book) ∙ ap (λ n. summary_of y.book n x.keys) anchor
+    ∙ ap (summary_of y.book y.anchor) (a.keys ∙ ap (map wire_key) kept ∙ sym b.keys)
+
+by_parts : (d e : DeltaData) → d.book ≡ e.book → d.base ≡ e.base → d.pages ≡ e.pages → d.records ≡ e.records → d ≡ e
+by_parts d e book base pages sent =
+    ap (λ z. delta_of z d.base d.pages d.records) book ∙ ap (λ n. delta_of e.book n d.pages d.records) base
+    ∙ ap (λ ps. delta_of e.book e.base ps d.records) pages ∙ ap (delta_of e.book e.base e.pages) sent
+
+short : (s : State) (x : SummaryData) (d e : DeltaData) → SendsRecords s x d → SendsRecords s x e → d ≡ e
+short s x d e a b =
+    by_parts d e (a.book ∙ sym b.book) (a.base ∙ sym b.base) (a.pages ∙ sym b.pages)
+    (records (λ _. IsSent s x.anchor x.keys) d.base e.base d.records e.records (a.base ∙ sym b.base) a.records b.records)
+
+whole : (s : State) (x : SummaryData) (d e : DeltaData) → SendsPages s x d → SendsPages s x e → d ≡ e
+whole s x d e a b =
+    let base : d.base ≡ e.base = one_anchor s d.base e.base a.base b.base in
+    by_parts d e (a.book ∙ sym b.book) base
+    (one_list ImageBefore (λ i j lt gt. omega (arith, lt, gt)) (λ n i. Shows s i.page n i.bytes × (i.bytes ≢ zeros)) d.base e.base d.pages e.pages base a.pages b.pages)
+    (records (λ n. IsSent s n x.keys) d.base e.base d.records e.records base a.records b.records)
+
+which : (m n : ℕ) → (m ≤ n) ⊎ (n < m)
+which m n = grind arith
+
+pub one_reply : (s : State) (x : SummaryData) (d e : DeltaData) → AnswersSummary s x d → AnswersSummary s x e → d ≡ e
+one_reply s x d e a b =
+    ⊎_elim (λ (h : s.base ≤ x.anchor). short s x d e (a.short h) (b.short h)) (λ (h : x.anchor < s.base). whole s x d e (a.whole h) (b.whole h))
+    (which s.base x.anchor)
