@@ -1,5 +1,5 @@
 -- What freezes a state is a snapshot, and all snapshots of a state have as many pieces.
-use Rattle.std.proofs.Common.{◌≡◌, ◌≢◌, ℕ, ◌≤◌, ⊎_elim, List, length, sym, subst, arith}
+use Rattle.std.proofs.Common.{◌≡◌, ◌≢◌, ℕ, ◌≤◌, ⊎_elim, List, length, sym, ap, ◌∙◌, subst, arith}
 use Rattle.redo_core.specs.Book.{BookData, IsBook}
 use Rattle.redo_core.specs.Data.{RecordData}
 use Rattle.redo_core.specs.Meaning.{ImageData, ImageBefore}
@@ -11,7 +11,7 @@ use Rattle.segment_state.specs.State.{State, min_of}
 use Rattle.segment_state.specs.Shows.{Shows}
 use Rattle.segment_state.specs.HasMeaning.{HasAnchor, IsKeptBy}
 use Rattle.segment_core.proofs.OneView.{one_anchor}
-use Rattle.hydration.specs.Snapshots.{SnapshotData, IsSnapshot, Freezes, IsPieceCount}
+use Rattle.hydration.specs.Snapshots.{SnapshotData, snapshot_of, IsSnapshot, Freezes, IsPieceCount}
 
 -- an anchor is not above the minimum read point
 anchor_low : (s : State) (anchor : ℕ) → HasAnchor s anchor → anchor ≤ min_of s
@@ -61,3 +61,17 @@ pub count_as : (s : State) (d : SnapshotData) (anchor : ℕ) (pages : List Image
 count_as s d anchor pages records frozen has shown kept =
     subst (λ (ps : List ImageData). IsPieceCount (length ps) (length records) d.total) (same_pages s d anchor pages frozen has shown)
     (subst (λ (rs : List RecordData). IsPieceCount (length d.pages) (length rs) d.total) (same_records s d anchor records frozen has kept) frozen.total)
+
+one_count : (pages records m n : ℕ) → IsPieceCount pages records m → IsPieceCount pages records n → m ≡ n
+one_count pages records m n a b = omega (arith, a.1.0, a.1.1, a.2, b.1.0, b.1.1, b.2)
+
+-- and a segment has one snapshot of a name
+pub one_snapshot : (s : State) (d e : SnapshotData) → Freezes s d → Freezes s e → d.name ≡ e.name → d ≡ e
+one_snapshot s d e a b name =
+    let pages : d.pages ≡ e.pages = same_pages s d e.anchor e.pages a b.anchor b.pages in
+    let records : d.records ≡ e.records = same_records s d e.anchor e.records a b.anchor b.records in
+    let total : d.total ≡ e.total = one_count (length e.pages) (length e.records) d.total e.total (count_as s d e.anchor e.pages e.records a b.anchor b.pages b.records) b.total in
+    ap (λ n. snapshot_of n d.total d.book d.anchor d.pages d.records) name ∙ ap (λ n. snapshot_of e.name n d.book d.anchor d.pages d.records) total
+    ∙ ap (λ z. snapshot_of e.name e.total z d.anchor d.pages d.records) (a.book ∙ sym b.book)
+    ∙ ap (λ n. snapshot_of e.name e.total e.book n d.pages d.records) (one_anchor s d.anchor e.anchor a.anchor b.anchor)
+    ∙ ap (λ ps. snapshot_of e.name e.total e.book e.anchor ps d.records) pages ∙ ap (snapshot_of e.name e.total e.book e.anchor e.pages) records

@@ -7,12 +7,11 @@
 #![tactic(auto)]
 
 mod finishing;
+mod fixed;
 mod freezing;
 mod placing;
 mod snapshot;
 mod staging;
-#[cfg(test)]
-mod tests;
 
 pub use finishing::FinishFault;
 pub use freezing::{FreezeFault, freeze};
