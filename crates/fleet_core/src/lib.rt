@@ -18,8 +18,6 @@ mod messages;
 mod pairs;
 mod replies;
 mod replying;
-#[cfg(test)]
-mod tests;
 
 pub use fleet_steps::Step;
 pub use fleets::Fleet;
