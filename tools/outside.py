@@ -109,7 +109,11 @@ TEXTS = [
     ("run", UNSOUND + b"go\nnodes 1\n", 3, b"unsound 1 law 3\n"),
 ]
 
-BAD_COMMAND_LINES = [[], ["walk"], ["run", "run"], ["check", "x"], ["inspect", "--loud"], ["--run"], ["run", "-"], [""]]
+BAD_COMMAND_LINES = [
+    *([], [""], ["walk"], ["drill"], ["help"], ["Run"], ["Inspect"], ["--run"], ["--nodes", "3"]),
+    *(["run", "run"], ["run", "check"], ["run", "-"], ["run", "--"], ["check", "x"], ["check", "first.txt"]),
+    *(["inspect", "04"], ["inspect", "--loud"]),
+]
 
 
 def statuses_of_texts(program):
