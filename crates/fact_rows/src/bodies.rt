@@ -1,0 +1,129 @@
+//! Calls over the facts that were kept: what their records do, and which of them are the same.
+
+use redo_core::{Body, Fact, Page, Patch, Record, Write, apply};
+use script_text::fact_text;
+use std::alloc::{AllocError, Global};
+
+// The first four bytes of a page of ones after the records.
+fn applied(alloc: Global, facts: &[Fact]) -> Result<String, AllocError> {
+    let mut page = Page::new(vec![in alloc; 1; 4096]?);
+    for fact in facts {
+        if let Fact::Record(redo) = fact {
+            apply(redo, &mut page);
+        }
+    }
+    let copied = page.copy()?;
+    let bytes = copied.bytes();
+    let (a, b, c, d) = (bytes[0], bytes[1], bytes[2], bytes[3]);
+    format!(in alloc; "{a:02x} {b:02x} {c:02x} {d:02x}")
+}
+
+// The places of the facts that are the same as a fact.
+fn same_places(alloc: Global, facts: &[Fact], fact: &Fact) -> Result<String, AllocError> {
+    let mut text = String::new(alloc);
+    for (place, other) in facts.iter().enumerate() {
+        if fact.is_same(other) {
+            let place = place as u64 + 1;
+            text.push_str(&format!(in alloc; " {place}")?)?;
+        }
+    }
+    Ok(text)
+}
+
+// For each fact the places of those that are the same as it.
+fn same(alloc: Global, facts: &[Fact]) -> Result<String, AllocError> {
+    let mut text = String::from_str(alloc, "same")?;
+    for fact in facts {
+        text.push_str(&same_places(alloc, facts, fact)?)?;
+        text.push_str(",")?;
+    }
+    Ok(text)
+}
+
+fn plain_patches(alloc: Global, writes: &[Write]) -> Result<Vec<Patch>, AllocError> {
+    let mut list = Vec::new(alloc);
+    for w in writes {
+        list.push(Patch::Bytes(w.copy()?))?;
+    }
+    Ok(list)
+}
+
+fn plain_writes(alloc: Global, patches: &[Patch]) -> Result<Vec<Write>, AllocError> {
+    let mut list = Vec::new(alloc);
+    for p in patches {
+        if let Patch::Bytes(w) = p {
+            list.push(w.copy()?)?;
+        }
+    }
+    Ok(list)
+}
+
+// The record's patches, where all of them are writes.
+fn writes_of(alloc: Global, redo: &Record) -> Result<Vec<Write>, AllocError> {
+    match redo.body() {
+        Body::Writes(list) => plain_writes(alloc, &plain_patches(alloc, list)?),
+        Body::Patches(list) => plain_writes(alloc, list),
+    }
+}
+
+fn made_of_writes(redo: &Record, writes: Vec<Write>) -> Option<Fact> {
+    let (number, back, block_back) = (redo.number(), redo.back(), redo.block_back());
+    let made = Record::new(redo.epoch(), number, back, redo.page(), block_back, writes);
+    Some(Fact::Record(made.ok()?))
+}
+
+fn made_of_patches(redo: &Record, patches: Vec<Patch>) -> Option<Fact> {
+    let (number, back, block_back) = (redo.number(), redo.back(), redo.block_back());
+    let (epoch, page) = (redo.epoch(), redo.page());
+    let made = Record::with(epoch, number, back, page, block_back, false, patches);
+    Some(Fact::Record(made.ok()?))
+}
+
+// A copy of a copy that was shared, and is gone.
+fn shared_copy(fact: &Fact) -> Result<Fact, AllocError> {
+    let shared = fact.copy()?.share()?;
+    shared.copy()
+}
+
+// Whether each of two facts is the other, and a copy that was shared is both.
+fn are_one(one: &Fact, two: &Fact) -> Result<bool, AllocError> {
+    let copied = shared_copy(one)?;
+    Ok(one.is_same(two) && two.is_same(one) && copied.is_same(two) && two.is_same(&copied))
+}
+
+// Whether the record made of its writes and the one made of its patches are one fact, with one line.
+fn has_one_form(alloc: Global, redo: &Record) -> Result<bool, AllocError> {
+    let writes = writes_of(alloc, redo)?;
+    let patches = plain_patches(alloc, &writes)?;
+    match (made_of_writes(redo, writes), made_of_patches(redo, patches)) {
+        (Some(one), Some(two)) => Ok(are_one(&one, &two)? && have_one_line(alloc, &one, &two)?),
+        _ => Ok(false),
+    }
+}
+
+fn have_one_line(alloc: Global, one: &Fact, two: &Fact) -> Result<bool, AllocError> {
+    Ok(fact_text(alloc, one)? == fact_text(alloc, two)?)
+}
+
+// Whether the copies of a fact are the fact, also one of a copy that was shared.
+fn is_its_copies(fact: &Fact) -> Result<bool, AllocError> {
+    are_one(&shared_copy(fact)?, fact)
+}
+
+pub fn answer(alloc: Global, facts: &[Fact], name: &str) -> Result<String, AllocError> {
+    let [.., last] = facts else {
+        return String::from_str(alloc, "none");
+    };
+    match (name, last) {
+        ("apply", _) => applied(alloc, facts),
+        ("same", _) => same(alloc, facts),
+        ("last", _) => fact_text(alloc, last),
+        ("copies", _) => told(alloc, is_its_copies(last)?),
+        ("forms", Fact::Record(redo)) => told(alloc, has_one_form(alloc, redo)?),
+        _ => String::from_str(alloc, "?"),
+    }
+}
+
+fn told(alloc: Global, is_so: bool) -> Result<String, AllocError> {
+    String::from_str(alloc, if is_so { "yes" } else { "no" })
+}
