@@ -12,6 +12,7 @@ mod comparing;
 mod counted;
 mod epochs;
 mod faults;
+mod fixed;
 mod links;
 mod pages;
 mod past;
@@ -29,6 +30,3 @@ pub use positions::position;
 pub use readers::{min_point, point, points};
 pub use standings::{is_alive, standing};
 pub use views::{Position, Standing};
-
-#[cfg(test)]
-mod tests;
