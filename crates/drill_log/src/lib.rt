@@ -7,7 +7,5 @@ mod drill;
 mod facts;
 mod fixed;
 mod records;
-#[cfg(test)]
-mod tests;
 
 pub use drill::Drill;

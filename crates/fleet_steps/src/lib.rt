@@ -4,7 +4,5 @@
 #![tactic(auto)]
 
 mod steps;
-#[cfg(test)]
-mod tests;
 
 pub use steps::Step;

@@ -112,6 +112,3 @@ fn broken_law(fact: &Fact, cuts: &CountedCuts, is_other: bool, link: Option<Law>
         }
     }
 }
-
-#[cfg(test)]
-mod tests;

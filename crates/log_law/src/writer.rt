@@ -209,6 +209,3 @@ fn record_with_links(
         Err(_) => unreachable!(),
     }
 }
-
-#[cfg(test)]
-mod tests;

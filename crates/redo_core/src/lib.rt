@@ -19,8 +19,6 @@ mod records;
 mod refusal;
 mod rosters;
 mod shapes;
-#[cfg(test)]
-mod tests;
 mod writes;
 
 pub use advances::Advance;

@@ -42,6 +42,3 @@ pub use keys::Key;
 pub use pieces::{Piece, PieceContent, RecordBatch, decode_piece, encode_piece};
 pub use summaries::{Summary, decode_summary, encode_summary};
 pub use values::{WireValue, decode_value};
-
-#[cfg(test)]
-mod tests;

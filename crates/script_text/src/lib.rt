@@ -15,8 +15,6 @@ mod opening;
 mod script;
 mod spelling;
 mod step_line;
-#[cfg(test)]
-mod tests;
 
 pub use fields::first_part;
 pub use laws::{bad_lines_are_least, lines_are_spelled, numbers_are_decimals, scripts_are_spelled};
