@@ -1,5 +1,6 @@
 //! The words of a line, and numbers of them.
 
+use hex::FromHexError;
 use std::alloc::{AllocError, Global};
 
 /// A line's first word, and what stands behind the space that ends it.
@@ -31,10 +32,13 @@ pub fn bytes(alloc: Global, words: &str) -> Result<Vec<u8>, AllocError> {
     let mut list = Vec::new(alloc);
     for word in words.split(' ') {
         let (digits, times) = word.split_once('*').unwrap_or((word, "1"));
-        if let Ok(part) = hex::decode(alloc, digits) {
-            for _ in 0..times.parse::<u16>().unwrap_or(0) {
-                list.extend_from_slice(&part)?;
-            }
+        let part = match hex::decode(alloc, digits) {
+            Ok(part) => part,
+            Err(FromHexError::OutOfMemory) => return Err(AllocError),
+            Err(_) => Vec::new(alloc),
+        };
+        for _ in 0..times.parse::<u16>().unwrap_or(0) {
+            list.extend_from_slice(&part)?;
         }
     }
     Ok(list)

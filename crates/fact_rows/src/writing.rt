@@ -2,7 +2,7 @@
 
 use crate::words;
 use crate::words::{byte, numbers, short};
-use log_law::{Writer, WriterFault, check_log};
+use log_law::{CheckFault, Writer, WriterFault, check_log};
 use redo_core::{Fact, Roster};
 use script_text::fact_text;
 use std::alloc::{AllocError, Global};
@@ -32,7 +32,11 @@ fn called(
 // How many facts were written, and whether they are a sound log.
 fn written(alloc: Global, writer: &Writer, roster: Roster) -> Result<String, AllocError> {
     let count = writer.log().len();
-    let is_sound = check_log(alloc, writer.log(), roster).is_ok();
+    let is_sound = match check_log(alloc, writer.log(), roster) {
+        Ok(()) => true,
+        Err(CheckFault::Unsound(_)) => false,
+        Err(CheckFault::Memory) => return Err(AllocError),
+    };
     format!(in alloc; "written {count} sound {is_sound}")
 }
 
