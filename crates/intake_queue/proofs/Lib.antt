@@ -1,7 +1,6 @@
-mod Parcels
+pub mod Parcels
 mod Views
 mod Beginning
 mod Moving
 mod Hearing
 mod Closing
-mod Relays

@@ -16,11 +16,7 @@ mod notes;
 mod opening;
 mod parcel;
 mod passes;
-#[cfg(test)]
-mod relay;
 mod rule;
-#[cfg(test)]
-mod tests;
 
 pub use intake::{Full, Intake, MAX_CAPACITY, MAX_SENDERS, Unended};
 pub use notes::Note;

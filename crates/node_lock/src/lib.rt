@@ -19,8 +19,6 @@ mod pass;
 mod reading;
 mod rule;
 mod steps;
-#[cfg(test)]
-mod tests;
 mod turn;
 mod visit;
 

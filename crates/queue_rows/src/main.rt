@@ -1,0 +1,24 @@
+//! Rows of the calls of intakes and of locks: a line names a call and its numbers, and what it answers is printed.
+#![tactic(auto)]
+
+mod answers;
+mod bench;
+mod diary;
+mod lane;
+mod relay;
+mod senders;
+mod words;
+
+use bench::Bench;
+use std::io;
+
+fn main(rt: HostRuntime) -> io::Result<()> {
+    let mut bench = Bench::new(rt.alloc())?;
+    for line in rt.lines(rt.alloc()) {
+        let line = line?;
+        let (name, numbers) = words::of(line.as_str());
+        let answer = bench.answer(&rt, rt.alloc(), name, numbers)?;
+        println!(rt; "{line}: {answer:?}")?;
+    }
+    Ok(())
+}
