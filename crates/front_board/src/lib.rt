@@ -6,6 +6,7 @@
 #![tactic(auto)]
 
 mod board;
+mod fixed;
 mod fronts;
 pub mod laws;
 mod rule;
