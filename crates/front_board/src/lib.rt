@@ -11,8 +11,6 @@ mod fronts;
 pub mod laws;
 mod rule;
 mod survey;
-#[cfg(test)]
-mod tests;
 
 pub use board::{Board, Seat};
 pub use fronts::LogFront;

@@ -14,21 +14,11 @@
 mod answers;
 mod closed;
 mod folds;
-#[cfg(test)]
-mod gossip_tests;
 mod kept;
 pub mod laws;
 mod mail;
-#[cfg(test)]
-mod memory_tests;
 mod node;
 mod receipts;
-#[cfg(test)]
-mod samples;
-#[cfg(test)]
-mod tests;
-#[cfg(test)]
-mod thread_tests;
 mod views;
 
 pub use answers::{AbsorbFault, DeliverFault, ReadAfterFault, Stranger};

@@ -1,21 +1,19 @@
+//! A node to which two threads deliver.
 ghost use Rattle.std.specs.Prelude.{◌≡◌, ◌≤◌, IfOk};
 ghost use Rattle.front_board.specs.Seat.{IsNode};
 ghost use Rattle.node_cell.specs.Node.{IsPassOf};
 
-use crate::closed::{Closed, settle};
-use crate::node::{Node, Pass};
-use crate::receipts::Receipt;
-use crate::samples::Log;
+use crate::host::Log;
 use front_board::{Board, Seat};
 use named_log::LogFact;
+use node_cell::{Closed, Node, Pass, Receipt};
 use std::alloc::{AllocError, Global};
 use std::sync::Wait;
-use std::test::Fail;
 use std::thread;
 use std::thread::Threads;
 
 // What a thread has in the end: its pass, and its receipts in order.
-type Done = (Pass<Log>, Vec<Receipt<Log>>);
+type Handed = (Pass<Log>, Vec<Receipt<Log>>);
 
 // Delivers the facts at 32 places, every other one from `first` on.
 fn deliver_half<R: Wait>(
@@ -26,7 +24,7 @@ fn deliver_half<R: Wait>(
     mut pass: Pass<Log>,
     mut seat: Seat<Log>,
     first: u64,
-) -> Result<Done, AllocError>
+) -> Result<Handed, AllocError>
     requires pass { IsPassOf node.now pass }
     requires seat { (seat.board ≡ board.now) × IsNode board.now.words node.now.number }
     requires first { first ≤ 2 }
@@ -45,8 +43,8 @@ fn deliver_half<R: Wait>(
     Ok((pass, receipts))
 }
 
-// The node closed after two threads have delivered the facts of epoch 0, with the receipts of both.
-fn closed_after_two<R: Threads + Wait + Sync>(
+/// The node closed after two threads have delivered the facts of epoch 0, with the receipts of both.
+pub fn closed_after_two<R: Threads + Wait + Sync>(
     rt: &R,
     alloc: Global,
 ) -> Result<(Closed<Log>, Vec<Receipt<Log>>, Vec<Receipt<Log>>), AllocError> {
@@ -59,11 +57,11 @@ fn closed_after_two<R: Threads + Wait + Sync>(
     let (shared, fronts) = (&node, &board);
     let (one, other) = thread::join(
         rt,
-        move || -> Result<Done, AllocError>
+        move || -> Result<Handed, AllocError>
             requires { IsPassOf shared.now one_pass × (one_seat.board ≡ fronts.now) × IsNode fronts.now.words shared.now.number }
             ensures { IfOk result (λ done. IsPassOf shared.entry.now done.0) }
         { deliver_half(rt, alloc, shared, fronts, one_pass, one_seat, 1) },
-        move || -> Result<Done, AllocError>
+        move || -> Result<Handed, AllocError>
             requires { IsPassOf shared.now other_pass × (other_seat.board ≡ fronts.now) × IsNode fronts.now.words shared.now.number }
             ensures { IfOk result (λ done. IsPassOf shared.entry.now done.0) }
         { deliver_half(rt, alloc, shared, fronts, other_pass, other_seat, 2) },
@@ -72,16 +70,4 @@ fn closed_after_two<R: Threads + Wait + Sync>(
     let (other_pass, other) = other?;
     let passes = Vec::from_array(alloc, [one_pass, other_pass])?;
     Ok((node.close(rt, passes), one, other))
-}
-
-#[test]
-fn two_threads_deliver_to_one_node(rt: HostRuntime) -> Result<(), Fail> {
-    let (closed, one, other) = closed_after_two(&rt, rt.alloc())?;
-    assert!(rt; settle(&closed, &one).is_ok() && settle(&closed, &other).is_ok());
-    assert_eq!(rt;
-        (closed.trail().len(), one.len(), other.len()),
-        (64, 32, 32)
-    );
-    assert_eq!(rt; closed.segment().front().complete, 64);
-    Ok(())
 }
