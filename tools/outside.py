@@ -86,7 +86,7 @@ def rows(program):
 SOUND = b"rec 0 3 0 7 0 0:61\nmin 0 3\n"
 SCRIPT = SOUND + b"go\nnodes 1\ntake 1 1\nread 1 7 3 0 1\n"
 UNSOUND = b"rec 0 3 2 7 0 -\n"
-TWO_READERS = b"roster 2\nrec 0 3 0 7 0 0:61\nrec 0 5 3 7 3 0:62\nmin 0 5\nmin 0 3 2\ncut 1 3 20\nrec 1 21 3 7 3 0:63\nmin 1 21 2\n"
+OF_TWO_READERS = b"rec 0 3 0 7 0 0:61\nrec 0 5 3 7 3 0:62\nmin 0 5\nmin 0 3 2\ncut 1 3 20\nrec 1 21 3 7 3 0:63\nmin 1 21 2\n"
 
 TEXTS = [
     # task, input, status, output
@@ -105,7 +105,7 @@ TEXTS = [
     ("run", SCRIPT + b"take 1 3\n", 2, b"bad line 7\n"),
     ("run", b"roster 2\nmin 0 5\ngo\nnodes 1\ntake 1 1\ntake 1 2\n", 2, b"bad line 6\n"),
     ("check", UNSOUND, 3, b"unsound 1 law 3\n"),
-    ("check", TWO_READERS, 3, b"unsound 3 law 5\n"),
+    ("check", OF_TWO_READERS, 3, b"unsound 3 law 5\n"),
     ("run", UNSOUND + b"go\nnodes 1\n", 3, b"unsound 1 law 3\n"),
 ]
 
