@@ -56,7 +56,7 @@ OWNER_NAME = re.compile(r"(?:pub )?(?:impl|trait)(?:<[^{]*?>)? (?:(\w+)(?:<[^{]*
 
 
 class Edit:
-    """A must-fail edit: its pairs of texts, and the function that the first of them stands in."""
+    """A must-fail edit: its pairs of texts, and the function that the last of them stands in (the others make its text stand once)."""
 
     def __init__(self, crate, path):
         self.name, self.pairs, file, old = os.path.basename(path), [], None, None
@@ -73,12 +73,15 @@ class Edit:
 
     def function_in(self, crate):
         """The end of the name that a check gives the function, as 'HotLog::put', or None where the edit is of no function."""
-        file, old, new = self.pairs[0]
+        file, old, new = self.pairs[-1]
         text = pathlib.Path(crate.folder, file).read_text()
+        for _, earlier, later in self.pairs[:-1]:
+            text = text.replace(earlier, later)
         at = text.find(old) + len(os.path.commonprefix([old, new]))
         heads = [it for it in HEAD.finditer(text) if it.start() <= at]
         owners = [it for it in OWNER.finditer(text) if it.start() <= at]
-        if not heads or {it[0] for it in self.pairs} != {file} or not file.startswith("src/"):
+        is_outside = not heads or re.search(r"(?m)^}", text[heads[-1].end() : at])
+        if is_outside or {it[0] for it in self.pairs} != {file} or not file.startswith("src/"):
             return None
         named = heads[-1][0].startswith(" ") and owners and OWNER_NAME.match(owners[-1][0])
         owner = f"{named[2]}{named[1] or ''}" if named else file[4:-3].rpartition("/")[2]
