@@ -10,10 +10,6 @@
 mod cached;
 mod images;
 mod kept;
-#[cfg(test)]
-mod samples;
-#[cfg(test)]
-mod tests;
 
 pub use cached::CachedSegment;
 pub use kept::KeptImage;

@@ -17,14 +17,10 @@ mod known;
 pub mod laws;
 mod points;
 mod restoring;
-#[cfg(test)]
-mod samples;
 mod savepoint;
 mod segment;
 mod shedding;
 mod stored;
-#[cfg(test)]
-mod tests;
 mod union;
 mod walk;
 

@@ -13,16 +13,10 @@
 mod covering;
 mod holding;
 mod joining;
-#[cfg(test)]
-mod joining_tests;
 mod kept;
 pub mod laws;
 mod missing;
 mod sameness;
-#[cfg(test)]
-mod samples;
-#[cfg(test)]
-mod tests;
 mod told;
 
 pub use covering::covers;

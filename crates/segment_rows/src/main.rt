@@ -1,0 +1,46 @@
+//! Segments call by call: a line of the input names a call of a segment, of two segments or of one with a cache, with its numbers, and
+//! is printed with what that call answers.
+//!
+//! A line that begins with '#' names a group of rows and is printed as it is. `fresh N` begins with a new segment of N readers; `swap`
+//! changes it for the other one. A line that names no call answers '?'.
+#![tactic(auto)]
+
+mod answers;
+mod bench;
+mod cache_calls;
+mod changes;
+mod facts;
+mod pairs;
+mod questions;
+mod words;
+
+use bench::Bench;
+use redo_core::Roster;
+use std::io;
+
+fn print_row(rt: &HostRuntime, bench: &mut Bench, line: &str) -> io::Result<()> {
+    if line.starts_with('#') {
+        return println!(rt; "{line}");
+    }
+    match bench.outcome(rt.alloc(), words::of(line)) {
+        Some(outcome) => {
+            let answer = outcome?;
+            println!(rt; "{line}: {answer:?}")
+        }
+        None => println!(rt; "{line}: ?"),
+    }
+}
+
+fn print_rows(rt: &HostRuntime, mut bench: Bench) -> io::Result<()> {
+    for line in rt.lines(rt.alloc()) {
+        print_row(rt, &mut bench, line?.as_str())?;
+    }
+    Ok(())
+}
+
+fn main(rt: HostRuntime) -> io::Result<()> {
+    match Roster::new(1) {
+        Ok(roster) => print_rows(&rt, Bench::new(rt.alloc(), roster)?),
+        Err(_) => Ok(()),
+    }
+}
