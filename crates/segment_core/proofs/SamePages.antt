@@ -12,7 +12,7 @@ use Rattle.segment_state.specs.Shows.{IsApplied, Shows}
 use Rattle.segment_core.specs.Comparing.{TellsSamePage}
 
 -- a state shows one page at a point
-shows_one : (s : State) (page q : ℕ) (i j : List ℕ) → Shows s page q i → Shows s page q j → i ≡ j
+pub shows_one : (s : State) (page q : ℕ) (i j : List ℕ) → Shows s page q i → Shows s page q j → i ≡ j
 shows_one s page q i j a b =
     let same : a.written ≡ b.written = lists_unique BeforeByNumber (λ x y lt gt. omega (arith, lt, gt)) (IsApplied s page q) (IsApplied s page q)
     (λ r. (λ h. h, λ h. h)) a.written b.written a.lists b.lists in

@@ -1,0 +1,47 @@
+//! What the contracts fix, so that no other body meets them: a question to a segment has one answer.
+//! Each function states its law and is called by nobody.
+
+ghost use Rattle.std.specs.Prelude.{◌≡◌, IfOk};
+
+use crate::{Front, ReadFault, Segment, Standing};
+use redo_core::Page;
+
+fn front_has_one_answer(segment: &Segment) -> (Front, Front)
+    ensures { result.0 ≡ result.1 }
+{
+    (segment.front(), segment.front())
+}
+
+fn anchor_has_one_answer(segment: &Segment) -> (u64, u64)
+    ensures { result.0 ≡ result.1 }
+{
+    // It is called for what it ensures: the segment has the form of one.
+    let _base = segment.base_point();
+    (segment.anchor(), segment.anchor())
+}
+
+fn standing_has_one_answer(segment: &Segment, epoch: u16, number: u64) -> (Standing, Standing)
+    ensures { result.0 ≡ result.1 }
+{
+    (segment.stands(epoch, number), segment.stands(epoch, number))
+}
+
+fn next_key_has_one_answer(
+    segment: &Segment,
+    after: Option<(u16, u64)>,
+) -> (Option<(u16, u64)>, Option<(u16, u64)>)
+    ensures { result.0 ≡ result.1 }
+{
+    (segment.key_after(after), segment.key_after(after))
+}
+
+#[tactic(auto, using(crate::proofs::SamePages::shows_one))]
+fn page_read_has_one_image(
+    segment: &Segment,
+    page: u16,
+    point: u64,
+) -> Result<(Page, Page), ReadFault>
+    ensures { IfOk result (λ both. both.0 ≡ both.1) }
+{
+    Ok((segment.read(page, point)?, segment.read(page, point)?))
+}
