@@ -55,14 +55,14 @@ def write_map():
     MAP.write_text(ROW.sub(row, text))
 
 
-FILE = re.compile(r"`((?:(?:crates|docs|examples|tools|bench|\.ci)/)?[A-Za-z_/]+\.(?:md|py|rt|antt|txt))`")
+FILE = re.compile(r"`((?:(?:crates|docs|examples|rows|tools|bench|\.ci)/)?[A-Za-z_/]+\.(?:md|py|rt|antt|txt))`")
 
 
 def files_are_there():
     """A file is named by its path, or by its name in the same folder or in docs/."""
     for page in [ROOT / "README.md", *sorted((ROOT / "docs").glob("*.md")), *sorted(ROOT.glob("*/README.md"))]:
         for name in FILE.findall(page.read_text()):
-            is_path = name.split("/")[0] in ("crates", "docs", "examples", "tools", "bench", ".ci")
+            is_path = name.split("/")[0] in ("crates", "docs", "examples", "rows", "tools", "bench", ".ci")
             is_page = "/" not in name and name.endswith((".md", ".py"))
             places = (ROOT, ROOT / "docs", page.parent)
             if (is_path or is_page) and "NAME" not in name and not any((place / name).exists() for place in places):
