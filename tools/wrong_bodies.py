@@ -140,7 +140,7 @@ class Report:
             if goal:
                 goals.append(goal[1])
             elif fault:
-                self.faults.setdefault(fault[2].replace("/", "::"), []).append(line)
+                self.faults.setdefault(fault[2].replace("/", "::").replace("::+", "::"), []).append(line)
             elif function:
                 if function[1] == crate.name and function[3] != "proved":
                     self.left[function[2]] = goals
@@ -157,8 +157,10 @@ class Report:
         return any(not self.is_answered(path, goal) for goal in self.left[path])
 
     def is_answered(self, path, goal):
-        places = pathlib.Path(self.folder, "proofs", *path.rpartition("+")[2].split("::"))
-        texts = (place.read_text() for place in places.glob("*.antt"))
+        """Whether a proof file has an answer to the goal; the folder of a function that calls itself begins with '+'."""
+        *above, name = path.rpartition("+")[2].split("::")
+        folders = [pathlib.Path(self.folder, "proofs", *above, it) for it in (name, f"+{name}")]
+        texts = (place.read_text() for folder in folders for place in folder.glob("*.antt"))
         return any(re.search(rf"(?m)^(?:pub )?{re.escape(goal)}\s", text) for text in texts)
 
     def refused(self):
