@@ -19,6 +19,7 @@ import documents
 import fleet_script
 import gate_time
 import outside
+import waiting_model
 import wrong_bodies_tests
 
 BY_RATTLE = outside.PROGRAM.with_name("fleet.by-rattle")
@@ -97,7 +98,7 @@ def main():
         programs.append(BY_RATTLE)
     else:
         print(f"{BY_RATTLE.name} is not there: Rattle's own compiler built no program, and what it would build is not tested")
-    tests = (wrong_bodies_tests.tests, fleet_script.tests, documents.documents)
+    tests = (wrong_bodies_tests.tests, waiting_model.tests, fleet_script.tests, documents.documents)
     for more_passed, more_failed in (*map(outside.outside, programs), *(test() for test in tests)):
         passed, failed = passed + more_passed, failed + more_failed
     print(f"{passed} passed, {failed} failed")

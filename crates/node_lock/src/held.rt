@@ -3,6 +3,7 @@ ghost use Rattle.node_lock.specs.Known.{standing_for};
 ghost use Rattle.node_lock.specs.Steps.{IsHolding};
 
 use crate::rule::{Steps, Token, Trailed};
+use crate::sleepers::Sleepers;
 use crate::steps;
 use std::sync::Wait;
 
@@ -21,14 +22,14 @@ impl<S: Trailed + Drop> Held<S> {
     }
 
     // The seat that gave the state back, with the trail that it had.
-    pub(crate) fn give(self, steps: &Steps<S>, state: S) -> Token<S>
+    pub(crate) fn give(self, steps: &Steps<S>, sleepers: &Sleepers, state: S) -> Token<S>
         requires table { (self.seat.table_id ≡ steps.now.table_id) × (0 < steps.now.table_id.words) }
         requires trail { self.seat.me.0.noted ≡ S.trail state }
         requires state { S.keeps state }
         ensures { result.me ≡ (standing_for self.seat.me.0.passes self.seat.me.0.parts, []) }
     {
         let Held { mut seat } = self;
-        steps::give(steps, &mut seat, state);
+        steps::give(steps, sleepers, &mut seat, state);
         seat
     }
 }

@@ -10,7 +10,8 @@
 //! them there, whatever other passes appended since, and so does whoever closes the lock with it. With all passes the receipts are the
 //! whole trail.
 //!
-//! A call that takes the state waits until nobody else has it, and yields meanwhile; nothing is promised of when.
+//! A call that takes the state waits until nobody else has it: for a while awake, then asleep until a giver wakes it. Nothing is promised
+//! of when.
 #![tactic(auto)]
 
 mod held;
@@ -18,6 +19,7 @@ mod lock;
 mod pass;
 mod reading;
 mod rule;
+mod sleepers;
 mod steps;
 mod turn;
 mod visit;

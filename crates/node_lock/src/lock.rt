@@ -7,6 +7,7 @@ ghost use Rattle.node_lock.specs.Known.{standing_for, new_parts, part_of};
 use crate::held::Held;
 use crate::pass::Pass;
 use crate::rule::{StateTable, Steps, Token, Trailed};
+use crate::sleepers::Sleepers;
 use crate::steps;
 use crate::turn::Turn;
 use crate::visit::Visit;
@@ -23,6 +24,7 @@ pub const MAX_PASSES: u64 = 64;
 #[derive(Drop)]
 pub struct Lock<S: Trailed + Drop> {
     pub(crate) table: StateTable<S>,
+    pub(crate) sleepers: Sleepers,
 }
 
 impl<S: Trailed + Drop> Model for Lock<S> {
@@ -62,7 +64,11 @@ impl<S: Trailed + Drop> Lock<S> {
             let own = steps::deal(&table.shared, &mut seat);
             dealt.push_reserved(Pass { seat: own, number });
         }
-        Ok((Lock { table }, dealt))
+        let lock = Lock {
+            table,
+            sleepers: Sleepers::new(),
+        };
+        Ok((lock, dealt))
     }
 
     /// Takes the state by a pass, as soon as nobody else has it. It has every receipt of the pass.
@@ -74,7 +80,7 @@ impl<S: Trailed + Drop> Lock<S> {
         ensures list { pass.old.list ≡ receipts_of pass.old.number (S.trail result.state) }
         ensures has { HasReceipts (S.trail result.state) pass.old.number pass.old.list }
     {
-        let state = pass.take(rt, &self.table.shared);
+        let state = pass.take(rt, &self.table.shared, &self.sleepers);
         Turn {
             pass,
             state,
@@ -88,7 +94,7 @@ impl<S: Trailed + Drop> Lock<S> {
         ensures state { S.keeps result.state }
     {
         let mut seat = steps::new_seat(&self.table.shared);
-        let state = steps::take(rt, &self.table.shared, &mut seat);
+        let state = steps::take(rt, &self.table.shared, &self.sleepers, &mut seat);
         Visit {
             state,
             lock: self,
@@ -105,7 +111,7 @@ impl<S: Trailed + Drop> Lock<S> {
         ensures all { length passes.items ≡ self.passes → receipt_count passes.items ≡ length (S.trail result) }
     {
         let mut seat = join_all(&self.table.shared, passes);
-        steps::take(rt, &self.table.shared, &mut seat)
+        steps::take(rt, &self.table.shared, &self.sleepers, &mut seat)
     }
 }
 

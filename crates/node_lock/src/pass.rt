@@ -3,6 +3,7 @@ ghost use Rattle.node_lock.specs.Trail.{Entry, receipts_of, HasReceipts};
 ghost use Rattle.node_lock.specs.Passes.{IsIdlePass};
 
 use crate::rule::{Steps, Token, Trailed};
+use crate::sleepers::Sleepers;
 use crate::steps;
 use std::marker::Model;
 use std::sync::Wait;
@@ -43,7 +44,7 @@ impl<S> Pass<S> {
 
 impl<S: Trailed + Drop> Pass<S> {
     // Takes the state, as soon as nobody else has it.
-    pub(crate) fn take<R: Wait>(&mut self, rt: &R, steps: &Steps<S>) -> S
+    pub(crate) fn take<R: Wait>(&mut self, rt: &R, steps: &Steps<S>, sleepers: &Sleepers) -> S
         requires words { 0 < steps.now.table_id.words }
         requires idle { IsIdlePass steps.now.table_id self.old }
         ensures pass { self.new ≡ record self.old { out = Some (S.trail result) } }
@@ -51,28 +52,29 @@ impl<S: Trailed + Drop> Pass<S> {
         ensures list { self.old.list ≡ receipts_of self.old.number (S.trail result) }
         ensures has { HasReceipts (S.trail result) self.old.number self.old.list }
     {
-        steps::take(rt, steps, &mut self.seat)
+        steps::take(rt, steps, sleepers, &mut self.seat)
     }
 
     // Gives the state back, with the trail that it had.
-    pub(crate) fn give(&mut self, steps: &Steps<S>, state: S)
+    pub(crate) fn give(&mut self, steps: &Steps<S>, sleepers: &Sleepers, state: S)
         requires words { 0 < steps.now.table_id.words }
         requires own { self.old.lock ≡ steps.now.table_id }
         requires trail { self.old.out ≡ Some (S.trail state) }
         requires state { S.keeps state }
         ensures { self.new ≡ record self.old { out = None } }
     {
-        steps::give(steps, &mut self.seat, state);
+        steps::give(steps, sleepers, &mut self.seat, state);
     }
 
     // Gives the state back, where the pass has appended an entry.
-    pub(crate) fn post(&mut self, steps: &Steps<S>, state: S, log_place: u64)
+    pub(crate) fn post(&mut self, steps: &Steps<S>, sleepers: &Sleepers, state: S, log_place: u64)
         requires words { 0 < steps.now.table_id.words }
         requires own { self.old.lock ≡ steps.now.table_id }
         requires trail { (trail : List Entry) × (self.old.out ≡ Some trail) × (S.trail state ≡ trail ++ (self.old.number, log_place) ∷ []) }
         requires state { S.keeps state }
         ensures { self.new ≡ record self.old { list = self.old.list ++ (length (S.trail state), log_place) ∷ []; out = None } }
     {
-        steps::post(steps, &mut self.seat, state, self.number, log_place);
+        let number = self.number;
+        steps::post(steps, sleepers, &mut self.seat, state, number, log_place);
     }
 }

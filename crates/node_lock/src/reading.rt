@@ -18,9 +18,9 @@ impl<S: Trailed + Drop> Lock<S> {
         ensures pass { pass.new ≡ pass.old }
         ensures answer { (s t : S) × S.keeps s × HasReceipts (S.trail s) pass.old.number pass.old.list × FnOnceReturnsAtMut F.FnOnce call s result t }
     {
-        let mut state = pass.take(rt, &self.table.shared);
+        let mut state = pass.take(rt, &self.table.shared, &self.sleepers);
         let answer = call(&mut state);
-        pass.give(&self.table.shared, state);
+        pass.give(&self.table.shared, &self.sleepers, state);
         answer
     }
 }

@@ -5,8 +5,8 @@ ghost use Rattle.node_lock.specs.Known.{standing_for, holding, first_part, rest_
 ghost use Rattle.node_lock.specs.Steps.{IsIdle, IsHolding, KnowsTrail};
 
 use crate::rule::{DealsFirst, Gives, Posts, Seats, StandsForBoth, Steps, Takes, Token, Trailed};
+use crate::sleepers::Sleepers;
 use std::sync::Wait;
-use std::thread::yield_now;
 
 // A seat that stands for no pass.
 pub(crate) fn new_seat<S: Trailed + Drop>(steps: &Steps<S>) -> Token<S>
@@ -17,7 +17,12 @@ pub(crate) fn new_seat<S: Trailed + Drop>(steps: &Steps<S>) -> Token<S>
 }
 
 // Takes the state, as soon as no other seat has it.
-pub(crate) fn take<S: Trailed + Drop, R: Wait>(rt: &R, steps: &Steps<S>, seat: &mut Token<S>) -> S
+pub(crate) fn take<S: Trailed + Drop, R: Wait>(
+    rt: &R,
+    steps: &Steps<S>,
+    sleepers: &Sleepers,
+    seat: &mut Token<S>,
+) -> S
     requires table { (seat.old.table_id ≡ steps.now.table_id) × (0 < steps.now.table_id.words) }
     requires idle { IsIdle seat.old.me }
     ensures seat { (seat.new.table_id ≡ seat.old.table_id)
@@ -25,17 +30,26 @@ pub(crate) fn take<S: Trailed + Drop, R: Wait>(rt: &R, steps: &Steps<S>, seat: &
     ensures state { S.keeps result }
     ensures lists { KnowsTrail seat.old.me.0 (S.trail result) }
 {
+    let mut slept = false;
     for _ in rt.forever() {
         if steps.compare_exchange::<Takes>(seat, 0, 0, 1) == 0 {
+            if slept {
+                sleepers.ask();
+            }
             return steps.exchange(seat, 0, None).unwrap();
         }
-        yield_now();
+        slept = sleepers.wait(rt, steps) || slept;
     }
     unreachable!()
 }
 
 // Gives the state back, with the trail that it had.
-pub(crate) fn give<S: Trailed + Drop>(steps: &Steps<S>, seat: &mut Token<S>, state: S)
+pub(crate) fn give<S: Trailed + Drop>(
+    steps: &Steps<S>,
+    sleepers: &Sleepers,
+    seat: &mut Token<S>,
+    state: S,
+)
     requires table { (seat.old.table_id ≡ steps.now.table_id) × (0 < steps.now.table_id.words) }
     requires holds { IsHolding seat.old.me (S.trail state) }
     requires state { S.keeps state }
@@ -43,11 +57,13 @@ pub(crate) fn give<S: Trailed + Drop>(steps: &Steps<S>, seat: &mut Token<S>, sta
 {
     steps.exchange(seat, 0, Some(state));
     steps.swap::<Gives>(seat, 0, 0);
+    sleepers.wake();
 }
 
 // Gives the state back, where the seat's one pass has appended an entry.
 pub(crate) fn post<S: Trailed + Drop>(
     steps: &Steps<S>,
+    sleepers: &Sleepers,
     seat: &mut Token<S>,
     state: S,
     pass: u64,
@@ -63,6 +79,7 @@ pub(crate) fn post<S: Trailed + Drop>(
 {
     steps.exchange(seat, 0, Some(state));
     steps.swap::<Posts>(seat, 0, 0);
+    sleepers.wake();
 }
 
 // The first pass of the seat goes to a new one.

@@ -22,7 +22,7 @@ impl<S: Trailed + Drop> Turn<'_, '_, S> {
         ensures pass { self.exit.0.now ≡ record self.entry.pass.now { out = None } }
     {
         let Turn { pass, state, lock } = self;
-        pass.give(&lock.table.shared, state);
+        pass.give(&lock.table.shared, &lock.sleepers, state);
     }
 
     /// Gives the state back, with one entry more in its trail: that of the pass, at this place of the log. The pass has the receipt.
@@ -35,6 +35,6 @@ impl<S: Trailed + Drop> Turn<'_, '_, S> {
         } }
     {
         let Turn { pass, state, lock } = self;
-        pass.post(&lock.table.shared, state, log_place);
+        pass.post(&lock.table.shared, &lock.sleepers, state, log_place);
     }
 }

@@ -21,6 +21,6 @@ impl<S: Trailed + Drop> Visit<'_, S> {
         requires state { S.keeps self.state }
     {
         let Visit { state, lock, held } = self;
-        let _idle = held.give(&lock.table.shared, state);
+        let _idle = held.give(&lock.table.shared, &lock.sleepers, state);
     }
 }
