@@ -2,12 +2,12 @@
 ghost use Rattle.std.specs.Prelude.{◌<◌};
 
 use crate::rule::{Steps, Trailed};
-use std::hint::spin_loop;
 use std::sync::Wait;
 use std::sync::atomic::{AtomicU64, Ordering};
+use std::thread::yield_now;
 
-// How often a taker looks at the word before it sleeps.
-const SPINS: u32 = 100;
+// How often a taker looks at the word, and lets others run where the state is out, before it sleeps.
+const LOOKS: u32 = 32;
 
 // The takers that sleep, or are about to. Nothing of it is proved: a wake that is lost would leave a taker asleep.
 //
@@ -34,11 +34,11 @@ impl Sleepers {
     pub(crate) fn wait<S: Trailed + Drop, R: Wait>(&self, rt: &R, steps: &Steps<S>) -> bool
         requires { 0 < steps.now.table_id.words }
     {
-        for _ in 0..SPINS {
+        for _ in 0..LOOKS {
             if steps.peek(0) == 0 {
                 return false;
             }
-            spin_loop();
+            yield_now();
         }
         let heard = (self.rings.load(Ordering::SeqCst) & 0xffff_ffff) as u32;
         self.ask();
