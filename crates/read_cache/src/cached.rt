@@ -1,9 +1,11 @@
-ghost use Rattle.std.specs.Prelude.{◌≡◌, ℕ, ◌≤◌, List, [], true, false, Ok, IfOk, IfSome, OnOk, OnErr, IfErr, IsTrue, ◌↔◌, length};
+ghost use Rattle.std.specs.Prelude.{◌≡◌, ℕ, ◌≤◌, List, [], true, false, Ok, IfOk, IfSome, OnOk, OnErr, IfErr, IsTrue, ◌↔◌, length, map};
 ghost use Rattle.std.specs.Borrow.{Lends, sem};
 ghost use Rattle.redo_core.specs.Data.{CutData};
 ghost use Rattle.redo_core.specs.Position.{Position};
 ghost use Rattle.redo_core.specs.Roster.{least};
 ghost use Rattle.redo_core.specs.Sound.{IsSound};
+ghost use Rattle.redo_core.specs.Linked.{IsLinked};
+ghost use Rattle.redo_core.specs.Order.{IsRising, RecordBefore};
 ghost use Rattle.redo_core.specs.declared.facts.Fact.{Fact as AnyFact};
 ghost use Rattle.redo_core.specs.declared.facts.Fact.TheVariants.{Cut as OfCut};
 ghost use Rattle.segment_state.specs.Means.{MeansAt};
@@ -11,9 +13,11 @@ ghost use Rattle.segment_state.specs.Shows.{Shows};
 ghost use Rattle.segment_state.specs.Promises.{KeepsMeaning, KeepsMeaningWith};
 ghost use Rattle.segment_core.specs.BlockChain.{TellsBreak};
 ghost use Rattle.segment_core.specs.Exactly.{TakesExactly};
-ghost use Rattle.segment_core.specs.Folding.{Commits, RefusesCommit, RefusesAhead};
+ghost use Rattle.segment_state.specs.HasMeaning.{HasAnchor};
+ghost use Rattle.segment_core.specs.Folding.{IsPlanResult, PlansFold, Commits, RefusesCommit, RefusesAhead};
 ghost use Rattle.segment_core.specs.Forgetting.{DiscardsJust, Tidies, HoldsJustKept, IsSoundState, TellsFirstBreak, RefusesTidy};
-ghost use Rattle.segment_core.specs.Reading.{IsReadResult, TellsOutside};
+ghost use Rattle.segment_core.specs.Keys.{key_of};
+ghost use Rattle.segment_core.specs.Reading.{IsFrontAt, IsFrontOf, IsReadResult, TellsOutside};
 ghost use Rattle.segment_core.specs.Refusing.{FitsSoundLog};
 ghost use Rattle.segment_core.specs.Taking.{TellsChange};
 ghost use Rattle.segment_core.specs.declared.answers.ReadFault.TheVariants.{Memory as OfMemory};
@@ -27,7 +31,7 @@ ghost use Rattle.read_cache.specs.UpToDate.{Touches};
 
 use crate::images::Images;
 use redo_core::{Fact, Page, Refused};
-use segment_core::{CommitFault, Folded, ReadFault, Refusal, Segment, Taken};
+use segment_core::{CommitFault, FoldPlan, Folded, Front, ReadFault, Refusal, Segment, Taken};
 use std::alloc::AllocError;
 use std::marker::Model;
 
@@ -78,6 +82,48 @@ impl CachedSegment {
         ensures { result.now ≡ self.now.segment }
     {
         &self.segment
+    }
+
+    /// The complete epoch, the complete point and the minimum read point.
+    pub fn front(&self) -> Front
+        ensures front { (roster : ℕ) (log facts : List AnyFact) (p : Position) → IsSound roster log → MeansAt roster log facts p self.now.segment → IsFrontAt p result }
+        ensures own { IsFrontOf self.now.segment result }
+    {
+        self.segment.front()
+    }
+
+    /// The greatest linked number that is not above the minimum read point.
+    pub fn anchor(&self) -> u64
+        ensures anchor { (roster : ℕ) (log facts : List AnyFact) (p : Position) → IsSound roster log → MeansAt roster log facts p self.now.segment → result ≡ p.anchor }
+        ensures own { HasAnchor self.now.segment result }
+    {
+        self.segment.anchor()
+    }
+
+    /// The number up to which the segment knows that it is complete, whatever it has thrown away.
+    pub fn base_point(&self) -> u64
+        ensures base { (roster : ℕ) (log facts : List AnyFact) (p : Position) → IsSound roster log → MeansAt roster log facts p self.now.segment → IsLinked facts p.epoch result × (result ≤ p.anchor) }
+        ensures own { result ≡ self.now.segment.base }
+    {
+        self.segment.base_point()
+    }
+
+    /// A plan to fold a page to the anchor, as `Segment::plan_fold` makes it.
+    ///
+    /// Errors: `BrokenBlockChain`, never over a sound log; `Memory`.
+    pub fn plan_fold(&self, page: u16) -> Result<FoldPlan, ReadFault>
+        ensures result { (roster : ℕ) (log facts : List AnyFact) (p : Position) → IsSound roster log → MeansAt roster log facts p self.now.segment → IsPlanResult facts p page result }
+        ensures own { PlansFold self.now.segment page result }
+    {
+        self.segment.plan_fold(page)
+    }
+
+    /// The keys (epoch and number) of the records held, rising. Its only error is want of memory.
+    pub fn stored(&self) -> Result<Vec<(u16, u64)>, AllocError>
+        ensures keys { IfOk result (λ v. v.items ≡ map key_of self.now.segment.held) }
+        ensures rising { IsRising RecordBefore self.now.segment.held }
+    {
+        self.segment.stored()
     }
 
     /// How many images are kept.

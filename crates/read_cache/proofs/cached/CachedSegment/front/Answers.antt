@@ -1,0 +1,4 @@
+use Rattle.read_cache.proofs.cached.CachedSegment.front.Goals as goal
+
+pub returns-clause-front : goal.returns-clause-front
+returns-clause-front c = rw (← c.self.view_is) c.front.ensures.front
