@@ -20,7 +20,7 @@ class Taker:
 
 @dataclass(frozen=True)
 class Form:
-    """What a form of the lock leaves out."""
+    """Which of two parts a form of the lock has."""
 
     asks_for_others: bool = True
     looks_again: bool = True
