@@ -123,6 +123,26 @@ def statuses_of_texts(program):
     return f"{len(TEXTS)} texts"
 
 
+MOST_LINES = 1_000_000  # fact lines, and step lines, that a text may have
+
+
+def most_lines(program):
+    """The first fact line, and the first step line, past a million is the bad line."""
+    facts, steps, roster = b"min 0 1\n" * MOST_LINES, b"front 1\n" * MOST_LINES, b"roster 2\n"
+    texts = [
+        ("check", facts, 0, b"sound 1000000\n"),
+        ("check", facts + b"min 0 1\n", 2, b"bad line 1000001\n"),
+        ("run", facts + b"go\nnodes 1\nfront 1\n", 0, b"front 0 0 0\n"),
+        ("run", roster + facts + b"min 0 1\ngo\nnodes 1\n", 2, b"bad line 1000002\n"),
+        ("run", b"go\nnodes 1\n" + steps, 0, b"front 0 0 0\n" * MOST_LINES),
+        ("run", b"go\nnodes 1\n" + steps + b"front 1\n", 2, b"bad line 1000003\n"),
+    ]
+    for task, text, status, output in texts:
+        if answer(program, [task], input=text) != (status, output, b""):
+            raise Failed(f"{task} of {len(text)} bytes is not answered by {output[:20]!r}")
+    return f"{len(texts)} texts"
+
+
 def bad_command_lines(program):
     for words in BAD_COMMAND_LINES:
         expect(f"the words {words}", answer(program, words, input=SOUND), (2, b"", b"fleet: bad command line\n"))
@@ -261,6 +281,7 @@ def tests(rounds, seed):
         "examples": examples,
         "rows": rows,
         "statuses 0, 2 and 3, of texts": statuses_of_texts,
+        "a million lines and one more": most_lines,
         "status 2, of command lines": bad_command_lines,
         "status 0, of the help": help_is_printed,
         "status 4, an input that fails": failing_input,

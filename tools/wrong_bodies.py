@@ -56,7 +56,8 @@ OWNER_NAME = re.compile(r"(?:pub )?(?:impl|trait)(?:<[^{]*?>)? (?:(\w+)(?:<[^{]*
 
 
 class Edit:
-    """A must-fail edit: its pairs of texts, and the function that the last of them stands in (the others make its text stand once)."""
+    """A must-fail edit: its pairs of texts, and the function that the last of them stands in (the others make its text stand once,
+    or add what it calls)."""
 
     def __init__(self, crate, path):
         self.name, self.pairs, file, old = os.path.basename(path), [], None, None
@@ -70,6 +71,7 @@ class Edit:
         self.fault = None if self.pairs else "it has no 'old:' and 'new:' pair"
         self.fault = self.fault or self.applied(crate, {})[1]
         self.function = None if self.fault else self.function_in(crate)
+        self.fault = self.fault or (None if self.function else "its last pair stands in no function of src/")
 
     def function_in(self, crate):
         """The end of the name that a check gives the function, as 'HotLog::put', or None where the edit is of no function."""
@@ -104,11 +106,11 @@ class Edit:
 
 
 def rounds(crate, edits):
-    """At most one edit of a function in each, and none whose text another one changes; an edit of no function alone."""
+    """At most one edit of a function in each, and none whose text another one changes."""
     made = []
     for it in edits:
         for batch, texts in made:
-            is_free = it.function and all(other.function and other.function != it.function for other in batch)
+            is_free = all(other.function != it.function for other in batch)
             together = is_free and it.applied(crate, texts)[0]
             if together:
                 batch.append(it)
@@ -126,7 +128,7 @@ FUNCTION = re.compile(r"fn (\w+)::(\S+): (not proved|no proof|proved)")
 LEFT = re.compile(r"note: src/\S+:\d+:\d+: it is not proved .*\(`([^`\s]+)`\)")
 PROOF_FAULT = re.compile(r"(?:\./)?(proofs/(\S+)/(?:Answers|Invariants|Proof)\.antt):\d+:\d+: error")
 # What a proof file says where the edit only took a name away: it shows nothing of the contract.
-UNFIT = re.compile(r"has no field|is not in scope|has no `|was not admitted")
+UNFIT = re.compile(r"has no field|is not in scope|has no `|was not admitted|\(nearest: |which was rejected")
 RENAMED = re.compile(r"module `\S*\.Goals` has no `")
 
 
@@ -178,15 +180,13 @@ def tried(crate, edits, kept):
     for it in edits:
         texts = it.applied(crate, texts)[0]
     # The edited functions and those that they call; where two functions have such a name, the whole crate.
-    only = [word for it in edits if it.function for word in ("--only", it.function)]
+    only = [word for it in edits for word in ("--only", it.function)]
     ran = RT.checked(crate, texts, ["--jobs", "1", *only], kept)
-    if only and ran.returncode == 2:
+    if ran.returncode == 2:
         ran = RT.checked(crate, texts, ["--jobs", "1"], kept)
     unread = [it for it in ran.stdout.split("\n") if RT.unread(it, texts)]
     if unread or ran.returncode != 1:
         return set(), [], unread[:1] or [f"the check ended with {ran.returncode}"]
-    if len(edits) == 1 and edits[0].function is None:
-        return set(edits), [], []
     own = Report(crate, ran.stdout).refused()
     refused = {it for it in edits if any(is_of(path, it.function) for path in own)}
     return refused, [path for path in own if not any(is_of(path, it.function) for it in edits)], []
@@ -234,8 +234,9 @@ def line_of(crate):
 
 
 def sum_of(crate):
-    """Of the kit, and of all files of the crate and of the crates below it: sources, statements, proofs, and its own edits."""
+    """Of the kit, this file, and all files of the crate and of the crates below it: sources, statements, proofs, and its own edits."""
     made = hashlib.sha256((pathlib.Path(RT.KIT) / "KIT-ID").read_bytes())
+    made.update(pathlib.Path(__file__).read_bytes())
     for it in sorted([crate, *crate.below()], key=lambda it: it.name):
         made.update(line_of(it).encode() + b"\0")
         for part in ("src", "specs", "proofs", *(["must-fail"] if it is crate else [])):

@@ -10,3 +10,4 @@ pub mod Pairing
 pub mod GoingOn
 pub mod Determined
 pub mod Staying
+pub mod Headline

@@ -1,6 +1,7 @@
 -- What a step does over any facts: each reply, and each new state, is that of the segment's call.
-use Rattle.std.specs.Prelude.{◌≡◌, ℕ, ◌⊎◌, ◌↔◌, ◌<◌, List, [], ◌∷◌, length, Bool, IsTrue, Option}
+use Rattle.std.specs.Prelude.{◌≡◌, ◌≢◌, ℕ, ◌⊎◌, ◌↔◌, ◌<◌, List, [], ◌∷◌, length, Bool, IsTrue, Option}
 use Rattle.std.specs.Prelude.{Some, None, unwrap_or, Result, Ok, Err, IfOk, IfErr, OnOk, OnErr, MatchOption}
+use Rattle.redo_core.specs.Book.{roster_of}
 use Rattle.redo_core.specs.declared.facts.Fact.{Fact}
 use Rattle.redo_core.specs.declared.refusal.Refused.{Refused}
 use Rattle.redo_core.specs.Meaning.{Meaning}
@@ -81,6 +82,7 @@ pub record JoinsOther (old other : State) (reply : Reply) (new : State) : Type 0
   pub sound : IfErr answer (λ why. AreOfOneLog old other → why ≡ refusal.Memory)
   pub takes : OnOk answer (TakesTold old other)
   pub refused : IfErr answer (λ why. (why ≡ refusal.Memory) ⊎ RefusesJoin old other why)
+  pub roster : IfErr answer (λ why. roster_of old.book ≢ roster_of other.book → why ≡ refusal.OtherRoster (roster_of old.book) (roster_of other.book))
   pub unchanged : OnErr answer (new ≡ old)
   pub told : reply ≡ joined_reply answer
 

@@ -9,3 +9,4 @@ pub mod Calls
 pub mod Refused
 pub mod Laws
 pub mod AtNode
+pub mod Headline

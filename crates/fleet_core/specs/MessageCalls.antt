@@ -1,17 +1,17 @@
 -- What the steps with messages do over any facts: each reply, and each message, is that of the segment's call.
-use Rattle.std.specs.Prelude.{◌≡◌, ℕ, ◌+◌, ◌<◌, ◌⊎◌, List, [], ◌∷◌, ◌++◌, length, Result, Ok, Err, IfOk, IfErr, OnOk, OnErr, MatchOption}
+use Rattle.std.specs.Prelude.{◌≡◌, ℕ, ◌+◌, ◌<◌, ◌⊎◌, ◌↔◌, List, [], ◌∷◌, ◌++◌, length, Result, Ok, Err, IfOk, IfErr, OnOk, OnErr, MatchOption}
 use Rattle.redo_core.specs.Meaning.{Meaning}
 use Rattle.redo_wire.specs.Summaries.{SummaryData}
 use Rattle.redo_wire.specs.Deltas.{DeltaData}
 use Rattle.segment_state.specs.State.{State}
 use Rattle.segment_state.specs.HasMeaning.{HasMeaning}
-use Rattle.segment_core.specs.Forgetting.{IsSoundState, IsWhole}
+use Rattle.segment_core.specs.Forgetting.{IsSoundState, IsWhole, IsFirstBreak}
 use Rattle.segment_core.specs.declared.answers.ReadFault.{ReadFault}
 use Rattle.segment_core.specs.declared.answers.ReadFault.TheVariants as fault
 use Rattle.segment_core.specs.declared.answers.Refusal.TheVariants as refusal
 use Rattle.gossip_core.specs.Summarizing.{Summarizes, IsSummaryOf}
 use Rattle.gossip_core.specs.Replying.{AnswersSummary, FillsSummary, IsLeastBreak}
-use Rattle.gossip_core.specs.Absorbing.{MeansBoth, IsOfOneLog, Answers, AbsorbsInto, RefusesAbsorb}
+use Rattle.gossip_core.specs.Absorbing.{MeansBoth, IsOfOneLog, Answers, AbsorbsInto, RefusesAbsorb, TellsRoster}
 use Rattle.gossip_core.specs.declared.absorbing.AbsorbRefusal.{AbsorbRefusal}
 use Rattle.gossip_core.specs.declared.absorbing.AbsorbRefusal.TheVariants.{Refused as RefusedFor, Uncovered as UncoveredBy}
 use Rattle.gossip_core.specs.declared.answering.Shown.{Shown}
@@ -46,6 +46,7 @@ pub record RepliesTo (s : State) (summary : SummaryData) (answer : Result DeltaD
   pub answers : IfOk answer (AnswersSummary s summary)
   pub refused : IfErr answer (λ e. (e ≡ fault.Memory) ⊎ ((summary.anchor < s.base) × IsLeastBreak s e))
   pub whole : IfOk answer (λ d. summary.anchor < s.base → IsWhole s)
+  pub broken : (page n : ℕ) → (answer ≡ Err (fault.BrokenBlockChain page n)) ↔ ((summary.anchor < s.base) × IsFirstBreak s page n)
 
 -- the delta is made a message, which names the question
 abbrev pub MakesAnswer : List Made → ℕ → Result DeltaData ReadFault → Reply → List Made → Type 0
@@ -71,6 +72,7 @@ pub record AbsorbsDelta (old : State) (summary : SummaryData) (delta : DeltaData
   pub absorbs : OnOk answer (AbsorbsInto old delta new)
   pub answers : OnOk answer (Answers old summary)
   pub refused : IfErr answer (RefusesAbsorb old summary delta)
+  pub roster : IfErr answer (TellsRoster old delta)
   pub unchanged : OnErr answer (new ≡ old)
 
 pub record AbsorbsAnswer (old : State) (summary : SummaryData) (delta : DeltaData) (reply : Reply) (new : State) : Type 0 where

@@ -1,5 +1,25 @@
 //! The laws of the fleet machine, and of the fleets that follow it.
+ghost use Rattle.fleet_core.specs.Headline.{Headline, CoversByParts};
 ghost use Rattle.fleet_core.specs.Laws.{OneReply, OneRun, RunsGoOn, CallsGoOn, MessagesStay};
+
+use redo_laws::{least_upper_bound, order_by_parts};
+use segment_state::states_answer;
+
+/// The headline: after any script over a sound log the replies are those of the machine, and each segment answers as the set of facts
+/// that reached its node; and the meaning of a union is the least that is at or above both.
+pub fn headline()
+    ensures { Headline }
+{
+    states_answer();
+    least_upper_bound();
+}
+
+/// Whether a node covers another one is replied by the order of parts of the log.
+pub fn covers_by_parts()
+    ensures { CoversByParts }
+{
+    order_by_parts();
+}
 
 /// From given sets of facts of one sound log a step has one reply, want of memory aside.
 pub fn one_reply()

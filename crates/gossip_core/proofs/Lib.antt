@@ -4,6 +4,7 @@ pub mod KeySearch
 pub mod Sending
 pub mod NextPage
 pub mod PagesShown
+pub mod Broken
 pub mod Filling
 pub mod Accounting
 pub mod AnsweringFacts

@@ -9,12 +9,9 @@ use Rattle.hot_log.specs.Found.{IsLeast, IsPageAbove}
 use Rattle.segment_state.specs.State.{State}
 use Rattle.segment_state.specs.Shows.{Shows}
 use Rattle.segment_core.specs.Form.{IsSegment}
-use Rattle.segment_core.specs.Folding.{BreaksBelowAnchor}
-use Rattle.segment_core.specs.declared.answers.ReadFault.{ReadFault}
-use Rattle.segment_core.proofs.FirstBreak.{IsWholeTo}
 use Rattle.segment_core.proofs.Pages.{IsPassed}
 use Rattle.segment_join.proofs.Showing.{IsBare, shows_one, bare_is_zeros}
-use Rattle.gossip_core.specs.Replying.{IsStoredPage, IsBreakOf, IsLeastBreak}
+use Rattle.gossip_core.specs.Replying.{IsStoredPage}
 
 -- the page at the point is this, and not zeros
 abbrev pub IsShown : State → ℕ → ImageData → Type 0
@@ -97,34 +94,6 @@ passed_more s point page next pages x form is at shown lists =
           (λ (e : i ≡ x). subst (λ y. IsShown s point y × IsPassed next y.page) (sym e) (shown, after_page s page x.page next is (omega (arith, at))))
           h,
     ))
-
--- the chains of the pages that are passed are whole
-pub whole_first : (s : State) (next : Option ℕ) → IsLeast (λ n. IsStoredPage s n × IsPageAbove None n) next → IsWholeTo s next
-whole_first s next is = λ page n b passed. bare_between s None next page is tt passed (inr (b.2.first, b.2.linked.0, b.2.linked.3))
-
-pub whole_next : (s : State) (page : ℕ) (next : Option ℕ) → IsLeast (λ n. IsStoredPage s n × IsPageAbove (Some page) n) next
-    → ((n : ℕ) → BreaksBelowAnchor s page n → ⊥) → IsWholeTo s (Some page) → IsWholeTo s next
-whole_next s page next is none before = λ g n b passed.
-    ⊎_elim
-    (λ (lt : g < page). before g n b lt)
-    (λ (t : (g ≡ page) ⊎ (page < g)). ⊎_elim
-    (λ (e : g ≡ page). none n (subst (λ x. BreaksBelowAnchor s x n) e b))
-    (λ (above : page < g). bare_between s (Some page) next g is above passed (inr (b.2.first, b.2.linked.0, b.2.linked.3)))
-    t)
-    (let t : (g < page) ⊎ ((g ≡ page) ⊎ (page < g)) = grind arith in t)
-
--- so the first that is met is of the least page
-pub least_break : (s : State) (page : ℕ) (fault : ReadFault) → IsWholeTo s (Some page) → IsBreakOf s page fault → IsLeastBreak s fault
-least_break s page fault before broken = (
-  page,
-  broken.0,
-  record {
-    breaks = broken.1;
-    least = λ other m b. ⊎_elim (λ (lt : other < page). absurd (before other m b lt)) (λ (le : page ≤ other). le)
-        (let t : (other < page) ⊎ (page ≤ other) = grind arith in t);
-  },
-  broken.2,
-)
 
 pub passed_all : (s : State) (point : ℕ) (pages : List ImageData) → ListsPassed s point None pages → Lists ImageBefore (IsShown s point) pages
 passed_all s point pages lists =

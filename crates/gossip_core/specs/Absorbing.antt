@@ -74,6 +74,11 @@ abbrev pub RefusesAbsorb : State → SummaryData → DeltaData → AbsorbRefusal
 RefusesAbsorb s summary d (Uncovered shown) = (anchor : ℕ) × HasAnchor s anchor × IsUncovered s anchor summary (Some shown)
 RefusesAbsorb s summary d (Refused why) = Answers s summary × ((why ≡ Memory) ⊎ RefusesDelta s d why)
 
+-- a delta of another roster is told as such, unless the summary is uncovered: want of memory is no answer to it
+abbrev pub TellsRoster : State → DeltaData → AbsorbRefusal → Type 0
+TellsRoster s d (Uncovered shown) = Unit {0}
+TellsRoster s d (Refused why) = roster_of s.book ≢ roster_of d.book → why ≡ OtherRoster (roster_of s.book) (roster_of d.book)
+
 -- a page of a delta at its base
 abbrev pub image_at : ℕ → ImageData → StoredImage
 image_at base i = stored i.page base i.bytes

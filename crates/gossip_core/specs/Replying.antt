@@ -18,7 +18,6 @@ use Rattle.segment_state.specs.Means.{MeansAt}
 use Rattle.segment_state.specs.Shows.{Shows}
 use Rattle.segment_state.specs.HasMeaning.{HasAnchor, IsKeptBy}
 use Rattle.segment_state.specs.Gossip.{Fills}
-use Rattle.segment_core.specs.Folding.{BreaksBelowAnchor}
 use Rattle.segment_core.specs.Forgetting.{IsFirstBreak}
 use Rattle.segment_core.specs.declared.answers.ReadFault.{ReadFault}
 use Rattle.segment_core.specs.declared.answers.ReadFault.TheVariants.{BrokenBlockChain}
@@ -63,10 +62,6 @@ IsImageAtAnchor s page (Some i) = (i.page ≡ page) × (i.bytes ≢ zeros) × ((
 -- these are the nonzero pages at the anchor
 abbrev pub AreShown : State → List ImageData → Type 0
 AreShown s pages = (anchor : ℕ) → HasAnchor s anchor → Lists ImageBefore (λ i. Shows s i.page anchor i.bytes × (i.bytes ≢ zeros)) pages
-
--- the block chain of a page is broken at or below the anchor
-abbrev pub IsBreakOf : State → ℕ → ReadFault → Type 0
-IsBreakOf s page fault = (n : ℕ) × BreaksBelowAnchor s page n × (fault ≡ BrokenBlockChain page n)
 
 -- of the pages whose block chain is broken there, the least
 abbrev pub IsLeastBreak : State → ReadFault → Type 0

@@ -1,12 +1,12 @@
-ghost use Rattle.std.specs.Prelude.{◌≡◌, ◌⊎◌, map, IfOk, OnOk, IfErr, OnErr};
+ghost use Rattle.std.specs.Prelude.{◌≡◌, ◌≢◌, ◌⊎◌, map, IfOk, OnOk, IfErr, OnErr};
 ghost use Rattle.redo_core.specs.Book.{roster_of};
 ghost use Rattle.segment_core.specs.Savepoint.{RollsBackAs};
-ghost use Rattle.segment_core.specs.declared.answers.Refusal.TheVariants.{Memory as MemoryOf};
+ghost use Rattle.segment_core.specs.declared.answers.Refusal.TheVariants.{OtherRoster as OtherRosterOf, Memory as MemoryOf};
 ghost use Rattle.segment_join.specs.Told.{facts_told};
 ghost use Rattle.segment_join.specs.InOrder.{TakesEach, RefusesOne};
 ghost use Rattle.gossip_core.specs.declared.absorbing.AbsorbRefusal.TheVariants.{Refused as RefusedFor, Uncovered as UncoveredBy};
 ghost use Rattle.gossip_core.specs.declared.answering.Shown.{Shown as AnyShown};
-ghost use Rattle.gossip_core.specs.Absorbing.{image_at, MeansBoth, IsOfOneLog, Answers, AbsorbsInto, RefusesDelta, RefusesAbsorb};
+ghost use Rattle.gossip_core.specs.Absorbing.{image_at, MeansBoth, IsOfOneLog, Answers, AbsorbsInto, RefusesDelta, RefusesAbsorb, TellsRoster};
 
 use crate::answering::{Shown, uncovered};
 use page_base::BaseImage;
@@ -41,6 +41,7 @@ pub fn absorb(segment: &mut Segment, summary: &Summary, delta: &Delta) -> Result
     ensures absorbs { OnOk result (AbsorbsInto segment.old delta.now segment.new) }
     ensures answers { OnOk result (Answers segment.old summary.now) }
     ensures refused { IfErr result (RefusesAbsorb segment.old summary.now delta.now) }
+    ensures roster { IfErr result (TellsRoster segment.old delta.now) }
     ensures unchanged { OnErr result (segment.new ≡ segment.old) }
 {
     // They are called for what they ensure: a delta has its shape, and a segment an anchor.
@@ -59,6 +60,7 @@ pub fn absorb(segment: &mut Segment, summary: &Summary, delta: &Delta) -> Result
 fn take_delta(segment: &mut Segment, delta: &Delta) -> Result<(), Refusal>
     ensures absorbs { OnOk result (AbsorbsInto segment.old delta.now segment.new) }
     ensures refused { IfErr result (λ e. (e ≡ MemoryOf) ⊎ RefusesDelta segment.old delta.now e) }
+    ensures roster { IfErr result (λ e. roster_of segment.old.book ≢ roster_of delta.now.book → e ≡ OtherRosterOf (roster_of segment.old.book) (roster_of delta.now.book)) }
     ensures unchanged { OnErr result (segment.new ≡ segment.old) }
 {
     let own = segment.points().len() as u8;

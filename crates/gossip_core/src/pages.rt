@@ -1,24 +1,17 @@
 //! The pages that a segment shows at its anchor.
-ghost use Rattle.std.specs.Prelude.{◌≡◌, ℕ, ◌⊎◌, nat_le, IfOk, IfErr, Some};
+ghost use Rattle.std.specs.Prelude.{◌≡◌, ◌⊎◌, nat_le, IfOk, Some};
 ghost use Rattle.redo_core.specs.Order.{IsRising};
 ghost use Rattle.redo_core.specs.Store.{PageBefore};
 ghost use Rattle.hot_log.specs.Found.{IsLeast, IsPageAbove};
-ghost use Rattle.segment_core.specs.Folding.{BreaksBelowAnchor};
-ghost use Rattle.segment_core.specs.Forgetting.{IsSoundState, IsWhole};
-ghost use Rattle.segment_core.specs.declared.answers.ReadFault.TheVariants.{Memory as MemoryOf};
-ghost use Rattle.gossip_core.specs.Replying.{AreShown, BeginsAbove, IsBreakOf, IsLeastBreak, IsStoredPage, IsImageOf, IsImageAtAnchor};
+ghost use Rattle.gossip_core.specs.Replying.{AreShown, BeginsAbove, IsStoredPage, IsImageOf, IsImageAtAnchor};
 
 use redo_wire::PageImage;
-use segment_core::{BaseImage, ReadFault, Segment};
+use segment_core::{BaseImage, Segment};
+use std::alloc::AllocError;
 
-/// The pages at the anchor that are not zeros, rising.
-///
-/// Errors: `BrokenBlockChain` of the least page whose chain is broken there, never over a sound log; `Memory`.
-pub(crate) fn pages_at_anchor(segment: &Segment) -> Result<Vec<PageImage>, ReadFault>
-    ensures shown { IfOk result (λ v. AreShown segment.now v.items) }
-    ensures sound { IfErr result (λ e. IsSoundState segment.now → e ≡ MemoryOf) }
-    ensures whole { IfOk result (λ _. IsWhole segment.now) }
-    ensures refused { IfErr result (λ e. (e ≡ MemoryOf) ⊎ IsLeastBreak segment.now e) }
+/// The pages at the anchor that are not zeros, rising. No block chain is walked.
+pub(crate) fn pages_at_anchor(segment: &Segment) -> Result<Vec<PageImage>, AllocError>
+    ensures { IfOk result (λ v. AreShown segment.now v.items) }
 {
     // It opens the segment's form: the images rise by page.
     let _base = segment.base_point();
@@ -26,9 +19,7 @@ pub(crate) fn pages_at_anchor(segment: &Segment) -> Result<Vec<PageImage>, ReadF
     let mut next = stored_page_after(segment, None);
     while let Some(page) = next {
         if let Some(image) = image_at_anchor(segment, page)? {
-            let Ok(()) = pages.push(image) else {
-                return Err(ReadFault::Memory);
-            };
+            pages.push(image)?;
         }
         next = stored_page_after(segment, Some(page));
     }
@@ -36,17 +27,14 @@ pub(crate) fn pages_at_anchor(segment: &Segment) -> Result<Vec<PageImage>, ReadF
 }
 
 /// A page at the anchor, where it is not zeros.
-fn image_at_anchor(segment: &Segment, page: u16) -> Result<Option<PageImage>, ReadFault>
-    ensures image { IfOk result (IsImageAtAnchor segment.now page) }
-    ensures sound { IfErr result (λ e. IsSoundState segment.now → e ≡ MemoryOf) }
-    ensures whole { IfOk result (λ _. (n : ℕ) → BreaksBelowAnchor segment.now page n → ⊥) }
-    ensures refused { IfErr result (λ e. (e ≡ MemoryOf) ⊎ IsBreakOf segment.now page e) }
+fn image_at_anchor(segment: &Segment, page: u16) -> Result<Option<PageImage>, AllocError>
+    ensures { IfOk result (IsImageAtAnchor segment.now page) }
 {
-    let folded = segment.plan_fold(page)?.fold();
-    if folded.image.is_zero() {
+    let image = segment.page_at_anchor(page)?;
+    if image.is_zero() {
         return Ok(None);
     }
-    Ok(Some(PageImage::new(page, folded.image)))
+    Ok(Some(PageImage::new(page, image)))
 }
 
 /// The least page above the one given that has an image, or that a held record writes.

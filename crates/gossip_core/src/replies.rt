@@ -1,6 +1,6 @@
-ghost use Rattle.std.specs.Prelude.{◌≡◌, ◌<◌, ◌⊎◌, IfOk, IfErr};
-ghost use Rattle.segment_core.specs.Forgetting.{IsSoundState, IsWhole};
-ghost use Rattle.segment_core.specs.declared.answers.ReadFault.TheVariants.{Memory as MemoryOf};
+ghost use Rattle.std.specs.Prelude.{◌≡◌, ℕ, ◌<◌, ◌⊎◌, ◌↔◌, IfOk, IfErr, Err};
+ghost use Rattle.segment_core.specs.Forgetting.{IsSoundState, IsWhole, IsFirstBreak};
+ghost use Rattle.segment_core.specs.declared.answers.ReadFault.TheVariants.{BrokenBlockChain as BrokenAt, Memory as MemoryOf};
 ghost use Rattle.gossip_core.specs.Replying.{AreShown, SendsRecords, SendsPages, AnswersSummary, FillsSummary, IsLeastBreak};
 
 use crate::books::book_of;
@@ -24,6 +24,7 @@ pub fn reply(segment: &Segment, summary: &Summary) -> Result<Delta, ReadFault>
     ensures answers { IfOk result (AnswersSummary segment.now summary.now) }
     ensures refused { IfErr result (λ e. (e ≡ MemoryOf) ⊎ ((summary.now.anchor < segment.now.base) × IsLeastBreak segment.now e)) }
     ensures whole { IfOk result (λ _. summary.now.anchor < segment.now.base → IsWhole segment.now) }
+    ensures broken { (page n : ℕ) → (result ≡ Err (BrokenAt page n)) ↔ ((summary.now.anchor < segment.now.base) × IsFirstBreak segment.now page n) }
 {
     reply_fills();
     same_anchor();
@@ -45,19 +46,32 @@ fn with_records(segment: &Segment, summary: &Summary) -> Result<Delta, AllocErro
     Ok(Delta::new(book, 0, Vec::new(segment.allocator()), records))
 }
 
-/// The delta with the pages at the anchor.
+/// The delta with the pages at the anchor, where no chain is broken.
 fn with_pages(segment: &Segment, summary: &Summary) -> Result<Delta, ReadFault>
     requires { summary.now.anchor < segment.now.base }
     ensures sends { IfOk result (SendsPages segment.now summary.now) }
     ensures sound { IfErr result (λ e. IsSoundState segment.now → e ≡ MemoryOf) }
     ensures whole { IfOk result (λ _. IsWhole segment.now) }
     ensures refused { IfErr result (λ e. (e ≡ MemoryOf) ⊎ IsLeastBreak segment.now e) }
+    ensures broken { (page n : ℕ) → (result ≡ Err (BrokenAt page n)) ↔ IsFirstBreak segment.now page n }
 {
-    let pages = pages_at_anchor(segment)?;
-    match with_kept(segment, summary, pages) {
+    if let Some((page, number)) = segment.first_break() {
+        let fault = ReadFault::BrokenBlockChain { page, number };
+        return Err(fault);
+    }
+    match with_shown(segment, summary) {
         Ok(delta) => Ok(delta),
         Err(_) => Err(ReadFault::Memory),
     }
+}
+
+/// The delta with the pages at the anchor.
+fn with_shown(segment: &Segment, summary: &Summary) -> Result<Delta, AllocError>
+    requires { summary.now.anchor < segment.now.base }
+    ensures { IfOk result (SendsPages segment.now summary.now) }
+{
+    let pages = pages_at_anchor(segment)?;
+    with_kept(segment, summary, pages)
 }
 
 /// The delta with these pages, and the kept records that are not listed.

@@ -1,5 +1,5 @@
 use gossip_core::Shown;
-use segment_core::{Front, ReadFault, Refusal};
+use segment_core::{Front, Held, ReadFault, Refusal};
 use std::io;
 
 /// What a call answers: a word, and numbers.
@@ -60,9 +60,18 @@ pub fn refusal(why: Refusal) -> Answer {
             Answer::Two("other roster", u64::from(own), u64::from(shown))
         }
         Refusal::OtherCut(cut) => Answer::Two("other cut", cut.lo(), cut.hi()),
-        Refusal::Contradiction(_) => Answer::Word("contradiction"),
+        Refusal::Contradiction(held) => against(held),
         Refusal::OtherRecord => Answer::Word("other record"),
         Refusal::Memory => MEMORY,
+    }
+}
+
+/// What a fact contradicts: the minimum read point, a waiting advance or a truncation.
+fn against(held: Held) -> Answer {
+    match held {
+        Held::Min(min) => Answer::One("against min", min),
+        Held::Advance(wait) => Answer::Two("against wait", u64::from(wait.epoch()), wait.point()),
+        Held::Cut(cut) => Answer::Two("against cut", cut.lo(), cut.hi()),
     }
 }
 

@@ -140,7 +140,7 @@ impl Segment {
     }
 
     /// The least page whose block chain is broken at or below the anchor, and the number of the record where it is.
-    fn first_break(&self) -> Option<(u16, u64)>
+    pub fn first_break(&self) -> Option<(u16, u64)>
         ensures first { (page n : ℕ) → (result ≡ Some (page, n)) ↔ IsFirstBreak self.now page n }
         ensures none { result ≡ None → IsWhole self.now }
     {

@@ -1,10 +1,10 @@
-ghost use Rattle.std.specs.Prelude.{◌≡◌, ◌⊎◌, map, OnOk, OnErr, IfErr};
+ghost use Rattle.std.specs.Prelude.{◌≡◌, ◌≢◌, ◌⊎◌, map, OnOk, OnErr, IfErr};
 ghost use Rattle.redo_core.specs.Order.{Lists, RecordBefore};
 ghost use Rattle.redo_core.specs.Book.{roster_of};
 ghost use Rattle.hot_log.specs.Missing.{IsMissing};
 ghost use Rattle.segment_core.specs.Form.{IsSegment};
 ghost use Rattle.segment_core.specs.Savepoint.{RollsBackAs};
-ghost use Rattle.segment_core.specs.declared.answers.Refusal.TheVariants.{Memory as MemoryOf};
+ghost use Rattle.segment_core.specs.declared.answers.Refusal.TheVariants.{OtherRoster as OtherRosterOf, Memory as MemoryOf};
 ghost use Rattle.segment_join.specs.Joining.{MeansUnion, AreOfOneLog, JoinsInto, TakesTold, RefusesJoin};
 ghost use Rattle.segment_join.specs.Knowing.{TakesAll, RefusesAll, IsJoined};
 
@@ -26,6 +26,7 @@ pub fn join(segment: &mut Segment, other: &Segment) -> Result<(), Refusal>
     ensures joins { OnOk result (JoinsInto segment.old other.now segment.new) }
     ensures takes { OnOk result (TakesTold segment.old other.now) }
     ensures refused { IfErr result (λ e. (e ≡ MemoryOf) ⊎ RefusesJoin segment.old other.now e) }
+    ensures roster { IfErr result (λ e. roster_of segment.old.book ≢ roster_of other.now.book → e ≡ OtherRosterOf (roster_of segment.old.book) (roster_of other.now.book)) }
     ensures unchanged { OnErr result (segment.new ≡ segment.old) }
 {
     let (own, shown) = (readers(segment), readers(other));

@@ -1,9 +1,8 @@
-use redo_core::{Advance, Cut, Fact, Page, Refused};
-use segment_core::{CommitFault, Folded, Front, ReadFault, Refusal, Segment, Standing, Taken};
+use crate::row::Row;
+use redo_core::{Fact, Page, Refused};
+use segment_core::{CommitFault, Folded, Front, ReadFault, Refusal, Segment, Taken};
 use std::alloc::AllocError;
-
-/// What a call answers, if memory is not wanting.
-pub type Outcome = Result<Answer, AllocError>;
+use std::io;
 
 /// What a segment has: its front and base point, how many records it holds and images it stores, the least key of a held record,
 /// and the versions of the pages 7 and 8.
@@ -17,71 +16,6 @@ pub struct Shown {
     pub versions: (u64, u64),
 }
 
-/// What a call answers.
-#[derive(Debug, Drop)]
-pub enum Answer {
-    /// A call that answers nothing is done.
-    Done,
-    /// The call was not made: its numbers are not what it requires.
-    Unfit,
-    Flag(bool),
-    Number(u64),
-    Count(usize),
-    Numbers(Vec<u64>),
-    Key(Option<(u16, u64)>),
-    Keys(Vec<(u16, u64)>),
-    Page(Option<u16>),
-    /// The block backlink of a record.
-    BlockBack(Option<u64>),
-    Taken(Taken),
-    Refused(Refusal),
-    Front(Front),
-    /// The first two bytes of a page.
-    Bytes(u8, u8),
-    Unread(ReadFault),
-    /// The version of the fold that came back, and why.
-    Uncommitted(u64, CommitFault),
-    Stands(Standing),
-    Cuts(Vec<Cut>),
-    Waits(Vec<Advance>),
-    /// Whether the one covers the other, the other the one, and whether they mean the same.
-    Compared(bool, bool, bool),
-    Shown(Shown),
-    /// What shows before a segment is rolled back, and after it.
-    RolledBack(Shown, Shown),
-}
-
-pub fn taken(outcome: Result<Taken, Refused<Fact, Refusal>>) -> Answer {
-    match outcome {
-        Ok(taken) => Answer::Taken(taken),
-        Err(refused) => Answer::Refused(refused.fault),
-    }
-}
-
-pub fn page(read: Result<Page, ReadFault>) -> Answer {
-    match read {
-        Ok(page) => {
-            let bytes = page.bytes();
-            Answer::Bytes(bytes[0], bytes[1])
-        }
-        Err(fault) => Answer::Unread(fault),
-    }
-}
-
-pub fn done(outcome: Result<(), ReadFault>) -> Answer {
-    match outcome {
-        Ok(()) => Answer::Done,
-        Err(fault) => Answer::Unread(fault),
-    }
-}
-
-pub fn committed(outcome: Result<(), Refused<Folded, CommitFault>>) -> Answer {
-    match outcome {
-        Ok(()) => Answer::Done,
-        Err(refused) => Answer::Uncommitted(refused.value.version, refused.fault),
-    }
-}
-
 pub fn show(segment: &Segment) -> Result<Shown, AllocError> {
     Ok(Shown {
         front: segment.front(),
@@ -91,4 +25,37 @@ pub fn show(segment: &Segment) -> Result<Shown, AllocError> {
         images: segment.pages().len(),
         versions: (segment.version(7), segment.version(8)),
     })
+}
+
+pub fn taken(row: Row, outcome: Result<Taken, Refused<Fact, Refusal>>) -> io::Result<()> {
+    match outcome {
+        Ok(taken) => row.one("Taken", &taken),
+        Err(refused) => row.one("Refused", &refused.fault),
+    }
+}
+
+/// The first two bytes of a page, or why it is not read.
+pub fn page(row: Row, read: Result<Page, ReadFault>) -> io::Result<()> {
+    match read {
+        Ok(page) => {
+            let bytes = page.bytes();
+            row.parts("Bytes", &(bytes[0], bytes[1]))
+        }
+        Err(fault) => row.one("Unread", &fault),
+    }
+}
+
+pub fn tidied(row: Row, outcome: Result<(), ReadFault>) -> io::Result<()> {
+    match outcome {
+        Ok(()) => row.word("Done"),
+        Err(fault) => row.one("Unread", &fault),
+    }
+}
+
+/// Prints the version of a fold that came back, and why.
+pub fn committed(row: Row, outcome: Result<(), Refused<Folded, CommitFault>>) -> io::Result<()> {
+    match outcome {
+        Ok(()) => row.word("Done"),
+        Err(refused) => row.parts("Uncommitted", &(refused.value.version, refused.fault)),
+    }
 }

@@ -1,114 +1,103 @@
-use crate::answers::{Answer, Outcome};
-use crate::words::{Call, byte};
-use crate::{cache_calls, changes, pairs, questions};
+use crate::row::Row;
+use crate::{cache_calls, changes};
 use read_cache::CachedSegment;
 use redo_core::{Fact, Roster};
 use segment_core::Segment;
 use std::alloc::{AllocError, Global};
-use std::mem;
+use std::{io, mem};
 
-/// What the calls are made on.
+/// What the calls are made on. The segments stand in boxes, so that few calls carry the whole of one.
 #[derive(Drop)]
 pub struct Bench {
-    pub segment: Segment,
+    pub segment: Box<Segment>,
     /// The segment that is joined into `segment`, or compared with it.
-    pub other: Segment,
+    pub other: Box<Segment>,
     /// A copy of `segment` as it was.
-    pub before: Segment,
-    pub cached: CachedSegment,
+    pub before: Box<Segment>,
+    pub cached: Box<CachedSegment>,
     /// Page, version and byte of the images that `adopt` and `unite` are given.
     pub given: Vec<(u16, u64, u8)>,
     /// The facts that `roll_back` takes.
     pub noted: Vec<Fact>,
 }
 
-fn cached(segment: Segment, pages: usize) -> Result<CachedSegment, AllocError> {
-    match CachedSegment::new(segment, pages) {
-        Ok(cached) => Ok(cached),
+fn boxed(alloc: Global, made: Result<Segment, AllocError>) -> Result<Box<Segment>, AllocError> {
+    Ok(Box::new(alloc, made?)?)
+}
+
+/// A copy of a segment behind a cache of so many pages.
+fn cached(alloc: Global, copied: &Segment, pages: usize) -> Result<Box<CachedSegment>, AllocError> {
+    match CachedSegment::new(copied.copy()?, pages) {
+        Ok(cached) => Ok(Box::new(alloc, cached)?),
         Err(_) => Err(AllocError),
     }
 }
 
-impl Bench {
-    pub fn new(alloc: Global, roster: Roster) -> Result<Bench, AllocError> {
-        Ok(Bench {
-            segment: Segment::new(alloc, roster)?,
-            other: Segment::new(alloc, roster)?,
-            before: Segment::new(alloc, roster)?,
-            cached: cached(Segment::new(alloc, roster)?, 0)?,
-            given: Vec::new(alloc),
-            noted: Vec::new(alloc),
-        })
-    }
+pub fn new_bench(alloc: Global, roster: Roster) -> Result<Bench, AllocError> {
+    let segment = boxed(alloc, Segment::new(alloc, roster))?;
+    let cached = cached(alloc, &segment, 0)?;
+    Ok(Bench {
+        segment,
+        other: boxed(alloc, Segment::new(alloc, roster))?,
+        before: boxed(alloc, Segment::new(alloc, roster))?,
+        cached,
+        given: Vec::new(alloc),
+        noted: Vec::new(alloc),
+    })
+}
 
-    fn begin_anew(&mut self, alloc: Global, readers: u64) -> Outcome {
-        let Ok(roster) = Roster::new(byte(readers)) else {
-            return Ok(Answer::Unfit);
-        };
-        self.segment = Segment::new(alloc, roster)?;
-        self.given = Vec::new(alloc);
-        self.noted = Vec::new(alloc);
-        Ok(Answer::Done)
-    }
+fn begin_anew(bench: &mut Bench, row: Row) -> io::Result<()> {
+    let Ok(roster) = Roster::new(row.byte(0)) else {
+        return row.word("Unfit");
+    };
+    bench.given.clear();
+    bench.noted.clear();
+    bench.segment = boxed(row.alloc(), Segment::new(row.alloc(), roster))?;
+    row.word("Done")
+}
 
-    /// Takes the segment out of its cache.
-    fn uncover(&mut self) -> Outcome {
-        let emptied = cached(self.other.copy()?, 0)?;
-        self.segment = mem::replace(&mut self.cached, emptied).into_segment();
-        Ok(Answer::Done)
-    }
+fn copy(bench: &mut Bench, row: Row) -> io::Result<()> {
+    bench.other = boxed(row.alloc(), bench.segment.copy())?;
+    row.word("Done")
+}
 
-    fn swap(&mut self) -> Outcome {
-        mem::swap(&mut self.segment, &mut self.other);
-        Ok(Answer::Done)
-    }
+fn remember(bench: &mut Bench, row: Row) -> io::Result<()> {
+    bench.before = boxed(row.alloc(), bench.segment.copy())?;
+    row.word("Done")
+}
 
-    fn copy(&mut self) -> Outcome {
-        self.other = self.segment.copy()?;
-        Ok(Answer::Done)
-    }
+fn cover(bench: &mut Bench, row: Row) -> io::Result<()> {
+    bench.cached = cached(row.alloc(), &bench.segment, usize::from(row.byte(0)))?;
+    row.word("Done")
+}
 
-    fn remember(&mut self) -> Outcome {
-        self.before = self.segment.copy()?;
-        Ok(Answer::Done)
-    }
+/// Takes the segment out of its cache.
+fn uncover(bench: &mut Bench, row: Row) -> io::Result<()> {
+    let emptied = cached(row.alloc(), &bench.other, 0)?;
+    let full = mem::replace(&mut bench.cached, emptied);
+    bench.segment = boxed(row.alloc(), Ok(Box::into_inner(full).into_segment()))?;
+    row.word("Done")
+}
 
-    fn cache(&mut self, pages: u64) -> Outcome {
-        self.cached = cached(self.segment.copy()?, usize::from(byte(pages)))?;
-        Ok(Answer::Done)
-    }
+fn swap(bench: &mut Bench, row: Row) -> io::Result<()> {
+    mem::swap(&mut bench.segment, &mut bench.other);
+    row.word("Done")
+}
 
-    /// Changes which segment is which.
-    fn set_out(&mut self, alloc: Global, call: Call) -> Option<Outcome> {
-        match call.name {
-            "fresh" => Some(self.begin_anew(alloc, call.numbers[0])),
-            "swap" => Some(self.swap()),
-            "copy" => Some(self.copy()),
-            "remember" => Some(self.remember()),
-            "cache" => Some(self.cache(call.numbers[0])),
-            "into_segment" => Some(self.uncover()),
-            _ => None,
-        }
-    }
-
-    fn change(&mut self, alloc: Global, call: Call) -> Option<Outcome> {
-        if let Some(outcome) = self.set_out(alloc, call) {
-            return Some(outcome);
-        }
-        if let Some(outcome) = cache_calls::outcome(&mut self.cached, alloc, call) {
-            return Some(outcome);
-        }
-        changes::outcome(self, alloc, call)
-    }
-
-    /// What a call answers, or None for a name of no call.
-    pub fn outcome(&mut self, alloc: Global, call: Call) -> Option<Outcome> {
-        if let Some(outcome) = self.change(alloc, call) {
-            return Some(outcome);
-        }
-        if let Some(outcome) = pairs::outcome(self, alloc, call) {
-            return Some(outcome);
-        }
-        questions::outcome(&self.segment, alloc, call)
+/// Prints what a call answers, or '?' for a name of no call. The calls here change which segment is which.
+pub fn answer(bench: &mut Bench, row: Row) -> io::Result<()> {
+    match row.name {
+        "fresh" => begin_anew(bench, row),
+        "swap" => swap(bench, row),
+        "copy" => copy(bench, row),
+        "remember" => remember(bench, row),
+        "cache" => cover(bench, row),
+        "into_segment" => uncover(bench, row),
+        "lent_discard" => cache_calls::discard_lent(&mut bench.cached, row),
+        "read_past" => cache_calls::read_past(&bench.cached, row),
+        _ => match row.name.strip_prefix("cached_") {
+            Some(name) => cache_calls::answer(&mut bench.cached, row, name),
+            None => changes::answer(bench, row),
+        },
     }
 }

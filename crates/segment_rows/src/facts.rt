@@ -1,40 +1,49 @@
-use crate::words::{byte, short};
+use crate::row::Row;
 use redo_core::{Advance, Cut, Fact, Page, Patch, Record, Write};
 use segment_core::{BaseImage, Folded};
 use std::alloc::{AllocError, Global};
 
 /// A record of one write: epoch, number, segment backlink, page, block backlink, offset, byte, and how many times the byte stands.
-fn record(alloc: Global, n: [u64; 8], init: bool) -> Result<Option<Fact>, AllocError> {
-    let bytes = vec![in alloc; byte(n[6]); usize::from(byte(n[7]))]?;
-    let mut patches = Vec::new(alloc);
-    patches.push(Patch::Bytes(Write::new(short(n[5]), bytes)))?;
-    match Record::with(short(n[0]), n[1], n[2], short(n[3]), n[4], init, patches) {
+fn record(row: Row, init: bool) -> Result<Option<Fact>, AllocError> {
+    let bytes = vec![in row.alloc(); row.byte(6); usize::from(row.byte(7))]?;
+    let mut patches = Vec::new(row.alloc());
+    patches.push(Patch::Bytes(Write::new(row.short(5), bytes)))?;
+    let (epoch, page) = (row.short(0), row.short(3));
+    match Record::with(
+        epoch,
+        row.number(1),
+        row.number(2),
+        page,
+        row.number(4),
+        init,
+        patches,
+    ) {
         Ok(redo) => Ok(Some(Fact::Record(redo))),
         Err(_) => Ok(None),
     }
 }
 
-fn cut(n: [u64; 8]) -> Option<Fact> {
-    match Cut::new(short(n[0]), n[1], n[2]) {
+fn cut(row: Row) -> Option<Fact> {
+    match Cut::new(row.short(0), row.number(1), row.number(2)) {
         Ok(cut) => Some(Fact::Cut(cut)),
         Err(_) => None,
     }
 }
 
-fn advance(n: [u64; 8]) -> Option<Fact> {
-    match Advance::of_reader(byte(n[0]), short(n[1]), n[2]) {
+fn advance(row: Row) -> Option<Fact> {
+    match Advance::of_reader(row.byte(0), row.short(1), row.number(2)) {
         Ok(advance) => Some(Fact::Advance(advance)),
         Err(_) => None,
     }
 }
 
-/// The fact that a name and numbers spell, or None where they spell none.
-pub fn of(alloc: Global, name: &str, n: [u64; 8]) -> Result<Option<Fact>, AllocError> {
+/// The fact that a name and the row's numbers spell, or None where they spell none.
+pub fn of(row: Row, name: &str) -> Result<Option<Fact>, AllocError> {
     match name {
-        "record" => record(alloc, n, false),
-        "record_init" => record(alloc, n, true),
-        "cut" => Ok(cut(n)),
-        "advance" => Ok(advance(n)),
+        "record" => record(row, false),
+        "record_init" => record(row, true),
+        "cut" => Ok(cut(row)),
+        "advance" => Ok(advance(row)),
         _ => Ok(None),
     }
 }
@@ -43,11 +52,11 @@ fn page_of(alloc: Global, byte: u8) -> Result<Page, AllocError> {
     Ok(Page::new(vec![in alloc; byte; 4096]?))
 }
 
-pub fn folded(alloc: Global, n: [u64; 8]) -> Result<Folded, AllocError> {
+pub fn folded(row: Row) -> Result<Folded, AllocError> {
     Ok(Folded {
-        page: short(n[0]),
-        version: n[1],
-        image: page_of(alloc, byte(n[2]))?,
+        page: row.short(0),
+        version: row.number(1),
+        image: page_of(row.alloc(), row.byte(2))?,
     })
 }
 

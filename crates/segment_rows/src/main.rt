@@ -12,23 +12,18 @@ mod changes;
 mod facts;
 mod pairs;
 mod questions;
-mod words;
+mod row;
 
 use bench::Bench;
 use redo_core::Roster;
+use row::Row;
 use std::io;
 
 fn print_row(rt: &HostRuntime, bench: &mut Bench, line: &str) -> io::Result<()> {
     if line.starts_with('#') {
         return println!(rt; "{line}");
     }
-    match bench.outcome(rt.alloc(), words::of(line)) {
-        Some(outcome) => {
-            let answer = outcome?;
-            println!(rt; "{line}: {answer:?}")
-        }
-        None => println!(rt; "{line}: ?"),
-    }
+    bench::answer(bench, Row::of(rt, line))
 }
 
 fn print_rows(rt: &HostRuntime, mut bench: Bench) -> io::Result<()> {
@@ -40,7 +35,7 @@ fn print_rows(rt: &HostRuntime, mut bench: Bench) -> io::Result<()> {
 
 fn main(rt: HostRuntime) -> io::Result<()> {
     match Roster::new(1) {
-        Ok(roster) => print_rows(&rt, Bench::new(rt.alloc(), roster)?),
+        Ok(roster) => print_rows(&rt, bench::new_bench(rt.alloc(), roster)?),
         Err(_) => Ok(()),
     }
 }

@@ -1,9 +1,10 @@
-use crate::answers::{Answer, Outcome};
 use crate::bench::Bench;
-use crate::words::{Call, short};
+use crate::questions;
+use crate::row::Row;
 use segment_core::Segment;
 use segment_join::{covers, join, kept_of, same};
-use std::alloc::{AllocError, Global};
+use std::alloc::AllocError;
+use std::io;
 
 fn is_same(one: &Segment, other: &Segment) -> Result<bool, AllocError> {
     match same(one, other) {
@@ -12,50 +13,48 @@ fn is_same(one: &Segment, other: &Segment) -> Result<bool, AllocError> {
     }
 }
 
-fn compared(one: &Segment, other: &Segment) -> Outcome {
-    let covered = (covers(one, other)?, covers(other, one)?);
-    Ok(Answer::Compared(covered.0, covered.1, is_same(one, other)?))
+/// Prints whether the one covers the other, the other the one, and whether they mean the same.
+fn compare(one: &Segment, other: &Segment, row: Row) -> io::Result<()> {
+    let compared = (
+        covers(one, other)?,
+        covers(other, one)?,
+        is_same(one, other)?,
+    );
+    row.parts("Compared", &compared)
 }
 
-fn joined(segment: &mut Segment, other: &Segment) -> Answer {
+fn joined(segment: &mut Segment, other: &Segment, row: Row) -> io::Result<()> {
     match join(segment, other) {
-        Ok(()) => Answer::Done,
-        Err(why) => Answer::Refused(why),
+        Ok(()) => row.word("Done"),
+        Err(why) => row.one("Refused", &why),
     }
 }
 
-fn kept(segment: &Segment, alloc: Global) -> Outcome {
-    let mut keys = Vec::new(alloc);
+fn kept(segment: &Segment, row: Row) -> io::Result<()> {
+    let mut keys = Vec::new(row.alloc());
     for redo in kept_of(segment)? {
         keys.push((redo.epoch(), redo.number()))?;
     }
-    Ok(Answer::Keys(keys))
+    row.one("Keys", &keys)
 }
 
-fn compared_page(bench: &Bench, n: [u64; 8]) -> Outcome {
-    let (one, other) = (&bench.segment, &bench.other);
-    let same = one.is_same_page(short(n[0]), n[1], other, n[2])?;
-    Ok(Answer::Flag(same))
+fn compare_page(one: &Segment, other: &Segment, row: Row) -> io::Result<()> {
+    let same = one.is_same_page(row.short(0), row.number(1), other, row.number(2))?;
+    row.one("Flag", &same)
 }
 
-fn compared_before(bench: &Bench) -> Outcome {
-    Ok(Answer::Flag(is_same(&bench.segment, &bench.before)?))
+fn compare_before(segment: &Segment, before: &Segment, row: Row) -> io::Result<()> {
+    row.one("Flag", &is_same(segment, before)?)
 }
 
-fn asked(bench: &Bench, alloc: Global, call: Call) -> Option<Outcome> {
-    match call.name {
-        "compare" => Some(compared(&bench.segment, &bench.other)),
-        "is_as_before" => Some(compared_before(bench)),
-        "kept_of" => Some(kept(&bench.segment, alloc)),
-        "is_same_page" => Some(compared_page(bench, call.numbers)),
-        _ => None,
+/// Prints what a call over the segment and the other one answers, or a question to the segment alone.
+pub fn answer(bench: &mut Bench, row: Row) -> io::Result<()> {
+    match row.name {
+        "join" => joined(&mut bench.segment, &bench.other, row),
+        "compare" => compare(&bench.segment, &bench.other, row),
+        "is_as_before" => compare_before(&bench.segment, &bench.before, row),
+        "kept_of" => kept(&bench.segment, row),
+        "is_same_page" => compare_page(&bench.segment, &bench.other, row),
+        _ => questions::answer(&bench.segment, row),
     }
-}
-
-/// What a call over the segment and the other one answers, or None for a name of no such call.
-pub fn outcome(bench: &mut Bench, alloc: Global, call: Call) -> Option<Outcome> {
-    if call.name == "join" {
-        return Some(Ok(joined(&mut bench.segment, &bench.other)));
-    }
-    asked(bench, alloc, call)
 }

@@ -15,3 +15,4 @@ pub mod Absorbing
 pub mod Replying
 pub mod Anew
 pub mod Restoring
+pub mod AnswersAs

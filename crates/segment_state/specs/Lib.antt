@@ -12,3 +12,4 @@ pub mod Stored
 pub mod Known
 pub mod Laws
 pub mod Restoring
+pub mod AnswersAs

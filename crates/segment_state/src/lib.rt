@@ -9,6 +9,7 @@
 ghost use Rattle.segment_state.specs.Laws.{EmptyMeansNone, SameLinks, SamePosition, SameAnchor, TruePages, WholeBlockChains, SameMeaning, SameKept};
 ghost use Rattle.segment_state.specs.Laws.{UnchangedExactly, TakesKnown, NoConflict, TakesRecord, TakesCut, TakesAdvance};
 ghost use Rattle.segment_state.specs.Laws.{FinalPages, AnchorPageIsFinal, CommitKeeps, FoldKeeps, DiscardKeeps, RemovalKeeps};
+ghost use Rattle.segment_state.specs.AnswersAs.{StatesAnswer};
 ghost use Rattle.segment_state.specs.FromInit.{InitBeginsAnew};
 ghost use Rattle.segment_state.specs.Gossip.{AbsorbMeansUnion, ReplyFills};
 ghost use Rattle.segment_state.specs.Joining.{JoinMeansUnion};
@@ -144,3 +145,13 @@ pub fn absorb_means_union()
 pub fn init_begins_anew()
     ensures { InitBeginsAnew }
 {}
+
+/// A segment that means facts of a sound log answers as they do: it stands where they stand, shows their page at each admissible point,
+/// and tells their meaning.
+pub fn states_answer()
+    ensures { StatesAnswer }
+{
+    same_position();
+    true_pages();
+    same_meaning();
+}

@@ -1,4 +1,4 @@
-use Rattle.std.proofs.Common.{◌≡◌, inr, ap, ◌∙◌, arith, length}
+use Rattle.std.proofs.Common.{◌≡◌, ◌≢◌, inr, ap, ◌∙◌, arith, length}
 use Rattle.redo_core.specs.Book.{BookData, roster_of}
 use Rattle.segment_join.specs.Told.{facts_told}
 use Rattle.segment_join.specs.InOrder.{RefusesOne}
@@ -26,3 +26,11 @@ returns-in-Err-clause-refused c =
     let shown : length c.points-2.result.now ≡ roster_of d.book = ap length (c.points-2.ensures.points ∙ ap (λ (b : BookData). b.points) c.book.ensures.book) in
     let same : roster_of s.book ≡ roster_of d.book = omega (arith, own, shown, c.if-own-shown.false) in
     memory_or why (RefusesOne s (facts_told d.book d.records) why) _ (λ h. inr (same, h)) c.in-Err.ensures.refused
+
+-- of one roster, nothing is said of two
+pub returns-in-Err-clause-roster : goal.returns-in-Err-clause-roster
+returns-in-Err-clause-roster c = λ (differ : roster_of c.args.segment.now.book ≢ roster_of c.args.delta.now.book).
+    let own : length c.points.result.now ≡ roster_of c.args.segment.now.book = ap length c.points.ensures.own in
+    let shown : length c.points-2.result.now ≡ roster_of c.args.delta.now.book =
+    ap length (c.points-2.ensures.points ∙ ap (λ (b : BookData). b.points) c.book.ensures.book) in
+    absurd (differ (omega (arith, own, shown, c.if-own-shown.false)))

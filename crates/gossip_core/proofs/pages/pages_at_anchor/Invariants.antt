@@ -1,16 +1,12 @@
 use Rattle.std.proofs.Common.{ℕ}
 use Rattle.segment_state.specs.HasMeaning.{HasAnchor}
-use Rattle.segment_core.proofs.FirstBreak.{IsWholeTo}
 use Rattle.segment_core.proofs.Pages.{pages_left}
 use Rattle.gossip_core.proofs.PagesShown.{ListsPassed}
 use Rattle.gossip_core.proofs.pages.pages_at_anchor.Given as goal
 
--- the pages that are passed, and their chains are whole
+-- the pages that are passed
 abbrev pub invariant-loop-next : goal.invariant-loop-next
-invariant-loop-next l = record {
-  shown : (anchor : ℕ) → HasAnchor l.segment anchor → ListsPassed l.segment anchor l.next l.pages.items;
-  whole : IsWholeTo l.segment l.next;
-}
+invariant-loop-next l = (anchor : ℕ) → HasAnchor l.segment anchor → ListsPassed l.segment anchor l.next l.pages.items
 
 abbrev pub decreases-loop-next : goal.decreases-loop-next
 decreases-loop-next l = pages_left l.next

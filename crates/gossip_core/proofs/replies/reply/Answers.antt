@@ -1,4 +1,4 @@
-use Rattle.std.proofs.Common.{arith}
+use Rattle.std.proofs.Common.{◌<◌, arith}
 use Rattle.segment_join.proofs.Comparing.{ok_as}
 use Rattle.gossip_core.proofs.Filling.{fills, answers_short, answers_whole}
 use Rattle.gossip_core.proofs.replies.reply.Goals as goal
@@ -15,3 +15,12 @@ returns-in-Ok-clause-fills c =
     let s = c.args.segment.now in let summary = c.args.summary.now in
     fills c.reply_fills.ensures c.same_anchor.ensures s summary c.in-Ok.delta
     (answers_short s summary c.in-Ok.delta (omega (arith, c.anchor.ensures.anchor, c.base_point.ensures.own, c.if-anchor-base_point.false)) c.in-Ok.ensures)
+
+pub returns-then-anchor-base_point-clause-broken : goal.returns-then-anchor-base_point-clause-broken
+returns-then-anchor-base_point-clause-broken c =
+    let high : c.args.summary.now.anchor < c.args.segment.now.base =
+    omega (arith, c.anchor.ensures.anchor, c.base_point.ensures.own, c.if-anchor-base_point.true) in
+    λ page n. (
+      λ e. (high, (c.with_pages.ensures.broken page n).0 e),
+      λ h. (c.with_pages.ensures.broken page n).1 h.1,
+    )

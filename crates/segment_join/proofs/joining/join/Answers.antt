@@ -1,4 +1,4 @@
-use Rattle.std.proofs.Common.{◌≡◌, ◌⊎◌, inr, ⊎_elim, arith}
+use Rattle.std.proofs.Common.{◌≡◌, ◌≢◌, ◌⊎◌, inr, ⊎_elim, arith}
 use Rattle.redo_core.specs.Book.{roster_of}
 use Rattle.segment_state.specs.State.{State}
 use Rattle.segment_core.specs.declared.answers.Refusal.{Refusal}
@@ -42,3 +42,8 @@ returns-in-Err-clause-sound c =
 
 pub returns-in-Ok-bring_in-clause-means : goal.returns-in-Ok-bring_in-clause-means
 returns-in-Ok-bring_in-clause-means c = means_union c.args.segment.now c.args.other.now c.bring_in.new.segment c.in-Ok-bring_in.ensures.joins
+
+-- of one roster, nothing is said of two
+pub returns-in-Err-clause-roster : goal.returns-in-Err-clause-roster
+returns-in-Err-clause-roster c = λ (differ : roster_of c.args.segment.now.book ≢ roster_of c.args.other.now.book).
+    absurd (differ (omega (arith, c.readers-own.ensures.size, c.readers-shown.ensures.size, c.if-own-shown.false)))

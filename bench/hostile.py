@@ -1,0 +1,191 @@
+#!/usr/bin/env python3
+"""Measures the program on inputs that are made to keep a node busy: what they cost, and how that grows with what was sent.
+
+    hostile.py [--peer PROGRAM] [--program PROGRAM] [--only a,b] [--sizes N ..] [--runs N] [--most GROWTH]
+
+Each task is a text over a sound log, whose length grows as its size does. A row tells the seconds of processor time, the most memory
+held, and for each the exponent of growth from the least size to the greatest, by the bytes of the text. With --peer another program
+reads the same texts, and the answers may not differ by a byte. With --most the status is 1 where an exponent is above it.
+"""
+
+import argparse
+import functools
+import math
+import os
+import pathlib
+import tempfile
+
+import measure
+
+SIZES = [1_000, 4_000, 16_000]
+TURNS = 3  # of calls that are asked again and again
+PAGES = 1_000
+
+
+def script(facts, nodes, *steps):
+    return [*facts, "go", f"nodes {nodes}", *steps]
+
+
+def taken(facts, node=1):
+    return measure.takes(range(1, len(facts) + 1), node)
+
+
+def siblings(size):
+    """A record in each epoch, all with one backlink, and then the truncations, which annul all but the last."""
+    records = [f"rec {epoch} {epoch + 1} 0 1 0 -" for epoch in range(size)]
+    return records, [f"cut {epoch} 0 {epoch}" for epoch in range(1, size + 1)]
+
+
+def apart(records, cuts):
+    """Node 3 takes the records, and node 1 the truncations."""
+    count = len(records)
+    return [*measure.takes(range(1, count + 1), 3), *measure.takes(range(count + 1, count + len(cuts) + 1), 1)]
+
+
+def joins_of_waiting(size):
+    """Records that wait, and then a joined node that has their truncations."""
+    records, cuts = siblings(size)
+    return script([*records, *cuts], 3, *apart(records, cuts), *["wipe 2", "join 2 3", "join 2 1"] * TURNS)
+
+
+def absorbs_of_waiting(size):
+    """The same by messages."""
+    records, cuts = siblings(size)
+    asked = ["ask 2", "answer 3 1", "answer 1 1"]
+    return script([*records, *cuts], 3, *apart(records, cuts), *asked, *["wipe 2", "absorb 2 2", "absorb 2 3"] * TURNS)
+
+
+def chain_of_dead(size):
+    """Truncations one after another, each of all that was written, so that all records have one backlink and a page of their own."""
+    facts = []
+    for number in range(1, size + 1):
+        facts += [f"rec {number - 1} {number} 0 {number % 60_000} 0 -", f"cut {number} 0 {number}"]
+    return script(facts, 1, *taken(facts))
+
+
+def dead_with_one_backlink(size):
+    """A database that fails again and again behind one record: each epoch's one record is annulled."""
+    facts = ["rec 0 1 0 1 0 -", "rec 0 2 1 1 1 -", "cut 1 1 2"]
+    for epoch in range(1, size):
+        facts += [f"rec {epoch} {epoch + 2} 1 1 1 -", f"cut {epoch + 1} 1 {epoch + 2}"]
+    return script(facts, 1, *taken(facts))
+
+
+def filled(pages):
+    """A record that fills each page, and the advance that has them folded."""
+    facts = [f"rec 0 {page + 1} {page} {page} 0 0:61" for page in range(pages)]
+    return [*facts, f"min 0 {pages}"]
+
+
+def folds(pages, node=1):
+    return [f"fold {node} {page}" for page in range(pages)]
+
+
+def answers_again(size):
+    """One summary, answered again and again from folded pages."""
+    pages = min(PAGES, size // 4)
+    facts = filled(pages)
+    return script(facts, 1, *taken(facts), *folds(pages), "discard 1", "ask 1", *["answer 1 1"] * size)
+
+
+def images_joined(size):
+    """Folded pages, joined by each of 64 nodes."""
+    pages = min(PAGES, size // 4)
+    facts = filled(pages)
+    joined = [f"join {node} 1" for node in range(2, 65)]
+    return script(facts, 64, *taken(facts), *folds(pages), "discard 1", *joined)
+
+
+def comparisons(size):
+    """Two nodes that hold the same records, compared."""
+    facts = [f"rec 0 {number} {number - 1} 0 {number - 1} -" for number in range(1, size + 1)]
+    return script(facts, 2, *taken(facts, 1), *taken(facts, 2), *["same 1 2"] * TURNS)
+
+
+def comparisons_of_fills(size):
+    """The same of unfolded pages."""
+    facts = filled(min(size, 60_000))
+    return script(facts, 2, *taken(facts, 1), *taken(facts, 2), *["same 1 2"] * TURNS)
+
+
+def falling_truncations(size):
+    """Facts from the last to the first: each epoch has a record that stays and one that its truncation annuls."""
+    facts = []
+    for epoch in range(size):
+        number = 2 * epoch + 1
+        before = max(number - 2, 0)
+        facts += [f"rec {epoch} {number} {before} 0 {before} -", f"rec {epoch} {number + 1} {number} 0 {number} -"]
+        facts.append(f"cut {epoch + 1} {number} {number + 1}")
+    return script(facts, 1, *measure.takes(range(len(facts), 0, -1)))
+
+
+def discards_over_images(size):
+    """Discards after each of many folds."""
+    facts = filled(min(size, 60_000))
+    pages = len(facts) - 1
+    steps = [step for page in range(pages) for step in (f"fold 1 {page}", "discard 1")]
+    return script(facts, 1, *taken(facts), *steps)
+
+
+TASKS = {it.__name__: it for it in (
+    joins_of_waiting,
+    absorbs_of_waiting,
+    chain_of_dead,
+    dead_with_one_backlink,
+    answers_again,
+    images_joined,
+    comparisons,
+    comparisons_of_fills,
+    falling_truncations,
+    discards_over_images,
+)}
+
+
+def length(lines):
+    return sum(len(line) + 1 for line in lines)
+
+
+def growth(lengths, values):
+    """The exponent from the least text to the longest; what is too small to be measured counts as a hundredth."""
+    least, most = max(values[0], 0.01), max(values[-1], 0.01)
+    return math.log(most / least) / math.log(lengths[-1] / lengths[0])
+
+
+def told(name, programs, given, folder):
+    """Prints a task's rows, and answers its greatest exponent."""
+    lengths, times, held = [], [], []
+    for size in given.sizes:
+        lines_of = functools.partial(TASKS[name], size)
+        seconds, peaks = measure.run_all(programs, "run", lines_of, given.runs, folder)
+        lengths.append(length(lines_of()))
+        times.append(seconds[0])
+        held.append(peaks[0])
+        print(f"| {name} | {size} | {lengths[-1] // 1000} | {measure.both(seconds, '{:.3f}')} | {measure.both(peaks, '{:.0f}')} |", flush=True)
+    found = growth(lengths, times), growth(lengths, held)
+    print(f"| {name} | growth | | {found[0]:.2f} | | {found[1]:.2f} | |", flush=True)
+    return max(found)
+
+
+def main():
+    parser = argparse.ArgumentParser(description=__doc__, formatter_class=argparse.RawDescriptionHelpFormatter)
+    parser.add_argument("--program", type=pathlib.Path, default=measure.PROGRAM, help="the built program")
+    parser.add_argument("--peer", type=pathlib.Path, help="a program of the same forms to compare with")
+    parser.add_argument("--only", default=",".join(TASKS), help="tasks, by name")
+    parser.add_argument("--sizes", type=int, nargs="+", default=SIZES, help="sizes, rising")
+    parser.add_argument("--runs", type=int, default=1, help="how often each text is read")
+    parser.add_argument("--most", type=float, help="the greatest exponent that is allowed")
+    given = parser.parse_args()
+    names = given.only.split(",")
+    unknown = [name for name in names if name not in TASKS]
+    if unknown or len(given.sizes) < 2:
+        parser.error(f"no task is named {unknown[0]}" if unknown else "two sizes at least")
+    programs = [path.resolve() for path in (given.program, given.peer) if path is not None]
+    print(f"{os.cpu_count()} cores, processor time, median of {given.runs}\n")
+    print("| task | size | kB | s | peer, s | MB | peer, MB |\n|---|---|---|---|---|---|---|")
+    with tempfile.TemporaryDirectory(prefix="fleet-hostile-") as folder:
+        found = [told(name, programs, given, folder) for name in names]
+    return int(given.most is not None and max(found) > given.most)
+
+
+if __name__ == "__main__":
+    raise SystemExit(main())

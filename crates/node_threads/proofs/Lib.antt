@@ -1,0 +1,3 @@
+pub mod Places
+mod Refusals
+mod Answers

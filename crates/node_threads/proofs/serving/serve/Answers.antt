@@ -1,0 +1,91 @@
+use Rattle.std.proofs.Common.{◌≡◌, ◌∙◌, sym, ap, subst, ◌-◌, length, Some}
+use Rattle.std.specs.Prelude.{slice_get}
+use Rattle.node_cell.specs.Node.{IsPassOf}
+use Rattle.node_workers.specs.Work.{Names, NamesItem}
+use Rattle.node_threads.proofs.Answers.{answered_same}
+use Rattle.node_threads.proofs.Places.{also_at, each_weaker, same_items}
+use Rattle.node_threads.proofs.serving.serve.Goals as goal
+
+pub run_in_scope-requires-clause-feeds : goal.run_in_scope-requires-clause-feeds
+run_in_scope-requires-clause-feeds g c κs within = λ k f i ef named.
+    let s = c.split-intakes.ensures in
+    let here : slice_get c.split-intakes.result.intakes.items (f.inlet - 1) ≡ Some i = subst (λ xs. slice_get xs (f.inlet - 1) ≡ Some i) c.as_slice-shared.ensures.value named.1 in
+    let x = also_at c.args.inlets.items c.split-intakes.result.intakes.items (f.inlet - 1) i s.len.0 here in
+    c.requires.feeds k f x.0 ef (named.0, x.1) ∙ ap (λ n. n.id) (sym (s.intakes.at (f.inlet - 1) x.0 i x.1 here))
+
+pub run_in_scope-requires-clause-own : goal.run_in_scope-requires-clause-own
+run_in_scope-requires-clause-own g c κs within = λ k h i eh ei.
+    let s = c.split-intakes.ensures in
+    let here : slice_get c.split-intakes.result.intakes.items k ≡ Some i = subst (λ xs. slice_get xs k ≡ Some i) c.as_slice-shared.ensures.value ei in
+    let x = also_at c.args.inlets.items c.split-intakes.result.intakes.items k i s.len.0 here in
+    let t = s.holds.at k x.0 h x.1 eh in
+    ap (λ n. n.intake) t.0 ∙ ((c.requires.inlets k x.0 x.1).0 ∙ ap (λ n. n.id) (sym (s.intakes.at k x.0 i x.1 here)))
+
+pub run_in_scope-requires-clause-passes : goal.run_in_scope-requires-clause-passes
+run_in_scope-requires-clause-passes g c κs within = λ k h n eh named.
+    let s = c.split-intakes.ensures in
+    let x = also_at c.args.inlets.items c.split-intakes.result.holds.items k h s.len.1 eh in
+    let t = s.holds.at k x.0 h x.1 eh in
+    subst (IsPassOf n) (sym t.2) (c.requires.passes k x.0 n x.1 (subst (λ m. NamesItem m c.args.nodes.now n) t.1 named))
+
+pub run_in_scope-requires-clause-fresh : goal.run_in_scope-requires-clause-fresh
+run_in_scope-requires-clause-fresh g c κs within = λ k h eh.
+    let s = c.split-intakes.ensures in
+    let x = also_at c.args.inlets.items c.split-intakes.result.holds.items k h s.len.1 eh in
+    let t = s.holds.at k x.0 h x.1 eh in
+    (ap (λ n. n.board) t.3 ∙ (c.requires.inlets k x.0 x.1).1, t.4)
+
+pub returns-clause-feeds : goal.returns-clause-feeds
+returns-clause-feeds g c = λ all.
+    let s = c.split-intakes.ensures in
+    let len = ap length c.as_slice-shared.ensures.value ∙ s.len.0 in
+    each_weaker _ _ _ _ (c.in-Ok-run_in_scope.ensures.feeds all) (λ k f o q. (q.0, q.1, q.2, q.3, λ n. q.4 (subst (Names f.inlet) (sym len) n)))
+
+pub returns-clause-inlets : goal.returns-clause-inlets
+returns-clause-inlets g c = λ all.
+    let s = c.split-intakes.ensures in
+    let ran = c.in-Ok-run_in_scope.ensures in
+    let whole = c.assemble-inlets.ensures in
+    record {
+      at = λ k i o ei eo.
+          let hold = also_at c.split-intakes.result.holds.items c.args.inlets.items k i (sym s.len.1) ei in
+          let was = s.holds.at k i hold.0 ei hold.1 in
+          let back = also_at c.in-Ok-run_in_scope.ran.holds.items c.split-intakes.result.holds.items k hold.0 (sym ran.len.1) hold.1 in
+          let r = (ran.holds all).at k hold.0 back.0 hold.1 back.1 in
+          let w = whole.inlets.at k back.0 o back.1 eo r.0 r.1 in (
+            w.0,
+            w.1,
+            s.intakes.at k i w.0.intake ei w.2,
+            ap (λ x. x.board) w.6 ∙ (r.2 ∙ ap (λ x. x.board) was.3),
+            w.4 ∙ (r.3 ∙ was.1),
+            λ a ea.
+                let list = whole.answers.at k back.0 a back.1 ea r.0 r.1 in (
+                  answered_same _ _ _ _ _ _ _ _ _ _ r.4 was.0 w.3 was.2 w.5 list,
+                  λ n. ap length list ∙ r.5 (subst (λ m. Names m (length c.args.nodes.now)) (sym was.1) n),
+                ),
+          );
+    }
+
+pub returns-in-Err-clause-err : goal.returns-in-Err-clause-err
+returns-in-Err-clause-err g c =
+    let s = c.split-intakes.ensures in
+    let r = c.rejoin-inlets.ensures in
+    let e = c.in-Err.ensures.err in
+    let holds = e.1 in
+    let len : length c.rejoin-inlets.result.items ≡ length c.args.inlets.items = r.len ∙ (ap (λ v. length v.items) holds ∙ s.len.1) in (
+      c.no_memory-in-Err.ensures.feeds ∙ e.0,
+      ap (λ v. v.items) c.no_memory-in-Err.ensures.inlets ∙ same_items c.args.inlets.items c.rejoin-inlets.result.items len (record {
+        at = λ k i j ei ej.
+            let hold = also_at c.in-Err.refused.value.holds.items c.rejoin-inlets.result.items k j r.len ej in
+            let t = r.each.at k hold.0 j hold.1 ej in
+            let here : slice_get c.split-intakes.result.holds.items k ≡ Some hold.0 = ap (λ v. slice_get v.items k) (sym holds) ∙ hold.1 in
+            let w = s.holds.at k i hold.0 ei here in
+            let n = s.intakes.at k i j.intake ei t.0 in
+            let a = t.1 ∙ w.0 in
+            let b = t.2 ∙ w.1 in
+            let p = t.3 ∙ w.2 in
+            let q = t.4 ∙ w.3 in
+            λ z. record { intake = n z; taker = a z; node = b z; pass = p z; seat = q z };
+      }),
+      c.no_memory-in-Err.ensures.plan,
+    )

@@ -1,0 +1,2 @@
+mod Work
+mod Lists
