@@ -1,22 +1,19 @@
 #!/usr/bin/env python3
 """Measures how threads wait at a node's lock, beside a mutex round the same work.
 
-The program `waiting/` is proved and built over this tree's `node_lock`, in a folder of its own. Each task is run a few times at each
+The program is the crate `lock_bench`, proved and built over this tree's `node_lock`. Each task is run a few times at each
 number of threads, with the lock and with the mutex, and the medians of the wall and processor seconds are printed.
 """
 
 import argparse
 import pathlib
 import resource
-import shutil
 import statistics
 import subprocess
 import sys
-import tempfile
 import time
 
 ROOT = pathlib.Path(__file__).resolve().parent.parent
-LINE = "waiting may_wait=14: redo_core node_lock anyhow\n"
 # what it is called, whether one holder works and the others wait, turns, rounds of work in each
 TASKS = [
     ("empty turns", "all", 400_000, 0),
@@ -25,19 +22,11 @@ TASKS = [
 ]
 
 
-def built(room):
-    """The program, over copies of the crates that it stands on, with the libraries that are built already."""
-    known = (ROOT / "crates.txt").read_text().splitlines(keepends=True)
-    lines = [it for it in known if it.split(":")[0].split(" ")[0] in ("redo_core", "node_lock")]
-    (room / "crates.txt").write_text("".join(lines) + LINE)
-    (room / "HANDLES").write_text((ROOT / "HANDLES").read_text())
-    for name in ("redo_core", "node_lock"):
-        shutil.copytree(ROOT / "crates" / name, room / "crates" / name, ignore=shutil.ignore_patterns("must-fail"))
-    shutil.copytree(ROOT / "bench/waiting", room / "crates/waiting")
-    subprocess.run(["git", "init", "-q"], cwd=room, check=True)
-    words = ["rt", "run"]
-    subprocess.run(words, cwd=room / "crates/waiting", stdin=subprocess.DEVNULL, stdout=sys.stderr, check=True)
-    return room / "crates/waiting/out/waiting"
+def built():
+    """The program, over the libraries that are built already."""
+    crate = ROOT / "crates/lock_bench"
+    subprocess.run(["rt", "run"], cwd=crate, stdin=subprocess.DEVNULL, stdout=sys.stderr, check=True)
+    return crate / "out/lock_bench"
 
 
 def measured(program, line):
@@ -59,13 +48,12 @@ def main(words):
     parser.add_argument("--threads", type=int, nargs="*", default=[1, 2, 4, 8])
     parser.add_argument("--program", type=pathlib.Path, help="the program, where it is built already")
     given = parser.parse_args(words)
-    with tempfile.TemporaryDirectory(prefix="waiting-") as folder:
-        program = given.program or built(pathlib.Path(folder))
-        print("| task | threads | the lock, wall / processor seconds | a mutex |\n|---|---|---|---|")
-        for name, kind, turns, rounds in TASKS:
-            for threads in given.threads:
-                told = [median(program, given.runs, f"{lock} {kind} {threads} {turns} {rounds}\n") for lock in ("lock", "mutex")]
-                print(f"| {name} | {threads} | {told[0]} | {told[1]} |", flush=True)
+    program = given.program or built()
+    print("| task | threads | the lock, wall / processor seconds | a mutex |\n|---|---|---|---|")
+    for name, kind, turns, rounds in TASKS:
+        for threads in given.threads:
+            told = [median(program, given.runs, f"{lock} {kind} {threads} {turns} {rounds}\n") for lock in ("lock", "mutex")]
+            print(f"| {name} | {threads} | {told[0]} | {told[1]} |", flush=True)
 
 
 if __name__ == "__main__":
