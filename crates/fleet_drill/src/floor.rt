@@ -1,0 +1,127 @@
+ghost use Rattle.std.specs.Prelude.{◌≡◌, ◌<◌, ◌≤◌, ◌+◌, [], All, length, replicate, IfOk};
+ghost use Rattle.front_board.specs.Seat.{IsNode, new_seat};
+ghost use Rattle.node_cell.specs.Node.{IsPassOf};
+ghost use Rattle.node_threads.specs.Each.{Each};
+
+use crate::dealing::deal;
+use crate::running::MAX_NODES;
+use front_board::{Board, Seat};
+use intake_queue::{Intake, MAX_CAPACITY};
+use named_log::LogName;
+use node_cell::Node;
+use node_threads::{Feed, Inlet};
+use std::alloc::{AllocError, Global};
+
+/// Nodes, numbered from 1, each with an intake of its own and the facts that are fed into it, and the board of their fronts.
+#[derive(Drop)]
+pub struct Floor<L: LogName> {
+    pub board: Board<L>,
+    pub nodes: Vec<Node<L>>,
+    pub feeds: Vec<Feed<L>>,
+    pub inlets: Vec<Inlet<L>>,
+    ghost len: { (length feeds.items ≡ length nodes.items) × (length inlets.items ≡ length nodes.items) × (length nodes.items ≤ 6) },
+    ghost numbers: { All (λ n. IsNode board.words n.number) nodes.items },
+    ghost feeds_fit: { Each (λ k i d. (d.inlet ≡ k + 1) × (d.sender.intake ≡ i.intake.id)) inlets.items feeds.items },
+    ghost inlets_fit: { Each (λ k n i. (i.node ≡ k + 1) × (i.taker.intake ≡ i.intake.id) × (i.seat.board ≡ board) × IsPassOf n i.pass × (i.pass.list ≡ [])) nodes.items inlets.items },
+}
+
+// One node with what goes into its workers.
+#[derive(Drop)]
+struct Stand<L: LogName> {
+    node: Node<L>,
+    feed: Feed<L>,
+    inlet: Inlet<L>,
+}
+
+// What each stand is opened with: to how many nodes how many facts are dealt, and how many entries a trail may have.
+#[derive(Clone, Copy)]
+struct Measure {
+    dealt: usize,
+    facts: usize,
+    trail: u64,
+    ghost some: { (0 < dealt) × (0 < facts) × (facts ≤ 65536) },
+}
+
+/// Opens `count` nodes, each with an intake that has room for `facts` parcels and a trail of at most `trail` entries, and deals the
+/// facts at the first `facts` places of the log out to the first `dealt` nodes, in turn. Its only error is want of memory.
+pub fn open_floor<L: LogName>(
+    alloc: Global,
+    count: usize,
+    dealt: usize,
+    facts: usize,
+    trail: u64,
+) -> Result<Floor<L>, AllocError>
+    requires nodes { (0 < count) × (count ≤ MAX_NODES) × (0 < dealt) }
+    requires facts { (0 < facts) × (facts ≤ MAX_CAPACITY) }
+    ensures { IfOk result (λ f. length f.nodes.items ≡ count) }
+{
+    let (board, seats) = Board::<L>::open(alloc, count, count)?;
+    let measure = Measure {
+        dealt,
+        facts,
+        trail,
+    };
+    open_stands(alloc, board, seats, count, measure)
+}
+
+// A stand for each seat of the board.
+fn open_stands<L: LogName>(
+    alloc: Global,
+    board: Board<L>,
+    seats: Vec<Seat<L>>,
+    count: usize,
+    measure: Measure,
+) -> Result<Floor<L>, AllocError>
+    requires words { board.words ≡ count }
+    requires seats { seats.items ≡ replicate count (new_seat board count) }
+    requires count { count ≤ MAX_NODES }
+    ensures { IfOk result (λ f. length f.nodes.items ≡ count) }
+{
+    let mut nodes = Vec::with_capacity(alloc, count)?;
+    let mut feeds = Vec::with_capacity(alloc, count)?;
+    let mut inlets = Vec::with_capacity(alloc, count)?;
+    for seat in seats {
+        let number = nodes.len() + 1;
+        let stand = open_stand(alloc, seat, number, measure)?;
+        let Stand { node, feed, inlet } = stand;
+        nodes.push(node)?;
+        feeds.push(feed)?;
+        inlets.push(inlet)?;
+    }
+    Ok(Floor {
+        board,
+        nodes,
+        feeds,
+        inlets,
+    })
+}
+
+fn open_stand<L: LogName>(
+    alloc: Global,
+    seat: Seat<L>,
+    number: usize,
+    measure: Measure,
+) -> Result<Stand<L>, AllocError>
+    ensures node { IfOk result (λ s. s.node.number ≡ number) }
+    ensures feed { IfOk result (λ s. (s.feed.inlet ≡ number) × (s.feed.sender.intake ≡ s.inlet.intake.id)) }
+    ensures inlet { IfOk result (λ s. (s.inlet.node ≡ number) × (s.inlet.taker.intake ≡ s.inlet.intake.id) × (s.inlet.seat ≡ seat) × IsPassOf s.node s.inlet.pass × (s.inlet.pass.list ≡ [])) }
+{
+    let (node, mut passes) = Node::<L>::open(alloc, number, 1, measure.trail)?;
+    let (intake, mut senders, taker) = Intake::<L>::open(alloc, 1, measure.facts)?;
+    let (Some(pass), Some(sender)) = (passes.pop(), senders.pop()) else {
+        unreachable!()
+    };
+    let feed = Feed {
+        inlet: number,
+        sender,
+        facts: deal(alloc, number, measure.dealt, measure.facts)?,
+    };
+    let inlet = Inlet {
+        intake,
+        taker,
+        node: number,
+        pass,
+        seat,
+    };
+    Ok(Stand { node, feed, inlet })
+}

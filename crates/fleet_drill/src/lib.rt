@@ -1,0 +1,23 @@
+//! A drill: nodes of one log that workers in threads deliver to, fold and bring together, and what comes of it as text.
+//!
+//! `drill` runs one from end to end. Its stages stand beside it: a floor is opened, its plan is worked, the nodes are closed and the
+//! receipts settled, the segments are joined, and what they hold is told. Where all workers were started, the receipts of each node
+//! settle; each joined segment means a part of the log.
+#![tactic(auto)]
+
+mod dealing;
+mod floor;
+mod joining;
+mod rounds;
+mod running;
+mod settling;
+mod telling;
+mod working;
+
+pub use floor::{Floor, open_floor};
+pub use joining::{Joined, join_all};
+pub use rounds::make_plan;
+pub use running::{MAX_NODES, MAX_WORKERS, Open, Size, drill};
+pub use settling::close_all;
+pub use telling::tell;
+pub use working::{Worked, work};

@@ -1,0 +1,113 @@
+ghost use Rattle.std.specs.Prelude.{◌≡◌, Some, is_some, true, map, OnOk, IfOk};
+ghost use Rattle.node_cell.specs.Node.{IsPassOf};
+ghost use Rattle.node_threads.specs.Refusals.{AllStarted};
+ghost use Rattle.node_workers.specs.Work.{receipts_in};
+
+use crate::working::Worked;
+use named_log::LogName;
+use node_cell::laws::receipts_stand;
+use node_cell::{AbsorbFault, Closed, DeliverFault, Node, Pass, Receipt, settle};
+use node_threads::{Answer, Inlet, Refusal};
+use segment_core::CommitFault;
+use std::alloc::{AllocError, Global};
+use std::sync::Wait;
+
+/// Closes the nodes, each with its pass, and settles the receipts of each. An error is want of memory, or of a thread, also of a worker
+/// before: the nodes are then gone.
+pub fn close_all<L: LogName, R: Wait>(
+    rt: &R,
+    alloc: Global,
+    worked: Worked<L>,
+) -> Result<Vec<Closed<L>>, AllocError> {
+    let Worked {
+        board: _,
+        mut nodes,
+        mut inlets,
+        mut answers,
+        refusals,
+    } = worked;
+    had_memory(refusals.as_slice())?;
+    let mut closed = Vec::with_capacity(alloc, nodes.len())?;
+    while let Some(node) = nodes.pop() {
+        let (Some(back), Some(list)) = (inlets.pop(), answers.pop()) else {
+            unreachable!()
+        };
+        let inlet = inlet_of(back);
+        closed.push(close_one(rt, alloc, node, inlet.pass, list)?)?;
+    }
+    closed.as_mut_slice().reverse();
+    Ok(closed)
+}
+
+// The inlet that came back.
+fn inlet_of<L: LogName>(back: Option<Inlet<L>>) -> Inlet<L>
+    requires { is_some back ≡ true }
+    ensures { back ≡ Some result }
+{
+    match back {
+        Some(inlet) => inlet,
+        None => unreachable!(),
+    }
+}
+
+// An error where a worker could not be started, or lacked memory.
+fn had_memory(refusals: &[Refusal]) -> Result<(), AllocError>
+    ensures { OnOk result (AllStarted refusals.now) }
+{
+    for refusal in refusals {
+        match refusal {
+            Refusal::NotStarted { .. } => return Err(AllocError),
+            Refusal::Memory { .. } => return Err(AllocError),
+            Refusal::Commit {
+                fault: CommitFault::Memory,
+                ..
+            } => return Err(AllocError),
+            Refusal::Absorb {
+                fault: AbsorbFault::Memory,
+                ..
+            } => return Err(AllocError),
+            _ => {}
+        }
+    }
+    Ok(())
+}
+
+fn close_one<L: LogName, R: Wait>(
+    rt: &R,
+    alloc: Global,
+    node: Node<L>,
+    pass: Pass<L>,
+    answers: Vec<Answer<L>>,
+) -> Result<Closed<L>, AllocError>
+    requires pass { IsPassOf node pass }
+    requires list { pass.list ≡ receipts_in answers.items }
+{
+    let receipts = receipts_of(alloc, answers)?;
+    let passes = Vec::from_array(alloc, [pass])?;
+    let closed = node.close(rt, passes);
+    receipts_stand();
+    match settle(&closed, receipts.as_slice()) {
+        Ok(()) => Ok(closed),
+        Err(_) => unreachable!(),
+    }
+}
+
+fn receipts_of<L: LogName>(
+    alloc: Global,
+    answers: Vec<Answer<L>>,
+) -> Result<Vec<Receipt<L>>, AllocError>
+    ensures { IfOk result (λ rs. map (λ r. (r.place, r.log_place)) rs.items ≡ receipts_in answers.items) }
+{
+    let mut receipts = Vec::with_capacity(alloc, answers.len())?;
+    for answer in answers {
+        match answer {
+            Ok(receipt) => receipts.push(receipt)?,
+            Err(refused) => {
+                if refused.fault == DeliverFault::Memory {
+                    return Err(AllocError);
+                }
+            }
+        }
+    }
+    Ok(receipts)
+}
