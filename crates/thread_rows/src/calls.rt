@@ -3,7 +3,7 @@ ghost use Rattle.std.specs.Prelude.{◌<◌, ◌≤◌};
 use crate::floors::ends_under;
 use crate::folds::fold_by_many;
 use crate::gates::{Order, Turnstile};
-use crate::rounds::{exchange_and_fold, strangers};
+use crate::rounds::{apart, exchange_and_fold, strangers};
 use crate::words::index;
 use drill_log::Drill;
 use fleet_drill::{MAX_NODES, MAX_WORKERS, Open};
@@ -28,6 +28,7 @@ pub fn answer<R: Threads + Wait + Sync>(
     match name {
         "exchange_and_fold" => exchange_and_fold(rt, alloc),
         "strangers" => strangers(rt, alloc),
+        "apart" => apart(rt, alloc),
         "folds" => fold_by_many(rt, alloc),
         _ if nodes == 0 || nodes > MAX_NODES || workers == 0 || workers > MAX_WORKERS => {
             String::from_str(alloc, "unknown\n")

@@ -1,7 +1,7 @@
 use crate::calls::Log;
 use crate::rounds::{EARLY, plan_of};
 use fleet_drill::{Floor, Open, open_floor, work};
-use node_cell::{FoldPlan, Node};
+use node_cell::{FoldPlan, Folded, Node};
 use node_threads::fold_many;
 use std::alloc::{AllocError, Global};
 use std::sync::Wait;
@@ -37,8 +37,12 @@ pub fn fold_by_many<R: Threads + Wait + Sync>(rt: &R, alloc: Global) -> Result<S
     let Ok(folds) = fold_many(rt, alloc, plans_of(rt, alloc, node)?) else {
         return Err(AllocError);
     };
+    folds_text(alloc, folds.as_slice())
+}
+
+fn folds_text(alloc: Global, folds: &[Folded<Log>]) -> Result<String, AllocError> {
     let mut text = String::new(alloc);
-    for folded in folds.as_slice() {
+    for folded in folds {
         let (page, version) = (folded.page(), folded.version());
         let start = hex::encode(alloc, &folded.image().bytes()[..8])?;
         text.push_str(&format!(in alloc; "page {page} version {version} {start}\n")?)?;

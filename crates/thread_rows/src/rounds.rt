@@ -1,6 +1,8 @@
 use crate::calls::Log;
-use fleet_drill::{Floor, Open, Worked, close_all, open_floor, work};
+use fleet_drill::{Floor, Open, Worked, close_all, join_all, open_floor, tell, work};
+use node_cell::Closed;
 use node_threads::{Plan, Refusal, serve};
+use segment_core::Segment;
 use std::alloc::{AllocError, Global};
 use std::sync::Wait;
 use std::thread::Threads;
@@ -39,51 +41,72 @@ fn work_again<R: Threads + Wait + Sync>(
     }
 }
 
-/// Two nodes of which the first has the early places: the second asks it, and then it folds its first page.
+/// Two nodes, of which the first has the early places.
+fn early_at_the_first<R: Threads + Wait + Sync>(
+    rt: &R,
+    alloc: Global,
+) -> Result<Worked<Log>, AllocError> {
+    let floor: Floor<Log> = open_floor(alloc, 2, 1, EARLY, EARLY as u64)?;
+    let plan = plan_of(alloc, EARLY as u64, &[], &[])?;
+    work(rt, alloc, floor, plan, &Open)
+}
+
+/// The second asks the first, and then the first folds its first page.
 pub fn exchange_and_fold<R: Threads + Wait + Sync>(
     rt: &R,
     alloc: Global,
 ) -> Result<String, AllocError> {
-    let floor: Floor<Log> = open_floor(alloc, 2, 1, EARLY, EARLY as u64)?;
-    let worked = work(
-        rt,
-        alloc,
-        floor,
-        plan_of(alloc, EARLY as u64, &[], &[])?,
-        &Open,
-    )?;
+    let worked = early_at_the_first(rt, alloc)?;
     let asked = work_again(rt, alloc, &worked, plan_of(alloc, 0, &[], &[(2, 1)])?)?;
     let folded = work_again(rt, alloc, &worked, plan_of(alloc, 0, &[(1, 0)], &[])?)?;
-    let refused = asked.len() + folded.len();
     let closed = close_all(rt, alloc, worked)?;
-    let (Some(first), Some(second)) = (closed.first(), closed.last()) else {
-        return String::from_str(alloc, "no nodes\n");
-    };
-    let front = second.segment().front();
-    let (epoch, complete, min) = (front.epoch, front.complete, front.min);
-    let base = first.segment().base_point();
-    let keys = first.segment().stored()?.len();
-    format!(in alloc; "refused {refused} front {epoch} {complete} {min} base {base} keys {keys}\n")
+    nodes_line(alloc, asked.len() + folded.len(), closed.as_slice())
 }
 
 /// Rounds that name no node: each is refused by name, and the others go on.
 pub fn strangers<R: Threads + Wait + Sync>(rt: &R, alloc: Global) -> Result<String, AllocError> {
-    let floor: Floor<Log> = open_floor(alloc, 2, 1, EARLY, EARLY as u64)?;
+    let worked = early_at_the_first(rt, alloc)?;
     let folds = [(0, 0), (3, 0), (1, 0)];
     let gossip = [(1, 3), (0, 1), (2, 1)];
-    let worked = work(
-        rt,
-        alloc,
-        floor,
-        plan_of(alloc, EARLY as u64, &[], &[])?,
-        &Open,
-    )?;
     let refusals = work_again(rt, alloc, &worked, plan_of(alloc, 0, &folds, &gossip)?)?;
-    let closed = close_all(rt, alloc, worked)?;
     let mut text = format!(in alloc; "{refusals:?}\n")?;
-    for node in closed.as_slice() {
-        let complete = node.segment().front().complete;
-        text.push_str(&format!(in alloc; "complete {complete}\n")?)?;
+    let closed = close_all(rt, alloc, worked)?;
+    text.push_str(&nodes_line(alloc, refusals.len(), closed.as_slice())?)?;
+    Ok(text)
+}
+
+// How many rounds were refused, the front of each node, and the base point of the first and how many keys it stores.
+fn nodes_line(alloc: Global, refused: usize, closed: &[Closed<Log>]) -> Result<String, AllocError> {
+    let mut text = format!(in alloc; "refused {refused}")?;
+    for node in closed {
+        let front = node.segment().front();
+        let (epoch, complete, min) = (front.epoch, front.complete, front.min);
+        text.push_str(&format!(in alloc; "; front {epoch} {complete} {min}")?)?;
+    }
+    if let Some(first) = closed.first() {
+        text.push_str(&stored_line(alloc, first.segment())?)?;
     }
     Ok(text)
+}
+
+fn stored_line(alloc: Global, segment: &Segment) -> Result<String, AllocError> {
+    let (base, keys) = (segment.base_point(), segment.stored()?.len());
+    format!(in alloc; "; base {base} keys {keys}\n")
+}
+
+/// Two nodes that share two thirds of the early places and never meet: what they tell, each by itself, the second one first.
+pub fn apart<R: Threads + Wait + Sync>(rt: &R, alloc: Global) -> Result<String, AllocError> {
+    let floor: Floor<Log> = open_floor(alloc, 2, 3, EARLY, EARLY as u64)?;
+    let plan = Plan {
+        parcels: Vec::from_array(alloc, [22, 22])?,
+        folds: Vec::new(alloc),
+        gossip: Vec::new(alloc),
+    };
+    let closed = close_all(rt, alloc, work(rt, alloc, floor, plan, &Open)?)?;
+    let mut alone = Vec::new(alloc);
+    for one in closed.as_slice().chunks(1) {
+        alone.append(&mut join_all(alloc, one)?)?;
+    }
+    alone.as_mut_slice().reverse();
+    tell(alloc, EARLY, alone.as_slice())
 }
