@@ -6,3 +6,6 @@ pub mod OneText
 pub mod TaskWords
 pub mod TakenWords
 pub mod Whys
+pub mod DrillWords
+pub mod DrillShape
+pub mod Entered

@@ -16,7 +16,7 @@ use Rattle.fleet_tool.specs.Lines.{lines_of}
 use Rattle.fleet_tool.specs.Output.{SaysBadLine, SaysUnsound, SaysReplies, SaysSound, IsRunOutput, IsCheckOutput}
 use Rattle.fleet_tool.specs.OneOutput.{OneOutput}
 use Rattle.fleet_tool.specs.declared.answer.Verdict.{Verdict}
-use Rattle.fleet_tool.specs.declared.job.Task.TheVariants.{Run, Check, Inspect}
+use Rattle.fleet_tool.specs.declared.job.TextTask.TheVariants.{Run, Check, Inspect}
 use Rattle.redo_laws.proofs.FirstFaults.{one_fault, no_fault}
 use Rattle.fleet_tool.proofs.Steps.{takes_from}
 

@@ -1,14 +1,18 @@
 -- The command line of the program: when it names a task, and when it asks for help.
-use Rattle.std.specs.Prelude.{◌≡◌, ◌⊎◌, ℕ, List, [], ◌∷◌, codes, true}
-use Rattle.clap.specs.Words.{App, Kinds, IsAmong, new_app, with_subcommand, fault_of}
+use Rattle.std.specs.Prelude.{◌≡◌, ◌⊎◌, ℕ, List, [], ◌∷◌, Option, Some, codes, true, false}
+use Rattle.std.specs.List.{list_any}
+use Rattle.std.specs.Str.{bytes_eq}
+use Rattle.clap.specs.Words.{App, Kinds, IsAmong, Row, new_app, with_subcommand, fault_of, subcommand_of}
 use Rattle.clap.specs.declared.error.kind.ErrorKind.{ErrorKind}
 use Rattle.clap.specs.declared.error.kind.ErrorKind.TheVariants.{DisplayHelp, DisplayVersion}
 use Rattle.fleet_tool.specs.declared.job.LineFault.{LineFault}
 use Rattle.fleet_tool.specs.declared.job.LineFault.TheVariants.{Help, Bad, Memory}
-use Rattle.fleet_tool.specs.declared.job.Task.{Task}
+use Rattle.fleet_tool.specs.declared.job.TextTask.{TextTask}
+use Rattle.fleet_tool.specs.declared.drill_line.DrillTask.{DrillTask}
 use Rattle.fleet_tool.specs.TaskName.{name_of}
+use Rattle.fleet_tool.specs.DrillLine.{drill_shape, SpellsDrill}
 
--- the command, with a version, and its subcommands, none with a word of its own
+-- the command, with a version, and its subcommands, of which the drill alone has words of its own
 abbrev pub top : App
 top = record (new_app (codes "fleet")) {
   top = record (new_app (codes "fleet")).top {
@@ -18,16 +22,31 @@ top = record (new_app (codes "fleet")) {
   };
 }
 
+abbrev pub texts_app : App
+texts_app = with_subcommand (with_subcommand (with_subcommand top (new_app (codes "run")).top) (new_app (codes "check")).top) (new_app (codes "inspect")).top
+
 abbrev pub fleet_app : App
-fleet_app = with_subcommand (with_subcommand (with_subcommand top (new_app (codes "run")).top) (new_app (codes "check")).top) (new_app (codes "inspect")).top
+fleet_app = with_subcommand texts_app drill_shape
 
 -- the kinds of fault that the words have
 unfoldable pub line_faults : List (List ℕ) → Kinds
 line_faults words = fault_of fleet_app words
 
+-- the subcommand that the words name, and the values of its options
+unfoldable pub subcommand_in : List (List ℕ) → Option (List ℕ × List Row)
+subcommand_in words = subcommand_of fleet_app words
+
 -- the words are the program's and the task's
-abbrev pub NameTask : List (List ℕ) → Task → Type 0
+abbrev pub NameTask : List (List ℕ) → TextTask → Type 0
 NameTask words task = (program : List ℕ) × (words ≡ program ∷ name_of task ∷ [])
+
+-- The words name the drill and spell its numbers and its size, as clap takes them: they have no fault, and no word that it leaves out.
+pub record AsksDrill (words : List (List ℕ)) (task : DrillTask) : Type 0 where
+  pub options : List Row
+  pub names : subcommand_in words ≡ Some (codes "drill", options)
+  pub spells : SpellsDrill options task
+  pub right : line_faults words ≡ []
+  pub whole : list_any (λ word. bytes_eq word (codes "--")) words ≡ false
 
 -- the kind asks for the help or the version
 abbrev pub IsAsking : ErrorKind → Type 0

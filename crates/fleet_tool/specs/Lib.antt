@@ -7,4 +7,5 @@ pub mod OneOutput
 pub mod TextCall
 pub mod Ending
 pub mod TaskName
+pub mod DrillLine
 pub mod CommandLine

@@ -11,8 +11,8 @@ use Rattle.fleet_tool.specs.ScriptSteps.{IsAnswered}
 use Rattle.fleet_tool.specs.Inspect.{inspected}
 use Rattle.fleet_tool.specs.declared.answer.Verdict.{Verdict}
 use Rattle.fleet_tool.specs.declared.answer.Verdict.TheVariants.{Done, BadLine, Unsound}
-use Rattle.fleet_tool.specs.declared.job.Task.{Task}
-use Rattle.fleet_tool.specs.declared.job.Task.TheVariants.{Run, Check, Inspect}
+use Rattle.fleet_tool.specs.declared.job.TextTask.{TextTask}
+use Rattle.fleet_tool.specs.declared.job.TextTask.TheVariants.{Run, Check, Inspect}
 
 -- the text names the bad line
 abbrev pub SaysBadLine : ℕ → List ℕ → Verdict → Type 0
@@ -53,7 +53,7 @@ abbrev pub IsInspectOutput : List ℕ → List ℕ → Verdict → Type 0
 IsInspectOutput input text verdict = (text ≡ inspected input) × (verdict ≡ Done)
 
 -- what a task writes for an input, and how it ends
-abbrev pub IsOutputOf : Task → List ℕ → List ℕ → Verdict → Type 0
+abbrev pub IsOutputOf : TextTask → List ℕ → List ℕ → Verdict → Type 0
 IsOutputOf Run input text verdict = IsRunOutput (script_of input) text verdict
 IsOutputOf Check input text verdict = IsCheckOutput (facts_of input) text verdict
 IsOutputOf Inspect input text verdict = IsInspectOutput input text verdict

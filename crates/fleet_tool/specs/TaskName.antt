@@ -1,9 +1,9 @@
 -- The words that name tasks.
 use Rattle.std.specs.Prelude.{ℕ, List, codes}
-use Rattle.fleet_tool.specs.declared.job.Task.{Task}
-use Rattle.fleet_tool.specs.declared.job.Task.TheVariants.{Run, Check, Inspect}
+use Rattle.fleet_tool.specs.declared.job.TextTask.{TextTask}
+use Rattle.fleet_tool.specs.declared.job.TextTask.TheVariants.{Run, Check, Inspect}
 
-abbrev pub name_of : Task → List ℕ
+abbrev pub name_of : TextTask → List ℕ
 name_of Run = codes "run"
 name_of Check = codes "check"
 name_of Inspect = codes "inspect"

@@ -11,7 +11,7 @@ ghost use Rattle.script_text.specs.Outcome.{Gives, log_data, script_data};
 ghost use Rattle.fleet_tool.specs.Output.{SaysBadLine, SaysUnsound, SaysReplies, IsRunOutput, IsCheckOutput, IsInspectOutput, IsOutputOf};
 
 use crate::inspect::inspected;
-use crate::job::Task;
+use crate::job::TextTask;
 use crate::script_steps::answers;
 use fleet_core::Fleet;
 use log_law::{CheckFault, check_log};
@@ -135,12 +135,12 @@ fn answer_capture(alloc: Global, input: &[u8]) -> Result<Answered, AllocError>
 }
 
 /// The text that answers an input to the task. Its only error is want of memory.
-pub fn answer(alloc: Global, task: Task, input: Vec<u8>) -> Result<Answered, AllocError>
+pub fn answer(alloc: Global, task: TextTask, input: Vec<u8>) -> Result<Answered, AllocError>
     ensures { IfOk result (λ a. IsOutputOf task input.items (string_bytes a.text) a.verdict) }
 {
     match task {
-        Task::Run => answer_script(alloc, input),
-        Task::Check => answer_facts(alloc, input),
-        Task::Inspect => answer_capture(alloc, &input),
+        TextTask::Run => answer_script(alloc, input),
+        TextTask::Check => answer_facts(alloc, input),
+        TextTask::Inspect => answer_capture(alloc, &input),
     }
 }

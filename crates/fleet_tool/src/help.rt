@@ -34,6 +34,29 @@ Output: sound and the number of facts, or the first fact that breaks a law, or t
 Statuses: 0 sound, 2 a bad line, 3 a log that is not sound, 4 a device that failed, 5 no memory.
 The laws stand in docs/RULES.md, the forms in docs/FORMATS.md.";
 
+/// What stands beside the drill in the list of tasks.
+pub const DRILL_IN_A_LINE: &str =
+    "Runs nodes of one log in threads: --nodes 1 to 6, --workers 1 to 16, --size small or large";
+
+pub const NODES: &str = "How many nodes, 1 to 6";
+
+pub const WORKERS: &str = "How many folders, and how many gossipers, 1 to 16";
+
+pub const SIZE: &str = "The log, small (130 facts) or large (2050)";
+
+pub const DRILL: &str =
+    "Feeders and drainers deliver the facts of a log to the nodes, folders fold and discard, gossipers exchange messages, all in threads.
+Then each node is joined with all the others. Nothing is read, and the text is the same whatever the threads did.
+
+Output, a line each:
+  facts F                  the number of facts
+  node I front K C M       for each node: epoch, complete point and minimum read point
+  page G HEX               for each page: its first 8 bytes at the complete point
+  same yes                 whether all nodes mean the same, yes or no
+
+Statuses: 0 done, 2 a bad command line, 4 a device that failed, 5 no memory, or no thread for a worker.
+The log and the text stand in docs/FORMATS.md.";
+
 pub const INSPECT: &str =
     "Input, a line each: the bytes of a fact, summary, delta or piece of a snapshot, in hexadecimal digits of either case.
 Output, a line each: the fact's line, or what the other values hold, or wire and the number of the fault, or bad hex.

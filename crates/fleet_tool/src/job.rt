@@ -1,10 +1,14 @@
 //! The command line.
 
-ghost use Rattle.std.specs.Prelude.{◌≡◌, ◌∷◌, [], IfOk, IfErr, Ok, map};
+ghost use Rattle.std.specs.Prelude.{◌≡◌, ◌∷◌, [], IfOk, IfErr, Ok, codes, map};
+ghost use Rattle.std.specs.List.{list_any};
+ghost use Rattle.std.specs.Str.{bytes_eq};
 ghost use Rattle.clap.specs.Words.{app_of, kind_of, Kinds, HasKind};
-ghost use Rattle.fleet_tool.specs.CommandLine.{fleet_app, line_faults, NameTask, IsWhy};
+ghost use Rattle.fleet_tool.specs.CommandLine.{fleet_app, line_faults, NameTask, AsksDrill, IsWhy};
+ghost use Rattle.fleet_tool.specs.DrillLine.{IsDrillTask};
 ghost use Rattle.fleet_tool.specs.TaskName.{name_of};
 
+use crate::drill_line::{DrillTask, drill_command, drill_in};
 use crate::help;
 use clap::error::ErrorKind;
 use clap::{Command, Error};
@@ -12,12 +16,19 @@ use std::alloc::{AllocError, Global};
 use std::convert::AsStr;
 use thiserror::Error as ErrorTraits;
 
-/// What the command line asks for: an answer to a script, to a log, or to a capture.
+/// An answer to a script, to a log, or to a capture.
 #[derive(Clone, Copy, Debug, PartialEq, Eq)]
-pub enum Task {
+pub enum TextTask {
     Run,
     Check,
     Inspect,
+}
+
+/// What the command line asks for: an answer to what stands on standard input, or a drill.
+#[derive(Clone, Copy, Debug, PartialEq, Eq)]
+pub enum Task {
+    Text(TextTask),
+    Drill(DrillTask),
 }
 
 /// Why the command line names no task.
@@ -52,7 +63,8 @@ fn command<'a>(alloc: Global) -> Result<Command<'a>, AllocError>
         .disable_help_subcommand(true)
         .subcommand(run)?
         .subcommand(check)?
-        .subcommand(inspect)
+        .subcommand(inspect)?
+        .subcommand(drill_command(alloc)?)
 }
 
 fn fault_of(alloc: Global, error: Error) -> LineFault
@@ -70,40 +82,63 @@ fn fault_of(alloc: Global, error: Error) -> LineFault
 }
 
 /// The task of this name; `Bad` where none has it.
-fn task_of(name: &str) -> Result<Task, LineFault>
+fn task_of(name: &str) -> Result<TextTask, LineFault>
     ensures named { IfOk result (λ task. name.now ≡ name_of task) }
-    ensures known { (task : Task) → name.now ≡ name_of task → result ≡ Ok task }
+    ensures known { (task : TextTask) → name.now ≡ name_of task → result ≡ Ok task }
     ensures bad { IfErr result (λ e. e ≡ LineFault.Bad) }
 {
     match name {
-        "run" => Ok(Task::Run),
-        "check" => Ok(Task::Check),
-        "inspect" => Ok(Task::Inspect),
+        "run" => Ok(TextTask::Run),
+        "check" => Ok(TextTask::Check),
+        "inspect" => Ok(TextTask::Inspect),
         _ => Err(LineFault::Bad),
     }
+}
+
+// Whether a word is `--`, behind which no word is an option: clap leaves it out.
+fn has_mark<S: AsStr>(words: &[S]) -> bool
+    ensures { result ≡ list_any (λ word. bytes_eq (S.text word) (codes "--")) words.now }
+{
+    words.iter().any(|word| word.as_str() == "--")
 }
 
 /// The task that the words of the command line name; the first word is the program's.
 ///
 /// Errors: `Help` where the words ask for it or for the version, `Bad` for other words than the task's own, `Memory`.
 pub fn job_of<S: AsStr>(alloc: Global, words: &[S]) -> Result<Task, LineFault>
-    ensures names { IfOk result (λ task. (program word : S) × (words.now ≡ program ∷ word ∷ []) × (S.text word ≡ name_of task)) }
-    ensures taken { (task : Task) → NameTask (map S.text words.now) task → IfErr result (λ e. e ≡ LineFault.Memory) }
+    ensures text { (task : TextTask) → result ≡ Ok (Task.Text task) → (program word : S) × (words.now ≡ program ∷ word ∷ []) × (S.text word ≡ name_of task) }
+    ensures drill { (task : DrillTask) → result ≡ Ok (Task.Drill task) → AsksDrill (map S.text words.now) task }
+    ensures range { (task : DrillTask) → result ≡ Ok (Task.Drill task) → IsDrillTask task }
+    ensures taken { (task : TextTask) → NameTask (map S.text words.now) task → IfErr result (λ e. e ≡ LineFault.Memory) }
+    ensures drilled { (task : DrillTask) → AsksDrill (map S.text words.now) task → IsDrillTask task → IfErr result (λ e. e ≡ LineFault.Memory) }
     ensures why { IfErr result (IsWhy (line_faults (map S.text words.now))) }
 {
     let command = match command(alloc) {
         Ok(command) => command,
         Err(_) => return Err(LineFault::Memory),
     };
-    if let Err(error) = command.try_get_matches_from(words) {
-        return Err(fault_of(alloc, error));
+    let matches = match command.try_get_matches_from(words) {
+        Ok(matches) => matches,
+        Err(error) => return Err(fault_of(alloc, error)),
+    };
+    if let Some(options) = matches.subcommand_matches("drill") {
+        let Some(task) = drill_in(options) else {
+            return Err(LineFault::Bad);
+        };
+        if !task.is_in_range() || has_mark(words) {
+            return Err(LineFault::Bad);
+        }
+        return Ok(Task::Drill(task));
     }
-    // A task has no words of its own, and `--` would be one that clap leaves out.
+    // Another task has no words of its own, and `--` would be one that clap leaves out.
     if words.len() != 2 {
         return Err(LineFault::Bad);
     }
     match words {
-        [_, name] => task_of(name.as_str()),
+        [_, name] => match task_of(name.as_str()) {
+            Ok(task) => Ok(Task::Text(task)),
+            Err(fault) => Err(fault),
+        },
         _ => unreachable!(),
     }
 }

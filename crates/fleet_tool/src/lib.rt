@@ -4,10 +4,15 @@
 //! what each line of a capture spells. What they write is the output that the definitions in `specs/` give to the whole input, for
 //! every input whose bytes the reader tells; an input has just one (`laws`). The whole input is read before anything is written;
 //! an error says which device failed, or that memory ran out, and after `Input` and `Memory` nothing was written.
+//!
+//! `drill_text` reads nothing: it runs a drill in threads, and writes what comes of it once the whole text is there. `job_of` reads
+//! the command line, and asks for drills of 1 to 6 nodes and 1 to 16 workers of each kind alone.
 #![tactic(auto)]
 
 mod answer;
 mod device;
+mod drill_line;
+mod drilling;
 mod ending;
 mod fault;
 mod help;
@@ -21,8 +26,11 @@ mod script_steps;
 mod watched;
 
 pub use answer::Verdict;
+pub use drill_line::DrillTask;
+pub use drilling::drill_text;
 pub use fault::RunFault;
-pub use job::{LineFault, Task, job_of};
+pub use fleet_drill::Size;
+pub use job::{LineFault, Task, TextTask, job_of};
 pub use program::run_program;
 pub use run::{check_text, inspect_text, run_text};
 pub use watched::Watched;

@@ -1,13 +1,20 @@
 //! The program, over any runtime.
 
+ghost use Rattle.fleet_tool.specs.DrillLine.{IsDrillTask};
+
 use crate::answer::Verdict;
+use crate::drill_line::DrillTask;
+use crate::drilling::drill_text;
 use crate::ending::{status_of, words_of};
-use crate::job::{LineFault, Task, job_of};
+use crate::fault::RunFault;
+use crate::job::{LineFault, Task, TextTask, job_of};
 use crate::run::{check_text, inspect_text, run_text};
 use crate::watched::Watched;
 use std::alloc::AllocError;
 use std::process::ExitCode;
 use std::rt::Env;
+use std::sync::Wait;
+use std::thread::Threads;
 use std::{env, io};
 
 /// A bad command line.
@@ -24,15 +31,8 @@ fn failed(rt: &impl Eprint, why: &str, status: u8) -> ExitCode {
     ExitCode::from(status)
 }
 
-/// From standard input to standard output.
-fn answer_input(rt: &(impl Input + Print + Eprint + AllocGlobal), task: Task) -> ExitCode {
-    let mut reader = Watched::new(rt.reader());
-    let mut writer = Watched::new(io::writer(rt));
-    let ended = match task {
-        Task::Run => run_text(rt.alloc(), &mut reader, &mut writer),
-        Task::Check => check_text(rt.alloc(), &mut reader, &mut writer),
-        Task::Inspect => inspect_text(rt.alloc(), &mut reader, &mut writer).map(|()| Verdict::Done),
-    };
+/// The status of what a text call returned, after its words on standard error.
+fn status_after(rt: &impl Eprint, ended: Result<Verdict, RunFault>) -> ExitCode {
     let words = words_of(ended);
     if !words.is_empty() {
         return failed(rt, words, status_of(ended));
@@ -40,10 +40,43 @@ fn answer_input(rt: &(impl Input + Print + Eprint + AllocGlobal), task: Task) ->
     ExitCode::from(status_of(ended))
 }
 
-/// What the program `fleet` does, by its command line: an answer from standard input to standard output, or the help.
+/// From standard input to standard output.
+fn answer_input(rt: &(impl Input + Print + Eprint + AllocGlobal), task: TextTask) -> ExitCode {
+    let mut reader = Watched::new(rt.reader());
+    let mut writer = Watched::new(io::writer(rt));
+    let ended = match task {
+        TextTask::Run => run_text(rt.alloc(), &mut reader, &mut writer),
+        TextTask::Check => check_text(rt.alloc(), &mut reader, &mut writer),
+        TextTask::Inspect => inspect_text(rt.alloc(), &mut reader, &mut writer).map(
+            |()| Verdict::Done,
+        ),
+    };
+    status_after(rt, ended)
+}
+
+/// A drill, to standard output.
+fn run_drill<R: Print + Eprint + AllocGlobal + Threads + Wait + Sync>(
+    rt: &R,
+    task: DrillTask,
+) -> ExitCode
+    requires { IsDrillTask task }
+{
+    let mut writer = Watched::new(io::writer(rt));
+    let DrillTask {
+        nodes,
+        workers,
+        size,
+    } = task;
+    let ended = drill_text(rt, rt.alloc(), nodes, workers, size, &mut writer);
+    status_after(rt, ended.map(|()| Verdict::Done))
+}
+
+/// What the program `fleet` does, by its command line: an answer from standard input to standard output, a drill, or the help.
 ///
 /// Statuses: 0 done, 2 a bad line or a bad command line, 3 a log that is not sound, 4 a device that failed, 5 no memory.
-pub fn run_program<R: Env + Input + Print + Eprint + AllocGlobal>(rt: &R) -> ExitCode {
+pub fn run_program<R: Env + Input + Print + Eprint + AllocGlobal + Threads + Wait + Sync>(
+    rt: &R,
+) -> ExitCode {
     let args = match env::args(rt) {
         Ok(args) => args,
         Err(error) if error.kind() == io::ErrorKind::OutOfMemory => {
@@ -56,7 +89,8 @@ pub fn run_program<R: Env + Input + Print + Eprint + AllocGlobal>(rt: &R) -> Exi
         return failed(rt, "out of memory", MEMORY);
     };
     match job_of(rt.alloc(), words.as_slice()) {
-        Ok(task) => answer_input(rt, task),
+        Ok(Task::Text(task)) => answer_input(rt, task),
+        Ok(Task::Drill(task)) => run_drill(rt, task),
         Err(LineFault::Help(text)) => match print!(rt; "{text}") {
             Ok(_) => ExitCode::SUCCESS,
             Err(_) => failed(rt, "output failed", DEVICE),

@@ -9,7 +9,7 @@ ghost use Rattle.fleet_tool.specs.Watching.{has_failed};
 use crate::answer::{Verdict, answer};
 use crate::device::{read_all, write_all};
 use crate::fault::RunFault;
-use crate::job::Task;
+use crate::job::TextTask;
 use crate::watched::Watched;
 use std::alloc::Global;
 use std::io::{Read, Write};
@@ -17,7 +17,7 @@ use std::io::{Read, Write};
 /// Reads all there is, and writes the answer of the task to it and nothing else.
 fn answer_text<R: Read, W: Write>(
     alloc: Global,
-    task: Task,
+    task: TextTask,
     reader: &mut Watched<R>,
     writer: &mut Watched<W>,
 ) -> Result<Verdict, RunFault>
@@ -42,9 +42,9 @@ pub fn run_text<R: Read, W: Write>(
 ) -> Result<Verdict, RunFault>
     requires reader { has_failed reader.old ≡ false }
     requires writer { has_failed writer.old ≡ false }
-    ensures { IsTextCall R.remaining W.contents (IsOutputOf Task.Run) reader.old reader.new writer.old writer.new result }
+    ensures { IsTextCall R.remaining W.contents (IsOutputOf TextTask.Run) reader.old reader.new writer.old writer.new result }
 {
-    answer_text(alloc, Task::Run, reader, writer)
+    answer_text(alloc, TextTask::Run, reader, writer)
 }
 
 /// Answers a log: its least bad line, or its first fault, or the number of its facts.
@@ -57,9 +57,9 @@ pub fn check_text<R: Read, W: Write>(
 ) -> Result<Verdict, RunFault>
     requires reader { has_failed reader.old ≡ false }
     requires writer { has_failed writer.old ≡ false }
-    ensures { IsTextCall R.remaining W.contents (IsOutputOf Task.Check) reader.old reader.new writer.old writer.new result }
+    ensures { IsTextCall R.remaining W.contents (IsOutputOf TextTask.Check) reader.old reader.new writer.old writer.new result }
 {
-    answer_text(alloc, Task::Check, reader, writer)
+    answer_text(alloc, TextTask::Check, reader, writer)
 }
 
 /// Tells what each line of hexadecimal digits spells: a fact's line, what a summary, a delta or a piece of a snapshot holds,
@@ -75,7 +75,7 @@ pub fn inspect_text<R: Read, W: Write>(
     requires writer { has_failed writer.old ≡ false }
     ensures { IsTextCall R.remaining W.contents (λ input text done. text ≡ inspected input) reader.old reader.new writer.old writer.new result }
 {
-    match answer_text(alloc, Task::Inspect, reader, writer) {
+    match answer_text(alloc, TextTask::Inspect, reader, writer) {
         Ok(_) => Ok(()),
         Err(fault) => Err(fault),
     }

@@ -1,7 +1,8 @@
 use Rattle.std.proofs.Common.{◌≡◌, ◌∙◌, ap, ap₂, codes, true}
 use Rattle.std.proofs.lemmas.Result.{IfOk-weaker}
-use Rattle.clap.specs.Words.{App, app_of, shape_of, new_app, with_subcommand}
-use Rattle.fleet_tool.specs.CommandLine.{top}
+use Rattle.clap.specs.Words.{App, Shape, app_of, shape_of, new_app, with_subcommand}
+use Rattle.fleet_tool.specs.CommandLine.{top, texts_app}
+use Rattle.fleet_tool.proofs.DrillShape.{no_globals}
 use Rattle.fleet_tool.proofs.job.command.Goals as goal
 
 pub returns : goal.returns
@@ -20,5 +21,7 @@ returns c =
     (rw (c.after_help-run.ensures, c.about.ensures) c.new.ensures.local) ∙ ap₂ with_subcommand top_is run_is in
     let second : app_of c.in_ok-subcommand-2.field-0 ≡ with_subcommand (with_subcommand top (new_app (codes "run")).top) (new_app (codes "check")).top =
     c.in_ok-subcommand-2.ensures.shape (rw (c.after_help-check.ensures, c.about-2.ensures) c.new-2.ensures.local) ∙ ap₂ with_subcommand first check_is in
-    IfOk-weaker c.subcommand-3.result _ _ (λ r h. h.shape (rw (c.after_help-inspect.ensures, c.about-3.ensures) c.new-3.ensures.local)
-    ∙ ap₂ with_subcommand second inspect_is) c.subcommand-3.ensures
+    let third : app_of c.in_ok-subcommand-3.field-0 ≡ texts_app = c.in_ok-subcommand-3.ensures.shape
+    (rw (c.after_help-inspect.ensures, c.about-3.ensures) c.new-3.ensures.local) ∙ ap₂ with_subcommand second inspect_is in
+    let own = no_globals _ _ _ _ (ap (λ (s : Shape). s.is_plain) c.in_ok-drill_command.ensures) in
+    IfOk-weaker c.subcommand-4.result _ _ (λ r h. h.shape own ∙ ap₂ with_subcommand third c.in_ok-drill_command.ensures) c.subcommand-4.ensures

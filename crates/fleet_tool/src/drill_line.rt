@@ -1,0 +1,110 @@
+//! The words of a drill.
+
+ghost use Rattle.std.specs.Prelude.{◌≡◌, ◌<◌, ◌^◌, ◌↔◌, ℕ, IfOk, IfSome, IsTrue, Some, codes, false};
+ghost use Rattle.clap.specs.Words.{shape_of, rule_of, found_of, rows_of, first_of, one_of};
+ghost use Rattle.fleet_tool.specs.DrillLine.{IsDrillTask, SpellsNumber, SpellsDrill, size_name, number_rule, drill_shape};
+
+use crate::help;
+use clap::builder::ValueParser;
+use clap::{Arg, ArgMatches, Command};
+use fleet_drill::{MAX_NODES, MAX_WORKERS, Size};
+use std::alloc::{AllocError, Global};
+
+/// A drill: how many nodes, how many workers of each kind, and the size of its log.
+#[derive(Clone, Copy, Debug, PartialEq, Eq)]
+pub struct DrillTask {
+    pub nodes: usize,
+    pub workers: usize,
+    pub size: Size,
+}
+
+impl DrillTask {
+    /// Whether the numbers are within their ranges.
+    pub fn is_in_range(self) -> bool
+        ensures { IsTrue result ↔ IsDrillTask self }
+    {
+        0 < self.nodes && self.nodes <= MAX_NODES && 0 < self.workers && self.workers <= MAX_WORKERS
+    }
+}
+
+// An option that takes a number from 1 on.
+fn number_arg<'a>(
+    alloc: Global,
+    name: &'a str,
+    letter: &'a str,
+    help: &'a str,
+    most: u64,
+    usual: &'a str,
+) -> Arg<'a>
+    ensures rule { rule_of result ≡ number_rule name.entry.now most usual.entry.now }
+    ensures own { result.global ≡ false }
+{
+    Arg::new(alloc, name)
+        .long(name)
+        .value_name(letter)
+        .help(help)
+        .value_parser(ValueParser::unsigned(1, most))
+        .default_value(usual)
+}
+
+/// The subcommand `drill`, with its options.
+pub fn drill_command<'a>(alloc: Global) -> Result<Command<'a>, AllocError>
+    ensures { IfOk result (λ c. shape_of c ≡ drill_shape) }
+{
+    let nodes = number_arg(alloc, "nodes", "K", help::NODES, 6, "3");
+    let workers = number_arg(alloc, "workers", "W", help::WORKERS, 16, "4");
+    let size = Arg::new(alloc, "size")
+        .long("size")
+        .value_name("S")
+        .help(help::SIZE)
+        .default_value("small");
+    Command::new(alloc, "drill")
+        .about(help::DRILL_IN_A_LINE)
+        .after_help(help::DRILL)
+        .arg(nodes)?
+        .arg(workers)?
+        .arg(size)
+}
+
+// The size of this name.
+fn size_of(name: &str) -> Option<Size>
+    ensures named { IfSome result (λ size. name.now ≡ size_name size) }
+    ensures known { (size : Size) → name.now ≡ size_name size → result ≡ Some size }
+{
+    match name {
+        "small" => Some(Size::Small),
+        "large" => Some(Size::Large),
+        _ => None,
+    }
+}
+
+// The number that an option was given.
+fn number_in(options: &ArgMatches<'_>, id: &str) -> Option<usize>
+    ensures spelled { IfSome result (SpellsNumber (one_of id.now (rows_of (found_of options.now)))) }
+    ensures known { (n : ℕ) → n < 2 ^ 64 → SpellsNumber (one_of id.now (rows_of (found_of options.now))) n → result ≡ Some n }
+{
+    options.get_one::<usize>(id)
+}
+
+// The size that the options name.
+fn size_in(options: &ArgMatches<'_>) -> Option<Size>
+    ensures named { IfSome result (λ size. first_of (codes "size") (rows_of (found_of options.now)) ≡ Some (size_name size)) }
+    ensures known { (size : Size) → first_of (codes "size") (rows_of (found_of options.now)) ≡ Some (size_name size) → result ≡ Some size }
+{
+    size_of(options.get_str("size")?)
+}
+
+/// The drill that its options spell, which may be out of range.
+pub fn drill_in(options: &ArgMatches<'_>) -> Option<DrillTask>
+    ensures spelled { IfSome result (SpellsDrill (rows_of (found_of options.now))) }
+    ensures known { (task : DrillTask) → IsDrillTask task → SpellsDrill (rows_of (found_of options.now)) task → result ≡ Some task }
+{
+    let nodes = number_in(options, "nodes")?;
+    let workers = number_in(options, "workers")?;
+    let size = size_in(options)?;
+    Some(DrillTask {
+        nodes,
+        workers,
+        size,
+    })
+}
