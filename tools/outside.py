@@ -1,11 +1,13 @@
 #!/usr/bin/env python3
-"""Tests the built program from outside: its examples, its statuses and its words on standard error, random inputs against the
-oracles, and want of memory. Prints a line for each test, and ends in 'N passed, M failed'.
+"""Tests the built program from outside: its examples, its statuses and its words on standard error, its drills, random inputs
+against the oracles, and want of memory. Prints a line for each test, and ends in 'N passed, M failed'.
 
 Nothing is left out in silence: where a test cannot be made here, it fails and says why.
 """
 
 import argparse
+import contextlib
+import itertools
 import os
 import pathlib
 import runpy
@@ -16,6 +18,7 @@ from functools import partial
 
 import compare
 import compare_captures
+import drill_oracle
 import oracle
 import scripts
 
@@ -110,9 +113,24 @@ TEXTS = [
 ]
 
 BAD_COMMAND_LINES = [
-    *([], [""], ["walk"], ["drill"], ["help"], ["Run"], ["Inspect"], ["--run"], ["--nodes", "3"]),
+    *([], [""], ["walk"], ["Drill"], ["help"], ["Run"], ["Inspect"], ["--run"], ["--nodes", "3"]),
     *(["run", "run"], ["run", "check"], ["run", "-"], ["run", "--"], ["check", "x"], ["check", "first.txt"]),
-    *(["inspect", "04"], ["inspect", "--loud"]),
+    *(["inspect", "04"], ["inspect", "--loud"], ["run", "--nodes", "3"], ["--nodes", "3", "drill"], ["--", "drill"]),
+    # drills: a number out of its range, or none
+    *(["drill", "--nodes", "0"], ["drill", "--nodes", "7"], ["drill", "--nodes=7"], ["drill", "--nodes", "-1"]),
+    *(["drill", "--workers", "0"], ["drill", "--workers", "17"], ["drill", "--workers=17"], ["drill", "--workers", "-1"]),
+    *(["drill", "--nodes", "3.0"], ["drill", "--nodes", "three"], ["drill", "--nodes", ""], ["drill", "--nodes", " 3"]),
+    *(["drill", "--nodes", "0x3"], ["drill", "--nodes", str(2**64 + 3)], ["drill", "--workers", str(2**70)]),
+    # no such size
+    *(["drill", "--size", "Small"], ["drill", "--size", "medium"], ["drill", "--size", "smal"], ["drill", "--size", ""]),
+    *(["drill", "--size", "small "], ["drill", "--size", "64"], ["drill", "--size", "small,large"]),
+    # a value that is missing, an option twice, a word too many, no such option
+    *(["drill", "--nodes"], ["drill", "--nodes="], ["drill", "--workers"], ["drill", "--size"], ["drill", "--nodes", "--workers", "4"]),
+    *(["drill", "--nodes", "3", "--nodes", "3"], ["drill", "--workers=4", "--workers=4"]),
+    *(["drill", "--size", "small", "--size", "small"],),
+    *(["drill", "3"], ["drill", "small"], ["drill", "drill"], ["drill", "run"], ["drill", "help"], ["help", "drill"], ["drill", "--", "3"]),
+    *(["drill", "--"], ["drill", "--nodes", "3", "--"], ["drill", "--nodes", "3", "4"], ["drill", "--size", "small", "large"]),
+    *(["drill", "--node", "3"], ["drill", "--seed", "3"], ["drill", "-n", "3"], ["drill", "-n3"], ["drill", "--version"]),
 ]
 
 
@@ -149,22 +167,54 @@ def bad_command_lines(program):
     return f"{len(BAD_COMMAND_LINES)} command lines"
 
 
+TASKS = ("run", "check", "inspect", "drill")
+DRILL_WORDS = (b"--nodes", b"1 to 6", b"--workers", b"1 to 16", b"--size", b"small", b"large")
+
+
 def help_is_printed(program):
     """That the help names the tasks; a help or a version that finds a full device says so."""
-    for words in (["--help"], ["run", "--help"], ["check", "--help"], ["inspect", "--help"]):
+    for words in (["--help"], *([task, "--help"] for task in TASKS)):
         status, said, complaint = answer(program, words)
         expect(f"status and standard error of {words}", (status, complaint), (0, b""))
         if words[0].encode().strip(b"-") not in said and len(words) > 1:
             raise Failed(f"the help of {words} does not name it: {said!r}")
     said = answer(program, ["--help"])[1]
-    missing = [task for task in (b"run", b"check", b"inspect") if task not in said]
+    missing = [task for task in TASKS if task.encode() not in said]
     expect("tasks that the help lacks", missing, [])
+    for words in (["--help"], ["drill", "--help"], ["drill", "-h"]):
+        said = answer(program, words)[1]
+        missing = [word for word in DRILL_WORDS if word not in said]
+        expect(f"words of a drill that the help of {words} lacks", missing, [])
     status, version, complaint = answer(program, ["--version"])
     expect("the version", (status, version.split(b" ")[0], version.count(b"\n"), complaint), (0, b"fleet", 1, b""))
-    for words in (["--help"], ["run", "--help"], ["--version"]):
+    for words in (["--help"], ["run", "--help"], ["drill", "--help"], ["--version"]):
         with open("/dev/full", "wb") as device:
             expect(f"{words} to a full device", answer(program, words, stdout=device), (4, None, b"fleet: output failed\n"))
     return "the help names each task"
+
+
+DRILLS = list(itertools.product(("small", "large"), range(1, 7), (1, 4, 8, 16)))
+
+# Words behind the drill's own, the nodes and the size that they stand for
+DRILL_LINES = [
+    ([], 3, "small"),
+    (["--size", "small"], 3, "small"),
+    (["--nodes=2"], 2, "small"),
+    (["--workers", "1"], 3, "small"),
+    (["--workers=16", "--nodes=6"], 6, "small"),
+    (["--size=large", "--workers=2", "--nodes", "1"], 1, "large"),
+    (["--nodes", "+2", "--workers=008"], 2, "small"),
+]
+
+
+def drills(program):
+    """A drill reads nothing, and what it writes is fixed by its nodes and its size, however many workers it has."""
+    lines = [([f"--nodes={nodes}", f"--workers={workers}", "--size", size], nodes, size) for size, nodes, workers in DRILLS]
+    for words, nodes, size in DRILL_LINES + lines:
+        wanted = drill_oracle.text(nodes, size).encode()
+        expect(f"a drill of the words {words}", answer(program, ["drill", *words]), (0, wanted, b""))
+    expect("a drill beside an input", answer(program, ["drill"], input=b"x\n"), (0, drill_oracle.text(3, "small").encode(), b""))
+    return f"{len(lines)} drills, {len(DRILL_LINES)} other lines"
 
 
 def failing_input(program):
@@ -180,16 +230,28 @@ def failing_input(program):
     return "3 tasks"
 
 
+@contextlib.contextmanager
+def unread_pipe():
+    """The end of a pipe that is written to, and its other end is closed."""
+    reader, writer = os.pipe()
+    os.close(reader)
+    try:
+        yield writer
+    finally:
+        os.close(writer)
+
+
 def failing_output(program):
-    """Whatever is written to a full device is lost; an empty answer loses nothing."""
+    """Whatever is written to a full device, or to a pipe that nobody reads, is lost; an empty answer loses nothing."""
     full = pathlib.Path("/dev/full")
     if not full.is_char_device():
         raise Failed("this machine has no /dev/full")
-    lost = [("run", SCRIPT), ("check", SOUND), ("check", UNSOUND), ("check", b"x\n"), ("inspect", b"04\n")]
+    lost = [("run", SCRIPT), ("check", SOUND), ("check", UNSOUND), ("check", b"x\n"), ("inspect", b"04\n"), ("drill", b"")]
     for task, text in lost:
-        with full.open("wb") as device:
-            seen = answer(program, [task], input=text, stdout=device)
-        expect(f"{task} of {text!r} to a full device", seen, (4, None, b"fleet: output failed\n"))
+        for device in (full.open("wb"), unread_pipe()):
+            with device as output:
+                seen = answer(program, [task], input=text, stdout=output)
+            expect(f"{task} of {text!r} to a device that takes nothing", seen, (4, None, b"fleet: output failed\n"))
     return f"{len(lost)} texts"
 
 
@@ -284,6 +346,7 @@ def tests(rounds, seed):
         "a million lines and one more": most_lines,
         "status 2, of command lines": bad_command_lines,
         "status 0, of the help": help_is_printed,
+        "status 0, of drills": drills,
         "status 4, an input that fails": failing_input,
         "status 4, an output that fails": failing_output,
         "status 5, each allocation refused": refused_allocations,
