@@ -1,7 +1,7 @@
 //! A reader and a writer that fail at call j, for every j until a run ends well.
 
 use crate::fail_at::{FailingReader, FailingWriter};
-use fleet_tool::{RunFault, Task, Verdict, Watched, check_text, inspect_text, run_text};
+use fleet_tool::{RunFault, TextTask, Verdict, Watched, check_text, inspect_text, run_text};
 use std::alloc::Global;
 use std::test::Fail;
 
@@ -21,14 +21,14 @@ const CAPTURE: &str = "030000000000000005\n\nzz\n020001000000000005000000000014"
 const TOLD: &str = "min 0 5\nwire 1\nbad hex\ncut 1 5 20\n";
 
 /// A task, an input, what is answered, and the calls of the reader and of the writer that this takes.
-type Case = (Task, &'static str, &'static str, u64, u64);
+type Case = (TextTask, &'static str, &'static str, u64, u64);
 
 /// Reads of up to 7 bytes, the last of which finds none; writes of up to 3 bytes, and one flush.
 const CASES: [Case; 4] = [
-    (Task::Run, SCRIPT, ANSWER, 15, 8),
-    (Task::Run, GOSSIP, GOSSIPED, 13, 18),
-    (Task::Check, "min 0 5\n", "sound 1\n", 3, 4),
-    (Task::Inspect, CAPTURE, TOLD, 9, 13),
+    (TextTask::Run, SCRIPT, ANSWER, 15, 8),
+    (TextTask::Run, GOSSIP, GOSSIPED, 13, 18),
+    (TextTask::Check, "min 0 5\n", "sound 1\n", 3, 4),
+    (TextTask::Inspect, CAPTURE, TOLD, 9, 13),
 ];
 
 /// How a run ended, which devices failed, and what was written.
@@ -41,7 +41,7 @@ struct Seen {
 }
 
 /// A run whose reader fails at one call, and whose writer at another; none fails at call 0.
-fn failing_run(alloc: Global, task: Task, input: &str, reading: u64, writing: u64) -> Seen {
+fn failing_run(alloc: Global, task: TextTask, input: &str, reading: u64, writing: u64) -> Seen {
     let mut reader = Watched::new(FailingReader {
         bytes: input.as_bytes(),
         step: 7,
@@ -55,9 +55,9 @@ fn failing_run(alloc: Global, task: Task, input: &str, reading: u64, writing: u6
         calls: 0,
     });
     let ended = match task {
-        Task::Run => run_text(alloc, &mut reader, &mut writer),
-        Task::Check => check_text(alloc, &mut reader, &mut writer),
-        Task::Inspect => inspect_text(alloc, &mut reader, &mut writer).map(|()| Verdict::Done),
+        TextTask::Run => run_text(alloc, &mut reader, &mut writer),
+        TextTask::Check => check_text(alloc, &mut reader, &mut writer),
+        TextTask::Inspect => inspect_text(alloc, &mut reader, &mut writer).map(|()| Verdict::Done),
     };
     Seen {
         ended,
