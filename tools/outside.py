@@ -10,6 +10,7 @@ import contextlib
 import itertools
 import os
 import pathlib
+import random
 import runpy
 import subprocess
 import sys
@@ -306,6 +307,33 @@ def refused_allocations(program):
     return "; ".join(told)
 
 
+SWEPT_DRILL = ["drill", "--nodes", "2", "--workers", "2"]
+
+
+def refused_drills(program):
+    """Each allocation of a small drill is refused in turn, and each start of a thread: no worker waits for one that is not there."""
+    with tempfile.TemporaryDirectory() as folder:
+        shim = sweep.build_shim(folder)
+        total, wanting, bad = sweep.sweep([program, *SWEPT_DRILL], b"", shim)
+        starts, unstarted, bad_starts = sweep.sweep_starts([program, *SWEPT_DRILL], b"", shim)
+    if bad or not wanting:
+        raise Failed(f"{wanting} of {total} refusals of memory answered by status 5; otherwise {bad[:3]}")
+    if bad_starts or not unstarted:
+        raise Failed(f"{unstarted} of {starts} refused starts answered by status 5; otherwise {bad_starts[:3]}")
+    return f"memory {wanting} of {total}, starts {unstarted} of {starts}"
+
+
+def random_drills(program, rounds, seed):
+    """Drills of random nodes and workers, as many of each size."""
+    chosen = random.Random(seed)
+    for size in ("small", "large"):
+        for _ in range(rounds):
+            nodes, workers = chosen.randint(1, 6), chosen.randint(1, 16)
+            words = ["drill", f"--nodes={nodes}", f"--workers={workers}", f"--size={size}"]
+            expect(f"a drill of the words {words}", answer(program, words), (0, drill_oracle.text(nodes, size).encode(), b""))
+    return f"{2 * rounds} drills"
+
+
 MOST = "ff" * 4
 NO_BOOK = "0000 000000000000 00000000"
 HOSTILE = [
@@ -350,11 +378,13 @@ def tests(rounds, seed):
         "status 4, an input that fails": failing_input,
         "status 4, an output that fails": failing_output,
         "status 5, each allocation refused": refused_allocations,
+        "status 5, of drills": refused_drills,
         "counts that promise too much": hostile_counts,
         "random logs and scripts": partial(random_scripts, rounds=rounds, seed=seed, make=scripts.random_input),
         "random nodes that join": partial(random_scripts, rounds=rounds, seed=seed, make=scripts.input_of_joins),
         "random nodes that gossip": partial(random_scripts, rounds=rounds, seed=seed, make=scripts.input_of_gossip),
         "random captures": partial(random_captures, rounds=max(1, rounds // 10), seed=seed),
+        "random drills": partial(random_drills, rounds=max(1, rounds // 30), seed=seed),
     }
 
 
@@ -376,7 +406,7 @@ def outside(program, rounds=300, seed=1):
 
 def main():
     parser = argparse.ArgumentParser(description=__doc__)
-    parser.add_argument("--rounds", type=int, default=300, help="how many random logs and scripts")
+    parser.add_argument("--rounds", type=int, default=300, help="how many random logs and scripts of each kind; a tenth as many captures, a thirtieth as many drills of each size")
     parser.add_argument("--seed", type=int, default=1, help="of the random inputs")
     parser.add_argument("--program", type=pathlib.Path, default=PROGRAM, help="the built program")
     given = parser.parse_args()

@@ -1,8 +1,9 @@
-/* Refuses one allocation of the program that it is preloaded into, and tells how many there were and the greatest.
+/* Refuses one allocation of the program that it is preloaded into, or one thread, and tells how many there were of each.
 
-   FAIL_ALLOC=N refuses the N-th call that asks for memory, from 1. With FAIL_ALLOC_REPORT=PATH the number of such calls and the
-   most bytes that one of them asked for are written to that file when the program ends. No header is included, so that the
-   toolchain's own compiler builds it on a machine that has no C headers. */
+   FAIL_ALLOC=N refuses the N-th call that asks for memory, from 1, and FAIL_START=N the N-th start of a thread. With
+   FAIL_ALLOC_REPORT=PATH the number of calls that asked for memory, the most bytes that one of them asked for, and the number of
+   starts are written to that file when the program ends. No header is included, so that the toolchain's own compiler builds it
+   on a machine that has no C headers. */
 
 typedef unsigned long size_t;
 
@@ -16,18 +17,28 @@ extern unsigned long strtoul(const char *text, char **end, int base);
 extern int creat(const char *path, unsigned int mode);
 extern int dprintf(int file, const char *form, ...);
 extern int close(int file);
+extern void *dlsym(void *handle, const char *name);
 
-enum { OUT_OF_MEMORY = 12 };
+enum { OUT_OF_MEMORY = 12, TRY_AGAIN = 11 };
+
+#define NEXT ((void *)-1l)
 
 static unsigned long calls;
 static unsigned long refused;
 static size_t greatest;
+static unsigned long starts;
+static unsigned long refused_start;
+
+static unsigned long number_of(const char *setting) {
+    return setting == 0 ? 0 : strtoul(setting, 0, 10);
+}
 
 __attribute__((constructor)) static void read_setting(void) {
-    const char *setting = getenv("FAIL_ALLOC");
     calls = 0;
     greatest = 0;
-    refused = setting == 0 ? 0 : strtoul(setting, 0, 10);
+    starts = 0;
+    refused = number_of(getenv("FAIL_ALLOC"));
+    refused_start = number_of(getenv("FAIL_START"));
 }
 
 __attribute__((destructor)) static void write_report(void) {
@@ -37,7 +48,7 @@ __attribute__((destructor)) static void write_report(void) {
     refused = 0;
     int file = path == 0 ? -1 : creat(path, 0644);
     if (file >= 0) {
-        dprintf(file, "%lu %lu\n", count, most);
+        dprintf(file, "%lu %lu %lu\n", count, most, __atomic_load_n(&starts, __ATOMIC_SEQ_CST));
         close(file);
     }
 }
@@ -82,4 +93,23 @@ int posix_memalign(void **out, size_t alignment, size_t size) {
         return OUT_OF_MEMORY;
     *out = made;
     return 0;
+}
+
+typedef void *Body(void *argument);
+typedef int Start(unsigned long *thread, const void *attributes, Body *body, void *argument);
+
+int pthread_create(unsigned long *thread, const void *attributes, Body *body, void *argument) {
+    if (__atomic_add_fetch(&starts, 1, __ATOMIC_SEQ_CST) == refused_start)
+        return TRY_AGAIN;
+    Start *next = (Start *)dlsym(NEXT, "pthread_create");
+    return next == 0 ? TRY_AGAIN : next(thread, attributes, body, argument);
+}
+
+/* A program that has started threads ends without its destructors. */
+__attribute__((noreturn)) void _exit(int status) {
+    typedef void End(int status);
+    End *next = (End *)dlsym(NEXT, "_exit");
+    write_report();
+    next(status);
+    __builtin_unreachable();
 }
