@@ -9,3 +9,4 @@ pub mod Whys
 pub mod DrillWords
 pub mod DrillShape
 pub mod Entered
+pub mod PlainDrills

@@ -9,3 +9,4 @@ pub mod Ending
 pub mod TaskName
 pub mod DrillLine
 pub mod CommandLine
+pub mod PlainDrill

@@ -102,7 +102,7 @@ fn has_mark<S: AsStr>(words: &[S]) -> bool
     words.iter().any(|word| word.as_str() == "--")
 }
 
-/// The task that the words of the command line name; the first word is the program's.
+/// The task that the words of the command line name; the first word is the program's. A drill is within its ranges.
 ///
 /// Errors: `Help` where the words ask for it or for the version, `Bad` for other words than the task's own, `Memory`.
 pub fn job_of<S: AsStr>(alloc: Global, words: &[S]) -> Result<Task, LineFault>

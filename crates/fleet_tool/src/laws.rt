@@ -1,7 +1,13 @@
-//! The law of outputs.
+//! The laws of outputs and of drills.
 ghost use Rattle.fleet_tool.specs.OneOutput.{OneOutput};
+ghost use Rattle.fleet_tool.specs.PlainDrill.{PlainDrill};
 
 /// An input has one output: what `run_text`, `check_text` and `inspect_text` write for it on Ok is always the same text.
 pub fn one_output()
     ensures { OneOutput }
+{}
+
+/// The word `drill` alone asks for 3 nodes, 4 workers of each kind and the small log.
+pub fn plain_drill()
+    ensures { PlainDrill }
 {}
