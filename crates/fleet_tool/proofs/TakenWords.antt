@@ -1,13 +1,11 @@
 -- Command lines that name a task are taken.
-use Rattle.std.proofs.Common.{◌≡◌, ℕ, List, [], ◌∷◌, length, map, get_or, true, refl, Result, Ok, Err, IfErr, ap, ◌∙◌}
+use Rattle.std.proofs.Common.{◌≡◌, ℕ, List, [], ◌∷◌, length, map, get_or, true, refl, ap, ◌∙◌}
 use Rattle.clap.specs.Words.{takes}
 use Rattle.clap.proofs.OnLiterals.{clap_on_literals}
 use Rattle.fleet_tool.specs.CommandLine.{fleet_app, NameTask}
 use Rattle.fleet_tool.specs.TaskName.{name_of}
 use Rattle.fleet_tool.specs.declared.job.TextTask.{TextTask}
 use Rattle.fleet_tool.specs.declared.job.TextTask.TheVariants.{Run, Check, Inspect}
-use Rattle.fleet_tool.specs.declared.job.LineFault.{LineFault}
-use Rattle.fleet_tool.specs.declared.job.LineFault.TheVariants.{Memory}
 
 pub is_taken : (program : List ℕ) (task : TextTask) → takes fleet_app (program ∷ name_of task ∷ []) ≡ true
 unfolding clap_on_literals
@@ -29,7 +27,3 @@ pub second_names : {S : Type 0} (text : S → List ℕ) (ws : List S) (w : S) (t
 second_names text [] w task names at = absurd (let e = names.1 in cc)
 second_names text (a ∷ []) w task names at = absurd (let e = names.1 in cc)
 second_names text (a ∷ b ∷ rest) w task names at = let e = names.1 in let s : text b ≡ name_of task = cc in ap text at ∙ s
-
-pub no_fault : (result : Result TextTask LineFault) (task : TextTask) → result ≡ Ok task → IfErr result (λ e. e ≡ Memory)
-no_fault (Ok t) task e = tt
-no_fault (Err x) task e = absurd cc
