@@ -1,214 +1,245 @@
-use crate::answers::Answer;
-use crate::board::{Six, order};
-use crate::host::{Host, Log};
+use crate::answers::{delivery_of, print_front, print_view};
+use crate::board::{Six, open_six, publish_in_two_threads};
+use crate::endings::{print_closed, print_entry, print_settling};
+use crate::host::{Host, Log, boxed};
+use crate::row::Row;
 use crate::threads::closed_after_two;
-use crate::words::{index, short};
-use node_cell::{Closed, Receipt, settle};
+use crate::{board, host};
+use node_cell::{Closed, Node, Receipt};
 use std::alloc::{AllocError, Global};
+use std::io;
 use std::sync::Wait;
 use std::thread::Threads;
 
 /// What the lines speak of: nodes, numbered from 0 in the order in which they were opened, the receipts of all deliveries, the node
-/// that was closed last, and a board of six nodes.
+/// that was closed last, and a board of six nodes. What is large stands in boxes.
 #[derive(Drop)]
 pub struct Bench {
     hosts: Vec<Host>,
     receipts: Vec<Receipt<Log>>,
-    closed: Option<Closed<Log>>,
-    six: Six,
+    closed: Option<Box<Closed<Log>>>,
+    six: Box<Six>,
 }
 
-fn told(closed: &Closed<Log>) -> Result<Answer, AllocError> {
-    Ok(Answer::Closed {
-        entries: closed.trail().len(),
-        complete: closed.segment().front().complete,
-        base: closed.segment().base_point(),
-        held: closed.segment().stored()?.len(),
-    })
-}
-
-impl Bench {
-    pub fn new(alloc: Global) -> Result<Bench, AllocError> {
-        Ok(Bench {
+pub fn new_bench(alloc: Global) -> Result<Box<Bench>, AllocError> {
+    let six = open_six(alloc)?;
+    boxed(
+        alloc,
+        Bench {
             hosts: Vec::new(alloc),
             receipts: Vec::new(alloc),
             closed: None,
-            six: Six::open(alloc)?,
-        })
-    }
+            six,
+        },
+    )
+}
 
-    // Delivers the facts from one place to another, in order, and tells of the last. A fault ends it.
-    fn deliver<R: Wait>(
-        &mut self,
-        rt: &R,
-        alloc: Global,
-        n: [u64; 4],
-    ) -> Result<Answer, AllocError> {
-        let Some(host) = self.hosts.get_mut(index(n[0])) else {
-            return Ok(Answer::Unknown);
-        };
-        let mut answer = Answer::Unknown;
-        for place in n[1]..=n[2].max(n[1]) {
-            match host.deliver(rt, alloc, place) {
-                Ok(ack) => {
-                    answer = Answer::delivered(&ack);
-                    self.receipts.push(ack.receipt)?;
-                }
-                Err(fault) => return Ok(Answer::NotDelivered(fault)),
+fn begin_anew(bench: &mut Bench, row: Row) -> io::Result<()> {
+    bench.hosts.clear();
+    bench.receipts.clear();
+    bench.closed = None;
+    bench.six = open_six(row.alloc())?;
+    row.word("Done")
+}
+
+fn open(hosts: &mut Vec<Host>, row: Row) -> io::Result<()> {
+    hosts.push(host::open_host(row.alloc(), row.number(0))?)?;
+    row.word("Done")
+}
+
+// Delivers the facts from one place to another, in order, and tells of the last. A fault ends it.
+fn deliver_all<R: Wait>(
+    rt: &R,
+    host: &mut Host,
+    receipts: &mut Vec<Receipt<Log>>,
+    row: Row,
+) -> io::Result<()> {
+    let (first, last) = (row.number(1), row.number(2));
+    let mut told = None;
+    for place in first..=last.max(first) {
+        receipts.reserve(1)?;
+        match host::deliver(rt, row.alloc(), host, place) {
+            Ok(ack) => {
+                told = Some(delivery_of(&ack));
+                receipts.push_reserved(ack.receipt);
             }
-        }
-        Ok(answer)
-    }
-
-    fn close<R: Wait>(
-        &mut self,
-        rt: &R,
-        alloc: Global,
-        place: usize,
-    ) -> Result<Answer, AllocError> {
-        if place >= self.hosts.len() {
-            return Ok(Answer::Unknown);
-        }
-        let closed = self.hosts.remove(place).close(rt, alloc)?;
-        let answer = told(&closed);
-        self.closed = Some(closed);
-        answer
-    }
-
-    // The first receipts are those of the first thread.
-    fn two_threads<R: Threads + Wait + Sync>(
-        &mut self,
-        rt: &R,
-        alloc: Global,
-    ) -> Result<Answer, AllocError> {
-        let (closed, mut one, mut other) = closed_after_two(rt, alloc)?;
-        one.append(&mut other)?;
-        self.receipts = one;
-        let answer = told(&closed);
-        self.closed = Some(closed);
-        answer
-    }
-
-    // Settles the receipts from one to another.
-    fn settle(&self, first: usize, end: usize) -> Answer {
-        match (&self.closed, self.receipts.get(first..end)) {
-            (Some(closed), Some(receipts)) => match settle(closed, receipts) {
-                Ok(()) => Answer::Settled,
-                Err(stranger) => Answer::NotSettled(stranger),
-            },
-            _ => Answer::Unknown,
+            Err(fault) => return row.one("NotDelivered", &fault),
         }
     }
-
-    fn entry(&self, place: usize) -> Answer {
-        let Some(closed) = &self.closed else {
-            return Answer::Unknown;
-        };
-        match closed.trail().get(place) {
-            Some(entry) => Answer::Entry {
-                pass: entry.0,
-                log: entry.1,
-            },
-            None => Answer::Unknown,
-        }
+    match told {
+        Some(delivered) => row.told(&delivered),
+        None => row.word("Unknown"),
     }
+}
 
-    // What a node alone answers.
-    fn of_node<R: Wait>(&mut self, rt: &R, name: &str, n: [u64; 4]) -> Answer {
-        let Some(host) = self.hosts.get_mut(index(n[0])) else {
-            return Answer::Unknown;
-        };
-        match name {
-            "front" => Answer::front(host.reached()),
-            "read" => match host.read(rt, short(n[1]), n[2]) {
-                Ok(view) => Answer::shown(&view),
-                Err(fault) => Answer::NotRead(fault),
-            },
-            "fold" => match host.fold(rt, short(n[1])) {
-                Ok((page, version)) => Answer::Fold { page, version },
-                Err(AllocError) => Answer::NoMemory,
-            },
-            "discard" => {
-                host.discard(rt);
-                Answer::Done
-            }
-            _ => Answer::Unknown,
-        }
+fn deliver<R: Wait>(rt: &R, bench: &mut Bench, row: Row) -> io::Result<()> {
+    match bench.hosts.get_mut(row.index(0)) {
+        Some(host) => deliver_all(rt, host, &mut bench.receipts, row),
+        None => row.word("Unknown"),
     }
+}
 
-    fn after<R: Wait>(&self, rt: &R, host: &Host, place: usize) -> Answer {
-        let Some(receipt) = self.receipts.get(place) else {
-            return Answer::Unknown;
-        };
-        match host.read_after(rt, receipt) {
-            Ok(view) => Answer::shown(&view),
-            Err(fault) => Answer::NotReadAfter(fault),
-        }
+fn close<R: Wait>(rt: &R, bench: &mut Bench, row: Row) -> io::Result<()> {
+    let place = row.index(0);
+    if place >= bench.hosts.len() {
+        return row.word("Unknown");
     }
+    let ended = host::close_host(rt, row.alloc(), bench.hosts.remove(place))?;
+    end(&mut bench.closed, ended, row)
+}
 
-    // What a node answers of another, or of a receipt.
-    fn of_two<R: Wait>(&self, rt: &R, name: &str, n: [u64; 4]) -> Answer {
-        let Some(host) = self.hosts.get(index(n[0])) else {
-            return Answer::Unknown;
-        };
-        match (
-            name,
-            self.hosts.get(index(n[1])),
-            self.hosts.get(index(n[2])),
-        ) {
-            ("after", _, _) => self.after(rt, host, index(n[1])),
-            ("absorb", Some(asker), Some(answerer)) => match host.absorb(rt, asker, answerer) {
-                Ok(front) => Answer::front(front),
-                Err(fault) => Answer::NotAbsorbed(fault),
-            },
-            ("commit", Some(maker), _) => match host.commit(rt, maker) {
-                Ok(()) => Answer::Done,
-                Err(fault) => Answer::NotCommitted(fault),
-            },
-            _ => Answer::Unknown,
-        }
+// The first receipts are those of the first thread.
+fn two_threads<R: Threads + Wait + Sync>(rt: &R, bench: &mut Bench, row: Row) -> io::Result<()> {
+    bench.receipts.clear();
+    let ended = closed_after_two(rt, row.alloc(), &mut bench.receipts)?;
+    end(&mut bench.closed, ended, row)
+}
+
+fn end(closed: &mut Option<Box<Closed<Log>>>, ended: Box<Closed<Log>>, row: Row) -> io::Result<()> {
+    print_closed(row, &ended)?;
+    *closed = Some(ended);
+    Ok(())
+}
+
+fn two_seats<R: Threads + Sync>(rt: &R, bench: &mut Bench, row: Row) -> io::Result<()> {
+    bench.six = publish_in_two_threads(rt, row.alloc())?;
+    row.word("Done")
+}
+
+/// Prints what a call answers. The calls here open and close nodes, and deliver to them.
+pub fn answer<R: Threads + Wait + Sync>(rt: &R, bench: &mut Bench, row: Row) -> io::Result<()> {
+    match row.name {
+        "clear" => begin_anew(bench, row),
+        "open" => open(&mut bench.hosts, row),
+        "deliver" => deliver(rt, bench, row),
+        "close" => close(rt, bench, row),
+        "two_threads" => two_threads(rt, bench, row),
+        "two_seats" => two_seats(rt, bench, row),
+        _ => tell(rt, bench, row),
     }
+}
 
-    fn of_board(&mut self, name: &str, n: [u64; 4]) -> Answer {
-        match name {
-            "publish" => self.six.publish(index(n[0]), n[1], n[2]),
-            "look" => self.six.front(index(n[0])),
-            "quorum" => self.six.quorum(index(n[0])),
-            "order" => order(n),
-            _ => Answer::Unknown,
-        }
+// What a call answers that opens and closes no node.
+fn tell<R: Wait>(rt: &R, bench: &mut Bench, row: Row) -> io::Result<()> {
+    match row.name {
+        "publish" | "look" | "quorum" | "order" => board::answer(&mut bench.six, row),
+        "settle" | "entry" => of_closed(bench, row),
+        "front" | "read" | "fold" | "discard" => of_host(rt, &mut bench.hosts, row),
+        _ => of_nodes(rt, &bench.hosts, &bench.receipts, row),
     }
+}
 
-    // Opens a node, or all anew.
-    fn open(&mut self, alloc: Global, name: &str, capacity: u64) -> Result<Answer, AllocError> {
-        match name {
-            "open" => self.hosts.push(Host::open(alloc, capacity)?)?,
-            _ => *self = Bench::new(alloc)?,
-        }
-        Ok(Answer::Done)
+// What a closed node answers.
+fn of_closed(bench: &Bench, row: Row) -> io::Result<()> {
+    let Some(ended) = &bench.closed else {
+        return row.word("Unknown");
+    };
+    match row.name {
+        "settle" => print_settling(row, ended, &bench.receipts),
+        _ => print_entry(row, ended),
     }
+}
 
-    pub fn answer<R: Threads + Wait + Sync>(
-        &mut self,
-        rt: &R,
-        alloc: Global,
-        name: &str,
-        n: [u64; 4],
-    ) -> Result<Answer, AllocError> {
-        match name {
-            "clear" | "open" => self.open(alloc, name, n[0]),
-            "deliver" => self.deliver(rt, alloc, n),
-            "close" => self.close(rt, alloc, index(n[0])),
-            "two_threads" => self.two_threads(rt, alloc),
-            "two_seats" => {
-                self.six = Six::open(alloc)?.publish_in_two_threads(rt);
-                Ok(Answer::Done)
-            }
-            "settle" => Ok(self.settle(index(n[0]), index(n[1]))),
-            "entry" => Ok(self.entry(index(n[0]))),
-            "front" | "read" | "fold" | "discard" => Ok(self.of_node(rt, name, n)),
-            "after" | "absorb" | "commit" => Ok(self.of_two(rt, name, n)),
-            _ => Ok(self.of_board(name, n)),
-        }
+// What a node alone answers.
+fn of_host<R: Wait>(rt: &R, hosts: &mut [Host], row: Row) -> io::Result<()> {
+    let Some(host) = hosts.get_mut(row.index(0)) else {
+        return row.word("Unknown");
+    };
+    match row.name {
+        "front" => print_front(row, host::reached(host)),
+        "read" => read(rt, host, row),
+        "fold" => fold_page(rt, host, row),
+        _ => discard(rt, &host.node, row),
+    }
+}
+
+fn read<R: Wait>(rt: &R, host: &mut Host, row: Row) -> io::Result<()> {
+    match host::read(rt, host, row.short(1), row.number(2)) {
+        Ok(view) => print_view(row, &view),
+        Err(fault) => row.one("NotRead", &fault),
+    }
+}
+
+#[derive(Clone, Copy, Debug)]
+struct Fold {
+    page: u16,
+    version: u64,
+}
+
+// Folds a page, and keeps the fold.
+fn fold_page<R: Wait>(rt: &R, host: &mut Host, row: Row) -> io::Result<()> {
+    let folded = host::folded(rt, row.alloc(), &host.node, row.short(1))?;
+    let told = Fold {
+        page: folded.page(),
+        version: folded.version(),
+    };
+    host.folded = Some(folded);
+    row.told(&told)
+}
+
+fn discard<R: Wait>(rt: &R, node: &Node<Log>, row: Row) -> io::Result<()> {
+    node.discard(rt);
+    row.word("Done")
+}
+
+fn node_at(hosts: &[Host], place: usize) -> Option<&Node<Log>> {
+    match hosts.get(place) {
+        Some(host) => Some(&host.node),
+        None => None,
+    }
+}
+
+// What a node answers of others, or of a receipt.
+fn of_nodes<R: Wait>(
+    rt: &R,
+    hosts: &[Host],
+    receipts: &[Receipt<Log>],
+    row: Row,
+) -> io::Result<()> {
+    let Some(node) = node_at(hosts, row.index(0)) else {
+        return row.word("Unknown");
+    };
+    match row.name {
+        "after" => after(rt, node, receipts, row),
+        "absorb" => absorb(rt, node, hosts, row),
+        "commit" => commit(rt, node, hosts, row),
+        _ => row.word("Unknown"),
+    }
+}
+
+fn after<R: Wait>(rt: &R, node: &Node<Log>, receipts: &[Receipt<Log>], row: Row) -> io::Result<()> {
+    let Some(receipt) = receipts.get(row.index(1)) else {
+        return row.word("Unknown");
+    };
+    match host::read_after(rt, node, receipt) {
+        Ok(view) => print_view(row, &view),
+        Err(fault) => row.one("NotReadAfter", &fault),
+    }
+}
+
+fn absorb<R: Wait>(rt: &R, node: &Node<Log>, hosts: &[Host], row: Row) -> io::Result<()> {
+    let Some(asker) = node_at(hosts, row.index(1)) else {
+        return row.word("Unknown");
+    };
+    let Some(answerer) = node_at(hosts, row.index(2)) else {
+        return row.word("Unknown");
+    };
+    match host::absorb(rt, node, asker, answerer) {
+        Ok(front) => print_front(row, front),
+        Err(fault) => row.one("NotAbsorbed", &fault),
+    }
+}
+
+// Commits a copy of the last fold of a node.
+fn commit<R: Wait>(rt: &R, node: &Node<Log>, hosts: &[Host], row: Row) -> io::Result<()> {
+    let Some(maker) = hosts.get(row.index(1)) else {
+        return row.word("Unknown");
+    };
+    let Some(folded) = &maker.folded else {
+        return row.word("Unknown");
+    };
+    match host::commit(rt, node, folded) {
+        Ok(()) => row.word("Done"),
+        Err(fault) => row.one("NotCommitted", &fault),
     }
 }

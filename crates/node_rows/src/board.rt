@@ -2,12 +2,14 @@
 ghost use Rattle.std.specs.Prelude.{◌≡◌, ◌≤◌};
 ghost use Rattle.front_board.specs.Seat.{IsNode};
 
-use crate::answers::Answer;
+use crate::answers::print_front;
+use crate::host::boxed;
+use crate::row::Row;
 use drill_log::Drill;
 use front_board::{Board, LogFront, Seat};
 use std::alloc::{AllocError, Global};
-use std::thread;
 use std::thread::Threads;
+use std::{io, thread};
 
 pub type Small = Drill<2>;
 
@@ -40,17 +42,27 @@ fn front_of(epoch: u64, number: u64) -> Option<LogFront<Small>> {
     }
 }
 
-/// How two fronts compare.
-pub fn order(n: [u64; 4]) -> Answer {
-    match (front_of(n[0], n[1]), front_of(n[2], n[3])) {
-        (Some(one), Some(other)) => Answer::Order {
+#[derive(Clone, Copy, Debug)]
+struct Order {
+    less: bool,
+    same: bool,
+}
+
+// How two fronts compare.
+fn compare(row: Row) -> io::Result<()> {
+    match (
+        front_of(row.number(0), row.number(1)),
+        front_of(row.number(2), row.number(3)),
+    ) {
+        (Some(one), Some(other)) => row.told(&Order {
             less: one < other,
             same: one == other,
-        },
-        _ => Answer::Unknown,
+        }),
+        _ => row.word("Unknown"),
     }
 }
 
+/// A board of six nodes, and two seats.
 #[derive(Drop)]
 pub struct Six {
     board: Board<Small>,
@@ -59,59 +71,81 @@ pub struct Six {
     ghost fits: { (one.board ≡ board) × (other.board ≡ board) × (board.words ≡ 6) },
 }
 
-impl Six {
-    pub fn open(alloc: Global) -> Result<Six, AllocError> {
-        let (board, mut seats) = Board::<Small>::open(alloc, 6, 2)?;
-        let (Some(other), Some(one)) = (seats.pop(), seats.pop()) else {
-            return Err(AllocError);
-        };
-        Ok(Six { board, one, other })
-    }
+fn opened(alloc: Global) -> Result<Six, AllocError> {
+    let (board, mut seats) = Board::<Small>::open(alloc, 6, 2)?;
+    let (Some(other), Some(one)) = (seats.pop(), seats.pop()) else {
+        return Err(AllocError);
+    };
+    Ok(Six { board, one, other })
+}
 
-    /// Publishes a front at a node by the first seat. Another node, or no such front, is unknown.
-    pub fn publish(&mut self, node: usize, epoch: u64, number: u64) -> Answer {
-        match front_of(epoch, number) {
-            Some(front) if 0 < node && node <= 6 => {
-                self.board.publish(&mut self.one, node, front);
-                Answer::Done
-            }
-            _ => Answer::Unknown,
+pub fn open_six(alloc: Global) -> Result<Box<Six>, AllocError> {
+    boxed(alloc, opened(alloc)?)
+}
+
+// Publishes a front at a node by the first seat. Another node, or no such front, is unknown.
+fn publish(six: &mut Six, row: Row) -> io::Result<()> {
+    let node = row.index(0);
+    match front_of(row.number(1), row.number(2)) {
+        Some(front) if 0 < node && node <= 6 => {
+            six.board.publish(&mut six.one, node, front);
+            row.word("Done")
         }
+        _ => row.word("Unknown"),
     }
+}
 
-    /// The front of a node, by the second seat.
-    pub fn front(&mut self, node: usize) -> Answer {
-        if node == 0 || node > 6 {
-            return Answer::Unknown;
-        }
-        Answer::front(self.board.front(&mut self.other, node))
+// The front of a node, by the second seat.
+fn look(six: &mut Six, row: Row) -> io::Result<()> {
+    let node = row.index(0);
+    if node == 0 || node > 6 {
+        return row.word("Unknown");
     }
+    print_front(row, six.board.front(&mut six.other, node))
+}
 
-    /// What so many nodes have reached, by the second seat.
-    pub fn quorum(&mut self, need: usize) -> Answer {
-        if need == 0 || need > 6 {
-            return Answer::Unknown;
-        }
-        Answer::front(self.board.quorum(&mut self.other, need))
+// What so many nodes have reached, by the second seat.
+fn quorum(six: &mut Six, row: Row) -> io::Result<()> {
+    let need = row.index(0);
+    if need == 0 || need > 6 {
+        return row.word("Unknown");
     }
+    print_front(row, six.board.quorum(&mut six.other, need))
+}
 
-    /// Each seat publishes in a thread of its own: the first at node 1, the second at node 6.
-    pub fn publish_in_two_threads<R: Threads + Sync>(self, rt: &R) -> Six {
-        let Six { board, one, other } = self;
-        let shared = &board;
-        let (one, other) = thread::join(
-            rt,
-            move || -> Seat<Small>
-                requires { (one.board ≡ shared.now) × (shared.now.words ≡ 6) }
-                ensures { result.board ≡ shared.entry.now }
-            { published(shared, one, 1, late(1)) },
-            move || -> Seat<Small>
-                requires { (other.board ≡ shared.now) × (shared.now.words ≡ 6) }
-                ensures { result.board ≡ shared.entry.now }
-            { published(shared, other, 6, last()) },
-        );
-        Six { board, one, other }
+/// Prints what a call of the board answers.
+pub fn answer(six: &mut Six, row: Row) -> io::Result<()> {
+    match row.name {
+        "publish" => publish(six, row),
+        "look" => look(six, row),
+        "quorum" => quorum(six, row),
+        _ => compare(row),
     }
+}
+
+/// A board at which each seat published in a thread of its own: the first at node 1, the second at node 6.
+pub fn publish_in_two_threads<R: Threads + Sync>(
+    rt: &R,
+    alloc: Global,
+) -> Result<Box<Six>, AllocError> {
+    boxed(alloc, with_two_threads(rt, opened(alloc)?))
+}
+
+fn with_two_threads<R: Threads + Sync>(rt: &R, six: Six) -> Six {
+    let Six { board, one, other } = six;
+    let shared = &board;
+    let (one, other) = thread::join(
+        rt,
+        move || -> Seat<Small>
+            requires { (one.board ≡ shared.now) × (shared.now.words ≡ 6) }
+            ensures { result.board ≡ shared.entry.now }
+        { published(shared, one, 1, late(1)) },
+        move || -> Seat<Small>
+            requires { (other.board ≡ shared.now) × (shared.now.words ≡ 6) }
+            ensures { result.board ≡ shared.entry.now }
+        { published(shared, other, 6, last()) },
+    );
+    Six { board, one, other }
 }
 
 fn published(

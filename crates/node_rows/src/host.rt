@@ -1,4 +1,5 @@
-ghost use Rattle.std.specs.Prelude.{◌≡◌};
+//! A node with one pass.
+ghost use Rattle.std.specs.Prelude.{◌≡◌, IfOk};
 ghost use Rattle.front_board.specs.Seat.{IsNode};
 ghost use Rattle.node_cell.specs.Node.{IsPassOf};
 
@@ -8,180 +9,228 @@ use named_log::LogFact;
 use node_cell::{
     AbsorbFault, Ack, Closed, DeliverFault, Folded, Mail, Node, Pass, ReadAfterFault, Receipt, View,
 };
+use redo_wire::Summary;
 use segment_core::{CommitFault, ReadFault};
 use std::alloc::{AllocError, Global};
 use std::sync::Wait;
 
 pub type Log = Drill<64>;
 
-/// A node with one pass, the first of a board of its own, and the fold that it made last.
+/// A node with one pass, the first of a board of its own, and the fold that it made last. What is large stands in boxes, so that few
+/// functions carry the whole of it.
 #[derive(Drop)]
 pub struct Host {
-    node: Node<Log>,
-    pass: Pass<Log>,
-    board: Board<Log>,
-    seat: Seat<Log>,
-    folded: Option<Folded<Log>>,
-    ghost pass_fits: { IsPassOf node pass },
-    ghost seat_fits: { (seat.board ≡ board) × IsNode board.words node.number },
+    pub node: Box<Node<Log>>,
+    pass: Box<Pass<Log>>,
+    board: Box<Board<Log>>,
+    seat: Box<Seat<Log>>,
+    pub folded: Option<Box<Folded<Log>>>,
+    ghost pass_fits: { IsPassOf node.value pass.value },
+    ghost seat_fits: { (seat.value.board ≡ board.value) × IsNode board.value.words node.value.number },
 }
 
-impl Host {
-    pub fn open(alloc: Global, capacity: u64) -> Result<Host, AllocError> {
-        let (board, mut seats) = Board::open(alloc, 1, 1)?;
-        let (node, mut passes) = Node::open(alloc, 1, 1, capacity)?;
-        let (Some(seat), Some(pass)) = (seats.pop(), passes.pop()) else {
-            return Err(AllocError);
-        };
-        Ok(Host {
-            node,
-            pass,
-            board,
-            seat,
-            folded: None,
-        })
-    }
+pub fn boxed<T: Drop>(alloc: Global, value: T) -> Result<Box<T>, AllocError>
+    ensures { IfOk result (λ b. b.value ≡ value) }
+{
+    Ok(Box::new(alloc, value)?)
+}
 
-    fn deliver_once<R: Wait>(
-        &mut self,
-        rt: &R,
-        alloc: Global,
-        place: u64,
-    ) -> Result<Ack<Log>, DeliverFault> {
-        let Ok(Some(fact)) = LogFact::at(alloc, place) else {
-            return Err(DeliverFault::Memory);
-        };
-        let answer = self
-            .node
-            .deliver(rt, &mut self.pass, &self.board, &mut self.seat, fact);
-        match answer {
-            Ok(ack) => Ok(ack),
-            Err(refused) => Err(refused.fault),
-        }
+fn opened(alloc: Global, capacity: u64) -> Result<(Box<Node<Log>>, Box<Pass<Log>>), AllocError>
+    ensures pass { IfOk result (λ t. IsPassOf t.0.value t.1.value) }
+    ensures number { IfOk result (λ t. t.0.value.number ≡ 1) }
+{
+    let (node, mut passes) = Node::open(alloc, 1, 1, capacity)?;
+    match passes.pop() {
+        Some(pass) => Ok((boxed(alloc, node)?, boxed(alloc, pass)?)),
+        None => Err(AllocError),
     }
+}
 
-    pub fn deliver<R: Wait>(
-        &mut self,
-        rt: &R,
-        alloc: Global,
-        place: u64,
-    ) -> Result<Ack<Log>, DeliverFault> {
-        match self.deliver_once(rt, alloc, place) {
-            Err(DeliverFault::Memory) => self.deliver_once(rt, alloc, place),
-            answer => answer,
-        }
+fn seated(alloc: Global) -> Result<(Box<Board<Log>>, Box<Seat<Log>>), AllocError>
+    ensures seat { IfOk result (λ t. t.1.value.board ≡ t.0.value) }
+    ensures words { IfOk result (λ t. t.0.value.words ≡ 1) }
+{
+    let (board, mut seats) = Board::open(alloc, 1, 1)?;
+    match seats.pop() {
+        Some(seat) => Ok((boxed(alloc, board)?, boxed(alloc, seat)?)),
+        None => Err(AllocError),
     }
+}
 
-    /// The front that the board has of the node.
-    pub fn reached(&mut self) -> LogFront<Log> {
-        self.board.front(&mut self.seat, 1)
-    }
+pub fn open_host(alloc: Global, capacity: u64) -> Result<Host, AllocError> {
+    let (node, pass) = opened(alloc, capacity)?;
+    let (board, seat) = seated(alloc)?;
+    Ok(Host {
+        node,
+        pass,
+        board,
+        seat,
+        folded: None,
+    })
+}
 
-    pub fn read<R: Wait>(&mut self, rt: &R, page: u16, point: u64) -> Result<View<Log>, ReadFault> {
-        match self.node.read(rt, &mut self.pass, page, point) {
-            Err(ReadFault::Memory) => self.node.read(rt, &mut self.pass, page, point),
-            answer => answer,
-        }
+fn deliver_once<R: Wait>(
+    rt: &R,
+    alloc: Global,
+    host: &mut Host,
+    place: u64,
+) -> Result<Ack<Log>, DeliverFault> {
+    let Ok(Some(fact)) = LogFact::at(alloc, place) else {
+        return Err(DeliverFault::Memory);
+    };
+    let answer = host
+        .node
+        .deliver(rt, &mut host.pass, &host.board, &mut host.seat, fact);
+    match answer {
+        Ok(ack) => Ok(ack),
+        Err(refused) => Err(refused.fault),
     }
+}
 
-    /// Page 1 at point 1 after a receipt.
-    pub fn read_after<R: Wait>(
-        &self,
-        rt: &R,
-        receipt: &Receipt<Log>,
-    ) -> Result<View<Log>, ReadAfterFault> {
-        match self.node.read_after(rt, receipt, 1, 1) {
-            Err(ReadAfterFault::Read(ReadFault::Memory)) => {
-                self.node.read_after(rt, receipt, 1, 1)
-            }
-            answer => answer,
-        }
+pub fn deliver<R: Wait>(
+    rt: &R,
+    alloc: Global,
+    host: &mut Host,
+    place: u64,
+) -> Result<Ack<Log>, DeliverFault> {
+    match deliver_once(rt, alloc, host, place) {
+        Err(DeliverFault::Memory) => deliver_once(rt, alloc, host, place),
+        answer => answer,
     }
+}
 
-    // What the node answers to a summary of another.
-    fn mail_for<R: Wait>(&self, rt: &R, asker: &Host) -> Result<Mail<Log>, AllocError> {
-        let summary = asker.node.summary(rt)?;
-        match self.node.reply(rt, summary) {
-            Ok(sent) => sent.copy(),
-            Err(refused) => Err(refused.fault),
-        }
-    }
+/// The front that the board has of the node.
+pub fn reached(host: &mut Host) -> LogFront<Log> {
+    host.board.front(&mut host.seat, 1)
+}
 
-    fn absorb_once<R: Wait>(
-        &self,
-        rt: &R,
-        asker: &Host,
-        answerer: &Host,
-    ) -> Result<LogFront<Log>, AbsorbFault> {
-        let Ok(sent) = answerer.mail_for(rt, asker) else {
-            return Err(AbsorbFault::Memory);
-        };
-        match self.node.absorb(rt, sent) {
-            Ok(front) => Ok(front),
-            Err(refused) => Err(refused.fault),
-        }
+pub fn read<R: Wait>(
+    rt: &R,
+    host: &mut Host,
+    page: u16,
+    point: u64,
+) -> Result<View<Log>, ReadFault> {
+    match host.node.read(rt, &mut host.pass, page, point) {
+        Err(ReadFault::Memory) => host.node.read(rt, &mut host.pass, page, point),
+        answer => answer,
     }
+}
 
-    /// Absorbs what one node answers to a summary of another.
-    pub fn absorb<R: Wait>(
-        &self,
-        rt: &R,
-        asker: &Host,
-        answerer: &Host,
-    ) -> Result<LogFront<Log>, AbsorbFault> {
-        match self.absorb_once(rt, asker, answerer) {
-            Err(AbsorbFault::Memory) => self.absorb_once(rt, asker, answerer),
-            answer => answer,
-        }
+/// Page 1 at point 1 after a receipt.
+pub fn read_after<R: Wait>(
+    rt: &R,
+    node: &Node<Log>,
+    receipt: &Receipt<Log>,
+) -> Result<View<Log>, ReadAfterFault> {
+    match node.read_after(rt, receipt, 1, 1) {
+        Err(ReadAfterFault::Read(ReadFault::Memory)) => node.read_after(rt, receipt, 1, 1),
+        answer => answer,
     }
+}
 
-    /// Folds a page, and keeps the fold: its page and its version.
-    pub fn fold<R: Wait>(&mut self, rt: &R, page: u16) -> Result<(u16, u64), AllocError> {
-        let plan = match self.node.fold_plan(rt, page) {
-            Ok(plan) => plan,
-            Err(AllocError) => self.node.fold_plan(rt, page)?,
-        };
-        let folded = plan.fold();
-        let told = (folded.page(), folded.version());
-        self.folded = Some(folded);
-        Ok(told)
+fn replied<R: Wait>(rt: &R, node: &Node<Log>, asked: Summary) -> Result<Mail<Log>, AllocError> {
+    match node.reply(rt, asked) {
+        Ok(sent) => Ok(sent),
+        Err(refused) => Err(refused.fault),
     }
+}
 
-    fn commit_once<R: Wait>(&self, rt: &R, maker: &Host) -> Result<(), CommitFault> {
-        let Some(folded) = &maker.folded else {
-            return Err(CommitFault::Memory);
-        };
-        let Ok(copy) = folded.copy() else {
-            return Err(CommitFault::Memory);
-        };
-        match self.node.fold_commit(rt, copy) {
-            Ok(()) => Ok(()),
-            Err(refused) => Err(refused.fault),
-        }
-    }
+// A copy of what one node answers to a summary of another.
+fn mail_for<R: Wait>(
+    rt: &R,
+    asker: &Node<Log>,
+    answerer: &Node<Log>,
+) -> Result<Mail<Log>, AllocError> {
+    replied(rt, answerer, asker.summary(rt)?)?.copy()
+}
 
-    /// Commits a copy of the last fold of a node.
-    pub fn commit<R: Wait>(&self, rt: &R, maker: &Host) -> Result<(), CommitFault> {
-        match self.commit_once(rt, maker) {
-            Err(CommitFault::Memory) => self.commit_once(rt, maker),
-            answer => answer,
-        }
+fn absorb_once<R: Wait>(
+    rt: &R,
+    node: &Node<Log>,
+    asker: &Node<Log>,
+    answerer: &Node<Log>,
+) -> Result<LogFront<Log>, AbsorbFault> {
+    let Ok(sent) = mail_for(rt, asker, answerer) else {
+        return Err(AbsorbFault::Memory);
+    };
+    match node.absorb(rt, sent) {
+        Ok(front) => Ok(front),
+        Err(refused) => Err(refused.fault),
     }
+}
 
-    pub fn discard<R: Wait>(&self, rt: &R) {
-        self.node.discard(rt);
+/// Absorbs what one node answers to a summary of another.
+pub fn absorb<R: Wait>(
+    rt: &R,
+    node: &Node<Log>,
+    asker: &Node<Log>,
+    answerer: &Node<Log>,
+) -> Result<LogFront<Log>, AbsorbFault> {
+    match absorb_once(rt, node, asker, answerer) {
+        Err(AbsorbFault::Memory) => absorb_once(rt, node, asker, answerer),
+        answer => answer,
     }
+}
 
-    pub fn close<R: Wait>(self, rt: &R, alloc: Global) -> Result<Closed<Log>, AllocError> {
-        let mut passes = Vec::with_capacity(alloc, 1)?;
-        let Host {
-            node,
-            pass,
-            board: _,
-            seat: _,
-            folded: _,
-        } = self;
-        passes.push_reserved(pass);
-        Ok(node.close(rt, passes))
+fn folded_once<R: Wait>(rt: &R, node: &Node<Log>, page: u16) -> Result<Folded<Log>, AllocError> {
+    Ok(node.fold_plan(rt, page)?.fold())
+}
+
+/// A fold of a page.
+pub fn folded<R: Wait>(
+    rt: &R,
+    alloc: Global,
+    node: &Node<Log>,
+    page: u16,
+) -> Result<Box<Folded<Log>>, AllocError> {
+    match folded_once(rt, node, page) {
+        Ok(folded) => boxed(alloc, folded),
+        Err(AllocError) => boxed(alloc, folded_once(rt, node, page)?),
     }
+}
+
+fn commit_once<R: Wait>(rt: &R, node: &Node<Log>, folded: &Folded<Log>) -> Result<(), CommitFault> {
+    let Ok(copy) = folded.copy() else {
+        return Err(CommitFault::Memory);
+    };
+    match node.fold_commit(rt, copy) {
+        Ok(()) => Ok(()),
+        Err(refused) => Err(refused.fault),
+    }
+}
+
+/// Commits a copy of a fold.
+pub fn commit<R: Wait>(rt: &R, node: &Node<Log>, folded: &Folded<Log>) -> Result<(), CommitFault> {
+    match commit_once(rt, node, folded) {
+        Err(CommitFault::Memory) => commit_once(rt, node, folded),
+        answer => answer,
+    }
+}
+
+/// Closes a node with its pass.
+pub fn close_host<R: Wait>(
+    rt: &R,
+    alloc: Global,
+    host: Host,
+) -> Result<Box<Closed<Log>>, AllocError> {
+    let Host {
+        node,
+        pass,
+        board: _,
+        seat: _,
+        folded: _,
+    } = host;
+    closed_with(rt, alloc, node, pass)
+}
+
+fn closed_with<R: Wait>(
+    rt: &R,
+    alloc: Global,
+    node: Box<Node<Log>>,
+    pass: Box<Pass<Log>>,
+) -> Result<Box<Closed<Log>>, AllocError>
+    requires { IsPassOf node.value pass.value }
+{
+    let passes = Vec::from_array(alloc, [Box::into_inner(pass)])?;
+    boxed(alloc, Box::into_inner(node).close(rt, passes))
 }

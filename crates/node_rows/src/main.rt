@@ -7,20 +7,19 @@
 mod answers;
 mod bench;
 mod board;
+mod endings;
 mod host;
+mod row;
 mod threads;
-mod words;
 
-use bench::Bench;
+use row::Row;
 use std::io;
 
 fn main(rt: HostRuntime) -> io::Result<()> {
-    let mut bench = Bench::new(rt.alloc())?;
+    let mut bench = bench::new_bench(rt.alloc())?;
     for line in rt.lines(rt.alloc()) {
         let line = line?;
-        let (name, numbers) = words::of(line.as_str());
-        let answer = bench.answer(&rt, rt.alloc(), name, numbers)?;
-        println!(rt; "{line}: {answer:?}")?;
+        bench::answer(&rt, &mut bench, Row::of(&rt, line.as_str()))?;
     }
     Ok(())
 }

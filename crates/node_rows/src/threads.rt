@@ -3,7 +3,7 @@ ghost use Rattle.std.specs.Prelude.{◌≡◌, ◌≤◌, IfOk};
 ghost use Rattle.front_board.specs.Seat.{IsNode};
 ghost use Rattle.node_cell.specs.Node.{IsPassOf};
 
-use crate::host::Log;
+use crate::host::{Log, boxed};
 use front_board::{Board, Seat};
 use named_log::LogFact;
 use node_cell::{Closed, Node, Pass, Receipt};
@@ -12,8 +12,13 @@ use std::sync::Wait;
 use std::thread;
 use std::thread::Threads;
 
-// What a thread has in the end: its pass, and its receipts in order.
-type Handed = (Pass<Log>, Vec<Receipt<Log>>);
+// What a thread has: a pass and a seat, and in the end the receipts of its deliveries, in order.
+#[derive(Drop)]
+struct Hand {
+    pass: Box<Pass<Log>>,
+    seat: Box<Seat<Log>>,
+    receipts: Vec<Receipt<Log>>,
+}
 
 // Delivers the facts at 32 places, every other one from `first` on.
 fn deliver_half<R: Wait>(
@@ -21,53 +26,155 @@ fn deliver_half<R: Wait>(
     alloc: Global,
     node: &Node<Log>,
     board: &Board<Log>,
-    mut pass: Pass<Log>,
-    mut seat: Seat<Log>,
+    mut hand: Hand,
     first: u64,
-) -> Result<Handed, AllocError>
-    requires pass { IsPassOf node.now pass }
-    requires seat { (seat.board ≡ board.now) × IsNode board.now.words node.now.number }
+) -> Result<Hand, AllocError>
+    requires pass { IsPassOf node.now hand.pass.value }
+    requires seat { (hand.seat.value.board ≡ board.now) × IsNode board.now.words node.now.number }
     requires first { first ≤ 2 }
-    ensures { IfOk result (λ done. IsPassOf node.now done.0) }
+    ensures { IfOk result (λ done. IsPassOf node.now done.pass.value) }
 {
-    let mut receipts = Vec::new(alloc);
     for step in 0..32u64 {
         let Some(fact) = LogFact::at(alloc, first + 2 * step)? else {
             return Err(AllocError);
         };
-        let Ok(ack) = node.deliver(rt, &mut pass, board, &mut seat, fact) else {
+        let Ok(ack) = node.deliver(rt, &mut hand.pass, board, &mut hand.seat, fact) else {
             return Err(AllocError);
         };
-        receipts.push(ack.receipt)?;
+        hand.receipts.push(ack.receipt)?;
     }
-    Ok((pass, receipts))
+    Ok(hand)
 }
 
-/// The node closed after two threads have delivered the facts of epoch 0, with the receipts of both.
+// A node with two passes, and a board with two seats.
+#[derive(Drop)]
+struct Two {
+    node: Box<Node<Log>>,
+    board: Box<Board<Log>>,
+    one: Hand,
+    other: Hand,
+    ghost passes: { IsPassOf node.value one.pass.value × IsPassOf node.value other.pass.value },
+    ghost seats: { (one.seat.value.board ≡ board.value) × (other.seat.value.board ≡ board.value) },
+    ghost number: { IsNode board.value.words node.value.number },
+}
+
+type Dealt = (Box<Node<Log>>, Box<Pass<Log>>, Box<Pass<Log>>);
+
+fn open_node(alloc: Global) -> Result<Dealt, AllocError>
+    ensures one { IfOk result (λ t. IsPassOf t.0.value t.1.value) }
+    ensures other { IfOk result (λ t. IsPassOf t.0.value t.2.value) }
+    ensures number { IfOk result (λ t. t.0.value.number ≡ 1) }
+{
+    let (node, mut passes) = Node::open(alloc, 1, 2, 64)?;
+    let other = boxed(alloc, passes.pop().unwrap())?;
+    let one = boxed(alloc, passes.pop().unwrap())?;
+    Ok((boxed(alloc, node)?, one, other))
+}
+
+type Seated = (Box<Board<Log>>, Box<Seat<Log>>, Box<Seat<Log>>);
+
+fn open_board(alloc: Global) -> Result<Seated, AllocError>
+    ensures one { IfOk result (λ t. t.1.value.board ≡ t.0.value) }
+    ensures other { IfOk result (λ t. t.2.value.board ≡ t.0.value) }
+    ensures words { IfOk result (λ t. t.0.value.words ≡ 1) }
+{
+    let (board, mut seats) = Board::open(alloc, 1, 2)?;
+    let other = boxed(alloc, seats.pop().unwrap())?;
+    let one = boxed(alloc, seats.pop().unwrap())?;
+    Ok((boxed(alloc, board)?, one, other))
+}
+
+fn open_two(alloc: Global) -> Result<Two, AllocError> {
+    let (node, one_pass, other_pass) = open_node(alloc)?;
+    let (board, one_seat, other_seat) = open_board(alloc)?;
+    Ok(Two {
+        node,
+        board,
+        one: Hand {
+            pass: one_pass,
+            seat: one_seat,
+            receipts: Vec::new(alloc),
+        },
+        other: Hand {
+            pass: other_pass,
+            seat: other_seat,
+            receipts: Vec::new(alloc),
+        },
+    })
+}
+
+type Handed = Result<Hand, AllocError>;
+
+// Each delivers its half in a thread of its own.
+fn deliver_halves<R: Threads + Wait + Sync>(
+    rt: &R,
+    alloc: Global,
+    node: &Node<Log>,
+    board: &Board<Log>,
+    one: Hand,
+    other: Hand,
+) -> (Handed, Handed)
+    requires one { IsPassOf node.now one.pass.value × (one.seat.value.board ≡ board.now) }
+    requires other { IsPassOf node.now other.pass.value × (other.seat.value.board ≡ board.now) }
+    requires number { IsNode board.now.words node.now.number }
+    ensures one { IfOk result.0 (λ done. IsPassOf node.now done.pass.value) }
+    ensures other { IfOk result.1 (λ done. IsPassOf node.now done.pass.value) }
+{
+    thread::join(
+        rt,
+        move || -> Handed
+            requires { IsPassOf node.now one.pass.value × (one.seat.value.board ≡ board.now) × IsNode board.now.words node.now.number }
+            ensures { IfOk result (λ done. IsPassOf node.entry.now done.pass.value) }
+        { deliver_half(rt, alloc, node, board, one, 1) },
+        move || -> Handed
+            requires { IsPassOf node.now other.pass.value × (other.seat.value.board ≡ board.now) × IsNode board.now.words node.now.number }
+            ensures { IfOk result (λ done. IsPassOf node.entry.now done.pass.value) }
+        { deliver_half(rt, alloc, node, board, other, 2) },
+    )
+}
+
+// The pass of a thread that has ended. Its receipts join the others.
+fn handed(receipts: &mut Vec<Receipt<Log>>, hand: Hand) -> Result<Box<Pass<Log>>, AllocError>
+    ensures { IfOk result (λ pass. pass.value ≡ hand.pass.value) }
+{
+    let Hand {
+        pass,
+        seat: _,
+        receipts: mut own,
+    } = hand;
+    receipts.append(&mut own)?;
+    Ok(pass)
+}
+
+fn closed_with<R: Wait>(
+    rt: &R,
+    alloc: Global,
+    node: Box<Node<Log>>,
+    one: Box<Pass<Log>>,
+    other: Box<Pass<Log>>,
+) -> Result<Box<Closed<Log>>, AllocError>
+    requires one { IsPassOf node.value one.value }
+    requires other { IsPassOf node.value other.value }
+{
+    let passes = Vec::from_array(alloc, [Box::into_inner(one), Box::into_inner(other)])?;
+    boxed(alloc, Box::into_inner(node).close(rt, passes))
+}
+
+/// The node closed after two threads have delivered the facts of epoch 0. The receipts of both join the others, those of the first
+/// thread first.
 pub fn closed_after_two<R: Threads + Wait + Sync>(
     rt: &R,
     alloc: Global,
-) -> Result<(Closed<Log>, Vec<Receipt<Log>>, Vec<Receipt<Log>>), AllocError> {
-    let (board, mut seats) = Board::<Log>::open(alloc, 1, 2)?;
-    let (node, mut passes) = Node::<Log>::open(alloc, 1, 2, 64)?;
-    let other_seat = seats.pop().unwrap();
-    let one_seat = seats.pop().unwrap();
-    let other_pass = passes.pop().unwrap();
-    let one_pass = passes.pop().unwrap();
-    let (shared, fronts) = (&node, &board);
-    let (one, other) = thread::join(
-        rt,
-        move || -> Result<Handed, AllocError>
-            requires { IsPassOf shared.now one_pass × (one_seat.board ≡ fronts.now) × IsNode fronts.now.words shared.now.number }
-            ensures { IfOk result (λ done. IsPassOf shared.entry.now done.0) }
-        { deliver_half(rt, alloc, shared, fronts, one_pass, one_seat, 1) },
-        move || -> Result<Handed, AllocError>
-            requires { IsPassOf shared.now other_pass × (other_seat.board ≡ fronts.now) × IsNode fronts.now.words shared.now.number }
-            ensures { IfOk result (λ done. IsPassOf shared.entry.now done.0) }
-        { deliver_half(rt, alloc, shared, fronts, other_pass, other_seat, 2) },
-    );
-    let (one_pass, one) = one?;
-    let (other_pass, other) = other?;
-    let passes = Vec::from_array(alloc, [one_pass, other_pass])?;
-    Ok((node.close(rt, passes), one, other))
+    receipts: &mut Vec<Receipt<Log>>,
+) -> Result<Box<Closed<Log>>, AllocError> {
+    let Two {
+        node,
+        board,
+        one,
+        other,
+    } = open_two(alloc)?;
+    let (one, other) = deliver_halves(rt, alloc, &node, &board, one, other);
+    let one = handed(receipts, one?)?;
+    let other = handed(receipts, other?)?;
+    closed_with(rt, alloc, node, one, other)
 }

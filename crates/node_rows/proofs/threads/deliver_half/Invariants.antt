@@ -1,5 +1,5 @@
-use Rattle.std.proofs.Common.{◌≡◌, None}
+use Rattle.std.specs.Prelude.{◌≡◌, None}
 use Rattle.node_rows.proofs.threads.deliver_half.Given as goal
 
 abbrev pub invariant-loop-step : goal.invariant-loop-step
-invariant-loop-step g l = (l.pass.lock ≡ l.fn.pass.lock) × (l.pass.out ≡ None) × (l.seat.board ≡ l.fn.seat.board)
+invariant-loop-step g l = (l.hand.pass.value.lock ≡ l.fn.hand.pass.value.lock) × (l.hand.pass.value.out ≡ None) × (l.hand.seat.value.board ≡ l.fn.hand.seat.value.board)
