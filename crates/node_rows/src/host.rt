@@ -1,4 +1,4 @@
-//! A node with one pass.
+//! A node that one pass delivers to.
 ghost use Rattle.std.specs.Prelude.{◌≡◌, IfOk};
 ghost use Rattle.front_board.specs.Seat.{IsNode};
 ghost use Rattle.node_cell.specs.Node.{IsPassOf};
@@ -9,15 +9,14 @@ use named_log::LogFact;
 use node_cell::{
     AbsorbFault, Ack, Closed, DeliverFault, Folded, Mail, Node, Pass, ReadAfterFault, Receipt, View,
 };
-use redo_wire::Summary;
 use segment_core::{CommitFault, ReadFault};
 use std::alloc::{AllocError, Global};
 use std::sync::Wait;
 
 pub type Log = Drill<64>;
 
-/// A node with one pass, the first of a board of its own, and the fold that it made last. What is large stands in boxes, so that few
-/// functions carry the whole of it.
+/// A node with the first of its two passes, the first seat of a board of its own, and the fold that it made last. What is large stands
+/// in boxes: a function that has it by value proves all that it is made of.
 #[derive(Drop)]
 pub struct Host {
     pub node: Box<Node<Log>>,
@@ -35,31 +34,37 @@ pub fn boxed<T: Drop>(alloc: Global, value: T) -> Result<Box<T>, AllocError>
     Ok(Box::new(alloc, value)?)
 }
 
-fn opened(alloc: Global, capacity: u64) -> Result<(Box<Node<Log>>, Box<Pass<Log>>), AllocError>
-    ensures pass { IfOk result (λ t. IsPassOf t.0.value t.1.value) }
+pub type Dealt = (Box<Node<Log>>, Box<Pass<Log>>, Box<Pass<Log>>);
+
+/// A node with two passes.
+pub fn open_node(alloc: Global, capacity: u64) -> Result<Dealt, AllocError>
+    ensures one { IfOk result (λ t. IsPassOf t.0.value t.1.value) }
+    ensures other { IfOk result (λ t. IsPassOf t.0.value t.2.value) }
     ensures number { IfOk result (λ t. t.0.value.number ≡ 1) }
 {
-    let (node, mut passes) = Node::open(alloc, 1, 1, capacity)?;
-    match passes.pop() {
-        Some(pass) => Ok((boxed(alloc, node)?, boxed(alloc, pass)?)),
-        None => Err(AllocError),
-    }
+    let (node, mut passes) = Node::open(alloc, 1, 2, capacity)?;
+    let other = boxed(alloc, passes.pop().unwrap())?;
+    let one = boxed(alloc, passes.pop().unwrap())?;
+    Ok((boxed(alloc, node)?, one, other))
 }
 
-fn seated(alloc: Global) -> Result<(Box<Board<Log>>, Box<Seat<Log>>), AllocError>
-    ensures seat { IfOk result (λ t. t.1.value.board ≡ t.0.value) }
+pub type Seated = (Box<Board<Log>>, Box<Seat<Log>>, Box<Seat<Log>>);
+
+/// A board of one node with two seats.
+pub fn open_board(alloc: Global) -> Result<Seated, AllocError>
+    ensures one { IfOk result (λ t. t.1.value.board ≡ t.0.value) }
+    ensures other { IfOk result (λ t. t.2.value.board ≡ t.0.value) }
     ensures words { IfOk result (λ t. t.0.value.words ≡ 1) }
 {
-    let (board, mut seats) = Board::open(alloc, 1, 1)?;
-    match seats.pop() {
-        Some(seat) => Ok((boxed(alloc, board)?, boxed(alloc, seat)?)),
-        None => Err(AllocError),
-    }
+    let (board, mut seats) = Board::open(alloc, 1, 2)?;
+    let other = boxed(alloc, seats.pop().unwrap())?;
+    let one = boxed(alloc, seats.pop().unwrap())?;
+    Ok((boxed(alloc, board)?, one, other))
 }
 
 pub fn open_host(alloc: Global, capacity: u64) -> Result<Host, AllocError> {
-    let (node, pass) = opened(alloc, capacity)?;
-    let (board, seat) = seated(alloc)?;
+    let (node, pass, _) = open_node(alloc, capacity)?;
+    let (board, seat, _) = open_board(alloc)?;
     Ok(Host {
         node,
         pass,
@@ -128,20 +133,16 @@ pub fn read_after<R: Wait>(
     }
 }
 
-fn replied<R: Wait>(rt: &R, node: &Node<Log>, asked: Summary) -> Result<Mail<Log>, AllocError> {
-    match node.reply(rt, asked) {
-        Ok(sent) => Ok(sent),
-        Err(refused) => Err(refused.fault),
-    }
-}
-
 // A copy of what one node answers to a summary of another.
 fn mail_for<R: Wait>(
     rt: &R,
     asker: &Node<Log>,
     answerer: &Node<Log>,
 ) -> Result<Mail<Log>, AllocError> {
-    replied(rt, answerer, asker.summary(rt)?)?.copy()
+    match answerer.reply(rt, asker.summary(rt)?) {
+        Ok(sent) => sent.copy(),
+        Err(refused) => Err(refused.fault),
+    }
 }
 
 fn absorb_once<R: Wait>(

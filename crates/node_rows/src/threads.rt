@@ -3,7 +3,7 @@ ghost use Rattle.std.specs.Prelude.{◌≡◌, ◌≤◌, IfOk};
 ghost use Rattle.front_board.specs.Seat.{IsNode};
 ghost use Rattle.node_cell.specs.Node.{IsPassOf};
 
-use crate::host::{Log, boxed};
+use crate::host::{Log, boxed, open_board, open_node};
 use front_board::{Board, Seat};
 use named_log::LogFact;
 use node_cell::{Closed, Node, Pass, Receipt};
@@ -58,34 +58,8 @@ struct Two {
     ghost number: { IsNode board.value.words node.value.number },
 }
 
-type Dealt = (Box<Node<Log>>, Box<Pass<Log>>, Box<Pass<Log>>);
-
-fn open_node(alloc: Global) -> Result<Dealt, AllocError>
-    ensures one { IfOk result (λ t. IsPassOf t.0.value t.1.value) }
-    ensures other { IfOk result (λ t. IsPassOf t.0.value t.2.value) }
-    ensures number { IfOk result (λ t. t.0.value.number ≡ 1) }
-{
-    let (node, mut passes) = Node::open(alloc, 1, 2, 64)?;
-    let other = boxed(alloc, passes.pop().unwrap())?;
-    let one = boxed(alloc, passes.pop().unwrap())?;
-    Ok((boxed(alloc, node)?, one, other))
-}
-
-type Seated = (Box<Board<Log>>, Box<Seat<Log>>, Box<Seat<Log>>);
-
-fn open_board(alloc: Global) -> Result<Seated, AllocError>
-    ensures one { IfOk result (λ t. t.1.value.board ≡ t.0.value) }
-    ensures other { IfOk result (λ t. t.2.value.board ≡ t.0.value) }
-    ensures words { IfOk result (λ t. t.0.value.words ≡ 1) }
-{
-    let (board, mut seats) = Board::open(alloc, 1, 2)?;
-    let other = boxed(alloc, seats.pop().unwrap())?;
-    let one = boxed(alloc, seats.pop().unwrap())?;
-    Ok((boxed(alloc, board)?, one, other))
-}
-
 fn open_two(alloc: Global) -> Result<Two, AllocError> {
-    let (node, one_pass, other_pass) = open_node(alloc)?;
+    let (node, one_pass, other_pass) = open_node(alloc, 64)?;
     let (board, one_seat, other_seat) = open_board(alloc)?;
     Ok(Two {
         node,
