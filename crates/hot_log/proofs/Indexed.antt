@@ -7,9 +7,9 @@ use Rattle.redo_core.specs.Data.{RecordData}
 use Rattle.redo_core.specs.Order.{IsRising, RecordBefore, PairBefore}
 use Rattle.redo_core.proofs.Members.{none_in}
 use Rattle.redo_core.proofs.Rising.{rising_members}
-use Rattle.hot_log.specs.Held.{IsHeld, HasKey, IsRecordAt, IsAbove, IsKeyAfter, IsKeyTo}
+use Rattle.hot_log.specs.Held.{IsHeld, HasKey, IsRecordAt, IsAbove, IsKeyAfter, IsKeyTo, IsGreatestHeld}
 use Rattle.hot_log.specs.Removing.{Removes}
-use Rattle.hot_log.specs.Indexing.{GainsKey, LosesKey, IsIndexBy, IsNextKey, IsLastKey, IsNextHeld, IsLastHeld, AddsPage, GainsPage, LosesPage, IsPageOf, IsAboveKey, IsLeastKey, IsKeyPages, IsRecordOf, IsGreatestKey}
+use Rattle.hot_log.specs.Indexing.{GainsKey, LosesKey, IsIndexBy, IsNextKey, IsLastKey, IsNextHeld, IsLastHeld, AddsPage, GainsPage, LosesPage, IsPageOf, IsAboveKey, IsLeastKey, IsKeyPages, IsRecordOf, IsGreatestKey, IsGreatestOf}
 use Rattle.hot_log.proofs.Keys.{pair_not_same}
 use Rattle.hot_log.proofs.Places.{Place}
 
@@ -225,3 +225,9 @@ key_held_to held keys to (Some key) is greatest =
       (t.0, t.1, t.2, λ p. greatest.0.2 (subst (λ (x : ℕ). PairBefore to.0 to.1 x key.1) t.2.0 (subst (λ (x : ℕ). PairBefore to.0 to.1 t.0.epoch x) t.2.1 p))),
       λ r h not. greatest.1 r.epoch r.number r.page (is.listed r h) not,
     )
+
+pub greatest_held : (held : List RecordData) (keys : List ((ℕ × ℕ) × ℕ)) (o : Option (ℕ × ℕ)) → IsKeyPages held keys → IsGreatestOf keys o → IsGreatestHeld held o
+greatest_held held keys None is none = λ r h. none r.epoch r.number r.page (is.listed r h)
+greatest_held held keys (Some key) is greatest =
+    let t = is.backed key.0 key.1 greatest.0.0 greatest.0.1 in
+    ((t.0, t.1, t.2), λ r h. greatest.1 r.epoch r.number r.page (is.listed r h))

@@ -11,9 +11,9 @@ use Rattle.std.specs.BTreeMap.Range.{range_contains}
 use Rattle.redo_core.specs.Order.{IsRising, PairBefore}
 use Rattle.redo_core.proofs.Members.{none_in, here, there, which, each}
 use Rattle.hot_log.specs.Paged.{key_cmp}
-use Rattle.hot_log.specs.Indexing.{AddsPage, LosesPage, IsPageOf, IsLeastKey, IsGreatestKey}
+use Rattle.hot_log.specs.Indexing.{AddsPage, LosesPage, IsPageOf, IsLeastKey, IsGreatestKey, IsGreatestOf}
 use Rattle.hot_log.proofs.Maps.{rising_entries, held_at, at_key, shrunk, lt_true, lt_of}
-use Rattle.hot_log.proofs.Orders.{keys_exact, key_less, key_less_of, first_kept, none_kept, last_kept}
+use Rattle.hot_log.proofs.Orders.{keys_exact, key_less, key_less_of, first_kept, none_kept, last_kept, last_of}
 use Rattle.hot_log.proofs.Places.{not_lt_true, not_lt_of, pair_or_not}
 
 abbrev pub Entry : Type 0
@@ -123,4 +123,18 @@ last_to m to x t ordered is =
           (λ (u : x ≡ ((e, n), page)). inl (ap (λ (y : Entry). y.0.0) (sym u), ap (λ (y : Entry). y.0.1) (sym u)))
           (λ (u : key_cmp (e, n) x.0 ≡ Less). inr (key_less (e, n) x.0 u))
           (f.2 ((e, n), page) h (kept_to to e n not)),
+    )
+
+-- the greatest key
+pub no_greatest : (m : Map) → m.entries ≡ [] → IsGreatestOf m.entries None
+no_greatest m is e n page h = none_in ((e, n), page) (subst (λ (l : List Entry). Contains l ((e, n), page)) is h)
+
+pub greatest_of : (m : Map) (x : Entry) (t : List Entry) → IsOrdered key_cmp m → m.entries ≡ t ++ x ∷ [] → IsGreatestOf m.entries (Some x.0)
+greatest_of m x t ordered is =
+    let last = last_of (λ (x y : Entry). key_cmp x.0 y.0 ≡ Less) m.entries x t (rising_entries key_cmp m.entries ordered) is in (
+      (x.1, last.0),
+      λ e n page h. ⊎_elim
+          (λ (u : x ≡ ((e, n), page)). inl (ap (λ (y : Entry). y.0.0) (sym u), ap (λ (y : Entry). y.0.1) (sym u)))
+          (λ (u : key_cmp (e, n) x.0 ≡ Less). inr (key_less (e, n) x.0 u))
+          (last.1 ((e, n), page) h),
     )

@@ -100,6 +100,10 @@ first_kept {X} Before p xs x t rising is =
 pub none_kept : {X : Type 0} (p : X → Bool) (xs : List X) → filter p xs ≡ [] → (y : X) → Contains xs y → p y ≡ true → ⊥
 none_kept {X} p xs is y h k = none_in y (subst (λ (l : List X). Contains l y) is (passed p xs y k h))
 
+at_end : {X : Type 0} (t : List X) (x : X) → Contains (t ++ x ∷ []) x
+at_end [] x = here x []
+at_end (z ∷ t) x = there z (t ++ x ∷ []) x (at_end t x)
+
 before_last : {X : Type 0} (Before : X → X → Type 0) (t : List X) (x y : X) → IsRising Before (t ++ x ∷ []) → Contains t y → Before y x
 before_last Before [] x y r h = absurd (none_in y h)
 before_last {X} Before (z ∷ t) x y r h =
@@ -107,24 +111,19 @@ before_last {X} Before (z ∷ t) x y r h =
     (λ (e : z ≡ y). subst (λ (w : X). Before w x) e (each (Before z) (t ++ x ∷ []) x r.0 (at_end t x)))
     (λ (u : Contains t y). before_last Before t x y r.1 u)
     (which z t y h)
-  where
-    at_end : {X : Type 0} (t : List X) (x : X) → Contains (t ++ x ∷ []) x
-    at_end [] x = here x []
-    at_end (z ∷ t) x = there z (t ++ x ∷ []) x (at_end t x)
 
-pub last_kept : {X : Type 0} (Before : X → X → Type 0) (p : X → Bool) (xs : List X) (x : X) (t : List X) → IsRising Before xs → filter p xs ≡ t ++ x ∷ [] → Contains xs x × (p x ≡ true) × ((y : X) → Contains xs y → p y ≡ true → (x ≡ y) ⊎ Before y x)
-last_kept {X} Before p xs x t rising is =
-    let back : Contains (filter p xs) x = subst (λ (l : List X). Contains l x) (sym is) (at_end t x) in
-    let in_order : IsRising Before (t ++ x ∷ []) = subst (IsRising Before) is (rising_filter Before p xs rising) in
-    let q = filtered p xs x back in (
-      q.0,
-      q.1,
-      λ y h k. ⊎_elim
+pub last_of : {X : Type 0} (Before : X → X → Type 0) (xs : List X) (x : X) (t : List X) → IsRising Before xs → xs ≡ t ++ x ∷ [] → Contains xs x × ((y : X) → Contains xs y → (x ≡ y) ⊎ Before y x)
+last_of {X} Before xs x t rising is =
+    let in_order : IsRising Before (t ++ x ∷ []) = subst (IsRising Before) is rising in (
+      subst (λ (l : List X). Contains l x) (sym is) (at_end t x),
+      λ y h. ⊎_elim
           (λ (u : Contains t y). inr (before_last Before t x y in_order u))
           (λ (u : Contains (x ∷ []) y). ⊎_elim (λ (e : x ≡ y). inl e) (λ (v : Contains [] y). absurd (none_in y v)) (which x [] y u))
-          (Contains-append_cases t (x ∷ []) y (subst (λ (l : List X). Contains l y) is (passed p xs y k h))),
+          (Contains-append_cases t (x ∷ []) y (subst (λ (l : List X). Contains l y) is h)),
     )
-  where
-    at_end : {X : Type 0} (t : List X) (x : X) → Contains (t ++ x ∷ []) x
-    at_end [] x = here x []
-    at_end (z ∷ t) x = there z (t ++ x ∷ []) x (at_end t x)
+
+pub last_kept : {X : Type 0} (Before : X → X → Type 0) (p : X → Bool) (xs : List X) (x : X) (t : List X) → IsRising Before xs → filter p xs ≡ t ++ x ∷ [] → Contains xs x × (p x ≡ true) × ((y : X) → Contains xs y → p y ≡ true → (x ≡ y) ⊎ Before y x)
+last_kept Before p xs x t rising is =
+    let last = last_of Before (filter p xs) x t (rising_filter Before p xs rising) is in
+    let q = filtered p xs x last.0 in
+    (q.0, q.1, λ y h k. last.1 y (passed p xs y k h))

@@ -24,6 +24,18 @@ linked_above b held from top le n l up =
     (λ (u : Link b.cuts held b.complete from n). (u.by, (u.among, u.alive), u.at))
     (link_cases b.cuts held b.complete from n l)
 
+-- where no alive record up to a limit is above top, no linked number up to there is
+pub none_over : (b : BookData) (held : List RecordData) (from top limit : ℕ) → from ≤ top → ((r : RecordData) → IsHeldAlive b held r → r.number ≤ limit → r.number ≤ top) → (n : ℕ) → IsLinkedFrom b held from n → n ≤ limit → n ≤ top
+none_over b held from top limit le low n l to =
+    ⊎_elim
+    (λ (up : top < n).
+    let t = linked_above b held from top le n l up in
+    let same : t.0.number ≡ n = t.2 in
+    let small : t.0.number ≤ top = low t.0 t.1 (omega arith) in
+    omega arith)
+    (λ (under : n ≤ top). under)
+    (cases_lt top n)
+
 pub straight_start : (b : BookData) (held : List RecordData) (from : ℕ) → Straight b held from from
 straight_start b held from = record {
   is = record {

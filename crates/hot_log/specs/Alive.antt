@@ -12,6 +12,10 @@ use Rattle.hot_log.specs.Held.{HasKey}
 abbrev pub IsHeldAlive : BookData → List RecordData → RecordData → Type 0
 IsHeldAlive book held r = Contains held r × IsAlive book.cuts book.complete r.epoch r.number
 
+-- no held record that is alive is above a number
+abbrev pub HasNoneAbove : BookData → List RecordData → ℕ → Type 0
+HasNoneAbove book held number = (r : RecordData) → IsHeldAlive book held r → number < r.number → ⊥
+
 -- n is linked from a base by the held records
 abbrev pub IsLinkedFrom : BookData → List RecordData → ℕ → ℕ → Type 0
 IsLinkedFrom book held from n = Linked book.cuts held book.complete from n

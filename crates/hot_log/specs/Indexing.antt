@@ -73,6 +73,13 @@ IsGreatestKey keys to (Some key) =
     ((page : ℕ) × Contains keys (key, page) × (PairBefore to.0 to.1 key.0 key.1 → ⊥))
     × ((e n page : ℕ) → Contains keys ((e, n), page) → (PairBefore to.0 to.1 e n → ⊥) → ((e ≡ key.0) × (n ≡ key.1)) ⊎ PairBefore e n key.0 key.1)
 
+-- the greatest key with a page, or none where no key has one
+abbrev pub IsGreatestOf : List ((ℕ × ℕ) × ℕ) → Option (ℕ × ℕ) → Type 0
+IsGreatestOf keys None = (e n page : ℕ) → Contains keys ((e, n), page) → ⊥
+IsGreatestOf keys (Some key) =
+    ((page : ℕ) × Contains keys (key, page))
+    × ((e n page : ℕ) → Contains keys ((e, n), page) → ((e ≡ key.0) × (n ≡ key.1)) ⊎ PairBefore e n key.0 key.1)
+
 -- the keys are those of the held records, each with the page of its record
 pub record IsKeyPages (held : List RecordData) (keys : List ((ℕ × ℕ) × ℕ)) : Type 0 where
   pub listed : (r : RecordData) → Contains held r → Contains keys ((r.epoch, r.number), r.page)

@@ -2,7 +2,7 @@ ghost use Rattle.std.specs.Prelude.{◌≡◌, [], IfOk, OnErr, Some, None, ℕ,
 ghost use Rattle.std.specs.Option.{IsSome, IsNone};
 ghost use Rattle.std.specs.BTreeMap.{get, IsOrdered, insert_entry};
 ghost use Rattle.hot_log.specs.Paged.{key_cmp};
-ghost use Rattle.hot_log.specs.Indexing.{AddsPage, LosesPage, IsPageOf, IsLeastKey, GainsPage, IsGreatestKey};
+ghost use Rattle.hot_log.specs.Indexing.{AddsPage, LosesPage, IsPageOf, IsLeastKey, GainsPage, IsGreatestKey, IsGreatestOf};
 ghost use Rattle.hot_log.specs.Kept.{KeyBefore, IsKeyKept};
 ghost use Rattle.redo_core.specs.Order.{Lists};
 ghost use Rattle.std.specs.List.{Contains};
@@ -85,6 +85,14 @@ impl KeyPages {
             Some(key) => self.key_above(key),
             None => self.first_key(),
         }
+    }
+
+    /// The greatest key, or None where there is none.
+    pub fn greatest_key(&self) -> Option<(u16, u64)>
+        ensures { IsGreatestOf self.now result }
+    {
+        let (key, _) = self.map.iter().next_back()?;
+        Some(*key)
     }
 
     fn first_key(&self) -> Option<(u16, u64)>

@@ -3,7 +3,7 @@ ghost use Rattle.std.specs.Option.{option_copied};
 ghost use Rattle.redo_core.specs.Data.{RecordData};
 ghost use Rattle.redo_core.specs.Order.{Lists, BeforeByNumber, RecordBefore};
 ghost use Rattle.redo_core.specs.Standing.{IsDead};
-ghost use Rattle.hot_log.specs.Held.{IsHeld, IsRecordAt, IsKeyAfter, IsKeyTo, HasKey, HoldsKey};
+ghost use Rattle.hot_log.specs.Held.{IsHeld, IsRecordAt, IsKeyAfter, IsKeyTo, IsGreatestHeld, HasKey, HoldsKey};
 ghost use Rattle.hot_log.specs.Alive.{IsHeldAlive, IsHeldOf, IsLinkedFrom, IsLinkedHeld, IsReached, IsStraight, IsStraightEnd};
 ghost use Rattle.hot_log.specs.Anew.{ListsAnew};
 ghost use Rattle.hot_log.specs.Found.{IsLeast, IsLeastRecord, IsGreatestRecord, IsOnlyRecord, IsPageAfter};
@@ -382,6 +382,14 @@ impl HotLog {
         ensures form { IsHeld self.new }
     {
         removal::remove_dead(self, book);
+    }
+
+    // The greatest key, or None where no record is held.
+    pub(crate) fn greatest_key(&self) -> Option<(u16, u64)>
+        ensures greatest { IsGreatestHeld self.now result }
+        ensures form { IsHeld self.now }
+    {
+        self.by_key.greatest_key()
     }
 
     // The greatest key at or below the one given.

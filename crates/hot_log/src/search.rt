@@ -2,12 +2,12 @@
 ghost use Rattle.std.specs.Prelude.{◌≡◌, ℕ, ◌<◌, ◌≤◌, ◌↔◌, map, IsTrue, IfOk, length, Some};
 ghost use Rattle.std.specs.Option.{option_copied};
 ghost use Rattle.redo_core.specs.Data.{RecordData};
-ghost use Rattle.redo_core.specs.Order.{Lists, BeforeByNumber};
+ghost use Rattle.redo_core.specs.Order.{Lists, BeforeByNumber, PairBefore};
 ghost use Rattle.redo_core.specs.Standing.{IsAlive};
 ghost use Rattle.epoch_book.specs.Book.{IsBook};
 ghost use Rattle.hot_log.specs.Held.{IsHeld, IsKeyAfter, IsKeyTo, HasKey};
 ghost use Rattle.hot_log.specs.Indexing.{IsNextHeld, IsLastHeld};
-ghost use Rattle.hot_log.specs.Alive.{IsAliveKey, IsAliveOfBack, IsHeldAlive, IsHeldOf, IsOpenedBelow, IsPageAlive, PartsAt};
+ghost use Rattle.hot_log.specs.Alive.{HasNoneAbove, IsAliveKey, IsAliveOfBack, IsHeldAlive, IsHeldOf, IsOpenedBelow, IsPageAlive, PartsAt};
 ghost use Rattle.hot_log.specs.Found.{IsLeast, IsLeastRecord, IsGreatestRecord, IsOnlyRecord};
 ghost use Rattle.hot_log.specs.Kept.{KeepsKey};
 
@@ -38,6 +38,13 @@ pub fn epoch_above(book: &EpochBook, number: u64) -> u16
     ensures book { IsBook book.now }
 {
     book.last_cut_at(number)
+}
+
+// Whether a key is at or below another one.
+fn is_up_to(key: (u16, u64), to: (u16, u64)) -> bool
+    ensures { IsTrue result ↔ (PairBefore to.0 to.1 key.0 key.1 → ⊥) }
+{
+    key.0 < to.0 || (key.0 == to.0 && key.1 <= to.1)
 }
 
 impl HotLog {
@@ -121,6 +128,17 @@ impl HotLog {
         match self.alive_key(book, above) {
             Some(key) => key.1 < below,
             None => false,
+        }
+    }
+
+    /// Whether no alive record is above a number, as one look at the greatest key tells. Where what is above is not alive, it may be
+    /// false too.
+    pub fn has_none_above(&self, book: &EpochBook, number: u64) -> bool
+        ensures { IsTrue result → HasNoneAbove book.now self.now number }
+    {
+        match self.greatest_key() {
+            Some(key) => is_up_to(key, (epoch_above(book, number), number)),
+            None => true,
         }
     }
 }
