@@ -23,3 +23,4 @@ pub mod Following
 pub mod Restored
 pub mod Opening
 pub mod OnTop
+pub mod LastAnchor

@@ -16,7 +16,7 @@ use Rattle.hot_log.specs.Putting.{Puts}
 use Rattle.hot_log.specs.declared.log.Put.TheVariants.{New}
 use Rattle.redo_laws.proofs.Fronts.{settled_alive}
 use Rattle.redo_core.specs.Shape.{max_number, record_fault}
-use Rattle.segment_core.specs.Points.{IsTop, IsTopTo, MoveOn, HasPoints, HasLowAnchor, MayLink}
+use Rattle.segment_core.specs.Points.{IsTop, MoveOn, HasPoints, HasLowAnchor, MayLink}
 use Rattle.segment_core.specs.declared.points.Points.{Points}
 use Rattle.segment_core.proofs.Chain.{linked_small, small_number}
 
@@ -39,32 +39,6 @@ pub complete_small : (b : BookData) (held : List RecordData) (base : ℕ) (p : P
     → p.complete ≤ max_number
 complete_small b held base p is low has = linked_small b.cuts held b.complete base max_number p.complete
     (λ r among. small_number r (is.shaped r among)) low has.complete.linked
-
--- ---- an anchor that lags behind moves on
-pub anchor_on : (b : BookData) (held : List RecordData) (base n from : ℕ) (p : Points) → HasLowAnchor b held base p
-    → (IsTrue p.straight × (from ≡ p.anchor)) ⊎ (from ≡ base) → IsTopTo b held from (least b.points) n
-    → HasPoints b held base (record { complete = p.complete; anchor = n; straight = p.straight })
-anchor_on b held base n from p low (inr e) top = record {
-  complete = low.complete;
-  anchor = subst (λ f. IsTopTo b held f (least b.points) n) e top;
-  straight = low.straight;
-}
-anchor_on b held base n from p low (inl e) top =
-    let moved : IsTopTo b held p.anchor (least b.points) n = subst (λ f. IsTopTo b held f (least b.points) n) e.1 top in
-    let up : p.anchor ≤ n = link_at_least b.cuts held b.complete p.anchor n moved.linked in
-    let is = low.straight e.0 in
-    record {
-      complete = low.complete;
-      anchor = record {
-        linked = link_trans b.cuts held b.complete base p.anchor n low.anchor moved.linked;
-        bound = moved.bound;
-        most = λ m l le. ⊎_elim
-            (λ (over : p.anchor < m). moved.most m (is.onward p.anchor m low.anchor l (let t : p.anchor ≤ m = omega arith in t) (low.complete.most m l)) le)
-            (λ (under : m ≤ p.anchor). let t : m ≤ n = omega arith in t)
-            (cases_lt p.anchor m);
-      };
-      straight = low.straight;
-    }
 
 -- ---- over a straight chain the base point can rise to the anchor
 pub to_anchor : (b : BookData) (held : List RecordData) (base : ℕ) (p : Points) → HasPoints b held base p → IsTrue p.straight

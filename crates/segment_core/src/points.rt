@@ -1,11 +1,12 @@
-ghost use Rattle.std.specs.Prelude.{◌≡◌, ℕ, ◌≤◌, ◌↔◌, IsTrue, IfOk, IfErr, OnErr, IfSome};
+ghost use Rattle.std.specs.Prelude.{◌≡◌, ℕ, ◌≤◌, ◌↔◌, List, IsTrue, IfOk, IfErr, OnErr, IfSome};
+ghost use Rattle.redo_core.specs.Data.{RecordData};
 ghost use Rattle.redo_core.specs.Roster.{least};
 ghost use Rattle.redo_core.specs.Shape.{max_number};
 ghost use Rattle.epoch_book.specs.Book.{IsBook};
-ghost use Rattle.hot_log.specs.Alive.{IsStraightEnd};
+ghost use Rattle.hot_log.specs.Alive.{HasNoneAbove, IsStraightEnd};
 ghost use Rattle.hot_log.specs.Held.{IsHeld};
 ghost use Rattle.hot_log.specs.Putting.{Puts, RefusesPut};
-ghost use Rattle.segment_core.specs.Points.{AnchorsOn, HasPoints, HasLowAnchor, IsUntouched, JoinsOnTop, MayLink, MoveOn, WerePoints, points_at};
+ghost use Rattle.segment_core.specs.Points.{AnchorsOn, HasPoints, HasLowAnchor, IsTopTo, IsUntouched, JoinsOnTop, MayLink, MoveOn, WerePoints, points_at};
 
 use epoch_book::{EpochBook, Standing};
 use hot_log::{HotLog, Put, PutFault};
@@ -56,10 +57,23 @@ impl Points {
         requires { HasLowAnchor book.now hot.now base self }
         ensures { HasPoints book.now hot.now base result }
     {
-        let from = if self.straight { self.anchor } else { base };
-        Points {
-            anchor: hot.linked_to(book, from, book.min_point()),
-            ..self
+        let anchor = if self.straight {
+            self.anchor_of_last(hot, book)
+        } else {
+            hot.linked_to(book, base, book.min_point())
+        };
+        Points { anchor, ..self }
+    }
+
+    /// The greatest linked number up to the minimum read point over a straight chain. Each alive record up to the complete point is
+    /// linked there, so it is the number of the last one; the chain is not walked.
+    fn anchor_of_last(self, hot: &HotLog, book: &EpochBook) -> u64
+        ensures { (base : ℕ) → HasLowAnchor book.now hot.now base self → IsTrue self.straight → IsTopTo book.now hot.now base (least book.now.points) result }
+    {
+        let to = book.min_point().min(self.complete);
+        match hot.last_alive(book, to) {
+            Some(redo) => redo.number().max(self.anchor),
+            None => self.anchor,
         }
     }
 
@@ -139,18 +153,57 @@ impl Points {
     {
         let (number, back) = (redo.number(), redo.back());
         let may_link = self.may_link(book, base, &redo);
+        let at_end = self.is_at_end(hot, book, may_link, back);
         match hot.put(redo)? {
             Put::Known => Ok(Put::Known),
             Put::New => {
                 if may_link {
                     *self = if self.straight && back == self.complete {
-                        self.on_top(hot, book, number)
+                        self.joined(hot, book, number, at_end)
                     } else {
                         Points::anew(hot, book, base)
                     };
                 }
                 Ok(Put::New)
             }
+        }
+    }
+
+    /// Whether no alive record is above the complete point. It is asked only for a record that may link there.
+    fn is_at_end(self, hot: &HotLog, book: &EpochBook, may_link: bool, back: u64) -> bool
+        ensures { IsTrue result → HasNoneAbove book.now hot.now self.complete }
+    {
+        may_link && back == self.complete && hot.has_none_above(book, self.complete)
+    }
+
+    /// The points after a record of this number has joined at the top of a straight chain. Where no alive record was above that, the
+    /// chain ends at the record.
+    fn joined(self, hot: &HotLog, book: &EpochBook, number: u64, at_end: bool) -> Points
+        requires small { self.complete ≤ max_number }
+        requires anchor { self.anchor ≤ least book.now.points }
+        ensures { (base : ℕ) → (j : JoinsOnTop book.now hot.now base number self) → (IsTrue at_end → HasNoneAbove book.now j.earlier self.complete) → HasPoints book.now hot.now base result }
+    {
+        if at_end {
+            self.on_end(book, number)
+        } else {
+            self.on_top(hot, book, number)
+        }
+    }
+
+    /// The points after a record of this number has joined at the top of a straight chain above which no record was alive. Nothing is
+    /// searched for.
+    fn on_end(self, book: &EpochBook, number: u64) -> Points
+        ensures { (held : List RecordData) (base : ℕ) → (j : JoinsOnTop book.now held base number self) → HasNoneAbove book.now j.earlier self.complete → HasPoints book.now held base result }
+    {
+        let anchor = if book.min_point() < number {
+            self.anchor
+        } else {
+            number
+        };
+        Points {
+            complete: number,
+            anchor,
+            straight: true,
         }
     }
 

@@ -16,7 +16,7 @@ returns-after-may_link-clause-points c =
     let puts : Puts old c.args.redo new New = subst (Puts old c.args.redo new) c.in-New.is c.in_ok-put.ensures.put in
     elim c.if-may_link.branch [
       | then-may_link+then-self+then-back-self w ↦ subst (HasPoints book new base) (sym w.self-is)
-          (w.on_top.ensures base (record {
+          (w.joined.ensures base (record {
             earlier = old;
             redo = c.args.redo;
             form = c.put.ensures.form;
@@ -26,7 +26,7 @@ returns-after-may_link-clause-points c =
             back = sym c.back-back.ensures.value ∙ w.if-back-self.true;
             straight = w.if-self.true;
             had = c.requires;
-          }))
+          }) c.is_at_end-at_end.ensures)
       | then-may_link+else-self w ↦ subst (HasPoints book new base) (sym w.self-is) w.anew.ensures
       | else-may_link w ↦ subst (HasPoints book new base) (sym w.self-is)
           (links_none book old new base p c.args.redo c.put.ensures.form puts

@@ -1,16 +1,22 @@
-use Rattle.std.proofs.Common.{◌≡◌, ◌≤◌, ◌⊎◌, inl, inr, sym, subst, IsTrue}
-use Rattle.segment_core.proofs.Moving.{anchor_on}
+use Rattle.std.proofs.Common.{◌≤◌, sym, subst}
 use Rattle.segment_core.proofs.points.Points.with_anchor.Goals as goal
-use Rattle.segment_core.proofs.points.Points.with_anchor.Goals.{then-self, else-self}
 
-pub returns : goal.returns
-returns c =
-    let n = c.linked_to.result in
-    let to = c.linked_to.ensures in
-    let from : (IsTrue c.args.self.straight × (c.if-self.from ≡ c.args.self.anchor)) ⊎ (c.if-self.from ≡ c.args.base) =
-    elim c.if-self.branch [ then-self w ↦ inl (w.if-self.true, w.from-is) | else-self w ↦ inr w.from-is ] in
-    anchor_on c.args.book.now c.args.hot.now c.args.base n c.if-self.from c.args.self c.requires from (record {
-      linked = to.linked;
-      bound = subst (λ m. n ≤ m) c.min_point.ensures.value to.bound;
-      most = λ m l le. to.greatest m l (subst (λ x. m ≤ x) (sym c.min_point.ensures.value) le);
-    })
+pub returns-then-self : goal.returns-then-self
+returns-then-self c = record {
+  complete = c.requires.complete;
+  anchor = c.anchor_of_last-anchor.ensures c.args.base c.requires c.if-self.true;
+  straight = c.requires.straight;
+}
+
+pub returns-else-self : goal.returns-else-self
+returns-else-self c =
+    let to = c.linked_to-anchor.ensures in
+    record {
+      complete = c.requires.complete;
+      anchor = record {
+        linked = to.linked;
+        bound = subst (λ m. c.linked_to-anchor.result ≤ m) c.min_point.ensures.value to.bound;
+        most = λ m l le. to.greatest m l (subst (λ x. m ≤ x) (sym c.min_point.ensures.value) le);
+      };
+      straight = c.requires.straight;
+    }
