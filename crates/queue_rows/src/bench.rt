@@ -21,14 +21,15 @@ pub struct Bench {
     diaries: Diaries,
 }
 
-impl Bench {
-    pub fn new(alloc: Global) -> Result<Bench, AllocError> {
-        Ok(Bench {
-            lane: Lane::open(alloc, 1)?,
-            diaries: Diaries::open(alloc)?,
-        })
-    }
+pub fn new_bench(alloc: Global) -> Result<Box<Bench>, AllocError> {
+    let bench = Bench {
+        lane: Lane::open(alloc, 1)?,
+        diaries: Diaries::open(alloc)?,
+    };
+    Ok(Box::new(alloc, bench)?)
+}
 
+impl Bench {
     fn of_intake<R: Wait>(
         &mut self,
         rt: &R,

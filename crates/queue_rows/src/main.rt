@@ -9,11 +9,10 @@ mod relay;
 mod senders;
 mod words;
 
-use bench::Bench;
 use std::io;
 
 fn main(rt: HostRuntime) -> io::Result<()> {
-    let mut bench = Bench::new(rt.alloc())?;
+    let mut bench = bench::new_bench(rt.alloc())?;
     for line in rt.lines(rt.alloc()) {
         let line = line?;
         let (name, numbers) = words::of(line.as_str());
