@@ -39,6 +39,7 @@ fn chain(log: &HotLog, book: &EpochBook, call: Call) -> Option<Answer> {
         "linked_record" => row(log.linked_record(book, first, second)),
         "last_alive" => row(log.last_alive(book, first)),
         "opens_below" => Answer::Flag(log.opens_below(book, short(first), second)),
+        "has_none_above" => Answer::Flag(log.has_none_above(book, first)),
         _ => return None,
     })
 }
