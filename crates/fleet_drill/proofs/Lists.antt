@@ -15,9 +15,6 @@ pub last_at : {X : Type 0} (xs : List X) (x : X) → slice_get (xs ++ x ∷ []) 
 last_at [] x = refl
 last_at (z ∷ xs) x = last_at xs x
 
-pub each_nil : {X Y : Type 0} (R : ℕ → X → Y → Type 0) (xs : List X) (ys : List Y) → ys ≡ [] → Each R xs ys
-each_nil R xs ys is = subst (Each R xs) (sym is) (record { at = λ k x y ex ey. absurd cc })
-
 -- both have one more
 pub each_both : {X Y : Type 0} (xs xs' : List X) (ys ys' : List Y) (x : X) (y : Y) (R : ℕ → X → Y → Type 0) → Each R xs ys → length ys ≡ length xs → xs' ≡ xs ++ x ∷ [] → ys' ≡ ys ++ y ∷ [] → R (length xs) x y → Each R xs' ys'
 each_both xs xs' ys ys' x y R all len xis yis own = subst (λ zs. Each R zs ys') (sym xis) (subst (Each R (xs ++ x ∷ [])) (sym yis) (record {
