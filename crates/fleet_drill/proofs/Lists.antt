@@ -74,3 +74,6 @@ named_same xs n k x i is named at =
 -- what stands in a list stands in one that is the same
 pub slice_as : {X : Type 0} (xs ys : List X) (k : ℕ) (x : X) → xs ≡ ys → slice_get ys k ≡ Some x → slice_get xs k ≡ Some x
 slice_as xs ys k x same at = subst (λ zs. slice_get zs k ≡ Some x) (sym same) at
+
+pub one_longer : {X : Type 0} (xs ys : List X) (x : X) → ys ≡ xs ++ x ∷ [] → length ys ≡ length xs + 1
+one_longer xs ys x is = ap length is ∙ length-append xs (x ∷ [])

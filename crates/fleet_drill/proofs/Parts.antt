@@ -1,6 +1,8 @@
 -- Parts of one log.
-use Rattle.std.proofs.Common.{◌≡◌, ℕ, List, Result, Ok, Err, sym, subst, arith}
-use Rattle.std.specs.Prelude.{OnOk, OnErr}
+use Rattle.std.proofs.Common.{◌≡◌, ◌∙◌, ℕ, zero, suc, [], ◌∷◌, ◌<◌, ◌≤◌, ◌+◌, ◌⊎◌, inl, inr, ⊎_elim, Some, List, ◌++◌, Result, Ok, Err, sym, subst, arith}
+use Rattle.std.specs.Prelude.{OnOk, OnErr, slice_get, slice_index_or}
+use Rattle.std.proofs.lemmas.Bool.{cases_lt}
+use Rattle.std.proofs.lemmas.List.Elements.{Contains-append_left, Contains-append_right}
 use Rattle.redo_core.specs.Sound.{IsSound}
 use Rattle.redo_core.specs.declared.facts.Fact.{Fact}
 use Rattle.segment_state.specs.State.{State}
@@ -11,6 +13,9 @@ use Rattle.segment_core.specs.declared.answers.ReadFault.{ReadFault}
 use Rattle.segment_core.specs.declared.answers.ReadFault.TheVariants.{Above, BrokenBlockChain}
 use Rattle.segment_core.specs.Reading.{IsFrontAt, IsReadFault}
 use Rattle.segment_join.specs.Joining.{MeansUnion}
+use Rattle.node_lock.specs.Trail.{Entry}
+use Rattle.node_cell.specs.Kept.{KeptData, IsKept}
+use Rattle.node_cell.proofs.Places.{wider}
 use Rattle.fleet_drill.specs.Parts.{MeansPart}
 
 -- what is joined of two parts means their union, and a refused join changes nothing
@@ -18,6 +23,21 @@ pub joined_part : {A E : Type 0} (roster : ℕ) (log : List Fact) (s t u : State
     → IsSound roster log → MeansPart roster log s → MeansPart roster log t → OnOk r (MeansUnion s t u) → OnErr r (u ≡ s) → MeansPart roster log u
 joined_part roster log s t u (Ok x) sound f g union same = (_, union roster log f.0 g.0 sound f.1 g.1)
 joined_part roster log s t u (Err e) sound f g union same = subst (MeansPart roster log) (sym same) f
+
+-- the union has what either had
+pub union_keeps : (roster : ℕ) (log : List Fact) (s t u : State) (trail others : List Entry) → IsSound roster log → MeansUnion s t u → IsKept roster log s trail → IsKept roster log t others → IsKept roster log u trail
+union_keeps roster log s t u trail others sound union k o = record {
+  facts = k.facts ++ o.facts;
+  means = union roster log k.facts o.facts sound k.means o.means;
+  has = wider log k.facts (k.facts ++ o.facts) trail (λ x h. Contains-append_left k.facts o.facts x h) k.has;
+}
+
+pub union_brings : (roster : ℕ) (log : List Fact) (s t u : State) (others : List Entry) → IsSound roster log → MeansUnion s t u → MeansPart roster log s → IsKept roster log t others → IsKept roster log u others
+union_brings roster log s t u others sound union p o = record {
+  facts = p.0 ++ o.facts;
+  means = union roster log p.0 o.facts sound p.1 o.means;
+  has = wider log o.facts (p.0 ++ o.facts) others (λ x h. Contains-append_right p.0 o.facts x h) o.has;
+}
 
 -- a read of the complete point is of no point above it
 pub never_above : (roster : ℕ) (log : List Fact) (s : State) (front : Front) (page complete : ℕ) (fault : ReadFault) → IsSound roster log → MeansPart roster log s
@@ -35,3 +55,31 @@ pub never_broken : (roster : ℕ) (log : List Fact) (s : State) (page point brok
     → fault ≡ BrokenBlockChain broken number → ⊥
 never_broken roster log s page point broken number fault sound part r is =
     subst (IsReadFault part.0 part.1.0 page point) is (r roster log part.0 part.1.0 sound part.1.1)
+
+at_or : {X : Type 0} (xs : List X) (k : ℕ) (x d : X) → slice_get xs k ≡ Some x → slice_index_or xs k d ≡ x
+at_or [] k x d e = absurd cc
+at_or (y ∷ xs) zero x d e = cc
+at_or (y ∷ xs) (suc k) x d e = at_or xs k x d e
+
+-- of the nodes so far, and of the segment's own, a part has all acknowledged facts: one node more is brought in
+pub more_kept : (roster : ℕ) (log : List Fact) (closed : List KeptData) (old new : State) (place own : ℕ) (shown : KeptData)
+    → ((n : ℕ) (c : KeptData) → ((n < place) ⊎ (n ≡ own)) → slice_get closed n ≡ Some c → IsKept roster log old c.trail) → shown ≡ slice_index_or closed place shown
+    → ((trail : List Entry) → IsKept roster log old trail → IsKept roster log new trail) → IsKept roster log new shown.trail
+    → (n : ℕ) (c : KeptData) → ((n < place + 1) ⊎ (n ≡ own)) → slice_get closed n ≡ Some c → IsKept roster log new c.trail
+more_kept roster log closed old new place own shown inv at keeps brings n c (inr is) e = keeps c.trail (inv n c (inr is) e)
+more_kept roster log closed old new place own shown inv at keeps brings n c (inl lt) e = ⊎_elim
+    (λ (low : n < place). keeps c.trail (inv n c (inl low) e))
+    (λ (high : place ≤ n).
+    let is : n ≡ place = omega (arith, lt, high) in
+    subst (λ (k : KeptData). IsKept roster log new k.trail) (at ∙ at_or closed place c shown (subst (λ m. slice_get closed m ≡ Some c) is e)) brings)
+    (cases_lt n place)
+
+-- or it is the segment's own
+pub own_kept : (roster : ℕ) (log : List Fact) (closed : List KeptData) (old : State) (place own : ℕ)
+    → ((n : ℕ) (c : KeptData) → ((n < place) ⊎ (n ≡ own)) → slice_get closed n ≡ Some c → IsKept roster log old c.trail) → place ≡ own
+    → (n : ℕ) (c : KeptData) → ((n < place + 1) ⊎ (n ≡ own)) → slice_get closed n ≡ Some c → IsKept roster log old c.trail
+own_kept roster log closed old place own inv same n c (inr is) e = inv n c (inr is) e
+own_kept roster log closed old place own inv same n c (inl lt) e = ⊎_elim
+    (λ (low : n < place). inv n c (inl low) e)
+    (λ (high : place ≤ n). let is : n ≡ own = omega (arith, lt, high, same) in inv n c (inr is) e)
+    (cases_lt n place)

@@ -1,5 +1,7 @@
-ghost use Rattle.std.specs.Prelude.{◌≡◌};
-ghost use Rattle.fleet_drill.specs.Parts.{MeansPart};
+ghost use Rattle.std.specs.Prelude.{◌≡◌, ◌<◌, List, All, IfOk, OnOk, length};
+ghost use Rattle.fleet_drill.specs.Parts.{MeansPart, HasAll};
+ghost use Rattle.node_cell.specs.Kept.{IsKept};
+ghost use Rattle.node_lock.specs.Trail.{Entry};
 
 use named_log::LogName;
 use node_cell::Closed;
@@ -27,7 +29,9 @@ impl<L: LogName> Model for Joined<L> {
 }
 
 impl<L: LogName> Joined<L> {
-    fn copy_of(closed: &Closed<L>) -> Result<Self, AllocError> {
+    fn copy_of(closed: &Closed<L>) -> Result<Self, AllocError>
+        ensures { IfOk result (λ j. IsKept L.roster L.log j closed.now.trail) }
+    {
         Ok(Joined {
             segment: closed.segment().copy()?,
             of: PhantomData,
@@ -42,7 +46,10 @@ impl<L: LogName> Joined<L> {
     }
 
     // Over one log a join is refused for want of memory alone.
-    fn take_in(&mut self, other: &Closed<L>) -> Result<(), AllocError> {
+    fn take_in(&mut self, other: &Closed<L>) -> Result<(), AllocError>
+        ensures keeps { OnOk result ((trail : List Entry) → IsKept L.roster L.log self.old trail → IsKept L.roster L.log self.new trail) }
+        ensures brings { OnOk result (IsKept L.roster L.log self.new other.now.trail) }
+    {
         match join(&mut self.segment, other.segment()) {
             Ok(()) => Ok(()),
             Err(Refusal::Memory) => Err(AllocError),
@@ -51,27 +58,31 @@ impl<L: LogName> Joined<L> {
     }
 }
 
-/// A copy of each node's segment, joined with those of all the others. Its only error is want of memory.
+/// A copy of each node's segment, joined with those of all the others: it means a part of the log that has all facts which any of the
+/// nodes acknowledged. Its only error is want of memory.
 pub fn join_all<L: LogName>(
     alloc: Global,
     closed: &[Closed<L>],
-) -> Result<Vec<Joined<L>>, AllocError> {
+) -> Result<Vec<Joined<L>>, AllocError>
+    ensures len { IfOk result (λ joined. length joined.items ≡ length closed.now) }
+    ensures has { IfOk result (λ joined. All (λ j. HasAll L.roster L.log j closed.now) joined.items) }
+{
     let mut joined = Vec::with_capacity(alloc, closed.len())?;
-    for (own, node) in closed.iter().enumerate() {
-        joined.push(joined_with(node, own, closed)?)?;
+    for own in 0..closed.len() {
+        joined.push(joined_with(own, closed)?)?;
     }
     Ok(joined)
 }
 
-fn joined_with<L: LogName>(
-    node: &Closed<L>,
-    own: usize,
-    closed: &[Closed<L>],
-) -> Result<Joined<L>, AllocError> {
-    let mut joined = Joined::copy_of(node)?;
-    for (place, other) in closed.iter().enumerate() {
+// The copy of this node's segment.
+fn joined_with<L: LogName>(own: usize, closed: &[Closed<L>]) -> Result<Joined<L>, AllocError>
+    requires { own < length closed.now }
+    ensures { IfOk result (λ j. HasAll L.roster L.log j closed.now) }
+{
+    let mut joined = Joined::copy_of(&closed[own])?;
+    for place in 0..closed.len() {
         if place != own {
-            joined.take_in(other)?;
+            joined.take_in(&closed[place])?;
         }
     }
     Ok(joined)
