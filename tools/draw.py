@@ -1,0 +1,423 @@
+#!/usr/bin/env python3
+"""Draws a log, or a script after some of its steps, as SVG on standard output.
+
+    draw.py FILE                a log (as `fleet check` reads it), or a script (as `fleet run` does) at its end
+    draw.py FILE --after N      the script after its first N steps
+
+From the top: the chain of the segment, with a lane for each epoch and what each truncation annuls; the chain of each page; the
+advances of each reader; and of each node what came to it, its anchor, and where its pages may be read. In place of nodes a log
+has a row that all its facts came to. A log that is not sound is drawn without nodes, with the first place that breaks a law.
+
+What is told of nodes comes from the rules (`oracle.py`), and not from the program. What a node has folded or thrown away does not
+show, for it changes no answer. A text that is no log and no script, one of more than 400 facts and a step that is not there are
+answered with a line on standard error and status 2.
+"""
+
+import argparse
+import pathlib
+import sys
+
+import oracle
+import svg_forms as forms
+from rules import Advance, Cut, Meaning, Record, counted, first_fault, is_alive, of_kind
+
+MOST_FACTS = 400
+MARGIN, WIDTH = 16, 880  # at the edges; and what the whole is at least wide
+LANE, BOX = 60, 34  # of the segment's chain
+PAGE_LANE, PAGE_BOX = 40, 24
+READER_ROW, NODE_ROW = 40, 92
+
+
+class NoPicture(Exception):
+    """Why there is nothing to draw, in words."""
+
+
+# What is drawn
+
+
+class Log:
+    """The facts of a log, each once, in kinds; and what they mean together."""
+
+    def __init__(self, roster, log):
+        facts = list(dict.fromkeys(log))
+        self.roster, self.facts = roster, log
+        self.records = sorted(of_kind(Record, facts), key=Record.key)
+        self.cuts = sorted(counted(facts), key=lambda cut: cut.epoch)
+        self.advances = of_kind(Advance, facts)
+        self.pages = sorted({record.page for record in self.records})
+        self.epochs = sorted({0, *(fact.epoch for fact in (*self.records, *self.cuts))})
+        self.fault = first_fault(roster, log)
+        self.meaning = Meaning(roster, frozenset(facts))
+
+    def numbers(self):
+        """Each number that occurs."""
+        of_records = (n for r in self.records for n in (r.number, r.back, r.block_back))
+        of_cuts = (n for cut in self.cuts for n in (cut.lo, cut.hi))
+        return sorted({0, *of_records, *of_cuts, *(advance.point for advance in self.advances)})
+
+    def named(self, record, number, page):
+        """The record that a backlink names: the one of the number that is alive in the view of the record's epoch, or None."""
+        alive = [r for r in self.records if r.number == number and page in (None, r.page) and is_alive(self.cuts, record.epoch, r)]
+        return alive[-1] if alive else None
+
+    def faulty(self):
+        """The fact that breaks a law, or None."""
+        return self.facts[self.fault[0] - 1] if self.fault else None
+
+
+def standings(meaning, records):
+    """How each record stands in a meaning."""
+    chain = frozenset(meaning.linked)
+
+    def standing(record):
+        if meaning.is_waiting(record):
+            return "waiting"
+        if not meaning.is_alive(record):
+            return "dead"
+        return "linked" if record in chain else "apart"
+
+    return {record: standing(record) for record in records}
+
+
+def words_of(fact):
+    """A fact in words."""
+    if isinstance(fact, Record):
+        return f"record {fact.number} of epoch {fact.epoch}"
+    if isinstance(fact, Cut):
+        return f"truncation of epoch {fact.epoch}"
+    return f"advance of reader {fact.reader} to {fact.point}"
+
+
+def told(meaning):
+    """What a node answers, in two lines."""
+    front = f"front {meaning.epoch} {meaning.complete} {meaning.min}, anchor {meaning.anchor}"
+    if meaning.min > meaning.complete:
+        return front, "no point may be read"
+    points = f"{meaning.min}" if meaning.min == meaning.complete else f"{meaning.min} to {meaning.complete}"
+    return front, f"may be read: {points}"
+
+
+# Where it stands
+
+
+class Picture(forms.Canvas):
+    """A canvas with a column for each number, at equal distances, and labels to their left; `y` is how far down it has come."""
+
+    def __init__(self, log, labels):
+        super().__init__()
+        numbers = log.numbers()
+        words = [str(number) for number in numbers] + [f"p{page}" for page in log.pages]
+        self.half = max(18, *(forms.width_of(word, 15) // 2 + 10 for word in words))
+        self.left = MARGIN + max(130, *(forms.width_of(label) for label in labels)) + 12
+        self.step = max(2 * self.half + 26, min(130, (WIDTH - self.left - 2 * MARGIN) // len(numbers)))
+        self.places = {number: self.left + self.step // 2 + i * self.step for i, number in enumerate(numbers)}
+        self.right = self.left + self.step * len(numbers)
+        self.width = max(WIDTH, self.right + 2 * MARGIN)
+        self.tints = {page: forms.TINTS[i % len(forms.TINTS)] for i, page in enumerate(log.pages)}
+        self.y = 0
+
+    def at(self, number):
+        return self.places[number]
+
+    def above(self, number):
+        """Between a number and the next one."""
+        return self.places[number] + self.step // 2
+
+    def label(self, y, *lines):
+        """Words at the left of a row, the first ones in bold, in the middle of it."""
+        top = y + 4 - 8 * (len(lines) - 1)
+        for i, line in enumerate(lines):
+            self.text(MARGIN, top + 16 * i, line, 12, **({"fill": forms.QUIET} if i else {"font_weight": "bold"}))
+
+    def rule(self):
+        """Parts what comes from what went before."""
+        self.line(MARGIN, self.y, self.width - MARGIN, self.y, forms.QUIET, stroke_opacity="0.4")
+
+
+def draw_head(picture, title, subtitle):
+    picture.text(MARGIN, 30, title, 17, font_weight="bold")
+    picture.text(MARGIN, 50, subtitle, 12, fill=forms.QUIET)
+    picture.y = 82
+    picture.label(picture.y - 4, "number")
+    for number, x in picture.places.items():
+        picture.centred(x, picture.y, str(number), 12, fill=forms.QUIET)
+    picture.y += 10
+    picture.rule()
+
+
+def draw_grid(picture, begin):
+    """A faint line down each column, behind all else."""
+    front, picture.forms = picture.forms, []
+    for x in picture.places.values():
+        picture.line(x, begin, x, picture.y, forms.GRID)
+    picture.forms += front
+
+
+# Chains
+
+
+def way(start, goal, half, high, is_blocked):
+    """How an arrow goes from a record's left edge to what its backlink names: up to another lane, along its own, or round others."""
+    (begin, y), (x, over) = start, goal
+    if over < y:
+        return f"M{begin},{y} H{x + 10} Q{x},{y} {x},{y - 10} V{over + high // 2 + 2}"
+    end = x + half + 2
+    if not is_blocked:
+        return f"M{begin},{y} H{end}"
+    low = y + high // 2 - 4
+    return f"M{begin},{low} Q{(begin + end) // 2},{low + 22} {end},{low}"
+
+
+def draw_backlink(picture, log, lanes, high, record, page):
+    """Of a record in the chain of its page, or of the segment where the page is None."""
+    number = record.back if page is None else record.block_back
+    start = picture.at(record.number) - picture.half, lanes[record.epoch]
+    if number == 0:
+        goal, half, high = min(lanes), 2, 20
+    else:
+        named = log.named(record, number, page)
+        goal, half = (named.epoch, picture.half) if named else (record.epoch, 8)
+        if named is None:
+            picture.centred(picture.at(number), start[1] + 4, "?", 13, font_weight="bold")
+    between = [r for r in log.records if r.epoch == record.epoch and number < r.number < record.number and page in (None, r.page)]
+    forms.arrow(picture, way(start, (picture.at(number), lanes[goal]), half, high, between))
+
+
+def draw_chain(picture, log, lanes, high, page=None):
+    """A box for each record on the lane of its epoch, and an arrow for each backlink; the chain begins at 0.
+
+    Records of one key, which only logs that are not sound have, lie on each other, each a little further down.
+    """
+    shown = [r for r in log.records if page in (None, r.page)]
+    picture.line(picture.at(0), lanes[min(lanes)] - 10, picture.at(0), lanes[min(lanes)] + 10, stroke_width=4)
+    for record in shown:
+        draw_backlink(picture, log, lanes, high, record, page)
+    seen = []
+    for record, standing in standings(log.meaning, shown).items():
+        down = 7 * seen.count(record.key())
+        seen.append(record.key())
+        x, y = picture.at(record.number) + down, lanes[record.epoch] + down
+        forms.box(picture, standing, x, y, picture.half, high, picture.tints[record.page])
+        if record.init:
+            forms.init_edge(picture, x, y, picture.half, high)
+        if record == log.faulty():
+            picture.mark("fault", x - picture.half, y - high // 2)
+        picture.centred(x, y - 1 if page is None else y + 5, str(record.number), 13, font_weight="bold")
+        if page is None:
+            picture.centred(x, y + 12, f"p{record.page}", 11)
+
+
+def lanes_of(picture, epochs, high):
+    """Where the lane of each epoch is; the picture comes down below them."""
+    lanes = {epoch: picture.y + 10 + i * high + high // 2 for i, epoch in enumerate(epochs)}
+    picture.y += 20 + len(epochs) * high
+    return lanes
+
+
+def words_of_cut(log, cut):
+    """In brackets where that of an epoch before is missing, for then it annuls nothing."""
+    words = f"truncation: lo {cut.lo}, hi {cut.hi}"
+    return words if cut.epoch <= log.meaning.epoch else f"({words})"
+
+
+def draw_segment(picture, log):
+    picture.label(picture.y + 18, "chain of the segment")
+    picture.y += 18
+    lanes = lanes_of(picture, log.epochs, LANE)
+    first = lanes[log.epochs[0]] - LANE // 2 + 4
+    cuts = {cut.epoch: cut for cut in log.cuts}
+    for epoch, y in lanes.items():
+        cut = cuts.get(epoch)
+        picture.label(y, f"epoch {epoch}", *([words_of_cut(log, cut)] if cut else []))
+        if cut:
+            picture.mark("hi", picture.above(cut.hi), y)
+        if cut and epoch <= log.meaning.epoch:
+            begin = picture.above(cut.lo)
+            forms.annulled(picture, begin, first, picture.right - begin, y - LANE // 2 - first)
+    draw_chain(picture, log, lanes, BOX)
+    picture.rule()
+
+
+def draw_pages(picture, log):
+    for page in log.pages:
+        epochs = sorted({r.epoch for r in log.records if r.page == page})
+        middle = picture.y + 10 + len(epochs) * PAGE_LANE // 2
+        picture.label(middle, f"chain of page {page}")
+        draw_chain(picture, log, lanes_of(picture, epochs, PAGE_LANE), PAGE_BOX, page)
+        picture.rule()
+
+
+# Points and nodes
+
+
+def by_point(pairs):
+    """For each point what goes with it, both rising, from pairs of the two."""
+    groups = {}
+    for point, other in sorted(set(pairs)):
+        groups.setdefault(point, []).append(other)
+    return groups
+
+
+def listed(numbers):
+    """Rising numbers in few words: two or more that follow each other as `1-3`."""
+    runs = []
+    for number in numbers:
+        if runs and runs[-1][1] == number - 1:
+            runs[-1][1] = number
+        else:
+            runs.append([number, number])
+    return ", ".join(str(low) if low == high else f"{low}-{high}" for low, high in runs)
+
+
+def draw_advances(picture, log):
+    """A row for each reader; with the epoch of each advance, where there are several."""
+    for reader in sorted({advance.reader for advance in log.advances}):
+        middle = picture.y + READER_ROW // 2
+        picture.label(middle, "advances" if log.roster == 1 == reader else f"advances of reader {reader}")
+        for point, epochs in by_point((a.point, a.epoch) for a in log.advances if a.reader == reader).items():
+            picture.mark("point", picture.at(point), middle - 3)
+            if len(log.epochs) > 1:
+                picture.centred(picture.at(point), middle + 14, f"epoch {listed(epochs)}", 11, fill=forms.QUIET)
+        picture.y += READER_ROW
+    if log.advances:
+        picture.rule()
+
+
+def draw_points(picture, log, meaning, y):
+    """Each reader's point, and the advances that wait, with the readers' numbers, where there are several."""
+    points = by_point((point, i + 1) for i, point in enumerate(meaning.points))
+    later = by_point((advance.point, advance.reader) for advance in meaning.waits)
+    for kind, groups in (("point", points), ("later point", later)):
+        for point, readers in groups.items():
+            x = picture.at(point) + (18 if kind == "later point" and point in points else 0)
+            picture.mark(kind, x, y)
+            words = listed(readers)
+            if log.roster > 1:
+                picture.centred(x, y + 18, words if forms.width_of(words, 11) < picture.step else f"{len(readers)} readers", 11)
+
+
+def draw_cuts(picture, meaning, y):
+    """The truncations that came, each at its lo; in brackets where that of an epoch before is missing."""
+    for lo, epochs in by_point((cut.lo, cut.epoch) for cut in meaning.cuts).items():
+        picture.mark("cut", picture.above(lo), y)
+        begun, early = ([e for e in epochs if (e <= meaning.epoch) == is_begun] for is_begun in (True, False))
+        words = ([f"cut {listed(begun)}"] if begun else []) + ([f"(cut {listed(early)})"] if early else [])
+        if early:
+            picture.kinds.add("early cut")
+        picture.centred(picture.above(lo), y - 23, " ".join(words), 11, fill=forms.RED)
+
+
+def draw_node(picture, log, name, facts):
+    """What came to a node, how far its chain goes, its anchor, and where its pages may be read."""
+    meaning = Meaning(log.roster, facts)
+    y = picture.y + NODE_ROW // 2 - 4
+    picture.label(y, name, *told(meaning))
+    forms.settled(picture, picture.at(0), picture.at(meaning.anchor), y)
+    forms.reach(picture, picture.at(0), picture.at(meaning.complete), y)
+    if meaning.min <= meaning.complete:
+        forms.readable(picture, picture.at(meaning.min) - 14, picture.at(meaning.complete) + 14, y)
+    draw_cuts(picture, meaning, y)
+    standing = standings(meaning, of_kind(Record, facts))
+    seen = []
+    for record in log.records:
+        picture.mark(standing.get(record, "absent"), picture.at(record.number) + 16 * seen.count(record.number), y)
+        seen.append(record.number)
+    draw_points(picture, log, meaning, y + 27)
+    picture.y += NODE_ROW
+    picture.rule()
+
+
+# The whole
+
+
+def in_words(log, rows):
+    """What the picture shows, for those who do not see it."""
+    kinds = (("record", log.records), ("truncation", log.cuts), ("advance", log.advances))
+    counts = ", ".join(f"{len(facts)} {kind}{'s' * (len(facts) != 1)}" for kind, facts in kinds)
+    return ". ".join([f"A log of {counts}", *(f"{name}: {', '.join(told(Meaning(log.roster, facts)))}" for name, facts in rows)]) + "."
+
+
+def drawn(log, nodes, title, subtitle):
+    """The picture of a log, and of nodes, each the set of its facts; of all its facts, where there are no nodes and it is sound."""
+    rows = [(f"node {i + 1}", facts) for i, facts in enumerate(nodes)]
+    if not rows and not log.fault:
+        rows = [("all facts", frozenset(log.facts))]
+    labels = [line for _, facts in rows for line in told(Meaning(log.roster, facts))]
+    picture = Picture(log, [*labels, *(words_of_cut(log, cut) for cut in log.cuts), "advances of reader 15"])
+    draw_head(picture, title, subtitle)
+    begin = picture.y
+    draw_segment(picture, log)
+    draw_pages(picture, log)
+    draw_advances(picture, log)
+    for name, facts in rows:
+        draw_node(picture, log, name, facts)
+    draw_grid(picture, begin)
+    height = picture.y + 12 + forms.legend(picture, picture.y + 12, picture.width) + MARGIN
+    return picture.svg(picture.width, height, title, f"{subtitle}. {in_words(log, rows)}")
+
+
+def read_text(text):
+    """What was read of a log, or of a script: a text with the line `go`."""
+    is_script = "go" in text.split("\n")
+    reader = oracle.ScriptReader() if is_script else oracle.Reader()
+    bad = oracle.bad_line(text, reader.line if is_script else reader.fact_line)
+    if bad is None and is_script and reader.nodes is None:
+        bad = text.count("\n") + 1
+    if bad is not None:
+        raise NoPicture(f"bad line {bad}")
+    if len(reader.facts) > MOST_FACTS:
+        raise NoPicture(f"{len(reader.facts)} facts, and at most {MOST_FACTS} can be drawn")
+    return reader, is_script
+
+
+def steps_of(reader, is_script, after):
+    """The steps of a script that go before the picture."""
+    if after is None:
+        return reader.steps if is_script else []
+    if not is_script:
+        raise NoPicture("a log has no steps")
+    if not 0 <= after <= len(reader.steps):
+        raise NoPicture(f"the script has {len(reader.steps)} steps, and no picture after {after}")
+    return reader.steps[:after]
+
+
+def picture_of(path, after=None):
+    """The picture of a file: of a log, or of a script after so many steps, or all."""
+    reader, is_script = read_text(path.read_bytes().decode("latin-1"))
+    steps, log = steps_of(reader, is_script, after), Log(reader.roster, reader.facts)
+    title = "".join(c if c.isprintable() else "?" for c in path.name)
+    if log.fault:
+        place, law = log.fault
+        return drawn(log, [], title, f"not sound: fact {place}, the {words_of(log.faulty())}, breaks law {law}")
+    if not is_script:
+        return drawn(log, [], title, "a sound log")
+    fleet = oracle.Fleet(reader.roster, reader.facts, reader.nodes)
+    for step in steps:
+        fleet.step(step)
+    last = f"; the last was: {' '.join(map(str, steps[-1]))}" if steps else ""
+    return drawn(log, fleet.nodes, title, f"after {len(steps)} of {len(reader.steps)} steps{last}")
+
+
+class Parser(argparse.ArgumentParser):
+    """One that says in one line what is wrong."""
+
+    def error(self, message):
+        self.exit(2, f"draw: {message}\n")
+
+
+def main():
+    parser = Parser(description=__doc__, formatter_class=argparse.RawDescriptionHelpFormatter)
+    parser.add_argument("file", type=pathlib.Path, help="the text of a log or of a script")
+    parser.add_argument("--after", type=int, metavar="N", help="how many steps of the script go before")
+    given = parser.parse_args()
+    try:
+        picture = picture_of(given.file, given.after)
+    except OSError as why:
+        parser.error(why.strerror.lower())
+    except NoPicture as why:
+        parser.error(str(why))
+    sys.stdout.buffer.write(picture.encode())
+
+
+if __name__ == "__main__":
+    main()
