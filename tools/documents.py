@@ -1,14 +1,17 @@
 #!/usr/bin/env python3
 """Tests that the documents say what is: the map has the crates and what they stand on, the files that they name are there,
-and the README names the kit at hand. Prints a line for each difference, and ends in 'N passed, M failed'.
+the pictures are what their commands make, and the README names the kit at hand. Prints a line for each difference, and ends in
+'N passed, M failed'.
 
-With --map it first writes what the crates stand on into the rows of the map.
+With --map it first writes what the crates stand on into the rows of the map, and with --pictures it first makes the pictures.
 """
 
 import pathlib
 import re
 import subprocess
 import sys
+
+import draw
 
 ROOT = pathlib.Path(__file__).resolve().parent.parent
 MAP = ROOT / "docs/MAP.md"
@@ -58,15 +61,47 @@ def write_map():
 FILE = re.compile(r"`((?:(?:crates|docs|examples|rows|tools|bench|\.ci)/)?[A-Za-z_/]+\.(?:md|py|rt|antt|txt))`")
 
 
+def documents_there():
+    return [ROOT / "README.md", *sorted((ROOT / "docs").glob("*.md")), *sorted(ROOT.glob("*/README.md"))]
+
+
 def files_are_there():
     """A file is named by its path, or by its name in the same folder or in docs/."""
-    for page in [ROOT / "README.md", *sorted((ROOT / "docs").glob("*.md")), *sorted(ROOT.glob("*/README.md"))]:
+    for page in documents_there():
         for name in FILE.findall(page.read_text()):
             is_path = name.split("/")[0] in ("crates", "docs", "examples", "rows", "tools", "bench", ".ci")
             is_page = "/" not in name and name.endswith((".md", ".py"))
             places = (ROOT, ROOT / "docs", page.parent)
             if (is_path or is_page) and "NAME" not in name and not any((place / name).exists() for place in places):
                 yield f"{page.relative_to(ROOT)} names {name}, which is not there"
+
+
+COMMAND = re.compile(r"^    tools/draw\.py (examples/[a-z]+\.txt)(?: --after ([0-9]+))? > (docs/pictures/[a-z]+\.svg)$", re.M)
+SHOWN = re.compile(r"!\[[^]]*\]\(([^)]*)\)")
+
+
+def pictures():
+    """The bytes of each picture, as the command makes it that docs/PICTURES.md has for it."""
+    commands = COMMAND.findall((ROOT / "docs/PICTURES.md").read_text())
+    return {ROOT / name: draw.picture_of(ROOT / text, int(after) if after else None).encode() for text, after, name in commands}
+
+
+def pictures_are_made():
+    """Each picture is what its command makes, byte for byte, and each that a document shows is there."""
+    made = pictures()
+    for path in sorted({*made, *(ROOT / "docs/pictures").iterdir()}):
+        if not path.exists() or path.read_bytes() != made.get(path):
+            yield f"{path.relative_to(ROOT)} is not what docs/PICTURES.md has a command for; --pictures makes it"
+    for page in documents_there():
+        for name in SHOWN.findall(page.read_text()):
+            if not (page.parent / name).exists():
+                yield f"{page.relative_to(ROOT)} shows {name}, which is not there"
+
+
+def make_pictures():
+    for path, content in pictures().items():
+        path.parent.mkdir(exist_ok=True)
+        path.write_bytes(content)
 
 
 def kit_is_named():
@@ -79,7 +114,7 @@ def kit_is_named():
 def documents():
     """How many tests passed, and how many failed."""
     passed = failed = 0
-    for test in (map_tells_the_crates, files_are_there, kit_is_named):
+    for test in (map_tells_the_crates, files_are_there, pictures_are_made, kit_is_named):
         faults = list(test())
         for fault in faults:
             print(f"documents: {fault}")
@@ -90,6 +125,8 @@ def documents():
 def main():
     if sys.argv[1:] == ["--map"]:
         write_map()
+    if sys.argv[1:] == ["--pictures"]:
+        make_pictures()
     passed, failed = documents()
     print(f"{passed} passed, {failed} failed")
     sys.exit(1 if failed else 0)
