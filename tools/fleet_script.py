@@ -50,7 +50,9 @@ class Tree:
         self.tools = pathlib.Path(folder) / "tools"
         (self.top / "crates/fleet").mkdir(parents=True)
         self.tools.mkdir()
+        (self.top / "docs").mkdir()
         (self.top / "crates.txt").write_text("# the floors\nlow: bytes\nother: low\nfleet: low\n")
+        shutil.copytree(ROOT / "docs/help", self.top / "docs/help")
         shutil.copy(ROOT / "fleet", self.top / "fleet")
         rt = self.tools / "rt"
         rt.write_text(RT)
@@ -60,8 +62,8 @@ class Tree:
         path = f"{self.tools}:{os.environ['PATH']}"
         return {**os.environ, "PATH": path, "PROGRAM": PROGRAM, "TMPDIR": str(self.tools), **more}
 
-    def run(self, command=None, **more):
-        words = [command or self.top / "fleet", "run", "two words"]
+    def run(self, command=None, words=("run", "two words"), **more):
+        words = [command or self.top / "fleet", *words]
         done = subprocess.run(words, input=b"given\n", capture_output=True, env=self.settings(**more), cwd=self.tools, timeout=60)
         return done.returncode, done.stdout, done.stderr
 
@@ -88,6 +90,17 @@ def follows_links(tree):
     expect("a call by a link", tree.run(link), (7, ANSWER, ONCE))
     link.unlink()
     expect("a call under CDPATH", tree.run(CDPATH=f"{tree.top}:/"), (7, ANSWER, b""))
+
+
+def helps_before_it_is_built(tree):
+    """The help wants no build; once the program is there, the program says it."""
+    pages = {(): "fleet", ("run",): "fleet_run", ("check",): "fleet_check", ("inspect",): "fleet_inspect", ("drill",): "fleet_drill"}
+    for task, page in pages.items():
+        for flag in ("--help", "-h"):
+            kept = (tree.top / f"docs/help/{page}.txt").read_bytes()
+            expect(f"the help of {task}", tree.run(words=[*task, flag]), (0, kept, b""))
+    expect("a word with a blank in it", tree.run(words=["run --help"]), (7, b"words: run --help\ngiven\n", ONCE))
+    expect("the help of the program", tree.run(words=["--help"]), (7, b"words: --help\ngiven\n", b""))
 
 
 def misses_the_toolchain(tree):
@@ -133,10 +146,21 @@ def leaves_nothing_when_interrupted(tree):
     expect("leftovers", tree.leftovers(), [])
 
 
+TESTS = (
+    builds_once,
+    follows_links,
+    helps_before_it_is_built,
+    misses_the_toolchain,
+    shows_faults_alone,
+    tells_a_terminal,
+    leaves_nothing_when_interrupted,
+)
+
+
 def tests():
     """How many tests passed, and how many failed."""
     passed = failed = 0
-    for test in (builds_once, follows_links, misses_the_toolchain, shows_faults_alone, tells_a_terminal, leaves_nothing_when_interrupted):
+    for test in TESTS:
         with tempfile.TemporaryDirectory() as folder:
             try:
                 test(Tree(folder))

@@ -172,8 +172,19 @@ TASKS = ("run", "check", "inspect", "drill")
 DRILL_WORDS = (b"--nodes", b"1 to 6", b"--workers", b"1 to 16", b"--size", b"small", b"large")
 
 
+def kept_help_is_printed(program):
+    """That the pages of docs/help, which the script shows before there is a program, are what the program prints."""
+    for task in ((), *((task,) for task in TASKS)):
+        page = (ROOT / f"docs/help/{'_'.join(('fleet', *task))}.txt").read_bytes()
+        # The usage names the program as it was called.
+        kept = page.replace(b"Usage: fleet ", b"Usage: " + program.name.encode() + b" ")
+        for flag in ("--help", "-h"):
+            expect(f"the help of {[*task, flag]}", answer(program, [*task, flag]), (0, kept, b""))
+
+
 def help_is_printed(program):
     """That the help names the tasks; a help or a version that finds a full device says so."""
+    kept_help_is_printed(program)
     for words in (["--help"], *([task, "--help"] for task in TASKS)):
         status, said, complaint = answer(program, words)
         expect(f"status and standard error of {words}", (status, complaint), (0, b""))
