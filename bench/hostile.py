@@ -6,6 +6,8 @@
 Each task is a text over a sound log, whose length grows as its size does. A row tells the seconds of processor time, the most memory
 held, and for each the exponent of growth from the least size to the greatest, by the bytes of the text. With --peer another program
 reads the same texts, and the answers may not differ by a byte. With --most the status is 1 where an exponent is above it.
+
+The gate judges each task at two small sizes by the instructions of its runs (`judged`): they do not waver.
 """
 
 import argparse
@@ -15,6 +17,7 @@ import os
 import pathlib
 import tempfile
 
+import instructions
 import measure
 
 SIZES = [1_000, 4_000, 16_000]
@@ -82,18 +85,18 @@ def folds(pages, node=1):
 
 
 def answers_again(size):
-    """One summary, answered again and again from folded pages."""
-    pages = min(PAGES, size // 4)
+    """The question of a node that has nothing, answered again and again with the images of all pages."""
+    pages = min(PAGES // 2, size // 8)
     facts = filled(pages)
-    return script(facts, 1, *taken(facts), *folds(pages), "discard 1", "ask 1", *["answer 1 1"] * size)
+    return script(facts, 2, *taken(facts), *folds(pages), "discard 1", "ask 2", *["answer 1 1"] * pages)
 
 
 def images_joined(size):
-    """Folded pages, joined by each of 64 nodes."""
+    """Folded pages, joined by each of 15 other nodes."""
     pages = min(PAGES, size // 4)
     facts = filled(pages)
-    joined = [f"join {node} 1" for node in range(2, 65)]
-    return script(facts, 64, *taken(facts), *folds(pages), "discard 1", *joined)
+    joined = [f"join {node} 1" for node in range(2, 17)]
+    return script(facts, 16, *taken(facts), *folds(pages), "discard 1", *joined)
 
 
 def comparisons(size):
@@ -141,6 +144,16 @@ TASKS = {it.__name__: it for it in (
 )}
 
 
+JUDGED = (100, 400)  # the sizes that the gate tries
+MOST = 1.2
+# What may grow faster, and why.
+SLOWER = {
+    "answers_again": (2.1, "each answer has images of its own"),
+    "discards_over_images": (2.1, "each discard looks at every image"),
+}
+IDLE = ["go", "nodes 1"]
+
+
 def length(lines):
     return sum(len(line) + 1 for line in lines)
 
@@ -164,6 +177,38 @@ def told(name, programs, given, folder):
     found = growth(lengths, times), growth(lengths, held)
     print(f"| {name} | growth | | {found[0]:.2f} | | {found[1]:.2f} | |", flush=True)
     return max(found)
+
+
+def instructions_of(program, lines, folder):
+    """The instructions of a run over the lines."""
+    text = os.path.join(folder, "given")
+    with open(text, "w") as given:
+        given.writelines(line + "\n" for line in lines)
+    return instructions.count(program, "run", text)
+
+
+def is_within(name, program, idle, folder):
+    """Whether a task's instructions grow no faster than is allowed; what a run costs that does nothing is taken off first."""
+    texts = [TASKS[name](size) for size in JUDGED]
+    counts = [instructions_of(program, text, folder) - idle for text in texts]
+    grown = growth([length(text) for text in texts], counts)
+    most, reason = SLOWER.get(name, (MOST, ""))
+    verdict = "" if grown <= most else " FAILED"
+    print(f"hostile: {name}: grows by {grown:.2f}, {most} at most{': ' * bool(reason)}{reason}{verdict}", flush=True)
+    return grown <= most
+
+
+def judged(program):
+    """How many tasks grow as they may, and how many do not. Where nothing counts instructions none is judged."""
+    found = instructions.counter()
+    if found is None:
+        print("hostile: not judged, since neither perf nor callgrind counts instructions here")
+        return 0, 0
+    with tempfile.TemporaryDirectory(prefix="fleet-hostile-") as folder:
+        idle = instructions_of(program, IDLE, folder)
+        results = [is_within(name, program, idle, folder) for name in TASKS]
+    print(f"hostile: {sum(results)} of {len(results)} tasks, by {found[0]}")
+    return sum(results), len(results) - sum(results)
 
 
 def main():

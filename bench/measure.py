@@ -5,7 +5,8 @@
 
 Each task is a text of a size, in facts or in steps, which each program reads N times in turn. A row tells the processor time of both
 (user and system, the median), their ratio, the exponent of growth from the least size to the greatest, and the most memory
-that each held. Then come three calls that are to cost the same however much is held: a fold of one page, a discard of one
+that each held; where perf or callgrind counts them and the text is no longer than the counter can bear, also the millions of
+instructions, which do not waver. Then come three calls that are to cost the same however much is held: a fold of one page, a discard of one
 record, and a read of a page with ten records, each the difference of two scripts by the number of calls.
 
 Outputs are compared byte by byte. Status 1 where two differ or a program fails.
@@ -22,6 +23,7 @@ import statistics
 import subprocess
 import tempfile
 
+import instructions
 import make_capture
 import make_log
 
@@ -30,6 +32,7 @@ SIZES = [10_000, 100_000, 1_000_000]
 CALLS = 50_000  # calls of which the cost of one is taken
 MOST = 1_000_000  # the fact lines, and the step lines, that a script may have
 READ_PAGE_RECORDS = 10
+COUNTED = {"perf": SIZES[-1], "callgrind": 50_000}  # the longest text whose instructions each counter counts in good time
 
 
 def room_of(size):
@@ -247,8 +250,18 @@ def both(values, form):
     return " | ".join(form.format(value) for value in values) + " | -" * (2 - len(values))
 
 
+def instructions_told(word, programs, size, folder):
+    """The millions of instructions of each program over the text that was read last, and their ratio."""
+    found = instructions.counter()
+    if found is None or size > COUNTED[found[0]]:
+        return "- | - | -"
+    counts = [instructions.count(program, word, os.path.join(folder, "given")) / 1e6 for program in programs]
+    return f"{both(counts, '{:.0f}')} | {ratio(counts)}"
+
+
 def print_tasks(names, programs, given, folder):
-    print("| task | size | s | peer, s | ratio | MB | peer, MB | ratio | growth |\n|---|---|---|---|---|---|---|---|---|")
+    columns = ["task", "size", "s", "peer, s", "ratio", "M instructions", "peer, M", "ratio", "MB", "peer, MB", "ratio", "growth"]
+    print(f"| {' | '.join(columns)} |\n{'|---' * len(columns)}|")
     for name in names:
         own = []
         for size in given.sizes:
@@ -256,7 +269,8 @@ def print_tasks(names, programs, given, folder):
             seconds, peaks = run_all(programs, WORDS.get(name, "run"), lines_of, given.runs, folder)
             own.append(seconds[0])
             growth = exponent(given.sizes, own) if size == given.sizes[-1] else ""
-            row = f"{both(seconds, '{:.3f}')} | {ratio(seconds)} | {both(peaks, '{:.0f}')} | {ratio(peaks)} | {growth}"
+            counted = instructions_told(WORDS.get(name, "run"), programs, size, folder)
+            row = f"{both(seconds, '{:.3f}')} | {ratio(seconds)} | {counted} | {both(peaks, '{:.0f}')} | {ratio(peaks)} | {growth}"
             print(f"| {name} | {size} | {row} |", flush=True)
 
 

@@ -1,7 +1,7 @@
 #!/usr/bin/env python3
 """The gate: `rt ci` over a copy of the tree in which the must-fail edits stand aside, then the edits that are due, many in a check
-(`wrong_bodies.py`), then the program that `rt ci` built, from outside, the tools' own tests, the script `fleet` and the documents.
-The last line counts all.
+(`wrong_bodies.py`), then the program that `rt ci` built, from outside, what hostile texts cost it, the tools' own tests, the script
+`fleet` and the documents. The last line counts all.
 
 `rt ci` at the top of the repository tries each edit by itself: that is the whole, for a new toolchain and before a release.
 With --record the sums of the crates whose edits were all refused are written into tools/tried.txt. With --all each edit is due.
@@ -21,6 +21,9 @@ import gate_time
 import outside
 import waiting_model
 import wrong_bodies_tests
+
+sys.path.insert(0, str(outside.ROOT / "bench"))
+import hostile
 
 BY_RATTLE = outside.PROGRAM.with_name("fleet.by-rattle")
 ASIDE = "edits-aside"
@@ -99,7 +102,7 @@ def main():
     else:
         print(f"{BY_RATTLE.name} is not there: Rattle's own compiler built no program, and what it would build is not tested")
     tests = (wrong_bodies_tests.tests, waiting_model.tests, fleet_script.tests, documents.documents)
-    for more_passed, more_failed in (*map(outside.outside, programs), *(test() for test in tests)):
+    for more_passed, more_failed in (*map(outside.outside, programs), hostile.judged(programs[0]), *(test() for test in tests)):
         passed, failed = passed + more_passed, failed + more_failed
     print(f"{passed} passed, {failed} failed")
     sys.exit(1 if failed else 0)
