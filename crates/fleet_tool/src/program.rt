@@ -8,6 +8,7 @@ use crate::drilling::drill_text;
 use crate::ending::{status_of, words_of};
 use crate::fault::RunFault;
 use crate::job::{LineFault, Task, TextTask, job_of};
+use crate::named::Named;
 use crate::run::{check_text, inspect_text, run_text};
 use crate::watched::Watched;
 use std::alloc::AllocError;
@@ -77,7 +78,7 @@ fn run_drill<R: Print + Eprint + AllocGlobal + Threads + Wait + Sync>(
 pub fn run_program<R: Env + Input + Print + Eprint + AllocGlobal + Threads + Wait + Sync>(
     rt: &R,
 ) -> ExitCode {
-    let args = match env::args(rt) {
+    let args = match env::args(&(Named(rt), rt.alloc())) {
         Ok(args) => args,
         Err(error) if error.kind() == io::ErrorKind::OutOfMemory => {
             return failed(rt, "out of memory", MEMORY);
