@@ -7,7 +7,7 @@ use Rattle.redo_core.specs.Order.{PairBefore}
 use Rattle.redo_core.specs.Standing.{IsAlive}
 use Rattle.epoch_book.specs.Book.{BookData, IsBook}
 use Rattle.hot_log.specs.Held.{IsHeld, HasKey, IsRecordAt}
-use Rattle.hot_log.specs.Alive.{PartsAt}
+use Rattle.hot_log.specs.Alive.{PartsAtKey}
 use Rattle.hot_log.specs.Found.{IsGreatestRecord}
 use Rattle.hot_log.proofs.Indexed.{one_key}
 use Rattle.hot_log.proofs.Views.{view_of, number_before}
@@ -18,10 +18,10 @@ pub record Under (b : BookData) (held : List RecordData) (Q : RecordData → Typ
   pub below : (r : RecordData) → Contains held r → IsAlive b.cuts b.complete r.epoch r.number → Q r → r.number ≤ number → PairBefore at.0 at.1 r.epoch r.number → ⊥
   pub high : (r : RecordData) → IsAlive b.cuts b.complete r.epoch r.number → (PairBefore at.0 at.1 r.epoch r.number → ⊥) → r.number ≤ number
 
-pub under_start : (b : BookData) (held : List RecordData) (Q : RecordData → Type 0) (number epoch : ℕ) → PartsAt b number epoch → Under b held Q number (epoch, number)
-under_start b held Q number epoch parts = record {
-  below = λ r h a q le p. let lt : number < r.number = (parts.0 r.epoch r.number a).1 p in omega arith;
-  high = λ r a not. ⊎_elim (λ (l : number < r.number). absurd (not ((parts.0 r.epoch r.number a).0 l))) (λ (l : r.number ≤ number). l) (cases_lt number r.number);
+pub under_start : (b : BookData) (held : List RecordData) (Q : RecordData → Type 0) (number : ℕ) (at : ℕ × ℕ) → PartsAtKey b number at → Under b held Q number at
+under_start b held Q number at parts = record {
+  below = λ r h a q le p. let lt : number < r.number = (parts r.epoch r.number a).1 p in omega arith;
+  high = λ r a not. ⊎_elim (λ (l : number < r.number). absurd (not ((parts r.epoch r.number a).0 l))) (λ (l : r.number ≤ number). l) (cases_lt number r.number);
 }
 
 -- a candidate with the greatest key at or below one
@@ -33,25 +33,19 @@ pub record LastUnder (held : List RecordData) (Q : RecordData → Type 0) (at ke
   pub under : PairBefore at.0 at.1 by.epoch by.number → ⊥
   pub last : (r : RecordData) → Contains held r → Q r → (PairBefore at.0 at.1 r.epoch r.number → ⊥) → HasKey key.0 key.1 r ⊎ PairBefore r.epoch r.number key.0 key.1
 
--- below a dead key the search goes on at a number that no alive one of its epoch is above
-pub under_step : (b : BookData) (held : List RecordData) (Q : RecordData → Type 0) (number : ℕ) (at key : ℕ × ℕ) (n : ℕ) → Under b held Q number at → LastUnder held Q at key → n < key.1 → ((m : ℕ) → IsAlive b.cuts b.complete key.0 m → m < key.1 → m ≤ n) → (IsAlive b.cuts b.complete key.0 key.1 → ⊥) → Under b held Q number (key.0, n)
-under_step b held Q number at key n under last lt spares dead = record {
+-- below a dead key the search goes on at a key that no alive one below the dead key is above
+pub under_step : (b : BookData) (held : List RecordData) (Q : RecordData → Type 0) (number : ℕ) (at key next : ℕ × ℕ) → Under b held Q number at → LastUnder held Q at key → PairBefore next.0 next.1 key.0 key.1 → ((e n : ℕ) → IsAlive b.cuts b.complete e n → PairBefore e n key.0 key.1 → PairBefore next.0 next.1 e n → ⊥) → (IsAlive b.cuts b.complete key.0 key.1 → ⊥) → Under b held Q number next
+under_step b held Q number at key next under last down spares dead = record {
   below = λ r h a q le p. ⊎_elim
       (λ (k : HasKey key.0 key.1 r). dead (key_alive b r key k a))
-      (λ (u : PairBefore r.epoch r.number key.0 key.1). ⊎_elim
-      (λ (v : r.epoch < key.0). ⊎_elim (λ (w : key.0 < r.epoch). omega arith) (λ (w : (key.0 ≡ r.epoch) × (n < r.number)). let e : key.0 ≡ r.epoch = w.0 in omega arith) p)
-      (λ (v : (r.epoch ≡ key.0) × (r.number < key.1)).
-      let e : r.epoch ≡ key.0 = v.0 in
-      let small : r.number ≤ n = spares r.number (subst (λ (x : ℕ). IsAlive b.cuts b.complete x r.number) e a) v.1 in
-      ⊎_elim (λ (w : key.0 < r.epoch). omega arith) (λ (w : (key.0 ≡ r.epoch) × (n < r.number)). let up : n < r.number = w.1 in omega arith) p)
-      u)
+      (λ (u : PairBefore r.epoch r.number key.0 key.1). spares r.epoch r.number a u p)
       (last.last r h q (λ u. under.below r h a q le u));
   high = λ r a not. under.high r a (λ q. last.under (subst (λ (x : ℕ). PairBefore at.0 at.1 x last.by.number) (sym last.has.0)
-      (subst (λ (x : ℕ). PairBefore at.0 at.1 key.0 x) (sym last.has.1) (above_both at.0 at.1 key.0 key.1 n r.epoch r.number lt q not))));
+      (subst (λ (x : ℕ). PairBefore at.0 at.1 key.0 x) (sym last.has.1) (above_both at.0 at.1 key.0 key.1 next.0 next.1 r.epoch r.number down q not))));
 }
   where
-    above_both : (x y a b n e m : ℕ) → n < b → PairBefore x y e m → (PairBefore a n e m → ⊥) → PairBefore x y a b
-    above_both x y a b n e m lt q not = grind arith
+    above_both : (x y a b d n e m : ℕ) → PairBefore d n a b → PairBefore x y e m → (PairBefore d n e m → ⊥) → PairBefore x y a b
+    above_both x y a b d n e m down q not = grind arith
 
 -- the record of the first alive key is the greatest
 pub under_found : (b : BookData) (held : List RecordData) (Q P : RecordData → Type 0) (number : ℕ) (at key : ℕ × ℕ) (o : Option RecordData) → IsBook b → IsHeld held → Under b held Q number at → LastUnder held Q at key → IsAlive b.cuts b.complete key.0 key.1 → IsRecordAt held key.0 key.1 o → ((r : RecordData) → Contains held r → IsAlive b.cuts b.complete r.epoch r.number → Q r → r.number ≤ number → P r) → ((r : RecordData) → P r → Contains held r × IsAlive b.cuts b.complete r.epoch r.number × Q r × (r.number ≤ number)) → IsGreatestRecord P o
@@ -69,12 +63,12 @@ under_found b held Q P number at key (Some x) book is under last alive at_key to
           (last.last s t.0 t.2 (λ p. under.below s t.0 t.1 t.2 t.3 p)),
     )
 
-pub up_to_falls : (at key : ℕ × ℕ) (n : ℕ) (held : List RecordData) (r : RecordData) → Contains held r → HasKey key.0 key.1 r → (PairBefore at.0 at.1 r.epoch r.number → ⊥) → n < key.1 → up_to (key.0, n) held < up_to at held
-up_to_falls at key n held r h k not lt =
-    fewer (λ s. not_after (key.0, n) s) (λ s. not_after at s) held r h
-    (past (key.0, n) r (let e0 : r.epoch ≡ key.0 = k.0 in let n0 : r.number ≡ key.1 = k.1 in let t : PairBefore key.0 n r.epoch r.number = grind arith in t))
+pub up_to_falls : (at key next : ℕ × ℕ) (held : List RecordData) (r : RecordData) → Contains held r → HasKey key.0 key.1 r → (PairBefore at.0 at.1 r.epoch r.number → ⊥) → PairBefore next.0 next.1 key.0 key.1 → up_to next held < up_to at held
+up_to_falls at key next held r h k not down =
+    fewer (λ s. not_after next s) (λ s. not_after at s) held r h
+    (past next r (subst (λ (e : ℕ). PairBefore next.0 next.1 e r.number) (sym k.0) (subst (λ (n : ℕ). PairBefore next.0 next.1 key.0 n) (sym k.1) down)))
     (still at r not)
-    (λ y q. still at y (λ p. back key n r y at k lt not (passed (key.0, n) y q) p))
+    (λ y q. still at y (λ p. back key next r y at k down not (passed next y q) p))
   where
-    back : (key : ℕ × ℕ) (n : ℕ) (r y : RecordData) (at : ℕ × ℕ) → HasKey key.0 key.1 r → n < key.1 → (PairBefore at.0 at.1 r.epoch r.number → ⊥) → (PairBefore key.0 n y.epoch y.number → ⊥) → PairBefore at.0 at.1 y.epoch y.number → ⊥
-    back key n r y at k lt not low p = let e0 : r.epoch ≡ key.0 = k.0 in let n0 : r.number ≡ key.1 = k.1 in grind arith
+    back : (key next : ℕ × ℕ) (r y : RecordData) (at : ℕ × ℕ) → HasKey key.0 key.1 r → PairBefore next.0 next.1 key.0 key.1 → (PairBefore at.0 at.1 r.epoch r.number → ⊥) → (PairBefore next.0 next.1 y.epoch y.number → ⊥) → PairBefore at.0 at.1 y.epoch y.number → ⊥
+    back key next r y at k down not low p = let e0 : r.epoch ≡ key.0 = k.0 in let n0 : r.number ≡ key.1 = k.1 in grind arith

@@ -2,7 +2,7 @@
 use Rattle.std.specs.Prelude.{◌≡◌, ℕ, ◌+◌, ◌<◌, ◌≤◌, ◌⊎◌, ◌↔◌, List, Option, Some, None}
 use Rattle.redo_core.specs.Order.{PairBefore}
 use Rattle.std.specs.List.{Contains}
-use Rattle.redo_core.specs.Data.{RecordData}
+use Rattle.redo_core.specs.Data.{RecordData, CutData}
 use Rattle.redo_core.specs.Standing.{IsAlive}
 use Rattle.redo_core.specs.Linked.{Linked}
 use Rattle.epoch_book.specs.Book.{BookData}
@@ -45,6 +45,14 @@ abbrev pub PartsAt : BookData → ℕ → ℕ → Type 0
 PartsAt book number epoch =
     ((e n : ℕ) → IsAlive book.cuts book.complete e n → (number < n) ↔ PairBefore epoch number e n)
     × ((e : ℕ) → IsAlive book.cuts book.complete e (number + 1) → e ≡ epoch)
+
+-- a key parts the alive records at a number: those with a higher number are those with a higher key
+abbrev pub PartsAtKey : BookData → ℕ → ℕ × ℕ → Type 0
+PartsAtKey book number key = (e n : ℕ) → IsAlive book.cuts book.complete e n → (number < n) ↔ PairBefore key.0 key.1 e n
+
+-- each truncation of an epoch above one and up to the complete one has its lo at or above a number
+abbrev pub SparesAbove : BookData → ℕ → ℕ → Type 0
+SparesAbove book epoch number = (c : CutData) → Contains book.cuts c → epoch < c.epoch → c.epoch ≤ book.complete → number ≤ c.lo
 
 -- a held record whose backlink is linked from a base and at most a limit: one that a search for linked numbers has to look at
 abbrev pub IsReached : BookData → List RecordData → ℕ → ℕ → RecordData → Type 0

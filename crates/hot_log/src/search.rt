@@ -1,13 +1,14 @@
 // Searches of held records in a book's view.
-ghost use Rattle.std.specs.Prelude.{◌≡◌, ℕ, ◌<◌, ◌≤◌, ◌↔◌, map, IsTrue, IfOk, length, Some};
+ghost use Rattle.std.specs.Prelude.{◌≡◌, ℕ, ◌<◌, ◌≤◌, ◌⊎◌, ◌↔◌, map, IsTrue, IfOk, length, Some};
 ghost use Rattle.std.specs.Option.{option_copied};
 ghost use Rattle.redo_core.specs.Data.{RecordData};
 ghost use Rattle.redo_core.specs.Order.{Lists, BeforeByNumber, PairBefore};
 ghost use Rattle.redo_core.specs.Standing.{IsAlive};
 ghost use Rattle.epoch_book.specs.Book.{IsBook};
+ghost use Rattle.epoch_book.specs.Lows.{CutsAt};
 ghost use Rattle.hot_log.specs.Held.{IsHeld, IsKeyAfter, IsKeyTo, HasKey};
 ghost use Rattle.hot_log.specs.Indexing.{IsNextHeld, IsLastHeld};
-ghost use Rattle.hot_log.specs.Alive.{HasNoneAbove, IsAliveKey, IsAliveOfBack, IsHeldAlive, IsHeldOf, IsOpenedBelow, IsPageAlive, PartsAt};
+ghost use Rattle.hot_log.specs.Alive.{HasNoneAbove, IsAliveKey, IsAliveOfBack, IsHeldAlive, IsHeldOf, IsOpenedBelow, IsPageAlive, PartsAt, PartsAtKey, SparesAbove};
 ghost use Rattle.hot_log.specs.Found.{IsLeast, IsLeastRecord, IsGreatestRecord, IsOnlyRecord};
 ghost use Rattle.hot_log.specs.Kept.{KeepsKey};
 
@@ -35,9 +36,43 @@ pub fn is_kept(book: &EpochBook, key: (u16, u64), point: u64) -> bool
 pub fn epoch_above(book: &EpochBook, number: u64) -> u16
     ensures parts { PartsAt book.now number result }
     ensures known { result ≤ book.now.complete }
+    ensures cut { (result ≡ 0) ⊎ CutsAt book.now number result }
     ensures book { IsBook book.now }
 {
     book.last_cut_at(number)
+}
+
+// A key that each alive record of a number up to this one is at or below, and no other alive record.
+//
+// Its epoch is the one in which the number itself can be alive. The epoch that parts the alive records at the number is a later one
+// where truncations have it as their `lo`, and from there a search would meet every dead record between the two.
+fn last_key_to(book: &EpochBook, number: u64) -> (u16, u64)
+    ensures parts { PartsAtKey book.now number result }
+    ensures low { (epoch : ℕ) → SparesAbove book.now epoch number → result.0 ≤ epoch }
+    ensures number { result.1 ≡ number }
+    ensures book { IsBook book.now }
+{
+    if number == 0 {
+        let _complete = book.complete_epoch();
+        return (0, 0);
+    }
+    (epoch_above(book, number - 1), number)
+}
+
+// Below a dead key, a key that each alive record of a lower key is at or below.
+//
+// What is above the least `lo` of the later truncations is dead in each epoch up to this one, so a search passes over all of it in one
+// step, and not record by record.
+fn key_down(book: &EpochBook, key: (u16, u64)) -> (u16, u64)
+    requires { 0 < key.1 }
+    ensures below { PairBefore result.0 result.1 key.0 key.1 }
+    ensures spares { (e n : ℕ) → IsAlive book.now.cuts book.now.complete e n → PairBefore e n key.0 key.1 → PairBefore result.0 result.1 e n → ⊥ }
+{
+    match book.least_lo(key.0) {
+        Some(lo) if lo < key.1 => last_key_to(book, lo),
+        // It is not above the `hi` of its own epoch: an alive record of an earlier one may have a higher number.
+        _ => (key.0, key.1 - 1),
+    }
 }
 
 // Whether a key is at or below another one.
@@ -84,13 +119,13 @@ impl HotLog {
         ensures found { IsGreatestRecord (λ r. IsPageAlive book.now self.now page r × (r.number ≤ number)) (option_copied result) }
         ensures form { IsHeld self.now }
     {
-        let mut at = (epoch_above(book, number), number);
+        let mut at = last_key_to(book, number);
         while let Some(redo) = self.last_of_page(page, at) {
             let key = (redo.epoch(), redo.number());
             if is_alive(book, key.0, key.1) {
                 return Some(redo);
             }
-            at = (key.0, key.1.saturating_sub(1));
+            at = key_down(book, key);
         }
         None
     }
@@ -173,18 +208,6 @@ pub fn next_after(log: &HotLog, book: &EpochBook, back: u64) -> Option<u64>
     Some(key.1)
 }
 
-// Below a dead key, where the alive numbers of its epoch end.
-fn next_down(book: &EpochBook, key: (u16, u64)) -> u64
-    requires { 0 < key.1 }
-    ensures below { result < key.1 }
-    ensures spares { (n : ℕ) → IsAlive book.now.cuts book.now.complete key.0 n → n < key.1 → n ≤ result }
-{
-    match book.least_lo(key.0) {
-        Some(lo) => lo.min(key.1 - 1),
-        None => key.1 - 1,
-    }
-}
-
 // Whether the record of a key is alive, and its segment backlink below a number.
 fn is_below(log: &HotLog, book: &EpochBook, key: (u16, u64), number: u64) -> bool
     ensures { IsTrue result ↔ ((r : RecordData) × IsHeldAlive book.now log.now r × HasKey key.0 key.1 r × (r.back < number)) }
@@ -205,12 +228,12 @@ impl HotLog {
         ensures found { IsGreatestRecord (λ r. IsHeldAlive book.now self.now r × (r.number ≤ to)) (option_copied result) }
         ensures form { IsHeld self.now }
     {
-        let mut at = (epoch_above(book, to), to);
+        let mut at = last_key_to(book, to);
         while let Some(key) = self.last_key(at) {
             if is_alive(book, key.0, key.1) {
                 return self.get(key.0, key.1);
             }
-            at = (key.0, next_down(book, key));
+            at = key_down(book, key);
         }
         None
     }

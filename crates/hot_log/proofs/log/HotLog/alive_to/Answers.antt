@@ -1,17 +1,18 @@
-use Rattle.std.proofs.Common.{◌≡◌, ℕ, ◌-◌, ◌<◌, ◌≤◌, refl, sym, ◌∙◌, ap, subst, arith, List, Some}
+use Rattle.std.proofs.Common.{◌≡◌, ℕ, ◌<◌, ◌≤◌, refl, sym, ◌∙◌, subst, List, Some}
 use Rattle.redo_core.specs.Data.{RecordData}
 use Rattle.redo_core.specs.Standing.{IsAlive}
+use Rattle.hot_log.specs.Held.{HasKey}
 use Rattle.hot_log.specs.Alive.{IsPageAlive}
 use Rattle.hot_log.specs.Indexing.{IsLastHeld}
-use Rattle.hot_log.proofs.Climb.{positive, up_to, key_is, alive_as}
-use Rattle.hot_log.proofs.Descent.{Under, LastUnder, under_start, under_step, under_found, up_to_falls}
+use Rattle.hot_log.proofs.Climb.{positive, key_is, alive_as}
+use Rattle.hot_log.proofs.Descent.{LastUnder, under_start, under_step, under_found, up_to_falls}
 use Rattle.hot_log.proofs.log.HotLog.alive_to.Goals as goal
 
 last_of : (held : List RecordData) (page : ℕ) (at key : ℕ × ℕ) → IsLastHeld (λ r. r.page) held page at (Some key) → LastUnder held (λ (r : RecordData). r.page ≡ page) at key
 last_of held page at key last = let t = last.0 in record { by = t.0; among = t.1; candidate = t.2; has = t.3; under = t.4; last = last.1 }
 
 pub loop-redo-init : goal.loop-redo-init
-loop-redo-init c = under_start c.args.book.now c.args.self.now (λ (r : RecordData). r.page ≡ c.args.page) c.args.number c.epoch_above.result c.epoch_above.ensures.parts
+loop-redo-init c = under_start c.args.book.now c.args.self.now (λ (r : RecordData). r.page ≡ c.args.page) c.args.number c.last_key_to-at.result c.last_key_to-at.ensures.parts
 
 pub returns-then-is_alive-clause-found : goal.returns-then-is_alive-clause-found
 returns-then-is_alive-clause-found c =
@@ -21,28 +22,29 @@ returns-then-is_alive-clause-found c =
     (alive_as b c.epoch.result c.number.result x.epoch x.number c.epoch.ensures c.number.ensures.value (c.if-is_alive.ensures.alive.0 refl)) (c.in-Some.ensures.last.0, (refl, refl))
     (λ r h a q le. ((h, a, q), le)) (λ r p. (p.0.0, p.0.1, p.0.2, p.1))
 
-down : (n x : ℕ) → 0 < x → n ≡ x - 1 → n < x
-down n x p e = omega arith
+pub key_down-at-requires : goal.key_down-at-requires
+key_down-at-requires c =
+    let x = c.in-Some.redo.now in
+    subst (λ (n : ℕ). 0 < n) (sym c.number.ensures.value) (positive x (c.in-Some.ensures.form.shaped x c.in-Some.ensures.last.0))
+
+-- the key that was read off the record
+read : (e n epoch number : ℕ) (r : RecordData) → epoch ≡ e → number ≡ n → HasKey e n r → HasKey epoch number r
+read e n epoch number r p q k = (k.0 ∙ sym p, k.1 ∙ sym q)
 
 pub loop-redo-smaller : goal.loop-redo-smaller
 loop-redo-smaller c =
     let x = c.in-Some.redo.now in let t = c.in-Some.ensures.last.1.0 in
-    let p : 0 < x.number = positive x (c.in-Some.ensures.form.shaped x c.in-Some.ensures.last.0) in
-    let n : c.saturating_sub.result ≡ x.number - 1 = c.saturating_sub.ensures ∙ ap (λ (k : ℕ). k - 1) c.number.ensures.value in
-    subst (λ (e : ℕ). up_to (e, c.saturating_sub.result) c.args.self.now < up_to c.loop-redo.at c.args.self.now) (sym c.epoch.ensures)
-    (up_to_falls c.loop-redo.at (x.epoch, x.number) c.saturating_sub.result c.args.self.now t.0 t.1 t.3 t.4 (down c.saturating_sub.result x.number p n))
+    up_to_falls c.loop-redo.at (c.epoch.result, c.number.result) c.key_down-at.result c.args.self.now t.0 t.1
+    (read x.epoch x.number c.epoch.result c.number.result t.0 c.epoch.ensures c.number.ensures.value t.3) t.4 c.key_down-at.ensures.below
 
 pub loop-redo-preserved : goal.loop-redo-preserved
 loop-redo-preserved c =
     let b = c.args.book.now in let held = c.args.self.now in let x = c.in-Some.redo.now in
     let Q : RecordData → Type 0 = λ (r : RecordData). r.page ≡ c.args.page in
-    let p : 0 < x.number = positive x (c.in-Some.ensures.form.shaped x c.in-Some.ensures.last.0) in
-    let dead = λ (a : IsAlive b.cuts b.complete x.epoch x.number).
-    let is = c.if-is_alive.ensures.alive.1 (alive_as b x.epoch x.number c.epoch.result c.number.result (sym c.epoch.ensures) (sym c.number.ensures.value) a) in absurd (cc) in
-    let n : c.saturating_sub.result ≡ x.number - 1 = c.saturating_sub.ensures ∙ ap (λ (k : ℕ). k - 1) c.number.ensures.value in
-    subst (Under b held Q c.args.number) (key_is c.epoch.result c.saturating_sub.result x.epoch (x.number - 1) c.epoch.ensures n)
-    (under_step b held Q c.args.number c.loop-redo.at (x.epoch, x.number) (x.number - 1) c.loop-redo.invariant (last_of held c.args.page c.loop-redo.at (x.epoch, x.number) c.in-Some.ensures.last.1)
-    (omega arith) (λ m a lt. let t : m ≤ x.number - 1 = omega arith in t) dead)
+    let key : ℕ × ℕ = (c.epoch.result, c.number.result) in
+    let dead : IsAlive b.cuts b.complete key.0 key.1 → ⊥ = λ a. let yes = c.if-is_alive.ensures.alive.1 a in absurd (cc) in
+    let last = subst (LastUnder held Q c.loop-redo.at) (key_is c.epoch.result c.number.result x.epoch x.number c.epoch.ensures c.number.ensures.value) (last_of held c.args.page c.loop-redo.at (x.epoch, x.number) c.in-Some.ensures.last.1) in
+    under_step b held Q c.args.number c.loop-redo.at key c.key_down-at.result c.loop-redo.invariant last c.key_down-at.ensures.below c.key_down-at.ensures.spares dead
 
 pub returns-clause-found : goal.returns-clause-found
 returns-clause-found c r h = c.loop-redo.invariant.below r h.0.0 h.0.1 h.0.2 h.1 (c.in_default.ensures.last r h.0.0 h.0.2)
