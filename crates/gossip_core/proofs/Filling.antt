@@ -1,6 +1,7 @@
 -- A reply, as the law of replies has it.
-use Rattle.std.proofs.Common.{◌≡◌, ◌≢◌, ℕ, ◌<◌, ◌≤◌, ◌⊎◌, inl, inr, ⊎_elim, List, [], ◌∷◌, map, refl, sym, ap, subst, arith}
+use Rattle.std.proofs.Common.{◌≡◌, ◌≢◌, ℕ, ◌<◌, ◌≤◌, ◌⊎◌, inl, inr, ⊎_elim, min, List, [], ◌∷◌, map, refl, sym, ap, subst, arith}
 use Rattle.std.specs.List.{Contains}
+use Rattle.std.proofs.Math.Nat.{min-le_right}
 use Rattle.redo_core.specs.Data.{RecordData}
 use Rattle.redo_core.specs.Order.{Lists, RecordBefore}
 use Rattle.redo_core.specs.Standing.{IsAlive, IsWaiting}
@@ -60,15 +61,31 @@ sent_is_held s point keys r sent = (
       sent.0.1,
 )
 
+-- what is kept above a point is kept above each lower one
+kept_above_lower : (s : State) (point anchor : ℕ) (r : RecordData) → point ≤ anchor → IsKeptBy s anchor r → IsKeptBy s point r
+kept_above_lower s point anchor r low kept = (
+  kept.0,
+  ⊎_elim
+      (λ (w : IsWaiting s.book.complete r.epoch). inl w)
+      (λ (a : IsAlive s.book.cuts s.book.complete r.epoch r.number × (anchor < r.number)). inr (a.0, omega (arith, low, a.1)))
+      kept.1,
+)
+
 of_records : (s : State) (anchor : ℕ) (summary : SummaryData) (d : DeltaData) → s.base ≤ summary.anchor → SendsRecords s summary d
     → Replies anchor s (listing_of summary) (filling_of d)
-of_records s anchor summary d low a = record {
+of_records s anchor summary d low a = let point = min a.anchor summary.anchor in record {
   same_cuts = λ c. (λ h. subst (λ b. Contains b.cuts c) a.book h, λ h. subst (λ b. Contains b.cuts c) (sym a.book) h);
   epoch = ap (λ b. b.complete) a.book;
   same_points = ap (λ b. b.points) a.book;
   same_waits = λ w. (λ h. subst (λ b. Contains b.waits w) a.book h, λ h. subst (λ b. Contains b.waits w) (sym a.book) h);
-  of_held = λ r h. sent_is_held s summary.anchor summary.keys r ((a.records.members r).0 h);
-  rest = inl (low, a.base, a.pages, sent_or_listed s summary.anchor summary d.records a.records);
+  of_held = λ r h. sent_is_held s point summary.keys r ((a.records.members r).0 h);
+  rest = inl (
+    low,
+    a.base,
+    a.pages,
+    λ r kept. sent_or_listed s point summary d.records a.records r
+        (kept_above_lower s point summary.anchor r (min-le_right a.anchor summary.anchor) kept),
+  );
 }
 
 of_pages : (s : State) (anchor : ℕ) (summary : SummaryData) (d : DeltaData) → d.base ≡ anchor → SendsPages s summary d

@@ -1,5 +1,5 @@
 -- A segment has one summary, and one reply to each.
-use Rattle.std.proofs.Common.{◌≡◌, ◌≢◌, ℕ, ◌<◌, ◌≤◌, ◌⊎◌, ⊎_elim, List, map, sym, ap, ◌∙◌, subst, arith}
+use Rattle.std.proofs.Common.{◌≡◌, ◌≢◌, ℕ, ◌<◌, ◌≤◌, ◌⊎◌, ⊎_elim, min, List, map, sym, ap, ◌∙◌, subst, arith}
 use Rattle.redo_core.specs.Data.{RecordData}
 use Rattle.redo_core.specs.Meaning.{ImageData, ImageBefore}
 use Rattle.redo_core.specs.Order.{Lists, RecordBefore}
@@ -38,7 +38,7 @@ by_parts d e book base pages sent =
 short : (s : State) (x : SummaryData) (d e : DeltaData) → SendsRecords s x d → SendsRecords s x e → d ≡ e
 short s x d e a b =
     by_parts d e (a.book ∙ sym b.book) (a.base ∙ sym b.base) (a.pages ∙ sym b.pages)
-    (records (λ _. IsSent s x.anchor x.keys) d.base e.base d.records e.records (a.base ∙ sym b.base) a.records b.records)
+    (records (λ n. IsSent s (min n x.anchor) x.keys) a.anchor b.anchor d.records e.records (one_anchor s a.anchor b.anchor a.own b.own) a.records b.records)
 
 whole : (s : State) (x : SummaryData) (d e : DeltaData) → SendsPages s x d → SendsPages s x e → d ≡ e
 whole s x d e a b =

@@ -1,5 +1,5 @@
 -- What a reply to a summary sends.
-use Rattle.std.specs.Prelude.{◌≡◌, ◌≢◌, ℕ, ◌<◌, ◌≤◌, ◌⊎◌, List, [], length, take, slice_index_or, Option, Some, None}
+use Rattle.std.specs.Prelude.{◌≡◌, ◌≢◌, ℕ, ◌<◌, ◌≤◌, ◌⊎◌, min, List, [], length, take, slice_index_or, Option, Some, None}
 use Rattle.std.specs.List.{Contains, All}
 use Rattle.redo_core.specs.Data.{RecordData}
 use Rattle.redo_core.specs.Order.{Lists, RecordBefore}
@@ -69,12 +69,14 @@ IsLeastBreak s fault = (page n : ℕ) × IsFirstBreak s page n × (fault ≡ Bro
 
 -- ---- the delta
 
--- no pages, and the records above the summary's anchor
+-- no pages, and the records above the lower of the two anchors
 pub record SendsRecords (s : State) (summary : SummaryData) (d : DeltaData) : Type 0 where
   pub book : d.book ≡ s.book
   pub base : d.base ≡ 0
   pub pages : d.pages ≡ []
-  pub records : Lists RecordBefore (IsSent s summary.anchor summary.keys) d.records
+  pub anchor : ℕ
+  pub own : HasAnchor s anchor
+  pub records : Lists RecordBefore (IsSent s (min anchor summary.anchor) summary.keys) d.records
 
 -- the nonzero pages at the state's anchor, and the records that its meaning keeps
 pub record SendsPages (s : State) (summary : SummaryData) (d : DeltaData) : Type 0 where

@@ -13,8 +13,8 @@ use std::alloc::AllocError;
 
 /// What a segment has beyond a summary, whichever segment told it and when: its book, and records that the summary does not list.
 ///
-/// Where the summary's anchor reaches the base point, those are what waits and what is alive above that anchor; else there are the
-/// pages at the segment's anchor, and the records that its meaning keeps. Errors: `BrokenBlockChain` of the least page whose chain is
+/// Where the summary's anchor reaches the base point, those are what waits and what is alive above the lower of that anchor and the
+/// segment's own; else there are the pages at the segment's anchor, and the records that its meaning keeps. Errors: `BrokenBlockChain` of the least page whose chain is
 /// broken at the anchor, never over a sound log; `Memory`.
 pub fn reply(segment: &Segment, summary: &Summary) -> Result<Delta, ReadFault>
     // Inside one sound log, for whatever part of it the segment means.
@@ -37,12 +37,13 @@ pub fn reply(segment: &Segment, summary: &Summary) -> Result<Delta, ReadFault>
     }
 }
 
-/// The delta of records alone.
+/// The delta of records alone, above the lower of the two anchors.
 fn with_records(segment: &Segment, summary: &Summary) -> Result<Delta, AllocError>
     ensures { IfOk result (SendsRecords segment.now summary.now) }
 {
     let book = book_of(segment)?;
-    let records = unlisted(segment, summary.anchor(), summary.keys())?;
+    let point = segment.anchor().min(summary.anchor());
+    let records = unlisted(segment, point, summary.keys())?;
     Ok(Delta::new(book, 0, Vec::new(segment.allocator()), records))
 }
 
