@@ -2,9 +2,9 @@
 //!
 //! `summary` tells what a segment's meaning is without its pages, its kept records by their keys alone. `reply` makes the delta that
 //! fills what a summary lacks, old summaries and other nodes' ones too: where the summary's anchor reaches the replier's base point,
-//! just the records above it; else the pages at the replier's anchor, with the records that its meaning keeps. `absorb` brings a delta
-//! into a segment that answers for the summary it was made for; `uncovered` tells what of a summary a segment does not answer for. All
-//! hold over any facts as their definitions say, and inside every sound log for the parts of it.
+//! just the records above the lower of the two anchors; else the pages at the replier's anchor, with the records that its meaning
+//! keeps. `absorb` brings a delta into a segment that answers for the summary it was made for; `uncovered` tells what of a summary a
+//! segment does not answer for. All hold over any facts as their definitions say, and inside every sound log for the parts of it.
 #![tactic(auto)]
 
 mod absorbing;
