@@ -12,3 +12,4 @@ pub mod OneUncovered
 pub mod OneReply
 pub mod Absorbed
 pub mod InOneLog
+pub mod OwnMeaning

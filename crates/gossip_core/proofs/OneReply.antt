@@ -1,7 +1,7 @@
 -- A segment has one summary, and one reply to each.
 use Rattle.std.proofs.Common.{◌≡◌, ◌≢◌, ℕ, ◌<◌, ◌≤◌, ◌⊎◌, ⊎_elim, min, List, map, sym, ap, ◌∙◌, subst, arith}
 use Rattle.redo_core.specs.Data.{RecordData}
-use Rattle.redo_core.specs.Meaning.{ImageData, ImageBefore}
+use Rattle.redo_core.specs.Meaning.{ImageBefore}
 use Rattle.redo_core.specs.Order.{Lists, RecordBefore}
 use Rattle.redo_core.specs.Writing.{zeros}
 use Rattle.redo_core.proofs.Members.{lists_unique}

@@ -2,3 +2,4 @@ pub mod Summarizing
 pub mod Replying
 pub mod Answering
 pub mod Absorbing
+pub mod Laws

@@ -5,12 +5,14 @@
 //! just the records above the lower of the two anchors; else the pages at the replier's anchor, with the records that its meaning
 //! keeps. `absorb` brings a delta into a segment that answers for the summary it was made for; `uncovered` tells what of a summary a
 //! segment does not answer for. All hold over any facts as their definitions say, and inside every sound log for the parts of it.
+//! `laws` says that a segment tells one meaning, over any facts.
 #![tactic(auto)]
 
 mod absorbing;
 mod answering;
 mod books;
 mod fixed;
+pub mod laws;
 mod pages;
 mod replies;
 mod summaries;
