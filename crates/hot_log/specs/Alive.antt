@@ -54,9 +54,9 @@ PartsAtKey book number key = (e n : ℕ) → IsAlive book.cuts book.complete e n
 abbrev pub SparesAbove : BookData → ℕ → ℕ → Type 0
 SparesAbove book epoch number = (c : CutData) → Contains book.cuts c → epoch < c.epoch → c.epoch ≤ book.complete → number ≤ c.lo
 
--- a held record whose backlink is linked from a base and at most a limit: one that a search for linked numbers has to look at
+-- an alive record whose backlink is linked from a base and at most a limit: one that a search for linked numbers has to look at
 abbrev pub IsReached : BookData → List RecordData → ℕ → ℕ → RecordData → Type 0
-IsReached book held from limit r = Contains held r × IsLinkedFrom book held from r.back × (r.back ≤ limit)
+IsReached book held from limit r = IsHeldAlive book held r × IsLinkedFrom book held from r.back × (r.back ≤ limit)
 
 -- From one number to another the chain is straight: each alive record above the one and up to the other is linked, and each
 -- linked number is linked from each lower one. So there is no stray and no fork.

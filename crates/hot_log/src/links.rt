@@ -1,21 +1,21 @@
 // The numbers that held records link, from a base on.
-ghost use Rattle.std.specs.Prelude.{◌≡◌, ℕ, ◌<◌, ◌≤◌, ◌↔◌, List, length, IsTrue, IfSome, IsNone, false};
+ghost use Rattle.std.specs.Prelude.{◌≡◌, ℕ, ◌<◌, ◌≤◌, ◌↔◌, List, length, IsTrue, IfSome, IsNone, None, false};
 ghost use Rattle.std.specs.Option.{option_copied};
 ghost use Rattle.redo_core.specs.Data.{RecordData};
-ghost use Rattle.std.specs.List.{Contains};
-ghost use Rattle.redo_core.specs.Order.{Lists, RecordBefore, PairBefore};
+ghost use Rattle.redo_core.specs.Order.{Lists, RecordBefore};
 ghost use Rattle.hot_log.specs.Held.{IsHeld};
-ghost use Rattle.hot_log.specs.Alive.{IsLinkedFrom, IsLinkedHeld, IsReached, IsStraight, IsStraightEnd};
+ghost use Rattle.hot_log.specs.Alive.{IsAliveOfBack, IsLinkedFrom, IsLinkedHeld, IsReached, IsStraight, IsStraightEnd};
 ghost use Rattle.hot_log.specs.Found.{IsGreatestRecord};
 
 use crate::log::HotLog;
-use crate::search::{alive_of_back, is_alive};
+use crate::search::alive_of_back;
 use crate::steps::Steps;
 use epoch_book::EpochBook;
 use redo_core::Record;
 
 // The greatest number up to a limit that is linked. The search goes down each chain in turn, and where one ends it climbs back
-// to the last fork, if there was one: so each record whose backlink is linked is looked at once, and no memory is taken.
+// to the last fork, if there was one: so each alive record whose backlink is linked is looked at once, and no memory is taken.
+// What is dead or waits links nothing, and is no fork: where many such records share a backlink, none of them is walked.
 pub fn linked_counted(
     log: &HotLog,
     book: &EpochBook,
@@ -33,18 +33,17 @@ pub fn linked_counted(
 {
     // No more records are looked at than are held, so the count fits.
     let _held = log.len();
-    let _complete = book.complete_epoch();
     let mut top = from;
     let mut back = from;
     let mut at = (0, 0);
     let mut forked = false;
     loop {
-        match log.next_of_back(back, at) {
+        match alive_of_back(log, book, back, at) {
             Some(key) => {
                 steps.step();
-                if key.1 <= limit && is_alive(book, key.0, key.1) {
+                if key.1 <= limit {
                     top = top.max(key.1);
-                    forked = passes_fork(log, back, key, forked);
+                    forked = passes_fork(log, book, back, key, forked);
                     back = key.1;
                     at = (0, 0);
                 } else {
@@ -68,11 +67,17 @@ pub fn linked_counted(
     }
 }
 
-// Whether a fork was passed: one was before, or a held record with this backlink has a key above the one given.
-fn passes_fork(log: &HotLog, back: u64, key: (u16, u64), forked: bool) -> bool
-    ensures { result ≡ false → (forked ≡ false) × ((r : RecordData) → Contains log.now r → r.back ≡ back → PairBefore key.0 key.1 r.epoch r.number → ⊥) }
+// Whether a fork was passed: one was before, or an alive record with this backlink has a key above the one given.
+fn passes_fork(
+    log: &HotLog,
+    book: &EpochBook,
+    back: u64,
+    key: (u16, u64),
+    forked: bool,
+) -> bool
+    ensures { result ≡ false → (forked ≡ false) × IsAliveOfBack book.now log.now back key None }
 {
-    forked || log.next_of_back(back, key).is_some()
+    forked || alive_of_back(log, book, back, key).is_some()
 }
 
 // Whether a number is linked, by a walk down the backlinks.

@@ -228,7 +228,7 @@ impl HotLog {
         self.linked_counted(book, from, limit, &mut steps)
     }
 
-    /// The same; `steps`, handed in at 0, counts the held records that it looks at: each whose backlink is linked and at most `limit`, once.
+    /// The same; `steps`, handed in at 0, counts the records that it looks at: each alive one whose backlink is linked and at most `limit`, once.
     pub fn linked_counted(&self, book: &EpochBook, from: u64, limit: u64, steps: &mut Steps) -> u64
         requires ordered { from ≤ limit }
         requires fresh { steps.old.count ≡ 0 }

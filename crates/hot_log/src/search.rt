@@ -178,7 +178,9 @@ impl HotLog {
     }
 }
 
-// The least key above the one given of the alive records with this segment backlink.
+// The least key above the one given of the alive records with this segment backlink. An alive number is above its backlink, so its
+// key is above the one that parts the alive records there: dead records of earlier epochs are passed unseen. What waits has a key
+// above all that is alive, so the search ends there.
 pub fn alive_of_back(
     log: &HotLog,
     book: &EpochBook,
@@ -189,9 +191,13 @@ pub fn alive_of_back(
     ensures book { IsBook book.now }
     ensures form { IsHeld log.now }
 {
-    let _complete = book.complete_epoch();
-    let mut at = after;
+    let complete = book.complete_epoch();
+    let low = (epoch_above(book, back), back);
+    let mut at = if is_up_to(after, low) { low } else { after };
     while let Some(key) = log.next_of_back(back, at) {
+        if key.0 > complete {
+            return None;
+        }
         if is_alive(book, key.0, key.1) {
             return Some(key);
         }

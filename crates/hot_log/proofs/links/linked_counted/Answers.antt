@@ -1,8 +1,6 @@
 use Rattle.std.proofs.Common.{◌≡◌, ◌+◌, ◌<◌, ◌≤◌, le_refl, refl, sym, subst, arith, length}
-use Rattle.redo_core.specs.Standing.{IsAlive}
 use Rattle.hot_log.proofs.Forks.{Search, alone_at_base, alone_below, search_start, search_end, search_counts, skip, down, looks, climbs_to, falls_by_one, has_record}
 use Rattle.hot_log.proofs.links.linked_counted.Goals as goal
-use Rattle.hot_log.proofs.links.linked_counted.Goals.{else-key-limit-via-then-key-limit+else-is_alive, else-key-limit-via-else-key-limit}
 
 pub loop-key-init : goal.loop-key-init
 loop-key-init c = record {
@@ -12,40 +10,35 @@ loop-key-init c = record {
 
 pub step-requires : goal.step-requires
 step-requires c =
-    let le : c.loop-key.steps.count + 1 ≤ length c.args.log.now = looks c.args.book.now c.args.log.now c.args.from c.args.limit c.loop-key.back c.loop-key.at c.in-Some.key c.loop-key.top c.loop-key.steps.count (c.loop-key.invariant.search c.in-Some.ensures.form) c.in-Some.ensures.next in
+    let le : c.loop-key.steps.count + 1 ≤ length c.args.log.now = looks c.args.book.now c.args.log.now c.args.from c.args.limit c.loop-key.back c.loop-key.at c.in-Some.key c.loop-key.top c.loop-key.steps.count c.in-Some.ensures.book c.in-Some.ensures.form (c.loop-key.invariant.search c.in-Some.ensures.form) c.in-Some.ensures.found in
     let fits : length c.args.log.now < 18446744073709551616 = omega (arith, c.len-held.type_inv, c.len-held.ensures.value) in
     omega arith
 
-pub loop-key-smaller-then-is_alive : goal.loop-key-smaller-then-is_alive
-loop-key-smaller-then-is_alive c =
-    let le : c.loop-key.steps.count + 1 ≤ length c.args.log.now = looks c.args.book.now c.args.log.now c.args.from c.args.limit c.loop-key.back c.loop-key.at c.in-Some.key c.loop-key.top c.loop-key.steps.count (c.loop-key.invariant.search c.in-Some.ensures.form) c.in-Some.ensures.next in
+pub loop-key-smaller-then-key-limit : goal.loop-key-smaller-then-key-limit
+loop-key-smaller-then-key-limit c =
+    let le : c.loop-key.steps.count + 1 ≤ length c.args.log.now = looks c.args.book.now c.args.log.now c.args.from c.args.limit c.loop-key.back c.loop-key.at c.in-Some.key c.loop-key.top c.loop-key.steps.count c.in-Some.ensures.book c.in-Some.ensures.form (c.loop-key.invariant.search c.in-Some.ensures.form) c.in-Some.ensures.found in
     falls_by_one (length c.args.log.now) c.loop-key.steps.count c.step.new.self.count c.args.limit c.in-Some.key.1 c.loop-key.back c.step.ensures le c.if-key-limit.true
 
-pub loop-key-preserved-then-is_alive : goal.loop-key-preserved-then-is_alive
-loop-key-preserved-then-is_alive c = record {
+pub loop-key-preserved-then-key-limit : goal.loop-key-preserved-then-key-limit
+loop-key-preserved-then-key-limit c = record {
   search = λ is.
-      down c.args.book.now c.args.log.now c.args.from c.args.limit c.loop-key.back c.loop-key.at c.in-Some.key c.loop-key.top c.loop-key.steps.count c.step.new.self.count c.max-top.result c.if-is_alive.ensures.book is (c.loop-key.invariant.search is) c.in-Some.ensures.next c.step.ensures (c.if-is_alive.ensures.alive.0 refl) c.if-key-limit.true c.max-top.ensures;
+      down c.args.book.now c.args.log.now c.args.from c.args.limit c.loop-key.back c.loop-key.at c.in-Some.key c.loop-key.top c.loop-key.steps.count c.step.new.self.count c.max-top.result c.in-Some.ensures.book is (c.loop-key.invariant.search is) c.in-Some.ensures.found c.step.ensures c.if-key-limit.true c.max-top.ensures;
   alone = λ is no.
-      alone_below c.args.book.now c.args.log.now c.args.from c.loop-key.back c.loop-key.at c.in-Some.key c.if-is_alive.ensures.book is
-      (c.loop-key.invariant.alone is (c.passes_fork-forked.ensures no).0) c.in-Some.ensures.next (c.if-is_alive.ensures.alive.0 refl) (c.passes_fork-forked.ensures no).1;
+      alone_below c.args.book.now c.args.log.now c.args.from c.loop-key.back c.loop-key.at c.in-Some.key c.in-Some.ensures.book is
+      (c.loop-key.invariant.alone is (c.passes_fork-forked.ensures no).0) c.in-Some.ensures.found (c.passes_fork-forked.ensures no).1;
 }
 
 pub loop-key-smaller-else-key-limit : goal.loop-key-smaller-else-key-limit
 loop-key-smaller-else-key-limit c =
     let s = c.loop-key.invariant.search c.in-Some.ensures.form in
-    let le : c.loop-key.steps.count + 1 ≤ length c.args.log.now = looks c.args.book.now c.args.log.now c.args.from c.args.limit c.loop-key.back c.loop-key.at c.in-Some.key c.loop-key.top c.loop-key.steps.count s c.in-Some.ensures.next in
+    let le : c.loop-key.steps.count + 1 ≤ length c.args.log.now = looks c.args.book.now c.args.log.now c.args.from c.args.limit c.loop-key.back c.loop-key.at c.in-Some.key c.loop-key.top c.loop-key.steps.count c.in-Some.ensures.book c.in-Some.ensures.form (c.loop-key.invariant.search c.in-Some.ensures.form) c.in-Some.ensures.found in
     falls_by_one (length c.args.log.now) c.loop-key.steps.count c.step.new.self.count c.args.limit c.loop-key.back c.loop-key.back c.step.ensures le s.back_bound
 
 pub loop-key-preserved-else-key-limit : goal.loop-key-preserved-else-key-limit
 loop-key-preserved-else-key-limit c =
-    let b = c.args.book.now in
-    let not : IsAlive b.cuts b.complete c.in-Some.key.0 c.in-Some.key.1 → c.in-Some.key.1 ≤ c.args.limit → ⊥ = λ a le. elim c.else-key-limit.branch [
-      | else-key-limit-via-then-key-limit+else-is_alive w ↦ (let yes = w.if-is_alive.ensures.alive.1 a in absurd (cc))
-      | else-key-limit-via-else-key-limit w ↦ omega (arith, w.if-key-limit.false, le)
-    ] in
+    let over : c.args.limit < c.in-Some.key.1 = omega (arith, c.if-key-limit.false) in
     record {
-      search = λ is.
-          skip b c.args.log.now c.args.from c.args.limit c.loop-key.back c.loop-key.at c.in-Some.key c.loop-key.top c.loop-key.steps.count c.step.new.self.count c.complete_epoch-complete.ensures.book is (c.loop-key.invariant.search is) c.in-Some.ensures.next c.step.ensures not;
+      search = λ is. skip c.args.book.now c.args.log.now c.args.from c.args.limit c.loop-key.back c.loop-key.at c.in-Some.key c.loop-key.top c.loop-key.steps.count c.step.new.self.count c.in-Some.ensures.book is (c.loop-key.invariant.search is) c.in-Some.ensures.found c.step.ensures over;
       alone = c.loop-key.invariant.alone;
     }
 
@@ -56,12 +49,12 @@ pub returns-then-back-from-clause-bound : goal.returns-then-back-from-clause-bou
 returns-then-back-from-clause-bound c = (c.loop-key.invariant.search c.in-None.ensures.form).top_bound
 
 pub returns-then-back-from-clause-greatest : goal.returns-then-back-from-clause-greatest
-returns-then-back-from-clause-greatest c = search_end c.args.book.now c.args.log.now c.args.from c.args.limit c.loop-key.back c.loop-key.at c.loop-key.top c.loop-key.steps.count (c.loop-key.invariant.search c.in-None.ensures.form) c.in-None.ensures.next (alone_at_base c.args.book.now c.args.log.now c.args.from c.loop-key.back c.if-back-from.true)
+returns-then-back-from-clause-greatest c = search_end c.args.book.now c.args.log.now c.args.from c.args.limit c.loop-key.back c.loop-key.at c.loop-key.top c.loop-key.steps.count c.in-None.ensures.form (c.loop-key.invariant.search c.in-None.ensures.form) c.in-None.ensures.found (alone_at_base c.args.book.now c.args.log.now c.args.from c.loop-key.back c.if-back-from.true)
 
 pub returns-then-back-from-clause-counted : goal.returns-then-back-from-clause-counted
 returns-then-back-from-clause-counted c =
     search_counts c.args.book.now c.args.log.now c.args.from c.args.limit c.loop-key.back c.loop-key.at c.loop-key.top c.loop-key.steps.count
-    (c.loop-key.invariant.search c.in-None.ensures.form) c.in-None.ensures.next (alone_at_base c.args.book.now c.args.log.now c.args.from c.loop-key.back c.if-back-from.true)
+    (c.loop-key.invariant.search c.in-None.ensures.form) c.in-None.ensures.found (alone_at_base c.args.book.now c.args.log.now c.args.from c.loop-key.back c.if-back-from.true)
 
 pub returns-then-not-forked-clause-linked : goal.returns-then-not-forked-clause-linked
 returns-then-not-forked-clause-linked c = (c.loop-key.invariant.search c.in-None.ensures.form).top_linked
@@ -70,12 +63,12 @@ pub returns-then-not-forked-clause-bound : goal.returns-then-not-forked-clause-b
 returns-then-not-forked-clause-bound c = (c.loop-key.invariant.search c.in-None.ensures.form).top_bound
 
 pub returns-then-not-forked-clause-greatest : goal.returns-then-not-forked-clause-greatest
-returns-then-not-forked-clause-greatest c = search_end c.args.book.now c.args.log.now c.args.from c.args.limit c.loop-key.back c.loop-key.at c.loop-key.top c.loop-key.steps.count (c.loop-key.invariant.search c.in-None.ensures.form) c.in-None.ensures.next (c.loop-key.invariant.alone c.in-None.ensures.form c.if-not-forked.true)
+returns-then-not-forked-clause-greatest c = search_end c.args.book.now c.args.log.now c.args.from c.args.limit c.loop-key.back c.loop-key.at c.loop-key.top c.loop-key.steps.count c.in-None.ensures.form (c.loop-key.invariant.search c.in-None.ensures.form) c.in-None.ensures.found (c.loop-key.invariant.alone c.in-None.ensures.form c.if-not-forked.true)
 
 pub returns-then-not-forked-clause-counted : goal.returns-then-not-forked-clause-counted
 returns-then-not-forked-clause-counted c =
     search_counts c.args.book.now c.args.log.now c.args.from c.args.limit c.loop-key.back c.loop-key.at c.loop-key.top c.loop-key.steps.count
-    (c.loop-key.invariant.search c.in-None.ensures.form) c.in-None.ensures.next (c.loop-key.invariant.alone c.in-None.ensures.form c.if-not-forked.true)
+    (c.loop-key.invariant.search c.in-None.ensures.form) c.in-None.ensures.found (c.loop-key.invariant.alone c.in-None.ensures.form c.if-not-forked.true)
 
 never : (c : goal.In_default) → ⊥
 never c = has_record c.args.book.now c.args.log.now c.args.from c.loop-key.back (c.loop-key.invariant.search c.in-None.ensures.form).back_linked c.if-back-from.false c.in_default.ensures
@@ -103,6 +96,6 @@ pub loop-key-preserved : goal.loop-key-preserved
 loop-key-preserved c =
     let u = c.in-Some-alive_of.redo.now in let found = c.in-Some-alive_of.ensures.0 in
     record {
-      search = λ is. climbs_to c.args.book.now c.args.log.now c.args.from c.args.limit c.loop-key.back c.loop-key.at c.loop-key.top c.loop-key.steps.count u c.epoch.result c.number.result c.back-back.result c.complete_epoch-complete.ensures.book is (c.loop-key.invariant.search is) c.in-None.ensures.next found.0.0 found.0.1 found.1 c.if-back-from.false c.back-back.ensures.value c.epoch.ensures c.number.ensures.value;
+      search = λ is. climbs_to c.args.book.now c.args.log.now c.args.from c.args.limit c.loop-key.back c.loop-key.at c.loop-key.top c.loop-key.steps.count u c.epoch.result c.number.result c.back-back.result c.in-None.ensures.book is (c.loop-key.invariant.search is) c.in-None.ensures.found found.0 found.1 c.if-back-from.false c.back-back.ensures.value c.epoch.ensures c.number.ensures.value;
       alone = λ is no. let yes = c.if-not-forked.false in absurd (cc);
     }

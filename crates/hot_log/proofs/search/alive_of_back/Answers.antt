@@ -1,20 +1,62 @@
-use Rattle.std.proofs.Common.{ℕ, ⊎_elim, refl, subst}
+use Rattle.std.proofs.Common.{◌≡◌, ℕ, ◌<◌, ◌≤◌, List, ⊎_elim, refl, sym, subst, arith, None}
+use Rattle.redo_core.specs.Data.{RecordData}
 use Rattle.redo_core.specs.Order.{PairBefore}
+use Rattle.redo_core.specs.Shape.{record_fault}
 use Rattle.redo_core.specs.Standing.{IsAlive}
 use Rattle.redo_core.proofs.Pairs.{pair_trans}
-use Rattle.hot_log.specs.Held.{HasKey}
+use Rattle.epoch_book.specs.Book.{BookData}
+use Rattle.hot_log.specs.Held.{IsHeld, HasKey}
+use Rattle.hot_log.specs.Alive.{IsHeldAlive, PartsAt}
 use Rattle.hot_log.proofs.Climb.{above_falls, alive_key, key_alive}
 use Rattle.hot_log.proofs.search.alive_of_back.Goals as goal
+use Rattle.hot_log.proofs.search.alive_of_back.Goals.{then-is_up_to, else-is_up_to}
+
+back_below : (r : RecordData) → record_fault r ≡ None → r.back < r.number
+back_below r h = grind arith
+
+-- each alive record with the backlink is above the key that parts the alive records there
+over_low : (b : BookData) (held : List RecordData) (back epoch : ℕ) (at : ℕ × ℕ) → PartsAt b back epoch → at ≡ (epoch, back) → IsHeld held → (r : RecordData) → IsHeldAlive b held r → r.back ≡ back → PairBefore at.0 at.1 r.epoch r.number
+over_low b held back epoch at parts is form r h e =
+    let up : r.back < r.number = back_below r (form.shaped r h.0) in
+    let lt : back < r.number = omega arith in
+    subst (λ (p : ℕ × ℕ). PairBefore p.0 p.1 r.epoch r.number) (sym is) ((parts.0 r.epoch r.number h.1).0 lt)
+
+over_after : (after at : ℕ × ℕ) (epoch back e n : ℕ) → at ≡ (epoch, back) → (PairBefore epoch back after.0 after.1 → ⊥) → PairBefore at.0 at.1 e n → PairBefore after.0 after.1 e n
+over_after after at epoch back e n is not p =
+    let q : PairBefore epoch back e n = subst (λ (p : ℕ × ℕ). PairBefore p.0 p.1 e n) is p in
+    grind arith
+
+waits : (b : BookData) (key : ℕ × ℕ) (e n : ℕ) → b.complete < key.0 → IsAlive b.cuts b.complete e n → (key.0 ≡ e → ⊥) × (PairBefore key.0 key.1 e n → ⊥)
+waits b key e n over a = let known : e ≤ b.complete = a.known in (λ p. omega arith, λ p. grind arith)
 
 pub loop-key-init : goal.loop-key-init
-loop-key-init c = record { above = λ r h e p. p; later = λ e n p. p }
+loop-key-init c = elim c.if-is_up_to.branch [
+  | then-is_up_to w ↦ record {
+    above = λ form r h e p. over_low c.args.book.now c.args.log.now c.args.back c.epoch_above.result c.if-is_up_to.at c.epoch_above.ensures.parts w.at-is form r h e;
+    later = λ e n p. over_after c.args.after c.if-is_up_to.at c.epoch_above.result c.args.back e n w.at-is (c.is_up_to.ensures.0 w.if-is_up_to.true) p;
+  }
+  | else-is_up_to w ↦ record {
+    above = λ form r h e p. subst (λ (k : ℕ × ℕ). PairBefore k.0 k.1 r.epoch r.number) (sym w.at-is) p;
+    later = λ e n p. subst (λ (k : ℕ × ℕ). PairBefore k.0 k.1 e n) w.at-is p;
+  }
+]
+
+pub returns-then-key-complete-clause-found : goal.returns-then-key-complete-clause-found
+returns-then-key-complete-clause-found c = λ r h e p.
+    let key = c.in-Some.key in
+    let over : c.args.book.now.complete < key.0 = let same : c.complete_epoch-complete.result ≡ c.args.book.now.complete = c.complete_epoch-complete.ensures.value in omega (arith, c.if-key-complete.true) in
+    let no = waits c.args.book.now key r.epoch r.number over h.1 in
+    ⊎_elim
+    (λ (k : HasKey key.0 key.1 r). no.0 (sym k.0))
+    (λ (q : PairBefore key.0 key.1 r.epoch r.number). no.1 q)
+    (c.in-Some.ensures.next.1 r h.0 e (c.loop-key.invariant.above c.in-Some.ensures.form r h e p))
 
 pub returns-then-is_alive-clause-found : goal.returns-then-is_alive-clause-found
 returns-then-is_alive-clause-found c =
     let b = c.args.book.now in let key = c.in-Some.key in let t = c.in-Some.ensures.next.0 in
     let a : IsAlive b.cuts b.complete t.0.epoch t.0.number = alive_key b t.0 key t.3 (c.if-is_alive.ensures.alive.0 refl) in (
       (t.0, (t.1, a), t.2, t.3, c.loop-key.invariant.later t.0.epoch t.0.number t.4),
-      λ r h e p. c.in-Some.ensures.next.1 r h.0 e (c.loop-key.invariant.above r h e p),
+      λ r h e p. c.in-Some.ensures.next.1 r h.0 e (c.loop-key.invariant.above c.in-Some.ensures.form r h e p),
     )
 
 pub loop-key-smaller : goal.loop-key-smaller
@@ -28,12 +70,12 @@ loop-key-preserved c =
     let t = c.in-Some.ensures.next.0 in
     let up : PairBefore at.0 at.1 key.0 key.1 = subst (λ (e : ℕ). PairBefore at.0 at.1 e key.1) t.3.0 (subst (λ (n : ℕ). PairBefore at.0 at.1 t.0.epoch n) t.3.1 t.4) in
     record {
-      above = λ r h e p. ⊎_elim
+      above = λ form r h e p. ⊎_elim
           (λ (k : HasKey key.0 key.1 r). absurd (let yes = c.if-is_alive.ensures.alive.1 (key_alive c.args.book.now r key k h.1) in cc))
           (λ (q : PairBefore key.0 key.1 r.epoch r.number). q)
-          (c.in-Some.ensures.next.1 r h.0 e (c.loop-key.invariant.above r h e p));
+          (c.in-Some.ensures.next.1 r h.0 e (c.loop-key.invariant.above form r h e p));
       later = λ e n p. c.loop-key.invariant.later e n (pair_trans at.0 at.1 key.0 key.1 e n up p);
     }
 
 pub returns-clause-found : goal.returns-clause-found
-returns-clause-found c = λ r h e p. c.in_default.ensures.next r h.0 e (c.loop-key.invariant.above r h e p)
+returns-clause-found c = λ r h e p. c.in_default.ensures.next r h.0 e (c.loop-key.invariant.above c.in_default.ensures.form r h e p)
