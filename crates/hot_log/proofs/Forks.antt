@@ -326,8 +326,11 @@ once_down b held from limit back at top count x book is s c r h w =
     let low : w.0.number ≤ r.number = link_at_least b.cuts held b.complete w.0.number r.number w.2 in
     let same : x.number ≡ r.number = ap (λ (y : RecordData). y.number) e in
     omega arith)
-    (λ (v : Contains s.seen r). s.once r v (x, next_ahead b held from back at x c,
-    link_trans b.cuts held b.complete x.number w.0.number r.number (link_one b held x.number w.0 u.alive (omega arith) of) w.2))
+    (λ (v : Contains s.seen r). s.once r v (
+      x,
+      next_ahead b held from back at x c,
+      link_trans b.cuts held b.complete x.number w.0.number r.number (link_one b held x.number w.0 u.alive (omega arith) of) w.2,
+    ))
     (which x s.seen r h))
     (λ (u : Above b held from x.number w.0).
     let same : u.by ≡ x = one_alive b held u.by x book is u.alive c.alive u.at in

@@ -68,13 +68,7 @@ pub fn linked_counted(
 }
 
 // Whether a fork was passed: one was before, or an alive record with this backlink has a key above the one given.
-fn passes_fork(
-    log: &HotLog,
-    book: &EpochBook,
-    back: u64,
-    key: (u16, u64),
-    forked: bool,
-) -> bool
+fn passes_fork(log: &HotLog, book: &EpochBook, back: u64, key: (u16, u64), forked: bool) -> bool
     ensures { result ≡ false → (forked ≡ false) × IsAliveOfBack book.now log.now back key None }
 {
     forked || alive_of_back(log, book, back, key).is_some()
