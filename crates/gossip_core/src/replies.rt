@@ -14,8 +14,8 @@ use std::alloc::AllocError;
 /// What a segment has beyond a summary, whichever segment told it and when: its book, and records that the summary does not list.
 ///
 /// Where the summary's anchor reaches the base point, those are what waits and what is alive above the lower of that anchor and the
-/// segment's own; else there are the pages at the segment's anchor, and the records that its meaning keeps. Errors: `BrokenBlockChain` of the least page whose chain is
-/// broken at the anchor, never over a sound log; `Memory`.
+/// segment's own; else there are the pages at the segment's anchor, and the records that its meaning keeps. Errors: `BrokenBlockChain`
+/// of the least page whose chain is broken at the anchor, never over a sound log; `Memory`.
 pub fn reply(segment: &Segment, summary: &Summary) -> Result<Delta, ReadFault>
     // Inside one sound log, for whatever part of it the segment means.
     ensures fills { IfOk result (FillsSummary segment.now summary.now) }
