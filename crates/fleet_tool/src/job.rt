@@ -81,6 +81,15 @@ fn fault_of(alloc: Global, error: Error) -> LineFault
     }
 }
 
+/// What clap says of words that it does not take, and how the program is used. None where it takes them, or memory is wanting for the
+/// text.
+pub(crate) fn complaint<S: AsStr>(alloc: Global, words: &[S]) -> Option<String> {
+    match command(alloc).ok()?.try_get_matches_from(words) {
+        Ok(_) => None,
+        Err(error) => error.to_string(alloc).ok(),
+    }
+}
+
 /// The task of this name; `Bad` where none has it.
 fn task_of(name: &str) -> Result<TextTask, LineFault>
     ensures named { IfOk result (λ task. name.now ≡ name_of task) }

@@ -7,7 +7,7 @@ use crate::drill_line::DrillTask;
 use crate::drilling::drill_text;
 use crate::ending::{status_of, words_of};
 use crate::fault::RunFault;
-use crate::job::{LineFault, Task, TextTask, job_of};
+use crate::job::{LineFault, Task, TextTask, complaint, job_of};
 use crate::named::Named;
 use crate::run::{check_text, inspect_text, run_text};
 use crate::watched::Watched;
@@ -30,6 +30,15 @@ const MEMORY: u8 = 5;
 fn failed(rt: &impl Eprint, why: &str, status: u8) -> ExitCode {
     let _ = rt.eprintln(format_args!("fleet: {why}"));
     ExitCode::from(status)
+}
+
+/// Says on standard error that the command line is bad, and then what clap has to say of it.
+fn failed_line(rt: &(impl Eprint + AllocGlobal), words: &[String]) -> ExitCode {
+    let status = failed(rt, "bad command line", BAD);
+    if let Some(said) = complaint(rt.alloc(), words) {
+        let _ = rt.eprint(format_args!("{said}"));
+    }
+    status
 }
 
 /// The status of what a text call returned, after its words on standard error.
@@ -96,7 +105,7 @@ pub fn run_program<R: Env + Input + Print + Eprint + AllocGlobal + Threads + Wai
             Ok(_) => ExitCode::SUCCESS,
             Err(_) => failed(rt, "output failed", DEVICE),
         },
-        Err(LineFault::Bad) => failed(rt, "bad command line", BAD),
+        Err(LineFault::Bad) => failed_line(rt, words.as_slice()),
         Err(LineFault::Memory) => failed(rt, "out of memory", MEMORY),
     }
 }
