@@ -164,8 +164,15 @@ def most_lines(program):
 
 
 def bad_command_lines(program):
+    """The first line says that the command line is bad; what follows is clap's, if anything does, and tells how the program is used."""
     for words in BAD_COMMAND_LINES:
-        expect(f"the words {words}", answer(program, words, input=SOUND), (2, b"", b"fleet: bad command line\n"))
+        status, output, said = answer(program, words, input=SOUND)
+        first, _, more = said.partition(b"\n")
+        expect(f"the words {words}", (status, output, first), (2, b"", b"fleet: bad command line"))
+        if more and b"--help" not in more and b"Usage: fleet" not in more:
+            raise Failed(f"{words} is told {more!r}")
+    misspelt = answer(program, ["walk"])[2]
+    expect("the misspelt word", b"'walk'" in misspelt, True)
     return f"{len(BAD_COMMAND_LINES)} command lines"
 
 
