@@ -148,10 +148,6 @@ JUDGED = (100, 400)  # the sizes that the gate tries
 MOST = 1.2
 # What may grow faster, and why.
 SLOWER = {
-    "joins_of_waiting": (2.1, "each opened epoch looks at all records with its backlink"),
-    "absorbs_of_waiting": (2.1, "each opened epoch looks at all records with its backlink"),
-    "chain_of_dead": (2.1, "the dead are passed one by one"),
-    "dead_with_one_backlink": (2.1, "the dead are passed one by one"),
     "answers_again": (2.1, "each answer has images of its own"),
     "discards_over_images": (2.1, "each discard looks at every image"),
 }
