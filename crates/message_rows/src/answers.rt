@@ -20,6 +20,13 @@ pub const UNKNOWN: Answer = Answer::Word("?");
 
 pub const MEMORY: Answer = Answer::Word("memory");
 
+impl Answer {
+    /// Whether memory may have been wanting: a line that wants some for its bytes names no call either.
+    pub fn may_want_memory(&self) -> bool {
+        matches!(self, Answer::Word("memory" | "?"))
+    }
+}
+
 pub fn print(rt: &HostRuntime, line: &str, answer: &Answer) -> io::Result<()> {
     match answer {
         Answer::Nothing => println!(rt; "{line}"),

@@ -5,24 +5,21 @@ use redo_wire::{Piece, PieceContent, decode_piece, encode_piece};
 use segment_core::Segment;
 use std::alloc::{AllocError, Global};
 
-/// Keeps the bytes of each piece of a snapshot, and tells how many there are.
-fn keep_pieces(
-    alloc: Global,
-    snapshot: &Snapshot,
-    messages: &mut Vec<BytesMut>,
-) -> Result<Answer, AllocError> {
+/// The bytes of each piece of a snapshot.
+fn pieces_of(alloc: Global, snapshot: &Snapshot) -> Result<Vec<BytesMut>, AllocError> {
+    let mut pieces = Vec::new(alloc);
     for index in 0..snapshot.pieces() {
         let piece = snapshot.piece(index)?;
         let mut bytes = BytesMut::new(alloc);
         let Ok(()) = encode_piece(&mut bytes, &piece) else {
-            return Ok(MEMORY);
+            return Err(AllocError);
         };
-        messages.push(bytes)?;
+        pieces.push(bytes)?;
     }
-    Ok(Answer::One("pieces", u64::from(snapshot.pieces())))
+    Ok(pieces)
 }
 
-/// Freezes a segment under a name, and keeps its pieces as messages.
+/// Freezes a segment under a name, keeps its pieces as messages, all or none, and tells how many there are.
 pub fn freeze_all(
     alloc: Global,
     segment: &Segment,
@@ -30,7 +27,11 @@ pub fn freeze_all(
     messages: &mut Vec<BytesMut>,
 ) -> Result<Answer, AllocError> {
     match freeze(segment, name) {
-        Ok(snapshot) => keep_pieces(alloc, &snapshot, messages),
+        Ok(snapshot) => {
+            let mut pieces = pieces_of(alloc, &snapshot)?;
+            messages.append(&mut pieces)?;
+            Ok(Answer::One("pieces", u64::from(snapshot.pieces())))
+        }
         Err(_) => Ok(MEMORY),
     }
 }

@@ -32,13 +32,13 @@ fn compare(one: &Segment, other: &Segment) -> Answer {
 }
 
 /// A record of one byte at the beginning of its page, which no other record writes.
-fn link(alloc: Global, number: u16) -> Result<Option<Fact>, AllocError> {
+fn link(alloc: Global, number: u16) -> Result<Fact, AllocError> {
     let mut patches = Vec::new(alloc);
     patches.push(Patch::Bytes(Write::new(0, b"a".to_vec(alloc)?)))?;
     let back = u64::from(number).saturating_sub(1);
     match Record::with(0, u64::from(number), back, number, 0, false, patches) {
-        Ok(redo) => Ok(Some(Fact::Record(redo))),
-        Err(_) => Ok(None),
+        Ok(redo) => Ok(Fact::Record(redo)),
+        Err(_) => Err(AllocError),
     }
 }
 
@@ -46,8 +46,11 @@ fn link(alloc: Global, number: u16) -> Result<Option<Fact>, AllocError> {
 pub fn chain(alloc: Global, roster: Roster, last: u16) -> Result<Segment, AllocError> {
     let mut segment = Segment::new(alloc, roster)?;
     for before in 0..last {
-        if let Some(fact) = link(alloc, before.saturating_add(1))? {
-            let _ = take(&mut segment, &fact)?;
+        if segment
+            .take(link(alloc, before.saturating_add(1))?)
+            .is_err()
+        {
+            return Err(AllocError);
         }
     }
     Ok(segment)
