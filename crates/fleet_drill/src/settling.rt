@@ -1,4 +1,4 @@
-ghost use Rattle.std.specs.Prelude.{◌≡◌, Some, is_some, true, map, OnOk, IfOk};
+ghost use Rattle.std.specs.Prelude.{◌≡◌, Some, is_some, true, length, map, OnOk, IfOk};
 ghost use Rattle.node_cell.specs.Node.{IsPassOf};
 ghost use Rattle.node_threads.specs.Refusals.{AllStarted};
 ghost use Rattle.node_workers.specs.Work.{receipts_in};
@@ -12,13 +12,15 @@ use segment_core::CommitFault;
 use std::alloc::{AllocError, Global};
 use std::sync::Wait;
 
-/// Closes the nodes, each with its pass, and settles the receipts of each. An error is want of memory, or of a thread, also of a worker
+/// Closes each node with its pass, in order, and settles its receipts. An error is want of memory, or of a thread, also of a worker
 /// before: the nodes are then gone.
 pub fn close_all<L: LogName, R: Wait>(
     rt: &R,
     alloc: Global,
     worked: Worked<L>,
-) -> Result<Vec<Closed<L>>, AllocError> {
+) -> Result<Vec<Closed<L>>, AllocError>
+    ensures { IfOk result (λ closed. length closed.items ≡ length worked.nodes.items) }
+{
     let Worked {
         board: _,
         mut nodes,

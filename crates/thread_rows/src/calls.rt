@@ -1,6 +1,6 @@
 ghost use Rattle.std.specs.Prelude.{◌<◌, ◌≤◌};
 
-use crate::floors::ends_under;
+use crate::floors::{ends_under, plan_lines};
 use crate::folds::fold_by_many;
 use crate::gates::{Order, Turnstile};
 use crate::rounds::{apart, exchange_and_fold, strangers};
@@ -33,6 +33,7 @@ pub fn answer<R: Threads + Wait + Sync>(
         _ if nodes == 0 || nodes > MAX_NODES || workers == 0 || workers > MAX_WORKERS => {
             String::from_str(alloc, "unknown\n")
         }
+        "plan" => plan_lines(alloc, nodes, workers),
         "trails" => ends_under(rt, alloc, nodes, workers, n[2], &Open),
         "at_once" => in_order(rt, alloc, nodes, workers, Order::AtOnce),
         "late_folds" => in_order(rt, alloc, nodes, workers, Order::LateFolds),

@@ -7,6 +7,20 @@ use std::alloc::{AllocError, Global};
 use std::sync::Wait;
 use std::thread::Threads;
 
+/// The plan of a drill of so many nodes and workers: the parcels of each drainer, and the rounds of each folder and each gossiper.
+pub fn plan_lines(alloc: Global, nodes: usize, workers: usize) -> Result<String, AllocError>
+    requires nodes { (0 < nodes) × (nodes ≤ MAX_NODES) }
+    requires workers { 0 < workers }
+{
+    let facts = FACTS as usize;
+    let floor = open_floor::<Log>(alloc, nodes, nodes, facts, FACTS)?;
+    let plan = make_plan(alloc, floor.feeds.as_slice(), nodes as u16, workers)?;
+    let mut text = format!(in alloc; "parcels {:?}\n", plan.parcels)?;
+    text.push_str(&format!(in alloc; "folds {:?}\n", plan.folds)?)?;
+    text.push_str(&format!(in alloc; "gossip {:?}\n", plan.gossip)?)?;
+    Ok(text)
+}
+
 /// A drill under a gate, with trails of at most so many entries: how many parcels of each node were refused, how many rounds, what the
 /// first node's own segment makes of the log beside all of them joined, and what all tell.
 pub fn ends_under<G: Gate + Sync, R: Threads + Wait + Sync>(

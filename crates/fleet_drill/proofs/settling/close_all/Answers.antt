@@ -1,4 +1,4 @@
-use Rattle.std.proofs.Common.{◌≡◌, ◌∙◌, ◌++◌, ap, subst, length, length-append, arith, Some, is_some, true, ◌∷◌, []}
+use Rattle.std.proofs.Common.{◌≡◌, ◌+◌, ◌∙◌, ◌++◌, ap, subst, length, length-append, arith, Some, is_some, true, ◌∷◌, []}
 use Rattle.std.specs.Prelude.{slice_get}
 use Rattle.node_cell.specs.Node.{IsPassOf}
 use Rattle.node_threads.specs.Refusals.{AllStarted}
@@ -9,9 +9,11 @@ use Rattle.fleet_drill.proofs.settling.close_all.Goals as goal
 pub loop-node-init : goal.loop-node-init
 loop-node-init g c =
     let all = subst AllStarted c.as_slice.ensures.value c.in_ok-had_memory.ensures in
+    let none : length c.in_ok-closed.closed.items ≡ 0 = ap length c.in_ok-closed.ensures.items in
     record {
       inlets = c.args.worked.len.0;
       answers = c.args.worked.len.1;
+      closed = omega (arith, none);
       passes = c.args.worked.passes all;
     }
 
@@ -43,9 +45,11 @@ loop-node-preserved g c =
     let nodes = ap length c.in-Some.ensures.items ∙ length-append c.pop.new.self.items (c.in-Some.node ∷ []) in
     let inlets = ap length c.in-Some-Some.ensures.items ∙ length-append c.pop-in-Some.new.self.items (c.in-Some-Some.back ∷ []) in
     let answers = ap length items ∙ length-append c.pop-in-Some-2.new.self.items (c.in-Some-Some.list ∷ []) in
+    let pushed = ap length c.in_ok-push.ensures.items ∙ length-append c.loop-node.closed.items (c.in_ok-close_one.field-0 ∷ []) in
     record {
       inlets = omega (arith, nodes, inlets, i.inlets);
       answers = omega (arith, nodes, answers, i.answers);
+      closed = omega (arith, nodes, pushed, i.closed);
       passes = record {
         at = λ k n s en es.
             let r = less.0.at k n s en es in (
