@@ -164,7 +164,7 @@ absorbed_by_result {roster} {log} {facts} {messages} {old} {made} h others node 
     )
 absorbed_by_result {roster} {log} {facts} {messages} {old} {made} h others node number x y there both (Err (UncoveredBy shown)) new call reply is =
     let p = h.means.0 in
-    let above = call.refused in
+    let above = call.refused.1 in
     let tells : RepliesAbsorb roster facts x.0 (Uncovered shown) = record {
       p = p;
       position = h.means.1.position;

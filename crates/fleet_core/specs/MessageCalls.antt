@@ -72,7 +72,7 @@ pub record AbsorbsDelta (old : State) (summary : SummaryData) (delta : DeltaData
   pub absorbs : OnOk answer (AbsorbsInto old delta new)
   pub answers : OnOk answer (Answers old summary)
   pub refused : IfErr answer (RefusesAbsorb old summary delta)
-  pub roster : IfErr answer (TellsRoster old delta)
+  pub roster : TellsRoster old delta answer
   pub unchanged : OnErr answer (new ≡ old)
 
 pub record AbsorbsAnswer (old : State) (summary : SummaryData) (delta : DeltaData) (reply : Reply) (new : State) : Type 0 where

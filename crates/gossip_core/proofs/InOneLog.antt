@@ -1,5 +1,5 @@
 -- Inside one sound log: a state refuses nothing that a delta tells, and what it means after an absorb.
-use Rattle.std.proofs.Common.{◌≡◌, ℕ, ◌⊎◌, ⊎_elim, List, ◌++◌, sym, ap, ◌∙◌, length}
+use Rattle.std.proofs.Common.{◌≡◌, ℕ, ⊎_elim, List, ◌++◌, sym, ap, ◌∙◌, length}
 use Rattle.redo_core.specs.Book.{roster_of}
 use Rattle.redo_core.specs.Position.{Position}
 use Rattle.redo_core.specs.declared.facts.Fact.{Fact}
@@ -12,14 +12,14 @@ use Rattle.segment_state.specs.Means.{MeansAt}
 use Rattle.segment_state.proofs.Absorbing.{absorb_law}
 use Rattle.segment_state.proofs.Booked.{epoch_of}
 use Rattle.segment_core.specs.declared.answers.Refusal.{Refusal}
-use Rattle.segment_core.specs.declared.answers.Refusal.TheVariants.{Memory, OtherRoster}
+use Rattle.segment_core.specs.declared.answers.Refusal.TheVariants.{Memory}
 use Rattle.segment_join.specs.Told.{facts_told}
 use Rattle.segment_join.specs.InOrder.{RefusesOne}
 use Rattle.segment_join.proofs.TakingAll.{IsLate}
 use Rattle.segment_join.proofs.JoinInLog.{TellsPart, none_of_part, kept_of_part}
 use Rattle.gossip_core.specs.Answering.{listing_of}
 use Rattle.gossip_core.proofs.AnsweringFacts.{answers_for}
-use Rattle.gossip_core.specs.Absorbing.{filling_of, IsAnswered, MeansBoth, IsOfOneLog, Answers, AbsorbsInto, RefusesDelta}
+use Rattle.gossip_core.specs.Absorbing.{filling_of, IsAnswered, MeansBoth, IsOfOneLog, Answers, AbsorbsInto, RefusesTold}
 use Rattle.gossip_core.proofs.Absorbed.{known_together}
 
 module _ (roster : ℕ) (log F G : List Fact) (f g : Position) (s : State) (summary : SummaryData) (d : DeltaData)
@@ -46,23 +46,25 @@ module _ (roster : ℕ) (log F G : List Fact) (f g : Position) (s : State) (summ
       (known_together s d new late absorbs
       (kept_of_part roster log a.sound s absorbs.taken F G g d.book d.records (f, a.means) (tells_part shape) absorbs.takes))
 
-  pub nothing_refused : IsDelta d → (why : Refusal) → RefusesDelta s d why → ⊥
-  nothing_refused shape why refused =
-      ⊎_elim
-      (λ (x : (roster_of s.book ≡ roster_of d.book → ⊥) × (why ≡ OtherRoster (roster_of s.book) (roster_of d.book))).
-      x.0 (a.means.readers ∙ sym (ap length a.fills.same_points ∙ a.position.points.count)))
-      (λ (x : (roster_of s.book ≡ roster_of d.book) × RefusesOne s (facts_told d.book d.records) why).
-      none_of_part roster log a.sound s F G g d.book d.records (f, a.means) (tells_part shape) why x.1)
-      refused
+  pub one_roster : roster_of s.book ≡ roster_of d.book
+  one_roster = a.means.readers ∙ sym (ap length a.fills.same_points ∙ a.position.points.count)
 
--- a refusal inside one sound log is want of memory
-pub only_memory : (s : State) (summary : SummaryData) (d : DeltaData) (why : Refusal) → IsDelta d → (why ≡ Memory) ⊎ RefusesDelta s d why
+  pub nothing_refused : IsDelta d → (why : Refusal) → RefusesOne s (facts_told d.book d.records) why → ⊥
+  nothing_refused shape why refused = none_of_part roster log a.sound s F G g d.book d.records (f, a.means) (tells_part shape) why refused
+
+-- a refusal inside one sound log is want of memory, where nothing is uncovered
+pub only_memory : (s : State) (summary : SummaryData) (d : DeltaData) (why : Refusal) → IsDelta d → RefusesTold s d why
     → IsOfOneLog s summary d → why ≡ Memory
 only_memory s summary d why shape refused one =
     ⊎_elim
     (λ (e : why ≡ Memory). e)
-    (λ (x : RefusesDelta s d why). absurd (nothing_refused one.0 one.1 one.2 one.3 one.4 one.5 s summary d one.6 shape why x))
+    (λ (x : RefusesOne s (facts_told d.book d.records) why).
+    absurd (nothing_refused one.0 one.1 one.2 one.3 one.4 one.5 s summary d one.6 shape why x))
     refused
+
+-- deltas made inside one sound log are of its roster
+pub of_one_roster : (s : State) (summary : SummaryData) (d : DeltaData) → IsOfOneLog s summary d → roster_of s.book ≡ roster_of d.book
+of_one_roster s summary d one = one_roster one.0 one.1 one.2 one.3 one.4 one.5 s summary d one.6
 
 -- an absorb means the union
 pub both : (s : State) (summary : SummaryData) (d : DeltaData) (new : State) → IsDelta d → Answers s summary → AbsorbsInto s d new

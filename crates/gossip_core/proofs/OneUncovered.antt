@@ -1,6 +1,7 @@
 -- What a state does not answer for is one thing, and an absorb tells it.
 use Rattle.std.proofs.Common.{◌≡◌, ◌↔◌, ℕ, ◌<◌, ⊎_elim, Option, Some, None, Result, Ok, Err, OnOk, IfErr, refl, sym, ap, ◌∙◌, arith}
 use Rattle.std.proofs.lemmas.List.Elements.{All-contains}
+use Rattle.redo_core.specs.Book.{roster_of}
 use Rattle.redo_core.specs.Order.{IsFirst}
 use Rattle.redo_wire.specs.declared.keys.Key.{Key}
 use Rattle.redo_wire.specs.Summaries.{SummaryData, KeyBefore}
@@ -12,7 +13,7 @@ use Rattle.gossip_core.specs.declared.answering.Shown.TheVariants.{Anchor as OfA
 use Rattle.gossip_core.specs.declared.absorbing.AbsorbRefusal.{AbsorbRefusal}
 use Rattle.gossip_core.specs.declared.absorbing.AbsorbRefusal.TheVariants.{Uncovered, Refused}
 use Rattle.gossip_core.specs.Answering.{IsCovered, IsMissing, IsUncovered}
-use Rattle.gossip_core.specs.Absorbing.{Answers, RefusesAbsorb}
+use Rattle.gossip_core.specs.Absorbing.{Answers, IsOfOther, RefusesTold, RefusesAbsorb}
 
 not_both : (k l : Key) → KeyBefore k l → KeyBefore l k → ⊥
 not_both k l a b =
@@ -45,18 +46,23 @@ one_uncovered s anchor summary (Some (OfKey k)) (Some (OfAnchor n)) a b = absurd
 one_uncovered s anchor summary (Some (OfKey k)) (Some (OfKey l)) a b =
     ap (λ i. Some (OfKey i)) (one_first (IsMissing s anchor summary.keys) k l a.1 b.1)
 
--- what an absorb answers where this is uncovered
+-- what an absorb of one roster answers where this is uncovered
 pub tells_uncovered : (s : State) (summary : SummaryData) (d : DeltaData) (found : Option Shown) (answer : Result (Unit {0}) AbsorbRefusal)
+    → roster_of s.book ≡ roster_of d.book
     → ((anchor : ℕ) → HasAnchor s anchor → IsUncovered s anchor summary found) → OnOk answer (Answers s summary) → IfErr answer (RefusesAbsorb s summary d)
     → (shown : Shown) → (answer ≡ Err (Uncovered shown)) ↔ (found ≡ Some shown)
-tells_uncovered s summary d found (Ok u) own answers refused shown =
+tells_uncovered s summary d found (Ok u) same own answers refused shown =
     let none : None ≡ found = one_uncovered s answers.0 summary None found answers.2 (own answers.0 answers.1) in
     (λ e. absurd (cc), λ e. let x : None ≡ Some shown = none ∙ e in absurd (cc))
-tells_uncovered s summary d found (Err (Refused why)) own answers refused shown =
-    let none : None ≡ found = one_uncovered s refused.0.0 summary None found refused.0.2 (own refused.0.0 refused.0.1) in
-    (λ e. absurd (cc), λ e. let x : None ≡ Some shown = none ∙ e in absurd (cc))
-tells_uncovered s summary d found (Err (Uncovered told)) own answers refused shown =
-    let one : Some told ≡ found = one_uncovered s refused.0 summary (Some told) found refused.2 (own refused.0 refused.1) in (
+tells_uncovered s summary d found (Err (Refused why)) same own answers refused shown =
+    ⊎_elim
+    (λ (x : IsOfOther s d why). absurd (x.0 same))
+    (λ (x : (roster_of s.book ≡ roster_of d.book) × Answers s summary × RefusesTold s d why).
+    let none : None ≡ found = one_uncovered s x.1.0 summary None found x.1.2 (own x.1.0 x.1.1) in
+    (λ e. absurd (cc), λ e. let y : None ≡ Some shown = none ∙ e in absurd (cc)))
+    refused
+tells_uncovered s summary d found (Err (Uncovered told)) same own answers refused shown =
+    let one : Some told ≡ found = one_uncovered s refused.1.0 summary (Some told) found refused.1.2 (own refused.1.0 refused.1.1) in (
       λ e. let x : told ≡ shown = cc in sym one ∙ ap (λ i. Some i) x,
       λ e. let y : Some told ≡ Some shown = one ∙ e in let x : told ≡ shown = cc in ap (λ i. Err (Uncovered i)) x,
     )

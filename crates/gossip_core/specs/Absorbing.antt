@@ -1,5 +1,5 @@
 -- What an absorbed delta does to a segment.
-use Rattle.std.specs.Prelude.{◌≡◌, ◌≢◌, ℕ, ◌<◌, ◌≤◌, ◌⊎◌, List, ◌++◌, None, Some, max}
+use Rattle.std.specs.Prelude.{◌≡◌, ◌≢◌, ℕ, ◌<◌, ◌≤◌, ◌⊎◌, List, ◌++◌, Result, Err, None, Some, max}
 use Rattle.redo_core.specs.Book.{roster_of}
 use Rattle.redo_core.specs.Meaning.{ImageData}
 use Rattle.redo_core.specs.Position.{Position, IsPosition}
@@ -50,12 +50,6 @@ IsOfOneLog s summary d = (roster : ℕ) × (log F G : List Fact) × (f g : Posit
 abbrev pub Answers : State → SummaryData → Type 0
 Answers s summary = (anchor : ℕ) × HasAnchor s anchor × IsUncovered s anchor summary None
 
--- the delta is of another roster, or else one of the facts that it tells is refused
-abbrev pub RefusesDelta : State → DeltaData → Refusal → Type 0
-RefusesDelta s d why =
-    ((roster_of s.book ≢ roster_of d.book) × (why ≡ OtherRoster (roster_of s.book) (roster_of d.book)))
-    ⊎ ((roster_of s.book ≡ roster_of d.book) × RefusesOne s (facts_told d.book d.records) why)
-
 -- Of one roster, and each fact that the delta tells is taken in order: the state has what those leave, and the greater base point. A page
 -- below the delta's base has the delta's image there, or zeros where that has none, and each other page what it had.
 pub record AbsorbsInto (old : State) (d : DeltaData) (new : State) : Type 0 where
@@ -69,15 +63,24 @@ pub record AbsorbsInto (old : State) (d : DeltaData) (new : State) : Type 0 wher
       → ((d.base ≤ version_of old.store page) × SamePage old.store new.store page)
       ⊎ ((version_of old.store page < d.base) × (version_of new.store page ≡ d.base) × HasImage (filling_of d) page (image_of new.store page))
 
--- why an absorb is refused: what is uncovered, else want of memory or what the delta tells
-abbrev pub RefusesAbsorb : State → SummaryData → DeltaData → AbsorbRefusal → Type 0
-RefusesAbsorb s summary d (Uncovered shown) = (anchor : ℕ) × HasAnchor s anchor × IsUncovered s anchor summary (Some shown)
-RefusesAbsorb s summary d (Refused why) = Answers s summary × ((why ≡ Memory) ⊎ RefusesDelta s d why)
+-- the delta is of another roster, and the refusal tells both
+abbrev pub IsOfOther : State → DeltaData → Refusal → Type 0
+IsOfOther s d why = (roster_of s.book ≢ roster_of d.book) × (why ≡ OtherRoster (roster_of s.book) (roster_of d.book))
 
--- a delta of another roster is told as such, unless the summary is uncovered: want of memory is no answer to it
-abbrev pub TellsRoster : State → DeltaData → AbsorbRefusal → Type 0
-TellsRoster s d (Uncovered shown) = Unit {0}
-TellsRoster s d (Refused why) = roster_of s.book ≢ roster_of d.book → why ≡ OtherRoster (roster_of s.book) (roster_of d.book)
+-- one of the facts that the delta tells is refused, or memory is wanting
+abbrev pub RefusesTold : State → DeltaData → Refusal → Type 0
+RefusesTold s d why = (why ≡ Memory) ⊎ RefusesOne s (facts_told d.book d.records) why
+
+-- why an absorb is refused: another roster; else what is uncovered; else want of memory, or what the delta tells
+abbrev pub RefusesAbsorb : State → SummaryData → DeltaData → AbsorbRefusal → Type 0
+RefusesAbsorb s summary d (Uncovered shown) =
+    (roster_of s.book ≡ roster_of d.book) × ((anchor : ℕ) × HasAnchor s anchor × IsUncovered s anchor summary (Some shown))
+RefusesAbsorb s summary d (Refused why) = IsOfOther s d why ⊎ ((roster_of s.book ≡ roster_of d.book) × Answers s summary × RefusesTold s d why)
+
+-- a delta of another roster is told as such, whatever else might be said of it
+abbrev pub TellsRoster : State → DeltaData → Result (Unit {0}) AbsorbRefusal → Type 0
+TellsRoster s d answer =
+    roster_of s.book ≢ roster_of d.book → answer ≡ Err (Refused (OtherRoster (roster_of s.book) (roster_of d.book)))
 
 -- a page of a delta at its base
 abbrev pub image_at : ℕ → ImageData → StoredImage

@@ -1,12 +1,12 @@
-ghost use Rattle.std.specs.Prelude.{◌≡◌, ◌≢◌, ◌⊎◌, map, IfOk, OnOk, IfErr, OnErr};
+ghost use Rattle.std.specs.Prelude.{◌≡◌, ◌⊎◌, map, IfOk, OnOk, IfErr, OnErr};
 ghost use Rattle.redo_core.specs.Book.{roster_of};
 ghost use Rattle.segment_core.specs.Savepoint.{RollsBackAs};
-ghost use Rattle.segment_core.specs.declared.answers.Refusal.TheVariants.{OtherRoster as OtherRosterOf, Memory as MemoryOf};
+ghost use Rattle.segment_core.specs.declared.answers.Refusal.TheVariants.{Memory as MemoryOf};
 ghost use Rattle.segment_join.specs.Told.{facts_told};
 ghost use Rattle.segment_join.specs.InOrder.{TakesEach, RefusesOne};
 ghost use Rattle.gossip_core.specs.declared.absorbing.AbsorbRefusal.TheVariants.{Refused as RefusedFor, Uncovered as UncoveredBy};
 ghost use Rattle.gossip_core.specs.declared.answering.Shown.{Shown as AnyShown};
-ghost use Rattle.gossip_core.specs.Absorbing.{image_at, MeansBoth, IsOfOneLog, Answers, AbsorbsInto, RefusesDelta, RefusesAbsorb, TellsRoster};
+ghost use Rattle.gossip_core.specs.Absorbing.{image_at, MeansBoth, IsOfOneLog, Answers, AbsorbsInto, RefusesAbsorb, TellsRoster};
 
 use crate::answering::{Shown, uncovered};
 use page_base::BaseImage;
@@ -30,9 +30,9 @@ pub enum AbsorbRefusal {
 
 /// Brings into a segment what a delta has beyond the summary that it was made for.
 ///
-/// Errors: `Uncovered` exactly where the segment does not answer for the summary; else `Refused`: `OtherRoster` where the two rosters
-/// differ, or as of the first fact that `take` would refuse, of the delta's truncations, each reader's point in its complete epoch, its
-/// waiting advances and its records (over a sound log want of memory alone). The segment is then as it was.
+/// Errors: `OtherRoster` exactly where the two rosters differ; else `Uncovered` exactly where the segment does not answer for the
+/// summary; else as of the first fact that `take` would refuse, of the delta's truncations, each reader's point in its complete epoch,
+/// its waiting advances and its records (over a sound log want of memory alone). The segment is then as it was.
 pub fn absorb(segment: &mut Segment, summary: &Summary, delta: &Delta) -> Result<(), AbsorbRefusal>
     // Inside one sound log.
     ensures means { OnOk result (MeansBoth segment.old summary.now delta.now segment.new) }
@@ -41,12 +41,17 @@ pub fn absorb(segment: &mut Segment, summary: &Summary, delta: &Delta) -> Result
     ensures absorbs { OnOk result (AbsorbsInto segment.old delta.now segment.new) }
     ensures answers { OnOk result (Answers segment.old summary.now) }
     ensures refused { IfErr result (RefusesAbsorb segment.old summary.now delta.now) }
-    ensures roster { IfErr result (TellsRoster segment.old delta.now) }
+    ensures roster { TellsRoster segment.old delta.now result }
     ensures unchanged { OnErr result (segment.new ≡ segment.old) }
 {
     // They are called for what they ensure: a delta has its shape, and a segment an anchor.
     let _base = delta.base();
     let _anchor = segment.anchor();
+    let own = segment.points().len() as u8;
+    let shown = delta.book().points().len() as u8;
+    if own != shown {
+        return Err(AbsorbRefusal::Refused(Refusal::OtherRoster { own, shown }));
+    }
     if let Some(shown) = uncovered(segment, summary) {
         return Err(AbsorbRefusal::Uncovered { shown });
     }
@@ -56,18 +61,13 @@ pub fn absorb(segment: &mut Segment, summary: &Summary, delta: &Delta) -> Result
     }
 }
 
-/// Takes what a delta tells and its pages, whatever summary it was made for.
+/// Takes what a delta of the same roster tells and its pages, whatever summary it was made for.
 fn take_delta(segment: &mut Segment, delta: &Delta) -> Result<(), Refusal>
+    requires { roster_of segment.old.book ≡ roster_of delta.now.book }
     ensures absorbs { OnOk result (AbsorbsInto segment.old delta.now segment.new) }
-    ensures refused { IfErr result (λ e. (e ≡ MemoryOf) ⊎ RefusesDelta segment.old delta.now e) }
-    ensures roster { IfErr result (λ e. roster_of segment.old.book ≢ roster_of delta.now.book → e ≡ OtherRosterOf (roster_of segment.old.book) (roster_of delta.now.book)) }
+    ensures refused { IfErr result (λ e. (e ≡ MemoryOf) ⊎ RefusesOne segment.old (facts_told delta.now.book delta.now.records) e) }
     ensures unchanged { OnErr result (segment.new ≡ segment.old) }
 {
-    let own = segment.points().len() as u8;
-    let shown = delta.book().points().len() as u8;
-    if own != shown {
-        return Err(Refusal::OtherRoster { own, shown });
-    }
     let Ok(mut saved) = segment.savepoint() else {
         return Err(Refusal::Memory);
     };
@@ -134,13 +134,13 @@ fn each_of(alloc: Global, records: &[Record]) -> Result<Vec<&Record>, AllocError
     Ok(each)
 }
 
-/// Copies of a delta's pages as images at its base.
+/// A delta's pages as images at its base.
 fn images_at(alloc: Global, base: u64, pages: &[PageImage]) -> Result<Vec<BaseImage>, AllocError>
     ensures { IfOk result (λ v. v.items ≡ map (image_at base) pages.now) }
 {
     let mut images = Vec::new(alloc);
     for image in pages {
-        images.push(BaseImage::new(image.number(), base, image.page().copy()?))?;
+        images.push(BaseImage::new(image.number(), base, image.shared_page().share()?))?;
     }
     Ok(images)
 }

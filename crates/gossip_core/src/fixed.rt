@@ -1,6 +1,7 @@
 //! What the contracts fix, so that no other body meets them. Each function states its law and is called by nobody.
 
 ghost use Rattle.std.specs.Prelude.{◌≡◌, ◌↔◌, Some, Err, IfOk};
+ghost use Rattle.redo_core.specs.Book.{roster_of};
 ghost use Rattle.gossip_core.specs.declared.absorbing.AbsorbRefusal.TheVariants.{Uncovered as UncoveredBy};
 ghost use Rattle.gossip_core.specs.declared.answering.Shown.{Shown as AnyShown};
 
@@ -25,6 +26,7 @@ fn absorb_tells_what_is_uncovered(
     summary: &Summary,
     delta: &Delta,
 ) -> (Option<Shown>, Result<(), AbsorbRefusal>)
+    requires { roster_of segment.old.book ≡ roster_of delta.now.book }
     ensures { (shown : AnyShown) → (result.1 ≡ Err (UncoveredBy shown)) ↔ (result.0 ≡ Some shown) }
 {
     let shown = uncovered(segment, summary);

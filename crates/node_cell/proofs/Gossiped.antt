@@ -65,7 +65,7 @@ module _ (roster : ℕ) (log : List Fact) where
     p = k.means.0;
     part = k.means.1.part;
     position = k.means.1.position;
-    leaves = leaves_uncovered roster log k.facts k.means.0 s sound k.means.1 why.0 why.1 summary shown why.2;
+    leaves = leaves_uncovered roster log k.facts k.means.0 s sound k.means.1 why.1.0 why.1.1 summary shown why.1.2;
   }
 
   -- after an absorb the state means the facts that it meant and those that the mail is of

@@ -36,7 +36,7 @@ impl<L: LogName> Mail<L> {
         }
     }
 
-    /// An equal mail with memory of its own. Its only error is want of memory.
+    /// An equal mail, which shares the pages. Its only error is want of memory.
     pub fn copy(&self) -> Result<Mail<L>, AllocError>
         ensures { IfOk result (λ mail. mail ≡ self.now) }
     {

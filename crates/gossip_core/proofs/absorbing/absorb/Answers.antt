@@ -1,9 +1,18 @@
-use Rattle.std.proofs.Common.{inl, ap}
+use Rattle.std.proofs.Common.{◌≡◌, ◌∙◌, inl, inr, ap, arith, length}
+use Rattle.redo_core.specs.Book.{BookData, roster_of}
 use Rattle.segment_core.specs.declared.answers.Refusal.{Refusal}
 use Rattle.gossip_core.specs.declared.absorbing.AbsorbRefusal.TheVariants.{Refused}
 use Rattle.gossip_core.specs.Absorbing.{Answers, IsOfOneLog}
 use Rattle.gossip_core.proofs.InOneLog.{both, only_memory}
 use Rattle.gossip_core.proofs.absorbing.absorb.Goals as goal
+
+-- the two are of one roster
+pub take_delta-requires : goal.take_delta-requires
+take_delta-requires c =
+    let own : length c.points.result.now ≡ roster_of c.args.segment.now.book = ap length c.points.ensures.own in
+    let shown : length c.points-2.result.now ≡ roster_of c.args.delta.now.book =
+    ap length (c.points-2.ensures.points ∙ ap (λ (b : BookData). b.points) c.book.ensures.book) in
+    omega (arith, own, shown, c.if-own-shown.false)
 
 pub returns-in-Ok-clause-answers : goal.returns-in-Ok-clause-answers
 returns-in-Ok-clause-answers c =
@@ -12,7 +21,11 @@ returns-in-Ok-clause-answers c =
 pub returns-in-Err-clause-refused : goal.returns-in-Err-clause-refused
 returns-in-Err-clause-refused c =
     let anchor = c.anchor-anchor.result in let above = c.anchor-anchor.ensures.own in
-    ((anchor, above, c.in_default.ensures.own anchor above), c.in-Err.ensures.refused)
+    let own : length c.points.result.now ≡ roster_of c.args.segment.now.book = ap length c.points.ensures.own in
+    let shown : length c.points-2.result.now ≡ roster_of c.args.delta.now.book =
+    ap length (c.points-2.ensures.points ∙ ap (λ (b : BookData). b.points) c.book.ensures.book) in
+    let same : roster_of c.args.segment.now.book ≡ roster_of c.args.delta.now.book = omega (arith, own, shown, c.if-own-shown.false) in
+    inr (same, (anchor, above, c.in_default.ensures.own anchor above), c.in-Err.ensures.refused)
 
 pub returns-in-Ok-clause-means : goal.returns-in-Ok-clause-means
 returns-in-Ok-clause-means c =
