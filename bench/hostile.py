@@ -148,7 +148,7 @@ JUDGED = (100, 400)  # the sizes that the gate tries
 MOST = 1.2
 # What may grow faster, and why.
 SLOWER = {
-    "answers_again": (2.1, "each answer has images of its own"),
+    "answers_again": (2.1, "each answer lists all its pages"),
     "discards_over_images": (2.1, "each discard looks at every image"),
 }
 IDLE = ["go", "nodes 1"]

@@ -11,7 +11,7 @@ ghost use Rattle.hydration.specs.declared.finishing.FinishFault.TheVariants.{Mis
 
 use crate::staging::Staging;
 use epoch_book::EpochBook;
-use redo_core::{Page, ReadPoints, Record};
+use redo_core::{ReadPoints, Record, SharedPage};
 use redo_wire::{Book, Piece, PieceContent};
 use segment_core::Segment;
 use segment_state::restore_keeps;
@@ -91,8 +91,8 @@ impl Staging {
         Ok(records)
     }
 
-    /// Copies of the pages of all pieces.
-    fn pages(&self) -> Result<Vec<(u16, Page)>, AllocError>
+    /// The pages of all pieces, shared with them.
+    fn pages(&self) -> Result<Vec<(u16, SharedPage)>, AllocError>
         requires { IsInOrder self.now }
         ensures brought { IfOk result (λ v. (page : ℕ) → IsBrought self.now page (first_given v.items page)) }
         ensures only { IfOk result (λ v. (g : ℕ × List ℕ) → Contains v.items g → (image : ImageData) × BringsPage self.now image) }
@@ -119,12 +119,12 @@ fn add_records(records: &mut Vec<Record>, piece: &Piece) -> Result<(), AllocErro
     Ok(())
 }
 
-/// Adds a copy of a piece's page, where it brings one.
-fn add_page(pages: &mut Vec<(u16, Page)>, piece: &Piece) -> Result<(), AllocError>
+/// Adds a piece's page, where it brings one.
+fn add_page(pages: &mut Vec<(u16, SharedPage)>, piece: &Piece) -> Result<(), AllocError>
     ensures { OnOk result (pages.new.items ≡ pages.old.items ++ pages_of piece.now.content) }
 {
     if let PieceContent::Page(image) = piece.content() {
-        pages.push((image.number(), image.page().copy()?))?;
+        pages.push((image.number(), image.shared_page().share()?))?;
     }
     Ok(())
 }

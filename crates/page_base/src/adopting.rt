@@ -5,11 +5,11 @@ ghost use Rattle.page_base.specs.Adopting.{Adopts, StoresJust, ComesTo, RaisesEa
 
 use crate::images::BaseImage;
 use crate::places::raise;
-use redo_core::{Page, Refused};
+use redo_core::{Refused, SharedPage};
 use std::alloc::AllocError;
 
 // Raises each page given to the base, in order; there is room for all of them.
-fn raise_each(images: &mut Vec<BaseImage>, floor: u64, base: u64, pages: Vec<(u16, Page)>)
+fn raise_each(images: &mut Vec<BaseImage>, floor: u64, base: u64, pages: Vec<(u16, SharedPage)>)
     requires stored { IsBase images.old.items floor }
     requires room { vec_len images.old + vec_len pages ≤ vec_capacity images.old }
     ensures raises { ComesTo base (store_of images.old.items floor) pages.items (store_of images.new.items floor) [] }
@@ -43,8 +43,8 @@ pub fn adopt(
     images: &mut Vec<BaseImage>,
     floor: u64,
     base: u64,
-    pages: Vec<(u16, Page)>,
-) -> Result<u64, Refused<Vec<(u16, Page)>, AllocError>>
+    pages: Vec<(u16, SharedPage)>,
+) -> Result<u64, Refused<Vec<(u16, SharedPage)>, AllocError>>
     requires { IsBase images.old.items floor }
     ensures adopts { IfOk result (λ raised. Adopts (store_of images.old.items floor) base pages.items (store_of images.new.items raised)) }
     ensures listed { IfOk result (λ raised. StoresJust (store_of images.old.items floor) base pages.items (store_of images.new.items raised)) }

@@ -6,7 +6,7 @@ ghost use Rattle.redo_core.specs.Store.{version_of, image_of};
 
 use crate::images::BaseImage;
 use crate::store::BaseStore;
-use redo_core::Page;
+use redo_core::{Page, SharedPage};
 
 fn image_is_lent_one_way(store: &BaseStore, page: u16) -> Option<(&BaseImage, &BaseImage)>
     ensures { IfSome result (λ both. both.0.now ≡ both.1.now) }
@@ -37,8 +37,8 @@ fn pages_are_adopted_one_way(
     one: &mut BaseStore,
     other: &mut BaseStore,
     base: u64,
-    pages: Vec<(u16, Page)>,
-    same: Vec<(u16, Page)>,
+    pages: Vec<(u16, SharedPage)>,
+    same: Vec<(u16, SharedPage)>,
 ) -> bool
     requires stores { one.old ≡ other.old }
     requires pages { pages.items ≡ same.items }

@@ -1,7 +1,7 @@
 ghost use Rattle.std.specs.Prelude.{◌≡◌, IfOk};
 ghost use Rattle.page_base.specs.Stored.{stored};
 
-use redo_core::Page;
+use redo_core::SharedPage;
 use std::alloc::AllocError;
 use std::marker::Model;
 
@@ -10,7 +10,7 @@ use std::marker::Model;
 pub struct BaseImage {
     page: u16,
     version: u64,
-    image: Page,
+    image: SharedPage,
 }
 
 impl Model for BaseImage {
@@ -24,7 +24,7 @@ impl Model for BaseImage {
 
 impl BaseImage {
     /// The image of a page at a version, which is a number of the log or 0.
-    pub fn new(page: u16, version: u64, image: Page) -> Self
+    pub fn new(page: u16, version: u64, image: SharedPage) -> Self
         ensures { result ≡ stored page version image }
     {
         BaseImage {
@@ -47,27 +47,27 @@ impl BaseImage {
         self.version
     }
 
-    pub fn image(&self) -> &Page
+    pub fn image(&self) -> &SharedPage
         ensures { result.now ≡ self.now.bytes }
     {
         &self.image
     }
 
-    // The page's bytes, moved out.
-    pub(crate) fn into_image(self) -> Page
+    // The page, moved out.
+    pub(crate) fn into_image(self) -> SharedPage
         ensures { result ≡ self.bytes }
     {
         self.image
     }
 
-    /// An equal image with memory of its own. Its only error is want of memory.
+    /// An equal image, which shares the page. It takes no memory; the error comes where no more owners of the page can be counted.
     pub fn copy(&self) -> Result<Self, AllocError>
         ensures { IfOk result (λ i. i ≡ self.now) }
     {
         Ok(BaseImage {
             page: self.page,
             version: self.version,
-            image: self.image.copy()?,
+            image: self.image.share()?,
         })
     }
 }

@@ -8,7 +8,7 @@ ghost use Rattle.page_base.specs.Placing.{SplitsAt, IsPlace};
 ghost use Rattle.page_base.specs.Raising.{Raises};
 
 use crate::images::BaseImage;
-use redo_core::{Page, Refused};
+use redo_core::{Page, Refused, SharedPage};
 use std::alloc::{AllocError, Global};
 
 // How many images are of pages below.
@@ -72,7 +72,7 @@ pub fn image_in(
     ensures { IfOk result (λ image. image ≡ image_of (store_of images.now floor) page) }
 {
     match place_of(images, page) {
-        Ok(place) => images[place].image().copy(),
+        Ok(place) => images[place].image().page().copy(),
         Err(_) => Page::zeros(alloc),
     }
 }
@@ -107,8 +107,8 @@ pub fn raise(
     floor: u64,
     page: u16,
     version: u64,
-    image: Page,
-) -> Result<(), Refused<Page, AllocError>>
+    image: SharedPage,
+) -> Result<(), Refused<SharedPage, AllocError>>
     requires { IsBase images.old.items floor }
     ensures raises { OnOk result (Raises (store_of images.old.items floor) page version image (store_of images.new.items floor)) }
     ensures refused { IfErr result (λ e. (e.value ≡ image) × (version_of (store_of images.old.items floor) page < version)) }
@@ -125,6 +125,44 @@ pub fn raise(
         Err(refused) => Err(Refused {
             value: refused.value.into_image(),
             fault: refused.fault,
+        }),
+    }
+}
+
+// Raises the image of a page to one that is not shared yet.
+pub fn raise_page(
+    images: &mut Vec<BaseImage>,
+    floor: u64,
+    page: u16,
+    version: u64,
+    image: Page,
+) -> Result<(), Refused<Page, AllocError>>
+    requires { IsBase images.old.items floor }
+    ensures raises { OnOk result (Raises (store_of images.old.items floor) page version image (store_of images.new.items floor)) }
+    ensures refused { IfErr result (λ e. (e.value ≡ image) × (version_of (store_of images.old.items floor) page < version)) }
+    ensures unchanged { OnErr result (images.new.items ≡ images.old.items) }
+    ensures form { IsBase images.new.items floor }
+{
+    if version <= version_in(images, floor, page) {
+        return Ok(());
+    }
+    // The room first: a page that is shared cannot be handed back as one that is not.
+    if images.reserve(1).is_err() {
+        return Err(Refused {
+            value: image,
+            fault: AllocError,
+        });
+    }
+    match SharedPage::new(*images.allocator(), image) {
+        Ok(shared) => {
+            if raise(images, floor, page, version, shared).is_err() {
+                unreachable!()
+            }
+            Ok(())
+        }
+        Err(failed) => Err(Refused {
+            value: failed.value,
+            fault: AllocError,
         }),
     }
 }

@@ -8,7 +8,7 @@ ghost use Rattle.page_base.specs.Merging.{Merges};
 
 use crate::images::BaseImage;
 use crate::{adopting, merging, places};
-use redo_core::{Page, Refused};
+use redo_core::{Page, Refused, SharedPage};
 use std::alloc::{AllocError, Global};
 use std::marker::Model;
 
@@ -43,7 +43,7 @@ impl BaseStore {
         }
     }
 
-    /// An equal store with memory of its own. Its only error is want of memory.
+    /// An equal store, which shares the pages. Its only error is want of memory.
     pub fn copy(&self) -> Result<Self, AllocError>
         ensures { IfOk result (λ s. s ≡ self.now) }
     {
@@ -107,7 +107,7 @@ impl BaseStore {
         ensures unchanged { OnErr result (self.new ≡ self.old) }
         ensures form { IsStored self.new }
     {
-        places::raise(&mut self.images, self.floor, page, version, image)
+        places::raise_page(&mut self.images, self.floor, page, version, image)
     }
 
     /// Brings each page of a version below `base` to it, with the first image given of that page, or zeros where none is.
@@ -115,8 +115,8 @@ impl BaseStore {
     pub fn adopt(
         &mut self,
         base: u64,
-        pages: Vec<(u16, Page)>,
-    ) -> Result<(), Refused<Vec<(u16, Page)>, AllocError>>
+        pages: Vec<(u16, SharedPage)>,
+    ) -> Result<(), Refused<Vec<(u16, SharedPage)>, AllocError>>
         ensures adopts { OnOk result (Adopts self.old base pages.items self.new) }
         ensures listed { OnOk result (StoresJust self.old base pages.items self.new) }
         ensures refused { IfErr result (λ e. e.value ≡ pages) }

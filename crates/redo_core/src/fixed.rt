@@ -12,6 +12,7 @@ use crate::read_points::ReadPoints;
 use crate::records::Record;
 use crate::rosters::Roster;
 use crate::shapes::ShapeFault;
+use crate::shared_page::SharedPage;
 use crate::writes::Write;
 use std::alloc::{AllocError, Global};
 
@@ -99,6 +100,20 @@ fn page_is_its_copy(page: &Page) -> Result<(Page, Page), AllocError>
     ensures { IfOk result (λ both. both.0 ≡ both.1) }
 {
     Ok((page.copy()?, page.copy()?))
+}
+
+fn shared_page_is_its_page(alloc: Global, page: Page) -> Result<(SharedPage, Page), AllocError>
+    ensures { IfOk result (λ both. both.0 ≡ both.1) }
+{
+    let shared = SharedPage::new(alloc, page)?;
+    let copied = shared.share()?.page().copy()?;
+    Ok((shared, copied))
+}
+
+fn zero_is_told_as_of_the_page(page: &SharedPage) -> bool
+    ensures { IsTrue result }
+{
+    page.is_zero() == page.page().is_zero()
 }
 
 fn record_is_applied_one_way(redo: &Record, page: &Page) -> Result<(Page, Page), AllocError>

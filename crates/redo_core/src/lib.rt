@@ -19,6 +19,7 @@ mod records;
 mod refusal;
 mod rosters;
 mod shapes;
+mod shared_page;
 mod writes;
 
 pub use advances::Advance;
@@ -34,4 +35,5 @@ pub use rosters::Roster;
 pub use shapes::{
     EPOCH_COUNT, MAX_BYTES, MAX_NUMBER, MAX_PATCHES, MAX_READERS, PAGE_LEN, ShapeFault,
 };
+pub use shared_page::SharedPage;
 pub use writes::Write;

@@ -85,7 +85,7 @@ impl Delta {
         &self.records
     }
 
-    /// An equal delta with memory of its own. Its only error is want of memory.
+    /// An equal delta, which shares the pages. Its only error is want of memory.
     pub fn copy(&self) -> Result<Self, AllocError>
         ensures { IfOk result (λ d. d ≡ self.now) }
     {

@@ -176,7 +176,7 @@ fn delta_is_told_one_way(
 fn image_is_its_parts(image: &PageImage) -> Result<PageImage, AllocError>
     ensures { IfOk result (λ made. made ≡ image.now) }
 {
-    Ok(PageImage::new(image.number(), image.page().copy()?))
+    Ok(PageImage::new(image.number(), image.shared_page().share()?))
 }
 
 fn image_is_its_page(image: PageImage) -> PageImage

@@ -1,6 +1,7 @@
 //! Page images, both ways.
 
-ghost use Rattle.std.specs.Prelude.{◌≡◌, ◌++◌, IfOk, OnOk};
+ghost use Rattle.std.specs.Prelude.{◌≡◌, ◌++◌, length, IfOk, OnOk};
+ghost use Rattle.redo_core.specs.Shape.{page_len};
 ghost use Rattle.redo_wire.specs.Outcomes.{Gives};
 ghost use Rattle.redo_wire.specs.Deltas.{image_of, IsWireImage, image_bytes};
 ghost use Rattle.redo_wire.specs.DeltaReading.{is_nonzero, image_at, next_image_at};
@@ -9,7 +10,7 @@ use crate::faults::{WireError, WireFault};
 use crate::fields::{put_u16, read_bytes, read_u16};
 use crate::lists::{ListReader, ListWriter};
 use bytes::{BufMut, BytesMut};
-use redo_core::{PAGE_LEN, Page};
+use redo_core::{PAGE_LEN, Page, SharedPage};
 use std::alloc::{AllocError, Global};
 use std::marker::Model;
 
@@ -17,7 +18,7 @@ use std::marker::Model;
 #[derive(Debug, Drop)]
 pub struct PageImage {
     number: u16,
-    page: Page,
+    page: SharedPage,
 }
 
 impl Model for PageImage {
@@ -31,7 +32,7 @@ impl Model for PageImage {
 
 impl PageImage {
     /// The image of the page of this number.
-    pub fn new(number: u16, page: Page) -> Self
+    pub fn new(number: u16, page: SharedPage) -> Self
         ensures { result ≡ image_of number page }
     {
         PageImage { number, page }
@@ -46,17 +47,24 @@ impl PageImage {
     pub fn page(&self) -> &Page
         ensures { result.now ≡ self.now.bytes }
     {
+        self.page.page()
+    }
+
+    /// The page as it is shared.
+    pub fn shared_page(&self) -> &SharedPage
+        ensures { result.now ≡ self.now.bytes }
+    {
         &self.page
     }
 
     /// The page, without taking memory.
-    pub fn into_page(self) -> Page
+    pub fn into_page(self) -> SharedPage
         ensures { result ≡ self.bytes }
     {
         self.page
     }
 
-    /// An equal image with memory of its own. Its only error is want of memory.
+    /// An equal image, which shares the page. It takes no memory; the error comes where no more owners of the page can be counted.
     pub fn copy(&self) -> Result<Self, AllocError>
         ensures { IfOk result (λ p. p ≡ self.now) }
     {
@@ -70,7 +78,7 @@ impl Clone for PageImage {
     fn clone(&self) -> Result<Self, AllocError> {
         Ok(PageImage {
             number: self.number,
-            page: self.page.copy()?,
+            page: self.page.share()?,
         })
     }
 }
@@ -127,6 +135,15 @@ fn has_nonzero(bytes: &[u8]) -> bool
     bytes.iter().any(|b| *b != 0)
 }
 
+/// The page of these bytes. Its only error is want of memory.
+fn page_of(alloc: Global, bytes: &[u8]) -> Result<SharedPage, AllocError>
+    requires { length bytes.now ≡ page_len }
+    ensures { IfOk result (λ page. page ≡ bytes.now) }
+{
+    let page = Page::new(Vec::from_slice(alloc, bytes)?);
+    Ok(SharedPage::new(alloc, page)?)
+}
+
 #[tactic(auto, unfolding(crate::specs::DeltaReading::image_at))]
 pub fn read_image(alloc: Global, bytes: &[u8]) -> Result<(PageImage, &[u8]), WireError>
     ensures { Gives (λ x. (x.0, x.1.now)) result (image_at bytes.now) }
@@ -136,7 +153,7 @@ pub fn read_image(alloc: Global, bytes: &[u8]) -> Result<(PageImage, &[u8]), Wir
     if !has_nonzero(text) {
         return Err(WireError::Fault(WireFault::Shape));
     }
-    let page = Page::new(Vec::from_slice(alloc, text)?);
+    let page = page_of(alloc, text)?;
     Ok((PageImage { number, page }, rest))
 }
 

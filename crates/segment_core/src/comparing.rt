@@ -28,7 +28,7 @@ impl Segment {
     }
 
     /// Whether the page at a point is its base image: no held record is applied to that.
-    fn shows_its_image(&self, page: u16, point: u64) -> bool
+    pub(crate) fn shows_its_image(&self, page: u16, point: u64) -> bool
         ensures { IsTrue result → Shows self.now page point (image_of self.now.store page) }
     {
         match self
@@ -48,7 +48,7 @@ impl Segment {
             self.store.stored_image(page),
             other.store.stored_image(page),
         ) {
-            (Some(own), Some(others)) => is_equal(own.image(), others.image()),
+            (Some(own), Some(others)) => is_equal(own.image().page(), others.image().page()),
             (Some(own), None) => own.image().is_zero(),
             (None, Some(others)) => others.image().is_zero(),
             (None, None) => true,

@@ -8,7 +8,7 @@ use crate::segment::Segment;
 use epoch_book::EpochBook;
 use hot_log::HotLog;
 use page_base::BaseStore;
-use redo_core::{Page, Record};
+use redo_core::{Record, SharedPage};
 use std::alloc::{AllocError, Global};
 
 impl Segment {
@@ -21,7 +21,7 @@ impl Segment {
         book: EpochBook,
         records: Vec<Record>,
         base: u64,
-        pages: Vec<(u16, Page)>,
+        pages: Vec<(u16, SharedPage)>,
     ) -> Result<Self, AllocError>
         requires base { base ≤ least book.points }
         requires none_at_0 { base ≡ 0 → pages.items ≡ [] }

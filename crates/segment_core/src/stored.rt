@@ -15,7 +15,7 @@ ghost use Rattle.segment_core.specs.Keys.{key_of, HasKeysAfter};
 
 use crate::segment::Segment;
 use page_base::BaseImage;
-use redo_core::{Advance, Cut, Page, Record, Refused};
+use redo_core::{Advance, Cut, Page, Record, Refused, SharedPage};
 use std::alloc::{AllocError, Global};
 
 impl Segment {
@@ -150,8 +150,8 @@ impl Segment {
     pub fn adopt(
         &mut self,
         base: u64,
-        pages: Vec<(u16, Page)>,
-    ) -> Result<(), Refused<Vec<(u16, Page)>, AllocError>>
+        pages: Vec<(u16, SharedPage)>,
+    ) -> Result<(), Refused<Vec<(u16, SharedPage)>, AllocError>>
         requires { base ≤ min_of self.old }
         ensures adopts { OnOk result (AdoptsBase self.old base pages.items self.new) }
         ensures refused { IfErr result (λ e. e.value ≡ pages) }

@@ -1,5 +1,5 @@
 use crate::row::Row;
-use redo_core::{Advance, Cut, Fact, Page, Patch, Record, Write};
+use redo_core::{Advance, Cut, Fact, Page, Patch, Record, SharedPage, Write};
 use segment_core::{BaseImage, Folded};
 use std::alloc::{AllocError, Global};
 
@@ -52,6 +52,10 @@ fn page_of(alloc: Global, byte: u8) -> Result<Page, AllocError> {
     Ok(Page::new(vec![in alloc; byte; 4096]?))
 }
 
+fn shared_page_of(alloc: Global, byte: u8) -> Result<SharedPage, AllocError> {
+    Ok(SharedPage::new(alloc, page_of(alloc, byte)?)?)
+}
+
 pub fn folded(row: Row) -> Result<Folded, AllocError> {
     Ok(Folded {
         page: row.short(0),
@@ -61,10 +65,13 @@ pub fn folded(row: Row) -> Result<Folded, AllocError> {
 }
 
 /// Pages full of one byte.
-pub fn pages(alloc: Global, given: &[(u16, u64, u8)]) -> Result<Vec<(u16, Page)>, AllocError> {
+pub fn pages(
+    alloc: Global,
+    given: &[(u16, u64, u8)],
+) -> Result<Vec<(u16, SharedPage)>, AllocError> {
     let mut pages = Vec::new(alloc);
     for image in given {
-        pages.push((image.0, page_of(alloc, image.2)?))?;
+        pages.push((image.0, shared_page_of(alloc, image.2)?))?;
     }
     Ok(pages)
 }
@@ -73,7 +80,7 @@ pub fn pages(alloc: Global, given: &[(u16, u64, u8)]) -> Result<Vec<(u16, Page)>
 pub fn images(alloc: Global, given: &[(u16, u64, u8)]) -> Result<Vec<BaseImage>, AllocError> {
     let mut images = Vec::new(alloc);
     for image in given {
-        images.push(BaseImage::new(image.0, image.1, page_of(alloc, image.2)?))?;
+        images.push(BaseImage::new(image.0, image.1, shared_page_of(alloc, image.2)?))?;
     }
     Ok(images)
 }

@@ -2,13 +2,17 @@ use crate::answers::Answer;
 use crate::bench::Bench;
 use crate::words::{Call, byte, short};
 use page_base::{BaseImage, BaseStore};
-use redo_core::Page;
+use redo_core::{Page, SharedPage};
 use std::alloc::{AllocError, Global};
 use std::mem;
 
 // A page whose every byte is the one given.
 fn page_of(alloc: Global, byte: u8) -> Result<Page, AllocError> {
     Ok(Page::new(vec![in alloc; byte; 4096]?))
+}
+
+fn shared_page_of(alloc: Global, byte: u8) -> Result<SharedPage, AllocError> {
+    Ok(SharedPage::new(alloc, page_of(alloc, byte)?)?)
 }
 
 fn raise(store: &mut BaseStore, alloc: Global, numbers: [u64; 4]) -> Result<Answer, AllocError> {
@@ -30,7 +34,7 @@ fn give(given: &mut Vec<(u16, u64, u8)>, numbers: [u64; 4]) -> Result<Answer, Al
 fn adopt(bench: &mut Bench, alloc: Global, base: u64) -> Result<Answer, AllocError> {
     let mut pages = Vec::new(alloc);
     for (page, _, every) in &bench.given {
-        pages.push((*page, page_of(alloc, *every)?))?;
+        pages.push((*page, shared_page_of(alloc, *every)?))?;
     }
     bench.given.clear();
     if bench.store.adopt(base, pages).is_err() {
@@ -43,7 +47,7 @@ fn adopt(bench: &mut Bench, alloc: Global, base: u64) -> Result<Answer, AllocErr
 fn merge(bench: &mut Bench, alloc: Global, floor: u64) -> Result<Answer, AllocError> {
     let mut images = Vec::new(alloc);
     for (page, version, every) in &bench.given {
-        images.push(BaseImage::new(*page, *version, page_of(alloc, *every)?))?;
+        images.push(BaseImage::new(*page, *version, shared_page_of(alloc, *every)?))?;
     }
     bench.given.clear();
     if bench.store.merge(floor, images).is_err() {
@@ -65,7 +69,11 @@ fn swap_stores(bench: &mut Bench) -> Answer {
 fn images(store: &BaseStore, alloc: Global) -> Result<Answer, AllocError> {
     let mut shown = Vec::new(alloc);
     for image in store.pages() {
-        shown.push((image.page(), image.version(), image.image().bytes()[0]))?;
+        shown.push((
+            image.page(),
+            image.version(),
+            image.image().page().bytes()[0],
+        ))?;
     }
     Ok(Answer::Images(shown))
 }

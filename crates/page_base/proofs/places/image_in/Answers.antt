@@ -7,7 +7,7 @@ pub returns-in-Ok : goal.returns-in-Ok
 returns-in-Ok c =
     let shown = at_place c.args.images.now c.args.floor c.args.page c.in-Ok.place c.index-images-place.result c.requires c.in-Ok.ensures
     c.index-images-place.is in
-    subst (λ bytes. IfOk c.copy.result (λ image. image ≡ bytes)) (c.image.ensures ∙ sym shown.1) c.copy.ensures
+    subst (λ bytes. IfOk c.copy.result (λ image. image ≡ bytes)) (c.page.ensures ∙ c.image.ensures ∙ sym shown.1) c.copy.ensures
 
 pub returns-in-Err : goal.returns-in-Err
 returns-in-Err c =

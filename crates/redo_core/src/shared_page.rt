@@ -1,0 +1,74 @@
+//! Pages that do not change any more, where they are kept: an image exists once, however many stores and messages have it.
+
+ghost use Rattle.std.specs.Prelude.{◌≡◌, ◌↔◌, IsTrue, IfOk, IfErr};
+ghost use Rattle.redo_core.specs.Writing.{zeros};
+
+use crate::pages::Page;
+use std::alloc::{AllocError, AllocFailed, Global};
+use std::marker::Model;
+use std::sync::Arc;
+
+/// A page of 4,096 bytes that does not change any more, for any number of owners.
+#[derive(Debug)]
+pub struct SharedPage {
+    page: Arc<Page>,
+    // Told once, so that nobody goes over the bytes again.
+    zero: bool,
+}
+
+// Written out, so that what it is to let an owner go is proved here alone.
+impl Drop for SharedPage {
+    fn drop(self) {
+        let SharedPage {
+            page: _page,
+            zero: _zero,
+        } = self;
+    }
+}
+
+impl Model for SharedPage {
+    ghost use Rattle.std.specs.Prelude.{◌≡◌, ◌↔◌, List, ℕ, IsTrue};
+    ghost use Rattle.std.specs.Arc.{arc_value};
+    ghost use Rattle.redo_core.specs.Writing.{zeros};
+
+    ghost Value = { List ℕ };
+
+    ghost view = { λ p. arc_value p.page };
+
+    ghost invariant = { λ p. IsTrue p.zero ↔ (arc_value p.page ≡ zeros) };
+}
+
+impl SharedPage {
+    /// The page with its first owner. The error is want of memory for a few words beside the bytes, and hands the page back.
+    pub fn new(alloc: Global, page: Page) -> Result<Self, AllocFailed<Page>>
+        ensures ok { IfOk result (λ p. p ≡ page) }
+        ensures back { IfErr result (λ e. e.value ≡ page) }
+    {
+        let zero = page.is_zero();
+        let page = Arc::new(alloc, page)?;
+        Ok(SharedPage { page, zero })
+    }
+
+    pub fn page(&self) -> &Page
+        ensures { result.now ≡ self.now }
+    {
+        &*self.page
+    }
+
+    /// One owner more of the same page. It takes no memory; the error comes where no more owners can be counted.
+    pub fn share(&self) -> Result<Self, AllocError>
+        ensures { IfOk result (λ p. p ≡ self.now) }
+    {
+        Ok(SharedPage {
+            page: Arc::try_clone(&self.page)?,
+            zero: self.zero,
+        })
+    }
+
+    /// Whether no byte of the page differs from zero. It costs the same whatever the bytes are.
+    pub fn is_zero(&self) -> bool
+        ensures { IsTrue result ↔ (self.now ≡ zeros) }
+    {
+        self.zero
+    }
+}
