@@ -1,0 +1,26 @@
+-- A fold that is planned and committed keeps what the segment means.
+use Rattle.std.proofs.Common.{ℕ, List, sym, subst, arith}
+use Rattle.redo_core.specs.PageAt.{IsPageAt}
+use Rattle.redo_core.specs.Position.{Position}
+use Rattle.redo_core.specs.Sound.{IsSound}
+use Rattle.redo_core.specs.declared.facts.Fact.{Fact}
+use Rattle.segment_state.specs.State.{State}
+use Rattle.segment_state.specs.Means.{Means, MeansAt}
+use Rattle.segment_state.specs.Promises.{KeepsMeaning, KeepsMeaningWith, IsFinalPage}
+use Rattle.segment_core.specs.Folding.{IsFoldOf}
+use Rattle.segment_core.specs.declared.fold_plan.Folded.{Folded}
+
+-- a page that was folded for facts of the log is final
+fold_is_final : (roster : ℕ) (log facts : List Fact) (s : State) (g : ℕ) (folded : Folded) → (m : Means roster log facts s) → IsFoldOf facts m.0 g folded
+    → IsFinalPage roster log folded.page folded.version folded.image
+fold_is_final roster log facts s g folded m is =
+    let shown : IsPageAt facts m.0.epoch folded.page folded.version folded.image =
+    subst (λ n. IsPageAt facts m.0.epoch folded.page n folded.image) (sym is.version_is)
+    (subst (λ n. IsPageAt facts m.0.epoch n m.0.anchor folded.image) (sym is.page_is) is.image_is) in
+    record { facts = facts; part = m.1.part; p = m.0; position = m.1.position; settled = omega (arith, is.version_is); shown = shown }
+
+pub fold_keeps : (old new : State) (g : ℕ) (folded : Folded)
+    → ((roster : ℕ) (log facts : List Fact) (p : Position) → IsSound roster log → MeansAt roster log facts p old → IsFoldOf facts p g folded)
+    → KeepsMeaningWith old folded.page folded.version folded.image new → KeepsMeaning old new
+fold_keeps old new g folded plans keeps = λ roster log facts sound m.
+    keeps roster log facts sound (fold_is_final roster log facts old g folded m (plans roster log facts m.0 sound m.1)) m

@@ -1,0 +1,88 @@
+-- What the requests of snapshots and stagings do, over any facts.
+use Rattle.std.specs.Prelude.{◌≡◌, ℕ, ◌<◌, ◌≤◌, ◌⊎◌, ◌↔◌, [], Option, Some, None, Result, Ok, Err, IfOk, IfErr}
+use Rattle.redo_wire.specs.Pieces.{PieceData}
+use Rattle.hot_log.specs.Found.{IsLeast}
+use Rattle.segment_state.specs.State.{State}
+use Rattle.read_cache.specs.Cached.{Cached, cached}
+use Rattle.hydration.specs.Snapshots.{SnapshotData, Freezes, IsPieceOf, max_total}
+use Rattle.hydration.specs.Stagings.{StagingData, staging_of, Adds, RefusesPiece, IsMissing, IsStaging}
+use Rattle.hydration.specs.Placing.{IsComplete, IsMisplaced, IsInOrder}
+use Rattle.hydration.specs.Hydrating.{Hydrates, MeansFrozen, IsOfSoundState}
+use Rattle.hydration.specs.declared.staging.AddFault.{AddFault}
+use Rattle.hydration.specs.declared.finishing.FinishFault.{FinishFault}
+use Rattle.hydration.specs.declared.finishing.FinishFault.TheVariants as finish
+use Rattle.replica.specs.declared.replies.Reply.{Reply}
+use Rattle.replica.specs.declared.replies.Reply.TheVariants as reply
+use Rattle.replica.specs.Replying.{unadded_reply, unfinished_reply}
+use Rattle.replica.specs.AtSegment.{LacksMemory}
+
+-- ---- snapshots
+-- a snapshot of the state of so many pieces is kept under the name
+pub record Keeps (s : State) (name : ℕ) (told : Reply) (new : Option SnapshotData) : Type 0 where
+  pub snapshot : SnapshotData
+  pub freezes : Freezes s snapshot
+  pub name_is : snapshot.name ≡ name
+  pub few : snapshot.total ≤ max_total
+  pub kept : new ≡ Some snapshot
+  pub is : told ≡ reply.Frozen snapshot.total
+
+-- there would be too many pieces, and the snapshot that was kept stays
+pub record HasTooMany (s : State) (old : Option SnapshotData) (told : Reply) (new : Option SnapshotData) : Type 0 where
+  pub many : (d : SnapshotData) → Freezes s d → max_total < d.total
+  pub same : new ≡ old
+  pub is : told ≡ reply.TooMany
+
+-- the state is frozen, or its snapshot would have too many pieces, or there was no memory
+abbrev pub FreezesAs : State → ℕ → Option SnapshotData → Reply → Option SnapshotData → Type 0
+FreezesAs s name old told new = LacksMemory old told new ⊎ (HasTooMany s old told new ⊎ Keeps s name told new)
+
+-- the snapshot's piece of the index, or there was no memory
+abbrev pub TellsPiece : SnapshotData → ℕ → Reply → Type 0
+TellsPiece d index told = (told ≡ reply.Memory) ⊎ ((p : PieceData) × IsPieceOf d p × (p.index ≡ index) × (told ≡ reply.Piece p))
+
+-- whether there is a snapshot is asked first, and then whether it has such a piece
+abbrev pub Pieces : Option SnapshotData → ℕ → Reply → Type 0
+Pieces None index told = told ≡ reply.NoSnapshot
+Pieces (Some d) index told = (d.total ≤ index → told ≡ reply.NoPiece) × (index < d.total → TellsPiece d index told)
+
+-- ---- stagings
+-- an empty staging stands in place of an older one
+abbrev pub Stages : ℕ → ℕ → Reply → Option StagingData → Type 0
+Stages name total told new = (told ≡ reply.Staged) × (new ≡ Some (staging_of name total []))
+
+-- the staging takes the piece, or stays as it was
+pub record TakesPiece (st : StagingData) (piece : PieceData) (told : Reply) (new : Option StagingData) : Type 0 where
+  pub later : StagingData
+  pub new_is : new ≡ Some later
+  pub form : IsStaging later
+  pub does : ((told ≡ reply.Added) × Adds st piece later)
+      ⊎ ((why : AddFault) × RefusesPiece st piece why × (later ≡ st) × (told ≡ unadded_reply why))
+
+abbrev pub AddsTo : Option StagingData → PieceData → Reply → Option StagingData → Type 0
+AddsTo None piece told new = (told ≡ reply.NoStaging) × (new ≡ None)
+AddsTo (Some st) piece told new = TakesPiece st piece told new
+
+-- what the pieces of a staging make, or why they make nothing
+pub record MakesSegment (st : StagingData) (answer : Result State FinishFault) : Type 0 where
+  pub form : IsStaging st
+  pub means : IfOk answer (MeansFrozen st)
+  pub sound : IfErr answer (λ e. IsOfSoundState st → (index : ℕ) → e ≡ finish.Malformed index → ⊥)
+  pub hydrates : IfOk answer (Hydrates st)
+  pub missing : (index : ℕ) → (answer ≡ Err (finish.Missing index)) ↔ IsLeast (IsMissing st) (Some index)
+  pub malformed : (index : ℕ) → (answer ≡ Err (finish.Malformed index)) ↔ (IsComplete st × IsLeast (IsMisplaced st) (Some index))
+  pub memory : IfErr answer (λ e. e ≡ finish.Memory → IsInOrder st)
+
+-- The segment that is made stands in place of the old one, with no image in the cache, and the staging is gone; where none is made all
+-- stays as it was.
+abbrev pub StandsFor : Cached → StagingData → Result State FinishFault → Reply → Cached → Option StagingData → Type 0
+StandsFor old st (Ok s) told new staging = (told ≡ reply.Restored) × (new ≡ cached s old.pages []) × (staging ≡ None)
+StandsFor old st (Err why) told new staging = (told ≡ unfinished_reply why) × (new ≡ old) × (staging ≡ Some st)
+
+pub record FinishesStaging (old : Cached) (st : StagingData) (told : Reply) (new : Cached) (staging : Option StagingData) : Type 0 where
+  pub answer : Result State FinishFault
+  pub makes : MakesSegment st answer
+  pub stands : StandsFor old st answer told new staging
+
+abbrev pub Finishes : Cached → Option StagingData → Reply → Cached → Option StagingData → Type 0
+Finishes old None told new staging = (told ≡ reply.NoStaging) × (new ≡ old) × (staging ≡ None)
+Finishes old (Some st) told new staging = FinishesStaging old st told new staging

@@ -1,0 +1,9 @@
+pub mod Parts
+pub mod Replying
+pub mod Refused
+pub mod AtSegment
+pub mod Gossiping
+pub mod Hydrating
+pub mod Machine
+pub mod Meaning
+pub mod Restarting

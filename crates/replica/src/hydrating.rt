@@ -1,0 +1,72 @@
+//! The requests of snapshots and stagings.
+ghost use Rattle.replica.specs.Hydrating.{FreezesAs, Pieces, AddsTo, Finishes};
+
+use crate::at_segment::put;
+use crate::replies::Reply;
+use crate::replying::{unadded_reply, unfinished_reply};
+use hydration::{FreezeFault, Snapshot, Staging, freeze};
+use read_cache::CachedSegment;
+use redo_wire::Piece;
+use segment_core::Segment;
+
+/// Keeps a snapshot of the segment in place of an older one.
+pub fn freeze_as(segment: &Segment, name: u64, snapshot: &mut Option<Snapshot>) -> Reply
+    ensures freezes { FreezesAs segment.now name snapshot.old result snapshot.new }
+{
+    match freeze(segment, name) {
+        Ok(frozen) => {
+            let pieces = frozen.pieces();
+            *snapshot = Some(frozen);
+            Reply::Frozen { pieces }
+        }
+        Err(FreezeFault::TooMany) => Reply::TooMany,
+        Err(FreezeFault::Memory) => Reply::Memory,
+    }
+}
+
+/// Tells a piece of the snapshot.
+pub fn piece(snapshot: &Option<Snapshot>, index: u32) -> Reply
+    ensures pieces { Pieces snapshot.now index result }
+{
+    let Some(snapshot) = snapshot else {
+        return Reply::NoSnapshot;
+    };
+    if index >= snapshot.pieces() {
+        return Reply::NoPiece;
+    }
+    match snapshot.piece(index) {
+        Ok(piece) => Reply::Piece { piece },
+        Err(_) => Reply::Memory,
+    }
+}
+
+/// Gives the staging a piece.
+pub fn add(staging: &mut Option<Staging>, piece: Piece) -> Reply
+    ensures adds { AddsTo staging.old piece result staging.new }
+{
+    let Some(staging) = staging else {
+        return Reply::NoStaging;
+    };
+    match staging.add(piece) {
+        Ok(()) => Reply::Added,
+        Err(refused) => unadded_reply(refused.fault),
+    }
+}
+
+/// Puts the segment that the staging's pieces make in place of the segment.
+pub fn finish(cached: &mut CachedSegment, staging: &mut Option<Staging>) -> Reply
+    ensures finishes { Finishes cached.old staging.old result cached.new staging.new }
+{
+    let made = match staging {
+        Some(staging) => staging.finish(),
+        None => return Reply::NoStaging,
+    };
+    match made {
+        Ok(segment) => {
+            put(cached, segment);
+            *staging = None;
+            Reply::Restored
+        }
+        Err(fault) => unfinished_reply(fault),
+    }
+}

@@ -1,0 +1,20 @@
+//! One segment with its cache as a machine of requests and replies, as values: no reader, no writer and no thread.
+//!
+//! `Replica::step` carries out one request and gives one reply. What each reply says, and what the request leaves of the segment, of
+//! the snapshot that is told and of the staging that is filled, is `IsReply` (`specs/Machine`), by cases on the request, over any
+//! facts: each case is the contract of the call below that carries it out, and each refusal has a reply of its own, told exactly where
+//! that call is refused so. A refused request, and one that lacks memory, changes nothing but which images the cache keeps.
+#![tactic(auto)]
+
+mod at_segment;
+mod gossiping;
+mod hydrating;
+pub mod laws;
+mod machine;
+mod replies;
+mod replying;
+mod requests;
+
+pub use machine::Replica;
+pub use replies::{Reply, Status};
+pub use requests::Request;

@@ -1,0 +1,81 @@
+use gossip_core::Shown;
+use redo_core::{Page, Record};
+use redo_wire::{Delta, Piece, Summary};
+use segment_core::{Front, Refusal};
+
+/// What a replica replies to a request.
+#[derive(Debug, Drop)]
+pub enum Reply {
+    /// The segment is a new one, of the roster asked for.
+    Opened,
+    /// The fact changed what the segment means.
+    Changed,
+    /// The fact changed nothing.
+    Unchanged,
+    /// The fact, or what the delta tells, does not fit what the segment knows. It does not come over a sound log.
+    Refused { why: Refusal },
+    Front { front: Front },
+    State { status: Status },
+    Page { image: Page },
+    /// The read point is below the minimum read point.
+    Below { min: u64 },
+    /// The read point is above the complete point.
+    Above { complete: u64 },
+    /// The block chain of the page is broken at this number. It does not come over a sound log.
+    BrokenBlockChain { page: u16, number: u64 },
+    Summary { summary: Summary },
+    Delta { delta: Delta },
+    /// The segment means what it meant and what the answering one meant.
+    Absorbed,
+    /// The segment does not answer for the summary that the delta was made for: so much of it is uncovered.
+    Uncovered { shown: Shown },
+    Folded,
+    Discarded,
+    Tidied,
+    /// A snapshot of so many pieces is kept.
+    Frozen { pieces: u32 },
+    /// The snapshot would have more than 2^32 - 1 pieces.
+    TooMany,
+    Piece { piece: Piece },
+    /// No snapshot is kept.
+    NoSnapshot,
+    /// The index is not below the number of the snapshot's pieces.
+    NoPiece,
+    Staged,
+    Added,
+    /// The piece is of another name or total than the staging.
+    Stranger,
+    /// The piece of this index has come already.
+    Double { index: u32 },
+    /// There is no staging.
+    NoStaging,
+    /// The staged segment stands in place of the segment, and the staging is gone.
+    Restored,
+    /// The piece of this index has not come.
+    Missing { index: u32 },
+    /// The piece of this index cannot stand there after those before it.
+    Malformed { index: u32 },
+    Next { redo: Record },
+    /// No held record has a key above the one given.
+    NoNext,
+    /// Memory was wanting, and nothing has changed.
+    Memory,
+}
+
+/// What a segment stores, in numbers.
+#[derive(Clone, Copy, Debug, PartialEq, Eq)]
+pub struct Status {
+    pub epoch: u16,
+    pub complete: u64,
+    pub min: u64,
+    pub anchor: u64,
+    pub base: u64,
+    /// Held records, and those of them that the meaning keeps.
+    pub held: usize,
+    pub kept: usize,
+    /// Stored images of pages.
+    pub images: usize,
+    pub truncations: usize,
+    /// Advances that wait for their epoch.
+    pub waiting: usize,
+}

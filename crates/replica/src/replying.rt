@@ -1,0 +1,99 @@
+//! How what a call below answers is replied.
+ghost use Rattle.std.specs.Prelude.{◌≡◌};
+ghost use Rattle.replica.specs.Replying.{refusal_reply as refusal_reply_of, taken_reply as taken_reply_of, fault_reply as fault_reply_of};
+ghost use Rattle.replica.specs.Replying.{read_reply as read_reply_of, tidied_reply as tidied_reply_of, delta_reply as delta_reply_of};
+ghost use Rattle.replica.specs.Replying.{absorbed_reply as absorbed_reply_of, unadded_reply as unadded_reply_of, unfinished_reply as unfinished_reply_of};
+
+use crate::replies::Reply;
+use gossip_core::AbsorbRefusal;
+use hydration::{AddFault, FinishFault};
+use redo_core::{Fact, Page, Refused};
+use redo_wire::Delta;
+use segment_core::{ReadFault, Refusal, Taken};
+
+pub fn refusal_reply(refusal: Refusal) -> Reply
+    ensures { result ≡ refusal_reply_of refusal }
+{
+    match refusal {
+        Refusal::Memory => Reply::Memory,
+        other => Reply::Refused { why: other },
+    }
+}
+
+pub fn taken_reply(taken: Result<Taken, Refused<Fact, Refusal>>) -> Reply
+    ensures { result ≡ taken_reply_of taken }
+{
+    match taken {
+        Ok(Taken::Changed) => Reply::Changed,
+        Ok(Taken::Unchanged) => Reply::Unchanged,
+        Err(refused) => refusal_reply(refused.fault),
+    }
+}
+
+pub fn fault_reply(fault: ReadFault) -> Reply
+    ensures { result ≡ fault_reply_of fault }
+{
+    match fault {
+        ReadFault::Below { min } => Reply::Below { min },
+        ReadFault::Above { complete } => Reply::Above { complete },
+        ReadFault::BrokenBlockChain { page, number } => Reply::BrokenBlockChain { page, number },
+        ReadFault::Memory => Reply::Memory,
+    }
+}
+
+pub fn read_reply(read: Result<Page, ReadFault>) -> Reply
+    ensures { result ≡ read_reply_of read }
+{
+    match read {
+        Ok(image) => Reply::Page { image },
+        Err(fault) => fault_reply(fault),
+    }
+}
+
+pub fn tidied_reply(tidied: Result<(), ReadFault>) -> Reply
+    ensures { result ≡ tidied_reply_of tidied }
+{
+    match tidied {
+        Ok(()) => Reply::Tidied,
+        Err(fault) => fault_reply(fault),
+    }
+}
+
+pub fn delta_reply(replied: Result<Delta, ReadFault>) -> Reply
+    ensures { result ≡ delta_reply_of replied }
+{
+    match replied {
+        Ok(delta) => Reply::Delta { delta },
+        Err(fault) => fault_reply(fault),
+    }
+}
+
+pub fn absorbed_reply(absorbed: Result<(), AbsorbRefusal>) -> Reply
+    ensures { result ≡ absorbed_reply_of absorbed }
+{
+    match absorbed {
+        Ok(()) => Reply::Absorbed,
+        Err(AbsorbRefusal::Uncovered { shown }) => Reply::Uncovered { shown },
+        Err(AbsorbRefusal::Refused(why)) => refusal_reply(why),
+    }
+}
+
+pub fn unadded_reply(fault: AddFault) -> Reply
+    ensures { result ≡ unadded_reply_of fault }
+{
+    match fault {
+        AddFault::Stranger => Reply::Stranger,
+        AddFault::Double { index } => Reply::Double { index },
+        AddFault::Memory => Reply::Memory,
+    }
+}
+
+pub fn unfinished_reply(fault: FinishFault) -> Reply
+    ensures { result ≡ unfinished_reply_of fault }
+{
+    match fault {
+        FinishFault::Missing { index } => Reply::Missing { index },
+        FinishFault::Malformed { index } => Reply::Malformed { index },
+        FinishFault::Memory => Reply::Memory,
+    }
+}
