@@ -21,6 +21,7 @@ use Rattle.segment_state.proofs.Same.{anchor_as, same_min}
 use Rattle.redo_core.specs.Standing.{IsAlive, IsDead, IsWaiting}
 use Rattle.segment_core.specs.Refusing.{IsDeadOrSettled}
 use Rattle.segment_core.specs.Reading.{IsFrontAt, IsFrontOf}
+use Rattle.segment_core.specs.Due.{DueData, HasDue}
 use Rattle.segment_core.specs.Form.{IsSegment}
 use Rattle.segment_core.specs.Points.{IsTop, IsTopTo, HasPoints}
 use Rattle.segment_core.specs.declared.points.Points.{Points}
@@ -49,9 +50,9 @@ pub true_anchor : (s : State) (n : ℕ) → HasAnchor s n → (roster : ℕ) (lo
 true_anchor s n own roster log facts p sound means = anchor_as log facts p s (log_of_sound roster log sound) means n own
 
 -- what the parts of a segment keep, it keeps
-pub form_of : (b : BookData) (hs : List RecordData) (base : ℕ) (store : Store) (p : Points)
-    → IsBook b × IsHeld hs × IsStored store × (base ≤ least b.points) × HasPoints b hs base p → IsSegment (state_of b hs base store)
-form_of b hs base store p parts = record { book = parts.0; held = parts.1; store = parts.2; base = parts.3 }
+pub form_of : (b : BookData) (hs : List RecordData) (base : ℕ) (store : Store) (p : Points) (d : DueData)
+    → IsBook b × IsHeld hs × IsStored store × (base ≤ least b.points) × HasPoints b hs base p × HasDue b hs store d → IsSegment (state_of b hs base store)
+form_of b hs base store p d parts = record { book = parts.0; held = parts.1; store = parts.2; base = parts.3 }
 
 -- a record stands as in the book
 pub stands_at : (b : BookData) (hs : List RecordData) (base : ℕ) (store : Store) (epoch number : ℕ) (standing : Standing)

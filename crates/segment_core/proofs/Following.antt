@@ -130,8 +130,8 @@ cut_keeps_points b c held base p d (Ok l) is next learns same complete has =
 cut_keeps_points b c held base p d (Err e) is next learns same complete has = subst (λ x. HasPoints x held base p) (sym same) has
 
 -- ---- a truncation, whatever it opens
-cut_is_later : (b c : BookData) (d : CutData) → IsBook b → IsBook c → LearnsCut b d c → IsLaterBook b c
-cut_is_later b c d is next learns = record {
+grows : (b c : BookData) (d : CutData) → IsBook b → IsBook c → LearnsCut b d c → IsLaterBook b c
+grows b c d is next learns = record {
   form = is;
   kept = λ x h. (learns.cuts x).1 (inl h);
   known = λ x h. ⊎_elim
@@ -145,9 +145,12 @@ cut_is_later b c d is next learns = record {
 same_is_later : (b : BookData) → IsBook b → IsLaterBook b b
 same_is_later b is = record { form = is; kept = λ x h. h; known = λ x h. inl h; complete = omega arith; minimum = omega arith }
 
+pub cut_is_later : (b c : BookData) (d : CutData) (answer : Result Learnt BookRefusal) → IsBook b → IsBook c → OnOk answer (LearnsCut b d c)
+    → OnErr answer (c ≡ b) → IsLaterBook b c
+cut_is_later b c d (Ok l) is next learns same = grows b c d is next learns
+cut_is_later b c d (Err e) is next learns same = subst (IsLaterBook b) (sym same) (same_is_later b is)
+
 pub cut_had_points : (b c : BookData) (held : List RecordData) (base epoch : ℕ) (p : Points) (d : CutData) (answer : Result Learnt BookRefusal)
     → IsBook b → IsBook c → OnOk answer (LearnsCut b d c) → OnErr answer (c ≡ b) → epoch ≡ b.complete → HasPoints b held base p → WerePoints c held base epoch p
-cut_had_points b c held base epoch p d (Ok l) is next learns same at has =
-    record { earlier = b; later = cut_is_later b c d is next learns; at = sym at; had = has }
-cut_had_points b c held base epoch p d (Err e) is next learns same at has =
-    record { earlier = b; later = subst (IsLaterBook b) (sym same) (same_is_later b is); at = sym at; had = has }
+cut_had_points b c held base epoch p d answer is next learns same at has =
+    record { earlier = b; later = cut_is_later b c d answer is next learns same; at = sym at; had = has }

@@ -24,3 +24,4 @@ pub mod Restored
 pub mod Opening
 pub mod OnTop
 pub mod LastAnchor
+pub mod DuePages

@@ -16,3 +16,4 @@ pub mod Comparing
 pub mod Keys
 pub mod Laws
 pub mod Restoring
+pub mod Due

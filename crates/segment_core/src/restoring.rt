@@ -3,6 +3,7 @@ ghost use Rattle.redo_core.specs.Order.{IsRising, RecordBefore};
 ghost use Rattle.redo_core.specs.Roster.{least};
 ghost use Rattle.segment_core.specs.Restoring.{IsMadeOf, Gains, GainsEach};
 
+use crate::due::Due;
 use crate::points::Points;
 use crate::segment::Segment;
 use epoch_book::EpochBook;
@@ -38,6 +39,7 @@ impl Segment {
             base: 0,
             store: BaseStore::new(alloc),
             points,
+            due: Due::new(alloc),
         };
         match segment.adopt(base, pages) {
             Ok(()) => Ok(segment),

@@ -116,6 +116,7 @@ impl Segment {
         if let Err(failed) = saved.note((redo.epoch(), redo.number())) {
             return Err(failed);
         }
+        self.due.add_held(&redo);
         match self.points.put(&mut self.hot, &self.book, self.base, redo) {
             Ok(Put::New) => Ok(()),
             Ok(Put::Known) => {
@@ -138,6 +139,7 @@ impl Segment {
         ensures { (old : State) → RollsBackTo saved self.old old → self.new ≡ old }
     {
         take_out(&mut self.hot, &saved.came);
+        self.due.add_for_book(&self.book, &saved.book);
         self.book = saved.book;
         self.points = saved.points;
     }

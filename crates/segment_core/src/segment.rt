@@ -27,6 +27,7 @@ ghost use Rattle.segment_core.specs.declared.answers.Refusal.TheVariants.{Memory
 ghost use Rattle.segment_core.specs.declared.answers.Taken.TheVariants.{Changed as ChangedOf, Unchanged as UnchangedOf};
 
 use crate::answers::{Front, ReadFault, Refusal, Taken};
+use crate::due::Due;
 use crate::points::Points;
 use epoch_book::{BookRefusal, EpochBook, Learnt, Standing};
 use hot_log::{HotLog, Put, PutFault};
@@ -41,7 +42,7 @@ use std::marker::Model;
 /// At all times the base point is not above the minimum read point; the complete point that `points` keeps is the greatest number
 /// that the held records link from the base point on, and the anchor the greatest of those up to the minimum read point; and
 /// where `points` calls the chain straight, each held alive record from the base point to the complete point is linked, and none
-/// of them has two successors there.
+/// of them has two successors there. Each page whose image has an alive held record is due at the next discard.
 #[derive(Drop)]
 pub struct Segment {
     pub(crate) alloc: Global,
@@ -50,6 +51,7 @@ pub struct Segment {
     pub(crate) base: u64,
     pub(crate) store: BaseStore,
     pub(crate) points: Points,
+    pub(crate) due: Due,
 }
 
 impl Model for Segment {
@@ -60,12 +62,13 @@ impl Model for Segment {
     ghost use Rattle.page_base.specs.Stored.{IsStored};
     ghost use Rattle.redo_core.specs.Roster.{least};
     ghost use Rattle.segment_core.specs.Points.{HasPoints};
+    ghost use Rattle.segment_core.specs.Due.{HasDue};
 
     ghost Value = { State };
 
     ghost view = { λ s. state_of s.book s.hot s.base s.store };
 
-    ghost invariant = { λ s. IsBook s.book × IsHeld s.hot × IsStored s.store × (s.base ≤ least s.book.points) × HasPoints s.book s.hot s.base s.points };
+    ghost invariant = { λ s. IsBook s.book × IsHeld s.hot × IsStored s.store × (s.base ≤ least s.book.points) × HasPoints s.book s.hot s.base s.points × HasDue s.book s.hot s.store s.due };
 }
 
 impl Segment {
@@ -84,6 +87,7 @@ impl Segment {
             base: 0,
             store: BaseStore::new(alloc),
             points,
+            due: Due::new(alloc),
         })
     }
 
@@ -98,6 +102,7 @@ impl Segment {
             base: self.base,
             store: self.store.copy()?,
             points: self.points,
+            due: self.due.copy()?,
         })
     }
 
@@ -253,6 +258,7 @@ impl Segment {
             self.points = self
                 .points
                 .after_opening(&self.hot, &self.book, self.base, epoch);
+            self.due.add_opened(&self.book, epoch);
         }
         book_answer(Fact::Cut(cut), learnt)
     }
@@ -282,6 +288,7 @@ impl Segment {
         if self.is_dead_or_settled(&redo) {
             return Ok(Taken::Unchanged);
         }
+        self.due.add_held(&redo);
         put_answer(self.points.put(&mut self.hot, &self.book, self.base, redo))
     }
 }

@@ -97,6 +97,7 @@ impl Segment {
                 fault: CommitFault::Ahead { version, anchor },
             });
         }
+        self.due.add_raised(folded.page, folded.version);
         raise(&mut self.store, folded)
     }
 
@@ -109,7 +110,8 @@ impl Segment {
         let anchor = self.points.anchor;
         self.points = self.points.over(&self.hot, &self.book, self.base, anchor);
         self.base = anchor;
-        remove_all_folded(&mut self.hot, &self.book, &self.store, anchor);
+        self.due
+            .discard(&mut self.hot, &self.book, &self.store, anchor);
     }
 
     /// Folds each page that has held records to the anchor, discards, and forgets the dead records: what stays is what the
@@ -134,6 +136,7 @@ impl Segment {
             return Err(ReadFault::Memory);
         };
         self.store = store;
+        self.due.add_images(&self.store);
         self.discard();
         self.hot.remove_dead(&self.book);
         Ok(())
@@ -211,7 +214,7 @@ fn copies(alloc: Global, records: &[&Record]) -> Result<Vec<Record>, AllocError>
 }
 
 /// Removes the alive records at or below a point that the images have.
-fn remove_all_folded(hot: &mut HotLog, book: &EpochBook, store: &BaseStore, point: u64)
+pub(crate) fn remove_all_folded(hot: &mut HotLog, book: &EpochBook, store: &BaseStore, point: u64)
     requires { IsHeld hot.old }
     ensures removes { Removes (λ r. IsAlive book.now.cuts book.now.complete r.epoch r.number × (r.number ≤ point) × (r.number ≤ version_of store.now r.page)) hot.old hot.new }
     ensures form { IsHeld hot.new }

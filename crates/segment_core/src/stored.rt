@@ -162,6 +162,7 @@ impl Segment {
                 let raised = self.base.max(base);
                 self.points = self.points.over(&self.hot, &self.book, self.base, raised);
                 self.base = raised;
+                self.due.add_images(&self.store);
                 Ok(())
             }
             Err(refused) => Err(refused),

@@ -4,4 +4,4 @@ use Rattle.segment_core.proofs.Chain.{form_of}
 use Rattle.segment_core.proofs.segment.Segment.base_point.Goals as goal
 
 pub returns-clause-form : goal.returns-clause-form
-returns-clause-form c = subst IsSegment c.self.view_is (form_of c.self.inside.book c.self.inside.hot c.self.inside.base c.self.inside.store c.self.inside.points c.self.invariant)
+returns-clause-form c = subst IsSegment c.self.view_is (form_of c.self.inside.book c.self.inside.hot c.self.inside.base c.self.inside.store c.self.inside.points c.self.inside.due c.self.invariant)

@@ -4,6 +4,7 @@ use Rattle.segment_state.specs.HasMeaning.{HasAnchor}
 use Rattle.segment_state.specs.Promises.{KeepsMeaningWith}
 use Rattle.segment_core.specs.Folding.{Commits, RefusesCommit}
 use Rattle.segment_core.proofs.Committing.{ahead_at, not_ahead, raised, raise_keeps, raise_refused, raise_back, raise_unchanged}
+use Rattle.segment_core.proofs.DuePages.{raise_due}
 use Rattle.segment_core.proofs.segment.Segment.commit_fold.Goals as goal
 
 -- the state as it was, and with the raised images
@@ -18,7 +19,17 @@ returns-then-anchor-folded-clause-ahead c = λ anchor has above. ahead_at c.args
     has
 
 pub invariant_of-self : goal.invariant_of-self
-invariant_of-self c = (c.self.invariant.0, c.self.invariant.1, c.raise.ensures.form, c.self.invariant.3, c.self.invariant.4)
+invariant_of-self c =
+    let i = c.self.inside in (
+      c.self.invariant.0,
+      c.self.invariant.1,
+      c.raise.ensures.form,
+      c.self.invariant.3,
+      c.self.invariant.4,
+      raise_due i.book i.hot i.store c.raise.new.store c.args.folded.page c.args.folded.version c.args.folded.image i.due c.add_raised.new.self
+          c.raise.result c.self.invariant.5 c.add_raised.ensures.more c.add_raised.ensures.looks c.add_raised.ensures.top c.raise.ensures.raises
+          c.raise.ensures.unchanged,
+    )
 
 pub returns-clause-keeps : goal.returns-clause-keeps
 unfolding before after

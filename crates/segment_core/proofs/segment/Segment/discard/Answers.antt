@@ -10,34 +10,35 @@ use Rattle.segment_core.proofs.Forget.{discards_just, discards_keep}
 use Rattle.segment_core.proofs.segment.Segment.discard.Goals as goal
 
 -- the state as it was, and without the folded records
-unfoldable before : goal.After-remove_all_folded → State
+unfoldable before : goal.After-discard → State
 before c = state_of c.self.inside.book c.self.inside.hot c.self.inside.base c.self.inside.store
 
-unfoldable after : goal.After-remove_all_folded → State
-after c = state_of c.self.inside.book c.remove_all_folded.new.hot c.self.inside.points.anchor c.self.inside.store
+unfoldable after : goal.After-discard → State
+after c = state_of c.self.inside.book c.discard.new.hot c.self.inside.points.anchor c.self.inside.store
 
-own : (c : goal.After-remove_all_folded) → HasAnchor (before c) c.self.inside.points.anchor
+own : (c : goal.After-discard) → HasAnchor (before c) c.self.inside.points.anchor
 unfolding before
 own c = own_anchor c.self.inside.book c.self.inside.hot c.self.inside.base c.self.inside.store c.self.inside.points.anchor c.self.invariant.4.anchor
 
-just : (c : goal.After-remove_all_folded) → DiscardsJust (before c) (after c)
+just : (c : goal.After-discard) → DiscardsJust (before c) (after c)
 unfolding before after
-just c = discards_just c.self.inside.book c.self.inside.hot c.remove_all_folded.new.hot c.self.inside.base c.self.inside.points.anchor c.self.inside.store
-    (own c) c.remove_all_folded.ensures.removes
+just c = discards_just c.self.inside.book c.self.inside.hot c.discard.new.hot c.self.inside.base c.self.inside.points.anchor c.self.inside.store
+    (own c) c.discard.ensures.removes
 
 pub invariant_of-self : goal.invariant_of-self
 invariant_of-self c =
     let i = c.self.inside in
     let anchor = i.points.anchor in (
       c.self.invariant.0,
-      c.remove_all_folded.ensures.form,
+      c.discard.ensures.form,
       c.self.invariant.2,
       c.self.invariant.4.anchor.bound,
-      removal_keeps_points i.book i.hot c.remove_all_folded.new.hot
+      removal_keeps_points i.book i.hot c.discard.new.hot
           (λ r. IsAlive i.book.cuts i.book.complete r.epoch r.number × (r.number ≤ anchor) × (r.number ≤ version_of i.store r.page)) anchor
-          c.over-self-inside.result c.remove_all_folded.ensures.removes
+          c.over-self-inside.result c.discard.ensures.removes
           (λ r h lt gone. let le : r.number ≤ anchor = gone.1 in omega arith)
           c.over-self-inside.ensures,
+      c.discard.ensures.due,
     )
 
 pub returns-clause-keeps : goal.returns-clause-keeps

@@ -20,4 +20,4 @@ pub returns-clause-own : goal.returns-clause-own
 returns-clause-own c = own c
 
 pub returns-clause-form : goal.returns-clause-form
-returns-clause-form c = subst IsSegment c.self.view_is (form_of c.self.inside.book c.self.inside.hot c.self.inside.base c.self.inside.store c.self.inside.points c.self.invariant)
+returns-clause-form c = subst IsSegment c.self.view_is (form_of c.self.inside.book c.self.inside.hot c.self.inside.base c.self.inside.store c.self.inside.points c.self.inside.due c.self.invariant)

@@ -6,6 +6,7 @@ use Rattle.segment_core.specs.Savepoint.{RollsBackAs}
 use Rattle.segment_core.specs.Uniting.{Holds}
 use Rattle.segment_core.proofs.Holding.{put_holds, refused_holds}
 use Rattle.segment_core.proofs.Savepoints.{more_rolls_back, notes_key_of}
+use Rattle.segment_core.proofs.DuePages.{put_due}
 use Rattle.segment_core.proofs.segment.Segment.hold_noted.Goals as goal
 
 pub returns-in-Ok-New-clause-holds : goal.returns-in-Ok-New-clause-holds
@@ -30,3 +31,51 @@ returns-in-OtherRecord-clause-holds c =
     subst (λ (s : State). Holds s c.args.redo (state_of i.book c.put.new.hot i.base i.store)) c.self.view_is
     (refused_holds i.book i.hot c.put.new.hot i.base i.store c.args.redo
     (subst (RefusesPut i.hot c.args.redo) c.in-OtherRecord.is c.in-Err-put.ensures.refused.1) c.in-Err-put.ensures.unchanged)
+
+pub invariant_of-self : goal.invariant_of-self
+invariant_of-self c =
+    let i = c.self.inside in (
+      c.self.invariant.0,
+      c.put.ensures.form,
+      c.self.invariant.2,
+      c.self.invariant.3,
+      c.put.ensures.points,
+      put_due i.book i.hot c.put.new.hot i.store i.due c.add_held.new.self c.args.redo c.put.result c.self.invariant.5 c.add_held.ensures.more
+          c.add_held.ensures.looks c.put.ensures.put c.put.ensures.unchanged,
+    )
+
+pub invariant_of-self-in-Ok-Known : goal.invariant_of-self-in-Ok-Known
+invariant_of-self-in-Ok-Known c =
+    let i = c.self.inside in (
+      c.self.invariant.0,
+      c.put.ensures.form,
+      c.self.invariant.2,
+      c.self.invariant.3,
+      c.put.ensures.points,
+      put_due i.book i.hot c.put.new.hot i.store i.due c.add_held.new.self c.args.redo c.put.result c.self.invariant.5 c.add_held.ensures.more
+          c.add_held.ensures.looks c.put.ensures.put c.put.ensures.unchanged,
+    )
+
+pub invariant_of-self-in-OtherRecord : goal.invariant_of-self-in-OtherRecord
+invariant_of-self-in-OtherRecord c =
+    let i = c.self.inside in (
+      c.self.invariant.0,
+      c.put.ensures.form,
+      c.self.invariant.2,
+      c.self.invariant.3,
+      c.put.ensures.points,
+      put_due i.book i.hot c.put.new.hot i.store i.due c.add_held.new.self c.args.redo c.put.result c.self.invariant.5 c.add_held.ensures.more
+          c.add_held.ensures.looks c.put.ensures.put c.put.ensures.unchanged,
+    )
+
+pub invariant_of-self-2 : goal.invariant_of-self-2
+invariant_of-self-2 c =
+    let i = c.self.inside in (
+      c.self.invariant.0,
+      c.put.ensures.form,
+      c.self.invariant.2,
+      c.self.invariant.3,
+      c.put.ensures.points,
+      put_due i.book i.hot c.put.new.hot i.store i.due c.add_held.new.self c.args.redo c.put.result c.self.invariant.5 c.add_held.ensures.more
+          c.add_held.ensures.looks c.put.ensures.put c.put.ensures.unchanged,
+    )

@@ -10,4 +10,4 @@ returns-clause-points c = λ roster log facts p sound means. subst (λ (s : Stat
     ∙ points_as means
 
 pub returns-clause-form : goal.returns-clause-form
-returns-clause-form c = subst IsSegment c.self.view_is (form_of c.self.inside.book c.self.inside.hot c.self.inside.base c.self.inside.store c.self.inside.points c.self.invariant)
+returns-clause-form c = subst IsSegment c.self.view_is (form_of c.self.inside.book c.self.inside.hot c.self.inside.base c.self.inside.store c.self.inside.points c.self.inside.due c.self.invariant)

@@ -1,9 +1,10 @@
-use Rattle.std.proofs.Common.{subst, [], List}
+use Rattle.std.proofs.Common.{subst, [], List, rules}
 use Rattle.redo_core.specs.Data.{RecordData}
 use Rattle.segment_state.specs.State.{Store, state_of}
 use Rattle.segment_core.specs.Adopting.{AdoptsBase}
 use Rattle.segment_core.specs.Restoring.{GainsEach}
 use Rattle.segment_core.proofs.Restored.{made_of}
+use Rattle.segment_core.proofs.DuePages.{none_due}
 use Rattle.segment_core.proofs.segment.Segment.restore.Goals as goal
 
 pub returns-in-Ok : goal.returns-in-Ok
@@ -13,3 +14,8 @@ returns-in-Ok c =
     made_of c.args.book c.hold_all.new.hot c.args.records.items c.args.base c.args.pages.items c.adopt.new.self c.requires.none_at_0 gains
     (subst (λ (store : Store). AdoptsBase (state_of c.args.book c.hold_all.new.hot 0 store) c.args.base c.args.pages.items c.adopt.new.self) c.new.ensures
     c.in-Ok.ensures.adopts)
+
+pub invariant_of-segment : goal.invariant_of-segment
+invariant_of-segment c =
+    let due = none_due c.args.book c.hold_all.new.hot c.new.result c.new-2.result c.new.ensures c.new-2.ensures in
+    search (rules, due)

@@ -8,6 +8,7 @@ use Rattle.segment_core.specs.Keys.{key_of}
 use Rattle.segment_core.specs.Points.{HasPoints}
 use Rattle.segment_core.specs.Savepoint.{SavepointData, RollsBackTo}
 use Rattle.segment_core.proofs.Savepoints.{old_held, is_old}
+use Rattle.segment_core.proofs.DuePages.{fewer_held}
 use Rattle.segment_core.proofs.segment.Segment.roll_back.Goals as goal
 
 -- the saved parts, and the state as it is
@@ -41,6 +42,9 @@ invariant_of-self c =
       subst (λ (n : ℕ). HasPoints c.saved.inside.book c.take_out.new.hot n c.saved.inside.points) r.rest.base
           (subst (λ (hs : List RecordData). HasPoints c.saved.inside.book hs old.base c.saved.inside.points) (sym held)
           (subst (λ (b : BookData). HasPoints b old.held old.base c.saved.inside.points) r.book r.points)),
+      c.add_for_book.ensures c.take_out.new.hot c.self.inside.store
+          (fewer_held c.self.inside.book c.self.inside.hot c.take_out.new.hot c.self.inside.store c.self.inside.due (λ x h. ((removes c x).0 h).0)
+          c.self.invariant.5),
     )
 
 pub returns : goal.returns

@@ -5,6 +5,7 @@ use Rattle.segment_state.proofs.Learnt.{takes_advance}
 use Rattle.segment_core.specs.Exactly.{TakesExactly}
 use Rattle.segment_core.proofs.Taking.{advance_exact, advance_bound}
 use Rattle.segment_core.proofs.Following.{advance_lags}
+use Rattle.segment_core.proofs.DuePages.{advance_due}
 use Rattle.segment_core.proofs.segment.Segment.take_advance.Goals as goal
 
 pub returns : goal.returns
@@ -24,6 +25,8 @@ invariant_of-self c =
       advance_bound c.self.inside.book c.learn_advance-learnt.new.self c.self.inside.base c.args.advance
           c.learn_advance-learnt.result e.ok e.err c.self.invariant.3,
       c.with_anchor-self-inside.ensures,
+      advance_due c.self.inside.book c.learn_advance-learnt.new.self c.self.inside.hot c.self.inside.store c.self.inside.due c.args.advance
+          c.learn_advance-learnt.result e.ok e.err c.self.invariant.5,
     )
 
 pub with_anchor-self-inside-requires : goal.with_anchor-self-inside-requires

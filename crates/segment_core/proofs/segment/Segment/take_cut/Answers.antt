@@ -5,8 +5,9 @@ use Rattle.segment_state.proofs.Learnt.{takes_cut}
 use Rattle.segment_state.proofs.Knowing.{takes_known}
 use Rattle.segment_core.specs.Exactly.{TakesExactly}
 use Rattle.segment_core.proofs.Taking.{cut_exact, cut_bound}
-use Rattle.segment_core.proofs.Following.{cut_keeps_points, cut_had_points}
+use Rattle.segment_core.proofs.Following.{cut_keeps_points, cut_had_points, cut_is_later}
 use Rattle.segment_core.proofs.segment.Segment.take_cut.Goals as goal
+use Rattle.segment_core.proofs.DuePages.{later_due, none_opened, opened_due}
 use Rattle.segment_core.proofs.segment.Segment.take_cut.Goals.{then-complete_epoch-epoch, else-complete_epoch-epoch}
 
 -- whichever points it has, the segment is seen as it was with the new book
@@ -39,6 +40,10 @@ invariant_of-self c =
       cut_bound c.self.inside.book c.learn_cut-learnt.new.self c.self.inside.base c.args.cut c.learn_cut-learnt.result e.ok
           e.err c.self.invariant.3,
       c.after_opening-self-inside.ensures,
+      opened_due c.self.inside.book c.learn_cut-learnt.new.self c.self.inside.hot c.self.inside.store c.self.inside.due c.add_opened.new.self
+          c.complete_epoch-epoch.result
+          (cut_is_later c.self.inside.book c.learn_cut-learnt.new.self c.args.cut c.learn_cut-learnt.result c.self.invariant.0 e.book e.ok e.err)
+          c.complete_epoch-epoch.ensures.value c.add_opened.ensures.more c.add_opened.ensures.looks c.self.invariant.5,
     )
 
 pub invariant_of-self-else-complete_epoch-epoch : goal.invariant_of-self-else-complete_epoch-epoch
@@ -53,4 +58,9 @@ invariant_of-self-else-complete_epoch-epoch c =
       cut_keeps_points i.book c.learn_cut-learnt.new.self i.hot i.base i.points c.args.cut
           c.learn_cut-learnt.result c.self.invariant.0 e.book e.ok e.err
           (sym c.complete_epoch.ensures.value ∙ c.if-complete_epoch-epoch.false ∙ c.complete_epoch-epoch.ensures.value) c.self.invariant.4,
+      later_due i.book c.learn_cut-learnt.new.self i.hot i.store i.due
+          (cut_is_later i.book c.learn_cut-learnt.new.self c.args.cut c.learn_cut-learnt.result c.self.invariant.0 e.book e.ok e.err)
+          (none_opened i.book c.learn_cut-learnt.new.self i.due
+          (sym c.complete_epoch.ensures.value ∙ c.if-complete_epoch-epoch.false ∙ c.complete_epoch-epoch.ensures.value))
+          c.self.invariant.5,
     )

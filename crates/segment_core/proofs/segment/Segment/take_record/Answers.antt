@@ -6,6 +6,7 @@ use Rattle.segment_state.proofs.Learnt.{takes_record}
 use Rattle.segment_state.proofs.Knowing.{takes_known}
 use Rattle.segment_core.specs.Exactly.{TakesExactly}
 use Rattle.segment_core.proofs.Taking.{settled_exact, put_exact}
+use Rattle.segment_core.proofs.DuePages.{put_due}
 use Rattle.segment_core.proofs.segment.Segment.take_record.Goals as goal
 
 pub returns-then-is_dead_or_settled : goal.returns-then-is_dead_or_settled
@@ -22,3 +23,15 @@ returns c =
     subst (λ s. TakesExactly s (Record c.args.redo) c.put_answer.result (state_of book c.put.new.hot c.self.inside.base c.self.inside.store)) c.self.view_is
     (put_exact takes_record takes_known book held c.put.new.hot c.self.inside.base c.self.inside.store c.args.redo c.put.result c.put_answer.result
     c.put.ensures.form compared c.put.ensures.put c.put.ensures.refused c.put.ensures.unchanged c.put_answer.ensures)
+
+pub invariant_of-self : goal.invariant_of-self
+invariant_of-self c =
+    let i = c.self.inside in (
+      c.self.invariant.0,
+      c.put.ensures.form,
+      c.self.invariant.2,
+      c.self.invariant.3,
+      c.put.ensures.points,
+      put_due i.book i.hot c.put.new.hot i.store i.due c.add_held.new.self c.args.redo c.put.result c.self.invariant.5 c.add_held.ensures.more
+          c.add_held.ensures.looks c.put.ensures.put c.put.ensures.unchanged,
+    )

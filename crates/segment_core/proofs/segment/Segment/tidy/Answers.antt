@@ -7,6 +7,7 @@ use Rattle.segment_core.specs.declared.answers.ReadFault.TheVariants.{BrokenBloc
 use Rattle.segment_core.proofs.Following.{removal_keeps_points}
 use Rattle.segment_core.proofs.FirstBreak.{tells_first, tells_whole, sound_whole}
 use Rattle.segment_core.proofs.Tidying.{RemovesJustDead, removes_just, removals_keep, tidies_of, holds_kept, keeps_on}
+use Rattle.segment_core.proofs.DuePages.{fewer_held}
 use Rattle.segment_core.proofs.segment.Segment.tidy.Goals as goal
 
 -- the state as it was, after the discard, and without the dead records
@@ -48,6 +49,7 @@ invariant_of-self-2 c =
       is.3,
       removal_keeps_points i.book i.hot c.remove_dead.new.self (λ r. IsDead i.book.cuts i.book.complete r.epoch r.number) i.base i.points
           c.remove_dead.ensures.removes (λ r h lt dead. dead.1 h.1) is.4,
+      fewer_held i.book i.hot c.remove_dead.new.self i.store i.due (λ r h. ((c.remove_dead.ensures.removes r).0 h).0) is.5,
     )
 
 pub returns-clause-keeps : goal.returns-clause-keeps

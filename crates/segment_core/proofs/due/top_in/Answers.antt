@@ -1,0 +1,19 @@
+use Rattle.std.proofs.Common.{ℕ, ◌+◌, ◌<◌, ◌≤◌, List, [], ◌∷◌, ◌++◌, take, length, get_or, sym, subst, ap, arith}
+use Rattle.std.specs.List.{All}
+use Rattle.std.proofs.lemmas.List.{take_more, take_all}
+use Rattle.segment_state.specs.State.{StoredImage}
+use Rattle.segment_core.proofs.DuePages.{under_more}
+use Rattle.segment_core.proofs.due.top_in.Goals as goal
+
+pub loop-image-preserved : goal.loop-image-preserved
+loop-image-preserved c = record {
+  floor = (let f = c.loop-image.invariant.floor in omega arith);
+  each = under_more c.args.images.now c.loop-image.image-index c.image-item.result c.loop-image.top c.max-top.result c.loop-image-test.true
+      (omega arith) (subst (λ (i : StoredImage). i.version ≤ c.max-top.result) c.image-item.is (omega (arith, c.version.ensures)))
+      c.loop-image.invariant.each;
+}
+
+pub returns-clause-each : goal.returns-clause-each
+returns-clause-each c =
+    subst (All (λ (i : StoredImage). i.version ≤ c.loop-image.top)) (take_all c.loop-image.image-index c.args.images.now c.loop-image-test.false)
+    c.loop-image.invariant.each
