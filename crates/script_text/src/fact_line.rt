@@ -19,8 +19,8 @@ struct Contents {
     patches: Vec<Patch>,
 }
 
-/// The bytes that hexadecimal digits stand for; None where they stand for none.
-fn decoded(alloc: Global, digits: &[u8]) -> Result<Option<Vec<u8>>, AllocError>
+/// The bytes that hexadecimal digits of either case stand for; None where they stand for none. Its only error is want of memory.
+pub fn decoded(alloc: Global, digits: &[u8]) -> Result<Option<Vec<u8>>, AllocError>
     ensures { IfOk result (λ o. option_map (λ v. v.items) o ≡ decoded (decode_of digits.now)) }
 {
     match hex::decode(alloc, digits) {
