@@ -1,0 +1,69 @@
+-- One line more is answered.
+use Rattle.std.proofs.Common.{◌≡◌, ℕ, ◌+◌, List, [], ◌∷◌, ◌++◌, length, take, Option, refl, sym, ap, ◌∙◌, subst, append_assoc, append-nil}
+use Rattle.std.specs.List.{concat}
+use Rattle.std.specs.Io.KnownBytes.{Appends}
+use Rattle.std.proofs.KnownBytes.{Appends-trans, Appends-nil}
+use Rattle.std.proofs.Math.Seq.{take-append-add}
+use Rattle.std.proofs.lemmas.List.Folds.{concat-append}
+use Rattle.line_stream.specs.Lines.{AnswersLine, AnswersLines, AnswersFirst}
+
+module _ {M : Type 0} (answers : M → List ℕ → List ℕ → M → Type 0) (limit : ℕ) where
+  answers_more : (old : M) (done texts : List (List ℕ)) (mid : M) (line text : List ℕ) (new : M) → AnswersLines answers limit old done texts mid
+      → AnswersLine answers limit mid line text new → AnswersLines answers limit old (done ++ line ∷ []) (texts ++ text ∷ []) new
+  answers_more old [] [] mid line text new h one = (new, subst (λ (m : M). AnswersLine answers limit m line text new) h one, refl)
+  answers_more old (d ∷ ds) (t ∷ ts) mid line text new h one = (h.0, h.1, answers_more h.0 ds ts mid line text new h.2 one)
+  answers_more old [] (t ∷ ts) mid line text new h one = absurd h
+  answers_more old (d ∷ ds) [] mid line text new h one = absurd h
+
+  answers_both : (old : M) (done texts : List (List ℕ)) (mid : M) (others more : List (List ℕ)) (new : M) → AnswersLines answers limit old done texts mid
+      → AnswersLines answers limit mid others more new → AnswersLines answers limit old (done ++ others) (texts ++ more) new
+  answers_both old [] [] mid others more new h k = subst (λ (m : M). AnswersLines answers limit m others more new) h k
+  answers_both old (d ∷ ds) (t ∷ ts) mid others more new h k = (h.0, h.1, answers_both h.0 ds ts mid others more new h.2 k)
+  answers_both old [] (t ∷ ts) mid others more new h k = absurd h
+  answers_both old (d ∷ ds) [] mid others more new h k = absurd h
+
+  -- no line is answered yet
+  pub first_none : (old : M) (lines : List (List ℕ)) → AnswersFirst answers limit old lines [] old lines
+  first_none old lines = record { done = []; all = refl; answered = refl }
+
+  -- the next line is answered
+  pub first_more : (old : M) (lines texts : List (List ℕ)) (mid : M) (line : List ℕ) (left : List (List ℕ)) (text : List ℕ) (new : M)
+      → AnswersFirst answers limit old lines texts mid (line ∷ left) → AnswersLine answers limit mid line text new
+      → AnswersFirst answers limit old lines (texts ++ text ∷ []) new left
+  first_more old lines texts mid line left text new h one = record {
+    done = h.done ++ line ∷ [];
+    all = h.all ∙ sym (append_assoc h.done (line ∷ []) left);
+    answered = answers_more old h.done texts mid line text new h.answered one;
+  }
+
+  -- the lines of more bytes are answered behind those before
+  pub first_both : (old : M) (lines texts : List (List ℕ)) (mid : M) (left : List (List ℕ)) (all others more : List (List ℕ)) (new : M) (rest : List (List ℕ))
+      → AnswersFirst answers limit old lines texts mid left → ((done : List (List ℕ)) → lines ≡ done ++ left → all ≡ done ++ others)
+      → AnswersFirst answers limit mid others more new rest → AnswersFirst answers limit old all (texts ++ more) new rest
+  first_both old lines texts mid left all others more new rest h glue k = record {
+    done = h.done ++ k.done;
+    all = glue h.done h.all ∙ ap (λ (l : List (List ℕ)). h.done ++ l) k.all ∙ sym (append_assoc h.done k.done rest);
+    answered = answers_both old h.done texts mid k.done more new h.answered k.answered;
+  }
+
+-- ---- the texts, joined
+pub joined_more : (a b c : Option (List ℕ)) (texts : List (List ℕ)) (text : List ℕ) → Appends a b (concat texts) → Appends b c text
+    → Appends a c (concat (texts ++ text ∷ []))
+joined_more a b c texts text p q =
+    let same : concat (texts ++ text ∷ []) ≡ concat texts ++ text = concat-append texts (text ∷ []) ∙ ap (λ (l : List ℕ). concat texts ++ l) (append-nil text) in
+    rw same (Appends-trans a b c (concat texts) text p q)
+
+pub joined_both : (a b c : Option (List ℕ)) (texts more : List (List ℕ)) → Appends a b (concat texts) → Appends b c (concat more)
+    → Appends a c (concat (texts ++ more))
+joined_both a b c texts more p q = rw concat-append (Appends-trans a b c (concat texts) (concat more) p q)
+
+-- a beginning of the last text
+pub joined_part : (a b c : Option (List ℕ)) (texts more : List (List ℕ)) (n : ℕ) → Appends a b (concat texts) → Appends b c (take n (concat more))
+    → Appends a c (take (length (concat texts) + n) (concat (texts ++ more)))
+joined_part a b c texts more n p q =
+    let same : take (length (concat texts) + n) (concat (texts ++ more)) ≡ concat texts ++ take n (concat more) =
+    ap (take (length (concat texts) + n)) (concat-append texts more) ∙ take-append-add (concat texts) (concat more) n in
+    rw same (Appends-trans a b c (concat texts) (take n (concat more)) p q)
+
+pub joined_none : (a : Option (List ℕ)) → Appends a a (concat [])
+joined_none a = Appends-nil a

@@ -1,0 +1,4 @@
+pub mod Devices
+pub mod Answered
+pub mod Gluing
+pub mod Going

@@ -1,0 +1,5 @@
+pub mod Watching
+pub mod AnswerText
+pub mod Lines
+pub mod Holding
+pub mod Served
