@@ -1,6 +1,7 @@
-use crate::{bodies, drills, model, shapes, step_rows, wire, words, writing};
+use crate::{bodies, drills, model, shapes, step_rows, wire, writing};
 use log_law::Writer;
 use redo_core::{Fact, Roster};
+use row_words::first;
 use script_text::{ScriptError, read_facts};
 use std::alloc::{AllocError, Global};
 
@@ -44,7 +45,7 @@ impl Bench {
 
     /// What a line answers.
     pub fn answer(&mut self, alloc: Global, line: &str) -> Result<String, AllocError> {
-        let (name, rest) = words::of(line);
+        let (name, rest) = first(line);
         match name {
             "clear" => {
                 self.facts.clear();

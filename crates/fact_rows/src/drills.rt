@@ -1,8 +1,8 @@
 //! The facts of drills, by their places.
 
-use crate::words::numbers;
 use drill_log::Drill;
 use named_log::LogFact;
+use row_words::eight;
 use script_text::fact_text;
 use std::alloc::{AllocError, Global};
 
@@ -17,7 +17,7 @@ fn told<const N: u64>(alloc: Global, place: u64) -> Result<String, AllocError> {
 }
 
 pub fn answer(alloc: Global, rest: &str) -> Result<String, AllocError> {
-    let n = numbers(rest);
+    let n = eight(rest);
     match n[0] {
         1 => told::<1>(alloc, n[1]),
         64 => told::<64>(alloc, n[1]),

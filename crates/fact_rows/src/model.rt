@@ -1,20 +1,19 @@
 //! The answers of the plain model over the facts that were kept, beside those of the checker.
 
 use crate::places::facts_at;
-use crate::words;
-use crate::words::{byte, numbers, short};
 use log_law::{CheckFault, check_log};
 use plain_model::{
     Standing, anchor, complete_epoch, complete_point, covers, first_fault, is_alive, is_linked,
     min_point, page_at, point, points, position, same, standing,
 };
 use redo_core::{Fact, LawFault, Roster};
+use row_words::{byte, eight, first, short, size};
 use std::alloc::{AllocError, Global};
 
 // The position of the first so many facts: complete epoch and point, the points, minimum and anchor.
 fn front(alloc: Global, facts: &[Fact], roster: Roster, count: u64) -> Result<String, AllocError> {
     let len = facts.len();
-    let facts = &facts[..usize::try_from(count).unwrap_or(len).min(len)];
+    let facts = &facts[..size(count).min(len)];
     let p = position(alloc, facts, roster)?;
     let (epoch, complete, min, anchor) = (p.epoch, p.complete, p.min, p.anchor);
     let points = points(alloc, facts, roster, complete_epoch(facts))?;
@@ -58,7 +57,7 @@ fn compared(
     roster: Roster,
     rest: &str,
 ) -> Result<String, AllocError> {
-    let (one, two) = words::of(rest);
+    let (one, two) = first(rest);
     let left = facts_at(alloc, facts, one)?;
     let right = facts_at(alloc, facts, two)?;
     let there = covers(alloc, &left, &right, roster)?;
@@ -76,9 +75,9 @@ fn of_roster(
     rest: &str,
 ) -> Result<String, AllocError> {
     match name {
-        "front" => front(alloc, facts, roster, numbers(rest)[1]),
+        "front" => front(alloc, facts, roster, eight(rest)[1]),
         "faults" => faults(alloc, facts, roster),
-        "compare" => compared(alloc, facts, roster, words::of(rest).1),
+        "compare" => compared(alloc, facts, roster, first(rest).1),
         _ => String::from_str(alloc, "?"),
     }
 }
@@ -99,8 +98,8 @@ fn number(facts: &[Fact], name: &str, n: [u64; 8]) -> Option<u64> {
 }
 
 pub fn answer(alloc: Global, facts: &[Fact], rest: &str) -> Result<String, AllocError> {
-    let (name, rest) = words::of(rest);
-    let n = numbers(rest);
+    let (name, rest) = first(rest);
+    let n = eight(rest);
     if name == "page" {
         return beginning(alloc, facts, n);
     }

@@ -1,8 +1,7 @@
 //! Calls that make values of redo_core, each with its first fault.
 
-use crate::words;
-use crate::words::{byte, numbers, short};
 use redo_core::{Advance, Cut, Patch, ReadPoints, Record, Roster, ShapeFault, Write};
+use row_words::{byte, eight, first, short};
 use std::alloc::{AllocError, Global};
 
 // So many writes, each of so many bytes from an offset on.
@@ -73,8 +72,8 @@ fn judged(alloc: Global, name: &str, n: [u64; 8]) -> Result<Option<ShapeFault>, 
 }
 
 pub fn answer(alloc: Global, rest: &str) -> Result<String, AllocError> {
-    let (name, rest) = words::of(rest);
-    let n = numbers(rest);
+    let (name, rest) = first(rest);
+    let n = eight(rest);
     if name == "points" {
         if let Ok(roster) = Roster::new(byte(n[0])) {
             return points(alloc, roster, n);

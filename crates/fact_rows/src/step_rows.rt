@@ -1,7 +1,7 @@
 //! Step lines, as they are read: what the step is, which nodes it names, and which of them a fleet lacks.
 
-use crate::words;
 use fleet_steps::Step;
+use row_words::{first, short};
 use script_text::{ScriptError, read_script};
 use std::alloc::{AllocError, Global};
 
@@ -19,7 +19,7 @@ fn letter(place: usize) -> Result<&'static str, usize> {
 }
 
 fn told(alloc: Global, step: Step<usize>, nodes: u64) -> Result<String, AllocError> {
-    let nodes = usize::from(words::short(nodes));
+    let nodes = usize::from(short(nodes));
     let (node, other, missing) = (step.node(), step.other(), step.missing(nodes));
     let named = step.naming(letter);
     format!(in alloc; "{step:?} node {node} other {other} missing {missing:?} named {named:?}")
@@ -27,7 +27,7 @@ fn told(alloc: Global, step: Step<usize>, nodes: u64) -> Result<String, AllocErr
 
 /// The first word is how many nodes the fleet has, and the others are the step.
 pub fn answer(alloc: Global, rest: &str) -> Result<String, AllocError> {
-    let (nodes, line) = words::of(rest);
+    let (nodes, line) = first(rest);
     let text = format!(in alloc; "{OPENING}{line}\n")?;
     match read_script(alloc, text.as_bytes()) {
         Ok(script) => match script.steps.as_slice() {

@@ -6,6 +6,7 @@ use redo_wire::{
     Book, PieceContent, WireError, WireValue, decode_delta, decode_fact, decode_piece,
     decode_summary, decode_value, encode_delta, encode_fact, encode_piece, encode_summary,
 };
+use row_words::first;
 use script_text::fact_text;
 use std::alloc::{AllocError, Global};
 
@@ -107,7 +108,7 @@ fn beginnings(alloc: Global, bytes: &[u8]) -> Result<u64, AllocError> {
 }
 
 pub fn answer(alloc: Global, rest: &str) -> Result<String, AllocError> {
-    let (name, rest) = words::of(rest);
+    let (name, rest) = first(rest);
     let bytes = words::bytes(alloc, rest)?;
     match name {
         "again" => again(alloc, &bytes),

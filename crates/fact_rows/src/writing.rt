@@ -1,9 +1,8 @@
 //! The calls of a writer.
 
-use crate::words;
-use crate::words::{byte, numbers, short};
 use log_law::{CheckFault, Writer, WriterFault, check_log};
 use redo_core::{Fact, Roster};
+use row_words::{byte, eight, first, short};
 use script_text::fact_text;
 use std::alloc::{AllocError, Global};
 
@@ -54,8 +53,8 @@ fn of_roster(
 }
 
 pub fn answer(alloc: Global, writer: &mut Writer, rest: &str) -> Result<String, AllocError> {
-    let (name, rest) = words::of(rest);
-    let n = numbers(rest);
+    let (name, rest) = first(rest);
+    let n = eight(rest);
     if name == "new" || name == "log" {
         return match Roster::new(byte(n[0])) {
             Ok(roster) => of_roster(alloc, writer, name, roster),

@@ -1,13 +1,14 @@
 use crate::answers::{Answer, MEMORY, UNKNOWN};
 use crate::fleets::{give, step};
 use crate::pieces::{finish, freeze_all, stage};
-use crate::rows::{Row, long, nth, nth_mut, row_of, short};
+use crate::rows::{Row, row_of};
 use crate::segments::{chain, change, look};
 use crate::summaries::{absorb_bytes, answer, ask, bytes_of, keep, spelled, told};
 use bytes::BytesMut;
 use fleet_core::Fleet;
 use hydration::Staging;
 use redo_core::{Fact, Roster};
+use row_words::{byte, long, nth, nth_mut, short};
 use script_text::{ScriptError, read_facts};
 use segment_core::Segment;
 use std::alloc::{AllocError, Global};
@@ -64,8 +65,7 @@ impl Bench {
 
     /// Begins anew, for so many readers.
     fn begin(&mut self, row: Row<'_>) -> Result<Answer, AllocError> {
-        let readers = u8::try_from(row.numbers[0]).unwrap_or(0);
-        match Roster::new(readers) {
+        match Roster::new(byte(row.numbers[0])) {
             Ok(roster) => {
                 *self = Bench::new(self.alloc, roster)?;
                 Ok(Answer::Word("begun"))

@@ -1,7 +1,8 @@
 use crate::answers::{Answer, MEMORY, UNKNOWN, refusal, uncovered, yes};
-use crate::rows::{Row, nth, short, size};
+use crate::rows::Row;
 use fleet_core::{Fleet, Reply, Step};
 use redo_core::Fact;
+use row_words::{nth, short, size};
 use std::alloc::AllocError;
 
 fn plain_step(row: Row<'_>) -> Option<Step<Fact>> {

@@ -7,37 +7,10 @@ pub struct Row<'a> {
 }
 
 pub fn row_of(line: &str) -> Row<'_> {
-    let (word, rest) = line.split_once(' ').unwrap_or((line, ""));
-    let mut numbers = [0; 4];
-    for (place, number) in rest.split(' ').enumerate() {
-        if place < 4 {
-            numbers[place] = number.parse::<u64>().unwrap_or(0);
-        }
-    }
+    let (word, rest) = row_words::first(line);
     Row {
         word,
         rest,
-        numbers,
+        numbers: row_words::four(rest),
     }
-}
-
-pub fn short(number: u64) -> u16 {
-    u16::try_from(number).unwrap_or(u16::MAX)
-}
-
-pub fn long(number: u64) -> u32 {
-    u32::try_from(number).unwrap_or(u32::MAX)
-}
-
-pub fn size(number: u64) -> usize {
-    usize::try_from(number).unwrap_or(usize::MAX)
-}
-
-/// What has a number, counted from 1.
-pub fn nth<T>(items: &[T], number: u64) -> Option<&T> {
-    items.get(size(number).checked_sub(1)?)
-}
-
-pub fn nth_mut<T>(items: &mut [T], number: u64) -> Option<&mut T> {
-    items.get_mut(size(number).checked_sub(1)?)
 }

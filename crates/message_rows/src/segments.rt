@@ -1,6 +1,7 @@
 use crate::answers::{Answer, MEMORY, UNKNOWN, fault, refusal, yes};
-use crate::rows::{Row, nth, nth_mut, short};
+use crate::rows::Row;
 use redo_core::{Fact, Patch, Record, Roster, Write};
+use row_words::{nth, nth_mut, short};
 use segment_core::{Segment, Taken};
 use segment_join::same;
 use std::alloc::{AllocError, Global};

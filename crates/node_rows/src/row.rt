@@ -13,7 +13,7 @@ pub struct Row<'a> {
 
 impl<'a> Row<'a> {
     pub fn of(rt: &'a HostRuntime, line: &'a str) -> Row<'a> {
-        let (name, words) = line.split_once(' ').unwrap_or((line, ""));
+        let (name, words) = row_words::first(line);
         Row {
             rt,
             line,
@@ -28,18 +28,17 @@ impl<'a> Row<'a> {
 
     /// A number of the call by its place, 0 where there is none.
     pub fn number(self, place: usize) -> u64 {
-        let word = self.words.split(' ').nth(place).unwrap_or("");
-        word.parse::<u64>().unwrap_or(0)
+        row_words::number(self.words, place)
     }
 
     /// A page; the greatest one for a number past it.
     pub fn short(self, place: usize) -> u16 {
-        u16::try_from(self.number(place)).unwrap_or(u16::MAX)
+        row_words::short(self.number(place))
     }
 
     /// A place in a list.
     pub fn index(self, place: usize) -> usize {
-        usize::try_from(self.number(place)).unwrap_or(usize::MAX)
+        row_words::size(self.number(place))
     }
 
     /// Prints an answer.

@@ -5,10 +5,10 @@ use crate::diary::{Diaries, append_in_two_threads, opened_with};
 use crate::lane::{Lane, Log, first_facts, numbers};
 use crate::relay::pass_through;
 use crate::senders::in_three_threads;
-use crate::words::index;
 use intake_queue::MAX_CAPACITY;
 use named_log::LogFact;
 use node_lock::MAX_PASSES;
+use row_words::size;
 use std::alloc::{AllocError, Global};
 use std::mem;
 use std::sync::Wait;
@@ -89,9 +89,9 @@ impl Bench {
         n: [u64; 4],
     ) -> Result<Answer, AllocError> {
         match name {
-            "open" => self.open(alloc, index(n[0])),
+            "open" => self.open(alloc, size(n[0])),
             "offer" | "take" | "end" => self.of_intake(rt, alloc, name, n[0]),
-            "relay" => relayed(rt, alloc, index(n[0]), n[1]),
+            "relay" => relayed(rt, alloc, size(n[0]), n[1]),
             "three_threads" => in_three_threads(rt, alloc),
             "passes" if 0 < n[0] && n[0] <= MAX_PASSES => opened_with(alloc, n[0]),
             "two_threads" => append_in_two_threads(rt, alloc),

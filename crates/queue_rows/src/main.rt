@@ -7,7 +7,6 @@ mod diary;
 mod lane;
 mod relay;
 mod senders;
-mod words;
 
 use std::io;
 
@@ -15,8 +14,8 @@ fn main(rt: HostRuntime) -> io::Result<()> {
     let mut bench = bench::new_bench(rt.alloc())?;
     for line in rt.lines(rt.alloc()) {
         let line = line?;
-        let (name, numbers) = words::of(line.as_str());
-        let answer = bench.answer(&rt, rt.alloc(), name, numbers)?;
+        let (name, words) = row_words::first(line.as_str());
+        let answer = bench.answer(&rt, rt.alloc(), name, row_words::four(words))?;
         println!(rt; "{line}: {answer:?}")?;
     }
     Ok(())

@@ -1,8 +1,9 @@
 use crate::keeping::Kept;
-use crate::row::{Row, long, nth, short};
+use crate::row::Row;
 use redo_core::Roster;
 use redo_wire::{Key, decode_piece};
 use replica::Request;
+use row_words::{byte, long, nth, short};
 use script_text::read_facts;
 use std::alloc::{AllocError, Global};
 
@@ -49,7 +50,7 @@ fn plain(row: Row<'_>) -> Option<Request> {
 }
 
 fn opening(readers: u64) -> Option<Request> {
-    match Roster::new(u8::try_from(readers).unwrap_or(0)) {
+    match Roster::new(byte(readers)) {
         Ok(roster) => Some(Request::Open { roster }),
         Err(_) => None,
     }

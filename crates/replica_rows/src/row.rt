@@ -7,33 +7,10 @@ pub struct Row<'a> {
 }
 
 pub fn row_of(line: &str) -> Row<'_> {
-    let (word, rest) = line.split_once(' ').unwrap_or((line, ""));
-    let mut numbers = [0; 2];
-    for (place, number) in rest.split(' ').enumerate() {
-        if place < 2 {
-            numbers[place] = number.parse::<u64>().unwrap_or(0);
-        }
-    }
+    let (word, rest) = row_words::first(line);
     Row {
         word,
         rest,
-        numbers,
+        numbers: [row_words::number(rest, 0), row_words::number(rest, 1)],
     }
-}
-
-pub fn short(number: u64) -> u16 {
-    u16::try_from(number).unwrap_or(u16::MAX)
-}
-
-pub fn long(number: u64) -> u32 {
-    u32::try_from(number).unwrap_or(u32::MAX)
-}
-
-/// What has a number, counted from 1.
-pub fn nth<T>(items: &[T], number: u64) -> Option<&T> {
-    items.get(
-        usize::try_from(number)
-            .unwrap_or(usize::MAX)
-            .checked_sub(1)?,
-    )
 }

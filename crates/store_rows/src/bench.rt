@@ -1,10 +1,11 @@
 use crate::answers::Answer;
-use crate::words::{Call, byte};
+use crate::words::Call;
 use crate::{book_calls, log_answers, log_changes, store_calls};
 use epoch_book::EpochBook;
 use hot_log::HotLog;
 use page_base::BaseStore;
 use redo_core::Roster;
+use row_words::byte;
 use std::alloc::{AllocError, Global};
 
 /// What the calls are made on.

@@ -1,8 +1,9 @@
 use crate::answers::Answer;
 use crate::bench::Bench;
-use crate::words::{Call, byte, short};
+use crate::words::Call;
 use epoch_book::{BookRefusal, EpochBook, Learnt};
 use redo_core::{Advance, Cut};
+use row_words::{byte, short};
 use std::alloc::{AllocError, Global};
 
 fn learnt(outcome: Result<Learnt, BookRefusal>) -> Result<Answer, AllocError> {

@@ -1,8 +1,9 @@
 use crate::answers::{Answer, numbers, row};
 use crate::bench::Bench;
-use crate::words::{Call, short};
+use crate::words::Call;
 use epoch_book::EpochBook;
 use hot_log::{HotLog, Steps};
+use row_words::short;
 use std::alloc::{AllocError, Global};
 
 fn linked(log: &HotLog, book: &EpochBook, from: u64, limit: u64) -> Answer {

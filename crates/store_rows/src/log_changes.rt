@@ -1,9 +1,10 @@
 use crate::answers::Answer;
 use crate::bench::Bench;
-use crate::words::{Call, short};
+use crate::words::Call;
 use epoch_book::EpochBook;
 use hot_log::{HotLog, PutFault};
 use redo_core::Record;
+use row_words::short;
 use std::alloc::{AllocError, Global};
 
 // Puts a record that writes nothing: epoch, number, segment backlink and page.

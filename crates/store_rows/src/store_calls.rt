@@ -1,8 +1,9 @@
 use crate::answers::Answer;
 use crate::bench::Bench;
-use crate::words::{Call, byte, short};
+use crate::words::Call;
 use page_base::{BaseImage, BaseStore};
 use redo_core::{Page, SharedPage};
+use row_words::{byte, short};
 use std::alloc::{AllocError, Global};
 use std::mem;
 

@@ -4,9 +4,9 @@ use crate::floors::{ends_under, plan_lines};
 use crate::folds::fold_by_many;
 use crate::gates::{Order, Turnstile};
 use crate::rounds::{apart, exchange_and_fold, strangers};
-use crate::words::index;
 use drill_log::Drill;
 use fleet_drill::{MAX_NODES, MAX_WORKERS, Open};
+use row_words::size;
 use std::alloc::{AllocError, Global};
 use std::sync::Wait;
 use std::thread::Threads;
@@ -24,7 +24,7 @@ pub fn answer<R: Threads + Wait + Sync>(
     name: &str,
     n: [u64; 4],
 ) -> Result<String, AllocError> {
-    let (nodes, workers) = (index(n[0]), index(n[1]));
+    let (nodes, workers) = (size(n[0]), size(n[1]));
     match name {
         "exchange_and_fold" => exchange_and_fold(rt, alloc),
         "strangers" => strangers(rt, alloc),

@@ -6,16 +6,15 @@ mod floors;
 mod folds;
 mod gates;
 mod rounds;
-mod words;
 
 use std::io;
 
 fn main(rt: HostRuntime) -> io::Result<()> {
     for line in rt.lines(rt.alloc()) {
         let line = line?;
-        let (name, numbers) = words::of(line.as_str());
+        let (name, words) = row_words::first(line.as_str());
         println!(rt; "{line}:")?;
-        let answer = calls::answer(&rt, rt.alloc(), name, numbers)?;
+        let answer = calls::answer(&rt, rt.alloc(), name, row_words::four(words))?;
         print!(rt; "{answer}")?;
     }
     Ok(())

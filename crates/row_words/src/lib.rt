@@ -1,0 +1,76 @@
+//! The words of a row: a line of the input of a program of rows, which names a call and its numbers.
+//!
+//! Nothing here fails: a number that is not there, is none, or is too great for its type, has a number in its place.
+#![tactic(auto)]
+
+/// A line's first word, and what stands behind the space that ends it.
+pub fn first(line: &str) -> (&str, &str) {
+    line.split_once(' ').unwrap_or((line, ""))
+}
+
+/// The number at a place of a list of words, counted from 0; the one that is given where that word is none, or is not there.
+pub fn number_or(words: &str, place: usize, otherwise: u64) -> u64 {
+    match words.split(' ').nth(place) {
+        Some(word) => word.parse::<u64>().unwrap_or(otherwise),
+        None => otherwise,
+    }
+}
+
+/// The number at a place of a list of words, 0 where there is none.
+pub fn number(words: &str, place: usize) -> u64 {
+    number_or(words, place, 0)
+}
+
+/// The first four numbers of a list of words, 0 where there is none.
+pub fn four(words: &str) -> [u64; 4] {
+    [
+        number(words, 0),
+        number(words, 1),
+        number(words, 2),
+        number(words, 3),
+    ]
+}
+
+/// The first eight numbers of a list of words, the greatest one where there is none.
+pub fn eight(words: &str) -> [u64; 8] {
+    [
+        number_or(words, 0, u64::MAX),
+        number_or(words, 1, u64::MAX),
+        number_or(words, 2, u64::MAX),
+        number_or(words, 3, u64::MAX),
+        number_or(words, 4, u64::MAX),
+        number_or(words, 5, u64::MAX),
+        number_or(words, 6, u64::MAX),
+        number_or(words, 7, u64::MAX),
+    ]
+}
+
+/// A reader or a byte; the greatest one for a number past it.
+pub fn byte(number: u64) -> u8 {
+    if number < 256 { number as u8 } else { u8::MAX }
+}
+
+/// A page, an epoch or a node; the greatest one for a number past it.
+pub fn short(number: u64) -> u16 {
+    if number < 65_536 { number as u16 } else { u16::MAX }
+}
+
+/// An index or a total of pieces; the greatest one for a number past it.
+pub fn long(number: u64) -> u32 {
+    if number < 4_294_967_296 { number as u32 } else { u32::MAX }
+}
+
+/// A place in a list, or a count.
+pub fn size(number: u64) -> usize {
+    number as usize
+}
+
+/// What has a number, counted from 1.
+pub fn nth<T>(items: &[T], number: u64) -> Option<&T> {
+    items.get(size(number).checked_sub(1)?)
+}
+
+/// What has a number, counted from 1, to be changed.
+pub fn nth_mut<T>(items: &mut [T], number: u64) -> Option<&mut T> {
+    items.get_mut(size(number).checked_sub(1)?)
+}
