@@ -52,12 +52,20 @@ pub fn byte(number: u64) -> u8 {
 
 /// A page, an epoch or a node; the greatest one for a number past it.
 pub fn short(number: u64) -> u16 {
-    if number < 65_536 { number as u16 } else { u16::MAX }
+    if number < 65_536 {
+        number as u16
+    } else {
+        u16::MAX
+    }
 }
 
 /// An index or a total of pieces; the greatest one for a number past it.
 pub fn long(number: u64) -> u32 {
-    if number < 4_294_967_296 { number as u32 } else { u32::MAX }
+    if number < 4_294_967_296 {
+        number as u32
+    } else {
+        u32::MAX
+    }
 }
 
 /// A place in a list, or a count.
