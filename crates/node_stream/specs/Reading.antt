@@ -1,0 +1,160 @@
+-- What a line asks, by its words between single spaces.
+use Rattle.std.specs.Prelude.{◌≡◌, ℕ, ◌+◌, ◌==◌, nat_lt, List, [], ◌∷◌, Option, Some, None, Result, Ok, Err, codes, bytes_eq, if◌then◌else◌}
+use Rattle.hex.specs.Hex.{decode_of}
+use Rattle.redo_core.specs.Shape.{max_number, max_readers}
+use Rattle.redo_core.specs.declared.facts.Fact.{Fact}
+use Rattle.redo_wire.specs.Summaries.{SummaryData}
+use Rattle.redo_wire.specs.Deltas.{DeltaData}
+use Rattle.redo_wire.specs.Pieces.{PieceData}
+use Rattle.redo_wire.specs.FactReading.{decoded_fact}
+use Rattle.redo_wire.specs.SummaryReading.{decoded_summary}
+use Rattle.redo_wire.specs.DeltaReading.{decoded_delta}
+use Rattle.redo_wire.specs.PieceReading.{decoded_piece}
+use Rattle.redo_wire.specs.declared.faults.WireFault.{WireFault}
+use Rattle.replica.specs.declared.requests.Request.{Request}
+use Rattle.replica.specs.declared.requests.Request.TheVariants as request
+use Rattle.script_text.specs.Parts.{parts_at}
+use Rattle.script_text.specs.FactLine.{decoded}
+use Rattle.script_text.specs.Fields.{Form, form, of_one, of_two, read_by}
+use Rattle.node_stream.specs.Asking.{asked, shown}
+use Rattle.node_stream.specs.declared.asked.Asked.{Asked}
+use Rattle.node_stream.specs.declared.faults.LineFault.{LineFault}
+use Rattle.node_stream.specs.declared.faults.LineFault.TheVariants as fault
+use Rattle.node_stream.specs.declared.faults.LineError.{LineError}
+use Rattle.node_stream.specs.declared.faults.LineError.TheVariants as errors
+
+-- ---- steps that may fail
+infixl 10 ◌>>=◌
+abbrev pub ◌>>=◌ : {A B : Type 0} → Result A LineFault → (A → Result B LineFault) → Result B LineFault
+(Ok x) >>= f = f x
+(Err e) >>= f = Err e
+
+-- what a reader returned, seen by view, is what is read here, unless memory ran out
+abbrev pub Fails : {Y : Type 0} → LineError → Result Y LineFault → Type 0
+Fails errors.Memory read = Unit {0}
+Fails (errors.Fault f) read = read ≡ Err f
+
+abbrev pub Gives : {X Y : Type 0} → (X → Y) → Result X LineError → Result Y LineFault → Type 0
+Gives view (Ok x) read = read ≡ Ok (view x)
+Gives view (Err e) read = Fails e read
+
+-- ---- one word
+-- the requests that are a word alone
+unfoldable pub word_of : List ℕ → Option Asked
+word_of word =
+    if bytes_eq word (codes "front") then Some (asked request.Front)
+    else if bytes_eq word (codes "state") then Some (asked request.State)
+    else if bytes_eq word (codes "ask") then Some (asked request.Ask)
+    else if bytes_eq word (codes "discard") then Some (asked request.Discard)
+    else if bytes_eq word (codes "tidy") then Some (asked request.Tidy)
+    else if bytes_eq word (codes "finish") then Some (asked request.Finish)
+    else None
+
+-- ---- a word and numbers
+-- four numbers
+abbrev pub of_four : {A : Type 0} → (ℕ → ℕ → ℕ → ℕ → Option A) → List ℕ → Option A
+of_four make (a ∷ b ∷ c ∷ d ∷ []) = make a b c d
+of_four make _ = None
+
+-- at least one reader
+abbrev pub opening : ℕ → Option Asked
+opening readers = if readers == 0 then None else Some (asked (request.Open readers))
+
+-- some bytes inside a page
+abbrev pub read : ℕ → ℕ → ℕ → ℕ → Option Asked
+read page point offset len =
+    if len == 0 then None else if nat_lt 4096 (offset + len) then None else Some (shown (request.Read page point) offset len)
+
+abbrev pub open_form : Form Asked
+open_form = form (codes "open") (max_readers ∷ []) (of_one opening)
+
+abbrev pub read_form : Form Asked
+read_form = form (codes "read") (65535 ∷ max_number ∷ 4096 ∷ 4096 ∷ []) (of_four read)
+
+abbrev pub fold_form : Form Asked
+fold_form = form (codes "fold") (65535 ∷ []) (of_one (λ page. Some (asked (request.Fold page))))
+
+abbrev pub freeze_form : Form Asked
+freeze_form = form (codes "freeze") (max_number ∷ []) (of_one (λ name. Some (asked (request.Freeze name))))
+
+abbrev pub piece_form : Form Asked
+piece_form = form (codes "piece") (4294967295 ∷ []) (of_one (λ index. Some (asked (request.Piece index))))
+
+abbrev pub stage_form : Form Asked
+stage_form = form (codes "stage") (max_number ∷ 4294967295 ∷ []) (of_two (λ name total. Some (asked (request.Stage name total))))
+
+abbrev pub next_form : Form Asked
+next_form = form (codes "next") (65535 ∷ max_number ∷ [])
+    (of_two (λ epoch number. Some (asked (request.Next (Some (record { epoch = epoch; number = number }))))))
+
+-- the requests that are a word and numbers
+unfoldable pub numbers_line : List (List ℕ) → Option Asked
+numbers_line fields = read_by (open_form ∷ read_form ∷ fold_form ∷ freeze_form ∷ piece_form ∷ stage_form ∷ next_form ∷ []) fields
+
+-- ---- a word and bytes
+abbrev pub hexed : Option (List ℕ) → Result (List ℕ) LineFault
+hexed (Some bytes) = Ok bytes
+hexed None = Err fault.Hex
+
+-- the bytes of hexadecimal digits of either case
+unfoldable pub bytes_of : List ℕ → Result (List ℕ) LineFault
+bytes_of digits = hexed (decoded (decode_of digits))
+
+-- the value that bytes spell
+abbrev pub wired : {A : Type 0} → Result A WireFault → Result A LineFault
+wired (Ok x) = Ok x
+wired (Err f) = Err (fault.Wire f)
+
+-- the values that digits spell
+unfoldable pub fact_of : List ℕ → Result Fact LineFault
+fact_of digits = bytes_of digits >>= (λ bytes. wired (decoded_fact bytes))
+
+unfoldable pub summary_of : List ℕ → Result SummaryData LineFault
+summary_of digits = bytes_of digits >>= (λ bytes. wired (decoded_summary bytes))
+
+unfoldable pub delta_of : List ℕ → Result DeltaData LineFault
+delta_of digits = bytes_of digits >>= (λ bytes. wired (decoded_delta bytes))
+
+unfoldable pub piece_of : List ℕ → Result PieceData LineFault
+piece_of digits = bytes_of digits >>= (λ bytes. wired (decoded_piece bytes))
+
+unfoldable pub take_line : List ℕ → Result Asked LineFault
+take_line digits = fact_of digits >>= (λ f. Ok (asked (request.Take f)))
+
+unfoldable pub answer_line : List ℕ → Result Asked LineFault
+answer_line digits = summary_of digits >>= (λ s. Ok (asked (request.Answer s)))
+
+unfoldable pub add_line : List ℕ → Result Asked LineFault
+add_line digits = piece_of digits >>= (λ p. Ok (asked (request.Add p)))
+
+unfoldable pub absorb_line : List ℕ → List ℕ → Result Asked LineFault
+absorb_line shown answered = summary_of shown >>= (λ s. delta_of answered >>= (λ d. Ok (asked (request.Absorb s d))))
+
+-- ---- lines
+abbrev pub formed : Option Asked → Result Asked LineFault
+formed (Some a) = Ok a
+formed None = Err fault.Form
+
+-- a word and one field: bytes, or a number
+unfoldable pub field_line : List ℕ → List ℕ → Result Asked LineFault
+field_line word field =
+    if bytes_eq word (codes "take") then take_line field
+    else if bytes_eq word (codes "answer") then answer_line field
+    else if bytes_eq word (codes "add") then add_line field
+    else formed (numbers_line (word ∷ field ∷ []))
+
+-- a word and two fields: bytes of a summary and of the delta that answers it, or numbers
+unfoldable pub fields_line : List ℕ → List ℕ → List ℕ → Result Asked LineFault
+fields_line word field next =
+    if bytes_eq word (codes "absorb") then absorb_line field next else formed (numbers_line (word ∷ field ∷ next ∷ []))
+
+-- what the words of a line ask
+unfoldable pub words_line : List (List ℕ) → Result Asked LineFault
+words_line (word ∷ []) = formed (word_of word)
+words_line (word ∷ field ∷ []) = field_line word field
+words_line (word ∷ field ∷ next ∷ []) = fields_line word field next
+words_line words = formed (numbers_line words)
+
+-- what a line asks
+abbrev pub request_of : List ℕ → Result Asked LineFault
+request_of line = words_line (parts_at 32 line)

@@ -1,0 +1,12 @@
+//! One replica behind a stream of lines: each request line is answered by one line, before the next one is looked at.
+#![tactic(auto)]
+
+mod asked;
+mod faults;
+mod numbered;
+mod requests;
+mod values;
+
+pub use asked::{Asked, Window};
+pub use faults::{LineError, LineFault};
+pub use requests::read_line;

@@ -1,0 +1,147 @@
+//! Request lines of a word alone, and of a word and numbers.
+
+ghost use Rattle.std.specs.Prelude.{◌≡◌, map, IfSome};
+ghost use Rattle.script_text.specs.Fields.{made_by};
+ghost use Rattle.node_stream.specs.Asking.{IsInside};
+ghost use Rattle.node_stream.specs.Reading.{word_of, open_form, read_form, fold_form, freeze_form, piece_form, stage_form, next_form, numbers_line};
+
+use crate::asked::{Asked, Window};
+use redo_core::{MAX_NUMBER, MAX_READERS, Roster};
+use redo_wire::Key;
+use replica::Request;
+use script_text::read_numbers;
+
+/// An epoch or a page.
+const SHORT: u64 = 65535;
+
+/// The index of a piece, or a number of pieces.
+const LONG: u64 = 4294967295;
+
+/// The bytes of a page.
+const PAGE: u64 = 4096;
+
+/// The request that is a word alone.
+#[tactic(auto, unfolding(crate::specs::Reading::word_of))]
+pub fn word(word: &[u8]) -> Option<Asked>
+    ensures asks { result ≡ word_of word.now }
+    ensures inside { IfSome result (λ a. IsInside a.window) }
+{
+    let request = if word == b"front".as_slice() {
+        Request::Front
+    } else if word == b"state".as_slice() {
+        Request::State
+    } else if word == b"ask".as_slice() {
+        Request::Ask
+    } else if word == b"discard".as_slice() {
+        Request::Discard
+    } else if word == b"tidy".as_slice() {
+        Request::Tidy
+    } else if word == b"finish".as_slice() {
+        Request::Finish
+    } else {
+        return None;
+    };
+    Some(Asked::new(request))
+}
+
+fn open(fields: &[&[u8]]) -> Option<Asked>
+    ensures asks { result ≡ made_by open_form (map (λ x. x.now) fields.now) }
+    ensures inside { IfSome result (λ a. IsInside a.window) }
+{
+    let [readers] = read_numbers([u64::from(MAX_READERS)], fields)?;
+    let roster = Roster::new(readers as u8).ok()?;
+    Some(Asked::new(Request::Open { roster }))
+}
+
+fn read(fields: &[&[u8]]) -> Option<Asked>
+    ensures asks { result ≡ made_by read_form (map (λ x. x.now) fields.now) }
+    ensures inside { IfSome result (λ a. IsInside a.window) }
+{
+    let [page, point, offset, len] = read_numbers([SHORT, MAX_NUMBER, PAGE, PAGE], fields)?;
+    if len == 0 {
+        return None;
+    }
+    if offset + len > PAGE {
+        return None;
+    }
+    let page = page as u16;
+    let window = Window {
+        offset: offset as u16,
+        len: len as u16,
+    };
+    Some(Asked {
+        request: Request::Read { page, point },
+        window,
+    })
+}
+
+fn fold(fields: &[&[u8]]) -> Option<Asked>
+    ensures asks { result ≡ made_by fold_form (map (λ x. x.now) fields.now) }
+    ensures inside { IfSome result (λ a. IsInside a.window) }
+{
+    let [page] = read_numbers([SHORT], fields)?;
+    let page = page as u16;
+    Some(Asked::new(Request::Fold { page }))
+}
+
+fn freeze(fields: &[&[u8]]) -> Option<Asked>
+    ensures asks { result ≡ made_by freeze_form (map (λ x. x.now) fields.now) }
+    ensures inside { IfSome result (λ a. IsInside a.window) }
+{
+    let [name] = read_numbers([MAX_NUMBER], fields)?;
+    Some(Asked::new(Request::Freeze { name }))
+}
+
+fn piece(fields: &[&[u8]]) -> Option<Asked>
+    ensures asks { result ≡ made_by piece_form (map (λ x. x.now) fields.now) }
+    ensures inside { IfSome result (λ a. IsInside a.window) }
+{
+    let [index] = read_numbers([LONG], fields)?;
+    let index = index as u32;
+    Some(Asked::new(Request::Piece { index }))
+}
+
+fn stage(fields: &[&[u8]]) -> Option<Asked>
+    ensures asks { result ≡ made_by stage_form (map (λ x. x.now) fields.now) }
+    ensures inside { IfSome result (λ a. IsInside a.window) }
+{
+    let [name, total] = read_numbers([MAX_NUMBER, LONG], fields)?;
+    let total = total as u32;
+    Some(Asked::new(Request::Stage { name, total }))
+}
+
+fn next(fields: &[&[u8]]) -> Option<Asked>
+    ensures asks { result ≡ made_by next_form (map (λ x. x.now) fields.now) }
+    ensures inside { IfSome result (λ a. IsInside a.window) }
+{
+    let [epoch, number] = read_numbers([SHORT, MAX_NUMBER], fields)?;
+    let epoch = epoch as u16;
+    let after = Some(Key { epoch, number });
+    Some(Asked::new(Request::Next { after }))
+}
+
+/// The request that is a word and numbers.
+#[tactic(auto, unfolding(crate::specs::Reading::numbers_line))]
+pub fn numbers(fields: &[&[u8]]) -> Option<Asked>
+    ensures asks { result ≡ numbers_line (map (λ x. x.now) fields.now) }
+    ensures inside { IfSome result (λ a. IsInside a.window) }
+{
+    let (word, rest) = fields.split_first()?;
+    if *word == b"open".as_slice() {
+        open(rest)
+    } else if *word == b"read".as_slice() {
+        read(rest)
+    } else if *word == b"fold".as_slice() {
+        fold(rest)
+    } else if *word == b"freeze".as_slice() {
+        freeze(rest)
+    } else if *word == b"piece".as_slice() {
+        piece(rest)
+    } else if *word == b"stage".as_slice() {
+        stage(rest)
+    } else if *word == b"next".as_slice() {
+        next(rest)
+    } else {
+        None
+    }
+}

@@ -1,0 +1,74 @@
+//! Values of the wire, of hexadecimal digits.
+
+ghost use Rattle.node_stream.specs.Reading.{Gives, bytes_of, fact_of, summary_of, delta_of, piece_of};
+
+use crate::faults::{LineError, LineFault};
+use redo_core::Fact;
+use redo_wire::{
+    Delta, Piece, Summary, WireError, decode_delta, decode_fact, decode_piece, decode_summary,
+};
+use script_text::decoded;
+use std::alloc::Global;
+
+/// The bytes of hexadecimal digits of either case.
+#[tactic(auto, unfolding(crate::specs::Reading::bytes_of))]
+fn bytes(alloc: Global, digits: &[u8]) -> Result<Vec<u8>, LineError>
+    ensures { Gives (λ v. v.items) result (bytes_of digits.now) }
+{
+    match decoded(alloc, digits)? {
+        Some(bytes) => Ok(bytes),
+        None => Err(LineError::Fault(LineFault::Hex)),
+    }
+}
+
+/// The fact that the digits spell.
+#[tactic(auto, unfolding(crate::specs::Reading::fact_of))]
+pub fn fact(alloc: Global, digits: &[u8]) -> Result<Fact, LineError>
+    ensures { Gives (λ x. x) result (fact_of digits.now) }
+{
+    let bytes = bytes(alloc, digits)?;
+    match decode_fact(alloc, &bytes) {
+        Ok(fact) => Ok(fact),
+        Err(WireError::Memory) => Err(LineError::Memory),
+        Err(WireError::Fault(fault)) => Err(LineError::Fault(LineFault::Wire(fault))),
+    }
+}
+
+/// The summary that the digits spell.
+#[tactic(auto, unfolding(crate::specs::Reading::summary_of))]
+pub fn summary(alloc: Global, digits: &[u8]) -> Result<Summary, LineError>
+    ensures { Gives (λ x. x) result (summary_of digits.now) }
+{
+    let bytes = bytes(alloc, digits)?;
+    match decode_summary(alloc, &bytes) {
+        Ok(summary) => Ok(summary),
+        Err(WireError::Memory) => Err(LineError::Memory),
+        Err(WireError::Fault(fault)) => Err(LineError::Fault(LineFault::Wire(fault))),
+    }
+}
+
+/// The delta that the digits spell.
+#[tactic(auto, unfolding(crate::specs::Reading::delta_of))]
+pub fn delta(alloc: Global, digits: &[u8]) -> Result<Delta, LineError>
+    ensures { Gives (λ x. x) result (delta_of digits.now) }
+{
+    let bytes = bytes(alloc, digits)?;
+    match decode_delta(alloc, &bytes) {
+        Ok(delta) => Ok(delta),
+        Err(WireError::Memory) => Err(LineError::Memory),
+        Err(WireError::Fault(fault)) => Err(LineError::Fault(LineFault::Wire(fault))),
+    }
+}
+
+/// The piece that the digits spell.
+#[tactic(auto, unfolding(crate::specs::Reading::piece_of))]
+pub fn piece(alloc: Global, digits: &[u8]) -> Result<Piece, LineError>
+    ensures { Gives (λ x. x) result (piece_of digits.now) }
+{
+    let bytes = bytes(alloc, digits)?;
+    match decode_piece(alloc, &bytes) {
+        Ok(piece) => Ok(piece),
+        Err(WireError::Memory) => Err(LineError::Memory),
+        Err(WireError::Fault(fault)) => Err(LineError::Fault(LineFault::Wire(fault))),
+    }
+}
