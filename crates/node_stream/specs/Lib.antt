@@ -1,2 +1,4 @@
 pub mod Asking
 pub mod Reading
+pub mod Room
+pub mod Telling

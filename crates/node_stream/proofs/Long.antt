@@ -1,0 +1,16 @@
+-- Lines of values that may have no spelling.
+use Rattle.std.proofs.Common.{◌≡◌, ℕ, Bool, true, false, List, ◌++◌, Result, Ok, Err, refl, sym}
+use Rattle.std.specs.Prelude.{codes}
+use Rattle.node_stream.specs.Telling.{value_line, bytes_line}
+
+pub line_of_bytes : (word bytes : List ℕ) (is_long : Bool) → (is_long ≡ true → ⊥) → value_line word is_long bytes ≡ bytes_line word bytes
+unfolding value_line
+line_of_bytes word bytes true not_long = absurd (not_long refl)
+line_of_bytes word bytes false not_long = refl
+
+pub line_of_none : (word bytes : List ℕ) (is_long : Bool) → is_long ≡ true → value_line word is_long bytes ≡ word ++ codes " too long\n"
+unfolding value_line
+line_of_none word bytes true long = refl
+line_of_none word bytes false long = absurd cc
+
+pub ruleset lines = (line_of_bytes, line_of_none)

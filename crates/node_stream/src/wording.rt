@@ -1,0 +1,151 @@
+//! Answer lines of words and numbers.
+
+ghost use Rattle.std.specs.Prelude.{◌≡◌, ◌++◌, IfOk, codes, string_bytes};
+ghost use Rattle.line_stream.specs.AnswerText.{text_of};
+ghost use Rattle.node_stream.specs.Telling.{one_number, two_numbers, three_numbers, held_line, refusal_line, shown_line, status_start, status_end, fault_line};
+
+use crate::faults::LineFault;
+use epoch_book::Held;
+use gossip_core::Shown;
+use line_stream::Answer;
+use redo_core::Cut;
+use replica::Status;
+use segment_core::{Front, Refusal};
+use std::alloc::{AllocError, Global};
+
+/// Words and a number.
+pub fn one(alloc: Global, words: &str, number: u64) -> Result<Answer, AllocError>
+    ensures { IfOk result (λ a. text_of a ≡ one_number words.now number) }
+{
+    let text = format!(in alloc; "{words}{number}\n")?;
+    Ok(Answer::Made(text))
+}
+
+/// Words and two numbers.
+pub fn two(alloc: Global, words: &str, first: u64, second: u64) -> Result<Answer, AllocError>
+    ensures { IfOk result (λ a. text_of a ≡ two_numbers words.now first second) }
+{
+    let text = format!(in alloc; "{words}{first} {second}\n")?;
+    Ok(Answer::Made(text))
+}
+
+/// Words and three numbers.
+pub fn three(
+    alloc: Global,
+    words: &str,
+    first: u64,
+    second: u64,
+    third: u64,
+) -> Result<Answer, AllocError>
+    ensures { IfOk result (λ a. text_of a ≡ three_numbers words.now first second third) }
+{
+    let text = format!(in alloc; "{words}{first} {second} {third}\n")?;
+    Ok(Answer::Made(text))
+}
+
+fn cut(alloc: Global, words: &str, cut: Cut) -> Result<Answer, AllocError>
+    ensures { IfOk result (λ a. text_of a ≡ three_numbers words.now cut.epoch cut.lo cut.hi) }
+{
+    three(alloc, words, u64::from(cut.epoch()), cut.lo(), cut.hi())
+}
+
+fn held(alloc: Global, held: Held) -> Result<Answer, AllocError>
+    ensures { IfOk result (λ a. text_of a ≡ held_line held) }
+{
+    match held {
+        Held::Min(point) => one(alloc, "refused by least ", point),
+        Held::Advance(advance) => {
+            let epoch = u64::from(advance.epoch());
+            let reader = u64::from(advance.reader());
+            three(alloc, "refused by min ", epoch, advance.point(), reader)
+        }
+        Held::Cut(held) => cut(alloc, "refused by cut ", held),
+    }
+}
+
+/// Why a fact or a delta is refused.
+pub fn refusal(alloc: Global, why: Refusal) -> Result<Answer, AllocError>
+    ensures { IfOk result (λ a. text_of a ≡ refusal_line why) }
+{
+    match why {
+        Refusal::OtherRoster { own, shown } => {
+            two(
+                alloc,
+                "refused by roster ",
+                u64::from(own),
+                u64::from(shown),
+            )
+        }
+        Refusal::OtherCut(other) => cut(alloc, "refused by other cut ", other),
+        Refusal::Contradiction(what) => held(alloc, what),
+        Refusal::OtherRecord => Ok(Answer::Fixed("refused by record\n")),
+        Refusal::Memory => Ok(Answer::Fixed("refused by memory\n")),
+    }
+}
+
+/// What of a summary is not answered for.
+pub fn uncovered(alloc: Global, shown: Shown) -> Result<Answer, AllocError>
+    ensures { IfOk result (λ a. text_of a ≡ shown_line shown) }
+{
+    match shown {
+        Shown::Anchor(anchor) => one(alloc, "uncovered anchor ", anchor),
+        Shown::Key(key) => two(alloc, "uncovered key ", u64::from(key.epoch), key.number),
+    }
+}
+
+/// How far the segment has come.
+pub fn front(alloc: Global, front: Front) -> Result<Answer, AllocError>
+    ensures { IfOk result (λ a. text_of a ≡ three_numbers (codes "front ") front.epoch front.complete front.min) }
+{
+    three(
+        alloc,
+        "front ",
+        u64::from(front.epoch),
+        front.complete,
+        front.min,
+    )
+}
+
+fn status_start(alloc: Global, status: Status) -> Result<String, AllocError>
+    ensures { IfOk result (λ s. string_bytes s ≡ status_start status) }
+{
+    let epoch = status.epoch;
+    let complete = status.complete;
+    let min = status.min;
+    let anchor = status.anchor;
+    let base = status.base;
+    format!(in alloc;
+        "state epoch {epoch} complete {complete} min {min} anchor {anchor} base {base}"
+    )
+}
+
+fn status_end(alloc: Global, status: Status) -> Result<String, AllocError>
+    ensures { IfOk result (λ s. string_bytes s ≡ status_end status) }
+{
+    let held = status.held;
+    let kept = status.kept;
+    let images = status.images;
+    let cuts = status.truncations;
+    let waits = status.waiting;
+    format!(in alloc; " held {held} kept {kept} images {images} cuts {cuts} waits {waits}\n")
+}
+
+/// What is stored, in numbers.
+pub fn state(alloc: Global, status: Status) -> Result<Answer, AllocError>
+    ensures { IfOk result (λ a. text_of a ≡ status_start status ++ status_end status) }
+{
+    let mut text = status_start(alloc, status)?;
+    text.push_str(&status_end(alloc, status)?)?;
+    Ok(Answer::Made(text))
+}
+
+/// Why a line asks for nothing.
+pub fn fault(alloc: Global, fault: LineFault) -> Result<Answer, AllocError>
+    ensures { IfOk result (λ a. text_of a ≡ fault_line fault) }
+{
+    match fault {
+        LineFault::Form => Ok(Answer::Fixed("bad line\n")),
+        LineFault::Hex => Ok(Answer::Fixed("bad hex\n")),
+        LineFault::Wire(wire) => one(alloc, "wire ", u64::from(wire.number())),
+    }
+}
