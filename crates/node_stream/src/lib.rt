@@ -5,6 +5,7 @@ mod answers;
 mod asked;
 mod faults;
 mod frozen;
+mod node;
 mod numbered;
 mod requests;
 mod telling;
@@ -13,4 +14,5 @@ mod wording;
 
 pub use asked::{Asked, Window};
 pub use faults::{LineError, LineFault};
+pub use node::{Node, answer_line};
 pub use requests::read_line;

@@ -1,0 +1,177 @@
+-- A reply whose line takes memory comes of a request that has changed nothing.
+use Rattle.std.proofs.Common.{◌≡◌, ℕ, ◌⊎◌, Bool, true, false, List, Option, Some, None, Result, Ok, Err, inl, inr, refl, ap, sym, ◌∙◌}
+use Rattle.redo_core.specs.declared.facts.Fact.{Fact}
+use Rattle.redo_core.specs.declared.refusal.Refused.{Refused}
+use Rattle.redo_wire.specs.Pieces.{PieceData}
+use Rattle.segment_state.specs.State.{State}
+use Rattle.segment_core.specs.declared.answers.Taken.{Taken}
+use Rattle.segment_core.specs.declared.answers.Taken.TheVariants as taken
+use Rattle.segment_core.specs.declared.answers.Refusal.{Refusal}
+use Rattle.segment_core.specs.declared.answers.Refusal.TheVariants as refusal
+use Rattle.segment_core.specs.declared.answers.ReadFault.{ReadFault}
+use Rattle.segment_core.specs.declared.answers.ReadFault.TheVariants as fault
+use Rattle.segment_core.specs.declared.fold_plan.Folded.{Folded}
+use Rattle.gossip_core.specs.declared.absorbing.AbsorbRefusal.{AbsorbRefusal}
+use Rattle.gossip_core.specs.declared.absorbing.AbsorbRefusal.TheVariants as absorb
+use Rattle.hydration.specs.Snapshots.{SnapshotData}
+use Rattle.hydration.specs.Stagings.{StagingData}
+use Rattle.hydration.specs.declared.staging.AddFault.{AddFault}
+use Rattle.hydration.specs.declared.staging.AddFault.TheVariants as add
+use Rattle.hydration.specs.declared.finishing.FinishFault.{FinishFault}
+use Rattle.hydration.specs.declared.finishing.FinishFault.TheVariants as finish
+use Rattle.read_cache.specs.Cached.{Cached}
+use Rattle.replica.specs.AtSegment.{CommitsPlan, Opens}
+use Rattle.replica.specs.Hydrating.{FreezesAs, AddsTo, StandsFor, Finishes}
+use Rattle.replica.specs.Machine.{IsReply}
+use Rattle.replica.specs.Parts.{ReplicaData, IsUnchanged, SameBeside}
+use Rattle.replica.specs.Refused.{IsRefusal}
+use Rattle.replica.specs.Replying.{refusal_reply, taken_reply, fault_reply, tidied_reply, absorbed_reply, unadded_reply, unfinished_reply}
+use Rattle.replica.specs.declared.requests.Request.{Request}
+use Rattle.replica.specs.declared.requests.Request.TheVariants as request
+use Rattle.replica.specs.declared.replies.Reply.{Reply}
+use Rattle.replica.specs.declared.replies.Reply.TheVariants as reply
+use Rattle.node_stream.specs.Telling.{TakesMemory}
+
+-- the reply tells what was asked, and is no refusal
+abbrev tells : Reply → Bool
+tells (reply.Front f) = true
+tells (reply.State s) = true
+tells (reply.Page image) = true
+tells (reply.Summary s) = true
+tells (reply.Delta d) = true
+tells (reply.Piece p) = true
+tells (reply.Next r) = true
+tells told = false
+
+refuses : (t : Reply) → TakesMemory t → tells t ≡ false → IsRefusal t
+refuses reply.Opened h k = absurd h
+refuses reply.Changed h k = absurd h
+refuses reply.Unchanged h k = absurd h
+refuses (reply.Refused why) h k = tt
+refuses (reply.Front f) h k = absurd cc
+refuses (reply.State s) h k = absurd cc
+refuses (reply.Page image) h k = absurd cc
+refuses (reply.Below min) h k = tt
+refuses (reply.Above complete) h k = tt
+refuses (reply.BrokenBlockChain page number) h k = tt
+refuses (reply.Summary s) h k = absurd cc
+refuses (reply.Delta d) h k = absurd cc
+refuses reply.Absorbed h k = absurd h
+refuses (reply.Uncovered s) h k = tt
+refuses reply.Folded h k = absurd h
+refuses reply.Discarded h k = absurd h
+refuses reply.Tidied h k = absurd h
+refuses (reply.Frozen pieces) h k = absurd h
+refuses reply.TooMany h k = absurd h
+refuses (reply.Piece p) h k = absurd cc
+refuses reply.NoSnapshot h k = absurd h
+refuses reply.NoPiece h k = absurd h
+refuses reply.Staged h k = absurd h
+refuses reply.Added h k = absurd h
+refuses reply.Stranger h k = absurd h
+refuses (reply.Double index) h k = tt
+refuses reply.NoStaging h k = absurd h
+refuses reply.Restored h k = absurd h
+refuses (reply.Missing index) h k = tt
+refuses (reply.Malformed index) h k = tt
+refuses (reply.Next r) h k = absurd cc
+refuses reply.NoNext h k = absurd h
+refuses reply.Memory h k = absurd h
+
+-- ---- the replies of requests that change something
+refusal_tells : (why : Refusal) → tells (refusal_reply why) ≡ false
+refusal_tells (refusal.OtherRoster own shown) = refl
+refusal_tells (refusal.OtherCut c) = refl
+refusal_tells (refusal.Contradiction what) = refl
+refusal_tells refusal.OtherRecord = refl
+refusal_tells refusal.Memory = refl
+
+taken_tells : (answer : Result Taken (Refused Fact Refusal)) → tells (taken_reply answer) ≡ false
+taken_tells (Ok taken.Changed) = refl
+taken_tells (Ok taken.Unchanged) = refl
+taken_tells (Err refused) = refusal_tells refused.fault
+
+fault_tells : (f : ReadFault) → tells (fault_reply f) ≡ false
+fault_tells (fault.Below min) = refl
+fault_tells (fault.Above complete) = refl
+fault_tells (fault.BrokenBlockChain page number) = refl
+fault_tells fault.Memory = refl
+
+tidied_tells : (answer : Result (Unit {0}) ReadFault) → tells (tidied_reply answer) ≡ false
+tidied_tells (Ok done) = refl
+tidied_tells (Err f) = fault_tells f
+
+absorbed_tells : (answer : Result (Unit {0}) AbsorbRefusal) → tells (absorbed_reply answer) ≡ false
+absorbed_tells (Ok done) = refl
+absorbed_tells (Err (absorb.Uncovered shown)) = refl
+absorbed_tells (Err (absorb.Refused why)) = refusal_tells why
+
+unadded_tells : (f : AddFault) → tells (unadded_reply f) ≡ false
+unadded_tells add.Stranger = refl
+unadded_tells (add.Double index) = refl
+unadded_tells add.Memory = refl
+
+unfinished_tells : (f : FinishFault) → tells (unfinished_reply f) ≡ false
+unfinished_tells (finish.Missing index) = refl
+unfinished_tells (finish.Malformed index) = refl
+unfinished_tells finish.Memory = refl
+
+opens_tells : (old : Cached) (roster : ℕ) (told : Reply) (new : Cached) → Opens old roster told new → tells told ≡ false
+opens_tells old roster told new (inl p) = ap tells p.0
+opens_tells old roster told new (inr p) = ap tells p.0
+
+commits_tells : (old : Cached) (plan : Result Folded ReadFault) (told : Reply) (new : Cached) → CommitsPlan old plan told new → tells told ≡ false
+commits_tells old (Ok folded) told new (inl p) = ap tells p.0
+commits_tells old (Ok folded) told new (inr p) = ap tells p.0.0
+commits_tells old (Err f) told new p = ap tells p.0 ∙ fault_tells f
+
+freezes_tells : (s : State) (name : ℕ) (old : Option SnapshotData) (told : Reply) (new : Option SnapshotData) → FreezesAs s name old told new → tells told ≡ false
+freezes_tells s name old told new (inl p) = ap tells p.0
+freezes_tells s name old told new (inr (inl p)) = ap tells p.is
+freezes_tells s name old told new (inr (inr p)) = ap tells p.is
+
+adds_tells : (old : Option StagingData) (piece : PieceData) (told : Reply) (new : Option StagingData) → AddsTo old piece told new → tells told ≡ false
+adds_tells None piece told new p = ap tells p.0
+adds_tells (Some st) piece told new p = elim p.does [ inl q ↦ ap tells q.0 | inr q ↦ ap tells q.3 ∙ unadded_tells q.0 ]
+
+stands_tells : (old : Cached) (st : StagingData) (answer : Result State FinishFault) (told : Reply) (new : Cached) (staging : Option StagingData)
+    → StandsFor old st answer told new staging → tells told ≡ false
+stands_tells old st (Ok s) told new staging p = ap tells p.0
+stands_tells old st (Err why) told new staging p = ap tells p.0 ∙ unfinished_tells why
+
+finishes_tells : (old : Cached) (st : Option StagingData) (told : Reply) (new : Cached) (staging : Option StagingData)
+    → Finishes old st told new staging → tells told ≡ false
+finishes_tells old None told new staging p = ap tells p.0
+finishes_tells old (Some st) told new staging p = stands_tells old st p.answer told new staging p.stands
+
+-- ---- each request
+same_is_unchanged : (old new : ReplicaData) → new ≡ old → IsUnchanged old new
+same_is_unchanged old new e = record {
+  cached = record { segment = ap (λ r. r.cached.segment) e; pages = ap (λ r. r.cached.pages) e };
+  snapshot = ap (λ r. r.snapshot) e;
+  staging = ap (λ r. r.staging) e;
+}
+
+pub told_unchanged : (old : ReplicaData) (asked : Request) (told : Reply) (new : ReplicaData) → IsReply old asked told new
+    → (IsRefusal told → IsUnchanged old new) → TakesMemory told → IsUnchanged old new
+told_unchanged old (request.Open roster) told new h r t = r (refuses told t (opens_tells old.cached roster told new.cached h.0))
+told_unchanged old (request.Take fact) told new h r t = r (refuses told t (ap tells h.0.is ∙ taken_tells h.0.answer))
+told_unchanged old request.Front told new h r t = same_is_unchanged old new h.1
+told_unchanged old request.State told new h r t = same_is_unchanged old new h.1
+told_unchanged old (request.Read page point) told new h r t = record {
+  cached = record { segment = h.0.segment; pages = h.0.pages };
+  snapshot = h.1.snapshot;
+  staging = h.1.staging;
+}
+told_unchanged old request.Ask told new h r t = same_is_unchanged old new h.1
+told_unchanged old (request.Answer summary) told new h r t = same_is_unchanged old new h.1
+told_unchanged old (request.Absorb summary delta) told new h r t = r (refuses told t (ap tells h.0.is ∙ absorbed_tells h.0.answer))
+told_unchanged old (request.Fold page) told new h r t = r (refuses told t (commits_tells old.cached h.0.plan told new.cached h.0.commits))
+told_unchanged old request.Discard told new h r t = r (refuses told t (ap tells h.0.is))
+told_unchanged old request.Tidy told new h r t = r (refuses told t (ap tells h.0.is ∙ tidied_tells h.0.answer))
+told_unchanged old (request.Freeze name) told new h r t = r (refuses told t (freezes_tells old.cached.segment name old.snapshot told new.snapshot h.0))
+told_unchanged old (request.Piece index) told new h r t = same_is_unchanged old new h.1
+told_unchanged old (request.Stage name total) told new h r t = r (refuses told t (ap tells h.0.0))
+told_unchanged old (request.Add piece) told new h r t = r (refuses told t (adds_tells old.staging piece told new.staging h.0))
+told_unchanged old request.Finish told new h r t = r (refuses told t (finishes_tells old.cached old.staging told new.cached new.staging h.0))
+told_unchanged old (request.Next after) told new h r t = same_is_unchanged old new h.1

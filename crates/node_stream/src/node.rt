@@ -1,0 +1,100 @@
+//! A replica that answers lines.
+
+ghost use Rattle.std.specs.Prelude.{◌≡◌, ◌⊎◌, IfOk, codes};
+ghost use Rattle.replica.specs.Parts.{empty_replica};
+ghost use Rattle.line_stream.specs.AnswerText.{text_of};
+ghost use Rattle.node_stream.specs.Answering.{AnswersAsked, IsAnswer};
+ghost use Rattle.node_stream.specs.Asking.{IsInside};
+ghost use Rattle.node_stream.specs.Telling.{fault_line};
+
+use crate::answers::told;
+use crate::asked::Asked;
+use crate::faults::{LineError, LineFault};
+use crate::frozen::room;
+use crate::requests::read_line;
+use crate::wording::fault as fault_answer;
+use line_stream::{Answer, LineMachine};
+use redo_core::Roster;
+use replica::Replica;
+use std::alloc::{AllocError, Global};
+use std::marker::Model;
+
+/// The answer where memory was wanting.
+const MEMORY: &str = "memory\n";
+
+/// Carries out a request, and tells the reply.
+fn answer_request(alloc: Global, replica: &mut Replica, asked: Asked) -> Answer
+    requires { IsInside asked.window }
+    ensures { AnswersAsked (Ok asked) replica.old (text_of result) replica.new }
+{
+    let Ok(room) = room(alloc) else {
+        return Answer::Fixed(MEMORY);
+    };
+    let Asked { request, window } = asked;
+    let reply = replica.step(request);
+    match told(alloc, window, &reply, room) {
+        Ok(answer) => answer,
+        Err(_) => Answer::Fixed(MEMORY),
+    }
+}
+
+/// Tells why a line asks for nothing.
+fn answer_fault(alloc: Global, fault: LineFault) -> Answer
+    ensures { (text_of result ≡ codes "memory\n") ⊎ (text_of result ≡ fault_line fault) }
+{
+    match fault_answer(alloc, fault) {
+        Ok(answer) => answer,
+        Err(_) => Answer::Fixed(MEMORY),
+    }
+}
+
+/// Answers a request line, which stands here without its LF, by a line: that of the reply where it asks something, else why it asks
+/// nothing, and then nothing has changed.
+///
+/// The line `memory` stands for want of memory. Then, and where the reply is a refusal, nothing has changed but which images the cache keeps.
+pub fn answer_line(alloc: Global, replica: &mut Replica, line: &[u8]) -> Answer
+    ensures { IsAnswer replica.old line.now (text_of result) replica.new }
+{
+    match read_line(alloc, line) {
+        Ok(asked) => answer_request(alloc, replica, asked),
+        Err(LineError::Fault(fault)) => answer_fault(alloc, fault),
+        Err(LineError::Memory) => Answer::Fixed(MEMORY),
+    }
+}
+
+/// A replica that answers lines, and tells its answers in memory of this allocator.
+#[derive(Drop)]
+pub struct Node {
+    alloc: Global,
+    replica: Replica,
+}
+
+impl Model for Node {
+    ghost use Rattle.replica.specs.Parts.{ReplicaData};
+
+    ghost Value = { ReplicaData };
+
+    ghost view = { λ n. n.replica };
+}
+
+impl Node {
+    /// A replica of a roster of readers that no fact has reached. Its cache keeps at most so many images of pages, with 0 none.
+    ///
+    /// Its only error is want of memory.
+    pub fn new(alloc: Global, roster: Roster, pages: usize) -> Result<Self, AllocError>
+        ensures { IfOk result (λ n. n ≡ empty_replica roster pages) }
+    {
+        let replica = Replica::new(alloc, roster, pages)?;
+        Ok(Node { alloc, replica })
+    }
+}
+
+impl LineMachine for Node {
+    ghost use Rattle.node_stream.specs.Answering.{IsAnswer};
+
+    ghost answers = { IsAnswer };
+
+    fn answer(&mut self, line: &[u8]) -> Answer {
+        answer_line(self.alloc, &mut self.replica, line)
+    }
+}
