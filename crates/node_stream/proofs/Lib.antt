@@ -1,2 +1,3 @@
 pub mod Long
+pub mod Turns
 pub mod Unchanged

@@ -87,6 +87,11 @@ impl Node {
         let replica = Replica::new(alloc, roster, pages)?;
         Ok(Node { alloc, replica })
     }
+
+    /// What its answers are made with.
+    pub fn allocator(&self) -> Global {
+        self.alloc
+    }
 }
 
 impl LineMachine for Node {

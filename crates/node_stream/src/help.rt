@@ -1,0 +1,33 @@
+//! What the program says of itself.
+
+pub const VERSION: &str = "fleet_node 1.0
+";
+
+pub const HELP: &str = "One storage segment that answers request lines
+
+Usage: fleet_node [--help | --version]
+
+Input, a line each, ended by LF; words stand between single spaces:
+  open R                an empty segment of R readers, 1 to 15, stands in place of the segment; at first R is 1
+  take HEX              a fact has come
+  front                 epoch, complete point and minimum read point
+  state                 what is stored, in numbers
+  read G Q OFF LEN      LEN bytes from OFF on of page G at point Q
+  next E N              the held record with the least key above epoch E and number N
+  ask                   the summary of the segment
+  answer HEX            what the segment has beyond a summary
+  absorb HEX HEX        a summary that was told here, and the delta that answers it
+  fold G                page G is brought to the anchor
+  discard, tidy         forget what is folded; fold all, and forget what is not needed
+  freeze NAME           a snapshot is kept until the next one
+  piece I               its piece I, from 0
+  stage NAME T          a staging for the T pieces of a snapshot
+  add HEX               a piece of it
+  finish                the segment of its pieces stands in place of the segment
+
+Each line is answered by one line, before the next one is looked at. A line that asks for nothing is answered bad line, bad hex or wire N,
+one of more than 67108864 bytes long line; memory says that there was no memory, and then nothing has changed.
+
+Statuses: 0 the input has ended, 2 a bad command line, 4 a device that failed, 5 no memory.
+The lines and their answers stand in docs/EMBEDDING.md, the bytes in docs/FORMATS.md.
+";

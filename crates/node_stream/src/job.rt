@@ -1,0 +1,35 @@
+//! The command line.
+
+ghost use Rattle.std.specs.Prelude.{◌≡◌, map};
+ghost use Rattle.node_stream.specs.CommandLine.{named as named_of, job_in};
+
+use std::convert::AsStr;
+
+/// What the command line asks for: answers to the lines of standard input, the help, or the version.
+#[derive(Clone, Copy, Debug, PartialEq, Eq)]
+pub enum Job {
+    Serve,
+    Help,
+    Version,
+}
+
+fn named(word: &str) -> Option<Job>
+    ensures { result ≡ named_of word.now }
+{
+    match word {
+        "--help" | "-h" => Some(Job::Help),
+        "--version" | "-V" => Some(Job::Version),
+        _ => None,
+    }
+}
+
+/// What the words of the command line ask for; the first word is the program's. None where they are bad.
+pub fn job_of<S: AsStr>(words: &[S]) -> Option<Job>
+    ensures { result ≡ job_in (map S.text words.now) }
+{
+    match words {
+        [_] => Some(Job::Serve),
+        [_, word] => named(word.as_str()),
+        _ => None,
+    }
+}

@@ -1,0 +1,8 @@
+//! What a stream of lines says of the replica's steps.
+ghost use Rattle.node_stream.specs.Running.{AnswersRun};
+
+/// The answers to lines are those of `Replica::step` on the requests of the lines, one after the other; so `replica::laws::runs_mean`
+/// says what the segment then means inside one sound log.
+pub fn answers_run()
+    ensures { AnswersRun }
+{}

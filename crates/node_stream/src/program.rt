@@ -1,0 +1,81 @@
+//! The program, over any runtime.
+
+use crate::ending::{status_of, words_of};
+use crate::help::{HELP, VERSION};
+use crate::job::{Job, job_of};
+use crate::node::Node;
+use crate::stream::serve;
+use line_stream::Watched;
+use redo_core::Roster;
+use std::alloc::AllocError;
+use std::process::ExitCode;
+use std::rt::Env;
+use std::{env, io};
+
+/// A bad command line.
+const BAD: u8 = 2;
+
+/// The output of the help failed.
+const DEVICE: u8 = 4;
+
+const MEMORY: u8 = 5;
+
+/// The most bytes of a line: enough for the digits of 8,000 pages.
+const LIMIT: usize = 67_108_864;
+
+/// The images of pages that the cache keeps at most.
+const PAGES: usize = 64;
+
+/// Says why on standard error, and gives the status.
+fn failed(rt: &impl Eprint, why: &str, status: u8) -> ExitCode {
+    let _ = rt.eprintln(format_args!("fleet_node: {why}"));
+    ExitCode::from(status)
+}
+
+/// Answers standard input on standard output.
+fn answer_input(rt: &(impl Input + Print + Eprint + AllocGlobal)) -> ExitCode {
+    let Ok(roster) = Roster::new(1) else {
+        return failed(rt, "out of memory", MEMORY);
+    };
+    let Ok(mut node) = Node::new(rt.alloc(), roster, PAGES) else {
+        return failed(rt, "out of memory", MEMORY);
+    };
+    let mut reader = Watched::new(rt.reader());
+    let mut writer = Watched::new(io::writer(rt));
+    let ended = serve(LIMIT, &mut node, &mut reader, &mut writer);
+    let words = words_of(ended);
+    if !words.is_empty() {
+        return failed(rt, words, status_of(ended));
+    }
+    ExitCode::from(status_of(ended))
+}
+
+fn say(rt: &(impl Print + Eprint), text: &str) -> ExitCode {
+    match print!(rt; "{text}") {
+        Ok(_) => ExitCode::SUCCESS,
+        Err(_) => failed(rt, "output failed", DEVICE),
+    }
+}
+
+/// What the program `fleet_node` does, by its command line: answers to the lines of standard input, or the help, or the version.
+///
+/// Statuses: 0 the input has ended, 2 a bad command line, 4 a device that failed, 5 no memory.
+pub fn run_program<R: Env + Input + Print + Eprint + AllocGlobal>(rt: &R) -> ExitCode {
+    let args = match env::args(rt) {
+        Ok(args) => args,
+        Err(error) if error.kind() == io::ErrorKind::OutOfMemory => {
+            return failed(rt, "out of memory", MEMORY);
+        }
+        Err(_) => return failed(rt, "bad command line", BAD),
+    };
+    let collected: Result<Vec<String>, AllocError> = args.collect(rt.alloc());
+    let Ok(words) = collected else {
+        return failed(rt, "out of memory", MEMORY);
+    };
+    match job_of(words.as_slice()) {
+        Some(Job::Serve) => answer_input(rt),
+        Some(Job::Help) => say(rt, HELP),
+        Some(Job::Version) => say(rt, VERSION),
+        None => failed(rt, "bad command line", BAD),
+    }
+}

@@ -1,0 +1,24 @@
+//! A replica behind a stream.
+
+ghost use Rattle.line_stream.specs.Served.{Serves};
+ghost use Rattle.node_stream.specs.Answering.{IsAnswer};
+
+use crate::node::Node;
+use line_stream::{RunFault, Watched};
+use std::io::{Read, Write};
+
+/// Answers the request lines of the reader until its input ends: each whole line by one line, which is written and flushed before the next
+/// line is looked at. A line of more than `limit` bytes without its LF is answered `long line`, and its bytes are not kept.
+///
+/// Errors: `Input` and `Output` only where that device failed; `Memory` after 2^64 - 1 reads. After `Output` the writer has a beginning
+/// of the answers, else all of them. Want of memory is no error: it is answered `memory`.
+pub fn serve<R: Read, W: Write>(
+    limit: usize,
+    node: &mut Node,
+    reader: &mut Watched<R>,
+    writer: &mut Watched<W>,
+) -> Result<(), RunFault>
+    ensures { Serves IsAnswer limit R.remaining W.contents node.old node.new reader.old reader.new writer.old writer.new result }
+{
+    line_stream::serve(node.allocator(), limit, node, reader, writer)
+}
