@@ -1,0 +1,9 @@
+//! The program `fleet_node`.
+#![tactic(auto)]
+
+use node_stream::run_program;
+use std::process::ExitCode;
+
+fn main(rt: HostRuntime) -> ExitCode {
+    run_program(&rt)
+}
