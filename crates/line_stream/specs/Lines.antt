@@ -23,8 +23,8 @@ glued piece [] = []
 glued piece (part ∷ parts) = (piece ++ part) ∷ parts
 
 -- the texts answer the first of the lines, and these are left
-pub record AnswersFirst {M : Type 0} (answers : M → List ℕ → List ℕ → M → Type 0) (limit : ℕ) (old : M) (lines texts : List (List ℕ)) (new : M)
-    (left : List (List ℕ)) : Type 0 where
+pub record AnswersFirst {M : Type 0} (answers : M → List ℕ → List ℕ → M → Type 0) (limit : ℕ) (old : M)
+    (lines texts : List (List ℕ)) (new : M) (left : List (List ℕ)) : Type 0 where
   pub done : List (List ℕ)
   pub all : lines ≡ done ++ left
   pub answered : AnswersLines answers limit old done texts new

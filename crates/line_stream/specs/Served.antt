@@ -13,20 +13,23 @@ use Rattle.line_stream.specs.declared.watched.Watched.{Watched}
 
 -- ---- a piece of the input
 -- All lines that end in the bytes are answered, behind a beginning of the first, and of the last line this much has come.
-pub record EndsWith {W M : Type 0} (answers : M → List ℕ → List ℕ → M → Type 0) (contents : W → Option (List ℕ)) (limit : ℕ) (begun bytes : List ℕ)
+pub record EndsWith {W M : Type 0} (answers : M → List ℕ → List ℕ → M → Type 0)
+    (contents : W → Option (List ℕ)) (limit : ℕ) (begun bytes : List ℕ)
     (old new : M) (writer writer' : Watched W) (rest : List ℕ) : Type 0 where
   pub texts : List (List ℕ)
   pub lines : AnswersFirst answers limit old (glued begun (parts_at 10 bytes)) texts new (rest ∷ [])
   pub written : Appends (contents (device_of writer)) (contents (device_of writer')) (concat texts)
 
 -- whatever has come of the first line
-abbrev pub EndsLines : {W M : Type 0} → (M → List ℕ → List ℕ → M → Type 0) → (W → Option (List ℕ)) → Pending → Pending → List ℕ → M → M → Watched W → Watched W → Type 0
+abbrev pub EndsLines : {W M : Type 0} → (M → List ℕ → List ℕ → M → Type 0) → (W → Option (List ℕ)) → Pending → Pending → List ℕ → M
+    → M → Watched W → Watched W → Type 0
 EndsLines answers contents pending pending' bytes old new writer writer' =
     (begun : List ℕ) → Holds pending begun
     → (rest : List ℕ) × Holds pending' rest × EndsWith answers contents (limit_of pending) begun bytes old new writer writer' rest
 
 -- Lines are answered up to one whose answer was not written, or not the whole of it.
-pub record IsCutOff {W M : Type 0} (answers : M → List ℕ → List ℕ → M → Type 0) (contents : W → Option (List ℕ)) (limit : ℕ) (lines : List (List ℕ))
+pub record IsCutOff {W M : Type 0} (answers : M → List ℕ → List ℕ → M → Type 0)
+    (contents : W → Option (List ℕ)) (limit : ℕ) (lines : List (List ℕ))
     (old new : M) (writer writer' : Watched W) : Type 0 where
   pub texts : List (List ℕ)
   pub left : List (List ℕ)
@@ -35,13 +38,16 @@ pub record IsCutOff {W M : Type 0} (answers : M → List ℕ → List ℕ → M 
   pub written : Appends (contents (device_of writer)) (contents (device_of writer')) (take count (concat texts))
   pub failed : has_failed writer' ≡ true
 
-abbrev pub BreaksOff : {W M : Type 0} → (M → List ℕ → List ℕ → M → Type 0) → (W → Option (List ℕ)) → Pending → List ℕ → M → M → Watched W → Watched W → Type 0
+abbrev pub BreaksOff : {W M : Type 0} → (M → List ℕ → List ℕ → M → Type 0) → (W → Option (List ℕ)) → Pending → List ℕ → M → M
+    → Watched W → Watched W → Type 0
 BreaksOff answers contents pending bytes old new writer writer' =
-    (begun : List ℕ) → Holds pending begun → IsCutOff answers contents (limit_of pending) (glued begun (parts_at 10 bytes)) old new writer writer'
+    (begun : List ℕ) → Holds pending begun
+        → IsCutOff answers contents (limit_of pending) (glued begun (parts_at 10 bytes)) old new writer writer'
 
 -- ---- the whole
 -- each line that ended in what was read is answered, and the answers are written
-abbrev pub IsAnswered : {W M : Type 0} → (M → List ℕ → List ℕ → M → Type 0) → (W → Option (List ℕ)) → ℕ → List ℕ → M → M → Watched W → Watched W → Type 0
+abbrev pub IsAnswered : {W M : Type 0} → (M → List ℕ → List ℕ → M → Type 0) → (W → Option (List ℕ)) → ℕ → List ℕ → M → M → Watched W
+    → Watched W → Type 0
 IsAnswered answers contents limit input old new writer writer' =
     (rest : List ℕ) × EndsWith answers contents limit [] input old new writer writer' rest
 
@@ -52,12 +58,14 @@ Ends answers limit remaining contents input old new reader' writer writer' (Ok u
     IsAtEnd (remaining (device_of reader')) × IsAnswered answers contents limit input old new writer writer'
 Ends answers limit remaining contents input old new reader' writer writer' (Err Input) =
     (has_failed reader' ≡ true) × IsAnswered answers contents limit input old new writer writer'
-Ends answers limit remaining contents input old new reader' writer writer' (Err Memory) = IsAnswered answers contents limit input old new writer writer'
+Ends answers limit remaining contents input old new reader' writer writer' (Err Memory) =
+    IsAnswered answers contents limit input old new writer writer'
 Ends answers limit remaining contents input old new reader' writer writer' (Err Output) =
     IsCutOff answers contents limit (parts_at 10 input) old new writer writer'
 
 -- A call that answers the lines of a reader on a writer. `remaining` and `contents` are what the devices tell of their bytes, if they do.
-pub record Serves {R W M : Type 0} (answers : M → List ℕ → List ℕ → M → Type 0) (limit : ℕ) (remaining : R → Option (List ℕ)) (contents : W → Option (List ℕ))
+pub record Serves {R W M : Type 0} (answers : M → List ℕ → List ℕ → M → Type 0) (limit : ℕ)
+    (remaining : R → Option (List ℕ)) (contents : W → Option (List ℕ))
     (old new : M) (reader reader' : Watched R) (writer writer' : Watched W) (result : Result (Unit {0}) RunFault) : Type 0 where
   -- what was read
   pub input : List ℕ

@@ -67,7 +67,8 @@ impl Pending {
 
     /// The line has ended: the machine answers it, unless it is too long or lost. The next line begins.
     pub fn answer<M: LineMachine>(&mut self, machine: &mut M) -> Answer
-        ensures answers { (line : List ℕ) → Holds self.old line → AnswersLine M.answers (limit_of self.old) machine.old line (text_of result) machine.new }
+        ensures answers { (line : List ℕ) → Holds self.old line →
+            AnswersLine M.answers (limit_of self.old) machine.old line (text_of result) machine.new }
         ensures holds { Holds self.new [] }
         ensures limit { limit_of self.new ≡ limit_of self.old }
     {

@@ -25,7 +25,8 @@ fn answer_bytes<M: LineMachine, W: Write>(
     bytes: &[u8],
     writer: &mut Watched<W>,
 ) -> Result<(), RunFault>
-    ensures ok { OnOk result (EndsLines M.answers W.contents pending.old pending.new bytes.now machine.old machine.new writer.old writer.new) }
+    ensures ok { OnOk result
+        (EndsLines M.answers W.contents pending.old pending.new bytes.now machine.old machine.new writer.old writer.new) }
     ensures err { OnErr result (BreaksOff M.answers W.contents pending.old bytes.now machine.old machine.new writer.old writer.new) }
     ensures errors { IfErr result (λ e. e ≡ RunFault.Output) }
     ensures limit { limit_of pending.new ≡ limit_of pending.old }

@@ -51,7 +51,8 @@ fn answer_fault(alloc: Global, fault: LineFault) -> Answer
 /// Answers a request line, which stands here without its LF, by a line: that of the reply where it asks something, else why it asks
 /// nothing, and then nothing has changed.
 ///
-/// The line `memory` stands for want of memory. Then, and where the reply is a refusal, nothing has changed but which images the cache keeps.
+/// The line `memory` stands for want of memory. Then, and where the reply is a refusal, nothing has changed but which images the cache
+/// keeps.
 pub fn answer_line(alloc: Global, replica: &mut Replica, line: &[u8]) -> Answer
     ensures { IsAnswer replica.old line.now (text_of result) replica.new }
 {

@@ -3,7 +3,8 @@
 ghost use Rattle.std.specs.Prelude.{◌≡◌, map, IfSome};
 ghost use Rattle.script_text.specs.Fields.{made_by};
 ghost use Rattle.node_stream.specs.Asking.{IsInside};
-ghost use Rattle.node_stream.specs.Reading.{word_of, open_form, read_form, fold_form, freeze_form, piece_form, stage_form, next_form, numbers_line};
+ghost use Rattle.node_stream.specs.Reading.{word_of, open_form, read_form, fold_form, freeze_form};
+ghost use Rattle.node_stream.specs.Reading.{piece_form, stage_form, next_form, numbers_line};
 
 use crate::asked::{Asked, Window};
 use redo_core::{MAX_NUMBER, MAX_READERS, Roster};

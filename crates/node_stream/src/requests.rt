@@ -2,7 +2,8 @@
 
 ghost use Rattle.std.specs.Prelude.{◌≡◌, ◌∷◌, [], map, IfOk, IfSome};
 ghost use Rattle.node_stream.specs.Asking.{IsInside};
-ghost use Rattle.node_stream.specs.Reading.{Gives, formed as formed_of, take_line, answer_line, add_line, absorb_line, field_line, fields_line, words_line, request_of};
+ghost use Rattle.node_stream.specs.Reading.{Gives, formed as formed_of, take_line, answer_line, add_line, absorb_line};
+ghost use Rattle.node_stream.specs.Reading.{field_line, fields_line, words_line, request_of};
 
 use crate::asked::Asked;
 use crate::faults::{LineError, LineFault};

@@ -2,7 +2,8 @@
 
 ghost use Rattle.std.specs.Prelude.{◌≡◌, ◌++◌, IfOk, codes, string_bytes};
 ghost use Rattle.line_stream.specs.AnswerText.{text_of};
-ghost use Rattle.node_stream.specs.Telling.{one_number, two_numbers, three_numbers, held_line, refusal_line, shown_line, status_start, status_end, fault_line};
+ghost use Rattle.node_stream.specs.Telling.{one_number, two_numbers, three_numbers, held_line, refusal_line, shown_line};
+ghost use Rattle.node_stream.specs.Telling.{status_start, status_end, fault_line};
 
 use crate::faults::LineFault;
 use epoch_book::Held;
