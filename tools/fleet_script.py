@@ -1,5 +1,5 @@
 #!/usr/bin/env python3
-"""Tests the script `fleet` in a folder of its own, with a stand-in for `rt` that builds a stand-in for the program.
+"""Tests the scripts `fleet` and `fleet-node` in a folder of its own, with a stand-in for `rt` that builds a stand-in for the program.
 
 Prints a line for each test, and ends in 'N passed, M failed'.
 """
@@ -24,8 +24,8 @@ echo 'checked low::first, 3 of 7'
 sleep "${RT_SLEEPS:-0}"
 [ -z "$RT_FAILS" ] || { echo 'fn low::first: proved'; echo 'fn low::second: not proved'; exit 1; }
 mkdir -p out
-printf '%s' "$PROGRAM" > out/fleet
-chmod +x out/fleet
+printf '%s' "$PROGRAM" > "out/${PWD##*/}"
+chmod +x "out/${PWD##*/}"
 """
 
 NEEDED = ("sh", "readlink", "dirname", "find", "head")  # what the script calls before it looks for rt
@@ -51,9 +51,11 @@ class Tree:
         (self.top / "crates/fleet").mkdir(parents=True)
         self.tools.mkdir()
         (self.top / "docs").mkdir()
-        (self.top / "crates.txt").write_text("# the floors\nlow: bytes\nother: low\nfleet: low\n")
+        (self.top / "crates/fleet_node").mkdir()
+        (self.top / "crates.txt").write_text("# the floors\nlow: bytes\nother: low\nfleet: low\nfleet_node: low other\n")
         shutil.copytree(ROOT / "docs/help", self.top / "docs/help")
-        shutil.copy(ROOT / "fleet", self.top / "fleet")
+        for script in ("fleet", "fleet-node"):
+            shutil.copy(ROOT / script, self.top / script)
         rt = self.tools / "rt"
         rt.write_text(RT)
         rt.chmod(0o755)
@@ -90,6 +92,18 @@ def follows_links(tree):
     expect("a call by a link", tree.run(link), (7, ANSWER, ONCE))
     link.unlink()
     expect("a call under CDPATH", tree.run(CDPATH=f"{tree.top}:/"), (7, ANSWER, b""))
+
+
+def runs_the_node(tree):
+    """The other script builds and runs its own program, also by a link."""
+    node, once = tree.top / "fleet-node", b"fleet-node: building and proving 3 crates first, which takes minutes\n"
+    link = tree.tools / "linked"
+    link.symlink_to(node)
+    expect("the first call", tree.run(node), (7, ANSWER, once))
+    expect("a call by a link", tree.run(link), (7, ANSWER, b""))
+    expect("a task of fleet", tree.run(node, ["run", "--help"]), (7, b"words: run --help\ngiven\n", b""))
+    expect("the program of fleet", (tree.top / "crates/fleet/out").exists(), False)
+    link.unlink()
 
 
 def helps_before_it_is_built(tree):
@@ -149,6 +163,7 @@ def leaves_nothing_when_interrupted(tree):
 TESTS = (
     builds_once,
     follows_links,
+    runs_the_node,
     helps_before_it_is_built,
     misses_the_toolchain,
     shows_faults_alone,

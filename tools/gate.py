@@ -1,7 +1,7 @@
 #!/usr/bin/env python3
 """The gate: `rt ci` over a copy of the tree in which the must-fail edits stand aside, then the edits that are due, many in a check
-(`wrong_bodies.py`), then the program that `rt ci` built, from outside, what hostile texts cost it, rows with allocations refused, the
-tools' own tests, the script `fleet` and the documents. The last line counts all.
+(`wrong_bodies.py`), then the programs that `rt ci` built, from outside, what hostile texts cost, rows with allocations refused, the
+tools' own tests, the scripts `fleet` and `fleet-node` and the documents. The last line counts all.
 
 `rt ci` at the top of the repository tries each edit by itself: that is the whole, for a new toolchain and before a release.
 With --record the sums of the crates whose edits were all refused are written into tools/tried.txt. With --all each edit is due.
@@ -18,6 +18,7 @@ import tempfile
 import documents
 import fleet_script
 import gate_time
+import node_outside
 import outside
 import refused_rows
 import waiting_model
@@ -71,7 +72,7 @@ def judged(room, given):
     is_well, (passed, failed) = counted(["rt", "ci"], room)
     if not is_well:
         return False, (passed, max(failed, 1))
-    for program in (outside.PROGRAM, BY_RATTLE, *map(refused_rows.built, refused_rows.PROGRAMS)):
+    for program in (outside.PROGRAM, BY_RATTLE, node_outside.PROGRAM, *map(refused_rows.built, refused_rows.PROGRAMS)):
         made = room / program.relative_to(outside.ROOT)
         if made.exists():
             program.parent.mkdir(parents=True, exist_ok=True)
@@ -102,7 +103,7 @@ def main():
         programs.append(BY_RATTLE)
     else:
         print(f"{BY_RATTLE.name} is not there: Rattle's own compiler built no program, and what it would build is not tested")
-    tests = (refused_rows.tests, wrong_bodies_tests.tests, waiting_model.tests, fleet_script.tests, documents.documents)
+    tests = (node_outside.tests, refused_rows.tests, wrong_bodies_tests.tests, waiting_model.tests, fleet_script.tests, documents.documents)
     for more_passed, more_failed in (*map(outside.outside, programs), hostile.judged(programs[0]), *(test() for test in tests)):
         passed, failed = passed + more_passed, failed + more_failed
     print(f"{passed} passed, {failed} failed")

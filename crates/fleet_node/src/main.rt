@@ -1,4 +1,4 @@
-//! The program `fleet_node`.
+//! The program `fleet-node`.
 #![tactic(auto)]
 
 use node_stream::run_program;

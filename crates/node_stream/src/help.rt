@@ -1,11 +1,11 @@
 //! What the program says of itself.
 
-pub const VERSION: &str = "fleet_node 1.0
+pub const VERSION: &str = "fleet-node 1.0
 ";
 
 pub const HELP: &str = "One storage segment that answers request lines
 
-Usage: fleet_node [--help | --version]
+Usage: fleet-node [--help | --version]
 
 Input, a line each, ended by LF; words stand between single spaces:
   open R                an empty segment of R readers, 1 to 15, stands in place of the segment; at first R is 1

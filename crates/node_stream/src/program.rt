@@ -28,7 +28,7 @@ const PAGES: usize = 64;
 
 /// Says why on standard error, and gives the status.
 fn failed(rt: &impl Eprint, why: &str, status: u8) -> ExitCode {
-    let _ = rt.eprintln(format_args!("fleet_node: {why}"));
+    let _ = rt.eprintln(format_args!("fleet-node: {why}"));
     ExitCode::from(status)
 }
 
@@ -57,7 +57,7 @@ fn say(rt: &(impl Print + Eprint), text: &str) -> ExitCode {
     }
 }
 
-/// What the program `fleet_node` does, by its command line: answers to the lines of standard input, or the help, or the version.
+/// What the program `fleet-node` does, by its command line: answers to the lines of standard input, or the help, or the version.
 ///
 /// Statuses: 0 the input has ended, 2 a bad command line, 4 a device that failed, 5 no memory.
 pub fn run_program<R: Env + Input + Print + Eprint + AllocGlobal>(rt: &R) -> ExitCode {

@@ -1,0 +1,167 @@
+#!/usr/bin/env python3
+"""Compares nodes behind lines with the oracle: the random scripts of nodes that gossip, each node a process of `fleet-node`.
+
+Each step becomes a request line of its node, and its answer line is to say what the oracle replies; a message is what `ask` or
+`answer` told. A node may be brought back from its snapshot between two steps, which changes no answer. Stops at the first difference,
+prints the script, and ends with status 1.
+"""
+
+import argparse
+import pathlib
+import random
+import subprocess
+import sys
+
+import oracle
+import scripts
+from rules import Advance, Cut, Fill
+
+PROGRAM = pathlib.Path(__file__).resolve().parent.parent / "crates/fleet_node/out/fleet_node"
+NODES = 8  # the most that a script of gossip has
+LEFT_OUT = ("same", "covers", "join")  # no line asks for these
+FREEZE_EACH = 50  # of so many steps one is behind a freeze and a restart
+
+
+# Facts as bytes
+
+
+def fields(*numbers):
+    """Numbers, each with how many bytes it takes, one behind the other."""
+    return b"".join(value.to_bytes(size, "big") for value, size in numbers)
+
+
+def patch_bytes(patch, has_kind):
+    place = fields((patch.offset, 2), (patch.length(), 2))
+    if isinstance(patch, Fill):
+        return b"\1" + place + bytes([patch.byte])
+    return b"\0" * has_kind + place + patch.data
+
+
+def record_bytes(record):
+    plain = record.is_plain()
+    links = (record.epoch, 2), (record.number, 6), (record.back, 6), (record.page, 2), (record.block_back, 6)
+    head = fields((1 if plain else 6, 1), *links) + (b"" if plain else bytes([record.init]))
+    return head + bytes([len(record.patches)]) + b"".join(patch_bytes(it, not plain) for it in record.patches)
+
+
+def fact_bytes(fact):
+    if isinstance(fact, Cut):
+        return fields((2, 1), (fact.epoch, 2), (fact.lo, 6), (fact.hi, 6))
+    if isinstance(fact, Advance):
+        if fact.reader == 1:
+            return fields((3, 1), (fact.epoch, 2), (fact.point, 6))
+        return fields((5, 1), (fact.epoch, 2), (fact.reader, 1), (fact.point, 6))
+    return record_bytes(fact)
+
+
+# Nodes
+
+
+class Node:
+    """A process that answers lines."""
+
+    def __init__(self, program):
+        self.process = subprocess.Popen([program], stdin=subprocess.PIPE, stdout=subprocess.PIPE)
+
+    def ask(self, *words):
+        self.process.stdin.write(" ".join(map(str, words)).encode() + b"\n")
+        self.process.stdin.flush()
+        answer = self.process.stdout.readline().decode()
+        return answer.removesuffix("\n") if answer.endswith("\n") else f"{answer} and an end"
+
+    def restart(self, name):
+        """Has the node take a snapshot and put itself together from the pieces, which come in another order."""
+        total = int(self.ask("freeze", name).split()[1])
+        pieces = [self.ask("piece", index).split()[1] for index in range(total)]
+        told = [self.ask("open", 15), self.ask("stage", name, total), *(self.ask("add", it) for it in reversed(pieces)), self.ask("finish")]
+        return told == ["opened", "staged", *["added"] * total, "restored"]
+
+    def close(self):
+        """The status, and what it wrote that nobody asked for."""
+        self.process.stdin.close()
+        left = self.process.stdout.read()
+        self.process.stdout.close()
+        return self.process.wait(10), left
+
+
+class Run:
+    """One script: what the oracle's fleet replies to each step, and what the nodes answer."""
+
+    def __init__(self, nodes, text):
+        self.reader = oracle.ScriptReader()
+        oracle.bad_line(text, self.reader.line)
+        self.nodes, self.facts = nodes, self.reader.facts
+        self.fleet = oracle.Fleet(self.reader.roster, self.facts, self.reader.nodes)
+        self.messages = []  # of each: the words that stand for it in a line
+        for node in nodes[: self.reader.nodes]:
+            node.ask("open", self.reader.roster)
+
+    def told(self, kind, node, values):
+        """What the node answers to a step, in the oracle's words; a message that it makes is kept."""
+        if kind == "take":
+            return node.ask("take", fact_bytes(self.facts[values[0] - 1]).hex())
+        if kind == "ask":
+            return self.sent("summary", node.ask("ask"))
+        if kind == "answer":
+            return self.sent("delta", node.ask("answer", *self.messages[values[0] - 1]), *self.messages[values[0] - 1])
+        if kind == "absorb":
+            return node.ask("absorb", *self.messages[values[0] - 1])
+        if kind == "wipe":
+            return "wiped" if node.ask("open", self.reader.roster) == "opened" else "no wipe"
+        if kind == "read" and values[3] == 0:
+            return None
+        return node.ask(kind, *values)
+
+    def sent(self, kind, answer, *before):
+        word, _, digits = answer.partition(" ")
+        self.messages.append((*before, digits))
+        return f"message {len(self.messages)}" if word == kind else answer
+
+    def difference(self, choose):
+        """How many steps were compared, and the first difference in words, or nothing."""
+        compared = 0
+        for step in self.reader.steps:
+            kind, number, *values = step
+            if kind in LEFT_OUT:
+                continue
+            wanted = self.fleet.step(step)
+            if wanted.startswith("no "):
+                continue
+            node = self.nodes[number - 1]
+            if choose.randrange(FREEZE_EACH) == 0 and not node.restart(compared):
+                return compared, f"node {number} is not restored before {step}"
+            answer = self.told(kind, node, values)
+            if answer is not None and answer != wanted:
+                return compared, f"{step}: {answer!r} in place of {wanted!r}"
+            compared += 1
+        return compared, ""
+
+
+def compare(program, rounds, seed):
+    """How many steps of so many scripts agree, and the first difference in words, or nothing."""
+    nodes = [Node(program) for _ in range(NODES)]
+    steps = 0
+    for place in range(rounds):
+        choose = random.Random(f"{seed} {place}")
+        _, text = scripts.input_of_gossip(choose)
+        compared, differs = Run(nodes, text).difference(choose)
+        steps += compared
+        if differs:
+            return steps, f"round {place}, {differs}\n{text}"
+    ends = [node.close() for node in nodes]
+    return steps, "" if ends == [(0, b"")] * NODES else f"the nodes ended so: {ends}"
+
+
+def main():
+    parser = argparse.ArgumentParser(description=__doc__, formatter_class=argparse.RawDescriptionHelpFormatter)
+    parser.add_argument("--rounds", type=int, default=1000, help="how many scripts")
+    parser.add_argument("--seed", type=int, default=1, help="of the random scripts")
+    parser.add_argument("--program", type=pathlib.Path, default=PROGRAM, help="the built program")
+    given = parser.parse_args()
+    steps, differs = compare(given.program, given.rounds, given.seed)
+    print(differs or f"{given.rounds} scripts agree, of {steps} steps")
+    sys.exit(1 if differs else 0)
+
+
+if __name__ == "__main__":
+    main()
