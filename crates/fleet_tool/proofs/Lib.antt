@@ -1,5 +1,4 @@
 pub mod Captures
-pub mod Devices
 pub mod Steps
 pub mod Outputs
 pub mod OneText

@@ -2,7 +2,6 @@ pub mod Lines
 pub mod ScriptSteps
 pub mod Inspect
 pub mod Output
-pub mod Watching
 pub mod OneOutput
 pub mod TextCall
 pub mod Ending

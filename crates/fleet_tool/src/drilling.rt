@@ -2,12 +2,10 @@
 
 ghost use Rattle.std.specs.Prelude.{◌≡◌, ◌<◌, ◌≤◌, ℕ, List, true, false, take, IsErrOf, OnOk};
 ghost use Rattle.std.specs.Io.KnownBytes.{Appends};
-ghost use Rattle.fleet_tool.specs.Watching.{device_of, has_failed};
+ghost use Rattle.line_stream.specs.Watching.{device_of, has_failed};
 
-use crate::device::write_all;
-use crate::fault::RunFault;
-use crate::watched::Watched;
 use fleet_drill::{MAX_NODES, MAX_WORKERS, Size, drill};
+use line_stream::{RunFault, Watched, write_all};
 use std::alloc::Global;
 use std::io::Write;
 use std::sync::Wait;

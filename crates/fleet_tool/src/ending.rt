@@ -4,7 +4,7 @@ ghost use Rattle.std.specs.Prelude.{◌≡◌};
 ghost use Rattle.fleet_tool.specs.Ending.{status_of, words_of};
 
 use crate::answer::Verdict;
-use crate::fault::RunFault;
+use line_stream::RunFault;
 
 /// The status of what a text call returned: 0 done, 2 a bad line, 3 a log that is not sound, 4 a device that failed,
 /// 5 no memory.

@@ -10,11 +10,9 @@
 #![tactic(auto)]
 
 mod answer;
-mod device;
 mod drill_line;
 mod drilling;
 mod ending;
-mod fault;
 mod help;
 mod inspect;
 mod job;
@@ -24,14 +22,12 @@ mod named;
 mod program;
 mod run;
 mod script_steps;
-mod watched;
 
 pub use answer::Verdict;
 pub use drill_line::DrillTask;
 pub use drilling::drill_text;
-pub use fault::RunFault;
 pub use fleet_drill::Size;
 pub use job::{LineFault, Task, TextTask, job_of};
+pub use line_stream::{RunFault, Watched};
 pub use program::run_program;
 pub use run::{check_text, inspect_text, run_text};
-pub use watched::Watched;

@@ -4,13 +4,11 @@ ghost use Rattle.std.specs.Prelude.{◌≡◌, false};
 ghost use Rattle.fleet_tool.specs.Inspect.{inspected};
 ghost use Rattle.fleet_tool.specs.Output.{IsOutputOf};
 ghost use Rattle.fleet_tool.specs.TextCall.{IsTextCall};
-ghost use Rattle.fleet_tool.specs.Watching.{has_failed};
+ghost use Rattle.line_stream.specs.Watching.{has_failed};
 
 use crate::answer::{Verdict, answer};
-use crate::device::{read_all, write_all};
-use crate::fault::RunFault;
 use crate::job::TextTask;
-use crate::watched::Watched;
+use line_stream::{RunFault, Watched, read_all, write_all};
 use std::alloc::Global;
 use std::io::{Read, Write};
 

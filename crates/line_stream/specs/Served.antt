@@ -42,7 +42,7 @@ abbrev pub BreaksOff : {W M : Type 0} → (M → List ℕ → List ℕ → M →
     → Watched W → Watched W → Type 0
 BreaksOff answers contents pending bytes old new writer writer' =
     (begun : List ℕ) → Holds pending begun
-        → IsCutOff answers contents (limit_of pending) (glued begun (parts_at 10 bytes)) old new writer writer'
+    → IsCutOff answers contents (limit_of pending) (glued begun (parts_at 10 bytes)) old new writer writer'
 
 -- ---- the whole
 -- each line that ended in what was read is answered, and the answers are written
