@@ -111,15 +111,44 @@ def comparisons_of_fills(size):
     return script(facts, 2, *taken(facts, 1), *taken(facts, 2), *["same 1 2"] * TURNS)
 
 
-def falling_truncations(size):
-    """Facts from the last to the first: each epoch has a record that stays and one that its truncation annuls."""
+def crashes(size):
+    """Epochs one after another: each has a record that stays, one that its truncation annuls, and that truncation."""
     facts = []
     for epoch in range(size):
         number = 2 * epoch + 1
         before = max(number - 2, 0)
         facts += [f"rec {epoch} {number} {before} 0 {before} -", f"rec {epoch} {number + 1} {number} 0 {number} -"]
         facts.append(f"cut {epoch + 1} {number} {number + 1}")
+    return facts
+
+
+def falling_truncations(size):
+    """The facts of many crashes, from the last to the first."""
+    facts = crashes(size)
     return script(facts, 1, *measure.takes(range(len(facts), 0, -1)))
+
+
+def joins_of_falling(size):
+    """Two nodes that have every other fact of many crashes, from the last to the first, joined with each other and with a third."""
+    facts = crashes(size)
+    count = len(facts)
+    halves = [*measure.takes(range(count, 0, -2), 1), *measure.takes(range(count - 1, 0, -2), 2)]
+    return script(facts, 3, *halves, *["wipe 3", "join 3 1", "join 3 2"] * TURNS)
+
+
+def deep_waits(size):
+    """All of many crashes waits for the first truncation, which comes last, at a node and by a message that is absorbed late."""
+    facts = crashes(size)
+    first = facts.index("cut 1 1 2") + 1
+    others = [place for place in range(len(facts), 0, -1) if place != first]
+    asked = ["ask 2", "answer 1 1", "absorb 2 2", "take 1 %d" % first, "take 2 %d" % first]
+    return script(facts, 2, *measure.takes(others), *asked, *["wipe 2", "absorb 2 2"] * TURNS)
+
+
+def late_mail(size):
+    """The answer to a node that had nothing, absorbed again and again by one that has it all."""
+    facts = [f"rec 0 {number} {number - 1} {number % 100} {max(number - 100, 0)} -" for number in range(1, size + 1)]
+    return script(facts, 2, *taken(facts), "ask 2", "answer 1 1", *["absorb 2 2"] * TURNS, *["absorb 1 2"] * TURNS)
 
 
 def discards_over_images(size):
@@ -140,6 +169,9 @@ TASKS = {it.__name__: it for it in (
     comparisons,
     comparisons_of_fills,
     falling_truncations,
+    joins_of_falling,
+    deep_waits,
+    late_mail,
     discards_over_images,
 )}
 
