@@ -181,7 +181,6 @@ MOST = 1.2
 # What may grow faster, and why.
 SLOWER = {
     "answers_again": (2.1, "each answer lists all its pages"),
-    "discards_over_images": (2.1, "each discard looks at every image"),
 }
 IDLE = ["go", "nodes 1"]
 
