@@ -58,10 +58,11 @@ def fact_bytes(fact):
 
 
 class Node:
-    """A process that answers lines."""
+    """A process that answers lines. One with settings of its own, which may well end early, says nothing on standard error."""
 
-    def __init__(self, program):
-        self.process = subprocess.Popen([program], stdin=subprocess.PIPE, stdout=subprocess.PIPE)
+    def __init__(self, program, settings=None):
+        said = None if settings is None else subprocess.DEVNULL
+        self.process = subprocess.Popen([program], stdin=subprocess.PIPE, stdout=subprocess.PIPE, stderr=said, env=settings)
 
     def ask(self, *words):
         self.process.stdin.write(" ".join(map(str, words)).encode() + b"\n")

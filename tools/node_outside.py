@@ -5,6 +5,7 @@ words on standard error are, what it answers where memory is refused, random scr
 """
 
 import argparse
+import contextlib
 import os
 import pathlib
 import subprocess
@@ -12,7 +13,7 @@ import sys
 import tempfile
 
 import compare_nodes
-from outside import Failed, answer, expect, unread_pipe
+from outside import SECONDS, Failed, answer, expect, unread_pipe
 
 ROOT = pathlib.Path(__file__).resolve().parent.parent
 sys.path.insert(0, str(ROOT / "tools/fail_alloc"))
@@ -76,29 +77,53 @@ def statuses(program):
     return "0, 2 and 4"
 
 
-def is_good(seen, ample):
-    """Whether a run with an allocation refused ended for want of memory, or answered each line, at least one of them by `memory`, or
-    as with ample memory."""
-    status, output, said = seen
-    if (status, said) == (5, b"fleet-node: out of memory\n"):
-        return True
-    lines, wanted = output.splitlines(), ample[1].splitlines()
-    return (status, said, len(lines)) == (0, b"", len(wanted)) and (lines == wanted or b"memory" in lines)
+def asked(node, line):
+    """What a line is answered, asked once more where memory was wanting, and whether it was."""
+    told = node.ask(line)
+    return (node.ask(line), True) if told == "memory" else (told, False)
+
+
+def ended_at_once(node):
+    """The status of a node that ended before it answered anything."""
+    with contextlib.suppress(BrokenPipeError):
+        return node.close()[0]
+    return node.process.wait(SECONDS)
+
+
+def told_with_refusal(program, settings, lines):
+    """How many lines were answered `memory`, each only once, where all were answered in the end as with ample memory; None for a node
+    that ended at once for want of memory."""
+    node, refused = compare_nodes.Node(program, settings), 0
+    for line, wanted in lines:
+        try:
+            told, lacked = asked(node, line)
+        except BrokenPipeError:
+            told, lacked = " and an end", False
+        if told == " and an end" and line == lines[0][0]:
+            expect("the status of a node without memory", ended_at_once(node), 5)
+            return None
+        expect(f"the answer to {line[:80]}", told, wanted)
+        refused += lacked
+    expect("the end", node.close(), (0, b""))
+    return refused
 
 
 def refused_allocations(program):
+    """Each allocation refused in turn. A line that lacked memory is asked once more, and then has the answer of ample memory: so
+    nothing had changed."""
+    rows = ROOT / "crates/fleet_node"
+    text = (rows / "stdin").read_bytes()
+    lines = list(zip(text.decode().split("\n")[:-1], (rows / "stdout").read_text().splitlines()))
     with tempfile.TemporaryDirectory() as folder:
         shim = sweep.build_shim(folder)
-        total, _, _, ample = sweep.counted([program], TEXT, shim)
-        expect("the ample answer", ample, (0, ANSWERS, b""))
-        report = shim.with_name("refusing")
-        seen = {n: sweep.run([program], TEXT, shim, report, allocation=n) for n in range(1, total + 1, max(1, total // MOST))}
-    bad = [n for n, it in seen.items() if not is_good(it, ample)]
-    if bad:
-        raise Failed(f"allocation {bad[0]} refused: {seen[bad[0]]!r}")
-    ended = sum(it[0] == 5 for it in seen.values())
-    told = sum(b"memory" in it[1].splitlines() for it in seen.values())
-    return f"{len(seen)} of {total}: {ended} ended the program, {told} were answered by `memory`"
+        total, *_ = sweep.counted([program], text, shim)
+        kept = {**os.environ, "LD_PRELOAD": str(shim), "FAIL_START": "0", "FAIL_ALLOC_REPORT": str(shim.with_name("refusing"))}
+        refused = range(1, total + 1, max(1, total // MOST))
+        told = [told_with_refusal(program, {**kept, "FAIL_ALLOC": str(n)}, lines) for n in refused]
+    lacking = sum(it is not None and it > 0 for it in told)
+    if not lacking:
+        raise Failed("no line lacked memory")
+    return f"{len(told)} of {total}: {told.count(None)} nodes ended at once, {lacking} lacked memory for a line"
 
 
 def random_scripts(program, rounds, seed):
