@@ -1,5 +1,5 @@
 -- Lines of values that may have no spelling.
-use Rattle.std.proofs.Common.{◌≡◌, ℕ, Bool, true, false, List, ◌++◌, Result, Ok, Err, refl, sym}
+use Rattle.std.proofs.Common.{◌≡◌, ℕ, Bool, true, false, List, ◌++◌, refl}
 use Rattle.std.specs.Prelude.{codes}
 use Rattle.node_stream.specs.Telling.{value_line, bytes_line}
 

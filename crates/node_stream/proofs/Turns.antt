@@ -1,5 +1,5 @@
 -- A stream of lines makes turns of the replica.
-use Rattle.std.proofs.Common.{◌≡◌, ℕ, ◌<◌, ◌≤◌, ◌⊎◌, List, [], ◌∷◌, length, Result, Ok, Err, inl, inr, refl, sym, subst}
+use Rattle.std.proofs.Common.{◌≡◌, ℕ, ◌⊎◌, List, [], ◌∷◌, Result, Ok, Err, inl, inr, refl, subst}
 use Rattle.std.specs.Prelude.{codes}
 use Rattle.redo_core.specs.declared.facts.Fact.{Fact}
 use Rattle.line_stream.specs.Lines.{AnswersLine, AnswersLines}

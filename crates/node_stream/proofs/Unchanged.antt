@@ -1,5 +1,5 @@
 -- A reply whose line takes memory comes of a request that has changed nothing.
-use Rattle.std.proofs.Common.{◌≡◌, ℕ, ◌⊎◌, Bool, true, false, List, Option, Some, None, Result, Ok, Err, inl, inr, refl, ap, sym, ◌∙◌}
+use Rattle.std.proofs.Common.{◌≡◌, ℕ, Bool, true, false, Option, Some, None, Result, Ok, Err, inl, inr, refl, ap, ◌∙◌}
 use Rattle.redo_core.specs.declared.facts.Fact.{Fact}
 use Rattle.redo_core.specs.declared.refusal.Refused.{Refused}
 use Rattle.redo_wire.specs.Pieces.{PieceData}
@@ -23,7 +23,7 @@ use Rattle.read_cache.specs.Cached.{Cached}
 use Rattle.replica.specs.AtSegment.{CommitsPlan, Opens}
 use Rattle.replica.specs.Hydrating.{FreezesAs, AddsTo, StandsFor, Finishes}
 use Rattle.replica.specs.Machine.{IsReply}
-use Rattle.replica.specs.Parts.{ReplicaData, IsUnchanged, SameBeside}
+use Rattle.replica.specs.Parts.{ReplicaData, IsUnchanged}
 use Rattle.replica.specs.Refused.{IsRefusal}
 use Rattle.replica.specs.Replying.{refusal_reply, taken_reply, fault_reply, tidied_reply, absorbed_reply, unadded_reply, unfinished_reply}
 use Rattle.replica.specs.declared.requests.Request.{Request}

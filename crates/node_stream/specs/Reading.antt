@@ -11,7 +11,6 @@ use Rattle.redo_wire.specs.SummaryReading.{decoded_summary}
 use Rattle.redo_wire.specs.DeltaReading.{decoded_delta}
 use Rattle.redo_wire.specs.PieceReading.{decoded_piece}
 use Rattle.redo_wire.specs.declared.faults.WireFault.{WireFault}
-use Rattle.replica.specs.declared.requests.Request.{Request}
 use Rattle.replica.specs.declared.requests.Request.TheVariants as request
 use Rattle.script_text.specs.Parts.{parts_at}
 use Rattle.script_text.specs.FactLine.{decoded}

@@ -1,5 +1,5 @@
 -- Room for an answer.
-use Rattle.std.specs.Prelude.{◌≡◌, ℕ, ◌+◌, ◌≤◌, codes, String, string_bytes, string_len, string_capacity}
+use Rattle.std.specs.Prelude.{◌≡◌, ◌+◌, ◌≤◌, codes, String, string_bytes, string_len, string_capacity}
 
 -- the word, and room for ten digits and an LF behind it
 pub record HasRoom {Z : Type 0} (room : String Z) : Type 0 where

@@ -1,8 +1,7 @@
 -- The line that answers a reply.
-use Rattle.std.specs.Prelude.{◌≡◌, ℕ, Bool, List, [], ◌∷◌, ◌++◌, take, drop, codes, if◌then◌else◌}
+use Rattle.std.specs.Prelude.{ℕ, Bool, List, ◌++◌, take, drop, codes, if◌then◌else◌}
 use Rattle.std.specs.Fmt.{decimal}
 use Rattle.hex.specs.Hex.{encode_lower}
-use Rattle.redo_core.specs.Data.{CutData, AdvanceData}
 use Rattle.redo_wire.specs.Faults.{fault_number}
 use Rattle.redo_wire.specs.Facts.{fact_bytes}
 use Rattle.redo_wire.specs.Summaries.{summary_bytes, is_long_summary}
