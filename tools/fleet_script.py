@@ -151,7 +151,14 @@ def tells_a_terminal(tree):
 
 
 def leaves_nothing_when_interrupted(tree):
-    child = subprocess.Popen([tree.top / "fleet", "run"], stdin=subprocess.DEVNULL, stderr=subprocess.PIPE, env=tree.settings(RT_SLEEPS="30"))
+    """Also where these tests run in the background, where a shell has interrupts ignored by all that it starts."""
+    child = subprocess.Popen(
+        [tree.top / "fleet", "run"],
+        stdin=subprocess.DEVNULL,
+        stderr=subprocess.PIPE,
+        env=tree.settings(RT_SLEEPS="30"),
+        preexec_fn=lambda: signal.signal(signal.SIGINT, signal.SIG_DFL),
+    )
     child.stderr.readline()
     time.sleep(0.3)
     child.send_signal(signal.SIGINT)
