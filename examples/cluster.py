@@ -283,6 +283,8 @@ def main():
     parser.add_argument("--program", default=str(ROOT / "fleet-node"), help="what answers request lines")
     parser.add_argument("--seed", type=int, default=1, help="which run")
     given = parser.parse_args()
+    if subprocess.run([given.program, "--version"], stdout=subprocess.DEVNULL).returncode != 0:
+        sys.exit(f"{given.program} does not run")
     with tempfile.TemporaryDirectory() as folder:
         sys.exit(0 if show(Cluster([given.program], pathlib.Path(folder), given.seed)) else 1)
 

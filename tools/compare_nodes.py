@@ -9,6 +9,7 @@ prints the script, and ends with status 1.
 import argparse
 import pathlib
 import random
+import select
 import subprocess
 import sys
 
@@ -20,6 +21,7 @@ PROGRAM = pathlib.Path(__file__).resolve().parent.parent / "crates/fleet_node/ou
 NODES = 8  # the most that a script of gossip has
 LEFT_OUT = ("same", "covers", "join")  # no line asks for these
 FREEZE_EACH = 50  # of so many steps one is behind a freeze and a restart
+SECONDS = 60  # until a line counts as not answered
 
 
 # Facts as bytes
@@ -67,6 +69,9 @@ class Node:
     def ask(self, *words):
         self.process.stdin.write(" ".join(map(str, words)).encode() + b"\n")
         self.process.stdin.flush()
+        if not select.select([self.process.stdout], [], [], SECONDS)[0]:
+            self.process.kill()
+            return "no answer"
         answer = self.process.stdout.readline().decode()
         return answer.removesuffix("\n") if answer.endswith("\n") else f"{answer} and an end"
 

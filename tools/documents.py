@@ -115,10 +115,20 @@ def kit_is_named():
         yield "the README does not name its logic"
 
 
+def counts_hold():
+    """The README tells how many crates and how many wrong bodies there are."""
+    text = (ROOT / "README.md").read_text()
+    wrong_bodies = len(list(ROOT.glob("crates/*/must-fail/*.edit")))
+    crates = len(re.findall(r"(?m)^[a-z_0-9]+[^#\n]*:", (ROOT / "crates.txt").read_text()))
+    for words in (f"in {crates} crates", f"{wrong_bodies} wrong bodies", f"{wrong_bodies} such wrong bodies"):
+        if words not in text:
+            yield f"the README does not say '{words}'"
+
+
 def documents():
     """How many tests passed, and how many failed."""
     passed = failed = 0
-    for test in (map_tells_the_crates, files_are_there, pictures_are_made, kit_is_named):
+    for test in (map_tells_the_crates, files_are_there, pictures_are_made, kit_is_named, counts_hold):
         faults = list(test())
         for fault in faults:
             print(f"documents: {fault}")

@@ -99,6 +99,8 @@ def runs_the_node(tree):
     node, once = tree.top / "fleet-node", b"fleet-node: building and proving 3 crates first, which takes minutes\n"
     link = tree.tools / "linked"
     link.symlink_to(node)
+    kept = (tree.top / "docs/help/fleet_node.txt").read_bytes()
+    expect("the help", tree.run(node, ["--help"]), (0, kept, b""))
     expect("the first call", tree.run(node), (7, ANSWER, once))
     expect("a call by a link", tree.run(link), (7, ANSWER, b""))
     expect("a task of fleet", tree.run(node, ["run", "--help"]), (7, b"words: run --help\ngiven\n", b""))
