@@ -29,6 +29,7 @@ use Rattle.fleet_core.specs.declared.replies.Reply.{Reply}
 use Rattle.fleet_core.specs.declared.replies.Reply.TheVariants.{Folded as FoldedIs, Discarded, Front as FrontIs, Memory}
 use Rattle.fleet_core.specs.Replying.{refusal_reply, taken_reply, read_reply, fault_reply}
 use Rattle.fleet_core.specs.AtNode.{OwnFollows}
+use Rattle.segment_core.proofs.Finality.{fold_is_final}
 
 -- a step that is replied Memory, and changes nothing
 pub take_without_memory : (readers : ℕ) (other : Option State) (s : State) (node : ℕ) (fact : Fact) → OwnFollows readers s other (Take node fact) Memory s
@@ -91,15 +92,6 @@ follows_read readers other s node g q offset len (Err (fault.BrokenBlockChain pa
     λ roster log facts others messages size sound t means beside. absurd (says roster log facts means.0 sound means.1)
 follows_read readers other s node g q offset len (Err fault.Memory) reply says is =
     λ roster log facts others messages size sound t means beside. (inl is, means)
-
--- a page that was folded for facts of the log is final
-fold_is_final : (roster : ℕ) (log facts : List Fact) (s : State) (g : ℕ) (folded : Folded) → (m : Means roster log facts s) → IsFoldOf facts m.0 g folded
-    → IsFinalPage roster log folded.page folded.version folded.image
-fold_is_final roster log facts s g folded m is =
-    let shown : IsPageAt facts m.0.epoch folded.page folded.version folded.image =
-    subst (λ n. IsPageAt facts m.0.epoch folded.page n folded.image) (sym is.version_is)
-    (subst (λ n. IsPageAt facts m.0.epoch n m.0.anchor folded.image) (sym is.page_is) is.image_is) in
-    record { facts = facts; part = m.1.part; p = m.0; position = m.1.position; settled = omega (arith, is.version_is); shown = shown }
 
 pub follows_fold : (readers : ℕ) (other : Option State) (old new : State) (node g : ℕ) (folded : Folded)
     → ((roster : ℕ) (log facts : List Fact) (p : Position) → IsSound roster log → MeansAt roster log facts p old → IsFoldOf facts p g folded)

@@ -23,7 +23,8 @@ use Rattle.fleet_core.specs.Refused.{IsRefusal}
 use Rattle.fleet_core.specs.AtNode.{CarriesOut}
 use Rattle.fleet_core.specs.Calls.{NodeCalls, Calls, StepCalls}
 use Rattle.fleet_core.specs.Runs.{MeansMachine, FollowsStep}
-use Rattle.fleet_core.proofs.Places.{AreThere, none_named, none_is_missing, are_there, beside_is, zip_at, zip_set, zip_count}
+use Rattle.fleet_core.proofs.Places.{AreThere, none_is_missing, are_there, beside_is, zip_at, zip_set, zip_count}
+use Rattle.segment_core.proofs.BlockChain.{no_link}
 
 -- ---- a named node that is not there
 
@@ -161,7 +162,7 @@ calls_at fleet s reply new made place other at out =
 pub named_at : (count : ℕ) (s : Step Fact) (missing : Option ℕ) (node other : ℕ) → missing ≡ first_missing count (nodes_of s)
     → ((x : ℕ) → missing ≡ Some x → ⊥) → node ≡ node_of s → other ≡ other_of s → AreAt count s (node - 1) (other - 1)
 named_at count s missing node other is named own its =
-    let none : first_missing count (nodes_of s) ≡ None = sym is ∙ none_named missing named in
+    let none : first_missing count (nodes_of s) ≡ None = sym is ∙ no_link missing named in
     let there : AreThere count (node_of s) (other_of s) = are_there count s none in
     record { none = none; node = omega (arith, there.low, own); beside = omega (arith, there.other_low, its) }
 

@@ -68,10 +68,6 @@ are_there count (Ask node) none = one_there count node none
 are_there count (Answer node message) none = one_there count node none
 are_there count (Absorb node message) none = one_there count node none
 
-pub none_named : (o : Option ℕ) → ((x : ℕ) → o ≡ Some x → ⊥) → o ≡ None
-none_named None h = refl
-none_named (Some x) h = absurd (h x refl)
-
 -- the segment at the other place, which is the first one where the places are one
 beside_by : (xs : List State) (place other : ℕ) (x : State) (b : Bool) → b ≡ (place == other) → slice_get xs place ≡ Some x
     → get_or xs other x ≡ unwrap_or (if b then None else slice_get xs other) x

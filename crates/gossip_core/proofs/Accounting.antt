@@ -46,10 +46,6 @@ any_default [] i x y lt = absurd (omega (arith, lt))
 any_default (z ∷ zs) zero x y lt = refl
 any_default (z ∷ zs) (suc i) x y lt = any_default zs i x y (omega (arith, lt))
 
--- a state has one anchor
-pub one_anchor : (s : State) (a b : ℕ) → HasAnchor s a → HasAnchor s b → a ≡ b
-one_anchor s a b = greatest_unique (λ n. IsLinkedIn s n × (n ≤ min_of s)) (λ n. IsLinkedIn s n × (n ≤ min_of s)) (λ i. (λ x. x, λ x. x)) a b
-
 pub dead_covers : (s : State) (anchor : ℕ) (key : Key) → StandsAt s key.epoch key.number Dead → IsTrue true ↔ IsCovered s anchor key
 dead_covers s anchor key stands = (λ h. inr (inl (stands.dead.0 refl)), λ h. refl)
 

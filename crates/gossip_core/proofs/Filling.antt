@@ -22,14 +22,7 @@ use Rattle.gossip_core.specs.Answering.{listed_key, listing_of}
 use Rattle.gossip_core.specs.Absorbing.{filling_of}
 use Rattle.gossip_core.specs.Replying.{IsSent, SendsRecords, SendsPages, AnswersSummary, FillsSummary}
 use Rattle.gossip_core.proofs.Parts.{one_key}
-
-in_map : {X Y : Type 0} (f : X → Y) (xs : List X) (x : X) → Contains xs x → Contains (map f xs) (f x)
-in_map f [] x h = absurd (none_in x h)
-in_map f (y ∷ ys) x h =
-    ⊎_elim
-    (λ (e : y ≡ x). subst (λ z. Contains (f z ∷ map f ys) (f x)) (sym e) (here (f x) (map f ys)))
-    (λ (q : Contains ys x). there (f y) (map f ys) (f x) (in_map f ys x q))
-    (which y ys x h)
+use Rattle.redo_laws.proofs.Meanings.{in_map}
 
 listed_or_not : (keys : List Key) (r : RecordData) → Contains keys (wire_key r) ⊎ (Contains keys (wire_key r) → ⊥)
 listed_or_not keys r =

@@ -11,9 +11,9 @@ use Rattle.redo_wire.specs.Deltas.{DeltaData, delta_of}
 use Rattle.segment_state.specs.State.{State}
 use Rattle.segment_state.specs.Shows.{Shows}
 use Rattle.segment_state.specs.HasMeaning.{IsKeptBy}
-use Rattle.segment_join.proofs.Comparing.{one_anchor}
 use Rattle.gossip_core.specs.Summarizing.{wire_key, Summarizes}
 use Rattle.gossip_core.specs.Replying.{IsSent, SendsRecords, SendsPages, AnswersSummary}
+use Rattle.segment_core.proofs.OneView.{one_anchor}
 
 one_list : {X : Type 0} (Before : X → X → Type 0) → ((x y : X) → Before x y → Before y x → ⊥) → (P : ℕ → X → Type 0) (m n : ℕ) (xs ys : List X) → m ≡ n
     → Lists Before (P m) xs → Lists Before (P n) ys → xs ≡ ys

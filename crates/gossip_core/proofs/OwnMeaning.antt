@@ -18,10 +18,12 @@ use Rattle.segment_state.specs.Shows.{Shows}
 use Rattle.segment_state.specs.HasMeaning.{IsLinkedIn, HasAnchor, IsKeptBy, HasMeaning}
 use Rattle.segment_core.specs.Form.{IsSegment}
 use Rattle.segment_core.proofs.Keys.{one_of_key}
-use Rattle.segment_core.proofs.Moving.{back_below}
-use Rattle.segment_join.proofs.Comparing.{one_anchor}
-use Rattle.segment_join.proofs.Showing.{IsBare, shows_one, shows_some, bare_is_zeros, bare_or_not}
+use Rattle.segment_join.proofs.Showing.{IsBare, shows_some, bare_is_zeros, bare_or_not}
 use Rattle.gossip_core.specs.Laws.{EverySegmentHasOneMeaning}
+use Rattle.segment_core.proofs.OneView.{one_anchor}
+use Rattle.segment_core.proofs.SamePages.{shows_one}
+use Rattle.segment_join.proofs.Agreeing.{one_meaning}
+use Rattle.hot_log.proofs.Ends.{back_below}
 
 -- a rising list lists its members
 itself : {X : Type 0} (Before : X → X → Type 0) (xs : List X) → IsRising Before xs → Lists Before (Contains xs) xs
@@ -121,12 +123,6 @@ meaning_exists s form =
       },
     )
 
--- and it is one
-by_parts : (m n : Meaning) → m.cuts ≡ n.cuts → m.points ≡ n.points → m.waits ≡ n.waits → m.anchor ≡ n.anchor → m.pages ≡ n.pages → m.kept ≡ n.kept → m ≡ n
-by_parts m n a b c d e f =
-    let t : (let v : Meaning = record { cuts = m.cuts; points = m.points; waits = m.waits; anchor = m.anchor; pages = m.pages; kept = m.kept } in v)
-    ≡ record { cuts = n.cuts; points = n.points; waits = n.waits; anchor = n.anchor; pages = n.pages; kept = n.kept } = cc in t
-
 one_list : {X : Type 0} (Before : X → X → Type 0) → ((x y : X) → Before x y → Before y x → ⊥) → (P : X → Type 0) (xs ys : List X)
     → Lists Before P xs → Lists Before P ys → xs ≡ ys
 one_list Before apart P xs ys a b = lists_unique Before apart P P (λ x. (λ h. h, λ h. h)) xs ys a b
@@ -134,7 +130,7 @@ one_list Before apart P xs ys a b = lists_unique Before apart P P (λ x. (λ h. 
 only_one : (s : State) (m n : Meaning) → IsSegment s → HasMeaning s m → HasMeaning s n → m ≡ n
 only_one s m n form a b =
     let anchor : n.anchor ≡ m.anchor = one_anchor s n.anchor m.anchor b.anchor a.anchor in
-    by_parts m n
+    one_meaning m n
     (one_list CutBefore (λ c d u v. omega (arith, u, v)) (Contains s.book.cuts) m.cuts n.cuts a.same_cuts b.same_cuts)
     (a.same_points ∙ sym b.same_points)
     (one_list AdvanceBefore advance_apart (Contains s.book.waits) m.waits n.waits a.same_waits b.same_waits)

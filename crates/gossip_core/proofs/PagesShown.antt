@@ -10,8 +10,10 @@ use Rattle.segment_state.specs.State.{State}
 use Rattle.segment_state.specs.Shows.{Shows}
 use Rattle.segment_core.specs.Form.{IsSegment}
 use Rattle.segment_core.proofs.Pages.{IsPassed}
-use Rattle.segment_join.proofs.Showing.{IsBare, shows_one, bare_is_zeros}
+use Rattle.segment_join.proofs.Showing.{IsBare, bare_is_zeros}
 use Rattle.gossip_core.specs.Replying.{IsStoredPage}
+use Rattle.segment_core.proofs.SamePages.{shows_one}
+use Rattle.redo_laws.proofs.Meanings.{same_image}
 
 -- the page at the point is this, and not zeros
 abbrev pub IsShown : State → ℕ → ImageData → Type 0
@@ -71,10 +73,6 @@ passed_zeros s point page next pages form is zero_shown lists =
     ))
     lists
 
-one_image : (i j : ImageData) → i.page ≡ j.page → i.bytes ≡ j.bytes → i ≡ j
-one_image i j p b =
-    let t : (let v : ImageData = record { page = i.page; bytes = i.bytes } in v) ≡ record { page = j.page; bytes = j.bytes } = cc in t
-
 -- another one goes to the end
 pub passed_more : (s : State) (point page : ℕ) (next : Option ℕ) (pages : List ImageData) (x : ImageData) → IsSegment s
     → IsLeast (λ n. IsStoredPage s n × IsPageAbove (Some page) n) next → x.page ≡ page → IsShown s point x → ListsPassed s point (Some page) pages
@@ -87,7 +85,7 @@ passed_more s point page next pages x form is at shown lists =
           (λ (lt : i.page < page). inl (h.0, lt))
           (λ (e : i.page ≡ page).
           let same : i.page ≡ x.page = e ∙ sym at in
-          inr (one_image i x same (shows_one s x.page point i.bytes x.bytes (subst (λ g. Shows s g point i.bytes) same h.0.0) shown.0)))
+          inr (same_image i x same (shows_one s x.page point i.bytes x.bytes (subst (λ g. Shows s g point i.bytes) same h.0.0) shown.0)))
           (shown_by s point page next i form is h.0 h.1),
       λ h. ⊎_elim
           (λ (t : IsShown s point i × IsPassed (Some page) i.page). let lt : i.page < page = t.1 in (t.0, after_page s page i.page next is (omega (arith, lt))))

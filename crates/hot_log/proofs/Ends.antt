@@ -15,7 +15,7 @@ use Rattle.hot_log.proofs.Straight.{Straight, straight_start, straight_next, lin
 use Rattle.hot_log.proofs.Views.{view_of, one_number, number_before}
 use Rattle.hot_log.proofs.Climb.{from_zero}
 
-back_below : (r : RecordData) → record_fault r ≡ None → r.back < r.number
+pub back_below : (r : RecordData) → record_fault r ≡ None → r.back < r.number
 back_below r h = grind arith
 
 -- the chain so far: straight, and no alive record above it has a linked backlink below its end

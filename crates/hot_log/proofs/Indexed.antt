@@ -12,13 +12,7 @@ use Rattle.hot_log.specs.Removing.{Removes}
 use Rattle.hot_log.specs.Indexing.{GainsKey, LosesKey, IsIndexBy, IsNextKey, IsLastKey, IsNextHeld, IsLastHeld, AddsPage, GainsPage, LosesPage, IsPageOf, IsAboveKey, IsLeastKey, IsKeyPages, IsRecordOf, IsGreatestKey, IsGreatestOf}
 use Rattle.hot_log.proofs.Keys.{pair_not_same}
 use Rattle.hot_log.proofs.Places.{Place}
-
-pub place_as : (g e n h a b : ℕ) → g ≡ h → e ≡ a → n ≡ b → ◌≡◌ {A = Place} (g, (e, n)) (h, (a, b))
-place_as g e n h a b p q r =
-    let one : ℕ → Place = λ x. (x, (e, n)) in
-    let two : ℕ → Place = λ x. (h, (x, n)) in
-    let three : ℕ → Place = λ x. (h, (a, x)) in
-    ap one p ∙ ap two q ∙ ap three r
+use Rattle.hot_log.proofs.Paged.{place_as}
 
 -- a key belongs to one record
 pub one_key : (held : List RecordData) → IsRising RecordBefore held → (r s : RecordData) → Contains held r → Contains held s → r.epoch ≡ s.epoch → r.number ≡ s.number → r ≡ s

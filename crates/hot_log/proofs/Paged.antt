@@ -87,7 +87,7 @@ below_of r s h = grind arith
 not_below : (r s : RecordData) → is_below r s ≡ false → RecordBefore r s → ⊥
 not_below r s h p = grind arith
 
-later : (r s x : RecordData) → RecordBefore r s → RecordBefore s x → RecordBefore r x
+pub later : (r s x : RecordData) → RecordBefore r s → RecordBefore s x → RecordBefore r x
 later r s x p q = grind arith
 
 -- a record stands where it is apart from each of them

@@ -207,8 +207,8 @@ impl PagedRecords {
         Ok(missing)
     }
 
-    // The same by page, and within a page by key. Both logs are gone over side by side: a look-up is spent on a missing record alone.
-    fn missing_by_page<'a>(
+    /// The same by page, and within a page by key. Both logs are gone over side by side: a look-up is spent on a missing record alone.
+    pub fn missing_by_page<'a>(
         &self,
         alloc: Global,
         other: &'a PagedRecords,

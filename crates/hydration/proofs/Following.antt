@@ -5,15 +5,7 @@ use Rattle.redo_core.specs.Data.{RecordData}
 use Rattle.redo_core.specs.Order.{IsRising, RecordBefore}
 use Rattle.redo_core.proofs.Members.{which, each}
 use Rattle.redo_core.proofs.Rising.{rising_at}
-
-pub before_trans : (q r s : RecordData) → RecordBefore q r → RecordBefore r s → RecordBefore q s
-before_trans q r s a b =
-    ⊎_elim
-    (λ (x : q.epoch < r.epoch). ⊎_elim (λ (y : r.epoch < s.epoch). inl (omega (arith, x, y))) (λ (y : (r.epoch ≡ s.epoch) × (r.number < s.number)). inl
-    (omega (arith, x, y.0))) b)
-    (λ (x : (q.epoch ≡ r.epoch) × (q.number < r.number)). ⊎_elim (λ (y : r.epoch < s.epoch). inl (omega (arith, x.0, y)))
-    (λ (y : (r.epoch ≡ s.epoch) × (r.number < s.number)). inr (omega (arith, x.0, y.0), omega (arith, x.1, y.1))) b)
-    a
+use Rattle.hot_log.proofs.Paged.{later}
 
 -- each record of a rising list is the one at a later place or before it, and the one at the first place or after it
 up_to : (xs : List RecordData) (n : ℕ) (last : RecordData) → IsRising RecordBefore xs → n + 1 ≡ length xs → last ≡ get_or xs n last → (q : RecordData)
@@ -41,5 +33,5 @@ pub all_before : (qs rs : List RecordData) (n : ℕ) (last first : RecordData) �
     → last ≡ get_or qs n last → first ≡ get_or rs 0 first → RecordBefore last first → (q r : RecordData) → Contains qs q → Contains rs r → RecordBefore q r
 all_before qs rs n last first a b len l f before q r hq hr =
     let up : RecordBefore q first = ⊎_elim (λ (e : q ≡ last). subst (λ x. RecordBefore x first) (sym e) before)
-    (λ (lt : RecordBefore q last). before_trans q last first lt before) (up_to qs n last a len l q hq) in
-    ⊎_elim (λ (e : r ≡ first). subst (RecordBefore q) (sym e) up) (λ (lt : RecordBefore first r). before_trans q first r up lt) (from_first rs first b f r hr)
+    (λ (lt : RecordBefore q last). later q last first lt before) (up_to qs n last a len l q hq) in
+    ⊎_elim (λ (e : r ≡ first). subst (RecordBefore q) (sym e) up) (λ (lt : RecordBefore first r). later q first r up lt) (from_first rs first b f r hr)

@@ -10,12 +10,8 @@ use Rattle.redo_core.proofs.Members.{all_of, lists_unique}
 use Rattle.segment_state.specs.State.{State, min_of}
 use Rattle.segment_state.specs.Shows.{Shows}
 use Rattle.segment_state.specs.HasMeaning.{HasAnchor, IsKeptBy}
-use Rattle.segment_core.proofs.OneView.{one_anchor}
+use Rattle.segment_core.proofs.OneView.{one_anchor, anchor_low}
 use Rattle.hydration.specs.Snapshots.{SnapshotData, snapshot_of, IsSnapshot, Freezes, IsPieceCount}
-
--- an anchor is not above the minimum read point
-anchor_low : (s : State) (anchor : ℕ) → HasAnchor s anchor → anchor ≤ min_of s
-anchor_low s anchor has = ⊎_elim (λ (zero_is : anchor ≡ 0). omega (arith, zero_is)) (λ h. h.1) has.0
 
 pub snapshot_form : (s : State) (d : SnapshotData) → IsBook s.book → Freezes s d → IsSnapshot d
 snapshot_form s d form frozen = record {

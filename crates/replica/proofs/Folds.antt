@@ -9,15 +9,7 @@ use Rattle.segment_state.specs.Means.{Means, MeansAt}
 use Rattle.segment_state.specs.Promises.{KeepsMeaning, KeepsMeaningWith, IsFinalPage}
 use Rattle.segment_core.specs.Folding.{IsFoldOf}
 use Rattle.segment_core.specs.declared.fold_plan.Folded.{Folded}
-
--- a page that was folded for facts of the log is final
-fold_is_final : (roster : ℕ) (log facts : List Fact) (s : State) (g : ℕ) (folded : Folded) → (m : Means roster log facts s) → IsFoldOf facts m.0 g folded
-    → IsFinalPage roster log folded.page folded.version folded.image
-fold_is_final roster log facts s g folded m is =
-    let shown : IsPageAt facts m.0.epoch folded.page folded.version folded.image =
-    subst (λ n. IsPageAt facts m.0.epoch folded.page n folded.image) (sym is.version_is)
-    (subst (λ n. IsPageAt facts m.0.epoch n m.0.anchor folded.image) (sym is.page_is) is.image_is) in
-    record { facts = facts; part = m.1.part; p = m.0; position = m.1.position; settled = omega (arith, is.version_is); shown = shown }
+use Rattle.segment_core.proofs.Finality.{fold_is_final}
 
 pub fold_keeps : (old new : State) (g : ℕ) (folded : Folded)
     → ((roster : ℕ) (log facts : List Fact) (p : Position) → IsSound roster log → MeansAt roster log facts p old → IsFoldOf facts p g folded)

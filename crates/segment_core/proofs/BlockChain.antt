@@ -31,6 +31,7 @@ use Rattle.segment_core.specs.declared.answers.ReadFault.{ReadFault}
 use Rattle.segment_core.specs.declared.answers.ReadFault.TheVariants.{Below, Above, BrokenBlockChain, Memory}
 use Rattle.segment_core.specs.BlockChain.{IsKnownLinked, IsLinkedOf, IsLinkedUpTo, OnBlockChain, BreaksFrom, BreaksAt, TellsBreak}
 use Rattle.segment_core.specs.BlockChain.OnBlockChain.{start, down}
+use Rattle.hot_log.proofs.Chain.{link_at_least}
 
 -- ---- steps of the walk
 
@@ -108,11 +109,6 @@ breaks_first s page q r n linked greatest only = (
 
 -- ---- what a search among the held records finds of the linked ones
 
--- no linked number is below the base
-pub from_base : (cs : List CutData) (hs : List RecordData) (k base n : ℕ) → Linked cs hs k base n → base ≤ n
-from_base cs hs k base _ first = omega arith
-from_base cs hs k base _ (next r among alive above rest) = omega (arith, above)
-
 -- a held record has its shape, so its number is above 0
 positive_number : (hs : List RecordData) (r : RecordData) → IsHeld hs → Contains hs r → 0 < r.number
 positive_number hs r held among = let shaped = held.shaped r among in positive r shaped
@@ -131,7 +127,7 @@ pub last_linked : (b : BookData) (hs : List RecordData) (base : ℕ) (store : St
 last_linked b hs base store page q r h = ((h.0.0.0, h.0.0.1, inr h.0.0.2, h.0.1, h.0.2), before)
   where
     least : base ≤ r.number
-    least = from_base b.cuts hs b.complete base r.number h.0.0.2
+    least = link_at_least b.cuts hs b.complete base r.number h.0.0.2
 
     before : (x : RecordData) → IsLinkedOf (state_of b hs base store) page q x → (x ≡ r) ⊎ BeforeByNumber x r
     before x l = ⊎_elim
@@ -367,7 +363,7 @@ pub not_memory : (g n : ℕ) → (let answer : Result (List ℕ) ReadFault = Err
 not_memory g n e = cc
 
 -- a link that is no number is none
-no_link : (link : Option ℕ) → ((n : ℕ) → link ≡ Some n → ⊥) → link ≡ None
+pub no_link : (link : Option ℕ) → ((n : ℕ) → link ≡ Some n → ⊥) → link ≡ None
 no_link None not = refl
 no_link (Some n) not = absurd (not n refl)
 

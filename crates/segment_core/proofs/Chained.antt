@@ -12,8 +12,9 @@ use Rattle.segment_core.specs.BlockChain.{IsLinkedOf, IsLinkedUpTo, IsChained, O
 use Rattle.segment_core.specs.BlockChain.OnBlockChain.{start, down}
 use Rattle.segment_core.specs.Points.{HasPoints}
 use Rattle.segment_core.specs.declared.points.Points.{Points}
-use Rattle.segment_core.proofs.BlockChain.{on_linked, from_base}
+use Rattle.segment_core.proofs.BlockChain.{on_linked}
 use Rattle.epoch_book.specs.Book.{BookData}
+use Rattle.hot_log.proofs.Chain.{link_at_least}
 
 -- chained records, of which the last has this number
 pub record IsChainedTo (version : ℕ) (xs : List RecordData) (below : ℕ) : Type 0 where
@@ -103,4 +104,4 @@ sure_complete b hs base store points has straight r among alive low =
     (let t : (r.number ≤ base) ⊎ (base < r.number) = grind arith in t)
 
 pub base_complete : (b : BookData) (hs : List RecordData) (base : ℕ) (points : Points) → HasPoints b hs base points → base ≤ points.complete
-base_complete b hs base points has = from_base b.cuts hs b.complete base points.complete has.complete.linked
+base_complete b hs base points has = link_at_least b.cuts hs b.complete base points.complete has.complete.linked

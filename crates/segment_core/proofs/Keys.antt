@@ -12,6 +12,7 @@ use Rattle.hot_log.specs.Held.{IsHeld, IsAbove, IsKeyAfter, HasKey}
 use Rattle.hot_log.proofs.Keys.{pair_not_same}
 use Rattle.hot_log.proofs.Places.{pair_or_not}
 use Rattle.segment_core.specs.Keys.{key_of, HasKeysAfter}
+use Rattle.redo_core.proofs.Pairs.{pair_apart}
 
 -- the key is that of the first of the records, or there is none
 abbrev pub IsFirstKey : List RecordData → Option (ℕ × ℕ) → Type 0
@@ -30,16 +31,6 @@ pub record KeysTo (held : List RecordData) (keys : List (ℕ × ℕ)) (next : Op
 
 pair_self : (a b : ℕ) → PairBefore a b a b → ⊥
 pair_self a b h = pair_not_same a b a b h refl refl
-
-pair_both : (a b c d : ℕ) → PairBefore a b c d → PairBefore c d a b → ⊥
-pair_both a b c d h k =
-    ⊎_elim
-    (λ (lt : a < c). ⊎_elim (λ (gt : c < a). omega arith) (λ (same : (c ≡ a) × (d < b)). let e = same.0 in omega arith) k)
-    (λ (same : (a ≡ c) × (b < d)).
-    let e = same.0 in
-    let lt = same.1 in
-    ⊎_elim (λ (gt : c < a). omega arith) (λ (other : (c ≡ a) × (d < b)). let gt = other.1 in omega arith) k)
-    h
 
 -- what is behind a record is above its key, and nothing else is
 rising_rest : (front rest : List RecordData) (r : RecordData) → IsRising RecordBefore (front ++ r ∷ rest) → IsRising RecordBefore rest
@@ -66,7 +57,7 @@ above_rest (f ∷ fs) rest r x rising h above =
     ⊎_elim
     (λ (e : f ≡ x).
     let before : RecordBefore f r = each (RecordBefore f) (fs ++ r ∷ rest) r rising.0 (in_parts fs rest r) in
-    absurd (pair_both f.epoch f.number r.epoch r.number before (subst (RecordBefore r) (sym e) above)))
+    absurd (pair_apart f.epoch f.number r.epoch r.number before (subst (RecordBefore r) (sym e) above)))
     (λ (q : Contains (fs ++ r ∷ rest) x). above_rest fs rest r x rising.1 q above)
     (which f (fs ++ r ∷ rest) x h)
 
@@ -104,7 +95,7 @@ first_of held (r ∷ rs) after (Some key) rising inside above is =
     (subst (λ e. PairBefore e key.1 r.epoch r.number) (sym own.0) later) in
     ⊎_elim
     (λ (e : r ≡ x). absurd (pair_self r.epoch r.number (subst (λ (y : RecordData). PairBefore y.epoch y.number r.epoch r.number) (sym e) behind)))
-    (λ (q : Contains rs x). absurd (pair_both x.epoch x.number r.epoch r.number behind (each (RecordBefore r) rs x rising.0 q)))
+    (λ (q : Contains rs x). absurd (pair_apart x.epoch x.number r.epoch r.number behind (each (RecordBefore r) rs x rising.0 q)))
     (which r rs x (inside x is.0.1 is.0.3)))
     (is.1 r h.0 h.1)
   where
@@ -226,7 +217,7 @@ held_behind held low high is parts = record {
 front_below : (low high : List RecordData) (x r : RecordData) → IsRising RecordBefore (low ++ high) → Contains low x → Contains high r → RecordBefore r x → ⊥
 front_below [] high x r rising hx hr above = none_in x hx
 front_below (l ∷ ls) high x r rising hx hr above = ⊎_elim
-    (λ (e : l ≡ x). pair_both l.epoch l.number r.epoch r.number (each (RecordBefore l) (ls ++ high) r rising.0 (Contains-append_right ls high r hr))
+    (λ (e : l ≡ x). pair_apart l.epoch l.number r.epoch r.number (each (RecordBefore l) (ls ++ high) r rising.0 (Contains-append_right ls high r hr))
     (subst (RecordBefore r) (sym e) above))
     (λ (q : Contains ls x). front_below ls high x r rising.1 q hr above)
     (which l ls x hx)

@@ -10,6 +10,7 @@ pub mod SamePages
 pub mod Forget
 pub mod PlanFold
 pub mod FoldPages
+pub mod Finality
 pub mod FirstBreak
 pub mod Tidying
 pub mod Forgotten

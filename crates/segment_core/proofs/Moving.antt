@@ -19,6 +19,7 @@ use Rattle.redo_core.specs.Shape.{max_number, record_fault}
 use Rattle.segment_core.specs.Points.{IsTop, MoveOn, HasPoints, HasLowAnchor, MayLink}
 use Rattle.segment_core.specs.declared.points.Points.{Points}
 use Rattle.segment_core.proofs.Chain.{linked_small, small_number}
+use Rattle.hot_log.proofs.Ends.{back_below}
 
 -- ---- a greatest number up to a limit that none is above
 pub top_of : (b : BookData) (held : List RecordData) (from n : ℕ) → IsHeld held → from ≤ max_number → IsLinkedFrom b held from n
@@ -178,9 +179,6 @@ on_top b old new base p q r j back t has moved =
     }
 
 -- ---- what a put does to the points
-pub back_below : (r : RecordData) → record_fault r ≡ None → r.back < r.number
-back_below r shaped = grind (arith, shaped)
-
 pub joins_of : (b : BookData) (old new : List RecordData) (r : RecordData) → IsHeld new → ((s : RecordData) → Contains new s ↔ (Contains old s ⊎ (s ≡ r)))
     → IsAlive b.cuts b.complete r.epoch r.number → Joins b old new r
 joins_of b old new r is members alive = record {

@@ -30,6 +30,7 @@ same_rolls_back saved s t held rest = λ old r. record {
   held = λ x. subst (λ hs. Contains old.held x ↔ (Contains hs x × (Contains saved.came (key_of x) → ⊥))) (sym held) (r.held x);
   rest = record { base = r.rest.base ∙ sym rest.base; store = r.rest.store ∙ sym rest.store };
   points = r.points;
+  due = r.due;
 }
 
 -- a record joins the others under a free key, which is noted
@@ -43,6 +44,7 @@ more_rolls_back saved noted s t x notes rest free more = λ old r.
       held = λ y. (λ h. kept y ((r.held y).0 h), λ h. (r.held y).1 (before y h.0 h.1));
       rest = record { base = r.rest.base ∙ sym rest.base; store = r.rest.store ∙ sym rest.store };
       points = r.points;
+      due = r.due;
     })
   where
     keys : List (ℕ × ℕ)

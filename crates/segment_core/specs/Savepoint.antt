@@ -5,6 +5,7 @@ use Rattle.redo_core.specs.Book.{BookData}
 use Rattle.redo_core.specs.Data.{RecordData}
 use Rattle.redo_core.specs.declared.facts.Fact.{Fact}
 use Rattle.segment_state.specs.State.{State, SameBase}
+use Rattle.segment_core.specs.Due.{DueData, HasDue}
 use Rattle.segment_core.specs.Form.{IsSegment}
 use Rattle.segment_core.specs.Keys.{key_of}
 use Rattle.segment_core.specs.Points.{HasPoints}
@@ -16,10 +17,11 @@ use Rattle.segment_core.specs.declared.answers.Taken.TheVariants.{Changed, Uncha
 use Rattle.segment_core.specs.declared.answers.Refusal.{Refusal}
 use Rattle.segment_core.specs.declared.answers.Refusal.TheVariants.{Memory}
 
--- the book and the points as they were, and the keys of the records that have come in since
+-- the book, the points and the pages that were due as they were, and the keys of the records that have come in since
 pub record SavepointData : Type 0 where
   pub book : BookData
   pub points : Points
+  pub due : DueData
   pub came : List (ℕ × ℕ)
 
 -- Rolled back to the savepoint, a state is the old one: its book is the saved one, and its records are those that were there before.
@@ -29,6 +31,7 @@ pub record RollsBackTo (saved : SavepointData) (s old : State) : Type 0 where
   pub held : (r : RecordData) → Contains old.held r ↔ (Contains s.held r × (Contains saved.came (key_of r) → ⊥))
   pub rest : SameBase s old
   pub points : HasPoints old.book old.held old.base saved.points
+  pub due : HasDue old.book old.held old.store saved.due
 
 -- what the one state can be rolled back to, the other can with its savepoint
 abbrev pub RollsBackAs : SavepointData → State → SavepointData → State → Type 0
@@ -36,7 +39,7 @@ RollsBackAs saved s noted t = (old : State) → RollsBackTo saved s old → Roll
 
 -- one key more is noted
 abbrev pub NotesKey : SavepointData → ℕ × ℕ → SavepointData → Type 0
-NotesKey saved key noted = noted ≡ record { book = saved.book; points = saved.points; came = saved.came ++ key ∷ [] }
+NotesKey saved key noted = noted ≡ record { book = saved.book; points = saved.points; due = saved.due; came = saved.came ++ key ∷ [] }
 
 -- What a noted take answers and leaves, over any facts: what a take does, but that memory may be wanting for a fact that is known or refused.
 pub record TakesNoted (old : State) (fact : Fact) (result : Result Taken Refusal) (new : State) : Type 0 where

@@ -117,15 +117,6 @@ impl Due {
         }
     }
 
-    /// Makes each page due, unless in the saved book the same records are alive as in the other one.
-    pub(crate) fn add_for_book(&mut self, book: &EpochBook, saved: &EpochBook)
-        ensures { (held : List RecordData) (store : Store) → HasDue book.now held store self.old → HasDue saved.now held store self.new }
-    {
-        if book.complete_epoch() != saved.complete_epoch() || book.cuts() != saved.cuts() {
-            self.all = true;
-        }
-    }
-
     /// Makes each page due, where any of the images may have changed.
     pub(crate) fn add_images(&mut self, store: &BaseStore)
         ensures { (book : BookData) (held : List RecordData) → HasDue book held store.now self.new }

@@ -11,6 +11,7 @@ ghost use Rattle.segment_core.specs.Savepoint.{SavepointData, RollsBackTo, Rolls
 ghost use Rattle.segment_core.specs.Uniting.{Holds};
 
 use crate::answers::{Refusal, Taken};
+use crate::due::Due;
 use crate::points::Points;
 use crate::segment::Segment;
 use epoch_book::EpochBook;
@@ -19,11 +20,12 @@ use redo_core::{Fact, Record, Refused};
 use std::alloc::AllocError;
 use std::marker::Model;
 
-/// The book and the points of a segment as they were, and the keys of the records that have come in since.
+/// The book and the points of a segment and the pages that were due, as they were, and the keys of the records that have come in since.
 #[derive(Drop)]
 pub struct Savepoint {
     book: EpochBook,
     points: Points,
+    due: Due,
     came: Vec<(u16, u64)>,
 }
 
@@ -32,7 +34,7 @@ impl Model for Savepoint {
 
     ghost Value = { SavepointData };
 
-    ghost view = { λ s. record { book = s.book; points = s.points; came = s.came.items } };
+    ghost view = { λ s. record { book = s.book; points = s.points; due = s.due; came = s.came.items } };
 }
 
 impl Savepoint {
@@ -63,6 +65,7 @@ impl Segment {
         Ok(Savepoint {
             book: self.book.copy()?,
             points: self.points,
+            due: self.due.copy()?,
             came: Vec::new(self.alloc),
         })
     }
@@ -139,9 +142,9 @@ impl Segment {
         ensures { (old : State) → RollsBackTo saved self.old old → self.new ≡ old }
     {
         take_out(&mut self.hot, &saved.came);
-        self.due.add_for_book(&self.book, &saved.book);
         self.book = saved.book;
         self.points = saved.points;
+        self.due = saved.due;
     }
 }
 

@@ -5,6 +5,7 @@ ghost use Rattle.hot_log.specs.Held.{IsRecordAt, IsKeyAfter, HoldsKey};
 ghost use Rattle.hot_log.specs.Alive.{IsHeldOf};
 ghost use Rattle.hot_log.specs.Found.{IsPageAfter};
 ghost use Rattle.hot_log.specs.Missing.{IsMissing};
+ghost use Rattle.hot_log.specs.Paged.{PlaceBefore};
 ghost use Rattle.hot_log.specs.Kept.{ListsKeysOf};
 ghost use Rattle.page_base.specs.Stored.{IsStored};
 ghost use Rattle.segment_state.specs.HasMeaning.{IsKeptBy};
@@ -133,6 +134,13 @@ impl Segment {
         ensures { IfOk result (λ v. Lists RecordBefore (IsMissing self.now.held other.now.held) (map (λ x. x.now) v.items)) }
     {
         self.hot.missing(self.alloc, &other.hot)
+    }
+
+    /// The same by page, and within a page by key: no sort is spent on them.
+    pub fn missing_by_page<'a>(&self, other: &'a Segment) -> Result<Vec<&'a Record>, AllocError>
+        ensures { IfOk result (λ v. Lists PlaceBefore (IsMissing self.now.held other.now.held) (map (λ x. x.now) v.items)) }
+    {
+        self.hot.missing_by_page(self.alloc, &other.hot)
     }
 
     /// The alive records of a page with a number above `from` and at most `to`, in order. Its only error is want of memory.

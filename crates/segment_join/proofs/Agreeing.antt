@@ -18,11 +18,13 @@ use Rattle.segment_state.specs.HasMeaning.{HasAnchor, HasMeaning}
 use Rattle.segment_state.specs.Laws.{SameMeaning}
 use Rattle.segment_core.specs.Form.{IsSegment}
 use Rattle.segment_join.specs.Sameness.{ShowOne, TellsPages, TellsSame, SameByParts}
-use Rattle.segment_join.proofs.Comparing.{one_epoch, one_anchor, same_cuts}
+use Rattle.segment_join.proofs.Comparing.{one_epoch, same_cuts}
 use Rattle.segment_join.proofs.Scanning.{of_member}
-use Rattle.segment_join.proofs.Showing.{shows_one, shows_some}
+use Rattle.segment_join.proofs.Showing.{shows_some}
+use Rattle.segment_core.proofs.OneView.{one_anchor}
+use Rattle.segment_core.proofs.SamePages.{shows_one}
 
-one_meaning : (m n : Meaning) → m.cuts ≡ n.cuts → m.points ≡ n.points → m.waits ≡ n.waits → m.anchor ≡ n.anchor → m.pages ≡ n.pages → m.kept ≡ n.kept → m ≡ n
+pub one_meaning : (m n : Meaning) → m.cuts ≡ n.cuts → m.points ≡ n.points → m.waits ≡ n.waits → m.anchor ≡ n.anchor → m.pages ≡ n.pages → m.kept ≡ n.kept → m ≡ n
 one_meaning m n a b c d e f =
     let t : (let v : Meaning = record { cuts = m.cuts; points = m.points; waits = m.waits; anchor = m.anchor; pages = m.pages; kept = m.kept } in v)
     ≡ record { cuts = n.cuts; points = n.points; waits = n.waits; anchor = n.anchor; pages = n.pages; kept = n.kept } = cc in t

@@ -15,6 +15,7 @@ use Rattle.segment_state.specs.HasMeaning.{IsLinkedIn, HasAnchor, IsKeptBy, HasM
 use Rattle.segment_state.specs.Laws.{SameMeaning}
 use Rattle.segment_core.specs.Form.{IsSegment}
 use Rattle.segment_join.specs.Covering.{CoversState, CoversByParts}
+use Rattle.segment_core.proofs.OneView.{one_anchor}
 
 -- what holds of an Ok, as something else that follows
 pub ok_as : {X E : Type 0} (r : Result X E) (P Q : X → Type 0) → IfOk r P → ((x : X) → P x → Q x) → IfOk r Q
@@ -23,9 +24,6 @@ ok_as (Err e) P Q p to = tt
 
 pub one_epoch : (cs : List CutData) (j k : ℕ) → IsCompleteEpoch cs j → IsCompleteEpoch cs k → j ≡ k
 one_epoch cs j k a b = greatest_unique (HasCutsTo cs) (HasCutsTo cs) (λ n. (λ u. u, λ u. u)) j k a b
-
-pub one_anchor : (s : State) (m n : ℕ) → HasAnchor s m → HasAnchor s n → m ≡ n
-one_anchor s m n a b = greatest_unique (λ i. IsLinkedIn s i × (i ≤ min_of s)) (λ i. IsLinkedIn s i × (i ≤ min_of s)) (λ i. (λ u. u, λ u. u)) m n a b
 
 -- a meaning's truncations are those that the state stores
 pub same_cuts : (s : State) (m : Meaning) → IsRising CutBefore s.book.cuts → HasMeaning s m → m.cuts ≡ s.book.cuts

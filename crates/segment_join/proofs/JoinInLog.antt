@@ -38,8 +38,9 @@ use Rattle.segment_join.specs.Told.{point_facts, facts_told, AreTold}
 use Rattle.segment_join.specs.InOrder.{TakesOne, TakesEach, RefusesOne}
 use Rattle.segment_join.specs.Joining.{MeansUnion, AreOfOneLog, RefusesJoin, JoinsInto}
 use Rattle.segment_join.proofs.JoinedStates.{HaveOneRecordAKey, joins_whole}
-use Rattle.segment_join.proofs.TakingAll.{IsLate, leaves_one, leaves_all, epoch_grows}
+use Rattle.segment_join.proofs.TakingAll.{IsLate, leaves_one, leaves_all}
 use Rattle.segment_join.proofs.ToldFacts.{IsPointIn, listed_cut, listed_advance, listed_record}
+use Rattle.epoch_book.proofs.Books.{epoch_grows}
 
 -- ---- lists of facts that are taken
 -- no fact is refused, and the next state keeps the property

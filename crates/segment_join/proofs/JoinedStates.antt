@@ -29,9 +29,10 @@ use Rattle.segment_join.specs.Joining.{IsBroughtIn, JoinsInto}
 use Rattle.segment_join.specs.Holding.{InOtherImage, IsNeedless, IsSpared, HoldsRest}
 use Rattle.segment_join.specs.Newer.{AreNewer}
 use Rattle.segment_core.proofs.Keys.{one_of_key}
-use Rattle.segment_join.proofs.TakingAll.{IsLate, IsToldAdvance, ToldPoint, LeavesAll, leaves_all, epoch_grows}
+use Rattle.segment_join.proofs.TakingAll.{IsLate, IsToldAdvance, ToldPoint, LeavesAll, leaves_all}
 use Rattle.segment_join.proofs.ToldFacts.{IsPointIn, told_cut, told_advance, told_record}
 use Rattle.segment_join.proofs.Bringing.{brings_told}
+use Rattle.epoch_book.proofs.Books.{epoch_grows}
 
 pub late_of : (s : State) → IsSegment s → IsLate s
 late_of s form = record {

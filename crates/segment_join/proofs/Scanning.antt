@@ -38,14 +38,5 @@ zip_at_most [] (q ∷ qs) same each = absurd (omega (arith, same))
 zip_at_most (p ∷ ps) [] same each = absurd (omega (arith, same))
 zip_at_most (p ∷ ps) (q ∷ qs) same each = (each 0 (omega arith), zip_at_most ps qs (omega (arith, same)) (λ i lt. each (suc i) (omega (arith, lt))))
 
--- all by place are all by membership
-pub by_members : {X : Type 0} (P : X → Type 0) (xs : List X) → ((x : X) → Contains xs x → P x) → All P xs
-by_members P xs each = λ i d lt. each (get_or xs i d) (item_in xs i d lt)
-  where
-    item_in : {X : Type 0} (xs : List X) (i : ℕ) (d : X) → i < length xs → Contains xs (get_or xs i d)
-    item_in [] i d lt = absurd (omega (arith, lt))
-    item_in (x ∷ xs) zero d lt = here x xs
-    item_in (x ∷ xs) (suc i) d lt = there x xs (get_or xs i d) (item_in xs i d (omega (arith, lt)))
-
 pub of_member : {X : Type 0} (P : X → Type 0) (xs : List X) → All P xs → (x : X) → Contains xs x → P x
 of_member P xs all x has = subst P has.2 (all has.0 x has.1)

@@ -15,14 +15,6 @@ use Rattle.segment_core.specs.Comparing.{TellsSamePage}
 use Rattle.segment_join.specs.Sameness.{ShowOne, TellsPages, IsUnwritten}
 use Rattle.segment_join.proofs.Scanning.{of_member}
 
--- a state shows one page at a point
-pub shows_one : (s : State) (page q : ℕ) (i j : List ℕ) → Shows s page q i → Shows s page q j → i ≡ j
-shows_one s page q i j a b =
-    let same : a.written ≡ b.written =
-    lists_unique BeforeByNumber (λ x y lt gt. omega (arith, lt, gt)) (IsApplied s page q) (IsApplied s page q)
-    (λ r. (λ h. h, λ h. h)) a.written b.written a.lists b.lists in
-    a.result ∙ (ap (after_records (image_of s.store page)) same ∙ sym b.result)
-
 -- a segment shows something of each page at each point
 pub shows_some : (s : State) (page q : ℕ) → IsSegment s → (image : List ℕ) × Shows s page q image
 shows_some s page q form =

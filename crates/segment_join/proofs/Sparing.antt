@@ -17,6 +17,7 @@ use Rattle.segment_join.specs.Holding.{InOtherImage, IsNeedless, IsSpared, Holds
 use Rattle.segment_join.specs.Knowing.{HoldsAt}
 use Rattle.segment_core.proofs.Keys.{one_of_key}
 use Rattle.segment_join.proofs.Alike.{settled_record}
+use Rattle.redo_core.proofs.Rising.{up_to}
 
 pub ok_as : {X E : Type 0} (result : Result X E) (P Q : Type 0) → (P → Q) → OnOk result P → OnOk result Q
 ok_as (Ok x) P Q to p = to p
@@ -168,18 +169,13 @@ picks_none P xs y = (λ h. absurd (none_in y h), λ h. h.0)
 seen_next : {X : Type 0} (xs : List X) (i : ℕ) (x y : X) → i < length xs → Contains (take i xs) y → Contains (take (i + 1) xs) y
 seen_next xs i x y lt h = subst (λ ys. Contains ys y) (sym (take_more xs i x lt)) (Contains-append_left (take i xs) (get_or xs i x ∷ []) y h)
 
-seen_last : {X : Type 0} (xs : List X) (i : ℕ) (x : X) → i < length xs → x ≡ get_or xs i x → Contains (take (i + 1) xs) x
-seen_last xs i x lt is =
-    subst (λ ys. Contains ys x) (sym (take_more xs i x lt))
-    (Contains-append_right (take i xs) (get_or xs i x ∷ []) x (subst (λ z. Contains (z ∷ []) x) is (here x [])))
-
 pub picks_more : {X : Type 0} (P : X → Type 0) (xs picked : List X) (i : ℕ) (x : X) → i < length xs → x ≡ get_or xs i x → P x
     → Picks P xs i picked → Picks P xs (i + 1) (picked ++ x ∷ [])
 picks_more P xs picked i x lt is p picks y = (
   λ h. ⊎_elim
       (λ (z : Contains picked y). let s = (picks y).0 z in (seen_next xs i x y lt s.0, s.1))
       (λ (z : Contains (x ∷ []) y). ⊎_elim
-      (λ (e : x ≡ y). (subst (Contains (take (i + 1) xs)) e (seen_last xs i x lt is), subst P e p))
+      (λ (e : x ≡ y). (subst (Contains (take (i + 1) xs)) e (up_to xs i x lt is), subst P e p))
       (λ (e : Contains [] y). absurd (none_in y e)) (which x [] y z))
       (Contains-append_cases picked (x ∷ []) y h),
   λ h. ⊎_elim

@@ -18,6 +18,7 @@ use Rattle.segment_state.specs.Known.{IsKnown}
 use Rattle.segment_state.specs.Learning.{StoresCut, StoresAdvance, PutsRecord}
 use Rattle.segment_core.specs.Taking.{Stores}
 use Rattle.segment_join.specs.InOrder.{TakesOne, TakesEach}
+use Rattle.epoch_book.proofs.Books.{epoch_grows}
 
 -- the complete epoch is that of the truncations, and what waits is of later ones
 pub record IsLate (s : State) : Type 0 where
@@ -47,10 +48,6 @@ pub record LeavesAll (s : State) (facts : List Fact) (t : State) : Type 0 where
 
 pub leaves_late : (s : State) (facts : List Fact) (t : State) → LeavesAll s facts t → IsLate t
 leaves_late s facts t l = record { epoch = l.epoch; later = λ a h. ((l.waits a).0 h).1 }
-
--- more truncations, a later complete epoch
-pub epoch_grows : (cs ds : List CutData) (k j : ℕ) → ((c : CutData) → Contains cs c → Contains ds c) → IsCompleteEpoch cs k → IsCompleteEpoch ds j → k ≤ j
-epoch_grows cs ds k j up a b = greatest_le (HasCutsTo cs) (HasCutsTo ds) (λ n has e u v. let c = has e u v in (c.0, up c.0 c.1, c.2)) k j a b
 
 -- ---- two lists, one after the other
 module _ (s u t : State) (F G : List Fact) (a : LeavesAll s F u) (b : LeavesAll u G t) where

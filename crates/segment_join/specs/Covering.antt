@@ -17,6 +17,10 @@ use Rattle.segment_state.specs.HasMeaning.{IsKeptBy}
 abbrev pub HasRecord : State → ℕ → RecordData → Type 0
 HasRecord s anchor r = IsKeptBy s anchor r ⊎ (IsDead s.book.cuts s.book.complete r.epoch r.number ⊎ ((r.number ≤ anchor) × (r.epoch ≤ s.book.complete)))
 
+-- so of each record that the lower segment keeps
+abbrev pub HasKept : State → ℕ → State → ℕ → RecordData → Type 0
+HasKept upper anchor lower base r = IsKeptBy lower base r → HasRecord upper anchor r
+
 -- each truncation, reader's point and waiting advance of the lower segment is known in the upper one
 pub record CoversBook (upper lower : State) : Type 0 where
   pub cuts : (c : CutData) → Contains lower.book.cuts c → Contains upper.book.cuts c
@@ -27,7 +31,7 @@ pub record CoversBook (upper lower : State) : Type 0 where
 pub record CoversState (anchor : ℕ) (upper : State) (base : ℕ) (lower : State) : Type 0 where
   pub book : CoversBook upper lower
   pub anchors : base ≤ anchor
-  pub kept : (r : RecordData) → IsKeptBy lower base r → HasRecord upper anchor r
+  pub kept : (r : RecordData) → HasKept upper anchor lower base r
 
 -- Inside one sound log: the answer is yes exactly where the lower meaning is at most the upper one.
 abbrev pub CoversByParts : State → State → Bool → Type 0

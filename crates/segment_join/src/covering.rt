@@ -10,9 +10,10 @@ ghost use Rattle.redo_laws.specs.OrderOfMeanings.{Covers};
 ghost use Rattle.segment_state.specs.Means.{Means};
 ghost use Rattle.segment_state.specs.HasMeaning.{HasAnchor, HasMeaning};
 ghost use Rattle.segment_state.specs.Known.{IsKnown};
-ghost use Rattle.segment_join.specs.Covering.{HasRecord, CoversBook, CoversState, CoversByParts};
+ghost use Rattle.hot_log.specs.Missing.{IsMissing};
+ghost use Rattle.segment_join.specs.Covering.{HasRecord, HasKept, CoversBook, CoversState, CoversByParts};
 
-use crate::missing::kept_among;
+use crate::missing::keeps;
 use redo_core::{Advance, Cut, Record};
 use redo_laws::order_by_parts;
 use segment_core::{Segment, Standing};
@@ -44,12 +45,12 @@ fn covers_state(upper: &Segment, lower: &Segment) -> Result<bool, AllocError>
         return Ok(false);
     }
     let anchor = upper.anchor();
-    if anchor < lower.anchor() {
+    let base = lower.anchor();
+    if anchor < base {
         return Ok(false);
     }
-    let missing = upper.missing(lower)?;
-    let kept = kept_among(lower, &missing)?;
-    Ok(has_records(upper, anchor, &kept))
+    let missing = upper.missing_by_page(lower)?;
+    Ok(has_records(upper, anchor, lower, base, &missing))
 }
 
 fn covers_book(upper: &Segment, lower: &Segment) -> bool
@@ -112,12 +113,29 @@ fn has_record(segment: &Segment, anchor: u64, redo: &Record) -> bool
     }
 }
 
-fn has_records(segment: &Segment, anchor: u64, records: &[&Record]) -> bool
-    requires { (r : RecordData) → Contains (map (λ x. x.now) records.now) r → Contains segment.now.held r → ⊥ }
-    ensures { IsTrue result ↔ All (HasRecord segment.now anchor) (map (λ r. r.now) records.now) }
+/// Whether that is so of a record which a lower segment holds, or the lower one keeps it not.
+fn has_kept(upper: &Segment, anchor: u64, lower: &Segment, base: u64, redo: &Record) -> bool
+    requires { IsMissing upper.now.held lower.now.held redo.now }
+    ensures { IsTrue result ↔ HasKept upper.now anchor lower.now base redo.now }
+{
+    if !keeps(lower, base, redo) {
+        return true;
+    }
+    has_record(upper, anchor, redo)
+}
+
+fn has_records(
+    upper: &Segment,
+    anchor: u64,
+    lower: &Segment,
+    base: u64,
+    records: &[&Record],
+) -> bool
+    requires { (r : RecordData) → Contains (map (λ x. x.now) records.now) r → IsMissing upper.now.held lower.now.held r }
+    ensures { IsTrue result ↔ All (HasKept upper.now anchor lower.now base) (map (λ r. r.now) records.now) }
 {
     for redo in records {
-        if !has_record(segment, anchor, redo) {
+        if !has_kept(upper, anchor, lower, base, redo) {
             return false;
         }
     }

@@ -28,7 +28,7 @@ pub(crate) fn kept_among<'a>(
 }
 
 /// Whether a held record waits, or is alive above a point.
-fn keeps(segment: &Segment, point: u64, redo: &Record) -> bool
+pub(crate) fn keeps(segment: &Segment, point: u64, redo: &Record) -> bool
     ensures { Contains segment.now.held redo.now → IsTrue result ↔ IsKeptBy segment.now point redo.now }
 {
     match segment.stands(redo.epoch(), redo.number()) {

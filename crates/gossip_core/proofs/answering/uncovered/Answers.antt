@@ -5,8 +5,8 @@ use Rattle.redo_core.specs.declared.facts.Fact.{Fact}
 use Rattle.segment_state.specs.Means.{MeansAt}
 use Rattle.segment_state.specs.HasMeaning.{HasAnchor}
 use Rattle.gossip_core.specs.Answering.{IsUncovered}
-use Rattle.gossip_core.proofs.Accounting.{one_anchor}
 use Rattle.gossip_core.proofs.AnsweringFacts.{tells_answer}
+use Rattle.segment_core.proofs.OneView.{one_anchor}
 use Rattle.gossip_core.proofs.answering.uncovered.Goals as goal
 
 pub returns : goal.returns

@@ -5,7 +5,8 @@ use Rattle.redo_core.specs.Roster.{least}
 use Rattle.redo_core.specs.Writing.{zeros}
 use Rattle.redo_core.proofs.Members.{all_of}
 use Rattle.gossip_core.specs.Replying.{IsSent}
-use Rattle.gossip_core.proofs.Parts.{anchor_low, base_low}
+use Rattle.gossip_core.proofs.Parts.{base_low}
+use Rattle.segment_core.proofs.OneView.{anchor_low}
 use Rattle.gossip_core.proofs.replies.with_kept.Goals as goal
 
 pub new-requires : goal.new-requires

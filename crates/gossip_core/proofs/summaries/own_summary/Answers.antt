@@ -6,9 +6,9 @@ use Rattle.redo_core.specs.Roster.{least}
 use Rattle.redo_wire.specs.Summaries.{IsKey, KeyBefore}
 use Rattle.gossip_core.specs.Replying.{key_data}
 use Rattle.gossip_core.specs.Summarizing.{wire_key}
-use Rattle.gossip_core.proofs.Parts.{anchor_low}
 use Rattle.gossip_core.proofs.Sending.{wire_keys}
 use Rattle.gossip_core.proofs.Summed.{keys_rise, keys_fit}
+use Rattle.segment_core.proofs.OneView.{anchor_low}
 use Rattle.gossip_core.proofs.summaries.own_summary.Goals as goal
 
 pub new-requires : goal.new-requires

@@ -8,11 +8,9 @@ use Rattle.epoch_book.specs.Book.{BookData}
 use Rattle.hot_log.specs.Held.{IsHeld, HasKey}
 use Rattle.hot_log.specs.Alive.{IsHeldAlive, PartsAt}
 use Rattle.hot_log.proofs.Climb.{above_falls, alive_key, key_alive}
+use Rattle.hot_log.proofs.Ends.{back_below}
 use Rattle.hot_log.proofs.search.alive_of_back.Goals as goal
 use Rattle.hot_log.proofs.search.alive_of_back.Goals.{then-is_up_to, else-is_up_to}
-
-back_below : (r : RecordData) → record_fault r ≡ None → r.back < r.number
-back_below r h = grind arith
 
 -- each alive record with the backlink is above the key that parts the alive records there
 over_low : (b : BookData) (held : List RecordData) (back epoch : ℕ) (at : ℕ × ℕ) → PartsAt b back epoch → at ≡ (epoch, back) → IsHeld held → (r : RecordData) → IsHeldAlive b held r → r.back ≡ back → PairBefore at.0 at.1 r.epoch r.number

@@ -2,14 +2,15 @@ use Rattle.std.proofs.Common.{◌≡◌, ◌≤◌, true, false, sym, subst, ◌
 use Rattle.std.specs.List.{AllZip, Contains}
 use Rattle.redo_core.specs.declared.facts.Fact.TheVariants.{Advance}
 use Rattle.segment_state.specs.Known.{IsKnown}
-use Rattle.segment_join.proofs.Scanning.{by_members, of_member}
+use Rattle.segment_join.proofs.Scanning.{of_member}
+use Rattle.redo_core.proofs.Members.{all_members}
 use Rattle.segment_join.proofs.covering.covers_book.Goals as goal
 
 pub returns-then-not-has_cuts : goal.returns-then-not-has_cuts
 returns-then-not-has_cuts c = (
   λ (h : false ≡ true). absurd (cc),
   λ covers. sym c.if-not-has_cuts.true ∙ c.has_cuts.ensures.1
-      (by_members _ c.cuts.result.now (λ x h. covers.cuts x (subst (λ xs. Contains xs x) c.cuts.ensures.value h))),
+      (all_members _ c.cuts.result.now (λ x h. covers.cuts x (subst (λ xs. Contains xs x) c.cuts.ensures.value h))),
 )
 
 pub returns-then-not-are_at_most : goal.returns-then-not-are_at_most
@@ -31,6 +32,6 @@ returns c = (
     waits = λ a has. of_member (λ a. IsKnown c.args.upper.now (Advance a)) c.waits.result.now (c.has_waits.ensures.0 h) a
         (subst (λ xs. Contains xs a) (sym c.waits.ensures.value) has);
   },
-  λ covers. c.has_waits.ensures.1 (by_members (λ a. IsKnown c.args.upper.now (Advance a)) c.waits.result.now
+  λ covers. c.has_waits.ensures.1 (all_members (λ a. IsKnown c.args.upper.now (Advance a)) c.waits.result.now
       (λ a h. covers.waits a (subst (λ xs. Contains xs a) c.waits.ensures.value h))),
 )

@@ -3,17 +3,17 @@ use Rattle.std.specs.List.{Contains}
 use Rattle.redo_core.specs.Data.{RecordData}
 use Rattle.redo_core.specs.Roster.{least}
 use Rattle.epoch_book.specs.Book.{BookData, IsBook}
-use Rattle.segment_state.specs.State.{State, state_of}
+use Rattle.segment_state.specs.State.{State, Store, state_of}
+use Rattle.segment_core.specs.Due.{HasDue}
 use Rattle.segment_core.specs.Keys.{key_of}
 use Rattle.segment_core.specs.Points.{HasPoints}
 use Rattle.segment_core.specs.Savepoint.{SavepointData, RollsBackTo}
 use Rattle.segment_core.proofs.Savepoints.{old_held, is_old}
-use Rattle.segment_core.proofs.DuePages.{fewer_held}
 use Rattle.segment_core.proofs.segment.Segment.roll_back.Goals as goal
 
 -- the saved parts, and the state as it is
 unfoldable saved : goal.After-drop-saved-inside → SavepointData
-saved c = record { book = c.saved.inside.book; points = c.saved.inside.points; came = c.saved.inside.came.items }
+saved c = record { book = c.saved.inside.book; points = c.saved.inside.points; due = c.saved.inside.due; came = c.saved.inside.came.items }
 
 unfoldable now : goal.After-drop-saved-inside → State
 now c = state_of c.self.inside.book c.self.inside.hot c.self.inside.base c.self.inside.store
@@ -42,9 +42,9 @@ invariant_of-self c =
       subst (λ (n : ℕ). HasPoints c.saved.inside.book c.take_out.new.hot n c.saved.inside.points) r.rest.base
           (subst (λ (hs : List RecordData). HasPoints c.saved.inside.book hs old.base c.saved.inside.points) (sym held)
           (subst (λ (b : BookData). HasPoints b old.held old.base c.saved.inside.points) r.book r.points)),
-      c.add_for_book.ensures c.take_out.new.hot c.self.inside.store
-          (fewer_held c.self.inside.book c.self.inside.hot c.take_out.new.hot c.self.inside.store c.self.inside.due (λ x h. ((removes c x).0 h).0)
-          c.self.invariant.5),
+      subst (λ (st : Store). HasDue c.saved.inside.book c.take_out.new.hot st c.saved.inside.due) r.rest.store
+          (subst (λ (hs : List RecordData). HasDue c.saved.inside.book hs old.store c.saved.inside.due) (sym held)
+          (subst (λ (b : BookData). HasDue b old.held old.store c.saved.inside.due) r.book r.due)),
     )
 
 pub returns : goal.returns
