@@ -4,8 +4,7 @@ use Rattle.redo_core.specs.Data.{RecordData}
 use Rattle.redo_core.specs.Order.{Lists}
 use Rattle.hot_log.specs.Missing.{IsMissing}
 use Rattle.hot_log.specs.Paged.{PlaceBefore}
-use Rattle.segment_state.specs.HasMeaning.{IsKeptBy}
-use Rattle.segment_join.specs.Covering.{HasRecord, HasKept}
+use Rattle.segment_join.specs.Covering.{HasKept}
 use Rattle.segment_join.proofs.Scanning.{of_member}
 use Rattle.segment_join.proofs.Keeping.{own_record}
 use Rattle.segment_join.proofs.LeavingOut.{settled_held}
@@ -19,12 +18,12 @@ returns-then-not-covers_book c = λ anchor base top low. (
   λ covers. sym c.if-not-covers_book.true ∙ c.covers_book.ensures.1 covers.book,
 )
 
-pub returns-then-anchor : goal.returns-then-anchor
-returns-then-anchor c = λ anchor base top low.
+pub returns-then-anchor-base : goal.returns-then-anchor-base
+returns-then-anchor-base c = λ anchor base top low.
     let a : c.anchor-anchor.result ≡ anchor = one_anchor c.args.upper.now c.anchor-anchor.result anchor c.anchor-anchor.ensures.own top in
     let b : c.anchor-base.result ≡ base = one_anchor c.args.lower.now c.anchor-base.result base c.anchor-base.ensures.own low in (
       λ (h : false ≡ true). absurd (cc),
-      λ covers. absurd (omega (arith, a, b, c.if-anchor.true, covers.anchors)),
+      λ covers. absurd (omega (arith, a, b, c.if-anchor-base.true, covers.anchors)),
     )
 
 pub has_records-requires : goal.has_records-requires
@@ -45,7 +44,7 @@ returns c = λ anchor base top low.
     c.deref.ensures.value c.has_records.ensures)) in (
       λ h. record {
         book = c.covers_book.ensures.0 c.if-not-covers_book.false;
-        anchors = omega (arith, a, b, c.if-anchor.false);
+        anchors = omega (arith, a, b, c.if-anchor-base.false);
         kept = λ r has. ⊎_elim
             (λ (own : Contains upper.held r). own_record upper anchor r own)
             (λ (no : Contains upper.held r → ⊥). of_member (HasKept upper anchor lower base) missing (tells.0 h) r ((lacks.members r).1 (has.0, no)) has)
