@@ -23,7 +23,7 @@ use Rattle.gossip_core.specs.Laws.{EverySegmentHasOneMeaning}
 use Rattle.segment_core.proofs.OneView.{one_anchor}
 use Rattle.segment_core.proofs.SamePages.{shows_one}
 use Rattle.segment_join.proofs.Agreeing.{one_meaning}
-use Rattle.hot_log.proofs.Ends.{back_below}
+use Rattle.hot_log.proofs.Chain.{back_below}
 
 -- a rising list lists its members
 itself : {X : Type 0} (Before : X → X → Type 0) (xs : List X) → IsRising Before xs → Lists Before (Contains xs) xs

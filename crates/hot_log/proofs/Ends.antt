@@ -1,22 +1,18 @@
 -- Where a chain without forks and strays ends.
-use Rattle.std.proofs.Common.{◌≡◌, ℕ, ◌<◌, ◌≤◌, ◌⊎◌, inl, inr, ⊎_elim, List, refl, sym, ◌∙◌, ap, subst, arith, Some, None}
+use Rattle.std.proofs.Common.{◌≡◌, ℕ, ◌<◌, ◌≤◌, ◌⊎◌, inl, inr, ⊎_elim, List, refl, sym, ◌∙◌, ap, subst, arith, Some}
 use Rattle.std.proofs.lemmas.Bool.{cases_lt}
 use Rattle.redo_core.specs.Data.{RecordData}
 use Rattle.redo_core.specs.Order.{RecordBefore, PairBefore}
-use Rattle.redo_core.specs.Shape.{record_fault}
 use Rattle.redo_core.specs.Linked.Linked.{start, next}
 use Rattle.redo_core.proofs.Rising.{rising_members}
 use Rattle.epoch_book.specs.Book.{BookData, IsBook}
 use Rattle.hot_log.specs.Held.{IsHeld, HasKey}
 use Rattle.hot_log.specs.Alive.{IsHeldAlive, IsLinkedFrom, IsStraightEnd, IsAliveOfBack}
 use Rattle.hot_log.specs.Found.{IsLeastRecord}
-use Rattle.hot_log.proofs.Chain.{link_at_least, link_down}
+use Rattle.hot_log.proofs.Chain.{link_at_least, link_down, back_below}
 use Rattle.hot_log.proofs.Straight.{Straight, straight_start, straight_next, linked_above}
 use Rattle.hot_log.proofs.Views.{view_of, one_number, number_before}
 use Rattle.hot_log.proofs.Climb.{from_zero}
-
-pub back_below : (r : RecordData) → record_fault r ≡ None → r.back < r.number
-back_below r h = grind arith
 
 -- the chain so far: straight, and no alive record above it has a linked backlink below its end
 pub record Climbed (b : BookData) (held : List RecordData) (from top : ℕ) : Type 0 where

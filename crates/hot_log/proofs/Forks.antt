@@ -5,7 +5,6 @@ use Rattle.std.proofs.lemmas.Bool.{cases_lt}
 use Rattle.std.proofs.lemmas.List.{length-take, length-drop, length-append}
 use Rattle.std.proofs.lemmas.List.Elements.{Contains-append_left, Contains-append_right}
 use Rattle.redo_core.specs.Data.{RecordData, CutData}
-use Rattle.redo_core.specs.Shape.{record_fault}
 use Rattle.redo_core.specs.Order.{IsRising, RecordBefore, PairBefore, Lists}
 use Rattle.redo_core.specs.Linked.{Linked}
 use Rattle.redo_core.specs.Linked.Linked.{start, next}
@@ -18,9 +17,8 @@ use Rattle.hot_log.specs.Paged.{key_of}
 use Rattle.hot_log.specs.Alive.{IsHeldAlive, IsLinkedFrom, IsReached, IsAliveOfBack}
 use Rattle.hot_log.proofs.Keys.{pair_not_same}
 use Rattle.hot_log.proofs.Views.{view_of, one_number}
-use Rattle.hot_log.proofs.Chain.{Link, link_cases, link_at_least, link_down}
+use Rattle.hot_log.proofs.Chain.{Link, link_cases, link_at_least, link_down, back_below}
 use Rattle.hot_log.proofs.Climb.{from_zero, key_is}
-use Rattle.hot_log.proofs.Ends.{back_below}
 
 one_alive : (b : BookData) (held : List RecordData) (r s : RecordData) → IsBook b → IsHeld held → IsHeldAlive b held r → IsHeldAlive b held s → r.number ≡ s.number → r ≡ s
 one_alive b held r s book is h k e = one_number b.cuts b.complete held (view_of b book) is.rising r s h.0 k.0 h.1 k.1 e

@@ -20,3 +20,4 @@ pub mod Growth
 pub mod Descending
 pub mod Sides
 pub mod Sorting
+pub mod Hanging

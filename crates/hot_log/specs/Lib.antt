@@ -8,3 +8,4 @@ pub mod Paged
 pub mod Anew
 pub mod Missing
 pub mod Kept
+pub mod Gaps

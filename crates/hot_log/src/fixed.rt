@@ -35,3 +35,18 @@ fn key_after_has_one_answer(
 {
     (log.key_after(after), log.key_after(after))
 }
+
+fn gap_has_one_answer(log: &HotLog, book: &EpochBook, number: u64) -> (Option<u64>, Option<u64>)
+    ensures { result.0 ≡ result.1 }
+{
+    // They are called for what they ensure: the two have the form of a log and of a book.
+    let _held = log.len();
+    let _complete = book.complete_epoch();
+    (log.gap_above(book, number), log.gap_above(book, number))
+}
+
+fn awaited_epoch_has_one_answer(log: &HotLog, book: &EpochBook) -> (Option<u16>, Option<u16>)
+    ensures { result.0 ≡ result.1 }
+{
+    (log.awaited(book), log.awaited(book))
+}

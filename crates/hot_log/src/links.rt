@@ -6,6 +6,7 @@ ghost use Rattle.redo_core.specs.Order.{Lists, RecordBefore};
 ghost use Rattle.hot_log.specs.Held.{IsHeld};
 ghost use Rattle.hot_log.specs.Alive.{IsAliveOfBack, IsLinkedFrom, IsLinkedHeld, IsReached, IsStraight, IsStraightEnd};
 ghost use Rattle.hot_log.specs.Found.{IsGreatestRecord};
+ghost use Rattle.hot_log.specs.Gaps.{IsGapAbove};
 
 use crate::log::HotLog;
 use crate::search::alive_of_back;
@@ -145,4 +146,17 @@ pub fn straight_end(log: &HotLog, book: &EpochBook, from: u64) -> Option<u64>
         top = key.1;
     }
     Some(top)
+}
+
+// The number on which the first alive record above a number hangs, by a walk down the backlinks. Over a sound log the record's own
+// backlink is that number, so the walk ends at once.
+pub fn gap_above(log: &HotLog, book: &EpochBook, number: u64) -> Option<u64>
+    ensures { IsGapAbove book.now log.now number result }
+{
+    let _held = log.len();
+    let mut redo = log.alive_after(book, number)?;
+    while let Some(below) = log.alive_of(book, redo.back()) {
+        redo = below;
+    }
+    Some(redo.back())
 }

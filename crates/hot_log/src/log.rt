@@ -6,6 +6,7 @@ ghost use Rattle.redo_core.specs.Standing.{IsDead};
 ghost use Rattle.hot_log.specs.Held.{IsHeld, IsRecordAt, IsKeyAfter, IsKeyTo, IsGreatestHeld, HasKey, HoldsKey};
 ghost use Rattle.hot_log.specs.Alive.{IsHeldAlive, IsHeldOf, IsLinkedFrom, IsLinkedHeld, IsReached, IsStraight, IsStraightEnd};
 ghost use Rattle.hot_log.specs.Anew.{ListsAnew};
+ghost use Rattle.hot_log.specs.Gaps.{IsGapAbove, IsAwaited};
 ghost use Rattle.hot_log.specs.Found.{IsLeast, IsLeastRecord, IsGreatestRecord, IsOnlyRecord, IsPageAfter};
 ghost use Rattle.hot_log.specs.Kept.{IsKeptAbove, ListsKeysOf};
 ghost use Rattle.hot_log.specs.Indexing.{IsIndexBy, IsNextHeld, IsNextRecord, IsLastRecord};
@@ -418,6 +419,27 @@ impl HotLog {
         ensures none { IsNone result → (n : ℕ) → IsStraightEnd book.now self.now from n → ⊥ }
     {
         links::straight_end(self, book, from)
+    }
+
+    /// The number on which the first alive record above a number hangs: that record names it as its segment backlink, or names a held one
+    /// that does, and so on down, and no alive record that is held has it. None where no alive record is above the number.
+    pub fn gap_above(&self, book: &EpochBook, number: u64) -> Option<u64>
+        ensures { IsGapAbove book.now self.now number result }
+    {
+        links::gap_above(self, book, number)
+    }
+
+    /// The epoch after the complete one, where a held record waits; else None.
+    pub fn awaited(&self, book: &EpochBook) -> Option<u16>
+        ensures { IsAwaited book.now self.now result }
+    {
+        let complete = book.complete_epoch();
+        let key = self.greatest_key()?;
+        if complete < key.0 {
+            Some(complete + 1)
+        } else {
+            None
+        }
     }
 }
 

@@ -13,7 +13,7 @@ use Rattle.hot_log.proofs.Straight.{none_over, straight_start}
 use Rattle.segment_core.specs.Points.{HasPoints, HasLowAnchor, IsTopTo, JoinsOnTop}
 use Rattle.segment_core.specs.declared.points.Points.{Points}
 use Rattle.segment_core.proofs.OnTop.{ended}
-use Rattle.hot_log.proofs.Ends.{back_below}
+use Rattle.hot_log.proofs.Chain.{back_below}
 
 -- ---- the minimum read point may have risen: the search is for the last alive record up to it and to the complete point
 abbrev pub UpTo : BookData → List RecordData → ℕ → RecordData → Type 0

@@ -19,7 +19,7 @@ use Rattle.redo_core.specs.Shape.{max_number, record_fault}
 use Rattle.segment_core.specs.Points.{IsTop, MoveOn, HasPoints, HasLowAnchor, MayLink}
 use Rattle.segment_core.specs.declared.points.Points.{Points}
 use Rattle.segment_core.proofs.Chain.{linked_small, small_number}
-use Rattle.hot_log.proofs.Ends.{back_below}
+use Rattle.hot_log.proofs.Chain.{back_below}
 
 -- ---- a greatest number up to a limit that none is above
 pub top_of : (b : BookData) (held : List RecordData) (from n : ℕ) → IsHeld held → from ≤ max_number → IsLinkedFrom b held from n

@@ -15,7 +15,7 @@ use Rattle.hot_log.proofs.Views.{view_of}
 use Rattle.segment_core.specs.Points.{MoveOn, HasPoints, IsLaterBook, WerePoints, IsUntouched}
 use Rattle.segment_core.specs.declared.points.Points.{Points}
 use Rattle.segment_core.proofs.Chain.{small_number}
-use Rattle.hot_log.proofs.Ends.{back_below}
+use Rattle.hot_log.proofs.Chain.{back_below}
 
 -- the points of a straight chain of book b, and a number of it that book c, which knows later epochs, leaves untouched
 pub record Opening (b c : BookData) (held : List RecordData) (base n : ℕ) (p : Points) : Type 0 where

@@ -8,7 +8,7 @@ use Rattle.epoch_book.specs.Book.{BookData}
 use Rattle.hot_log.specs.Held.{IsHeld, HasKey}
 use Rattle.hot_log.specs.Alive.{IsHeldAlive, PartsAt}
 use Rattle.hot_log.proofs.Climb.{above_falls, alive_key, key_alive}
-use Rattle.hot_log.proofs.Ends.{back_below}
+use Rattle.hot_log.proofs.Chain.{back_below}
 use Rattle.hot_log.proofs.search.alive_of_back.Goals as goal
 use Rattle.hot_log.proofs.search.alive_of_back.Goals.{then-is_up_to, else-is_up_to}
 
