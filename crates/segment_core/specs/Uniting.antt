@@ -14,6 +14,13 @@ pub record Holds (old : State) (r : RecordData) (new : State) : Type 0 where
   pub more : (x : RecordData) → Contains new.held x → Contains old.held x ⊎ (x ≡ r)
   pub held : Contains new.held r ⊎ HoldsOther old r
 
+-- the base point is raised to the base, and all else stays
+pub record RaisesBase (old : State) (base : ℕ) (new : State) : Type 0 where
+  pub book : new.book ≡ old.book
+  pub held : new.held ≡ old.held
+  pub base_is : new.base ≡ max old.base base
+  pub store : new.store ≡ old.store
+
 -- the book and the held records stay, the base point is raised to the base, and the images are taken in over the floor
 pub record Unites (old : State) (base floor : ℕ) (given : List StoredImage) (new : State) : Type 0 where
   pub book : new.book ≡ old.book

@@ -1,6 +1,6 @@
 ghost use Rattle.std.specs.Prelude.{◌≡◌, ◌≤◌, OnOk, OnErr};
 ghost use Rattle.segment_state.specs.State.{min_of};
-ghost use Rattle.segment_core.specs.Uniting.{Unites};
+ghost use Rattle.segment_core.specs.Uniting.{Unites, RaisesBase};
 
 use crate::segment::Segment;
 use page_base::BaseImage;
@@ -16,15 +16,27 @@ impl Segment {
         ensures unites { OnOk result (Unites self.old base floor images.items self.new) }
         ensures unchanged { OnErr result (self.new ≡ self.old) }
     {
+        if images.is_empty() && floor <= self.store.floor() {
+            self.raise_base(base);
+            return Ok(());
+        }
         match self.store.merge(floor, images) {
             Ok(()) => {
-                let raised = self.base.max(base);
-                self.points = self.points.over(&self.hot, &self.book, self.base, raised);
-                self.base = raised;
                 self.due.add_images(&self.store);
+                self.raise_base(base);
                 Ok(())
             }
             Err(_) => Err(AllocError),
         }
+    }
+
+    /// Raises the base point to `base` where that is higher.
+    fn raise_base(&mut self, base: u64)
+        requires { base ≤ min_of self.old }
+        ensures { RaisesBase self.old base self.new }
+    {
+        let raised = self.base.max(base);
+        self.points = self.points.over(&self.hot, &self.book, self.base, raised);
+        self.base = raised;
     }
 }
