@@ -25,3 +25,4 @@ pub mod Opening
 pub mod OnTop
 pub mod LastAnchor
 pub mod DuePages
+pub mod Ahead
