@@ -259,6 +259,10 @@ class Fleet:
         meaning = self.meaning(i)
         return f"front {meaning.epoch} {meaning.complete} {meaning.min}"
 
+    def gap(self, i):
+        kind, number = self.meaning(i).gap or ("", "")
+        return f"gap {kind} {number}" if kind else "no gap"
+
     def read(self, i, page, point, offset, length):
         meaning = self.meaning(i)
         if point < meaning.min:

@@ -204,6 +204,7 @@ class Meaning:
         for record in alive:
             if record.back in numbers:
                 numbers.add(record.number)
+        self.backlinks = {r.number: r.back for r in alive}
         self.linked = [r for r in alive if r.number in numbers]
         self.complete = max(numbers)
         self.points = tuple(
@@ -214,12 +215,27 @@ class Meaning:
         self.waits = frozenset(a for a in advances if a.epoch > self.epoch)
         self.anchor = max(n for n in numbers if n <= self.min)
         self.kept = frozenset(r for r in records if self.is_waiting(r) or (self.is_alive(r) and r.number > self.anchor))
+        self.gap = self.lacks_record() or self.lacks_cut()
 
     def is_waiting(self, record):
         return record.epoch > self.epoch
 
     def is_alive(self, record):
         return is_alive(self.cuts, self.epoch, record)
+
+    def lacks_record(self):
+        """The number on which the least alive record above the complete point hangs, with its kind, or None."""
+        ahead = [number for number in self.backlinks if number > self.complete]
+        if not ahead:
+            return None
+        number = min(ahead)
+        while number in self.backlinks:
+            number = self.backlinks[number]
+        return "record", number
+
+    def lacks_cut(self):
+        """The epoch of the truncation for which records wait, with its kind, or None."""
+        return ("truncation", self.epoch + 1) if any(self.is_waiting(r) for r in self.kept) else None
 
     def page(self, page, point):
         image = bytes(PAGE_LEN)

@@ -27,3 +27,4 @@ pub mod OnTop
 pub mod LastAnchor
 pub mod DuePages
 pub mod NothingMerged
+pub mod Ahead

@@ -17,3 +17,4 @@ pub mod Keys
 pub mod Laws
 pub mod Restoring
 pub mod Due
+pub mod Gaps

@@ -3,7 +3,7 @@
 
 ghost use Rattle.std.specs.Prelude.{◌≡◌, IfOk};
 
-use crate::{Front, ReadFault, Segment, Standing};
+use crate::{Front, Gap, ReadFault, Segment, Standing};
 use redo_core::Page;
 
 fn front_has_one_answer(segment: &Segment) -> (Front, Front)
@@ -44,4 +44,10 @@ fn page_read_has_one_image(
     ensures { IfOk result (λ both. both.0 ≡ both.1) }
 {
     Ok((segment.read(page, point)?, segment.read(page, point)?))
+}
+
+fn gap_has_one_answer(segment: &Segment) -> (Option<Gap>, Option<Gap>)
+    ensures { result.0 ≡ result.1 }
+{
+    (segment.gap(), segment.gap())
 }

@@ -1,12 +1,12 @@
 //! One segment: it keeps the facts that reached it and answers as that set of facts, also of records that it has thrown away.
 //!
 //! For every sound log, and every part of it that a segment means: `take` on Ok makes it mean the part with the fact, says
-//! `Changed` exactly where the meaning changed, and is refused for want of memory alone; `front`, `anchor` and `read` answer for
-//! the part, whatever order its facts came in. A fold (`plan_fold`, `FoldPlan::fold`, `commit_fold`) brings a page's image to
+//! `Changed` exactly where the meaning changed, and is refused for want of memory alone; `front`, `anchor`, `gap` and `read` answer
+//! for the part, whatever order its facts came in. A fold (`plan_fold`, `FoldPlan::fold`, `commit_fold`) brings a page's image to
 //! the anchor, a `discard` forgets the records that images have, a `tidy` leaves just the kept ones: all keep what the segment
 //! means. Over any facts a take says what it stored, each refusal but want of memory comes exactly where its definition says, and so
-//! does a broken block chain. Facts that are taken with a savepoint can be rolled back, and `unite` takes images in: so a union is taken
-//! whole or not at all, and the held records are not copied for it.
+//! do a broken block chain and a gap. Facts that are taken with a savepoint can be rolled back, and `unite` takes images in: so a union
+//! is taken whole or not at all, and the held records are not copied for it.
 #![tactic(auto)]
 
 mod answers;
@@ -15,6 +15,7 @@ mod comparing;
 mod due;
 mod fixed;
 mod fold_plan;
+mod gaps;
 mod known;
 pub mod laws;
 mod points;
@@ -26,7 +27,7 @@ mod stored;
 mod union;
 mod walk;
 
-pub use answers::{Front, ReadFault, Refusal, Taken};
+pub use answers::{Front, Gap, ReadFault, Refusal, Taken};
 pub use epoch_book::{Held, Standing};
 pub use fold_plan::{CommitFault, FoldPlan, Folded};
 pub use page_base::BaseImage;

@@ -22,7 +22,7 @@ use Rattle.segment_state.specs.Shows.{IsApplied, HasBlockBelow}
 use Rattle.segment_state.proofs.Reading.{held_of}
 
 -- what is alive in a record's own view below the record is alive wherever the record is
-alive_on : (log : List Fact) (k : ℕ) (r : RecordData) (e n : ℕ) → IsAlive (cuts log) k r.epoch r.number → IsAlive (cuts log) r.epoch e n → n < r.number
+pub alive_on : (log : List Fact) (k : ℕ) (r : RecordData) (e n : ℕ) → IsAlive (cuts log) k r.epoch r.number → IsAlive (cuts log) r.epoch e n → n < r.number
     → IsAlive (cuts log) k e n
 alive_on log k r e n above a lt = record {
   known = let x : e ≤ r.epoch = a.known in let y : r.epoch ≤ k = above.known in omega arith;

@@ -1,0 +1,30 @@
+ghost use Rattle.std.specs.Prelude.{ℕ, List};
+ghost use Rattle.redo_core.specs.Position.{Position};
+ghost use Rattle.redo_core.specs.Sound.{IsSound};
+ghost use Rattle.redo_core.specs.declared.facts.Fact.{Fact as AnyFact};
+ghost use Rattle.segment_state.specs.Means.{MeansAt};
+ghost use Rattle.segment_core.specs.Gaps.{IsGapAt, IsGapOf};
+ghost use Rattle.segment_core.specs.Form.{IsSegment};
+
+use crate::answers::Gap;
+use crate::segment::Segment;
+
+impl Segment {
+    /// What the complete point waits for: the record on which the first alive record above it hangs, or else the truncation of the next
+    /// epoch, where held records wait for that. None where no held record waits or is alive above the complete point.
+    pub fn gap(&self) -> Option<Gap>
+        ensures gap { (roster : ℕ) (log facts : List AnyFact) (p : Position) → IsSound roster log → MeansAt roster log facts p self.now → IsGapAt log facts p result }
+        // Over any facts.
+        ensures own { IsGapOf self.now result }
+        ensures form { IsSegment self.now }
+    {
+        let front = self.front();
+        match self.hot.gap_above(&self.book, front.complete) {
+            Some(number) => Some(Gap::Record { number }),
+            None => {
+                let epoch = self.hot.awaited(&self.book)?;
+                Some(Gap::Truncation { epoch })
+            }
+        }
+    }
+}
