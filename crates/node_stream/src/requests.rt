@@ -10,7 +10,7 @@ use crate::faults::{LineError, LineFault};
 use crate::numbered::{numbers, word};
 use crate::values::{delta, fact, piece, summary};
 use replica::Request;
-use script_text::parts;
+use script_text::first_parts;
 use std::alloc::Global;
 
 #[tactic(auto, unfolding(crate::specs::Reading::take_line))]
@@ -113,10 +113,11 @@ fn read_words(alloc: Global, words: &[&[u8]]) -> Result<Asked, LineError>
 /// What a line asks.
 ///
 /// Errors: `Fault` where it asks for nothing, with the first cause from left to right, and `Memory`.
+#[tactic(auto, using(crate::proofs::FirstWords::first_words))]
 pub fn read_line(alloc: Global, line: &[u8]) -> Result<Asked, LineError>
     ensures asks { Gives (λ x. x) result (request_of line.now) }
     ensures inside { IfOk result (λ a. IsInside a.window) }
 {
-    let words = parts(alloc, line, b' ')?;
+    let words = first_parts(alloc, line, b' ')?;
     read_words(alloc, &words)
 }

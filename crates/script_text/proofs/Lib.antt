@@ -3,12 +3,14 @@ pub mod Split
 pub mod FirstPart
 pub mod Numbers
 pub mod Forms
+pub mod Results
+pub mod FirstParts
 pub mod Loops
 pub mod PatchSpelling
 pub mod StepSpelling
 pub mod FactSpelling
 pub mod FactTexts
-pub mod Results
 pub mod Scripts
+pub mod Lines
 pub mod Rosters
 pub mod BadLines

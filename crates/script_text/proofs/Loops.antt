@@ -1,21 +1,15 @@
--- What a loop over fields, or over lines, keeps.
-use Rattle.std.proofs.Common.{◌≡◌, ◌+◌, ◌<◌, ◌≤◌, List, [], ◌∷◌, ◌++◌, Bor, Some, None, Result, Ok, Err, ℕ, length, map, take, drop, set, get_or, arith, refl, add-one, append_assoc, append-nil, sym, ap, ◌∙◌}
+-- What a loop over fields keeps.
+use Rattle.std.proofs.Common.{◌≡◌, ◌+◌, ◌<◌, ◌≤◌, List, [], ◌∷◌, ◌++◌, Bor, Some, None, ℕ, length, map, take, drop, set, get_or, refl, add-one, append_assoc, append-nil, sym, ap, ◌∙◌}
 use Rattle.std.proofs.Math.Seq.{drop-cons}
 use Rattle.std.proofs.lemmas.List.{take_more_set, take_all, drop_all}
-use Rattle.std.proofs.lemmas.Bool.Decides.{nat_tests}
 use Rattle.std.specs.declared.option.Option.{Option}
-use Rattle.redo_core.specs.declared.facts.Fact.{Fact}
 use Rattle.script_text.specs.Number.{decimal_value}
 use Rattle.script_text.specs.Parts.{◌>>=◌}
 use Rattle.script_text.specs.Fields.{numbers_of}
-use Rattle.script_text.specs.Script.{ScriptData, lines_from, script_from, most, with_fact, with_facts, within}
 
 -- the values so far, and then the others
 abbrev pub with_front : {A : Type 0} → List A → Option (List A) → Option (List A)
 with_front front rest = rest >>= λ xs. Some (front ++ xs)
-
-abbrev pub with_said : {A : Type 0} → List A → Result (List A) ℕ → Result (List A) ℕ
-with_said front rest = within (λ xs. front ++ xs) rest
 
 -- the next number, behind those so far
 one_more : (front : List ℕ) (v : ℕ) (os : Option (List ℕ)) → with_front front (os >>= (λ ns. Some (v ∷ ns))) ≡ with_front (front ++ v ∷ []) os
@@ -25,17 +19,6 @@ one_more front v None = refl
 pub next_number : (front limits : List ℕ) (words : List (List ℕ)) (limit v : ℕ) (word : List ℕ) → decimal_value limit word ≡ Some v
     → with_front front (numbers_of (limit ∷ limits) (word ∷ words)) ≡ with_front (front ++ v ∷ []) (numbers_of limits words)
 next_number front limits words limit v word e = rw e (one_more front v (numbers_of limits words))
-
--- behind the last LF stands no line but a bad one
-pub script_from_last : (count at : ℕ) (lines : List (List ℕ)) → length lines ≡ 1 → script_from count at lines ≡ Err at
-script_from_last count at [] e = absurd (omega arith)
-script_from_last count at (line ∷ rest) e = grind (arith, nat_tests)
-
--- a line more than may come
-pub lines_from_past : {A : Type 0} (said : List ℕ → Option A) (count at : ℕ) (lines : List (List ℕ)) → 1 < length lines → most ≤ count
-    → lines_from said count at lines ≡ Err at
-lines_from_past said count at [] e le = absurd (omega arith)
-lines_from_past said count at (line ∷ rest) e le = grind (arith, nat_tests)
 
 -- ---- numbers, one by one
 
@@ -69,10 +52,3 @@ pub numbers_read : (limits numbers : List ℕ) (fields : List (Bor (List ℕ))) 
     → with_front (take i numbers) (numbers_of (drop i limits) (map (λ x. x.now) (drop i fields))) ≡ Some numbers
 numbers_read limits numbers fields i l f n = rw (drop_all i limits l, drop_all i fields f, take_all i numbers n)
     (ap (λ (t : List ℕ). Some t) (append-nil numbers))
-
--- ---- facts, one by one
-
-pub one_more_fact : (facts : List Fact) (f : Fact) (r : Result ScriptData ℕ) → within (with_facts facts) (within (with_fact f) r) ≡ within
-    (with_facts (facts ++ f ∷ [])) r
-one_more_fact facts f (Ok s) = ap (λ (t : List Fact). Ok (record s { facts = t })) (sym (append_assoc facts (f ∷ []) s.facts))
-one_more_fact facts f (Err at) = refl

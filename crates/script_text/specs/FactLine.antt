@@ -1,9 +1,9 @@
 -- The fact of a line, by the line's fields.
-use Rattle.std.specs.Prelude.{ℕ, ◌==◌, Bool, true, false, List, [], ◌∷◌, length, Option, Some, None, Result, Ok, Err, codes, bytes_eq, if◌then◌else◌}
+use Rattle.std.specs.Prelude.{ℕ, ◌<◌, ◌==◌, Bool, true, false, List, [], ◌∷◌, length, Option, Some, None, Result, Ok, Err, codes, bytes_eq, if◌then◌else◌}
 use Rattle.hex.specs.Hex.{decode_of}
 use Rattle.hex.specs.declared.error.FromHexError.{FromHexError}
 use Rattle.redo_core.specs.Data.{record_with, cut_of, advance_of}
-use Rattle.redo_core.specs.Shape.{max_number, max_readers, record_fault, cut_fault, advance_fault}
+use Rattle.redo_core.specs.Shape.{max_number, max_patches, max_readers, record_fault, cut_fault, advance_fault}
 use Rattle.redo_core.specs.declared.shapes.ShapeFault.{ShapeFault}
 use Rattle.redo_core.specs.declared.patches.Patch.{Patch}
 use Rattle.redo_core.specs.declared.patches.Patch.TheVariants.{Bytes, Fill}
@@ -74,6 +74,11 @@ contents_from (text ∷ texts) =
 -- a dash for no patches
 unfoldable pub contents_of : List ℕ → Option Contents
 contents_of text = if bytes_eq text (codes "-") then Some (contents false []) else contents_from (parts_at 44 text)
+
+-- no contents, or those of no record: they have too many patches
+abbrev pub FitNoRecord : Option Contents → Type 0
+FitNoRecord None = Unit {0}
+FitNoRecord (Some c) = max_patches < length c.patches
 
 -- ---- facts
 

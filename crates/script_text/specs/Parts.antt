@@ -1,10 +1,18 @@
 -- The parts of a text, and steps that may find nothing.
-use Rattle.std.specs.Prelude.{ℕ, ◌==◌, List, Option, Some, None}
+use Rattle.std.specs.Prelude.{ℕ, ◌==◌, List, take, Option, Some, None}
 use Rattle.std.specs.List.{slice_split}
 
 -- the parts between the bytes of that value
 abbrev pub parts_at : ℕ → List ℕ → List (List ℕ)
 parts_at separator text = slice_split (λ b. b == separator) text
+
+-- how many parts of a text are looked at: one more than a line has, or what a record does to its page
+abbrev pub most_parts : ℕ
+most_parts = 66
+
+-- the first parts: all, where there are no more than are looked at
+unfoldable pub first_parts : ℕ → List ℕ → List (List ℕ)
+first_parts separator text = take most_parts (parts_at separator text)
 
 -- what was found, and then the next step
 infixl 10 ◌>>=◌

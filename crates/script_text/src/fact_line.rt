@@ -1,16 +1,16 @@
 //! Fact lines.
 
-ghost use Rattle.std.specs.Prelude.{◌≡◌, IfOk, map, option_map};
+ghost use Rattle.std.specs.Prelude.{◌≡◌, IfOk, IfSome, IfNone, map, option_map};
 ghost use Rattle.hex.specs.Hex.{decode_of};
 ghost use Rattle.redo_core.specs.Data.{record_with};
 ghost use Rattle.script_text.specs.Parts.{parts_at};
-ghost use Rattle.script_text.specs.FactLine.{decoded, write_at, fill_at, patch_at, patch_of, each_patch, contents, contents_from, contents_of, shaped, record_line, cut_line, advance_line, fact_line};
+ghost use Rattle.script_text.specs.FactLine.{decoded, write_at, fill_at, patch_at, patch_of, each_patch, contents, contents_from, contents_of, FitNoRecord, shaped, record_line, cut_line, advance_line, fact_line, fact_of};
 
-use crate::fields::{Parted, part_at, parts_into};
+use crate::fields::{Parted, first_parts_into, part_at};
 use crate::limits::{PAGE, SHORT};
 use crate::number::{number, numbers};
 use hex::FromHexError;
-use redo_core::{Advance, Cut, Fact, MAX_NUMBER, MAX_READERS, Patch, Record, Write};
+use redo_core::{Advance, Cut, Fact, MAX_NUMBER, MAX_PATCHES, MAX_READERS, Patch, Record, Write};
 use std::alloc::{AllocError, Global};
 
 /// Whether a record begins its page anew, and its patches.
@@ -112,14 +112,15 @@ fn contents_from(alloc: Global, pieces: &[&[u8]]) -> Result<Option<Contents>, Al
     }
 }
 
-/// What a record does to its page; nothing for `-`.
+/// What a record does to its page; nothing for `-`. None also where there are more patches than a record has.
 #[tactic(auto, unfolding(crate::specs::FactLine::contents_of))]
 fn record_contents<'a>(
     alloc: Global,
     text: &'a [u8],
     pieces: &mut Vec<&'a [u8]>,
 ) -> Result<Option<Contents>, AllocError>
-    ensures { IfOk result (λ o. option_map (λ c. contents c.init c.patches.items) o ≡ contents_of text.now) }
+    ensures some { IfOk result (λ o. IfSome o (λ c. contents_of text.now ≡ Some (contents c.init c.patches.items))) }
+    ensures none { IfOk result (λ o. IfNone o (FitNoRecord (contents_of text.now))) }
 {
     if text == b"-".as_slice() {
         let patches = Vec::new(alloc);
@@ -128,7 +129,10 @@ fn record_contents<'a>(
             patches,
         }));
     }
-    parts_into(text, b',', pieces)?;
+    first_parts_into(text, b',', pieces)?;
+    if pieces.len() > MAX_PATCHES + 1 {
+        return Ok(None);
+    }
     contents_from(alloc, pieces)
 }
 
@@ -200,9 +204,9 @@ fn advance_line(fields: &[&[u8]]) -> Option<Fact>
     Some(Fact::Advance(advance))
 }
 
-/// The fact of a fact line. The list of pieces is room that is used again.
+/// The fact of a line's fields.
 #[tactic(auto, unfolding(crate::specs::FactLine::fact_line))]
-pub fn fact_line<'a>(
+fn fact_line<'a>(
     alloc: Global,
     fields: &[&'a [u8]],
     pieces: &mut Vec<&'a [u8]>,
@@ -217,15 +221,30 @@ pub fn fact_line<'a>(
     }
 }
 
-/// The same fact, shared by its copies.
-pub fn shared_fact_line<'a>(
+/// The fact of a line. The lists of its fields and of a record's pieces are room that is used again.
+#[tactic(auto, using(crate::proofs::FirstParts::first_fact))]
+pub fn fact<'a>(
     alloc: Global,
-    fields: &[&'a [u8]],
+    line: &'a [u8],
+    fields: &mut Vec<&'a [u8]>,
     pieces: &mut Vec<&'a [u8]>,
 ) -> Result<Option<Fact>, AllocError>
-    ensures { IfOk result (λ o. o ≡ fact_line (map (λ x. x.now) fields.now)) }
+    ensures { IfOk result (λ o. o ≡ fact_of line.now) }
 {
-    match fact_line(alloc, fields, pieces)? {
+    first_parts_into(line, b' ', fields)?;
+    fact_line(alloc, fields, pieces)
+}
+
+/// The same fact, shared by its copies.
+pub fn shared_fact<'a>(
+    alloc: Global,
+    line: &'a [u8],
+    fields: &mut Vec<&'a [u8]>,
+    pieces: &mut Vec<&'a [u8]>,
+) -> Result<Option<Fact>, AllocError>
+    ensures { IfOk result (λ o. o ≡ fact_of line.now) }
+{
+    match fact(alloc, line, fields, pieces)? {
         Some(fact) => Ok(Some(fact.share()?)),
         None => Ok(None),
     }

@@ -1,19 +1,20 @@
 //! How a text opens: with a roster, or without.
 
-ghost use Rattle.std.specs.Prelude.{◌≡◌, ◌≤◌, map, length, IfOk};
+ghost use Rattle.std.specs.Prelude.{◌≡◌, ◌≤◌, map, drop};
+ghost use Rattle.script_text.specs.Parts.{parts_at};
 ghost use Rattle.script_text.specs.Fields.{made_by};
 ghost use Rattle.script_text.specs.Script.{opening, opening_of, roster_form, roster_of};
 
-use crate::fields::parts;
+use crate::fields::{Parted, first_part, part_at};
 use crate::number::numbers;
 use redo_core::{MAX_READERS, Roster};
-use std::alloc::{AllocError, Global};
 
-/// The roster of a text, and how many lines name it: one, or none.
+/// The roster of a text, how many lines name it, one or none, and what stands below them.
 #[derive(Drop)]
-pub struct Opening {
+pub struct Opening<'a> {
     pub roster: Roster,
     pub lines: usize,
+    pub rest: &'a [u8],
 }
 
 /// The readers that the field behind `roster` names.
@@ -26,28 +27,34 @@ fn readers(fields: &[&[u8]]) -> Option<Roster>
 
 /// The roster that a line like `roster 2` names.
 #[tactic(auto, unfolding(crate::specs::Script::roster_of))]
-fn roster(alloc: Global, line: &[u8]) -> Result<Option<Roster>, AllocError>
-    ensures { IfOk result (λ o. o ≡ roster_of line.now) }
+fn roster(line: &[u8]) -> Option<Roster>
+    ensures { result ≡ roster_of line.now }
 {
-    let fields = parts(alloc, line, b' ')?;
-    match fields.split_first() {
-        Some((word, rest)) if *word == b"roster".as_slice() => Ok(readers(rest)),
-        _ => Ok(None),
+    match part_at(line, b' ') {
+        Parted::Halves(word, field) if word == b"roster".as_slice() => readers(&[field]),
+        _ => None,
     }
 }
 
 /// The roster that the first line names, or else the roster 1. A line that is not ended names none.
-#[tactic(auto, unfolding(crate::specs::Script::opening_of))]
-pub fn read_opening(alloc: Global, lines: &[&[u8]]) -> Result<Opening, AllocError>
-    ensures opens { IfOk result (λ o. opening o.roster o.lines ≡ opening_of (map (λ x. x.now) lines.now)) }
-    ensures some { IfOk result (λ o. o.lines ≤ 1) }
-    ensures inside { IfOk result (λ o. o.lines ≤ length lines.now) }
+pub fn read_opening(text: &[u8]) -> Opening<'_>
+    ensures opens { opening result.roster result.lines ≡ opening_of (parts_at 10 text.now) }
+    ensures some { result.lines ≤ 1 }
+    ensures below { parts_at 10 result.rest.now ≡ drop result.lines (parts_at 10 text.now) }
 {
-    if let [first, _, ..] = lines {
-        if let Some(roster) = roster(alloc, first)? {
-            return Ok(Opening { roster, lines: 1 });
+    if let Some((first, rest)) = first_part(text, b'\n') {
+        if let Some(roster) = roster(first) {
+            return Opening {
+                roster,
+                lines: 1,
+                rest,
+            };
         }
     }
     let roster = Roster::new(1).unwrap();
-    Ok(Opening { roster, lines: 0 })
+    Opening {
+        roster,
+        lines: 0,
+        rest: text,
+    }
 }

@@ -2,17 +2,18 @@
 
 ghost use Rattle.std.specs.Prelude.{◌≡◌, ◌≤◌, ◌+◌, length, map, All, IfOk};
 ghost use Rattle.script_text.specs.Fields.{made_by};
+ghost use Rattle.script_text.specs.Parts.{parts_at};
 ghost use Rattle.script_text.specs.FactLine.{fact_of};
 ghost use Rattle.script_text.specs.StepLine.{step_of, IsInRange};
 ghost use Rattle.script_text.specs.Script.{lines_from, nodes_from, nodes_form, nodes_of, script_from, script_of, facts_of, most, within, with_facts};
 ghost use Rattle.script_text.specs.Outcome.{Gives, log_data, script_data, asked_data};
 ghost use Rattle.script_text.specs.declared.script.ScriptError.TheVariants.{Memory};
 
-use crate::fact_line::{fact_line, shared_fact_line};
-use crate::fields::{parts, parts_into};
+use crate::fact_line::{fact, shared_fact};
+use crate::fields::{Parted, first_part, part_at};
 use crate::number::numbers;
 use crate::opening::read_opening;
-use crate::step_line::step_line;
+use crate::step_line::step;
 use fleet_steps::Step;
 use redo_core::{Fact, Roster};
 use std::alloc::{AllocError, AllocFailed, Global};
@@ -74,33 +75,31 @@ const MOST_NODES: u64 = 64;
 /// Step lines to the end of the text, behind that many facts. The first has the number `at`.
 fn steps(
     alloc: Global,
-    lines: &[&[u8]],
+    text: &[u8],
     facts: usize,
     at: usize,
 ) -> Result<Vec<Step<usize>>, ScriptError>
     requires facts { facts ≤ most }
     requires at { at ≤ most + 4 }
-    ensures { Gives (λ v. v.items) result (lines_from (step_of facts) 0 at (map (λ x. x.now) lines.now)) }
+    ensures { Gives (λ v. v.items) result (lines_from (step_of facts) 0 at (parts_at 10 text.now)) }
 {
     let mut steps = Vec::new(alloc);
     let mut fields = Vec::new(alloc);
-    for (i, line) in lines.iter().enumerate() {
-        if i + 1 == lines.len() {
-            if line.is_empty() {
-                return Ok(steps);
-            }
-            return Err(ScriptError::BadLine(at + i));
+    let mut rest = text;
+    while let Some((line, behind)) = first_part(rest, b'\n') {
+        if steps.len() >= MOST {
+            return Err(ScriptError::BadLine(at + steps.len()));
         }
-        if i >= MOST {
-            return Err(ScriptError::BadLine(at + i));
-        }
-        parts_into(line, b' ', &mut fields)?;
-        let Some(next) = step_line(facts, &fields) else {
-            return Err(ScriptError::BadLine(at + i));
+        let Some(next) = step(facts, line, &mut fields)? else {
+            return Err(ScriptError::BadLine(at + steps.len()));
         };
         steps.push(next)?;
+        rest = behind;
     }
-    Ok(steps)
+    if rest.is_empty() {
+        return Ok(steps);
+    }
+    Err(ScriptError::BadLine(at + steps.len()))
 }
 
 /// The number of nodes that the field behind `nodes` names.
@@ -116,34 +115,25 @@ fn count(fields: &[&[u8]]) -> Option<u16>
 
 /// The number of nodes that a line like `nodes 2` names.
 #[tactic(auto, unfolding(crate::specs::Script::nodes_of))]
-fn nodes(alloc: Global, line: &[u8]) -> Result<Option<u16>, AllocError>
-    ensures { IfOk result (λ o. o ≡ nodes_of line.now) }
+fn nodes(line: &[u8]) -> Option<u16>
+    ensures { result ≡ nodes_of line.now }
 {
-    let fields = parts(alloc, line, b' ')?;
-    match fields.split_first() {
-        Some((word, rest)) if *word == b"nodes".as_slice() => Ok(count(rest)),
-        _ => Ok(None),
+    match part_at(line, b' ') {
+        Parted::Halves(word, field) if word == b"nodes".as_slice() => count(&[field]),
+        _ => None,
     }
 }
 
 /// What follows the line `go`: the nodes and the steps.
-fn after_go(
-    alloc: Global,
-    lines: &[&[u8]],
-    facts: Vec<Fact>,
-    at: usize,
-) -> Result<Asked, ScriptError>
+fn after_go(alloc: Global, text: &[u8], facts: Vec<Fact>, at: usize) -> Result<Asked, ScriptError>
     requires facts { length facts.items ≤ most }
     requires at { at ≤ most + 3 }
-    ensures { Gives asked_data result (within (with_facts facts.items) (nodes_from (length facts.items) at (map (λ x. x.now) lines.now))) }
+    ensures { Gives asked_data result (within (with_facts facts.items) (nodes_from (length facts.items) at (parts_at 10 text.now))) }
 {
-    let Some((first, rest)) = lines.split_first() else {
+    let Some((first, rest)) = first_part(text, b'\n') else {
         return Err(ScriptError::BadLine(at));
     };
-    if rest.is_empty() {
-        return Err(ScriptError::BadLine(at));
-    }
-    let Some(nodes) = nodes(alloc, first)? else {
+    let Some(nodes) = nodes(first) else {
         return Err(ScriptError::BadLine(at));
     };
     let steps = steps(alloc, rest, facts.len(), at + 1)?;
@@ -154,54 +144,53 @@ fn after_go(
     })
 }
 
-fn script_lines(alloc: Global, lines: &[&[u8]], at: usize) -> Result<Asked, ScriptError>
+/// Fact lines up to `go`, and what follows. The first has the number `at`.
+fn script_lines(alloc: Global, text: &[u8], at: usize) -> Result<Asked, ScriptError>
     requires { at ≤ 2 }
-    ensures { Gives asked_data result (script_from 0 at (map (λ x. x.now) lines.now)) }
+    ensures { Gives asked_data result (script_from 0 at (parts_at 10 text.now)) }
 {
     let mut facts = Vec::new(alloc);
     let (mut fields, mut pieces) = (Vec::new(alloc), Vec::new(alloc));
-    for (i, line) in lines.iter().enumerate() {
-        if i + 1 == lines.len() {
-            return Err(ScriptError::BadLine(at + i));
+    let mut rest = text;
+    while let Some((line, behind)) = first_part(rest, b'\n') {
+        let here = at + facts.len();
+        if line == b"go".as_slice() {
+            return after_go(alloc, behind, facts, here + 1);
         }
-        if *line == b"go".as_slice() {
-            return after_go(alloc, &lines[i + 1..], facts, at + i + 1);
+        if facts.len() >= MOST {
+            return Err(ScriptError::BadLine(here));
         }
-        if i >= MOST {
-            return Err(ScriptError::BadLine(at + i));
-        }
-        parts_into(line, b' ', &mut fields)?;
-        let Some(next) = shared_fact_line(alloc, &fields, &mut pieces)? else {
-            return Err(ScriptError::BadLine(at + i));
+        let Some(next) = shared_fact(alloc, line, &mut fields, &mut pieces)? else {
+            return Err(ScriptError::BadLine(here));
         };
         facts.push(next)?;
+        rest = behind;
     }
-    Err(ScriptError::BadLine(at + lines.len()))
+    Err(ScriptError::BadLine(at + facts.len()))
 }
 
-fn facts(alloc: Global, lines: &[&[u8]], at: usize) -> Result<Vec<Fact>, ScriptError>
+/// Fact lines to the end of the text. The first has the number `at`.
+fn facts(alloc: Global, text: &[u8], at: usize) -> Result<Vec<Fact>, ScriptError>
     requires { at ≤ 2 }
-    ensures { Gives (λ v. v.items) result (lines_from fact_of 0 at (map (λ x. x.now) lines.now)) }
+    ensures { Gives (λ v. v.items) result (lines_from fact_of 0 at (parts_at 10 text.now)) }
 {
     let mut facts = Vec::new(alloc);
     let (mut fields, mut pieces) = (Vec::new(alloc), Vec::new(alloc));
-    for (i, line) in lines.iter().enumerate() {
-        if i + 1 == lines.len() {
-            if line.is_empty() {
-                return Ok(facts);
-            }
-            return Err(ScriptError::BadLine(at + i));
+    let mut rest = text;
+    while let Some((line, behind)) = first_part(rest, b'\n') {
+        if facts.len() >= MOST {
+            return Err(ScriptError::BadLine(at + facts.len()));
         }
-        if i >= MOST {
-            return Err(ScriptError::BadLine(at + i));
-        }
-        parts_into(line, b' ', &mut fields)?;
-        let Some(next) = fact_line(alloc, &fields, &mut pieces)? else {
-            return Err(ScriptError::BadLine(at + i));
+        let Some(next) = fact(alloc, line, &mut fields, &mut pieces)? else {
+            return Err(ScriptError::BadLine(at + facts.len()));
         };
         facts.push(next)?;
+        rest = behind;
     }
-    Ok(facts)
+    if rest.is_empty() {
+        return Ok(facts);
+    }
+    Err(ScriptError::BadLine(at + facts.len()))
 }
 
 /// The script that the text spells: a roster or none, fact lines, `go`, a line like `nodes 2`, step lines; or its least bad line.
@@ -209,13 +198,12 @@ pub fn read_script(alloc: Global, text: &[u8]) -> Result<Script, ScriptError>
     ensures script { Gives script_data result (script_of text.now) }
     ensures range { IfOk result (λ s. All (IsInRange (length s.facts.items)) s.steps.items) }
 {
-    let lines = parts(alloc, text, b'\n')?;
-    let opening = read_opening(alloc, &lines)?;
+    let opening = read_opening(text);
     let Asked {
         facts,
         nodes,
         steps,
-    } = script_lines(alloc, &lines[opening.lines..], opening.lines + 1)?;
+    } = script_lines(alloc, opening.rest, opening.lines + 1)?;
     Ok(Script {
         roster: opening.roster,
         facts,
@@ -228,9 +216,8 @@ pub fn read_script(alloc: Global, text: &[u8]) -> Result<Script, ScriptError>
 pub fn read_facts(alloc: Global, text: &[u8]) -> Result<Log, ScriptError>
     ensures { Gives log_data result (facts_of text.now) }
 {
-    let lines = parts(alloc, text, b'\n')?;
-    let opening = read_opening(alloc, &lines)?;
-    let facts = facts(alloc, &lines[opening.lines..], opening.lines + 1)?;
+    let opening = read_opening(text);
+    let facts = facts(alloc, opening.rest, opening.lines + 1)?;
     Ok(Log {
         roster: opening.roster,
         facts,

@@ -1,14 +1,16 @@
 //! Step lines.
 
-ghost use Rattle.std.specs.Prelude.{◌≡◌, ◌≤◌, map};
+ghost use Rattle.std.specs.Prelude.{◌≡◌, ◌≤◌, map, IfOk};
 ghost use Rattle.script_text.specs.Script.{most};
 ghost use Rattle.script_text.specs.Fields.{made_by};
-ghost use Rattle.script_text.specs.StepLine.{take_form, fold_form, discard_form, front_form, read_form, join_form, same_form, covers_form, wipe_form, ask_form, answer_form, absorb_form, step_line};
+ghost use Rattle.script_text.specs.StepLine.{take_form, fold_form, discard_form, front_form, read_form, join_form, same_form, covers_form, wipe_form, ask_form, answer_form, absorb_form, step_line, step_of};
 
+use crate::fields::first_parts_into;
 use crate::limits::{MESSAGE, PAGE, SHORT};
 use crate::number::numbers;
 use fleet_steps::Step;
 use redo_core::MAX_NUMBER;
+use std::alloc::AllocError;
 
 fn take(facts: usize, fields: &[&[u8]]) -> Option<Step<usize>>
     requires { facts ≤ most }
@@ -131,9 +133,9 @@ fn absorb(fields: &[&[u8]]) -> Option<Step<usize>>
     })
 }
 
-/// The step of a step line behind that many facts.
+/// The step of a line's fields, behind that many facts.
 #[tactic(auto, unfolding(crate::specs::StepLine::step_line))]
-pub fn step_line(facts: usize, fields: &[&[u8]]) -> Option<Step<usize>>
+fn step_line(facts: usize, fields: &[&[u8]]) -> Option<Step<usize>>
     requires { facts ≤ most }
     ensures { result ≡ step_line facts (map (λ x. x.now) fields.now) }
 {
@@ -165,4 +167,18 @@ pub fn step_line(facts: usize, fields: &[&[u8]]) -> Option<Step<usize>>
     } else {
         None
     }
+}
+
+/// The step of a line, behind that many facts. The list of its fields is room that is used again.
+#[tactic(auto, using(crate::proofs::FirstParts::first_step))]
+pub fn step<'a>(
+    facts: usize,
+    line: &'a [u8],
+    fields: &mut Vec<&'a [u8]>,
+) -> Result<Option<Step<usize>>, AllocError>
+    requires { facts ≤ most }
+    ensures { IfOk result (λ o. o ≡ step_of facts line.now) }
+{
+    first_parts_into(line, b' ', fields)?;
+    Ok(step_line(facts, fields))
 }

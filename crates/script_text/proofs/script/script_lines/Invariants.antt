@@ -1,11 +1,15 @@
-use Rattle.std.proofs.Common.{◌≡◌, ◌≤◌, ◌+◌, length, map, drop}
+use Rattle.std.proofs.Common.{◌≡◌, ◌≤◌, ◌+◌, length}
+use Rattle.script_text.specs.Parts.{parts_at}
 use Rattle.script_text.specs.Script.{script_from, most, within, with_facts}
 use Rattle.script_text.proofs.script.script_lines.Given as goal
 
-abbrev pub invariant-loop-i : goal.invariant-loop-i
-invariant-loop-i l = record {
-  so_far : within (with_facts l.facts.items) (script_from l.i (l.at + l.i) (map (λ x. x.now) (drop l.i l.lines))) ≡ script_from 0 l.at
-      (map (λ x. x.now) l.lines);
-  few : l.i ≤ most;
-  one_each : length l.facts.items ≡ l.i;
+-- the facts so far, and what the lines say that are left
+abbrev pub invariant-loop-line : goal.invariant-loop-line
+invariant-loop-line l = record {
+  so_far : within (with_facts l.facts.items) (script_from (length l.facts.items) (l.at + length l.facts.items) (parts_at 10 l.rest)) ≡ script_from
+      0 l.at (parts_at 10 l.text);
+  few : length l.facts.items ≤ most;
 }
+
+abbrev pub decreases-loop-line : goal.decreases-loop-line
+decreases-loop-line l = length l.rest

@@ -1,0 +1,15 @@
+use Rattle.std.proofs.Common.{arith}
+use Rattle.std.proofs.lemmas.Grind.{common_steps}
+use Rattle.script_text.proofs.Lines.{opening_named, opening_unnamed, opening_last}
+use Rattle.script_text.proofs.opening.read_opening.Goals as goal
+use Rattle.script_text.proofs.opening.read_opening.Goals.{in-Some+in_default-roster, in_default}
+
+pub returns-in-Some-roster-clause-opens : goal.returns-in-Some-roster-clause-opens
+returns-in-Some-roster-clause-opens c = grind (arith, common_steps, opening_named)
+
+pub returns-clause-opens : goal.returns-clause-opens
+returns-clause-opens c =
+    elim c.match-first_part.branch [
+      | in-Some+in_default-roster w ↦ grind (arith, common_steps, opening_unnamed)
+      | in_default w ↦ grind (arith, common_steps, opening_last)
+    ]

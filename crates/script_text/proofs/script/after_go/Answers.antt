@@ -1,0 +1,7 @@
+use Rattle.std.proofs.Common.{arith}
+use Rattle.std.proofs.lemmas.Grind.{common_steps}
+use Rattle.script_text.proofs.Lines.{nodes_next}
+use Rattle.script_text.proofs.script.after_go.Goals as goal
+
+pub returns : goal.returns
+returns c = grind (arith, common_steps, nodes_next)
