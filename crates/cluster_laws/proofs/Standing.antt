@@ -1,5 +1,5 @@
 -- How all nodes stand after some turns of a run, and after one more.
-use Rattle.std.proofs.Common.{◌≡◌, ◌≢◌, ℕ, ◌<◌, ◌≤◌, ◌⊎◌, ⊎_elim, List, [], ◌∷◌, ◌++◌, refl, sym, ◌∙◌, subst, arith, append_assoc, Option, Some, None, Result, Ok, Err, IfOk}
+use Rattle.std.proofs.Common.{◌≡◌, ◌≢◌, ℕ, ◌<◌, ◌≤◌, ◌⊎◌, ⊎_elim, List, [], ◌∷◌, ◌++◌, refl, sym, subst, arith, append_assoc, Option, Some, None, Result, Ok, Err, IfOk}
 use Rattle.std.proofs.lemmas.List.{append-nil}
 use Rattle.redo_core.specs.Sound.{IsSound}
 use Rattle.redo_core.specs.declared.facts.Fact.{Fact}
@@ -29,24 +29,27 @@ use Rattle.replica.specs.Hydrating.{Pieces, Finishes, StandsFor}
 use Rattle.replica.specs.Machine.{IsReply}
 use Rattle.replica.specs.Meaning.{Turn, Runs, facts_after, BringsDelta, BringsStaging, ReplicaMeans}
 use Rattle.replica.proofs.Means.{step_means}
-use Rattle.cluster_laws.specs.Turns.{turns_of, facts_at, WasReplied}
+use Rattle.cluster_laws.specs.Turns.{turns_of, facts_at, frozen_at, staged_at, WasReplied}
 use Rattle.cluster_laws.specs.Carrying.{IsCarried, AreCarried}
 use Rattle.cluster_laws.specs.Following.{AreTurnsOf}
-use Rattle.cluster_laws.proofs.Turned.{own_turn, other_turn, own_facts, other_facts, own_name, other_name, replied_now, replied_last, none_there}
-use Rattle.cluster_laws.proofs.Made.{IsTold, IsFilled, KeepsMade, KeepsFilled, made_before, told_before, same_or_not, brings_facts}
-use Rattle.cluster_laws.proofs.Staged.{GoOn, AddsTold, snapshot_made, staging_filled}
+use Rattle.cluster_laws.proofs.Turned.{own_turn, other_turn, own_facts, other_facts, own_frozen, other_frozen, own_staged, other_staged, replied_last, none_there}
+use Rattle.cluster_laws.proofs.Made.{IsTold, KeepsMade, KeepsStaged, same_or_not, brings_facts}
+use Rattle.cluster_laws.proofs.Staged.{AddsTold, snapshot_made, staging_kept}
 
--- a node's replica means the facts that have reached it, and what it keeps was made and told
+-- a node's replica means the facts that have reached it, its snapshot is of those that had when it was made, and its staging has pieces of
+-- those that these brought
 pub record Stands (roster : ℕ) (log : List Fact) (turns : List (ℕ × Turn)) (node : ℕ) (r : ReplicaData) : Type 0 where
   pub means : ReplicaMeans roster log (facts_at turns node) r
-  pub snapshot : KeepsMade roster log turns r.snapshot
-  pub staging : KeepsFilled roster log turns node r.staging
+  pub snapshot : KeepsMade roster log (frozen_at turns node) r.snapshot
+  pub staging : KeepsStaged roster log (staged_at turns node) r.staging
 
--- each delta has what the facts of the node that replied it have beyond the summary, and each piece is of a snapshot that was made
+-- each delta has what the facts of the node that replied it have beyond the summary, and each piece is of a snapshot of the facts that its
+-- node had when it made that
 pub record HaveTold (roster : ℕ) (log : List Fact) (turns : List (ℕ × Turn)) : Type 0 where
-  pub deltas : (summary : SummaryData) (delta : DeltaData) (facts : List Fact) → WasReplied turns (request.Answer summary) (reply.Delta delta) facts
-      → BringsDelta roster log summary delta facts
-  pub pieces : (index : ℕ) (p : PieceData) (facts : List Fact) → WasReplied turns (request.Piece index) (reply.Piece p) facts → IsTold roster log turns p
+  pub deltas : (summary : SummaryData) (delta : DeltaData) (facts : List Fact)
+      → WasReplied facts_at turns (request.Answer summary) (reply.Delta delta) facts → BringsDelta roster log summary delta facts
+  pub pieces : (index : ℕ) (p : PieceData) (facts : List Fact) → WasReplied frozen_at turns (request.Piece index) (reply.Piece p) facts
+      → IsTold roster log facts p
 
 -- so all do, and go on by the rest of the turns
 pub record AllStand (roster : ℕ) (log : List Fact) (turns rest : List (ℕ × Turn)) (nodes : ℕ → ReplicaData) : Type 0 where
@@ -74,10 +77,10 @@ module _ (roster : ℕ) (log : List Fact) (sound : IsSound roster log) where
       (means.0, means.1.part, means.1.position, fills roster log facts means.0 sound means.1)
   delta_by facts s summary delta (Err why) means fills is = absurd (not_delta delta why is)
 
-  piece_by : (turns : List (ℕ × Turn)) (kept : Option SnapshotData) (index : ℕ) (p : PieceData) → KeepsMade roster log turns kept
-      → Pieces kept index (reply.Piece p) → IsTold roster log turns p
-  piece_by turns None index p made says = absurd (let e : reply.Piece p ≡ reply.NoSnapshot = says in cc)
-  piece_by turns (Some d) index p made says = ⊎_elim
+  piece_by : (facts : List Fact) (kept : Option SnapshotData) (index : ℕ) (p : PieceData) → KeepsMade roster log facts kept
+      → Pieces kept index (reply.Piece p) → IsTold roster log facts p
+  piece_by facts None index p made says = absurd (let e : reply.Piece p ≡ reply.NoSnapshot = says in cc)
+  piece_by facts (Some d) index p made says = ⊎_elim
       (λ (none : d.total ≤ index). absurd (let e : reply.Piece p ≡ reply.NoPiece = says.0 none in cc))
       (λ (there : index < d.total). ⊎_elim
       (λ (lacks : reply.Piece p ≡ reply.Memory). absurd (cc))
@@ -90,21 +93,20 @@ module _ (roster : ℕ) (log : List Fact) (sound : IsSound roster log) where
       → IsReply old t.asked t.told new → HaveTold roster log (turns ++ (node, t) ∷ [])
   told_more turns node t old new told stands says = record {
     deltas = λ summary delta facts w. ⊎_elim
-        (λ (earlier : WasReplied turns (request.Answer summary) (reply.Delta delta) facts). told.deltas summary delta facts earlier)
+        (λ (earlier : WasReplied facts_at turns (request.Answer summary) (reply.Delta delta) facts). told.deltas summary delta facts earlier)
         (λ (now : (t.asked ≡ request.Answer summary) × (t.told ≡ reply.Delta delta) × (facts ≡ facts_at turns node)).
         let does : RepliesTo old.cached.segment summary (reply.Delta delta) =
         subst (λ (r : Reply). RepliesTo old.cached.segment summary r) now.1 (subst (λ (a : Request). IsReply old a t.told new) now.0 says).0 in
         subst (λ fs. BringsDelta roster log summary delta fs) (sym now.2)
         (delta_by (facts_at turns node) old.cached.segment summary delta does.answer stands.means does.fills does.is))
-        (replied_last turns node t (request.Answer summary) (reply.Delta delta) facts w);
+        (replied_last facts_at turns node t (request.Answer summary) (reply.Delta delta) facts w);
     pieces = λ index p facts w. ⊎_elim
-        (λ (earlier : WasReplied turns (request.Piece index) (reply.Piece p) facts).
-        told_before roster log turns ((node, t) ∷ []) p (told.pieces index p facts earlier))
-        (λ (now : (t.asked ≡ request.Piece index) × (t.told ≡ reply.Piece p) × (facts ≡ facts_at turns node)).
+        (λ (earlier : WasReplied frozen_at turns (request.Piece index) (reply.Piece p) facts). told.pieces index p facts earlier)
+        (λ (now : (t.asked ≡ request.Piece index) × (t.told ≡ reply.Piece p) × (facts ≡ frozen_at turns node)).
         let does : Pieces old.snapshot index (reply.Piece p) =
         subst (λ (r : Reply). Pieces old.snapshot index r) now.1 (subst (λ (a : Request). IsReply old a t.told new) now.0 says).0 in
-        told_before roster log turns ((node, t) ∷ []) p (piece_by turns old.snapshot index p stands.snapshot does))
-        (replied_last turns node t (request.Piece index) (reply.Piece p) facts w);
+        subst (λ fs. IsTold roster log fs p) (sym now.2) (piece_by (frozen_at turns node) old.snapshot index p stands.snapshot does))
+        (replied_last frozen_at turns node t (request.Piece index) (reply.Piece p) facts w);
   }
 
   -- ---- the node of the turn
@@ -128,15 +130,15 @@ module _ (roster : ℕ) (log : List Fact) (sound : IsSound roster log) where
       (not_finished facts brought old.segment why means))
 
   finished : (turns : List (ℕ × Turn)) (node : ℕ) (brought : List Fact) (old new : Cached) (before after : Option StagingData) (told : Reply)
-      → Means roster log (facts_at turns node) old.segment → KeepsFilled roster log turns node before → IsCarried roster log turns node request.Finish brought
-      → Finishes old before told new after → Means roster log (facts_after (facts_at turns node) brought request.Finish told) new.segment
+      → Means roster log (facts_at turns node) old.segment → KeepsStaged roster log (staged_at turns node) before
+      → IsCarried roster log turns node request.Finish brought → Finishes old before told new after
+      → Means roster log (facts_after (facts_at turns node) brought request.Finish told) new.segment
   finished turns node brought old new None after told means had carried says =
       subst (λ (r : Reply). Means roster log (facts_after (facts_at turns node) brought request.Finish r) new.segment) (sym says.0)
       (subst (λ (c : Cached). Means roster log (facts_at turns node) c.segment) (sym says.1) means)
   finished turns node brought old new (Some st) after told means had carried says =
-      let filled : IsFilled roster log turns node st = had st refl in
       finished_by (facts_at turns node) brought old new st after told says.answer means
-      (λ made hydrates. brings_facts roster log turns node st brought sound says.makes.form filled (carried st.name filled.name) made hydrates)
+      (brings_facts roster log (staged_at turns node) st brought sound says.makes.form (had st refl) carried)
       says.makes.means says.makes.hydrates says.stands
 
   means_after : (turns : List (ℕ × Turn)) (node : ℕ) (asked : Request) (told : Reply) (brought : List Fact) (old new : ReplicaData)
@@ -153,37 +155,28 @@ module _ (roster : ℕ) (log : List Fact) (sound : IsSound roster log) where
       step_means roster log (facts_at turns node) brought old asked told new sound carried says stands.means
 
   adds_told : (turns : List (ℕ × Turn)) (node : ℕ) (asked : Request) (brought : List Fact) → HaveTold roster log turns
-      → IsCarried roster log turns node asked brought → AddsTold roster log turns asked
-  adds_told turns node (request.Add piece) brought have carried = have.pieces carried.0 piece carried.1 carried.2
+      → IsCarried roster log turns node asked brought → AddsTold roster log brought (staged_at turns node) asked
+  adds_told turns node (request.Add piece) brought have carried = have.pieces carried.0 piece brought carried.1
   adds_told turns node asked brought have carried = tt
 
   own_stands : (turns : List (ℕ × Turn)) (node : ℕ) (t : Turn) (old new : ReplicaData) → HaveTold roster log turns → Stands roster log turns node old
       → IsCarried roster log turns node t.asked t.brought → IsReply old t.asked t.told new → Stands roster log (turns ++ (node, t) ∷ []) node new
-  own_stands turns node t old new have stands carried says =
-      let all = turns ++ (node, t) ∷ [] in
-      let on : GoOn roster log turns all node t.asked t.told = record {
-        replied = replied_now turns node t;
-        name = own_name None turns node t;
-        made = made_before roster log turns ((node, t) ∷ []);
-        pieces = told_before roster log turns ((node, t) ∷ []);
-      } in
-      record {
-        means = subst (λ facts. ReplicaMeans roster log facts new) (sym (own_facts turns node t))
-            (means_after turns node t.asked t.told t.brought old new have stands carried says);
-        snapshot = snapshot_made roster log turns all node t.asked t.told old new on stands.means stands.snapshot says;
-        staging = staging_filled roster log turns all node t.asked t.told old new on (adds_told turns node t.asked t.brought have carried) stands.staging says;
-      }
+  own_stands turns node t old new have stands carried says = record {
+    means = subst (λ facts. ReplicaMeans roster log facts new) (sym (own_facts turns node t))
+        (means_after turns node t.asked t.told t.brought old new have stands carried says);
+    snapshot = subst (λ facts. KeepsMade roster log facts new.snapshot) (sym (own_frozen turns node t))
+        (snapshot_made roster log (facts_at turns node) t.asked t.told (frozen_at turns node) old new stands.means stands.snapshot says);
+    staging = subst (λ staged. KeepsStaged roster log staged new.staging) (sym (own_staged turns node t))
+        (staging_kept roster log t.brought (staged_at turns node) t.asked t.told old new (adds_told turns node t.asked t.brought have carried) stands.staging says);
+  }
 
   -- ---- the other nodes
   other_stands : (turns : List (ℕ × Turn)) (node other : ℕ) (t : Turn) (r : ReplicaData) → node ≢ other → Stands roster log turns other r
       → Stands roster log (turns ++ (node, t) ∷ []) other r
   other_stands turns node other t r apart stands = record {
     means = subst (λ facts. ReplicaMeans roster log facts r) (sym (other_facts turns node other t apart)) stands.means;
-    snapshot = λ d is. made_before roster log turns ((node, t) ∷ []) d (stands.snapshot d is);
-    staging = λ st is. let filled = stands.staging st is in record {
-      name = other_name None turns node other t apart ∙ filled.name;
-      pieces = λ index p there. told_before roster log turns ((node, t) ∷ []) p (filled.pieces index p there);
-    };
+    snapshot = subst (λ facts. KeepsMade roster log facts r.snapshot) (sym (other_frozen turns node other t apart)) stands.snapshot;
+    staging = subst (λ staged. KeepsStaged roster log staged r.staging) (sym (other_staged turns node other t apart)) stands.staging;
   }
 
   -- ---- all

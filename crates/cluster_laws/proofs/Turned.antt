@@ -1,5 +1,5 @@
 -- Lists of turns, with one turn more.
-use Rattle.std.proofs.Common.{◌≡◌, ◌≢◌, ℕ, ◌⊎◌, inl, inr, List, [], ◌∷◌, ◌++◌, refl, ap, ◌∙◌, subst, arith, Bool, true, false, Option, append_assoc}
+use Rattle.std.proofs.Common.{◌≡◌, ◌≢◌, ℕ, ◌⊎◌, inl, inr, List, [], ◌∷◌, ◌++◌, refl, ap, ◌∙◌, subst, arith, Bool, true, false}
 use Rattle.std.specs.Prelude.{◌==◌, if◌then◌else◌}
 use Rattle.std.proofs.lemmas.Bool.Decides.{nat_tests}
 use Rattle.std.proofs.lemmas.List.{append-nil}
@@ -7,7 +7,7 @@ use Rattle.redo_core.specs.declared.facts.Fact.{Fact}
 use Rattle.replica.specs.declared.requests.Request.{Request}
 use Rattle.replica.specs.declared.replies.Reply.{Reply}
 use Rattle.replica.specs.Meaning.{Turn, facts_after, facts_after_all}
-use Rattle.cluster_laws.specs.Turns.{turns_of, facts_at, WasReplied, name_after, name_staged}
+use Rattle.cluster_laws.specs.Turns.{turns_of, facts_at, frozen_after, frozen_after_all, frozen_at, staged_after, staged_after_all, staged_at, WasReplied}
 
 -- ---- one node's turns
 one_more : (b : Bool) (t : Turn) (all own rest : List Turn) → all ≡ own ++ rest
@@ -40,7 +40,7 @@ other_last turns node other t apart =
     turns_more other turns ((node, t) ∷ []) ∙ ap (λ own. turns_of other turns ++ own) (other_turn node other t [] apart)
     ∙ append-nil (turns_of other turns)
 
--- ---- the facts that have reached it, and the name that it has staged
+-- ---- what they leave of it
 facts_more : (facts : List Fact) (turns more : List Turn) → facts_after_all facts (turns ++ more) ≡ facts_after_all (facts_after_all facts turns) more
 facts_more facts [] more = refl
 facts_more facts (t ∷ turns) more = facts_more (facts_after facts t.brought t.asked t.told) turns more
@@ -52,34 +52,32 @@ own_facts turns node t = ap (facts_after_all []) (own_last turns node t) ∙ fac
 pub other_facts : (turns : List (ℕ × Turn)) (node other : ℕ) (t : Turn) → node ≢ other → facts_at (turns ++ (node, t) ∷ []) other ≡ facts_at turns other
 other_facts turns node other t apart = ap (facts_after_all []) (other_last turns node other t apart)
 
-names_more : (name : Option ℕ) (turns more : List Turn) → name_staged name (turns ++ more) ≡ name_staged (name_staged name turns) more
-names_more name [] more = refl
-names_more name (t ∷ turns) more = names_more (name_after name t.asked) turns more
+frozen_more : (facts frozen : List Fact) (turns more : List Turn)
+    → frozen_after_all facts frozen (turns ++ more) ≡ frozen_after_all (facts_after_all facts turns) (frozen_after_all facts frozen turns) more
+frozen_more facts frozen [] more = refl
+frozen_more facts frozen (t ∷ turns) more =
+    frozen_more (facts_after facts t.brought t.asked t.told) (frozen_after facts frozen t.asked t.told) turns more
 
-pub own_name : (name : Option ℕ) (turns : List (ℕ × Turn)) (node : ℕ) (t : Turn)
-    → name_staged name (turns_of node (turns ++ (node, t) ∷ [])) ≡ name_after (name_staged name (turns_of node turns)) t.asked
-own_name name turns node t = ap (name_staged name) (own_last turns node t) ∙ names_more name (turns_of node turns) (t ∷ [])
+pub own_frozen : (turns : List (ℕ × Turn)) (node : ℕ) (t : Turn)
+    → frozen_at (turns ++ (node, t) ∷ []) node ≡ frozen_after (facts_at turns node) (frozen_at turns node) t.asked t.told
+own_frozen turns node t = ap (frozen_after_all [] []) (own_last turns node t) ∙ frozen_more [] [] (turns_of node turns) (t ∷ [])
 
-pub other_name : (name : Option ℕ) (turns : List (ℕ × Turn)) (node other : ℕ) (t : Turn) → node ≢ other
-    → name_staged name (turns_of other (turns ++ (node, t) ∷ [])) ≡ name_staged name (turns_of other turns)
-other_name name turns node other t apart = ap (name_staged name) (other_last turns node other t apart)
+pub other_frozen : (turns : List (ℕ × Turn)) (node other : ℕ) (t : Turn) → node ≢ other → frozen_at (turns ++ (node, t) ∷ []) other ≡ frozen_at turns other
+other_frozen turns node other t apart = ap (frozen_after_all [] []) (other_last turns node other t apart)
+
+staged_more : (staged : List (List Fact)) (turns more : List Turn)
+    → staged_after_all staged (turns ++ more) ≡ staged_after_all (staged_after_all staged turns) more
+staged_more staged [] more = refl
+staged_more staged (t ∷ turns) more = staged_more (staged_after staged t.brought t.asked t.told) turns more
+
+pub own_staged : (turns : List (ℕ × Turn)) (node : ℕ) (t : Turn)
+    → staged_at (turns ++ (node, t) ∷ []) node ≡ staged_after (staged_at turns node) t.brought t.asked t.told
+own_staged turns node t = ap (staged_after_all []) (own_last turns node t) ∙ staged_more [] (turns_of node turns) (t ∷ [])
+
+pub other_staged : (turns : List (ℕ × Turn)) (node other : ℕ) (t : Turn) → node ≢ other → staged_at (turns ++ (node, t) ∷ []) other ≡ staged_at turns other
+other_staged turns node other t apart = ap (staged_after_all []) (other_last turns node other t apart)
 
 -- ---- what was replied
-pub replied_before : (turns more : List (ℕ × Turn)) (asked : Request) (told : Reply) (facts : List Fact) → WasReplied turns asked told facts
-    → WasReplied (turns ++ more) asked told facts
-replied_before turns more asked told facts w = record {
-  before = w.before;
-  turn = w.turn;
-  after = w.after ++ more;
-  all = ap (λ all. all ++ more) w.all ∙ append_assoc w.before (w.turn ∷ w.after) more;
-  asked_is = w.asked_is;
-  told_is = w.told_is;
-  facts_are = w.facts_are;
-}
-
-pub replied_now : (turns : List (ℕ × Turn)) (node : ℕ) (t : Turn) → WasReplied (turns ++ (node, t) ∷ []) t.asked t.told (facts_at turns node)
-replied_now turns node t = record { before = turns; turn = (node, t); after = []; all = refl; asked_is = refl; told_is = refl; facts_are = refl }
-
 -- what stands in a list with one item more stands before that, or is it
 pub none_there : {X : Type 0} (before : List X) (y : X) (after : List X) → [] ≡ before ++ y ∷ after → ⊥
 none_there [] y after e = absurd (cc)
@@ -95,14 +93,14 @@ split_last (w ∷ xs) x (z ∷ before) y after e = elim (split_last xs x before 
   | inr earlier ↦ let there : xs ≡ before ++ y ∷ earlier.0 = earlier.1 in inr (earlier.0, cc)
 ]
 
-pub replied_last : (turns : List (ℕ × Turn)) (node : ℕ) (t : Turn) (asked : Request) (told : Reply) (facts : List Fact)
-    → WasReplied (turns ++ (node, t) ∷ []) asked told facts
-    → WasReplied turns asked told facts ⊎ ((t.asked ≡ asked) × (t.told ≡ told) × (facts ≡ facts_at turns node))
-replied_last turns node t asked told facts w = elim (split_last turns (node, t) w.before w.turn w.after w.all) [
+pub replied_last : (had : List (ℕ × Turn) → ℕ → List Fact) (turns : List (ℕ × Turn)) (node : ℕ) (t : Turn) (asked : Request) (told : Reply) (facts : List Fact)
+    → WasReplied had (turns ++ (node, t) ∷ []) asked told facts
+    → WasReplied had turns asked told facts ⊎ ((t.asked ≡ asked) × (t.told ≡ told) × (facts ≡ had turns node))
+replied_last had turns node t asked told facts w = elim (split_last turns (node, t) w.before w.turn w.after w.all) [
   | inl last ↦ inr (
     subst (λ (x : ℕ × Turn). x.1.asked ≡ asked) last.1 w.asked_is,
     subst (λ (x : ℕ × Turn). x.1.told ≡ told) last.1 w.told_is,
-    w.facts_are ∙ ap (λ before. facts_at before w.turn.0) last.0 ∙ ap (λ (x : ℕ × Turn). facts_at turns x.0) last.1,
+    w.facts_are ∙ ap (λ before. had before w.turn.0) last.0 ∙ ap (λ (x : ℕ × Turn). had turns x.0) last.1,
   )
   | inr earlier ↦ inl (record {
     before = w.before;

@@ -2,10 +2,10 @@
 //!
 //! A run is a list of turns, each of one node. The network is free: a delta may be absorbed late, twice or never, and at another node than
 //! the one whose summary it answers; and the pieces of a snapshot may be added so too. All that is asked is that nothing is made up: what
-//! is absorbed or added was replied by some node earlier in the run, what is taken is a fact of one sound log, and snapshots of different
-//! facts do not go by one name (`specs/Carrying`). Then each node means exactly the facts that have reached it, and replies as these do
-//! (`specs/Following`); and so do nodes behind streams of lines, however their turns are interleaved (`specs/Streams`). A node that is lost
-//! is one that has no more turns, and one that comes back from its files is another node of the run.
+//! is absorbed or added was replied by some node earlier in the run, what is taken is a fact of one sound log, and the pieces that make a
+//! segment are of snapshots of the same facts (`specs/Carrying`). Then each node means exactly the facts that have reached it, and replies
+//! as these do (`specs/Following`); and so do nodes behind streams of lines, however their turns are interleaved (`specs/Streams`). A node
+//! that is lost is one that has no more turns, and one that comes back from its files is another node of the run.
 #![tactic(auto)]
 
 ghost use Rattle.cluster_laws.specs.Following.{ClusterFollows, SameReplies, OpenedIsEmpty};
