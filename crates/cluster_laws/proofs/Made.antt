@@ -1,0 +1,106 @@
+-- Snapshots of states that meant some facts, the pieces of such, and stagings of these.
+use Rattle.std.proofs.Common.{◌≡◌, ◌≢◌, ℕ, ◌+◌, ◌*◌, ◌⊎◌, inl, inr, ⊎_elim, List, length, take, drop, sym, ◌∙◌, subst, arith, Option, Some}
+use Rattle.std.specs.List.{Contains, slice_get}
+use Rattle.std.proofs.lemmas.Option.{same_Some}
+use Rattle.redo_core.specs.Data.{RecordData}
+use Rattle.redo_core.specs.Meaning.{ImageData}
+use Rattle.redo_core.specs.Sets.{SameSet}
+use Rattle.redo_core.specs.Sound.{IsSound}
+use Rattle.redo_core.specs.declared.facts.Fact.{Fact}
+use Rattle.redo_laws.proofs.Fronts.{same_sym}
+use Rattle.redo_wire.specs.Limits.{max_batch}
+use Rattle.redo_wire.specs.Pieces.{PieceData}
+use Rattle.redo_wire.specs.declared.pieces.PieceContent.{PieceContent}
+use Rattle.redo_wire.specs.declared.pieces.PieceContent.TheVariants.{Head, Page, Records}
+use Rattle.segment_state.specs.State.{State}
+use Rattle.segment_state.specs.Means.{Means}
+use Rattle.hydration.specs.Snapshots.{SnapshotData, Freezes, IsContentAt, IsPieceOf}
+use Rattle.hydration.specs.Stagings.{StagingData, piece_at, IsStranger, IsStaging}
+use Rattle.hydration.specs.Hydrating.{Hydrates, IsOfState}
+use Rattle.replica.specs.Meaning.{BringsStaging}
+use Rattle.cluster_laws.proofs.Alike.{means_same, same_snapshots}
+
+-- the snapshot is of a state that meant these facts of the log
+pub record IsMade (roster : ℕ) (log facts : List Fact) (d : SnapshotData) : Type 0 where
+  pub state : State
+  pub freezes : Freezes state d
+  pub means : Means roster log facts state
+
+-- the piece is one of such a snapshot
+abbrev pub IsTold : ℕ → List Fact → List Fact → PieceData → Type 0
+IsTold roster log facts p = (d : SnapshotData) × IsMade roster log facts d × IsPieceOf d p
+
+-- the snapshot that is kept, if there is one, is of the facts
+abbrev pub KeepsMade : ℕ → List Fact → List Fact → Option SnapshotData → Type 0
+KeepsMade roster log facts kept = (d : SnapshotData) → kept ≡ Some d → IsMade roster log facts d
+
+-- each piece of the staging, if there is one, is of some of the staged facts
+abbrev pub IsOfStaged : ℕ → List Fact → List (List Fact) → PieceData → Type 0
+IsOfStaged roster log staged p = (facts : List Fact) × Contains staged facts × IsTold roster log facts p
+
+abbrev pub KeepsStaged : ℕ → List Fact → List (List Fact) → Option StagingData → Type 0
+KeepsStaged roster log staged kept =
+    (st : StagingData) → kept ≡ Some st → (index : ℕ) (p : PieceData) → piece_at st index ≡ Some p → IsOfStaged roster log staged p
+
+-- ---- pieces of two snapshots that bring the same
+content_too : (d e : SnapshotData) (index : ℕ) (content : PieceContent) → e.pages ≡ d.pages → e.records ≡ d.records → index ≢ 0
+    → IsContentAt e index content → IsContentAt d index content
+content_too d e index (Head book anchor) pages records later is = absurd (later is.0)
+content_too d e index (Page p) pages records later is = (is.0, is.1, subst (λ (ps : List ImageData). slice_get ps is.0 ≡ Some p) pages is.2)
+content_too d e index (Records rs) pages records later is = (
+  is.0,
+  subst (λ (ps : List ImageData). index ≡ 1 + length ps + is.0) pages is.1,
+  subst (λ (all : List RecordData). rs ≡ take max_batch (drop (max_batch * is.0) all)) records is.2,
+  is.3,
+)
+
+pub same_or_not : (a b : ℕ) → (a ≡ b) ⊎ (a ≢ b)
+same_or_not a b = grind arith
+
+-- what is not a stranger's is of the staging's name and total
+own_piece : (st : StagingData) (p : PieceData) → (IsStranger st p → ⊥) → (p.name ≡ st.name) × (p.total ≡ st.total)
+own_piece st p own = (
+  ⊎_elim (λ (e : p.name ≡ st.name). e) (λ (other : p.name ≢ st.name). absurd (own (inl other))) (same_or_not p.name st.name),
+  ⊎_elim (λ (e : p.total ≡ st.total). e) (λ (other : p.total ≢ st.total). absurd (own (inr other))) (same_or_not p.total st.total),
+)
+
+module _ (roster : ℕ) (log : List Fact) (staged : List (List Fact)) (st : StagingData) (facts : List Fact) (sound : IsSound roster log)
+    (form : IsStaging st) (pieces : (index : ℕ) (p : PieceData) → piece_at st index ≡ Some p → IsOfStaged roster log staged p)
+    (same : (given : List Fact) → Contains staged given → SameSet given facts) where
+  -- the pieces are all of the head's snapshot
+  of_first : (first : PieceData) (head : piece_at st 0 ≡ Some first) (index : ℕ) (p : PieceData) → piece_at st index ≡ Some p
+      → IsPieceOf (pieces 0 first head).2.0 p
+  of_first first head index p there =
+      let one = pieces 0 first head in
+      let other = pieces index p there in
+      ⊎_elim
+      (λ (at : index ≡ 0). subst (λ (x : PieceData). IsPieceOf one.2.0 x)
+      (same_Some first p (sym head ∙ subst (λ i. piece_at st i ≡ Some p) at there)) one.2.2)
+      (λ (later : index ≢ 0).
+      let at : p.index ≡ index = (form index p there).0 in
+      let own = own_piece st p (form index p there).1 in
+      let its = own_piece st first (form 0 first head).1 in
+      let back = same_sym one.0 facts (same one.0 one.1) in
+      let both : SameSet other.0 one.0 = λ x. let f = same other.0 other.1 x in (λ h. (back x).0 (f.0 h), λ h. f.1 ((back x).1 h)) in
+      let brings = same_snapshots roster log other.0 one.0 other.2.1.state one.2.1.state other.2.0 one.2.0 sound both other.2.1.means one.2.1.means
+      other.2.1.freezes one.2.1.freezes in
+      record {
+        name = own.0 ∙ sym its.0 ∙ one.2.2.name;
+        total = own.1 ∙ sym its.1 ∙ one.2.2.total;
+        content = content_too one.2.0 other.2.0 p.index p.content brings.0 brings.1 (λ e. later (sym at ∙ e)) other.2.2.content;
+      })
+      (same_or_not index 0)
+
+  pub brings_facts : (made : State) → Hydrates st made → BringsStaging roster log (Some st) facts
+  brings_facts made hydrates =
+      let first : PieceData = hydrates.head.0 in
+      let head : piece_at st 0 ≡ Some first = hydrates.head.1 in
+      let one = pieces 0 first head in
+      let its = own_piece st first (form 0 first head).1 in
+      let of_state : IsOfState one.2.1.state one.2.0 st = record {
+        frozen = one.2.1.freezes;
+        name = sym its.0 ∙ one.2.2.name;
+        total = sym its.1 ∙ one.2.2.total;
+        pieces = of_first first head;
+      } in
+      (one.2.1.state, one.2.0, of_state, means_same roster log one.0 facts one.2.1.state (same one.0 one.1) one.2.1.means)

@@ -1,0 +1,212 @@
+-- Each reply is that of the facts that the replica means.
+use Rattle.std.proofs.Common.{◌≡◌, ℕ, ◌<◌, ◌⊎◌, inl, inr, ⊎_elim, List, refl, sym, ap, ◌∙◌, subst, arith, Some, None, Result, Ok, Err, IfOk, IfErr, OnOk}
+use Rattle.std.specs.List.{Contains}
+use Rattle.redo_core.specs.Position.{Position}
+use Rattle.redo_core.specs.Sets.{SameSet}
+use Rattle.redo_core.specs.Sound.{IsSound}
+use Rattle.redo_core.specs.declared.facts.Fact.{Fact}
+use Rattle.redo_core.specs.declared.refusal.Refused.{Refused}
+use Rattle.redo_laws.proofs.Fronts.{front_unique, page_unique}
+use Rattle.redo_laws.proofs.Log.{log_of_sound}
+use Rattle.redo_wire.specs.Deltas.{DeltaData}
+use Rattle.redo_wire.specs.Summaries.{SummaryData}
+use Rattle.segment_state.specs.State.{State, version_of}
+use Rattle.segment_state.specs.Means.{Means}
+use Rattle.segment_state.proofs.Same.{meaning_law}
+use Rattle.segment_core.specs.Folding.{Commits}
+use Rattle.segment_core.specs.Forgetting.{IsSoundState}
+use Rattle.segment_core.specs.Reading.{IsFrontAt, IsReadResult}
+use Rattle.segment_core.specs.Refusing.{FitsSoundLog}
+use Rattle.segment_core.specs.Taking.{TellsChange}
+use Rattle.segment_core.specs.declared.answers.Front.{Front}
+use Rattle.segment_core.specs.declared.answers.ReadFault.{ReadFault}
+use Rattle.segment_core.specs.declared.answers.ReadFault.TheVariants as fault
+use Rattle.segment_core.specs.declared.answers.Refusal.{Refusal}
+use Rattle.segment_core.specs.declared.answers.Refusal.TheVariants as refusal
+use Rattle.segment_core.specs.declared.answers.Taken.{Taken}
+use Rattle.segment_core.specs.declared.answers.Taken.TheVariants as taken
+use Rattle.segment_core.specs.declared.fold_plan.Folded.{Folded}
+use Rattle.gossip_core.specs.Absorbing.{Answers, RefusesAbsorb, IsOfOneLog}
+use Rattle.gossip_core.specs.Replying.{FillsSummary}
+use Rattle.gossip_core.specs.declared.absorbing.AbsorbRefusal.{AbsorbRefusal}
+use Rattle.gossip_core.specs.declared.absorbing.AbsorbRefusal.TheVariants as absorb
+use Rattle.gossip_core.specs.declared.answering.Shown.{Shown}
+use Rattle.gossip_core.proofs.AnsweringFacts.{answers_for, tells_answer}
+use Rattle.read_cache.specs.Cached.{Cached}
+use Rattle.replica.specs.declared.requests.Request.{Request}
+use Rattle.replica.specs.declared.requests.Request.TheVariants as request
+use Rattle.replica.specs.declared.replies.Reply.{Reply}
+use Rattle.replica.specs.declared.replies.Reply.TheVariants as reply
+use Rattle.replica.specs.Parts.{ReplicaData}
+use Rattle.replica.specs.Replying.{taken_reply, refusal_reply, fault_reply, read_reply, tidied_reply, delta_reply, absorbed_reply}
+use Rattle.replica.specs.AtSegment.{LacksMemory, CommitsPlan}
+use Rattle.replica.specs.Gossiping.{SumsUp}
+use Rattle.replica.specs.Machine.{IsReply}
+use Rattle.replica.specs.Meaning.{BringsDelta, ReplicaMeans}
+use Rattle.cluster_laws.specs.Following.{IsRead}
+use Rattle.cluster_laws.specs.Replying.{TellsTake, TellsSummary, TellsDelta, TellsAbsorb, RepliesAs}
+
+module _ (roster : ℕ) (log facts : List Fact) (s : State) (sound : IsSound roster log) (means : Means roster log facts s) where
+  -- ---- take
+  changed : (taken.Changed ≡ taken.Unchanged) → reply.Changed ≡ reply.Unchanged
+  changed e = cc
+
+  changed_back : (reply.Changed ≡ reply.Unchanged) → taken.Changed ≡ taken.Unchanged
+  changed_back e = cc
+
+  took : (fact : Fact) (told : Reply) (answer : Result Taken (Refused Fact Refusal)) → Contains log fact → IfOk answer (TellsChange s fact)
+      → IfErr answer (λ e. FitsSoundLog s fact → e.fault ≡ refusal.Memory) → told ≡ taken_reply answer
+      → (told ≡ reply.Memory) ⊎ TellsTake roster facts fact told
+  took fact told (Ok taken.Changed) among tells fits is =
+      let tell : TellsTake roster facts fact reply.Changed = (
+        inl refl,
+        λ m of. let same = tells roster log facts m sound among means of in (λ e. same.0 (changed_back e), λ h. changed (same.1 h)),
+      ) in
+      subst (λ r. (r ≡ reply.Memory) ⊎ TellsTake roster facts fact r) (sym is) (inr tell)
+  took fact told (Ok taken.Unchanged) among tells fits is =
+      let tell : TellsTake roster facts fact reply.Unchanged = (
+        inr refl,
+        λ m of. let same = tells roster log facts m sound among means of in (λ e. same.0 refl, λ h. refl),
+      ) in
+      subst (λ r. (r ≡ reply.Memory) ⊎ TellsTake roster facts fact r) (sym is) (inr tell)
+  took fact told (Err refused) among tells fits is =
+      let e : refused.fault ≡ refusal.Memory = fits (roster, log, facts, sound, among, means) in
+      inl (is ∙ ap refusal_reply e)
+
+  -- ---- gossip
+  sound_state : IsSoundState s
+  sound_state = (roster, log, facts, sound, means)
+
+  summed : (summary : SummaryData) (told : Reply) → SumsUp s summary told → TellsSummary roster facts told
+  summed summary told sums =
+      (summary, λ m is. sums.meaning m ((meaning_law log facts s m (log_of_sound roster log sound) means).1 is), sums.is)
+
+  delta_told : (summary : SummaryData) (told : Reply) (answer : Result DeltaData ReadFault) → IfOk answer (FillsSummary s summary)
+      → IfErr answer (λ e. IsSoundState s → e ≡ fault.Memory) → told ≡ delta_reply answer → (told ≡ reply.Memory) ⊎ TellsDelta roster facts summary told
+  delta_told summary told (Ok d) fills whole is =
+      inr (means.0, means.1.position, (d, fills roster log facts means.0 sound means.1, is))
+  delta_told summary told (Err why) fills whole is = inl (is ∙ ap fault_reply (whole sound_state))
+
+  only_memory : (why : Refusal) → absorb.Refused why ≡ absorb.Refused refusal.Memory → why ≡ refusal.Memory
+  only_memory why e = cc
+
+  absorbed : (summary : SummaryData) (delta : DeltaData) (told : Reply) (answer : Result (Unit {0}) AbsorbRefusal) (brought : List Fact)
+      → BringsDelta roster log summary delta brought
+      → OnOk answer (Answers s summary) → IfErr answer (RefusesAbsorb s summary delta)
+      → IfErr answer (λ e. IsOfOneLog s summary delta → (e ≡ absorb.Refused refusal.Memory) ⊎ ((shown : Shown) × (e ≡ absorb.Uncovered shown)))
+      → told ≡ absorbed_reply answer → (told ≡ reply.Memory) ⊎ TellsAbsorb roster facts summary told
+  absorbed summary delta told (Ok done) brought brings answers refused fits is =
+      inr (means.0, means.1.position, inl (is, answers_for roster log facts means.0 s sound means.1 summary answers.0 answers.1 answers.2))
+  absorbed summary delta told (Err (absorb.Uncovered shown)) brought brings answers refused fits is =
+      let un = refused.1 in
+      let tells = tells_answer roster log facts means.0 s sound means.1 summary un.0 un.1 (Some shown) un.2 in
+      inr (means.0, means.1.position, inr (shown, is, λ all. absurd (let e : Some shown ≡ None = tells.1 all in cc)))
+  absorbed summary delta told (Err (absorb.Refused why)) brought brings answers refused fits is = ⊎_elim
+      (λ (e : absorb.Refused why ≡ absorb.Refused refusal.Memory). inl (is ∙ ap refusal_reply (only_memory why e)))
+      (λ (e : (shown : Shown) × (absorb.Refused why ≡ absorb.Uncovered shown)). absurd (let no = e.1 in cc))
+      (fits (
+        roster,
+        log,
+        facts,
+        brought,
+        means.0,
+        brings.0,
+        record {
+          sound = sound;
+          means = means.1;
+          part = brings.1;
+          position = brings.2;
+          fills = brings.3;
+        },
+      ))
+
+  -- ---- folds
+  folded : (old new : Cached) (told : Reply) (plan : Result Folded ReadFault) → old.segment ≡ s → IfErr plan (λ f. IsSoundState old.segment → f ≡ fault.Memory)
+      → CommitsPlan old plan told new → (told ≡ reply.Memory) ⊎ (told ≡ reply.Folded)
+  folded old new told (Ok done) same whole commits = ⊎_elim
+      (λ (did : (told ≡ reply.Folded) × Commits old.segment done new.segment). inr did.0)
+      (λ (lacks : LacksMemory old told new × (version_of old.segment.store done.page < done.version)). inl lacks.0.0)
+      commits
+  folded old new told (Err f) same whole commits = inl (commits.0 ∙ ap fault_reply (whole (subst IsSoundState (sym same) sound_state)))
+
+  tidied : (told : Reply) (answer : Result (Unit {0}) ReadFault) → IfErr answer (λ f. IsSoundState s → f ≡ fault.Memory) → told ≡ tidied_reply answer
+      → (told ≡ reply.Memory) ⊎ (told ≡ reply.Tidied)
+  tidied told (Ok done) whole is = inr is
+  tidied told (Err f) whole is = inl (is ∙ ap fault_reply (whole sound_state))
+
+-- what is absorbed has what some facts of the log have beyond the summary, and what is taken is of the log
+abbrev pub BringsSome : ℕ → List Fact → Request → List Fact → Type 0
+BringsSome roster log (request.Take fact) brought = Contains log fact
+BringsSome roster log (request.Absorb summary delta) brought = BringsDelta roster log summary delta brought
+BringsSome roster log asked brought = Unit {0}
+
+pub replies_as : (roster : ℕ) (log facts brought : List Fact) (old new : ReplicaData) (asked : Request) (told : Reply) → IsSound roster log
+    → ReplicaMeans roster log facts old → BringsSome roster log asked brought → IsReply old asked told new → RepliesAs roster facts asked told
+replies_as roster log facts brought old new (request.Open readers) told sound means brings says = tt
+replies_as roster log facts brought old new (request.Take fact) told sound means brings says =
+    let t = says.0 in took roster log facts old.cached.segment sound means fact told t.answer brings t.tells t.sound t.is
+replies_as roster log facts brought old new request.Front told sound means brings says =
+    let t = says.0 in
+    record { p = means.0; position = means.1.position; front = t.front; tells = t.facts roster log facts means.0 sound means.1; is = t.is }
+replies_as roster log facts brought old new request.State told sound means brings says = tt
+replies_as roster log facts brought old new (request.Read page point) told sound means brings says =
+    let t = says.0 in
+    record { p = means.0; position = means.1.position; answer = t.answer; tells = t.facts roster log facts means.0 sound means.1; is = t.is }
+replies_as roster log facts brought old new request.Ask told sound means brings says = ⊎_elim
+    (λ (lacks : told ≡ reply.Memory). inl lacks)
+    (λ (sums : (summary : SummaryData) × SumsUp old.cached.segment summary told).
+    inr (summed roster log facts old.cached.segment sound means sums.0 told sums.1))
+    says.0
+replies_as roster log facts brought old new (request.Answer summary) told sound means brings says =
+    let t = says.0 in delta_told roster log facts old.cached.segment sound means summary told t.answer t.fills t.sound t.is
+replies_as roster log facts brought old new (request.Absorb summary delta) told sound means brings says =
+    let t = says.0 in
+    absorbed roster log facts old.cached.segment sound means summary delta told t.answer brought brings t.answers t.refused t.sound t.is
+replies_as roster log facts brought old new (request.Fold page) told sound means brings says =
+    let t = says.0 in folded roster log facts old.cached.segment sound means old.cached new.cached told t.plan refl t.sound t.commits
+replies_as roster log facts brought old new request.Discard told sound means brings says = says.0.is
+replies_as roster log facts brought old new request.Tidy told sound means brings says =
+    let t = says.0 in tidied roster log facts old.cached.segment sound means told t.answer t.sound t.is
+replies_as roster log facts brought old new asked told sound means brings says = tt
+
+-- ---- one reply
+fronts_alike : (p q : Position) (f g : Front) → p ≡ q → IsFrontAt p f → IsFrontAt q g → f ≡ g
+fronts_alike p q f g same h k =
+    let own : IsFrontAt q f = subst (λ at. IsFrontAt at f) same h in
+    let epoch : f.epoch ≡ g.epoch = own.epoch ∙ sym k.epoch in
+    let complete : f.complete ≡ g.complete = own.complete ∙ sym k.complete in
+    let min : f.min ≡ g.min = own.min ∙ sym k.min in
+    let t : (let v : Front = record { epoch = f.epoch; complete = f.complete; min = f.min } in
+    v) ≡ record { epoch = g.epoch; complete = g.complete; min = g.min } = cc in t
+
+one_read : (facts others : List Fact) → SameSet facts others → (p : Position) (page q : ℕ) (a b : Result (List ℕ) ReadFault)
+    → IsReadResult facts p page q a → IsReadResult others p page q b → (read_reply a ≡ reply.Memory → ⊥) → (read_reply b ≡ reply.Memory → ⊥) → read_reply a ≡ read_reply b
+one_read facts others same p page q (Ok i) (Ok j) h k x y =
+    ap (λ image. reply.Page image) (page_unique facts others same p.epoch page q i j h.1 k.1)
+one_read facts others same p page q (Ok i) (Err (fault.Below n)) h k x y = absurd (omega (arith, k.1, h.0.0))
+one_read facts others same p page q (Ok i) (Err (fault.Above n)) h k x y = absurd (omega (arith, k.2, h.0.1))
+one_read facts others same p page q (Ok i) (Err (fault.BrokenBlockChain g n)) h k x y = absurd k
+one_read facts others same p page q (Ok i) (Err fault.Memory) h k x y = absurd (y refl)
+one_read facts others same p page q (Err (fault.Below m)) (Ok j) h k x y = absurd (omega (arith, h.1, k.0.0))
+one_read facts others same p page q (Err (fault.Below m)) (Err (fault.Below n)) h k x y = ap (λ (i : ℕ). reply.Below i) (h.0 ∙ sym k.0)
+one_read facts others same p page q (Err (fault.Below m)) (Err (fault.Above n)) h k x y = absurd (omega (arith, h.1, k.1))
+one_read facts others same p page q (Err (fault.Below m)) (Err (fault.BrokenBlockChain g n)) h k x y = absurd k
+one_read facts others same p page q (Err (fault.Below m)) (Err fault.Memory) h k x y = absurd (y refl)
+one_read facts others same p page q (Err (fault.Above m)) (Ok j) h k x y = absurd (omega (arith, h.2, k.0.1))
+one_read facts others same p page q (Err (fault.Above m)) (Err (fault.Below n)) h k x y = absurd (omega (arith, h.1, k.1))
+one_read facts others same p page q (Err (fault.Above m)) (Err (fault.Above n)) h k x y = ap (λ (i : ℕ). reply.Above i) (h.0 ∙ sym k.0)
+one_read facts others same p page q (Err (fault.Above m)) (Err (fault.BrokenBlockChain g n)) h k x y = absurd k
+one_read facts others same p page q (Err (fault.Above m)) (Err fault.Memory) h k x y = absurd (y refl)
+one_read facts others same p page q (Err (fault.BrokenBlockChain g n)) b h k x y = absurd h
+one_read facts others same p page q (Err fault.Memory) b h k x y = absurd (x refl)
+
+pub one_reply : (roster : ℕ) (facts others : List Fact) (asked : Request) (told other : Reply) → SameSet facts others → IsRead asked
+    → RepliesAs roster facts asked told → RepliesAs roster others asked other → (told ≡ reply.Memory → ⊥) → (other ≡ reply.Memory → ⊥) → told ≡ other
+one_reply roster facts others request.Front told other same reads h k x y =
+    let one : h.p ≡ k.p = front_unique facts others same h.p k.p h.position k.position in
+    h.is ∙ ap (λ f. reply.Front f) (fronts_alike h.p k.p h.front k.front one h.tells k.tells) ∙ sym k.is
+one_reply roster facts others (request.Read page point) told other same reads h k x y =
+    let one : h.p ≡ k.p = front_unique facts others same h.p k.p h.position k.position in
+    h.is ∙ one_read facts others same k.p page point h.answer k.answer (subst (λ p. IsReadResult facts p page point h.answer) one h.tells) k.tells
+    (λ e. x (h.is ∙ e)) (λ e. y (k.is ∙ e)) ∙ sym k.is
+one_reply roster facts others asked told other same reads h k x y = absurd reads

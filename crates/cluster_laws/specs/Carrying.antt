@@ -1,0 +1,28 @@
+-- What a network may bring to a node: what was replied before, as late and as often as it likes, and nothing that is made up.
+use Rattle.std.specs.Prelude.{◌≡◌, ℕ, List, ◌∷◌, ◌++◌}
+use Rattle.std.specs.List.{Contains}
+use Rattle.redo_core.specs.Sets.{SameSet}
+use Rattle.redo_core.specs.declared.facts.Fact.{Fact}
+use Rattle.replica.specs.declared.requests.Request.{Request}
+use Rattle.replica.specs.declared.requests.Request.TheVariants as request
+use Rattle.replica.specs.declared.replies.Reply.TheVariants as reply
+use Rattle.replica.specs.Meaning.{Turn}
+use Rattle.cluster_laws.specs.Turns.{facts_at, frozen_at, staged_at, WasReplied}
+
+-- After these turns a request may come to a node and bring it these facts. A fact is of the log. A delta was replied to the summary, and
+-- brings the facts of the node that replied it; a piece was told, and brings those of its snapshot. A staging brings what each piece does
+-- that it has taken: they are all of the same facts.
+abbrev pub IsCarried : ℕ → List Fact → List (ℕ × Turn) → ℕ → Request → List Fact → Type 0
+IsCarried roster log turns node (request.Open readers) brought = readers ≡ roster
+IsCarried roster log turns node (request.Take fact) brought = Contains log fact
+IsCarried roster log turns node (request.Absorb summary delta) brought =
+    WasReplied facts_at turns (request.Answer summary) (reply.Delta delta) brought
+IsCarried roster log turns node (request.Add piece) brought =
+    (index : ℕ) × WasReplied frozen_at turns (request.Piece index) (reply.Piece piece) brought
+IsCarried roster log turns node request.Finish brought = (facts : List Fact) → Contains (staged_at turns node) facts → SameSet facts brought
+IsCarried roster log turns node asked brought = Unit {0}
+
+-- each turn is carried by those before it
+abbrev pub AreCarried : ℕ → List Fact → List (ℕ × Turn) → Type 0
+AreCarried roster log turns =
+    (before after : List (ℕ × Turn)) (node : ℕ) (t : Turn) → turns ≡ before ++ (node, t) ∷ after → IsCarried roster log before node t.asked t.brought

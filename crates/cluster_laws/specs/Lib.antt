@@ -1,0 +1,5 @@
+pub mod Turns
+pub mod Carrying
+pub mod Replying
+pub mod Following
+pub mod Streams

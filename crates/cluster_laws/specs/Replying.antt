@@ -1,0 +1,73 @@
+-- What a node replies that certain facts have reached: it is read off those facts alone.
+use Rattle.std.specs.Prelude.{◌≡◌, ℕ, ◌⊎◌, ◌↔◌, List, [], ◌∷◌, ◌++◌, Result}
+use Rattle.redo_core.specs.Meaning.{Meaning, IsMeaning}
+use Rattle.redo_core.specs.Position.{Position, IsPosition}
+use Rattle.redo_core.specs.declared.facts.Fact.{Fact}
+use Rattle.redo_wire.specs.Deltas.{DeltaData}
+use Rattle.redo_wire.specs.Summaries.{SummaryData}
+use Rattle.segment_state.specs.Gossip.{AnswersFor, Fills}
+use Rattle.segment_core.specs.Reading.{IsFrontAt, IsReadResult}
+use Rattle.segment_core.specs.declared.answers.Front.{Front}
+use Rattle.segment_core.specs.declared.answers.ReadFault.{ReadFault}
+use Rattle.gossip_core.specs.Summarizing.{IsSummaryOf}
+use Rattle.gossip_core.specs.Answering.{listing_of}
+use Rattle.gossip_core.specs.Absorbing.{filling_of}
+use Rattle.gossip_core.specs.declared.answering.Shown.{Shown}
+use Rattle.replica.specs.declared.requests.Request.{Request}
+use Rattle.replica.specs.declared.requests.Request.TheVariants as request
+use Rattle.replica.specs.declared.replies.Reply.{Reply}
+use Rattle.replica.specs.declared.replies.Reply.TheVariants as reply
+use Rattle.replica.specs.Replying.{read_reply}
+
+-- whether a fact changed what the facts mean
+abbrev pub TellsTake : ℕ → List Fact → Fact → Reply → Type 0
+TellsTake roster facts fact told =
+    ((told ≡ reply.Changed) ⊎ (told ≡ reply.Unchanged))
+    × ((m : Meaning) → IsMeaning roster facts m → (told ≡ reply.Unchanged) ↔ IsMeaning roster (facts ++ fact ∷ []) m)
+
+-- the front of the facts
+pub record TellsFront (roster : ℕ) (facts : List Fact) (told : Reply) : Type 0 where
+  pub p : Position
+  pub position : IsPosition roster facts p
+  pub front : Front
+  pub tells : IsFrontAt p front
+  pub is : told ≡ reply.Front front
+
+-- the page of the facts at a read point, or why that is not admissible
+pub record TellsPage (roster : ℕ) (facts : List Fact) (page point : ℕ) (told : Reply) : Type 0 where
+  pub p : Position
+  pub position : IsPosition roster facts p
+  pub answer : Result (List ℕ) ReadFault
+  pub tells : IsReadResult facts p page point answer
+  pub is : told ≡ read_reply answer
+
+-- the summary of what the facts mean
+abbrev pub TellsSummary : ℕ → List Fact → Reply → Type 0
+TellsSummary roster facts told =
+    (summary : SummaryData) × ((m : Meaning) → IsMeaning roster facts m → IsSummaryOf m summary) × (told ≡ reply.Summary summary)
+
+-- what the facts have beyond the summary
+abbrev pub TellsDelta : ℕ → List Fact → SummaryData → Reply → Type 0
+TellsDelta roster facts summary told =
+    (p : Position) × IsPosition roster facts p
+    × ((delta : DeltaData) × Fills facts p (listing_of summary) (filling_of delta) × (told ≡ reply.Delta delta))
+
+-- whether the facts answer for the summary that a delta was made for
+abbrev pub TellsAbsorb : ℕ → List Fact → SummaryData → Reply → Type 0
+TellsAbsorb roster facts summary told =
+    (p : Position) × IsPosition roster facts p
+    × (((told ≡ reply.Absorbed) × AnswersFor facts p (listing_of summary))
+    ⊎ ((shown : Shown) × (told ≡ reply.Uncovered shown) × (AnswersFor facts p (listing_of summary) → ⊥)))
+
+-- Memory may be wanting. Else no fact and no delta is refused, and no block chain is broken.
+abbrev pub RepliesAs : ℕ → List Fact → Request → Reply → Type 0
+RepliesAs roster facts (request.Take fact) told = (told ≡ reply.Memory) ⊎ TellsTake roster facts fact told
+RepliesAs roster facts request.Front told = TellsFront roster facts told
+RepliesAs roster facts (request.Read page point) told = TellsPage roster facts page point told
+RepliesAs roster facts request.Ask told = (told ≡ reply.Memory) ⊎ TellsSummary roster facts told
+RepliesAs roster facts (request.Answer summary) told = (told ≡ reply.Memory) ⊎ TellsDelta roster facts summary told
+RepliesAs roster facts (request.Absorb summary delta) told = (told ≡ reply.Memory) ⊎ TellsAbsorb roster facts summary told
+RepliesAs roster facts (request.Fold page) told = (told ≡ reply.Memory) ⊎ (told ≡ reply.Folded)
+RepliesAs roster facts request.Discard told = told ≡ reply.Discarded
+RepliesAs roster facts request.Tidy told = (told ≡ reply.Memory) ⊎ (told ≡ reply.Tidied)
+RepliesAs roster facts asked told = Unit {0}
