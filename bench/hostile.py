@@ -159,6 +159,15 @@ def discards_over_images(size):
     return script(facts, 1, *taken(facts), *steps)
 
 
+def absorbs_over_images(size):
+    """A message without images, absorbed again and again by a node that holds many, with a discard after each."""
+    facts = filled(min(size, 60_000))
+    pages = len(facts) - 1
+    facts.append(f"cut 1 {pages} {pages}")
+    asked = ["ask 1", "answer 2 1"]
+    return script(facts, 2, *taken(facts), *taken(facts, 2), *folds(pages), "discard 1", *asked, *["absorb 1 2", "discard 1"] * pages)
+
+
 TASKS = {it.__name__: it for it in (
     joins_of_waiting,
     absorbs_of_waiting,
@@ -173,6 +182,7 @@ TASKS = {it.__name__: it for it in (
     deep_waits,
     late_mail,
     discards_over_images,
+    absorbs_over_images,
 )}
 
 
