@@ -1,6 +1,7 @@
 pub mod Turned
 pub mod Alike
 pub mod Made
+pub mod Beside
 pub mod Staged
 pub mod Standing
 pub mod Replied

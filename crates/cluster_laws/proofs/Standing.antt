@@ -155,7 +155,7 @@ module _ (roster : ℕ) (log : List Fact) (sound : IsSound roster log) where
       step_means roster log (facts_at turns node) brought old asked told new sound carried says stands.means
 
   adds_told : (turns : List (ℕ × Turn)) (node : ℕ) (asked : Request) (brought : List Fact) → HaveTold roster log turns
-      → IsCarried roster log turns node asked brought → AddsTold roster log brought (staged_at turns node) asked
+      → IsCarried roster log turns node asked brought → AddsTold roster log brought asked
   adds_told turns node (request.Add piece) brought have carried = have.pieces carried.0 piece brought carried.1
   adds_told turns node asked brought have carried = tt
 
@@ -165,7 +165,7 @@ module _ (roster : ℕ) (log : List Fact) (sound : IsSound roster log) where
     means = subst (λ facts. ReplicaMeans roster log facts new) (sym (own_facts turns node t))
         (means_after turns node t.asked t.told t.brought old new have stands carried says);
     snapshot = subst (λ facts. KeepsMade roster log facts new.snapshot) (sym (own_frozen turns node t))
-        (snapshot_made roster log (facts_at turns node) t.asked t.told (frozen_at turns node) old new stands.means stands.snapshot says);
+        (snapshot_made roster log (facts_at turns node) (frozen_at turns node) t.asked t.told old new stands.means stands.snapshot says);
     staging = subst (λ staged. KeepsStaged roster log staged new.staging) (sym (own_staged turns node t))
         (staging_kept roster log t.brought (staged_at turns node) t.asked t.told old new (adds_told turns node t.asked t.brought have carried) stands.staging says);
   }
