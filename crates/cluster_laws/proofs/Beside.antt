@@ -45,21 +45,16 @@ pub snapshot_goes : (asked : Request) (told : Reply) (old new : ReplicaData) →
     → SnapshotStays old.snapshot new.snapshot asked told ⊎ IsFrozen old.cached.segment new.snapshot asked told
 snapshot_goes (request.Open readers) told old new says = inl (says.1.snapshot, λ facts frozen. refl)
 snapshot_goes (request.Take fact) told old new says = inl (says.1.snapshot, λ facts frozen. refl)
-snapshot_goes request.Front told old new says = inl (ap (λ r. r.snapshot) says.1, λ facts frozen. refl)
-snapshot_goes request.State told old new says = inl (ap (λ r. r.snapshot) says.1, λ facts frozen. refl)
 snapshot_goes (request.Read page point) told old new says = inl (says.1.snapshot, λ facts frozen. refl)
-snapshot_goes request.Ask told old new says = inl (ap (λ r. r.snapshot) says.1, λ facts frozen. refl)
-snapshot_goes (request.Answer summary) told old new says = inl (ap (λ r. r.snapshot) says.1, λ facts frozen. refl)
 snapshot_goes (request.Absorb summary delta) told old new says = inl (says.1.snapshot, λ facts frozen. refl)
 snapshot_goes (request.Fold page) told old new says = inl (says.1.snapshot, λ facts frozen. refl)
 snapshot_goes request.Discard told old new says = inl (says.1.snapshot, λ facts frozen. refl)
 snapshot_goes request.Tidy told old new says = inl (says.1.snapshot, λ facts frozen. refl)
 snapshot_goes (request.Freeze name) told old new says = freeze_goes name told old.cached.segment old.snapshot new.snapshot says.0
-snapshot_goes (request.Piece index) told old new says = inl (ap (λ r. r.snapshot) says.1, λ facts frozen. refl)
 snapshot_goes (request.Stage name total) told old new says = inl (says.2, λ facts frozen. refl)
 snapshot_goes (request.Add piece) told old new says = inl (says.2, λ facts frozen. refl)
 snapshot_goes request.Finish told old new says = inl (says.1, λ facts frozen. refl)
-snapshot_goes (request.Next after) told old new says = inl (ap (λ r. r.snapshot) says.1, λ facts frozen. refl)
+snapshot_goes asked told old new says = inl (ap (λ r. r.snapshot) says.1, λ facts frozen. refl)
 
 -- ---- the staging
 -- it stays, and so do the facts that its pieces brought
@@ -131,18 +126,13 @@ pub staging_goes : (asked : Request) (told : Reply) (old new : ReplicaData) → 
     → StagingGoes old.staging new.staging asked told
 staging_goes (request.Open readers) told old new says = inl (says.1.staging, λ staged brought. refl)
 staging_goes (request.Take fact) told old new says = inl (says.1.staging, λ staged brought. refl)
-staging_goes request.Front told old new says = inl (ap (λ r. r.staging) says.1, λ staged brought. refl)
-staging_goes request.State told old new says = inl (ap (λ r. r.staging) says.1, λ staged brought. refl)
 staging_goes (request.Read page point) told old new says = inl (says.1.staging, λ staged brought. refl)
-staging_goes request.Ask told old new says = inl (ap (λ r. r.staging) says.1, λ staged brought. refl)
-staging_goes (request.Answer summary) told old new says = inl (ap (λ r. r.staging) says.1, λ staged brought. refl)
 staging_goes (request.Absorb summary delta) told old new says = inl (says.1.staging, λ staged brought. refl)
 staging_goes (request.Fold page) told old new says = inl (says.1.staging, λ staged brought. refl)
 staging_goes request.Discard told old new says = inl (says.1.staging, λ staged brought. refl)
 staging_goes request.Tidy told old new says = inl (says.1.staging, λ staged brought. refl)
 staging_goes (request.Freeze name) told old new says = inl (says.2, λ staged brought. refl)
-staging_goes (request.Piece index) told old new says = inl (ap (λ r. r.staging) says.1, λ staged brought. refl)
 staging_goes (request.Stage name total) told old new says = inr (inr (inl (name, total, refl, says.0.1)))
 staging_goes (request.Add piece) told old new says = add_goes piece told old.staging new.staging says.0
 staging_goes request.Finish told old new says = finish_goes told old.cached new.cached old.staging new.staging says.0
-staging_goes (request.Next after) told old new says = inl (ap (λ r. r.staging) says.1, λ staged brought. refl)
+staging_goes asked told old new says = inl (ap (λ r. r.staging) says.1, λ staged brought. refl)
