@@ -19,15 +19,19 @@ use Rattle.cluster_laws.specs.Carrying.{IsCarried, AreCarried}
 use Rattle.cluster_laws.specs.Replying.{RepliesAs}
 use Rattle.cluster_laws.specs.Following.{AreTurnsOf, FollowsFacts, ClusterFollows, SameReplies, OpenedIsEmpty}
 use Rattle.cluster_laws.proofs.Turned.{own_turn}
-use Rattle.cluster_laws.proofs.Standing.{HaveTold, AllStand, begin, reach}
+use Rattle.cluster_laws.proofs.Reached.{Hold, reach}
+use Rattle.cluster_laws.proofs.Standing.{Stands, HaveTold, Comes, stands_kept, begin}
 use Rattle.cluster_laws.proofs.Replied.{BringsSome, replies_as, one_reply}
 
 module _ (roster : ℕ) (log : List Fact) (pages : ℕ → ℕ) (turns : List (ℕ × Turn)) (nodes : ℕ → ReplicaData) (sound : IsSound roster log)
     (runs : AreTurnsOf roster pages turns nodes) (carried : AreCarried roster log turns) where
-  stand : (before rest : List (ℕ × Turn)) → turns ≡ before ++ rest → AllStand roster log before rest nodes
+  abbrev HoldAt : List (ℕ × Turn) → List (ℕ × Turn) → Type 0
+  HoldAt before rest = Hold (Stands roster log) (HaveTold roster log) (Comes roster log sound) (stands_kept roster log sound) nodes before rest
+
+  stand : (before rest : List (ℕ × Turn)) → turns ≡ before ++ rest → HoldAt before rest
   stand before rest all =
-      reach roster log sound [] before rest nodes (subst (AreCarried roster log) all carried)
-      (subst (λ ts. AllStand roster log [] ts nodes) all (begin roster log sound pages turns nodes runs))
+      reach (Stands roster log) (HaveTold roster log) (Comes roster log sound) (stands_kept roster log sound) nodes turns before rest all carried
+      (begin roster log sound pages turns nodes runs)
 
   brings_some : (before : List (ℕ × Turn)) (node : ℕ) (asked : Request) (brought : List Fact) → HaveTold roster log before
       → IsCarried roster log before node asked brought → BringsSome roster log asked brought
@@ -37,17 +41,17 @@ module _ (roster : ℕ) (log : List Fact) (pages : ℕ → ℕ) (turns : List (�
 
   node_means : (node : ℕ) → ReplicaMeans roster log (facts_at turns node) (nodes node)
   node_means node =
-      let last = (stand turns [] (sym (append-nil turns))).each node in
+      let last = (stand turns [] (sym (append-nil turns))).1 node in
       subst (ReplicaMeans roster log (facts_at turns node)) (sym last.1) last.2.means
 
   pub turn_replies : (before after : List (ℕ × Turn)) (node : ℕ) (t : Turn) → turns ≡ before ++ (node, t) ∷ after
       → RepliesAs roster (facts_at before node) t.asked t.told
   turn_replies before after node t all =
       let stands = stand before ((node, t) ∷ after) all in
-      let own = stands.each node in
+      let own = stands.1 node in
       let goes : Runs own.0 (t ∷ turns_of node after) (nodes node) = subst (λ ts. Runs own.0 ts (nodes node)) (own_turn node t after) own.1 in
       replies_as roster log (facts_at before node) t.brought own.0 goes.0 t.asked t.told sound own.2.means
-      (brings_some before node t.asked t.brought stands.told (carried before after node t all)) goes.1
+      (brings_some before node t.asked t.brought stands.0 (carried before after node t all)) goes.1
 
   pub follows : StatesAnswer → FollowsFacts roster log turns nodes
   follows answer = record {

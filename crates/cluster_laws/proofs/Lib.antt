@@ -1,8 +1,11 @@
 pub mod Turned
 pub mod Alike
 pub mod Made
+pub mod Beside
 pub mod Staged
+pub mod Reached
 pub mod Standing
 pub mod Replied
 pub mod Followed
 pub mod Interleaved
+pub mod Named

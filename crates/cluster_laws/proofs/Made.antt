@@ -58,7 +58,7 @@ pub same_or_not : (a b : ℕ) → (a ≡ b) ⊎ (a ≢ b)
 same_or_not a b = grind arith
 
 -- what is not a stranger's is of the staging's name and total
-own_piece : (st : StagingData) (p : PieceData) → (IsStranger st p → ⊥) → (p.name ≡ st.name) × (p.total ≡ st.total)
+pub own_piece : (st : StagingData) (p : PieceData) → (IsStranger st p → ⊥) → (p.name ≡ st.name) × (p.total ≡ st.total)
 own_piece st p own = (
   ⊎_elim (λ (e : p.name ≡ st.name). e) (λ (other : p.name ≢ st.name). absurd (own (inl other))) (same_or_not p.name st.name),
   ⊎_elim (λ (e : p.total ≡ st.total). e) (λ (other : p.total ≢ st.total). absurd (own (inr other))) (same_or_not p.total st.total),

@@ -1,6 +1,5 @@
 -- How all nodes stand after some turns of a run, and after one more.
-use Rattle.std.proofs.Common.{◌≡◌, ◌≢◌, ℕ, ◌<◌, ◌≤◌, ◌⊎◌, ⊎_elim, List, [], ◌∷◌, ◌++◌, refl, sym, subst, arith, append_assoc, Option, Some, None, Result, Ok, Err, IfOk}
-use Rattle.std.proofs.lemmas.List.{append-nil}
+use Rattle.std.proofs.Common.{◌≡◌, ◌≢◌, ℕ, ◌<◌, ◌≤◌, ◌⊎◌, ⊎_elim, List, [], ◌∷◌, ◌++◌, refl, sym, subst, arith, Option, Some, None, Result, Ok, Err, IfOk}
 use Rattle.redo_core.specs.Sound.{IsSound}
 use Rattle.redo_core.specs.declared.facts.Fact.{Fact}
 use Rattle.redo_wire.specs.Deltas.{DeltaData}
@@ -27,13 +26,14 @@ use Rattle.replica.specs.Replying.{delta_reply, fault_reply, unfinished_reply}
 use Rattle.replica.specs.Gossiping.{RepliesTo}
 use Rattle.replica.specs.Hydrating.{Pieces, Finishes, StandsFor}
 use Rattle.replica.specs.Machine.{IsReply}
-use Rattle.replica.specs.Meaning.{Turn, Runs, facts_after, BringsDelta, BringsStaging, ReplicaMeans}
+use Rattle.replica.specs.Meaning.{Turn, facts_after, BringsDelta, BringsStaging, ReplicaMeans}
 use Rattle.replica.proofs.Means.{step_means}
-use Rattle.cluster_laws.specs.Turns.{turns_of, facts_at, frozen_at, staged_at, WasReplied}
-use Rattle.cluster_laws.specs.Carrying.{IsCarried, AreCarried}
+use Rattle.cluster_laws.specs.Turns.{facts_at, frozen_at, staged_at, WasReplied}
+use Rattle.cluster_laws.specs.Carrying.{IsCarried}
 use Rattle.cluster_laws.specs.Following.{AreTurnsOf}
-use Rattle.cluster_laws.proofs.Turned.{own_turn, other_turn, own_facts, other_facts, own_frozen, other_frozen, own_staged, other_staged, replied_last, none_there}
-use Rattle.cluster_laws.proofs.Made.{IsTold, KeepsMade, KeepsStaged, same_or_not, brings_facts}
+use Rattle.cluster_laws.proofs.Turned.{own_facts, other_facts, own_frozen, other_frozen, own_staged, other_staged, replied_last, none_there}
+use Rattle.cluster_laws.proofs.Made.{IsTold, KeepsMade, KeepsStaged, brings_facts}
+use Rattle.cluster_laws.proofs.Reached.{IsKept, Hold}
 use Rattle.cluster_laws.proofs.Staged.{AddsTold, snapshot_made, staging_kept}
 
 -- a node's replica means the facts that have reached it, its snapshot is of those that had when it was made, and its staging has pieces of
@@ -51,11 +51,6 @@ pub record HaveTold (roster : ℕ) (log : List Fact) (turns : List (ℕ × Turn)
   pub pieces : (index : ℕ) (p : PieceData) (facts : List Fact) → WasReplied frozen_at turns (request.Piece index) (reply.Piece p) facts
       → IsTold roster log facts p
 
--- so all do, and go on by the rest of the turns
-pub record AllStand (roster : ℕ) (log : List Fact) (turns rest : List (ℕ × Turn)) (nodes : ℕ → ReplicaData) : Type 0 where
-  pub told : HaveTold roster log turns
-  pub each : (node : ℕ) → (r : ReplicaData) × Runs r (turns_of node rest) (nodes node) × Stands roster log turns node r
-
 -- ---- what is told
 not_delta : (delta : DeltaData) (why : ReadFault) → reply.Delta delta ≡ fault_reply why → ⊥
 not_delta delta (fault.Below min) e = cc
@@ -66,8 +61,21 @@ not_delta delta fault.Memory e = cc
 one_delta : (d e : DeltaData) → reply.Delta d ≡ reply.Delta e → e ≡ d
 one_delta d e h = cc
 
-told_piece : (p q : PieceData) → reply.Piece p ≡ reply.Piece q → q ≡ p
-told_piece p q h = cc
+same_piece : (p q : PieceData) → reply.Piece p ≡ reply.Piece q → q ≡ p
+same_piece p q h = cc
+
+-- a piece that is told is of the snapshot that is kept
+pub piece_told : (kept : Option SnapshotData) (index : ℕ) (p : PieceData) → Pieces kept index (reply.Piece p)
+    → (d : SnapshotData) × (kept ≡ Some d) × IsPieceOf d p
+piece_told None index p says = absurd (let e : reply.Piece p ≡ reply.NoSnapshot = says in cc)
+piece_told (Some d) index p says = ⊎_elim
+    (λ (none : d.total ≤ index). absurd (let e : reply.Piece p ≡ reply.NoPiece = says.0 none in cc))
+    (λ (there : index < d.total). ⊎_elim
+    (λ (lacks : reply.Piece p ≡ reply.Memory). absurd (cc))
+    (λ (one : (q : PieceData) × IsPieceOf d q × (q.index ≡ index) × (reply.Piece p ≡ reply.Piece q)).
+    (d, refl, subst (λ (x : PieceData). IsPieceOf d x) (same_piece p one.0 one.3) one.1))
+    (says.1 there))
+    (let t : (d.total ≤ index) ⊎ (index < d.total) = grind arith in t)
 
 module _ (roster : ℕ) (log : List Fact) (sound : IsSound roster log) where
   delta_by : (facts : List Fact) (s : State) (summary : SummaryData) (delta : DeltaData) (answer : Result DeltaData ReadFault) → Means roster log facts s
@@ -76,18 +84,6 @@ module _ (roster : ℕ) (log : List Fact) (sound : IsSound roster log) where
       subst (λ (x : DeltaData). BringsDelta roster log summary x facts) (one_delta delta d is)
       (means.0, means.1.part, means.1.position, fills roster log facts means.0 sound means.1)
   delta_by facts s summary delta (Err why) means fills is = absurd (not_delta delta why is)
-
-  piece_by : (facts : List Fact) (kept : Option SnapshotData) (index : ℕ) (p : PieceData) → KeepsMade roster log facts kept
-      → Pieces kept index (reply.Piece p) → IsTold roster log facts p
-  piece_by facts None index p made says = absurd (let e : reply.Piece p ≡ reply.NoSnapshot = says in cc)
-  piece_by facts (Some d) index p made says = ⊎_elim
-      (λ (none : d.total ≤ index). absurd (let e : reply.Piece p ≡ reply.NoPiece = says.0 none in cc))
-      (λ (there : index < d.total). ⊎_elim
-      (λ (lacks : reply.Piece p ≡ reply.Memory). absurd (cc))
-      (λ (one : (q : PieceData) × IsPieceOf d q × (q.index ≡ index) × (reply.Piece p ≡ reply.Piece q)).
-      (d, made d refl, subst (λ (x : PieceData). IsPieceOf d x) (told_piece p one.0 one.3) one.1))
-      (says.1 there))
-      (let t : (d.total ≤ index) ⊎ (index < d.total) = grind arith in t)
 
   told_more : (turns : List (ℕ × Turn)) (node : ℕ) (t : Turn) (old new : ReplicaData) → HaveTold roster log turns → Stands roster log turns node old
       → IsReply old t.asked t.told new → HaveTold roster log (turns ++ (node, t) ∷ [])
@@ -105,7 +101,8 @@ module _ (roster : ℕ) (log : List Fact) (sound : IsSound roster log) where
         (λ (now : (t.asked ≡ request.Piece index) × (t.told ≡ reply.Piece p) × (facts ≡ frozen_at turns node)).
         let does : Pieces old.snapshot index (reply.Piece p) =
         subst (λ (r : Reply). Pieces old.snapshot index r) now.1 (subst (λ (a : Request). IsReply old a t.told new) now.0 says).0 in
-        subst (λ fs. IsTold roster log fs p) (sym now.2) (piece_by (frozen_at turns node) old.snapshot index p stands.snapshot does))
+        let of = piece_told old.snapshot index p does in
+        subst (λ fs. IsTold roster log fs p) (sym now.2) (of.0, stands.snapshot of.0 of.1, of.2))
         (replied_last frozen_at turns node t (request.Piece index) (reply.Piece p) facts w);
   }
 
@@ -155,7 +152,7 @@ module _ (roster : ℕ) (log : List Fact) (sound : IsSound roster log) where
       step_means roster log (facts_at turns node) brought old asked told new sound carried says stands.means
 
   adds_told : (turns : List (ℕ × Turn)) (node : ℕ) (asked : Request) (brought : List Fact) → HaveTold roster log turns
-      → IsCarried roster log turns node asked brought → AddsTold roster log brought (staged_at turns node) asked
+      → IsCarried roster log turns node asked brought → AddsTold roster log brought asked
   adds_told turns node (request.Add piece) brought have carried = have.pieces carried.0 piece brought carried.1
   adds_told turns node asked brought have carried = tt
 
@@ -165,7 +162,7 @@ module _ (roster : ℕ) (log : List Fact) (sound : IsSound roster log) where
     means = subst (λ facts. ReplicaMeans roster log facts new) (sym (own_facts turns node t))
         (means_after turns node t.asked t.told t.brought old new have stands carried says);
     snapshot = subst (λ facts. KeepsMade roster log facts new.snapshot) (sym (own_frozen turns node t))
-        (snapshot_made roster log (facts_at turns node) t.asked t.told (frozen_at turns node) old new stands.means stands.snapshot says);
+        (snapshot_made roster log (facts_at turns node) (frozen_at turns node) t.asked t.told old new stands.means stands.snapshot says);
     staging = subst (λ staged. KeepsStaged roster log staged new.staging) (sym (own_staged turns node t))
         (staging_kept roster log t.brought (staged_at turns node) t.asked t.told old new (adds_told turns node t.asked t.brought have carried) stands.staging says);
   }
@@ -180,47 +177,22 @@ module _ (roster : ℕ) (log : List Fact) (sound : IsSound roster log) where
   }
 
   -- ---- all
-  one_turn : (turns rest : List (ℕ × Turn)) (node : ℕ) (t : Turn) (nodes : ℕ → ReplicaData) → AllStand roster log turns ((node, t) ∷ rest) nodes
-      → IsCarried roster log turns node t.asked t.brought → AllStand roster log (turns ++ (node, t) ∷ []) rest nodes
-  one_turn turns rest node t nodes all carried =
-      let own = all.each node in
-      let runs : Runs own.0 (t ∷ turns_of node rest) (nodes node) = subst (λ ts. Runs own.0 ts (nodes node)) (own_turn node t rest) own.1 in
-      let Each : ℕ → Type 0 = λ k. (r : ReplicaData) × Runs r (turns_of k rest) (nodes k) × Stands roster log (turns ++ (node, t) ∷ []) k r in
-      let here : Each node = (runs.0, runs.2, own_stands turns node t own.0 runs.0 all.told own.2 carried runs.1) in
-      record {
-        told = told_more turns node t own.0 runs.0 all.told own.2 runs.1;
-        each = λ other. ⊎_elim
-            (λ (same : node ≡ other). subst Each same here)
-            (λ (apart : node ≢ other).
-            let its = all.each other in
-            let there : Each other = (
-              its.0,
-              subst (λ ts. Runs its.0 ts (nodes other)) (other_turn node other t rest apart) its.1,
-              other_stands turns node other t its.0 apart its.2,
-            ) in there)
-            (same_or_not node other);
-      }
+  abbrev pub Comes : List (ℕ × Turn) → ℕ → Turn → Type 0
+  Comes turns node t = IsCarried roster log turns node t.asked t.brought
 
-  pub reach : (turns next rest : List (ℕ × Turn)) (nodes : ℕ → ReplicaData) → AreCarried roster log (turns ++ (next ++ rest))
-      → AllStand roster log turns (next ++ rest) nodes → AllStand roster log (turns ++ next) rest nodes
-  reach turns [] rest nodes carried all = subst (λ ts. AllStand roster log ts rest nodes) (sym (append-nil turns)) all
-  reach turns (x ∷ next) rest nodes carried all =
-      let on = turns ++ x ∷ [] in
-      let same : on ++ (next ++ rest) ≡ turns ++ (x ∷ (next ++ rest)) = append_assoc turns (x ∷ []) (next ++ rest) in
-      let one : AllStand roster log on (next ++ rest) nodes =
-      one_turn turns (next ++ rest) x.0 x.1 nodes all (carried turns (next ++ rest) x.0 x.1 refl) in
-      subst (λ ts. AllStand roster log ts rest nodes) (append_assoc turns (x ∷ []) next)
-      (reach on next rest nodes (subst (AreCarried roster log) (sym same) carried) one)
+  pub stands_kept : IsKept (Stands roster log) (HaveTold roster log) Comes
+  stands_kept = record { own = own_stands; others = other_stands; all = told_more }
 
-  pub begin : (pages : ℕ → ℕ) (turns : List (ℕ × Turn)) (nodes : ℕ → ReplicaData) → AreTurnsOf roster pages turns nodes → AllStand roster log [] turns nodes
-  begin pages turns nodes runs = record {
-    told = record {
-      deltas = λ summary delta facts w. absurd (none_there w.before w.turn w.after w.all);
-      pieces = λ index p facts w. absurd (none_there w.before w.turn w.after w.all);
-    };
-    each = λ node. (
-      empty_replica roster (pages node),
-      runs node,
-      record { means = empty_means roster log; snapshot = λ d is. absurd (cc); staging = λ st is. absurd (cc) },
-    );
-  }
+  pub begin : (pages : ℕ → ℕ) (turns : List (ℕ × Turn)) (nodes : ℕ → ReplicaData) → AreTurnsOf roster pages turns nodes
+      → Hold (Stands roster log) (HaveTold roster log) Comes stands_kept nodes [] turns
+  begin pages turns nodes runs =
+      let told : HaveTold roster log [] = record {
+        deltas = λ summary delta facts w. absurd (none_there w.before w.turn w.after w.all);
+        pieces = λ index p facts w. absurd (none_there w.before w.turn w.after w.all);
+      } in
+      let stands : (node : ℕ) → Stands roster log [] node (empty_replica roster (pages node)) = λ node. record {
+        means = empty_means roster log;
+        snapshot = λ d is. absurd (cc);
+        staging = λ st is. absurd (cc);
+      } in
+      (told, λ node. (empty_replica roster (pages node), runs node, stands node))

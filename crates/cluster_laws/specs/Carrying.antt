@@ -3,11 +3,16 @@ use Rattle.std.specs.Prelude.{◌≡◌, ℕ, List, ◌∷◌, ◌++◌}
 use Rattle.std.specs.List.{Contains}
 use Rattle.redo_core.specs.Sets.{SameSet}
 use Rattle.redo_core.specs.declared.facts.Fact.{Fact}
+use Rattle.redo_wire.specs.Pieces.{PieceData}
 use Rattle.replica.specs.declared.requests.Request.{Request}
 use Rattle.replica.specs.declared.requests.Request.TheVariants as request
 use Rattle.replica.specs.declared.replies.Reply.TheVariants as reply
 use Rattle.replica.specs.Meaning.{Turn}
 use Rattle.cluster_laws.specs.Turns.{facts_at, frozen_at, staged_at, WasReplied}
+
+-- a node told the piece, and these facts had reached it when it made the piece's snapshot
+abbrev pub WasTold : List (ℕ × Turn) → PieceData → List Fact → Type 0
+WasTold turns piece facts = (index : ℕ) × WasReplied frozen_at turns (request.Piece index) (reply.Piece piece) facts
 
 -- After these turns a request may come to a node and bring it these facts. A fact is of the log. A delta was replied to the summary, and
 -- brings the facts of the node that replied it; a piece was told, and brings those of its snapshot. A staging brings what each piece does
@@ -17,8 +22,7 @@ IsCarried roster log turns node (request.Open readers) brought = readers ≡ ros
 IsCarried roster log turns node (request.Take fact) brought = Contains log fact
 IsCarried roster log turns node (request.Absorb summary delta) brought =
     WasReplied facts_at turns (request.Answer summary) (reply.Delta delta) brought
-IsCarried roster log turns node (request.Add piece) brought =
-    (index : ℕ) × WasReplied frozen_at turns (request.Piece index) (reply.Piece piece) brought
+IsCarried roster log turns node (request.Add piece) brought = WasTold turns piece brought
 IsCarried roster log turns node request.Finish brought = (facts : List Fact) → Contains (staged_at turns node) facts → SameSet facts brought
 IsCarried roster log turns node asked brought = Unit {0}
 

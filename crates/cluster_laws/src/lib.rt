@@ -9,6 +9,7 @@
 #![tactic(auto)]
 
 ghost use Rattle.cluster_laws.specs.Following.{ClusterFollows, SameReplies, OpenedIsEmpty};
+ghost use Rattle.cluster_laws.specs.Naming.{NamesSuffice};
 ghost use Rattle.cluster_laws.specs.Streams.{StreamsFollow};
 
 use node_stream::laws::answers_run;
@@ -30,6 +31,11 @@ pub fn same_replies()
 /// A node that was opened for a roster before anything had reached it is one that a run may begin with.
 pub fn opened_is_empty()
     ensures { OpenedIsEmpty }
+{}
+
+/// Names of their own for snapshots of different facts keep the pieces of different ones out of each staging.
+pub fn names_suffice()
+    ensures { NamesSuffice }
 {}
 
 /// The answers to lines are such a run's: nodes behind streams of lines, whose turns are interleaved in any order.
