@@ -1,7 +1,7 @@
 #!/usr/bin/env python3
 """The gate: `rt ci` over a copy of the tree in which the must-fail edits stand aside, then the edits that are due, many in a check
-(`wrong_bodies.py`), then the programs that `rt ci` built, from outside, what hostile texts cost, rows with allocations refused, the
-tools' own tests, the scripts `fleet` and `fleet-node` and the documents. The last line counts all.
+(`wrong_bodies.py`), then the programs that `rt ci` built, from outside, the archive and what links it, what hostile texts cost, rows with
+allocations refused, the tools' own tests, the scripts `fleet` and `fleet-node` and the documents. The last line counts all.
 
 `rt ci` at the top of the repository tries each edit by itself: that is the whole, for a new toolchain and before a release.
 With --record the sums of the crates whose edits were all refused are written into tools/tried.txt. With --all each edit is due.
@@ -15,7 +15,9 @@ import subprocess
 import sys
 import tempfile
 
+import archive_outside
 import documents
+import embedding_outside
 import fleet_script
 import gate_time
 import node_outside
@@ -66,14 +68,26 @@ def refused(room, flags):
     return counted([*tool, *flags], room)
 
 
+def build_archive(room):
+    """Makes the archive in the copy, which `rt ci` proves and does not build. Where that fails, the archive's tests do."""
+    subprocess.run(["rt", "lib"], cwd=room / "crates/node_c")
+
+
+def built():
+    """The programs, and the archive, that the copy is to have."""
+    return outside.PROGRAM, BY_RATTLE, node_outside.PROGRAM, *map(refused_rows.built, refused_rows.PROGRAMS), archive_outside.ARCHIVE
+
+
 def judged(room, given):
-    """Whether the copy is proved and its edits are refused, and what that counts; the program that was built is brought here."""
+    """Whether the copy is proved and its edits are refused, and what that counts; what was built is brought here."""
     copied(room)
     is_well, (passed, failed) = counted(["rt", "ci"], room)
     if not is_well:
         return False, (passed, max(failed, 1))
-    for program in (outside.PROGRAM, BY_RATTLE, node_outside.PROGRAM, *map(refused_rows.built, refused_rows.PROGRAMS)):
+    build_archive(room)
+    for program in built():
         made = room / program.relative_to(outside.ROOT)
+        program.unlink(missing_ok=True)
         if made.exists():
             program.parent.mkdir(parents=True, exist_ok=True)
             shutil.copy2(made, program)
@@ -103,7 +117,10 @@ def main():
         programs.append(BY_RATTLE)
     else:
         print(f"{BY_RATTLE.name} is not there: Rattle's own compiler built no program, and what it would build is not tested")
-    tests = (node_outside.tests, refused_rows.tests, wrong_bodies_tests.tests, waiting_model.tests, fleet_script.tests, documents.documents)
+    tests = (
+        *(node_outside.tests, archive_outside.tests, embedding_outside.tests, refused_rows.tests),
+        *(wrong_bodies_tests.tests, waiting_model.tests, fleet_script.tests, documents.documents),
+    )
     for more_passed, more_failed in (*map(outside.outside, programs), hostile.judged(programs[0]), *(test() for test in tests)):
         passed, failed = passed + more_passed, failed + more_failed
     print(f"{passed} passed, {failed} failed")

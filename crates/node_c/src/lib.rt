@@ -1,0 +1,56 @@
+//! One replica behind two open descriptors, for servers that are written in Rust or in C.
+//!
+//! A static library with one function, which `embedding/include/yieldcleat.h` declares. It answers frames (`node_stream::serve_frames`)
+//! over the descriptors. What bytes a descriptor gives or takes, no clause says: a descriptor tells nothing of them.
+#![tactic(auto)]
+
+mod descriptor;
+
+ghost use Rattle.std.specs.Prelude.{◌≡◌};
+ghost use Rattle.node_c.specs.Ending.{IsStatus};
+ghost use Rattle.node_stream.specs.Ending.{status_of};
+
+use descriptor::Descriptor;
+use line_stream::{RunFault, Watched};
+use node_stream::{Node, serve_frames};
+use redo_core::Roster;
+use std::alloc::Global;
+
+/// There was no memory for the first segment.
+const MEMORY: u8 = 5;
+
+/// The most bytes of a frame.
+const LIMIT: usize = 67_108_864;
+
+/// The images of pages that the cache keeps at most.
+const PAGES: usize = 64;
+
+fn status_of(ended: Result<(), RunFault>) -> u8
+    ensures { result ≡ status_of ended }
+{
+    match ended {
+        Ok(()) => 0,
+        Err(RunFault::Input) => 4,
+        Err(RunFault::Output) => 4,
+        Err(RunFault::Memory) => MEMORY,
+    }
+}
+
+/// Answers the request frames that a descriptor gives, each by a frame on another one, or on the same, until the input ends. At first
+/// an empty segment of one reader answers. Both descriptors block, and stay open.
+///
+/// Statuses: 0 the input has ended or cannot be read, 4 the output failed, 5 no memory for the first segment.
+#[unsafe(no_mangle)]
+pub extern "C" fn yieldcleat_serve(alloc: Global, input: i32, output: i32) -> u8
+    ensures { IsStatus result }
+{
+    let Ok(roster) = Roster::new(1) else {
+        return MEMORY;
+    };
+    let Ok(mut node) = Node::new(alloc, roster, PAGES) else {
+        return MEMORY;
+    };
+    let mut reader = Watched::new(Descriptor::new(input));
+    let mut writer = Watched::new(Descriptor::new(output));
+    status_of(serve_frames(LIMIT, &mut node, &mut reader, &mut writer))
+}

@@ -1,0 +1,122 @@
+//! Two processes with a segment in each. The first takes the even records of a log and its truncation, the second the odd records and an
+//! advance; then they gossip over TCP on 127.0.0.1 until both tell the same summary, byte for byte. It ends by itself, with status 0
+//! where that is so and a page shows what a plain replay of the log shows.
+
+use std::io::BufReader;
+use std::net::{TcpListener, TcpStream};
+use std::process::Command;
+use std::time::Duration;
+use std::{env, process};
+use yieldcleat::{frames, Advance, Node, Patch, Record, Truncation, PAGE_LEN};
+
+type Failed = Box<dyn std::error::Error>;
+
+/// The records of epoch 0; the last two are annulled, and epoch 1 goes on behind `LO`.
+const LAST: u64 = 1000;
+const LO: u64 = LAST - 2;
+const HI: u64 = LAST + 10;
+const ROUNDS: u32 = 5;
+
+/// What a record writes to page 3, at an offset.
+fn written(number: u64) -> (u16, [u8; 2]) {
+    ((number % 64) as u16 * 2, (number as u16).to_be_bytes())
+}
+
+/// Record `number` of one chain, all of one page.
+fn record(epoch: u16, number: u64, back: u64) -> Record {
+    let (offset, bytes) = written(number);
+    Record { epoch, number, back, page: 3, block_back: back, begins_anew: false, patches: vec![Patch::write(offset, &bytes)] }
+}
+
+/// The log, of which each node takes a part.
+fn log() -> Result<Vec<Vec<u8>>, Failed> {
+    let mut log: Vec<_> = (1..=LAST).map(|number| record(0, number, number - 1).encode()).collect::<Result<_, _>>()?;
+    log.push(Advance { epoch: 0, reader: 1, point: LAST / 2 }.encode()?);
+    log.push(Truncation { epoch: 1, lo: LO, hi: HI }.encode()?);
+    log.push(record(1, HI + 1, LO).encode()?);
+    Ok(log)
+}
+
+/// The page after the whole log.
+fn page() -> Vec<u8> {
+    let mut page = vec![0; PAGE_LEN];
+    for number in (1..=LO).chain([HI + 1]) {
+        let (offset, bytes) = written(number);
+        page[usize::from(offset)..][..2].copy_from_slice(&bytes);
+    }
+    page
+}
+
+/// The peer, behind a connection.
+struct Peer {
+    reader: BufReader<TcpStream>,
+    frame: Vec<u8>,
+}
+
+impl Peer {
+    fn new(stream: TcpStream) -> Result<Peer, Failed> {
+        stream.set_read_timeout(Some(Duration::from_secs(30)))?;
+        stream.set_nodelay(true)?;
+        Ok(Peer { reader: BufReader::new(stream), frame: Vec::new() })
+    }
+
+    /// Tells the peer something, and hears what it tells. (What is told here fits into what the connection holds, or the peer reads.)
+    fn exchange(&mut self, told: &[u8]) -> Result<Vec<u8>, Failed> {
+        let mut writer = self.reader.get_ref().try_clone()?;
+        std::thread::scope(|scope| {
+            let teller = scope.spawn(move || frames::write(&mut writer, told));
+            let whole = frames::read(&mut self.reader, &mut self.frame)?;
+            teller.join().map_err(|_| "the teller failed")??;
+            if whole {
+                Ok(self.frame.clone())
+            } else {
+                Err("the peer has ended".into())
+            }
+        })
+    }
+}
+
+/// Questions and answers until both summaries are the same; how many rounds it took.
+fn gossip(node: &mut Node, peer: &mut Peer) -> Result<u32, Failed> {
+    for round in 0..ROUNDS {
+        let own = node.summary()?;
+        let theirs = peer.exchange(&own)?;
+        if own == theirs {
+            return Ok(round);
+        }
+        let delta = peer.exchange(&node.reply(&theirs)?)?;
+        node.absorb(&own, &delta)?;
+    }
+    Err("the summaries still differ".into())
+}
+
+fn run(name: &str, parity: usize, mut peer: Peer) -> Result<(), Failed> {
+    let mut node = Node::open(1)?;
+    let log = log()?;
+    let own = log.iter().enumerate().rev().filter(|(place, _)| place % 2 == parity).map(|(_, fact)| fact.as_slice());
+    for taken in node.take_all(own)? {
+        taken?;
+    }
+    println!("{name} alone: {:?}", node.front()?);
+    let rounds = gossip(&mut node, &mut peer)?;
+    node.tidy()?;
+    let front = node.front()?;
+    println!("{name} after {rounds} round: {front:?}");
+    if (front.epoch, front.complete) != (1, HI + 1) || node.read(3, front.complete, 0, 4096)? != page() {
+        return Err(format!("{name} has something else than the log").into());
+    }
+    println!("{name}: the page is that of a plain replay");
+    Ok(())
+}
+
+fn main() -> Result<(), Failed> {
+    let mut words = env::args().skip(1);
+    if let Some(address) = words.next() {
+        return run("second", 1, Peer::new(TcpStream::connect(address)?)?);
+    }
+    let listener = TcpListener::bind("127.0.0.1:0")?;
+    let mut second = Command::new(env::current_exe()?).arg(listener.local_addr()?.to_string()).spawn()?;
+    let peer = Peer::new(listener.accept()?.0)?;
+    run("first", 0, peer)?;
+    process::exit(second.wait()?.code().unwrap_or(1))
+}

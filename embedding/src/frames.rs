@@ -1,0 +1,67 @@
+//! Frames: a length of four bytes, most significant first, and so many bytes.
+
+use std::io::{self, Read, Write};
+
+/// Appends a frame of these parts, one behind the other, to a buffer.
+///
+/// An error, and nothing appended, where they have 2^32 bytes or more.
+pub fn append(buffer: &mut Vec<u8>, parts: &[&[u8]]) -> io::Result<()> {
+    let length: usize = parts.iter().map(|part| part.len()).sum();
+    let length = u32::try_from(length).map_err(|_| io::ErrorKind::InvalidInput)?;
+    buffer.extend_from_slice(&length.to_be_bytes());
+    parts.iter().for_each(|part| buffer.extend_from_slice(part));
+    Ok(())
+}
+
+/// Writes a frame in one call of `write_all`.
+pub fn write(writer: &mut impl Write, bytes: &[u8]) -> io::Result<()> {
+    let mut frame = Vec::with_capacity(bytes.len() + 4);
+    append(&mut frame, &[bytes])?;
+    writer.write_all(&frame)
+}
+
+/// Reads the next frame into the buffer, in place of what it had, and says whether there was a whole one before the input ended.
+pub fn read(reader: &mut impl Read, frame: &mut Vec<u8>) -> io::Result<bool> {
+    frame.clear();
+    reader.by_ref().take(4).read_to_end(frame)?;
+    let Ok(length) = <[u8; 4]>::try_from(frame.as_slice()).map(u32::from_be_bytes) else {
+        return Ok(false);
+    };
+    frame.clear();
+    let read = reader.by_ref().take(length.into()).read_to_end(frame)?;
+    Ok(read == length as usize)
+}
+
+/// Whether the bytes begin with a whole frame.
+pub fn is_whole(bytes: &[u8]) -> bool {
+    bytes.split_first_chunk().is_some_and(|(length, rest)| rest.len() >= u32::from_be_bytes(*length) as usize)
+}
+
+#[cfg(test)]
+mod tests {
+    use super::*;
+
+    #[test]
+    fn frames_come_back_in_order() {
+        let mut bytes = Vec::new();
+        append(&mut bytes, &[b"take ", &[0, 255]]).unwrap();
+        write(&mut bytes, b"").unwrap();
+        assert_eq!(bytes, b"\0\0\0\x07take \0\xff\0\0\0\0");
+        let (mut rest, mut frame) = (bytes.as_slice(), b"older".to_vec());
+        assert!(read(&mut rest, &mut frame).unwrap());
+        assert_eq!(frame, b"take \0\xff");
+        assert!(read(&mut rest, &mut frame).unwrap());
+        assert_eq!(frame, b"");
+        assert!(!read(&mut rest, &mut frame).unwrap());
+    }
+
+    #[test]
+    fn a_torn_frame_is_none() {
+        for torn in [&b"\0\0\0"[..], b"\0\0\0\x02a", b"\xff\xff\xff\xffabc"] {
+            assert!(!is_whole(torn));
+            assert!(!read(&mut &*torn, &mut Vec::new()).unwrap());
+        }
+        assert!(is_whole(b"\0\0\0\0"));
+        assert!(is_whole(b"\0\0\0\x01ab"));
+    }
+}
