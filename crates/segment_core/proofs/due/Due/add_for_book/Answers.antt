@@ -1,8 +1,7 @@
-use Rattle.std.proofs.Common.{◌≡◌, List, Bool, true, false, ◌&&◌, not, nat_eq, refl, ap, subst, sym, ◌∙◌, rules, arith}
+use Rattle.std.proofs.Common.{◌≡◌, Bool, true, false, ◌&&◌, not, nat_eq, refl, subst, sym, ◌∙◌, arith}
 use Rattle.std.proofs.lemmas.Bool.{eqb-true}
-use Rattle.redo_core.specs.Data.{RecordData, CutData}
+use Rattle.redo_core.specs.Data.{CutData}
 use Rattle.redo_core.specs.contracts.cuts.CutPartialEq.TheImpl.{eq-value}
-use Rattle.segment_state.specs.State.{Store}
 use Rattle.segment_core.proofs.DuePages.{same_view_due}
 use Rattle.segment_core.proofs.due.Due.add_for_book.Goals as goal
 use lib.Pointwise.{pointwise, pointwise_decides}
