@@ -2,8 +2,8 @@
 """Compares nodes behind lines with the oracle: the random scripts of nodes that gossip, each node a process of `fleet-node`.
 
 Each step becomes a request line of its node, and its answer line is to say what the oracle replies; a message is what `ask` or
-`answer` told. A node may be brought back from its snapshot between two steps, which changes no answer. Stops at the first difference,
-prints the script, and ends with status 1.
+`answer` told. Between two steps a node may be asked what its complete point waits for, and it may be brought back from its snapshot,
+which changes no answer. Stops at the first difference, prints the script, and ends with status 1.
 """
 
 import argparse
@@ -21,6 +21,7 @@ PROGRAM = pathlib.Path(__file__).resolve().parent.parent / "crates/fleet_node/ou
 NODES = 8  # the most that a script of gossip has
 LEFT_OUT = ("same", "covers", "join")  # no line asks for these
 FREEZE_EACH = 50  # of so many steps one is behind a freeze and a restart
+GAP_EACH = 3  # behind one of so many steps the gap is asked for
 SECONDS = 60  # until a line counts as not answered
 
 
@@ -139,6 +140,10 @@ class Run:
             answer = self.told(kind, node, values)
             if answer is not None and answer != wanted:
                 return compared, f"{step}: {answer!r} in place of {wanted!r}"
+            if choose.randrange(GAP_EACH) == 0:
+                answer, wanted = node.ask("gap"), self.fleet.gap(number)
+                if answer != wanted:
+                    return compared, f"the gap behind {step}: {answer!r} in place of {wanted!r}"
             compared += 1
         return compared, ""
 

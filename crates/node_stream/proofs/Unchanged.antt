@@ -35,6 +35,7 @@ use Rattle.node_stream.specs.Telling.{TakesMemory}
 -- the reply tells what was asked, and is no refusal
 abbrev tells : Reply → Bool
 tells (reply.Front f) = true
+tells (reply.Gap g) = true
 tells (reply.State s) = true
 tells (reply.Page image) = true
 tells (reply.Summary s) = true
@@ -49,6 +50,8 @@ refuses reply.Changed h k = absurd h
 refuses reply.Unchanged h k = absurd h
 refuses (reply.Refused why) h k = tt
 refuses (reply.Front f) h k = absurd cc
+refuses (reply.Gap g) h k = absurd cc
+refuses reply.NoGap h k = absurd h
 refuses (reply.State s) h k = absurd cc
 refuses (reply.Page image) h k = absurd cc
 refuses (reply.Below min) h k = tt
@@ -157,6 +160,7 @@ pub told_unchanged : (old : ReplicaData) (asked : Request) (told : Reply) (new :
 told_unchanged old (request.Open roster) told new h r t = r (refuses told t (opens_tells old.cached roster told new.cached h.0))
 told_unchanged old (request.Take fact) told new h r t = r (refuses told t (ap tells h.0.is ∙ taken_tells h.0.answer))
 told_unchanged old request.Front told new h r t = same_is_unchanged old new h.1
+told_unchanged old request.Gap told new h r t = same_is_unchanged old new h.1
 told_unchanged old request.State told new h r t = same_is_unchanged old new h.1
 told_unchanged old (request.Read page point) told new h r t = record {
   cached = record { segment = h.0.segment; pages = h.0.pages };

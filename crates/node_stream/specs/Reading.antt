@@ -42,6 +42,7 @@ Gives view (Err e) read = Fails e read
 unfoldable pub word_of : List ℕ → Option Asked
 word_of word =
     if bytes_eq word (codes "front") then Some (asked request.Front)
+    else if bytes_eq word (codes "gap") then Some (asked request.Gap)
     else if bytes_eq word (codes "state") then Some (asked request.State)
     else if bytes_eq word (codes "ask") then Some (asked request.Ask)
     else if bytes_eq word (codes "discard") then Some (asked request.Discard)

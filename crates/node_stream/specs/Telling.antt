@@ -12,6 +12,8 @@ use Rattle.epoch_book.specs.declared.refusals.Held.{Held}
 use Rattle.epoch_book.specs.declared.refusals.Held.TheVariants as held
 use Rattle.gossip_core.specs.declared.answering.Shown.{Shown}
 use Rattle.gossip_core.specs.declared.answering.Shown.TheVariants as shown
+use Rattle.segment_core.specs.declared.answers.Gap.{Gap}
+use Rattle.segment_core.specs.declared.answers.Gap.TheVariants as gap
 use Rattle.segment_core.specs.declared.answers.Refusal.{Refusal}
 use Rattle.segment_core.specs.declared.answers.Refusal.TheVariants as refusal
 use Rattle.replica.specs.declared.replies.Reply.{Reply}
@@ -44,6 +46,11 @@ refusal_line (refusal.OtherCut c) = three_numbers (codes "refused by other cut "
 refusal_line (refusal.Contradiction what) = held_line what
 refusal_line refusal.OtherRecord = codes "refused by record\n"
 refusal_line refusal.Memory = codes "refused by memory\n"
+
+-- ---- what the complete point waits for
+abbrev pub gap_line : Gap → List ℕ
+gap_line (gap.Record number) = one_number (codes "gap record ") number
+gap_line (gap.Truncation epoch) = one_number (codes "gap truncation ") epoch
 
 -- what of a summary is not answered for
 abbrev pub shown_line : Shown → List ℕ
@@ -80,6 +87,8 @@ line_of w reply.Changed = codes "changed\n"
 line_of w reply.Unchanged = codes "unchanged\n"
 line_of w (reply.Refused why) = refusal_line why
 line_of w (reply.Front f) = three_numbers (codes "front ") f.epoch f.complete f.min
+line_of w (reply.Gap g) = gap_line g
+line_of w reply.NoGap = codes "no gap\n"
 line_of w (reply.State s) = status_start s ++ status_end s
 line_of w (reply.Page image) = bytes_line (codes "page") (window_of w image)
 line_of w (reply.Below min) = one_number (codes "below ") min
@@ -113,6 +122,7 @@ line_of w reply.Memory = codes "memory\n"
 abbrev pub TakesMemory : Reply → Type 0
 TakesMemory (reply.Refused why) = Unit {0}
 TakesMemory (reply.Front f) = Unit {0}
+TakesMemory (reply.Gap g) = Unit {0}
 TakesMemory (reply.State s) = Unit {0}
 TakesMemory (reply.Page image) = Unit {0}
 TakesMemory (reply.Below min) = Unit {0}

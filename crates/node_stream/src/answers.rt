@@ -9,7 +9,7 @@ ghost use Rattle.node_stream.specs.Telling.{line_of, TakesMemory};
 use crate::asked::Window;
 use crate::frozen::frozen;
 use crate::telling::{delta, page, piece, record, summary};
-use crate::wording::{front, one, refusal, state, two, uncovered};
+use crate::wording::{front, gap, one, refusal, state, two, uncovered};
 use line_stream::Answer;
 use replica::Reply;
 use std::alloc::{AllocError, Global};
@@ -34,6 +34,8 @@ pub fn told(
         Reply::Unchanged => Ok(Answer::Fixed("unchanged\n")),
         Reply::Refused { why } => refusal(alloc, *why),
         Reply::Front { front: at } => front(alloc, *at),
+        Reply::Gap { gap: waited } => gap(alloc, *waited),
+        Reply::NoGap => Ok(Answer::Fixed("no gap\n")),
         Reply::State { status } => state(alloc, *status),
         Reply::Page { image } => page(alloc, window, image),
         Reply::Below { min } => one(alloc, "below ", *min),

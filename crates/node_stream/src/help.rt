@@ -11,6 +11,7 @@ Input, a line each, ended by LF; words stand between single spaces:
   open R                an empty segment of R readers, 1 to 15, stands in place of the segment; at first R is 1
   take HEX              a fact has come
   front                 epoch, complete point and minimum read point
+  gap                   what the complete point waits for
   state                 what is stored, in numbers
   read G Q OFF LEN      LEN bytes from OFF on of page G at point Q
   next E N              the held record with the least key above epoch E and number N

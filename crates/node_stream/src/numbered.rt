@@ -29,6 +29,8 @@ pub fn word(word: &[u8]) -> Option<Asked>
 {
     let request = if word == b"front".as_slice() {
         Request::Front
+    } else if word == b"gap".as_slice() {
+        Request::Gap
     } else if word == b"state".as_slice() {
         Request::State
     } else if word == b"ask".as_slice() {

@@ -3,7 +3,7 @@
 ghost use Rattle.std.specs.Prelude.{◌≡◌, ◌++◌, IfOk, codes, string_bytes};
 ghost use Rattle.line_stream.specs.AnswerText.{text_of};
 ghost use Rattle.node_stream.specs.Telling.{one_number, two_numbers, three_numbers, held_line, refusal_line, shown_line};
-ghost use Rattle.node_stream.specs.Telling.{status_start, status_end, fault_line};
+ghost use Rattle.node_stream.specs.Telling.{gap_line, status_start, status_end, fault_line};
 
 use crate::faults::LineFault;
 use epoch_book::Held;
@@ -11,7 +11,7 @@ use gossip_core::Shown;
 use line_stream::Answer;
 use redo_core::Cut;
 use replica::Status;
-use segment_core::{Front, Refusal};
+use segment_core::{Front, Gap, Refusal};
 use std::alloc::{AllocError, Global};
 
 /// Words and a number.
@@ -105,6 +105,16 @@ pub fn front(alloc: Global, front: Front) -> Result<Answer, AllocError>
         front.complete,
         front.min,
     )
+}
+
+/// What the complete point waits for.
+pub fn gap(alloc: Global, gap: Gap) -> Result<Answer, AllocError>
+    ensures { IfOk result (λ a. text_of a ≡ gap_line gap) }
+{
+    match gap {
+        Gap::Record { number } => one(alloc, "gap record ", number),
+        Gap::Truncation { epoch } => one(alloc, "gap truncation ", u64::from(epoch)),
+    }
 }
 
 fn status_start(alloc: Global, status: Status) -> Result<String, AllocError>

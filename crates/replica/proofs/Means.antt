@@ -137,6 +137,7 @@ step_means roster log facts brought old (request.Take fact) told new sound bring
     subst (λ r. Means roster log (facts_after facts brought (request.Take fact) r) new.cached.segment) (sym t.is)
     (took roster log facts brought old.cached.segment new.cached.segment fact t.answer (record { sound = sound; means = m }) brings t.takes.means t.takes.unchanged)
 step_means roster log facts brought old request.Front told new sound brings says m = same_replica roster log facts old new says.1 m
+step_means roster log facts brought old request.Gap told new sound brings says m = same_replica roster log facts old new says.1 m
 step_means roster log facts brought old request.State told new sound brings says m = same_replica roster log facts old new says.1 m
 step_means roster log facts brought old (request.Read page point) told new sound brings says m =
     stays roster log facts old.cached.segment new.cached.segment says.0.segment m

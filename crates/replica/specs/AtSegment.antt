@@ -18,10 +18,12 @@ use Rattle.segment_state.specs.Promises.{KeepsMeaning}
 use Rattle.segment_core.specs.Exactly.{TakesExactly}
 use Rattle.segment_core.specs.Folding.{PlansFold, Commits}
 use Rattle.segment_core.specs.Forgetting.{DiscardsJust, Tidies, HoldsJustKept, IsSoundState, TellsFirstBreak, RefusesTidy}
+use Rattle.segment_core.specs.Gaps.{IsGapOf, IsGapAt}
 use Rattle.segment_core.specs.Reading.{IsFrontOf, IsFrontAt, IsReadResult, TellsOutside}
 use Rattle.segment_core.specs.Refusing.{FitsSoundLog}
 use Rattle.segment_core.specs.Taking.{TellsChange}
 use Rattle.segment_core.specs.declared.answers.Front.{Front}
+use Rattle.segment_core.specs.declared.answers.Gap.{Gap}
 use Rattle.segment_core.specs.declared.answers.ReadFault.{ReadFault}
 use Rattle.segment_core.specs.declared.answers.ReadFault.TheVariants as fault
 use Rattle.segment_core.specs.declared.answers.Refusal.{Refusal}
@@ -34,7 +36,7 @@ use Rattle.read_cache.specs.Reading.{TellsUnkeptBreak}
 use Rattle.replica.specs.declared.replies.Reply.{Reply}
 use Rattle.replica.specs.declared.replies.Reply.TheVariants as reply
 use Rattle.replica.specs.declared.replies.Status.{Status}
-use Rattle.replica.specs.Replying.{taken_reply, fault_reply, read_reply, tidied_reply}
+use Rattle.replica.specs.Replying.{taken_reply, gap_reply, fault_reply, read_reply, tidied_reply}
 
 -- there was no memory, and nothing has changed
 abbrev pub LacksMemory : {S : Type 0} → S → Reply → S → Type 0
@@ -62,6 +64,13 @@ pub record Fronts (s : State) (told : Reply) : Type 0 where
   pub own : IsFrontOf s front
   pub facts : (roster : ℕ) (log facts : List Fact) (p : Position) → IsSound roster log → MeansAt roster log facts p s → IsFrontAt p front
   pub is : told ≡ reply.Front front
+
+-- the segment tells what its own complete point waits for, which is what the facts that it means lack
+pub record TellsGap (s : State) (told : Reply) : Type 0 where
+  pub gap : Option Gap
+  pub own : IsGapOf s gap
+  pub facts : (roster : ℕ) (log facts : List Fact) (p : Position) → IsSound roster log → MeansAt roster log facts p s → IsGapAt log facts p gap
+  pub is : told ≡ gap_reply gap
 
 -- what the state stores, in numbers
 pub record IsStatusOf (s : State) (status : Status) : Type 0 where

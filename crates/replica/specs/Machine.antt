@@ -4,7 +4,7 @@ use Rattle.replica.specs.declared.requests.Request.{Request}
 use Rattle.replica.specs.declared.requests.Request.TheVariants as request
 use Rattle.replica.specs.declared.replies.Reply.{Reply}
 use Rattle.replica.specs.Parts.{ReplicaData, SameBeside}
-use Rattle.replica.specs.AtSegment.{Opens, Takes, Fronts, TellsStatus, Reads, Folds, Discards, TidiesUp, TellsNext}
+use Rattle.replica.specs.AtSegment.{Opens, Takes, Fronts, TellsGap, TellsStatus, Reads, Folds, Discards, TidiesUp, TellsNext}
 use Rattle.replica.specs.Gossiping.{Asks, RepliesTo, Absorbs}
 use Rattle.replica.specs.Hydrating.{FreezesAs, Pieces, Stages, AddsTo, Finishes}
 
@@ -12,6 +12,7 @@ abbrev pub IsReply : ReplicaData → Request → Reply → ReplicaData → Type 
 IsReply old (request.Open roster) told new = Opens old.cached roster told new.cached × SameBeside old new
 IsReply old (request.Take fact) told new = Takes old.cached fact told new.cached × SameBeside old new
 IsReply old request.Front told new = Fronts old.cached.segment told × (new ≡ old)
+IsReply old request.Gap told new = TellsGap old.cached.segment told × (new ≡ old)
 IsReply old request.State told new = TellsStatus old.cached.segment told × (new ≡ old)
 IsReply old (request.Read page point) told new = Reads old.cached page point told new.cached × SameBeside old new
 IsReply old request.Ask told new = Asks old.cached.segment told × (new ≡ old)

@@ -1,5 +1,5 @@
 -- How what a call below answers is replied.
-use Rattle.std.specs.Prelude.{ℕ, List, Result, Ok, Err}
+use Rattle.std.specs.Prelude.{ℕ, List, Option, Some, None, Result, Ok, Err}
 use Rattle.redo_core.specs.declared.facts.Fact.{Fact}
 use Rattle.redo_core.specs.declared.refusal.Refused.{Refused}
 use Rattle.redo_wire.specs.Deltas.{DeltaData}
@@ -7,6 +7,7 @@ use Rattle.segment_core.specs.declared.answers.Taken.{Taken}
 use Rattle.segment_core.specs.declared.answers.Taken.TheVariants as taken
 use Rattle.segment_core.specs.declared.answers.Refusal.{Refusal}
 use Rattle.segment_core.specs.declared.answers.Refusal.TheVariants as refusal
+use Rattle.segment_core.specs.declared.answers.Gap.{Gap}
 use Rattle.segment_core.specs.declared.answers.ReadFault.{ReadFault}
 use Rattle.segment_core.specs.declared.answers.ReadFault.TheVariants as fault
 use Rattle.gossip_core.specs.declared.absorbing.AbsorbRefusal.{AbsorbRefusal}
@@ -27,6 +28,10 @@ abbrev pub taken_reply : Result Taken (Refused Fact Refusal) → Reply
 taken_reply (Ok taken.Changed) = reply.Changed
 taken_reply (Ok taken.Unchanged) = reply.Unchanged
 taken_reply (Err refused) = refusal_reply refused.fault
+
+abbrev pub gap_reply : Option Gap → Reply
+gap_reply (Some gap) = reply.Gap gap
+gap_reply None = reply.NoGap
 
 abbrev pub fault_reply : ReadFault → Reply
 fault_reply (fault.Below min) = reply.Below min

@@ -4,11 +4,11 @@ ghost use Rattle.read_cache.specs.Cached.{cached as cached_of};
 ghost use Rattle.replica.specs.Refused.{IsRefusal};
 ghost use Rattle.std.specs.Option.{option_map};
 ghost use Rattle.hot_log.specs.Held.{HoldsKey};
-ghost use Rattle.replica.specs.AtSegment.{Opens, Takes, Fronts, IsStatusOf, TellsStatus, Reads, Folds, Discards, TidiesUp};
+ghost use Rattle.replica.specs.AtSegment.{Opens, Takes, Fronts, TellsGap, IsStatusOf, TellsStatus, Reads, Folds, Discards, TidiesUp};
 ghost use Rattle.replica.specs.AtSegment.{pair_of as pair_of_key, TellsRecord, TellsNext};
 
 use crate::replies::{Reply, Status};
-use crate::replying::{fault_reply, read_reply, taken_reply, tidied_reply};
+use crate::replying::{fault_reply, gap_reply, read_reply, taken_reply, tidied_reply};
 use read_cache::CachedSegment;
 use redo_core::{Fact, Roster};
 use redo_wire::Key;
@@ -51,6 +51,13 @@ pub fn front(segment: &Segment) -> Reply
     Reply::Front {
         front: segment.front(),
     }
+}
+
+/// Tells what the complete point waits for.
+pub fn gap(segment: &Segment) -> Reply
+    ensures tells { TellsGap segment.now result }
+{
+    gap_reply(segment.gap())
 }
 
 /// Tells what is stored.

@@ -3,7 +3,7 @@ ghost use Rattle.replica.specs.Refused.{IsRefusal};
 ghost use Rattle.replica.specs.Parts.{empty_replica, IsUnchanged};
 ghost use Rattle.replica.specs.Machine.{IsReply};
 
-use crate::at_segment::{discard, fold, front, next, open, read, state, take, tidy};
+use crate::at_segment::{discard, fold, front, gap, next, open, read, state, take, tidy};
 use crate::gossiping::{absorb_delta, answer, ask};
 use crate::hydrating::{add, finish, freeze_as, piece};
 use crate::replies::Reply;
@@ -58,6 +58,7 @@ impl Replica {
             Request::Open { roster } => open(&mut self.cached, roster),
             Request::Take { fact } => take(&mut self.cached, fact),
             Request::Front => front(self.cached.segment()),
+            Request::Gap => gap(self.cached.segment()),
             Request::State => state(self.cached.segment()),
             Request::Read { page, point } => read(&mut self.cached, page, point),
             Request::Ask => ask(self.cached.segment()),

@@ -1,7 +1,7 @@
 use gossip_core::Shown;
 use redo_core::{Page, Record};
 use redo_wire::{Delta, Piece, Summary};
-use segment_core::{Front, Refusal};
+use segment_core::{Front, Gap, Refusal};
 
 /// What a replica replies to a request.
 #[derive(Debug, Drop)]
@@ -15,6 +15,9 @@ pub enum Reply {
     /// The fact, or what the delta tells, does not fit what the segment knows. It does not come over a sound log.
     Refused { why: Refusal },
     Front { front: Front },
+    Gap { gap: Gap },
+    /// No held record waits, and none that is alive is above the complete point.
+    NoGap,
     State { status: Status },
     Page { image: Page },
     /// The read point is below the minimum read point.

@@ -2,6 +2,7 @@
 ghost use Rattle.std.specs.Prelude.{◌≡◌};
 ghost use Rattle.replica.specs.Replying.{refusal_reply as refusal_reply_of, taken_reply as taken_reply_of, fault_reply as fault_reply_of};
 ghost use Rattle.replica.specs.Replying.{read_reply as read_reply_of, tidied_reply as tidied_reply_of, delta_reply as delta_reply_of};
+ghost use Rattle.replica.specs.Replying.{gap_reply as gap_reply_of};
 ghost use Rattle.replica.specs.Replying.{absorbed_reply as absorbed_reply_of, unadded_reply as unadded_reply_of, unfinished_reply as unfinished_reply_of};
 
 use crate::replies::Reply;
@@ -9,7 +10,7 @@ use gossip_core::AbsorbRefusal;
 use hydration::{AddFault, FinishFault};
 use redo_core::{Fact, Page, Refused};
 use redo_wire::Delta;
-use segment_core::{ReadFault, Refusal, Taken};
+use segment_core::{Gap, ReadFault, Refusal, Taken};
 
 pub fn refusal_reply(refusal: Refusal) -> Reply
     ensures { result ≡ refusal_reply_of refusal }
@@ -27,6 +28,15 @@ pub fn taken_reply(taken: Result<Taken, Refused<Fact, Refusal>>) -> Reply
         Ok(Taken::Changed) => Reply::Changed,
         Ok(Taken::Unchanged) => Reply::Unchanged,
         Err(refused) => refusal_reply(refused.fault),
+    }
+}
+
+pub fn gap_reply(gap: Option<Gap>) -> Reply
+    ensures { result ≡ gap_reply_of gap }
+{
+    match gap {
+        Some(gap) => Reply::Gap { gap },
+        None => Reply::NoGap,
     }
 }
 

@@ -10,6 +10,8 @@ pub enum Request {
     Take { fact: Fact },
     /// How far the segment has come.
     Front,
+    /// What the complete point waits for.
+    Gap,
     /// What is stored, in numbers.
     State,
     /// A page at a read point.

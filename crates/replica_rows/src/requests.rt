@@ -32,6 +32,7 @@ fn plain(row: Row<'_>) -> Option<Request> {
     let number = row.numbers[0];
     match row.word {
         "front" => Some(Request::Front),
+        "gap" => Some(Request::Gap),
         "state" => Some(Request::State),
         "ask" => Some(Request::Ask),
         "discard" => Some(Request::Discard),

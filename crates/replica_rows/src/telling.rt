@@ -1,13 +1,14 @@
 use gossip_core::Shown;
 use redo_core::{Page, Record};
 use replica::{Reply, Status};
-use segment_core::Front;
+use segment_core::{Front, Gap};
 use std::alloc::{AllocError, Global};
 
 /// A reply as a word and numbers.
 pub fn told(alloc: Global, reply: &Reply) -> Result<String, AllocError> {
     match reply {
         Reply::Front { front } => told_front(alloc, *front),
+        Reply::Gap { gap } => told_gap(alloc, *gap),
         Reply::State { status } => told_status(alloc, *status),
         Reply::Page { image } => told_page(alloc, image),
         Reply::Next { redo } => told_record(alloc, redo),
@@ -26,6 +27,7 @@ pub fn told(alloc: Global, reply: &Reply) -> Result<String, AllocError> {
 fn word_of(reply: &Reply) -> &'static str {
     match reply {
         Reply::Opened => "opened",
+        Reply::NoGap => "no gap",
         Reply::Changed => "changed",
         Reply::Unchanged => "unchanged",
         Reply::Refused { .. } => "refused",
@@ -49,6 +51,13 @@ fn word_of(reply: &Reply) -> &'static str {
 fn told_front(alloc: Global, front: Front) -> Result<String, AllocError> {
     let (epoch, complete, min) = (front.epoch, front.complete, front.min);
     format!(in alloc; "front {epoch} {complete} {min}")
+}
+
+fn told_gap(alloc: Global, gap: Gap) -> Result<String, AllocError> {
+    match gap {
+        Gap::Record { number } => format!(in alloc; "gap record {number}"),
+        Gap::Truncation { epoch } => format!(in alloc; "gap truncation {epoch}"),
+    }
 }
 
 fn told_status(alloc: Global, status: Status) -> Result<String, AllocError> {
