@@ -7,7 +7,8 @@ Each task is a text over a sound log, whose length grows as its size does. A row
 held, and for each the exponent of growth from the least size to the greatest, by the bytes of the text. With --peer another program
 reads the same texts, and the answers may not differ by a byte. With --most the status is 1 where an exponent is above it.
 
-The gate judges each task at two small sizes by the instructions of its runs (`judged`): they do not waver.
+The gate judges each task at two small sizes by the instructions of its runs (`judged`): they do not waver. Of texts that are bad from
+their first line on it judges the memory held, too.
 """
 
 import argparse
@@ -23,6 +24,7 @@ import measure
 SIZES = [1_000, 4_000, 16_000]
 TURNS = 3  # of calls that are asked again and again
 PAGES = 1_000
+PARTS = 250  # of a bad text, for each one of its size
 
 
 def script(facts, nodes, *steps):
@@ -168,6 +170,21 @@ def absorbs_over_images(size):
     return script(facts, 2, *taken(facts), *taken(facts, 2), *folds(pages), "discard 1", *asked, *["absorb 1 2", "discard 1"] * pages)
 
 
+def blanks(size):
+    """One line of nothing but blanks, which are the separators of fields."""
+    return [" " * (PARTS * size)]
+
+
+def line_ends(size):
+    """Nothing but line ends."""
+    return [""] * (PARTS * size)
+
+
+def many_writes(size):
+    """One record with many times the writes that a record may have."""
+    return ["rec 0 1 0 1 0 " + ",".join(["0:61"] * (PARTS * size))]
+
+
 TASKS = {it.__name__: it for it in (
     joins_of_waiting,
     absorbs_of_waiting,
@@ -183,6 +200,9 @@ TASKS = {it.__name__: it for it in (
     late_mail,
     discards_over_images,
     absorbs_over_images,
+    blanks,
+    line_ends,
+    many_writes,
 )}
 
 
@@ -193,6 +213,11 @@ SLOWER = {
     "answers_again": (2.1, "each answer lists all its pages"),
 }
 IDLE = ["go", "nodes 1"]
+
+# The tasks whose text is bad, and the status that their runs end with.
+BAD = {"blanks": 2, "line_ends": 2, "many_writes": 2}
+BAD_JUDGED = (4_000, 16_000)  # their sizes, which are judged in no time
+MOST_HELD = 3  # how often its own length a bad text may hold
 
 
 def length(lines):
@@ -210,7 +235,7 @@ def told(name, programs, given, folder):
     lengths, times, held = [], [], []
     for size in given.sizes:
         lines_of = functools.partial(TASKS[name], size)
-        seconds, peaks = measure.run_all(programs, "run", lines_of, given.runs, folder)
+        seconds, peaks = measure.run_all(programs, "run", lines_of, given.runs, folder, BAD.get(name, 0))
         lengths.append(length(lines_of()))
         times.append(seconds[0])
         held.append(peaks[0])
@@ -220,18 +245,18 @@ def told(name, programs, given, folder):
     return max(found)
 
 
-def instructions_of(program, lines, folder):
-    """The instructions of a run over the lines."""
+def instructions_of(program, lines, folder, wanted=0):
+    """The instructions of a run over the lines, which ends with the status that is wanted."""
     text = os.path.join(folder, "given")
     with open(text, "w") as given:
         given.writelines(line + "\n" for line in lines)
-    return instructions.count(program, "run", text)
+    return instructions.count(program, "run", text, wanted)
 
 
 def is_within(name, program, idle, folder):
     """Whether a task's instructions grow no faster than is allowed; what a run costs that does nothing is taken off first."""
-    texts = [TASKS[name](size) for size in JUDGED]
-    counts = [instructions_of(program, text, folder) - idle for text in texts]
+    texts = [TASKS[name](size) for size in (BAD_JUDGED if name in BAD else JUDGED)]
+    counts = [instructions_of(program, text, folder, BAD.get(name, 0)) - idle for text in texts]
     grown = growth([length(text) for text in texts], counts)
     most, reason = SLOWER.get(name, (MOST, ""))
     verdict = "" if grown <= most else " FAILED"
@@ -239,16 +264,34 @@ def is_within(name, program, idle, folder):
     return grown <= most
 
 
+def held_by(program, lines_of, folder, wanted=0):
+    """The bytes that a run over the lines holds at most, and those of the text."""
+    _, peaks = measure.run_all([program], "run", lines_of, 1, folder, wanted)
+    return int(peaks[0] * 1024 * 1024), os.path.getsize(os.path.join(folder, "given"))
+
+
+def is_light(name, program, idle, folder):
+    """Whether a bad text holds few times its own length; what a run holds that does nothing is taken off first."""
+    held, given = held_by(program, functools.partial(TASKS[name], BAD_JUDGED[-1]), folder, BAD[name])
+    times = (held - idle) / given
+    verdict = "" if times <= MOST_HELD else " FAILED"
+    print(f"hostile: {name}: holds {times:.1f} times its {given} bytes, {MOST_HELD} at most{verdict}", flush=True)
+    return times <= MOST_HELD
+
+
 def judged(program):
-    """How many tasks grow as they may, and how many do not. Where nothing counts instructions none is judged."""
+    """How many tasks grow and hold as they may, and how many do not. Where nothing counts instructions, no growth is judged."""
     found = instructions.counter()
-    if found is None:
-        print("hostile: not judged, since neither perf nor callgrind counts instructions here")
-        return 0, 0
     with tempfile.TemporaryDirectory(prefix="fleet-hostile-") as folder:
-        idle = instructions_of(program, IDLE, folder)
-        results = [is_within(name, program, idle, folder) for name in TASKS]
-    print(f"hostile: {sum(results)} of {len(results)} tasks, by {found[0]}")
+        idle, _ = held_by(program, lambda: IDLE, folder)
+        results = [is_light(name, program, idle, folder) for name in BAD]
+        if found is None:
+            print("hostile: growth is not judged, since neither perf nor callgrind counts instructions here")
+        else:
+            idle = instructions_of(program, IDLE, folder)
+            results += [is_within(name, program, idle, folder) for name in TASKS]
+    by = f", by {found[0]}" if found else ""
+    print(f"hostile: {sum(results)} of {len(results)} judgements{by}")
     return sum(results), len(results) - sum(results)
 
 

@@ -16,11 +16,11 @@ COUNTERS = (
 )
 
 
-def counted_by(words, form, command, source=subprocess.DEVNULL):
-    """The instructions of a command as a counter tells them, or None where it tells none."""
+def counted_by(words, form, command, source=subprocess.DEVNULL, wanted=0):
+    """The instructions of a command as a counter tells them, or None where it tells none or the command ends with another status."""
     ran = subprocess.run([*words, *command], stdin=source, stdout=subprocess.DEVNULL, stderr=subprocess.PIPE)
     found = form.search(ran.stderr)
-    return int(found[1]) if found and ran.returncode == 0 else None
+    return int(found[1]) if found and ran.returncode == wanted else None
 
 
 @functools.lru_cache(maxsize=None)
@@ -32,11 +32,11 @@ def counter():
     return None
 
 
-def count(program, word, text):
+def count(program, word, text, wanted=0):
     """The instructions of a run of the program over the text in a file, or None where nothing counts here."""
     found = counter()
     if found is None:
         return None
     _, words, form = found
     with open(text, "rb") as source:
-        return counted_by(words, form, [str(program), word], source)
+        return counted_by(words, form, [str(program), word], source, wanted)

@@ -194,13 +194,13 @@ FLAT = {"fold": fold_calls, "discard": discard_calls, "read": read_calls}
 # ---- runs
 
 
-def run_once(program, word, source, target):
-    """Processor seconds, and the most memory held, in MB."""
+def run_once(program, word, source, target, wanted=0):
+    """Processor seconds, and the most memory held, in MB, of a run that ends with the status that is wanted."""
     with open(source, "rb") as given, open(target, "wb") as answer:
         child = subprocess.Popen([program, word], stdin=given, stdout=answer)
         _, status, used = os.wait4(child.pid, 0)
         child.returncode = os.waitstatus_to_exitcode(status)
-    if child.returncode != 0:
+    if child.returncode != wanted:
         raise SystemExit(f"{program} {word} ended with status {child.returncode}")
     return used.ru_utime + used.ru_stime, used.ru_maxrss / 1024
 
@@ -216,7 +216,7 @@ def write_apart(lines_of, source):
         raise SystemExit("a text could not be written")
 
 
-def run_all(programs, word, lines_of, runs, folder):
+def run_all(programs, word, lines_of, runs, folder, wanted=0):
     """For each program the median of its processor seconds, and its peak; the programs take turns."""
     source = os.path.join(folder, "given")
     write_apart(lines_of, source)
@@ -226,7 +226,7 @@ def run_all(programs, word, lines_of, runs, folder):
     for turn in range(runs):
         order = range(len(programs)) if turn % 2 == 0 else reversed(range(len(programs)))
         for place in order:
-            seconds, peak = run_once(programs[place], word, source, targets[place])
+            seconds, peak = run_once(programs[place], word, source, targets[place], wanted)
             times[place].append(seconds)
             peaks[place] = max(peaks[place], peak)
         for target in targets[1:]:

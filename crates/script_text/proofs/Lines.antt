@@ -46,15 +46,6 @@ said_past said count at text line behind e le =
     let past : leb most count ≡ true = grind (arith, nat_tests) in
     rw (e, some_left (length (parts_at 10 behind)) (some_parts 10 behind), past) refl
 
--- behind the last LF stands nothing, or a bad line
-pub said_all : {A : Type 0} (said : List ℕ → Option A) (count at : ℕ) (front : List A) (text : List ℕ) → parts_at 10 text ≡ text ∷ [] → length text ≡ 0
-    → with_said front (lines_from said count at (parts_at 10 text)) ≡ Ok front
-said_all {A} said count at front text e none = rw (e, none) (ap (λ (t : List A). Ok t) (append-nil front))
-
-pub said_open : {A : Type 0} (said : List ℕ → Option A) (count at : ℕ) (text : List ℕ) → parts_at 10 text ≡ text ∷ [] → 0 < length text
-    → lines_from said count at (parts_at 10 text) ≡ Err at
-said_open said count at text e some = rw (e, some_left (length text) some) refl
-
 -- ---- scripts
 
 one_more_fact : (facts : List Fact) (f : Fact) (r : Result ScriptData ℕ)
@@ -75,21 +66,6 @@ fact_next at facts more text line behind f e few is is_more =
 pub go_next : (count at : ℕ) (text line behind : List ℕ) → parts_at 10 text ≡ line ∷ parts_at 10 behind → bytes_eq line (codes "go") ≡ true
     → script_from count at (parts_at 10 text) ≡ nodes_from count (at + 1) (parts_at 10 behind)
 go_next count at text line behind e go = rw (e, some_left (length (parts_at 10 behind)) (some_parts 10 behind), go) refl
-
-pub fact_bad : (count at : ℕ) (text line behind : List ℕ) → parts_at 10 text ≡ line ∷ parts_at 10 behind → bytes_eq line (codes "go") ≡ false
-    → fact_of line ≡ None → script_from count at (parts_at 10 text) ≡ Err at
-fact_bad count at text line behind e go is = rw (e, some_left (length (parts_at 10 behind)) (some_parts 10 behind), go, is)
-    (bad_either (leb most count) at)
-
-pub fact_past : (count at : ℕ) (text line behind : List ℕ) → parts_at 10 text ≡ line ∷ parts_at 10 behind → bytes_eq line (codes "go") ≡ false
-    → most ≤ count → script_from count at (parts_at 10 text) ≡ Err at
-fact_past count at text line behind e go le =
-    let past : leb most count ≡ true = grind (arith, nat_tests) in
-    rw (e, some_left (length (parts_at 10 behind)) (some_parts 10 behind), go, past) refl
-
--- behind the last LF stands no line but a bad one
-pub fact_last : (count at : ℕ) (text : List ℕ) → parts_at 10 text ≡ text ∷ [] → script_from count at (parts_at 10 text) ≡ Err at
-fact_last count at text e = rw e refl
 
 -- the line of the nodes, and the steps
 pub nodes_next : (count at nodes : ℕ) (facts : List Fact) (steps : List (Step ℕ)) (text line behind : List ℕ)
