@@ -1,3 +1,4 @@
+pub mod Framed
 pub mod Long
 pub mod Turns
 pub mod Unchanged
