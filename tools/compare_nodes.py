@@ -1,9 +1,11 @@
 #!/usr/bin/env python3
-"""Compares nodes behind lines with the oracle: the random scripts of nodes that gossip, each node a process of `fleet-node`.
+"""Compares nodes behind lines, and behind frames, with the oracle: the random scripts of nodes that gossip, each node a process of
+`fleet-node`.
 
-Each step becomes a request line of its node, and its answer line is to say what the oracle replies; a message is what `ask` or
-`answer` told. Between two steps a node may be asked what its complete point waits for, and it may be brought back from its snapshot,
-which changes no answer. Stops at the first difference, prints the script, and ends with status 1.
+Each step becomes a request of its node, and its answer is to say what the oracle replies; a message is what `ask` or `answer` told.
+Between two steps a node may be asked what its complete point waits for, and it may be brought back from its snapshot, which changes no
+answer. Each script runs by lines and then by frames, and both tell the same. Stops at the first difference, prints the script, and ends
+with status 1.
 """
 
 import argparse
@@ -22,7 +24,8 @@ NODES = 8  # the most that a script of gossip has
 LEFT_OUT = ("same", "covers", "join")  # no line asks for these
 FREEZE_EACH = 50  # of so many steps one is behind a freeze and a restart
 GAP_EACH = 3  # behind one of so many steps the gap is asked for
-SECONDS = 60  # until a line counts as not answered
+SECONDS = 60  # until a request counts as not answered
+WITH_BYTES = (b"page", b"record", b"summary", b"delta", b"piece")  # the answers that bytes stand behind
 
 
 # Facts as bytes
@@ -57,22 +60,57 @@ def fact_bytes(fact):
     return record_bytes(fact)
 
 
+# Frames
+
+
+def frame(text):
+    """A length and the bytes."""
+    return fields((len(text), 4)) + text
+
+
+def as_frame(line):
+    """The bytes of the frame that asks what a request line asks."""
+    word, _, rest = line.partition(" ")
+    if word in ("take", "answer", "add"):
+        return f"{word} ".encode() + bytes.fromhex(rest)
+    if word == "absorb":
+        shown, answered = (bytes.fromhex(it) for it in rest.split(" "))
+        return f"absorb {len(shown)} ".encode() + shown + answered
+    return line.encode()
+
+
+def as_line(text):
+    """The answer line that says what the bytes of an answer frame say."""
+    word, _, rest = text.partition(b" ")
+    long = rest == b"too long" and word != b"page"
+    return f"{word.decode()} {rest.hex()}" if word in WITH_BYTES and not long else text.decode()
+
+
 # Nodes
 
 
 class Node:
     """A process that answers lines. One with settings of its own, which may well end early, says nothing on standard error."""
 
+    words = ()  # of its command line
+
     def __init__(self, program, settings=None):
         said = None if settings is None else subprocess.DEVNULL
-        self.process = subprocess.Popen([program], stdin=subprocess.PIPE, stdout=subprocess.PIPE, stderr=said, env=settings)
+        self.process = subprocess.Popen([program, *self.words], stdin=subprocess.PIPE, stdout=subprocess.PIPE, stderr=said, env=settings)
 
     def ask(self, *words):
-        self.process.stdin.write(" ".join(map(str, words)).encode() + b"\n")
+        """The answer line to a request line, in whichever form both go."""
+        self.send(" ".join(map(str, words)))
         self.process.stdin.flush()
         if not select.select([self.process.stdout], [], [], SECONDS)[0]:
             self.process.kill()
             return "no answer"
+        return self.receive()
+
+    def send(self, line):
+        self.process.stdin.write(line.encode() + b"\n")
+
+    def receive(self):
         answer = self.process.stdout.readline().decode()
         return answer.removesuffix("\n") if answer.endswith("\n") else f"{answer} and an end"
 
@@ -91,6 +129,20 @@ class Node:
         return self.process.wait(10), left
 
 
+class FramedNode(Node):
+    """The same behind frames."""
+
+    words = ("--frames",)
+
+    def send(self, line):
+        self.process.stdin.write(frame(as_frame(line)))
+
+    def receive(self):
+        size = int.from_bytes(self.process.stdout.read(4), "big")
+        answer = self.process.stdout.read(size)
+        return as_line(answer) if answer and len(answer) == size else f"{answer!r} and an end"
+
+
 class Run:
     """One script: what the oracle's fleet replies to each step, and what the nodes answer."""
 
@@ -100,6 +152,7 @@ class Run:
         self.nodes, self.facts = nodes, self.reader.facts
         self.fleet = oracle.Fleet(self.reader.roster, self.facts, self.reader.nodes)
         self.messages = []  # of each: the words that stand for it in a line
+        self.answers = []  # of the steps that were compared
         for node in nodes[: self.reader.nodes]:
             node.ask("open", self.reader.roster)
 
@@ -138,6 +191,7 @@ class Run:
             if choose.randrange(FREEZE_EACH) == 0 and not node.restart(compared):
                 return compared, f"node {number} is not restored before {step}"
             answer = self.told(kind, node, values)
+            self.answers.append(answer)
             if answer is not None and answer != wanted:
                 return compared, f"{step}: {answer!r} in place of {wanted!r}"
             if choose.randrange(GAP_EACH) == 0:
@@ -150,17 +204,23 @@ class Run:
 
 def compare(program, rounds, seed):
     """How many steps of so many scripts agree, and the first difference in words, or nothing."""
-    nodes = [Node(program) for _ in range(NODES)]
+    forms = [[kind(program) for _ in range(NODES)] for kind in (Node, FramedNode)]
     steps = 0
     for place in range(rounds):
-        choose = random.Random(f"{seed} {place}")
-        _, text = scripts.input_of_gossip(choose)
-        compared, differs = Run(nodes, text).difference(choose)
-        steps += compared
-        if differs:
-            return steps, f"round {place}, {differs}\n{text}"
-    ends = [node.close() for node in nodes]
-    return steps, "" if ends == [(0, b"")] * NODES else f"the nodes ended so: {ends}"
+        told = []
+        for nodes in forms:
+            choose = random.Random(f"{seed} {place}")
+            _, text = scripts.input_of_gossip(choose)
+            run = Run(nodes, text)
+            compared, differs = run.difference(choose)
+            steps += compared
+            told.append((run.answers, run.messages))
+            if differs:
+                return steps, f"round {place}, {nodes[0].words}, {differs}\n{text}"
+        if told[0] != told[1]:
+            return steps, f"round {place}, lines and frames differ\n{text}"
+    ends = [node.close() for nodes in forms for node in nodes]
+    return steps, "" if ends == [(0, b"")] * len(ends) else f"the nodes ended so: {ends}"
 
 
 def main():
@@ -170,7 +230,7 @@ def main():
     parser.add_argument("--program", type=pathlib.Path, default=PROGRAM, help="the built program")
     given = parser.parse_args()
     steps, differs = compare(given.program, given.rounds, given.seed)
-    print(differs or f"{given.rounds} scripts agree, of {steps} steps")
+    print(differs or f"{given.rounds} scripts agree by lines and by frames, of {steps} steps together")
     sys.exit(1 if differs else 0)
 
 

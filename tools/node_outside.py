@@ -1,7 +1,7 @@
 #!/usr/bin/env python3
-"""Tests the built program `fleet-node` from outside: that each line is answered before the next one is sent, what its statuses and its
-words on standard error are, what it answers where memory is refused, random scripts of nodes against the oracle, and the cluster of
-`examples/cluster.py`. Prints a line for each test, and ends in 'N passed, M failed'.
+"""Tests the built program `fleet-node` from outside: that each line or frame is answered before the next one is sent, frames of any
+form, what its statuses and its words on standard error are, what it answers where memory is refused, random scripts of nodes against the
+oracle, and the cluster of `examples/cluster.py`. Prints a line for each test, and ends in 'N passed, M failed'.
 """
 
 import argparse
@@ -13,6 +13,7 @@ import sys
 import tempfile
 
 import compare_nodes
+from compare_nodes import as_frame, as_line, frame
 from outside import SECONDS, Failed, answer, expect, unread_pipe
 
 ROOT = pathlib.Path(__file__).resolve().parent.parent
@@ -24,6 +25,10 @@ TEXT = (ROOT / "examples/node.requests").read_bytes()
 ANSWERS = (ROOT / "examples/node.answers").read_bytes()
 MOST = 300  # how many allocations of a run are refused, spread evenly over it
 CLUSTERS = (1, 2)  # the runs of the cluster, by their seeds
+FRAMES = ["--frames"]
+LIMIT = 67_108_864  # the most bytes of a frame
+DIGITS = set("0123456789abcdefABCDEF")
+FACT = bytes.fromhex("010000000000000003000000000000000700000000000001000000026161")  # record 3, which writes aa to page 7
 
 
 def example(program):
@@ -43,6 +48,136 @@ def ends_of_input(program):
     return "5 texts"
 
 
+# Frames
+
+
+def framed(requests):
+    return b"".join(map(frame, requests))
+
+
+def frames_of(text):
+    """The bytes of each frame of a text that is made of whole ones."""
+    told = []
+    while text:
+        size = int.from_bytes(text[:4], "big")
+        if len(text) < 4 + size:
+            raise Failed(f"no whole frame: {text[:80]}")
+        told.append(text[4 : 4 + size])
+        text = text[4 + size :]
+    return told
+
+
+def answers_to(program, text):
+    """What is answered to the bytes of a stream of frames, which ends well."""
+    status, output, said = answer(program, FRAMES, input=text)
+    expect("the end of the frames", (status, said), (0, b""))
+    return frames_of(output)
+
+
+def has_frame(line):
+    """Whether a frame asks the same: digits stand wherever the line's word takes bytes."""
+    word, *fields = line.split(" ")
+    wanted = {"take": 1, "answer": 1, "add": 1, "absorb": 2}.get(word)
+    return wanted is None or len(fields) == wanted and all(len(it) % 2 == 0 and set(it) <= DIGITS for it in fields)
+
+
+def example_by_frames(program):
+    """The example's requests, all at once and one by one: what the lines are answered, byte for byte."""
+    pairs = [(line, told) for line, told in zip(TEXT.decode().splitlines(), ANSWERS.decode().splitlines()) if has_frame(line)]
+    wanted = [told.replace("bad line", "bad request") for _, told in pairs]
+    told = answers_to(program, framed(as_frame(line) for line, _ in pairs))
+    expect("the example by frames", [as_line(it) for it in told], wanted)
+    node = compare_nodes.FramedNode(program)
+    expect("the example frame by frame", [node.ask(line) for line, _ in pairs], wanted)
+    expect("its end", node.close(), (0, b""))
+    return f"{len(told)} frames"
+
+
+def each_request(program):
+    """Each request of the grammar, and each answer that needs no snapshot of 2^32 pieces."""
+    asked = answers_to(program, framed([b"take " + FACT, b"ask", b"freeze 5", b"piece 0", b"piece 1"]))
+    summary, pieces = asked[1].removeprefix(b"summary "), [it.removeprefix(b"piece ") for it in asked[3:]]
+    delta = answers_to(program, framed([b"take " + FACT, b"answer " + summary]))[1].removeprefix(b"delta ")
+    absorb = b"absorb %d " % len(summary) + summary
+    told = {
+        b"open 1": b"opened",
+        b"front": b"front 0 0 0",
+        b"take " + FACT: b"changed",
+        b"take \3" + bytes(5) + b"\0\0\3": b"changed",
+        b"take \3" + bytes(5) + b"\0\0\2": b"unchanged",
+        b"read 7 3 0 4": b"page aa\0\0",
+        b"read 7 2 0 4": b"below 3",
+        b"read 7 4 0 4": b"above 3",
+        b"next 0 0": b"record " + FACT,
+        b"next 0 3": b"none",
+        b"fold 7": b"folded",
+        b"discard": b"discarded",
+        b"tidy": b"tidied",
+        absorb + delta: b"absorbed",
+        b"piece 0": b"no snapshot",
+        b"add " + pieces[0]: b"no staging",
+        b"finish": b"no staging",
+        b"add  " + pieces[0]: b"wire 2",
+    }
+    expect("the answers to each request", answers_to(program, framed(told)), list(told.values()))
+    asked = [b"stage 5 2", b"add " + pieces[1], b"add " + pieces[1], b"finish", b"add " + pieces[0], b"finish", b"front"]
+    staged = [b"staged", b"added", b"double 1", b"missing 0", b"added", b"restored", b"front 0 3 0"]
+    expect("the answers of a staging", answers_to(program, framed(asked)), staged)
+    return f"{len(told) + len(asked)} requests"
+
+
+def bad_frames(program):
+    """Frames that ask for nothing: what stands behind `wire` is the number of the fault, and all else is `bad request`."""
+    bad = (b"", b" ", b"front ", b" front", b"front\n", b"FRONT", b"take", b"answer", b"add", b"absorb", b"absorb ", b"absorb 1", b"absorb x ",
+           b"absorb 01 a", b"absorb 2 a", b"absorb -1 a", b"absorb 4294967296 ", b"open 0", b"open 16", b"open 1 1", b"read 7 3 0 0", b"\xff\0", b"bogus \0")
+    expect("the answers to bad frames", answers_to(program, framed(bad)), [b"bad request"] * len(bad))
+    wired = (b"take ", b"answer ", b"add ", b"absorb 0 ", b"take \n", b"take " + FACT + b" ", b"take " + FACT.hex().encode())
+    told = answers_to(program, framed([*wired, b"front"]))
+    if told.pop() != b"front 0 0 0" or not all(it.startswith(b"wire ") and it[5:].isdigit() for it in told):
+        raise Failed(f"the answers to bytes that are no values: {told}")
+    return f"{len(bad)} and {len(wired)} frames"
+
+
+def cut_off_frames(program):
+    """A stream that ends at each of its bytes: its whole frames are answered, and nothing else. A length that lies is no frame."""
+    requests = [b"front", b"", b"take " + FACT, b"read 7 0 0 1", b"x" * 300]
+    text, wanted = framed(requests), answers_to(program, framed(requests))
+    ends = [len(framed(requests[:n])) for n in range(1, len(requests) + 1)]
+    for cut in range(len(text) + 1):
+        expect(f"the answers to {cut} bytes", answers_to(program, text[:cut]), wanted[: sum(end <= cut for end in ends)])
+    for size in (6, 4096, 8193, LIMIT, LIMIT + 1, 2**32 - 1):
+        lies = frame(b"front") + size.to_bytes(4, "big") + b"front"
+        expect(f"the answers where {size} bytes are said to come", answers_to(program, lies), [b"front 0 0 0"])
+    return f"{len(text)} cuts, 6 lengths"
+
+
+def long_frames(program):
+    """A frame of the limit reaches the replica and one of a byte more does not; no allocation asks for a length that lies, nor for
+    the bytes of a frame that is too long."""
+    told = answers_to(program, framed([b"take " + bytes(LIMIT - 5), b"take " + bytes(LIMIT - 4), b"front"]))
+    expect("the answers at the limit", (told[0][:5], told[1:]), (b"wire ", [b"long frame", b"front 0 0 0"]))
+    with tempfile.TemporaryDirectory() as folder:
+        shim = sweep.build_shim(folder)
+        for text in (frame(b"front") + (LIMIT).to_bytes(4, "big"), framed([b"take " + bytes(200_000_000), b"front"])):
+            _, asked, _ = sweep.greatest([program, *FRAMES], text, shim)
+            if asked > 100_000:
+                raise Failed(f"an allocation of {asked} bytes")
+    return f"the greatest allocation is of {asked} bytes"
+
+
+def lines_and_frames(program):
+    """The rows' lines by frames: the answers are those of the lines, but for the words that only one form has."""
+    rows = ROOT / "crates/fleet_node"
+    lines, wanted = (rows / "stdin").read_bytes().decode().split("\n")[:-1], (rows / "stdout").read_text().splitlines()
+    pairs = [(line, told.replace("bad line", "bad request")) for line, told in zip(lines, wanted) if has_frame(line)]
+    told = answers_to(program, framed(as_frame(line) for line, _ in pairs))
+    expect("the rows by frames", [as_line(it) for it in told], [it for _, it in pairs])
+    return f"{len(pairs)} frames"
+
+
+# Lines
+
+
 def long_lines(program):
     """A line that is too long is answered so, and the next one as ever; no allocation asks for the bytes of such a line."""
     with tempfile.TemporaryDirectory() as folder:
@@ -56,7 +191,7 @@ def long_lines(program):
 
 
 def statuses(program):
-    for words in (["run"], ["front"], ["--lines"], ["--help", "--version"], [""], [b"\xff"]):
+    for words in (["run"], ["front"], ["--lines"], ["--help", "--version"], ["--frames", "--frames"], [""], [b"\xff"]):
         status, output, said = answer(program, words)
         expect(f"the words {words}", (status, output, said[:28]), (2, b"", b"fleet-node: bad command line"))
     for words in (["--help"], ["-h"], ["--version"], ["-V"]):
@@ -90,16 +225,16 @@ def ended_at_once(node):
     return node.process.wait(SECONDS)
 
 
-def told_with_refusal(program, settings, lines):
-    """How many lines were answered `memory`, each only once, where all were answered in the end as with ample memory; None for a node
-    that ended at once for want of memory."""
-    node, refused = compare_nodes.Node(program, settings), 0
+def told_with_refusal(kind, program, settings, lines):
+    """How many requests were answered `memory`, each only once, where all were answered in the end as with ample memory; None for a
+    node that ended at once for want of memory."""
+    node, refused = kind(program, settings), 0
     for line, wanted in lines:
         try:
             told, lacked = asked(node, line)
         except BrokenPipeError:
             told, lacked = " and an end", False
-        if told == " and an end" and line == lines[0][0]:
+        if told.endswith(" and an end") and line == lines[0][0]:
             expect("the status of a node without memory", ended_at_once(node), 5)
             return None
         expect(f"the answer to {line[:80]}", told, wanted)
@@ -109,21 +244,25 @@ def told_with_refusal(program, settings, lines):
 
 
 def refused_allocations(program):
-    """Each allocation refused in turn. A line that lacked memory is asked once more, and then has the answer of ample memory: so
-    nothing had changed."""
+    """Each allocation refused in turn, by lines and by frames. A request that lacked memory is asked once more, and then has the answer
+    of ample memory: so nothing had changed."""
     rows = ROOT / "crates/fleet_node"
-    text = (rows / "stdin").read_bytes()
-    lines = list(zip(text.decode().split("\n")[:-1], (rows / "stdout").read_text().splitlines()))
-    with tempfile.TemporaryDirectory() as folder:
-        shim = sweep.build_shim(folder)
-        total, *_ = sweep.counted([program], text, shim)
-        kept = {**os.environ, "LD_PRELOAD": str(shim), "FAIL_START": "0", "FAIL_ALLOC_REPORT": str(shim.with_name("refusing"))}
-        refused = range(1, total + 1, max(1, total // MOST))
-        told = [told_with_refusal(program, {**kept, "FAIL_ALLOC": str(n)}, lines) for n in refused]
-    lacking = sum(it is not None and it > 0 for it in told)
-    if not lacking:
-        raise Failed("no line lacked memory")
-    return f"{len(told)} of {total}: {told.count(None)} nodes ended at once, {lacking} lacked memory for a line"
+    pairs = list(zip((rows / "stdin").read_bytes().decode().split("\n")[:-1], (rows / "stdout").read_text().splitlines()))
+    plain = [(line, told.replace("bad line", "bad request")) for line, told in pairs if has_frame(line)]
+    said = []
+    for kind, lines in ((compare_nodes.Node, pairs), (compare_nodes.FramedNode, plain)):
+        text = b"".join(frame(as_frame(it)) if kind.words else it.encode() + b"\n" for it, _ in lines)
+        with tempfile.TemporaryDirectory() as folder:
+            shim = sweep.build_shim(folder)
+            total, *_ = sweep.counted([program, *kind.words], text, shim)
+            kept = {**os.environ, "LD_PRELOAD": str(shim), "FAIL_START": "0", "FAIL_ALLOC_REPORT": str(shim.with_name("refusing"))}
+            refused = range(1, total + 1, max(1, total // MOST))
+            told = [told_with_refusal(kind, program, {**kept, "FAIL_ALLOC": str(n)}, lines) for n in refused]
+        lacking = sum(it is not None and it > 0 for it in told)
+        if not lacking:
+            raise Failed("no request lacked memory")
+        said.append(f"{len(told)} of {total}: {told.count(None)} nodes ended at once, {lacking} lacked memory for a request")
+    return "; ".join(said)
 
 
 def random_scripts(program, rounds, seed):
@@ -148,6 +287,12 @@ def tests(program=PROGRAM, rounds=100, seed=1):
         "the example": example,
         "ends of its input": ends_of_input,
         "long lines": long_lines,
+        "the example by frames": example_by_frames,
+        "each request by frames": each_request,
+        "bad frames": bad_frames,
+        "frames that are cut off": cut_off_frames,
+        "long frames": long_frames,
+        "lines and frames": lines_and_frames,
         "statuses": statuses,
         "refused allocations": refused_allocations,
         "random scripts": lambda it: random_scripts(it, rounds, seed),

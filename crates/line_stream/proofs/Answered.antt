@@ -1,27 +1,28 @@
--- One line more is answered.
+-- One line or frame more is answered.
 use Rattle.std.proofs.Common.{◌≡◌, ℕ, ◌+◌, List, [], ◌∷◌, ◌++◌, length, take, Option, refl, sym, ap, ◌∙◌, subst, append_assoc, append-nil}
 use Rattle.std.specs.List.{concat}
 use Rattle.std.specs.Io.KnownBytes.{Appends}
 use Rattle.std.proofs.KnownBytes.{Appends-trans, Appends-nil}
 use Rattle.std.proofs.Math.Seq.{take-append-add}
 use Rattle.std.proofs.lemmas.List.Folds.{concat-append}
-use Rattle.line_stream.specs.Lines.{AnswersLine, AnswersLines, AnswersFirst}
+use Rattle.line_stream.specs.Lines.{AnswersLine, AnswersEach, AnswersFirst}
 
-module _ {M : Type 0} (answers : M → List ℕ → List ℕ → M → Type 0) (limit : ℕ) where
-  answers_more : (old : M) (done texts : List (List ℕ)) (mid : M) (line text : List ℕ) (new : M) → AnswersLines answers limit old done texts mid
-      → AnswersLine answers limit mid line text new → AnswersLines answers limit old (done ++ line ∷ []) (texts ++ text ∷ []) new
-  answers_more old [] [] mid line text new h one = (new, subst (λ (m : M). AnswersLine answers limit m line text new) h one, refl)
-  answers_more old (d ∷ ds) (t ∷ ts) mid line text new h one = (h.0, h.1, answers_more h.0 ds ts mid line text new h.2 one)
-  answers_more old [] (t ∷ ts) mid line text new h one = absurd h
-  answers_more old (d ∷ ds) [] mid line text new h one = absurd h
+module _ {M : Type 0} (one : M → List ℕ → List ℕ → M → Type 0) where
+  pub answers_more : (old : M) (done texts : List (List ℕ)) (mid : M) (asked text : List ℕ) (new : M) → AnswersEach one old done texts mid
+      → one mid asked text new → AnswersEach one old (done ++ asked ∷ []) (texts ++ text ∷ []) new
+  answers_more old [] [] mid asked text new h now = (new, subst (λ (m : M). one m asked text new) h now, refl)
+  answers_more old (d ∷ ds) (t ∷ ts) mid asked text new h now = (h.0, h.1, answers_more h.0 ds ts mid asked text new h.2 now)
+  answers_more old [] (t ∷ ts) mid asked text new h now = absurd h
+  answers_more old (d ∷ ds) [] mid asked text new h now = absurd h
 
-  answers_both : (old : M) (done texts : List (List ℕ)) (mid : M) (others more : List (List ℕ)) (new : M) → AnswersLines answers limit old done texts mid
-      → AnswersLines answers limit mid others more new → AnswersLines answers limit old (done ++ others) (texts ++ more) new
-  answers_both old [] [] mid others more new h k = subst (λ (m : M). AnswersLines answers limit m others more new) h k
+  answers_both : (old : M) (done texts : List (List ℕ)) (mid : M) (others more : List (List ℕ)) (new : M) → AnswersEach one old done texts mid
+      → AnswersEach one mid others more new → AnswersEach one old (done ++ others) (texts ++ more) new
+  answers_both old [] [] mid others more new h k = subst (λ (m : M). AnswersEach one m others more new) h k
   answers_both old (d ∷ ds) (t ∷ ts) mid others more new h k = (h.0, h.1, answers_both h.0 ds ts mid others more new h.2 k)
   answers_both old [] (t ∷ ts) mid others more new h k = absurd h
   answers_both old (d ∷ ds) [] mid others more new h k = absurd h
 
+module _ {M : Type 0} (answers : M → List ℕ → List ℕ → M → Type 0) (limit : ℕ) where
   -- no line is answered yet
   pub first_none : (old : M) (lines : List (List ℕ)) → AnswersFirst answers limit old lines [] old lines
   first_none old lines = record { done = []; all = refl; answered = refl }
@@ -33,7 +34,7 @@ module _ {M : Type 0} (answers : M → List ℕ → List ℕ → M → Type 0) (
   first_more old lines texts mid line left text new h one = record {
     done = h.done ++ line ∷ [];
     all = h.all ∙ sym (append_assoc h.done (line ∷ []) left);
-    answered = answers_more old h.done texts mid line text new h.answered one;
+    answered = answers_more (AnswersLine answers limit) old h.done texts mid line text new h.answered one;
   }
 
   -- the lines of more bytes are answered behind those before
@@ -43,7 +44,7 @@ module _ {M : Type 0} (answers : M → List ℕ → List ℕ → M → Type 0) (
   first_both old lines texts mid left all others more new rest h glue k = record {
     done = h.done ++ k.done;
     all = glue h.done h.all ∙ ap (λ (l : List (List ℕ)). h.done ++ l) k.all ∙ sym (append_assoc h.done k.done rest);
-    answered = answers_both old h.done texts mid k.done more new h.answered k.answered;
+    answered = answers_both (AnswersLine answers limit) old h.done texts mid k.done more new h.answered k.answered;
   }
 
 -- ---- the texts, joined

@@ -1,21 +1,28 @@
 -- Lines and their answers.
 use Rattle.std.specs.Prelude.{◌≡◌, ℕ, ◌<◌, ◌≤◌, ◌⊎◌, List, [], ◌∷◌, ◌++◌, codes, length}
 
--- The text answers the line: by `long line` only where it is longer than the limit, by the machine only where it is not, and by
+-- The text answers what was asked: by `long` only where that is longer than the limit, by the machine only where it is not, and by
 -- `memory` where there was no room for it; but for the machine's own answer the state is the same.
-abbrev pub AnswersLine : {M : Type 0} → (M → List ℕ → List ℕ → M → Type 0) → ℕ → M → List ℕ → List ℕ → M → Type 0
-AnswersLine answers limit old line text new =
-    ((text ≡ codes "memory\n") × (new ≡ old))
-    ⊎ (((limit < length line) × (text ≡ codes "long line\n") × (new ≡ old))
-    ⊎ ((length line ≤ limit) × answers old line text new))
+abbrev pub AnswersOne : {M : Type 0} → List ℕ → List ℕ → (M → List ℕ → List ℕ → M → Type 0) → ℕ → M → List ℕ → List ℕ → M → Type 0
+AnswersOne memory long answers limit old asked text new =
+    ((text ≡ memory) × (new ≡ old))
+    ⊎ (((limit < length asked) × (text ≡ long) × (new ≡ old))
+    ⊎ ((length asked ≤ limit) × answers old asked text new))
 
--- the texts answer the lines, one after another, from a first state to another one
+-- the texts answer what was asked, one after another, from a first state to another one
+abbrev pub AnswersEach : {M : Type 0} → (M → List ℕ → List ℕ → M → Type 0) → M → List (List ℕ) → List (List ℕ) → M → Type 0
+AnswersEach answers old [] [] new = new ≡ old
+AnswersEach {M} answers old (asked ∷ others) (text ∷ texts) new =
+    (next : M) × answers old asked text next × AnswersEach answers next others texts new
+AnswersEach answers old [] (text ∷ texts) new = ⊥
+AnswersEach answers old (asked ∷ others) [] new = ⊥
+
+-- the text with its LF answers the line without its own
+abbrev pub AnswersLine : {M : Type 0} → (M → List ℕ → List ℕ → M → Type 0) → ℕ → M → List ℕ → List ℕ → M → Type 0
+AnswersLine answers limit old line text new = AnswersOne (codes "memory\n") (codes "long line\n") answers limit old line text new
+
 abbrev pub AnswersLines : {M : Type 0} → (M → List ℕ → List ℕ → M → Type 0) → ℕ → M → List (List ℕ) → List (List ℕ) → M → Type 0
-AnswersLines answers limit old [] [] new = new ≡ old
-AnswersLines {M} answers limit old (line ∷ lines) (text ∷ texts) new =
-    (next : M) × AnswersLine answers limit old line text next × AnswersLines answers limit next lines texts new
-AnswersLines answers limit old [] (text ∷ texts) new = ⊥
-AnswersLines answers limit old (line ∷ lines) [] new = ⊥
+AnswersLines answers limit old lines texts new = AnswersEach (AnswersLine answers limit) old lines texts new
 
 -- a first piece, and parts behind it, of which the piece begins the first
 abbrev pub glued : List ℕ → List (List ℕ) → List (List ℕ)

@@ -1,4 +1,5 @@
 pub mod FirstWords
+pub mod Framed
 pub mod Long
 pub mod Turns
 pub mod Unchanged

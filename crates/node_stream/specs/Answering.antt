@@ -1,4 +1,4 @@
--- How a replica answers a line.
+-- How a replica answers a line, and how a frame.
 use Rattle.std.specs.Prelude.{◌≡◌, ℕ, ◌⊎◌, List, Result, Ok, Err, codes}
 use Rattle.replica.specs.Machine.{IsReply}
 use Rattle.replica.specs.Parts.{ReplicaData, IsUnchanged}
@@ -6,36 +6,61 @@ use Rattle.replica.specs.Refused.{IsRefusal}
 use Rattle.replica.specs.declared.replies.Reply.{Reply}
 use Rattle.node_stream.specs.Reading.{request_of}
 use Rattle.node_stream.specs.Telling.{line_of, fault_line}
+use Rattle.node_stream.specs.FrameReading.{request_in}
+use Rattle.node_stream.specs.FrameTelling.{frame_of, fault_frame}
 use Rattle.node_stream.specs.declared.asked.Asked.{Asked}
+use Rattle.node_stream.specs.declared.asked.Window.{Window}
 use Rattle.node_stream.specs.declared.faults.LineFault.{LineFault}
 
--- the replica carries out the request, and the text is the line of its reply; a refusal changes nothing but which images the cache keeps
-pub record TellsReply (asked : Asked) (old : ReplicaData) (text : List ℕ) (new : ReplicaData) : Type 0 where
+-- A form of the stream: what a request asks, and the texts of replies, of faults, of want of memory, and for a request that is too long.
+pub record Spoken : Type 0 where
+  pub asks : List ℕ → Result Asked LineFault
+  pub reply : Window → Reply → List ℕ
+  pub fault : LineFault → List ℕ
+  pub memory : List ℕ
+  pub long : List ℕ
+
+abbrev pub by_lines : Spoken
+by_lines = record { asks = request_of; reply = line_of; fault = fault_line; memory = codes "memory\n"; long = codes "long line\n" }
+
+abbrev pub by_frames : Spoken
+by_frames = record { asks = request_in; reply = frame_of; fault = fault_frame; memory = codes "memory"; long = codes "long frame" }
+
+-- the replica carries out the request, and the text is that of its reply; a refusal changes nothing but which images the cache keeps
+pub record TellsReply (form : Spoken) (asked : Asked) (old : ReplicaData) (text : List ℕ) (new : ReplicaData) : Type 0 where
   pub told : Reply
   pub replies : IsReply old asked.request told new
   pub refused : IsRefusal told → IsUnchanged old new
-  pub is : text ≡ line_of asked.window told
+  pub is : text ≡ form.reply asked.window told
 
--- the replica may carry out what the line asks with some reply
+-- the replica may carry out what is asked with some reply
 abbrev pub CarriesOut : Result Asked LineFault → ReplicaData → ReplicaData → Type 0
 CarriesOut (Ok asked) old new = (told : Reply) × IsReply old asked.request told new
 CarriesOut (Err fault) old new = ⊥
 
 -- There was no memory. Nothing has changed but which images the cache keeps: the replica did nothing, or what it did changed no more.
-pub record LacksMemory (asked : Result Asked LineFault) (old : ReplicaData) (text : List ℕ) (new : ReplicaData) : Type 0 where
-  pub is : text ≡ codes "memory\n"
+pub record LacksMemory (form : Spoken) (asked : Result Asked LineFault) (old : ReplicaData) (text : List ℕ) (new : ReplicaData) : Type 0 where
+  pub is : text ≡ form.memory
   pub unchanged : IsUnchanged old new
   pub did : (new ≡ old) ⊎ CarriesOut asked old new
 
--- what a line that was read asks is carried out and told; a line that asks for nothing changes nothing
-abbrev pub Tells : Result Asked LineFault → ReplicaData → List ℕ → ReplicaData → Type 0
-Tells (Ok asked) old text new = TellsReply asked old text new
-Tells (Err fault) old text new = (text ≡ fault_line fault) × (new ≡ old)
+-- what was read is carried out and told; what asks for nothing changes nothing
+abbrev pub Tells : Spoken → Result Asked LineFault → ReplicaData → List ℕ → ReplicaData → Type 0
+Tells form (Ok asked) old text new = TellsReply form asked old text new
+Tells form (Err fault) old text new = (text ≡ form.fault fault) × (new ≡ old)
 
--- the text answers what was read of a line
-abbrev pub AnswersAsked : Result Asked LineFault → ReplicaData → List ℕ → ReplicaData → Type 0
-AnswersAsked asked old text new = LacksMemory asked old text new ⊎ Tells asked old text new
+-- the text answers what was read
+abbrev pub AnswersAsked : Spoken → Result Asked LineFault → ReplicaData → List ℕ → ReplicaData → Type 0
+AnswersAsked form asked old text new = LacksMemory form asked old text new ⊎ Tells form asked old text new
+
+-- the text answers the bytes of a request
+abbrev pub IsAnswerBy : Spoken → ReplicaData → List ℕ → List ℕ → ReplicaData → Type 0
+IsAnswerBy form old bytes text new = AnswersAsked form (form.asks bytes) old text new
 
 -- the text with its LF answers the line without its own
 abbrev pub IsAnswer : ReplicaData → List ℕ → List ℕ → ReplicaData → Type 0
-IsAnswer old line text new = AnswersAsked (request_of line) old text new
+IsAnswer old line text new = IsAnswerBy by_lines old line text new
+
+-- the bytes of a frame answer those of another one
+abbrev pub IsFrameAnswer : ReplicaData → List ℕ → List ℕ → ReplicaData → Type 0
+IsFrameAnswer old frame text new = IsAnswerBy by_frames old frame text new

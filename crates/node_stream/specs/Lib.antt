@@ -2,6 +2,8 @@ pub mod Answering
 pub mod Asking
 pub mod CommandLine
 pub mod Ending
+pub mod FrameReading
+pub mod FrameTelling
 pub mod Reading
 pub mod Room
 pub mod Running

@@ -105,18 +105,31 @@ abbrev pub wired : {A : Type 0} → Result A WireFault → Result A LineFault
 wired (Ok x) = Ok x
 wired (Err f) = Err (fault.Wire f)
 
+-- the values that bytes spell
+abbrev pub fact_in : List ℕ → Result Fact LineFault
+fact_in bytes = wired (decoded_fact bytes)
+
+abbrev pub summary_in : List ℕ → Result SummaryData LineFault
+summary_in bytes = wired (decoded_summary bytes)
+
+abbrev pub delta_in : List ℕ → Result DeltaData LineFault
+delta_in bytes = wired (decoded_delta bytes)
+
+abbrev pub piece_in : List ℕ → Result PieceData LineFault
+piece_in bytes = wired (decoded_piece bytes)
+
 -- the values that digits spell
 unfoldable pub fact_of : List ℕ → Result Fact LineFault
-fact_of digits = bytes_of digits >>= (λ bytes. wired (decoded_fact bytes))
+fact_of digits = bytes_of digits >>= (λ bytes. fact_in bytes)
 
 unfoldable pub summary_of : List ℕ → Result SummaryData LineFault
-summary_of digits = bytes_of digits >>= (λ bytes. wired (decoded_summary bytes))
+summary_of digits = bytes_of digits >>= (λ bytes. summary_in bytes)
 
 unfoldable pub delta_of : List ℕ → Result DeltaData LineFault
-delta_of digits = bytes_of digits >>= (λ bytes. wired (decoded_delta bytes))
+delta_of digits = bytes_of digits >>= (λ bytes. delta_in bytes)
 
 unfoldable pub piece_of : List ℕ → Result PieceData LineFault
-piece_of digits = bytes_of digits >>= (λ bytes. wired (decoded_piece bytes))
+piece_of digits = bytes_of digits >>= (λ bytes. piece_in bytes)
 
 unfoldable pub take_line : List ℕ → Result Asked LineFault
 take_line digits = fact_of digits >>= (λ f. Ok (asked (request.Take f)))

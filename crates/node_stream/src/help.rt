@@ -3,9 +3,9 @@
 pub const VERSION: &str = "fleet-node 1.0
 ";
 
-pub const HELP: &str = "One storage segment that answers request lines
+pub const HELP: &str = "One storage segment that answers request lines, or request frames
 
-Usage: fleet-node [--help | --version]
+Usage: fleet-node [--frames | --help | --version]
 
 Input, a line each, ended by LF; words stand between single spaces:
   open R                an empty segment of R readers, 1 to 15, stands in place of the segment; at first R is 1
@@ -29,6 +29,10 @@ Input, a line each, ended by LF; words stand between single spaces:
 Each line is answered by one line, before the next one is looked at. A line that asks for nothing is answered bad line, bad hex or wire N,
 one of more than 67108864 bytes long line; memory says that there was no memory, and then nothing has changed.
 
+With --frames each request and each answer is a frame: a length in four bytes, the highest first, and so many bytes, those of the line
+without its LF. Bytes stand there as they are in place of HEX; absorb has the number of the summary's bytes and a space in front of both.
+A frame that asks for nothing is answered bad request or wire N, one of more than 67108864 bytes long frame.
+
 Statuses: 0 the input has ended, 2 a bad command line, 4 a device that failed, 5 no memory.
-The lines and their answers stand in docs/EMBEDDING.md, the bytes in docs/FORMATS.md.
+The lines, the frames and their answers stand in docs/EMBEDDING.md, the bytes in docs/FORMATS.md.
 ";

@@ -5,10 +5,17 @@ ghost use Rattle.node_stream.specs.CommandLine.{named as named_of, job_in};
 
 use std::convert::AsStr;
 
-/// What the command line asks for: answers to the lines of standard input, the help, or the version.
+/// The two forms of the stream.
+#[derive(Clone, Copy, Debug, PartialEq, Eq)]
+pub enum Form {
+    Lines,
+    Frames,
+}
+
+/// What the command line asks for: answers to the requests of standard input, the help, or the version.
 #[derive(Clone, Copy, Debug, PartialEq, Eq)]
 pub enum Job {
-    Serve,
+    Serve(Form),
     Help,
     Version,
 }
@@ -17,6 +24,7 @@ fn named(word: &str) -> Option<Job>
     ensures { result ≡ named_of word.now }
 {
     match word {
+        "--frames" => Some(Job::Serve(Form::Frames)),
         "--help" | "-h" => Some(Job::Help),
         "--version" | "-V" => Some(Job::Version),
         _ => None,
@@ -28,7 +36,7 @@ pub fn job_of<S: AsStr>(words: &[S]) -> Option<Job>
     ensures { result ≡ job_in (map S.text words.now) }
 {
     match words {
-        [_] => Some(Job::Serve),
+        [_] => Some(Job::Serve(Form::Lines)),
         [_, word] => named(word.as_str()),
         _ => None,
     }

@@ -1,10 +1,13 @@
-//! One replica behind a stream of lines: each request line is answered by one line, before the next one is looked at.
+//! One replica behind a stream of lines or of frames: each request is answered by one line or frame, before the next one is looked at.
 #![tactic(auto)]
 
 mod answers;
 mod asked;
 mod ending;
 mod faults;
+mod frame_node;
+mod frame_requests;
+mod frame_telling;
 mod frozen;
 mod help;
 mod job;
@@ -20,8 +23,10 @@ mod wording;
 
 pub use asked::{Asked, Window};
 pub use faults::{LineError, LineFault};
-pub use job::{Job, job_of};
+pub use frame_node::answer_frame;
+pub use frame_requests::read_frame;
+pub use job::{Form, Job, job_of};
 pub use node::{Node, answer_line};
 pub use program::run_program;
 pub use requests::read_line;
-pub use stream::serve;
+pub use stream::{serve, serve_frames};

@@ -1,18 +1,20 @@
-//! A replica that answers lines.
+//! A replica that answers lines, and frames.
 
 ghost use Rattle.std.specs.Prelude.{◌≡◌, ◌⊎◌, IfOk, codes};
 ghost use Rattle.replica.specs.Parts.{empty_replica};
 ghost use Rattle.line_stream.specs.AnswerText.{text_of};
-ghost use Rattle.node_stream.specs.Answering.{AnswersAsked, IsAnswer};
+ghost use Rattle.node_stream.specs.Answering.{AnswersAsked, IsAnswer, by_lines};
 ghost use Rattle.node_stream.specs.Asking.{IsInside};
 ghost use Rattle.node_stream.specs.Telling.{fault_line};
 
 use crate::answers::told;
 use crate::asked::Asked;
 use crate::faults::{LineError, LineFault};
+use crate::frame_node::answer_frame;
 use crate::frozen::room;
 use crate::requests::read_line;
 use crate::wording::fault as fault_answer;
+use frame_stream::{FrameAnswer, FrameMachine};
 use line_stream::{Answer, LineMachine};
 use redo_core::Roster;
 use replica::Replica;
@@ -25,7 +27,7 @@ const MEMORY: &str = "memory\n";
 /// Carries out a request, and tells the reply.
 fn answer_request(alloc: Global, replica: &mut Replica, asked: Asked) -> Answer
     requires { IsInside asked.window }
-    ensures { AnswersAsked (Ok asked) replica.old (text_of result) replica.new }
+    ensures { AnswersAsked by_lines (Ok asked) replica.old (text_of result) replica.new }
 {
     let Ok(room) = room(alloc) else {
         return Answer::Fixed(MEMORY);
@@ -63,7 +65,7 @@ pub fn answer_line(alloc: Global, replica: &mut Replica, line: &[u8]) -> Answer
     }
 }
 
-/// A replica that answers lines, and tells its answers in memory of this allocator.
+/// A replica that answers lines and frames, and tells its answers in memory of this allocator.
 #[derive(Drop)]
 pub struct Node {
     alloc: Global,
@@ -102,5 +104,15 @@ impl LineMachine for Node {
 
     fn answer(&mut self, line: &[u8]) -> Answer {
         answer_line(self.alloc, &mut self.replica, line)
+    }
+}
+
+impl FrameMachine for Node {
+    ghost use Rattle.node_stream.specs.Answering.{IsFrameAnswer};
+
+    ghost answers = { IsFrameAnswer };
+
+    fn answer(&mut self, frame: &[u8]) -> FrameAnswer {
+        answer_frame(self.alloc, &mut self.replica, frame)
     }
 }

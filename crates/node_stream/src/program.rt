@@ -2,9 +2,9 @@
 
 use crate::ending::{status_of, words_of};
 use crate::help::{HELP, VERSION};
-use crate::job::{Job, job_of};
+use crate::job::{Form, Job, job_of};
 use crate::node::Node;
-use crate::stream::serve;
+use crate::stream::{serve, serve_frames};
 use line_stream::Watched;
 use redo_core::Roster;
 use std::alloc::AllocError;
@@ -20,7 +20,7 @@ const DEVICE: u8 = 4;
 
 const MEMORY: u8 = 5;
 
-/// The most bytes of a line: enough for the digits of 8,000 pages.
+/// The most bytes of a line or of a frame: enough for the digits of 8,000 pages.
 const LIMIT: usize = 67_108_864;
 
 /// The images of pages that the cache keeps at most.
@@ -33,7 +33,7 @@ fn failed(rt: &impl Eprint, why: &str, status: u8) -> ExitCode {
 }
 
 /// Answers standard input on standard output.
-fn answer_input(rt: &(impl Input + Print + Eprint + AllocGlobal)) -> ExitCode {
+fn answer_input(rt: &(impl Input + Print + Eprint + AllocGlobal), form: Form) -> ExitCode {
     let Ok(roster) = Roster::new(1) else {
         return failed(rt, "out of memory", MEMORY);
     };
@@ -42,7 +42,10 @@ fn answer_input(rt: &(impl Input + Print + Eprint + AllocGlobal)) -> ExitCode {
     };
     let mut reader = Watched::new(rt.reader());
     let mut writer = Watched::new(io::writer(rt));
-    let ended = serve(LIMIT, &mut node, &mut reader, &mut writer);
+    let ended = match form {
+        Form::Lines => serve(LIMIT, &mut node, &mut reader, &mut writer),
+        Form::Frames => serve_frames(LIMIT, &mut node, &mut reader, &mut writer),
+    };
     let words = words_of(ended);
     if !words.is_empty() {
         return failed(rt, words, status_of(ended));
@@ -57,7 +60,7 @@ fn say(rt: &(impl Print + Eprint), text: &str) -> ExitCode {
     }
 }
 
-/// What the program `fleet-node` does, by its command line: answers to the lines of standard input, or the help, or the version.
+/// What the program `fleet-node` does, by its command line: answers to the lines or the frames of standard input, or the help, or the version.
 ///
 /// Statuses: 0 the input has ended, 2 a bad command line, 4 a device that failed, 5 no memory.
 pub fn run_program<R: Env + Input + Print + Eprint + AllocGlobal>(rt: &R) -> ExitCode {
@@ -73,7 +76,7 @@ pub fn run_program<R: Env + Input + Print + Eprint + AllocGlobal>(rt: &R) -> Exi
         return failed(rt, "out of memory", MEMORY);
     };
     match job_of(words.as_slice()) {
-        Some(Job::Serve) => answer_input(rt),
+        Some(Job::Serve(form)) => answer_input(rt, form),
         Some(Job::Help) => say(rt, HELP),
         Some(Job::Version) => say(rt, VERSION),
         None => failed(rt, "bad command line", BAD),

@@ -1,7 +1,8 @@
 //! A replica behind a stream.
 
+ghost use Rattle.frame_stream.specs.Served.{ServesFrames};
 ghost use Rattle.line_stream.specs.Served.{Serves};
-ghost use Rattle.node_stream.specs.Answering.{IsAnswer};
+ghost use Rattle.node_stream.specs.Answering.{IsAnswer, IsFrameAnswer};
 
 use crate::node::Node;
 use line_stream::{RunFault, Watched};
@@ -21,4 +22,20 @@ pub fn serve<R: Read, W: Write>(
     ensures { Serves IsAnswer limit R.remaining W.contents node.old node.new reader.old reader.new writer.old writer.new result }
 {
     line_stream::serve(node.allocator(), limit, node, reader, writer)
+}
+
+/// Answers the request frames of the reader until its input ends: each whole frame by one frame, which is written and flushed before the
+/// next frame is read. A frame of more than `limit` bytes is answered `long frame`, and its bytes are not kept.
+///
+/// Errors: `Input` and `Output` only where that device failed; `Memory` after 2^64 - 1 frames. After `Output` the writer has a
+/// beginning of the answers, else all of them. Want of memory is no error: it is answered `memory`.
+pub fn serve_frames<R: Read, W: Write>(
+    limit: usize,
+    node: &mut Node,
+    reader: &mut Watched<R>,
+    writer: &mut Watched<W>,
+) -> Result<(), RunFault>
+    ensures { ServesFrames IsFrameAnswer limit R.remaining W.contents node.old node.new reader.old reader.new writer.old writer.new result }
+{
+    frame_stream::serve(node.allocator(), limit, node, reader, writer)
 }

@@ -1,6 +1,6 @@
-//! Values of the wire, of hexadecimal digits.
+//! Values of the wire, of bytes and of hexadecimal digits.
 
-ghost use Rattle.node_stream.specs.Reading.{Gives, bytes_of, fact_of, summary_of, delta_of, piece_of};
+ghost use Rattle.node_stream.specs.Reading.{Gives, bytes_of, fact_in, summary_in, delta_in, piece_in, fact_of, summary_of, delta_of, piece_of};
 
 use crate::faults::{LineError, LineFault};
 use redo_core::Fact;
@@ -21,14 +21,32 @@ fn bytes(alloc: Global, digits: &[u8]) -> Result<Vec<u8>, LineError>
     }
 }
 
+/// The fact that the bytes spell.
+pub fn fact_in(alloc: Global, bytes: &[u8]) -> Result<Fact, LineError>
+    ensures { Gives (λ x. x) result (fact_in bytes.now) }
+{
+    match decode_fact(alloc, bytes) {
+        Ok(fact) => Ok(fact),
+        Err(WireError::Memory) => Err(LineError::Memory),
+        Err(WireError::Fault(fault)) => Err(LineError::Fault(LineFault::Wire(fault))),
+    }
+}
+
 /// The fact that the digits spell.
 #[tactic(auto, unfolding(crate::specs::Reading::fact_of))]
 pub fn fact(alloc: Global, digits: &[u8]) -> Result<Fact, LineError>
     ensures { Gives (λ x. x) result (fact_of digits.now) }
 {
     let bytes = bytes(alloc, digits)?;
-    match decode_fact(alloc, &bytes) {
-        Ok(fact) => Ok(fact),
+    fact_in(alloc, &bytes)
+}
+
+/// The summary that the bytes spell.
+pub fn summary_in(alloc: Global, bytes: &[u8]) -> Result<Summary, LineError>
+    ensures { Gives (λ x. x) result (summary_in bytes.now) }
+{
+    match decode_summary(alloc, bytes) {
+        Ok(summary) => Ok(summary),
         Err(WireError::Memory) => Err(LineError::Memory),
         Err(WireError::Fault(fault)) => Err(LineError::Fault(LineFault::Wire(fault))),
     }
@@ -40,8 +58,15 @@ pub fn summary(alloc: Global, digits: &[u8]) -> Result<Summary, LineError>
     ensures { Gives (λ x. x) result (summary_of digits.now) }
 {
     let bytes = bytes(alloc, digits)?;
-    match decode_summary(alloc, &bytes) {
-        Ok(summary) => Ok(summary),
+    summary_in(alloc, &bytes)
+}
+
+/// The delta that the bytes spell.
+pub fn delta_in(alloc: Global, bytes: &[u8]) -> Result<Delta, LineError>
+    ensures { Gives (λ x. x) result (delta_in bytes.now) }
+{
+    match decode_delta(alloc, bytes) {
+        Ok(delta) => Ok(delta),
         Err(WireError::Memory) => Err(LineError::Memory),
         Err(WireError::Fault(fault)) => Err(LineError::Fault(LineFault::Wire(fault))),
     }
@@ -53,8 +78,15 @@ pub fn delta(alloc: Global, digits: &[u8]) -> Result<Delta, LineError>
     ensures { Gives (λ x. x) result (delta_of digits.now) }
 {
     let bytes = bytes(alloc, digits)?;
-    match decode_delta(alloc, &bytes) {
-        Ok(delta) => Ok(delta),
+    delta_in(alloc, &bytes)
+}
+
+/// The piece that the bytes spell.
+pub fn piece_in(alloc: Global, bytes: &[u8]) -> Result<Piece, LineError>
+    ensures { Gives (λ x. x) result (piece_in bytes.now) }
+{
+    match decode_piece(alloc, bytes) {
+        Ok(piece) => Ok(piece),
         Err(WireError::Memory) => Err(LineError::Memory),
         Err(WireError::Fault(fault)) => Err(LineError::Fault(LineFault::Wire(fault))),
     }
@@ -66,9 +98,5 @@ pub fn piece(alloc: Global, digits: &[u8]) -> Result<Piece, LineError>
     ensures { Gives (λ x. x) result (piece_of digits.now) }
 {
     let bytes = bytes(alloc, digits)?;
-    match decode_piece(alloc, &bytes) {
-        Ok(piece) => Ok(piece),
-        Err(WireError::Memory) => Err(LineError::Memory),
-        Err(WireError::Fault(fault)) => Err(LineError::Fault(LineFault::Wire(fault))),
-    }
+    piece_in(alloc, &bytes)
 }

@@ -1,0 +1,60 @@
+-- One frame more is answered.
+use Rattle.std.proofs.Common.{◌≡◌, ℕ, ◌+◌, List, [], ◌∷◌, ◌++◌, length, take, map, Option, refl, sym, ap, ◌∙◌, subst, append-nil}
+use Rattle.std.specs.Prelude.{true}
+use Rattle.std.specs.List.{concat}
+use Rattle.std.specs.Io.KnownBytes.{Appends}
+use Rattle.std.proofs.KnownBytes.{Appends-nil}
+use Rattle.std.proofs.lemmas.List.{map-append}
+use Rattle.std.proofs.lemmas.List.Elements.{All-nil, All-push}
+use Rattle.std.proofs.lemmas.List.Folds.{concat-append}
+use Rattle.line_stream.specs.Watching.{device_of, has_failed}
+use Rattle.line_stream.specs.declared.watched.Watched.{Watched}
+use Rattle.line_stream.proofs.Answered.{answers_more, joined_more, joined_part}
+use Rattle.frame_stream.specs.Frames.{AnswersFrame, IsShort, framed}
+use Rattle.frame_stream.specs.Served.{AreAnswered, AreCutOff}
+
+frames_more : (xs : List (List ℕ)) (x : List ℕ) → map framed (xs ++ x ∷ []) ≡ map framed xs ++ framed x ∷ []
+frames_more xs x = map-append framed xs (x ∷ [])
+
+-- the bytes of one frame more
+pub joined : (xs : List (List ℕ)) (x : List ℕ) → concat (map framed (xs ++ x ∷ [])) ≡ concat (map framed xs) ++ framed x
+joined xs x =
+    ap concat (frames_more xs x) ∙ concat-append (map framed xs) (framed x ∷ [])
+    ∙ ap (λ (l : List ℕ). concat (map framed xs) ++ l) (append-nil (framed x))
+
+module _ {W M : Type 0} (answers : M → List ℕ → List ℕ → M → Type 0) (contents : W → Option (List ℕ)) (limit : ℕ) where
+  pub answered_none : (old : M) (writer : Watched W) → AreAnswered answers contents limit [] old old writer writer
+  answered_none old writer = record { texts = []; answered = refl; short = All-nil IsShort; written = Appends-nil (contents (device_of writer)) }
+
+  pub answered_more : (frames : List (List ℕ)) (old mid new : M) (writer writer' writer'' : Watched W) (frame text : List ℕ)
+      → AreAnswered answers contents limit frames old mid writer writer' → (limit' : ℕ) → limit' ≡ limit → AnswersFrame answers limit' mid frame text new
+      → (said : List ℕ) → said ≡ text → IsShort text → Appends (contents (device_of writer')) (contents (device_of writer'')) (framed said)
+      → AreAnswered answers contents limit (frames ++ frame ∷ []) old new writer writer''
+  answered_more frames old mid new writer writer' writer'' frame text h limit' same one said is short put = record {
+    texts = h.texts ++ text ∷ [];
+    answered = answers_more (AnswersFrame answers limit) old frames h.texts mid frame text new h.answered
+        (subst (λ (n : ℕ). AnswersFrame answers n mid frame text new) same one);
+    short = All-push IsShort h.texts text h.short short;
+    written = subst (λ (l : List (List ℕ)). Appends (contents (device_of writer)) (contents (device_of writer'')) (concat l)) (sym (frames_more h.texts text))
+        (joined_more _ _ _ (map framed h.texts) (framed text) h.written
+        (subst (λ (t : List ℕ). Appends (contents (device_of writer')) (contents (device_of writer'')) (framed t)) is put));
+  }
+
+  pub cut_more : (frames : List (List ℕ)) (old mid new : M) (writer writer' writer'' : Watched W) (frame text : List ℕ) (n : ℕ)
+      → AreAnswered answers contents limit frames old mid writer writer' → (limit' : ℕ) → limit' ≡ limit → AnswersFrame answers limit' mid frame text new
+      → (said : List ℕ) → said ≡ text → IsShort text → Appends (contents (device_of writer')) (contents (device_of writer'')) (take n (framed said))
+      → has_failed writer'' ≡ true → AreCutOff answers contents limit (frames ++ frame ∷ []) old new writer writer''
+  cut_more frames old mid new writer writer' writer'' frame text n h limit' same one said is short put failed =
+      let last : Appends (contents (device_of writer')) (contents (device_of writer'')) (take n (concat (framed text ∷ []))) =
+      subst (λ (t : List ℕ). Appends (contents (device_of writer')) (contents (device_of writer'')) (take n t))
+      (ap framed is ∙ sym (append-nil (framed text))) put in
+      record {
+        texts = h.texts ++ text ∷ [];
+        count = length (concat (map framed h.texts)) + n;
+        answered = answers_more (AnswersFrame answers limit) old frames h.texts mid frame text new h.answered
+            (subst (λ (k : ℕ). AnswersFrame answers k mid frame text new) same one);
+        short = All-push IsShort h.texts text h.short short;
+        written = subst (λ (l : List (List ℕ)). Appends (contents (device_of writer)) (contents (device_of writer'')) (take (length (concat (map framed h.texts)) + n) (concat l)))
+            (sym (frames_more h.texts text)) (joined_part _ _ _ (map framed h.texts) (framed text ∷ []) n h.written last);
+        failed = failed;
+      }

@@ -1,0 +1,5 @@
+pub mod Buffers
+pub mod Headers
+pub mod Pieces
+pub mod Answered
+pub mod Written

@@ -1,0 +1,72 @@
+-- Bytes that come one piece after another.
+use Rattle.std.proofs.Common.{◌≡◌, ℕ, ◌+◌, ◌*◌, ◌<◌, ◌≤◌, ◌^◌, List, ◌++◌, length, Option, Bool, true, false, Result, Ok, Err, inr, sym, ◌∙◌, subst, arith, length-append}
+use Rattle.std.specs.Prelude.{max}
+use Rattle.std.specs.Io.KnownBytes.{Consumes}
+use Rattle.std.proofs.KnownBytes.{Consumes-trans}
+use Rattle.line_stream.specs.Watching.{device_of}
+use Rattle.line_stream.specs.declared.watched.Watched.{Watched}
+use Rattle.line_stream.specs.declared.fault.RunFault.{RunFault}
+use Rattle.frame_stream.specs.Coming.{Comes, ReadsBytes, ReadsFrame}
+use Rattle.frame_stream.specs.Frames.{header, stated, IsBegun}
+use Rattle.frame_stream.specs.Holding.{Holds, limit_of, room_of}
+use Rattle.frame_stream.specs.declared.incoming.Incoming.{Incoming}
+use Rattle.frame_stream.proofs.Headers.{length-header, stated_header}
+
+module _ {R : Type 0} (remaining : R → Option (List ℕ)) where
+  pub comes_more : (reader reader' reader'' : Watched R) (old mid new : Incoming) (bytes more : List ℕ) → Comes remaining reader reader' old mid bytes
+      → Consumes (remaining (device_of reader')) (remaining (device_of reader'')) more → limit_of new ≡ limit_of mid
+      → room_of new ≤ max (room_of mid) (2 * (length bytes + length more)) → Comes remaining reader reader'' old new (bytes ++ more)
+  comes_more reader reader' reader'' old mid new bytes more h read limit room = record {
+    read = Consumes-trans _ _ _ bytes more h.read read;
+    limit = limit ∙ h.limit;
+    room = omega (arith, room, h.room, length-append bytes more);
+  }
+
+  comes_behind : (reader reader' reader'' : Watched R) (old mid new : Incoming) (head bytes : List ℕ)
+      → Consumes (remaining (device_of reader)) (remaining (device_of reader')) head → limit_of mid ≡ limit_of old → room_of mid ≡ room_of old
+      → Comes remaining reader' reader'' mid new bytes → Comes remaining reader reader'' old new (head ++ bytes)
+  comes_behind reader reader' reader'' old mid new head bytes read limit room h = record {
+    read = Consumes-trans _ _ _ head bytes read h.read;
+    limit = h.limit ∙ limit;
+    room = omega (arith, room, h.room, length-append head bytes);
+  }
+
+  -- a header, and not all of the bytes that it says
+  begun : (n : ℕ) (bytes : List ℕ) → n < 2 ^ 32 → length bytes < n → IsBegun (header n ++ bytes)
+  begun n bytes short few =
+      let says : stated (header n ++ bytes) ≡ n = stated_header n bytes short in
+      inr (omega (arith, few, says, length-append (header n) bytes, length-header n))
+
+  -- bytes behind the header that says how many they are
+  pub frame_read : (reader reader' reader'' : Watched R) (old mid new : Incoming) (n : ℕ) (result : Result Bool RunFault)
+      → Consumes (remaining (device_of reader)) (remaining (device_of reader')) (header n) → n < 2 ^ 32 → limit_of mid ≡ limit_of old
+      → room_of mid ≡ room_of old → ReadsBytes remaining reader' reader'' mid new n result → ReadsFrame remaining reader reader'' old new result
+  frame_read reader reader' reader'' old mid new n (Ok true) read short limit room h = (
+    h.0,
+    subst (λ (k : ℕ). Comes remaining reader reader'' old new (header k ++ h.0)) (sym h.2)
+        (comes_behind reader reader' reader'' old mid new (header n) h.0 read limit room h.1),
+    omega (arith, h.2, short),
+    subst (λ (k : ℕ). Holds new k h.0) (sym h.2) h.3,
+  )
+  frame_read reader reader' reader'' old mid new n (Ok false) read short limit room h = (
+    header n ++ h.0,
+    comes_behind reader reader' reader'' old mid new (header n) h.0 read limit room h.1,
+    begun n h.0 short h.2,
+    h.3,
+  )
+  frame_read reader reader' reader'' old mid new n (Err e) read short limit room h = (
+    header n ++ h.0,
+    comes_behind reader reader' reader'' old mid new (header n) h.0 read limit room h.1,
+    begun n h.0 short h.2,
+    h.3,
+    h.4,
+  )
+
+  -- by a test of whether it is whole
+  pub read_whole : (reader reader' : Watched R) (old new : Incoming) (b : Bool) → b ≡ true → ReadsFrame remaining reader reader' old new (Ok b)
+      → ReadsFrame remaining reader reader' old new (Ok true)
+  read_whole reader reader' old new b is h = subst (λ (v : Bool). ReadsFrame remaining reader reader' old new (Ok v)) is h
+
+  pub read_end : (reader reader' : Watched R) (old new : Incoming) (b : Bool) → b ≡ false → ReadsFrame remaining reader reader' old new (Ok b)
+      → ReadsFrame remaining reader reader' old new (Ok false)
+  read_end reader reader' old new b is h = subst (λ (v : Bool). ReadsFrame remaining reader reader' old new (Ok v)) is h

@@ -1,0 +1,6 @@
+pub mod AnswerBytes
+pub mod Frames
+pub mod Holding
+pub mod Coming
+pub mod Served
+pub mod Laws

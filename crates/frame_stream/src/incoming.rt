@@ -1,0 +1,116 @@
+//! The frame that is being read.
+
+ghost use Rattle.std.specs.Prelude.{◌≡◌, ◌++◌, ◌+◌, ◌*◌, ◌≤◌, ◌<◌, ◌^◌, ℕ, List, [], length, max, true, false, if◌then◌else◌, vec_capacity};
+ghost use Rattle.frame_stream.specs.AnswerBytes.{bytes_of};
+ghost use Rattle.frame_stream.specs.Frames.{AnswersFrame};
+ghost use Rattle.frame_stream.specs.Holding.{Holds, limit_of, room_of};
+
+use crate::answer::FrameAnswer;
+use crate::machine::FrameMachine;
+use std::alloc::Global;
+
+/// What is known of a frame.
+#[derive(Clone, Copy, Debug, PartialEq, Eq)]
+pub enum Keeping {
+    /// Its bytes are kept.
+    Whole,
+    /// It is longer than the limit.
+    Long,
+    /// There was no memory for its bytes.
+    Lost,
+}
+
+/// What has come of a frame, which is kept up to a limit.
+#[derive(Drop)]
+pub struct Incoming {
+    bytes: Vec<u8>,
+    keeping: Keeping,
+    limit: usize,
+}
+
+impl Incoming {
+    /// No frame yet.
+    pub fn new(alloc: Global, limit: usize) -> Self
+        ensures limit { limit_of result ≡ limit }
+        ensures room { room_of result ≡ 0 }
+    {
+        Incoming {
+            bytes: Vec::new(alloc),
+            keeping: Keeping::Whole,
+            limit,
+        }
+    }
+
+    /// A frame of that length begins. No room is taken for it.
+    pub fn begin(&mut self, length: usize)
+        ensures holds { Holds self.new length [] }
+        ensures room { room_of self.new ≡ room_of self.old }
+        ensures limit { limit_of self.new ≡ limit_of self.old }
+    {
+        self.bytes.clear();
+        self.keeping = if length > self.limit {
+            Keeping::Long
+        } else {
+            Keeping::Whole
+        };
+    }
+
+    /// Room for so many bytes more: twice the bytes that have come, if that is enough. Says whether there was memory for it.
+    fn make_room(&mut self, more: usize) -> bool
+        ensures bytes { self.new.bytes.items ≡ self.old.bytes.items }
+        ensures keeping { self.new.keeping ≡ self.old.keeping }
+        ensures limit { limit_of self.new ≡ limit_of self.old }
+        ensures enough { result ≡ true → length self.old.bytes.items + more ≤ room_of self.new }
+        ensures room { room_of self.new ≤ max (room_of self.old) (2 * (length self.old.bytes.items + more)) }
+    {
+        let len = self.bytes.len();
+        if more <= self.bytes.capacity() - len {
+            return true;
+        }
+        self.bytes.reserve_exact(more.max(len)).is_ok()
+    }
+
+    /// Appends bytes for which there is room.
+    fn append(&mut self, part: &[u8])
+        requires { length self.old.bytes.items + length part.now ≤ room_of self.old }
+        ensures bytes { self.new.bytes.items ≡ self.old.bytes.items ++ part.now }
+        ensures keeping { self.new.keeping ≡ self.old.keeping }
+        ensures limit { limit_of self.new ≡ limit_of self.old }
+        ensures room { room_of self.new ≡ room_of self.old }
+    {
+        for byte in part {
+            self.bytes.push_reserved(*byte);
+        }
+    }
+
+    /// More bytes of the frame have come.
+    pub fn add(&mut self, part: &[u8])
+        ensures holds { (n : ℕ) (begun : List ℕ) → Holds self.old n begun → Holds self.new n (begun ++ part.now) }
+        ensures room { (n : ℕ) (begun : List ℕ) → Holds self.old n begun →
+            room_of self.new ≤ max (room_of self.old) (2 * (length begun + length part.now)) }
+        ensures limit { limit_of self.new ≡ limit_of self.old }
+    {
+        if self.keeping != Keeping::Whole {
+            return;
+        }
+        if self.make_room(part.len()) {
+            self.append(part);
+        } else {
+            self.bytes.clear();
+            self.keeping = Keeping::Lost;
+        }
+    }
+
+    /// The whole frame has come: the machine answers it, unless it is too long or lost.
+    pub fn answer<M: FrameMachine>(&self, machine: &mut M) -> FrameAnswer
+        ensures answers { (frame : List ℕ) → Holds self.now (length frame) frame →
+            AnswersFrame M.answers (limit_of self.now) machine.old frame (bytes_of result) machine.new }
+        ensures short { length (bytes_of result) < 2 ^ 32 }
+    {
+        match self.keeping {
+            Keeping::Whole => machine.answer(&self.bytes),
+            Keeping::Long => FrameAnswer::Fixed("long frame".as_bytes()),
+            Keeping::Lost => FrameAnswer::Fixed("memory".as_bytes()),
+        }
+    }
+}

@@ -1,0 +1,37 @@
+-- Answer frames of bytes.
+use Rattle.std.proofs.Common.{◌≡◌, ℕ, ◌<◌, ◌^◌, Bool, true, List, [], ◌∷◌, ◌++◌, length, Result, Ok, Err, refl, sym, ap, ◌∙◌, arith, length-append}
+use Rattle.std.specs.Prelude.{codes, IfOk, OnErr, IsOk}
+use Rattle.std.specs.Fmt.{decimal}
+use Rattle.std.proofs.lemmas.Fmt.{length-decimal-le}
+use Rattle.frame_stream.specs.AnswerBytes.{bytes_of}
+use Rattle.frame_stream.specs.declared.answer.FrameAnswer.{FrameAnswer}
+use Rattle.node_stream.specs.FrameTelling.{fitted, bytes_frame, value_frame}
+use Rattle.node_stream.specs.Telling.{one_number}
+use Rattle.node_stream.proofs.Long.{frame_of_bytes}
+
+pub no_error : {T E : Type 0} (x : T) (f : E) → Ok x ≡ Err f → ⊥
+no_error x f e = cc
+
+told_as : {E : Type 0} (r : Result FrameAnswer E) (xs ys : List ℕ) → xs ≡ ys → IfOk r (λ a. bytes_of a ≡ xs) → IfOk r (λ a. bytes_of a ≡ ys)
+told_as (Ok a) xs ys e h = h ∙ e
+told_as (Err f) xs ys e h = tt
+
+-- a word, a space and bytes
+pub bytes_told : {E : Type 0} (r : Result FrameAnswer E) (word bytes begun items : List ℕ) → begun ≡ word ++ codes " " → items ≡ begun ++ bytes
+    → IfOk r (λ a. bytes_of a ≡ fitted (word ++ codes " too long") items) → IfOk r (λ a. bytes_of a ≡ bytes_frame word bytes)
+bytes_told r word bytes begun items front all h =
+    told_as r (fitted (word ++ codes " too long") items) (bytes_frame word bytes) (ap (fitted (word ++ codes " too long")) (all ∙ ap (λ (l : List ℕ). l ++ bytes) front)) h
+
+-- the same of a value that has a spelling
+pub value_told : {E : Type 0} (r : Result FrameAnswer E) (word bytes begun items : List ℕ) (is_long : Bool) → begun ≡ word ++ codes " " → items ≡ begun ++ bytes
+    → (is_long ≡ true → ⊥) → IfOk r (λ a. bytes_of a ≡ fitted (word ++ codes " too long") items) → IfOk r (λ a. bytes_of a ≡ value_frame word is_long bytes)
+value_told r word bytes begun items is_long front all not_long h =
+    told_as r (bytes_frame word bytes) (value_frame word is_long bytes) (sym (frame_of_bytes word bytes is_long not_long)) (bytes_told r word bytes begun items front all h)
+
+-- a number of pieces has ten digits at most
+pub few_digits : {E : Type 0} (r : Result FrameAnswer E) (text : List ℕ) (pieces : ℕ) → pieces < 2 ^ 32 → text ≡ one_number (codes "frozen ") pieces
+    → OnErr r (4294967296 < length text) → IsOk r
+few_digits (Ok a) text pieces short is h = refl
+few_digits (Err e) text pieces short is h =
+    let digits = length-decimal-le 10 pieces (omega arith) (omega (arith, short)) (omega (arith, short)) in
+    absurd (omega (arith, h, ap length is, digits, length-append (decimal pieces) (10 ∷ [])))

@@ -1,0 +1,59 @@
+-- What a frame asks.
+use Rattle.std.specs.Prelude.{ℕ, ◌+◌, ◌==◌, nat_lt, List, length, take, drop, position, option_map, Option, Some, None, Result, Ok, Err, codes, bytes_eq, if◌then◌else◌}
+use Rattle.replica.specs.declared.requests.Request.TheVariants as request
+use Rattle.script_text.specs.Number.{decimal_value}
+use Rattle.node_stream.specs.Asking.{asked}
+use Rattle.node_stream.specs.Reading.{◌>>=◌, fact_in, summary_in, delta_in, piece_in, request_of}
+use Rattle.node_stream.specs.declared.asked.Asked.{Asked}
+use Rattle.node_stream.specs.declared.faults.LineFault.{LineFault}
+use Rattle.node_stream.specs.declared.faults.LineFault.TheVariants as fault
+
+-- what stands in front of the first space and behind it
+abbrev pub halves : List ℕ → Option (List ℕ × List ℕ)
+halves text = option_map (λ at. (take at text, drop (at + 1) text)) (position (λ b. b == 32) text)
+
+-- ---- a word and bytes, as they stand
+abbrev pub take_frame : List ℕ → Result Asked LineFault
+take_frame bytes = fact_in bytes >>= (λ f. Ok (asked (request.Take f)))
+
+abbrev pub answer_frame : List ℕ → Result Asked LineFault
+answer_frame bytes = summary_in bytes >>= (λ s. Ok (asked (request.Answer s)))
+
+abbrev pub add_frame : List ℕ → Result Asked LineFault
+add_frame bytes = piece_in bytes >>= (λ p. Ok (asked (request.Add p)))
+
+-- so many bytes, and those behind them
+abbrev pub split_by : Option ℕ → List ℕ → Option (List ℕ × List ℕ)
+split_by None bytes = None
+split_by (Some count) bytes = if nat_lt (length bytes) count then None else Some (take count bytes, drop count bytes)
+
+-- a number, a space, so many bytes, and the bytes behind them
+abbrev pub counted : Option (List ℕ × List ℕ) → Option (List ℕ × List ℕ)
+counted None = None
+counted (Some (digits, bytes)) = split_by (decimal_value 4294967295 digits) bytes
+
+abbrev pub absorbed : List ℕ → Option (List ℕ × List ℕ)
+absorbed text = counted (halves text)
+
+-- a summary and the delta that answers it
+abbrev pub absorb_both : Option (List ℕ × List ℕ) → Result Asked LineFault
+absorb_both None = Err fault.Form
+absorb_both (Some (shown, answered)) = summary_in shown >>= (λ s. delta_in answered >>= (λ d. Ok (asked (request.Absorb s d))))
+
+unfoldable pub absorb_frame : List ℕ → Result Asked LineFault
+absorb_frame text = absorb_both (absorbed text)
+
+-- ---- frames
+-- a word and what stands behind it and a space; behind any other word no bytes stand, and the frame asks what its line would ask
+unfoldable pub halves_frame : List ℕ → Option (List ℕ × List ℕ) → Result Asked LineFault
+halves_frame frame None = request_of frame
+halves_frame frame (Some (word, rest)) =
+    if bytes_eq word (codes "take") then take_frame rest
+    else if bytes_eq word (codes "answer") then answer_frame rest
+    else if bytes_eq word (codes "add") then add_frame rest
+    else if bytes_eq word (codes "absorb") then absorb_frame rest
+    else request_of frame
+
+-- what a frame asks
+abbrev pub request_in : List ℕ → Result Asked LineFault
+request_in frame = halves_frame frame (halves frame)

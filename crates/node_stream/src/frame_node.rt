@@ -1,0 +1,69 @@
+//! A replica that answers frames.
+
+ghost use Rattle.std.specs.Prelude.{◌≡◌, ◌⊎◌, codes};
+ghost use Rattle.frame_stream.specs.AnswerBytes.{bytes_of};
+ghost use Rattle.frame_stream.specs.Frames.{IsShort};
+ghost use Rattle.node_stream.specs.Answering.{AnswersAsked, IsFrameAnswer, by_frames};
+ghost use Rattle.node_stream.specs.Asking.{IsInside};
+ghost use Rattle.node_stream.specs.FrameTelling.{fault_frame};
+
+use crate::asked::Asked;
+use crate::faults::{LineError, LineFault};
+use crate::frame_requests::read_frame;
+use crate::frame_telling::{fault as fault_answer, told};
+use crate::frozen::room;
+use frame_stream::FrameAnswer;
+use replica::Replica;
+use std::alloc::Global;
+
+/// The answer where memory was wanting.
+fn memory() -> FrameAnswer
+    ensures bytes { bytes_of result ≡ codes "memory" }
+    ensures short { IsShort (bytes_of result) }
+{
+    FrameAnswer::Fixed("memory".as_bytes())
+}
+
+/// Carries out a request, and tells the reply.
+fn answer_request(alloc: Global, replica: &mut Replica, asked: Asked) -> FrameAnswer
+    requires { IsInside asked.window }
+    ensures answers { AnswersAsked by_frames (Ok asked) replica.old (bytes_of result) replica.new }
+    ensures short { IsShort (bytes_of result) }
+{
+    let Ok(room) = room(alloc) else {
+        return memory();
+    };
+    let Asked { request, window } = asked;
+    let reply = replica.step(request);
+    match told(alloc, window, &reply, room) {
+        Ok(answer) => answer,
+        Err(_) => memory(),
+    }
+}
+
+/// Tells why a frame asks for nothing.
+fn answer_fault(alloc: Global, fault: LineFault) -> FrameAnswer
+    ensures bytes { (bytes_of result ≡ codes "memory") ⊎ (bytes_of result ≡ fault_frame fault) }
+    ensures short { IsShort (bytes_of result) }
+{
+    match fault_answer(alloc, fault) {
+        Ok(answer) => answer,
+        Err(_) => memory(),
+    }
+}
+
+/// Answers the bytes of a request frame by those of a frame: the reply where they ask something, else why they ask nothing, and then
+/// nothing has changed.
+///
+/// The bytes `memory` stand for want of memory. Then, and where the reply is a refusal, nothing has changed but which images the cache
+/// keeps.
+pub fn answer_frame(alloc: Global, replica: &mut Replica, frame: &[u8]) -> FrameAnswer
+    ensures answers { IsFrameAnswer replica.old frame.now (bytes_of result) replica.new }
+    ensures short { IsShort (bytes_of result) }
+{
+    match read_frame(alloc, frame) {
+        Ok(asked) => answer_request(alloc, replica, asked),
+        Err(LineError::Fault(fault)) => answer_fault(alloc, fault),
+        Err(LineError::Memory) => memory(),
+    }
+}

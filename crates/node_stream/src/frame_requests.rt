@@ -1,0 +1,110 @@
+//! From a frame to a request.
+
+ghost use Rattle.std.specs.Prelude.{◌≡◌, ◌<◌, ◌==◌, length, position, option_map, IfOk, IfSome};
+ghost use Rattle.node_stream.specs.Asking.{IsInside};
+ghost use Rattle.node_stream.specs.Reading.{Gives};
+ghost use Rattle.node_stream.specs.FrameReading.{halves, absorbed, take_frame, answer_frame, add_frame, absorb_frame};
+ghost use Rattle.node_stream.specs.FrameReading.{request_in};
+
+use crate::asked::Asked;
+use crate::faults::{LineError, LineFault};
+use crate::requests::read_line;
+use crate::values::{delta_in, fact_in, piece_in, summary_in};
+use memchr::memchr;
+use replica::Request;
+use script_text::read_number;
+use std::alloc::Global;
+
+/// The most bytes of a summary in front of its delta.
+const LONG: u64 = 4294967295;
+
+/// The place of the first space.
+fn first_space(text: &[u8]) -> Option<usize>
+    ensures place { result ≡ position (λ b. b == 32) text.now }
+    ensures within { IfSome result (λ at. at < length text.now) }
+{
+    memchr(b' ', text)
+}
+
+/// What stands in front of the first space and behind it.
+fn halves(text: &[u8]) -> Option<(&[u8], &[u8])>
+    ensures { option_map (λ p. (p.0.now, p.1.now)) result ≡ halves text.now }
+{
+    let at = first_space(text)?;
+    let (front, _) = text.split_at(at);
+    let (_, behind) = text.split_at(at + 1);
+    Some((front, behind))
+}
+
+fn take(alloc: Global, bytes: &[u8]) -> Result<Asked, LineError>
+    ensures asks { Gives (λ x. x) result (take_frame bytes.now) }
+    ensures inside { IfOk result (λ a. IsInside a.window) }
+{
+    let fact = fact_in(alloc, bytes)?;
+    Ok(Asked::new(Request::Take { fact }))
+}
+
+fn answer(alloc: Global, bytes: &[u8]) -> Result<Asked, LineError>
+    ensures asks { Gives (λ x. x) result (answer_frame bytes.now) }
+    ensures inside { IfOk result (λ a. IsInside a.window) }
+{
+    let summary = summary_in(alloc, bytes)?;
+    Ok(Asked::new(Request::Answer { summary }))
+}
+
+fn add(alloc: Global, bytes: &[u8]) -> Result<Asked, LineError>
+    ensures asks { Gives (λ x. x) result (add_frame bytes.now) }
+    ensures inside { IfOk result (λ a. IsInside a.window) }
+{
+    let piece = piece_in(alloc, bytes)?;
+    Ok(Asked::new(Request::Add { piece }))
+}
+
+/// The bytes of a summary, whose number stands in front of them, and those of a delta.
+fn absorbed(text: &[u8]) -> Option<(&[u8], &[u8])>
+    ensures { option_map (λ p. (p.0.now, p.1.now)) result ≡ absorbed text.now }
+{
+    let (digits, behind) = halves(text)?;
+    let count = read_number(digits, LONG)? as usize;
+    if count > behind.len() {
+        return None;
+    }
+    Some(behind.split_at(count))
+}
+
+#[tactic(auto, unfolding(crate::specs::FrameReading::absorb_frame))]
+fn absorb(alloc: Global, text: &[u8]) -> Result<Asked, LineError>
+    ensures asks { Gives (λ x. x) result (absorb_frame text.now) }
+    ensures inside { IfOk result (λ a. IsInside a.window) }
+{
+    let Some((shown, answered)) = absorbed(text) else {
+        return Err(LineError::Fault(LineFault::Form));
+    };
+    let summary = summary_in(alloc, shown)?;
+    let delta = delta_in(alloc, answered)?;
+    Ok(Asked::new(Request::Absorb { summary, delta }))
+}
+
+/// What a frame asks: its bytes stand as they are behind a word that takes bytes, and else it asks what the line of its bytes asks.
+///
+/// Errors: `Fault` where it asks for nothing, with the first cause from left to right and never `Hex`, and `Memory`.
+#[tactic(auto, unfolding(crate::specs::FrameReading::halves_frame))]
+pub fn read_frame(alloc: Global, frame: &[u8]) -> Result<Asked, LineError>
+    ensures asks { Gives (λ x. x) result (request_in frame.now) }
+    ensures inside { IfOk result (λ a. IsInside a.window) }
+{
+    let Some((word, rest)) = halves(frame) else {
+        return read_line(alloc, frame);
+    };
+    if word == b"take".as_slice() {
+        take(alloc, rest)
+    } else if word == b"answer".as_slice() {
+        answer(alloc, rest)
+    } else if word == b"add".as_slice() {
+        add(alloc, rest)
+    } else if word == b"absorb".as_slice() {
+        absorb(alloc, rest)
+    } else {
+        read_line(alloc, frame)
+    }
+}
