@@ -1,5 +1,5 @@
--- Streams of lines make the turns of a cluster.
-use Rattle.std.proofs.Common.{ℕ, List, [], ◌∷◌, sym, subst}
+-- Streams make the turns of a cluster.
+use Rattle.std.proofs.Common.{ℕ, List, [], ◌∷◌, Bool, true, false, sym, subst}
 use Rattle.std.specs.List.{AllZip}
 use Rattle.redo_core.specs.Sound.{IsSound}
 use Rattle.redo_core.specs.declared.facts.Fact.{Fact}
@@ -9,11 +9,11 @@ use Rattle.replica.specs.declared.replies.Reply.{Reply}
 use Rattle.replica.specs.Machine.{IsReply}
 use Rattle.replica.specs.Parts.{ReplicaData, empty_replica}
 use Rattle.replica.specs.Meaning.{Turn, Runs}
-use Rattle.node_stream.specs.Running.{AnswersRun}
+use Rattle.node_stream.specs.Running.{AnswersRun, FramesRun, Run}
 use Rattle.cluster_laws.specs.Turns.{turns_of, SameTurn, Interleaves}
 use Rattle.cluster_laws.specs.Carrying.{AreCarried}
 use Rattle.cluster_laws.specs.Following.{FollowsFacts}
-use Rattle.cluster_laws.specs.Streams.{StreamsFollow}
+use Rattle.cluster_laws.specs.Streams.{spoken, AnswersStream, StreamsFollow}
 use Rattle.cluster_laws.proofs.Followed.{cluster_follows}
 
 -- whatever turns are said to bring, the replica goes the same way
@@ -34,7 +34,13 @@ interleaved_follow answer roster log pages made nodes sound runs turns same carr
     cluster_follows answer roster log pages turns nodes sound
     (λ node. run_alike (empty_replica roster (pages node)) (made node) (turns_of node turns) (nodes node) (same node) (runs node)) carried
 
-pub streams_follow : AnswersRun → StatesAnswer → StreamsFollow
-streams_follow run answer roster limit log pages lines texts nodes sound answered =
-    let one = λ (node : ℕ). run (λ old asked. []) limit (empty_replica roster (pages node)) (lines node) (texts node) (nodes node) (answered node) in
+stream_run : AnswersRun → FramesRun → (framed : Bool) (limit : ℕ) (old : ReplicaData) (requests texts : List (List ℕ)) (new : ReplicaData)
+    → AnswersStream framed limit old requests texts new → Run (spoken framed) (λ old asked. []) limit old requests texts new
+stream_run lines frames true limit old requests texts new answered = frames (λ old asked. []) limit old requests texts new answered
+stream_run lines frames false limit old requests texts new answered = lines (λ old asked. []) limit old requests texts new answered
+
+pub streams_follow : AnswersRun → FramesRun → StatesAnswer → StreamsFollow
+streams_follow lines frames answer roster limit log pages framed requests texts nodes sound answered =
+    let one = λ (node : ℕ).
+    stream_run lines frames (framed node) limit (empty_replica roster (pages node)) (requests node) (texts node) (nodes node) (answered node) in
     (λ node. (one node).0, λ node. (one node).3, interleaved_follow answer roster log pages (λ node. (one node).0) nodes sound (λ node. (one node).1))
