@@ -17,7 +17,6 @@ use Rattle.node_lock.specs.Trail.{Entry}
 use Rattle.node_cell.specs.Kept.{KeptData, IsKept}
 use Rattle.node_cell.proofs.Places.{wider}
 use Rattle.fleet_drill.specs.Parts.{MeansPart}
-use Rattle.node_workers.proofs.Lists.{index_of}
 
 -- what is joined of two parts means their union, and a refused join changes nothing
 pub joined_part : {A E : Type 0} (roster : ℕ) (log : List Fact) (s t u : State) (r : Result A E)
@@ -57,6 +56,11 @@ pub never_broken : (roster : ℕ) (log : List Fact) (s : State) (page point brok
 never_broken roster log s page point broken number fault sound part r is =
     subst (IsReadFault part.0 part.1.0 page point) is (r roster log part.0 part.1.0 sound part.1.1)
 
+at_or : {X : Type 0} (xs : List X) (k : ℕ) (x d : X) → slice_get xs k ≡ Some x → slice_index_or xs k d ≡ x
+at_or [] k x d e = absurd cc
+at_or (y ∷ xs) zero x d e = cc
+at_or (y ∷ xs) (suc k) x d e = at_or xs k x d e
+
 -- of the nodes so far, and of the segment's own, a part has all acknowledged facts: one node more is brought in
 pub more_kept : (roster : ℕ) (log : List Fact) (closed : List KeptData) (old new : State) (place own : ℕ) (shown : KeptData)
     → ((n : ℕ) (c : KeptData) → ((n < place) ⊎ (n ≡ own)) → slice_get closed n ≡ Some c → IsKept roster log old c.trail) → shown ≡ slice_index_or closed place shown
@@ -67,7 +71,7 @@ more_kept roster log closed old new place own shown inv at keeps brings n c (inl
     (λ (low : n < place). keeps c.trail (inv n c (inl low) e))
     (λ (high : place ≤ n).
     let is : n ≡ place = omega (arith, lt, high) in
-    subst (λ (k : KeptData). IsKept roster log new k.trail) (at ∙ index_of closed place c shown (subst (λ m. slice_get closed m ≡ Some c) is e)) brings)
+    subst (λ (k : KeptData). IsKept roster log new k.trail) (at ∙ at_or closed place c shown (subst (λ m. slice_get closed m ≡ Some c) is e)) brings)
     (cases_lt n place)
 
 -- or it is the segment's own
