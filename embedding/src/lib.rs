@@ -1,6 +1,6 @@
 //! One proved storage segment inside a Rust server.
 //!
-//! A [`Node`] is a segment on a thread of its own, behind a pair of sockets: the archive of the crate `node_c`, which is proved down to
+//! A [`Node`] is a segment on a thread of its own, behind a pair of pipes: the archive of the crate `node_c`, which is proved down to
 //! its two descriptors. This package is not proved. It makes requests, reads answers, and gives both types.
 //!
 //! ```no_run

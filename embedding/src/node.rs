@@ -3,9 +3,10 @@
 use crate::answers::{self, Front, Gap, Held, Key, State, Taken};
 use crate::errors::{Error, Status};
 use crate::{frames, requests};
-use std::io::{BufReader, Write};
+use std::fs::File;
+use std::io::{self, BufReader, Write};
 use std::net::Shutdown;
-use std::os::fd::AsRawFd;
+use std::os::fd::{AsRawFd, OwnedFd};
 use std::os::unix::net::UnixStream;
 use std::thread::{self, JoinHandle};
 
@@ -26,10 +27,31 @@ const WINDOW: usize = 64;
 /// A call waits for its answer. Each one may end in `Stopped`, `Memory` and `LongFrame`; what else it may end in stands at the call.
 /// After `Stopped` the node is of no use any more.
 pub struct Node {
-    stream: BufReader<UnixStream>,
+    ends: Option<Ends>,
     thread: Option<JoinHandle<u8>>,
     request: Vec<u8>,
     answer: Vec<u8>,
+}
+
+/// The ends at this side.
+struct Ends {
+    reader: BufReader<File>,
+    writer: File,
+    /// What has to be shut down for the other side to see an end: both of them are one socket.
+    socket: Option<UnixStream>,
+}
+
+impl Ends {
+    fn new(reader: impl Into<OwnedFd>, writer: impl Into<OwnedFd>, socket: Option<UnixStream>) -> Ends {
+        Ends { reader: BufReader::new(File::from(reader.into())), writer: File::from(writer.into()), socket }
+    }
+}
+
+impl Drop for Ends {
+    fn drop(&mut self) {
+        // An error says that the stream has ended already.
+        let _ = self.socket.as_ref().map(|socket| socket.shutdown(Shutdown::Both));
+    }
 }
 
 impl Node {
@@ -38,22 +60,29 @@ impl Node {
     /// Errors: `NotStarted`, and `BadRequest` for another number of readers.
     pub fn open(readers: u8) -> Result<Node, Error> {
         let not_started = |error: std::io::Error| Error::NotStarted(error.kind());
-        let (own, other) = UnixStream::pair().map_err(not_started)?;
+        let (requests_end, writer) = io::pipe().map_err(not_started)?;
+        let (reader, answers_end) = io::pipe().map_err(not_started)?;
         let serve = move || {
-            let number = other.as_raw_fd();
-            // SAFETY: the declaration is that of the archive, and the descriptor stays open until the call has returned.
-            unsafe { yieldcleat_serve(number, number) }
+            // SAFETY: the declaration is that of the archive, and both descriptors stay open until the call has returned.
+            unsafe { yieldcleat_serve(requests_end.as_raw_fd(), answers_end.as_raw_fd()) }
         };
         let named = thread::Builder::new().name("segment".into()).stack_size(STACK);
-        let mut node = Node::behind(own);
+        let mut node = Node::at(Ends::new(reader, writer, None));
         node.thread = Some(named.spawn(serve).map_err(not_started)?);
         node.put(&requests::open(readers), "opened")?;
         Ok(node)
     }
 
     /// A segment that serves the other end of the stream, as a process of `fleet-node --frames` does. It is what it is: it may have facts.
-    pub fn behind(stream: UnixStream) -> Node {
-        Node { stream: BufReader::new(stream), thread: None, request: Vec::new(), answer: Vec::new() }
+    ///
+    /// Its error is `NotStarted`.
+    pub fn behind(stream: UnixStream) -> Result<Node, Error> {
+        let again = || stream.try_clone().map_err(|error| Error::NotStarted(error.kind()));
+        Ok(Node::at(Ends::new(again()?, again()?, Some(stream))))
+    }
+
+    fn at(ends: Ends) -> Node {
+        Node { ends: Some(ends), thread: None, request: Vec::new(), answer: Vec::new() }
     }
 
     /// Ends the segment, and says how it ended where its thread is this node's.
@@ -62,8 +91,7 @@ impl Node {
     }
 
     fn end(&mut self) -> Option<Status> {
-        // An error says that the stream has ended already.
-        let _ = self.stream.get_ref().shutdown(Shutdown::Both);
+        self.ends = None;
         self.thread.take()?.join().ok().map(Status::of)
     }
 
@@ -75,14 +103,15 @@ impl Node {
 
     /// Writes the frames that were made.
     fn send(&mut self) -> Result<(), Error> {
-        let sent = self.stream.get_mut().write_all(&self.request);
+        let sent = self.ends.as_mut().is_some_and(|ends| ends.writer.write_all(&self.request).is_ok());
         self.request.clear();
-        sent.map_err(|_| self.stopped())
+        if sent { Ok(()) } else { Err(self.stopped()) }
     }
 
     fn receive(&mut self) -> Result<&[u8], Error> {
-        match frames::read(&mut self.stream, &mut self.answer) {
-            Ok(true) => Ok(&self.answer),
+        let read = self.ends.as_mut().map(|ends| frames::read(&mut ends.reader, &mut self.answer));
+        match read {
+            Some(Ok(true)) => Ok(&self.answer),
             _ => Err(self.stopped()),
         }
     }

@@ -144,7 +144,7 @@ fn a_torn_request_is_not_answered() {
     bytes.extend_from_slice(b"\0\0\0\x09front");
     other.write_all(&bytes).unwrap();
     drop(other);
-    let mut node = Node::behind(own);
+    let mut node = Node::behind(own).unwrap();
     assert_eq!(node.front(), Err(Error::Stopped(None)));
     let mut node = Node::open(1).unwrap();
     assert_eq!(node.ask(&requests::open(2)), Ok(&b"opened"[..]));
