@@ -25,7 +25,7 @@ import compare_nodes
 import scripts
 import wire_oracle
 from compare_nodes import as_frame, as_line, frame
-from outside import SECONDS, Failed, expect
+from outside import SECONDS, Failed, expect, passes
 from rules import PAGE_LEN, Advance, Record, Write
 
 ROOT = pathlib.Path(__file__).resolve().parent.parent
@@ -372,16 +372,10 @@ def tests(archive=ARCHIVE):
     if not archive.is_file():
         print(f"{archive.name} FAILED: it is not there; `rt lib` in crates/node_c makes it")
         return 0, len(TESTS)
-    passed = 0
     with tempfile.TemporaryDirectory(prefix="archive-") as folder:
         serve, served = library(archive, folder), program(archive, folder)
-        for name, test in TESTS.items():
-            try:
-                print(f"{archive.name}: {name}: {test(serve, served)}", flush=True)
-                passed += 1
-            except (Failed, sweep.Unusable, OSError, subprocess.SubprocessError) as fault:
-                print(f"{archive.name}: {name} FAILED: {fault}", flush=True)
-    return passed, len(TESTS) - passed
+        results = [passes(name, lambda _, it=test: it(serve, served), archive) for name, test in TESTS.items()]
+    return results.count(True), results.count(False)
 
 
 def main():

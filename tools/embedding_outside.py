@@ -14,7 +14,7 @@ import sys
 import tempfile
 
 import archive_outside
-from outside import Failed, expect
+from outside import Failed, expect, passes
 
 ROOT = pathlib.Path(__file__).resolve().parent.parent
 PACKAGE = ROOT / "embedding"
@@ -129,16 +129,9 @@ def results(archive, folder):
 
 def tests(archive=archive_outside.ARCHIVE):
     """How many tests passed, and how many failed."""
-    passed = failed = 0
     with tempfile.TemporaryDirectory(prefix="embedding-") as folder:
-        for name, test in results(archive, folder):
-            try:
-                print(f"embedding: {name}: {test()}", flush=True)
-                passed += 1
-            except (Failed, OSError, subprocess.SubprocessError) as fault:
-                print(f"embedding: {name} FAILED: {fault}", flush=True)
-                failed += 1
-    return passed, failed
+        ended = [passes(name, lambda _, it=test: it(), PACKAGE) for name, test in results(archive, folder)]
+    return ended.count(True), ended.count(False)
 
 
 def main():

@@ -14,7 +14,7 @@ import tempfile
 
 import compare_nodes
 from compare_nodes import as_frame, as_line, frame
-from outside import SECONDS, Failed, answer, expect, unread_pipe
+from outside import SECONDS, Failed, answer, expect, passes, unread_pipe
 
 ROOT = pathlib.Path(__file__).resolve().parent.parent
 sys.path.insert(0, str(ROOT / "tools/fail_alloc"))
@@ -298,14 +298,8 @@ def tests(program=PROGRAM, rounds=100, seed=1):
         "random scripts": lambda it: random_scripts(it, rounds, seed),
         "clusters": clusters,
     }
-    passed = 0
-    for name, test in listed.items():
-        try:
-            print(f"{program.name}: {name}: {test(program)}", flush=True)
-            passed += 1
-        except (Failed, sweep.Unusable, OSError, subprocess.SubprocessError) as fault:
-            print(f"{program.name}: {name} FAILED: {fault}", flush=True)
-    return passed, len(listed) - passed
+    results = [passes(name, test, program) for name, test in listed.items()]
+    return results.count(True), results.count(False)
 
 
 def main():
