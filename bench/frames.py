@@ -1,14 +1,18 @@
 #!/usr/bin/env python3
-"""Measures takes of a sound log by frames through the archive in this process, one at a time and many at once, and by lines through a
-process of `fleet-node`: seconds on the clock, processor seconds of both sides, and takes a second of each.
+"""Measures takes of a sound log by frames through the archive in this process, one at a time, many at once and many in a frame, and by
+lines through a process of `fleet-node`: seconds on the clock, processor seconds of both sides, and takes a second of each.
 
     frames.py [--archive ARCHIVE] [--program PROGRAM] [--sizes N ..] [--batches B ..] [--runs N]
 
-A batch is sent at once, and its answers are read before the next one is sent; a batch of one is what a call that waits for its answer
-costs. By lines all come at once from a file. Each answer must be `changed`.
+A batch is sent at once, each take in a frame of its own or all in one, and its answers are read before the next one is sent; a batch of
+one is what a call that waits for its answer costs. By lines all come at once from a file. Each answer must be `changed`.
+
+Then the archive's segment alone, in a process that has all frames in a file: takes, and as many that are read to their end and refused
+for a byte behind it. What these cost is the way to a call and back, so the rest is the call itself.
 """
 
 import argparse
+import itertools
 import os
 import pathlib
 import statistics
@@ -25,14 +29,25 @@ import compare_nodes
 
 SIZES = [100_000]
 BATCHES = [1, 64, 256]
+MOST = 256  # takes in a frame of those out of a file
 CHANGED = compare_nodes.frame(b"changed")
 
 
-def by_frames(serve, requests, batch):
+def alone(frames):
+    """Frames one behind the other."""
+    return b"".join(frames)
+
+
+def together(frames):
+    """One frame that holds them."""
+    return compare_nodes.frame(b"many " + alone(frames))
+
+
+def by_frames(serve, requests, batch, put):
     """Seconds, and processor seconds, until all is answered."""
     segment = archive_outside.Segment(serve)
-    parts = [(b"".join(requests[at : at + batch]), min(batch, len(requests) - at)) for at in range(0, len(requests), batch)]
-    answers = {count: CHANGED * count for _, count in parts}
+    parts = [(put(requests[at : at + batch]), min(batch, len(requests) - at)) for at in range(0, len(requests), batch)]
+    answers = {count: CHANGED * count if put is alone else compare_nodes.frame(CHANGED * count) for _, count in parts}
     begun, used = time.perf_counter(), time.process_time()
     for part, count in parts:
         segment.own.sendall(part)
@@ -50,6 +65,23 @@ def by_lines(program, size, folder):
     begun = time.perf_counter()
     used, _ = lines.run_once(program, source, target)
     return time.perf_counter() - begun, used
+
+
+def of_segment(served, requests, put, folder):
+    """Processor seconds of a process that answers all of them out of a file."""
+    source, target = os.path.join(folder, "given"), os.path.join(folder, "answers")
+    with open(source, "wb") as given:
+        for at in range(0, len(requests), MOST):
+            given.write(put(requests[at : at + MOST]))
+    return lines.run_once(served, source, target)[0]
+
+
+def beside_the_call(served, facts, runs, folder):
+    """For each way to put takes into frames: seconds of takes and of refused ones, and what a take costs of the call itself."""
+    for put, how in ((alone, "each in a frame"), (together, f"{MOST} in one")):
+        told = [[compare_nodes.frame(b"take " + fact + more) for fact in facts] for more in (b"", b"\0")]
+        taken, refused = (statistics.median(of_segment(served, it, put, folder) for _ in range(runs)) for it in told)
+        yield f"| {how} | {len(facts)} | {taken:.3f} | {refused:.3f} | {taken / max(taken - refused, 1e-3):.2f} |"
 
 
 def row(name, size, ran):
@@ -72,11 +104,17 @@ def main():
         for size in given.sizes:
             facts = [bytes.fromhex(line.split(" ")[1]) for line in lines.takes(size)]
             requests = [compare_nodes.frame(b"take " + fact) for fact in facts]
-            for batch in given.batches:
-                ran = [by_frames(serve, requests, batch) for _ in range(given.runs)]
-                print(row(f"by frames, {batch} at once", size, ran), flush=True)
+            for batch, (put, how) in itertools.product(given.batches, ((alone, "at once"), (together, "in one"))):
+                ran = [by_frames(serve, requests, batch, put) for _ in range(given.runs)]
+                print(row(f"by frames, {batch} {how}", size, ran), flush=True)
             ran = [by_lines(given.program.resolve(), size, folder) for _ in range(given.runs)]
             print(row("by lines, all at once", size, ran), flush=True)
+        print("\n| takes out of a file | how many | s | s refused | of the call |\n|---|---|---|---|---|")
+        served = archive_outside.program(given.archive.resolve(), folder)
+        for size in given.sizes:
+            facts = [bytes.fromhex(line.split(" ")[1]) for line in lines.takes(size)]
+            for told in beside_the_call(served, facts, given.runs, folder):
+                print(told, flush=True)
 
 
 if __name__ == "__main__":

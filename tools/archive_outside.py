@@ -275,6 +275,21 @@ def many_at_once(serve, _program, last=3000):
     return f"{2 * len(facts)} requests"
 
 
+def many_in_a_frame(serve, _program, last=3000):
+    """The same requests, many in a frame, are answered by as many frames in one."""
+    segment, facts = Segment(serve), list(chain(last))
+    for place in range(0, len(facts), 2 * WINDOW):
+        window = facts[place : place + 2 * WINDOW]
+        answer = segment.told(b"many " + b"".join(frame(b"take " + fact) + frame(b"front") for fact in window))
+        fronts = [(min(at, last), last // 2 if at > last else 0) for at in range(place + 1, place + 1 + len(window))]
+        wanted = b"".join(frame(b"changed") + frame(f"front 0 {number} {least}".encode()) for number, least in fronts)
+        expect("the answers in a frame", answer, wanted)
+    pages = segment.told(b"many " + b"".join(frame(f"read {page} {last} 0 {PAGE_LEN}".encode()) for page in range(4)))
+    expect("the pages in a frame", pages, b"".join(frame(b"page " + replayed(last, page)) for page in range(4)))
+    expect("the end", segment.close(), (0, b""))
+    return f"{2 * len(facts) + 4} requests"
+
+
 class Worker(threading.Thread):
     """Feeds a segment of its own: the facts in an order of its own, then folds, and all four pages."""
 
@@ -362,6 +377,7 @@ TESTS = {
     "torn frames": torn_frames,
     "descriptors": descriptors,
     "many at once": many_at_once,
+    "many in a frame": many_in_a_frame,
     "eight at once": eight_at_once,
     "refused allocations": refused_allocations,
 }

@@ -4,8 +4,8 @@
 
 Each step becomes a request of its node, and its answer is to say what the oracle replies; a message is what `ask` or `answer` told.
 Between two steps a node may be asked what its complete point waits for, and it may be brought back from its snapshot, which changes no
-answer. Each script runs by lines and then by frames, and both tell the same. Stops at the first difference, prints the script, and ends
-with status 1.
+answer. Each script runs by lines and then by frames, and both tell the same. Then each node's frames go to another node many in a frame,
+which answers them byte for byte as they were. Stops at the first difference, prints the script, and ends with status 1.
 """
 
 import argparse
@@ -134,13 +134,37 @@ class FramedNode(Node):
 
     words = ("--frames",)
 
+    def __init__(self, program, settings=None):
+        super().__init__(program, settings)
+        self.asked, self.told = [], []  # the frames, each with its length in front
+
     def send(self, line):
-        self.process.stdin.write(frame(as_frame(line)))
+        self.asked.append(frame(as_frame(line)))
+        self.process.stdin.write(self.asked[-1])
 
     def receive(self):
-        size = int.from_bytes(self.process.stdout.read(4), "big")
-        answer = self.process.stdout.read(size)
-        return as_line(answer) if answer and len(answer) == size else f"{answer!r} and an end"
+        size = self.process.stdout.read(4)
+        answer = self.process.stdout.read(int.from_bytes(size, "big"))
+        self.told.append(size + answer)
+        return as_line(answer) if answer and frame(answer) == self.told[-1] else f"{answer!r} and an end"
+
+
+class Repeater(FramedNode):
+    """A node that is asked what another one was asked, many requests in a frame."""
+
+    def repeats(self, node, choose):
+        """Whether it answers as that node did, of which it keeps nothing."""
+        asked, told = node.asked, node.told
+        node.asked, node.told = [], []
+        while asked:
+            count = choose.choice((0, 1, 2, 7, 30))
+            self.process.stdin.write(frame(b"many " + b"".join(asked[:count])))
+            self.process.stdin.flush()
+            wanted = frame(b"".join(told[:count]))
+            if self.process.stdout.read(len(wanted)) != wanted:
+                return False
+            asked, told = asked[count:], told[count:]
+        return True
 
 
 class Run:
@@ -205,6 +229,7 @@ class Run:
 def compare(program, rounds, seed):
     """How many steps of so many scripts agree, and the first difference in words, or nothing."""
     forms = [[kind(program) for _ in range(NODES)] for kind in (Node, FramedNode)]
+    repeaters = [Repeater(program) for _ in range(NODES)]
     steps = 0
     for place in range(rounds):
         told = []
@@ -219,7 +244,9 @@ def compare(program, rounds, seed):
                 return steps, f"round {place}, {nodes[0].words}, {differs}\n{text}"
         if told[0] != told[1]:
             return steps, f"round {place}, lines and frames differ\n{text}"
-    ends = [node.close() for nodes in forms for node in nodes]
+        if not all(it.repeats(node, choose) for it, node in zip(repeaters, forms[1])):
+            return steps, f"round {place}, many in a frame are answered otherwise\n{text}"
+    ends = [node.close() for nodes in (*forms, repeaters) for node in nodes]
     return steps, "" if ends == [(0, b"")] * len(ends) else f"the nodes ended so: {ends}"
 
 

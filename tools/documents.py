@@ -1,7 +1,7 @@
 #!/usr/bin/env python3
 """Tests that the documents say what is: the map has the crates and what they stand on, the files that they name are there,
-the pictures are what their commands make, and the README names the kit at hand. Prints a line for each difference, and ends in
-'N passed, M failed'.
+the pictures are what their commands make, the README names the kit at hand, and the words and lemmas that stand twice are those that
+docs/DECISIONS.md lists. Prints a line for each difference, and ends in 'N passed, M failed'.
 
 With --map it first writes what the crates stand on into the rows of the map, and with --pictures it first makes the pictures.
 """
@@ -12,6 +12,7 @@ import subprocess
 import sys
 
 import draw
+import words_twice
 
 ROOT = pathlib.Path(__file__).resolve().parent.parent
 MAP = ROOT / "docs/MAP.md"
@@ -128,7 +129,7 @@ def counts_hold():
 def documents():
     """How many tests passed, and how many failed."""
     passed = failed = 0
-    for test in (map_tells_the_crates, files_are_there, pictures_are_made, kit_is_named, counts_hold):
+    for test in (map_tells_the_crates, files_are_there, pictures_are_made, kit_is_named, counts_hold, words_twice.faults):
         faults = list(test())
         for fault in faults:
             print(f"documents: {fault}")

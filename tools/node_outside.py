@@ -165,6 +165,32 @@ def long_frames(program):
     return f"the greatest allocation is of {asked} bytes"
 
 
+def many(requests):
+    """The frame of many requests, or of none."""
+    return frame(b"many " + framed(requests))
+
+
+def many_frames(program):
+    """Frames that hold frames: each of those is answered as if it stood alone, in order. What is no whole frames changes nothing."""
+    pairs = [(as_frame(line), told) for line, told in zip(TEXT.decode().splitlines(), ANSWERS.decode().splitlines()) if has_frame(line)]
+    told = answers_to(program, many(it for it, _ in pairs))
+    wanted = [told.replace("bad line", "bad request") for _, told in pairs]
+    expect("the example in one frame", [as_line(it) for it in frames_of(told[0])], wanted)
+    asked = [b"take " + FACT, b"read 7 3 0 4096", b"", b"many ", b"many " + frame(b"front"), b"bogus", b"front", b"many"]
+    told = answers_to(program, many([]) + many(asked) + many([b"front"]))
+    page = b"page " + b"aa" + bytes(4094)
+    wanted = [b"changed", page, *[b"bad request"] * 4, b"front 0 3 0", b"bad request"]
+    expect("the answers to many", told, [b"", framed(wanted), framed([b"front 0 3 0"])])
+    whole = framed([b"take " + FACT, b"front"])
+    torn = [whole[:cut] for cut in range(1, len(whole)) if cut not in (0, 4 + 5 + len(FACT))]
+    torn += [whole + b"\0", whole + (2**32 - 1).to_bytes(4, "big")]
+    told = answers_to(program, framed([*(b"many " + it for it in torn), b"many", b"MANY " + whole, b" many " + whole, b"front"]))
+    expect("the answers to what is no frames", told, [b"bad request"] * (len(torn) + 3) + [b"front 0 0 0"])
+    empty = answers_to(program, many([b""] * 100_000))
+    expect("the answers to 100,000 empty ones", empty, [framed([b"bad request"] * 100_000)])
+    return f"{len(pairs) + len(asked)} requests, {len(torn)} that are torn"
+
+
 def lines_and_frames(program):
     """The rows' lines by frames: the answers are those of the lines, but for the words that only one form has."""
     rows = ROOT / "crates/fleet_node"
@@ -265,6 +291,39 @@ def refused_allocations(program):
     return "; ".join(said)
 
 
+def many_with_refusal(program, settings, pairs):
+    """Whether the frame of many requests lacked memory, or how many of its requests did; None for a node that ended at once. Each other
+    request is answered as where those were not asked at all."""
+    done = subprocess.run([program, *FRAMES], input=many(it for it, _ in pairs) + many(it for it, _ in pairs[-1:]), capture_output=True, env=settings)
+    if done.returncode == 5 and not done.stdout:
+        return None
+    told, behind = frames_of(done.stdout)
+    if told == b"memory":
+        expect("the answers behind a lack of memory", behind, framed(b"front 0 0 0" for _ in pairs[-1:]))
+        return "all"
+    told = frames_of(told)
+    kept = [pair for pair, it in zip(pairs, told) if it != b"memory"]
+    wanted = answers_to(program, many(it for it, _ in kept))[0]
+    expect("the answers beside a lack of memory", framed(it for it in told if it != b"memory"), wanted)
+    return len(pairs) - len(kept)
+
+
+def refused_in_many(program):
+    """Each allocation refused in turn while one frame holds all requests."""
+    rows = ROOT / "crates/fleet_node"
+    lines = zip((rows / "stdin").read_bytes().decode().split("\n")[:-1], (rows / "stdout").read_text().splitlines())
+    pairs = [*((as_frame(line), told) for line, told in lines if has_frame(line)), (b"front", "")]
+    with tempfile.TemporaryDirectory() as folder:
+        shim = sweep.build_shim(folder)
+        total, *_ = sweep.counted([program, *FRAMES], many(it for it, _ in pairs), shim)
+        kept = {**os.environ, "LD_PRELOAD": str(shim), "FAIL_START": "0", "FAIL_ALLOC_REPORT": str(shim.with_name("refusing"))}
+        refused = range(1, total + 1, max(1, total // MOST))
+        told = [many_with_refusal(program, {**kept, "FAIL_ALLOC": str(n)}, pairs) for n in refused]
+    if None not in told or "all" not in told or 1 not in told or not set(told) <= {None, "all", 0, 1}:
+        raise Failed(f"so many requests lacked memory: {told}")
+    return f"{len(told)} of {total}: {told.count(None)} nodes ended at once, {told.count('all')} frames and {told.count(1)} requests lacked memory"
+
+
 def random_scripts(program, rounds, seed):
     steps, differs = compare_nodes.compare(program, rounds, seed)
     if differs:
@@ -292,9 +351,11 @@ def tests(program=PROGRAM, rounds=100, seed=1):
         "bad frames": bad_frames,
         "frames that are cut off": cut_off_frames,
         "long frames": long_frames,
+        "many in a frame": many_frames,
         "lines and frames": lines_and_frames,
         "statuses": statuses,
         "refused allocations": refused_allocations,
+        "refused in many": refused_in_many,
         "random scripts": lambda it: random_scripts(it, rounds, seed),
         "clusters": clusters,
     }

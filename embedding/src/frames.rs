@@ -32,6 +32,18 @@ pub fn read(reader: &mut impl Read, frame: &mut Vec<u8>) -> io::Result<bool> {
     Ok(read == length as usize)
 }
 
+/// The frames that the bytes are, one behind the other; nothing where they are no whole frames.
+pub fn inside(mut bytes: &[u8]) -> Option<Vec<&[u8]>> {
+    let mut frames = Vec::new();
+    while !bytes.is_empty() {
+        let (length, rest) = bytes.split_first_chunk()?;
+        let (frame, behind) = rest.split_at_checked(u32::from_be_bytes(*length) as usize)?;
+        frames.push(frame);
+        bytes = behind;
+    }
+    Some(frames)
+}
+
 /// Whether the bytes begin with a whole frame.
 pub fn is_whole(bytes: &[u8]) -> bool {
     bytes.split_first_chunk().is_some_and(|(length, rest)| rest.len() >= u32::from_be_bytes(*length) as usize)
@@ -56,9 +68,17 @@ mod tests {
     }
 
     #[test]
+    fn frames_stand_in_bytes() {
+        assert_eq!(inside(b""), Some(vec![]));
+        assert_eq!(inside(b"\0\0\0\x02ab\0\0\0\0"), Some(vec![&b"ab"[..], b""]));
+        assert_eq!(inside(b"\0\0\0\x02ab\0\0\0"), None);
+    }
+
+    #[test]
     fn a_torn_frame_is_none() {
         for torn in [&b"\0\0\0"[..], b"\0\0\0\x02a", b"\xff\xff\xff\xffabc"] {
             assert!(!is_whole(torn));
+            assert_eq!(inside(torn), None);
             assert!(!read(&mut &*torn, &mut Vec::new()).unwrap());
         }
         assert!(is_whole(b"\0\0\0\0"));

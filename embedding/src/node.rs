@@ -3,8 +3,10 @@
 use crate::answers::{self, Front, Gap, Held, Key, State, Taken};
 use crate::errors::{Error, Status};
 use crate::{frames, requests};
+use std::collections::VecDeque;
 use std::fs::File;
 use std::io::{self, BufReader, Write};
+use std::iter::Peekable;
 use std::net::Shutdown;
 use std::os::fd::{AsRawFd, OwnedFd};
 use std::os::unix::net::UnixStream;
@@ -18,9 +20,15 @@ extern "C" {
 /// The stack of a segment's thread.
 const STACK: usize = 1 << 20;
 
-/// How many requests go unanswered at most: a pipe or a socket holds so many short answers, so that the segment never waits for a
+/// The most takes that one frame holds.
+const MOST: usize = 256;
+
+/// The bytes of takes behind which a frame holds no more. A fact of so many goes in a frame of its own.
+const ENOUGH: usize = 1 << 16;
+
+/// How many frames of takes go unanswered at most: a pipe or a socket holds so many answers, so that the segment never waits for a
 /// reader while this side waits to write.
-const WINDOW: usize = 64;
+const WINDOW: usize = 2;
 
 /// One segment, which other threads and processes do not share.
 ///
@@ -140,35 +148,52 @@ impl Node {
         answers::taken(self.receive()?)
     }
 
-    /// Takes facts in order, and says of each what `take` would; many are on their way at once.
+    /// Takes facts in order, and says of each what `take` would. They go many in a frame, and where the segment lacks memory for the
+    /// answers to one, that is said of each fact in it.
     ///
     /// Its error is `Stopped`; some of the facts have been taken then.
     pub fn take_all<'a>(&mut self, facts: impl IntoIterator<Item = &'a [u8]>) -> Result<Vec<Result<Taken, Error>>, Error> {
-        let (mut facts, mut taken, mut waiting) = (facts.into_iter().fuse(), Vec::new(), 0);
-        loop {
-            let sent = self.send_some(&mut facts, WINDOW - waiting)?;
-            waiting += sent;
-            // While more facts come, half of the window is read before it is filled again.
-            let left = if sent == 0 { 0 } else { WINDOW / 2 };
-            while waiting > left {
-                taken.push(answers::taken(self.receive()?));
-                waiting -= 1;
+        let (mut facts, mut taken, mut waiting) = (facts.into_iter().peekable(), Vec::new(), VecDeque::new());
+        while facts.peek().is_some() {
+            if waiting.len() == WINDOW {
+                let sent = waiting.pop_front().flatten();
+                self.receive_takes(sent, &mut taken)?;
             }
-            if sent == 0 {
-                return Ok(taken);
-            }
+            waiting.push_back(self.send_takes(&mut facts)?);
         }
+        waiting.into_iter().try_for_each(|sent| self.receive_takes(sent, &mut taken))?;
+        Ok(taken)
     }
 
-    /// Sends so many facts at most, and says how many there were.
-    fn send_some<'a>(&mut self, facts: &mut impl Iterator<Item = &'a [u8]>, most: usize) -> Result<usize, Error> {
-        let mut sent = 0;
-        for fact in facts.take(most) {
+    /// Sends a frame of the next facts, and says how many it holds, or nothing for one that goes alone.
+    fn send_takes<'a>(&mut self, facts: &mut Peekable<impl Iterator<Item = &'a [u8]>>) -> Result<Option<usize>, Error> {
+        if let Some(fact) = facts.next_if(|fact| fact.len() >= ENOUGH) {
             frames::append(&mut self.request, &[b"take ", fact]).map_err(|_| self.stopped())?;
-            sent += 1;
+            return self.send().map(|()| None);
         }
-        self.send()?;
-        Ok(sent)
+        let (mut inside, mut count) = (b"many ".to_vec(), 0);
+        while count < MOST && inside.len() < ENOUGH {
+            let Some(fact) = facts.next_if(|fact| fact.len() < ENOUGH) else {
+                break;
+            };
+            frames::append(&mut inside, &[b"take ", fact]).map_err(|_| self.stopped())?;
+            count += 1;
+        }
+        frames::append(&mut self.request, &[&inside]).map_err(|_| self.stopped())?;
+        self.send().map(|()| Some(count))
+    }
+
+    /// Reads the answer to a frame of takes.
+    fn receive_takes(&mut self, sent: Option<usize>, taken: &mut Vec<Result<Taken, Error>>) -> Result<(), Error> {
+        let answer = self.receive()?;
+        match sent {
+            None => taken.push(answers::taken(answer)),
+            Some(count) => match frames::inside(answer) {
+                Some(told) if told.len() == count => taken.extend(told.into_iter().map(answers::taken)),
+                _ => taken.extend((0..count).map(|_| Err(answers::error_of(answer)))),
+            },
+        }
+        Ok(())
     }
 
     // What it knows

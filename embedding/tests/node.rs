@@ -127,6 +127,18 @@ fn batches_are_as_takes() {
     let large = vec![0x55; 300_000];
     let taken = node.take_all(std::iter::repeat_n(large.as_slice(), 100)).unwrap();
     assert_eq!(taken, vec![wire(WireFault::UnknownTag); 100]);
+    let mixed = [record(1002), large, record(1002), record(1003)];
+    let taken = node.take_all(mixed.iter().map(Vec::as_slice)).unwrap();
+    assert_eq!(taken, [Ok(Taken::Changed), wire(WireFault::UnknownTag), Ok(Taken::Unchanged), Ok(Taken::Changed)]);
+}
+
+#[test]
+fn requests_in_one() {
+    let mut node = opened(3);
+    let asked = requests::many([&b"front"[..], &requests::take(&record(4)), b"bogus", b"front"]).unwrap();
+    let answers = frames::inside(node.ask(&asked).unwrap()).unwrap();
+    assert_eq!(answers, [&b"front 0 3 0"[..], b"changed", b"bad request", b"front 0 4 0"]);
+    assert_eq!(node.ask(&asked[..asked.len() - 1]), Ok(&b"bad request"[..]));
 }
 
 #[test]

@@ -19,6 +19,7 @@ use Rattle.hydration.specs.Stagings.{StagingData, piece_at, IsStranger, IsStagin
 use Rattle.hydration.specs.Hydrating.{Hydrates, IsOfState}
 use Rattle.replica.specs.Meaning.{BringsStaging}
 use Rattle.cluster_laws.proofs.Alike.{means_same, same_snapshots}
+use Rattle.replica.proofs.Restarts.{same_or_not}
 
 -- the snapshot is of a state that meant these facts of the log
 pub record IsMade (roster : ℕ) (log facts : List Fact) (d : SnapshotData) : Type 0 where
@@ -53,9 +54,6 @@ content_too d e index (Records rs) pages records later is = (
   subst (λ (all : List RecordData). rs ≡ take max_batch (drop (max_batch * is.0) all)) records is.2,
   is.3,
 )
-
-pub same_or_not : (a b : ℕ) → (a ≡ b) ⊎ (a ≢ b)
-same_or_not a b = grind arith
 
 -- what is not a stranger's is of the staging's name and total
 pub own_piece : (st : StagingData) (p : PieceData) → (IsStranger st p → ⊥) → (p.name ≡ st.name) × (p.total ≡ st.total)

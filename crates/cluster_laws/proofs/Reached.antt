@@ -5,7 +5,7 @@ use Rattle.replica.specs.Machine.{IsReply}
 use Rattle.replica.specs.Parts.{ReplicaData}
 use Rattle.replica.specs.Meaning.{Turn, Runs}
 use Rattle.cluster_laws.specs.Turns.{turns_of}
-use Rattle.cluster_laws.proofs.Made.{same_or_not}
+use Rattle.replica.proofs.Restarts.{same_or_not}
 use Rattle.cluster_laws.proofs.Turned.{own_turn, other_turn}
 
 -- What holds of each node after some turns, and of the turns themselves, holds after one more turn that comes as it should.

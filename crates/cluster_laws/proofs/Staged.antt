@@ -13,7 +13,8 @@ use Rattle.replica.specs.Parts.{ReplicaData}
 use Rattle.replica.specs.Machine.{IsReply}
 use Rattle.cluster_laws.specs.Turns.{frozen_after, staged_after}
 use Rattle.cluster_laws.proofs.Beside.{SnapshotStays, IsFrozen, snapshot_goes, StagingStays, IsGone, IsBegun, HasMore, staging_goes}
-use Rattle.cluster_laws.proofs.Made.{IsMade, IsTold, KeepsMade, IsOfStaged, KeepsStaged, same_or_not}
+use Rattle.cluster_laws.proofs.Made.{IsMade, IsTold, KeepsMade, IsOfStaged, KeepsStaged}
+use Rattle.replica.proofs.Restarts.{same_or_not}
 
 module _ (roster : ℕ) (log facts frozen : List Fact) (asked : Request) (told : Reply) (old new : ReplicaData) where
   pub snapshot_made : Means roster log facts old.cached.segment → KeepsMade roster log frozen old.snapshot → IsReply old asked told new

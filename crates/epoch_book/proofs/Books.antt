@@ -16,23 +16,18 @@ use Rattle.redo_core.specs.declared.facts.Fact.TheVariants.{Cut, Advance}
 use Rattle.epoch_book.specs.Book.{BookData, book_of, roster_of, IsBook}
 use Rattle.epoch_book.specs.Knowing.{KnowsFacts, KnowsMore}
 use Rattle.epoch_book.specs.Learning.{LearnsCut, LearnsAdvance}
-use Rattle.redo_core.proofs.Members.{none_in, here, which, all_members, contains_insert, filtered, passed}
+use Rattle.redo_core.proofs.Members.{none_in, here, all_members, contains_insert, filtered, passed, only}
 use Rattle.redo_core.proofs.Rising.{rising_insert_at, rising_filter}
-use Rattle.epoch_book.proofs.Facts.{cuts_with_cut, advances_with_cut, cuts_with_advance, advances_with_advance, no_cuts, no_advances}
-
--- all truncations up to the complete epoch are there
-pub known_to : (cs : List CutData) (k : ℕ) → IsCompleteEpoch cs k → HasCutsTo cs k
-known_to cs k h = ⊎_elim (λ (e : k ≡ 0). λ n l m. absurd (omega arith)) (λ (p : HasCutsTo cs k). p) h.0
+use Rattle.redo_core.proofs.FactParts.{no_advances}
+use Rattle.redo_core.proofs.CompleteEpochs.{has_cuts}
+use Rattle.epoch_book.proofs.Facts.{cuts_with_cut, advances_with_cut, cuts_with_advance, advances_with_advance, no_cuts}
 
 more_known : (cs ds : List CutData) (k : ℕ) → ((c : CutData) → Contains cs c → Contains ds c) → HasCutsTo cs k → HasCutsTo ds k
 more_known cs ds k part has e l m = let h = has e l m in (h.0, part h.0 h.1, h.2)
 
 -- one truncation more does not lower the complete epoch
 pub epoch_grows : (cs ds : List CutData) (k n : ℕ) → ((c : CutData) → Contains cs c → Contains ds c) → IsCompleteEpoch cs k → IsCompleteEpoch ds n → k ≤ n
-epoch_grows cs ds k n part a b = b.1 k (more_known cs ds k part (known_to cs k a))
-
-pub only : (a b : AdvanceData) → Contains (a ∷ []) b → a ≡ b
-only a b u = ⊎_elim (λ (y : a ≡ b). y) (λ (y : Contains [] b). absurd (none_in b y)) (which a [] b u)
+epoch_grows cs ds k n part a b = b.1 k (more_known cs ds k part (has_cuts cs k a))
 
 -- the points of readers after more advances count
 pub raised_points : (n k j : ℕ) (as' bs given : List AdvanceData) (old new : List ℕ) → ArePoints n as' k old → RaisesPoints j old given new
@@ -194,7 +189,7 @@ cuts_shaped b i c book shaped = inserted (λ d. cut_fault d ≡ None) b.cuts i c
 -- the truncations known before are known with one more
 pub still_known : (b : BookData) (i : ℕ) (c : CutData) → IsBook b → HasCutsTo (insert b.cuts i c) b.complete
 still_known b i c book = more_known b.cuts (insert b.cuts i c) b.complete (λ d h. (contains_insert b.cuts i c d).1 (inl h))
-    (known_to b.cuts b.complete book.complete)
+    (has_cuts b.cuts b.complete book.complete)
 
 pub cut_book : (b : BookData) (i : ℕ) (c : CutData) (k : ℕ) (n : List ℕ) (ws : List AdvanceData) → IsBook b → i ≤ length b.cuts
     → IsPartitionPoint (λ d. d.epoch < c.epoch) (λ d. c.epoch < d.epoch) b.cuts i → cut_fault c ≡ None → c.epoch < 65536 → IsCompleteEpoch (insert b.cuts i c) k

@@ -48,7 +48,3 @@ advances_with_advance facts a b = one_added (advances facts) (advances (facts ++
 pub no_cuts : (d : CutData) → Contains (cuts []) d → ⊥
 unfolding cuts
 no_cuts d h = none_in d h
-
-pub no_advances : (a : AdvanceData) → Contains (advances []) a → ⊥
-unfolding advances
-no_advances a h = none_in a h

@@ -7,7 +7,7 @@ use Rattle.redo_core.specs.Data.{AdvanceData}
 use Rattle.redo_core.specs.Order.{AdvanceBefore}
 use Rattle.epoch_book.specs.Book.{BookData}
 use Rattle.epoch_book.specs.Learning.{KnowsAdvance}
-use Rattle.epoch_book.proofs.Places.{advances_apart}
+use Rattle.redo_core.proofs.Pairs.{advance_apart}
 
 -- no advance at a gap
 no_wait : (ws : List AdvanceData) (a : AdvanceData) (i : ℕ) → IsPartitionPoint (λ w. AdvanceBefore w a) (λ w. AdvanceBefore a w) ws i → Contains ws a → ⊥
@@ -18,7 +18,7 @@ no_wait ws a i gap h = ⊎_elim
     (let t : (h.0 < i) ⊎ (i ≤ h.0) = grind arith in t)
   where
     apart : (w : AdvanceData) → w ≡ a → AdvanceBefore w a → ⊥
-    apart w same b = let own : AdvanceBefore a a = subst (λ x. AdvanceBefore x a) same b in advances_apart a a own own
+    apart w same b = let own : AdvanceBefore a a = subst (λ x. AdvanceBefore x a) same b in advance_apart a a own own
 
 -- whether a search finds an advance
 pub found_wait : (ws : List AdvanceData) (a : AdvanceData) (r : Result ℕ ℕ) → IfOk r (λ i. Contains ws a)

@@ -11,10 +11,10 @@ use Rattle.redo_core.specs.CompleteEpoch.{HasCutsTo}
 use Rattle.std.proofs.lemmas.Grind.{get_or-set_at}
 use Rattle.redo_core.proofs.Members.{none_in, here, which, each, item, contains_insert}
 use Rattle.redo_core.proofs.Rising.{rising_members}
+use Rattle.redo_core.proofs.CompleteEpochs.{has_cuts}
 use Rattle.epoch_book.specs.Book.{BookData, IsBook}
 use Rattle.epoch_book.specs.Scanning.{IsLeastLo}
 use Rattle.epoch_book.specs.Lows.{IsLow, AreLows, CutsAt}
-use Rattle.epoch_book.proofs.Books.{known_to}
 use Rattle.epoch_book.proofs.Scans.{no_cut}
 
 pub shaped_cut : (c : CutData) → cut_fault c ≡ None → (0 < c.epoch) × (c.lo ≤ c.hi) × (c.hi ≤ max_number)
@@ -166,7 +166,7 @@ lows_kept b i c lows book gap shaped are = record {
             (λ (u : d ≡ c).
             let q : d.epoch ≡ c.epoch = ap (λ (x : CutData). x.epoch) u in
             let one : 0 < c.epoch = (shaped_cut c shaped).0 in
-            let t = known_to b.cuts b.complete book.complete c.epoch (omega arith) (omega (arith, up)) in
+            let t = has_cuts b.cuts b.complete book.complete c.epoch (omega arith) (omega (arith, up)) in
             absurd (no_cut b.cuts c.epoch i gap t.0 t.1 t.2))
             ((contains_insert b.cuts i c d).0 h);
       };

@@ -14,8 +14,8 @@ use Rattle.epoch_book.specs.declared.refusals.BookRefusal.{BookRefusal}
 use Rattle.epoch_book.specs.declared.refusals.BookRefusal.TheVariants.{OtherRoster, OtherCut, Contradiction, Memory}
 use Rattle.redo_core.proofs.Members.{item}
 use Rattle.redo_core.proofs.Rising.{rising_members}
+use Rattle.redo_core.proofs.Pairs.{advance_apart}
 use Rattle.epoch_book.proofs.Rising.{one_first}
-use Rattle.epoch_book.proofs.Places.{advances_apart}
 
 -- one truncation an epoch
 pub same_cut : (b : BookData) (c d : CutData) → IsBook b → Contains b.cuts c → Contains b.cuts d → c.epoch ≡ d.epoch → c ≡ d
@@ -53,7 +53,7 @@ one_cut_refusal b c book (Contradiction (Advance a)) (OtherCut d) h k = absurd (
 one_cut_refusal b c book (Contradiction (Advance a)) (Contradiction (Min m)) h k = absurd
     (let p : m ≡ least b.points = k.1 in let q : c.lo < m = k.2 in let r : least b.points ≤ c.lo = h.1 in omega arith)
 one_cut_refusal b c book (Contradiction (Advance a)) (Contradiction (Advance x)) h k = ap (λ w. Contradiction (Advance w))
-    (one_first AdvanceBefore (λ w. Contains b.waits w × Contradict c w) a x advances_apart h.3 k.3)
+    (one_first AdvanceBefore (λ w. Contains b.waits w × Contradict c w) a x advance_apart h.3 k.3)
 one_cut_refusal b c book (Contradiction (Advance a)) (Contradiction (Cut x)) h k = absurd k
 one_cut_refusal b c book (Contradiction (Advance a)) Memory h k = absurd k
 one_cut_refusal b c book (OtherRoster own shown) f h k = absurd h

@@ -10,7 +10,7 @@ use Rattle.redo_core.proofs.Pairs.{advance_apart, advance_trans, same_advance}
 use Rattle.redo_core.proofs.Rising.{rising_by}
 
 -- an order against one thing rises with it
-rank_le : (o p : Ordering) (P Q R S T U : Type 0) → MatchOrdering o P Q R → MatchOrdering p S T U → (Q → S → ⊥) → (R → S → ⊥) → (R → T → ⊥)
+pub rank_le : (o p : Ordering) (P Q R S T U : Type 0) → MatchOrdering o P Q R → MatchOrdering p S T U → (Q → S → ⊥) → (R → S → ⊥) → (R → T → ⊥)
     → ordering_index o ≤ ordering_index p
 rank_le Less p P Q R S T U h k qs rs rt = omega arith
 rank_le Equal Less P Q R S T U h k qs rs rt = absurd (qs h k)
@@ -20,13 +20,13 @@ rank_le Greater Less P Q R S T U h k qs rs rt = absurd (rs h k)
 rank_le Greater Equal P Q R S T U h k qs rs rt = absurd (rt h k)
 rank_le Greater Greater P Q R S T U h k qs rs rt = omega arith
 
-at_less : (o : Ordering) (P Q R : Type 0) → MatchOrdering o P Q R → o ≡ Less → P
+pub at_less : (o : Ordering) (P Q R : Type 0) → MatchOrdering o P Q R → o ≡ Less → P
 at_less o P Q R h e = subst (λ v. MatchOrdering v P Q R) e h
 
-at_equal : (o : Ordering) (P Q R : Type 0) → MatchOrdering o P Q R → o ≡ Equal → Q
+pub at_equal : (o : Ordering) (P Q R : Type 0) → MatchOrdering o P Q R → o ≡ Equal → Q
 at_equal o P Q R h e = subst (λ v. MatchOrdering v P Q R) e h
 
-at_greater : (o : Ordering) (P Q R : Type 0) → MatchOrdering o P Q R → o ≡ Greater → R
+pub at_greater : (o : Ordering) (P Q R : Type 0) → MatchOrdering o P Q R → o ≡ Greater → R
 at_greater o P Q R h e = subst (λ v. MatchOrdering v P Q R) e h
 
 -- truncations by epoch
@@ -61,7 +61,7 @@ epoch_absent cs e (Err i) rise l h =
 abbrev pub advance_cmp : AdvanceData → AdvanceData → Ordering
 advance_cmp a b = ordering_then (ordering_then (nat_cmp a.epoch b.epoch) (nat_cmp a.reader b.reader)) (nat_cmp a.point b.point)
 
-then_at : (o p : Ordering) (P Q R S T U : Type 0) → MatchOrdering o P Q R → MatchOrdering p S T U → MatchOrdering (ordering_then o p) (P ⊎ (Q × S)) (Q × T)
+pub then_at : (o p : Ordering) (P Q R S T U : Type 0) → MatchOrdering o P Q R → MatchOrdering p S T U → MatchOrdering (ordering_then o p) (P ⊎ (Q × S)) (Q × T)
     (R ⊎ (Q × U))
 then_at Less p P Q R S T U h k = inl h
 then_at Equal Less P Q R S T U h k = inr (h, k)
@@ -69,7 +69,7 @@ then_at Equal Equal P Q R S T U h k = (h, k)
 then_at Equal Greater P Q R S T U h k = inr (h, k)
 then_at Greater p P Q R S T U h k = inl h
 
-turned : (o : Ordering) (P Q R P' Q' R' : Type 0) → (P → P') → (Q → Q') → (R → R') → MatchOrdering o P Q R → MatchOrdering o P' Q' R'
+pub turned : (o : Ordering) (P Q R P' Q' R' : Type 0) → (P → P') → (Q → Q') → (R → R') → MatchOrdering o P Q R → MatchOrdering o P' Q' R'
 turned Less P Q R P' Q' R' f g h x = f x
 turned Equal P Q R P' Q' R' f g h x = g x
 turned Greater P Q R P' Q' R' f g h x = h x
@@ -94,9 +94,6 @@ advance_ranked a b =
 
 same_key : (a b : AdvanceData) → ((a.epoch ≡ b.epoch) × (a.reader ≡ b.reader)) × (a.point ≡ b.point) → a ≡ b
 same_key a b q = same_advance a b q.0.0 q.0.1 q.1
-
-pub advances_apart : (a b : AdvanceData) → AdvanceBefore a b → AdvanceBefore b a → ⊥
-advances_apart a b h k = advance_apart a b h k
 
 advances_rise : (ws : List AdvanceData) (x : AdvanceData) → IsRising AdvanceBefore ws → IsNonDecreasingBy (λ a. ordering_index (advance_cmp a x)) ws
 advances_rise ws x r = rising_by AdvanceBefore (λ a. ordering_index (advance_cmp a x)) ws

@@ -4,9 +4,9 @@ use Rattle.std.specs.List.{Contains}
 use Rattle.redo_core.specs.Data.{AdvanceData}
 use Rattle.redo_core.specs.Roster.{IsReader, point_of}
 use Rattle.redo_core.specs.Points.{HasAdvance, RaisesPoints}
-use Rattle.redo_core.proofs.Members.{here}
+use Rattle.redo_core.proofs.Members.{here, only}
 use Rattle.redo_core.proofs.Rising.{front_to, up_to, take_grows}
-use Rattle.epoch_book.proofs.Books.{only, unraised_points}
+use Rattle.epoch_book.proofs.Books.{unraised_points}
 
 pub raises_more : (k : ℕ) (old cur new : List ℕ) (given extra more : List AdvanceData) → RaisesPoints k old given cur → RaisesPoints k cur extra new
     → ((a : AdvanceData) → Contains more a ↔ (Contains given a ⊎ Contains extra a)) → RaisesPoints k old more new

@@ -3,9 +3,9 @@ use Rattle.std.proofs.Common.{◌≡◌, ℕ, zero, suc, ◌<◌, ◌≤◌, ◌
 use Rattle.std.specs.List.{HoldsAt}
 use Rattle.std.specs.List.Sorted.{IsPartitionPoint}
 use Rattle.redo_core.specs.Data.{CutData}
-use Rattle.epoch_book.specs.Scanning.{HasCut}
 use Rattle.epoch_book.specs.Refusing.{LacksCut}
 use Rattle.std.specs.Result.{is_ok}
+use Rattle.redo_core.specs.CompleteEpoch.{HasCut}
 
 -- the truncation at a place
 pub cut_at : (cs : List CutData) (e i : ℕ) → i < length cs → HoldsAt (λ c. c.epoch ≡ e) cs i → HasCut cs e

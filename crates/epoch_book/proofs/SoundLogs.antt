@@ -18,7 +18,7 @@ use Rattle.epoch_book.specs.declared.refusals.BookRefusal.TheVariants.{OtherRost
 use Rattle.redo_core.proofs.Points.{least_le}
 use Rattle.redo_core.proofs.FactParts.{cut_in, advance_in}
 use Rattle.redo_core.proofs.SoundFacts.{kept, same_cut, counted_in, cut_facts}
-use Rattle.epoch_book.proofs.Books.{known_to}
+use Rattle.redo_core.proofs.CompleteEpochs.{has_cuts}
 
 -- no truncation of the log has all readers past it
 none_past : (roster : ℕ) (log : List Fact) (c : CutData) → IsSound roster log → Contains log (Cut c)
@@ -42,7 +42,7 @@ module _ (roster : ℕ) (log : List Fact) (b : BookData) (sound : IsSound roster
   beyond c h lacks =
       let positive : 0 < c.epoch = (cut_facts c (kept roster log (Cut c) sound h).shape).0 in
       ⊎_elim
-      (λ (l : c.epoch ≤ b.complete). let held = known_to b.cuts b.complete known.book.complete c.epoch (omega arith) l in absurd (lacks held.0 held.1 held.2))
+      (λ (l : c.epoch ≤ b.complete). let held = has_cuts b.cuts b.complete known.book.complete c.epoch (omega arith) l in absurd (lacks held.0 held.1 held.2))
       (λ (l : b.complete < c.epoch). l)
       (let t : (c.epoch ≤ b.complete) ⊎ (b.complete < c.epoch) = grind arith in t)
 

@@ -3,10 +3,6 @@ use Rattle.std.specs.Prelude.{◌≡◌, ℕ, ◌<◌, ◌≤◌, List, Option, 
 use Rattle.std.specs.List.{Contains}
 use Rattle.redo_core.specs.Data.{CutData}
 
--- there is a truncation of this epoch
-abbrev pub HasCut : List CutData → ℕ → Type 0
-HasCut cs epoch = (c : CutData) × Contains cs c × (c.epoch ≡ epoch)
-
 -- the least lo of the truncations of epochs above one and up to another, or none where there is no such truncation
 abbrev pub IsLeastLo : List CutData → ℕ → ℕ → Option ℕ → Type 0
 IsLeastLo cs above to None = (c : CutData) → Contains cs c → above < c.epoch → c.epoch ≤ to → ⊥

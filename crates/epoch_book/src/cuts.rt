@@ -4,10 +4,9 @@ ghost use Rattle.std.specs.List.Sorted.{IsPartitionPoint};
 ghost use Rattle.redo_core.specs.Data.{CutData};
 ghost use Rattle.redo_core.specs.Shape.{cut_fault, epoch_count};
 ghost use Rattle.redo_core.specs.Order.{IsRising, CutBefore};
-ghost use Rattle.redo_core.specs.CompleteEpoch.{HasCutsTo, IsCompleteEpoch};
+ghost use Rattle.redo_core.specs.CompleteEpoch.{HasCutsTo, IsCompleteEpoch, HasCut};
 ghost use Rattle.redo_core.specs.Roster.{IsReader};
 ghost use Rattle.epoch_book.specs.Refusing.{CutsBelow, IsFirst};
-ghost use Rattle.epoch_book.specs.Scanning.{HasCut};
 
 use crate::points::others_past;
 use redo_core::{Advance, Cut, ReadPoints};

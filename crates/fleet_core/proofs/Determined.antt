@@ -21,6 +21,7 @@ use Rattle.gossip_core.specs.Answering.{listed_key}
 use Rattle.gossip_core.specs.declared.answering.Shown.{Shown}
 use Rattle.gossip_core.specs.declared.answering.Shown.TheVariants.{Anchor as OfAnchor, Key as OfKey}
 use Rattle.redo_core.proofs.Members.{none_in, which}
+use Rattle.redo_core.proofs.Listing.{all_push}
 use Rattle.redo_laws.proofs.Union.{both}
 use Rattle.segment_core.specs.Reading.{IsFrontAt}
 use Rattle.segment_core.specs.declared.answers.Front.{Front}
@@ -30,15 +31,15 @@ use Rattle.fleet_steps.specs.declared.steps.Step.TheVariants as step
 use Rattle.fleet_core.specs.declared.replies.Reply.{Reply}
 use Rattle.fleet_core.specs.declared.replies.Reply.TheVariants.{Changed, Unchanged, Folded, Front as FrontIs, Joined, Answer, Wiped, NoNode, Memory}
 use Rattle.fleet_core.specs.declared.replies.Reply.TheVariants.{Message as MessageIs, Absorbed, Uncovered, NoMessage}
-use Rattle.fleet_core.specs.Machine.{Message, Machine, facts_of, numbered, asked_by, asked_in, answered_by, answered_in, brought_by, facts_after}
+use Rattle.fleet_core.specs.Machine.{Message, Machine, node_facts, numbered, asked_by, asked_in, answered_by, answered_in, brought_by, facts_after}
 use Rattle.fleet_core.specs.Machine.{answers_to, messages_after, after}
 use Rattle.fleet_core.specs.Machine.Message.{Asked, Answered}
 use Rattle.fleet_core.specs.Replies.{RepliesTake, RepliesFront, RepliesRead, RepliesSame, RepliesCovers, reply_of, NodeReplies, Replies, HasCome}
-use Rattle.fleet_core.specs.Replies.{keys_of, summary_of, LeavesUncovered, RepliesAbsorb, Makes}
+use Rattle.fleet_core.specs.Replies.{keys_of, summary_of_meaning, LeavesUncovered, RepliesAbsorb, RepliesNumber}
 use Rattle.fleet_core.specs.Runs.{TakesFrom, AreReplies}
 use Rattle.fleet_core.specs.Laws.{IsMessageOf, IsMachineOf, OneReply, OneRun}
 use Rattle.fleet_core.proofs.Places.{all_at, all_set}
-use Rattle.fleet_core.proofs.Numbering.{number_has, all_more}
+use Rattle.fleet_core.proofs.Numbering.{number_has}
 
 -- ---- a node has one reply
 
@@ -108,7 +109,7 @@ one_covers roster log facts others r s sound part its h k =
 
 -- what is not answered for is one thing, and then not everything is answered for
 
-not_both : (facts : List Fact) (p : Position) (m : Meaning) (shown : Shown) → AnswersFor facts p (summary_of m) → LeavesUncovered facts p m shown → ⊥
+not_both : (facts : List Fact) (p : Position) (m : Meaning) (shown : Shown) → AnswersFor facts p (summary_of_meaning m) → LeavesUncovered facts p m shown → ⊥
 not_both facts p m (OfAnchor a) all h = let low : m.anchor ≤ p.anchor = all.anchor in
     omega (arith, low, h.1)
 not_both facts p m (OfKey key) all h = h.1.has.1 (all.keys (listed_key key) (in_map listed_key (keys_of m) key h.1.has.0))
@@ -133,15 +134,15 @@ one_absorb roster log facts asked r s sound its h k =
     let m = meaning.0 in
     let p = k.p in
     let Tells : Position → Reply → Type 0 =
-    λ q t. ((t ≡ Absorbed) × AnswersFor facts q (summary_of m)) ⊎ ((shown : Shown) × (t ≡ Uncovered shown) × LeavesUncovered facts q m shown) in
+    λ q t. ((t ≡ Absorbed) × AnswersFor facts q (summary_of_meaning m)) ⊎ ((shown : Shown) × (t ≡ Uncovered shown) × LeavesUncovered facts q m shown) in
     let one : Tells p r = subst (λ q. Tells q r) (one_place facts h.p k.p h.position k.position) (h.tells m meaning.1) in
     ⊎_elim
-    (λ (x : (r ≡ Absorbed) × AnswersFor facts p (summary_of m)). ⊎_elim
-    (λ (y : (s ≡ Absorbed) × AnswersFor facts p (summary_of m)). x.0 ∙ sym y.0)
+    (λ (x : (r ≡ Absorbed) × AnswersFor facts p (summary_of_meaning m)). ⊎_elim
+    (λ (y : (s ≡ Absorbed) × AnswersFor facts p (summary_of_meaning m)). x.0 ∙ sym y.0)
     (λ (y : (shown : Shown) × (s ≡ Uncovered shown) × LeavesUncovered facts p m shown). absurd (not_both facts p m y.0 x.1 y.2))
     (k.tells m meaning.1))
     (λ (x : (shown : Shown) × (r ≡ Uncovered shown) × LeavesUncovered facts p m shown). ⊎_elim
-    (λ (y : (s ≡ Absorbed) × AnswersFor facts p (summary_of m)). absurd (not_both facts p m x.0 y.1 x.2))
+    (λ (y : (s ≡ Absorbed) × AnswersFor facts p (summary_of_meaning m)). absurd (not_both facts p m x.0 y.1 x.2))
     (λ (y : (shown : Shown) × (s ≡ Uncovered shown) × LeavesUncovered facts p m shown).
     x.1 ∙ ap (λ z. Uncovered z) (one_shown facts p m x.0 y.0 x.2 y.2) ∙ sym y.1)
     (k.tells m meaning.1))
@@ -205,7 +206,7 @@ one_of_node roster log facts others messages (step.Wipe i) r s sound part its al
 one_of_node roster log facts others messages (step.Ask i) r s sound part its all h k =
     one_of_two r s (λ t. t ≡ MessageIs (length messages + 1)) (λ x y. x ∙ sym y) h k
 one_of_node roster log facts others messages (step.Answer i n) r s sound part its all h k = λ come came.
-    one_if_there (asked_in messages n) n (λ asked. Makes messages) r s h k
+    one_if_there (asked_in messages n) n (λ asked. RepliesNumber messages) r s h k
     (λ asked there x y. one_of_two r s (λ t. t ≡ MessageIs (length messages + 1)) (λ e f. e ∙ sym f) x y come came)
 one_of_node roster log facts others messages (step.Absorb i n) r s sound part its all h k = λ come came.
     one_if_there (answered_in messages n) n (λ a t. (t ≡ Memory) ⊎ RepliesAbsorb roster facts a.0 t) r s h k
@@ -217,7 +218,7 @@ one_of_node roster log facts others messages (step.Absorb i n) r s sound part it
 none_of : (log : List Fact) → IsPart [] log
 none_of log x h = absurd (none_in x h)
 
-part_of : (log : List Fact) (m : Machine) (node : ℕ) → IsMachineOf log m → IsPart (facts_of m node) log
+part_of : (log : List Fact) (m : Machine) (node : ℕ) → IsMachineOf log m → IsPart (node_facts m node) log
 part_of log m node of = all_at (λ facts. IsPart facts log) m.nodes (node - 1) [] (none_of log) of.nodes
 
 one_matched : (o : Option ℕ) (P : Reply → Type 0) (r s : Reply) → MatchOption o (P r) (λ i. r ≡ NoNode i) → MatchOption o (P s) (λ i. s ≡ NoNode i)
@@ -228,7 +229,7 @@ one_matched (Some i) P r s h k one = h ∙ sym k
 pub one_reply : OneReply
 one_reply roster log m x r s sound of h k come came =
     one_matched (first_missing (length m.nodes) (nodes_of x)) (Replies roster m x) r s h k
-    (λ p q. one_of_node roster log (facts_of m (node_of x)) (facts_of m (other_of x)) m.messages x r s sound (part_of log m (node_of x) of)
+    (λ p q. one_of_node roster log (node_facts m (node_of x)) (node_facts m (other_of x)) m.messages x r s sound (part_of log m (node_of x) of)
     (part_of log m (other_of x) of) of.messages p q come came)
 
 -- ---- scripts
@@ -259,19 +260,19 @@ none_more P (x ∷ xs) all = (all.0, none_more P xs all.1)
 with_answer : (log : List Fact) (messages : List Message) (facts : List Fact) (o : Option (List Fact)) → AllByRecursion (IsMessageOf log) messages
     → IsPart facts log → ((x : List Fact) → o ≡ Some x → IsPart x log) → AllByRecursion (IsMessageOf log) (messages ++ answers_to o facts)
 with_answer log messages facts None all part parts = none_more (IsMessageOf log) messages all
-with_answer log messages facts (Some asked) all part parts = all_more (IsMessageOf log) messages (Answered asked facts) all (parts asked refl, part)
+with_answer log messages facts (Some asked) all part parts = all_push (IsMessageOf log) messages (Answered asked facts) all (parts asked refl, part)
 
 messages_part : (log : List Fact) (messages : List Message) (facts : List Fact) (x : Step Fact) (r : Reply) → AllByRecursion (IsMessageOf log) messages
     → IsPart facts log → AllByRecursion (IsMessageOf log) (messages_after messages facts x r)
-messages_part log messages facts (step.Ask i) (MessageIs n) all part = all_more (IsMessageOf log) messages (Asked facts) all part
+messages_part log messages facts (step.Ask i) (MessageIs n) all part = all_push (IsMessageOf log) messages (Asked facts) all part
 messages_part log messages facts (step.Answer i k) (MessageIs n) all part =
     with_answer log messages facts (asked_in messages k) all part (asked_part log messages all k)
 messages_part log messages facts x r all part = all
 
 machine_of_after : (log : List Fact) (m : Machine) (x : Step Fact) (r : Reply) → IsMachineOf log m → TakesFrom log x → IsMachineOf log (after m x r)
 machine_of_after log m x r of takes =
-    let facts = facts_of m (node_of x) in
-    let others = facts_of m (other_of x) in
+    let facts = node_facts m (node_of x) in
+    let others = node_facts m (other_of x) in
     let own = part_of log m (node_of x) of in
     let part = part_after log facts others m.messages x r own (part_of log m (other_of x) of) of.messages takes in
     record {

@@ -25,7 +25,7 @@ use Rattle.fleet_core.specs.declared.messages.Made.TheVariants.{Question, Answer
 use Rattle.fleet_core.specs.Machine.{Message, asked_in, answered_in, answers_to, brought_by, facts_after, messages_after}
 use Rattle.fleet_core.specs.Machine.Message.{Asked, Answered}
 use Rattle.fleet_core.specs.Replies.{RepliesAbsorb, NodeReplies}
-use Rattle.fleet_core.specs.Replies.{Makes as MakesOne}
+use Rattle.fleet_core.specs.Replies.{RepliesNumber}
 use Rattle.fleet_core.specs.Replying.{fault_reply, refusal_reply, absorbed_reply}
 use Rattle.fleet_core.specs.Messages.{question_in, answer_in, AsksWith, AnswersWith, IsMade, AreMade}
 use Rattle.fleet_core.specs.MessageCalls.{Makes, SumsUp, Asks, RepliesTo, MakesAnswer, AnswersQuestion, AnswersNumber}
@@ -86,8 +86,8 @@ answered_by_result : {roster : ℕ} {log facts : List Fact} {messages : List Mes
     → Follows roster log facts others messages (step.Answer node number) reply s later
 answered_by_result {roster} {log} {facts} {messages} {s} {made} h others node number asked summary there kept asks (Ok delta) replies reply later makes =
     let Goal : Reply → List Made → Type 0 = λ r l. Follows roster log facts others messages (step.Answer node number) r s l in
-    let told : (r : Reply) → MakesOne messages r → MatchOption (asked_in messages number) (r ≡ NoMessage number) (λ asked. MakesOne messages r) =
-    λ r is. subst (λ o. MatchOption o (r ≡ NoMessage number) (λ asked. MakesOne messages r)) (sym there) is in
+    let told : (r : Reply) → RepliesNumber messages r → MatchOption (asked_in messages number) (r ≡ NoMessage number) (λ asked. RepliesNumber messages r) =
+    λ r is. subst (λ o. MatchOption o (r ≡ NoMessage number) (λ asked. RepliesNumber messages r)) (sym there) is in
     let with : AnswersWith roster log facts summary delta = record {
       part = h.means.1.part;
       p = h.means.0;
@@ -112,8 +112,8 @@ answered_by_result {roster} {log} {facts} {messages} {s} {made} h others node nu
     let Goal : Reply → List Made → Type 0 = λ r l. Follows roster log facts others messages (step.Answer node number) r s l in
     let e : why ≡ fault.Memory = replies.sound (roster, log, facts, h.sound, h.means) in
     let is : reply ≡ Memory = subst (λ w. reply ≡ fault_reply w) e makes.0 in
-    let told : MatchOption (asked_in messages number) (Memory ≡ NoMessage number) (λ asked. MakesOne messages Memory) =
-    subst (λ o. MatchOption o (Memory ≡ NoMessage number) (λ asked. MakesOne messages Memory)) (sym there) (inl refl) in
+    let told : MatchOption (asked_in messages number) (Memory ≡ NoMessage number) (λ asked. RepliesNumber messages Memory) =
+    subst (λ o. MatchOption o (Memory ≡ NoMessage number) (λ asked. RepliesNumber messages Memory)) (sym there) (inl refl) in
     subst (λ r. Goal r later) (sym is) (subst (λ l. Goal Memory l) (sym makes.1) (told, h.means, h.are))
 
 pub follows_answer : (readers : ℕ) (s : State) (other : Option State) (made : List Made) (node number : ℕ) (reply : Reply) (later : List Made)
@@ -126,8 +126,8 @@ follows_answer readers s other made node number reply later calls = λ roster lo
     ⊎_elim
     (λ (none : (asked_in messages number ≡ None) × (question_in made number ≡ None)).
     let call : (reply ≡ NoMessage number) × (later ≡ made) = subst Called none.1 calls in
-    let told : MatchOption (asked_in messages number) (NoMessage number ≡ NoMessage number) (λ asked. MakesOne messages (NoMessage number)) =
-    subst (λ o. MatchOption o (NoMessage number ≡ NoMessage number) (λ asked. MakesOne messages (NoMessage number))) (sym none.0) refl in
+    let told : MatchOption (asked_in messages number) (NoMessage number ≡ NoMessage number) (λ asked. RepliesNumber messages (NoMessage number)) =
+    subst (λ o. MatchOption o (NoMessage number ≡ NoMessage number) (λ asked. RepliesNumber messages (NoMessage number))) (sym none.0) refl in
     subst (λ r. Goal r later) (sym call.0) (subst (λ l. Goal (NoMessage number) l) (sym call.1) (told, means, are)))
     (λ (some : (asked : List Fact) × (summary : SummaryData) × (asked_in messages number ≡ Some asked) × (question_in made number ≡ Some summary)
     × AsksWith roster log asked summary).

@@ -10,7 +10,7 @@ use Rattle.segment_state.specs.Means.{Means, MeansAt}
 use Rattle.segment_state.specs.HasMeaning.{HasAnchor, IsLinkedIn}
 use Rattle.segment_state.specs.Promises.{TakesFact, KeepsMeaning, KeepsMeaningWith, IsFinalPage}
 use Rattle.redo_core.specs.PageAt.{IsPageAt}
-use Rattle.redo_laws.proofs.Numbers.{greatest_unique}
+use Rattle.redo_core.proofs.Numbers.{greatest_unique}
 use Rattle.segment_core.specs.Folding.{IsFoldOf, PlansFold, RefusesCommit}
 use Rattle.segment_core.specs.declared.fold_plan.Folded.{Folded}
 use Rattle.segment_core.specs.declared.fold_plan.CommitFault.TheVariants as commit

@@ -11,7 +11,7 @@ use Rattle.segment_state.proofs.Bare.{empty_means}
 use Rattle.fleet_core.specs.Machine.{empty_machine}
 use Rattle.fleet_core.specs.Runs.{MeansMachine}
 use Rattle.fleet_core.specs.FleetState.{empty_fleet}
-use Rattle.fleet_core.specs.Headline.{Headline, CoversByParts}
+use Rattle.fleet_core.specs.Headline.{Headline, NodesCoverByParts}
 use Rattle.fleet_core.proofs.Nodes.{none_mean}
 
 each_answers : StatesAnswer → (roster : ℕ) (log : List Fact) → IsSound roster log
@@ -40,7 +40,7 @@ headline answer least = record {
   merging = least;
 }
 
-pub covers_by_parts : OrderByParts → CoversByParts
+pub covers_by_parts : OrderByParts → NodesCoverByParts
 covers_by_parts order roster log facts others y x reply sound part other means_y means_x r =
     let covers = r.tells y x means_y means_x in
     let parts = order roster log others facts x y sound other part means_x means_y in

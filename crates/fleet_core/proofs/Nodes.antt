@@ -16,7 +16,7 @@ use Rattle.fleet_core.specs.declared.replies.Reply.{Reply}
 use Rattle.fleet_core.specs.declared.replies.Reply.TheVariants.{NoNode, NoMessage}
 use Rattle.fleet_core.specs.declared.messages.Made.{Made}
 use Rattle.fleet_core.specs.Messages.{LacksMessage}
-use Rattle.fleet_core.specs.Machine.{Message, Machine, facts_of, facts_after, messages_after, after}
+use Rattle.fleet_core.specs.Machine.{Message, Machine, node_facts, facts_after, messages_after, after}
 use Rattle.fleet_core.specs.Replies.{Replies}
 use Rattle.fleet_core.specs.FleetState.{FleetState, other_than}
 use Rattle.fleet_core.specs.Refused.{IsRefusal}
@@ -29,7 +29,7 @@ use Rattle.segment_core.proofs.BlockChain.{no_link}
 -- ---- a named node that is not there
 
 -- nothing has changed
-as_left : (m : Machine) (node : ℕ) (facts : List Fact) (messages : List Message) → facts_of m node ≡ facts → m.messages ≡ messages
+as_left : (m : Machine) (node : ℕ) (facts : List Fact) (messages : List Message) → node_facts m node ≡ facts → m.messages ≡ messages
     → m ≡ (let n : Machine = record { nodes = set m.nodes (node - 1) facts; messages = messages } in n)
 as_left m node facts messages own kept =
     ap (λ (nodes : List (List Fact)). let n : Machine = record { nodes = nodes; messages = m.messages } in n)
@@ -66,8 +66,8 @@ none_made messages facts (step.Absorb node message) i = refl
 
 after_no_node : (m : Machine) (s : Step Fact) (i : ℕ) → m ≡ after m s (NoNode i)
 after_no_node m s i =
-    let facts = facts_of m (node_of s) in
-    let others = facts_of m (other_of s) in
+    let facts = node_facts m (node_of s) in
+    let others = node_facts m (other_of s) in
     as_left m (node_of s) (facts_after facts others m.messages s (NoNode i)) (messages_after m.messages facts s (NoNode i))
     (as_they_were facts others m.messages s i) (none_made m.messages facts s i)
 
@@ -116,8 +116,8 @@ follows_at fleet s reply new made place other at out = λ roster log m sound tak
     let low : place ≡ node_of s - 1 = omega (arith, at.node) in
     let aside : other ≡ other_of s - 1 = omega (arith, at.beside) in
     let old : State = out.before in
-    let facts = facts_of m (node_of s) in
-    let others = facts_of m (other_of s) in
+    let facts = node_facts m (node_of s) in
+    let others = node_facts m (other_of s) in
     let own : Mean (get_or m.nodes place []) (get_or fleet.segments place old) =
     zip_at Mean m.nodes fleet.segments place [] old mean.nodes (omega (arith, at.node, there.high)) in
     let its : Mean (get_or m.nodes other []) (get_or fleet.segments other old) =

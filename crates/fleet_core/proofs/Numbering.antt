@@ -10,6 +10,7 @@ use Rattle.fleet_core.specs.declared.messages.Made.TheVariants.{Question, Answer
 use Rattle.fleet_core.specs.Machine.{Message, numbered, asked_by, answered_by}
 use Rattle.fleet_core.specs.Machine.Message.{Asked, Answered}
 use Rattle.fleet_core.specs.Messages.{question_by, question_in, beside_question, answer_by, AsksWith, AnswersWith, IsMade, AreMade}
+use Rattle.redo_core.proofs.ByPlace.{at_longer}
 
 -- ---- two lists, place by place
 
@@ -45,10 +46,6 @@ zip_more R S wider [] (b ∷ bs) x y all one = absurd all
 zip_more R S wider (a ∷ as') [] x y all one = absurd all
 zip_more R S wider (a ∷ as') (b ∷ bs) x y all one = (wider a b all.0, zip_more R S wider as' bs x y all.1 one)
 
-pub all_more : {A : Type 0} (P : A → Type 0) (xs : List A) (x : A) → AllByRecursion P xs → P x → AllByRecursion P (xs ++ x ∷ [])
-all_more P [] x all one = (one, tt)
-all_more P (y ∷ ys) x all one = (all.0, all_more P ys x all.1 one)
-
 place_has : {A : Type 0} (P : A → Type 0) (xs : List A) (i : ℕ) (x : A) → AllByRecursion P xs → slice_get xs i ≡ Some x → P x
 place_has P [] i x all at = absurd (cc)
 place_has P (y ∷ ys) zero x all at = let e : y ≡ x = cc in subst P e all.0
@@ -60,14 +57,9 @@ number_has P xs (suc i) x all at = place_has P xs i x all at
 
 -- ---- a list that has grown
 
-still_placed : {A : Type 0} (xs more : List A) (i : ℕ) (x : A) → slice_get xs i ≡ Some x → slice_get (xs ++ more) i ≡ Some x
-still_placed [] more i x at = absurd (cc)
-still_placed (y ∷ ys) more zero x at = at
-still_placed (y ∷ ys) more (suc i) x at = still_placed ys more i x at
-
 still_numbered : {A : Type 0} (xs more : List A) (n : ℕ) (x : A) → numbered xs n ≡ Some x → numbered (xs ++ more) n ≡ Some x
 still_numbered xs more zero x at = absurd (cc)
-still_numbered xs more (suc i) x at = still_placed xs more i x at
+still_numbered xs more (suc i) x at = at_longer xs more i x at
 
 still_asked_by : (made more : List Made) (n : ℕ) (s : SummaryData) (o : Option Made) → o ≡ numbered made n → question_by o ≡ Some s
     → question_in (made ++ more) n ≡ Some s

@@ -16,45 +16,21 @@ use Rattle.segment_state.specs.HasMeaning.{HasAnchor}
 use Rattle.segment_state.specs.Gossip.{Listing, IsAccounted, AnswersFor}
 use Rattle.segment_state.proofs.Own.{anchor_law}
 use Rattle.gossip_core.specs.Summarizing.{IsSummaryOf}
-use Rattle.gossip_core.specs.Answering.{IsCovered, IsMissing, IsUncovered, listed_key, listing_of}
+use Rattle.gossip_core.specs.Answering.{IsCovered, IsUncoveredKey, IsUncovered, listed_key, listing_of}
 use Rattle.gossip_core.specs.declared.answering.Shown.{Shown}
 use Rattle.gossip_core.specs.declared.answering.Shown.TheVariants.{Anchor as OfAnchor, Key as OfKey}
 use Rattle.gossip_core.proofs.AnsweringFacts.{answers_for, tells_answer}
-use Rattle.fleet_core.specs.Replies.{keys_of, summary_of, LeavesUncovered}
+use Rattle.fleet_core.specs.Replies.{keys_of, summary_of_meaning, LeavesUncovered}
+use Rattle.gossip_core.proofs.Uncovering.{accounted, not_accounted}
 
 -- the summary of a meaning, as messages carry it and as the machine speaks of it
-same_summary : (m : Meaning) (x : SummaryData) → IsSummaryOf m x → listing_of x ≡ summary_of m
+same_summary : (m : Meaning) (x : SummaryData) → IsSummaryOf m x → listing_of x ≡ summary_of_meaning m
 same_summary m x of =
     ap (λ a. let l : Listing = record { anchor = a; keys = map listed_key x.keys } in l) of.anchor
     ∙ ap (λ (keys : List Key). let l : Listing = record { anchor = m.anchor; keys = map listed_key keys } in l) of.keys
 
 module _ (roster : ℕ) (log F : List Fact) (f : Position) (s : State) (sound : IsSound roster log) (means : MeansAt roster log F f s) (anchor : ℕ)
     (has : HasAnchor s anchor) where
-  -- a summary of one key
-  one : SummaryData → Key → SummaryData
-  one x key = record { book = x.book; anchor = 0; keys = key ∷ [] }
-
-  accounted : SummaryData → (key : Key) → IsCovered s anchor key → IsAccounted F f (listed_key key)
-  unfolding one
-  accounted x key covers =
-      let all = all_members (IsCovered s anchor) (key ∷ [])
-      (λ y h. ⊎_elim (λ (e : key ≡ y). subst (IsCovered s anchor) e covers) (λ (none : Contains [] y). absurd (none_in y none)) (which key [] y h)) in
-      (answers_for roster log F f s sound means (one x key) anchor has (omega arith, all)).keys (listed_key key) (here (listed_key key) [])
-
-  not_accounted : SummaryData → (key : Key) → (IsCovered s anchor key → ⊥) → IsAccounted F f (listed_key key) → ⊥
-  unfolding one
-  not_accounted x key not is =
-      let first : IsFirst KeyBefore (IsMissing s anchor (key ∷ [])) key = record {
-        has = (here key [], not);
-        least = λ y h. ⊎_elim (λ (e : key ≡ y). inl (sym e)) (λ (none : Contains [] y). absurd (none_in y none)) (which key [] y h.0);
-      } in
-      let tells = tells_answer roster log F f s sound means (one x key) anchor has (Some (OfKey key)) (omega arith, first) in
-      let never : Some (OfKey key) ≡ None = tells.1 (record {
-        anchor = omega arith;
-        keys = λ k h. ⊎_elim (λ (e : listed_key key ≡ k). subst (IsAccounted F f) e is) (λ none. absurd (none_in k none)) (which (listed_key key) [] k h);
-      }) in
-      absurd (cc)
-
   pub leaves_uncovered : (m : Meaning) (x : SummaryData) (shown : Shown) → IsSummaryOf m x → IsUncovered s anchor x (Some shown)
       → LeavesUncovered F f m shown
   leaves_uncovered m x (OfAnchor a) of is =
@@ -67,10 +43,10 @@ module _ (roster : ℕ) (log F : List Fact) (f : Position) (s : State) (sound : 
       let keys : x.keys ≡ keys_of m = of.keys in (
         omega (arith, at, same, is.0),
         record {
-          has = (subst (λ (ks : List Key). Contains ks key) keys is.1.has.0, not_accounted x key is.1.has.1);
-          least = λ y lacks. is.1.least y (subst (λ (ks : List Key). Contains ks y) (sym keys) lacks.0, λ covers. lacks.1 (accounted x y covers));
+          has = (subst (λ (ks : List Key). Contains ks key) keys is.1.has.0, not_accounted roster log F f s sound means anchor has x key is.1.has.1);
+          least = λ y lacks. is.1.least y (subst (λ (ks : List Key). Contains ks y) (sym keys) lacks.0, λ covers. lacks.1 (accounted roster log F f s sound means anchor has x y covers));
         },
       )
 
-  pub answers_meaning : (m : Meaning) (x : SummaryData) → IsSummaryOf m x → IsUncovered s anchor x None → AnswersFor F f (summary_of m)
+  pub answers_meaning : (m : Meaning) (x : SummaryData) → IsSummaryOf m x → IsUncovered s anchor x None → AnswersFor F f (summary_of_meaning m)
   answers_meaning m x of is = subst (AnswersFor F f) (same_summary m x of) (answers_for roster log F f s sound means x anchor has is)

@@ -96,8 +96,8 @@ abbrev pub TellsCovers : State → State → Bool → Type 0
 TellsCovers upper lower answer = (y x : Meaning) → HasMeaning upper y → HasMeaning lower x → IsTrue answer ↔ Covers y x
 
 -- there was no memory, or the reply is an answer that tells this
-abbrev pub Answers : (Bool → Type 0) → Reply → Type 0
-Answers Tells reply = (reply ≡ Memory) ⊎ ((answer : Bool) × Tells answer × (reply ≡ Answer answer))
+abbrev pub RepliesAnswer : (Bool → Type 0) → Reply → Type 0
+RepliesAnswer Tells reply = (reply ≡ Memory) ⊎ ((answer : Bool) × Tells answer × (reply ≡ Answer answer))
 
 -- the segment is as new
 abbrev pub Wipes : ℕ → State → Reply → State → Type 0
@@ -113,9 +113,9 @@ NodeCalls roster old other messages (step.Front node) reply new made = Fronts ol
 NodeCalls roster old other messages (step.Read node page point offset len) reply new made = Reads old page point reply × (new ≡ old) × (made ≡ messages)
 NodeCalls roster old other messages (step.Join node from) reply new made = JoinsBeside old other reply new × (made ≡ messages)
 NodeCalls roster old other messages (step.Same node than) reply new made =
-    Answers (TellsSame old (unwrap_or other old)) reply × (new ≡ old) × (made ≡ messages)
+    RepliesAnswer (TellsSame old (unwrap_or other old)) reply × (new ≡ old) × (made ≡ messages)
 NodeCalls roster old other messages (step.Covers node than) reply new made =
-    Answers (TellsCovers old (unwrap_or other old)) reply × (new ≡ old) × (made ≡ messages)
+    RepliesAnswer (TellsCovers old (unwrap_or other old)) reply × (new ≡ old) × (made ≡ messages)
 NodeCalls roster old other messages (step.Wipe node) reply new made = Wipes roster old reply new × (made ≡ messages)
 NodeCalls roster old other messages (step.Ask node) reply new made = Asks old messages reply made × (new ≡ old)
 NodeCalls roster old other messages (step.Answer node message) reply new made = AnswersNumber old messages message reply made × (new ≡ old)

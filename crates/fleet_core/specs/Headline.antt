@@ -26,8 +26,8 @@ pub record Headline : Type 0 where
   pub merging : LeastUpperBound
 
 -- Whether one node covers another is replied by the order of parts of the log.
-abbrev pub CoversByParts : Type 0
-CoversByParts =
+abbrev pub NodesCoverByParts : Type 0
+NodesCoverByParts =
     (roster : ℕ) (log facts others : List Fact) (y x : Meaning) (reply : Reply)
     → IsSound roster log → IsPart facts log → IsPart others log → IsMeaning roster facts y → IsMeaning roster others x
     → RepliesCovers roster facts others reply

@@ -23,8 +23,8 @@ abbrev pub empty_machine : ℕ → Machine
 empty_machine count = record { nodes = replicate count []; messages = [] }
 
 -- the facts of a node, counted from 1
-abbrev pub facts_of : Machine → ℕ → List Fact
-facts_of m node = slice_index_or m.nodes (node - 1) []
+abbrev pub node_facts : Machine → ℕ → List Fact
+node_facts m node = slice_index_or m.nodes (node - 1) []
 
 -- ---- messages by their numbers
 -- the message of a number, counted from 1; none where there is none
@@ -78,6 +78,6 @@ messages_after messages facts step reply = messages
 -- the machine after a step and its reply: no node changes but the step's
 abbrev pub after : Machine → Step Fact → Reply → Machine
 after m step reply = record {
-  nodes = set m.nodes (node_of step - 1) (facts_after (facts_of m (node_of step)) (facts_of m (other_of step)) m.messages step reply);
-  messages = messages_after m.messages (facts_of m (node_of step)) step reply;
+  nodes = set m.nodes (node_of step - 1) (facts_after (node_facts m (node_of step)) (node_facts m (other_of step)) m.messages step reply);
+  messages = messages_after m.messages (node_facts m (node_of step)) step reply;
 }

@@ -24,7 +24,7 @@ use Rattle.fleet_core.specs.declared.replies.Reply.{Reply}
 use Rattle.fleet_core.specs.declared.replies.Reply.TheVariants.{Changed, Unchanged, Folded, Discarded, Front as FrontIs, Page, Below}
 use Rattle.fleet_core.specs.declared.replies.Reply.TheVariants.{Above, Joined, Answer, Wiped, NoNode, Memory}
 use Rattle.fleet_core.specs.declared.replies.Reply.TheVariants.{Message as MessageIs, Absorbed, Uncovered, NoMessage}
-use Rattle.fleet_core.specs.Machine.{Message, Machine, facts_of, asked_in, answered_in}
+use Rattle.fleet_core.specs.Machine.{Message, Machine, node_facts, asked_in, answered_in}
 
 -- the facts, and the facts with one more, have one meaning
 abbrev pub HasOneMeaningWith : ℕ → List Fact → Fact → Type 0
@@ -78,8 +78,8 @@ abbrev pub keys_of : Meaning → List Key
 keys_of m = map wire_key m.kept
 
 -- the summary of a meaning
-abbrev pub summary_of : Meaning → Listing
-summary_of m = record { anchor = m.anchor; keys = map listed_key (keys_of m) }
+abbrev pub summary_of_meaning : Meaning → Listing
+summary_of_meaning m = record { anchor = m.anchor; keys = map listed_key (keys_of m) }
 
 -- the summary has a key that facts which stand at p do not account for
 abbrev pub LacksKey : List Fact → Position → Meaning → Key → Type 0
@@ -95,11 +95,11 @@ pub record RepliesAbsorb (roster : ℕ) (facts asked : List Fact) (reply : Reply
   pub p : Position
   pub position : IsPosition roster facts p
   pub tells : (m : Meaning) → IsMeaning roster asked m
-      → ((reply ≡ Absorbed) × AnswersFor facts p (summary_of m)) ⊎ ((shown : Shown) × (reply ≡ Uncovered shown) × LeavesUncovered facts p m shown)
+      → ((reply ≡ Absorbed) × AnswersFor facts p (summary_of_meaning m)) ⊎ ((shown : Shown) × (reply ≡ Uncovered shown) × LeavesUncovered facts p m shown)
 
 -- a new message has the next number
-abbrev pub Makes : List Message → Reply → Type 0
-Makes messages reply = (reply ≡ Memory) ⊎ (reply ≡ MessageIs (length messages + 1))
+abbrev pub RepliesNumber : List Message → Reply → Type 0
+RepliesNumber messages reply = (reply ≡ Memory) ⊎ (reply ≡ MessageIs (length messages + 1))
 
 -- What a node with these facts replies to a step, where `others` are those of the other node that it names. A fold, a discard, a
 -- join, a wipe, and the making of a message are answered without a look at the facts. A step that found no memory counts as not
@@ -114,15 +114,15 @@ NodeReplies roster facts others messages (step.Join node from) reply = (reply �
 NodeReplies roster facts others messages (step.Same node other) reply = (reply ≡ Memory) ⊎ RepliesSame roster facts others reply
 NodeReplies roster facts others messages (step.Covers node other) reply = (reply ≡ Memory) ⊎ RepliesCovers roster facts others reply
 NodeReplies roster facts others messages (step.Wipe node) reply = (reply ≡ Memory) ⊎ (reply ≡ Wiped)
-NodeReplies roster facts others messages (step.Ask node) reply = Makes messages reply
+NodeReplies roster facts others messages (step.Ask node) reply = RepliesNumber messages reply
 NodeReplies roster facts others messages (step.Answer node message) reply =
-    MatchOption (asked_in messages message) (reply ≡ NoMessage message) (λ asked. Makes messages reply)
+    MatchOption (asked_in messages message) (reply ≡ NoMessage message) (λ asked. RepliesNumber messages reply)
 NodeReplies roster facts others messages (step.Absorb node message) reply =
     MatchOption (answered_in messages message) (reply ≡ NoMessage message) (λ answer. (reply ≡ Memory) ⊎ RepliesAbsorb roster facts answer.0 reply)
 
 -- the reply to a step whose nodes are all there
 abbrev pub Replies : ℕ → Machine → Step Fact → Reply → Type 0
-Replies roster m step reply = NodeReplies roster (facts_of m (node_of step)) (facts_of m (other_of step)) m.messages step reply
+Replies roster m step reply = NodeReplies roster (node_facts m (node_of step)) (node_facts m (other_of step)) m.messages step reply
 
 -- what the machine replies: the first named node that is not there comes before all else
 abbrev pub IsReply : ℕ → Machine → Step Fact → Reply → Type 0

@@ -1,5 +1,5 @@
 //! The laws of the fleet machine, and of the fleets that follow it.
-ghost use Rattle.fleet_core.specs.Headline.{Headline, CoversByParts};
+ghost use Rattle.fleet_core.specs.Headline.{Headline, NodesCoverByParts};
 ghost use Rattle.fleet_core.specs.Laws.{OneReply, OneRun, RunsGoOn, CallsGoOn, MessagesStay};
 
 use redo_laws::{least_upper_bound, order_by_parts};
@@ -16,7 +16,7 @@ pub fn headline()
 
 /// Whether a node covers another one is replied by the order of parts of the log.
 pub fn covers_by_parts()
-    ensures { CoversByParts }
+    ensures { NodesCoverByParts }
 {
     order_by_parts();
 }

@@ -3,7 +3,7 @@ use Rattle.std.specs.Prelude.{◌≡◌, ℕ, List, Some, slice_get}
 use Rattle.redo_core.specs.declared.facts.Fact.{Fact}
 use Rattle.segment_state.specs.State.{State}
 use Rattle.segment_state.specs.Means.{Means}
-use Rattle.node_cell.specs.Kept.{KeptData, IsKept}
+use Rattle.node_cell.specs.Kept.{KeptData, MeansTrail}
 
 -- the segment means some part of the log
 abbrev pub MeansPart : ℕ → List Fact → State → Type 0
@@ -11,4 +11,4 @@ MeansPart roster log s = (facts : List Fact) × Means roster log facts s
 
 -- of each closed node, the segment means a part of the log that has every fact which the node acknowledged
 abbrev pub HasAll : ℕ → List Fact → State → List KeptData → Type 0
-HasAll roster log s closed = (n : ℕ) (c : KeptData) → slice_get closed n ≡ Some c → IsKept roster log s c.trail
+HasAll roster log s closed = (n : ℕ) (c : KeptData) → slice_get closed n ≡ Some c → MeansTrail roster log s c.trail

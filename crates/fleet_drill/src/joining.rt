@@ -1,6 +1,6 @@
 ghost use Rattle.std.specs.Prelude.{◌≡◌, ◌<◌, List, All, IfOk, OnOk, length};
 ghost use Rattle.fleet_drill.specs.Parts.{MeansPart, HasAll};
-ghost use Rattle.node_cell.specs.Kept.{IsKept};
+ghost use Rattle.node_cell.specs.Kept.{MeansTrail};
 ghost use Rattle.node_lock.specs.Trail.{Entry};
 
 use named_log::LogName;
@@ -30,7 +30,7 @@ impl<L: LogName> Model for Joined<L> {
 
 impl<L: LogName> Joined<L> {
     fn copy_of(closed: &Closed<L>) -> Result<Self, AllocError>
-        ensures { IfOk result (λ j. IsKept L.roster L.log j closed.now.trail) }
+        ensures { IfOk result (λ j. MeansTrail L.roster L.log j closed.now.trail) }
     {
         Ok(Joined {
             segment: closed.segment().copy()?,
@@ -47,8 +47,8 @@ impl<L: LogName> Joined<L> {
 
     // Over one log a join is refused for want of memory alone.
     fn take_in(&mut self, other: &Closed<L>) -> Result<(), AllocError>
-        ensures keeps { OnOk result ((trail : List Entry) → IsKept L.roster L.log self.old trail → IsKept L.roster L.log self.new trail) }
-        ensures brings { OnOk result (IsKept L.roster L.log self.new other.now.trail) }
+        ensures keeps { OnOk result ((trail : List Entry) → MeansTrail L.roster L.log self.old trail → MeansTrail L.roster L.log self.new trail) }
+        ensures brings { OnOk result (MeansTrail L.roster L.log self.new other.now.trail) }
     {
         match join(&mut self.segment, other.segment()) {
             Ok(()) => Ok(()),

@@ -29,9 +29,6 @@ spelled_is_read E G text None n only value small h =
 pub none_is_some : {A : Type 0} (o : Option A) (x : A) → o ≡ None → o ≡ Some x → ⊥
 none_is_some o x none some = absurd cc
 
-pub both_some : {A : Type 0} (o : Option A) (x y : A) → o ≡ Some x → o ≡ Some y → x ≡ y
-both_some o x y a b = cc
-
 -- the text of an option, which was found by its entry and stands in its row
 pub given_text : (o : Option (Bor (List ℕ))) (s : Bor (List ℕ)) (text row : Option (List ℕ)) → option_map (λ b. b.now) o ≡ text → text ≡ row → o ≡ Some s
     → row ≡ Some s.now

@@ -3,7 +3,6 @@ use Rattle.std.proofs.Common.{◌≡◌, ℕ, ◌+◌, ◌-◌, ◌<◌, List, [
 use Rattle.std.specs.Prelude.{OnOk, is_ok, if◌then◌else◌}
 use Rattle.std.specs.List.{Contains, slice_get}
 use Rattle.std.proofs.Math.Seq.{drop-cons}
-use Rattle.std.proofs.lemmas.Option.{slice_get_within, get_or_from_slice_get}
 use Rattle.redo_core.specs.declared.facts.Fact.{Fact}
 use Rattle.fleet_steps.specs.declared.steps.Step.{Step}
 use Rattle.fleet_steps.proofs.Naming.{same_named}
@@ -13,10 +12,8 @@ use Rattle.fleet_core.specs.Replies.{HasCome}
 use Rattle.fleet_core.specs.Runs.{TakesFrom, FollowsStep}
 use Rattle.fleet_core.specs.declared.replies.Reply.{Reply}
 use Rattle.fleet_tool.specs.Lines.{line_of}
-use Rattle.fleet_tool.specs.ScriptSteps.{IsStepOf, Answers, AnswersFirst}
-
-contains_at : {A : Type 0} (xs : List A) (i : ℕ) (x : A) → slice_get xs i ≡ Some x → Contains xs x
-contains_at xs i x h = (i, slice_get_within xs i x h, get_or_from_slice_get xs i x x h)
+use Rattle.fleet_tool.specs.ScriptSteps.{IsStepOf, AnswersSteps, AnswersStep}
+use Rattle.redo_core.proofs.ByPlace.{contains_at}
 
 -- the fact of a step is the script's
 pub takes_from : (facts : List Fact) (asked : Step ℕ) (step : Step Fact) → IsStepOf facts asked step → TakesFrom facts step
@@ -25,7 +22,7 @@ takes_from facts asked step h = same_named (λ place fact. slice_get facts (plac
 
 -- one step
 pub answers_first : (old new : FleetState) (facts : List Fact) (asked : Step ℕ) (step : Step Fact) (reply : Reply) → IsStepOf facts asked step
-    → FollowsStep old step reply new → HasCome reply → AnswersFirst old facts asked (line_of asked reply) new
+    → FollowsStep old step reply new → HasCome reply → AnswersStep old facts asked (line_of asked reply) new
 answers_first old new facts asked step reply stands follows come = λ others rest later roster m sound means.
     let f = follows roster facts m sound (takes_from facts asked step stands) means in
     let more = later roster (after m step reply) sound f.1 in
@@ -39,21 +36,21 @@ answers_first old new facts asked step reply stands follows come = λ others res
     }
 
 -- no step is left
-pub none_left : (fleet : FleetState) (facts : List Fact) → Answers fleet facts [] []
+pub none_left : (fleet : FleetState) (facts : List Fact) → AnswersSteps fleet facts [] []
 none_left fleet facts = λ roster m sound means. record { steps = []; replies = []; stands_for = tt; answered = tt; came = tt; says = refl }
 
 -- one step more of a loop over the steps
 pub answered_more : (start old new : FleetState) (facts : List Fact) (steps : List (Step ℕ)) (i : ℕ) (d : Step ℕ) (text longer line : List ℕ) → i < length steps
     → longer ≡ text ++ line
-    → AnswersFirst old facts (get_or steps i d) line new → ((rest : List ℕ) → Answers old facts (drop i steps) rest → Answers start facts steps (text ++ rest))
-    → (rest : List ℕ) → Answers new facts (drop (i + 1) steps) rest → Answers start facts steps (longer ++ rest)
+    → AnswersStep old facts (get_or steps i d) line new → ((rest : List ℕ) → AnswersSteps old facts (drop i steps) rest → AnswersSteps start facts steps (text ++ rest))
+    → (rest : List ℕ) → AnswersSteps new facts (drop (i + 1) steps) rest → AnswersSteps start facts steps (longer ++ rest)
 answered_more start old new facts steps i d text longer line lt more first so_far = λ rest later.
     let left : get_or steps i d ∷ drop (i + 1) steps ≡ drop i steps = sym
     (drop-cons steps i d lt ∙ ap (λ (k : ℕ). get_or steps i d ∷ drop k steps) (sym (add-one i))) in
     let both = first (drop (i + 1) steps) rest later in
-    let whole = so_far (line ++ rest) (subst (λ (ss : List (Step ℕ)). Answers old facts ss (line ++ rest)) left both) in
+    let whole = so_far (line ++ rest) (subst (λ (ss : List (Step ℕ)). AnswersSteps old facts ss (line ++ rest)) left both) in
     let joined : text ++ (line ++ rest) ≡ longer ++ rest = sym (append_assoc text line rest) ∙ ap (λ (t : List ℕ). t ++ rest) (sym more) in
-    subst (Answers start facts steps) joined whole
+    subst (AnswersSteps start facts steps) joined whole
 
 -- a line that was appended
 pub pushed : {E : Type 0} (r : Result (Unit {0}) E) (old new line : List ℕ) (P : List ℕ → Type 0) → new ≡ (if is_ok r then old ++ line else old) → P line

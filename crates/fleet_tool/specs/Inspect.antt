@@ -7,7 +7,7 @@ use Rattle.redo_wire.specs.declared.faults.WireFault.{WireFault}
 use Rattle.redo_wire.specs.Faults.{fault_number}
 use Rattle.redo_wire.specs.Summaries.{SummaryData}
 use Rattle.redo_wire.specs.Deltas.{DeltaData}
-use Rattle.redo_wire.specs.Books.{min_of}
+use Rattle.redo_wire.specs.Books.{book_min}
 use Rattle.redo_wire.specs.declared.pieces.PieceContent.{PieceContent}
 use Rattle.redo_wire.specs.declared.pieces.PieceContent.TheVariants.{Head, Page, Records}
 use Rattle.redo_wire.specs.Pieces.{PieceData}
@@ -22,13 +22,13 @@ use Rattle.script_text.specs.FactText.{fact_text}
 -- the counts of a summary's lists, and its points
 abbrev pub summary_text : SummaryData → List ℕ
 summary_text s = codes "summary cuts " ++ (decimal (length s.book.cuts)
-    ++ (codes " min " ++ (decimal (min_of s.book) ++ (codes " waits " ++ (decimal (length s.book.waits)
+    ++ (codes " min " ++ (decimal (book_min s.book) ++ (codes " waits " ++ (decimal (length s.book.waits)
     ++ (codes " anchor " ++ (decimal s.anchor ++ (codes " keys " ++ decimal (length s.keys)))))))))
 
 -- the counts of a delta's lists, and its points
 abbrev pub delta_text : DeltaData → List ℕ
 delta_text d = codes "delta cuts " ++ (decimal (length d.book.cuts)
-    ++ (codes " min " ++ (decimal (min_of d.book) ++ (codes " waits " ++ (decimal (length d.book.waits)
+    ++ (codes " min " ++ (decimal (book_min d.book) ++ (codes " waits " ++ (decimal (length d.book.waits)
     ++ (codes " base " ++ (decimal d.base ++ (codes " pages " ++ (decimal (length d.pages) ++ (codes " records " ++ decimal (length d.records)))))))))))
 
 -- what a piece brings: the head, the number of its page, or how many records

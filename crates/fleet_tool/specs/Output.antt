@@ -7,7 +7,7 @@ use Rattle.redo_core.specs.declared.facts.Fact.{Fact}
 use Rattle.redo_core.specs.declared.laws.Law.{Law}
 use Rattle.fleet_core.specs.Machine.{empty_machine}
 use Rattle.script_text.specs.Script.{ScriptData, Rostered, script_of, facts_of}
-use Rattle.fleet_tool.specs.ScriptSteps.{IsAnswered}
+use Rattle.fleet_tool.specs.ScriptSteps.{IsAnswerText}
 use Rattle.fleet_tool.specs.Inspect.{inspected}
 use Rattle.fleet_tool.specs.declared.answer.Verdict.{Verdict}
 use Rattle.fleet_tool.specs.declared.answer.Verdict.TheVariants.{Done, BadLine, Unsound}
@@ -29,7 +29,7 @@ pub record SaysUnsound (roster : ℕ) (facts : List Fact) (text : List ℕ) (ver
 -- the text is the answers of a fleet of the script's nodes to its steps
 pub record SaysReplies (roster : ℕ) (script : ScriptData) (text : List ℕ) (verdict : Verdict) : Type 0 where
   pub sound : IsSound roster script.facts
-  pub says : IsAnswered roster (empty_machine script.nodes) script.facts script.steps text
+  pub says : IsAnswerText roster (empty_machine script.nodes) script.facts script.steps text
   pub ends : verdict ≡ Done
 
 -- the text counts the facts

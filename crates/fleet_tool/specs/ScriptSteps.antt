@@ -17,7 +17,7 @@ abbrev pub IsStepOf : List Fact → Step ℕ → Step Fact → Type 0
 IsStepOf facts asked step = SameBut (λ place fact. slice_get facts (place - 1) ≡ Some fact) asked step
 
 -- the text is the answer lines of the machine to the steps
-pub record IsAnswered (roster : ℕ) (m : Machine) (facts : List Fact) (asked : List (Step ℕ)) (text : List ℕ) : Type 0 where
+pub record IsAnswerText (roster : ℕ) (m : Machine) (facts : List Fact) (asked : List (Step ℕ)) (text : List ℕ) : Type 0 where
   pub steps : List (Step Fact)
   pub replies : List Reply
   pub stands_for : AllZip (IsStepOf facts) asked steps
@@ -27,10 +27,10 @@ pub record IsAnswered (roster : ℕ) (m : Machine) (facts : List Fact) (asked : 
 
 -- The text is a fleet's answers to steps that take their facts from a log: where the log is sound, those of each machine that the
 -- fleet means.
-abbrev pub Answers : FleetState → List Fact → List (Step ℕ) → List ℕ → Type 0
-Answers fleet facts asked text = (roster : ℕ) (m : Machine) → IsSound roster facts → MeansMachine roster facts m fleet → IsAnswered roster m facts asked text
+abbrev pub AnswersSteps : FleetState → List Fact → List (Step ℕ) → List ℕ → Type 0
+AnswersSteps fleet facts asked text = (roster : ℕ) (m : Machine) → IsSound roster facts → MeansMachine roster facts m fleet → IsAnswerText roster m facts asked text
 
 -- the line is a fleet's answer to a step, and whatever it then answers to others stands behind
-abbrev pub AnswersFirst : FleetState → List Fact → Step ℕ → List ℕ → FleetState → Type 0
-AnswersFirst old facts step line new = (others : List (Step ℕ)) (rest : List ℕ) → Answers new facts others rest
-    → Answers old facts (step ∷ others) (line ++ rest)
+abbrev pub AnswersStep : FleetState → List Fact → Step ℕ → List ℕ → FleetState → Type 0
+AnswersStep old facts step line new = (others : List (Step ℕ)) (rest : List ℕ) → AnswersSteps new facts others rest
+    → AnswersSteps old facts (step ∷ others) (line ++ rest)

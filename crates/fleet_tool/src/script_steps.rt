@@ -3,7 +3,7 @@
 ghost use Rattle.std.specs.Prelude.{◌≡◌, ◌++◌, ℕ, List, length, All, IfOk, OnOk, string_bytes};
 ghost use Rattle.script_text.specs.StepLine.{IsInRange};
 ghost use Rattle.fleet_core.specs.Runs.{FollowsStep};
-ghost use Rattle.fleet_tool.specs.ScriptSteps.{IsStepOf, Answers, AnswersFirst};
+ghost use Rattle.fleet_tool.specs.ScriptSteps.{IsStepOf, AnswersSteps, AnswersStep};
 
 use crate::lines::line;
 use fleet_core::{Fleet, Reply};
@@ -38,7 +38,7 @@ fn put_answer(
     text: &mut String,
 ) -> Result<(), AllocError>
     requires { IsInRange (length facts.now) step }
-    ensures { OnOk result ((line : List ℕ) × (string_bytes text.new ≡ string_bytes text.old ++ line) × AnswersFirst fleet.old facts.now step line fleet.new) }
+    ensures { OnOk result ((line : List ℕ) × (string_bytes text.new ≡ string_bytes text.old ++ line) × AnswersStep fleet.old facts.now step line fleet.new) }
 {
     let asked = step_of(facts, step)?;
     let reply = carry_out(fleet, asked);
@@ -55,7 +55,7 @@ pub fn answers(
     steps: &[Step<usize>],
 ) -> Result<String, AllocError>
     requires { All (IsInRange (length facts.now)) steps.now }
-    ensures { IfOk result (λ s. Answers fleet.old facts.now steps.now (string_bytes s)) }
+    ensures { IfOk result (λ s. AnswersSteps fleet.old facts.now steps.now (string_bytes s)) }
 {
     let mut text = String::new(alloc);
     for step in steps {

@@ -28,15 +28,21 @@ pub header_of : (head : List ℕ) (n : ℕ) → length head ≡ 4 → ((i : ℕ)
 unfolding header
 header_of head n four bytes is = be_bytes_4 head n four bytes is
 
+-- a header, and not all of the bytes that it says
+pub begun : (n : ℕ) (bytes : List ℕ) → n < 2 ^ 32 → length bytes < n → IsBegun (header n ++ bytes)
+begun n bytes short few =
+    let says : stated (header n ++ bytes) ≡ n = stated_header n bytes short in
+    inr (omega (arith, few, says, length-append (header n) bytes, length-header n))
+
 -- a whole frame has not only begun
-whole : (bytes rest : List ℕ) → IsShort bytes → IsBegun (framed bytes ++ rest) → ⊥
+pub whole : (bytes rest : List ℕ) → IsShort bytes → IsBegun (framed bytes ++ rest) → ⊥
 whole bytes rest short (inl few) =
     omega (arith, few, length-append (framed bytes) rest, length-append (header (length bytes)) bytes, length-header (length bytes))
 whole bytes rest short (inr few) =
     let same : stated (framed bytes ++ rest) ≡ length bytes = ap stated (append_assoc (header (length bytes)) bytes rest) ∙ stated_header (length bytes) (bytes ++ rest) short in
     omega (arith, few, same, length-append (framed bytes) rest, length-append (header (length bytes)) bytes, length-header (length bytes))
 
-same_front : (bytes more rest behind : List ℕ) → IsShort bytes → IsShort more → framed bytes ++ rest ≡ framed more ++ behind → (bytes ≡ more) × (rest ≡ behind)
+pub same_front : (bytes more rest behind : List ℕ) → IsShort bytes → IsShort more → framed bytes ++ rest ≡ framed more ++ behind → (bytes ≡ more) × (rest ≡ behind)
 same_front bytes more rest behind short also e =
     let flat : header (length bytes) ++ (bytes ++ rest) ≡ header (length more) ++ (more ++ behind) =
     sym (append_assoc (header (length bytes)) bytes rest) ∙ e ∙ append_assoc (header (length more)) more behind in

@@ -1,5 +1,5 @@
 -- Bytes that come one piece after another.
-use Rattle.std.proofs.Common.{◌≡◌, ℕ, ◌+◌, ◌*◌, ◌<◌, ◌≤◌, ◌^◌, List, ◌++◌, length, Option, Bool, true, false, Result, Ok, Err, inr, sym, ◌∙◌, subst, arith, length-append}
+use Rattle.std.proofs.Common.{◌≡◌, ℕ, ◌+◌, ◌*◌, ◌<◌, ◌≤◌, ◌^◌, List, ◌++◌, length, Option, Bool, true, false, Result, Ok, Err, sym, ◌∙◌, subst, arith, length-append}
 use Rattle.std.specs.Prelude.{max}
 use Rattle.std.specs.Io.KnownBytes.{Consumes}
 use Rattle.std.proofs.KnownBytes.{Consumes-trans}
@@ -7,10 +7,10 @@ use Rattle.line_stream.specs.Watching.{device_of}
 use Rattle.line_stream.specs.declared.watched.Watched.{Watched}
 use Rattle.line_stream.specs.declared.fault.RunFault.{RunFault}
 use Rattle.frame_stream.specs.Coming.{Comes, ReadsBytes, ReadsFrame}
-use Rattle.frame_stream.specs.Frames.{header, stated, IsBegun}
+use Rattle.frame_stream.specs.Frames.{header}
 use Rattle.frame_stream.specs.Holding.{Holds, limit_of, room_of}
 use Rattle.frame_stream.specs.declared.incoming.Incoming.{Incoming}
-use Rattle.frame_stream.proofs.Headers.{length-header, stated_header}
+use Rattle.frame_stream.proofs.Headers.{begun}
 
 module _ {R : Type 0} (remaining : R → Option (List ℕ)) where
   pub comes_more : (reader reader' reader'' : Watched R) (old mid new : Incoming) (bytes more : List ℕ) → Comes remaining reader reader' old mid bytes
@@ -30,12 +30,6 @@ module _ {R : Type 0} (remaining : R → Option (List ℕ)) where
     limit = h.limit ∙ limit;
     room = omega (arith, room, h.room, length-append head bytes);
   }
-
-  -- a header, and not all of the bytes that it says
-  begun : (n : ℕ) (bytes : List ℕ) → n < 2 ^ 32 → length bytes < n → IsBegun (header n ++ bytes)
-  begun n bytes short few =
-      let says : stated (header n ++ bytes) ≡ n = stated_header n bytes short in
-      inr (omega (arith, few, says, length-append (header n) bytes, length-header n))
 
   -- bytes behind the header that says how many they are
   pub frame_read : (reader reader' reader'' : Watched R) (old mid new : Incoming) (n : ℕ) (result : Result Bool RunFault)

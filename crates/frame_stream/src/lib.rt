@@ -9,7 +9,9 @@
 #![tactic(auto)]
 
 mod answer;
+mod answer_frames;
 mod incoming;
+mod inside;
 pub mod laws;
 mod machine;
 mod reading;
@@ -17,5 +19,7 @@ mod serving;
 mod writing;
 
 pub use answer::FrameAnswer;
+pub use answer_frames::AnswerFrames;
+pub use inside::{count_frames, split_frame};
 pub use machine::FrameMachine;
 pub use serving::serve;

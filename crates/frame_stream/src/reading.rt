@@ -34,7 +34,7 @@ fn fill<R: Read>(reader: &mut Watched<R>, buffer: &mut [u8]) -> Result<usize, Ru
 }
 
 /// The length that a header says.
-fn length_of(head: &[u8; 4]) -> usize
+pub fn length_of(head: &[u8; 4]) -> usize
     ensures short { result < 2 ^ 32 }
     ensures head { header result ≡ head.now }
 {

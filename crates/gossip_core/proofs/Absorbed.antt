@@ -15,7 +15,7 @@ use Rattle.redo_wire.specs.Deltas.{DeltaData, IsDelta}
 use Rattle.segment_state.specs.State.{State, StoredImage, min_of, version_of, image_of}
 use Rattle.segment_state.specs.Means.{Matters, IsInImage}
 use Rattle.segment_state.specs.Joining.{JoinsBooks}
-use Rattle.segment_state.specs.Gossip.{HasImage, Absorbs}
+use Rattle.segment_state.specs.Gossip.{HasImage, JoinsDelta}
 use Rattle.segment_core.specs.Form.{IsSegment}
 use Rattle.segment_core.specs.Uniting.{Unites}
 use Rattle.segment_join.specs.Told.{facts_told}
@@ -23,7 +23,7 @@ use Rattle.segment_join.specs.InOrder.{TakesEach}
 use Rattle.segment_join.proofs.TakingAll.{IsLate, LeavesAll, leaves_all}
 use Rattle.segment_join.proofs.ToldFacts.{listed_cut, listed_advance, listed_record}
 use Rattle.segment_join.proofs.JoinedStates.{HasBook, all, book_joined, least_fits, late_of}
-use Rattle.gossip_core.specs.Absorbing.{filling_of, image_at, AbsorbsInto}
+use Rattle.gossip_core.specs.Absorbing.{filling_of, based_image, AbsorbsInto}
 
 -- the state has taken what the delta tells
 pub record HasDelta (s : State) (d : DeltaData) (taken : State) : Type 0 where
@@ -53,27 +53,27 @@ module _ (s : State) (d : DeltaData) (taken : State) (h : HasDelta s d taken) wh
       omega (arith, low, base)
 
 module _ (s : State) (d : DeltaData) (taken new : State) (h : HasDelta s d taken)
-    (unites : Unites taken d.base d.base (map (image_at d.base) d.pages) new) where
-  merges : Merges s.store d.base (map (image_at d.base) d.pages) new.store
-  merges = subst (λ store. Merges store d.base (map (image_at d.base) d.pages) new.store) (left s d taken h).store unites.store
+    (unites : Unites taken d.base d.base (map (based_image d.base) d.pages) new) where
+  merges : Merges s.store d.base (map (based_image d.base) d.pages) new.store
+  merges = subst (λ store. Merges store d.base (map (based_image d.base) d.pages) new.store) (left s d taken h).store unites.store
 
   -- a page that was given shows it at the base
-  taken_of : (g : ℕ) → IsTaken (map (image_at d.base) d.pages) new.store g
+  taken_of : (g : ℕ) → IsTaken (map (based_image d.base) d.pages) new.store g
       → (version_of new.store g ≡ d.base) × HasImage (filling_of d) g (image_of new.store g)
   taken_of g t =
-      let from = from_map (image_at d.base) d.pages t.0 t.1 in
+      let from = from_map (based_image d.base) d.pages t.0 t.1 in
       let p : ImageData = from.0 in
       let page : p.page ≡ g = ap (λ (i : StoredImage). i.page) from.2 ∙ t.2 in
       let version : d.base ≡ t.0.version = ap (λ (i : StoredImage). i.version) from.2 in
       let bytes : p.bytes ≡ image_of new.store g = ap (λ (i : StoredImage). i.bytes) from.2 ∙ sym t.4 in
       (t.3 ∙ sym version, inl (p, from.1, page, bytes))
 
-  floored_of : (g : ℕ) → IsFloored d.base (map (image_at d.base) d.pages) new.store g
+  floored_of : (g : ℕ) → IsFloored d.base (map (based_image d.base) d.pages) new.store g
       → (version_of new.store g ≡ d.base) × HasImage (filling_of d) g (image_of new.store g)
   floored_of g f = (
     f.1,
     inr (
-      λ i has e. let low : d.base < d.base = f.0 (image_at d.base i) (in_map (image_at d.base) d.pages i has) e in omega (arith, low),
+      λ i has e. let low : d.base < d.base = f.0 (based_image d.base i) (in_map (based_image d.base) d.pages i has) e in omega (arith, low),
       f.2,
     ),
   )
@@ -87,7 +87,7 @@ module _ (s : State) (d : DeltaData) (taken new : State) (h : HasDelta s d taken
       let same : version_of new.store g ≡ version_of s.store g = x.0 in
       inl (omega (arith, low, same), x))
       (λ (x : (version_of s.store g < version_of new.store g)
-      × (IsTaken (map (image_at d.base) d.pages) new.store g ⊎ IsFloored d.base (map (image_at d.base) d.pages) new.store g)).
+      × (IsTaken (map (based_image d.base) d.pages) new.store g ⊎ IsFloored d.base (map (based_image d.base) d.pages) new.store g)).
       let is : (version_of new.store g ≡ d.base) × HasImage (filling_of d) g (image_of new.store g) = ⊎_elim (taken_of g) (floored_of g) x.1 in
       let up : version_of s.store g < version_of new.store g = x.0 in
       inr (omega (arith, up, is.0), is.0, is.1))
@@ -179,5 +179,5 @@ module _ (s : State) (d : DeltaData) (new : State) (late : IsLate s) (a : Absorb
       (told r x (subst (λ b. Matters b.cuts b.complete r) a.book.0 mat)))
       has
 
-  pub known_together : Absorbs s (filling_of d) new
+  pub known_together : JoinsDelta s (filling_of d) new
   known_together = record { book = a.book.1; base = base_known; images = images_known; of_both = of_both; kept = kept }

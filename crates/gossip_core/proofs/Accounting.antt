@@ -6,11 +6,12 @@ use Rattle.redo_core.specs.Standing.{IsAlive, IsDead, IsWaiting}
 use Rattle.redo_core.proofs.Members.{none_in, here, there, which}
 use Rattle.redo_wire.specs.declared.keys.Key.{Key}
 use Rattle.epoch_book.specs.declared.standing.Standing.TheVariants.{Alive, Dead}
-use Rattle.redo_laws.proofs.Numbers.{greatest_unique}
+use Rattle.redo_core.proofs.Numbers.{greatest_unique}
 use Rattle.segment_state.specs.State.{State, min_of}
 use Rattle.segment_state.specs.HasMeaning.{IsLinkedIn, HasAnchor}
 use Rattle.segment_core.specs.Standing.{StandsAt}
-use Rattle.gossip_core.specs.Answering.{HoldsKey, IsCovered}
+use Rattle.gossip_core.specs.Answering.{IsCovered}
+use Rattle.hot_log.specs.Held.{HoldsKey}
 
 each_of : {X : Type 0} (P : X → Type 0) (xs : List X) → AllByRecursion P xs → (x : X) → Contains xs x → P x
 each_of P [] all x h = absurd (none_in x h)
@@ -54,11 +55,11 @@ settled_covers s anchor key stands low = (λ h. inr (inr ((stands.alive.0 refl).
 
 pub held_covers : (s : State) (anchor : ℕ) (key : Key) (is_held : Bool)
     → IsWaiting s.book.complete key.epoch ⊎ (IsAlive s.book.cuts s.book.complete key.epoch key.number × (anchor < key.number))
-    → IsTrue is_held ↔ HoldsKey s key → IsTrue is_held ↔ IsCovered s anchor key
+    → IsTrue is_held ↔ HoldsKey s.held key.epoch key.number → IsTrue is_held ↔ IsCovered s anchor key
 held_covers s anchor key is_held wanted tells = (
   λ h. inl (tells.0 h),
   λ has. ⊎_elim
-      (λ (held : HoldsKey s key). tells.1 held)
+      (λ (held : HoldsKey s.held key.epoch key.number). tells.1 held)
       (λ gone. absurd (⊎_elim
       (λ (dead : IsDead s.book.cuts s.book.complete key.epoch key.number). ⊎_elim
       (λ (w : IsWaiting s.book.complete key.epoch). omega (arith, w, dead.0))

@@ -21,9 +21,10 @@ use Rattle.segment_state.specs.HasMeaning.{HasAnchor}
 use Rattle.segment_state.specs.Gossip.{IsAccounted, AnswersFor}
 use Rattle.segment_state.proofs.Own.{anchor_law}
 use Rattle.segment_join.proofs.Scanning.{of_member}
-use Rattle.gossip_core.specs.Answering.{HoldsKey, IsCovered, IsUncovered, listed_key, listing_of}
+use Rattle.gossip_core.specs.Answering.{IsCovered, IsUncovered, listed_key, listing_of}
 use Rattle.gossip_core.specs.declared.answering.Shown.{Shown}
 use Rattle.gossip_core.specs.declared.answering.Shown.TheVariants.{Anchor as OfAnchor, Key as OfKey}
+use Rattle.hot_log.specs.Held.{HoldsKey}
 
 module _ (roster : ℕ) (log F : List Fact) (f : Position) (s : State) (sound : IsSound roster log) (m : MeansAt roster log F f s) where
   -- the key waits, or is alive above the anchor
@@ -41,7 +42,7 @@ module _ (roster : ℕ) (log F : List Fact) (f : Position) (s : State) (sound : 
       (λ (x : IsAlive (cuts F) f.epoch r.epoch r.number × (f.anchor < r.number)). inr x.0) own in
       inl (r, (m.of_facts r has matters, own), e, n)
 
-  of_held : (key : Key) → HoldsKey s key → IsAccounted F f (listed_key key)
+  of_held : (key : Key) → HoldsKey s.held key.epoch key.number → IsAccounted F f (listed_key key)
   unfolding IsWanted
   of_held key held =
       ⊎_elim
@@ -78,7 +79,7 @@ module _ (roster : ℕ) (log F : List Fact) (f : Position) (s : State) (sound : 
   accounted anchor at key has =
       let e = m.epoch in
       ⊎_elim
-      (λ (held : HoldsKey s key). of_held key held)
+      (λ (held : HoldsKey s.held key.epoch key.number). of_held key held)
       (λ gone. inr (⊎_elim
       (λ (dead : IsDead s.book.cuts s.book.complete key.epoch key.number). inl (dead_there key dead))
       (λ (low : (key.epoch ≤ s.book.complete) × (key.number ≤ anchor)). inr (omega (arith, e, low.0), omega (arith, at, low.1)))

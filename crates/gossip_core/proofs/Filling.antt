@@ -16,7 +16,7 @@ use Rattle.segment_state.specs.State.{State}
 use Rattle.segment_state.specs.Shows.{Shows}
 use Rattle.segment_state.specs.HasMeaning.{IsKeptBy}
 use Rattle.segment_state.specs.Laws.{SameAnchor}
-use Rattle.segment_state.specs.Gossip.{IsListed, Replies, ReplyFills}
+use Rattle.segment_state.specs.Gossip.{IsListed, IsDeltaFor, ReplyFills}
 use Rattle.gossip_core.specs.Summarizing.{wire_key}
 use Rattle.gossip_core.specs.Answering.{listed_key, listing_of}
 use Rattle.gossip_core.specs.Absorbing.{filling_of}
@@ -65,7 +65,7 @@ kept_above_lower s point anchor r low kept = (
 )
 
 of_records : (s : State) (anchor : ℕ) (summary : SummaryData) (d : DeltaData) → s.base ≤ summary.anchor → SendsRecords s summary d
-    → Replies anchor s (listing_of summary) (filling_of d)
+    → IsDeltaFor anchor s (listing_of summary) (filling_of d)
 of_records s anchor summary d low a = let point = min a.anchor summary.anchor in record {
   same_cuts = λ c. (λ h. subst (λ b. Contains b.cuts c) a.book h, λ h. subst (λ b. Contains b.cuts c) (sym a.book) h);
   epoch = ap (λ b. b.complete) a.book;
@@ -82,7 +82,7 @@ of_records s anchor summary d low a = let point = min a.anchor summary.anchor in
 }
 
 of_pages : (s : State) (anchor : ℕ) (summary : SummaryData) (d : DeltaData) → d.base ≡ anchor → SendsPages s summary d
-    → Replies anchor s (listing_of summary) (filling_of d)
+    → IsDeltaFor anchor s (listing_of summary) (filling_of d)
 of_pages s anchor summary d at a = record {
   same_cuts = λ c. (λ h. subst (λ b. Contains b.cuts c) a.book h, λ h. subst (λ b. Contains b.cuts c) (sym a.book) h);
   epoch = ap (λ b. b.complete) a.book;

@@ -19,11 +19,11 @@ use Rattle.segment_join.proofs.TakingAll.{IsLate}
 use Rattle.segment_join.proofs.JoinInLog.{TellsPart, none_of_part, kept_of_part}
 use Rattle.gossip_core.specs.Answering.{listing_of}
 use Rattle.gossip_core.proofs.AnsweringFacts.{answers_for}
-use Rattle.gossip_core.specs.Absorbing.{filling_of, IsAnswered, MeansBoth, IsOfOneLog, Answers, AbsorbsInto, RefusesTold}
+use Rattle.gossip_core.specs.Absorbing.{filling_of, IsAnsweredInLog, MeansBoth, IsOfOneLog, Answers, AbsorbsInto, RefusesTold}
 use Rattle.gossip_core.proofs.Absorbed.{known_together}
 
 module _ (roster : ℕ) (log F G : List Fact) (f g : Position) (s : State) (summary : SummaryData) (d : DeltaData)
-    (a : IsAnswered roster log F G f g s summary d) where
+    (a : IsAnsweredInLog roster log F G f g s summary d) where
   tells_part : IsDelta d → TellsPart roster log G g d.book d.records
   tells_part shape = record {
     part = a.part;

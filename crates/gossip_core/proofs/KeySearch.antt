@@ -1,5 +1,5 @@
 -- What a binary search finds among rising keys.
-use Rattle.std.proofs.Common.{◌≡◌, ◌↔◌, ℕ, ◌<◌, ◌≤◌, ◌⊎◌, inl, inr, ⊎_elim, List, length, get_or, refl, sym, subst, arith, true, false, IsTrue, Result, Ok, Err, Ordering, Less, Equal, Greater}
+use Rattle.std.proofs.Common.{◌≡◌, ◌↔◌, ℕ, ◌<◌, ◌≤◌, ◌⊎◌, ⊎_elim, List, length, get_or, refl, sym, subst, arith, true, false, IsTrue, Result, Ok, Err, Ordering}
 use Rattle.std.specs.List.{Contains}
 use Rattle.std.specs.List.Sorted.{IsSearchInRange, IsBinarySearchResult, IsNonDecreasingBy}
 use Rattle.std.specs.Ordering.{nat_cmp, ordering_then, ordering_index, MatchOrdering}
@@ -11,22 +11,10 @@ use Rattle.redo_core.proofs.Rising.{rising_by}
 use Rattle.redo_wire.specs.declared.keys.Key.{Key}
 use Rattle.redo_wire.specs.Summaries.{KeyBefore}
 use Rattle.gossip_core.proofs.Parts.{one_key}
+use Rattle.epoch_book.proofs.Places.{rank_le, at_less, at_equal, at_greater, then_at, turned}
 
 abbrev pub key_cmp : Key → Key → Ordering
 key_cmp k l = ordering_then (nat_cmp k.epoch l.epoch) (nat_cmp k.number l.number)
-
-then_at : (o p : Ordering) (P Q R S T U : Type 0) → MatchOrdering o P Q R → MatchOrdering p S T U
-    → MatchOrdering (ordering_then o p) (P ⊎ (Q × S)) (Q × T) (R ⊎ (Q × U))
-then_at Less p P Q R S T U h k = inl h
-then_at Equal Less P Q R S T U h k = inr (h, k)
-then_at Equal Equal P Q R S T U h k = (h, k)
-then_at Equal Greater P Q R S T U h k = inr (h, k)
-then_at Greater p P Q R S T U h k = inl h
-
-turned : (o : Ordering) (P Q R P' Q' R' : Type 0) → (P → P') → (Q → Q') → (R → R') → MatchOrdering o P Q R → MatchOrdering o P' Q' R'
-turned Less P Q R P' Q' R' f g h x = f x
-turned Equal P Q R P' Q' R' f g h x = g x
-turned Greater P Q R P' Q' R' f g h x = h x
 
 above_key : (k l : Key) → (l.epoch < k.epoch) ⊎ ((k.epoch ≡ l.epoch) × (l.number < k.number)) → KeyBefore l k
 above_key k l h = grind arith
@@ -38,17 +26,7 @@ key_ranked k l =
     (k.number ≡ l.number) (l.number < k.number)
     (ranked k.epoch l.epoch (nat_cmp k.epoch l.epoch) refl) (ranked k.number l.number (nat_cmp k.number l.number) refl))
 
-rank_le : (o p : Ordering) (P Q R S T U : Type 0) → MatchOrdering o P Q R → MatchOrdering p S T U → (Q → S → ⊥) → (R → S → ⊥) → (R → T → ⊥)
-    → ordering_index o ≤ ordering_index p
-rank_le Less p P Q R S T U h k qs rs rt = omega arith
-rank_le Equal Less P Q R S T U h k qs rs rt = absurd (qs h k)
-rank_le Equal Equal P Q R S T U h k qs rs rt = omega arith
-rank_le Equal Greater P Q R S T U h k qs rs rt = omega arith
-rank_le Greater Less P Q R S T U h k qs rs rt = absurd (rs h k)
-rank_le Greater Equal P Q R S T U h k qs rs rt = absurd (rt h k)
-rank_le Greater Greater P Q R S T U h k qs rs rt = omega arith
-
-apart : (k l : Key) → KeyBefore k l → KeyBefore l k → ⊥
+pub apart : (k l : Key) → KeyBefore k l → KeyBefore l k → ⊥
 apart k l a b = pair_apart k.epoch k.number l.epoch l.number a b
 
 keys_ranked : (ks : List Key) (x : Key) → IsRising KeyBefore ks → IsNonDecreasingBy (λ k. ordering_index (key_cmp k x)) ks
@@ -58,15 +36,6 @@ keys_ranked ks x rise = rising_by KeyBefore (λ k. ordering_index (key_cmp k x))
     (λ (q : KeyBefore x k) (s : KeyBefore l x). apart k l h (pair_trans l.epoch l.number x.epoch x.number k.epoch k.number s q))
     (λ (q : KeyBefore x k) (s : l ≡ x). apart k l h (subst (λ y. KeyBefore y k) (sym s) q)))
     rise
-
-at_less : (o : Ordering) (P Q R : Type 0) → MatchOrdering o P Q R → o ≡ Less → P
-at_less o P Q R h e = subst (λ v. MatchOrdering v P Q R) e h
-
-at_equal : (o : Ordering) (P Q R : Type 0) → MatchOrdering o P Q R → o ≡ Equal → Q
-at_equal o P Q R h e = subst (λ v. MatchOrdering v P Q R) e h
-
-at_greater : (o : Ordering) (P Q R : Type 0) → MatchOrdering o P Q R → o ≡ Greater → R
-at_greater o P Q R h e = subst (λ v. MatchOrdering v P Q R) e h
 
 never : (k : Key) → KeyBefore k k → ⊥
 never k h = apart k k h h

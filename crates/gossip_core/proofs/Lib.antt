@@ -8,6 +8,7 @@ pub mod Broken
 pub mod Filling
 pub mod Accounting
 pub mod AnsweringFacts
+pub mod Uncovering
 pub mod OneUncovered
 pub mod OneReply
 pub mod Absorbed

@@ -12,25 +12,15 @@ use Rattle.gossip_core.specs.declared.answering.Shown.{Shown}
 use Rattle.gossip_core.specs.declared.answering.Shown.TheVariants.{Anchor as OfAnchor, Key as OfKey}
 use Rattle.gossip_core.specs.declared.absorbing.AbsorbRefusal.{AbsorbRefusal}
 use Rattle.gossip_core.specs.declared.absorbing.AbsorbRefusal.TheVariants.{Uncovered, Refused}
-use Rattle.gossip_core.specs.Answering.{IsCovered, IsMissing, IsUncovered}
+use Rattle.gossip_core.specs.Answering.{IsCovered, IsUncoveredKey, IsUncovered}
 use Rattle.gossip_core.specs.Absorbing.{Answers, IsOfOther, RefusesTold, RefusesAbsorb}
-
-not_both : (k l : Key) → KeyBefore k l → KeyBefore l k → ⊥
-not_both k l a b =
-    ⊎_elim
-    (λ (x : k.epoch < l.epoch). ⊎_elim
-    (λ (y : l.epoch < k.epoch). omega (arith, x, y))
-    (λ (y : (l.epoch ≡ k.epoch) × (l.number < k.number)). omega (arith, x, y.0)) b)
-    (λ (x : (k.epoch ≡ l.epoch) × (k.number < l.number)). ⊎_elim
-    (λ (y : l.epoch < k.epoch). omega (arith, x.0, y))
-    (λ (y : (l.epoch ≡ k.epoch) × (l.number < k.number)). omega (arith, x.1, y.1)) b)
-    a
+use Rattle.gossip_core.proofs.KeySearch.{apart}
 
 one_first : (P : Key → Type 0) (k l : Key) → IsFirst KeyBefore P k → IsFirst KeyBefore P l → k ≡ l
 one_first P k l a b =
     ⊎_elim
     (λ (e : l ≡ k). sym e)
-    (λ (x : KeyBefore k l). ⊎_elim (λ (e : k ≡ l). e) (λ (y : KeyBefore l k). absurd (not_both k l x y)) (b.least k a.has))
+    (λ (x : KeyBefore k l). ⊎_elim (λ (e : k ≡ l). e) (λ (y : KeyBefore l k). absurd (apart k l x y)) (b.least k a.has))
     (a.least l b.has)
 
 -- there is nothing besides
@@ -44,7 +34,7 @@ one_uncovered s anchor summary (Some (OfAnchor n)) (Some (OfKey k)) a b = absurd
 one_uncovered s anchor summary (Some (OfKey k)) None a b = absurd (a.1.has.1 (All-contains (IsCovered s anchor) summary.keys k b.1 a.1.has.0))
 one_uncovered s anchor summary (Some (OfKey k)) (Some (OfAnchor n)) a b = absurd (omega (arith, a.0, b.0, b.1))
 one_uncovered s anchor summary (Some (OfKey k)) (Some (OfKey l)) a b =
-    ap (λ i. Some (OfKey i)) (one_first (IsMissing s anchor summary.keys) k l a.1 b.1)
+    ap (λ i. Some (OfKey i)) (one_first (IsUncoveredKey s anchor summary.keys) k l a.1 b.1)
 
 -- what an absorb of one roster answers where this is uncovered
 pub tells_uncovered : (s : State) (summary : SummaryData) (d : DeltaData) (found : Option Shown) (answer : Result (Unit {0}) AbsorbRefusal)

@@ -11,8 +11,8 @@ use Rattle.redo_core.proofs.Members.{lists_unique}
 use Rattle.redo_core.proofs.Pairs.{pair_apart, pair_trans, pair_order, advance_apart}
 use Rattle.redo_laws.proofs.Deciding.{settled_le, settled_lt, settled_and, settled_or, in_order}
 use Rattle.redo_laws.proofs.Fronts.{settled_alive, settled_linked}
-use Rattle.redo_laws.proofs.Meanings.{lists_as, nat_order, same_image, list_eq, in_map, from_map}
-use Rattle.redo_laws.proofs.Numbers.{greatest_below}
+use Rattle.redo_laws.proofs.Meanings.{lists_as, nat_order, same_image, list_eq, in_map, from_map, record_of_meaning}
+use Rattle.redo_core.proofs.Numbers.{greatest_below}
 use Rattle.segment_state.specs.State.{State, StoredImage, min_of}
 use Rattle.segment_state.specs.Shows.{Shows}
 use Rattle.segment_state.specs.HasMeaning.{IsLinkedIn, HasAnchor, IsKeptBy, HasMeaning}
@@ -22,7 +22,6 @@ use Rattle.segment_join.proofs.Showing.{IsBare, shows_some, bare_is_zeros, bare_
 use Rattle.gossip_core.specs.Laws.{EverySegmentHasOneMeaning}
 use Rattle.segment_core.proofs.OneView.{one_anchor}
 use Rattle.segment_core.proofs.SamePages.{shows_one}
-use Rattle.segment_join.proofs.Agreeing.{one_meaning}
 use Rattle.hot_log.proofs.Chain.{back_below}
 
 -- a rising list lists its members
@@ -130,7 +129,7 @@ one_list Before apart P xs ys a b = lists_unique Before apart P P (λ x. (λ h. 
 only_one : (s : State) (m n : Meaning) → IsSegment s → HasMeaning s m → HasMeaning s n → m ≡ n
 only_one s m n form a b =
     let anchor : n.anchor ≡ m.anchor = one_anchor s n.anchor m.anchor b.anchor a.anchor in
-    one_meaning m n
+    record_of_meaning m n
     (one_list CutBefore (λ c d u v. omega (arith, u, v)) (Contains s.book.cuts) m.cuts n.cuts a.same_cuts b.same_cuts)
     (a.same_points ∙ sym b.same_points)
     (one_list AdvanceBefore advance_apart (Contains s.book.waits) m.waits n.waits a.same_waits b.same_waits)

@@ -29,7 +29,7 @@ filling_of d = record { book = d.book; base = d.base; pages = d.pages; records =
 
 -- ---- inside one sound log
 -- the state means a part of a sound log, and the delta was made for the summary from another part
-pub record IsAnswered (roster : ℕ) (log F G : List Fact) (f g : Position) (s : State) (summary : SummaryData) (d : DeltaData) : Type 0 where
+pub record IsAnsweredInLog (roster : ℕ) (log F G : List Fact) (f g : Position) (s : State) (summary : SummaryData) (d : DeltaData) : Type 0 where
   pub sound : IsSound roster log
   pub means : MeansAt roster log F f s
   pub part : IsPart G log
@@ -39,11 +39,11 @@ pub record IsAnswered (roster : ℕ) (log F G : List Fact) (f g : Position) (s :
 -- whatever the parts are, the new state means their union
 abbrev pub MeansBoth : State → SummaryData → DeltaData → State → Type 0
 MeansBoth old summary d new =
-    (roster : ℕ) (log F G : List Fact) (f g : Position) → IsAnswered roster log F G f g old summary d → Means roster log (F ++ G) new
+    (roster : ℕ) (log F G : List Fact) (f g : Position) → IsAnsweredInLog roster log F G f g old summary d → Means roster log (F ++ G) new
 
 -- there are such parts
 abbrev pub IsOfOneLog : State → SummaryData → DeltaData → Type 0
-IsOfOneLog s summary d = (roster : ℕ) × (log F G : List Fact) × (f g : Position) × IsAnswered roster log F G f g s summary d
+IsOfOneLog s summary d = (roster : ℕ) × (log F G : List Fact) × (f g : Position) × IsAnsweredInLog roster log F G f g s summary d
 
 -- ---- over any facts
 -- the state answers for the summary
@@ -83,5 +83,5 @@ TellsRoster s d answer =
     roster_of s.book ≢ roster_of d.book → answer ≡ Err (Refused (OtherRoster (roster_of s.book) (roster_of d.book)))
 
 -- a page of a delta at its base
-abbrev pub image_at : ℕ → ImageData → StoredImage
-image_at base i = stored i.page base i.bytes
+abbrev pub based_image : ℕ → ImageData → StoredImage
+based_image base i = stored i.page base i.bytes

@@ -1,10 +1,9 @@
 -- What of a summary a state answers for.
 use Rattle.std.specs.Prelude.{◌≡◌, ℕ, ◌<◌, ◌≤◌, ◌⊎◌, List, map, Option, Some, None}
 use Rattle.std.specs.List.{Contains, All}
-use Rattle.redo_core.specs.Data.{RecordData}
 use Rattle.redo_core.specs.Order.{IsFirst}
 use Rattle.redo_core.specs.Standing.{IsDead}
-use Rattle.hot_log.specs.Held.{HasKey}
+use Rattle.hot_log.specs.Held.{HoldsKey}
 use Rattle.redo_wire.specs.declared.keys.Key.{Key}
 use Rattle.redo_wire.specs.Summaries.{SummaryData, KeyBefore}
 use Rattle.segment_state.specs.State.{State}
@@ -20,26 +19,22 @@ abbrev pub listing_of : SummaryData → Listing
 listing_of summary = record { anchor = summary.anchor; keys = map listed_key summary.keys }
 
 -- ---- what is uncovered
--- a record of the key is held
-abbrev pub HoldsKey : State → Key → Type 0
-HoldsKey s key = (r : RecordData) × Contains s.held r × HasKey key.epoch key.number r
-
 -- a state with this anchor accounts for the key: it is held, dead, or at or below the anchor and not waiting
 abbrev pub IsCovered : State → ℕ → Key → Type 0
 IsCovered s anchor key =
-    HoldsKey s key ⊎ (IsDead s.book.cuts s.book.complete key.epoch key.number ⊎ ((key.epoch ≤ s.book.complete) × (key.number ≤ anchor)))
+    HoldsKey s.held key.epoch key.number ⊎ (IsDead s.book.cuts s.book.complete key.epoch key.number ⊎ ((key.epoch ≤ s.book.complete) × (key.number ≤ anchor)))
 
 -- the key is one that the state cannot account for
-abbrev pub IsMissing : State → ℕ → List Key → Key → Type 0
-IsMissing s anchor keys key = Contains keys key × (IsCovered s anchor key → ⊥)
+abbrev pub IsUncoveredKey : State → ℕ → List Key → Key → Type 0
+IsUncoveredKey s anchor keys key = Contains keys key × (IsCovered s anchor key → ⊥)
 
 -- the least of those keys, or none where the state accounts for each
 abbrev pub IsFirstUncovered : State → ℕ → List Key → Option Key → Type 0
 IsFirstUncovered s anchor keys None = All (IsCovered s anchor) keys
-IsFirstUncovered s anchor keys (Some key) = IsFirst KeyBefore (IsMissing s anchor keys) key
+IsFirstUncovered s anchor keys (Some key) = IsFirst KeyBefore (IsUncoveredKey s anchor keys) key
 
 -- the summary's anchor where it is above the state's, else the least key that the state cannot account for; none where there is neither
 abbrev pub IsUncovered : State → ℕ → SummaryData → Option Shown → Type 0
 IsUncovered s anchor summary None = (summary.anchor ≤ anchor) × All (IsCovered s anchor) summary.keys
 IsUncovered s anchor summary (Some (OfAnchor shown)) = (shown ≡ summary.anchor) × (anchor < shown)
-IsUncovered s anchor summary (Some (OfKey key)) = (summary.anchor ≤ anchor) × IsFirst KeyBefore (IsMissing s anchor summary.keys) key
+IsUncovered s anchor summary (Some (OfKey key)) = (summary.anchor ≤ anchor) × IsFirst KeyBefore (IsUncoveredKey s anchor summary.keys) key

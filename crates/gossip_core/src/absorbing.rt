@@ -6,7 +6,7 @@ ghost use Rattle.segment_join.specs.Told.{facts_told};
 ghost use Rattle.segment_join.specs.InOrder.{TakesEach, RefusesOne};
 ghost use Rattle.gossip_core.specs.declared.absorbing.AbsorbRefusal.TheVariants.{Refused as RefusedFor, Uncovered as UncoveredBy};
 ghost use Rattle.gossip_core.specs.declared.answering.Shown.{Shown as AnyShown};
-ghost use Rattle.gossip_core.specs.Absorbing.{image_at, MeansBoth, IsOfOneLog, Answers, AbsorbsInto, RefusesAbsorb, TellsRoster};
+ghost use Rattle.gossip_core.specs.Absorbing.{based_image, MeansBoth, IsOfOneLog, Answers, AbsorbsInto, RefusesAbsorb, TellsRoster};
 
 use crate::answering::{Shown, uncovered};
 use page_base::BaseImage;
@@ -136,7 +136,7 @@ fn each_of(alloc: Global, records: &[Record]) -> Result<Vec<&Record>, AllocError
 
 /// A delta's pages as images at its base.
 fn images_at(alloc: Global, base: u64, pages: &[PageImage]) -> Result<Vec<BaseImage>, AllocError>
-    ensures { IfOk result (λ v. v.items ≡ map (image_at base) pages.now) }
+    ensures { IfOk result (λ v. v.items ≡ map (based_image base) pages.now) }
 {
     let mut images = Vec::new(alloc);
     for image in pages {

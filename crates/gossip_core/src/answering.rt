@@ -3,11 +3,12 @@ ghost use Rattle.redo_core.specs.Order.{IsRising};
 ghost use Rattle.redo_core.specs.Position.{Position};
 ghost use Rattle.redo_core.specs.Sound.{IsSound};
 ghost use Rattle.redo_core.specs.declared.facts.Fact.{Fact as AnyFact};
+ghost use Rattle.hot_log.specs.Held.{HoldsKey};
 ghost use Rattle.redo_wire.specs.Summaries.{KeyBefore};
 ghost use Rattle.segment_state.specs.Means.{MeansAt};
 ghost use Rattle.segment_state.specs.HasMeaning.{HasAnchor};
 ghost use Rattle.segment_state.specs.Gossip.{AnswersFor};
-ghost use Rattle.gossip_core.specs.Answering.{HoldsKey, IsCovered, IsFirstUncovered, IsUncovered, listing_of};
+ghost use Rattle.gossip_core.specs.Answering.{IsCovered, IsFirstUncovered, IsUncovered, listing_of};
 
 use redo_wire::{Key, Summary};
 use segment_core::{Segment, Standing};
@@ -77,7 +78,7 @@ fn is_covered(segment: &Segment, anchor: u64, key: Key) -> bool
 
 /// Whether a segment holds a record of the key.
 fn holds(segment: &Segment, key: Key) -> bool
-    ensures { IsTrue result ↔ HoldsKey segment.now key }
+    ensures { IsTrue result ↔ HoldsKey segment.now.held key.epoch key.number }
 {
     segment.holds_key(key.epoch, key.number)
 }

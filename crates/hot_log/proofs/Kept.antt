@@ -15,7 +15,7 @@ use Rattle.redo_core.proofs.Rising.{rising_filter}
 use Rattle.epoch_book.specs.Book.{BookData}
 use Rattle.hot_log.specs.Alive.{PartsAt}
 use Rattle.hot_log.specs.Indexing.{IsKeyPages}
-use Rattle.hot_log.specs.Kept.{KeepsKey, IsKeptAbove, ListsKeysOf, KeyBefore, IsKeyKept}
+use Rattle.hot_log.specs.Kept.{KeepsKey, IsKeptAbove, ListsKeysOf, KeyPairBefore, IsKeyKept}
 use Rattle.hot_log.specs.Paged.{key_cmp, key_of}
 use Rattle.hot_log.proofs.Indexed.{one_key}
 use Rattle.hot_log.proofs.Keyed.{Entry, Map}
@@ -29,7 +29,7 @@ abbrev pub KeptIn : BookData → ℕ → List Entry → ℕ × ℕ → Type 0
 KeptIn b point xs k = ((page : ℕ) × Contains xs (k, page)) × KeepsKey b point k
 
 abbrev pub ListsKept : BookData → ℕ → List Entry → List (ℕ × ℕ) → Type 0
-ListsKept b point xs keys = Lists KeyBefore (KeptIn b point xs) keys
+ListsKept b point xs keys = Lists KeyPairBefore (KeptIn b point xs) keys
 
 pub kept_none : (b : BookData) (point : ℕ) (keys : List (ℕ × ℕ)) → keys ≡ [] → ListsKept b point [] keys
 kept_none b point keys is = subst (ListsKept b point []) (sym is) (record {
@@ -40,7 +40,7 @@ kept_none b point keys is = subst (ListsKept b point []) (sym is) (record {
 -- the entries in front of one in a range have lower keys
 in_front : (m : Map) (above : ℕ × ℕ) (es xs rest : List Entry) (x : Entry) → IsOrdered key_cmp m
     → es ≡ filter (λ (e : Entry). range_contains key_cmp (Excluded above) Unbounded e.0) m.entries → es ≡ xs ++ x ∷ rest
-    → (k : ℕ × ℕ) (page : ℕ) → Contains xs (k, page) → KeyBefore k x.0
+    → (k : ℕ × ℕ) (page : ℕ) → Contains xs (k, page) → KeyPairBefore k x.0
 in_front m above es xs rest x ordered is split k page h =
     let Before : Entry → Entry → Type 0 = λ x y. key_cmp x.0 y.0 ≡ Less in
     let test = λ (e : Entry). range_contains key_cmp (Excluded above) Unbounded e.0 in
@@ -63,7 +63,7 @@ pub kept_more : (b : BookData) (point : ℕ) (m : Map) (above : ℕ × ℕ) (es 
     → es ≡ filter (λ (e : Entry). range_contains key_cmp (Excluded above) Unbounded e.0) m.entries → es ≡ xs ++ x ∷ rest
     → ListsKept b point xs keys → KeepsKey b point x.0 → ListsKept b point (xs ++ x ∷ []) (keys ++ x.0 ∷ [])
 kept_more b point m above es xs rest x keys ordered is split lists keeps =
-    lists_push KeyBefore (KeptIn b point xs) (KeptIn b point (xs ++ x ∷ [])) keys x.0 lists
+    lists_push KeyPairBefore (KeptIn b point xs) (KeptIn b point (xs ++ x ∷ [])) keys x.0 lists
     (λ k h. in_front m above es xs rest x ordered is split k h.0.0 h.0.1)
     (λ k. (
       λ h. ⊎_elim
@@ -79,7 +79,7 @@ kept_more b point m above es xs rest x keys ordered is split lists keeps =
 pub kept_left : (b : BookData) (point : ℕ) (xs : List Entry) (x : Entry) (keys : List (ℕ × ℕ)) → ListsKept b point xs keys → (KeepsKey b point x.0 → ⊥)
     → ListsKept b point (xs ++ x ∷ []) keys
 kept_left b point xs x keys lists not =
-    lists_as KeyBefore (KeptIn b point xs) (KeptIn b point (xs ++ x ∷ [])) keys
+    lists_as KeyPairBefore (KeptIn b point xs) (KeptIn b point (xs ++ x ∷ [])) keys
     (λ k. (
       λ h. ((h.0.0, (joined xs x (k, h.0.0)).1 (inl h.0.1)), h.1),
       λ h. ⊎_elim
@@ -92,10 +92,10 @@ kept_left b point xs x keys lists not =
 -- at the end of the range they are all
 pub kept_all : (b : BookData) (point : ℕ) (m : Map) (above : ℕ × ℕ) (es : List Entry) (keys : List (ℕ × ℕ))
     → es ≡ filter (λ (e : Entry). range_contains key_cmp (Excluded above) Unbounded e.0) m.entries → ListsKept b point es keys
-    → Lists KeyBefore (IsKeyKept b m.entries above point) keys
+    → Lists KeyPairBefore (IsKeyKept b m.entries above point) keys
 kept_all b point m above es keys is lists =
     let test = λ (e : Entry). range_contains key_cmp (Excluded above) Unbounded e.0 in
-    lists_as KeyBefore (KeptIn b point es) (IsKeyKept b m.entries above point) keys
+    lists_as KeyPairBefore (KeptIn b point es) (IsKeyKept b m.entries above point) keys
     (λ k. (
       λ h.
           let t = filtered test m.entries (k, h.0.0) (subst (λ (l : List Entry). Contains l (k, h.0.0)) is h.0.1) in
@@ -145,29 +145,29 @@ record_among (x ∷ rs) k h = ⊎_elim
     (which (key_of x) (map key_of rs) k h)
 
 -- records rise where their keys do
-records_rise : (rs : List RecordData) → IsRising KeyBefore (map key_of rs) → IsRising RecordBefore rs
+records_rise : (rs : List RecordData) → IsRising KeyPairBefore (map key_of rs) → IsRising RecordBefore rs
 records_rise [] rising = tt
 records_rise (r ∷ rs) rising = (
-  all_of (RecordBefore r) rs (λ s h. each (KeyBefore (key_of r)) (map key_of rs) (key_of s) rising.0 (key_among rs s h)),
+  all_of (RecordBefore r) rs (λ s h. each (KeyPairBefore (key_of r)) (map key_of rs) (key_of s) rising.0 (key_among rs s h)),
   records_rise rs rising.1,
 )
 
 -- what waits, or is alive above a point, has a key above the one that parts the alive records there
-past_parts : (b : BookData) (point epoch : ℕ) (k : ℕ × ℕ) → PartsAt b point epoch → epoch ≤ b.complete → KeepsKey b point k → KeyBefore (epoch, point) k
+past_parts : (b : BookData) (point epoch : ℕ) (k : ℕ × ℕ) → PartsAt b point epoch → epoch ≤ b.complete → KeepsKey b point k → KeyPairBefore (epoch, point) k
 past_parts b point epoch k parts known keeps = ⊎_elim
     (λ (waits : IsWaiting b.complete k.0). inl (omega (arith, waits, known)))
     (λ (alive : IsAlive b.cuts b.complete k.0 k.1 × (point < k.1)). (parts.0 k.0 k.1 alive.0).0 alive.1)
     keeps
 
 pub kept_records : (b : BookData) (held : List RecordData) (entries : List Entry) (point epoch : ℕ) (keys : List (ℕ × ℕ)) → IsRising RecordBefore held
-    → IsKeyPages held entries → PartsAt b point epoch → epoch ≤ b.complete → Lists KeyBefore (IsKeyKept b entries (epoch, point) point) keys
+    → IsKeyPages held entries → PartsAt b point epoch → epoch ≤ b.complete → Lists KeyPairBefore (IsKeyKept b entries (epoch, point) point) keys
     → ListsKeysOf (IsKeptAbove b held point) keys
 kept_records b held entries point epoch keys rising pages parts known lists =
     let of = of_keys (IsKeptAbove b held point) keys (λ k h. record_of k ((lists.members k).0 h)) in
     record {
       kept = of.records;
       lists = record {
-        rising = records_rise of.records (subst (IsRising KeyBefore) of.keys_are lists.rising);
+        rising = records_rise of.records (subst (IsRising KeyPairBefore) of.keys_are lists.rising);
         members = λ r. (
           λ h. of.each_has r h,
           λ h.

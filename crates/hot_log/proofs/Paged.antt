@@ -9,7 +9,7 @@ use Rattle.redo_core.specs.Data.{RecordData}
 use Rattle.redo_core.specs.Shape.{record_fault}
 use Rattle.redo_core.specs.Order.{IsRising, RecordBefore}
 use Rattle.redo_core.proofs.Members.{none_in, here, there, which, each, all_of}
-use Rattle.redo_core.proofs.Pairs.{pair_order}
+use Rattle.redo_core.proofs.Pairs.{pair_order, record_trans}
 use Rattle.hot_log.specs.Held.{IsHeld, HasKey, IsRecordAt}
 use Rattle.hot_log.specs.Indexing.{IsRecordOf, IsIndexBy}
 use Rattle.hot_log.specs.Removing.{Removes}
@@ -87,9 +87,6 @@ below_of r s h = grind arith
 not_below : (r s : RecordData) → is_below r s ≡ false → RecordBefore r s → ⊥
 not_below r s h p = grind arith
 
-pub later : (r s x : RecordData) → RecordBefore r s → RecordBefore s x → RecordBefore r x
-later r s x p q = grind arith
-
 -- a record stands where it is apart from each of them
 rising_insert : (r : RecordData) (ss : List RecordData) → IsRising RecordBefore ss → ((s : RecordData) → Contains ss s → RecordBefore r s ⊎ RecordBefore s r) → IsRising RecordBefore (insert_by_key r ss)
 rising_insert r [] rising apart = (tt, tt)
@@ -99,7 +96,7 @@ rising_insert r (s ∷ ss) rising apart = either (is_below r s) refl (rising_ins
     either true e rest = (
       all_of (RecordBefore r) (s ∷ ss) (λ x h. ⊎_elim
           (λ (u : s ≡ x). subst (RecordBefore r) u (below_of r s e))
-          (λ (u : Contains ss x). later r s x (below_of r s e) (each (RecordBefore s) ss x rising.0 u))
+          (λ (u : Contains ss x). record_trans r s x (below_of r s e) (each (RecordBefore s) ss x rising.0 u))
           (which s ss x h)),
       rising,
     )

@@ -22,9 +22,9 @@ pub record ListsKeysOf (P : RecordData → Type 0) (keys : List (ℕ × ℕ)) : 
   pub keys_are : keys ≡ map key_of kept
 
 -- keys by epoch, then number
-abbrev pub KeyBefore : ℕ × ℕ → ℕ × ℕ → Type 0
-KeyBefore k l = PairBefore k.0 k.1 l.0 l.1
+abbrev pub KeyPairBefore : ℕ × ℕ → ℕ × ℕ → Type 0
+KeyPairBefore k l = PairBefore k.0 k.1 l.0 l.1
 
 -- a key with a page, above the one given, that waits or is alive above a point
 abbrev pub IsKeyKept : BookData → List ((ℕ × ℕ) × ℕ) → ℕ × ℕ → ℕ → ℕ × ℕ → Type 0
-IsKeyKept b keys above point k = ((page : ℕ) × Contains keys (k, page)) × KeyBefore above k × KeepsKey b point k
+IsKeyKept b keys above point k = ((page : ℕ) × Contains keys (k, page)) × KeyPairBefore above k × KeepsKey b point k

@@ -3,7 +3,7 @@ ghost use Rattle.std.specs.Option.{IsSome, IsNone};
 ghost use Rattle.std.specs.BTreeMap.{get, IsOrdered, insert_entry};
 ghost use Rattle.hot_log.specs.Paged.{key_cmp};
 ghost use Rattle.hot_log.specs.Indexing.{AddsPage, LosesPage, IsPageOf, IsLeastKey, GainsPage, IsGreatestKey, IsGreatestOf};
-ghost use Rattle.hot_log.specs.Kept.{KeyBefore, IsKeyKept};
+ghost use Rattle.hot_log.specs.Kept.{KeyPairBefore, IsKeyKept};
 ghost use Rattle.redo_core.specs.Order.{Lists};
 ghost use Rattle.std.specs.List.{Contains};
 
@@ -127,7 +127,7 @@ impl KeyPages {
         above: (u16, u64),
         point: u64,
     ) -> Result<Vec<(u16, u64)>, AllocError>
-        ensures { IfOk result (λ v. Lists KeyBefore (IsKeyKept book.now self.now above point) v.items) }
+        ensures { IfOk result (λ v. Lists KeyPairBefore (IsKeyKept book.now self.now above point) v.items) }
     {
         let mut kept = Vec::new(alloc);
         let bounds = (Bound::Excluded(above), Bound::Unbounded);

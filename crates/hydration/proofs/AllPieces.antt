@@ -6,6 +6,7 @@ use Rattle.std.proofs.lemmas.Option.{slice_get_within, slice_get_read, same_Some
 use Rattle.redo_core.specs.Data.{RecordData}
 use Rattle.redo_core.specs.Meaning.{ImageData}
 use Rattle.redo_core.proofs.Rising.{in_take, in_drop}
+use Rattle.redo_core.proofs.ByPlace.{contains_at}
 use Rattle.redo_wire.specs.Limits.{max_batch}
 use Rattle.redo_wire.specs.Pieces.{PieceData}
 use Rattle.redo_wire.specs.declared.pieces.PieceContent.{PieceContent}
@@ -15,7 +16,6 @@ use Rattle.hydration.specs.Snapshots.{SnapshotData, IsPieceCount, IsContentAt}
 use Rattle.hydration.specs.Stagings.{StagingData, piece_at, IsStaging}
 use Rattle.hydration.specs.Placing.{IsComplete}
 use Rattle.hydration.specs.Hydrating.{BringsPage, BringsRecord, IsOfState}
-use Rattle.hydration.proofs.Shaped.{got}
 
 -- each piece of the snapshot is there, and stands in its place
 pub record HasAll (d : SnapshotData) (st : StagingData) : Type 0 where
@@ -106,7 +106,7 @@ brings_records d st all r = (
 
 pub brings_pages : (d : SnapshotData) (st : StagingData) → HasAll d st → (i : ImageData) → BringsPage st i ↔ Contains d.pages i
 brings_pages d st all i = (
-  λ h. let at : IsContentAt d h.0 (Page i) = subst (IsContentAt d h.0) h.3 (all.content h.0 h.1 h.2) in got d.pages at.0 i at.2,
+  λ h. let at : IsContentAt d h.0 (Page i) = subst (IsContentAt d h.0) h.3 (all.content h.0 h.1 h.2) in contains_at d.pages at.0 i at.2,
   λ h.
       let index = 1 + h.0 in
       let lt : h.0 < length d.pages = h.1 in

@@ -7,7 +7,8 @@ use Rattle.redo_core.specs.Data.{RecordData}
 use Rattle.redo_core.specs.Meaning.{ImageData}
 use Rattle.redo_core.specs.Order.{IsRising, Lists, RecordBefore}
 use Rattle.redo_core.specs.Writing.{zeros}
-use Rattle.redo_core.proofs.Members.{none_in, here, there, which, each, all_of}
+use Rattle.redo_core.proofs.Members.{none_in, here, there, which}
+use Rattle.redo_core.proofs.Listing.{rising_append}
 use Rattle.page_base.specs.Adopting.{first_given}
 use Rattle.redo_wire.specs.Pieces.{PieceData, IsContent}
 use Rattle.redo_wire.specs.declared.pieces.PieceContent.{PieceContent}
@@ -42,18 +43,6 @@ below_more {X} of st n xs p is all x = (
       let same : b.2 ≡ p = cc in
       Contains-append_right xs (of p.content) x (subst (λ (q : PieceData). Contains (of q.content) x) same b.4))
       (let l : b.0 < n + 1 = b.1 in let t : (b.0 < n) ⊎ (b.0 ≡ n) = grind (arith, l) in t),
-)
-
--- a rising list behind a lower one
-rising_append : {X : Type 0} (Before : X → X → Type 0) (xs ys : List X) → IsRising Before xs → IsRising Before ys
-    → ((x y : X) → Contains xs x → Contains ys y → Before x y) → IsRising Before (xs ++ ys)
-rising_append Before [] ys r s across = s
-rising_append Before (x ∷ xs) ys r s across = (
-  all_of (Before x) (xs ++ ys) (λ z h. ⊎_elim
-      (λ (q : Contains xs z). each (Before x) xs z r.0 q)
-      (λ (q : Contains ys z). across x z (here x xs) q)
-      (Contains-append_cases xs ys z h)),
-  rising_append Before xs ys r.1 s (λ a b ha hb. across a b (there x xs a ha) hb),
 )
 
 batch_rises : (content : PieceContent) → IsContent content → IsRising RecordBefore (records_of content)

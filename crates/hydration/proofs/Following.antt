@@ -5,7 +5,7 @@ use Rattle.redo_core.specs.Data.{RecordData}
 use Rattle.redo_core.specs.Order.{IsRising, RecordBefore}
 use Rattle.redo_core.proofs.Members.{which, each}
 use Rattle.redo_core.proofs.Rising.{rising_at}
-use Rattle.hot_log.proofs.Paged.{later}
+use Rattle.redo_core.proofs.Pairs.{record_trans}
 
 -- each record of a rising list is the one at a later place or before it, and the one at the first place or after it
 up_to : (xs : List RecordData) (n : ℕ) (last : RecordData) → IsRising RecordBefore xs → n + 1 ≡ length xs → last ≡ get_or xs n last → (q : RecordData)
@@ -33,5 +33,5 @@ pub all_before : (qs rs : List RecordData) (n : ℕ) (last first : RecordData) �
     → last ≡ get_or qs n last → first ≡ get_or rs 0 first → RecordBefore last first → (q r : RecordData) → Contains qs q → Contains rs r → RecordBefore q r
 all_before qs rs n last first a b len l f before q r hq hr =
     let up : RecordBefore q first = ⊎_elim (λ (e : q ≡ last). subst (λ x. RecordBefore x first) (sym e) before)
-    (λ (lt : RecordBefore q last). later q last first lt before) (up_to qs n last a len l q hq) in
-    ⊎_elim (λ (e : r ≡ first). subst (RecordBefore q) (sym e) up) (λ (lt : RecordBefore first r). later q first r up lt) (from_first rs first b f r hr)
+    (λ (lt : RecordBefore q last). record_trans q last first lt before) (up_to qs n last a len l q hq) in
+    ⊎_elim (λ (e : r ≡ first). subst (RecordBefore q) (sym e) up) (λ (lt : RecordBefore first r). record_trans q first r up lt) (from_first rs first b f r hr)

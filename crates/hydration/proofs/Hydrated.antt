@@ -6,7 +6,7 @@ use Rattle.redo_core.specs.Writing.{zeros}
 use Rattle.redo_core.specs.Position.{Position}
 use Rattle.redo_core.specs.declared.facts.Fact.{Fact}
 use Rattle.redo_laws.proofs.Log.{IsLog}
-use Rattle.redo_laws.proofs.Views.{has_cuts, anchor_is}
+use Rattle.redo_laws.proofs.Views.{anchor_is}
 use Rattle.redo_laws.proofs.Meanings.{page_exists, list_eq}
 use Rattle.redo_wire.specs.declared.pieces.PieceContent.TheVariants.{Head}
 use Rattle.segment_state.specs.State.{State, image_of}
@@ -20,6 +20,7 @@ use Rattle.hydration.specs.Snapshots.{SnapshotData, IsContentAt}
 use Rattle.hydration.specs.Stagings.{StagingData}
 use Rattle.hydration.specs.Hydrating.{Hydrates, IsBrought, BringsPage, IsOfState}
 use Rattle.hydration.proofs.AllPieces.{HasAll, brings_records, brings_pages}
+use Rattle.redo_core.proofs.CompleteEpochs.{has_cuts}
 
 -- a state of a log shows each page at its anchor
 shown_at : {roster : ℕ} (log F : List Fact) (p : Position) (s : State) (anchor page : ℕ) → IsLog roster log → MeansAt roster log F p s → HasAnchor s anchor

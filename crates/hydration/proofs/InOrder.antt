@@ -7,13 +7,13 @@ use Rattle.redo_core.specs.Data.{RecordData}
 use Rattle.redo_core.specs.Meaning.{ImageData}
 use Rattle.redo_core.specs.Order.{RecordBefore}
 use Rattle.redo_core.proofs.Members.{here}
+use Rattle.redo_core.proofs.Pairs.{record_trans}
 use Rattle.redo_wire.specs.Limits.{max_batch}
 use Rattle.redo_wire.specs.Pieces.{PieceData}
 use Rattle.redo_wire.specs.declared.pieces.PieceContent.{PieceContent}
 use Rattle.redo_wire.specs.declared.pieces.PieceContent.TheVariants.{Head, Page, Records}
 use Rattle.hydration.specs.Stagings.{StagingData, piece_at, IsStaging}
 use Rattle.hydration.specs.Placing.{CanFollow, CanStand, HasHead, PageFollows, RecordsFollow, IsInOrder}
-use Rattle.hot_log.proofs.Paged.{later}
 
 -- each piece is below the total
 pub within : (st : StagingData) (i : ℕ) (p : PieceData) → IsStaging st → piece_at st i ≡ Some p → i < st.total
@@ -119,7 +119,7 @@ batch_before st i (suc j) rs qs order at to lt in' r q hr hq =
     let between = after_records st i j rs order at l (omega (arith, in')) in
     let full = subst (λ content. RecordsFollow content qs) (same_content st j can.2 between.1.0 can.5 between.1.1 ∙ between.1.2) follow in
     let m = first_of_full between.0 full.0 in
-    later r m.0 q (batch_before st i j rs between.0 order at between.1 l (omega (arith, in')) r m.0 hr m.1) (full.1 m.0 q m.1 hq))
+    record_trans r m.0 q (batch_before st i j rs between.0 order at between.1 l (omega (arith, in')) r m.0 hr m.1) (full.1 m.0 q m.1 hq))
     (up i j lt))))
 
 -- at base 0 there are no pages

@@ -4,14 +4,14 @@ use Rattle.std.specs.List.{All}
 use Rattle.std.proofs.lemmas.List.Elements.{All-contains}
 use Rattle.redo_core.specs.Data.{CutData, AdvanceData, RecordData}
 use Rattle.redo_core.specs.Book.{BookData, book_of}
-use Rattle.redo_core.specs.Standing.{IsAlive}
+use Rattle.redo_core.specs.Standing.{IsAlive, SparesIn}
 use Rattle.redo_core.proofs.Members.{all_members}
 use Rattle.epoch_book.specs.Contradicted.{IsContradicted}
 use Rattle.hot_log.specs.Found.{IsLeast}
 use Rattle.redo_wire.specs.Pieces.{PieceData}
 use Rattle.redo_wire.specs.declared.pieces.PieceContent.TheVariants.{Head}
 use Rattle.hydration.specs.Stagings.{StagingData, piece_at}
-use Rattle.hydration.specs.Placing.{IsKeptFor, SparesIn, HasHead, CanFollow, CanStand, IsMisplaced}
+use Rattle.hydration.specs.Placing.{IsKeptFor, HasHead, CanFollow, CanStand, IsMisplaced}
 
 -- a record that does not wait is kept where it is above the anchor and all truncations spare it
 pub kept : (book : BookData) (anchor : ℕ) (r : RecordData) → r.epoch ≤ book.complete → anchor < r.number

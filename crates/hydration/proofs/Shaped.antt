@@ -1,8 +1,6 @@
 -- The pieces of a snapshot have the shape of pieces.
-use Rattle.std.proofs.Common.{◌≡◌, ◌≢◌, ℕ, ◌<◌, ◌≤◌, ◌*◌, List, [], ◌∷◌, length, take, drop, zero, suc, sym, subst, arith, Some}
-use Rattle.std.specs.List.{slice_get, Contains}
+use Rattle.std.proofs.Common.{◌≢◌, ℕ, ◌<◌, ◌≤◌, ◌*◌, List, [], ◌∷◌, length, take, drop, zero, suc, sym, subst, arith}
 use Rattle.std.proofs.lemmas.List.{length-take}
-use Rattle.std.proofs.lemmas.Option.{slice_get_within, get_or_from_slice_get}
 use Rattle.redo_core.specs.Roster.{least}
 use Rattle.redo_core.specs.Book.{IsBook, BookData}
 use Rattle.redo_core.specs.Data.{RecordData}
@@ -11,6 +9,7 @@ use Rattle.redo_core.specs.Order.{IsRising, RecordBefore}
 use Rattle.redo_core.specs.Writing.{zeros}
 use Rattle.redo_core.proofs.Members.{all_of, each}
 use Rattle.redo_core.proofs.Rising.{in_take}
+use Rattle.redo_core.proofs.ByPlace.{contains_at}
 use Rattle.redo_wire.specs.Limits.{max_batch}
 use Rattle.redo_wire.specs.Pieces.{IsPiece, piece_of}
 use Rattle.redo_wire.specs.declared.pieces.PieceContent.{PieceContent}
@@ -28,10 +27,6 @@ rising_take Before zero xs r = tt
 rising_take Before (suc n) [] r = tt
 rising_take Before (suc n) (x ∷ xs) r = (all_of (Before x) (take n xs) (λ y h. each (Before x) xs y r.0 (in_take n xs y h)), rising_take Before n xs r.1)
 
--- what is at a place is a member
-pub got : {X : Type 0} (xs : List X) (place : ℕ) (x : X) → slice_get xs place ≡ Some x → Contains xs x
-got xs place x e = (place, slice_get_within xs place x e, get_or_from_slice_get xs place x x e)
-
 pub piece_shaped : (d : SnapshotData) (index : ℕ) (content : PieceContent) → IsSnapshot d → index < d.total → IsContentAt d index content
     → IsPiece (piece_of d.name index d.total content)
 piece_shaped d index (Head book anchor) form lt at = record {
@@ -45,7 +40,7 @@ piece_shaped d index (Head book anchor) form lt at = record {
 piece_shaped d index (Page p) form lt at = record {
   index = lt;
   first = grind (arith, at.1);
-  content = each (λ (i : ImageData). i.bytes ≢ zeros) d.pages p form.nonzero (got d.pages at.0 p at.2);
+  content = each (λ (i : ImageData). i.bytes ≢ zeros) d.pages p form.nonzero (contains_at d.pages at.0 p at.2);
 }
 piece_shaped d index (Records rs) form lt at = record {
   index = lt;

@@ -17,6 +17,7 @@ use Rattle.redo_core.specs.declared.facts.Fact.{Fact}
 use Rattle.redo_core.specs.declared.facts.Fact.TheVariants.{Advance}
 use Rattle.redo_core.proofs.FactParts.{advance_in}
 use Rattle.redo_core.proofs.Rising.{rising_at, in_take, across}
+use Rattle.redo_core.proofs.ByPlace.{contains_at}
 use Rattle.redo_laws.proofs.Log.{IsLog, log_of_sound}
 use Rattle.epoch_book.specs.Contradicted.{IsContradicted}
 use Rattle.redo_wire.specs.Limits.{max_batch}
@@ -34,7 +35,7 @@ use Rattle.hydration.specs.Stagings.{StagingData, IsStaging}
 use Rattle.hydration.specs.Placing.{IsKeptFor, PageFollows, RecordsFollow, CanFollow, HasHead, CanStand, IsMisplaced, IsComplete}
 use Rattle.hydration.specs.Hydrating.{IsOfState, IsOfSoundState}
 use Rattle.hydration.proofs.AllPieces.{HasAll, has_all, head_at, of_batch}
-use Rattle.hydration.proofs.Shaped.{got, rising_drop}
+use Rattle.hydration.proofs.Shaped.{rising_drop}
 
 -- an advance of the log that the first reader is known to be past the truncation by
 abbrev PassesFirst : List Fact → CutData → Type 0
@@ -132,7 +133,7 @@ module _ {roster : ℕ} (log F : List Fact) (s : State) (d : SnapshotData) (st :
   follows index before (Head book anchor) at next = absurd (omega (arith, next.0))
   follows index before (Page p) at next =
       let same : next.0 ≡ index = omega (arith, next.1) in (
-        shown_above log F means.0 s d st p (log_of_sound roster log sound) means.1 of (got d.pages next.0 p next.2),
+        shown_above log F means.0 s d st p (log_of_sound roster log sound) means.1 of (contains_at d.pages next.0 p next.2),
         page_follows d index before p of.frozen.pages.rising at (ap (slice_get d.pages) (sym same) ∙ next.2),
       )
   follows index before (Records rs) at next = (

@@ -1,8 +1,8 @@
 -- Which pieces can stand after one another.
-use Rattle.std.specs.Prelude.{◌≡◌, ℕ, ◌<◌, ◌≤◌, ◌⊎◌, zero, suc, List, length, Some}
+use Rattle.std.specs.Prelude.{◌≡◌, ℕ, ◌<◌, ◌⊎◌, zero, suc, List, length, Some}
 use Rattle.std.specs.List.{Contains}
 use Rattle.redo_core.specs.Book.{BookData}
-use Rattle.redo_core.specs.Data.{CutData, RecordData}
+use Rattle.redo_core.specs.Data.{RecordData}
 use Rattle.redo_core.specs.Meaning.{ImageData}
 use Rattle.redo_core.specs.Order.{RecordBefore}
 use Rattle.redo_core.specs.Standing.{IsAlive, IsWaiting}
@@ -11,11 +11,7 @@ use Rattle.redo_wire.specs.Limits.{max_batch}
 use Rattle.redo_wire.specs.Pieces.{PieceData}
 use Rattle.redo_wire.specs.declared.pieces.PieceContent.{PieceContent}
 use Rattle.redo_wire.specs.declared.pieces.PieceContent.TheVariants.{Head, Page, Records}
-use Rattle.hydration.specs.Stagings.{StagingData, piece_at, IsMissing}
-
--- a truncation spares a number of an epoch in the view of epoch k
-abbrev pub SparesIn : ℕ → ℕ → ℕ → CutData → Type 0
-SparesIn k epoch number c = (c.epoch ≡ epoch → c.hi < number) × (epoch < c.epoch → c.epoch ≤ k → number ≤ c.lo)
+use Rattle.hydration.specs.Stagings.{StagingData, piece_at, IsMissingPiece}
 
 -- a record that waits for the book, or is alive in its view above the anchor
 abbrev pub IsKeptFor : BookData → ℕ → RecordData → Type 0
@@ -57,7 +53,7 @@ IsMisplaced st index = ((index < st.total) ⊎ (st.total ≡ 0)) × (CanStand st
 
 -- no piece is missing
 abbrev pub IsComplete : StagingData → Type 0
-IsComplete st = (index : ℕ) → IsMissing st index → ⊥
+IsComplete st = (index : ℕ) → IsMissingPiece st index → ⊥
 
 -- each piece is there and can stand where it is
 abbrev pub IsInOrder : StagingData → Type 0

@@ -21,8 +21,8 @@ abbrev pub piece_at : StagingData → ℕ → Option PieceData
 piece_at st index = lookup (is_at (nat_cmp index)) st.pieces
 
 -- the staging has the piece under its index
-abbrev pub Stages : StagingData → PieceData → Type 0
-Stages st p = piece_at st p.index ≡ Some p
+abbrev pub HasPiece : StagingData → PieceData → Type 0
+HasPiece st p = piece_at st p.index ≡ Some p
 
 -- the piece is of another name or total
 abbrev pub IsStranger : StagingData → PieceData → Type 0
@@ -47,5 +47,5 @@ RefusesPiece st p (Double index) = (IsStranger st p → ⊥) × (index ≡ p.ind
 RefusesPiece st p Memory = (IsStranger st p → ⊥) × (piece_at st p.index ≡ None)
 
 -- a piece that has not come
-abbrev pub IsMissing : StagingData → ℕ → Type 0
-IsMissing st index = (index < st.total) × (piece_at st index ≡ None)
+abbrev pub IsMissingPiece : StagingData → ℕ → Type 0
+IsMissingPiece st index = (index < st.total) × (piece_at st index ≡ None)

@@ -4,7 +4,7 @@ ghost use Rattle.redo_core.specs.Meaning.{ImageData};
 ghost use Rattle.redo_core.specs.Order.{Lists, RecordBefore};
 ghost use Rattle.page_base.specs.Adopting.{first_given};
 ghost use Rattle.hot_log.specs.Found.{IsLeast};
-ghost use Rattle.hydration.specs.Stagings.{IsMissing, IsStaging};
+ghost use Rattle.hydration.specs.Stagings.{IsMissingPiece, IsStaging};
 ghost use Rattle.hydration.specs.Placing.{IsMisplaced, IsComplete, IsInOrder};
 ghost use Rattle.hydration.specs.Hydrating.{Hydrates, MeansFrozen, IsOfSoundState, BringsPage, BringsRecord, IsBrought, records_of, pages_of};
 ghost use Rattle.hydration.specs.declared.finishing.FinishFault.TheVariants.{Missing as MissingOf, Malformed as MalformedOf, Memory as MemoryOf};
@@ -44,7 +44,7 @@ impl Staging {
         ensures sound { IfErr result (λ e. IsOfSoundState self.now → (index : ℕ) → e ≡ MalformedOf index → ⊥) }
         // Over any pieces.
         ensures hydrates { IfOk result (Hydrates self.now) }
-        ensures missing { (index : ℕ) → (result ≡ ErrOf (MissingOf index)) ↔ IsLeast (IsMissing self.now) (Some index) }
+        ensures missing { (index : ℕ) → (result ≡ ErrOf (MissingOf index)) ↔ IsLeast (IsMissingPiece self.now) (Some index) }
         ensures malformed { (index : ℕ) → (result ≡ ErrOf (MalformedOf index)) ↔ (IsComplete self.now × IsLeast (IsMisplaced self.now) (Some index)) }
         ensures memory { IfErr result (λ e. e ≡ MemoryOf → IsInOrder self.now) }
     {

@@ -4,11 +4,12 @@ ghost use Rattle.std.specs.List.{Contains, All};
 ghost use Rattle.redo_core.specs.Book.{BookData};
 ghost use Rattle.redo_core.specs.Data.{RecordData};
 ghost use Rattle.redo_core.specs.Order.{IsRising, RecordBefore};
+ghost use Rattle.redo_core.specs.Standing.{SparesIn};
 ghost use Rattle.epoch_book.specs.Contradicted.{IsContradicted as HasContradiction};
 ghost use Rattle.hot_log.specs.Found.{IsLeast};
 ghost use Rattle.redo_wire.specs.Pieces.{IsContent};
-ghost use Rattle.hydration.specs.Stagings.{IsMissing};
-ghost use Rattle.hydration.specs.Placing.{IsComplete, IsMisplaced, IsKeptFor, SparesIn, PageFollows, RecordsFollow, CanFollow, CanStand, HasHead};
+ghost use Rattle.hydration.specs.Stagings.{IsMissingPiece};
+ghost use Rattle.hydration.specs.Placing.{IsComplete, IsMisplaced, IsKeptFor, PageFollows, RecordsFollow, CanFollow, CanStand, HasHead};
 
 use crate::snapshot::BATCH;
 use crate::staging::Staging;
@@ -19,7 +20,7 @@ use redo_wire::{Book, PageImage, PieceContent};
 impl Staging {
     /// The least index whose piece is missing.
     pub(crate) fn first_missing(&self) -> Option<u32>
-        ensures { IsLeast (IsMissing self.now) result }
+        ensures { IsLeast (IsMissingPiece self.now) result }
     {
         for index in 0..self.total {
             if self.get(index).is_none() {

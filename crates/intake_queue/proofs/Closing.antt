@@ -11,7 +11,7 @@ use Rattle.crossbeam_queue.specs.Fifo.{Merges}
 use Rattle.crossbeam_queue.proofs.Lists.{at_set}
 use Rattle.intake_queue.specs.Parcel.{ParcelData, sent_by, AreInTurn}
 use Rattle.intake_queue.specs.Known.{KnownData, taker, sender, nobody, IsTaker, IsSender}
-use Rattle.intake_queue.specs.Rule.{FitsSender, FitsTaker, HeardTrue, Delivers, AreWhole, HoldsRest}
+use Rattle.intake_queue.specs.Rule.{FitsSender, FitsTaker, HeardTrue, Delivers, AreWhole, HoldsUntaken}
 use Rattle.intake_queue.proofs.Views.{at_one, at_here, at_else, at_either, kind_set, not_of_kind, each_set, nothing_heard}
 
 pub ends : (port : ℕ) (v : KnownData) (other : ℕ) (w : KnownData) → IsTaker v → IsSender w
@@ -80,7 +80,7 @@ as_sender v number senders accepted heard is = is ∙ sym (ap (λ u. sender u.nu
 
 -- what is known where nothing is left in the queue
 pub at_end : (v w : KnownData) (left items : List ParcelData) → w ≡ taker (v.taken ++ left) v.senders v.made v.ended v.accepted_counts → length items ≡ 0
-    → HoldsRest w items → AreWhole v.ended v.taken left × AreInTurn v.senders (v.taken ++ left)
+    → HoldsUntaken w items → AreWhole v.ended v.taken left × AreInTurn v.senders (v.taken ++ left)
 at_end v w left [] is none rest =
     let senders : w.senders ≡ v.senders = ap (λ u. u.senders) is in
     let all : w.taken ++ [] ≡ v.taken ++ left = append-nil w.taken ∙ ap (λ u. u.taken) is in (

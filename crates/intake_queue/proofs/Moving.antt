@@ -9,7 +9,7 @@ use Rattle.crossbeam_queue.specs.Fifo.{Pushes, Pops, Learns, Held}
 use Rattle.intake_queue.specs.Parcel.{ParcelData, sent_by, AreNumbered, IsSenderOf}
 use Rattle.intake_queue.specs.Heard.{HasAllHeard}
 use Rattle.intake_queue.specs.Known.{KnownData, taker, IsTaker, IsSender}
-use Rattle.intake_queue.specs.Rule.{FitsSender, FitsTaker, HeardTrue, Delivers, after_offer, IsTake, HoldsOwn, HoldsRest}
+use Rattle.intake_queue.specs.Rule.{FitsSender, FitsTaker, HeardTrue, Delivers, after_offer, IsTake, HoldsOwn, HoldsUntaken}
 use Rattle.intake_queue.proofs.Parcels.{one_of_mine, one_of_another, all_mine, numbered_more, numbered_first, numbered_before}
 use Rattle.intake_queue.proofs.Views.{at_one, same_or_not, at_here, at_else, kind_set, not_of_kind, each_set, still_true}
 
@@ -132,7 +132,7 @@ holds_own port v is items views h at one =
     omega (arith, ap length all, length-append h.taken items, (h.heard port v at).1)
 
 -- what a take that finds nothing tells the taker
-pub holds_rest : (port : ℕ) (v : KnownData) → IsTaker v → Learns Delivers port v (HoldsRest v)
+pub holds_rest : (port : ℕ) (v : KnownData) → IsTaker v → Learns Delivers port v (HoldsUntaken v)
 holds_rest port v is items views h at =
     let fits = h.taking port v at (ap (λ u. u.takes) is) in
     let each : (p : ℕ) → sent_by p (v.taken ++ items) ≡ h.accepted p = λ p. ap (λ xs. sent_by p (xs ++ items)) fits.knows ∙ h.each p in record {
@@ -150,7 +150,7 @@ after_all : (v : KnownData) (items : List ParcelData) → length items ≡ 0 →
 after_all v [] none all p count c = subst (λ xs. count ≤ length (sent_by p xs)) (append-nil v.taken) (all p count c)
 after_all v (x ∷ items) none all p count c = absurd (omega (arith, none))
 
-pub nothing_left : {T : Type 0} (P : Type 0) (Q : T → Type 0) (v : KnownData) (found : Option T) → MatchOption found (P × Held 0 (HoldsRest v)) Q
+pub nothing_left : {T : Type 0} (P : Type 0) (Q : T → Type 0) (v : KnownData) (found : Option T) → MatchOption found (P × Held 0 (HoldsUntaken v)) Q
     → IfNone found (HasAllHeard v.accepted_counts v.taken)
 nothing_left P Q v None h = let held = h.1 in after_all v held.0 held.1 held.2.heard
 nothing_left P Q v (Some x) h = tt

@@ -6,6 +6,7 @@ use Rattle.std.proofs.lemmas.Bool.{eq-eqb, ne_eqb}
 use Rattle.std.proofs.lemmas.List.{append-nil}
 use Rattle.std.proofs.lemmas.List.Elements.{filter-append}
 use Rattle.redo_core.proofs.Members.{here, there}
+use Rattle.redo_core.proofs.ByPlace.{at_longer}
 use mathlib.Core.Logic.{dite}
 use native.Mathlib.Decide.{ℕ_discrete}
 use Rattle.atomic_table.specs.Seated.{TableId}
@@ -60,11 +61,6 @@ numbered_first taken x items all =
     let e : sent_by x.sender (taken ++ x ∷ items) ≡ mine_taken ++ x ∷ mine_left =
     sent_by-append x.sender taken (x ∷ items) ∙ ap (λ ys. mine_taken ++ ys) (mine x.sender x items refl) in
     subst AreNumbered e all (length mine_taken) x (seam mine_taken x mine_left)
-
-at_longer : {X : Type 0} (xs ys : List X) (k : ℕ) (x : X) → slice_get xs k ≡ Some x → slice_get (xs ++ ys) k ≡ Some x
-at_longer [] ys k x e = absurd cc
-at_longer (z ∷ xs) ys zero x e = e
-at_longer (z ∷ xs) ys (suc k) x e = at_longer xs ys k x e
 
 -- those that stand before others
 pub numbered_before : (p : ℕ) (xs ys : List ParcelData) → AreNumbered (sent_by p (xs ++ ys)) → AreNumbered (sent_by p xs)

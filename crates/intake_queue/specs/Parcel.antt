@@ -14,8 +14,8 @@ abbrev pub sent_by : ℕ → List ParcelData → List ParcelData
 sent_by sender parcels = filter (λ p. p.sender == sender) parcels
 
 -- the facts of these parcels
-abbrev pub facts_of : List ParcelData → List PlacedFact
-facts_of parcels = map (λ p. p.fact) parcels
+abbrev pub parcel_facts : List ParcelData → List PlacedFact
+parcel_facts parcels = map (λ p. p.fact) parcels
 
 -- they are numbered 1, 2, 3 and so on
 abbrev pub AreNumbered : List ParcelData → Type 0

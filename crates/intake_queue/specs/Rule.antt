@@ -61,7 +61,7 @@ abbrev pub AreWhole : List (ℕ × List ParcelData) → List ParcelData → List
 AreWhole ended taken left = (p : ℕ) (all : List ParcelData) → Contains ended (p, all) → sent_by p (taken ++ left) ≡ all
 
 -- what the taker took and what is left are in turn, and are all that it knows of
-pub record HoldsRest (v : KnownData) (items : List ParcelData) : Type 0 where
+pub record HoldsUntaken (v : KnownData) (items : List ParcelData) : Type 0 where
   pub whole : AreWhole v.ended v.taken items
   pub heard : HasAllHeard v.accepted_counts (v.taken ++ items)
   pub in_turn : AreInTurn v.senders (v.taken ++ items)

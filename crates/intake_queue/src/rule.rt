@@ -134,7 +134,7 @@ impl<L: LogName> Outcome<Parcel<L>, Known> for Takes {
 }
 
 impl<L: LogName> Lesson<Parcel<L>, Known> for Takes {
-    ghost use Rattle.intake_queue.specs.Rule.{HoldsRest};
+    ghost use Rattle.intake_queue.specs.Rule.{HoldsUntaken};
 
-    ghost fact = { HoldsRest };
+    ghost fact = { HoldsUntaken };
 }

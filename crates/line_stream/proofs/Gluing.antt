@@ -1,9 +1,9 @@
 -- Bytes that come in pieces have the lines that they have as a whole.
 use Rattle.std.proofs.Common.{◌≡◌, ℕ, ◌<◌, Bool, true, false, cond, eqb, List, [], ◌∷◌, ◌++◌, length, refl, sym, ap, ◌∙◌, arith}
 use Rattle.std.specs.List.{onto_first}
-use Rattle.std.proofs.lemmas.List.Splits.{length-slice_split}
 use Rattle.script_text.specs.Parts.{parts_at}
 use Rattle.line_stream.specs.Lines.{glued}
+use Rattle.script_text.proofs.PatchSpelling.{some_parts}
 
 pub glued_none : (parts : List (List ℕ)) → glued [] parts ≡ parts
 glued_none [] = refl
@@ -24,15 +24,12 @@ one_byte_more false x (p ∷ []) [] some also = absurd (omega arith)
 one_byte_more false x (p ∷ []) (q ∷ qs) some also = refl
 one_byte_more false x (p ∷ r ∷ rs) Q some also = refl
 
-some_part : (c : ℕ) (text : List ℕ) → 0 < length (parts_at c text)
-some_part c text = omega (arith, length-slice_split (λ b. eqb b c) text)
-
 parts_more : (c : ℕ) (xs ys : List ℕ) → parts_at c (xs ++ ys) ≡ onto_last (parts_at c xs) (parts_at c ys)
 unfolding onto_last
 parts_more c [] ys = sym (glued_none (parts_at c ys))
 parts_more c (x ∷ xs) ys =
     ap (λ (ps : List (List ℕ)). cond (eqb x c) ([] ∷ ps) (onto_first x ps)) (parts_more c xs ys)
-    ∙ one_byte_more (eqb x c) x (parts_at c xs) (parts_at c ys) (some_part c xs) (some_part c ys)
+    ∙ one_byte_more (eqb x c) x (parts_at c xs) (parts_at c ys) (some_parts c xs) (some_parts c ys)
 
 onto_last_is : (done : List (List ℕ)) (part : List ℕ) (parts : List (List ℕ)) → onto_last (done ++ part ∷ []) parts ≡ done ++ glued part parts
 unfolding onto_last

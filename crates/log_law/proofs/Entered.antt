@@ -11,14 +11,14 @@ use Rattle.redo_core.specs.Sound.{counted}
 use Rattle.redo_core.specs.declared.facts.Fact.{Fact}
 use Rattle.redo_core.proofs.Members.{none_in, here, there, which}
 use Rattle.log_law.specs.Counted.{first_cut}
-use Rattle.log_law.specs.Alive.{stack_of, page_top, without_above, KnowsBeneath, IsStack, NotBelow, Holds, CanFollow}
+use Rattle.log_law.specs.Alive.{stack_of, page_top, without_above, KnowsBeneath, IsStack, NotBelow, HoldsAlive, CanPush}
 use Rattle.log_law.specs.declared.alive.Entry.{Entry}
 use Rattle.log_law.specs.declared.alive.AliveRecords.{AliveRecords}
 use Rattle.log_law.specs.declared.links.Item.{Item}
 use Rattle.log_law.proofs.FirstCuts.{counted_at, at_counted}
 use Rattle.log_law.proofs.Stacks.{above_falls, above_left, above_kept}
 
-pub holds_nothing : (log : List Fact) (s : AliveRecords) → IsStack s → stack_of s ≡ [] → Holds log [] s
+pub holds_nothing : (log : List Fact) (s : AliveRecords) → IsStack s → stack_of s ≡ [] → HoldsAlive log [] s
 holds_nothing log s k e = record {
   stack = k;
   falls = subst (IsRising NotBelow) (sym e) tt;
@@ -44,7 +44,7 @@ after_cut None xs = xs
 after_cut (Some c) xs = without_above c.lo xs
 
 pub next_view : (log : List Fact) (past : List Item) (old new : AliveRecords) (o : Option CutData) → first_cut log (old.view + 1) ≡ o → IsStack new
-    → new.view ≡ old.view + 1 → stack_of new ≡ after_cut o (stack_of old) → Holds log past old → Holds log past new
+    → new.view ≡ old.view + 1 → stack_of new ≡ after_cut o (stack_of old) → HoldsAlive log past old → HoldsAlive log past new
 next_view log past old new None q k v s h = record {
   stack = k;
   falls = subst (IsRising NotBelow) (sym s) h.falls;
@@ -94,7 +94,7 @@ next_view log past old new (Some d) q k v s h = record {
 -- one more record on top
 pub holds_push : (log : List Fact) (past : List Item) (old new : AliveRecords) (t : Item) (x : Entry) → x.number ≡ t.number → x.page ≡ t.page → IsStack new
     → new.view ≡ old.view → stack_of new ≡ x ∷ stack_of old → IsAlive (counted log) old.view t.epoch t.number
-    → ((y : Entry) → Contains (stack_of old) y → y.number ≤ t.number) → Holds log past old → Holds log (past ++ t ∷ []) new
+    → ((y : Entry) → Contains (stack_of old) y → y.number ≤ t.number) → HoldsAlive log past old → HoldsAlive log (past ++ t ∷ []) new
 holds_push log past old new t x num pg k v s a above h = record {
   stack = k;
   falls = subst (IsRising NotBelow) (sym s) (
@@ -141,7 +141,7 @@ none_of None h = refl
 none_of (Some c) h = absurd (h c refl)
 
 -- numbers of a group are not below what went on the stack before
-pub top_or_below : (log : List Fact) (group : List Item) (s : AliveRecords) → CanFollow log group s → (t u : Item) → Contains group t → Contains group u
+pub top_or_below : (log : List Fact) (group : List Item) (s : AliveRecords) → CanPush log group s → (t u : Item) → Contains group t → Contains group u
     → (old new : List Entry) (beneath : ℕ) → new ≡ record { number = t.number; page = t.page; beneath = beneath } ∷ old
     → ((y : Entry) → Contains old y → y.number ≤ u.number) → (x : Entry) → Contains new x → x.number ≤ u.number
 top_or_below log group s f t u ht hu old new beneath e below x hx =

@@ -17,8 +17,8 @@ use Rattle.redo_core.specs.declared.facts.Fact.TheVariants.{Record, Cut, Advance
 use Rattle.redo_core.proofs.Members.{none_in, here, there, which, filtered, passed}
 use Rattle.redo_core.proofs.FactParts.{cut_in}
 use Rattle.redo_core.specs.Roster.{IsReader}
-use Rattle.log_law.specs.Counted.{first_at, first_cut, or_first, IsTable, IsBegun, IsLeastLaterLo}
-use Rattle.log_law.specs.Lows.{AreLows}
+use Rattle.log_law.specs.Counted.{first_at, first_cut, or_first, IsTable, AreBegunTo, IsLeastLaterLo}
+use Rattle.log_law.specs.Lows.{AreLeastPoints}
 use Rattle.log_law.proofs.Reaching.{past_low, low_past}
 
 -- the first of two lists together
@@ -159,7 +159,7 @@ begun_to log k h e l m =
     (s.0, c.0, c.1)
 
 pub is_begun : (log : List Fact) (k : ℕ) → ((e : ℕ) → 1 ≤ e → e ≤ k → first_cut log e ≡ None → ⊥) → (k + 1 < 65536 → first_cut log (k + 1) ≡ None)
-    → IsBegun log k
+    → AreBegunTo log k
 is_begun log k has stop e small = (
   λ h. ⊎_elim
       (λ (l : k < e). absurd (
@@ -181,7 +181,7 @@ later_lo_last roster log table later t q = record {
     outside : (c : CutData) → 65535 < c.epoch → get_or table c.epoch None ≡ None
     outside c l = get_or_past table c.epoch None (let n : length table ≡ 65536 = t.len in omega arith)
 
-pub later_lo_step : (roster : ℕ) (log : List Fact) (lows : List ℕ) (e old new : ℕ) (o : Option CutData) → e + 1 < 65536 → AreLows roster log lows
+pub later_lo_step : (roster : ℕ) (log : List Fact) (lows : List ℕ) (e old new : ℕ) (o : Option CutData) → e + 1 < 65536 → AreLeastPoints roster log lows
     → first_cut log (e + 1) ≡ o → IsLeastLaterLo roster log (e + 1) old
     → MatchOption o (new ≡ old) (λ c. (c.lo < get_or lows (e + 1) 0 → new ≤ c.lo) × (new ≤ old)
     × ((new ≡ old) ⊎ ((c.lo < get_or lows (e + 1) 0) × (new ≡ c.lo)))) → IsLeastLaterLo roster log e new
@@ -221,7 +221,7 @@ law2_at log r (Some d) b q h has = (
   λ law. let s = counted_at log r.epoch d q in h.1 (law.1 d s.0 s.1),
 )
 
-pub law2_not : (log : List Fact) (r : RecordData) (k : ℕ) → IsBegun log k → r.epoch < 65536 → k < r.epoch → Law2 log (Record r) → ⊥
+pub law2_not : (log : List Fact) (r : RecordData) (k : ℕ) → AreBegunTo log k → r.epoch < 65536 → k < r.epoch → Law2 log (Record r) → ⊥
 law2_not log r k b small l law = let m : r.epoch ≤ k = (b r.epoch small).0 law.0 in absurd (omega arith)
 
 pub law5_at : (roster : ℕ) (log : List Fact) (a : AdvanceData) (later : ℕ) → IsLeastLaterLo roster log a.epoch later → a.point ≤ 281474976710655

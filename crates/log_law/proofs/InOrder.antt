@@ -11,7 +11,8 @@ use Rattle.redo_core.specs.Sound.{Law1}
 use Rattle.redo_core.specs.declared.facts.Fact.{Fact}
 use Rattle.redo_core.specs.declared.facts.Fact.TheVariants.{Record, Cut, Advance}
 use Rattle.redo_core.proofs.Members.{none_in, which}
-use Rattle.log_law.specs.Keys.{HasRisingKeysTo, HasRisingKeys, IsAboveKey}
+use Rattle.redo_core.proofs.Pairs.{record_trans}
+use Rattle.log_law.specs.Keys.{HasRisingKeysTo, HasRisingKeys, HasKeyAbove}
 use Rattle.log_law.specs.Links.{KeyAtMost}
 use Rattle.log_law.specs.declared.links.Item.{Item}
 use Rattle.log_law.proofs.Least.{zero_item, same_redo}
@@ -65,21 +66,10 @@ IsAboveTo log p s = (i : ℕ) (r : RecordData) → i < p → slice_get log i ≡
 
 -- the greatest key in the first places, if they have a record
 abbrev pub IsLastKey : List Fact → ℕ → Option (ℕ × ℕ) → Type 0
-IsLastKey log p last = (s : RecordData) → IsAboveKey s last ↔ IsAboveTo log p s
+IsLastKey log p last = (s : RecordData) → HasKeyAbove s last ↔ IsAboveTo log p s
 
 pub no_last : (log : List Fact) → IsLastKey log 0 None
 no_last log s = (λ t i r l e. absurd (omega (arith, l)), λ h. tt)
-
-before_across : (q r s : RecordData) → RecordBefore q r → RecordBefore r s → RecordBefore q s
-before_across q r s a b =
-    ⊎_elim
-    (λ (l : q.epoch < r.epoch). ⊎_elim
-    (λ (m : r.epoch < s.epoch). inl (omega arith))
-    (λ (m : (r.epoch ≡ s.epoch) × (r.number < s.number)). let e : r.epoch ≡ s.epoch = m.0 in inl (omega arith)) b)
-    (λ (l : (q.epoch ≡ r.epoch) × (q.number < r.number)). let e : q.epoch ≡ r.epoch = l.0 in let n : q.number < r.number = l.1 in ⊎_elim
-    (λ (m : r.epoch < s.epoch). inl (omega arith))
-    (λ (m : (r.epoch ≡ s.epoch) × (r.number < s.number)). let f : r.number < s.number = m.1 in inr (e ∙ m.0, omega arith)) b)
-    a
 
 -- the record at a place is the one that stands there
 here_redo : (log : List Fact) (p i : ℕ) (f : Fact) (r : RecordData) → slice_get log p ≡ Some f → slice_get log i ≡ Some (Record r) → p ≤ i → i < p + 1
@@ -107,7 +97,7 @@ pub last_more : (log : List Fact) (p : ℕ) (r : RecordData) → slice_get log p
     → IsLastKey log (p + 1) (Some (r.epoch, r.number))
 last_more log p r at above s = (
   λ b i q l e. ⊎_elim
-      (λ (k : i < p). before_across q r s (above i q k e) b)
+      (λ (k : i < p). record_trans q r s (above i q k e) b)
       (λ (k : p ≤ i). subst (λ x. RecordBefore x s) (same_redo r q (here_redo log p i (Record r) q at e k l)) b)
       (cases_lt i p),
   λ h. h p r (omega arith) at,

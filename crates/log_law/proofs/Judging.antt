@@ -19,10 +19,10 @@ use Rattle.redo_core.specs.declared.facts.Fact.{Fact}
 use Rattle.redo_core.specs.declared.facts.Fact.TheVariants.{Record}
 use Rattle.redo_core.specs.declared.laws.Law.TheVariants.{SegmentBacklink, BlockBacklink}
 use Rattle.redo_core.proofs.Members.{none_in, here, there, which, each}
-use Rattle.redo_laws.proofs.Numbers.{greatest_unique}
+use Rattle.redo_core.proofs.Numbers.{greatest_unique}
 use Rattle.redo_core.proofs.FactParts.{record_in}
 use Rattle.redo_core.proofs.SoundFacts.{place_of}
-use Rattle.log_law.specs.Alive.{stack_of, top_number, page_top, NotBelow, Holds, CanFollow}
+use Rattle.log_law.specs.Alive.{stack_of, top_number, page_top, NotBelow, HoldsAlive, CanPush}
 use Rattle.log_law.specs.Links.{IsItem, AreItems, KeyBelow, IsInKeyOrder, law_broken, Judges, JudgesItem}
 use Rattle.log_law.specs.declared.alive.Entry.{Entry}
 use Rattle.log_law.specs.declared.alive.AliveRecords.{AliveRecords}
@@ -68,7 +68,7 @@ page_greatest P g (x ∷ xs) r has all =
 pub record IsGroup (log : List Fact) (items past group : List Item) (s : AliveRecords) : Type 0 where
   pub ordered : (c : CutData) → Contains (cuts log) c → c.lo ≤ c.hi
   pub are : AreItems log items
-  pub holds : Holds log past s
+  pub holds : HoldsAlive log past s
   pub inside : (t : Item) → Contains group t → Contains items t
   pub before : (u : Item) → Contains past u → Contains items u
   pub split : (t u : Item) → Contains group t → Contains items u → KeyBelow u t → Contains past u
@@ -187,8 +187,8 @@ judged log items past group s g t ht r at =
     (law3_top log items past group s g t ht it) (law4_top log items past group s g t ht it))
 
 -- the group can go on the stack
-pub can_follow : (log : List Fact) (items past group : List Item) (s : AliveRecords) → IsGroup log items past group s → CanFollow log group s
-can_follow log items past group s g = record {
+pub can_push : (log : List Fact) (items past group : List Item) (s : AliveRecords) → IsGroup log items past group s → CanPush log group s
+can_push log items past group s g = record {
   alive = λ t ht.
       let it = g.are.each t (g.inside t ht) in
       let et : t.epoch ≡ s.view = g.view t ht in

@@ -12,13 +12,10 @@ use Rattle.redo_core.specs.Data.{RecordData}
 use Rattle.redo_core.specs.Sound.{Law2}
 use Rattle.redo_core.specs.declared.facts.Fact.{Fact}
 use Rattle.redo_core.specs.declared.facts.Fact.TheVariants.{Record}
-use Rattle.redo_core.proofs.Members.{none_in, which}
+use Rattle.redo_core.proofs.Members.{only}
 use Rattle.log_law.specs.Links.{IsItem, AreItemsTo, AreItems, JudgesItem, IsLeastBroken, IsFirstBrokenLink}
 use Rattle.log_law.specs.declared.links.Item.{Item}
 use Rattle.log_law.specs.declared.links.BrokenLink.{BrokenLink}
-
-pub only : (t u : Item) → Contains (t ∷ []) u → t ≡ u
-only t u p = ⊎_elim (λ (e : t ≡ u). e) (λ (n : Contains [] u). absurd (none_in u n)) (which t [] u p)
 
 pub same_redo : (r s : RecordData) → Record r ≡ Record s → r ≡ s
 same_redo r s e = cc

@@ -20,6 +20,7 @@ use Rattle.redo_core.proofs.Members.{none_in, which}
 use Rattle.redo_core.proofs.FactParts.{record_in, cut_in, advance_in}
 use Rattle.log_law.specs.Counted.{first_cut, or_first}
 use Rattle.log_law.proofs.FirstCuts.{first_cut-append, counted_is, counted_at, counted_among}
+use Rattle.log_law.proofs.Repeats.{cut_eq}
 
 -- places of a longer log
 pub old_place : (log : List Fact) (f g : Fact) (p : ℕ) → p < length log → slice_get (log ++ f ∷ []) p ≡ Some g → slice_get log p ≡ Some g
@@ -169,9 +170,6 @@ extends_other log f view other upto late = record {
   where
     is_old : (c : CutData) → Contains (counted (log ++ f ∷ [])) c → Contains (counted log) c
     is_old c h = ⊎_elim (λ k. k) (λ e. absurd (other c e)) (counted_cases log f c h)
-
-cut_eq : (c d : CutData) → Cut c ≡ Cut d → c ≡ d
-cut_eq c d e = cc
 
 pub extends_cut : {roster : ℕ} (log : List Fact) (c : CutData) (view : ℕ) → view < c.epoch → (ArePast roster (advances log) c → ⊥)
     → Extends roster log (log ++ Cut c ∷ []) view

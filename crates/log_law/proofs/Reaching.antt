@@ -9,20 +9,20 @@ use Rattle.redo_core.specs.declared.facts.Fact.TheVariants.{Advance}
 use Rattle.redo_core.proofs.Members.{none_in}
 use Rattle.redo_core.proofs.FactParts.{advance_in}
 use Rattle.redo_core.proofs.Rising.{front_to, up_to, take_grows}
-use Rattle.log_law.specs.Lows.{HasAbove, AreTops, AreLows, AreSteps, IsStep, IsReached}
+use Rattle.log_law.specs.Lows.{HasAbove, AreTops, AreLeastPoints, AreSteps, IsStep, HasTopAbove}
 
 -- the readers are past a truncation just where its lo is below the number at its epoch
-pub past_low : (roster : ℕ) (log : List Fact) (lows : List ℕ) (c : CutData) → AreLows roster log lows → c.epoch < 65536 → ArePast roster (advances log) c
+pub past_low : (roster : ℕ) (log : List Fact) (lows : List ℕ) (c : CutData) → AreLeastPoints roster log lows → c.epoch < 65536 → ArePast roster (advances log) c
     → c.lo < get_or lows c.epoch 0
 past_low roster log lows c a small past = (a.each c.epoch c.lo small).1 (λ reader r. let s = past reader r in (s.0, (advance_in log s.0).0 s.1, s.2, s.3, s.4))
 
-pub low_past : (roster : ℕ) (log : List Fact) (lows : List ℕ) (c : CutData) → AreLows roster log lows → c.epoch < 65536 → c.lo < get_or lows c.epoch 0
+pub low_past : (roster : ℕ) (log : List Fact) (lows : List ℕ) (c : CutData) → AreLeastPoints roster log lows → c.epoch < 65536 → c.lo < get_or lows c.epoch 0
     → ArePast roster (advances log) c
 low_past roster log lows c a small low reader r = let s = (a.each c.epoch c.lo small).0 low reader r in (s.0, (advance_in log s.0).1 s.1, s.2, s.3, s.4)
 
 -- points up to each epoch are the greatest of those of single epochs
 pub tops_from : (facts : List Fact) (reader : ℕ) (steps tops : List ℕ) → AreSteps facts reader steps → length tops ≡ 65536
-    → ((e n : ℕ) → e < 65536 → (n < get_or tops e 0) ↔ IsReached steps e n) → AreTops facts reader tops
+    → ((e n : ℕ) → e < 65536 → (n < get_or tops e 0) ↔ HasTopAbove steps e n) → AreTops facts reader tops
 tops_from facts reader steps tops s len risen = record {
   len = len;
   each = λ e n l. (
@@ -33,7 +33,7 @@ tops_from facts reader steps tops s len risen = record {
 }
 
 -- one reader more
-pub lows_one : (facts : List Fact) (tops : List ℕ) → AreTops facts 1 tops → AreLows 1 facts tops
+pub lows_one : (facts : List Fact) (tops : List ℕ) → AreTops facts 1 tops → AreLeastPoints 1 facts tops
 lows_one facts tops t = record {
   len = t.len;
   each = λ e n l. (
@@ -42,8 +42,8 @@ lows_one facts tops t = record {
   );
 }
 
-pub lows_more : (roster : ℕ) (facts : List Fact) (lows tops new : List ℕ) → AreLows roster facts lows → AreTops facts (roster + 1) tops → length new ≡ 65536
-    → ((e : ℕ) → e < 65536 → get_or new e 0 ≡ min (get_or lows e 0) (get_or tops e 0)) → AreLows (roster + 1) facts new
+pub lows_more : (roster : ℕ) (facts : List Fact) (lows tops new : List ℕ) → AreLeastPoints roster facts lows → AreTops facts (roster + 1) tops → length new ≡ 65536
+    → ((e : ℕ) → e < 65536 → get_or new e 0 ≡ min (get_or lows e 0) (get_or tops e 0)) → AreLeastPoints (roster + 1) facts new
 lows_more roster facts lows tops new a t len lower = record {
   len = len;
   each = λ e n l.
@@ -61,7 +61,7 @@ lows_more roster facts lows tops new a t len lower = record {
 
 -- one place more is the greatest up to it
 pub record Risen (old cur : List ℕ) (i : ℕ) : Type 0 where
-  pub done : (e n : ℕ) → e < i → (n < get_or cur e 0) ↔ IsReached old e n
+  pub done : (e n : ℕ) → e < i → (n < get_or cur e 0) ↔ HasTopAbove old e n
   pub rest : (e : ℕ) → i ≤ e → get_or cur e 0 ≡ get_or old e 0
 
 pub risen_none : (old : List ℕ) → Risen old old 1
@@ -76,12 +76,12 @@ rise_step old cur new i some r at others = record {
   done = λ e n l. ⊎_elim
       (λ (q : e < i). let same = others e (omega (arith, q)) in
       (λ h. (r.done e n q).0 (omega (arith, same, h)), λ h. let t : n < get_or cur e 0 = (r.done e n q).1 h in omega (arith, same)))
-      (λ (q : e ≡ i). subst (λ k. (n < get_or new k 0) ↔ IsReached old k n) (sym q) (here' n))
+      (λ (q : e ≡ i). subst (λ k. (n < get_or new k 0) ↔ HasTopAbove old k n) (sym q) (here' n))
       (let t : (e < i) ⊎ (e ≡ i) = (let m = l in grind (arith, m)) in t);
   rest = λ e l. others e (omega (arith, l)) ∙ r.rest e (omega (arith, l));
 }
   where
-    here' : (n : ℕ) → (n < get_or new i 0) ↔ IsReached old i n
+    here' : (n : ℕ) → (n < get_or new i 0) ↔ HasTopAbove old i n
     here' n =
         let own : get_or cur i 0 ≡ get_or old i 0 = r.rest i (omega arith) in (
           λ h. ⊎_elim

@@ -19,6 +19,7 @@ use Rattle.std.specs.Prelude.{MatchBool, not}
 use Rattle.std.specs.HashMap.{get}
 use Rattle.log_law.specs.Keys.{KeepLaw1To, IsFirstKeyConflict, IsSeenAt, IsSeen, Seen, same_pair}
 use Rattle.log_law.proofs.FirstCuts.{first_cut-append, first_at_epoch, first_among}
+use Rattle.log_law.proofs.Least.{same_redo}
 
 -- the facts up to a place and the one at it
 pub taken : (log : List Fact) (p : ℕ) (f : Fact) → slice_get log p ≡ Some f → take (p + 1) log ≡ take p log ++ f ∷ []
@@ -40,9 +41,6 @@ kept_more log p f at law kept q g l s =
     subst (λ i. Law1 (take i log) g) (sym e) (subst (Law1 (take p log)) same law))
     (cases_lt q p)
 
-record_eq : (r s : RecordData) → Record r ≡ Record s → r ≡ s
-record_eq r s e = cc
-
 -- a record with nothing of its key before it
 pub law1_none : (log : List Fact) (p : ℕ) (r : RecordData) → IsSeenAt log p r.epoch r.number None → Law1 (take p log) (Record r)
 law1_none log p r h (Record s) m k = absurd (h s m k.0 k.1)
@@ -53,7 +51,7 @@ law1_none log p r h (Advance a) m k = absurd k
 pub law1_same : (log : List Fact) (p i : ℕ) (r : RecordData) → IsSeenAt log p r.epoch r.number (Some i) → slice_get log i ≡ Some (Record r)
     → Law1 (take p log) (Record r)
 law1_same log p i r h e (Record s) m k =
-    let same : h.0 ≡ r = record_eq h.0 r (same_Some (Record h.0) (Record r) (sym h.2 ∙ e)) in
+    let same : h.0 ≡ r = same_redo h.0 r (same_Some (Record h.0) (Record r) (sym h.2 ∙ e)) in
     ap Record (h.5 s m k.0 k.1 ∙ same)
 law1_same log p i r h e (Cut c) m k = absurd k
 law1_same log p i r h e (Advance a) m k = absurd k
@@ -79,8 +77,8 @@ seen_here log p r at law = (
   refl,
   refl,
   λ s m e n. ⊎_elim
-      (λ (k : Contains (take p log) (Record s)). record_eq s r (law (Record s) k (e, n)))
-      (λ (k : Record r ≡ Record s). sym (record_eq r s k))
+      (λ (k : Contains (take p log) (Record s)). same_redo s r (law (Record s) k (e, n)))
+      (λ (k : Record r ≡ Record s). sym (same_redo r s k))
       (taken_cases log p (Record r) (Record s) at m),
 )
 
@@ -118,7 +116,7 @@ seen_more log p r e n old new at law hit miss h =
     subst (IsSeenAt log (p + 1) e n) (sym (miss t))
     (seen_other log p (Record r) e n old at
     (λ s q i j.
-    let same : r ≡ s = record_eq r s q in
+    let same : r ≡ s = same_redo r s q in
     let yes' : same_pair (r.epoch, r.number) (e, n) ≡ true = and_from (r.epoch == e) (r.number == n) (eq-eqb r.epoch e (ap (λ x. x.epoch) same ∙ i))
     (eq-eqb r.number n (ap (λ x. x.number) same ∙ j)) in
     let clash : true ≡ false = sym yes' ∙ t in cc) h))
@@ -128,7 +126,7 @@ seen_more log p r e n old new at law hit miss h =
 abbrev pub AreFirstTo : List Fact → ℕ → Type 0
 AreFirstTo log p = (c : CutData) → Contains (take p log) (Cut c) → first_cut log c.epoch ≡ Some c
 
-cut_eq : (c d : CutData) → Cut c ≡ Cut d → c ≡ d
+pub cut_eq : (c d : CutData) → Cut c ≡ Cut d → c ≡ d
 cut_eq c d e = cc
 
 pub first_more : (log : List Fact) (p : ℕ) (f : Fact) → slice_get log p ≡ Some f → ((c : CutData) → f ≡ Cut c → first_cut log c.epoch ≡ Some c)

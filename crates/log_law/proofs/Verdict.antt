@@ -7,7 +7,7 @@ use Rattle.redo_core.specs.Data.{RecordData, CutData, AdvanceData}
 use Rattle.redo_core.specs.Sound.{Law1, Law2, Law5, HasShape, KeepsLaws, IsSound}
 use Rattle.std.specs.List.{AllByRecursion}
 use Rattle.redo_core.specs.Roster.{IsRoster}
-use Rattle.redo_core.specs.Fault.{KeepsLaw, lower_laws}
+use Rattle.redo_core.specs.Fault.{KeepsLaw, lower_laws, BreaksFirst}
 use Rattle.redo_core.specs.declared.facts.Fact.{Fact}
 use Rattle.redo_core.specs.declared.facts.Fact.TheVariants.{Record, Cut, Advance}
 use Rattle.redo_core.specs.declared.laws.Law.{Law}
@@ -17,7 +17,7 @@ use Rattle.redo_core.proofs.FactParts.{cut_in}
 use Rattle.log_law.specs.Counted.{IsTable}
 use Rattle.log_law.specs.Keys.{IsFirstKeyConflict}
 use Rattle.log_law.specs.Links.{KeepsLinks, BreaksLink, Judges, IsFirstBrokenLink}
-use Rattle.log_law.specs.Report.{Reports, BreaksFirst, LinkJudges, IsLawAt}
+use Rattle.log_law.specs.Report.{Reports, LinkJudges, IsLawAt}
 use Rattle.log_law.specs.declared.links.BrokenLink.{BrokenLink}
 use Rattle.log_law.proofs.Least.{one_redo}
 

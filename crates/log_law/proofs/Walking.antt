@@ -7,7 +7,7 @@ use Rattle.redo_core.specs.Data.{CutData}
 use Rattle.redo_core.specs.Sets.{cuts}
 use Rattle.redo_core.specs.declared.facts.Fact.{Fact}
 use Rattle.redo_core.proofs.Members.{none_in, here, there, which}
-use Rattle.log_law.specs.Alive.{Holds}
+use Rattle.log_law.specs.Alive.{HoldsAlive}
 use Rattle.log_law.specs.Links.{AreItems, KeyAtMost, KeyBelow, SameItemKey, IsInKeyOrder, IsLeastBroken}
 use Rattle.log_law.specs.declared.alive.AliveRecords.{AliveRecords}
 use Rattle.log_law.specs.declared.links.Item.{Item}
@@ -61,7 +61,7 @@ take_part (suc start) (suc stop) (x ∷ xs) l =
 
 -- the walk has come to an item that has a greater key than all before it
 pub record IsWalked (log : List Fact) (items : List Item) (start : ℕ) (alive : AliveRecords) (least : Option BrokenLink) : Type 0 where
-  pub holds : Holds log (take start items) alive
+  pub holds : HoldsAlive log (take start items) alive
   pub broken : IsLeastBroken log (take start items) least
   pub view : (k : ℕ) (d : Item) → start ≤ k → k < length items → alive.view ≤ (get_or items k d).epoch
   pub apart : (j k : ℕ) (d : Item) → j < start → start ≤ k → k < length items → KeyBelow (get_or items j d) (get_or items k d)
@@ -100,7 +100,7 @@ key_trans t u v h k =
 at_default : (items : List Item) (k : ℕ) (x d : Item) → k < length items → get_or items k x ≡ x → get_or items k d ≡ x
 at_default items k x d l e = get_or_default items k d x l ∙ e
 
-pub walked_nothing : (log : List Fact) (items : List Item) (alive : AliveRecords) → Holds log [] alive → alive.view ≡ 0 → IsWalked log items 0 alive None
+pub walked_nothing : (log : List Fact) (items : List Item) (alive : AliveRecords) → HoldsAlive log [] alive → alive.view ≡ 0 → IsWalked log items 0 alive None
 walked_nothing log items alive h v = record {
   holds = h;
   broken = λ t m. absurd (none_in t m);
@@ -112,7 +112,7 @@ walked_nothing log items alive h v = record {
 pub is_group : (log : List Fact) (items : List Item) (start stop : ℕ) (alive entered : AliveRecords) (least : Option BrokenLink)
     → ((c : CutData) → Contains (cuts log) c → c.lo ≤ c.hi) → AreItems log items → IsInKeyOrder items → IsWalked log items start alive least
     → start < length items → start < stop → stop ≤ length items
-    → ((k : ℕ) (d : Item) → start ≤ k → k < stop → SameItemKey (get_or items k d) (get_or items start d)) → Holds log (take start items) entered
+    → ((k : ℕ) (d : Item) → start ≤ k → k < stop → SameItemKey (get_or items k d) (get_or items start d)) → HoldsAlive log (take start items) entered
     → entered.view ≡ (get_or items start zero_item).epoch → IsGroup log items (take start items) (take (stop - start) (drop start items)) entered
 is_group log items start stop alive entered least ordered are order w inside after within same holds view = record {
   ordered = ordered;
@@ -155,12 +155,12 @@ pub walked_group : (log : List Fact) (items : List Item) (start stop : ℕ) (ali
     → IsWalked log items start alive least → start < length items → start < stop → stop ≤ length items
     → ((k : ℕ) (d : Item) → start ≤ k → k < stop → SameItemKey (get_or items k d) (get_or items start d))
     → ((d : Item) → stop < length items → SameItemKey (get_or items stop d) (get_or items start d) → ⊥)
-    → Holds log (take start items ++ take (stop - start) (drop start items)) new → new.view ≡ (get_or items start zero_item).epoch
+    → HoldsAlive log (take start items ++ take (stop - start) (drop start items)) new → new.view ≡ (get_or items start zero_item).epoch
     → IsLeastBroken log (take start items ++ take (stop - start) (drop start items)) next → IsWalked log items stop new next
 walked_group log items start stop alive new least next order w inside after within same apart holds view broken =
     let parts = take_part start stop items (let l : start ≤ stop = omega arith in l) in
     record {
-      holds = subst (λ xs. Holds log xs new) (sym parts) holds;
+      holds = subst (λ xs. HoldsAlive log xs new) (sym parts) holds;
       broken = subst (λ xs. IsLeastBroken log xs next) (sym parts) broken;
       view = λ k d l m.
           let at : get_or items k d ≡ get_or items k zero_item = get_or_default items k d zero_item m in

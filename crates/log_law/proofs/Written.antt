@@ -24,11 +24,11 @@ use Rattle.redo_core.specs.declared.facts.Fact.{Fact}
 use Rattle.redo_core.specs.declared.facts.Fact.TheVariants.{Record, Cut, Advance}
 use Rattle.redo_core.specs.declared.shapes.ShapeFault.TheVariants.{EpochIsZero, NumberIsZero, BackNotBelow, BlockBackAbove, TooLarge}
 use Rattle.redo_core.specs.declared.shapes.ShapeFault.{ShapeFault}
-use Rattle.redo_core.proofs.Members.{none_in, here}
+use Rattle.redo_core.proofs.Members.{none_in, here, only}
 use Rattle.redo_core.proofs.FactParts.{record_in, cut_in, advance_in}
 use Rattle.redo_core.proofs.SoundFacts.{kept, cut_facts}
 use Rattle.log_law.specs.Counted.{first_cut, or_first}
-use Rattle.log_law.specs.Alive.{stack_of, top_number, page_top, without_above, NotBelow, IsStack, Holds}
+use Rattle.log_law.specs.Alive.{stack_of, top_number, page_top, without_above, NotBelow, IsStack, HoldsAlive}
 use Rattle.log_law.specs.Links.{IsItem, AreItems, KeyBelow}
 use Rattle.log_law.specs.Writing.{IsWritten, IsBoundAt, IsBound, IsMinimum, WriterData, writer_of, plain_record}
 use Rattle.log_law.specs.declared.alive.Entry.{Entry}
@@ -36,12 +36,10 @@ use Rattle.log_law.specs.declared.alive.AliveRecords.{AliveRecords}
 use Rattle.log_law.specs.declared.links.Item.{Item}
 use Rattle.log_law.proofs.FirstCuts.{counted_at, counted_among, first_cut-append, first_cut-one}
 use Rattle.log_law.proofs.Entered.{holds_nothing, holds_push, next_view}
-use Rattle.log_law.proofs.Least.{only, same_redo, one_redo}
-use Rattle.log_law.proofs.Judging.{IsGroup, law3_top, law4_top, can_follow}
+use Rattle.log_law.proofs.Least.{same_redo, one_redo}
+use Rattle.log_law.proofs.Judging.{IsGroup, law3_top, law4_top, can_push}
 use Rattle.log_law.proofs.Lengthened.{new_place, last_place, place_cases, record_cases, record_longer, record_last, cut_cases, cut_longer, cut_last, advance_cases, advance_longer, advance_last, counted_cases, KeepsRest, sound_push, Extends, extends_other, extends_cut, alive_longer, alive_shorter, has_cuts_longer, record_keeps, advance_keeps}
-
-cut_same : (c d : CutData) → Cut c ≡ Cut d → c ≡ d
-cut_same c d e = cc
+use Rattle.log_law.proofs.Repeats.{cut_eq, law1_advance}
 
 advance_same : (a b : AdvanceData) → Advance a ≡ Advance b → a ≡ b
 advance_same a b e = cc
@@ -174,8 +172,8 @@ items_longer log f view past x has within other are = record {
       (place_cases log f (Record r) p h);
 }
 
-holds_longer : {roster : ℕ} (log : List Fact) (f : Fact) (past : List Item) (s : AliveRecords) → Extends roster log (log ++ f ∷ []) s.view → Holds log past s
-    → Holds (log ++ f ∷ []) past s
+holds_longer : {roster : ℕ} (log : List Fact) (f : Fact) (past : List Item) (s : AliveRecords) → Extends roster log (log ++ f ∷ []) s.view → HoldsAlive log past s
+    → HoldsAlive (log ++ f ∷ []) past s
 holds_longer log f past s x h = record {
   stack = h.stack;
   falls = h.falls;
@@ -315,7 +313,7 @@ written_record {roster} log s new last points r x w shape ep above eb ec k v st 
     let four = subst (IsGreatest (IsAliveBelow longer r (λ o. o.page ≡ r.page))) (sym ec)
     (subst (λ q. IsGreatest (IsAliveBelow longer q (λ o. o.page ≡ q.page)) (page_top q.page (stack_of s))) same
     (law4_top longer items past (t ∷ []) s g t ht it)) in
-    let follow = can_follow longer items past (t ∷ []) s g in
+    let follow = can_push longer items past (t ∷ []) s g in
     record {
       sound = sound_push log (Record r) w.sound (record_rest log s last points r w ep above) shape (record_apart log s last points r w ep above)
           (two, three, four, tt);
@@ -383,14 +381,14 @@ written_cut {roster} log s new last points c w shape ep low k v st =
           (λ (q : s.view < i). let n = counted_at longer (s.view + 1) c first in (c, n.0, (let same : c.epoch ≡ i = omega arith in same)))
           (⊎_elim (λ (q : s.view < i). inr q) (λ (q : i ≤ s.view). inl q) (cases_lt s.view i));
       upto = λ d h. ⊎_elim (λ m. let l : d.epoch ≤ s.view = w.upto d m in omega arith)
-          (λ (q : Cut c ≡ Cut d). let n : c.epoch ≡ d.epoch = ap (λ y. y.epoch) (cut_same c d q) in omega arith) (cut_cases log (Cut c) d h);
+          (λ (q : Cut c ≡ Cut d). let n : c.epoch ≡ d.epoch = ap (λ y. y.epoch) (cut_eq c d q) in omega arith) (cut_cases log (Cut c) d h);
       within = λ q h. ⊎_elim (λ m. let l : q.epoch ≤ s.view = w.within q m in omega arith) (λ (m : Cut c ≡ Record q). absurd (cc))
           (record_cases log (Cut c) q h);
       bound = record {
         numbers = λ q h n. ⊎_elim (λ m. absurd (let l : q.epoch ≤ s.view = w.within q m in omega arith)) (λ (m : Cut c ≡ Record q). absurd (cc))
             (record_cases log (Cut c) q h);
         base = λ d h n. ⊎_elim (λ m. absurd (let l : d.epoch ≤ s.view = w.upto d m in omega arith))
-            (λ (q : Cut c ≡ Cut d). let o : c.hi ≡ d.hi = ap (λ y. y.hi) (cut_same c d q) in omega arith) (cut_cases log (Cut c) d h);
+            (λ (q : Cut c ≡ Cut d). let o : c.hi ≡ d.hi = ap (λ y. y.hi) (cut_eq c d q) in omega arith) (cut_cases log (Cut c) d h);
         least = inr (inl (c, cut_last log c, ep ∙ sym v, refl));
       };
       given = λ b h. let l : b.epoch ≤ s.view = ⊎_elim (w.given b) (λ (i : Cut c ≡ Advance b). absurd (cc)) (advance_cases log (Cut c) b h) in omega arith;
@@ -406,11 +404,6 @@ written_cut {roster} log s new last points c w shape ep low k v st =
     }
 
 -- one more advance
-advance_apart : (log : List Fact) (a : AdvanceData) → Law1 log (Advance a)
-advance_apart log a (Record q) h k = absurd k
-advance_apart log a (Cut c) h k = absurd k
-advance_apart log a (Advance b) h k = absurd k
-
 advance_rest : {roster : ℕ} (log : List Fact) (s : AliveRecords) (last : ℕ) (points : List ℕ) (a : AdvanceData) → IsWritten roster log s last points
     → Extends roster log (log ++ Advance a ∷ []) s.view → (g : Fact) → Contains log g → KeepsRest roster log g → KeepsRest roster (log ++ Advance a ∷ []) g
 advance_rest log s last points a w x (Record q) h k =
@@ -427,7 +420,7 @@ advance_sound {roster} log s last points a w shape ep reader =
     let longer = log ++ Advance a ∷ [] in
     let x : Extends roster log (log ++ Advance a ∷ []) s.view = extends_other log (Advance a) s.view (λ c q. absurd (cc))
     (λ d hd. w.upto d (counted_among log d hd)) (λ b q. ap (λ y. y.epoch) (sym (advance_same a b q)) ∙ ep) in
-    sound_push log (Advance a) w.sound (advance_rest log s last points a w x) shape (advance_apart log a) (
+    sound_push log (Advance a) w.sound (advance_rest log s last points a w x) shape (law1_advance log a) (
       tt,
       tt,
       tt,

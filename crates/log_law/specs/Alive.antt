@@ -51,7 +51,7 @@ abbrev pub NotBelow : Entry → Entry → Type 0
 NotBelow x y = y.number ≤ x.number
 
 -- the stack has just those of the past items that are alive in its view, by rising number
-pub record Holds (log : List Fact) (past : List Item) (s : AliveRecords) : Type 0 where
+pub record HoldsAlive (log : List Fact) (past : List Item) (s : AliveRecords) : Type 0 where
   pub stack : IsStack s
   pub falls : IsRising NotBelow (stack_of s)
   pub known : (t : Item) → Contains past t → t.epoch ≤ s.view
@@ -61,7 +61,7 @@ pub record Holds (log : List Fact) (past : List Item) (s : AliveRecords) : Type 
       × (x.page ≡ t.page)
 
 -- items of one number, alive in the view, that is not below what the stack has
-pub record CanFollow (log : List Fact) (group : List Item) (s : AliveRecords) : Type 0 where
+pub record CanPush (log : List Fact) (group : List Item) (s : AliveRecords) : Type 0 where
   pub alive : (t : Item) → Contains group t → IsAlive (counted log) s.view t.epoch t.number
   pub above : (t : Item) (x : Entry) → Contains group t → Contains (stack_of s) x → x.number ≤ t.number
   pub same : (t u : Item) → Contains group t → Contains group u → t.number ≡ u.number

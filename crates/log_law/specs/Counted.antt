@@ -31,8 +31,8 @@ pub record IsTable (log : List Fact) (table : List (Option CutData)) : Type 0 wh
   pub shapes : (c : CutData) → Contains (cuts log) c → cut_fault c ≡ None
 
 -- the epochs up to k, and no later ones, have begun
-abbrev pub IsBegun : List Fact → ℕ → Type 0
-IsBegun log k = (e : ℕ) → e < epoch_count → HasCutsTo (counted log) e ↔ (e ≤ k)
+abbrev pub AreBegunTo : List Fact → ℕ → Type 0
+AreBegunTo log k = (e : ℕ) → e < epoch_count → HasCutsTo (counted log) e ↔ (e ≤ k)
 
 -- the least lo of the truncations after an epoch that all readers are past, or the greatest number where there is none
 pub record IsLeastLaterLo (roster : ℕ) (log : List Fact) (e later : ℕ) : Type 0 where
@@ -42,7 +42,7 @@ pub record IsLeastLaterLo (roster : ℕ) (log : List Fact) (e later : ℕ) : Typ
 -- what the table and the complete epoch say of a log
 pub record Describes (log : List Fact) (known : CountedCuts) : Type 0 where
   pub table : IsTable log known.by_epoch.items
-  pub complete : IsBegun log known.complete
+  pub complete : AreBegunTo log known.complete
 
 -- what the least_later_lo say of a log of the roster
 pub record HasLeastLaterLo (roster : ℕ) (log : List Fact) (known : CountedCuts) : Type 0 where

@@ -27,9 +27,9 @@ abbrev pub HasRisingKeys : List Fact → Type 0
 HasRisingKeys log = HasRisingKeysTo log (length log)
 
 -- the record's key is above this one, if there is one
-abbrev pub IsAboveKey : RecordData → Option (ℕ × ℕ) → Type 0
-IsAboveKey r None = ⊤
-IsAboveKey r (Some key) = PairBefore key.0 key.1 r.epoch r.number
+abbrev pub HasKeyAbove : RecordData → Option (ℕ × ℕ) → Type 0
+HasKeyAbove r None = ⊤
+HasKeyAbove r (Some key) = PairBefore key.0 key.1 r.epoch r.number
 
 abbrev pub same_pair : (ℕ × ℕ) → (ℕ × ℕ) → Bool
 same_pair x y = (x.0 == y.0) && (x.1 == y.1)

@@ -17,7 +17,7 @@ pub record AreTops (facts : List Fact) (reader : ℕ) (tops : List ℕ) : Type 0
   pub each : (e n : ℕ) → e < epoch_count → (n < slice_index tops e) ↔ HasAbove facts reader e n
 
 -- the numbers at the epochs are the least of the readers' points there
-pub record AreLows (roster : ℕ) (facts : List Fact) (lows : List ℕ) : Type 0 where
+pub record AreLeastPoints (roster : ℕ) (facts : List Fact) (lows : List ℕ) : Type 0 where
   pub len : length lows ≡ epoch_count
   pub each : (e n : ℕ) → e < epoch_count → (n < slice_index lows e) ↔ ((reader : ℕ) → IsReader roster reader → HasAbove facts reader e n)
 
@@ -31,5 +31,5 @@ pub record AreSteps (facts : List Fact) (reader : ℕ) (tops : List ℕ) : Type 
   pub each : (e n : ℕ) → e < epoch_count → (n < slice_index tops e) ↔ ((a : AdvanceData) × Contains facts (Advance a) × IsStep a reader e n)
 
 -- some number up to the place e is above n
-abbrev pub IsReached : List ℕ → ℕ → ℕ → Type 0
-IsReached tops e n = (j : ℕ) × (j ≤ e) × (n < slice_index tops j)
+abbrev pub HasTopAbove : List ℕ → ℕ → ℕ → Type 0
+HasTopAbove tops e n = (j : ℕ) × (j ≤ e) × (n < slice_index tops j)

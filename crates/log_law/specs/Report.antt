@@ -1,7 +1,6 @@
 -- What the checker reports.
 use Rattle.std.specs.Prelude.{◌≡◌, ◌≢◌, ℕ, ◌+◌, List, Option, Some, None}
-use Rattle.std.specs.List.{AllByRecursion}
-use Rattle.redo_core.specs.Fault.{IsFirstFault, KeepsLaw, lower_laws}
+use Rattle.redo_core.specs.Fault.{IsFirstFault}
 use Rattle.redo_core.specs.declared.facts.Fact.{Fact}
 use Rattle.redo_core.specs.declared.facts.Fact.TheVariants.{Record, Cut, Advance}
 use Rattle.redo_core.specs.declared.laws.Law.{Law}
@@ -20,10 +19,6 @@ Reports roster log fault = (place : ℕ) × (fault.place ≡ place + 1) × IsFir
 abbrev pub ReportsFault : ℕ → List Fact → CheckFault → Type 0
 ReportsFault roster log (Unsound fault) = Reports roster log fault
 ReportsFault roster log Memory = Unit {0}
-
--- the fact at the place breaks the law, and none of the lower ones
-abbrev pub BreaksFirst : ℕ → List Fact → ℕ → Fact → Law → Type 0
-BreaksFirst roster log place fact law = (KeepsLaw roster log place fact law → ⊥) × AllByRecursion (KeepsLaw roster log place fact) (lower_laws law)
 
 -- what is known of a record's backlinks, if it keeps law 2
 abbrev pub LinkJudges : List Fact → Fact → Option Law → Type 0

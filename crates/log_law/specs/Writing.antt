@@ -15,7 +15,7 @@ use Rattle.log_law.specs.declared.alive.AliveRecords.{AliveRecords}
 use Rattle.log_law.specs.declared.links.Item.{Item}
 use Rattle.log_law.specs.declared.writer.WriterFault.{WriterFault}
 use Rattle.log_law.specs.declared.writer.WriterFault.TheVariants.{Shape, LoBelowAdvance, NumberNotAbove, OtherRoster, EpochsUsedUp, Memory}
-use Rattle.log_law.specs.Alive.{Holds}
+use Rattle.log_law.specs.Alive.{HoldsAlive}
 use Rattle.log_law.specs.Links.{AreItems}
 
 -- the last number of epoch k, or its hi where it has no record yet
@@ -42,8 +42,8 @@ abbrev pub writer_of : ℕ → List Fact → WriterData
 writer_of roster log = record { roster = roster; log = log }
 
 -- one fact more
-abbrev pub Joins : WriterData → Fact → WriterData → Type 0
-Joins old fact new = new ≡ writer_of old.roster (old.log ++ fact ∷ [])
+abbrev pub AppendsFact : WriterData → Fact → WriterData → Type 0
+AppendsFact old fact new = new ≡ writer_of old.roster (old.log ++ fact ∷ [])
 
 -- what a writer keeps is what its sound log says
 pub record IsWritten (roster : ℕ) (log : List Fact) (alive : AliveRecords) (last : ℕ) (points : List ℕ) : Type 0 where
@@ -54,7 +54,7 @@ pub record IsWritten (roster : ℕ) (log : List Fact) (alive : AliveRecords) (la
   pub bound : IsBoundAt log alive.view last
   pub given : (a : AdvanceData) → Contains (advances log) a → a.epoch ≤ alive.view
   pub reached : ArePoints roster (advances log) alive.view points
-  pub held : (past : List Item) × AreItems log past × Holds log past alive
+  pub held : (past : List Item) × AreItems log past × HoldsAlive log past alive
 
 -- a record of which only the number and the writes are judged
 abbrev pub plain_record : ℕ → List WriteData → RecordData
@@ -62,7 +62,7 @@ plain_record number writes = record_of 0 number 0 0 0 writes
 
 -- the record is of the complete epoch, above all its numbers, with what was given, and joins the log
 pub record AppendsRecord (old new : WriterData) (given_number given_page : ℕ) (given_writes : List WriteData) (r : RecordData) : Type 0 where
-  pub joins : Joins old (Record r) new
+  pub joins : AppendsFact old (Record r) new
   pub sound : IsSound new.roster new.log
   pub epoch : IsCompleteEpoch (cuts old.log) r.epoch
   pub above : (bound : ℕ) × IsBound old.log bound × (bound < given_number)
@@ -81,7 +81,7 @@ RefusesAppend w number writes Memory = (record_fault (plain_record number writes
 
 -- the truncation opens the epoch after the complete one, and joins the log
 pub record RecoversAt (old new : WriterData) (given_lo given_hi : ℕ) (c : CutData) : Type 0 where
-  pub joins : Joins old (Cut c) new
+  pub joins : AppendsFact old (Cut c) new
   pub sound : IsSound new.roster new.log
   pub epoch : IsCompleteEpoch (cuts new.log) c.epoch
   pub next : (k : ℕ) × IsCompleteEpoch (cuts old.log) k × (c.epoch ≡ k + 1)
@@ -100,17 +100,17 @@ RefusesRecover w lo hi Memory = (cut_fault (cut_of 1 lo hi) ≡ None) × ((point
 
 -- the advance is of the complete epoch and joins the log
 pub record AdvancesAt (old new : WriterData) (given_reader given_point : ℕ) (a : AdvanceData) : Type 0 where
-  pub joins : Joins old (Advance a) new
+  pub joins : AppendsFact old (Advance a) new
   pub sound : IsSound new.roster new.log
   pub epoch : IsCompleteEpoch (cuts old.log) a.epoch
   pub reader : a.reader ≡ given_reader
   pub point : a.point ≡ given_point
 
-abbrev pub RefusesAdvance : WriterData → ℕ → ℕ → WriterFault → Type 0
-RefusesAdvance w reader point (Shape fault) = advance_fault (advance_of 0 reader point) ≡ Some fault
-RefusesAdvance w reader point (LoBelowAdvance p) = ⊥
-RefusesAdvance w reader point (NumberNotAbove bound) = ⊥
-RefusesAdvance w reader point (OtherRoster own shown) = (advance_fault (advance_of 0 reader point) ≡ None) × (own ≡ w.roster) × (shown ≡ reader)
+abbrev pub RefusesPoint : WriterData → ℕ → ℕ → WriterFault → Type 0
+RefusesPoint w reader point (Shape fault) = advance_fault (advance_of 0 reader point) ≡ Some fault
+RefusesPoint w reader point (LoBelowAdvance p) = ⊥
+RefusesPoint w reader point (NumberNotAbove bound) = ⊥
+RefusesPoint w reader point (OtherRoster own shown) = (advance_fault (advance_of 0 reader point) ≡ None) × (own ≡ w.roster) × (shown ≡ reader)
     × (IsReader w.roster reader → ⊥)
-RefusesAdvance w reader point EpochsUsedUp = ⊥
-RefusesAdvance w reader point Memory = (advance_fault (advance_of 0 reader point) ≡ None) × IsReader w.roster reader
+RefusesPoint w reader point EpochsUsedUp = ⊥
+RefusesPoint w reader point Memory = (advance_fault (advance_of 0 reader point) ≡ None) × IsReader w.roster reader

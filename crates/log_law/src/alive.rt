@@ -3,7 +3,7 @@ ghost use Rattle.redo_core.specs.Shape.{epoch_count};
 ghost use Rattle.redo_core.specs.declared.facts.Fact.{Fact};
 ghost use Rattle.log_law.specs.declared.links.Item.{Item};
 ghost use Rattle.log_law.specs.Counted.{Describes};
-ghost use Rattle.log_law.specs.Alive.{stack_of, top_number, page_top, without_above, without_top, IsStack, Holds};
+ghost use Rattle.log_law.specs.Alive.{stack_of, top_number, page_top, without_above, without_top, IsStack, HoldsAlive};
 
 use crate::counted::{CountedCuts, filled};
 use std::alloc::{AllocError, Global};
@@ -125,7 +125,7 @@ impl AliveRecords {
         requires stack { IsStack self.old }
         ensures stack { IsStack self.new }
         ensures view { self.old.view ≤ epoch → self.new.view ≡ epoch }
-        ensures holds { (log : List Fact) (past : List Item) → Describes log cuts.now → Holds log past self.old → Holds log past self.new }
+        ensures holds { (log : List Fact) (past : List Item) → Describes log cuts.now → HoldsAlive log past self.old → HoldsAlive log past self.new }
     {
         while self.view < epoch {
             self.view += 1;

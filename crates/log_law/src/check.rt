@@ -2,10 +2,11 @@ ghost use Rattle.std.specs.Prelude.{◌≡◌, ℕ, List, IfOk, OnOk, IfErr, IsT
 ghost use Rattle.redo_core.specs.Shape.{epoch_count};
 ghost use Rattle.redo_core.specs.Sound.{IsSound, KeepsLaws, Law1};
 ghost use Rattle.redo_core.specs.declared.facts.Fact.{Fact};
+ghost use Rattle.redo_core.specs.Fault.{BreaksFirst};
 ghost use Rattle.log_law.specs.Counted.{Describes, HasLeastLaterLo};
 ghost use Rattle.log_law.specs.Keys.{IsFirstKeyConflict};
 ghost use Rattle.log_law.specs.Links.{IsFirstBrokenLink};
-ghost use Rattle.log_law.specs.Report.{Reports, ReportsFault, BreaksFirst, LinkJudges, IsLawAt};
+ghost use Rattle.log_law.specs.Report.{Reports, ReportsFault, LinkJudges, IsLawAt};
 
 use crate::counted::CountedCuts;
 use crate::keys::first_key_conflict;

@@ -4,8 +4,8 @@ ghost use Rattle.redo_core.specs.Shape.{cut_fault, advance_fault, epoch_count};
 ghost use Rattle.redo_core.specs.Sound.{Law2, Law5};
 ghost use Rattle.redo_core.specs.declared.facts.Fact.{Fact};
 ghost use Rattle.redo_core.specs.declared.facts.Fact.TheVariants.{Record, Advance as OfAdvance};
-ghost use Rattle.log_law.specs.Counted.{first_at, first_cut, or_first, IsTable, IsBegun, IsLeastLaterLo, Describes, HasLeastLaterLo};
-ghost use Rattle.log_law.specs.Lows.{AreLows};
+ghost use Rattle.log_law.specs.Counted.{first_at, first_cut, or_first, IsTable, AreBegunTo, IsLeastLaterLo, Describes, HasLeastLaterLo};
+ghost use Rattle.log_law.specs.Lows.{AreLeastPoints};
 
 use crate::lows::lows_of;
 use redo_core::{Advance, Cut, EPOCH_COUNT, Fact, MAX_NUMBER, Roster};
@@ -132,7 +132,7 @@ fn count(table: &mut [Option<Cut>], cut: &Cut)
 
 fn complete_epoch(table: &[Option<Cut>]) -> u16
     requires { length table.now ≡ epoch_count }
-    ensures { (log : List Fact) → IsTable log table.now → IsBegun log result }
+    ensures { (log : List Fact) → IsTable log table.now → AreBegunTo log result }
 {
     for epoch in 1..EPOCH_COUNT {
         if table[epoch].is_none() {
@@ -149,7 +149,7 @@ fn least_later_los(
 ) -> Result<Vec<u64>, AllocError>
     requires table { length table.now ≡ epoch_count }
     requires lows { length lows.now ≡ epoch_count }
-    ensures { (roster : ℕ) (log : List Fact) → IsTable log table.now → AreLows roster log lows.now
+    ensures { (roster : ℕ) (log : List Fact) → IsTable log table.now → AreLeastPoints roster log lows.now
         → IfOk result (λ v. (length v.items ≡ epoch_count) × ((e : ℕ) → e < epoch_count → IsLeastLaterLo roster log e (slice_index v.items e))) }
 {
     let mut least_later_lo = filled(alloc, MAX_NUMBER, EPOCH_COUNT)?;

@@ -1,7 +1,7 @@
 ghost use Rattle.std.specs.Prelude.{◌≡◌, ◌+◌, ◌<◌, ◌≤◌, ◌↔◌, length, take, slice_get, IfOk, IsTrue, MatchBool, Some, ⊤};
 ghost use Rattle.redo_core.specs.Sound.{Law1};
 ghost use Rattle.log_law.specs.Counted.{Describes};
-ghost use Rattle.log_law.specs.Keys.{IsFirstKeyConflict, IsSeen, HasRisingKeys, IsAboveKey};
+ghost use Rattle.log_law.specs.Keys.{IsFirstKeyConflict, IsSeen, HasRisingKeys, HasKeyAbove};
 
 use crate::counted::CountedCuts;
 use redo_core::{Fact, Record};
@@ -61,7 +61,7 @@ fn has_rising_keys(facts: &[Fact]) -> bool
 
 /// Whether a record's key is above the last one before it, if there is one.
 fn is_above(redo: &Record, last: Option<(u16, u64)>) -> bool
-    ensures { IsTrue result ↔ IsAboveKey redo.now last }
+    ensures { IsTrue result ↔ HasKeyAbove redo.now last }
 {
     match last {
         Some((epoch, number)) => {

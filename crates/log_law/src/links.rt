@@ -2,7 +2,7 @@ ghost use Rattle.std.specs.Prelude.{◌≡◌, ℕ, ◌<◌, ◌≤◌, ◌↔�
 ghost use Rattle.redo_core.specs.Shape.{epoch_count};
 ghost use Rattle.redo_core.specs.declared.facts.Fact.{Fact};
 ghost use Rattle.log_law.specs.Counted.{Describes};
-ghost use Rattle.log_law.specs.Alive.{stack_of, IsStack, Holds, CanFollow};
+ghost use Rattle.log_law.specs.Alive.{stack_of, IsStack, HoldsAlive, CanPush};
 ghost use Rattle.log_law.specs.Links.{AreItems, IsInKeyOrder, KeyAtMost, SameItemKey, law_broken, JudgesItem, IsLeastBroken, IsFirstBrokenLink};
 
 use crate::alive::AliveRecords;
@@ -193,8 +193,8 @@ fn push_all(alive: &mut AliveRecords, group: &[Item]) -> Result<(), AllocError>
     requires { IsStack alive.old }
     ensures view { alive.new.view ≡ alive.old.view }
     ensures stack { OnOk result (IsStack alive.new) }
-    ensures holds { (log : List Fact) (past : List Item) → Holds log past alive.old → CanFollow log group.now alive.old
-        → OnOk result (Holds log (past ++ group.now) alive.new) }
+    ensures holds { (log : List Fact) (past : List Item) → HoldsAlive log past alive.old → CanPush log group.now alive.old
+        → OnOk result (HoldsAlive log (past ++ group.now) alive.new) }
 {
     for item in group {
         alive.push(item.number, item.page)?;

@@ -2,7 +2,7 @@ ghost use Rattle.std.specs.Prelude.{◌≡◌, ◌≢◌, ℕ, ◌<◌, ◌≤�
 ghost use Rattle.redo_core.specs.Shape.{epoch_count};
 ghost use Rattle.redo_core.specs.Roster.{IsRoster};
 ghost use Rattle.redo_core.specs.Data.{AdvanceData};
-ghost use Rattle.log_law.specs.Lows.{AreTops, AreLows, AreSteps, IsStep, IsReached};
+ghost use Rattle.log_law.specs.Lows.{AreTops, AreLeastPoints, AreSteps, IsStep, HasTopAbove};
 
 use crate::counted::filled;
 use redo_core::{Advance, EPOCH_COUNT, Fact, Roster};
@@ -10,7 +10,7 @@ use std::alloc::{AllocError, Global};
 
 /// For each epoch, the least of the readers' points over the advances of earlier epochs.
 pub(crate) fn lows_of(alloc: Global, facts: &[Fact], roster: Roster) -> Result<Vec<u64>, AllocError>
-    ensures { IfOk result (λ v. AreLows roster facts.now v.items) }
+    ensures { IfOk result (λ v. AreLeastPoints roster facts.now v.items) }
 {
     let readers = roster.readers();
     let mut lows = tops_of(alloc, facts, 1)?;
@@ -71,7 +71,7 @@ fn note(tops: &mut Vec<u64>, advance: Advance, reader: u8)
 fn rise(tops: &mut Vec<u64>)
     requires { length tops.old.items ≡ epoch_count }
     ensures len { length tops.new.items ≡ epoch_count }
-    ensures each { (e n : ℕ) → e < epoch_count → (n < slice_index tops.new.items e) ↔ IsReached tops.old.items e n }
+    ensures each { (e n : ℕ) → e < epoch_count → (n < slice_index tops.new.items e) ↔ HasTopAbove tops.old.items e n }
 {
     for epoch in 1..EPOCH_COUNT {
         let before = tops[epoch - 1];

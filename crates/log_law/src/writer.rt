@@ -2,7 +2,7 @@ ghost use Rattle.std.specs.Prelude.{◌≡◌, [], IfOk, OnErr, IfErr, None};
 ghost use Rattle.redo_core.specs.Data.{record_of};
 ghost use Rattle.redo_core.specs.Shape.{record_fault};
 ghost use Rattle.redo_core.specs.Sound.{IsSound};
-ghost use Rattle.log_law.specs.Writing.{AppendsRecord, RefusesAppend, RecoversAt, RefusesRecover, AdvancesAt, RefusesAdvance, plain_record, writer_of};
+ghost use Rattle.log_law.specs.Writing.{AppendsRecord, RefusesAppend, RecoversAt, RefusesRecover, AdvancesAt, RefusesPoint, plain_record, writer_of};
 
 use crate::alive::AliveRecords;
 use redo_core::{Advance, Cut, Fact, ReadPoints, Record, Refused, Roster, ShapeFault, Write};
@@ -163,7 +163,7 @@ impl Writer {
     pub fn advance(&mut self, point: u64) -> Result<Advance, WriterFault>
         ensures ok { IfOk result (λ a. AdvancesAt self.old self.new 1 point a) }
         ensures unchanged { OnErr result (self.new ≡ self.old) }
-        ensures fault { IfErr result (λ e. RefusesAdvance self.old 1 point e) }
+        ensures fault { IfErr result (λ e. RefusesPoint self.old 1 point e) }
     {
         self.advance_of(1, point)
     }
@@ -174,7 +174,7 @@ impl Writer {
     pub fn advance_of(&mut self, reader: u8, point: u64) -> Result<Advance, WriterFault>
         ensures ok { IfOk result (λ a. AdvancesAt self.old self.new reader point a) }
         ensures unchanged { OnErr result (self.new ≡ self.old) }
-        ensures fault { IfErr result (λ e. RefusesAdvance self.old reader point e) }
+        ensures fault { IfErr result (λ e. RefusesPoint self.old reader point e) }
     {
         let advance = match Advance::of_reader(reader, self.alive.view(), point) {
             Ok(advance) => advance,

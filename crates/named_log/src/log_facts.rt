@@ -1,5 +1,5 @@
 ghost use Rattle.std.specs.Prelude.{◌≡◌, ◌↔◌, Some, IfOk, IsSome};
-ghost use Rattle.named_log.specs.Places.{IsPlace, fact_at, placed};
+ghost use Rattle.named_log.specs.Places.{IsLogPlace, fact_at, placed};
 
 use crate::names::LogName;
 use redo_core::Fact;
@@ -41,7 +41,7 @@ impl<L: LogName> LogFact<L> {
     /// The fact at a place of the log, from 1, or none outside it. Its only error is want of memory.
     pub fn at(alloc: Global, place: u64) -> Result<Option<LogFact<L>>, AllocError>
         ensures value { IfOk result (λ found. found ≡ placed place (fact_at L.log place)) }
-        ensures inside { IfOk result (λ found. IsSome found ↔ IsPlace L.log place) }
+        ensures inside { IfOk result (λ found. IsSome found ↔ IsLogPlace L.log place) }
     {
         match L::fact(alloc, place)? {
             Some(fact) => Ok(Some(LogFact {

@@ -6,13 +6,11 @@
 
 mod descriptor;
 
-ghost use Rattle.std.specs.Prelude.{◌≡◌};
 ghost use Rattle.node_c.specs.Ending.{IsStatus};
-ghost use Rattle.node_stream.specs.Ending.{status_of};
 
 use descriptor::Descriptor;
-use line_stream::{RunFault, Watched};
-use node_stream::{Node, serve_frames};
+use line_stream::Watched;
+use node_stream::{Node, serve_frames, status_of};
 use redo_core::Roster;
 use std::alloc::Global;
 
@@ -24,17 +22,6 @@ const LIMIT: usize = 67_108_864;
 
 /// The images of pages that the cache keeps at most.
 const PAGES: usize = 64;
-
-fn status_of(ended: Result<(), RunFault>) -> u8
-    ensures { result ≡ status_of ended }
-{
-    match ended {
-        Ok(()) => 0,
-        Err(RunFault::Input) => 4,
-        Err(RunFault::Output) => 4,
-        Err(RunFault::Memory) => MEMORY,
-    }
-}
 
 /// Answers the request frames that a descriptor gives, each by a frame on another one, or on the same, until the input ends. At first
 /// an empty segment of one reader answers. Both descriptors block, and stay open.

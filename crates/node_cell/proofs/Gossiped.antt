@@ -14,30 +14,30 @@ use Rattle.segment_core.specs.declared.answers.Front.{Front}
 use Rattle.front_board.specs.FrontWord.{FrontData}
 use Rattle.node_lock.specs.Trail.{Entry}
 use Rattle.gossip_core.specs.Summarizing.{IsSummaryOf}
-use Rattle.gossip_core.specs.Absorbing.{IsAnswered, MeansBoth, RefusesAbsorb}
+use Rattle.gossip_core.specs.Absorbing.{IsAnsweredInLog, MeansBoth, RefusesAbsorb}
 use Rattle.gossip_core.specs.declared.answering.Shown.{Shown}
 use Rattle.gossip_core.specs.declared.absorbing.AbsorbRefusal.{AbsorbRefusal}
 use Rattle.gossip_core.specs.declared.absorbing.AbsorbRefusal.TheVariants.{Uncovered, Refused}
-use Rattle.node_cell.specs.Kept.{IsKept}
+use Rattle.node_cell.specs.Kept.{MeansTrail}
 use Rattle.node_cell.specs.Gossiping.{MailData, IsSummaryOfLog, IsMail, IsFrontWithMail, IsUncoveredOfLog, RefusesMail, fault_of}
 use Rattle.node_cell.proofs.Places.{wider}
 use Rattle.node_cell.proofs.Uncovering.{leaves_uncovered}
 
 module _ (roster : ℕ) (log : List Fact) where
   pub summary_of_log : {E : Type 0} (s : State) (trail : List Entry) (result : Result SummaryData E) → IsSound roster log
-      → IsKept roster log s trail → OneMeaning → IfOk result (λ x. (r : ℕ) (l facts : List Fact) (m : Meaning) → IsSound r l → Means r l facts s → IsMeaning r facts m → IsSummaryOf m x)
+      → MeansTrail roster log s trail → OneMeaning → IfOk result (λ x. (r : ℕ) (l facts : List Fact) (m : Meaning) → IsSound r l → Means r l facts s → IsMeaning r facts m → IsSummaryOf m x)
       → IfOk result (IsSummaryOfLog roster log)
   summary_of_log s trail (Ok x) sound k law told =
       let one = law roster log k.facts sound k.means.1.part in
       record { facts = k.facts; m = one.0; part = k.means.1.part; meaning = one.1; told = told roster log k.facts one.0 sound k.means one.1 }
   summary_of_log s trail (Err e) sound k law told = tt
 
-  pub answered : (old : State) (trail : List Entry) (mail : MailData) → IsSound roster log → (k : IsKept roster log old trail) → (own : IsMail roster log mail)
-      → IsAnswered roster log k.facts own.facts k.means.0 own.p old mail.summary mail.delta
+  pub answered : (old : State) (trail : List Entry) (mail : MailData) → IsSound roster log → (k : MeansTrail roster log old trail) → (own : IsMail roster log mail)
+      → IsAnsweredInLog roster log k.facts own.facts k.means.0 own.p old mail.summary mail.delta
   answered old trail mail sound k own = record { sound = sound; means = k.means.1; part = own.part; position = own.position; fills = own.sent }
 
-  pub keeps_both : (old new : State) (trail : List Entry) (G : List Fact) → (k : IsKept roster log old trail) → Means roster log (k.facts ++ G) new
-      → IsKept roster log new trail
+  pub keeps_both : (old new : State) (trail : List Entry) (G : List Fact) → (k : MeansTrail roster log old trail) → Means roster log (k.facts ++ G) new
+      → MeansTrail roster log new trail
   keeps_both old new trail G k means =
       record { facts = k.facts ++ G; means = means; has = wider log k.facts (k.facts ++ G) trail (left k.facts G) k.has }
 
@@ -59,7 +59,7 @@ module _ (roster : ℕ) (log : List Fact) where
   }
 
   pub uncovered_of_log : (s : State) (trail : List Entry) (summary : SummaryData) (d : DeltaData) (shown : Shown) → IsSound roster log
-      → IsKept roster log s trail → RefusesAbsorb s summary d (Uncovered shown) → IsUncoveredOfLog roster log summary shown
+      → MeansTrail roster log s trail → RefusesAbsorb s summary d (Uncovered shown) → IsUncoveredOfLog roster log summary shown
   uncovered_of_log s trail summary d shown sound k why = record {
     facts = k.facts;
     p = k.means.0;
@@ -70,15 +70,15 @@ module _ (roster : ℕ) (log : List Fact) where
 
   -- after an absorb the state means the facts that it meant and those that the mail is of
   pub both_meant : (old new : State) (trail : List Entry) (mail : MailData) (x : SummaryData) (d : DeltaData) → IsSound roster log
-      → (k : IsKept roster log old trail) → (own : IsMail roster log mail) → x ≡ mail.summary → d ≡ mail.delta → MeansBoth old x d new
+      → (k : MeansTrail roster log old trail) → (own : IsMail roster log mail) → x ≡ mail.summary → d ≡ mail.delta → MeansBoth old x d new
       → Means roster log (k.facts ++ own.facts) new
   both_meant old new trail mail x d sound k own ex ed both =
       both roster log k.facts own.facts k.means.0 own.p
-      (subst (λ y. IsAnswered roster log k.facts own.facts k.means.0 own.p old y d) (sym ex)
-      (subst (λ e. IsAnswered roster log k.facts own.facts k.means.0 own.p old mail.summary e) (sym ed) (answered old trail mail sound k own)))
+      (subst (λ y. IsAnsweredInLog roster log k.facts own.facts k.means.0 own.p old y d) (sym ex)
+      (subst (λ e. IsAnsweredInLog roster log k.facts own.facts k.means.0 own.p old mail.summary e) (sym ed) (answered old trail mail sound k own)))
 
   pub refuses_mail : (s : State) (trail : List Entry) (mail : MailData) (x : SummaryData) (d : DeltaData) (why : AbsorbRefusal) → IsSound roster log
-      → IsKept roster log s trail → x ≡ mail.summary → RefusesAbsorb s x d why → RefusesMail roster log mail (fault_of why)
+      → MeansTrail roster log s trail → x ≡ mail.summary → RefusesAbsorb s x d why → RefusesMail roster log mail (fault_of why)
   refuses_mail s trail mail x d (Uncovered shown) sound k ex why =
       uncovered_of_log s trail mail.summary d shown sound k (subst (λ y. RefusesAbsorb s y d (Uncovered shown)) ex why)
   refuses_mail s trail mail x d (Refused other) sound k ex why = tt

@@ -31,20 +31,20 @@ use Rattle.node_lock.specs.Trail.{Entry, Receipt, HasReceipts}
 use Rattle.node_cell.specs.Receipt.{ReceiptData}
 use Rattle.node_cell.specs.Settling.{Stands}
 use Rattle.node_cell.specs.Folding.{IsFoldOfLog, RefusesFold}
-use Rattle.node_cell.specs.Kept.{IsKept}
+use Rattle.node_cell.specs.Kept.{MeansTrail}
 use Rattle.node_cell.specs.View.{ViewData, IsLogPage}
 use Rattle.node_cell.specs.Reading.{IsViewResult, TellsRead}
 use Rattle.node_cell.specs.Delivering.{IsFrontWith}
 use Rattle.node_cell.proofs.Places.{wider, longer, of_receipts, found}
 
 module _ (roster : ℕ) (log : List Fact) where
-  pub none_kept : (s : State) → Means roster log [] s → IsKept roster log s []
+  pub none_kept : (s : State) → Means roster log [] s → MeansTrail roster log s []
   none_kept s means = record { facts = []; means = means; has = tt }
 
   -- ---- a fact more, and its entry
 
-  pub keeps : (old new : State) (trail : List Entry) (pass place : ℕ) (f : Fact) → (k : IsKept roster log old trail) → fact_at log place ≡ Some f
-      → Means roster log (k.facts ++ f ∷ []) new → IsKept roster log new (trail ++ (pass, place) ∷ [])
+  pub keeps : (old new : State) (trail : List Entry) (pass place : ℕ) (f : Fact) → (k : MeansTrail roster log old trail) → fact_at log place ≡ Some f
+      → Means roster log (k.facts ++ f ∷ []) new → MeansTrail roster log new (trail ++ (pass, place) ∷ [])
   keeps old new trail pass place f k at means =
       let more = k.facts ++ f ∷ [] in record {
         facts = more;
@@ -52,7 +52,7 @@ module _ (roster : ℕ) (log : List Fact) where
         has = longer log more trail (pass, place) (wider log k.facts more trail (left k.facts (f ∷ [])) k.has) (f, at, right k.facts (f ∷ []) f (here f []));
       }
 
-  pub front_with : (old new : State) (trail : List Entry) (place : ℕ) (f : Fact) (front : Front) (told : FrontData) → (k : IsKept roster log old trail)
+  pub front_with : (old new : State) (trail : List Entry) (place : ℕ) (f : Fact) (front : Front) (told : FrontData) → (k : MeansTrail roster log old trail)
       → fact_at log place ≡ Some f → (m : Means roster log (k.facts ++ f ∷ []) new) → IsFrontAt m.0 front
       → told ≡ record { epoch = front.epoch; number = front.complete } → IsFrontWith roster log trail place told
   front_with old new trail place f front told k at m is same =
@@ -99,7 +99,7 @@ module _ (roster : ℕ) (log : List Fact) where
         shown = page_law log facts p page q image l part at answer.0.1 answer.1;
       })
 
-  pub tells : (segment : State) (trail : List Entry) (page q : ℕ) (result : Result ViewData ReadFault) → (k : IsKept roster log segment trail)
+  pub tells : (segment : State) (trail : List Entry) (page q : ℕ) (result : Result ViewData ReadFault) → (k : MeansTrail roster log segment trail)
       → IsViewResult k.facts k.means.0 page q result → TellsRead roster log trail page q result
   tells segment trail page q result k answer = record {
     facts = k.facts;
@@ -163,7 +163,7 @@ module _ (roster : ℕ) (log : List Fact) where
     fold = subst (λ n. IsFoldOf facts p n folded) (sym f.page_is) f;
   }
 
-  pub keeps_still : (old new : State) (trail : List Entry) → (k : IsKept roster log old trail) → Means roster log k.facts new → IsKept roster log new trail
+  pub keeps_still : (old new : State) (trail : List Entry) → (k : MeansTrail roster log old trail) → Means roster log k.facts new → MeansTrail roster log new trail
   keeps_still old new trail k means = record { facts = k.facts; means = means; has = k.has }
 
   pub refuses_fold : (F : List Fact) (p : Position) (s : State) (folded : Folded) (fault : CommitFault) → IsSound roster log → MeansAt roster log F p s

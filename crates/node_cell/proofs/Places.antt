@@ -7,7 +7,7 @@ use Rattle.redo_core.specs.declared.facts.Fact.{Fact}
 use Rattle.redo_core.proofs.Members.{here, there}
 use Rattle.named_log.specs.Places.{fact_at}
 use Rattle.node_lock.specs.Trail.{Entry, Receipt, HasReceipts}
-use Rattle.node_cell.specs.Settling.{place_of, found_at}
+use Rattle.node_cell.specs.Settling.{entry_place, found_at}
 use Rattle.node_cell.specs.Kept.{HasPlace, HasPlaces}
 
 stands : (xs : List Fact) (k : ℕ) (f : Fact) → slice_get xs k ≡ Some f → Contains xs f
@@ -40,7 +40,7 @@ of_receipts log F trail pass [] h has = tt
 of_receipts log F trail pass (r ∷ rs) h has =
     (at_index log F trail (r.0 - 1) (pass, r.1) h has.0.1, of_receipts log F trail pass rs h has.1)
 
-at_place : (log F : List Fact) (trail : List Entry) (k p : ℕ) → HasPlaces log F trail → place_of (slice_get trail k) ≡ Some p → HasPlace log F p
+at_place : (log F : List Fact) (trail : List Entry) (k p : ℕ) → HasPlaces log F trail → entry_place (slice_get trail k) ≡ Some p → HasPlace log F p
 at_place log F [] k p h at = absurd cc
 at_place log F (x ∷ xs) zero p h at = let q : x.1 ≡ p = cc in subst (HasPlace log F) q h.0
 at_place log F (x ∷ xs) (suc k) p h at = at_place log F xs k p h.1 at

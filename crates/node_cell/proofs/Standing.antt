@@ -4,10 +4,10 @@ use Rattle.std.specs.Prelude.{slice_get}
 use Rattle.std.specs.List.{AllByRecursion}
 use Rattle.node_lock.specs.Trail.{Entry, Receipt, HasReceipts}
 use Rattle.node_cell.specs.Laws.{receipt_of}
-use Rattle.node_cell.specs.Settling.{place_of, found_at, Stands}
+use Rattle.node_cell.specs.Settling.{entry_place, found_at, Stands}
 
-at_index : (trail : List Entry) (k pass p : ℕ) → slice_get trail k ≡ Some (pass, p) → place_of (slice_get trail k) ≡ Some p
-at_index trail k pass p at = ap place_of at
+at_index : (trail : List Entry) (k pass p : ℕ) → slice_get trail k ≡ Some (pass, p) → entry_place (slice_get trail k) ≡ Some p
+at_index trail k pass p at = ap entry_place at
 
 at_place : (trail : List Entry) (place pass p : ℕ) → 0 < place → slice_get trail (place - 1) ≡ Some (pass, p) → found_at trail place ≡ Some p
 at_place trail zero pass p l at = absurd (omega (arith, l))

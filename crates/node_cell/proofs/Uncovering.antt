@@ -14,39 +14,15 @@ use Rattle.segment_state.specs.Means.{MeansAt}
 use Rattle.segment_state.specs.HasMeaning.{HasAnchor}
 use Rattle.segment_state.specs.Gossip.{IsAccounted}
 use Rattle.segment_state.proofs.Own.{anchor_law}
-use Rattle.gossip_core.specs.Answering.{IsCovered, IsMissing, IsUncovered, listed_key}
+use Rattle.gossip_core.specs.Answering.{IsCovered, IsUncoveredKey, IsUncovered, listed_key}
 use Rattle.gossip_core.specs.declared.answering.Shown.{Shown}
 use Rattle.gossip_core.specs.declared.answering.Shown.TheVariants.{Anchor as OfAnchor, Key as OfKey}
 use Rattle.gossip_core.proofs.AnsweringFacts.{answers_for, tells_answer}
 use Rattle.node_cell.specs.Gossiping.{LeavesUncovered}
+use Rattle.gossip_core.proofs.Uncovering.{accounted, not_accounted}
 
 module _ (roster : ℕ) (log F : List Fact) (f : Position) (s : State) (sound : IsSound roster log) (means : MeansAt roster log F f s) (anchor : ℕ)
     (has : HasAnchor s anchor) where
-  -- a summary of one key
-  one : SummaryData → Key → SummaryData
-  one x key = record { book = x.book; anchor = 0; keys = key ∷ [] }
-
-  accounted : SummaryData → (key : Key) → IsCovered s anchor key → IsAccounted F f (listed_key key)
-  unfolding one
-  accounted x key covers =
-      let all = all_members (IsCovered s anchor) (key ∷ [])
-      (λ y h. ⊎_elim (λ (e : key ≡ y). subst (IsCovered s anchor) e covers) (λ (none : Contains [] y). absurd (none_in y none)) (which key [] y h)) in
-      (answers_for roster log F f s sound means (one x key) anchor has (omega arith, all)).keys (listed_key key) (here (listed_key key) [])
-
-  not_accounted : SummaryData → (key : Key) → (IsCovered s anchor key → ⊥) → IsAccounted F f (listed_key key) → ⊥
-  unfolding one
-  not_accounted x key not is =
-      let first : IsFirst KeyBefore (IsMissing s anchor (key ∷ [])) key = record {
-        has = (here key [], not);
-        least = λ y h. ⊎_elim (λ (e : key ≡ y). inl (sym e)) (λ (none : Contains [] y). absurd (none_in y none)) (which key [] y h.0);
-      } in
-      let tells = tells_answer roster log F f s sound means (one x key) anchor has (Some (OfKey key)) (omega arith, first) in
-      let never : Some (OfKey key) ≡ None = tells.1 (record {
-        anchor = omega arith;
-        keys = λ k h. ⊎_elim (λ (e : listed_key key ≡ k). subst (IsAccounted F f) e is) (λ none. absurd (none_in k none)) (which (listed_key key) [] k h);
-      }) in
-      absurd (cc)
-
   pub leaves_uncovered : (x : SummaryData) (shown : Shown) → IsUncovered s anchor x (Some shown) → LeavesUncovered F f x shown
   leaves_uncovered x (OfAnchor a) is =
       let at : anchor ≡ f.anchor = (anchor_law log F f s anchor (log_of_sound roster log sound) means has).1 in
@@ -55,7 +31,7 @@ module _ (roster : ℕ) (log F : List Fact) (f : Position) (s : State) (sound : 
       let at : anchor ≡ f.anchor = (anchor_law log F f s anchor (log_of_sound roster log sound) means has).1 in (
         omega (arith, at, is.0),
         record {
-          has = (is.1.has.0, not_accounted x key is.1.has.1);
-          least = λ y lacks. is.1.least y (lacks.0, λ covers. lacks.1 (accounted x y covers));
+          has = (is.1.has.0, not_accounted roster log F f s sound means anchor has x key is.1.has.1);
+          least = λ y lacks. is.1.least y (lacks.0, λ covers. lacks.1 (accounted roster log F f s sound means anchor has x y covers));
         },
       )

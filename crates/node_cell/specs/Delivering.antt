@@ -21,9 +21,9 @@ pub record IsFrontWith (roster : ℕ) (log : List Fact) (earlier : List (ℕ × 
   pub number : front.number ≡ p.complete
 
 -- why a fact does not come into a trail of so many entries: it is full, or else memory is wanting
-abbrev pub RefusesPut : ℕ → ℕ → DeliverFault → Type 0
-RefusesPut capacity count (TrailFull shown) = (shown ≡ capacity) × (capacity ≤ count)
-RefusesPut capacity count Memory = count < capacity
+abbrev pub RefusesEntry : ℕ → ℕ → DeliverFault → Type 0
+RefusesEntry capacity count (TrailFull shown) = (shown ≡ capacity) × (capacity ≤ count)
+RefusesEntry capacity count Memory = count < capacity
 
 -- why a delivery is refused: the trail is full, or memory is wanting
 abbrev pub RefusesDelivery : ℕ → DeliverFault → Type 0

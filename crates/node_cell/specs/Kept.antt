@@ -22,7 +22,7 @@ HasPlaces log facts [] = Unit {0}
 HasPlaces log facts (e ∷ es) = HasPlace log facts e.1 × HasPlaces log facts es
 
 -- the segment means a part of the log that has every fact of the trail
-pub record IsKept (roster : ℕ) (log : List Fact) (segment : State) (trail : List Entry) : Type 0 where
+pub record MeansTrail (roster : ℕ) (log : List Fact) (segment : State) (trail : List Entry) : Type 0 where
   pub facts : List Fact
   pub means : Means roster log facts segment
   pub has : HasPlaces log facts trail

@@ -9,9 +9,9 @@ use Rattle.segment_core.specs.Reading.{IsReadFault}
 use Rattle.segment_core.specs.declared.answers.ReadFault.{ReadFault}
 use Rattle.segment_state.specs.State.{State}
 use Rattle.node_lock.specs.Trail.{Entry}
-use Rattle.node_cell.specs.Kept.{HasPlaces, IsKept}
+use Rattle.node_cell.specs.Kept.{HasPlaces, MeansTrail}
 use Rattle.node_cell.specs.Receipt.{ReceiptData}
-use Rattle.node_cell.specs.Settling.{IsStranger}
+use Rattle.node_cell.specs.Settling.{IsForeignReceipt}
 use Rattle.node_cell.specs.declared.answers.ReadAfterFault.{ReadAfterFault}
 use Rattle.node_cell.specs.declared.answers.ReadAfterFault.TheVariants.{Stranger, Read}
 use Rattle.node_cell.specs.View.{ViewData}
@@ -34,8 +34,8 @@ pub record TellsRead (roster : ℕ) (log : List Fact) (places : List (ℕ × ℕ
 pub record IsStrangerThere (roster : ℕ) (log : List Fact) (r : ReceiptData) (found : Option ℕ) : Type 0 where
   pub segment : State
   pub trail : List Entry
-  pub kept : IsKept roster log segment trail
-  pub stranger : IsStranger trail r found
+  pub kept : MeansTrail roster log segment trail
+  pub stranger : IsForeignReceipt trail r found
 
 -- the answer is that of one part of the log, which has the receipt's fact; or the receipt is not of this node
 abbrev pub TellsReadAfter : ℕ → List Fact → ReceiptData → ℕ → ℕ → Result ViewData ReadAfterFault → Type 0

@@ -1,5 +1,5 @@
 ghost use Rattle.std.specs.Prelude.{◌≡◌, IfErr, OnOk};
-ghost use Rattle.node_cell.specs.Kept.{IsKept};
+ghost use Rattle.node_cell.specs.Kept.{MeansTrail};
 ghost use Rattle.node_cell.specs.Settling.{AllStand, IsFirstStranger};
 
 use crate::answers::Stranger;
@@ -32,7 +32,7 @@ impl<L: LogName> Closed<L> {
 
     pub fn segment(&self) -> &Segment
         ensures value { result.now ≡ self.now.segment }
-        ensures keeps { IsKept L.roster L.log result.now self.now.trail }
+        ensures keeps { MeansTrail L.roster L.log result.now self.now.trail }
     {
         self.kept.segment()
     }

@@ -2,13 +2,13 @@ ghost use Rattle.std.specs.Prelude.{◌≡◌, ◌≢◌, ◌≤◌, ◌<◌, �
 ghost use Rattle.segment_state.specs.Means.{Means};
 ghost use Rattle.segment_core.specs.Folding.{Commits};
 ghost use Rattle.segment_core.specs.Forgetting.{DiscardsJust};
-ghost use Rattle.node_cell.specs.Kept.{IsKept, KeepsParts};
+ghost use Rattle.node_cell.specs.Kept.{MeansTrail, KeepsParts};
 ghost use Rattle.node_cell.specs.Reading.{TellsRead, TellsReadAfter};
-ghost use Rattle.node_cell.specs.Delivering.{IsFrontWith, RefusesPut};
+ghost use Rattle.node_cell.specs.Delivering.{IsFrontWith, RefusesEntry};
 ghost use Rattle.node_cell.specs.Folding.{IsFoldOfLog, RefusesFold};
 ghost use Rattle.node_cell.specs.Gossiping.{IsSummaryOfLog, IsMail, IsFrontWithMail, RefusesMail, fault_of};
 ghost use Rattle.gossip_core.specs.Absorbing.{MeansBoth};
-ghost use Rattle.node_cell.specs.Settling.{Stands, IsStranger, found_at};
+ghost use Rattle.node_cell.specs.Settling.{Stands, IsForeignReceipt, found_at};
 
 use crate::answers::{AbsorbFault, DeliverFault, ReadAfterFault, Stranger};
 use crate::folds::{FoldPlan, Folded};
@@ -40,21 +40,21 @@ pub struct Kept<L: LogName> {
 }
 
 impl<L: LogName> Model for Kept<L> {
-    ghost use Rattle.node_cell.specs.Kept.{KeptData, IsKept};
+    ghost use Rattle.node_cell.specs.Kept.{KeptData, MeansTrail};
 
     ghost Value = { KeptData };
 
     ghost view = { λ k. record { segment = k.segment.segment; trail = k.trail.items } };
 
-    ghost invariant = { λ k. IsKept L.roster L.log k.segment.segment k.trail.items };
+    ghost invariant = { λ k. MeansTrail L.roster L.log k.segment.segment k.trail.items };
 }
 
 impl<L: LogName> Trailed for Kept<L> {
-    ghost use Rattle.node_cell.specs.Kept.{IsKept, KeepsParts};
+    ghost use Rattle.node_cell.specs.Kept.{MeansTrail, KeepsParts};
 
     ghost trail = { λ k. k.trail };
 
-    ghost keeps = { λ k. IsKept L.roster L.log k.segment k.trail };
+    ghost keeps = { λ k. MeansTrail L.roster L.log k.segment k.trail };
 }
 
 impl<L: LogName> Kept<L> {
@@ -62,7 +62,7 @@ impl<L: LogName> Kept<L> {
     pub(crate) fn new(alloc: Global) -> Result<Self, AllocError>
         ensures trail { IfOk result (λ k. k.trail ≡ []) }
         ensures empty { IfOk result (λ k. Means L.roster L.log [] k.segment) }
-        ensures keeps { IfOk result (λ k. IsKept L.roster L.log k.segment k.trail) }
+        ensures keeps { IfOk result (λ k. MeansTrail L.roster L.log k.segment k.trail) }
     {
         let segment = Segment::new(alloc, L::roster())?;
         match CachedSegment::new(segment, CACHED_IMAGES) {
@@ -85,8 +85,8 @@ impl<L: LogName> Kept<L> {
     ) -> Result<(u64, LogFront<L>), Refused<LogFact<L>, DeliverFault>>
         ensures trail { IfOk result (λ t. (self.new.trail ≡ self.old.trail ++ (number, fact.place) ∷ []) × (t.0 ≡ length self.new.trail)) }
         ensures front { IfOk result (λ t. IsFrontWith L.roster L.log self.old.trail fact.place t.1) }
-        ensures keeps { IsKept L.roster L.log self.new.segment self.new.trail }
-        ensures refused { IfErr result (λ e. RefusesPut capacity (length self.old.trail) e.fault) }
+        ensures keeps { MeansTrail L.roster L.log self.new.segment self.new.trail }
+        ensures refused { IfErr result (λ e. RefusesEntry capacity (length self.old.trail) e.fault) }
         ensures back { IfErr result (λ e. e.value ≡ fact) }
         ensures unchanged { OnErr result (self.new ≡ self.old) }
     {
@@ -127,7 +127,7 @@ impl<L: LogName> Kept<L> {
     /// The page at a read point.
     pub(crate) fn read(&mut self, page: u16, point: u64) -> Result<View<L>, ReadFault>
         ensures answer { TellsRead L.roster L.log self.old.trail page point result }
-        ensures keeps { IsKept L.roster L.log self.new.segment self.new.trail }
+        ensures keeps { MeansTrail L.roster L.log self.new.segment self.new.trail }
         ensures same { self.new ≡ self.old }
     {
         let epoch = self.segment.segment().front().epoch;
@@ -145,7 +145,7 @@ impl<L: LogName> Kept<L> {
         point: u64,
     ) -> Result<View<L>, ReadAfterFault>
         ensures answer { TellsReadAfter L.roster L.log receipt.now page point result }
-        ensures keeps { IsKept L.roster L.log self.new.segment self.new.trail }
+        ensures keeps { MeansTrail L.roster L.log self.new.segment self.new.trail }
         ensures same { self.new ≡ self.old }
     {
         if let Err(stranger) = self.seek(receipt) {
@@ -161,7 +161,7 @@ impl<L: LogName> Kept<L> {
     pub(crate) fn fold_plan(&self, page: u16) -> Result<FoldPlan<L>, AllocError>
         ensures page { IfOk result (λ plan. plan.page ≡ page) }
         ensures fold { IfOk result (λ plan. IsFoldOfLog L.roster L.log plan) }
-        ensures keeps { IsKept L.roster L.log self.now.segment self.now.trail }
+        ensures keeps { MeansTrail L.roster L.log self.now.segment self.now.trail }
     {
         match self.segment.segment().plan_fold(page) {
             Ok(plan) => Ok(FoldPlan::new(plan)),
@@ -175,7 +175,7 @@ impl<L: LogName> Kept<L> {
         folded: Folded<L>,
     ) -> Result<(), Refused<Folded<L>, CommitFault>>
         ensures trail { self.new.trail ≡ self.old.trail }
-        ensures keeps { IsKept L.roster L.log self.new.segment self.new.trail }
+        ensures keeps { MeansTrail L.roster L.log self.new.segment self.new.trail }
         ensures meaning { OnOk result (KeepsParts L.roster L.log self.old.segment self.new.segment) }
         ensures commits { OnOk result (Commits self.old.segment folded self.new.segment) }
         ensures refused { IfErr result (λ e. RefusesFold L.roster L.log folded e.fault) }
@@ -196,7 +196,7 @@ impl<L: LogName> Kept<L> {
         ensures meaning { KeepsParts L.roster L.log self.old.segment self.new.segment }
         ensures discards { DiscardsJust self.old.segment self.new.segment }
         ensures trail { self.new.trail ≡ self.old.trail }
-        ensures keeps { IsKept L.roster L.log self.new.segment self.new.trail }
+        ensures keeps { MeansTrail L.roster L.log self.new.segment self.new.trail }
     {
         self.segment.discard();
     }
@@ -204,7 +204,7 @@ impl<L: LogName> Kept<L> {
     /// What the segment tells of itself. Its only error is want of memory.
     pub(crate) fn summary(&self) -> Result<Summary, AllocError>
         ensures told { IfOk result (IsSummaryOfLog L.roster L.log) }
-        ensures keeps { IsKept L.roster L.log self.now.segment self.now.trail }
+        ensures keeps { MeansTrail L.roster L.log self.now.segment self.now.trail }
     {
         one_meaning();
         gossip_core::summary(self.segment.segment())
@@ -215,7 +215,7 @@ impl<L: LogName> Kept<L> {
         ensures summary { IfOk result (λ mail. mail.summary ≡ summary) }
         ensures mail { IfOk result (IsMail L.roster L.log) }
         ensures back { IfErr result (λ e. e.value ≡ summary) }
-        ensures keeps { IsKept L.roster L.log self.now.segment self.now.trail }
+        ensures keeps { MeansTrail L.roster L.log self.now.segment self.now.trail }
     {
         match gossip_core::reply(self.segment.segment(), &summary) {
             Ok(delta) => Ok(Mail::new(summary, delta)),
@@ -232,7 +232,7 @@ impl<L: LogName> Kept<L> {
         mail: Mail<L>,
     ) -> Result<LogFront<L>, Refused<Mail<L>, AbsorbFault>>
         ensures trail { self.new.trail ≡ self.old.trail }
-        ensures keeps { IsKept L.roster L.log self.new.segment self.new.trail }
+        ensures keeps { MeansTrail L.roster L.log self.new.segment self.new.trail }
         ensures meaning { OnOk result (MeansBoth self.old.segment mail.summary mail.delta self.new.segment) }
         ensures front { IfOk result (IsFrontWithMail L.roster L.log mail) }
         ensures refused { IfErr result (λ e. RefusesMail L.roster L.log mail e.fault) }
@@ -253,7 +253,7 @@ impl<L: LogName> Kept<L> {
 
     pub(crate) fn segment(&self) -> &Segment
         ensures value { result.now ≡ self.now.segment }
-        ensures keeps { IsKept L.roster L.log result.now self.now.trail }
+        ensures keeps { MeansTrail L.roster L.log result.now self.now.trail }
     {
         self.segment.segment()
     }
@@ -267,8 +267,8 @@ impl<L: LogName> Kept<L> {
     /// Whether the fact of a receipt stands at its place in the trail; else what stands there.
     pub(crate) fn seek(&self, receipt: &Receipt<L>) -> Result<(), Stranger>
         ensures ok { OnOk result (Stands self.now.trail receipt.now) }
-        ensures err { IfErr result (λ e. IsStranger self.now.trail receipt.now e.found) }
-        ensures keeps { IsKept L.roster L.log self.now.segment self.now.trail }
+        ensures err { IfErr result (λ e. IsForeignReceipt self.now.trail receipt.now e.found) }
+        ensures keeps { MeansTrail L.roster L.log self.now.segment self.now.trail }
     {
         let found = log_place_at(self.trail.as_slice(), receipt.place());
         if found == Some(receipt.log_place()) {

@@ -11,8 +11,8 @@ use Rattle.atomic_table.proofs.Lists.{at_set, set_here, set_else, set_again, at_
 use Rattle.node_lock.specs.declared.rule.Known.{Known}
 use Rattle.node_lock.specs.Trail.{Entry, Receipt, receipts_of}
 use Rattle.node_lock.specs.Known.{Part, standing_for, holding, new_parts, first_part, rest_parts, ListsAreTrue, tally, total, one, weight, is_of}
-use Rattle.node_lock.specs.Rule.{Fits, KeepsRule}
-use Rattle.node_lock.specs.Steps.{IsSeated, IsTaken, IsGiven, IsPosted}
+use Rattle.node_lock.specs.Rule.{Fits, KeepsLockRule}
+use Rattle.node_lock.specs.Steps.{IsSeated, TakesState, IsGiven, IsPosted}
 use Rattle.node_lock.proofs.Tallies.{tally_append, tally_one, tally_cut, total_set, total_snoc, total_two, total_alone}
 use Rattle.node_lock.proofs.Receipts.{list_grows, others_stay, are_append, are_rest, are_first}
 
@@ -52,7 +52,7 @@ module _ {T : Type 0} (trail_of : T → List Entry) (good : T → Type 0) (passe
   M = Me (Option T) Known
 
   abbrev Rule : St → Type 0
-  Rule = KeepsRule trail_of good passes
+  Rule = KeepsLockRule trail_of good passes
 
   abbrev word : St → ℕ
   word s = get_or s.words 0 0
@@ -126,7 +126,7 @@ module _ {T : Type 0} (trail_of : T → List Entry) (good : T → Type 0) (passe
       (λ f. omega (arith, total_set f s.views id v w at, total_set f vs other u o there, tally_append f v.parts u.parts))
 
   -- a seat takes the slot where the word is 0
-  pub tries : (slots id : ℕ) (me : M) → Allows Rule slots id me 0 (λ n. either (eqb n 0) 1 n) (IsTaken trail_of good (step slots 0 0 1 none) me)
+  pub tries : (slots id : ℕ) (me : M) → Allows Rule slots id me 0 (λ n. either (eqb n 0) 1 n) (TakesState trail_of good (step slots 0 0 1 none) me)
   tries slots id me s r deep at _ = let x : ℕ = word s in let v : Known = me.0 in let wide = r.one_word in let many = r.one_slot in dite (ℕ_discrete x 0)
       (λ hit. let d = r.home hit in let w : Known = holding v.passes v.parts (trail_of d.0) in let old = r.each id v at in
       let now : get_or (set s.words 0 1) 0 0 ≡ 1 = get_or-set_same s.words 0 1 0 (omega arith) in (

@@ -16,7 +16,7 @@ pub record Fits (passes : ℕ) (trail : List Entry) (holder word seat : ℕ) (v 
 
 -- There is one trail: that of the state at home, else the one that the holder noted. Each of the passes stands in one view, and all
 -- lists together are as long as the trail.
-pub record KeepsRule {S : Type 0} (trail_of : S → List Entry) (keeps : S → Type 0) (passes : ℕ) (s : State (Option S) Known) : Type 0 where
+pub record KeepsLockRule {S : Type 0} (trail_of : S → List Entry) (keeps : S → Type 0) (passes : ℕ) (s : State (Option S) Known) : Type 0 where
   pub trail : List Entry
   pub holder : ℕ
   pub one_word : length s.words ≡ 1

@@ -24,8 +24,8 @@ module _ {S : Type 0} (trail_of : S → List Entry) (keeps : S → Type 0) where
   IsSeated step me found new = new ≡ (standing_for me.0.passes [], [])
 
   -- where the word was 0, the seat has the slot with the state, and notes its trail; else nothing changes
-  abbrev pub IsTaken : Step (Option S) → Me (Option S) Known → ℕ → Me (Option S) Known → Type 0
-  IsTaken step me found new =
+  abbrev pub TakesState : Step (Option S) → Me (Option S) Known → ℕ → Me (Option S) Known → Type 0
+  TakesState step me found new =
       (found ≡ 0 → (d : S) × (new ≡ (holding me.0.passes me.0.parts (trail_of d), (0, Some d) ∷ me.1)) × keeps d × KnowsTrail me.0 (trail_of d))
       × (found ≢ 0 → new ≡ me)
 

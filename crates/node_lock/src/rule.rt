@@ -34,9 +34,9 @@ pub struct OneHolder<S> {
 
 impl<S: Trailed> TableRule<Option<S>, Known, u64> for OneHolder<S> {
     ghost use Rattle.node_lock.specs.Known.{standing_for, new_parts};
-    ghost use Rattle.node_lock.specs.Rule.{KeepsRule};
+    ghost use Rattle.node_lock.specs.Rule.{KeepsLockRule};
 
-    ghost holds = { λ passes. KeepsRule S.trail S.keeps passes };
+    ghost holds = { λ passes. KeepsLockRule S.trail S.keeps passes };
 
     ghost first = { λ passes. standing_for passes (new_parts 0 passes) };
 }
@@ -58,9 +58,9 @@ impl<S: Trailed> Play<Option<S>, Known> for Seats {
 pub(crate) struct Takes;
 
 impl<S: Trailed> Play<Option<S>, Known> for Takes {
-    ghost use Rattle.node_lock.specs.Steps.{IsTaken};
+    ghost use Rattle.node_lock.specs.Steps.{TakesState};
 
-    ghost then = { IsTaken S.trail S.keeps };
+    ghost then = { TakesState S.trail S.keeps };
 }
 
 pub(crate) struct Gives;

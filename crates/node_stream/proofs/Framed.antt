@@ -1,11 +1,12 @@
 -- Answer frames of bytes.
-use Rattle.std.proofs.Common.{◌≡◌, ℕ, ◌<◌, ◌^◌, Bool, true, List, [], ◌∷◌, ◌++◌, length, Result, Ok, Err, refl, sym, ap, ◌∙◌, arith, length-append}
+use Rattle.std.proofs.Common.{◌≡◌, ℕ, ◌-◌, ◌<◌, ◌≤◌, ◌^◌, Bool, true, List, [], ◌∷◌, ◌++◌, length, Result, Ok, Err, refl, sym, ap, ◌∙◌, arith, length-append}
 use Rattle.std.specs.Prelude.{codes, IfOk, OnErr, IsOk}
 use Rattle.std.specs.Fmt.{decimal}
 use Rattle.std.proofs.lemmas.Fmt.{length-decimal-le}
+use Rattle.std.proofs.lemmas.List.{length-take}
 use Rattle.frame_stream.specs.AnswerBytes.{bytes_of}
 use Rattle.frame_stream.specs.declared.answer.FrameAnswer.{FrameAnswer}
-use Rattle.node_stream.specs.FrameTelling.{fitted, bytes_frame, value_frame}
+use Rattle.node_stream.specs.FrameTelling.{unended, fitted, bytes_frame, value_frame}
 use Rattle.node_stream.specs.Telling.{one_number}
 use Rattle.node_stream.proofs.Long.{frame_of_bytes}
 
@@ -35,3 +36,11 @@ few_digits (Ok a) text pieces short is h = refl
 few_digits (Err e) text pieces short is h =
     let digits = length-decimal-le 10 pieces (omega arith) (omega (arith, short)) (omega (arith, short)) in
     absurd (omega (arith, h, ap length is, digits, length-append (decimal pieces) (10 ∷ [])))
+
+-- so that their answer has 17 bytes at most
+pub few_bytes : {E : Type 0} (r : Result FrameAnswer E) (text : List ℕ) (pieces : ℕ) → pieces < 2 ^ 32 → text ≡ one_number (codes "frozen ") pieces
+    → IfOk r (λ a. bytes_of a ≡ unended text) → IfOk r (λ a. length (bytes_of a) ≤ 17)
+few_bytes (Ok a) text pieces short is h =
+    let digits = length-decimal-le 10 pieces (omega arith) (omega (arith, short)) (omega (arith, short)) in
+    omega (arith, ap length h, ap length is, digits, length-take (length text - 1) text, length-append (decimal pieces) (10 ∷ []))
+few_bytes (Err e) text pieces short is h = tt

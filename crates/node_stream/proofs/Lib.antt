@@ -1,5 +1,6 @@
 pub mod FirstWords
 pub mod Framed
 pub mod Long
+pub mod Together
 pub mod Turns
 pub mod Unchanged

@@ -1,19 +1,24 @@
 -- How a replica answers a line, and how a frame.
-use Rattle.std.specs.Prelude.{◌≡◌, ℕ, ◌⊎◌, List, Result, Ok, Err, codes}
+use Rattle.std.specs.Prelude.{◌≡◌, ℕ, ◌⊎◌, List, Option, Some, None, Result, Ok, Err, codes}
+use Rattle.line_stream.specs.Lines.{AnswersEach}
+use Rattle.frame_stream.specs.Inside.{AreInside}
 use Rattle.replica.specs.Machine.{IsReply}
 use Rattle.replica.specs.Parts.{ReplicaData, IsUnchanged}
 use Rattle.replica.specs.Refused.{IsRefusal}
 use Rattle.replica.specs.declared.replies.Reply.{Reply}
 use Rattle.node_stream.specs.Reading.{request_of}
 use Rattle.node_stream.specs.Telling.{line_of, fault_line}
-use Rattle.node_stream.specs.FrameReading.{request_in}
+use Rattle.node_stream.specs.FrameReading.{request_in, many_in}
 use Rattle.node_stream.specs.FrameTelling.{frame_of, fault_frame}
 use Rattle.node_stream.specs.declared.asked.Asked.{Asked}
 use Rattle.node_stream.specs.declared.asked.Window.{Window}
 use Rattle.node_stream.specs.declared.faults.LineFault.{LineFault}
+use Rattle.node_stream.specs.declared.faults.LineFault.TheVariants as fault
 
--- A form of the stream: what a request asks, and the texts of replies, of faults, of want of memory, and for a request that is too long.
+-- A form of the stream: the bytes of many requests, where those of one hold many; what one request asks; and the texts of replies, of
+-- faults, of want of memory, and for a request that is too long.
 pub record Spoken : Type 0 where
+  pub many : List ℕ → Option (List ℕ)
   pub asks : List ℕ → Result Asked LineFault
   pub reply : Window → Reply → List ℕ
   pub fault : LineFault → List ℕ
@@ -21,10 +26,10 @@ pub record Spoken : Type 0 where
   pub long : List ℕ
 
 abbrev pub by_lines : Spoken
-by_lines = record { asks = request_of; reply = line_of; fault = fault_line; memory = codes "memory\n"; long = codes "long line\n" }
+by_lines = record { many = λ line. None; asks = request_of; reply = line_of; fault = fault_line; memory = codes "memory\n"; long = codes "long line\n" }
 
 abbrev pub by_frames : Spoken
-by_frames = record { asks = request_in; reply = frame_of; fault = fault_frame; memory = codes "memory"; long = codes "long frame" }
+by_frames = record { many = many_in; asks = request_in; reply = frame_of; fault = fault_frame; memory = codes "memory"; long = codes "long frame" }
 
 -- the replica carries out the request, and the text is that of its reply; a refusal changes nothing but which images the cache keeps
 pub record TellsReply (form : Spoken) (asked : Asked) (old : ReplicaData) (text : List ℕ) (new : ReplicaData) : Type 0 where
@@ -53,9 +58,33 @@ Tells form (Err fault) old text new = (text ≡ form.fault fault) × (new ≡ ol
 abbrev pub AnswersAsked : Spoken → Result Asked LineFault → ReplicaData → List ℕ → ReplicaData → Type 0
 AnswersAsked form asked old text new = LacksMemory form asked old text new ⊎ Tells form asked old text new
 
--- the text answers the bytes of a request
+-- the text answers the bytes of one request
+abbrev pub AnswersRequest : Spoken → ReplicaData → List ℕ → List ℕ → ReplicaData → Type 0
+AnswersRequest form old bytes text new = AnswersAsked form (form.asks bytes) old text new
+
+-- The bytes are the frames of requests, and the text is those of their answers, one behind the other.
+pub record AnswersAll (form : Spoken) (old : ReplicaData) (bytes text : List ℕ) (new : ReplicaData) : Type 0 where
+  pub frames : List (List ℕ)
+  pub texts : List (List ℕ)
+  pub asked : AreInside bytes frames
+  pub answered : AnswersEach (AnswersRequest form) old frames texts new
+  pub told : AreInside text texts
+
+-- many requests are answered one after another; where there was no room for their answers, or they are no frames, nothing changes
+abbrev pub AnswersMany : Spoken → ReplicaData → List ℕ → List ℕ → ReplicaData → Type 0
+AnswersMany form old bytes text new =
+    ((text ≡ form.memory) × (new ≡ old))
+    ⊎ ((((frames : List (List ℕ)) → AreInside bytes frames → ⊥) × (text ≡ form.fault fault.Form) × (new ≡ old))
+    ⊎ AnswersAll form old bytes text new)
+
+-- the text answers the bytes of one request, or of many
+abbrev pub AnswersThese : Spoken → Option (List ℕ) → ReplicaData → List ℕ → List ℕ → ReplicaData → Type 0
+AnswersThese form None old bytes text new = AnswersRequest form old bytes text new
+AnswersThese form (Some inside) old bytes text new = AnswersMany form old inside text new
+
+-- the text answers the bytes
 abbrev pub IsAnswerBy : Spoken → ReplicaData → List ℕ → List ℕ → ReplicaData → Type 0
-IsAnswerBy form old bytes text new = AnswersAsked form (form.asks bytes) old text new
+IsAnswerBy form old bytes text new = AnswersThese form (form.many bytes) old bytes text new
 
 -- the text with its LF answers the line without its own
 abbrev pub IsAnswer : ReplicaData → List ℕ → List ℕ → ReplicaData → Type 0

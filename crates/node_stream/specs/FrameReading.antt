@@ -28,12 +28,12 @@ split_by None bytes = None
 split_by (Some count) bytes = if nat_lt (length bytes) count then None else Some (take count bytes, drop count bytes)
 
 -- a number, a space, so many bytes, and the bytes behind them
-abbrev pub counted : Option (List ℕ × List ℕ) → Option (List ℕ × List ℕ)
-counted None = None
-counted (Some (digits, bytes)) = split_by (decimal_value 4294967295 digits) bytes
+abbrev pub sized : Option (List ℕ × List ℕ) → Option (List ℕ × List ℕ)
+sized None = None
+sized (Some (digits, bytes)) = split_by (decimal_value 4294967295 digits) bytes
 
 abbrev pub absorbed : List ℕ → Option (List ℕ × List ℕ)
-absorbed text = counted (halves text)
+absorbed text = sized (halves text)
 
 -- a summary and the delta that answers it
 abbrev pub absorb_both : Option (List ℕ × List ℕ) → Result Asked LineFault
@@ -57,3 +57,13 @@ halves_frame frame (Some (word, rest)) =
 -- what a frame asks
 abbrev pub request_in : List ℕ → Result Asked LineFault
 request_in frame = halves_frame frame (halves frame)
+
+-- ---- many frames in one
+-- what stands behind the word
+unfoldable pub behind_many : Option (List ℕ × List ℕ) → Option (List ℕ)
+behind_many None = None
+behind_many (Some (word, rest)) = if bytes_eq word (codes "many") then Some rest else None
+
+-- the bytes of the frames that a frame holds, if it is of that kind
+abbrev pub many_in : List ℕ → Option (List ℕ)
+many_in frame = behind_many (halves frame)

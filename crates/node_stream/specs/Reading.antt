@@ -39,8 +39,8 @@ Gives view (Err e) read = Fails e read
 
 -- ---- one word
 -- the requests that are a word alone
-unfoldable pub word_of : List ℕ → Option Asked
-word_of word =
+unfoldable pub lone_word : List ℕ → Option Asked
+lone_word word =
     if bytes_eq word (codes "front") then Some (asked request.Front)
     else if bytes_eq word (codes "gap") then Some (asked request.Gap)
     else if bytes_eq word (codes "state") then Some (asked request.State)
@@ -97,8 +97,8 @@ hexed (Some bytes) = Ok bytes
 hexed None = Err fault.Hex
 
 -- the bytes of hexadecimal digits of either case
-unfoldable pub bytes_of : List ℕ → Result (List ℕ) LineFault
-bytes_of digits = hexed (decoded (decode_of digits))
+unfoldable pub bytes_of_digits : List ℕ → Result (List ℕ) LineFault
+bytes_of_digits digits = hexed (decoded (decode_of digits))
 
 -- the value that bytes spell
 abbrev pub wired : {A : Type 0} → Result A WireFault → Result A LineFault
@@ -119,29 +119,29 @@ abbrev pub piece_in : List ℕ → Result PieceData LineFault
 piece_in bytes = wired (decoded_piece bytes)
 
 -- the values that digits spell
-unfoldable pub fact_of : List ℕ → Result Fact LineFault
-fact_of digits = bytes_of digits >>= (λ bytes. fact_in bytes)
+unfoldable pub fact_of_digits : List ℕ → Result Fact LineFault
+fact_of_digits digits = bytes_of_digits digits >>= (λ bytes. fact_in bytes)
 
-unfoldable pub summary_of : List ℕ → Result SummaryData LineFault
-summary_of digits = bytes_of digits >>= (λ bytes. summary_in bytes)
+unfoldable pub summary_of_digits : List ℕ → Result SummaryData LineFault
+summary_of_digits digits = bytes_of_digits digits >>= (λ bytes. summary_in bytes)
 
-unfoldable pub delta_of : List ℕ → Result DeltaData LineFault
-delta_of digits = bytes_of digits >>= (λ bytes. delta_in bytes)
+unfoldable pub delta_of_digits : List ℕ → Result DeltaData LineFault
+delta_of_digits digits = bytes_of_digits digits >>= (λ bytes. delta_in bytes)
 
-unfoldable pub piece_of : List ℕ → Result PieceData LineFault
-piece_of digits = bytes_of digits >>= (λ bytes. piece_in bytes)
+unfoldable pub piece_of_digits : List ℕ → Result PieceData LineFault
+piece_of_digits digits = bytes_of_digits digits >>= (λ bytes. piece_in bytes)
 
 unfoldable pub take_line : List ℕ → Result Asked LineFault
-take_line digits = fact_of digits >>= (λ f. Ok (asked (request.Take f)))
+take_line digits = fact_of_digits digits >>= (λ f. Ok (asked (request.Take f)))
 
 unfoldable pub answer_line : List ℕ → Result Asked LineFault
-answer_line digits = summary_of digits >>= (λ s. Ok (asked (request.Answer s)))
+answer_line digits = summary_of_digits digits >>= (λ s. Ok (asked (request.Answer s)))
 
 unfoldable pub add_line : List ℕ → Result Asked LineFault
-add_line digits = piece_of digits >>= (λ p. Ok (asked (request.Add p)))
+add_line digits = piece_of_digits digits >>= (λ p. Ok (asked (request.Add p)))
 
 unfoldable pub absorb_line : List ℕ → List ℕ → Result Asked LineFault
-absorb_line shown answered = summary_of shown >>= (λ s. delta_of answered >>= (λ d. Ok (asked (request.Absorb s d))))
+absorb_line shown answered = summary_of_digits shown >>= (λ s. delta_of_digits answered >>= (λ d. Ok (asked (request.Absorb s d))))
 
 -- ---- lines
 abbrev pub formed : Option Asked → Result Asked LineFault
@@ -163,7 +163,7 @@ fields_line word field next =
 
 -- what the words of a line ask
 unfoldable pub words_line : List (List ℕ) → Result Asked LineFault
-words_line (word ∷ []) = formed (word_of word)
+words_line (word ∷ []) = formed (lone_word word)
 words_line (word ∷ field ∷ []) = field_line word field
 words_line (word ∷ field ∷ next ∷ []) = fields_line word field next
 words_line words = formed (numbers_line words)

@@ -1,7 +1,8 @@
 -- The turns of a replica that a stream makes.
-use Rattle.std.specs.Prelude.{◌≡◌, ℕ, ◌<◌, ◌⊎◌, List, [], ◌∷◌, length, Ok, Err}
+use Rattle.std.specs.Prelude.{◌≡◌, ℕ, ◌<◌, ◌⊎◌, List, [], ◌∷◌, ◌++◌, length, Option, Some, None, Ok, Err}
 use Rattle.redo_core.specs.declared.facts.Fact.{Fact}
 use Rattle.frame_stream.specs.Frames.{AnswersFrames}
+use Rattle.frame_stream.specs.Inside.{AreInside}
 use Rattle.line_stream.specs.Lines.{AnswersLines}
 use Rattle.replica.specs.Machine.{IsReply}
 use Rattle.replica.specs.Meaning.{Turn, Runs}
@@ -10,6 +11,7 @@ use Rattle.replica.specs.declared.requests.Request.{Request}
 use Rattle.node_stream.specs.Answering.{Spoken, by_lines, by_frames, IsAnswer, IsFrameAnswer}
 use Rattle.node_stream.specs.declared.asked.Asked.{Asked}
 use Rattle.node_stream.specs.declared.faults.LineFault.{LineFault}
+use Rattle.node_stream.specs.declared.faults.LineFault.TheVariants as fault
 
 -- what was asked is the turn's request, and the text is that of its reply, or says that there was no memory for that
 pub record IsTurn (form : Spoken) (bytes text : List ℕ) (t : Turn) : Type 0 where
@@ -18,21 +20,45 @@ pub record IsTurn (form : Spoken) (bytes text : List ℕ) (t : Turn) : Type 0 wh
   pub is : t.asked ≡ asked.request
   pub tells : (text ≡ form.reply asked.window t.told) ⊎ (text ≡ form.memory)
 
--- no turn: there was no memory, or what was asked is longer than the limit, or it asks for nothing
-abbrev pub IsIdle : Spoken → ℕ → List ℕ → List ℕ → Type 0
-IsIdle form limit bytes text =
-    (text ≡ form.memory)
-    ⊎ (((limit < length bytes) × (text ≡ form.long))
-    ⊎ ((fault : LineFault) × (form.asks bytes ≡ Err fault) × (text ≡ form.fault fault)))
+-- no turn: there was no memory, or what was asked asks for nothing
+abbrev pub MakesNoTurn : Spoken → List ℕ → List ℕ → Type 0
+MakesNoTurn form bytes text = (text ≡ form.memory) ⊎ ((fault : LineFault) × (form.asks bytes ≡ Err fault) × (text ≡ form.fault fault))
+
+-- the turns of one request: its own, or none
+abbrev pub MakesRequest : Spoken → List ℕ → List ℕ → List Turn → Type 0
+MakesRequest form bytes text turns = ((turns ≡ []) × MakesNoTurn form bytes text) ⊎ ((t : Turn) × (turns ≡ t ∷ []) × IsTurn form bytes text t)
+
+-- those of one request after another, by what is said of one and its text
+abbrev pub MakeEach : (List ℕ → List ℕ → List Turn → Type 0) → List (List ℕ) → List (List ℕ) → List Turn → Type 0
+MakeEach one [] [] turns = turns ≡ []
+MakeEach one (bytes ∷ others) (text ∷ texts) turns =
+    (here : List Turn) × (rest : List Turn) × (turns ≡ here ++ rest) × one bytes text here × MakeEach one others texts rest
+MakeEach one [] (text ∷ texts) turns = ⊥
+MakeEach one (bytes ∷ others) [] turns = ⊥
+
+-- Those of the frames in the bytes, whose answers are the frames in the text.
+pub record MakesMany (form : Spoken) (bytes text : List ℕ) (turns : List Turn) : Type 0 where
+  pub frames : List (List ℕ)
+  pub texts : List (List ℕ)
+  pub asked : AreInside bytes frames
+  pub told : AreInside text texts
+  pub makes : MakeEach (MakesRequest form) frames texts turns
+
+-- those of one request, or of many; none where these are no frames
+abbrev pub MakesThese : Spoken → Option (List ℕ) → List ℕ → List ℕ → List Turn → Type 0
+MakesThese form None bytes text turns = MakesRequest form bytes text turns
+MakesThese form (Some inside) bytes text turns = ((turns ≡ []) × (text ≡ form.fault fault.Form)) ⊎ MakesMany form inside text turns
+
+-- those of what came; none where there was no memory for it, or it is longer than the limit
+abbrev pub MakesBelow : Spoken → ℕ → List ℕ → List ℕ → List Turn → Type 0
+MakesBelow form limit bytes text turns =
+    ((turns ≡ []) × (text ≡ form.memory))
+    ⊎ (((turns ≡ []) × (limit < length bytes) × (text ≡ form.long))
+    ⊎ MakesThese form (form.many bytes) bytes text turns)
 
 -- the requests make the turns, in order, and the texts tell their replies
 abbrev pub MakeTurns : Spoken → ℕ → List (List ℕ) → List (List ℕ) → List Turn → Type 0
-MakeTurns form limit [] [] turns = turns ≡ []
-MakeTurns form limit (bytes ∷ others) (text ∷ texts) turns =
-    (IsIdle form limit bytes text × MakeTurns form limit others texts turns)
-    ⊎ ((t : Turn) × (rest : List Turn) × (turns ≡ t ∷ rest) × IsTurn form bytes text t × MakeTurns form limit others texts rest)
-MakeTurns form limit [] (text ∷ texts) turns = ⊥
-MakeTurns form limit (bytes ∷ others) [] turns = ⊥
+MakeTurns form limit requests texts turns = MakeEach (MakesBelow form limit) requests texts turns
 
 -- The replica goes from a first state to another one by the turns, in order, and each brings what `brings` says of its request at the state
 -- before it.

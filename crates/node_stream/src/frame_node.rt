@@ -1,9 +1,9 @@
-//! A replica that answers frames.
+//! A replica that answers the frame of one request.
 
-ghost use Rattle.std.specs.Prelude.{◌≡◌, ◌⊎◌, codes};
+ghost use Rattle.std.specs.Prelude.{◌≡◌, ◌<◌, ◌⊎◌, codes, length};
 ghost use Rattle.frame_stream.specs.AnswerBytes.{bytes_of};
 ghost use Rattle.frame_stream.specs.Frames.{IsShort};
-ghost use Rattle.node_stream.specs.Answering.{AnswersAsked, IsFrameAnswer, by_frames};
+ghost use Rattle.node_stream.specs.Answering.{AnswersAsked, AnswersRequest, by_frames};
 ghost use Rattle.node_stream.specs.Asking.{IsInside};
 ghost use Rattle.node_stream.specs.FrameTelling.{fault_frame};
 
@@ -17,7 +17,7 @@ use replica::Replica;
 use std::alloc::Global;
 
 /// The answer where memory was wanting.
-fn memory() -> FrameAnswer
+pub fn memory() -> FrameAnswer
     ensures bytes { bytes_of result ≡ codes "memory" }
     ensures short { IsShort (bytes_of result) }
 {
@@ -28,6 +28,7 @@ fn memory() -> FrameAnswer
 fn answer_request(alloc: Global, replica: &mut Replica, asked: Asked) -> FrameAnswer
     requires { IsInside asked.window }
     ensures answers { AnswersAsked by_frames (Ok asked) replica.old (bytes_of result) replica.new }
+    ensures long { 17 < length (bytes_of result) → AnswersAsked by_frames (Ok asked) replica.old (codes "memory") replica.new }
     ensures short { IsShort (bytes_of result) }
 {
     let Ok(room) = room(alloc) else {
@@ -52,13 +53,14 @@ fn answer_fault(alloc: Global, fault: LineFault) -> FrameAnswer
     }
 }
 
-/// Answers the bytes of a request frame by those of a frame: the reply where they ask something, else why they ask nothing, and then
-/// nothing has changed.
+/// Answers the bytes of the frame of one request: the reply where they ask something, else why they ask nothing, and then nothing has
+/// changed.
 ///
 /// The bytes `memory` stand for want of memory. Then, and where the reply is a refusal, nothing has changed but which images the cache
-/// keeps.
-pub fn answer_frame(alloc: Global, replica: &mut Replica, frame: &[u8]) -> FrameAnswer
-    ensures answers { IsFrameAnswer replica.old frame.now (bytes_of result) replica.new }
+/// keeps. They may stand for any answer of more than 17 bytes.
+pub fn answer_one(alloc: Global, replica: &mut Replica, frame: &[u8]) -> FrameAnswer
+    ensures answers { AnswersRequest by_frames replica.old frame.now (bytes_of result) replica.new }
+    ensures long { 17 < length (bytes_of result) → AnswersRequest by_frames replica.old frame.now (codes "memory") replica.new }
     ensures short { IsShort (bytes_of result) }
 {
     match read_frame(alloc, frame) {

@@ -27,7 +27,7 @@ fn first_space(text: &[u8]) -> Option<usize>
 }
 
 /// What stands in front of the first space and behind it.
-fn halves(text: &[u8]) -> Option<(&[u8], &[u8])>
+pub fn halves(text: &[u8]) -> Option<(&[u8], &[u8])>
     ensures { option_map (λ p. (p.0.now, p.1.now)) result ≡ halves text.now }
 {
     let at = first_space(text)?;

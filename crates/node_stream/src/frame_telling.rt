@@ -1,6 +1,6 @@
 //! Answer frames.
 
-ghost use Rattle.std.specs.Prelude.{◌≡◌, ◌<◌, length, string_bytes, IfOk, OnErr, IsOk, codes};
+ghost use Rattle.std.specs.Prelude.{◌≡◌, ◌<◌, ◌≤◌, length, string_bytes, IfOk, OnErr, IsOk, codes};
 ghost use Rattle.redo_core.specs.declared.facts.Fact.TheVariants as fact;
 ghost use Rattle.redo_wire.specs.Facts.{fact_bytes};
 ghost use Rattle.redo_wire.specs.Summaries.{summary_bytes, is_long_summary};
@@ -161,6 +161,7 @@ fn frozen_frame(room: String, pieces: u32) -> Result<FrameAnswer, AllocError>
     requires { HasRoom room }
     ensures bytes { IfOk result (λ a. bytes_of a ≡ unended (one_number (codes "frozen ") pieces)) }
     ensures short { IfOk result (λ a. IsShort (bytes_of a)) }
+    ensures few { IfOk result (λ a. length (bytes_of a) ≤ 17) }
     ensures ok { IsOk result }
 {
     unended(frozen(room, pieces))
@@ -179,6 +180,7 @@ pub fn told(
     requires room { HasRoom room }
     ensures frame { IfOk result (λ a. bytes_of a ≡ frame_of window reply.now) }
     ensures short { IfOk result (λ a. IsShort (bytes_of a)) }
+    ensures long { IfOk result (λ a. 17 < length (bytes_of a) → TakesMemory reply.now) }
     ensures memory { OnErr result (TakesMemory reply.now) }
 {
     match reply {

@@ -31,7 +31,8 @@ one of more than 67108864 bytes long line; memory says that there was no memory,
 
 With --frames each request and each answer is a frame: a length in four bytes, the highest first, and so many bytes, those of the line
 without its LF. Bytes stand there as they are in place of HEX; absorb has the number of the summary's bytes and a space in front of both.
-A frame that asks for nothing is answered bad request or wire N, one of more than 67108864 bytes long frame.
+A frame that asks for nothing is answered bad request or wire N, one of more than 67108864 bytes long frame. Behind the word many and a
+space stand whole frames of requests; the answer is the frames of their answers.
 
 Statuses: 0 the input has ended, 2 a bad command line, 4 a device that failed, 5 no memory.
 The lines, the frames and their answers stand in docs/EMBEDDING.md, the bytes in docs/FORMATS.md.

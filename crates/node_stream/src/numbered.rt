@@ -3,7 +3,7 @@
 ghost use Rattle.std.specs.Prelude.{◌≡◌, map, IfSome};
 ghost use Rattle.script_text.specs.Fields.{made_by};
 ghost use Rattle.node_stream.specs.Asking.{IsInside};
-ghost use Rattle.node_stream.specs.Reading.{word_of, open_form, read_form, fold_form, freeze_form};
+ghost use Rattle.node_stream.specs.Reading.{lone_word, open_form, read_form, fold_form, freeze_form};
 ghost use Rattle.node_stream.specs.Reading.{piece_form, stage_form, next_form, numbers_line};
 
 use crate::asked::{Asked, Window};
@@ -22,9 +22,9 @@ const LONG: u64 = 4294967295;
 const PAGE: u64 = 4096;
 
 /// The request that is a word alone.
-#[tactic(auto, unfolding(crate::specs::Reading::word_of))]
+#[tactic(auto, unfolding(crate::specs::Reading::lone_word))]
 pub fn word(word: &[u8]) -> Option<Asked>
-    ensures asks { result ≡ word_of word.now }
+    ensures asks { result ≡ lone_word word.now }
     ensures inside { IfSome result (λ a. IsInside a.window) }
 {
     let request = if word == b"front".as_slice() {

@@ -1,6 +1,6 @@
 //! Values of the wire, of bytes and of hexadecimal digits.
 
-ghost use Rattle.node_stream.specs.Reading.{Gives, bytes_of, fact_in, summary_in, delta_in, piece_in, fact_of, summary_of, delta_of, piece_of};
+ghost use Rattle.node_stream.specs.Reading.{Gives, bytes_of_digits, fact_in, summary_in, delta_in, piece_in, fact_of_digits, summary_of_digits, delta_of_digits, piece_of_digits};
 
 use crate::faults::{LineError, LineFault};
 use redo_core::Fact;
@@ -11,9 +11,9 @@ use script_text::decoded;
 use std::alloc::Global;
 
 /// The bytes of hexadecimal digits of either case.
-#[tactic(auto, unfolding(crate::specs::Reading::bytes_of))]
+#[tactic(auto, unfolding(crate::specs::Reading::bytes_of_digits))]
 fn bytes(alloc: Global, digits: &[u8]) -> Result<Vec<u8>, LineError>
-    ensures { Gives (λ v. v.items) result (bytes_of digits.now) }
+    ensures { Gives (λ v. v.items) result (bytes_of_digits digits.now) }
 {
     match decoded(alloc, digits)? {
         Some(bytes) => Ok(bytes),
@@ -33,9 +33,9 @@ pub fn fact_in(alloc: Global, bytes: &[u8]) -> Result<Fact, LineError>
 }
 
 /// The fact that the digits spell.
-#[tactic(auto, unfolding(crate::specs::Reading::fact_of))]
+#[tactic(auto, unfolding(crate::specs::Reading::fact_of_digits))]
 pub fn fact(alloc: Global, digits: &[u8]) -> Result<Fact, LineError>
-    ensures { Gives (λ x. x) result (fact_of digits.now) }
+    ensures { Gives (λ x. x) result (fact_of_digits digits.now) }
 {
     let bytes = bytes(alloc, digits)?;
     fact_in(alloc, &bytes)
@@ -53,9 +53,9 @@ pub fn summary_in(alloc: Global, bytes: &[u8]) -> Result<Summary, LineError>
 }
 
 /// The summary that the digits spell.
-#[tactic(auto, unfolding(crate::specs::Reading::summary_of))]
+#[tactic(auto, unfolding(crate::specs::Reading::summary_of_digits))]
 pub fn summary(alloc: Global, digits: &[u8]) -> Result<Summary, LineError>
-    ensures { Gives (λ x. x) result (summary_of digits.now) }
+    ensures { Gives (λ x. x) result (summary_of_digits digits.now) }
 {
     let bytes = bytes(alloc, digits)?;
     summary_in(alloc, &bytes)
@@ -73,9 +73,9 @@ pub fn delta_in(alloc: Global, bytes: &[u8]) -> Result<Delta, LineError>
 }
 
 /// The delta that the digits spell.
-#[tactic(auto, unfolding(crate::specs::Reading::delta_of))]
+#[tactic(auto, unfolding(crate::specs::Reading::delta_of_digits))]
 pub fn delta(alloc: Global, digits: &[u8]) -> Result<Delta, LineError>
-    ensures { Gives (λ x. x) result (delta_of digits.now) }
+    ensures { Gives (λ x. x) result (delta_of_digits digits.now) }
 {
     let bytes = bytes(alloc, digits)?;
     delta_in(alloc, &bytes)
@@ -93,9 +93,9 @@ pub fn piece_in(alloc: Global, bytes: &[u8]) -> Result<Piece, LineError>
 }
 
 /// The piece that the digits spell.
-#[tactic(auto, unfolding(crate::specs::Reading::piece_of))]
+#[tactic(auto, unfolding(crate::specs::Reading::piece_of_digits))]
 pub fn piece(alloc: Global, digits: &[u8]) -> Result<Piece, LineError>
-    ensures { Gives (λ x. x) result (piece_of digits.now) }
+    ensures { Gives (λ x. x) result (piece_of_digits digits.now) }
 {
     let bytes = bytes(alloc, digits)?;
     piece_in(alloc, &bytes)

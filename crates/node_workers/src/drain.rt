@@ -1,7 +1,7 @@
 ghost use Rattle.std.specs.Prelude.{◌≡◌, ◌≢◌, ◌+◌, ◌-◌, ◌<◌, ◌≤◌, ◌++◌, ◌∷◌, [], All, length, IfSome, IfNone, MatchResult};
 ghost use Rattle.front_board.specs.Seat.{IsNode};
 ghost use Rattle.node_cell.specs.Node.{IsPassOf};
-ghost use Rattle.node_workers.specs.Work.{Answered, Names, NamesItem, place_of, receipt_in};
+ghost use Rattle.node_workers.specs.Work.{Answered, Names, NamesItem, answered_place, receipt_in};
 
 use crate::gate::{Gate, Job, Kind};
 use crate::list::{numbered, push_waiting};
@@ -130,7 +130,7 @@ fn deliver<L: LogName, R: Wait>(
     ensures taker { hold.new.taker ≡ hold.old.taker }
     ensures seat { hold.new.seat.board ≡ hold.old.seat.board }
     ensures node { hold.new.node ≡ hold.old.node }
-    ensures answer { (a : _) × (hold.new.answers.items ≡ hold.old.answers.items ++ a ∷ []) × (place_of a ≡ parcel.fact.place) × (hold.new.pass ≡ record hold.old.pass { list = hold.old.pass.list ++ receipt_in a }) }
+    ensures answer { (a : _) × (hold.new.answers.items ≡ hold.old.answers.items ++ a ∷ []) × (answered_place a ≡ parcel.fact.place) × (hold.new.pass ≡ record hold.old.pass { list = hold.old.pass.list ++ receipt_in a }) }
 {
     let fact = parcel.into_fact();
     let answer = match node.deliver(rt, &mut hold.pass, board, &mut hold.seat, fact) {

@@ -9,7 +9,7 @@ use Rattle.redo_core.specs.Order.{IsRising}
 use Rattle.redo_core.proofs.Members.{here, there, which, each, all_of, contains_insert}
 use Rattle.redo_core.proofs.Rising.{side, rising_insert}
 use Rattle.redo_core.specs.Store.{StoredImage, PageBefore, PutsImage}
-use Rattle.page_base.specs.Placing.{SplitsAt, IsGapAt}
+use Rattle.page_base.specs.Placing.{SplitsAt, IsInsertionPoint}
 use Rattle.page_base.proofs.Lists.{from_place, in_set}
 
 below_true : (page : ℕ) (i : StoredImage) → nat_lt i.page page ≡ true → i.page < page
@@ -55,7 +55,7 @@ split page images place le point = record {
 
 -- no image is of a page where the one at the page's place is of another
 pub gap_before : (page : ℕ) (images : List StoredImage) (place : ℕ) (x : StoredImage) → IsRising PageBefore images → SplitsAt page images place
-    → place < length images → x ≡ get_or images place x → (x.page ≡ page → ⊥) → IsGapAt page images place
+    → place < length images → x ≡ get_or images place x → (x.page ≡ page → ⊥) → IsInsertionPoint page images place
 gap_before page images place x rising s l e other = record {
   bound = s.bound;
   below = s.below;
@@ -73,7 +73,7 @@ gap_before page images place x rising s l e other = record {
     first_from (z ∷ zs) (suc k) y l e = first_from zs k y (omega (arith, l)) e
 
 -- an image put into a gap
-pub put_in_gap : (images : List StoredImage) (place : ℕ) (x : StoredImage) → IsRising PageBefore images → IsGapAt x.page images place
+pub put_in_gap : (images : List StoredImage) (place : ℕ) (x : StoredImage) → IsRising PageBefore images → IsInsertionPoint x.page images place
     → PutsImage images x (insert images place x)
 put_in_gap images place x rising gap = record {
   rising = rising_insert PageBefore images place x rising gap.below gap.above;

@@ -10,7 +10,7 @@ pub record SplitsAt (page : ℕ) (images : List StoredImage) (place : ℕ) : Typ
   pub rest : (i : StoredImage) → Contains (drop place images) i → page ≤ i.page
 
 -- there is none of the page itself
-pub record IsGapAt (page : ℕ) (images : List StoredImage) (place : ℕ) : Type 0 where
+pub record IsInsertionPoint (page : ℕ) (images : List StoredImage) (place : ℕ) : Type 0 where
   pub bound : place ≤ length images
   pub below : (i : StoredImage) → Contains (take place images) i → i.page < page
   pub above : (i : StoredImage) → Contains (drop place images) i → page < i.page
@@ -18,4 +18,4 @@ pub record IsGapAt (page : ℕ) (images : List StoredImage) (place : ℕ) : Type
 -- the place of the page's image, or where it would stand
 abbrev pub IsPlace : ℕ → List StoredImage → Result ℕ ℕ → Type 0
 IsPlace page images (Ok place) = (place < length images) × ((i : StoredImage) → i ≡ slice_index_or images place i → i.page ≡ page)
-IsPlace page images (Err place) = IsGapAt page images place
+IsPlace page images (Err place) = IsInsertionPoint page images place

@@ -15,7 +15,7 @@ use Rattle.redo_core.specs.declared.facts.Fact.TheVariants.{Record, Cut, Advance
 use Rattle.redo_core.proofs.Members.{none_in, here, there, which, filtered, passed}
 use Rattle.redo_core.proofs.FactParts.{cut_in}
 use Rattle.redo_core.proofs.SoundFacts.{first_within, first_of_epoch}
-use Rattle.redo_laws.proofs.Views.{has_cuts}
+use Rattle.redo_core.proofs.CompleteEpochs.{has_cuts}
 use Rattle.plain_model.proofs.Scanned.{IsOther, IsSparedIfCounted, IsAboveIfCounted}
 
 -- a truncation that counts is one of the log's

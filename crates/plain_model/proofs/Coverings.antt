@@ -4,7 +4,7 @@ use Rattle.std.specs.List.{Contains, AllZip}
 use Rattle.redo_core.specs.Data.{RecordData, CutData, AdvanceData}
 use Rattle.redo_core.specs.Sets.{IsPart, SameSet, cuts}
 use Rattle.redo_core.specs.Standing.{IsDead}
-use Rattle.redo_core.specs.Position.{Position, IsPosition}
+use Rattle.redo_core.specs.Position.{Position}
 use Rattle.redo_core.specs.Sound.{IsSound}
 use Rattle.redo_core.specs.CompleteEpoch.{HasCutsTo}
 use Rattle.redo_core.specs.Meaning.{Meaning, IsMeaningAt, IsMeaning}
@@ -14,12 +14,12 @@ use Rattle.redo_core.specs.Roster.{point_of}
 use Rattle.redo_core.proofs.FactParts.{record_in, cut_in, advance_in}
 use Rattle.redo_laws.specs.OrderOfMeanings.{CoversAt, Covers}
 use Rattle.redo_laws.proofs.Log.{log_of_sound}
-use Rattle.redo_laws.proofs.Fronts.{front_unique, same_sym}
+use Rattle.redo_laws.proofs.Fronts.{same_sym}
 use Rattle.redo_laws.proofs.Alike.{alive_by, cuts_to_by, greatest_by}
 use Rattle.redo_laws.proofs.Meanings.{meaning_unique}
 use Rattle.redo_laws.proofs.SameSets.{same_meanings, turned}
 use Rattle.redo_laws.proofs.Union.{absorbed, covers_at, covers_of_parts}
-use Rattle.plain_model.specs.Comparing.{Keeps, Settles, CoversAll, IsCovering}
+use Rattle.plain_model.specs.Comparing.{KeepsFact, Settles, CoversAll, IsCovering}
 
 dead_by : (cs ds : List CutData) → SameSet cs ds → (k e n : ℕ) → IsDead cs k e n → IsDead ds k e n
 dead_by cs ds same k e n dead = (dead.0, λ alive. dead.1 (alive_by ds cs (same_sym cs ds same) k e n alive))
@@ -48,7 +48,7 @@ module _ {roster : ℕ} (facts others : List Fact) (p q : Position) (x y : Meani
   covered_kept is r h =
       let own = (mx.kept.members r).0 h in
       ⊎_elim
-      (λ (in' : Contains facts (Record r) × Keeps facts p (Record r)). inl ((my.kept.members r).1 ((record_in facts r).1 in'.0, in'.1)))
+      (λ (in' : Contains facts (Record r) × KeepsFact facts p (Record r)). inl ((my.kept.members r).1 ((record_in facts r).1 in'.0, in'.1)))
       (λ (settled : Settles facts p (Record r)). inr (⊎_elim
       (λ (dead : IsDead (cuts facts) p.epoch r.epoch r.number). inl (dead_by (cuts facts) y.cuts own_cuts p.epoch r.epoch r.number dead))
       (λ (low : (r.number ≤ p.anchor) × (r.epoch ≤ p.epoch)). inr
@@ -96,12 +96,6 @@ module _ {roster : ℕ} (facts others : List Fact) (p q : Position) (x y : Meani
         points = subst (λ ps. AllZip (λ m n. m ≤ n) q.points ps) my.points (subst (λ ps. AllZip (λ m n. m ≤ n) ps y.points) mx.points at.points);
         all = covered_fact at;
       }
-
--- a meaning, at the position that the facts have
-pub at_position : {roster : ℕ} (facts : List Fact) (p : Position) (m : Meaning) → IsPosition roster facts p → IsMeaning roster facts m
-    → IsMeaningAt roster facts p m
-at_position {roster} facts p m is means = subst (λ q. IsMeaningAt roster facts q m)
-    (front_unique facts facts (λ f. (λ h. h, λ h. h)) means.0 p means.1.position is) means.1
 
 -- meanings of parts of one log that cover each other are one
 pub one_meaning : (roster : ℕ) (log facts others : List Fact) (x y : Meaning) → IsSound roster log → IsPart facts log → IsPart others log

@@ -5,14 +5,13 @@ use Rattle.std.proofs.lemmas.Option.{slice_get_read}
 use Rattle.redo_core.specs.Data.{RecordData}
 use Rattle.redo_core.specs.Order.{IsGreatest}
 use Rattle.redo_core.specs.Sound.{IsAliveBelow, KeepsLaws}
-use Rattle.redo_core.specs.Fault.{KeepsLaw, IsFirstFault}
+use Rattle.redo_core.specs.Fault.{IsFirstFault, BreaksFirst}
 use Rattle.redo_core.specs.declared.facts.Fact.{Fact}
 use Rattle.redo_core.specs.declared.laws.Law.{Law}
-use Rattle.redo_core.specs.declared.laws.Law.TheVariants.{OneFactPerKey, EpochBegun, SegmentBacklink, BlockBacklink, AdvanceKept}
-use Rattle.redo_laws.proofs.Numbers.{greatest_unique}
+use Rattle.redo_core.proofs.Numbers.{greatest_unique}
 use Rattle.plain_model.specs.declared.chains.Chain.{Chain}
 use Rattle.plain_model.specs.Chained.{Follows}
-use Rattle.plain_model.specs.FoundFault.{FindsFault, BreaksFirst}
+use Rattle.plain_model.specs.FoundFault.{FindsFault}
 
 pub same_backlink : (log : List Fact) (r : RecordData) (chain : Chain) (g b : ℕ) → IsGreatest (IsAliveBelow log r (Follows chain r)) g → b ≡ g
     → IsGreatest (IsAliveBelow log r (Follows chain r)) b
@@ -22,13 +21,6 @@ pub other_backlink : (log : List Fact) (r : RecordData) (chain : Chain) (g b : �
     → IsGreatest (IsAliveBelow log r (Follows chain r)) b → ⊥
 other_backlink log r chain g b is ne law = let P : ℕ → Type 0 = IsAliveBelow log r (Follows chain r) in
     ne (greatest_unique P P (λ n. (λ h. h, λ h. h)) b g law is)
-
-pub keeps_each : (roster : ℕ) (log : List Fact) (place : ℕ) (f : Fact) (law : Law) → KeepsLaws roster log place f → KeepsLaw roster log place f law
-keeps_each roster log place f OneFactPerKey k = k.law1
-keeps_each roster log place f EpochBegun k = k.law2
-keeps_each roster log place f SegmentBacklink k = k.law3
-keeps_each roster log place f BlockBacklink k = k.law4
-keeps_each roster log place f AdvanceKept k = k.law5
 
 pub none_found : (roster : ℕ) (log : List Fact) (place : ℕ) (f : Fact) (found : Option Law) → FindsFault roster log place f found
     → ((law : Law) → found ≡ Some law → ⊥) → KeepsLaws roster log place f
@@ -56,4 +48,4 @@ pub fault_at : (roster : ℕ) (log : List Fact) (place : ℕ) (f : Fact) (law : 
 fault_at roster log place f law l e before b =
     let back : place ≡ place + 1 - 1 = omega arith in
     subst (λ p. IsFirstFault roster log p law) back
-    (record { fact = f; at_place = slice_get_read log (length log) place f refl l e; breaks = b.breaks; lower = b.lower; before = before })
+    (record { fact = f; at_place = slice_get_read log (length log) place f refl l e; breaks = b.0; lower = b.1; before = before })

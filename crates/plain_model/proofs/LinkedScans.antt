@@ -4,7 +4,7 @@ use Rattle.std.specs.List.{Contains, All}
 use Rattle.std.proofs.lemmas.List.Elements.{All-contains}
 use Rattle.redo_core.specs.Data.{RecordData, CutData}
 use Rattle.redo_core.specs.Sets.{records, cuts}
-use Rattle.redo_core.specs.Standing.{IsAlive}
+use Rattle.redo_core.specs.Standing.{IsAlive, SparesIn}
 use Rattle.redo_core.specs.Linked.{IsLinked}
 use Rattle.redo_core.specs.Linked.Linked.{start, next}
 use Rattle.redo_core.specs.declared.facts.Fact.{Fact}
@@ -12,7 +12,7 @@ use Rattle.redo_core.specs.declared.facts.Fact.TheVariants.{Record, Cut, Advance
 use Rattle.redo_core.proofs.FactParts.{record_in, cut_in}
 use Rattle.redo_core.proofs.Scans.{one_more}
 use Rattle.redo_core.proofs.Members.{item}
-use Rattle.plain_model.specs.Helpers.{SparesIn, IsWithin, IsLinkedWithin}
+use Rattle.plain_model.specs.Helpers.{IsUpToLimit, IsLinkedWithin}
 use Rattle.plain_model.proofs.Scanned.{IsSpared, LinksNot, LinksUpTo}
 
 pub record_item : (facts : List Fact) (i : ℕ) (f : Fact) (r : RecordData) → i < length facts → f ≡ get_or facts i f → f ≡ Record r → Contains (records facts) r
@@ -62,7 +62,7 @@ up_default facts v m t (Record r) h = absurd (h r refl)
 up_default facts v m t (Cut c) h = tt
 up_default facts v m t (Advance a) h = tt
 
-pub top_linked : (facts : List Fact) (v : ℕ) (m : Option ℕ) (t n : ℕ) → All (LinksUpTo facts v m t) facts → IsLinked facts v n → IsWithin m n → n ≤ t
+pub top_linked : (facts : List Fact) (v : ℕ) (m : Option ℕ) (t n : ℕ) → All (LinksUpTo facts v m t) facts → IsLinked facts v n → IsUpToLimit m n → n ≤ t
 top_linked facts v m t n all start l = omega arith
 top_linked facts v m t n all (next r h a b p) l = All-contains (LinksUpTo facts v m t) facts (Record r) all ((record_in facts r).0 h) (next r h a b p, l)
 
@@ -74,7 +74,7 @@ up_at facts v m s t l (Advance a) h = tt
 pub up_higher : (facts xs : List Fact) (v : ℕ) (m : Option ℕ) (s t : ℕ) → s ≤ t → All (LinksUpTo facts v m s) xs → All (LinksUpTo facts v m t) xs
 up_higher facts xs v m s t l all k d u = up_at facts v m s t l (get_or xs k d) (all k d u)
 
-pub within_zero : (m : Option ℕ) → IsWithin m 0
+pub within_zero : (m : Option ℕ) → IsUpToLimit m 0
 within_zero None = tt
 within_zero (Some l) = omega arith
 

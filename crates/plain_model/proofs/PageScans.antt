@@ -8,7 +8,7 @@ use Rattle.redo_core.specs.Sets.{records}
 use Rattle.redo_core.specs.declared.facts.Fact.{Fact}
 use Rattle.redo_core.specs.declared.facts.Fact.TheVariants.{Record, Cut, Advance}
 use Rattle.redo_core.proofs.FactParts.{record_in}
-use Rattle.plain_model.specs.PageRecords.{IsPageRecord, StandsInPage, IsNextRecord, HasNoNext}
+use Rattle.plain_model.specs.PageRecords.{IsPageRecord, StandsInPage, IsNextPageRecord, HasNoNext}
 use Rattle.plain_model.proofs.Scanned.{IsReached}
 use Rattle.redo_core.proofs.Scans.{one_more}
 use Rattle.redo_core.proofs.Members.{item}
@@ -51,7 +51,7 @@ module _ {X : Type 0} (data_of : X → RecordData) where
 
   pub found_next : (facts : List Fact) (k g from q : ℕ) (found : Option X) → FoundInPage facts k g from q found
       → All (IsReached facts k g from q (FoundUpTo found)) facts → MatchOption found (HasNoNext facts k g from q)
-      (λ x. IsNextRecord facts k g from q (data_of x))
+      (λ x. IsNextPageRecord facts k g from q (data_of x))
   found_next facts k g from q None best all = λ r p l. All-contains (IsReached facts k g from q (FoundUpTo None)) facts (Record r) all
       ((record_in facts r).0 p.0.among) (stands facts k g q r p) l
   found_next facts k g from q (Some x) best all = record {

@@ -1,10 +1,10 @@
 -- A page record by record.
 use Rattle.std.proofs.Common.{◌≡◌, ℕ, ◌+◌, ◌<◌, ◌≤◌, ◌⊎◌, ⊎_elim, List, [], ◌∷◌, ◌++◌, refl, sym, ap, ◌∙◌, subst, arith}
-use Rattle.std.specs.List.{Contains, AllByRecursion}
+use Rattle.std.specs.List.{Contains}
 use Rattle.std.proofs.lemmas.List.Elements.{Contains-append_left, Contains-append_right, Contains-append_cases}
 use Rattle.redo_core.specs.Data.{RecordData}
 use Rattle.redo_core.specs.Sets.{IsPart, cuts}
-use Rattle.redo_core.specs.Order.{IsRising, Lists, BeforeByNumber}
+use Rattle.redo_core.specs.Order.{Lists, BeforeByNumber}
 use Rattle.redo_core.specs.CompleteEpoch.{HasCutsTo}
 use Rattle.redo_core.specs.Writing.{write, after_records, zeros}
 use Rattle.redo_core.specs.PageAt.{IsPageAt}
@@ -13,29 +13,16 @@ use Rattle.redo_core.specs.declared.facts.Fact.{Fact}
 use Rattle.redo_core.proofs.AfterRecords.{after_append}
 use Rattle.redo_core.proofs.Members.{none_in, here, which}
 use Rattle.redo_core.proofs.FactParts.{part_records, part_cuts}
+use Rattle.redo_core.proofs.Listing.{rising_push}
 use Rattle.redo_laws.proofs.Log.{log_of_sound}
 use Rattle.redo_laws.proofs.Views.{alone, alive_up}
-use Rattle.plain_model.specs.PageRecords.{IsPageRecord, HasNumbersOnce, IsNextRecord, HasNoNext}
+use Rattle.plain_model.specs.PageRecords.{IsPageRecord, HasNumbersOnce, IsNextPageRecord, HasNoNext}
 
 -- the image of the page with its records below a number
 pub record IsPageBelow (facts : List Fact) (k g q from : ℕ) (image : List ℕ) : Type 0 where
   pub written : List RecordData
   pub lists : Lists BeforeByNumber (λ r. IsPageRecord facts k g q r × (r.number < from)) written
   pub result : image ≡ after_records zeros written
-
-all_append : {X : Type 0} (P : X → Type 0) (xs : List X) (y : X) → AllByRecursion P xs → P y → AllByRecursion P (xs ++ y ∷ [])
-all_append P [] y all p = (p, tt)
-all_append P (x ∷ xs) y all p = (all.0, all_append P xs y all.1 p)
-
--- a rising list with one more behind it
-rising_last : {X : Type 0} (Before : X → X → Type 0) (xs : List X) (y : X) → IsRising Before xs → ((x : X) → Contains xs x → Before x y)
-    → IsRising Before (xs ++ y ∷ [])
-rising_last Before [] y rising below = (tt, tt)
-rising_last Before (x ∷ xs) y rising below = (
-  all_append (Before x) xs y rising.0 (below x (here x xs)),
-  rising_last Before xs y rising.1
-      (λ z h. below z (Contains-append_right (x ∷ []) xs z h)),
-)
 
 pub page_start : (facts : List Fact) (k g q : ℕ) → IsPageBelow facts k g q 0 zeros
 page_start facts k g q = record {
@@ -44,12 +31,12 @@ page_start facts k g q = record {
   result = refl;
 }
 
-pub page_step : (facts : List Fact) (k g q from : ℕ) (image : List ℕ) (r : RecordData) → HasNumbersOnce facts k g q → IsNextRecord facts k g from q r
+pub page_step : (facts : List Fact) (k g q from : ℕ) (image : List ℕ) (r : RecordData) → HasNumbersOnce facts k g q → IsNextPageRecord facts k g from q r
     → IsPageBelow facts k g q from image → IsPageBelow facts k g q (r.number + 1) (write image r)
 page_step facts k g q from image r once next p = record {
   written = p.written ++ r ∷ [];
   lists = record {
-    rising = rising_last BeforeByNumber p.written r p.lists.rising
+    rising = rising_push BeforeByNumber p.written r p.lists.rising
         (λ x h. let l : x.number < from = ((p.lists.members x).0 h).1 in let m : from ≤ r.number = next.above in omega arith);
     members = λ x. (known x, listed x);
   };

@@ -3,7 +3,7 @@ use Rattle.std.proofs.Common.{◌≡◌, ◌≢◌, ℕ, ◌<◌, ◌≤◌, Lis
 use Rattle.std.specs.List.{Contains}
 use Rattle.redo_core.specs.Data.{RecordData, CutData}
 use Rattle.redo_core.specs.Sets.{cuts, advances}
-use Rattle.redo_core.specs.Standing.{IsAlive}
+use Rattle.redo_core.specs.Standing.{IsAlive, SparesIn}
 use Rattle.redo_core.specs.Linked.{IsLinked}
 use Rattle.redo_core.specs.Past.{ArePast}
 use Rattle.redo_core.specs.Sound.{counted, SameKey}
@@ -12,7 +12,7 @@ use Rattle.redo_core.specs.declared.facts.Fact.TheVariants.{Record, Cut, Advance
 use Rattle.plain_model.specs.declared.chains.Chain.{Chain}
 use Rattle.plain_model.specs.Chained.{IsBelowOn}
 use Rattle.plain_model.specs.PageRecords.{StandsInPage}
-use Rattle.plain_model.specs.Helpers.{SparesIn, IsLinkedWithin}
+use Rattle.plain_model.specs.Helpers.{IsLinkedWithin}
 
 -- the fact is no truncation of this epoch
 abbrev pub IsOther : ℕ → Fact → Type 0

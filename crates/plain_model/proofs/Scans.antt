@@ -11,7 +11,7 @@ use Rattle.redo_core.specs.declared.facts.Fact.TheVariants.{Record, Cut, Advance
 use Rattle.redo_core.proofs.Scans.{one_more}
 use Rattle.redo_core.proofs.Members.{item}
 use Rattle.redo_core.proofs.FactParts.{cut_in, advance_in}
-use Rattle.plain_model.specs.Helpers.{HasCut}
+use Rattle.redo_core.specs.CompleteEpoch.{HasCut}
 use Rattle.plain_model.proofs.Scanned.{IsOther, IsUpTo, LeavesBehind}
 
 pub cut_item : (facts : List Fact) (i : ℕ) (f : Fact) (c : CutData) → i < length facts → f ≡ get_or facts i f → f ≡ Cut c → Contains (cuts facts) c

@@ -22,7 +22,7 @@ pub record StandsInPage (facts : List Fact) (k g q : ℕ) (r : RecordData) : Typ
   pub linked : IsLinked facts k r.number
 
 -- r is the record of page g with the least number from `from` up to q
-pub record IsNextRecord (facts : List Fact) (k g from q : ℕ) (r : RecordData) : Type 0 where
+pub record IsNextPageRecord (facts : List Fact) (k g from q : ℕ) (r : RecordData) : Type 0 where
   pub found : IsPageRecord facts k g q r
   pub above : from ≤ r.number
   pub least : (s : RecordData) → IsPageRecord facts k g q s → from ≤ s.number → r.number ≤ s.number

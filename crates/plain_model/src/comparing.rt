@@ -6,7 +6,7 @@ ghost use Rattle.redo_core.specs.Sound.{IsSound};
 ghost use Rattle.redo_core.specs.Meaning.{Meaning, IsMeaning};
 ghost use Rattle.redo_core.specs.declared.facts.Fact.{Fact as TheFact};
 ghost use Rattle.redo_laws.specs.OrderOfMeanings.{Covers};
-ghost use Rattle.plain_model.specs.Comparing.{Keeps, Settles, IsCovered, CoversAll, IsCovering};
+ghost use Rattle.plain_model.specs.Comparing.{KeepsFact, Settles, CoversFact, CoversAll, IsCovering};
 ghost use Rattle.plain_model.specs.Stands.{position_of};
 
 use crate::positions::position;
@@ -85,7 +85,7 @@ fn covers_all(facts: &[Fact], above: &Position, others: &[Fact], below: &Positio
 }
 
 fn is_covered(facts: &[Fact], above: &Position, fact: &Fact) -> bool
-    ensures { IsTrue result ↔ IsCovered facts.now (position_of above.now) fact.now }
+    ensures { IsTrue result ↔ CoversFact facts.now (position_of above.now) fact.now }
 {
     settles(facts, above, fact) || (keeps(facts, above, fact) && is_among(facts, fact))
 }
@@ -103,7 +103,7 @@ fn is_among(facts: &[Fact], fact: &Fact) -> bool
 
 // Whether the meaning of facts with this position keeps such a fact by itself.
 fn keeps(facts: &[Fact], at: &Position, fact: &Fact) -> bool
-    ensures { IsTrue result ↔ Keeps facts.now (position_of at.now) fact.now }
+    ensures { IsTrue result ↔ KeepsFact facts.now (position_of at.now) fact.now }
 {
     match fact {
         Fact::Record(redo) => {

@@ -1,8 +1,7 @@
 ghost use Rattle.std.specs.Prelude.{◌≡◌, ◌<◌, ◌↔◌, IsTrue};
 ghost use Rattle.redo_core.specs.Shape.{epoch_count};
 ghost use Rattle.redo_core.specs.Sets.{cuts};
-ghost use Rattle.redo_core.specs.CompleteEpoch.{IsCompleteEpoch};
-ghost use Rattle.plain_model.specs.Helpers.{HasCut};
+ghost use Rattle.redo_core.specs.CompleteEpoch.{IsCompleteEpoch, HasCut};
 
 use redo_core::Fact;
 

@@ -4,7 +4,7 @@ ghost use Rattle.redo_core.specs.CompleteEpoch.{HasCutsTo};
 ghost use Rattle.redo_core.specs.PageAt.{IsPageAt};
 ghost use Rattle.redo_core.specs.Sound.{IsSound};
 ghost use Rattle.redo_core.specs.declared.facts.Fact.{Fact as TheFact};
-ghost use Rattle.plain_model.specs.PageRecords.{HasNumbersOnce, StandsInPage, IsNextRecord, HasNoNext};
+ghost use Rattle.plain_model.specs.PageRecords.{HasNumbersOnce, StandsInPage, IsNextPageRecord, HasNoNext};
 
 use crate::links::is_linked;
 use crate::standings::is_alive;
@@ -37,7 +37,7 @@ pub fn page_at(
 
 // The linked record of the page with the least number from `from` up to a point.
 fn next_record(facts: &[Fact], view: u16, page: u16, from: u64, point: u64) -> Option<&Record>
-    ensures { MatchOption result (HasNoNext facts.now view page from point) (λ r. IsNextRecord facts.now view page from point r.now) }
+    ensures { MatchOption result (HasNoNext facts.now view page from point) (λ r. IsNextPageRecord facts.now view page from point r.now) }
 {
     let mut next: Option<&Record> = None;
     for fact in facts {

@@ -1,7 +1,6 @@
 ghost use Rattle.std.specs.Prelude.{◌↔◌, IsTrue};
 ghost use Rattle.redo_core.specs.Sets.{cuts};
-ghost use Rattle.redo_core.specs.Standing.{IsAlive};
-ghost use Rattle.plain_model.specs.Helpers.{SparesIn};
+ghost use Rattle.redo_core.specs.Standing.{IsAlive, SparesIn};
 ghost use Rattle.plain_model.specs.Stands.{StandsAs};
 
 use crate::views::Standing;

@@ -1,6 +1,6 @@
 //! A caller that knows the contracts alone: facts through an intake of one sender.
 ghost use Rattle.std.specs.Prelude.{◌≡◌, ◌+◌, ◌<◌, ◌≤◌, ◌^◌, ◌∷◌, ◌++◌, [], length, IfOk, IfSome, OnOk};
-ghost use Rattle.intake_queue.specs.Parcel.{facts_of, AreInTurn};
+ghost use Rattle.intake_queue.specs.Parcel.{parcel_facts, AreInTurn};
 
 use intake_queue::{Intake, MAX_CAPACITY, Parcel, SenderPass, TakerPass};
 use named_log::{LogFact, LogName};
@@ -56,7 +56,7 @@ impl<L: LogName> Relay<L> {
     // Offers the fact until it is accepted, and takes one each time that the intake is full.
     fn put<R: Wait>(&mut self, rt: &R, fact: LogFact<L>) -> Result<(), AllocError>
         requires { length self.old.sender.accepted + 1 < 2 ^ 64 }
-        ensures { OnOk result (facts_of self.new.sender.accepted ≡ facts_of self.old.sender.accepted ++ fact ∷ []) }
+        ensures { OnOk result (parcel_facts self.new.sender.accepted ≡ parcel_facts self.old.sender.accepted ++ fact ∷ []) }
     {
         let Ok(mut parcel) = self.sender.parcel(fact) else {
             unreachable!()
@@ -103,7 +103,7 @@ pub fn pass_through<L: LogName, R: Wait>(
     mut facts: Vec<LogFact<L>>,
 ) -> Result<Vec<Parcel<L>>, AllocError>
     requires { (1 ≤ capacity) × (capacity ≤ MAX_CAPACITY) }
-    ensures { IfOk result (λ all. facts_of all.items ≡ facts.items) }
+    ensures { IfOk result (λ all. parcel_facts all.items ≡ facts.items) }
 {
     let mut relay = Relay::open(alloc, capacity)?;
     facts.as_mut_slice().reverse();

@@ -18,7 +18,7 @@ use Rattle.segment_core.specs.declared.answers.Taken.TheVariants.{Changed, Uncha
 use Rattle.segment_core.specs.declared.answers.Refusal.{Refusal}
 use Rattle.segment_core.specs.declared.fold_plan.Folded.{Folded}
 use Rattle.read_cache.specs.declared.kept.KeptImage.{KeptImage}
-use Rattle.read_cache.specs.Images.{Images, IsAmong, Forgets, Keeps, kept_at}
+use Rattle.read_cache.specs.Images.{Images, IsAmong, Forgets, CachesOnly, kept_at}
 use Rattle.read_cache.specs.UpToDate.{IsUpToDate, Touches}
 use Rattle.read_cache.specs.Cached.{IsShown}
 use Rattle.read_cache.proofs.Bounds.{at_most_bound}
@@ -149,7 +149,7 @@ after_discard old new top complete images d has high u =
 
 -- an image that a read has shown
 pub after_keep : (s : State) (top point page high : ℕ) (image : List ℕ) (before after : Images) → IsShown s page (kept_at point image)
-    → Keeps before page (kept_at point image) after → high ≡ max top point → IsUpToDate s top before.entries → IsUpToDate s high after.entries
+    → CachesOnly before page (kept_at point image) after → high ≡ max top point → IsUpToDate s top before.entries → IsUpToDate s high after.entries
 after_keep s top point page high image before after shown keeps is u = record {
   shown = λ e at. ⊎_elim
       (λ (was : Contains before.entries e). u.shown e was)

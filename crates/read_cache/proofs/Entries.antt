@@ -8,7 +8,7 @@ use Rattle.lru.specs.LruCache.{lru_cache, put_entries}
 use Rattle.lru.proofs.Splits.{Contains-cons, Contains-nil}
 use Rattle.lru.proofs.CallerLemmas.{Contains-lookup, Contains-remove_entry, Contains-put_entries}
 use Rattle.read_cache.specs.declared.kept.KeptImage.{KeptImage}
-use Rattle.read_cache.specs.Images.{Images, Keeps}
+use Rattle.read_cache.specs.Images.{Images, CachesOnly}
 
 -- a key among keys that all fail a test fails it
 fails : (test : ℕ → Bool) (es : List (ℕ × KeptImage)) (e : ℕ × KeptImage) → AllByRecursion (λ k. test k ≡ false) (keys_of es) → Contains es e
@@ -56,6 +56,6 @@ put_one old page kept e at = elim (Contains-put_entries nat_eq old page kept e a
 
 -- where memory is wanting, nothing changes
 pub keeps : {A B : Type 0} (r : Result A B) (old new : Images) (page : ℕ) (kept : KeptImage)
-    → OnOk r (new ≡ lru_cache (put_entries nat_eq old page kept) old.cap) → OnErr r (new ≡ old) → Keeps old page kept new
+    → OnOk r (new ≡ lru_cache (put_entries nat_eq old page kept) old.cap) → OnErr r (new ≡ old) → CachesOnly old page kept new
 keeps (Ok v) old new page kept put same e at = put_one old page kept e (subst (λ (i : Images). Contains i.entries e) put at)
 keeps (Err v) old new page kept put same e at = inl (subst (λ (i : Images). Contains i.entries e) same at)

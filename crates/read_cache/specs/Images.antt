@@ -25,5 +25,5 @@ abbrev pub Forgets : Images → ℕ → Images → Type 0
 Forgets old page new = (e : ℕ × KeptImage) → Contains new.entries e → Contains old.entries e × (e.0 ≢ page)
 
 -- no image is kept but the one of the page and those that were
-abbrev pub Keeps : Images → ℕ → KeptImage → Images → Type 0
-Keeps old page kept new = (e : ℕ × KeptImage) → Contains new.entries e → Contains old.entries e ⊎ (e ≡ (page, kept))
+abbrev pub CachesOnly : Images → ℕ → KeptImage → Images → Type 0
+CachesOnly old page kept new = (e : ℕ × KeptImage) → Contains new.entries e → Contains old.entries e ⊎ (e ≡ (page, kept))

@@ -3,7 +3,7 @@ ghost use Rattle.std.specs.List.{IsDistinct};
 ghost use Rattle.std.specs.Map.{keys_of};
 ghost use Rattle.lru.specs.LruCache.{lru_cache};
 ghost use Rattle.read_cache.specs.declared.kept.KeptImage.{KeptImage as Kept};
-ghost use Rattle.read_cache.specs.Images.{IsAmong, Forgets, Keeps, kept_at};
+ghost use Rattle.read_cache.specs.Images.{IsAmong, Forgets, CachesOnly, kept_at};
 
 use crate::kept::KeptImage;
 use lru::LruCache;
@@ -64,7 +64,7 @@ impl Images {
 
     /// Keeps an image as the page's, where memory allows. The one read longest ago goes where there are too many.
     pub(crate) fn keep(&mut self, page: u16, point: u64, image: Page)
-        ensures keeps { Keeps self.old page (kept_at point image) self.new }
+        ensures keeps { CachesOnly self.old page (kept_at point image) self.new }
         ensures pages { self.new.cap ≡ self.old.cap }
     {
         if let Some(cache) = &mut self.cache {
@@ -109,7 +109,7 @@ fn copy_at(
 }
 
 fn put(cache: &mut LruCache<u16, KeptImage>, page: u16, kept: KeptImage)
-    ensures keeps { Keeps cache.old page kept cache.new }
+    ensures keeps { CachesOnly cache.old page kept cache.new }
     ensures pages { cache.new.cap ≡ cache.old.cap }
 {
     drop(cache.put(page, kept));

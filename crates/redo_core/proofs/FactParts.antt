@@ -1,11 +1,11 @@
 -- The records, truncations and advances of a list of facts, by its members.
-use Rattle.std.proofs.Common.{◌≡◌, ◌↔◌, List, refl, subst, Some}
+use Rattle.std.proofs.Common.{◌≡◌, ◌↔◌, List, refl, subst, Some, []}
 use Rattle.std.specs.List.{Contains}
 use Rattle.redo_core.specs.Data.{RecordData, CutData, AdvanceData}
 use Rattle.redo_core.specs.Sets.{IsPart, records, cuts, advances, as_record, as_cut, as_advance}
 use Rattle.redo_core.specs.declared.facts.Fact.{Fact}
 use Rattle.redo_core.specs.declared.facts.Fact.TheVariants.{Record, Cut, Advance}
-use Rattle.redo_core.proofs.Members.{mapped, source}
+use Rattle.redo_core.proofs.Members.{mapped, source, none_in}
 
 record_source_at : (facts : List Fact) (f : Fact) (r : RecordData) → Contains facts f → as_record f ≡ Some r → Contains facts (Record r)
 record_source_at facts (Record s) r h e = let q : s ≡ r = cc in subst (λ x. Contains facts (Record x)) q h
@@ -42,3 +42,8 @@ part_cuts F G p c h = (cut_in G c).1 (p (Cut c) ((cut_in F c).0 h))
 
 pub part_advances : (F G : List Fact) → IsPart F G → IsPart (advances F) (advances G)
 part_advances F G p a h = (advance_in G a).1 (p (Advance a) ((advance_in F a).0 h))
+
+-- no facts have no advance
+pub no_advances : (a : AdvanceData) → Contains (advances []) a → ⊥
+unfolding advances
+no_advances a h = none_in a h

@@ -1,5 +1,6 @@
 pub mod Members
 pub mod Rising
+pub mod ByPlace
 pub mod Listing
 pub mod Scans
 pub mod AfterRecords
@@ -8,3 +9,5 @@ pub mod SoundFacts
 pub mod Pairs
 pub mod Points
 pub mod Plain
+pub mod Numbers
+pub mod CompleteEpochs

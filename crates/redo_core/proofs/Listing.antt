@@ -1,6 +1,6 @@
--- Lists in rising order of the things with a property, which gain one at their end.
+-- Lists that gain one or some at their end: rising lists, and those in rising order of the things with a property.
 use Rattle.std.proofs.Common.{◌≡◌, ℕ, ◌+◌, ◌<◌, ◌≤◌, ◌⊎◌, ◌↔◌, inl, inr, ⊎_elim, List, [], ◌∷◌, ◌++◌, length, get_or, take, sym, subst}
-use Rattle.std.specs.List.{Contains}
+use Rattle.std.specs.List.{Contains, AllByRecursion}
 use Rattle.std.proofs.lemmas.List.Elements.{Contains-append_left, Contains-append_right, Contains-append_cases}
 use Rattle.redo_core.specs.Order.{IsRising, Lists}
 use Rattle.redo_core.proofs.Members.{none_in, here, there, which, each, all_of}
@@ -13,6 +13,21 @@ rising_push Before (y ∷ ys) x r low = (
   all_of (Before y) (ys ++ x ∷ []) (λ z h. ⊎_elim (λ (u : Contains ys z). each (Before y) ys z r.0 u) (λ (u : Contains (x ∷ []) z). ⊎_elim (λ (v : x ≡ z). subst (Before y) v (low y (here y ys))) (λ (v : Contains [] z). absurd (none_in z v)) (which x [] z u)) (Contains-append_cases ys (x ∷ []) z h)),
   rising_push Before ys x r.1 (λ z h. low z (there y ys z h)),
 )
+
+-- a rising list behind a lower one
+pub rising_append : {X : Type 0} (Before : X → X → Type 0) (xs ys : List X) → IsRising Before xs → IsRising Before ys
+    → ((x y : X) → Contains xs x → Contains ys y → Before x y) → IsRising Before (xs ++ ys)
+rising_append Before [] ys r s cross = s
+rising_append Before (x ∷ xs) ys r s cross = (
+  all_of (Before x) (xs ++ ys) (λ z h. ⊎_elim (λ (u : Contains xs z). each (Before x) xs z r.0 u) (λ (v : Contains ys z). cross x z (here x xs) v)
+      (Contains-append_cases xs ys z h)),
+  rising_append Before xs ys r.1 s (λ y z u v. cross y z (there x xs y u) v),
+)
+
+-- what holds of all of a list, and of one more at its end
+pub all_push : {X : Type 0} (P : X → Type 0) (xs : List X) (x : X) → AllByRecursion P xs → P x → AllByRecursion P (xs ++ x ∷ [])
+all_push P [] x all one = (one, tt)
+all_push P (y ∷ ys) x all one = (all.0, all_push P ys x all.1 one)
 
 -- a list with one more at its end, and what is said of its members
 pub lists_push : {X : Type 0} (Before : X → X → Type 0) (P Q : X → Type 0) (xs : List X) (x : X) → Lists Before P xs → ((y : X) → P y → Before y x) → ((y : X) → Q y ↔ (P y ⊎ (y ≡ x))) → Lists Before Q (xs ++ x ∷ [])

@@ -21,6 +21,10 @@ cases_at x xs y (suc k) l e = inr (k, omega (arith, l), e)
 pub which : {X : Type 0} (x : X) (xs : List X) (y : X) → Contains (x ∷ xs) y → (x ≡ y) ⊎ Contains xs y
 which x xs y h = cases_at x xs y h.0 h.1 h.2
 
+-- the member of a list of one
+pub only : {X : Type 0} (x y : X) → Contains (x ∷ []) y → x ≡ y
+only x y h = ⊎_elim (λ (e : x ≡ y). e) (λ (n : Contains [] y). absurd (none_in y n)) (which x [] y h)
+
 -- the element that was read at a place
 pub item : {X : Type 0} (xs : List X) (i : ℕ) (x : X) → i < length xs → x ≡ get_or xs i x → Contains xs x
 item xs i x l e = (i, l, sym e)

@@ -1,7 +1,7 @@
 -- The order of pairs of numbers, by the first and then by the second.
 use Rattle.std.proofs.Common.{◌≡◌, ℕ, ◌<◌, ◌⊎◌, inl, inr, ⊎_elim, ap, ◌∙◌, arith}
-use Rattle.redo_core.specs.Data.{AdvanceData, advance_of}
-use Rattle.redo_core.specs.Order.{PairBefore, AdvanceBefore}
+use Rattle.redo_core.specs.Data.{AdvanceData, advance_of, RecordData}
+use Rattle.redo_core.specs.Order.{PairBefore, AdvanceBefore, RecordBefore}
 
 pub pair_apart : (a b c d : ℕ) → PairBefore a b c d → PairBefore c d a b → ⊥
 pair_apart a b c d x y = grind arith
@@ -11,6 +11,9 @@ pair_trans a b c d e f x y = grind arith
 
 pub pair_order : (a b c d : ℕ) → PairBefore a b c d ⊎ (((a ≡ c) × (b ≡ d)) ⊎ PairBefore c d a b)
 pair_order a b c d = grind arith
+
+pub record_trans : (r s x : RecordData) → RecordBefore r s → RecordBefore s x → RecordBefore r x
+record_trans r s x p q = grind arith
 
 -- two advances of one epoch, one reader and one point
 pub same_advance : (a b : AdvanceData) → a.epoch ≡ b.epoch → a.reader ≡ b.reader → a.point ≡ b.point → a ≡ b

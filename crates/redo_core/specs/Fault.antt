@@ -22,6 +22,10 @@ lower_laws SegmentBacklink = OneFactPerKey ∷ EpochBegun ∷ []
 lower_laws BlockBacklink = OneFactPerKey ∷ EpochBegun ∷ SegmentBacklink ∷ []
 lower_laws AdvanceKept = OneFactPerKey ∷ EpochBegun ∷ SegmentBacklink ∷ BlockBacklink ∷ []
 
+-- the fact at a place breaks the law, and none of the lower ones
+abbrev pub BreaksFirst : ℕ → List Fact → ℕ → Fact → Law → Type 0
+BreaksFirst roster log place fact law = (KeepsLaw roster log place fact law → ⊥) × AllByRecursion (KeepsLaw roster log place fact) (lower_laws law)
+
 -- the number by which a law is reported
 abbrev pub law_number : Law → ℕ
 law_number OneFactPerKey = 1

@@ -16,3 +16,7 @@ pub record IsAlive (cs : List CutData) (k epoch number : ℕ) : Type 0 where
 -- Else it is dead.
 abbrev pub IsDead : List CutData → ℕ → ℕ → ℕ → Type 0
 IsDead cs k epoch number = (epoch ≤ k) × (IsAlive cs k epoch number → ⊥)
+
+-- a truncation spares a number of an epoch in the view of epoch k
+abbrev pub SparesIn : ℕ → ℕ → ℕ → CutData → Type 0
+SparesIn k epoch number c = (c.epoch ≡ epoch → c.hi < number) × (epoch < c.epoch → c.epoch ≤ k → number ≤ c.lo)

@@ -17,10 +17,11 @@ use Rattle.redo_core.specs.Linked.Linked.{start, next}
 use Rattle.redo_core.specs.Meaning.{Meaning, IsMeaningAt, IsKept, ImageBefore}
 use Rattle.redo_core.specs.Order.{CutBefore, AdvanceBefore, RecordBefore}
 use Rattle.redo_core.specs.declared.facts.Fact.{Fact}
-use Rattle.redo_laws.proofs.Numbers.{greatest_unique}
+use Rattle.redo_core.proofs.Numbers.{greatest_unique}
 use Rattle.redo_core.proofs.FactParts.{part_records}
+use Rattle.redo_core.proofs.CompleteEpochs.{has_cuts}
 use Rattle.redo_laws.proofs.Log.{IsLog, alive_within}
-use Rattle.redo_laws.proofs.Views.{has_cuts, alive_up, prefix_law, anchor_is}
+use Rattle.redo_laws.proofs.Views.{alive_up, prefix_law, anchor_is}
 use Rattle.redo_laws.proofs.Deciding.{settled_lt}
 use Rattle.redo_laws.proofs.Fronts.{same_sym}
 use Rattle.redo_laws.proofs.Meanings.{lists_as}

@@ -9,7 +9,7 @@ use Rattle.redo_core.specs.declared.laws.Law.{Law}
 use Rattle.redo_core.specs.declared.laws.Law.TheVariants.{OneFactPerKey, EpochBegun, SegmentBacklink, BlockBacklink, AdvanceKept}
 
 -- a fact that keeps the laws keeps each
-keeps_each : (roster : ℕ) (log : List Fact) (place : ℕ) (fact : Fact) (law : Law) → KeepsLaws roster log place fact → KeepsLaw roster log place fact law
+pub keeps_each : (roster : ℕ) (log : List Fact) (place : ℕ) (fact : Fact) (law : Law) → KeepsLaws roster log place fact → KeepsLaw roster log place fact law
 keeps_each roster log place fact OneFactPerKey k = k.law1
 keeps_each roster log place fact EpochBegun k = k.law2
 keeps_each roster log place fact SegmentBacklink k = k.law3

@@ -16,7 +16,7 @@ use Rattle.redo_core.specs.Writing.{after_records}
 use Rattle.redo_core.specs.Linked.Linked.{start, next}
 use Rattle.redo_core.specs.declared.facts.Fact.{Fact}
 use Rattle.redo_core.proofs.Members.{lists_unique}
-use Rattle.redo_laws.proofs.Numbers.{greatest_unique, greatest_below}
+use Rattle.redo_core.proofs.Numbers.{greatest_unique, greatest_below}
 use Rattle.redo_core.proofs.Points.{same_points}
 use Rattle.redo_core.proofs.FactParts.{part_records, part_cuts, part_advances}
 use Rattle.redo_laws.proofs.Log.{alive_within}

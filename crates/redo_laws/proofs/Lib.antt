@@ -1,4 +1,3 @@
-pub mod Numbers
 pub mod Log
 pub mod Views
 pub mod Deciding

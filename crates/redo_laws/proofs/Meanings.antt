@@ -8,7 +8,7 @@ use Rattle.redo_core.specs.Writing.{zeros}
 use Rattle.redo_core.specs.CompleteEpoch.{HasCutsTo}
 use Rattle.redo_core.specs.Standing.{IsAlive, IsWaiting}
 use Rattle.redo_core.specs.Linked.{IsLinked, IsLinkedRecord}
-use Rattle.redo_core.specs.Position.{Position}
+use Rattle.redo_core.specs.Position.{Position, IsPosition}
 use Rattle.redo_core.specs.PageAt.{IsPageAt}
 use Rattle.redo_core.specs.Order.{BeforeByNumber}
 use Rattle.redo_core.specs.Writing.{after_records}
@@ -18,8 +18,9 @@ use Rattle.redo_core.specs.declared.facts.Fact.{Fact}
 use Rattle.redo_core.proofs.Members.{none_in, here, there, which, lists_unique}
 use Rattle.redo_core.proofs.Pairs.{pair_apart, pair_trans, pair_order, advance_apart, advance_trans, advance_order}
 use Rattle.redo_core.proofs.FactParts.{part_records, part_cuts}
+use Rattle.redo_core.proofs.CompleteEpochs.{has_cuts}
 use Rattle.redo_laws.proofs.Log.{IsLog}
-use Rattle.redo_laws.proofs.Views.{has_cuts, alive_up, alone}
+use Rattle.redo_laws.proofs.Views.{alive_up, alone}
 use Rattle.redo_laws.proofs.Deciding.{Settled, settled_le, settled_lt, settled_eq, settled_and, settled_or, in_order}
 use Rattle.redo_laws.proofs.Fronts.{front_exists, front_unique, page_unique, settled_alive, settled_linked, linked_record_same, same_sym}
 
@@ -74,7 +75,7 @@ same_image i j e p = ap (λ (q : ℕ × List ℕ). record { page = q.0; bytes = 
 
 -- the meaning is one
 
-record_of_meaning : (m n : Meaning) → m.cuts ≡ n.cuts → m.points ≡ n.points → m.waits ≡ n.waits → m.anchor ≡ n.anchor → m.pages ≡ n.pages → m.kept ≡ n.kept
+pub record_of_meaning : (m n : Meaning) → m.cuts ≡ n.cuts → m.points ≡ n.points → m.waits ≡ n.waits → m.anchor ≡ n.anchor → m.pages ≡ n.pages → m.kept ≡ n.kept
     → m ≡ n
 record_of_meaning m n a b c d e f =
     let t : (let v : Meaning = record { cuts = m.cuts; points = m.points; waits = m.waits; anchor = m.anchor; pages = m.pages; kept = m.kept } in
@@ -203,3 +204,8 @@ meaning_exists {roster} log F l p =
       record { cuts = cs.0; points = f.0.points; waits = ws.0; anchor = f.0.anchor; pages = is.0; kept = rs.0 },
       (f.0, record { position = f.1; cuts = cs.1; points = refl; waits = ws.1; anchor = refl; pages = is.1; kept = rs.1 }),
     )
+
+-- a meaning, at the position that the facts have
+pub meaning_at : {roster : ℕ} (facts : List Fact) (p : Position) (m : Meaning) → IsPosition roster facts p → IsMeaning roster facts m → IsMeaningAt roster facts p m
+meaning_at {roster} facts p m is means = subst (λ q. IsMeaningAt roster facts q m)
+    (front_unique facts facts (λ f. (λ h. h, λ h. h)) means.0 p means.1.position is) means.1

@@ -12,8 +12,9 @@ use Rattle.redo_core.specs.LogFront.{IsLogFront}
 use Rattle.redo_core.specs.declared.facts.Fact.{Fact}
 use Rattle.redo_core.proofs.FactParts.{part_records, part_cuts}
 use Rattle.redo_laws.proofs.Log.{IsLog}
-use Rattle.redo_laws.proofs.Numbers.{at_greatest}
-use Rattle.redo_laws.proofs.Views.{has_cuts, alive_up, prefix_law}
+use Rattle.redo_core.proofs.Numbers.{at_greatest}
+use Rattle.redo_core.proofs.CompleteEpochs.{has_cuts}
+use Rattle.redo_laws.proofs.Views.{alive_up, prefix_law}
 use Rattle.redo_laws.proofs.Fronts.{cuts_to_part}
 use Rattle.redo_laws.proofs.Meanings.{lists_as}
 

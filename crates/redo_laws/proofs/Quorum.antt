@@ -6,12 +6,13 @@ use Rattle.redo_core.specs.CompleteEpoch.{HasCutsTo}
 use Rattle.redo_core.specs.Linked.{IsLinked}
 use Rattle.redo_core.specs.Linked.Linked.{start, next}
 use Rattle.redo_core.specs.declared.facts.Fact.{Fact}
-use Rattle.redo_laws.specs.Overlap.{IsAtOrAbove, count_of, union_of}
+use Rattle.redo_laws.specs.Overlap.{IsAtOrAbove, chosen_count, union_of}
 use Rattle.redo_core.proofs.Members.{none_in}
-use Rattle.redo_laws.proofs.Numbers.{greatest_le}
+use Rattle.redo_core.proofs.Numbers.{greatest_le}
 use Rattle.redo_core.proofs.FactParts.{part_records}
+use Rattle.redo_core.proofs.CompleteEpochs.{has_cuts}
 use Rattle.redo_laws.proofs.Log.{IsLog}
-use Rattle.redo_laws.proofs.Views.{has_cuts, alive_up, alive_down, epoch_le}
+use Rattle.redo_laws.proofs.Views.{alive_up, alive_down, epoch_le}
 use Rattle.redo_laws.proofs.Fronts.{front_exists}
 use Rattle.redo_laws.proofs.Union.{left, right, both}
 
@@ -57,7 +58,7 @@ union_part log (false ∷ bs) (part ∷ parts) all x h = union_part log bs parts
 
 -- some part is reached and chosen
 pub shared : {roster : ℕ} (k n : ℕ) (parts : List (List Fact)) (reached chosen : List Bool)
-    → AllZip (λ b part. b ≡ true → IsAtOrAbove roster k n part) reached parts → length chosen ≡ length parts → length parts < count_of reached + count_of chosen
+    → AllZip (λ b part. b ≡ true → IsAtOrAbove roster k n part) reached parts → length chosen ≡ length parts → length parts < chosen_count reached + chosen_count chosen
     → (part : List Fact) × IsAtOrAbove roster k n part × IsPart part (union_of chosen parts)
 shared k n [] [] [] z e lt = absurd (omega arith)
 shared k n [] [] (c ∷ cs) z e lt = absurd (omega arith)
@@ -72,7 +73,7 @@ shared k n (p ∷ ps) (false ∷ rs) (false ∷ cs) z e lt = shared k n ps rs cs
 
 pub overlap_law : {roster : ℕ} (log : List Fact) (parts : List (List Fact)) (reached chosen : List Bool) (k n : ℕ) → IsLog roster log
     → AllByRecursion (λ part. IsPart part log) parts → AllZip (λ b part. b ≡ true → IsAtOrAbove roster k n part) reached parts → length chosen ≡ length parts
-    → length parts < count_of reached + count_of chosen → IsAtOrAbove roster k n (union_of chosen parts)
+    → length parts < chosen_count reached + chosen_count chosen → IsAtOrAbove roster k n (union_of chosen parts)
 overlap_law log parts reached chosen k n l all z e lt =
     let s = shared k n parts reached chosen z e lt in
     stays_above log s.0 (union_of chosen parts) k n l s.2 (union_part log chosen parts all) s.1

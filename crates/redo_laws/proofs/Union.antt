@@ -16,10 +16,11 @@ use Rattle.redo_core.specs.declared.facts.Fact.{Fact}
 use Rattle.redo_core.specs.declared.facts.Fact.TheVariants.{Record, Cut, Advance}
 use Rattle.redo_laws.specs.OrderOfMeanings.{Covers, CoversAt}
 use Rattle.redo_core.proofs.Points.{zip_of, zip_at}
-use Rattle.redo_laws.proofs.Numbers.{greatest_unique, greatest_le}
+use Rattle.redo_core.proofs.Numbers.{greatest_unique, greatest_le}
 use Rattle.redo_core.proofs.FactParts.{record_in, cut_in, advance_in, part_records, part_cuts, part_advances}
+use Rattle.redo_core.proofs.CompleteEpochs.{has_cuts}
 use Rattle.redo_laws.proofs.Log.{IsLog, alive_within}
-use Rattle.redo_laws.proofs.Views.{has_cuts, alive_up, alive_down, epoch_le, point_le, finality_law}
+use Rattle.redo_laws.proofs.Views.{alive_up, alive_down, epoch_le, point_le, finality_law}
 use Rattle.redo_laws.proofs.Deciding.{settled_lt}
 use Rattle.redo_laws.proofs.Fronts.{settled_alive, front_unique, point_exists}
 use Rattle.redo_laws.proofs.Alike.{Matters, Alike, alike_sym, meaning_alike, alike_by_meaning, has_below, front_alike, page_alike, alive_by, cuts_to_by, greatest_by}

@@ -12,14 +12,11 @@ use Rattle.redo_core.specs.Position.{Position, IsPosition}
 use Rattle.redo_core.specs.Past.{IsPast}
 use Rattle.redo_core.specs.Linked.Linked.{start, next}
 use Rattle.redo_core.specs.declared.facts.Fact.{Fact}
-use Rattle.redo_laws.proofs.Numbers.{greatest_le, at_greatest}
+use Rattle.redo_core.proofs.Numbers.{greatest_le, at_greatest}
 use Rattle.redo_core.proofs.Points.{least_le, least_mono}
 use Rattle.redo_core.proofs.FactParts.{part_records, part_cuts, part_advances}
+use Rattle.redo_core.proofs.CompleteEpochs.{has_cuts}
 use Rattle.redo_laws.proofs.Log.{IsLog, alive_within}
-
--- epochs up to the complete one have their truncations
-pub has_cuts : (cs : List CutData) (k : ℕ) → IsCompleteEpoch cs k → HasCutsTo cs k
-has_cuts cs k c = at_greatest (HasCutsTo cs) (λ e l m. absurd (omega arith)) k c
 
 -- a part that knows the epochs up to k knows all of the log's truncations there
 pub knows_cuts : {roster : ℕ} (log part : List Fact) → IsLog roster log → IsPart part log → (k : ℕ) → HasCutsTo (cuts part) k → (c : CutData)

@@ -11,10 +11,10 @@ abbrev pub IsAtOrAbove : ℕ → ℕ → ℕ → List Fact → Type 0
 IsAtOrAbove roster k n facts = (f : Position) × IsPosition roster facts f × ((k < f.epoch) ⊎ ((k ≡ f.epoch) × (n ≤ f.complete)))
 
 -- how many of a choice are chosen
-abbrev pub count_of : List Bool → ℕ
-count_of [] = 0
-count_of (true ∷ bs) = 1 + count_of bs
-count_of (false ∷ bs) = count_of bs
+abbrev pub chosen_count : List Bool → ℕ
+chosen_count [] = 0
+chosen_count (true ∷ bs) = 1 + chosen_count bs
+chosen_count (false ∷ bs) = chosen_count bs
 
 -- the union of the chosen parts
 abbrev pub union_of : List Bool → List (List Fact) → List Fact
@@ -30,5 +30,5 @@ Overlap =
     (roster : ℕ) (log : List Fact) (parts : List (List Fact)) (reached chosen : List Bool) (k n : ℕ)
     → IsSound roster log → AllByRecursion (λ part. IsPart part log) parts
     → AllZip (λ b part. b ≡ true → IsAtOrAbove roster k n part) reached parts → length chosen ≡ length parts
-    → length parts < count_of reached + count_of chosen
+    → length parts < chosen_count reached + chosen_count chosen
     → IsAtOrAbove roster k n (union_of chosen parts)

@@ -40,8 +40,8 @@ abbrev pub OnlyMembersCount : Type 0
 OnlyMembersCount = (facts same : List Fact) → SameSet facts same → AgreeOn facts same
 
 -- Parts of one meaning have one position and the same pages.
-abbrev pub Answers : Type 0
-Answers =
+abbrev pub OneAnswer : Type 0
+OneAnswer =
     (roster : ℕ) (log part other : List Fact) (m : Meaning) (p q : Position)
     → IsSound roster log → IsPart part log → IsPart other log
     → IsMeaning roster part m → IsMeaning roster other m → IsPosition roster part p → IsPosition roster other q

@@ -14,7 +14,7 @@ ghost use Rattle.redo_laws.specs.Parts.{Prefix, Finality, FrontOfPart, PageOfPar
 ghost use Rattle.redo_laws.specs.Passing.{PastByPoints, NonePassed};
 ghost use Rattle.redo_laws.specs.Sample.{SampleIsSound};
 ghost use Rattle.redo_laws.specs.Stored.{StoredImages};
-ghost use Rattle.redo_laws.specs.WellFormed.{OnePosition, OnePage, OneMeaning, OnlyMembersCount, Answers, OneFault, NoFault};
+ghost use Rattle.redo_laws.specs.WellFormed.{OnePosition, OnePage, OneMeaning, OnlyMembersCount, OneAnswer, OneFault, NoFault};
 
 /// Up to a linked number, a part of a sound log has every record of the log that is alive in the part's view.
 pub fn prefix()
@@ -68,7 +68,7 @@ pub fn idempotence()
 
 /// A meaning fixes the position and every page of each part that has it.
 pub fn answers()
-    ensures { Answers }
+    ensures { OneAnswer }
 {}
 
 /// Each part of a sound log has one meaning.

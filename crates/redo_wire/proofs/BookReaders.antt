@@ -11,13 +11,14 @@ use Rattle.redo_core.specs.Roster.{IsReader, least}
 use Rattle.redo_core.specs.Order.{IsRising, CutBefore, AdvanceBefore}
 use Rattle.redo_core.specs.CompleteEpoch.{IsCompleteEpoch}
 use Rattle.redo_core.proofs.Points.{least_le}
+use Rattle.redo_core.proofs.CompleteEpochs.{one_complete_epoch}
 use Rattle.redo_wire.specs.Fields.{u16_at, u32_at, u16, u32, u48}
 use Rattle.redo_wire.specs.Lists.{each_at}
 use Rattle.redo_wire.specs.Places.{WaitPlace, is_wait_above}
 use Rattle.redo_wire.specs.Forms.{within_at, byte_in}
 use Rattle.redo_wire.specs.Facts.{IsWireCut, IsWireAdvance, cut_bytes, advance_bytes}
 use Rattle.redo_wire.specs.FactReading.{cut_at, advance_at}
-use Rattle.redo_wire.specs.Books.{min_of, has_many, IsWireBook, book_bytes}
+use Rattle.redo_wire.specs.Books.{book_min, has_many, IsWireBook, book_bytes}
 use Rattle.redo_wire.specs.BookReading.{complete, cut_epoch, last_point, wait_place, next_cut_at, next_point_at, next_wait_at, book_at}
 use Rattle.redo_wire.proofs.Readers.{IsBytes, bind_ok, ok_is, Takes, Takes-then, Reads, ordered_reads}
 use Rattle.redo_wire.proofs.FieldReaders.{u16_reads, u32_reads, u48_reads}
@@ -26,7 +27,7 @@ use Rattle.redo_wire.proofs.ListReaders.{EachFrom, each_takes, each_again}
 use Rattle.redo_wire.proofs.RecordReaders.{spared}
 use Rattle.redo_wire.proofs.FactReaders.{cut_reads, advance_reads, IsReadAdvance, ranges, within_bounds, second_is, within_second}
 use Rattle.redo_wire.proofs.Orders.{All-weaker, All-both, IsNext, rising_from_each, each_from_rising, cut_tests, place_of, wait_tests, wait_above_zero}
-use Rattle.redo_wire.proofs.Epochs.{is_complete, one_complete_epoch}
+use Rattle.redo_wire.proofs.Epochs.{is_complete}
 
 -- ---- truncations in their places
 
@@ -59,7 +60,7 @@ small_least (p ∷ ps) one h =
     omega arith
 
 -- the minimum read point of a book is a number
-pub min_small : (b : BookData) → IsBook b → min_of b ≤ max_number
+pub min_small : (b : BookData) → IsBook b → book_min b ≤ max_number
 min_small b book = small_least b.points book.roster.0 (recursion_from_All (λ p. p ≤ max_number) b.points book.points_shaped)
 
 each_point : (last : ℕ) (ps : List ℕ) → AllByRecursion (λ p. p ≤ max_number) ps → EachFrom IsNextPoint last_point last ps

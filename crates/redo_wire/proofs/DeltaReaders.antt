@@ -15,7 +15,7 @@ use Rattle.redo_wire.specs.Lists.{each_at}
 use Rattle.redo_wire.specs.Places.{Place, is_above}
 use Rattle.redo_wire.specs.Records.{IsWireRecord, record_bytes}
 use Rattle.redo_wire.specs.RecordReading.{record_at}
-use Rattle.redo_wire.specs.Books.{min_of, has_many, book_bytes}
+use Rattle.redo_wire.specs.Books.{book_min, has_many, book_bytes}
 use Rattle.redo_wire.specs.BookReading.{book_at}
 use Rattle.redo_wire.specs.Deltas.{DeltaData, delta_of, image_of, IsDelta, IsWireImage, IsWireDelta, image_bytes, delta_part_bytes, delta_bytes}
 use Rattle.redo_wire.specs.DeltaReading.{is_nonzero, may_have, image_at, page_after, next_image_at, record_place, next_record_at, delta_part_at, delta_at}
@@ -116,7 +116,7 @@ may_have_pages base pages rule =
 
 pub delta_steps : (many : Bool) (bytes : List ℕ) (b : BookData × List ℕ) (base page_count : ℕ × List ℕ) (pages : List ImageData × List ℕ)
     (record_count : ℕ × List ℕ) (records : List RecordData × List ℕ) → IsBytes bytes
-    → book_at many bytes ≡ Ok b → u48_at b.1 ≡ Ok base → base.0 ≤ min_of b.0 → u32_at base.1 ≡ Ok page_count → may_have base.0 page_count.0 ≡ true
+    → book_at many bytes ≡ Ok b → u48_at b.1 ≡ Ok base → base.0 ≤ book_min b.0 → u32_at base.1 ≡ Ok page_count → may_have base.0 page_count.0 ≡ true
     → each_at next_image_at page_after page_count.0 0 page_count.1 ≡ Ok pages → u32_at pages.1 ≡ Ok record_count
     → each_at next_record_at record_place record_count.0 (0, 0) record_count.1 ≡ Ok records
     → let d = delta_of b.0 base.0 pages.0 records.0 in Takes bytes (delta_part_bytes many d) records.1 × (IsWireDelta d × (has_many b.0 ≡ many))
@@ -164,8 +164,8 @@ delta_part_takes : (many : Bool) (bytes : List ℕ) (x : DeltaData × List ℕ) 
 unfolding delta_part_at
 delta_part_takes many bytes x fits e =
     let a0 = bind_ok (book_at many bytes) _ x e in
-    let a1 = bind_ok (shaped (λ n. leb n (min_of a0.0.0)) (u48_at a0.0.1)) _ x a0.2 in
-    let s1 = shaped_ok (λ n. leb n (min_of a0.0.0)) (u48_at a0.0.1) a1.0 a1.1 in
+    let a1 = bind_ok (shaped (λ n. leb n (book_min a0.0.0)) (u48_at a0.0.1)) _ x a0.2 in
+    let s1 = shaped_ok (λ n. leb n (book_min a0.0.0)) (u48_at a0.0.1) a1.0 a1.1 in
     let a2 = bind_ok (shaped (λ n. may_have a1.0.0 n) (u32_at a1.0.1)) _ x a1.2 in
     let s2 = shaped_ok (λ n. may_have a1.0.0 n) (u32_at a1.0.1) a2.0 a2.1 in
     let a3 = bind_ok (each_at next_image_at page_after a2.0.0 0 a2.0.1) _ x a2.2 in
@@ -210,7 +210,7 @@ delta_part_again many d rest fits =
     ∙ rw (
       (book_reads many).again d.book z0 (wire.book, fits.1),
       u48_reads.again d.base z1 (omega (arith, low, small)),
-      le-leb d.base (min_of d.book) low,
+      le-leb d.base (book_min d.book) low,
       u32_reads.again (length d.pages) z2 wire.page_count,
       may_have_pages d.base d.pages wire.shape.no_base,
       each_again next_image_at page_after image_bytes IsNextImage next_image_reads d.pages 0 z3 (each_image d wire),

@@ -3,8 +3,8 @@ use Rattle.std.proofs.Common.{◌≡◌, ℕ, zero, suc, ◌+◌, ◌<◌, ◌�
 use Rattle.std.specs.List.{Contains, AllByRecursion}
 use Rattle.std.proofs.lemmas.Bool.{ltb-true, lt-ltb, eq-eqb, ne_eqb, cases_lt, cases_eq}
 use Rattle.redo_core.specs.Data.{CutData}
-use Rattle.redo_core.specs.Order.{IsGreatest, IsRising, CutBefore}
-use Rattle.redo_core.specs.CompleteEpoch.{HasCutsTo, IsCompleteEpoch}
+use Rattle.redo_core.specs.Order.{IsRising, CutBefore}
+use Rattle.redo_core.specs.CompleteEpoch.{IsCompleteEpoch}
 use Rattle.redo_wire.specs.BookReading.{cut_epoch, complete, complete_from}
 use Rattle.redo_wire.proofs.ListReaders.{EachFrom}
 use Rattle.redo_wire.proofs.Orders.{All-weaker, each_from_rising, cut_tests}
@@ -75,12 +75,3 @@ is_complete cs rising all =
     let each : EachFrom IsNextEpoch cut_epoch 0 cs = each_from_rising (λ last c. ltb last c.epoch) (λ (c : CutData). c.epoch) CutBefore (λ c. 0 < c.epoch)
     cut_tests 0 cs first rising all in
     (inr (λ e one le. found 0 cs e (omega arith) le), λ m has. most 0 cs m each (λ e lt le. has e (omega arith) le))
-
-greatest_le : (P : ℕ → Type 0) (m n : ℕ) → IsGreatest P m → IsGreatest P n → m ≤ n
-greatest_le P m n g h = elim g.0 [ inl none ↦ omega (arith, none) | inr has ↦ h.1 m has ]
-
-pub one_complete_epoch : (cs : List CutData) (m n : ℕ) → IsCompleteEpoch cs m → IsCompleteEpoch cs n → m ≡ n
-one_complete_epoch cs m n g h =
-    let up = greatest_le (HasCutsTo cs) m n g h in
-    let down = greatest_le (HasCutsTo cs) n m h g in
-    omega arith

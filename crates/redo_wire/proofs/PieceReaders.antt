@@ -15,7 +15,7 @@ use Rattle.redo_wire.specs.Fields.{byte_at, u32_at, u48_at, u64_at, u32, u48, u6
 use Rattle.redo_wire.specs.Lists.{each_at}
 use Rattle.redo_wire.specs.Places.{is_above}
 use Rattle.redo_wire.specs.Records.{IsWireRecord, record_bytes}
-use Rattle.redo_wire.specs.Books.{min_of, book_bytes}
+use Rattle.redo_wire.specs.Books.{book_min, book_bytes}
 use Rattle.redo_wire.specs.BookReading.{book_at}
 use Rattle.redo_wire.specs.Deltas.{image_bytes}
 use Rattle.redo_wire.specs.DeltaReading.{image_at, record_place, next_record_at}
@@ -39,7 +39,7 @@ pub record IsRead (many : Bool) (kind : ℕ) (c : PieceContent) : Type 0 where
   pub wire : IsWireContent c
 
 head_steps : (many : Bool) (bytes : List ℕ) (b : BookData × List ℕ) (anchor : ℕ × List ℕ) → IsBytes bytes → book_at many bytes ≡ Ok b
-    → u48_at b.1 ≡ Ok anchor → anchor.0 ≤ min_of b.0
+    → u48_at b.1 ≡ Ok anchor → anchor.0 ≤ book_min b.0
     → let c = Head b.0 anchor.0 in Takes bytes (content_bytes many c) anchor.1 × IsRead many 0 c
 head_steps many bytes b anchor fits e0 e1 low =
     let t0 = (book_reads many).takes bytes b fits e0 in
@@ -52,8 +52,8 @@ head_takes : (many : Bool) (bytes : List ℕ) (x : PieceContent × List ℕ) →
 unfolding head_content_at
 head_takes many bytes x fits e =
     let a0 = bind_ok (book_at many bytes) _ x e in
-    let a1 = bind_ok (shaped (λ a. leb a (min_of a0.0.0)) (u48_at a0.0.1)) _ x a0.2 in
-    let s1 = shaped_ok (λ a. leb a (min_of a0.0.0)) (u48_at a0.0.1) a1.0 a1.1 in
+    let a1 = bind_ok (shaped (λ a. leb a (book_min a0.0.0)) (u48_at a0.0.1)) _ x a0.2 in
+    let s1 = shaped_ok (λ a. leb a (book_min a0.0.0)) (u48_at a0.0.1) a1.0 a1.1 in
     let made : PieceContent × List ℕ = (Head a0.0.0 a1.0.0, a1.0.1) in
     subst (λ (y : PieceContent × List ℕ). Takes bytes (content_bytes many y.0) y.1 × IsRead many 0 y.0) (ok_is made x a1.2)
     (head_steps many bytes a0.0 a1.0 fits a0.1 s1.0 (leb-true _ _ s1.1))
@@ -70,7 +70,7 @@ head_again many b anchor rest fits =
     ∙ rw (
       (book_reads many).again b z0 (fits.wire, fits.many_is),
       u48_reads.again anchor rest (omega (arith, low, small)),
-      le-leb anchor (min_of b) low,
+      le-leb anchor (book_min b) low,
     ) refl
 
 records_steps : (bytes : List ℕ) (count : ℕ × List ℕ) (records : List RecordData × List ℕ) → IsBytes bytes → byte_at bytes ≡ Ok count

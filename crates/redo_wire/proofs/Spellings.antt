@@ -7,7 +7,7 @@ use Rattle.redo_wire.specs.declared.faults.WireFault.{WireFault}
 use Rattle.redo_wire.specs.declared.faults.WireFault.TheVariants.{Rest}
 use Rattle.redo_wire.specs.declared.faults.WireError.{WireError}
 use Rattle.redo_wire.specs.Reading.{Read, whole}
-use Rattle.redo_wire.specs.Outcomes.{Answers}
+use Rattle.redo_wire.specs.Outcomes.{GivesRead}
 use Rattle.redo_wire.specs.Laws.{HasOneValue, BeginsNoOther, ReadsSpellings}
 use Rattle.redo_wire.proofs.Readers.{IsBytes, guard_true, ok_is, Reads}
 
@@ -40,14 +40,14 @@ read_from_spelled read spell Fits reads bytes v spelled =
 -- ---- a call that answers what reading gives
 
 pub answer_is_spelled : {A : Type 0} (read : List ℕ → Read A) (spell : A → List ℕ) (Fits : A → Type 0) → Reads read spell Fits
-    → (bytes : List ℕ) (r : Result A WireError) → IsBytes bytes → Answers r (whole (read bytes)) → IfOk r (λ v. Spells spell Fits v bytes)
+    → (bytes : List ℕ) (r : Result A WireError) → IsBytes bytes → GivesRead r (whole (read bytes)) → IfOk r (λ v. Spells spell Fits v bytes)
 answer_is_spelled read spell Fits reads bytes (Ok v) fits given = spelled_from_read read spell Fits reads bytes v fits given
 answer_is_spelled read spell Fits reads bytes (Err e) fits given = tt
 
 pub spelled_is_answer : {A : Type 0} (read : List ℕ → Read A) (spell : A → List ℕ) (Fits : A → Type 0) → Reads read spell Fits
-    → (bytes : List ℕ) (r : Result A WireError) → Answers r (whole (read bytes)) → (v : A) → Spells spell Fits v bytes → Answers r (Ok v)
+    → (bytes : List ℕ) (r : Result A WireError) → GivesRead r (whole (read bytes)) → (v : A) → Spells spell Fits v bytes → GivesRead r (Ok v)
 spelled_is_answer {A} read spell Fits reads bytes r given v spelled =
-    subst (λ (q : Result A WireFault). Answers r q) (read_from_spelled read spell Fits reads bytes v spelled) given
+    subst (λ (q : Result A WireFault). GivesRead r q) (read_from_spelled read spell Fits reads bytes v spelled) given
 
 -- ---- the laws
 

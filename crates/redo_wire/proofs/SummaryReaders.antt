@@ -8,7 +8,7 @@ use Rattle.redo_wire.specs.Fields.{u16_at, u32_at, u48_at, u16, u32, u48}
 use Rattle.redo_wire.specs.Lists.{each_at}
 use Rattle.redo_wire.specs.Places.{Place, is_above}
 use Rattle.redo_core.specs.Book.{BookData}
-use Rattle.redo_wire.specs.Books.{min_of, has_many, book_bytes}
+use Rattle.redo_wire.specs.Books.{book_min, has_many, book_bytes}
 use Rattle.redo_wire.specs.BookReading.{book_at}
 use Rattle.redo_wire.specs.Summaries.{SummaryData, summary_of, KeyBefore, IsKey, IsSummary, IsWireSummary, key_bytes, summary_part_bytes, summary_bytes}
 use Rattle.redo_wire.specs.SummaryReading.{key_at, key_place, next_key_at, summary_part_at, summary_at}
@@ -54,7 +54,7 @@ next_key_reads last = ordered_reads (λ k. is_above last (k.epoch, k.number)) ke
 -- ---- summaries
 
 pub summary_steps : (many : Bool) (bytes : List ℕ) (b : BookData × List ℕ) (anchor key_count : ℕ × List ℕ) (keys : List Key × List ℕ) → IsBytes bytes
-    → book_at many bytes ≡ Ok b → u48_at b.1 ≡ Ok anchor → anchor.0 ≤ min_of b.0 → u32_at anchor.1 ≡ Ok key_count
+    → book_at many bytes ≡ Ok b → u48_at b.1 ≡ Ok anchor → anchor.0 ≤ book_min b.0 → u32_at anchor.1 ≡ Ok key_count
     → each_at next_key_at key_place key_count.0 (0, 0) key_count.1 ≡ Ok keys
     → let s = summary_of b.0 anchor.0 keys.0 in Takes bytes (summary_part_bytes many s) keys.1 × (IsWireSummary s × (has_many b.0 ≡ many))
 summary_steps many bytes b anchor key_count keys fits e0 e1 low e2 e3 =
@@ -87,8 +87,8 @@ summary_part_takes : (many : Bool) (bytes : List ℕ) (x : SummaryData × List �
 unfolding summary_part_at
 summary_part_takes many bytes x fits e =
     let a0 = bind_ok (book_at many bytes) _ x e in
-    let a1 = bind_ok (shaped (λ a. leb a (min_of a0.0.0)) (u48_at a0.0.1)) _ x a0.2 in
-    let s1 = shaped_ok (λ a. leb a (min_of a0.0.0)) (u48_at a0.0.1) a1.0 a1.1 in
+    let a1 = bind_ok (shaped (λ a. leb a (book_min a0.0.0)) (u48_at a0.0.1)) _ x a0.2 in
+    let s1 = shaped_ok (λ a. leb a (book_min a0.0.0)) (u48_at a0.0.1) a1.0 a1.1 in
     let a2 = bind_ok (u32_at a1.0.1) _ x a1.2 in
     let a3 = bind_ok (each_at next_key_at key_place a2.0.0 (0, 0) a2.0.1) _ x a2.2 in
     let made : SummaryData × List ℕ = (summary_of a0.0.0 a1.0.0 a3.0.0, a3.0.1) in
@@ -119,7 +119,7 @@ summary_part_again many s rest fits =
       (book_reads many).again s.book z0 (wire.book, fits.1),
       u48_reads.again s.anchor z1 (omega (arith, low, small)),
       le-leb s.anchor
-          (min_of s.book) low,
+          (book_min s.book) low,
       u32_reads.again (length s.keys) z2 wire.key_count,
       each_again next_key_at key_place key_bytes IsNextKey next_key_reads s.keys
           (0, 0) rest (each_key s wire),

@@ -7,7 +7,7 @@ use Rattle.redo_core.specs.declared.facts.Fact as fact
 use Rattle.redo_core.specs.declared.facts.Fact.TheVariants as facts
 use Rattle.redo_wire.specs.declared.values.WireValue.{WireValue}
 use Rattle.redo_wire.specs.declared.values.WireValue.TheVariants.{Fact, Summary, Delta, Piece}
-use Rattle.redo_wire.specs.Outcomes.{Answers}
+use Rattle.redo_wire.specs.Outcomes.{GivesRead}
 use Rattle.redo_wire.specs.Forms.{form_bytes}
 use Rattle.redo_wire.specs.Records.{is_full, record_part_bytes}
 use Rattle.redo_wire.specs.Facts.{IsWireFact, is_of_other, advance_bytes, fact_bytes}
@@ -110,10 +110,10 @@ value_from_spelled bytes (Fact f) spelled =
 
 -- ---- a call that answers what reading gives
 
-pub value_is_spelled : (bytes : List ℕ) (r : Result WireValue WireError) → IsBytes bytes → Answers r (decoded_value bytes) → IfOk r (λ v. SpellsValue v bytes)
+pub value_is_spelled : (bytes : List ℕ) (r : Result WireValue WireError) → IsBytes bytes → GivesRead r (decoded_value bytes) → IfOk r (λ v. SpellsValue v bytes)
 value_is_spelled bytes (Ok v) fits given = value_from_read bytes v fits given
 value_is_spelled bytes (Err e) fits given = tt
 
-pub spelled_is_value : (bytes : List ℕ) (r : Result WireValue WireError) → Answers r (decoded_value bytes) → (v : WireValue) → SpellsValue v bytes
-    → Answers r (Ok v)
-spelled_is_value bytes r given v spelled = subst (λ (q : Result WireValue WireFault). Answers r q) (value_from_spelled bytes v spelled) given
+pub spelled_is_value : (bytes : List ℕ) (r : Result WireValue WireError) → GivesRead r (decoded_value bytes) → (v : WireValue) → SpellsValue v bytes
+    → GivesRead r (Ok v)
+spelled_is_value bytes r given v spelled = subst (λ (q : Result WireValue WireFault). GivesRead r q) (value_from_spelled bytes v spelled) given

@@ -9,8 +9,8 @@ use Rattle.redo_wire.specs.Forms.{byte_in}
 use Rattle.redo_wire.specs.Facts.{IsWireAdvance, cut_bytes, advance_bytes}
 
 -- the minimum read point: the least reader's point
-abbrev pub min_of : BookData → ℕ
-min_of b = least b.points
+abbrev pub book_min : BookData → ℕ
+book_min b = least b.points
 
 -- the roster has several readers
 abbrev pub has_many : BookData → Bool

@@ -12,7 +12,7 @@ use Rattle.redo_wire.specs.Tags.{delta_tag, roster_delta_tag}
 use Rattle.redo_wire.specs.Forms.{form_at}
 use Rattle.redo_wire.specs.Places.{Place, is_above}
 use Rattle.redo_wire.specs.RecordReading.{record_at}
-use Rattle.redo_wire.specs.Books.{min_of}
+use Rattle.redo_wire.specs.Books.{book_min}
 use Rattle.redo_wire.specs.BookReading.{book_at}
 use Rattle.redo_wire.specs.Deltas.{DeltaData, delta_of, image_of}
 
@@ -46,7 +46,7 @@ next_record_at last bytes = ordered (λ r. is_above last (r.epoch, r.number)) (r
 unfoldable pub delta_part_at : Bool → List ℕ → Read DeltaData
 delta_part_at many bytes = do
   book ← book_at many bytes
-  base ← shaped (λ n. nat_le n (min_of book.0)) (u48_at book.1)
+  base ← shaped (λ n. nat_le n (book_min book.0)) (u48_at book.1)
   page_count ← shaped (λ n. may_have base.0 n) (u32_at base.1)
   pages ← each_at next_image_at page_after page_count.0 0 page_count.1
   record_count ← u32_at pages.1

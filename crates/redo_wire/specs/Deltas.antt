@@ -12,7 +12,7 @@ use Rattle.redo_wire.specs.Limits.{count32_end}
 use Rattle.redo_wire.specs.Tags.{delta_tag, roster_delta_tag}
 use Rattle.redo_wire.specs.Forms.{form_bytes}
 use Rattle.redo_wire.specs.Records.{IsWireRecord, record_bytes}
-use Rattle.redo_wire.specs.Books.{IsWireBook, min_of, has_many, is_long_book, book_bytes}
+use Rattle.redo_wire.specs.Books.{IsWireBook, book_min, has_many, is_long_book, book_bytes}
 
 -- the book, the base point with the pages there, and records
 pub record DeltaData : Type 0 where
@@ -32,7 +32,7 @@ image_of page bytes = record { page = page; bytes = bytes }
 -- a base up to the minimum read point, pages in order and none of zeros, none at all at base 0, and records in order
 pub record IsDelta (d : DeltaData) : Type 0 where
   pub book : IsBook d.book
-  pub base : d.base ≤ min_of d.book
+  pub base : d.base ≤ book_min d.book
   pub no_base : d.base ≡ 0 → d.pages ≡ []
   pub pages : IsRising ImageBefore d.pages
   pub each_page : AllByRecursion (λ p. p.bytes ≢ zeros) d.pages

@@ -15,5 +15,5 @@ Gives view (Ok x) read = read ≡ Ok (view x)
 Gives view (Err e) read = Fails e read
 
 -- the same, of a value that is seen as it is
-abbrev pub Answers : {X : Type 0} → Result X WireError → Result X WireFault → Type 0
-Answers result read = Gives (λ x. x) result read
+abbrev pub GivesRead : {X : Type 0} → Result X WireError → Result X WireFault → Type 0
+GivesRead result read = Gives (λ x. x) result read

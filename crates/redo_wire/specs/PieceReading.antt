@@ -9,7 +9,7 @@ use Rattle.redo_wire.specs.Fields.{byte_at, u32_at, u48_at, u64_at}
 use Rattle.redo_wire.specs.Lists.{each_at}
 use Rattle.redo_wire.specs.Tags.{piece_tag, roster_piece_tag, head_kind, page_kind, records_kind}
 use Rattle.redo_wire.specs.Forms.{form_at}
-use Rattle.redo_wire.specs.Books.{min_of}
+use Rattle.redo_wire.specs.Books.{book_min}
 use Rattle.redo_wire.specs.BookReading.{book_at}
 use Rattle.redo_wire.specs.DeltaReading.{image_at, next_record_at, record_place}
 use Rattle.redo_wire.specs.Pieces.{PieceData, piece_of}
@@ -26,7 +26,7 @@ is_in_place index kind = if index == 0 then kind == head_kind else not (kind == 
 unfoldable pub head_content_at : Bool → List ℕ → Read PieceContent
 head_content_at many bytes = do
   book ← book_at many bytes
-  anchor ← shaped (λ a. nat_le a (min_of book.0)) (u48_at book.1)
+  anchor ← shaped (λ a. nat_le a (book_min book.0)) (u48_at book.1)
   Ok (Head book.0 anchor.0, anchor.1)
 
 unfoldable pub records_content_at : List ℕ → Read PieceContent

@@ -12,7 +12,7 @@ use Rattle.redo_wire.specs.Fields.{u32, u48, u64}
 use Rattle.redo_wire.specs.Tags.{piece_tag, roster_piece_tag, head_kind, page_kind, records_kind}
 use Rattle.redo_wire.specs.Forms.{form_bytes}
 use Rattle.redo_wire.specs.Records.{IsWireRecord, record_bytes}
-use Rattle.redo_wire.specs.Books.{IsWireBook, min_of, has_many, is_long_book, book_bytes}
+use Rattle.redo_wire.specs.Books.{IsWireBook, book_min, has_many, is_long_book, book_bytes}
 use Rattle.redo_wire.specs.Deltas.{IsWireImage, image_bytes}
 
 -- the name of the whole, which piece of how many it is, and what it brings
@@ -34,7 +34,7 @@ is_head (Records rs) = false
 
 -- an anchor up to the minimum read point; a page that is not all zeros; some records, in order
 abbrev pub IsContent : PieceContent → Type 0
-IsContent (Head book anchor) = IsBook book × (anchor ≤ min_of book)
+IsContent (Head book anchor) = IsBook book × (anchor ≤ book_min book)
 IsContent (Page p) = p.bytes ≢ zeros
 IsContent (Records rs) = (0 < length rs) × (length rs ≤ max_batch) × IsRising RecordBefore rs
 

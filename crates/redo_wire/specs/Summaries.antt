@@ -9,7 +9,7 @@ use Rattle.redo_wire.specs.Fields.{u16, u32, u48}
 use Rattle.redo_wire.specs.Limits.{count32_end}
 use Rattle.redo_wire.specs.Tags.{summary_tag, roster_summary_tag}
 use Rattle.redo_wire.specs.Forms.{form_bytes}
-use Rattle.redo_wire.specs.Books.{IsWireBook, min_of, has_many, is_long_book, book_bytes}
+use Rattle.redo_wire.specs.Books.{IsWireBook, book_min, has_many, is_long_book, book_bytes}
 
 -- the book, the anchor and the keys of the records that a segment keeps
 pub record SummaryData : Type 0 where
@@ -32,7 +32,7 @@ IsKey k = (0 < k.number) × (k.number ≤ max_number)
 -- an anchor up to the minimum read point, and keys in order
 pub record IsSummary (s : SummaryData) : Type 0 where
   pub book : IsBook s.book
-  pub anchor : s.anchor ≤ min_of s.book
+  pub anchor : s.anchor ≤ book_min s.book
   pub keys : IsRising KeyBefore s.keys
   pub each_key : AllByRecursion IsKey s.keys
 

@@ -8,7 +8,7 @@ use Rattle.redo_wire.specs.Lists.{each_at}
 use Rattle.redo_wire.specs.Tags.{summary_tag, roster_summary_tag}
 use Rattle.redo_wire.specs.Forms.{form_at}
 use Rattle.redo_wire.specs.Places.{Place, is_above}
-use Rattle.redo_wire.specs.Books.{min_of}
+use Rattle.redo_wire.specs.Books.{book_min}
 use Rattle.redo_wire.specs.BookReading.{book_at}
 use Rattle.redo_wire.specs.Summaries.{SummaryData, summary_of}
 
@@ -28,7 +28,7 @@ next_key_at last bytes = ordered (λ k. is_above last (k.epoch, k.number)) (key_
 unfoldable pub summary_part_at : Bool → List ℕ → Read SummaryData
 summary_part_at many bytes = do
   book ← book_at many bytes
-  anchor ← shaped (λ a. nat_le a (min_of book.0)) (u48_at book.1)
+  anchor ← shaped (λ a. nat_le a (book_min book.0)) (u48_at book.1)
   key_count ← u32_at anchor.1
   keys ← each_at next_key_at key_place key_count.0 (0, 0) key_count.1
   Ok (summary_of book.0 anchor.0 keys.0, keys.1)

@@ -3,7 +3,7 @@ ghost use Rattle.std.specs.List.{AllByRecursion, flat_map};
 ghost use Rattle.redo_core.specs.Book.{book_of, IsBook};
 ghost use Rattle.redo_core.specs.Roster.{least};
 ghost use Rattle.redo_wire.specs.Outcomes.{Gives};
-ghost use Rattle.redo_wire.specs.Books.{min_of, has_many, IsWireBook, is_long_book, book_bytes};
+ghost use Rattle.redo_wire.specs.Books.{book_min, has_many, IsWireBook, is_long_book, book_bytes};
 ghost use Rattle.redo_wire.specs.BookReading.{complete, book_at};
 
 use crate::advances::{AdvanceList, WaitList};
@@ -84,7 +84,7 @@ impl Book {
 
     /// The minimum read point, the least reader's point, up to 2^48 - 1.
     pub fn min(&self) -> u64
-        ensures min { result ≡ min_of self.now }
+        ensures min { result ≡ book_min self.now }
         ensures shape { IsBook self.now }
     {
         least_of(&self.points)

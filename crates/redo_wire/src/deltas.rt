@@ -1,7 +1,7 @@
 ghost use Rattle.std.specs.Prelude.{◌≡◌, ◌↔◌, ◌⊎◌, ◌++◌, true, false, IfOk, IfErr, OnOk, OnErr, Ok, IsErrOf};
 ghost use Rattle.redo_wire.specs.declared.faults.WireError.{WireError};
 ghost use Rattle.redo_wire.specs.declared.faults.WireFault.TheVariants.{TooLong};
-ghost use Rattle.redo_wire.specs.Outcomes.{Gives, Answers};
+ghost use Rattle.redo_wire.specs.Outcomes.{Gives, GivesRead};
 ghost use Rattle.redo_wire.specs.Deltas.{DeltaData, delta_of, IsDelta, IsWireDelta, is_long_delta, delta_bytes, SpellsDelta};
 ghost use Rattle.redo_wire.specs.DeltaReading.{may_have, delta_part_at, delta_at, decoded_delta};
 
@@ -115,10 +115,10 @@ pub fn decode_delta(alloc: Global, bytes: &[u8]) -> Result<Delta, WireError>
     ensures found { IfOk result (λ d. SpellsDelta d bytes.now) }
 
     // What the bytes spell is read, unless memory runs out.
-    ensures spelled { (d : DeltaData) → SpellsDelta d bytes.now → Answers result (Ok d) }
+    ensures spelled { (d : DeltaData) → SpellsDelta d bytes.now → GivesRead result (Ok d) }
 
     // Which fault comes where they spell nothing.
-    ensures fault { Answers result (decoded_delta bytes.now) }
+    ensures fault { GivesRead result (decoded_delta bytes.now) }
 {
     whole_delta(alloc, bytes)
 }
@@ -187,7 +187,7 @@ fn read_delta(alloc: Global, bytes: &[u8]) -> Result<(Delta, &[u8]), WireError>
 }
 
 fn whole_delta(alloc: Global, bytes: &[u8]) -> Result<Delta, WireError>
-    ensures { Answers result (decoded_delta bytes.now) }
+    ensures { GivesRead result (decoded_delta bytes.now) }
 {
     let (delta, rest) = read_delta(alloc, bytes)?;
     if !rest.is_empty() {

@@ -2,7 +2,7 @@
 
 ghost use Rattle.std.specs.Prelude.{◌≡◌, ◌++◌, IfOk, OnOk, OnErr, Ok};
 ghost use Rattle.redo_core.specs.declared.facts.Fact.{Fact};
-ghost use Rattle.redo_wire.specs.Outcomes.{Gives, Answers};
+ghost use Rattle.redo_wire.specs.Outcomes.{Gives, GivesRead};
 ghost use Rattle.redo_wire.specs.Facts.{IsWireFact, fact_bytes, SpellsFact};
 ghost use Rattle.redo_wire.specs.FactReading.{fact_at, decoded_fact};
 
@@ -24,10 +24,10 @@ pub fn decode_fact(alloc: Global, bytes: &[u8]) -> Result<Fact, WireError>
     ensures found { IfOk result (λ f. SpellsFact f bytes.now) }
 
     // What the bytes spell is read, unless memory runs out.
-    ensures spelled { (f : Fact) → SpellsFact f bytes.now → Answers result (Ok f) }
+    ensures spelled { (f : Fact) → SpellsFact f bytes.now → GivesRead result (Ok f) }
 
     // Which fault comes where they spell nothing.
-    ensures fault { Answers result (decoded_fact bytes.now) }
+    ensures fault { GivesRead result (decoded_fact bytes.now) }
 {
     whole_fact(alloc, bytes)
 }
@@ -67,7 +67,7 @@ fn read_fact(alloc: Global, bytes: &[u8]) -> Result<(Fact, &[u8]), WireError>
 }
 
 fn whole_fact(alloc: Global, bytes: &[u8]) -> Result<Fact, WireError>
-    ensures { Answers result (decoded_fact bytes.now) }
+    ensures { GivesRead result (decoded_fact bytes.now) }
 {
     let (fact, rest) = read_fact(alloc, bytes)?;
     if !rest.is_empty() {

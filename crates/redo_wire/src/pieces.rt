@@ -5,7 +5,7 @@ ghost use Rattle.redo_wire.specs.declared.faults.WireFault.TheVariants.{TooLong}
 ghost use Rattle.redo_wire.specs.Limits.{max_batch};
 ghost use Rattle.redo_wire.specs.Reading.{known};
 ghost use Rattle.redo_wire.specs.Fields.{byte_at, u48};
-ghost use Rattle.redo_wire.specs.Outcomes.{Gives, Answers};
+ghost use Rattle.redo_wire.specs.Outcomes.{Gives, GivesRead};
 ghost use Rattle.redo_wire.specs.Records.{IsWireRecord, record_bytes};
 ghost use Rattle.redo_wire.specs.Books.{IsWireBook, has_many, is_long_book, book_bytes};
 ghost use Rattle.redo_wire.specs.Pieces.{PieceData, piece_of, IsPiece, IsContent, IsWireContent, IsWirePiece, kind_of, is_for_many, is_long_content, is_long_piece, content_bytes, piece_bytes, SpellsPiece};
@@ -162,10 +162,10 @@ pub fn decode_piece(alloc: Global, bytes: &[u8]) -> Result<Piece, WireError>
     ensures found { IfOk result (λ p. SpellsPiece p bytes.now) }
 
     // What the bytes spell is read, unless memory runs out.
-    ensures spelled { (p : PieceData) → SpellsPiece p bytes.now → Answers result (Ok p) }
+    ensures spelled { (p : PieceData) → SpellsPiece p bytes.now → GivesRead result (Ok p) }
 
     // Which fault comes where they spell nothing.
-    ensures fault { Answers result (decoded_piece bytes.now) }
+    ensures fault { GivesRead result (decoded_piece bytes.now) }
 {
     whole_piece(alloc, bytes)
 }
@@ -314,7 +314,7 @@ fn read_piece(alloc: Global, bytes: &[u8]) -> Result<(Piece, &[u8]), WireError>
 }
 
 fn whole_piece(alloc: Global, bytes: &[u8]) -> Result<Piece, WireError>
-    ensures { Answers result (decoded_piece bytes.now) }
+    ensures { GivesRead result (decoded_piece bytes.now) }
 {
     let (piece, rest) = read_piece(alloc, bytes)?;
     if !rest.is_empty() {

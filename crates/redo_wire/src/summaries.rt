@@ -1,7 +1,7 @@
 ghost use Rattle.std.specs.Prelude.{◌≡◌, ◌↔◌, ◌⊎◌, ◌++◌, true, false, IfOk, IfErr, OnOk, OnErr, Ok, IsErrOf};
 ghost use Rattle.redo_wire.specs.declared.faults.WireError.{WireError};
 ghost use Rattle.redo_wire.specs.declared.faults.WireFault.TheVariants.{TooLong};
-ghost use Rattle.redo_wire.specs.Outcomes.{Gives, Answers};
+ghost use Rattle.redo_wire.specs.Outcomes.{Gives, GivesRead};
 ghost use Rattle.redo_wire.specs.Summaries.{SummaryData, summary_of, IsSummary, IsWireSummary, is_long_summary, summary_bytes, SpellsSummary};
 ghost use Rattle.redo_wire.specs.SummaryReading.{summary_part_at, summary_at, decoded_summary};
 
@@ -97,10 +97,10 @@ pub fn decode_summary(alloc: Global, bytes: &[u8]) -> Result<Summary, WireError>
     ensures found { IfOk result (λ s. SpellsSummary s bytes.now) }
 
     // What the bytes spell is read, unless memory runs out.
-    ensures spelled { (s : SummaryData) → SpellsSummary s bytes.now → Answers result (Ok s) }
+    ensures spelled { (s : SummaryData) → SpellsSummary s bytes.now → GivesRead result (Ok s) }
 
     // Which fault comes where they spell nothing.
-    ensures fault { Answers result (decoded_summary bytes.now) }
+    ensures fault { GivesRead result (decoded_summary bytes.now) }
 {
     whole_summary(alloc, bytes)
 }
@@ -153,7 +153,7 @@ fn read_summary(alloc: Global, bytes: &[u8]) -> Result<(Summary, &[u8]), WireErr
 }
 
 fn whole_summary(alloc: Global, bytes: &[u8]) -> Result<Summary, WireError>
-    ensures { Answers result (decoded_summary bytes.now) }
+    ensures { GivesRead result (decoded_summary bytes.now) }
 {
     let (summary, rest) = read_summary(alloc, bytes)?;
     if !rest.is_empty() {

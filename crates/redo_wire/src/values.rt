@@ -2,7 +2,7 @@
 
 ghost use Rattle.std.specs.Prelude.{IfOk, Ok};
 ghost use Rattle.redo_wire.specs.declared.values.WireValue.{WireValue};
-ghost use Rattle.redo_wire.specs.Outcomes.{Answers};
+ghost use Rattle.redo_wire.specs.Outcomes.{GivesRead};
 ghost use Rattle.redo_wire.specs.Values.{SpellsValue, decoded_value};
 
 use crate::deltas::{Delta, decode_delta};
@@ -32,16 +32,16 @@ pub fn decode_value(alloc: Global, bytes: &[u8]) -> Result<WireValue, WireError>
     ensures found { IfOk result (λ v. SpellsValue v bytes.now) }
 
     // What the bytes spell is read, unless memory runs out.
-    ensures spelled { (v : WireValue) → SpellsValue v bytes.now → Answers result (Ok v) }
+    ensures spelled { (v : WireValue) → SpellsValue v bytes.now → GivesRead result (Ok v) }
 
     // Which fault comes where they spell nothing.
-    ensures fault { Answers result (decoded_value bytes.now) }
+    ensures fault { GivesRead result (decoded_value bytes.now) }
 {
     value_by_tag(alloc, bytes)
 }
 
 fn value_by_tag(alloc: Global, bytes: &[u8]) -> Result<WireValue, WireError>
-    ensures { Answers result (decoded_value bytes.now) }
+    ensures { GivesRead result (decoded_value bytes.now) }
 {
     match bytes {
         [] => Err(WireError::Fault(WireFault::Short)),

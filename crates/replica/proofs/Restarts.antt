@@ -32,7 +32,7 @@ Fills s d r = (st : StagingData) × (r.staging ≡ Some st) × IsOfState s d st
 begun : (s : State) (d : SnapshotData) → Freezes s d → IsOfState s d (staging_of d.name d.total [])
 begun s d frozen = record { frozen = frozen; name = refl; total = refl; pieces = λ index p h. absurd (cc) }
 
-same_or_not : (a b : ℕ) → (a ≡ b) ⊎ (a ≢ b)
+pub same_or_not : (a b : ℕ) → (a ≡ b) ⊎ (a ≢ b)
 same_or_not a b = grind arith
 
 one_piece : (p q : PieceData) → ◌≡◌ {A = Option PieceData} (Some p) (Some q) → p ≡ q

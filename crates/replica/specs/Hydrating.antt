@@ -5,7 +5,7 @@ use Rattle.hot_log.specs.Found.{IsLeast}
 use Rattle.segment_state.specs.State.{State}
 use Rattle.read_cache.specs.Cached.{Cached, cached}
 use Rattle.hydration.specs.Snapshots.{SnapshotData, Freezes, IsPieceOf, max_total}
-use Rattle.hydration.specs.Stagings.{StagingData, staging_of, Adds, RefusesPiece, IsMissing, IsStaging}
+use Rattle.hydration.specs.Stagings.{StagingData, staging_of, Adds, RefusesPiece, IsMissingPiece, IsStaging}
 use Rattle.hydration.specs.Placing.{IsComplete, IsMisplaced, IsInOrder}
 use Rattle.hydration.specs.Hydrating.{Hydrates, MeansFrozen, IsOfSoundState}
 use Rattle.hydration.specs.declared.staging.AddFault.{AddFault}
@@ -68,7 +68,7 @@ pub record MakesSegment (st : StagingData) (answer : Result State FinishFault) :
   pub means : IfOk answer (MeansFrozen st)
   pub sound : IfErr answer (λ e. IsOfSoundState st → (index : ℕ) → e ≡ finish.Malformed index → ⊥)
   pub hydrates : IfOk answer (Hydrates st)
-  pub missing : (index : ℕ) → (answer ≡ Err (finish.Missing index)) ↔ IsLeast (IsMissing st) (Some index)
+  pub missing : (index : ℕ) → (answer ≡ Err (finish.Missing index)) ↔ IsLeast (IsMissingPiece st) (Some index)
   pub malformed : (index : ℕ) → (answer ≡ Err (finish.Malformed index)) ↔ (IsComplete st × IsLeast (IsMisplaced st) (Some index))
   pub memory : IfErr answer (λ e. e ≡ finish.Memory → IsInOrder st)
 

@@ -8,7 +8,7 @@ use Rattle.script_text.specs.FactLine.{fact_of}
 use Rattle.script_text.specs.Number.{digits_of}
 use Rattle.script_text.specs.StepLine.{step_of}
 use Rattle.script_text.specs.Parts.{parts_at}
-use Rattle.script_text.specs.Script.{ScriptData, rostered, most, or_bad, within, asking, with_fact, nodes_of, roster_of, lines_from, nodes_from, script_from, opened, script_of, facts_of}
+use Rattle.script_text.specs.Script.{ScriptData, rostered, most, or_bad, within, asking, with_fact, nodes_in_line, roster_in_line, lines_from, nodes_from, script_from, opened, script_of, facts_of}
 use Rattle.script_text.specs.Laws.{BadScriptLineIsLeast, BadFactLineIsLeast}
 use Rattle.script_text.specs.Spelled.{AreFacts, AsksSteps, IsLog, IsScript, Spells, Begins, IsLeastBadLine}
 use Rattle.script_text.proofs.Results.{end, bad_is, not_bad, refused, one_of, found, within_ok, within_bad, some_left, room_is, ended}
@@ -128,15 +128,15 @@ lines_stop {A} said count at (x ∷ y ∷ more) stop some h =
 
 -- ---- the line of the nodes, and the steps
 
-nodes_refused : (facts at : ℕ) (x : List ℕ) → nodes_of x ≡ None → Refuses (nodes_from facts at) at x
+nodes_refused : (facts at : ℕ) (x : List ℕ) → nodes_in_line x ≡ None → Refuses (nodes_from facts at) at x
 nodes_refused facts at x e = record { always = λ others some. rw (some_left (length others) some, e) refl }
 
-nodes_next : (facts at nodes : ℕ) (x : List ℕ) (others : List (List ℕ)) → 0 < length others → nodes_of x ≡ Some nodes
+nodes_next : (facts at nodes : ℕ) (x : List ℕ) (others : List (List ℕ)) → 0 < length others → nodes_in_line x ≡ Some nodes
     → nodes_from facts at (x ∷ others) ≡ within (asking nodes) (lines_from (step_of facts) 0 (at + 1) others)
 nodes_next facts at nodes x others some e = rw (some_left (length others) some, e) refl
 
-one_node : nodes_of (codes "nodes 1") ≡ Some 1
-unfolding nodes_of digits_of
+one_node : nodes_in_line (codes "nodes 1") ≡ Some 1
+unfolding nodes_in_line digits_of
 one_node = refl
 
 abbrev only_nodes : List (List ℕ)
@@ -161,7 +161,7 @@ nodes_stop facts at [] stop some h = absurd (omega arith)
 nodes_stop facts at (x ∷ []) stop some h = stops_last (nodes_from facts at) at stop x only_nodes nothing (bad_is {A = ScriptData} at stop h)
     (nodes_alone facts at)
 nodes_stop facts at (x ∷ y ∷ more) stop some h =
-    elim (found (nodes_of x)) [
+    elim (found (nodes_in_line x)) [
       | inl none ↦
           let wrong = rw (some_left (length (y ∷ more)) (omega arith), none) at h in
           stops_here (nodes_from facts at) at stop x (y ∷ more) only_nodes nothing (bad_is {A = ScriptData} at stop wrong) (nodes_alone facts at)
@@ -227,7 +227,7 @@ same_rest x y xs ys h = (cc, cc)
 -- Without the line of a roster a text stops where the reader below it does.
 plain_stop : {A : Type 0} (Is : List (List ℕ) → A → Type 0) (read : ℕ → List (List ℕ) → Result A ℕ) → Reader Is read
     → (x here : List ℕ) (rest before after more : List (List ℕ)) (said : A) (stop : ℕ)
-    → (0 < length rest → roster_of x ≡ None) → x ∷ rest ≡ before ++ here ∷ after → 1 + length before ≡ stop → read 1 (before ++ (more ++ end)) ≡ Ok said
+    → (0 < length rest → roster_in_line x ≡ None) → x ∷ rest ≡ before ++ here ∷ after → 1 + length before ≡ stop → read 1 (before ++ (more ++ end)) ≡ Ok said
     → (0 < length after → (others : List (List ℕ)) (y : A) → 0 < length others → read 1 (before ++ here ∷ others) ≡ Ok y → ⊥)
     → Stops (opened read) 1 (x ∷ rest) stop
 plain_stop Is read r x here rest [] after more said stop quiet all place good bad =
@@ -244,14 +244,14 @@ plain_stop Is read r x here rest [] after more said stop quiet all place good ba
       good = opened_read Is read r (more ++ end) said some good;
       bad = λ behind others y some_others h.
           let long : length rest ≡ length after = ap length same.1 in
-          let none : roster_of here ≡ None = sym (ap roster_of same.0) ∙ quiet (omega arith) in
+          let none : roster_in_line here ≡ None = sym (ap roster_in_line same.0) ∙ quiet (omega arith) in
           let o = within_down (rostered 1) (read 1 (here ∷ others)) y (sym (opened_plain read here others none) ∙ h) in
           bad behind others o.0 some_others o.1;
     }
 plain_stop Is read r x here rest (b ∷ bs) after more said stop quiet all place good bad =
     let same = same_rest x b rest (bs ++ here ∷ after) all in
     let long : length rest ≡ length bs + length (here ∷ after) = ap length same.1 ∙ length-append bs (here ∷ after) in
-    let none : roster_of b ≡ None = sym (ap roster_of same.0) ∙ quiet (omega arith) in
+    let none : roster_in_line b ≡ None = sym (ap roster_in_line same.0) ∙ quiet (omega arith) in
     record {
       before = b ∷ bs;
       here = here;
@@ -274,7 +274,7 @@ opened_stop Is read r stops (last ∷ []) stop some h =
     let s = stops 1 (last ∷ []) stop some (within_bad (rostered 1) (read 1 (last ∷ [])) stop (sym (opened_last read last) ∙ h)) in
     plain_stop Is read r last s.here [] s.before s.after s.more s.said stop (λ long. absurd (omega arith)) s.all s.place s.good s.bad
 opened_stop Is read r stops (x ∷ y ∷ rest) stop some h =
-    elim (found (roster_of x)) [
+    elim (found (roster_in_line x)) [
       | inl none ↦
           let s = stops 1 (x ∷ y ∷ rest) stop some (within_bad (rostered 1) (read 1 (x ∷ y ∷ rest)) stop (sym (opened_plain read x (y ∷ rest) none) ∙ h)) in
           plain_stop Is read r x s.here (y ∷ rest) s.before s.after s.more s.said stop (λ long. none) s.all s.place s.good s.bad

@@ -11,6 +11,7 @@ use Rattle.redo_core.specs.declared.patches.Patch.TheVariants.{Bytes, Fill}
 use Rattle.hex.specs.Hex.{encode_lower}
 use Rattle.script_text.specs.FactText.{patch_text, between_commas, contents_text, record_text, cut_text, IsReadBack}
 use Rattle.script_text.specs.Spelled.{SpellsPatch, SpellsContents, SpellsRecord, SpellsCut}
+use Rattle.redo_core.proofs.Plain.{inside_page}
 
 pub on_ok : {T E : Type 0} (r : Result T E) (P : Type 0) → P → OnOk r P
 on_ok (Ok x) P h = h
@@ -53,16 +54,13 @@ contents_spelled false (p ∷ ps) some inside back = inr (map patch_text (p ∷ 
 no_empty : (r : RecordData) → record_fault r ≡ None → list_any is_empty_patch r.patches ≡ false
 no_empty r h = grind arith
 
-none_off : (r : RecordData) → record_fault r ≡ None → list_any is_patch_off_page r.patches ≡ false
-none_off r h = grind arith
-
 pub record_spelled : (r : RecordData) → record_fault r ≡ None → r.epoch ≤ 65535 → r.page ≤ 65535 → AllByRecursion IsReadBack r.patches
     → SpellsRecord (record_text r) r
 record_spelled r shape epoch page back =
     record {
       text = contents_text r.init r.patches;
       all = refl;
-      said = contents_spelled r.init r.patches (no_empty r shape) (none_off r shape) back;
+      said = contents_spelled r.init r.patches (no_empty r shape) (inside_page r shape) back;
       epoch = epoch;
       page = page;
       shape = shape;

@@ -7,6 +7,7 @@ use Rattle.std.proofs.lemmas.List.Sums.{fails_before_first, position_or_len_is}
 use Rattle.memchr.specs.Find.{IsFirstByte, is_byte}
 use Rattle.std.proofs.lemmas.Bool.Decides.{nat_tests}
 use Rattle.script_text.specs.Parts.{parts_at}
+use Rattle.script_text.proofs.Options.{no_test}
 
 found : (b : Bool) (q at : ℕ) → cond b (Some q) None ≡ Some at → (b ≡ true) × (q ≡ at)
 found true q at h = (refl, cc)
@@ -15,10 +16,6 @@ found false q at h = absurd cc
 not_found : (b : Bool) (q : ℕ) → cond b (Some q) None ≡ None → b ≡ false
 not_found true q h = absurd cc
 not_found false q h = refl
-
-not_true : (b : Bool) → (b ≡ true → ⊥) → b ≡ false
-not_true true h = absurd (h refl)
-not_true false h = refl
 
 absent : (b : Bool) (q : ℕ) → b ≡ false → None ≡ cond b (Some q) None
 absent true q h = absurd cc
@@ -33,14 +30,14 @@ pub first_is : (c : ℕ) (text : List ℕ) (r : Option ℕ) → IsFirstByte (is_
 first_is c text None h =
     let first = position_or_len (λ b. eqb b c) text in
     let at : first ≡ length text = position_or_len_is (λ b. eqb b c) text (length text) 0 (omega arith)
-    (λ k lt. not_true (eqb (get_or text k 0) c) (h k (omega arith) lt)) (λ lt. absurd (omega (arith, lt))) in
+    (λ k lt. no_test (eqb (get_or text k 0) c) (h k (omega arith) lt)) (λ lt. absurd (omega (arith, lt))) in
     let none : ltb first (length text) ≡ false = grind (arith, nat_tests, at) in
     absent (ltb first (length text)) first none
 first_is c text (Some k) h =
     let first = position_or_len (λ b. eqb b c) text in
     let within : k < length text = h.0.high in
     let at : first ≡ k = position_or_len_is (λ b. eqb b c) text k 0 (omega (arith, within))
-    (λ j lt. not_true (eqb (get_or text j 0) c) (h.0.before j (omega arith) lt)) (λ lt. h.1) in
+    (λ j lt. no_test (eqb (get_or text j 0) c) (h.0.before j (omega arith) lt)) (λ lt. h.1) in
     let some : ltb first (length text) ≡ true = grind (arith, nat_tests, at, within) in
     present (ltb first (length text)) first k some at
 

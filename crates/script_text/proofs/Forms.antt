@@ -39,7 +39,7 @@ numbers_apart (limit ∷ limits) (word ∷ words) ne = none_left (decimal_value 
 
 -- ---- what is read is spelled
 
-both_same : (x y : List ℕ) (xs ys : List (List ℕ)) → x ≡ y → xs ≡ ys → x ∷ xs ≡ y ∷ ys
+pub both_same : (x y : List ℕ) (xs ys : List (List ℕ)) → x ≡ y → xs ≡ ys → x ∷ xs ≡ y ∷ ys
 both_same x y xs ys p q = cc
 
 pub numbers_are : (limits : List ℕ) (fields : List (List ℕ)) (ns : List ℕ) → AreLimits limits → numbers_of limits fields ≡ Some ns

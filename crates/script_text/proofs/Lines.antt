@@ -7,7 +7,7 @@ use Rattle.fleet_steps.specs.declared.steps.Step.{Step}
 use Rattle.script_text.specs.Parts.{parts_at}
 use Rattle.script_text.specs.FactLine.{fact_of}
 use Rattle.script_text.specs.StepLine.{step_of}
-use Rattle.script_text.specs.Script.{ScriptData, most, nodes_of, roster_of, lines_from, nodes_from, script_from, opening, opening_by, opening_of, with_fact, with_facts, within}
+use Rattle.script_text.specs.Script.{ScriptData, most, nodes_in_line, roster_in_line, lines_from, nodes_from, script_from, opening_with, opening_by, opening_of, with_fact, with_facts, within}
 use Rattle.script_text.proofs.PatchSpelling.{some_parts}
 use Rattle.script_text.proofs.Results.{bad, some_left}
 use Rattle.script_text.proofs.Scripts.{lines_next, script_next}
@@ -69,7 +69,7 @@ go_next count at text line behind e go = rw (e, some_left (length (parts_at 10 b
 
 -- the line of the nodes, and the steps
 pub nodes_next : (count at nodes : ℕ) (facts : List Fact) (steps : List (Step ℕ)) (text line behind : List ℕ)
-    → parts_at 10 text ≡ line ∷ parts_at 10 behind → nodes_of line ≡ Some nodes → lines_from (step_of count) 0 (at + 1) (parts_at 10 behind) ≡ Ok steps
+    → parts_at 10 text ≡ line ∷ parts_at 10 behind → nodes_in_line line ≡ Some nodes → lines_from (step_of count) 0 (at + 1) (parts_at 10 behind) ≡ Ok steps
     → within (with_facts facts) (nodes_from count at (parts_at 10 text)) ≡ Ok (record { facts = facts; nodes = nodes; steps = steps })
 nodes_next count at nodes facts steps text line behind e named asked =
     rw (e, some_left (length (parts_at 10 behind)) (some_parts 10 behind), named, asked)
@@ -77,25 +77,25 @@ nodes_next count at nodes facts steps text line behind e named asked =
 
 -- ---- how a text opens
 
-followed : (line : List ℕ) (rest : List (List ℕ)) → 0 < length rest → opening_of (line ∷ rest) ≡ opening_by (roster_of line)
+followed : (line : List ℕ) (rest : List (List ℕ)) → 0 < length rest → opening_of (line ∷ rest) ≡ opening_by (roster_in_line line)
 unfolding opening_of
 followed line [] some = absurd (omega arith)
 followed line (next ∷ rest) some = refl
 
-opening_first : (text line behind : List ℕ) → parts_at 10 text ≡ line ∷ parts_at 10 behind → opening_of (parts_at 10 text) ≡ opening_by (roster_of line)
+opening_first : (text line behind : List ℕ) → parts_at 10 text ≡ line ∷ parts_at 10 behind → opening_of (parts_at 10 text) ≡ opening_by (roster_in_line line)
 opening_first text line behind e = ap opening_of e ∙ followed line (parts_at 10 behind) (some_parts 10 behind)
 
 -- the first line names a roster
-pub opening_named : (text line behind : List ℕ) (roster : ℕ) → parts_at 10 text ≡ line ∷ parts_at 10 behind → roster_of line ≡ Some roster
-    → opening_of (parts_at 10 text) ≡ opening roster 1
+pub opening_named : (text line behind : List ℕ) (roster : ℕ) → parts_at 10 text ≡ line ∷ parts_at 10 behind → roster_in_line line ≡ Some roster
+    → opening_of (parts_at 10 text) ≡ opening_with roster 1
 opening_named text line behind roster e is = opening_first text line behind e ∙ ap opening_by is
 
 -- the first line names none
-pub opening_unnamed : (text line behind : List ℕ) → parts_at 10 text ≡ line ∷ parts_at 10 behind → roster_of line ≡ None
-    → opening_of (parts_at 10 text) ≡ opening 1 0
+pub opening_unnamed : (text line behind : List ℕ) → parts_at 10 text ≡ line ∷ parts_at 10 behind → roster_in_line line ≡ None
+    → opening_of (parts_at 10 text) ≡ opening_with 1 0
 opening_unnamed text line behind e is = opening_first text line behind e ∙ ap opening_by is
 
 -- there is no line
-pub opening_last : (text : List ℕ) → parts_at 10 text ≡ text ∷ [] → opening_of (parts_at 10 text) ≡ opening 1 0
+pub opening_last : (text : List ℕ) → parts_at 10 text ≡ text ∷ [] → opening_of (parts_at 10 text) ≡ opening_with 1 0
 unfolding opening_of
 opening_last text e = rw e refl

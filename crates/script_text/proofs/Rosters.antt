@@ -9,7 +9,7 @@ use Rattle.fleet_steps.specs.declared.steps.Step.TheVariants.{Take, Fold, Discar
 use Rattle.script_text.specs.Parts.{parts_at}
 use Rattle.script_text.specs.FactLine.{fact_line, fact_of}
 use Rattle.script_text.specs.StepLine.{IsInRange}
-use Rattle.script_text.specs.Script.{ScriptData, Rostered, rostered, within, roster_of, lines_from, script_from, Opening, opening, opening_by, opening_of, below, opened}
+use Rattle.script_text.specs.Script.{ScriptData, Rostered, rostered, within, roster_in_line, lines_from, script_from, Opening, opening_with, opening_by, opening_of, below, opened}
 use Rattle.script_text.specs.Laws.{ScriptsAreSpelled, LogsAreSpelled}
 use Rattle.script_text.specs.Spelled.{worded, SpellsFact, SpellsStep, SpellsRoster, IsRostered, AreFacts, AsksSteps}
 use Rattle.script_text.proofs.FactSpelling.{fact_lines_are_spelled}
@@ -20,12 +20,12 @@ use Rattle.script_text.proofs.Scripts.{Counts, count_is_spelled, count_is_read, 
 
 -- ---- the line of a roster
 
-roster_is_spelled : (line : List ℕ) (roster : ℕ) → roster_of line ≡ Some roster → Counts (codes "roster") 15 line roster
-unfolding roster_of
+roster_is_spelled : (line : List ℕ) (roster : ℕ) → roster_in_line line ≡ Some roster → Counts (codes "roster") 15 line roster
+unfolding roster_in_line
 roster_is_spelled line roster h = count_is_spelled (codes "roster") line 15 roster (omega arith) h
 
-roster_is_read : (line : List ℕ) (roster : ℕ) → Counts (codes "roster") 15 line roster → roster_of line ≡ Some roster
-unfolding roster_of
+roster_is_read : (line : List ℕ) (roster : ℕ) → Counts (codes "roster") 15 line roster → roster_in_line line ≡ Some roster
+unfolding roster_in_line
 roster_is_read line roster h = count_is_read (codes "roster") line 15 roster (omega arith) refl refl h
 
 roster_line_is_no_fact : (line : List ℕ) (roster : ℕ) (f : Fact) → Counts (codes "roster") 15 line roster → fact_of line ≡ Some f → ⊥
@@ -35,20 +35,20 @@ roster_line_is_no_fact line roster f c h =
     let none : fact_of line ≡ None = ap fact_line fields.fields in
     absurd (cc (sym none ∙ h))
 
-fact_is_no_roster : (line : List ℕ) (f : Fact) → SpellsFact line f → roster_of line ≡ None
+fact_is_no_roster : (line : List ℕ) (f : Fact) → SpellsFact line f → roster_in_line line ≡ None
 fact_is_no_roster line f s =
-    elim (found (roster_of line)) [
+    elim (found (roster_in_line line)) [
       | inl none ↦ none
       | inr some ↦ absurd (roster_line_is_no_fact line some.0 f (roster_is_spelled line some.0 some.1) ((fact_lines_are_spelled line f).1 s))
     ]
 
 -- nor is the line go, or no line at all
-go_is_no_roster : roster_of (codes "go") ≡ None
-unfolding roster_of
+go_is_no_roster : roster_in_line (codes "go") ≡ None
+unfolding roster_in_line
 go_is_no_roster = refl
 
-nothing_is_no_roster : roster_of [] ≡ None
-unfolding roster_of
+nothing_is_no_roster : roster_in_line [] ≡ None
+unfolding roster_in_line
 nothing_is_no_roster = refl
 
 -- ---- readers of the lines below a roster
@@ -58,9 +58,9 @@ pub record Reader {A : Type 0} (Is : List (List ℕ) → A → Type 0) (read : �
   pub spelled : (at : ℕ) (parts : List (List ℕ)) (x : A) → 0 < length parts → read at parts ≡ Ok x → (lines : List (List ℕ)) × (parts ≡ lines ++ end)
       × Is lines x
   pub is_read : (at : ℕ) (lines : List (List ℕ)) (x : A) → Is lines x → read at (lines ++ end) ≡ Ok x
-  pub quiet : (line : List ℕ) (lines : List (List ℕ)) (x : A) → Is (line ∷ lines) x → roster_of line ≡ None
+  pub quiet : (line : List ℕ) (lines : List (List ℕ)) (x : A) → Is (line ∷ lines) x → roster_in_line line ≡ None
 
-facts_quiet : (line : List ℕ) (lines : List (List ℕ)) (facts : List Fact) → AreFacts (line ∷ lines) facts → roster_of line ≡ None
+facts_quiet : (line : List ℕ) (lines : List (List ℕ)) (facts : List Fact) → AreFacts (line ∷ lines) facts → roster_in_line line ≡ None
 facts_quiet line lines [] h = absurd h.0
 facts_quiet line lines (f ∷ fs) h = fact_is_no_roster line f (h.0).0
 
@@ -68,12 +68,12 @@ first_same : (x y : List ℕ) (xs ys : List (List ℕ)) → x ∷ xs ≡ y ∷ y
 first_same x y xs ys h = cc
 
 steps_quiet_at : (line : List ℕ) (lines facts others : List (List ℕ)) (fs : List Fact) → line ∷ lines ≡ facts ++ (codes "go" ∷ others)
-    → AllZip SpellsFact facts fs → roster_of line ≡ None
-steps_quiet_at line lines [] others fs e h = ap roster_of (first_same line (codes "go") lines others e) ∙ go_is_no_roster
+    → AllZip SpellsFact facts fs → roster_in_line line ≡ None
+steps_quiet_at line lines [] others fs e h = ap roster_in_line (first_same line (codes "go") lines others e) ∙ go_is_no_roster
 steps_quiet_at line lines (x ∷ xs) others [] e h = absurd h
-steps_quiet_at line lines (x ∷ xs) others (f ∷ fs) e h = ap roster_of (first_same line x lines (xs ++ (codes "go" ∷ others)) e) ∙ fact_is_no_roster x f h.0
+steps_quiet_at line lines (x ∷ xs) others (f ∷ fs) e h = ap roster_in_line (first_same line x lines (xs ++ (codes "go" ∷ others)) e) ∙ fact_is_no_roster x f h.0
 
-steps_quiet : (line : List ℕ) (lines : List (List ℕ)) (s : ScriptData) → AsksSteps (line ∷ lines) s → roster_of line ≡ None
+steps_quiet : (line : List ℕ) (lines : List (List ℕ)) (s : ScriptData) → AsksSteps (line ∷ lines) s → roster_in_line line ≡ None
 steps_quiet line lines s i = steps_quiet_at line lines i.facts (worded (codes "nodes") (s.nodes ∷ []) ∷ i.steps) s.facts i.all i.said
 
 pub facts_reader : Reader AreFacts (lines_from fact_of 0)
@@ -84,41 +84,41 @@ steps_reader = record { spelled = steps_are_spelled; is_read = steps_are_read; q
 
 -- what a reader reads begins with no line of a roster
 begins_quiet_at : {A : Type 0} (Is : List (List ℕ) → A → Type 0) (line : List ℕ) (rest lines : List (List ℕ)) (x : A)
-    → ((l : List ℕ) (ls : List (List ℕ)) (y : A) → Is (l ∷ ls) y → roster_of l ≡ None)
-    → line ∷ rest ≡ lines ++ end → Is lines x → roster_of line ≡ None
-begins_quiet_at Is line rest [] x quiet e h = ap roster_of (first_same line [] rest [] e) ∙ nothing_is_no_roster
-begins_quiet_at Is line rest (l ∷ ls) x quiet e h = ap roster_of (first_same line l rest (ls ++ end) e) ∙ quiet l ls x h
+    → ((l : List ℕ) (ls : List (List ℕ)) (y : A) → Is (l ∷ ls) y → roster_in_line l ≡ None)
+    → line ∷ rest ≡ lines ++ end → Is lines x → roster_in_line line ≡ None
+begins_quiet_at Is line rest [] x quiet e h = ap roster_in_line (first_same line [] rest [] e) ∙ nothing_is_no_roster
+begins_quiet_at Is line rest (l ∷ ls) x quiet e h = ap roster_in_line (first_same line l rest (ls ++ end) e) ∙ quiet l ls x h
 
 pub begins_quiet : {A : Type 0} (Is : List (List ℕ) → A → Type 0) (read : ℕ → List (List ℕ) → Result A ℕ) → Reader Is read
     → (at : ℕ) (line : List ℕ) (rest : List (List ℕ)) (x : A)
-    → read at (line ∷ rest) ≡ Ok x → roster_of line ≡ None
+    → read at (line ∷ rest) ≡ Ok x → roster_in_line line ≡ None
 begins_quiet Is read r at line rest x h =
     let s = r.spelled at (line ∷ rest) x (omega arith) h in
     begins_quiet_at Is line rest s.0 x r.quiet s.1 s.2
 
 -- ---- how a text opens
 
-pub opening_plain : (line : List ℕ) (rest : List (List ℕ)) → roster_of line ≡ None → opening_of (line ∷ rest) ≡ opening 1 0
+pub opening_plain : (line : List ℕ) (rest : List (List ℕ)) → roster_in_line line ≡ None → opening_of (line ∷ rest) ≡ opening_with 1 0
 unfolding opening_of
 opening_plain line [] e = refl
 opening_plain line (next ∷ rest) e = ap opening_by e
 
-pub opening_named : (line : List ℕ) (rest : List (List ℕ)) (roster : ℕ) → 0 < length rest → roster_of line ≡ Some roster
-    → opening_of (line ∷ rest) ≡ opening roster 1
+pub opening_named : (line : List ℕ) (rest : List (List ℕ)) (roster : ℕ) → 0 < length rest → roster_in_line line ≡ Some roster
+    → opening_of (line ∷ rest) ≡ opening_with roster 1
 unfolding opening_of
 opening_named line [] roster some e = absurd (omega arith)
 opening_named line (next ∷ rest) roster some e = ap opening_by e
 
-opening_last : (last : List ℕ) → opening_of (last ∷ []) ≡ opening 1 0
+opening_last : (last : List ℕ) → opening_of (last ∷ []) ≡ opening_with 1 0
 unfolding opening_of
 opening_last last = refl
 
-pub opened_plain : {A : Type 0} (read : ℕ → List (List ℕ) → Result A ℕ) (line : List ℕ) (rest : List (List ℕ)) → roster_of line ≡ None
+pub opened_plain : {A : Type 0} (read : ℕ → List (List ℕ) → Result A ℕ) (line : List ℕ) (rest : List (List ℕ)) → roster_in_line line ≡ None
     → opened read (line ∷ rest) ≡ within (rostered 1) (read 1 (line ∷ rest))
 opened_plain read line rest e = ap (λ (o : Opening). below read o (line ∷ rest)) (opening_plain line rest e)
 
 pub opened_named : {A : Type 0} (read : ℕ → List (List ℕ) → Result A ℕ) (line : List ℕ) (rest : List (List ℕ)) (roster : ℕ) → 0 < length rest
-    → roster_of line ≡ Some roster
+    → roster_in_line line ≡ Some roster
     → opened read (line ∷ rest) ≡ within (rostered roster) (read 2 rest)
 opened_named read line rest roster some e = ap (λ (o : Opening). below read o (line ∷ rest)) (opening_named line rest roster some e)
 
@@ -144,7 +144,7 @@ plain_spelled Is read r parts y some h =
 
 named_spelled : {A : Type 0} (Is : List (List ℕ) → A → Type 0) (read : ℕ → List (List ℕ) → Result A ℕ) → Reader Is read → (line : List ℕ) (rest : List (List ℕ))
     (roster : ℕ) (y : Rostered A) → 0 < length rest
-    → roster_of line ≡ Some roster → within (rostered roster) (read 2 rest) ≡ Ok y → (lines : List (List ℕ)) × (line ∷ rest ≡ lines ++ end)
+    → roster_in_line line ≡ Some roster → within (rostered roster) (read 2 rest) ≡ Ok y → (lines : List (List ℕ)) × (line ∷ rest ≡ lines ++ end)
     × IsRostered Is lines y
 named_spelled Is read r line rest roster y some e h =
     let o = within_ok (rostered roster) (read 2 rest) y h in
@@ -160,7 +160,7 @@ pub rostered_is_spelled : {A : Type 0} (Is : List (List ℕ) → A → Type 0) (
 rostered_is_spelled Is read r [] y some h = absurd (omega arith)
 rostered_is_spelled Is read r (last ∷ []) y some h = plain_spelled Is read r (last ∷ []) y some (sym (opened_last read last) ∙ h)
 rostered_is_spelled Is read r (line ∷ next ∷ rest) y some h =
-    elim (found (roster_of line)) [
+    elim (found (roster_in_line line)) [
       | inl none ↦ plain_spelled Is read r (line ∷ next ∷ rest) y some (sym (opened_plain read line (next ∷ rest) none) ∙ h)
       | inr one ↦ named_spelled Is read r line (next ∷ rest) one.0 y (omega arith) one.1
           (sym (opened_named read line (next ∷ rest) one.0 (omega arith) one.1) ∙ h)

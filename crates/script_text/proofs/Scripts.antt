@@ -10,10 +10,10 @@ use Rattle.script_text.specs.Parts.{◌>>=◌, parts_at}
 use Rattle.script_text.specs.Fields.{Form, form, of_one, read_by}
 use Rattle.script_text.specs.FactLine.{fact_line, fact_of}
 use Rattle.script_text.specs.StepLine.{step_of}
-use Rattle.script_text.specs.Script.{ScriptData, most, most_nodes, positive, nodes_of, or_bad, within, asking, with_fact, lines_from, nodes_from, script_from}
+use Rattle.script_text.specs.Script.{ScriptData, most, most_nodes, positive, nodes_in_line, or_bad, within, asking, with_fact, lines_from, nodes_from, script_from}
 use Rattle.script_text.specs.Spelled.{worded, SpellsFact, SpellsStep, AreFacts, AsksSteps}
 use Rattle.script_text.proofs.FactSpelling.{fact_lines_are_spelled}
-use Rattle.script_text.proofs.Forms.{AreWithin, Reads, one_is, form_fields, read_has}
+use Rattle.script_text.proofs.Forms.{AreWithin, Reads, one_is, form_fields, read_has, both_same}
 use Rattle.script_text.proofs.Options.{here, some_is, tested, true_is, no_test}
 use Rattle.script_text.proofs.Results.{end, good_is, not_good, past, one_of, or_bad_ok, within_ok, some_left, room, room_is, ended}
 use Rattle.script_text.proofs.Split.{lacks}
@@ -24,9 +24,6 @@ AllZip-with R S [] [] f h = tt
 AllZip-with R S [] (y ∷ ys) f h = absurd h
 AllZip-with R S (x ∷ xs) [] f h = absurd h
 AllZip-with R S (x ∷ xs) (y ∷ ys) f h = (f x y h.0, AllZip-with R S xs ys f h.1)
-
-pub joined : (x z : List ℕ) (rest all : List (List ℕ)) → x ≡ z → rest ≡ all → x ∷ rest ≡ z ∷ all
-joined x z rest all p q = cc
 
 -- ---- a word and a count from 1
 
@@ -64,12 +61,12 @@ count_is_read word line limit n small same space c =
 abbrev SpellsNodes : List ℕ → ℕ → Type 0
 SpellsNodes line nodes = Counts (codes "nodes") most_nodes line nodes
 
-nodes_are_spelled : (line : List ℕ) (nodes : ℕ) → nodes_of line ≡ Some nodes → SpellsNodes line nodes
-unfolding nodes_of
+nodes_are_spelled : (line : List ℕ) (nodes : ℕ) → nodes_in_line line ≡ Some nodes → SpellsNodes line nodes
+unfolding nodes_in_line
 nodes_are_spelled line nodes h = count_is_spelled (codes "nodes") line most_nodes nodes (omega arith) h
 
-nodes_are_read : (line : List ℕ) (nodes : ℕ) → SpellsNodes line nodes → nodes_of line ≡ Some nodes
-unfolding nodes_of
+nodes_are_read : (line : List ℕ) (nodes : ℕ) → SpellsNodes line nodes → nodes_in_line line ≡ Some nodes
+unfolding nodes_in_line
 nodes_are_read line nodes h = count_is_read (codes "nodes") line most_nodes nodes (omega arith) refl refl h
 
 -- ---- lines that are read one by one
@@ -147,7 +144,7 @@ nodes_said facts at [] s h = absurd (not_good at s h)
 nodes_said facts at (x ∷ []) s h = absurd (not_good at s h)
 nodes_said facts at (x ∷ y ∷ more) s h =
     let next : ℕ → Result ScriptData ℕ = λ nodes. within (asking nodes) (lines_from (step_of facts) 0 (at + 1) (y ∷ more)) in
-    let one = or_bad_ok at (nodes_of x) next s (rw (some_left (length (y ∷ more)) (omega arith)) at h) in
+    let one = or_bad_ok at (nodes_in_line x) next s (rw (some_left (length (y ∷ more)) (omega arith)) at h) in
     let steps = within_ok (asking one.0) (lines_from (step_of facts) 0 (at + 1) (y ∷ more)) s one.2 in
     let rest = lines_said (step_of facts) 0 (at + 1) (y ∷ more) steps.0 (omega arith) (omega arith) steps.1 in
     let named : SpellsNodes x s.nodes = subst (λ (t : ScriptData). SpellsNodes x t.nodes) (sym steps.2) (nodes_are_spelled x one.0 one.1) in
@@ -215,7 +212,7 @@ whole_go count at x rest s le go was =
       facts = [];
       nodes = tail.nodes;
       steps = tail.lines;
-      all = joined x (codes "go") rest _ e tail.all;
+      all = both_same x (codes "go") rest _ e tail.all;
       named = tail.named;
       said = said;
       asked = asked;

@@ -38,15 +38,15 @@ positive n = if n == 0 then None else Some n
 abbrev pub roster_form : Form ℕ
 roster_form = form (codes "roster") (max_readers ∷ []) (of_one positive)
 
-unfoldable pub roster_of : List ℕ → Option ℕ
-roster_of line = read_by (roster_form ∷ []) (parts_at 32 line)
+unfoldable pub roster_in_line : List ℕ → Option ℕ
+roster_in_line line = read_by (roster_form ∷ []) (parts_at 32 line)
 
 -- the nodes of a line like nodes 2
 abbrev pub nodes_form : Form ℕ
 nodes_form = form (codes "nodes") (most_nodes ∷ []) (of_one positive)
 
-unfoldable pub nodes_of : List ℕ → Option ℕ
-nodes_of line = read_by (nodes_form ∷ []) (parts_at 32 line)
+unfoldable pub nodes_in_line : List ℕ → Option ℕ
+nodes_in_line line = read_by (nodes_form ∷ []) (parts_at 32 line)
 
 -- what a line said, and then the rest, or that the line of this number is bad
 abbrev pub or_bad : {A B : Type 0} → ℕ → Option A → (A → Result B ℕ) → Result B ℕ
@@ -82,7 +82,7 @@ abbrev pub nodes_from : ℕ → ℕ → List (List ℕ) → Result ScriptData �
 nodes_from facts at [] = Err at
 nodes_from facts at (line ∷ rest) =
     if length rest == 0 then Err at
-    else or_bad at (nodes_of line) (λ nodes. within (asking nodes) (lines_from (step_of facts) 0 (at + 1) rest))
+    else or_bad at (nodes_in_line line) (λ nodes. within (asking nodes) (lines_from (step_of facts) 0 (at + 1) rest))
 
 -- The facts up to go, and what follows. So many facts came before, and the first line has the number at.
 abbrev pub script_from : ℕ → ℕ → List (List ℕ) → Result ScriptData ℕ
@@ -98,19 +98,19 @@ pub record Opening : Type 0 where
   pub roster : ℕ
   pub lines : ℕ
 
-abbrev pub opening : ℕ → ℕ → Opening
-opening roster lines = record { roster = roster; lines = lines }
+abbrev pub opening_with : ℕ → ℕ → Opening
+opening_with roster lines = record { roster = roster; lines = lines }
 
 -- the roster that the first line names, or else the roster 1
 abbrev pub opening_by : Option ℕ → Opening
-opening_by (Some roster) = opening roster 1
-opening_by None = opening 1 0
+opening_by (Some roster) = opening_with roster 1
+opening_by None = opening_with 1 0
 
 -- a line that is not ended names none
 unfoldable pub opening_of : List (List ℕ) → Opening
-opening_of [] = opening 1 0
-opening_of (last ∷ []) = opening 1 0
-opening_of (line ∷ next ∷ rest) = opening_by (roster_of line)
+opening_of [] = opening_with 1 0
+opening_of (last ∷ []) = opening_with 1 0
+opening_of (line ∷ next ∷ rest) = opening_by (roster_in_line line)
 
 -- what the lines below the opening say
 abbrev pub below : {A : Type 0} → (ℕ → List (List ℕ) → Result A ℕ) → Opening → List (List ℕ) → Result (Rostered A) ℕ

@@ -3,7 +3,7 @@
 ghost use Rattle.std.specs.Prelude.{◌≡◌, ◌≤◌, map, drop};
 ghost use Rattle.script_text.specs.Parts.{parts_at};
 ghost use Rattle.script_text.specs.Fields.{made_by};
-ghost use Rattle.script_text.specs.Script.{opening, opening_of, roster_form, roster_of};
+ghost use Rattle.script_text.specs.Script.{opening_with, opening_of, roster_form, roster_in_line};
 
 use crate::fields::{Parted, first_part, part_at};
 use crate::number::numbers;
@@ -26,9 +26,9 @@ fn readers(fields: &[&[u8]]) -> Option<Roster>
 }
 
 /// The roster that a line like `roster 2` names.
-#[tactic(auto, unfolding(crate::specs::Script::roster_of))]
+#[tactic(auto, unfolding(crate::specs::Script::roster_in_line))]
 fn roster(line: &[u8]) -> Option<Roster>
-    ensures { result ≡ roster_of line.now }
+    ensures { result ≡ roster_in_line line.now }
 {
     match part_at(line, b' ') {
         Parted::Halves(word, field) if word == b"roster".as_slice() => readers(&[field]),
@@ -38,7 +38,7 @@ fn roster(line: &[u8]) -> Option<Roster>
 
 /// The roster that the first line names, or else the roster 1. A line that is not ended names none.
 pub fn read_opening(text: &[u8]) -> Opening<'_>
-    ensures opens { opening result.roster result.lines ≡ opening_of (parts_at 10 text.now) }
+    ensures opens { opening_with result.roster result.lines ≡ opening_of (parts_at 10 text.now) }
     ensures some { result.lines ≤ 1 }
     ensures below { parts_at 10 result.rest.now ≡ drop result.lines (parts_at 10 text.now) }
 {

@@ -5,7 +5,7 @@ ghost use Rattle.script_text.specs.Fields.{made_by};
 ghost use Rattle.script_text.specs.Parts.{parts_at};
 ghost use Rattle.script_text.specs.FactLine.{fact_of};
 ghost use Rattle.script_text.specs.StepLine.{step_of, IsInRange};
-ghost use Rattle.script_text.specs.Script.{lines_from, nodes_from, nodes_form, nodes_of, script_from, script_of, facts_of, most, within, with_facts};
+ghost use Rattle.script_text.specs.Script.{lines_from, nodes_from, nodes_form, nodes_in_line, script_from, script_of, facts_of, most, within, with_facts};
 ghost use Rattle.script_text.specs.Outcome.{Gives, log_data, script_data, asked_data};
 ghost use Rattle.script_text.specs.declared.script.ScriptError.TheVariants.{Memory};
 
@@ -114,9 +114,9 @@ fn count(fields: &[&[u8]]) -> Option<u16>
 }
 
 /// The number of nodes that a line like `nodes 2` names.
-#[tactic(auto, unfolding(crate::specs::Script::nodes_of))]
+#[tactic(auto, unfolding(crate::specs::Script::nodes_in_line))]
 fn nodes(line: &[u8]) -> Option<u16>
-    ensures { result ≡ nodes_of line.now }
+    ensures { result ≡ nodes_in_line line.now }
 {
     match part_at(line, b' ') {
         Parted::Halves(word, field) if word == b"nodes".as_slice() => count(&[field]),

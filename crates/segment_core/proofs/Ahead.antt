@@ -16,8 +16,9 @@ use Rattle.redo_core.specs.declared.facts.Fact.TheVariants as fact
 use Rattle.redo_core.proofs.FactParts.{record_in, part_cuts, part_records}
 use Rattle.redo_core.proofs.SoundFacts.{kept, counted_in}
 use Rattle.redo_laws.proofs.Log.{IsLog, log_of_sound, alive_within}
-use Rattle.redo_laws.proofs.Numbers.{at_greatest}
-use Rattle.redo_laws.proofs.Views.{has_cuts, alive_up, alive_down, linked_below}
+use Rattle.redo_core.proofs.Numbers.{at_greatest}
+use Rattle.redo_core.proofs.CompleteEpochs.{has_cuts}
+use Rattle.redo_laws.proofs.Views.{alive_up, alive_down, linked_below}
 use Rattle.hot_log.specs.Alive.{IsHeldAlive, HasNoneAbove}
 use Rattle.hot_log.specs.Gaps.{IsGapAbove, IsAwaited, HasWaiting}
 use Rattle.hot_log.proofs.Chain.{Link, link_cases}

@@ -1,12 +1,12 @@
 -- The page that a state shows, made from the last record on that begins it anew.
-use Rattle.std.proofs.Common.{◌≡◌, ℕ, ◌-◌, ◌<◌, ◌≤◌, ◌⊎◌, inl, inr, ⊎_elim, List, [], ◌∷◌, ◌++◌, refl, sym, ap, ◌∙◌, subst, arith, true}
+use Rattle.std.proofs.Common.{◌≡◌, ℕ, ◌-◌, ◌<◌, ◌≤◌, ◌⊎◌, inl, inr, ⊎_elim, List, [], ◌∷◌, ◌++◌, sym, ap, ◌∙◌, subst, arith, true}
 use Rattle.std.specs.List.{Contains}
 use Rattle.std.proofs.lemmas.Bool.{cases_lt}
 use Rattle.std.proofs.lemmas.List.Elements.{Contains-append_left, Contains-append_right, Contains-append_cases}
 use Rattle.redo_core.specs.Data.{RecordData}
 use Rattle.redo_core.specs.Order.{IsRising, Lists, BeforeByNumber}
 use Rattle.redo_core.specs.Standing.{IsAlive}
-use Rattle.redo_core.specs.Writing.{after_records, write}
+use Rattle.redo_core.specs.Writing.{after_records}
 use Rattle.redo_core.proofs.AfterRecords.{after_append}
 use Rattle.redo_core.proofs.Listing.{lists_as}
 use Rattle.redo_core.proofs.Members.{none_in, here, there, which, each, all_of}
@@ -19,10 +19,7 @@ use Rattle.hot_log.specs.Held.{IsHeld}
 use Rattle.hot_log.proofs.Views.{view_of, one_number}
 use Rattle.segment_state.specs.State.{State, version_of, image_of}
 use Rattle.segment_state.specs.Shows.{IsApplied, Shows}
-
--- a record with `init` does not look at the page
-write_anew : (r : RecordData) (i j : List ℕ) → r.init ≡ true → write i r ≡ write j r
-write_anew r i j e = rw e refl
+use Rattle.segment_state.proofs.Anew.{write_anew}
 
 -- records from one with `init` on do not look at the page
 from_anew : (r : RecordData) (P : RecordData → Type 0) (xs : List RecordData) (i j : List ℕ) → P r → r.init ≡ true

@@ -9,7 +9,7 @@ use Rattle.redo_core.specs.Position.{Position}
 use Rattle.redo_core.specs.Sound.{IsSound, KeepsLaws, IsAliveBelow}
 use Rattle.redo_core.specs.declared.facts.Fact.{Fact}
 use Rattle.redo_core.specs.declared.facts.Fact.TheVariants.{Record}
-use Rattle.redo_laws.proofs.Numbers.{greatest_unique}
+use Rattle.redo_core.proofs.Numbers.{greatest_unique}
 use Rattle.redo_core.proofs.FactParts.{record_in}
 use Rattle.redo_core.proofs.SoundFacts.{kept}
 use Rattle.redo_laws.proofs.Log.{log_of_sound}

@@ -9,7 +9,7 @@ use Rattle.hot_log.specs.Removing.{IsFolded, Removes}
 use Rattle.segment_state.specs.State.{State, state_of, Store, version_of}
 use Rattle.segment_state.specs.HasMeaning.{HasAnchor}
 use Rattle.segment_state.specs.Promises.{KeepsMeaning}
-use Rattle.segment_state.specs.Shedding.{Discards}
+use Rattle.segment_state.specs.Shedding.{RemovesFolded}
 use Rattle.segment_state.proofs.Shed.{discard_keeps}
 use Rattle.segment_core.specs.Forgetting.{IsFoldedBelow, DiscardsJust}
 
@@ -32,7 +32,7 @@ settled_folded s base r =
     (λ low. settled_le r.number (version_of s.store r.page))))
 
 -- what is gone is folded, so the meaning stays
-discards_of : (old new : State) → DiscardsJust old new → Discards old new
+discards_of : (old new : State) → DiscardsJust old new → RemovesFolded old new
 discards_of old new just = record {
   book = just.book;
   base = just.base;

@@ -10,11 +10,11 @@ use Rattle.hot_log.specs.declared.log.Put.TheVariants as put
 use Rattle.hot_log.specs.declared.log.PutFault.TheVariants as fault
 use Rattle.segment_state.specs.State.{Store}
 use Rattle.segment_state.specs.State.{state_of}
-use Rattle.segment_core.specs.Uniting.{Holds}
+use Rattle.segment_core.specs.Uniting.{HoldsRecord}
 
 same_holds : (b : BookData) (hs : List RecordData) (base : ℕ) (store : Store) (r : RecordData)
     → Contains hs r ⊎ ((other : RecordData) × Contains hs other × HasKey r.epoch r.number other × (other ≡ r → ⊥))
-    → Holds (state_of b hs base store) r (state_of b hs base store)
+    → HoldsRecord (state_of b hs base store) r (state_of b hs base store)
 same_holds b hs base store r there = record {
   book = refl;
   rest = record { base = refl; store = refl };
@@ -24,7 +24,7 @@ same_holds b hs base store r there = record {
 }
 
 pub put_holds : (b : BookData) (hs more : List RecordData) (base : ℕ) (store : Store) (r : RecordData) (p : Put) → Puts hs r more p
-    → Holds (state_of b hs base store) r (state_of b more base store)
+    → HoldsRecord (state_of b hs base store) r (state_of b more base store)
 put_holds b hs more base store r put.New w = record {
   book = refl;
   rest = record { base = refl; store = refl };
@@ -33,9 +33,9 @@ put_holds b hs more base store r put.New w = record {
   held = inl ((w.1 r).1 (inr refl));
 }
 put_holds b hs more base store r put.Known w =
-    subst (λ l. Holds (state_of b hs base store) r (state_of b l base store)) (sym w.1) (same_holds b hs base store r (inl w.0))
+    subst (λ l. HoldsRecord (state_of b hs base store) r (state_of b l base store)) (sym w.1) (same_holds b hs base store r (inl w.0))
 
 pub refused_holds : (b : BookData) (hs more : List RecordData) (base : ℕ) (store : Store) (r : RecordData)
-    → RefusesPut hs r fault.OtherRecord → more ≡ hs → Holds (state_of b hs base store) r (state_of b more base store)
+    → RefusesPut hs r fault.OtherRecord → more ≡ hs → HoldsRecord (state_of b hs base store) r (state_of b more base store)
 refused_holds b hs more base store r w same =
-    subst (λ l. Holds (state_of b hs base store) r (state_of b l base store)) (sym same) (same_holds b hs base store r (inr w))
+    subst (λ l. HoldsRecord (state_of b hs base store) r (state_of b l base store)) (sym same) (same_holds b hs base store r (inr w))

@@ -1,6 +1,6 @@
 -- A state has one anchor.
 use Rattle.std.proofs.Common.{◌≡◌, ℕ, ◌≤◌, ⊎_elim, arith}
-use Rattle.redo_laws.proofs.Numbers.{greatest_unique}
+use Rattle.redo_core.proofs.Numbers.{greatest_unique}
 use Rattle.segment_state.specs.State.{State, min_of}
 use Rattle.segment_state.specs.HasMeaning.{IsLinkedIn, HasAnchor}
 

@@ -28,5 +28,5 @@ GainsEach old [] new = new ≡ old
 GainsEach old (r ∷ rs) new = (between : List RecordData) × Gains old r between × GainsEach between rs new
 
 -- gaining the rest from the new records on comes to what gaining all from the old ones does
-abbrev pub LeadsOn : List RecordData → List RecordData → List RecordData → List RecordData → Type 0
-LeadsOn old given new rest = (last : List RecordData) → GainsEach new rest last → GainsEach old given last
+abbrev pub GainsRest : List RecordData → List RecordData → List RecordData → List RecordData → Type 0
+GainsRest old given new rest = (last : List RecordData) → GainsEach new rest last → GainsEach old given last

@@ -7,7 +7,7 @@ use Rattle.segment_state.specs.State.{State, StoredImage, SameBase}
 use Rattle.segment_core.specs.Refusing.{HoldsOther}
 
 -- the record is held, or another one is under its key; nothing else changes
-pub record Holds (old : State) (r : RecordData) (new : State) : Type 0 where
+pub record HoldsRecord (old : State) (r : RecordData) (new : State) : Type 0 where
   pub book : new.book ≡ old.book
   pub rest : SameBase old new
   pub before : (x : RecordData) → Contains old.held x → Contains new.held x

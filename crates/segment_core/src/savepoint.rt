@@ -8,7 +8,7 @@ ghost use Rattle.segment_state.specs.State.{State};
 ghost use Rattle.segment_core.specs.Answering.{FaultAlone};
 ghost use Rattle.segment_core.specs.Keys.{key_of};
 ghost use Rattle.segment_core.specs.Savepoint.{SavepointData, RollsBackTo, RollsBackAs, NotesKey, TakesNoted};
-ghost use Rattle.segment_core.specs.Uniting.{Holds};
+ghost use Rattle.segment_core.specs.Uniting.{HoldsRecord};
 
 use crate::answers::{Refusal, Taken};
 use crate::due::Due;
@@ -112,7 +112,7 @@ impl Segment {
     /// Holds a record, whether or not it is settled here, where no record is held under its key; another record that is stays. The
     /// segment can be rolled back to where it could be before. Its only error is want of memory: the segment is then as it was.
     pub fn hold_noted(&mut self, saved: &mut Savepoint, redo: Record) -> Result<(), AllocError>
-        ensures holds { OnOk result (Holds self.old redo self.new) }
+        ensures holds { OnOk result (HoldsRecord self.old redo self.new) }
         ensures unchanged { OnErr result (self.new ≡ self.old) }
         ensures rolls_back { RollsBackAs saved.old self.old saved.new self.new }
     {

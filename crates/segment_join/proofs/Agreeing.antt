@@ -10,24 +10,20 @@ use Rattle.redo_core.specs.Writing.{zeros}
 use Rattle.redo_core.specs.Meaning.{Meaning, ImageData, ImageBefore}
 use Rattle.redo_core.proofs.Members.{rising_unique, lists_unique}
 use Rattle.redo_core.proofs.Pairs.{pair_apart, advance_apart}
+use Rattle.redo_core.proofs.CompleteEpochs.{one_complete_epoch}
 use Rattle.redo_laws.specs.OrderOfMeanings.{Covers, CoversAt}
-use Rattle.redo_laws.proofs.Meanings.{list_eq}
+use Rattle.redo_laws.proofs.Meanings.{list_eq, record_of_meaning}
 use Rattle.segment_state.specs.State.{State}
 use Rattle.segment_state.specs.Shows.{Shows}
 use Rattle.segment_state.specs.HasMeaning.{HasAnchor, HasMeaning}
 use Rattle.segment_state.specs.Laws.{SameMeaning}
 use Rattle.segment_core.specs.Form.{IsSegment}
 use Rattle.segment_join.specs.Sameness.{ShowOne, TellsPages, TellsSame, SameByParts}
-use Rattle.segment_join.proofs.Comparing.{one_epoch, same_cuts}
+use Rattle.segment_join.proofs.Comparing.{same_cuts}
 use Rattle.segment_join.proofs.Scanning.{of_member}
 use Rattle.segment_join.proofs.Showing.{shows_some}
 use Rattle.segment_core.proofs.OneView.{one_anchor}
 use Rattle.segment_core.proofs.SamePages.{shows_one}
-
-pub one_meaning : (m n : Meaning) → m.cuts ≡ n.cuts → m.points ≡ n.points → m.waits ≡ n.waits → m.anchor ≡ n.anchor → m.pages ≡ n.pages → m.kept ≡ n.kept → m ≡ n
-one_meaning m n a b c d e f =
-    let t : (let v : Meaning = record { cuts = m.cuts; points = m.points; waits = m.waits; anchor = m.anchor; pages = m.pages; kept = m.kept } in v)
-    ≡ record { cuts = n.cuts; points = n.points; waits = n.waits; anchor = n.anchor; pages = n.pages; kept = n.kept } = cc in t
 
 -- numbers that are at most each other, place by place
 pub at_most_both : (ps qs : List ℕ) → AllZip (λ p q. p ≤ q) ps qs → AllZip (λ p q. p ≤ q) qs ps → ps ≡ qs
@@ -73,7 +69,7 @@ within : (s : State) (y x : Meaning) → IsSegment s → HasMeaning s y → Cove
 within s y x form has covers cuts anchor =
     let k = s.book.complete in
     let own : y.cuts ≡ s.book.cuts = same_cuts s y form.book.cuts_rise has in
-    let epoch : covers.0 ≡ k = one_epoch s.book.cuts covers.0 k (subst (λ cs. IsCompleteEpoch cs covers.0) (sym cuts ∙ own) covers.1.epoch) has.epoch in
+    let epoch : covers.0 ≡ k = one_complete_epoch s.book.cuts covers.0 k (subst (λ cs. IsCompleteEpoch cs covers.0) (sym cuts ∙ own) covers.1.epoch) has.epoch in
     let at : CoversAt k x y = subst (λ j. CoversAt j x y) epoch covers.1 in
     record {
       waits = λ a h. ⊎_elim
@@ -158,7 +154,7 @@ pub same_by_pages : (s t : State) (y x : Meaning) → IsSegment s → IsSegment 
     → ((page : ℕ) → ShowOne s y.anchor t x.anchor page) ↔ (y ≡ x)
 same_by_pages s t y x form other_form hy hx up down =
     let a = agree s t y x form other_form hy hx up down in (
-      λ shown. one_meaning y x a.cuts a.points a.waits a.anchor (pages_shown s t y x hy hx shown) a.kept,
+      λ shown. record_of_meaning y x a.cuts a.points a.waits a.anchor (pages_shown s t y x hy hx shown) a.kept,
       λ same. shown_pages s t y x form other_form hy hx (ap (λ (m : Meaning). m.pages) same),
     )
 

@@ -12,9 +12,10 @@ use Rattle.redo_core.specs.Meaning.{Meaning, IsMeaningAt, IsKept}
 use Rattle.redo_core.specs.declared.facts.Fact.{Fact}
 use Rattle.redo_core.proofs.FactParts.{part_records}
 use Rattle.redo_laws.specs.OrderOfMeanings.{CoversAt}
-use Rattle.redo_laws.proofs.Numbers.{greatest_unique}
+use Rattle.redo_core.proofs.Numbers.{greatest_unique}
+use Rattle.redo_core.proofs.CompleteEpochs.{has_cuts}
 use Rattle.redo_laws.proofs.Log.{IsLog, log_of_sound}
-use Rattle.redo_laws.proofs.Views.{has_cuts, alive_up}
+use Rattle.redo_laws.proofs.Views.{alive_up}
 use Rattle.redo_laws.proofs.Deciding.{settled_lt}
 use Rattle.redo_laws.proofs.Fronts.{same_sym}
 use Rattle.redo_laws.proofs.Meanings.{meaning_unique}

@@ -1,15 +1,14 @@
 -- The order of two meanings, read off two states part by part.
-use Rattle.std.proofs.Common.{◌≡◌, ℕ, ◌≤◌, ◌⊎◌, ◌↔◌, inl, inr, ⊎_elim, List, Bool, IsTrue, Result, Ok, Err, IfOk, sym, subst, arith}
+use Rattle.std.proofs.Common.{◌≡◌, ℕ, ◌≤◌, ◌⊎◌, ◌↔◌, inl, inr, ⊎_elim, Bool, IsTrue, Result, Ok, Err, IfOk, sym, subst, arith}
 use Rattle.std.specs.List.{Contains, AllZip}
-use Rattle.redo_core.specs.Data.{CutData}
 use Rattle.redo_core.specs.Order.{IsRising, CutBefore}
 use Rattle.redo_core.specs.Roster.{point_of}
-use Rattle.redo_core.specs.CompleteEpoch.{IsCompleteEpoch, HasCutsTo}
+use Rattle.redo_core.specs.CompleteEpoch.{IsCompleteEpoch}
 use Rattle.redo_core.specs.Standing.{IsDead}
 use Rattle.redo_core.specs.Meaning.{Meaning}
 use Rattle.redo_core.proofs.Members.{lists_unique}
 use Rattle.redo_laws.specs.OrderOfMeanings.{Covers, CoversAt, OrderByParts}
-use Rattle.redo_laws.proofs.Numbers.{greatest_unique}
+use Rattle.redo_core.proofs.CompleteEpochs.{one_complete_epoch}
 use Rattle.segment_state.specs.State.{State, min_of}
 use Rattle.segment_state.specs.HasMeaning.{IsLinkedIn, HasAnchor, IsKeptBy, HasMeaning}
 use Rattle.segment_state.specs.Laws.{SameMeaning}
@@ -21,9 +20,6 @@ use Rattle.segment_core.proofs.OneView.{one_anchor}
 pub ok_as : {X E : Type 0} (r : Result X E) (P Q : X → Type 0) → IfOk r P → ((x : X) → P x → Q x) → IfOk r Q
 ok_as (Ok x) P Q p to = to x p
 ok_as (Err e) P Q p to = tt
-
-pub one_epoch : (cs : List CutData) (j k : ℕ) → IsCompleteEpoch cs j → IsCompleteEpoch cs k → j ≡ k
-one_epoch cs j k a b = greatest_unique (HasCutsTo cs) (HasCutsTo cs) (λ n. (λ u. u, λ u. u)) j k a b
 
 -- a meaning's truncations are those that the state stores
 pub same_cuts : (s : State) (m : Meaning) → IsRising CutBefore s.book.cuts → HasMeaning s m → m.cuts ≡ s.book.cuts
@@ -69,7 +65,7 @@ pub of_meanings : (anchor : ℕ) (upper : State) (base : ℕ) (lower : State) (y
     → Covers y x → CoversState anchor upper base lower
 of_meanings anchor upper base lower y x rising top low hy hx covers =
     let cuts = same_cuts upper y rising hy in
-    let same : covers.0 ≡ upper.book.complete = one_epoch upper.book.cuts covers.0 upper.book.complete
+    let same : covers.0 ≡ upper.book.complete = one_complete_epoch upper.book.cuts covers.0 upper.book.complete
     (subst (λ cs. IsCompleteEpoch cs covers.0) cuts covers.1.epoch) hy.epoch in
     let at : CoversAt upper.book.complete y x = subst (λ n. CoversAt n y x) same covers.1 in
     let ay : anchor ≡ y.anchor = one_anchor upper anchor y.anchor top hy.anchor in

@@ -4,7 +4,7 @@ use Rattle.redo_core.specs.Sound.{IsSound}
 use Rattle.redo_core.specs.Meaning.{Meaning, IsMeaning}
 use Rattle.redo_core.specs.declared.facts.Fact.{Fact}
 use Rattle.redo_laws.specs.OrderOfMeanings.{Congruence, OrderByParts, LeastUpperBound, Associativity, Commutativity, Idempotence}
-use Rattle.redo_laws.specs.Overlap.{Overlap, count_of}
+use Rattle.redo_laws.specs.Overlap.{Overlap, chosen_count}
 use Rattle.segment_state.specs.State.{State}
 use Rattle.segment_state.specs.Means.{Means}
 use Rattle.segment_state.specs.Laws.{SameMeaning}
@@ -68,5 +68,5 @@ joins_agree law congruent roster log s t w one other m of hs ht first second =
 
 pub write_four_read_three : Overlap → WriteFourReadThree
 write_four_read_three overlap roster log parts reached chosen k n sound all at same six four three =
-    let lt : length parts < count_of reached + count_of chosen = omega (arith, six, four, three) in
+    let lt : length parts < chosen_count reached + chosen_count chosen = omega (arith, six, four, three) in
     overlap roster log parts reached chosen k n sound all at same lt

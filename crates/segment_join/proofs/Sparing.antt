@@ -1,5 +1,5 @@
 -- What a state holds after a loop over the other state's held records, and which images a loop has picked.
-use Rattle.std.proofs.Common.{◌≡◌, ◌↔◌, ℕ, ◌+◌, ◌<◌, ◌≤◌, ◌⊎◌, inl, inr, ⊎_elim, List, [], ◌∷◌, ◌++◌, length, get_or, take, Some, None, Result, Ok, Err, OnOk, refl, sym, ap, subst, ◌∙◌}
+use Rattle.std.proofs.Common.{◌≡◌, ◌↔◌, ℕ, ◌+◌, ◌<◌, ◌≤◌, ◌⊎◌, inl, inr, ⊎_elim, List, [], ◌∷◌, ◌++◌, length, get_or, take, Some, None, refl, sym, ap, subst, ◌∙◌}
 use Rattle.std.specs.List.{Contains}
 use Rattle.std.proofs.lemmas.List.{take_more, take_all}
 use Rattle.std.proofs.lemmas.List.Elements.{Contains-append_left, Contains-append_right, Contains-append_cases}
@@ -10,7 +10,7 @@ use Rattle.redo_core.proofs.Members.{none_in, here, which}
 use Rattle.hot_log.specs.Held.{HasKey, IsRecordAt}
 use Rattle.segment_state.specs.State.{State, Store, SameBase, version_of}
 use Rattle.segment_state.specs.Means.{IsInImage}
-use Rattle.segment_core.specs.Uniting.{Holds}
+use Rattle.segment_core.specs.Uniting.{HoldsRecord}
 use Rattle.segment_core.specs.Refusing.{HoldsOther}
 use Rattle.segment_core.specs.Keys.{key_of}
 use Rattle.segment_join.specs.Holding.{InOtherImage, IsNeedless, IsSpared, HoldsRest}
@@ -18,10 +18,6 @@ use Rattle.segment_join.specs.Knowing.{HoldsAt}
 use Rattle.segment_core.proofs.Keys.{one_of_key}
 use Rattle.segment_join.proofs.Alike.{settled_record}
 use Rattle.redo_core.proofs.Rising.{up_to}
-
-pub ok_as : {X E : Type 0} (result : Result X E) (P Q : Type 0) → (P → Q) → OnOk result P → OnOk result Q
-ok_as (Ok x) P Q to p = to p
-ok_as (Err e) P Q to p = tt
 
 -- the one there is, or one of those before it
 last_or : {X : Type 0} (xs : List X) (i : ℕ) (x r : X) → i < length xs → x ≡ get_or xs i x → Contains (take (i + 1) xs) r → Contains (take i xs) r ⊎ (r ≡ x)
@@ -54,7 +50,7 @@ holds_spared s other key redo rising at spared = record {
 }
 
 pub holds_copy : (s other : State) (key : ℕ × ℕ) (redo : RecordData) (t : State) → IsRising RecordBefore other.held → IsRecordAt other.held key.0 key.1 (Some redo)
-    → (IsNeedless s other redo → ⊥) → Holds s redo t → HoldsAt s other key t
+    → (IsNeedless s other redo → ⊥) → HoldsRecord s redo t → HoldsAt s other key t
 holds_copy s other key redo t rising at needed holds = record {
   book = holds.book;
   rest = holds.rest;
@@ -162,9 +158,6 @@ first_all missing i old other new known end first = record {
 -- ---- the things with P among the first of a list
 abbrev pub Picks : {X : Type 0} (P : X → Type 0) → List X → ℕ → List X → Type 0
 Picks {X} P xs i picked = (y : X) → Contains picked y ↔ (Contains (take i xs) y × P y)
-
-pub picks_none : {X : Type 0} (P : X → Type 0) (xs : List X) → Picks P xs 0 []
-picks_none P xs y = (λ h. absurd (none_in y h), λ h. h.0)
 
 seen_next : {X : Type 0} (xs : List X) (i : ℕ) (x y : X) → i < length xs → Contains (take i xs) y → Contains (take (i + 1) xs) y
 seen_next xs i x y lt h = subst (λ ys. Contains ys y) (sym (take_more xs i x lt)) (Contains-append_left (take i xs) (get_or xs i x ∷ []) y h)

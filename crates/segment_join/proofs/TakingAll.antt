@@ -10,8 +10,8 @@ use Rattle.redo_core.specs.Points.{HasAdvance}
 use Rattle.redo_core.specs.Learning.{Counts, Waits}
 use Rattle.redo_core.specs.declared.facts.Fact.{Fact}
 use Rattle.redo_core.specs.declared.facts.Fact.TheVariants.{Record, Cut, Advance}
-use Rattle.redo_core.proofs.Members.{none_in, here, which}
-use Rattle.redo_laws.proofs.Numbers.{greatest_le}
+use Rattle.redo_core.proofs.Members.{none_in, here, which, only}
+use Rattle.redo_core.proofs.Numbers.{greatest_le}
 use Rattle.redo_laws.proofs.Deciding.{settled_lt}
 use Rattle.segment_state.specs.State.{State}
 use Rattle.segment_state.specs.Known.{IsKnown}
@@ -174,9 +174,6 @@ module _ (s u t : State) (F G : List Fact) (a : LeavesAll s F u) (b : LeavesAll 
   }
 
 -- ---- one fact
-only : (f g : Fact) → Contains (f ∷ []) g → f ≡ g
-only f g h = ⊎_elim (λ (e : f ≡ g). e) (λ (x : Contains [] g). absurd (none_in g x)) (which f [] g h)
-
 no_cut_of_record : (r : RecordData) (c : CutData) → Contains (Record r ∷ []) (Cut c) → ⊥
 no_cut_of_record r c h = let e : Record r ≡ Cut c = only (Record r) (Cut c) h in cc
 

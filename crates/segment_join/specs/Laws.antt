@@ -6,7 +6,7 @@ use Rattle.redo_core.specs.Sound.{IsSound}
 use Rattle.redo_core.specs.Meaning.{Meaning, IsMeaning}
 use Rattle.redo_core.specs.declared.facts.Fact.{Fact}
 use Rattle.redo_laws.specs.OrderOfMeanings.{Covers}
-use Rattle.redo_laws.specs.Overlap.{IsAtOrAbove, count_of, union_of}
+use Rattle.redo_laws.specs.Overlap.{IsAtOrAbove, chosen_count, union_of}
 use Rattle.segment_state.specs.State.{State}
 use Rattle.segment_state.specs.Means.{Means}
 use Rattle.segment_state.specs.HasMeaning.{HasMeaning}
@@ -65,5 +65,5 @@ WriteFourReadThree =
     (roster : ℕ) (log : List Fact) (parts : List (List Fact)) (reached chosen : List Bool) (k n : ℕ)
     → IsSound roster log → AllByRecursion (λ part. IsPart part log) parts
     → AllZip (λ b part. b ≡ true → IsAtOrAbove roster k n part) reached parts → length chosen ≡ length parts
-    → length parts ≡ 6 → 4 ≤ count_of reached → 3 ≤ count_of chosen
+    → length parts ≡ 6 → 4 ≤ chosen_count reached → 3 ≤ chosen_count chosen
     → IsAtOrAbove roster k n (union_of chosen parts)

@@ -12,8 +12,9 @@ use Rattle.redo_core.specs.PageAt.{IsPageAt}
 use Rattle.redo_core.specs.Meaning.{IsKept, ImageData}
 use Rattle.redo_core.specs.declared.facts.Fact.{Fact}
 use Rattle.redo_core.proofs.FactParts.{part_records, part_cuts}
+use Rattle.redo_core.proofs.CompleteEpochs.{has_cuts}
 use Rattle.redo_laws.proofs.Log.{IsLog}
-use Rattle.redo_laws.proofs.Views.{has_cuts, alive_up, epoch_le, min_at, anchor_is, linked_stays, finality_law, standing_stays}
+use Rattle.redo_laws.proofs.Views.{alive_up, epoch_le, min_at, anchor_is, linked_stays, finality_law, standing_stays}
 use Rattle.redo_laws.proofs.Deciding.{settled_le}
 use Rattle.redo_laws.proofs.Fronts.{front_exists}
 use Rattle.redo_laws.proofs.Meanings.{page_exists, list_eq}
@@ -22,7 +23,7 @@ use Rattle.redo_laws.proofs.Union.{left, right, both, cut_cases, record_cases, m
 use Rattle.redo_core.specs.Joining.{JoinsPoints}
 use Rattle.segment_state.specs.State.{State, version_of, image_of}
 use Rattle.segment_state.specs.Means.{MeansAt, Means, Matters, IsInImage}
-use Rattle.segment_state.specs.Gossip.{Listing, Delta, IsListed, AnswersFor, Fills, HasImage, Absorbs}
+use Rattle.segment_state.specs.Gossip.{Listing, Delta, IsListed, AnswersFor, Fills, HasImage, JoinsDelta}
 use Rattle.segment_state.proofs.Booked.{epoch_as, readers_at, book_at}
 use Rattle.segment_state.proofs.Joining.{IsBookOf, page_final, epochs, base_stays, mattered_before, held_there, image_stays, matters_as, in_image_by, book_of, points_joined, waits_joined}
 
@@ -43,7 +44,7 @@ among_below {roster} log F U f u l p q front uront r h a le =
 
 module _ {roster : ℕ} (log F G : List Fact) (f g u : Position) (s s' : State) (summary : Listing) (d : Delta) (l : IsLog roster log)
     (m : MeansAt roster log F f s) (pg : IsPart G log) (gront : IsPosition roster G g) (fills : Fills G g summary d) (ans : AnswersFor F f summary)
-    (uront : IsPosition roster (F ++ G) u) (sc : SameSet s'.book.cuts (cuts (F ++ G))) (e : s'.book.complete ≡ u.epoch) (j : Absorbs s d s') where
+    (uront : IsPosition roster (F ++ G) u) (sc : SameSet s'.book.cuts (cuts (F ++ G))) (e : s'.book.complete ≡ u.epoch) (j : JoinsDelta s d s') where
   lf : IsPart F (F ++ G)
   lf = left F G
 
@@ -223,7 +224,7 @@ module _ {roster : ℕ} (log F G : List Fact) (f g u : Position) (s s' : State) 
   }
 
 pub absorb_law : {roster : ℕ} (log F G : List Fact) (f g : Position) (s s' : State) (summary : Listing) (d : Delta) → IsLog roster log
-    → MeansAt roster log F f s → IsPart G log → IsPosition roster G g → Fills G g summary d → AnswersFor F f summary → Absorbs s d s'
+    → MeansAt roster log F f s → IsPart G log → IsPosition roster G g → Fills G g summary d → AnswersFor F f summary → JoinsDelta s d s'
     → Means roster log (F ++ G) s'
 absorb_law {roster} log F G f g s s' summary d l m pg gront fills ans j =
     let q : IsPart (F ++ G) log = both F G log m.part pg in

@@ -10,7 +10,7 @@ use Rattle.segment_state.specs.Shows.{IsApplied, Shows}
 use Rattle.segment_state.specs.FromInit.{ShowsFrom}
 
 -- a record with `init` does not look at the page
-write_anew : (r : RecordData) (i j : List ℕ) → r.init ≡ true → write i r ≡ write j r
+pub write_anew : (r : RecordData) (i j : List ℕ) → r.init ≡ true → write i r ≡ write j r
 write_anew r i j e = rw e refl
 
 -- the part of a rising list from one of its records on

@@ -14,6 +14,7 @@ use Rattle.redo_core.specs.declared.facts.Fact.{Fact}
 use Rattle.redo_core.specs.declared.facts.Fact.TheVariants.{Cut}
 use Rattle.redo_core.proofs.Members.{none_in}
 use Rattle.redo_core.proofs.Points.{same_points}
+use Rattle.redo_core.proofs.FactParts.{no_advances}
 use Rattle.redo_laws.proofs.Fronts.{front_exists}
 use Rattle.segment_state.proofs.OneFact.{part_of, cut_no_record, cut_no_advance}
 use Rattle.redo_core.specs.Book.{BookData, book_of}
@@ -100,10 +101,6 @@ no_record_of_none : (r : RecordData) → Contains (records []) r → ⊥
 unfolding records
 no_record_of_none r h = none_in r h
 
-no_advance_of_none : (a : AdvanceData) → Contains (advances []) a → ⊥
-unfolding advances
-no_advance_of_none a h = none_in a h
-
 cuts_of_none : SameSet [] (cuts [])
 unfolding cuts
 cuts_of_none c = (λ h. h, λ h. h)
@@ -112,11 +109,11 @@ pub empty_means : (roster : ℕ) (log : List Fact) → Means roster log [] (empt
 unfolding bare
 empty_means roster log =
     let f = front_exists roster [] (λ r x. absurd (no_record_of_none r x)) in
-    let zero = zero_points roster (advances []) f.0.epoch f.0.points f.1.points (λ a x le. no_advance_of_none a x) in
+    let zero = zero_points roster (advances []) f.0.epoch f.0.points f.1.points (λ a x le. no_advances a x) in
     let same : replicate roster 0 ≡ f.0.points =
     same_points roster (replicate roster 0) f.0.points (length-replicate roster 0) f.1.points.count
     (λ reader r. get_or-replicate roster (reader - 1) 0 0 (omega (arith, r.0, r.1)) ∙ sym (zero reader r)) in (
       f.0,
       bare_means log [] f.0 (book_of [] 0 (replicate roster 0) []) (λ x q. absurd (none_in x q)) f.1 no_record_of_none cuts_of_none
-          (sym (epoch_without f.0 f.1 (λ c x. (cuts_of_none c).1 x))) same (λ a. (λ x. absurd (none_in a x), λ x. absurd (no_advance_of_none a x.0))),
+          (sym (epoch_without f.0 f.1 (λ c x. (cuts_of_none c).1 x))) same (λ a. (λ x. absurd (none_in a x), λ x. absurd (no_advances a x.0))),
     )

@@ -11,7 +11,7 @@ use Rattle.redo_core.specs.Book.{BookData, roster_of}
 use Rattle.redo_core.specs.Knowing.{KnowsFacts}
 use Rattle.redo_core.specs.declared.facts.Fact.{Fact}
 use Rattle.redo_core.proofs.Points.{same_points}
-use Rattle.redo_laws.proofs.Numbers.{greatest_unique}
+use Rattle.redo_core.proofs.Numbers.{greatest_unique}
 use Rattle.redo_laws.proofs.Fronts.{same_sym}
 use Rattle.redo_laws.proofs.Alike.{greatest_by, cuts_to_by}
 use Rattle.segment_state.specs.State.{State}

@@ -10,14 +10,15 @@ use Rattle.redo_core.specs.Position.{Position}
 use Rattle.redo_core.specs.Sound.{IsSound}
 use Rattle.redo_core.specs.declared.facts.Fact.{Fact}
 use Rattle.redo_core.specs.declared.facts.Fact.TheVariants.{Record}
-use Rattle.redo_laws.proofs.Numbers.{at_greatest}
+use Rattle.redo_core.proofs.Numbers.{at_greatest}
 use Rattle.redo_core.proofs.FactParts.{record_in, part_cuts}
 use Rattle.redo_laws.proofs.Log.{log_of_sound, alive_within}
-use Rattle.redo_laws.proofs.Views.{has_cuts, alive_up, alive_then, prefix_law}
+use Rattle.redo_laws.proofs.Views.{alive_up, alive_then, prefix_law}
 use Rattle.segment_state.specs.State.{State, version_of}
 use Rattle.segment_state.specs.Means.{MeansAt}
 use Rattle.redo_core.specs.Sound.{KeepsLaws, counted, IsAliveBelow}
 use Rattle.redo_core.proofs.SoundFacts.{kept, counted_in}
+use Rattle.redo_core.proofs.CompleteEpochs.{has_cuts}
 use Rattle.segment_state.specs.Shows.{IsApplied, HasBlockBelow}
 use Rattle.segment_state.proofs.Reading.{held_of}
 

@@ -12,11 +12,12 @@ use Rattle.redo_core.specs.Position.{Position, IsPosition}
 use Rattle.redo_core.specs.PageAt.{IsPageAt}
 use Rattle.redo_core.specs.Order.{BeforeByNumber}
 use Rattle.redo_core.specs.declared.facts.Fact.{Fact}
-use Rattle.redo_laws.proofs.Numbers.{greatest_unique}
+use Rattle.redo_core.proofs.Numbers.{greatest_unique}
 use Rattle.redo_core.proofs.Points.{same_points}
 use Rattle.redo_core.proofs.FactParts.{part_records, part_cuts, part_advances}
+use Rattle.redo_core.proofs.CompleteEpochs.{has_cuts}
 use Rattle.redo_laws.proofs.Log.{IsLog, alive_within}
-use Rattle.redo_laws.proofs.Views.{has_cuts, alive_up, epoch_le, min_at, anchor_is, linked_stays, finality_law}
+use Rattle.redo_laws.proofs.Views.{alive_up, epoch_le, min_at, anchor_is, linked_stays, finality_law}
 use Rattle.redo_laws.proofs.Deciding.{settled_lt}
 use Rattle.redo_laws.proofs.Fronts.{front_exists}
 use Rattle.redo_laws.proofs.Meanings.{lists_as}

@@ -6,20 +6,21 @@ use Rattle.redo_core.specs.Sets.{IsPart, records, cuts, advances}
 use Rattle.redo_core.specs.Standing.{IsAlive, IsDead}
 use Rattle.redo_core.specs.Roster.{IsReader, point_of}
 use Rattle.redo_core.specs.Points.{HasAdvance, IsPoint}
-use Rattle.redo_core.specs.Position.{Position, IsPosition}
+use Rattle.redo_core.specs.Position.{Position}
 use Rattle.redo_core.specs.Sound.{IsSound}
 use Rattle.redo_core.specs.Past.{IsPast, IsKnownPast, OthersPast, CutsBelow}
-use Rattle.redo_core.specs.Meaning.{Meaning, IsMeaningAt, IsMeaning}
 use Rattle.redo_core.specs.declared.facts.Fact.{Fact}
 use Rattle.redo_core.specs.declared.facts.Fact.TheVariants.{Record, Cut, Advance}
-use Rattle.redo_laws.proofs.Numbers.{greatest_unique}
+use Rattle.redo_core.proofs.Numbers.{greatest_unique}
 use Rattle.redo_laws.proofs.Deciding.{settled_lt}
 use Rattle.redo_core.proofs.FactParts.{record_in, cut_in, advance_in, part_records, part_cuts, part_advances}
+use Rattle.redo_core.proofs.CompleteEpochs.{has_cuts}
 use Rattle.redo_laws.proofs.Log.{IsLog, log_of_sound, alive_within}
-use Rattle.redo_laws.proofs.Views.{has_cuts, alive_up, knows_cuts, point_le, min_at, min_spared, reader_past}
-use Rattle.redo_laws.proofs.Fronts.{front_unique, settled_alive}
+use Rattle.redo_laws.proofs.Views.{alive_up, knows_cuts, point_le, min_at, min_spared, reader_past}
+use Rattle.redo_laws.proofs.Fronts.{settled_alive}
 use Rattle.redo_laws.proofs.Alike.{Alike, meaning_alike, alike_by_meaning, front_alike, page_alike, linked_alike, has_below}
 use Rattle.redo_laws.proofs.Union.{left, right, both, cut_cases, record_cases, advance_cases, advance_le, point_pair}
+use Rattle.redo_laws.proofs.Meanings.{meaning_at}
 use Rattle.redo_core.specs.Book.{roster_of}
 use Rattle.segment_state.specs.State.{State, min_of}
 use Rattle.segment_state.specs.Means.{MeansAt, Means, Matters, IsInImage}
@@ -196,9 +197,6 @@ alike_known {roster} log F p s (Advance a) l inside m al =
     (settled_lt p.epoch a.epoch)
 
 -- the laws
-
-meaning_at : {roster : ℕ} (F : List Fact) (p : Position) (m : Meaning) → IsPosition roster F p → IsMeaning roster F m → IsMeaningAt roster F p m
-meaning_at {roster} F p m h a = let e : a.0 ≡ p = front_unique F F (λ x. (λ y. y, λ y. y)) a.0 p a.1.position h in subst (λ x. IsMeaningAt roster F x m) e a.1
 
 pub takes_known : (s : State) (fact : Fact) → IsKnown s fact → TakesFact s fact s
 takes_known s fact known roster log F sound inside a =

@@ -9,7 +9,7 @@ use Rattle.redo_core.specs.Points.{HasAdvance, IsPoint, RaisesPoints}
 use Rattle.redo_core.specs.Position.{Position, IsPosition}
 use Rattle.redo_core.specs.declared.facts.Fact.{Fact}
 use Rattle.redo_core.specs.declared.facts.Fact.TheVariants.{Record, Cut, Advance}
-use Rattle.redo_core.proofs.Members.{none_in, here, which}
+use Rattle.redo_core.proofs.Members.{none_in, here, which, only}
 use Rattle.redo_core.proofs.FactParts.{record_in}
 use Rattle.redo_laws.proofs.Log.{log_of_sound}
 use Rattle.redo_laws.proofs.Fronts.{front_exists}
@@ -162,9 +162,6 @@ no_cuts_here a c = (λ h. absurd (none_in c h), λ h. absurd (advance_no_cut a c
 
 advance_exists : (roster : ℕ) (a : AdvanceData) → (p : Position) × IsPosition roster (Advance a ∷ []) p
 advance_exists roster a = front_exists roster (Advance a ∷ []) (λ r x. absurd (advance_no_record a r x))
-
-only : (a b : AdvanceData) → Contains (a ∷ []) b → a ≡ b
-only a b u = ⊎_elim (λ (y : a ≡ b). y) (λ (y : Contains [] b). absurd (none_in b y)) (which a [] b u)
 
 -- the points of one advance that counts
 abbrev ArePointsOf : ℕ → AdvanceData → List ℕ → Type 0

@@ -4,7 +4,7 @@ use Rattle.redo_core.specs.Linked.{IsLinked}
 use Rattle.redo_core.specs.Linked.Linked.{start}
 use Rattle.redo_core.specs.Position.{Position}
 use Rattle.redo_core.specs.declared.facts.Fact.{Fact}
-use Rattle.redo_laws.proofs.Numbers.{greatest_unique, at_greatest}
+use Rattle.redo_core.proofs.Numbers.{greatest_unique, at_greatest}
 use Rattle.redo_laws.proofs.Log.{IsLog}
 use Rattle.redo_laws.proofs.Views.{anchor_is}
 use Rattle.segment_state.specs.State.{State, min_of}

@@ -1,10 +1,10 @@
 -- A state's links and pages are those of the facts that it means.
-use Rattle.std.proofs.Common.{◌≡◌, ℕ, ◌<◌, ◌≤◌, ◌⊎◌, ◌↔◌, inl, inr, ⊎_elim, List, [], ◌∷◌, ◌++◌, sym, ap, ◌∙◌, subst, arith}
+use Rattle.std.proofs.Common.{◌≡◌, ℕ, ◌<◌, ◌≤◌, ◌⊎◌, ◌↔◌, inl, inr, ⊎_elim, List, ◌++◌, sym, ap, ◌∙◌, subst, arith}
 use Rattle.std.specs.List.{Contains}
 use Rattle.std.proofs.lemmas.List.Elements.{Contains-append_left, Contains-append_right, Contains-append_cases}
 use Rattle.redo_core.specs.Data.{RecordData}
 use Rattle.redo_core.specs.Sets.{IsPart, SameSet, records, cuts}
-use Rattle.redo_core.specs.Order.{IsRising, Lists}
+use Rattle.redo_core.specs.Order.{Lists}
 use Rattle.redo_core.specs.Writing.{zeros}
 use Rattle.redo_core.specs.CompleteEpoch.{HasCutsTo}
 use Rattle.redo_core.specs.Standing.{IsAlive}
@@ -16,28 +16,18 @@ use Rattle.redo_core.specs.Writing.{after_records}
 use Rattle.redo_core.specs.Linked.Linked.{start, next}
 use Rattle.redo_core.specs.declared.facts.Fact.{Fact}
 use Rattle.redo_core.proofs.AfterRecords.{after_append}
-use Rattle.redo_core.proofs.Members.{here, there, each, all_of}
-use Rattle.redo_laws.proofs.Numbers.{at_greatest}
+use Rattle.redo_core.proofs.Numbers.{at_greatest}
 use Rattle.redo_laws.proofs.Deciding.{settled_lt, in_order}
 use Rattle.redo_core.proofs.FactParts.{part_records, part_cuts}
+use Rattle.redo_core.proofs.Listing.{rising_append}
+use Rattle.redo_core.proofs.CompleteEpochs.{has_cuts}
 use Rattle.redo_laws.proofs.Log.{IsLog, alive_within}
-use Rattle.redo_laws.proofs.Views.{has_cuts, alive_up, alone, alive_then, prefix_law}
+use Rattle.redo_laws.proofs.Views.{alive_up, alone, alive_then, prefix_law}
 use Rattle.redo_laws.proofs.Meanings.{lists_as, nat_order}
 use Rattle.redo_laws.proofs.Fronts.{page_unique}
 use Rattle.segment_state.specs.State.{State, version_of, image_of}
 use Rattle.segment_state.specs.Means.{MeansAt, IsInImage}
 use Rattle.segment_state.specs.Shows.{Shows, IsApplied}
-
--- lists, one after the other
-
-rising_append : {X : Type 0} (Before : X → X → Type 0) (xs ys : List X) → IsRising Before xs → IsRising Before ys
-    → ((x y : X) → Contains xs x → Contains ys y → Before x y) → IsRising Before (xs ++ ys)
-rising_append Before [] ys r s cross = s
-rising_append Before (x ∷ xs) ys r s cross = (
-  all_of (Before x) (xs ++ ys) (λ z h. ⊎_elim (λ (u : Contains xs z). each (Before x) xs z r.0 u) (λ (v : Contains ys z). cross x z (here x xs) v)
-      (Contains-append_cases xs ys z h)),
-  rising_append Before xs ys r.1 s (λ y z u v. cross y z (there x xs y u) v),
-)
 
 abbrev pub OfPage : List Fact → ℕ → ℕ → ℕ → ℕ → RecordData → Type 0
 OfPage F k g v q r = IsLinkedRecord F k r × (r.page ≡ g) × (v < r.number) × (r.number ≤ q)

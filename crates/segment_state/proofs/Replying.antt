@@ -20,7 +20,7 @@ use Rattle.redo_laws.proofs.Meanings.{lists_as}
 use Rattle.segment_state.specs.State.{State}
 use Rattle.segment_state.specs.Means.{MeansAt, Matters, IsInImage}
 use Rattle.segment_state.specs.Shows.{Shows}
-use Rattle.segment_state.specs.Gossip.{Listing, Delta, IsListed, Fills, Replies}
+use Rattle.segment_state.specs.Gossip.{Listing, Delta, IsListed, Fills, IsDeltaFor}
 use Rattle.segment_state.proofs.Booked.{points_as, waits_as}
 use Rattle.segment_state.proofs.Reading.{alive_in_facts}
 use Rattle.segment_state.proofs.Same.{image_as, waiting_as}
@@ -36,7 +36,7 @@ dry log G l q k p bytes page = at page.written page.lists page.result
         (l.backs w (part_records G log q w s.0.among)).0 in absurd (omega arith)
 
 pub reply_law : {roster : ℕ} (log G : List Fact) (g : Position) (s : State) (summary : Listing) (d : Delta) → IsLog roster log → MeansAt roster log G g s
-    → Replies g.anchor s summary d → Fills G g summary d
+    → IsDeltaFor g.anchor s summary d → Fills G g summary d
 reply_law {roster} log G g s summary d l m r =
     let base_case : ((d.base ≡ 0) × (d.pages ≡ []))
     ⊎ ((d.base ≡ g.anchor) × Lists ImageBefore (λ i. Shows s i.page g.anchor i.bytes × (i.bytes ≢ zeros)) d.pages) =
@@ -67,7 +67,7 @@ reply_law {roster} log G g s summary d l m r =
     }
   where
     enough_at : (log G : List Fact) (g : Position) (s : State) (summary : Listing) (d : Delta) → IsLog roster log → MeansAt roster log G g s
-        → Replies g.anchor s summary d → (t : RecordData) → Contains (records G) t
+        → IsDeltaFor g.anchor s summary d → (t : RecordData) → Contains (records G) t
         → IsWaiting g.epoch t.epoch ⊎ (IsAlive (cuts G) g.epoch t.epoch t.number × (d.base < t.number) × (summary.anchor < t.number))
         → Contains d.records t ⊎ IsListed summary t
     enough_at log G g s summary d l m r t h why =

@@ -24,7 +24,7 @@ use Rattle.segment_state.specs.Means.{MeansAt, Means, Matters, IsInImage}
 use Rattle.segment_state.specs.Shows.{Shows}
 use Rattle.segment_state.specs.HasMeaning.{HasAnchor}
 use Rattle.segment_state.specs.Promises.{KeepsMeaning, IsFinalPage, KeepsMeaningWith}
-use Rattle.segment_state.specs.Shedding.{CommitsImage, Discards, RemovesDead}
+use Rattle.segment_state.specs.Shedding.{CommitsImage, RemovesFolded, RemovesDead}
 use Rattle.segment_state.proofs.Reading.{alive_in_facts, pages_law}
 use Rattle.segment_state.proofs.Joining.{page_final}
 use Rattle.segment_state.proofs.Same.{anchor_as}
@@ -165,7 +165,7 @@ same_images : (F : List Fact) (p : Position) (old new : State) → new.store ≡
     → (version_of new.store g ≤ p.anchor) × IsPageAt F p.epoch g (version_of new.store g) (image_of new.store g)
 same_images F p old new e before g = subst (λ t. (version_of t g ≤ p.anchor) × IsPageAt F p.epoch g (version_of t g) (image_of t g)) (sym e) (before g)
 
-pub discard_keeps : (old new : State) → Discards old new → KeepsMeaning old new
+pub discard_keeps : (old new : State) → RemovesFolded old new → KeepsMeaning old new
 discard_keeps old new drops roster log F sound a =
     let l = log_of_sound _ log sound in
     let m = a.1 in

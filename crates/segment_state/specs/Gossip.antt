@@ -72,7 +72,7 @@ HasImage d page bytes =
     ⊎ (((i : ImageData) → Contains d.pages i → i.page ≢ page) × (bytes ≡ zeros))
 
 -- s' is what s knows together with the delta
-pub record Absorbs (s : State) (d : Delta) (s' : State) : Type 0 where
+pub record JoinsDelta (s : State) (d : Delta) (s' : State) : Type 0 where
   pub book : JoinsBooks s.book d.book s'.book
   -- the base is the greater, and where the delta's is, pages of lower versions are the delta's
   pub base : ((d.base ≤ s.base) × (s'.base ≡ s.base)) ⊎ ((s.base < d.base) × (s'.base ≡ d.base) × ((page : ℕ) → d.base ≤ version_of s'.store page))
@@ -87,10 +87,10 @@ abbrev pub AbsorbMeansUnion : Type 0
 AbsorbMeansUnion =
     (roster : ℕ) (log F G : List Fact) (f g : Position) (s s' : State) (summary : Listing) (d : Delta)
     → IsSound roster log → MeansAt roster log F f s → IsPart G log → IsPosition roster G g → Fills G g summary d → AnswersFor F f summary
-    → Absorbs s d s' → Means roster log (F ++ G) s'
+    → JoinsDelta s d s' → Means roster log (F ++ G) s'
 
 -- d replies to a summary from a state whose anchor this is
-pub record Replies (anchor : ℕ) (s : State) (summary : Listing) (d : Delta) : Type 0 where
+pub record IsDeltaFor (anchor : ℕ) (s : State) (summary : Listing) (d : Delta) : Type 0 where
   pub same_cuts : (c : CutData) → Contains d.book.cuts c ↔ Contains s.book.cuts c
   pub epoch : d.book.complete ≡ s.book.complete
   pub same_points : d.book.points ≡ s.book.points
@@ -107,4 +107,4 @@ pub record Replies (anchor : ℕ) (s : State) (summary : Listing) (d : Delta) : 
 abbrev pub ReplyFills : Type 0
 ReplyFills =
     (roster : ℕ) (log G : List Fact) (g : Position) (s : State) (summary : Listing) (d : Delta)
-    → IsSound roster log → MeansAt roster log G g s → Replies g.anchor s summary d → Fills G g summary d
+    → IsSound roster log → MeansAt roster log G g s → IsDeltaFor g.anchor s summary d → Fills G g summary d

@@ -15,7 +15,7 @@ use Rattle.segment_state.specs.Shows.{IsApplied, Shows, HasBlockBelow}
 use Rattle.segment_state.specs.HasMeaning.{IsLinkedIn, HasAnchor, HasPosition, IsKeptBy, HasMeaning}
 use Rattle.segment_state.specs.Promises.{TakesFact, KeepsMeaning, LeavesMeaning, ChangesMeaning, IsFinalPage, KeepsMeaningWith}
 use Rattle.segment_state.specs.Learning.{StoresCut, StoresAdvance, PutsRecord}
-use Rattle.segment_state.specs.Shedding.{CommitsImage, Discards, RemovesDead}
+use Rattle.segment_state.specs.Shedding.{CommitsImage, RemovesFolded, RemovesDead}
 use Rattle.segment_state.specs.Known.{IsKnown, Conflicts}
 
 -- An empty state means no facts.
@@ -120,7 +120,7 @@ FoldKeeps =
     → KeepsMeaning old new
 
 abbrev pub DiscardKeeps : Type 0
-DiscardKeeps = (old new : State) → Discards old new → KeepsMeaning old new
+DiscardKeeps = (old new : State) → RemovesFolded old new → KeepsMeaning old new
 
 abbrev pub RemovalKeeps : Type 0
 RemovalKeeps = (old new : State) → RemovesDead old new → KeepsMeaning old new

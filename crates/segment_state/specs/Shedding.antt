@@ -18,7 +18,7 @@ pub record CommitsImage (old : State) (page version : ℕ) (image : List ℕ) (n
   pub others : (other : ℕ) → other ≢ page → (version_of new.store other ≡ version_of old.store other) × (image_of new.store other ≡ image_of old.store other)
 
 -- the base point is the anchor, and held records may go that are in their pages' images then
-pub record Discards (old new : State) : Type 0 where
+pub record RemovesFolded (old new : State) : Type 0 where
   pub book : new.book ≡ old.book
   pub base : HasAnchor old new.base
   pub held : (r : RecordData) → Contains new.held r → Contains old.held r

@@ -1,7 +1,7 @@
 //! What a stored state of a segment means, and the laws of its changes, over the definitions alone.
 //!
 //! A segment keeps no set of what it took: `Means` says which facts its book, held records, base point and images stand
-//! for. A segment shows what a step does to what it stores (`StoresCut`, `PutsRecord`, `Discards` and others), and a law of
+//! for. A segment shows what a step does to what it stores (`StoresCut`, `PutsRecord`, `RemovesFolded` and others), and a law of
 //! this crate gives from that what its call promises (`TakesFact`, `KeepsMeaning`). What it answers is true of the facts by
 //! the laws of links, positions, pages and meanings. Each law is a function with an empty body.
 #![tactic(auto)]

@@ -4,12 +4,12 @@ use Rattle.std.specs.Prelude.{slice_get}
 use Rattle.std.specs.List.{Contains, range_with_len}
 use Rattle.redo_core.proofs.Members.{none_in, here, there, which}
 
-pub place_of : {X : Type 0} (f : ℕ → X) (a m : ℕ) (x : X) → Contains (map f (range_with_len a m)) x → (p : ℕ) × (a ≤ p) × (p < a + m) × (f p ≡ x)
-place_of f a zero x h = absurd (none_in x h)
-place_of f a (suc m) x h =
+pub place_in_range : {X : Type 0} (f : ℕ → X) (a m : ℕ) (x : X) → Contains (map f (range_with_len a m)) x → (p : ℕ) × (a ≤ p) × (p < a + m) × (f p ≡ x)
+place_in_range f a zero x h = absurd (none_in x h)
+place_in_range f a (suc m) x h =
     ⊎_elim
     (λ (e : f a ≡ x). (a, le_refl a, omega arith, e))
-    (λ (q : Contains (map f (range_with_len (a + 1) m)) x). let r = place_of f (a + 1) m x q in let l = r.1 in let u = r.2 in
+    (λ (q : Contains (map f (range_with_len (a + 1) m)) x). let r = place_in_range f (a + 1) m x q in let l = r.1 in let u = r.2 in
     (r.0, omega (arith, l), omega (arith, u), r.3))
     (which (f a) (map f (range_with_len (a + 1) m)) x h)
 

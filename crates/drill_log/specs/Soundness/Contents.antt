@@ -11,7 +11,7 @@ use Rattle.redo_core.specs.declared.facts.Fact.TheVariants.{Record, Cut, Advance
 use Rattle.redo_core.proofs.FactParts.{record_in, cut_in}
 use Rattle.drill_log.specs.Soundness.FirstCuts.{first_within, some_counts}
 use Rattle.drill_log.specs.DrillLog.{record_of_epoch_0, record_of_epoch_1, drill_advance, drill_cut, drill_fact}
-use Rattle.drill_log.specs.Soundness.ByPlace.{place_of, has_place}
+use Rattle.drill_log.specs.Soundness.ByPlace.{place_in_range, has_place}
 
 pub fact_of_epoch_0 : (n p : ℕ) → p ≤ n → drill_fact n p ≡ Record (record_of_epoch_0 p)
 unfolding drill_fact
@@ -45,8 +45,8 @@ IsKindAt n p f =
     ⊎ ((f ≡ Advance (drill_advance n))
     ⊎ ((f ≡ Cut (drill_cut n)) ⊎ ((j : ℕ) × (1 ≤ j) × (j ≤ n) × (f ≡ Record (record_of_epoch_1 n j)))))
 
-pub kind_at : (n p : ℕ) → 1 ≤ p → p ≤ 2 * n + 2 → IsKindAt n p (drill_fact n p)
-kind_at n p l u =
+pub kind_of_place : (n p : ℕ) → 1 ≤ p → p ≤ 2 * n + 2 → IsKindAt n p (drill_fact n p)
+kind_of_place n p l u =
     ⊎_elim
     (λ (a : p ≤ n). inl (l, a, fact_of_epoch_0 n p a))
     (λ (b : n < p). inr (⊎_elim
@@ -87,11 +87,11 @@ cut_kind n p f c e (inr (inl a)) = absurd (cc)
 cut_kind n p f c e (inr (inr (inl a))) = cc
 cut_kind n p f c e (inr (inr (inr a))) = absurd (let q = a.3 in cc)
 
-cut_of : (n : ℕ) (c : CutData) → Contains (cuts (facts_of_drill n)) c → drill_cut n ≡ c
-cut_of n c h =
-    let q = place_of (drill_fact n) 1 (2 * n + 2) (Cut c) ((cut_in (facts_of_drill n) c).0 h) in
+only_cut : (n : ℕ) (c : CutData) → Contains (cuts (facts_of_drill n)) c → drill_cut n ≡ c
+only_cut n c h =
+    let q = place_in_range (drill_fact n) 1 (2 * n + 2) (Cut c) ((cut_in (facts_of_drill n) c).0 h) in
     let u = q.2 in
-    cut_kind n q.0 (drill_fact n q.0) c q.3 (kind_at n q.0 q.1 (omega (arith, u)))
+    cut_kind n q.0 (drill_fact n q.0) c q.3 (kind_of_place n q.0 q.1 (omega (arith, u)))
 
 cut_here : (n : ℕ) → Contains (cuts (facts_of_drill n)) (drill_cut n)
 cut_here n = (cut_in (facts_of_drill n) (drill_cut n)).1
@@ -103,17 +103,17 @@ drill_contents n least most = record {
   least = least;
   most = most;
   record_is = λ r h.
-      let q = place_of (drill_fact n) 1 (2 * n + 2) (Record r) ((record_in (facts_of_drill n) r).0 h) in
+      let q = place_in_range (drill_fact n) 1 (2 * n + 2) (Record r) ((record_in (facts_of_drill n) r).0 h) in
       let u = q.2 in
-      record_kind n q.0 (drill_fact n q.0) r q.3 (kind_at n q.0 q.1 (omega (arith, u)));
+      record_kind n q.0 (drill_fact n q.0) r q.3 (kind_of_place n q.0 q.1 (omega (arith, u)));
   has_epoch_0 = λ i l u. (record_in (facts_of_drill n) (record_of_epoch_0 i)).1
       (subst (Contains (facts_of_drill n)) (fact_of_epoch_0 n i u) (has_place (drill_fact n) 1 (2 * n + 2) i l (omega (arith, u))));
   has_epoch_1 = λ j l u. (record_in (facts_of_drill n) (record_of_epoch_1 n j)).1
       (subst (Contains (facts_of_drill n)) (fact_of_epoch_1 n j (n + 2 + j) l refl)
       (has_place (drill_fact n) 1 (2 * n + 2) (n + 2 + j) (omega arith) (omega (arith, u))));
-  each_cut = cut_of n;
-  each_counted = λ c h. cut_of n c (first_within (cuts (facts_of_drill n)) c h);
+  each_cut = only_cut n;
+  each_counted = λ c h. only_cut n c (first_within (cuts (facts_of_drill n)) c h);
   has_cut = cut_here n;
   counts_cut = let s = some_counts (cuts (facts_of_drill n)) (drill_cut n) (cut_here n) in subst (Contains (counted (facts_of_drill n)))
-      (sym (cut_of n s.0 s.2)) s.1;
+      (sym (only_cut n s.0 s.2)) s.1;
 }

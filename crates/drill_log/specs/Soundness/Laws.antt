@@ -12,21 +12,21 @@ use Rattle.drill_log.specs.DrillLog.{record_of_epoch_0, record_of_epoch_1, drill
 use Rattle.drill_log.specs.Soundness.Remainders.{same_remainder_apart, remainder_8_below, remainder_at_most, remainder_below, last_has_page, last_is_greatest, half_at_most, half_positive}
 use Rattle.drill_log.specs.Soundness.Contents.{IsDrillLog}
 
-pub cut_epoch : (n : ℕ) (log : List Fact) → IsDrillLog n log → (c : CutData) → Contains (counted log) c → c.epoch ≡ 1
-cut_epoch n log d c h = sym (ap (λ (x : CutData). x.epoch) (d.each_counted c h))
+pub opens_epoch_1 : (n : ℕ) (log : List Fact) → IsDrillLog n log → (c : CutData) → Contains (counted log) c → c.epoch ≡ 1
+opens_epoch_1 n log d c h = sym (ap (λ (x : CutData). x.epoch) (d.each_counted c h))
 
 -- which numbers are alive
 alive_in_epoch_0 : (n : ℕ) (log : List Fact) → IsDrillLog n log → (m : ℕ) → IsAlive (counted log) 0 0 m
 alive_in_epoch_0 n log d m = record {
   known = omega arith;
-  begun = λ c h e. absurd (let q = cut_epoch n log d c h in omega (arith, q, e));
+  begun = λ c h e. absurd (let q = opens_epoch_1 n log d c h in omega (arith, q, e));
   spared = λ c h l k. absurd (omega (arith, l, k));
 }
 
 alive_below_cut : (n : ℕ) (log : List Fact) → IsDrillLog n log → (m : ℕ) → m ≤ n / 2 → IsAlive (counted log) 1 0 m
 alive_below_cut n log d m le = record {
   known = omega arith;
-  begun = λ c h e. absurd (let q = cut_epoch n log d c h in omega (arith, q, e));
+  begun = λ c h e. absurd (let q = opens_epoch_1 n log d c h in omega (arith, q, e));
   spared = λ c h l k. subst (λ (x : CutData). m ≤ x.lo) (d.each_counted c h) le;
 }
 

@@ -16,14 +16,14 @@ use Rattle.drill_log.specs.DrillLog.{record_of_epoch_0, record_of_epoch_1, drill
 use Rattle.drill_log.specs.Soundness.Remainders.{half_at_most, half_positive}
 use Rattle.drill_log.specs.Soundness.ByPlace.{get_place, get_past}
 use Rattle.drill_log.specs.Soundness.Shapes.{shape}
-use Rattle.drill_log.specs.Soundness.Contents.{IsDrillLog, IsKindAt, kind_at, facts_of_drill, drill_contents, fact_of_epoch_0, fact_advance, fact_cut, fact_of_epoch_1}
-use Rattle.drill_log.specs.Soundness.Laws.{cut_epoch, back_of_epoch_0, back_of_epoch_1, block_back_of_epoch_0, block_back_of_epoch_1}
+use Rattle.drill_log.specs.Soundness.Contents.{IsDrillLog, IsKindAt, kind_of_place, facts_of_drill, drill_contents, fact_of_epoch_0, fact_advance, fact_cut, fact_of_epoch_1}
+use Rattle.drill_log.specs.Soundness.Laws.{opens_epoch_1, back_of_epoch_0, back_of_epoch_1, block_back_of_epoch_0, block_back_of_epoch_1}
 
 -- one key, one fact
-within : (k : ℕ) (xs : List Fact) (f : Fact) → Contains (take k xs) f → Contains xs f
-within zero xs f h = absurd (none_in f h)
-within (suc k) [] f h = h
-within (suc k) (x ∷ xs) f h = ⊎_elim (λ (e : x ≡ f). subst (λ z. Contains (z ∷ xs) f) (sym e) (here f xs)) (λ q. there x xs f (within k xs f q))
+of_front : (k : ℕ) (xs : List Fact) (f : Fact) → Contains (take k xs) f → Contains xs f
+of_front zero xs f h = absurd (none_in f h)
+of_front (suc k) [] f h = h
+of_front (suc k) (x ∷ xs) f h = ⊎_elim (λ (e : x ≡ f). subst (λ z. Contains (z ∷ xs) f) (sym e) (here f xs)) (λ q. there x xs f (of_front k xs f q))
     (which x (take k xs) f h)
 
 same_record : (n : ℕ) (log : List Fact) → IsDrillLog n log → (r s : RecordData) → Contains (records log) r → Contains (records log) s → s.epoch ≡ r.epoch
@@ -77,8 +77,8 @@ keeps_epoch_0 : (n i place : ℕ) (log : List Fact) → IsDrillLog n log → 1 �
     → KeepsLaws 1 log place (Record (record_of_epoch_0 i))
 keeps_epoch_0 n i place log d l u here = record {
   shape = shape 0 i (i - 1) (i % 8) (if nat_lt 8 i then i - 8 else 0) (let m = d.most in omega (arith, u, m)) (omega (arith, l)) (block_1 i l);
-  law1 = λ f h. one_key n log d f (Record (record_of_epoch_0 i)) (within place log f h) here;
-  law2 = ((λ e a b. absurd (omega (arith, a, b))), λ c h e. absurd (let q = cut_epoch n log d c h in omega (arith, q, e)));
+  law1 = λ f h. one_key n log d f (Record (record_of_epoch_0 i)) (of_front place log f h) here;
+  law2 = ((λ e a b. absurd (omega (arith, a, b))), λ c h e. absurd (let q = opens_epoch_1 n log d c h in omega (arith, q, e)));
   law3 = back_of_epoch_0 n i log d l u;
   law4 = block_back_of_epoch_0 n i log d l u;
   law5 = tt;
@@ -90,7 +90,7 @@ keeps_epoch_1 n j place log d l u here = record {
   shape = shape 1 (drill_hi n + j) (if j == 1 then n / 2 else drill_hi n + j - 1) ((j - 1) % 8)
       (if nat_lt 8 j then drill_hi n + j - 8 else last_of_page (n / 2) ((j - 1) % 8)) (let m = d.most in omega (arith, u, m)) (back_2 n j d.least l)
       (block_2 n j d.least l);
-  law1 = λ f h. one_key n log d f (Record (record_of_epoch_1 n j)) (within place log f h) here;
+  law1 = λ f h. one_key n log d f (Record (record_of_epoch_1 n j)) (of_front place log f h) here;
   law2 = (
     (λ e a b. (drill_cut n, d.counts_cut, omega (arith, a, b))),
     λ c h e. subst (λ (x : CutData). x.hi < drill_hi n + j) (d.each_counted c h)
@@ -104,7 +104,7 @@ keeps_epoch_1 n j place log d l u here = record {
 keeps_cut : (n place : ℕ) (log : List Fact) → IsDrillLog n log → Contains log (Cut (drill_cut n)) → KeepsLaws 1 log place (Cut (drill_cut n))
 keeps_cut n place log d here = record {
   shape = let h = half_at_most n in let m = d.most in (let t : cut_fault (drill_cut n) ≡ None = grind (arith, nat_tests) in t);
-  law1 = λ f h. one_key n log d f (Cut (drill_cut n)) (within place log f h) here;
+  law1 = λ f h. one_key n log d f (Cut (drill_cut n)) (of_front place log f h) here;
   law2 = tt;
   law3 = tt;
   law4 = tt;
@@ -116,7 +116,7 @@ keeps_advance : (n place : ℕ) (log : List Fact) → IsDrillLog n log → Conta
 keeps_advance n place log d here = record {
   shape = let h = half_positive n d.least in let k = half_at_most n in let m = d.most in
       (let t : advance_fault (drill_advance n) ≡ None = grind (arith, nat_tests) in t);
-  law1 = λ f h. one_key n log d f (Advance (drill_advance n)) (within place log f h) here;
+  law1 = λ f h. one_key n log d f (Advance (drill_advance n)) (of_front place log f h) here;
   law2 = tt;
   law3 = tt;
   law4 = tt;
@@ -148,7 +148,7 @@ contents_keep n least most place fact e =
     let g = get_place (drill_fact n) 1 (2 * n + 2) place l in
     let q : drill_fact n (1 + place) ≡ fact = cc in
     keeps n (1 + place) place (facts_of_drill n) fact (drill_contents n least most) (among (facts_of_drill n) place fact e)
-    (subst (IsKindAt n (1 + place)) q (kind_at n (1 + place) (omega arith) (omega (arith, l)))))
+    (subst (IsKindAt n (1 + place)) q (kind_of_place n (1 + place) (omega arith) (omega (arith, l)))))
     (λ (m : 2 * n + 2 ≤ place). absurd (let g = get_past (drill_fact n) 1 (2 * n + 2) place m in cc))
     (let t : (place < 2 * n + 2) ⊎ (2 * n + 2 ≤ place) = grind arith in t)
 

@@ -1,7 +1,7 @@
 use Rattle.std.proofs.Common.{◌≡◌, ◌<◌, ◌↔◌, IsTrue, arith, sym, subst}
 use Rattle.std.proofs.lemmas.List.Elements.{All-contains}
-use Rattle.epoch_book.specs.Scanning.{HasCut}
 use Rattle.epoch_book.proofs.Scans.{found_cut}
+use Rattle.redo_core.specs.CompleteEpoch.{HasCut}
 use Rattle.epoch_book.proofs.cuts.has_epoch.Goals as goal
 
 pub returns-in-Ok-clause-found : goal.returns-in-Ok-clause-found

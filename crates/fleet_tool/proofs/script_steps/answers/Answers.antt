@@ -1,7 +1,7 @@
 use Rattle.std.proofs.Common.{◌≡◌, List, [], ℕ, drop, string_bytes, append-nil, subst, sym, arith}
 use Rattle.std.proofs.lemmas.List.{drop_all}
 use Rattle.fleet_steps.specs.declared.steps.Step.{Step}
-use Rattle.fleet_tool.specs.ScriptSteps.{Answers}
+use Rattle.fleet_tool.specs.ScriptSteps.{AnswersSteps}
 use Rattle.fleet_tool.proofs.Steps.{none_left, answered_more}
 use Rattle.fleet_tool.proofs.script_steps.answers.Goals as goal
 
@@ -15,5 +15,5 @@ loop-step-preserved c =
 pub returns : goal.returns
 returns c =
     let none : drop c.loop-step.step-index c.args.steps.now ≡ [] = drop_all c.loop-step.step-index c.args.steps.now (omega arith) in
-    let last = subst (λ (ss : List (Step ℕ)). Answers c.loop-step.fleet c.args.facts.now ss []) (sym none) (none_left c.loop-step.fleet c.args.facts.now) in
-    subst (Answers c.args.fleet.now c.args.facts.now c.args.steps.now) (append-nil (string_bytes c.loop-step.text)) (c.loop-step.invariant [] last)
+    let last = subst (λ (ss : List (Step ℕ)). AnswersSteps c.loop-step.fleet c.args.facts.now ss []) (sym none) (none_left c.loop-step.fleet c.args.facts.now) in
+    subst (AnswersSteps c.args.fleet.now c.args.facts.now c.args.steps.now) (append-nil (string_bytes c.loop-step.text)) (c.loop-step.invariant [] last)

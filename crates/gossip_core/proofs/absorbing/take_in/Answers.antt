@@ -7,7 +7,7 @@ use Rattle.segment_state.specs.State.{State, StoredImage}
 use Rattle.segment_join.specs.Told.{facts_told}
 use Rattle.segment_join.specs.InOrder.{TakesEach}
 use Rattle.redo_wire.specs.Deltas.{DeltaData, IsDelta}
-use Rattle.gossip_core.specs.Absorbing.{image_at}
+use Rattle.gossip_core.specs.Absorbing.{based_image}
 use Rattle.gossip_core.proofs.Absorbed.{HasDelta, base_fits, absorbs}
 use Rattle.gossip_core.proofs.absorbing.take_in.Goals as goal
 
@@ -26,7 +26,7 @@ pub returns-in-Ok-unite-clause-absorbs : goal.returns-in-Ok-unite-clause-absorbs
 returns-in-Ok-unite-clause-absorbs c =
     let s = c.args.segment.now in let d = c.args.delta.now in let taken = c.take_facts.new.segment in let new = c.unite.new.self in
     let has = has_delta s d taken c.base_point-own.ensures.form c.base-base.ensures.shape c.requires c.in_default-take_facts.ensures.takes in
-    let at : Unites taken c.base-base.result c.base-base.result (map (image_at c.base-base.result) d.pages) new =
-    subst (λ (ps : List ImageData). Unites taken c.base-base.result c.base-base.result (map (image_at c.base-base.result) ps) new) c.pages.ensures.pages
+    let at : Unites taken c.base-base.result c.base-base.result (map (based_image c.base-base.result) d.pages) new =
+    subst (λ (ps : List ImageData). Unites taken c.base-base.result c.base-base.result (map (based_image c.base-base.result) ps) new) c.pages.ensures.pages
     (subst (λ (is : List StoredImage). Unites taken c.base-base.result c.base-base.result is new) c.in-Ok.ensures c.in-Ok-unite.ensures.unites) in
-    absorbs s d taken new has (subst (λ (n : ℕ). Unites taken n n (map (image_at n) d.pages) new) c.base-base.ensures.base at)
+    absorbs s d taken new has (subst (λ (n : ℕ). Unites taken n n (map (based_image n) d.pages) new) c.base-base.ensures.base at)

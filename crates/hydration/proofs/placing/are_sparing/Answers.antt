@@ -1,6 +1,6 @@
 use Rattle.std.proofs.Common.{refl}
-use Rattle.hydration.specs.Placing.{SparesIn}
 use Rattle.redo_core.proofs.Scans.{whole, one_more}
+use Rattle.redo_core.specs.Standing.{SparesIn}
 use Rattle.hydration.proofs.placing.are_sparing.Goals as goal
 
 pub loop-cut-preserved : goal.loop-cut-preserved

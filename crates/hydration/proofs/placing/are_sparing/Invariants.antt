@@ -1,7 +1,7 @@
 use Rattle.std.proofs.Common.{take}
 use Rattle.std.specs.List.{All}
-use Rattle.hydration.specs.Placing.{SparesIn}
 use Rattle.hydration.proofs.placing.are_sparing.Given as goal
+use Rattle.redo_core.specs.Standing.{SparesIn}
 
 -- the truncations so far spare the record
 abbrev pub invariant-loop-cut : goal.invariant-loop-cut

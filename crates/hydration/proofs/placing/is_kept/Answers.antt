@@ -1,8 +1,8 @@
 use Rattle.std.proofs.Common.{◌≤◌, sym, List, subst, arith}
 use Rattle.std.specs.List.{All}
 use Rattle.redo_core.specs.Data.{CutData}
-use Rattle.hydration.specs.Placing.{SparesIn}
 use Rattle.hydration.proofs.Placed.{kept, spared}
+use Rattle.redo_core.specs.Standing.{SparesIn}
 use Rattle.hydration.proofs.placing.is_kept.Goals as goal
 
 pub returns-then-anchor-number : goal.returns-then-anchor-number

@@ -3,8 +3,9 @@ use Rattle.std.specs.Prelude.{MatchOption}
 use Rattle.redo_core.specs.Sound.{Law1, Law2, Law5, KeepsLaws}
 use Rattle.redo_core.specs.declared.facts.Fact.TheVariants.{Record, Cut, Advance}
 use Rattle.redo_core.specs.declared.laws.Law.TheVariants.{EpochBegun, AdvanceKept}
-use Rattle.log_law.specs.Report.{BreaksFirst, LinkJudges}
+use Rattle.log_law.specs.Report.{LinkJudges}
 use Rattle.log_law.proofs.Verdict.{record_verdict, record_not_begun, cut_verdict, cut_shape, advance_verdict, advance_not_kept}
+use Rattle.redo_core.specs.Fault.{BreaksFirst}
 use Rattle.log_law.proofs.check.broken_law.Goals as goal
 
 pub returns-then-admits : goal.returns-then-admits

@@ -2,8 +2,8 @@ use Rattle.std.proofs.Common.{◌≡◌, refl, length, Some}
 use Rattle.std.specs.Prelude.{slice_get}
 use Rattle.std.proofs.lemmas.Option.{slice_get_read, MatchOption-at_some, MatchOption-at_none}
 use Rattle.redo_core.specs.Sound.{KeepsLaws}
-use Rattle.log_law.specs.Report.{BreaksFirst}
 use Rattle.log_law.proofs.Verdict.{verdict_at, link_judges, link_further, other_further, kept_further, reported, all_sound}
+use Rattle.redo_core.specs.Fault.{BreaksFirst}
 use Rattle.log_law.proofs.check.least_fault.Goals as goal
 
 pub returns-in-Some : goal.returns-in-Some

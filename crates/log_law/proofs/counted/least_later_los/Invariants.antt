@@ -1,14 +1,14 @@
 use Rattle.std.proofs.Common.{◌≡◌, ℕ, ◌≤◌, ◌<◌, get_or, length, List}
 use Rattle.redo_core.specs.declared.facts.Fact.{Fact}
 use Rattle.log_law.specs.Counted.{IsTable, IsLeastLaterLo}
-use Rattle.log_law.specs.Lows.{AreLows}
+use Rattle.log_law.specs.Lows.{AreLeastPoints}
 use Rattle.log_law.proofs.counted.least_later_los.Given as goal
 
 abbrev pub invariant-loop-epoch : goal.invariant-loop-epoch
 invariant-loop-epoch l = record {
   len : length l.least_later_lo.items ≡ 65536;
   inside : l.epoch < 65536;
-  least_later_lo : (roster : ℕ) (log : List Fact) → IsTable log l.table → AreLows roster log l.lows → (e : ℕ) → l.epoch ≤ e → e < 65536
+  least_later_lo : (roster : ℕ) (log : List Fact) → IsTable log l.table → AreLeastPoints roster log l.lows → (e : ℕ) → l.epoch ≤ e → e < 65536
       → IsLeastLaterLo roster log e (get_or l.least_later_lo.items e 0);
 }
 

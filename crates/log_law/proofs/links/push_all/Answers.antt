@@ -1,6 +1,6 @@
 use Rattle.std.proofs.Common.{◌≡◌, ◌++◌, take, get_or, sym, ◌∙◌, subst, refl, take_all}
 use Rattle.std.specs.List.{Contains}
-use Rattle.log_law.specs.Alive.{stack_of, page_top, Holds}
+use Rattle.log_law.specs.Alive.{stack_of, page_top, HoldsAlive}
 use Rattle.log_law.proofs.Entered.{holds_push, top_or_below}
 use Rattle.log_law.proofs.Least.{zero_item, one_further, item_in}
 use Rattle.redo_core.specs.Standing.{IsAlive}
@@ -16,7 +16,7 @@ loop-item-preserved c =
       view = c.push.ensures.view ∙ c.loop-item.invariant.view;
       stack = c.in_ok-push.ensures.stack;
       holds = λ log past h f.
-          subst (λ ys. Holds log ys c.push.new.self) (sym (one_further past xs i c.loop-item-test.true))
+          subst (λ ys. HoldsAlive log ys c.push.new.self) (sym (one_further past xs i c.loop-item-test.true))
           (holds_push log (past ++ take i xs) c.loop-item.alive c.push.new.self t
           (record { number = t.number; page = t.page; beneath = page_top t.page (stack_of c.loop-item.alive) }) refl refl
           c.in_ok-push.ensures.stack c.push.ensures.view c.in_ok-push.ensures.top
@@ -29,5 +29,5 @@ loop-item-preserved c =
     }
 
 pub returns-clause-holds : goal.returns-clause-holds
-returns-clause-holds c log past h f = subst (λ ys. Holds log (past ++ ys) c.loop-item.alive)
+returns-clause-holds c log past h f = subst (λ ys. HoldsAlive log (past ++ ys) c.loop-item.alive)
     (take_all c.loop-item.item-index c.args.group.now c.loop-item-test.false) (c.loop-item.invariant.holds log past h f)

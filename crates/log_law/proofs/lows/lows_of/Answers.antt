@@ -1,5 +1,5 @@
 use Rattle.std.proofs.Common.{◌≡◌, get_or, min, ap, subst, ◌∙◌, arith}
-use Rattle.log_law.specs.Lows.{AreLows}
+use Rattle.log_law.specs.Lows.{AreLeastPoints}
 use Rattle.log_law.proofs.Reaching.{lows_one, lows_more}
 use Rattle.log_law.proofs.lows.lows_of.Goals as goal
 
@@ -24,4 +24,4 @@ returns c =
     let all : c.loop-reader.reader ≡ c.args.roster =
     (let t : c.loop-reader.reader ≡ c.readers-readers.result = omega (arith, c.loop-reader.invariant.within, c.loop-reader-test.false) in
     t ∙ c.readers-readers.ensures.value) in
-    subst (λ n. AreLows n c.args.facts.now c.loop-reader.lows.items) all c.loop-reader.invariant.lows
+    subst (λ n. AreLeastPoints n c.args.facts.now c.loop-reader.lows.items) all c.loop-reader.invariant.lows

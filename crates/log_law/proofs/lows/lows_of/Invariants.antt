@@ -1,5 +1,5 @@
 use Rattle.std.proofs.Common.{◌-◌, ◌≤◌}
-use Rattle.log_law.specs.Lows.{AreLows}
+use Rattle.log_law.specs.Lows.{AreLeastPoints}
 use Rattle.log_law.proofs.lows.lows_of.Given as goal
 
 -- the readers so far
@@ -7,7 +7,7 @@ abbrev pub invariant-loop-reader : goal.invariant-loop-reader
 invariant-loop-reader l = record {
   some : 1 ≤ l.reader;
   within : l.reader ≤ l.readers;
-  lows : AreLows l.reader l.facts l.lows.items;
+  lows : AreLeastPoints l.reader l.facts l.lows.items;
 }
 
 abbrev pub decreases-loop-reader : goal.decreases-loop-reader

@@ -1,6 +1,9 @@
-use Rattle.node_stream.proofs.Framed.{few_digits}
+use Rattle.node_stream.proofs.Framed.{few_digits, few_bytes}
 use Rattle.line_stream.specs.AnswerText.{text_of}
 use Rattle.node_stream.proofs.frame_telling.frozen_frame.Goals as goal
 
 pub returns-clause-ok : goal.returns-clause-ok
 returns-clause-ok c = few_digits c.unended.result (text_of c.frozen.result) c.args.pieces c.ranges.pieces.fits c.frozen.ensures c.unended.ensures.long
+
+pub returns-clause-few : goal.returns-clause-few
+returns-clause-few c = few_bytes c.unended.result (text_of c.frozen.result) c.args.pieces c.ranges.pieces.fits c.frozen.ensures c.unended.ensures.bytes

@@ -2,14 +2,14 @@ use Rattle.std.proofs.Common.{refl, IsTrue}
 use Rattle.std.proofs.lemmas.List.Elements.{All-contains}
 use Rattle.redo_core.specs.declared.facts.Fact.{Fact}
 use Rattle.redo_core.proofs.Scans.{whole, one_more}
-use Rattle.plain_model.specs.Comparing.{Keeps, IsCovered}
+use Rattle.plain_model.specs.Comparing.{KeepsFact, CoversFact}
 use Rattle.plain_model.specs.Stands.{position_of}
 use Rattle.plain_model.proofs.comparing.covers_all.Goals as goal
 use Rattle.plain_model.proofs.comparing.covers_all.Goals.{else-keeps-via-then-keeps+else-not-is_covered, else-keeps-via-else-keeps}
 
 pub loop-fact-preserved : goal.loop-fact-preserved
 loop-fact-preserved c =
-    one_more (λ (f : Fact). Keeps c.args.others.now (position_of c.args.below.now) f → IsCovered c.args.facts.now (position_of c.args.above.now) f)
+    one_more (λ (f : Fact). KeepsFact c.args.others.now (position_of c.args.below.now) f → CoversFact c.args.facts.now (position_of c.args.above.now) f)
     c.args.others.now c.loop-fact.fact-index c.fact-item.result c.loop-fact-test.true c.fact-item.is c.loop-fact.invariant
     (λ kept. elim c.else-keeps.branch [
       | else-keeps-via-then-keeps+else-not-is_covered w ↦ w.is_covered.ensures.0 (cc)
@@ -18,9 +18,9 @@ loop-fact-preserved c =
 
 pub returns : goal.returns
 returns c = (
-  λ h fact among. All-contains (λ (f : Fact). Keeps c.args.others.now (position_of c.args.below.now) f
-      → IsCovered c.args.facts.now (position_of c.args.above.now) f) c.args.others.now fact
-      (whole (λ (f : Fact). Keeps c.args.others.now (position_of c.args.below.now) f → IsCovered c.args.facts.now (position_of c.args.above.now) f)
+  λ h fact among. All-contains (λ (f : Fact). KeepsFact c.args.others.now (position_of c.args.below.now) f
+      → CoversFact c.args.facts.now (position_of c.args.above.now) f) c.args.others.now fact
+      (whole (λ (f : Fact). KeepsFact c.args.others.now (position_of c.args.below.now) f → CoversFact c.args.facts.now (position_of c.args.above.now) f)
       c.args.others.now c.loop-fact.fact-index c.loop-fact-test.false c.loop-fact.invariant) among,
   λ h. refl,
 )

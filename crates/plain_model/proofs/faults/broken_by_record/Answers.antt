@@ -6,17 +6,17 @@ use Rattle.plain_model.proofs.Laws.{other_backlink, same_backlink}
 use Rattle.plain_model.proofs.faults.broken_by_record.Goals as goal
 
 pub returns-then-back-greatest_below : goal.returns-then-back-greatest_below
-returns-then-back-greatest_below c roster place e = record {
-  breaks = other_backlink c.args.log.now c.args.redo.now Segment c.greatest_below.result c.args.redo.now.back c.greatest_below.ensures
-      (λ q. c.if-back-greatest_below.true (c.back.ensures.value ∙ q));
-  lower = (subst (λ xs. Law1 xs (Record c.args.redo.now)) e (c.if-not-is_only_record.ensures.0 refl), (c.if-not-has_begun.ensures.law.0 refl, tt));
-}
+returns-then-back-greatest_below c roster place e = (
+  other_backlink c.args.log.now c.args.redo.now Segment c.greatest_below.result c.args.redo.now.back c.greatest_below.ensures
+      (λ q. c.if-back-greatest_below.true (c.back.ensures.value ∙ q)),
+  (subst (λ xs. Law1 xs (Record c.args.redo.now)) e (c.if-not-is_only_record.ensures.0 refl), (c.if-not-has_begun.ensures.law.0 refl, tt)),
+)
 
 pub returns-then-block_back-greatest_below : goal.returns-then-block_back-greatest_below
-returns-then-block_back-greatest_below c roster place e = record {
-  breaks = other_backlink c.args.log.now c.args.redo.now Block c.greatest_below-2.result c.args.redo.now.block_back c.greatest_below-2.ensures
-      (λ q. c.if-block_back-greatest_below.true (c.block_back.ensures.value ∙ q));
-  lower = (
+returns-then-block_back-greatest_below c roster place e = (
+  other_backlink c.args.log.now c.args.redo.now Block c.greatest_below-2.result c.args.redo.now.block_back c.greatest_below-2.ensures
+      (λ q. c.if-block_back-greatest_below.true (c.block_back.ensures.value ∙ q)),
+  (
     subst (λ xs. Law1 xs (Record c.args.redo.now)) e (c.if-not-is_only_record.ensures.0 refl),
     (
       c.if-not-has_begun.ensures.law.0 refl,
@@ -26,8 +26,8 @@ returns-then-block_back-greatest_below c roster place e = record {
         tt,
       ),
     ),
-  );
-}
+  ),
+)
 
 pub returns : goal.returns
 returns c roster place e = record {

@@ -1,8 +1,10 @@
 use Rattle.std.proofs.Common.{◌<◌, length, arith, refl, sym, subst}
 use Rattle.std.proofs.lemmas.Option.{slice_get_read, slice_get_within}
 use Rattle.redo_core.specs.Sound.{KeepsLaws}
-use Rattle.plain_model.specs.FoundFault.{FindsFault, BreaksFirst}
-use Rattle.plain_model.proofs.Laws.{keeps_each, none_found, keeps_one_more, fault_at}
+use Rattle.plain_model.specs.FoundFault.{FindsFault}
+use Rattle.plain_model.proofs.Laws.{none_found, keeps_one_more, fault_at}
+use Rattle.redo_laws.proofs.FirstFaults.{keeps_each}
+use Rattle.redo_core.specs.Fault.{BreaksFirst}
 use Rattle.plain_model.proofs.faults.first_fault.Goals as goal
 
 pub loop-place-init : goal.loop-place-init
@@ -12,7 +14,7 @@ pub returns-in-Some-clause-sound : goal.returns-in-Some-clause-sound
 returns-in-Some-clause-sound c =
     let log = c.args.log.now in let place = c.loop-place.place in let fact = c.index-log-place.result in (
       λ h. absurd (cc),
-      λ sound. absurd (c.in-Some.ensures.breaks
+      λ sound. absurd (c.in-Some.ensures.0
           (keeps_each c.readers-readers.result log place fact c.in-Some.law
           (subst (λ r. KeepsLaws r log place fact) (sym c.readers-readers.ensures.value)
           (sound.keeps place fact (slice_get_read log (length log) place fact refl c.loop-place-test.true c.index-log-place.is))))),

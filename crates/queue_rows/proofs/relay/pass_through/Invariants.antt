@@ -1,11 +1,11 @@
 use Rattle.std.proofs.Common.{◌≡◌, ◌+◌, ◌<◌, ◌^◌, ◌++◌, reverse, length}
 use Rattle.std.specs.Prelude.{vec_len}
-use Rattle.intake_queue.specs.Parcel.{facts_of}
+use Rattle.intake_queue.specs.Parcel.{parcel_facts}
 use Rattle.queue_rows.proofs.relay.pass_through.Given as goal
 
 abbrev pub invariant-loop-fact : goal.invariant-loop-fact
 invariant-loop-fact g l = record {
-  done : facts_of l.relay.sender.accepted ++ reverse l.facts.items ≡ l.fn.facts.items;
+  done : parcel_facts l.relay.sender.accepted ++ reverse l.facts.items ≡ l.fn.facts.items;
   room : length l.relay.sender.accepted + length l.facts.items < 2 ^ 64;
 }
 

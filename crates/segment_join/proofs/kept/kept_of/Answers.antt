@@ -5,7 +5,7 @@ use Rattle.redo_core.specs.Data.{RecordData}
 use Rattle.redo_core.specs.Order.{Lists, RecordBefore}
 use Rattle.redo_core.proofs.Members.{item}
 use Rattle.hot_log.specs.Held.{IsRecordAt}
-use Rattle.redo_laws.proofs.Numbers.{greatest_unique}
+use Rattle.redo_core.proofs.Numbers.{greatest_unique}
 use Rattle.segment_state.specs.State.{min_of}
 use Rattle.segment_state.specs.HasMeaning.{IsLinkedIn, IsKeptBy}
 use Rattle.segment_join.proofs.Keeping.{at_key, not_at_key, item_at, key_at, same_length}

@@ -8,8 +8,9 @@ use Rattle.redo_core.specs.CompleteEpoch.{HasCutsTo, IsCompleteEpoch}
 use Rattle.epoch_book.specs.Book.{book_of, IsBook}
 use Rattle.epoch_book.specs.Learning.{LearnsCut}
 use Rattle.epoch_book.specs.Lows.{AreLows}
-use Rattle.epoch_book.proofs.Books.{cuts_rise, cuts_shaped, epochs_fit, still_known, known_to, cut_book_by, cut_learns_by}
+use Rattle.epoch_book.proofs.Books.{cuts_rise, cuts_shaped, epochs_fit, still_known, cut_book_by, cut_learns_by}
 use Rattle.epoch_book.proofs.Least.{lows_kept, remove_insert}
+use Rattle.redo_core.proofs.CompleteEpochs.{has_cuts}
 use Rattle.epoch_book.proofs.book.EpochBook.add_cut.Goals as goal
 
 pub complete_epoch_from-complete-requires-clause-rising : goal.complete_epoch_from-complete-requires-clause-rising
@@ -48,7 +49,7 @@ raise-requires-clause-shaped c =
 pub raise-requires-clause-known : goal.raise-requires-clause-known
 raise-requires-clause-known c =
     subst (λ cs. HasCutsTo cs c.complete_epoch_from-complete.result) (c.deref.ensures.value ∙ sym c.deref-2.ensures.value)
-    (known_to c.deref.result.now c.complete_epoch_from-complete.result c.complete_epoch_from-complete.ensures)
+    (has_cuts c.deref.result.now c.complete_epoch_from-complete.result c.complete_epoch_from-complete.ensures)
 
 pub raise-requires-clause-before : goal.raise-requires-clause-before
 raise-requires-clause-before c =

@@ -3,15 +3,15 @@ use Rattle.std.specs.List.{Contains}
 use Rattle.redo_core.specs.Data.{CutData}
 use Rattle.redo_core.specs.CompleteEpoch.{HasCutsTo}
 use Rattle.redo_core.specs.Standing.{IsAlive}
-use Rattle.epoch_book.proofs.Books.{known_to}
 use Rattle.epoch_book.proofs.Least.{spared_by, spared_low}
+use Rattle.redo_core.proofs.CompleteEpochs.{has_cuts}
 use Rattle.epoch_book.proofs.book.EpochBook.is_alive.Goals as goal
 
 pub is_begun-requires-clause-known : goal.is_begun-requires-clause-known
 is_begun-requires-clause-known c =
     let k = c.self.inside.complete in
     let up : c.args.epoch ≤ k = subst (λ b. c.args.epoch ≤ b.complete) (sym c.self.view_is) c.requires in
-    let has = known_to c.self.inside.cuts.items k c.self.invariant.0.complete in
+    let has = has_cuts c.self.inside.cuts.items k c.self.invariant.0.complete in
     subst (λ cs. HasCutsTo cs c.args.epoch) (sym c.deref.ensures.value) (λ e one le. has e one (omega (arith, le, up)))
 
 pub returns-then-is_begun : goal.returns-then-is_begun

@@ -1,7 +1,7 @@
 use Rattle.std.proofs.Common.{subst, sym}
 use Rattle.redo_core.specs.Roster.{IsRoster}
 use Rattle.log_law.specs.Counted.{IsTable}
-use Rattle.log_law.specs.Lows.{AreLows}
+use Rattle.log_law.specs.Lows.{AreLeastPoints}
 use Rattle.log_law.proofs.counted.CountedCuts.new.Goals as goal
 
 pub returns-clause-cuts : goal.returns-clause-cuts
@@ -15,9 +15,9 @@ returns-clause-cuts c =
 pub returns-clause-least_later_lo : goal.returns-clause-least_later_lo
 returns-clause-least_later_lo c =
     let t : IsTable c.args.facts.now c.in_ok-by_epoch.by_epoch.items = c.in_ok-by_epoch.ensures in
-    let lows : AreLows c.args.roster c.args.facts.now c.in_ok-lows.lows.items = c.in_ok-lows.ensures in
+    let lows : AreLeastPoints c.args.roster c.args.facts.now c.in_ok-lows.lows.items = c.in_ok-lows.ensures in
     let f = c.in_ok-least_later_lo.ensures c.args.roster c.args.facts.now (subst (IsTable c.args.facts.now) (sym c.deref-2.ensures.value) t)
-    (subst (AreLows c.args.roster c.args.facts.now) (sym c.deref-3.ensures.value) lows) in
+    (subst (AreLeastPoints c.args.roster c.args.facts.now) (sym c.deref-3.ensures.value) lows) in
     record {
       some_readers = subst IsRoster c.readers.ensures.value (subst IsRoster (sym c.readers.ensures.value) c.readers.ensures.range);
       readers = c.readers.ensures.value;

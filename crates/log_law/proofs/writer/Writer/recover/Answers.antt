@@ -9,7 +9,7 @@ use Rattle.redo_core.specs.Sound.{IsSound}
 use Rattle.redo_core.specs.declared.facts.Fact.TheVariants.{Cut}
 use Rattle.log_law.specs.Alive.{stack_of, without_above}
 use Rattle.log_law.specs.Writing.{IsWritten, WriterData, writer_of}
-use Rattle.redo_laws.proofs.Numbers.{greatest_unique}
+use Rattle.redo_core.proofs.Numbers.{greatest_unique}
 use Rattle.log_law.proofs.Written.{written_cut, complete_view, minimum_of, pushed}
 use Rattle.log_law.proofs.writer.Writer.recover.Goals as goal
 

@@ -1,7 +1,7 @@
 use Rattle.std.proofs.Common.{◌++◌, subst, sym, ap}
 use Rattle.segment_state.specs.Means.{MeansAt}
 use Rattle.gossip_core.specs.Absorbing.{MeansBoth}
-use Rattle.node_cell.specs.Kept.{IsKept}
+use Rattle.node_cell.specs.Kept.{MeansTrail}
 use Rattle.node_cell.specs.Gossiping.{RefusesMail}
 use Rattle.node_cell.proofs.Keeping.{log_front}
 use Rattle.node_cell.proofs.Gossiped.{both_meant, keeps_both, front_with_mail, refuses_mail}
@@ -15,7 +15,7 @@ new-requires g c =
     let trail = c.self.inside.trail.items in
     let old = c.segment_mut-segment.result.now in
     let new = c.absorb-absorbed.new.segment in
-    let k : IsKept roster log old trail = subst (λ s. IsKept roster log s trail) (sym c.segment_mut-segment.ensures.lent) c.self.invariant in
+    let k : MeansTrail roster log old trail = subst (λ s. MeansTrail roster log s trail) (sym c.segment_mut-segment.ensures.lent) c.self.invariant in
     let own = c.summary.ensures.own in
     let m = both_meant roster log old new trail c.args.mail c.summary.result.now c.delta.result.now sound k own c.summary.ensures.value
     c.delta.ensures.value c.in_default.ensures.means in
@@ -31,7 +31,7 @@ invariant_of-self-2 g c =
     let trail = c.self.inside.trail.items in
     let old = c.segment_mut-segment.result.now in
     let new = c.absorb-absorbed.new.segment in
-    let k : IsKept roster log old trail = subst (λ s. IsKept roster log s trail) (sym c.segment_mut-segment.ensures.lent) c.self.invariant in
+    let k : MeansTrail roster log old trail = subst (λ s. MeansTrail roster log s trail) (sym c.segment_mut-segment.ensures.lent) c.self.invariant in
     let own = c.summary.ensures.own in
     let m = both_meant roster log old new trail c.args.mail c.summary.result.now c.delta.result.now sound k own c.summary.ensures.value
     c.delta.ensures.value c.in_default.ensures.means in
@@ -56,7 +56,7 @@ returns-clause-front g c =
     let trail = c.self.inside.trail.items in
     let old = c.segment_mut-segment.result.now in
     let new = c.absorb-absorbed.new.segment in
-    let k : IsKept roster log old trail = subst (λ s. IsKept roster log s trail) (sym c.segment_mut-segment.ensures.lent) c.self.invariant in
+    let k : MeansTrail roster log old trail = subst (λ s. MeansTrail roster log s trail) (sym c.segment_mut-segment.ensures.lent) c.self.invariant in
     let own = c.summary.ensures.own in
     let m = both_meant roster log old new trail c.args.mail c.summary.result.now c.delta.result.now sound k own c.summary.ensures.value
     c.delta.ensures.value c.in_default.ensures.means in
@@ -70,7 +70,7 @@ returns-in-Err-clause-refused g c =
     let log = g.L.LogName.log in
     let trail = c.self.inside.trail.items in
     let old = c.segment_mut-segment.result.now in
-    let k : IsKept roster log old trail = subst (λ s. IsKept roster log s trail) (sym c.segment_mut-segment.ensures.lent) c.self.invariant in
+    let k : MeansTrail roster log old trail = subst (λ s. MeansTrail roster log s trail) (sym c.segment_mut-segment.ensures.lent) c.self.invariant in
     subst (λ f. RefusesMail roster log c.args.mail f) (sym c.absorb_fault.ensures)
     (refuses_mail roster log old trail c.args.mail c.summary.result.now c.delta.result.now c.in-Err.why g.met.L.LogName.sound k
     c.summary.ensures.value c.in-Err.ensures.refused)

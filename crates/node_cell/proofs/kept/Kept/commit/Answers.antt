@@ -1,5 +1,5 @@
 use Rattle.std.proofs.Common.{sym, ap, subst, IfErr}
-use Rattle.node_cell.specs.Kept.{IsKept}
+use Rattle.node_cell.specs.Kept.{MeansTrail}
 use Rattle.node_cell.specs.Folding.{RefusesFold}
 use Rattle.node_cell.proofs.Keeping.{final, keeps_still, refuses_fold}
 use Rattle.node_cell.proofs.kept.Kept.commit.Goals.{in-Ok, in-Err}
@@ -12,7 +12,7 @@ invariant_of-self g c =
     let k = c.self.invariant in elim c.match-commit_fold.branch [
       | in-Ok w ↦ keeps_still roster log _ _ _ k
           (w.in-Ok.ensures.keeps roster log k.facts g.met.L.LogName.sound (final roster log c.into_segment_fold.result c.into_segment_fold.ensures.own) k.means)
-      | in-Err w ↦ subst (λ s. IsKept roster log s c.self.inside.trail.items) (sym (ap (λ k. k.segment) w.in-Err.ensures.unchanged)) k
+      | in-Err w ↦ subst (λ s. MeansTrail roster log s c.self.inside.trail.items) (sym (ap (λ k. k.segment) w.in-Err.ensures.unchanged)) k
     ]
 
 pub returns-clause-keeps : goal.returns-clause-keeps

@@ -1,6 +1,6 @@
 use Rattle.std.proofs.Common.{subst, sym, ap, ◌≡◌, []}
 use Rattle.segment_state.specs.Means.{Means}
-use Rattle.node_cell.specs.Kept.{IsKept}
+use Rattle.node_cell.specs.Kept.{MeansTrail}
 use Rattle.node_cell.proofs.Keeping.{none_kept}
 use Rattle.node_cell.proofs.kept.Kept.new.Goals as goal
 
@@ -18,7 +18,7 @@ invariant_of-result g c =
     let log = g.L.LogName.log in
     let s = c.in-Ok.segment.segment in
     let items : c.new-in-Ok.result.items ≡ [] = c.new-in-Ok.ensures.items in
-    subst (IsKept roster log s) (sym items) (none_kept roster log s (returns-in-Ok-clause-empty g c))
+    subst (MeansTrail roster log s) (sym items) (none_kept roster log s (returns-in-Ok-clause-empty g c))
 
 pub returns-in-Ok-clause-keeps : goal.returns-in-Ok-clause-keeps
 returns-in-Ok-clause-keeps g c = invariant_of-result g c

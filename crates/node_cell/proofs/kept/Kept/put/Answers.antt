@@ -1,7 +1,7 @@
 use Rattle.std.proofs.Common.{rules, arith, ◌≡◌, ◌∙◌, ◌<◌, ◌++◌, ◌∷◌, [], length, refl, subst, sym, ap}
 use Rattle.std.specs.Prelude.{vec_len}
 use Rattle.segment_state.specs.Means.{MeansAt}
-use Rattle.node_cell.specs.Kept.{IsKept}
+use Rattle.node_cell.specs.Kept.{MeansTrail}
 use Rattle.node_cell.specs.Delivering.{IsFrontWith}
 use Rattle.node_cell.proofs.Places.{in_log}
 use Rattle.node_cell.proofs.Keeping.{keeps, front_with, log_front}
@@ -29,7 +29,7 @@ invariant_of-self-in-Ok g c =
     let m = c.in-Ok.ensures.takes.means roster log k.facts sound (in_log log c.args.fact.place f at) k.means in
     let items : c.push_reserved.new.self.items ≡ c.self.inside.trail.items ++ (c.args.number, c.args.fact.place) ∷ [] =
     c.push_reserved.ensures.items ∙ rw (c.reserve.ensures.items, c.place-place.ensures.value) refl in
-    subst (IsKept roster log c.take.new.self.segment) (sym items)
+    subst (MeansTrail roster log c.take.new.self.segment) (sym items)
     (keeps roster log c.self.inside.segment.segment c.take.new.self.segment c.self.inside.trail.items c.args.number c.args.fact.place f k at m)
 
 pub returns-in-Ok-clause-keeps : goal.returns-in-Ok-clause-keeps

@@ -3,7 +3,7 @@ use Rattle.hot_log.specs.Putting.{Puts, RefusesPut}
 use Rattle.hot_log.specs.declared.log.Put.TheVariants.{New}
 use Rattle.segment_state.specs.State.{State, state_of}
 use Rattle.segment_core.specs.Savepoint.{RollsBackAs}
-use Rattle.segment_core.specs.Uniting.{Holds}
+use Rattle.segment_core.specs.Uniting.{HoldsRecord}
 use Rattle.segment_core.proofs.Holding.{put_holds, refused_holds}
 use Rattle.segment_core.proofs.Savepoints.{more_rolls_back, notes_key_of}
 use Rattle.segment_core.proofs.DuePages.{put_due}
@@ -12,7 +12,7 @@ use Rattle.segment_core.proofs.segment.Segment.hold_noted.Goals as goal
 pub returns-in-Ok-New-clause-holds : goal.returns-in-Ok-New-clause-holds
 returns-in-Ok-New-clause-holds c =
     let i = c.self.inside in
-    subst (λ (s : State). Holds s c.args.redo (state_of i.book c.put.new.hot i.base i.store)) c.self.view_is
+    subst (λ (s : State). HoldsRecord s c.args.redo (state_of i.book c.put.new.hot i.base i.store)) c.self.view_is
     (put_holds i.book i.hot c.put.new.hot i.base i.store c.args.redo c.in-Ok-New.field-0 c.in-Ok-New.ensures.put)
 
 pub returns-in-Ok-New-clause-rolls_back : goal.returns-in-Ok-New-clause-rolls_back
@@ -28,7 +28,7 @@ returns-in-Ok-New-clause-rolls_back c =
 pub returns-in-OtherRecord-clause-holds : goal.returns-in-OtherRecord-clause-holds
 returns-in-OtherRecord-clause-holds c =
     let i = c.self.inside in
-    subst (λ (s : State). Holds s c.args.redo (state_of i.book c.put.new.hot i.base i.store)) c.self.view_is
+    subst (λ (s : State). HoldsRecord s c.args.redo (state_of i.book c.put.new.hot i.base i.store)) c.self.view_is
     (refused_holds i.book i.hot c.put.new.hot i.base i.store c.args.redo
     (subst (RefusesPut i.hot c.args.redo) c.in-OtherRecord.is c.in-Err-put.ensures.refused.1) c.in-Err-put.ensures.unchanged)
 
