@@ -4,7 +4,8 @@ use Rattle.std.specs.List.{Contains, filter}
 use Rattle.std.proofs.lemmas.List.Elements.{Contains-append_left, Contains-append_right, Contains-append_cases}
 use Rattle.std.specs.declared.cmp.Ordering.TheVariants.{Less}
 use Rattle.std.specs.declared.ops.Bound.TheVariants.{Excluded, Unbounded}
-use Rattle.std.specs.BTreeMap.{IsOrdered}
+use Rattle.std.specs.List.Sorted.{IsStrictlySortedBy}
+use Rattle.std.specs.Map.{keys_of}
 use Rattle.std.specs.BTreeMap.Range.{range_contains}
 use Rattle.redo_core.specs.Data.{RecordData}
 use Rattle.redo_core.specs.Order.{IsRising, Lists, RecordBefore}
@@ -38,13 +39,13 @@ kept_none b point keys is = subst (ListsKept b point []) (sym is) (record {
 })
 
 -- the entries in front of one in a range have lower keys
-in_front : (m : Map) (above : ℕ × ℕ) (es xs rest : List Entry) (x : Entry) → IsOrdered key_cmp m
-    → es ≡ filter (λ (e : Entry). range_contains key_cmp (Excluded above) Unbounded e.0) m.entries → es ≡ xs ++ x ∷ rest
+in_front : (m : Map) (above : ℕ × ℕ) (es xs rest : List Entry) (x : Entry) → IsStrictlySortedBy key_cmp (keys_of m)
+    → es ≡ filter (λ (e : Entry). range_contains key_cmp (Excluded above) Unbounded e.0) m → es ≡ xs ++ x ∷ rest
     → (k : ℕ × ℕ) (page : ℕ) → Contains xs (k, page) → KeyPairBefore k x.0
 in_front m above es xs rest x ordered is split k page h =
     let Before : Entry → Entry → Type 0 = λ x y. key_cmp x.0 y.0 ≡ Less in
     let test = λ (e : Entry). range_contains key_cmp (Excluded above) Unbounded e.0 in
-    let rising : IsRising Before (xs ++ x ∷ rest) = subst (IsRising Before) (sym is ∙ split) (rising_filter Before test m.entries (rising_entries key_cmp m.entries ordered)) in
+    let rising : IsRising Before (xs ++ x ∷ rest) = subst (IsRising Before) (sym is ∙ split) (rising_filter Before test m (rising_entries key_cmp m ordered)) in
     key_less k x.0 (before_join Before xs rest x (k, page) rising h)
 
 joined : (xs : List Entry) (x y : Entry) → Contains (xs ++ x ∷ []) y ↔ (Contains xs y ⊎ (y ≡ x))
@@ -59,8 +60,8 @@ joined xs x y = (
       h,
 )
 
-pub kept_more : (b : BookData) (point : ℕ) (m : Map) (above : ℕ × ℕ) (es xs rest : List Entry) (x : Entry) (keys : List (ℕ × ℕ)) → IsOrdered key_cmp m
-    → es ≡ filter (λ (e : Entry). range_contains key_cmp (Excluded above) Unbounded e.0) m.entries → es ≡ xs ++ x ∷ rest
+pub kept_more : (b : BookData) (point : ℕ) (m : Map) (above : ℕ × ℕ) (es xs rest : List Entry) (x : Entry) (keys : List (ℕ × ℕ)) → IsStrictlySortedBy key_cmp (keys_of m)
+    → es ≡ filter (λ (e : Entry). range_contains key_cmp (Excluded above) Unbounded e.0) m → es ≡ xs ++ x ∷ rest
     → ListsKept b point xs keys → KeepsKey b point x.0 → ListsKept b point (xs ++ x ∷ []) (keys ++ x.0 ∷ [])
 kept_more b point m above es xs rest x keys ordered is split lists keeps =
     lists_push KeyPairBefore (KeptIn b point xs) (KeptIn b point (xs ++ x ∷ [])) keys x.0 lists
@@ -91,20 +92,20 @@ kept_left b point xs x keys lists not =
 
 -- at the end of the range they are all
 pub kept_all : (b : BookData) (point : ℕ) (m : Map) (above : ℕ × ℕ) (es : List Entry) (keys : List (ℕ × ℕ))
-    → es ≡ filter (λ (e : Entry). range_contains key_cmp (Excluded above) Unbounded e.0) m.entries → ListsKept b point es keys
-    → Lists KeyPairBefore (IsKeyKept b m.entries above point) keys
+    → es ≡ filter (λ (e : Entry). range_contains key_cmp (Excluded above) Unbounded e.0) m → ListsKept b point es keys
+    → Lists KeyPairBefore (IsKeyKept b m above point) keys
 kept_all b point m above es keys is lists =
     let test = λ (e : Entry). range_contains key_cmp (Excluded above) Unbounded e.0 in
-    lists_as KeyPairBefore (KeptIn b point es) (IsKeyKept b m.entries above point) keys
+    lists_as KeyPairBefore (KeptIn b point es) (IsKeyKept b m above point) keys
     (λ k. (
       λ h.
-          let t = filtered test m.entries (k, h.0.0) (subst (λ (l : List Entry). Contains l (k, h.0.0)) is h.0.1) in
+          let t = filtered test m (k, h.0.0) (subst (λ (l : List Entry). Contains l (k, h.0.0)) is h.0.1) in
           ((h.0.0, t.0), key_less above k (lt_true (key_cmp above k) t.1), h.1),
       λ h. (
         (
           h.0.0,
           subst (λ (l : List Entry). Contains l (k, h.0.0)) (sym is)
-              (passed test m.entries (k, h.0.0) (lt_of (key_cmp above k) (key_less_of above k h.1)) h.0.1),
+              (passed test m (k, h.0.0) (lt_of (key_cmp above k) (key_less_of above k h.1)) h.0.1),
         ),
         h.2,
       ),

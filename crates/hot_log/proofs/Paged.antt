@@ -1,10 +1,10 @@
 -- Records by page and key, and the same in the order of their keys.
 use Rattle.std.proofs.Common.{◌≡◌, ℕ, ◌+◌, ◌<◌, ◌⊎◌, ◌↔◌, inl, inr, ⊎_elim, List, [], ◌∷◌, length, refl, sym, ◌∙◌, ap, subst, arith, Bool, true, false, cond, Option, Some, None}
 use Rattle.std.specs.List.{Contains}
-use Rattle.std.specs.Ordering.{is_eq}
 use Rattle.std.specs.declared.cmp.Ordering.TheVariants.{Less, Equal}
-use Rattle.std.specs.BTreeMap.{BTreeMap, IsOrdered, get}
-use Rattle.std.specs.Map.{keys_of}
+use Rattle.std.specs.BTreeMap.{is_at, insert_entry}
+use Rattle.std.specs.Map.{keys_of, lookup, remove_entry}
+use Rattle.std.specs.List.Sorted.{IsStrictlySortedBy}
 use Rattle.redo_core.specs.Data.{RecordData}
 use Rattle.redo_core.specs.Shape.{record_fault}
 use Rattle.redo_core.specs.Order.{IsRising, RecordBefore}
@@ -14,7 +14,7 @@ use Rattle.hot_log.specs.Held.{IsHeld, HasKey, IsRecordAt}
 use Rattle.hot_log.specs.Indexing.{IsRecordOf, IsIndexBy}
 use Rattle.hot_log.specs.Removing.{Removes}
 use Rattle.hot_log.specs.Paged.{place_cmp, place_of, records_in, is_below, insert_by_key, by_key, IsPaged}
-use Rattle.hot_log.proofs.Maps.{key_in, value_of, rising_entries, held_at, grown, shrunk}
+use Rattle.hot_log.proofs.Maps.{key_in, value_of, rising_entries, held_at, at_key, joins, shrunk}
 use Rattle.hot_log.proofs.Orders.{places_exact}
 use Rattle.hot_log.proofs.Places.{Place}
 
@@ -22,11 +22,11 @@ abbrev pub Entry : Type 0
 Entry = Place × RecordData
 
 abbrev pub Map : Type 0
-Map = BTreeMap Place RecordData
+Map = List Entry
 
 -- the records of a map, seen in the order of their keys
 abbrev pub seen : Map → List RecordData
-seen m = by_key (records_in m.entries)
+seen m = by_key (records_in m)
 
 -- the order by key has the same members, and as many
 branch : (r s x : RecordData) (ss : List RecordData) (b : Bool) → (Contains (insert_by_key r ss) x ↔ ((r ≡ x) ⊎ Contains ss x)) → Contains (cond b (r ∷ s ∷ ss) (s ∷ insert_by_key r ss)) x ↔ ((r ≡ x) ⊎ Contains (s ∷ ss) x)
@@ -78,8 +78,8 @@ count_in : (es : List Entry) → length (records_in es) ≡ length es
 count_in [] = refl
 count_in (e ∷ es) = let rest : length (records_in es) ≡ length es = count_in es in omega arith
 
-pub seen_long : (m : Map) → length (seen m) ≡ length m.entries
-seen_long m = as_long (records_in m.entries) ∙ count_in m.entries
+pub seen_long : (m : Map) → length (seen m) ≡ length m
+seen_long m = as_long (records_in m) ∙ count_in m
 
 below_of : (r s : RecordData) → is_below r s ≡ true → RecordBefore r s
 below_of r s h = grind arith
@@ -169,24 +169,24 @@ rising_seen (f ∷ es) is = rising_insert f.1 (by_key (records_in es)) (rising_s
 
 pub held_of : (m : Map) → IsPaged m → IsHeld (seen m)
 held_of m is = record {
-  rising = rising_seen m.entries (record { rising = rising_entries place_cmp m.entries is.ordered; placed = is.placed; apart = is.apart });
-  shaped = λ r h. is.shaped r ((in_order (records_in m.entries) r).0 h);
+  rising = rising_seen m (record { rising = rising_entries place_cmp m is.ordered; placed = is.placed; apart = is.apart });
+  shaped = λ r h. is.shaped r ((in_order (records_in m) r).0 h);
 }
 
 -- each record stands under its page and key
-pub own_entry : (m : Map) → IsPaged m → (r : RecordData) → Contains (seen m) r → Contains m.entries (place_of r, r)
+pub own_entry : (m : Map) → IsPaged m → (r : RecordData) → Contains (seen m) r → Contains m (place_of r, r)
 own_entry m is r h =
-    let t = entry_of m.entries r ((in_order (records_in m.entries) r).0 h) in
-    subst (λ (k : Place). Contains m.entries (k, r)) (is.placed (t.0, r) t.1) t.1
+    let t = entry_of m r ((in_order (records_in m) r).0 h) in
+    subst (λ (k : Place). Contains m (k, r)) (is.placed (t.0, r) t.1) t.1
 
-pub seen_in : (m : Map) (e : Entry) → Contains m.entries e → Contains (seen m) e.1
-seen_in m e h = (in_order (records_in m.entries) e.1).1 (record_in m.entries e h)
+pub seen_in : (m : Map) (e : Entry) → Contains m e → Contains (seen m) e.1
+seen_in m e h = (in_order (records_in m) e.1).1 (record_in m e h)
 
-pub page_index : (m : Map) → IsPaged m → IsIndexBy (λ r. r.page) (seen m) (keys_of m.entries)
+pub page_index : (m : Map) → IsPaged m → IsIndexBy (λ r. r.page) (seen m) (keys_of m)
 page_index m is = record {
-  listed = λ r h. key_in m.entries (place_of r, r) (own_entry m is r h);
+  listed = λ r h. key_in m (place_of r, r) (own_entry m is r h);
   backed = λ g e n h.
-      let t = value_of m.entries (g, (e, n)) h in
+      let t = value_of m (g, (e, n)) h in
       let k : (g, (e, n)) ≡ place_of t.0 = is.placed ((g, (e, n)), t.0) t.1 in (
         t.0,
         seen_in m ((g, (e, n)), t.0) t.1,
@@ -195,39 +195,44 @@ page_index m is = record {
       );
 }
 
-pub got : (m : Map) → IsPaged m → (page : ℕ) (key : ℕ × ℕ) (o : Option RecordData) → o ≡ get place_cmp m (page, key) → IsRecordOf (seen m) page key o
+pub got : (m : Map) → IsPaged m → (page : ℕ) (key : ℕ × ℕ) (o : Option RecordData) → o ≡ lookup (is_at (place_cmp (page, key))) m → IsRecordOf (seen m) page key o
 got m is page key None e = λ r h p k.
     let at : place_of r ≡ (page, key) = place_as r.page r.epoch r.number page key.0 key.1 p k.0 k.1 in
-    let found : get place_cmp m (page, key) ≡ Some r = (held_at place_cmp places_exact m is.ordered (page, key) r).1 (subst (λ (x : Place). Contains m.entries (x, r)) at (own_entry m is r h)) in
+    let found : lookup (is_at (place_cmp (page, key))) m ≡ Some r = (held_at place_cmp places_exact m is.ordered (page, key) r).1 (subst (λ (x : Place). Contains m (x, r)) at (own_entry m is r h)) in
     cc
 got m is page key (Some r) e =
-    let at : Contains m.entries ((page, key), r) = (held_at place_cmp places_exact m is.ordered (page, key) r).0 (sym e) in
+    let at : Contains m ((page, key), r) = (held_at place_cmp places_exact m is.ordered (page, key) r).0 (sym e) in
     let k : (page, key) ≡ place_of r = is.placed ((page, key), r) at in
     (seen_in m ((page, key), r) at, sym (ap (λ (p : Place). p.0) k), (sym (ap (λ (p : Place). p.1.0) k), sym (ap (λ (p : Place). p.1.1) k)))
 
 -- what a map that gains a record under its free key holds
 pub record Grows (old new : Map) (redo : RecordData) : Type 0 where
   pub was : IsPaged old
-  pub ordered : IsOrdered place_cmp new
+  pub ordered : IsStrictlySortedBy place_cmp (keys_of new)
   pub free : IsRecordAt (seen old) redo.epoch redo.number None
   pub shaped : record_fault redo ≡ None
   pub fits : redo.page < 65536
-  pub at : (q : Place) → get place_cmp new q ≡ cond (is_eq (place_cmp (place_of redo) q)) (Some redo) (get place_cmp old q)
+  pub at : new ≡ insert_entry place_cmp old (place_of redo) redo
+
+-- no entry stands at its place
+gains : (old new : Map) (redo : RecordData) → Grows old new redo → (e : Entry) → Contains new e ↔ (Contains old e ⊎ (e ≡ (place_of redo, redo)))
+gains old new redo g e =
+    subst (λ (l : List Entry). Contains l e ↔ (Contains old e ⊎ (e ≡ (place_of redo, redo)))) (sym g.at)
+    (joins place_cmp old (place_of redo) redo (λ (y : Entry) h q.
+    let at : place_of y.1 ≡ place_of redo = sym (g.was.placed y h) ∙ (at_key place_cmp places_exact (place_of redo) y.0).0 q in
+    g.free y.1 (seen_in old y h) (ap (λ (x : Place). x.1.0) at, ap (λ (x : Place). x.1.1) at)) e)
 
 pub grown_members : (old new : Map) (redo : RecordData) → Grows old new redo → (r : RecordData) → Contains (seen new) r ↔ (Contains (seen old) r ⊎ (r ≡ redo))
 grown_members old new redo g r = (
   λ h.
-      let t = entry_of new.entries r ((in_order (records_in new.entries) r).0 h) in
+      let t = entry_of new r ((in_order (records_in new) r).0 h) in
       ⊎_elim
-      (λ (u : (t.0 ≡ place_of redo) × (r ≡ redo)). inr u.1)
-      (λ (u : (t.0 ≡ place_of redo → ⊥) × Contains old.entries (t.0, r)). inl (seen_in old (t.0, r) u.1))
-      ((grown place_cmp places_exact old new (place_of redo) redo g.was.ordered g.ordered g.at t.0 r).0 t.1),
+      (λ (u : Contains old (t.0, r)). inl (seen_in old (t.0, r) u))
+      (λ (u : (t.0, r) ≡ (place_of redo, redo)). inr (ap (λ (x : Entry). x.1) u))
+      ((gains old new redo g (t.0, r)).0 t.1),
   λ h. ⊎_elim
-      (λ (u : Contains (seen old) r).
-      let other : place_of r ≡ place_of redo → ⊥ = λ e. g.free r u (ap (λ (x : Place). x.1.0) e, ap (λ (x : Place). x.1.1) e) in
-      seen_in new (place_of r, r) ((grown place_cmp places_exact old new (place_of redo) redo g.was.ordered g.ordered g.at (place_of r) r).1 (inr (other, own_entry old g.was r u))))
-      (λ (u : r ≡ redo).
-      subst (Contains (seen new)) (sym u) (seen_in new (place_of redo, redo) ((grown place_cmp places_exact old new (place_of redo) redo g.was.ordered g.ordered g.at (place_of redo) redo).1 (inl (refl, refl)))))
+      (λ (u : Contains (seen old) r). seen_in new (place_of r, r) ((gains old new redo g (place_of r, r)).1 (inl (own_entry old g.was r u))))
+      (λ (u : r ≡ redo). subst (Contains (seen new)) (sym u) (seen_in new (place_of redo, redo) ((gains old new redo g (place_of redo, redo)).1 (inr refl))))
       h,
 )
 
@@ -235,7 +240,7 @@ grown_apart : (old new : Map) (redo : RecordData) → Grows old new redo → (r 
 grown_apart old new redo g r s h k e n =
     ⊎_elim
     (λ (u : Contains (seen old) r). ⊎_elim
-    (λ (v : Contains (seen old) s). g.was.apart r s ((in_order (records_in old.entries) r).0 u) ((in_order (records_in old.entries) s).0 v) e n)
+    (λ (v : Contains (seen old) s). g.was.apart r s ((in_order (records_in old) r).0 u) ((in_order (records_in old) s).0 v) e n)
     (λ (v : s ≡ redo). absurd (g.free r u (e ∙ ap (λ (x : RecordData). x.epoch) v, n ∙ ap (λ (x : RecordData). x.number) v)))
     k)
     (λ (u : r ≡ redo). ⊎_elim
@@ -248,38 +253,43 @@ pub grown_paged : (old new : Map) (redo : RecordData) → Grows old new redo →
 grown_paged old new redo g = record {
   ordered = g.ordered;
   placed = λ e h. ⊎_elim
-      (λ (u : (e.0 ≡ place_of redo) × (e.1 ≡ redo)). subst (λ (x : RecordData). e.0 ≡ place_of x) (sym u.1) u.0)
-      (λ (u : (e.0 ≡ place_of redo → ⊥) × Contains old.entries (e.0, e.1)). g.was.placed e u.1)
-      ((grown place_cmp places_exact old new (place_of redo) redo g.was.ordered g.ordered g.at e.0 e.1).0 h);
+      (λ (u : Contains old e). g.was.placed e u)
+      (λ (u : e ≡ (place_of redo, redo)). subst (λ (x : Entry). x.0 ≡ place_of x.1) (sym u) refl)
+      ((gains old new redo g e).0 h);
   shaped = λ r h. ⊎_elim
-      (λ (u : Contains (seen old) r). g.was.shaped r ((in_order (records_in old.entries) r).0 u))
+      (λ (u : Contains (seen old) r). g.was.shaped r ((in_order (records_in old) r).0 u))
       (λ (u : r ≡ redo). subst (λ (x : RecordData). record_fault x ≡ None) (sym u) g.shaped)
       (was r h);
   fits = λ r h. ⊎_elim
-      (λ (u : Contains (seen old) r). g.was.fits r ((in_order (records_in old.entries) r).0 u))
+      (λ (u : Contains (seen old) r). g.was.fits r ((in_order (records_in old) r).0 u))
       (λ (u : r ≡ redo). subst (λ (x : RecordData). x.page < 65536) (sym u) g.fits)
       (was r h);
   apart = λ r s h k. grown_apart old new redo g r s (was r h) (was s k);
 }
   where
-    was : (r : RecordData) → Contains (records_in new.entries) r → Contains (seen old) r ⊎ (r ≡ redo)
-    was r h = (grown_members old new redo g r).0 ((in_order (records_in new.entries) r).1 h)
+    was : (r : RecordData) → Contains (records_in new) r → Contains (seen old) r ⊎ (r ≡ redo)
+    was r h = (grown_members old new redo g r).0 ((in_order (records_in new) r).1 h)
 
 -- what a map that loses a place holds
 pub record Shrinks (old new : Map) (page : ℕ) (key : ℕ × ℕ) : Type 0 where
   pub was : IsPaged old
-  pub ordered : IsOrdered place_cmp new
-  pub at : (q : Place) → get place_cmp new q ≡ cond (is_eq (place_cmp (page, key) q)) None (get place_cmp old q)
+  pub ordered : IsStrictlySortedBy place_cmp (keys_of new)
+  pub at : new ≡ remove_entry (is_at (place_cmp (page, key))) old
+
+sheds : (old new : Map) (page : ℕ) (key : ℕ × ℕ) → Shrinks old new page key → (e : Entry) → Contains new e ↔ ((e.0 ≡ (page, key) → ⊥) × Contains old e)
+sheds old new page key s e =
+    subst (λ (l : List Entry). Contains l e ↔ ((e.0 ≡ (page, key) → ⊥) × Contains old e)) (sym s.at)
+    (shrunk place_cmp places_exact old (page, key) s.was.ordered e)
 
 pub shrunk_members : (old new : Map) (page : ℕ) (key : ℕ × ℕ) → Shrinks old new page key → Removes (λ r. (r.page ≡ page) × HasKey key.0 key.1 r) (seen old) (seen new)
 shrunk_members old new page key s r = (
   λ h.
-      let t = entry_of new.entries r ((in_order (records_in new.entries) r).0 h) in
-      let u = (shrunk place_cmp places_exact old new (page, key) s.was.ordered s.ordered s.at t.0 r).0 t.1 in (
+      let t = entry_of new r ((in_order (records_in new) r).0 h) in
+      let u = (sheds old new page key s (t.0, r)).0 t.1 in (
         seen_in old (t.0, r) u.1,
         λ k. u.0 (s.was.placed (t.0, r) u.1 ∙ place_as r.page r.epoch r.number page key.0 key.1 k.0 k.1.0 k.1.1),
       ),
-  λ h. seen_in new (place_of r, r) ((shrunk place_cmp places_exact old new (page, key) s.was.ordered s.ordered s.at (place_of r) r).1 (
+  λ h. seen_in new (place_of r, r) ((sheds old new page key s (place_of r, r)).1 (
     λ e. h.1 (ap (λ (x : Place). x.0) e, (ap (λ (x : Place). x.1.0) e, ap (λ (x : Place). x.1.1) e)),
     own_entry old s.was r h.0,
   )),
@@ -288,16 +298,16 @@ shrunk_members old new page key s r = (
 pub shrunk_paged : (old new : Map) (page : ℕ) (key : ℕ × ℕ) → Shrinks old new page key → IsPaged new
 shrunk_paged old new page key s = record {
   ordered = s.ordered;
-  placed = λ e h. s.was.placed e ((shrunk place_cmp places_exact old new (page, key) s.was.ordered s.ordered s.at e.0 e.1).0 h).1;
+  placed = λ e h. s.was.placed e ((sheds old new page key s e).0 h).1;
   shaped = λ r h. s.was.shaped r (was r h);
   fits = λ r h. s.was.fits r (was r h);
   apart = λ r t h k. s.was.apart r t (was r h) (was t k);
 }
   where
-    was : (r : RecordData) → Contains (records_in new.entries) r → Contains (records_in old.entries) r
-    was r h = (in_order (records_in old.entries) r).0 ((shrunk_members old new page key s r).0 ((in_order (records_in new.entries) r).1 h)).0
+    was : (r : RecordData) → Contains (records_in new) r → Contains (records_in old) r
+    was r h = (in_order (records_in old) r).0 ((shrunk_members old new page key s r).0 ((in_order (records_in new) r).1 h)).0
 
-pub empty_paged : (m : Map) → IsOrdered place_cmp m → m.entries ≡ [] → IsPaged m
+pub empty_paged : (m : Map) → IsStrictlySortedBy place_cmp (keys_of m) → m ≡ [] → IsPaged m
 empty_paged m ordered e = record {
   ordered = ordered;
   placed = λ x h. absurd (none_in x (subst (λ (l : List Entry). Contains l x) e h));
@@ -306,10 +316,10 @@ empty_paged m ordered e = record {
   apart = λ r s h k. absurd (none r h);
 }
   where
-    none : (r : RecordData) → Contains (records_in m.entries) r → ⊥
+    none : (r : RecordData) → Contains (records_in m) r → ⊥
     none r h = none_in r (subst (λ (l : List Entry). Contains (records_in l) r) e h)
 
-pub same_paged : (m n : Map) → IsPaged m → IsOrdered place_cmp n → n.entries ≡ m.entries → IsPaged n
+pub same_paged : (m n : Map) → IsPaged m → IsStrictlySortedBy place_cmp (keys_of n) → n ≡ m → IsPaged n
 same_paged m n is ordered e = record {
   ordered = ordered;
   placed = λ x h. is.placed x (subst (λ (l : List Entry). Contains l x) e h);
@@ -318,5 +328,5 @@ same_paged m n is ordered e = record {
   apart = λ r s h k. is.apart r s (was r h) (was s k);
 }
   where
-    was : (r : RecordData) → Contains (records_in n.entries) r → Contains (records_in m.entries) r
+    was : (r : RecordData) → Contains (records_in n) r → Contains (records_in m) r
     was r h = subst (λ (l : List Entry). Contains (records_in l) r) e h

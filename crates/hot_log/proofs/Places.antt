@@ -1,9 +1,7 @@
 -- What the ends of a range of keys in groups are.
-use Rattle.std.proofs.Common.{◌≡◌, ℕ, ◌<◌, ◌≤◌, ◌⊎◌, ◌↔◌, inl, inr, ⊎_elim, List, [], ◌∷◌, ◌++◌, refl, sym, ap, subst, arith, Bool, true, false, not, ◌&&◌, cond, Some, None}
+use Rattle.std.proofs.Common.{◌≡◌, ℕ, ◌<◌, ◌≤◌, ◌⊎◌, inl, inr, ⊎_elim, List, [], ◌∷◌, ◌++◌, refl, sym, ap, subst, arith, Bool, true, false, not, ◌&&◌, Some, None}
 use Rattle.std.specs.List.{Contains, filter}
-use Rattle.std.specs.Ordering.{is_lt, is_le, is_eq}
-use Rattle.std.specs.BTreeSet.{BTreeSet, contains}
-use Rattle.std.proofs.lemmas.Map.Views.{btree_set_contains_iff}
+use Rattle.std.specs.Ordering.{is_lt, is_le}
 use Rattle.std.specs.declared.cmp.Ordering.{Ordering}
 use Rattle.std.specs.declared.cmp.Ordering.TheVariants.{Less, Equal, Greater}
 use Rattle.std.specs.declared.ops.Bound.TheVariants.{Included, Excluded, Unbounded}
@@ -12,7 +10,7 @@ use Rattle.redo_core.specs.Order.{IsRising, PairBefore}
 use Rattle.hot_log.specs.Indexing.{IsNextKey, IsLastKey}
 use Rattle.hot_log.specs.Paged.{place_cmp}
 use Rattle.hot_log.proofs.Maps.{lt_true, lt_of}
-use Rattle.hot_log.proofs.Orders.{place_total, place_exact, place_less, place_less_of, first_kept, none_kept, last_kept}
+use Rattle.hot_log.proofs.Orders.{place_less, place_less_of, first_kept, none_kept, last_kept}
 
 abbrev pub Place : Type 0
 Place = ℕ × (ℕ × ℕ)
@@ -151,43 +149,3 @@ group_some keys group x t rising is =
           (λ (b : Below x y). ⊎_elim (λ (l : x.0 < y.0). omega arith) (λ (v : (x.0 ≡ y.0) × PairBefore x.1.0 x.1.1 y.1.0 y.1.1). omega arith) (place_less x y b))
           (f.2 y h (le_of (place_cmp (group, (0, 0)) y) (not_above_zero group y.0 y.1.0 y.1.1 le)));
     }
-
-place_same : (p : Place) → place_cmp p p ≡ Equal
-place_same p = grind arith
-
-set_cases : (o : Ordering) (a b : Bool) → a ≡ cond (is_eq o) true b → (a ≡ true) ↔ ((b ≡ true) ⊎ (o ≡ Equal))
-set_cases Less a b e = (λ h. inl (cc), λ h. ⊎_elim (λ (u : b ≡ true). cc) (λ (u : Less ≡ Equal). cc) h)
-set_cases Equal a b e = (λ h. inr refl, λ h. e)
-set_cases Greater a b e = (λ h. inl (cc), λ h. ⊎_elim (λ (u : b ≡ true). cc) (λ (u : Greater ≡ Equal). cc) h)
-
-unset_cases : (o : Ordering) (a b : Bool) → a ≡ cond (is_eq o) false b → (a ≡ true) ↔ ((b ≡ true) × (o ≡ Equal → ⊥))
-unset_cases Less a b e = (λ h. (cc, λ (u : Less ≡ Equal). cc), λ h. let k = h.0 in cc)
-unset_cases Equal a b e = (λ h. cc, λ h. absurd (h.1 refl))
-unset_cases Greater a b e = (λ h. (cc, λ (u : Greater ≡ Equal). cc), λ h. let k = h.0 in cc)
-
-at_place : (p q : Place) → (place_cmp p q ≡ Equal) ↔ (q ≡ p)
-at_place p q = (λ h. sym (place_exact p q h), λ h. subst (λ (x : Place). place_cmp p x ≡ Equal) (sym h) (place_same p))
-
-pub gained : (old new : BTreeSet Place) (p : Place) → ((q : Place) → contains place_cmp new q ≡ cond (is_eq (place_cmp p q)) true (contains place_cmp old q)) → (q : Place) → Contains new.keys q ↔ (Contains old.keys q ⊎ (q ≡ p))
-gained old new p h q =
-    let cases = set_cases (place_cmp p q) (contains place_cmp new q) (contains place_cmp old q) (h q) in
-    let here = btree_set_contains_iff place_total place_exact new q in
-    let before = btree_set_contains_iff place_total place_exact old q in (
-      λ k. ⊎_elim
-          (λ (u : contains place_cmp old q ≡ true). inl (before.0 u))
-          (λ (u : place_cmp p q ≡ Equal). inr ((at_place p q).0 u))
-          (cases.0 (here.1 k)),
-      λ k. here.0 (cases.1 (⊎_elim
-          (λ (u : Contains old.keys q). inl (before.1 u))
-          (λ (u : q ≡ p). inr ((at_place p q).1 u))
-          k)),
-    )
-
-pub lost : (old new : BTreeSet Place) (p : Place) → ((q : Place) → contains place_cmp new q ≡ cond (is_eq (place_cmp p q)) false (contains place_cmp old q)) → (q : Place) → Contains new.keys q ↔ (Contains old.keys q × (q ≡ p → ⊥))
-lost old new p h q =
-    let cases = unset_cases (place_cmp p q) (contains place_cmp new q) (contains place_cmp old q) (h q) in
-    let here = btree_set_contains_iff place_total place_exact new q in
-    let before = btree_set_contains_iff place_total place_exact old q in (
-      λ k. let c = cases.0 (here.1 k) in (before.0 c.0, λ u. c.1 ((at_place p q).1 u)),
-      λ k. here.0 (cases.1 (before.1 k.0, λ u. k.1 ((at_place p q).0 u))),
-    )

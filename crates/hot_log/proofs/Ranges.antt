@@ -19,46 +19,42 @@ use Rattle.hot_log.specs.Alive.{IsAliveBetween}
 use Rattle.hot_log.specs.Found.{IsPageAbove, IsPageAfter}
 use Rattle.hot_log.specs.Indexing.{IsNextRecord, IsLastRecord, IsNextHeld, IsLastHeld}
 use Rattle.hot_log.specs.Paged.{place_cmp, place_of, records_in, IsPaged}
-use Rattle.hot_log.proofs.Maps.{keys_filter, key_in, rising_entries, before_join}
+use Rattle.hot_log.proofs.Maps.{keys_range, key_in, rising_entries, before_join}
 use Rattle.hot_log.proofs.Orders.{place_less, place_less_of, rises}
 use Rattle.hot_log.proofs.Places.{Place, next_none, next_some, next_other, last_none, last_some, last_other, group_none, group_some, IsGroup}
 use Rattle.hot_log.proofs.Indexed.{next_held, last_held}
 use Rattle.hot_log.proofs.Views.{view_of, number_before}
 use Rattle.hot_log.proofs.Paged.{Entry, Map, seen, in_order, record_in, entry_of, own_entry, seen_in, page_index}
 
--- a range of the entries is that range of their keys
-keys_range : (p : Place → Bool) (m : Map) (es : List Entry) → filter (λ (e : Entry). p e.0) m.entries ≡ es → filter p (keys_of m.entries) ≡ keys_of es
-keys_range p m es is = sym (keys_filter p m.entries) ∙ ap (λ (l : List Entry). keys_of l) is
+entry_in : (p : Place → Bool) (m : Map) (es : List Entry) (x : Entry) → filter (λ (e : Entry). p e.0) m ≡ es → Contains es x → Contains m x
+entry_in p m es x is h = (filtered (λ (e : Entry). p e.0) m x (subst (λ (l : List Entry). Contains l x) (sym is) h)).0
 
-entry_in : (p : Place → Bool) (m : Map) (es : List Entry) (x : Entry) → filter (λ (e : Entry). p e.0) m.entries ≡ es → Contains es x → Contains m.entries x
-entry_in p m es x is h = (filtered (λ (e : Entry). p e.0) m.entries x (subst (λ (l : List Entry). Contains l x) (sym is) h)).0
-
-own_key : (m : Map) (x : Entry) → IsPaged m → Contains m.entries x → x.0.1 ≡ (x.1.epoch, x.1.number)
+own_key : (m : Map) (x : Entry) → IsPaged m → Contains m x → x.0.1 ≡ (x.1.epoch, x.1.number)
 own_key m x is h = ap (λ (p : Place). p.1) (is.placed x h)
 
-pub no_next : (m : Map) (page : ℕ) (after : ℕ × ℕ) → IsPaged m → filter (λ (e : Entry). range_contains place_cmp (Excluded (page, after)) Unbounded e.0) m.entries ≡ [] → IsNextRecord (seen m) page after None
+pub no_next : (m : Map) (page : ℕ) (after : ℕ × ℕ) → IsPaged m → filter (λ (e : Entry). range_contains place_cmp (Excluded (page, after)) Unbounded e.0) m ≡ [] → IsNextRecord (seen m) page after None
 no_next m page after paged is =
-    next_held (λ r. r.page) (seen m) (keys_of m.entries) page after None (page_index m paged)
-    (next_none (keys_of m.entries) page after (keys_range (range_contains place_cmp (Excluded (page, after)) Unbounded) m [] is))
+    next_held (λ r. r.page) (seen m) (keys_of m) page after None (page_index m paged)
+    (next_none (keys_of m) page after (keys_range (range_contains place_cmp (Excluded (page, after)) Unbounded) m [] is))
 
-pub next_is : (m : Map) (page : ℕ) (after : ℕ × ℕ) (x : Entry) (t : List Entry) → IsPaged m → filter (λ (e : Entry). range_contains place_cmp (Excluded (page, after)) Unbounded e.0) m.entries ≡ x ∷ t → x.0.0 ≡ page → IsNextRecord (seen m) page after (Some x.1)
+pub next_is : (m : Map) (page : ℕ) (after : ℕ × ℕ) (x : Entry) (t : List Entry) → IsPaged m → filter (λ (e : Entry). range_contains place_cmp (Excluded (page, after)) Unbounded e.0) m ≡ x ∷ t → x.0.0 ≡ page → IsNextRecord (seen m) page after (Some x.1)
 next_is m page after x t paged is same =
     let test : Place → Bool = range_contains place_cmp (Excluded (page, after)) Unbounded in
-    let among : Contains m.entries x = entry_in test m (x ∷ t) x is (here x t) in
+    let among : Contains m x = entry_in test m (x ∷ t) x is (here x t) in
     let found : IsNextHeld (λ r. r.page) (seen m) page after (Some x.0.1) =
-    next_held (λ r. r.page) (seen m) (keys_of m.entries) page after (Some x.0.1) (page_index m paged)
-    (next_some (keys_of m.entries) page after x.0 (keys_of t) (rises place_cmp (keys_of m.entries) paged.ordered) (keys_range test m (x ∷ t) is) same) in
+    next_held (λ r. r.page) (seen m) (keys_of m) page after (Some x.0.1) (page_index m paged)
+    (next_some (keys_of m) page after x.0 (keys_of t) (rises place_cmp (keys_of m) paged.ordered) (keys_range test m (x ∷ t) is) same) in
     (seen_in m x among, subst (λ (k : ℕ × ℕ). IsNextHeld (λ r. r.page) (seen m) page after (Some k)) (own_key m x paged among) found)
 
-pub next_elsewhere : (m : Map) (page : ℕ) (after : ℕ × ℕ) (x : Entry) (t : List Entry) → IsPaged m → filter (λ (e : Entry). range_contains place_cmp (Excluded (page, after)) Unbounded e.0) m.entries ≡ x ∷ t → (x.0.0 ≡ page → ⊥) → IsNextRecord (seen m) page after None
+pub next_elsewhere : (m : Map) (page : ℕ) (after : ℕ × ℕ) (x : Entry) (t : List Entry) → IsPaged m → filter (λ (e : Entry). range_contains place_cmp (Excluded (page, after)) Unbounded e.0) m ≡ x ∷ t → (x.0.0 ≡ page → ⊥) → IsNextRecord (seen m) page after None
 next_elsewhere m page after x t paged is other =
-    next_held (λ r. r.page) (seen m) (keys_of m.entries) page after None (page_index m paged)
-    (next_other (keys_of m.entries) page after x.0 (keys_of t) (rises place_cmp (keys_of m.entries) paged.ordered) (keys_range (range_contains place_cmp (Excluded (page, after)) Unbounded) m (x ∷ t) is) other)
+    next_held (λ r. r.page) (seen m) (keys_of m) page after None (page_index m paged)
+    (next_other (keys_of m) page after x.0 (keys_of t) (rises place_cmp (keys_of m) paged.ordered) (keys_range (range_contains place_cmp (Excluded (page, after)) Unbounded) m (x ∷ t) is) other)
 
-pub no_last : (m : Map) (page : ℕ) (to : ℕ × ℕ) → IsPaged m → filter (λ (e : Entry). range_contains place_cmp Unbounded (Included (page, to)) e.0) m.entries ≡ [] → IsLastRecord (seen m) page to None
+pub no_last : (m : Map) (page : ℕ) (to : ℕ × ℕ) → IsPaged m → filter (λ (e : Entry). range_contains place_cmp Unbounded (Included (page, to)) e.0) m ≡ [] → IsLastRecord (seen m) page to None
 no_last m page to paged is =
-    last_held (λ r. r.page) (seen m) (keys_of m.entries) page to None (page_index m paged)
-    (last_none (keys_of m.entries) page to (keys_range (range_contains place_cmp Unbounded (Included (page, to))) m [] is))
+    last_held (λ r. r.page) (seen m) (keys_of m) page to None (page_index m paged)
+    (last_none (keys_of m) page to (keys_range (range_contains place_cmp Unbounded (Included (page, to))) m [] is))
 
 keys_end : (t : List Entry) (x : Entry) → keys_of (t ++ x ∷ []) ≡ keys_of t ++ x.0 ∷ []
 keys_end [] x = refl
@@ -67,40 +63,40 @@ keys_end (e ∷ t) x = ap (λ (l : List Place). e.0 ∷ l) (keys_end t x)
 at_end : (t : List Entry) (x : Entry) → Contains (t ++ x ∷ []) x
 at_end t x = Contains-append_right t (x ∷ []) x (here x [])
 
-pub last_is : (m : Map) (page : ℕ) (to : ℕ × ℕ) (x : Entry) (t : List Entry) → IsPaged m → filter (λ (e : Entry). range_contains place_cmp Unbounded (Included (page, to)) e.0) m.entries ≡ t ++ x ∷ [] → x.0.0 ≡ page → IsLastRecord (seen m) page to (Some x.1)
+pub last_is : (m : Map) (page : ℕ) (to : ℕ × ℕ) (x : Entry) (t : List Entry) → IsPaged m → filter (λ (e : Entry). range_contains place_cmp Unbounded (Included (page, to)) e.0) m ≡ t ++ x ∷ [] → x.0.0 ≡ page → IsLastRecord (seen m) page to (Some x.1)
 last_is m page to x t paged is same =
     let test : Place → Bool = range_contains place_cmp Unbounded (Included (page, to)) in
-    let among : Contains m.entries x = entry_in test m (t ++ x ∷ []) x is (at_end t x) in
+    let among : Contains m x = entry_in test m (t ++ x ∷ []) x is (at_end t x) in
     let found : IsLastHeld (λ r. r.page) (seen m) page to (Some x.0.1) =
-    last_held (λ r. r.page) (seen m) (keys_of m.entries) page to (Some x.0.1) (page_index m paged)
-    (last_some (keys_of m.entries) page to x.0 (keys_of t) (rises place_cmp (keys_of m.entries) paged.ordered) (keys_range test m (t ++ x ∷ []) is ∙ keys_end t x) same) in
+    last_held (λ r. r.page) (seen m) (keys_of m) page to (Some x.0.1) (page_index m paged)
+    (last_some (keys_of m) page to x.0 (keys_of t) (rises place_cmp (keys_of m) paged.ordered) (keys_range test m (t ++ x ∷ []) is ∙ keys_end t x) same) in
     (seen_in m x among, subst (λ (k : ℕ × ℕ). IsLastHeld (λ r. r.page) (seen m) page to (Some k)) (own_key m x paged among) found)
 
-pub last_elsewhere : (m : Map) (page : ℕ) (to : ℕ × ℕ) (x : Entry) (t : List Entry) → IsPaged m → filter (λ (e : Entry). range_contains place_cmp Unbounded (Included (page, to)) e.0) m.entries ≡ t ++ x ∷ [] → (x.0.0 ≡ page → ⊥) → IsLastRecord (seen m) page to None
+pub last_elsewhere : (m : Map) (page : ℕ) (to : ℕ × ℕ) (x : Entry) (t : List Entry) → IsPaged m → filter (λ (e : Entry). range_contains place_cmp Unbounded (Included (page, to)) e.0) m ≡ t ++ x ∷ [] → (x.0.0 ≡ page → ⊥) → IsLastRecord (seen m) page to None
 last_elsewhere m page to x t paged is other =
-    last_held (λ r. r.page) (seen m) (keys_of m.entries) page to None (page_index m paged)
-    (last_other (keys_of m.entries) page to x.0 (keys_of t) (rises place_cmp (keys_of m.entries) paged.ordered) (keys_range (range_contains place_cmp Unbounded (Included (page, to))) m (t ++ x ∷ []) is ∙ keys_end t x) other)
+    last_held (λ r. r.page) (seen m) (keys_of m) page to None (page_index m paged)
+    (last_other (keys_of m) page to x.0 (keys_of t) (rises place_cmp (keys_of m) paged.ordered) (keys_range (range_contains place_cmp Unbounded (Included (page, to))) m (t ++ x ∷ []) is ∙ keys_end t x) other)
 
 -- a page is above the one given where it is from another on
 abbrev pub Above_from : Option ℕ → ℕ → Type 0
 Above_from after from = (p : ℕ) → (IsPageAbove after p → from ≤ p) × (from ≤ p → IsPageAbove after p)
 
-pub no_page : (m : Map) (after : Option ℕ) (from : ℕ) → IsPaged m → Above_from after from → filter (λ (e : Entry). range_contains place_cmp (Included (from, (0, 0))) Unbounded e.0) m.entries ≡ [] → IsPageAfter (seen m) after None
+pub no_page : (m : Map) (after : Option ℕ) (from : ℕ) → IsPaged m → Above_from after from → filter (λ (e : Entry). range_contains place_cmp (Included (from, (0, 0))) Unbounded e.0) m ≡ [] → IsPageAfter (seen m) after None
 no_page m after from paged up is r h above =
-    group_none (keys_of m.entries) from (keys_range (range_contains place_cmp (Included (from, (0, 0))) Unbounded) m [] is) (place_of r)
-    (key_in m.entries (place_of r, r) (own_entry m paged r h)) ((up r.page).0 above)
+    group_none (keys_of m) from (keys_range (range_contains place_cmp (Included (from, (0, 0))) Unbounded) m [] is) (place_of r)
+    (key_in m (place_of r, r) (own_entry m paged r h)) ((up r.page).0 above)
 
-pub page_is : (m : Map) (after : Option ℕ) (from : ℕ) (x : Entry) (t : List Entry) → IsPaged m → Above_from after from → filter (λ (e : Entry). range_contains place_cmp (Included (from, (0, 0))) Unbounded e.0) m.entries ≡ x ∷ t → IsPageAfter (seen m) after (Some x.0.0)
+pub page_is : (m : Map) (after : Option ℕ) (from : ℕ) (x : Entry) (t : List Entry) → IsPaged m → Above_from after from → filter (λ (e : Entry). range_contains place_cmp (Included (from, (0, 0))) Unbounded e.0) m ≡ x ∷ t → IsPageAfter (seen m) after (Some x.0.0)
 page_is m after from x t paged up is =
     let test : Place → Bool = range_contains place_cmp (Included (from, (0, 0))) Unbounded in
-    let among : Contains m.entries x = entry_in test m (x ∷ t) x is (here x t) in
-    let found : IsGroup (keys_of m.entries) from x.0 = group_some (keys_of m.entries) from x.0 (keys_of t) (rises place_cmp (keys_of m.entries) paged.ordered) (keys_range test m (x ∷ t) is) in (
+    let among : Contains m x = entry_in test m (x ∷ t) x is (here x t) in
+    let found : IsGroup (keys_of m) from x.0 = group_some (keys_of m) from x.0 (keys_of t) (rises place_cmp (keys_of m) paged.ordered) (keys_range test m (x ∷ t) is) in (
       (x.1, seen_in m x among, sym (ap (λ (p : Place). p.0) (paged.placed x among)), (up x.0.0).1 found.from),
-      λ r h above. found.least (place_of r) (key_in m.entries (place_of r, r) (own_entry m paged r h)) ((up r.page).0 above),
+      λ r h above. found.least (place_of r) (key_in m (place_of r, r) (own_entry m paged r h)) ((up r.page).0 above),
     )
 
 pub past_pages : (m : Map) (page : ℕ) → IsPaged m → (page + 1 < 65536 → ⊥) → IsPageAfter (seen m) (Some page) None
-past_pages m page paged over r h above = over (let fits : r.page < 65536 = paged.fits r ((in_order (records_in m.entries) r).0 h) in let up : page < r.page = above in omega arith)
+past_pages m page paged over r h above = over (let fits : r.page < 65536 = paged.fits r ((in_order (records_in m) r).0 h) in let up : page < r.page = above in omega arith)
 
 -- the keys of a page above one and up to another
 both : (o p : Ordering) → (is_lt o && not (is_lt p)) ≡ true → (o ≡ Less) × (p ≡ Less → ⊥)
@@ -144,17 +140,17 @@ in_range page above to q is =
 -- the entries of a map in such a range
 pub record IsRange (m : Map) (page : ℕ) (above to : ℕ × ℕ) (es : List Entry) : Type 0 where
   pub rising : IsRising (λ (x y : Entry). place_cmp x.0 y.0 ≡ Less) es
-  pub members : (e : Entry) → Contains es e ↔ (Contains m.entries e × InPage page above to e.0)
+  pub members : (e : Entry) → Contains es e ↔ (Contains m e × InPage page above to e.0)
 
-pub range_of : (m : Map) (page : ℕ) (above to : ℕ × ℕ) (es : List Entry) → IsPaged m → es ≡ filter (λ (e : Entry). range_contains place_cmp (Excluded (page, above)) (Included (page, to)) e.0) m.entries → IsRange m page above to es
+pub range_of : (m : Map) (page : ℕ) (above to : ℕ × ℕ) (es : List Entry) → IsPaged m → es ≡ filter (λ (e : Entry). range_contains place_cmp (Excluded (page, above)) (Included (page, to)) e.0) m → IsRange m page above to es
 range_of m page above to es paged is =
     let test : Entry → Bool = λ e. range_contains place_cmp (Excluded (page, above)) (Included (page, to)) e.0 in
     let Before : Entry → Entry → Type 0 = λ x y. place_cmp x.0 y.0 ≡ Less in
     record {
-      rising = subst (IsRising Before) (sym is) (rising_filter Before test m.entries (rising_entries place_cmp m.entries paged.ordered));
+      rising = subst (IsRising Before) (sym is) (rising_filter Before test m (rising_entries place_cmp m paged.ordered));
       members = λ e. (
-        λ h. let t = filtered test m.entries e (subst (λ (l : List Entry). Contains l e) is h) in (t.0, in_page page above to e.0 t.1),
-        λ h. subst (λ (l : List Entry). Contains l e) (sym is) (passed test m.entries e (in_range page above to e.0 h.1) h.0),
+        λ h. let t = filtered test m e (subst (λ (l : List Entry). Contains l e) is h) in (t.0, in_page page above to e.0 t.1),
+        λ h. subst (λ (l : List Entry). Contains l e) (sym is) (passed test m e (in_range page above to e.0 h.1) h.0),
       );
     }
 

@@ -87,22 +87,22 @@ before_rest (z ∷ zs) ys x y rising h =
     (which z zs y h)
 
 -- those gone over are before the one that the walk has come to
-pub before_next : (m : Map) (xs ys : List RecordData) (x : RecordData) → IsPaged m → records_in m.entries ≡ xs ++ x ∷ ys
+pub before_next : (m : Map) (xs ys : List RecordData) (x : RecordData) → IsPaged m → records_in m ≡ xs ++ x ∷ ys
     → (y : RecordData) → Contains xs y → PlaceBefore y x
 before_next m xs ys x paged split y h =
     before_rest xs ys x y
-    (subst (IsRising PlaceBefore) split (rising_records m.entries paged.placed (rising_entries place_cmp m.entries paged.ordered))) h
+    (subst (IsRising PlaceBefore) split (rising_records m paged.placed (rising_entries place_cmp m paged.ordered))) h
 
-pub lacks_all : (m : Map) (held seen_so missing : List RecordData) → records_in m.entries ≡ seen_so → LacksOf held seen_so missing
+pub lacks_all : (m : Map) (held seen_so missing : List RecordData) → records_in m ≡ seen_so → LacksOf held seen_so missing
     → Lists PlaceBefore (IsMissing held (seen m)) missing
 lacks_all m held seen_so missing all lists =
     lists_as PlaceBefore (λ r. Contains seen_so r × (Contains held r → ⊥)) (IsMissing held (seen m)) missing
     (λ r. (
-      λ h. ((in_order (records_in m.entries) r).1 (subst (λ (l : List RecordData). Contains l r) (sym all) h.0), h.1),
-      λ h. (subst (λ (l : List RecordData). Contains l r) all ((in_order (records_in m.entries) r).0 h.0), h.1),
+      λ h. ((in_order (records_in m) r).1 (subst (λ (l : List RecordData). Contains l r) (sym all) h.0), h.1),
+      λ h. (subst (λ (l : List RecordData). Contains l r) all ((in_order (records_in m) r).0 h.0), h.1),
     ))
     lists
 
 -- what a map holds is seen
-pub in_seen : (m : Map) (r : RecordData) → Contains (records_in m.entries) r → Contains (seen m) r
-in_seen m r h = (in_order (records_in m.entries) r).1 h
+pub in_seen : (m : Map) (r : RecordData) → Contains (records_in m) r → Contains (seen m) r
+in_seen m r h = (in_order (records_in m) r).1 h

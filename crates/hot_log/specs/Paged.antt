@@ -4,7 +4,8 @@ use Rattle.std.specs.List.{Contains}
 use Rattle.std.specs.Ordering.{nat_cmp, ordering_then}
 use Rattle.std.specs.declared.cmp.Ordering.{Ordering}
 use Rattle.std.specs.declared.cmp.Ordering.TheVariants.{Less}
-use Rattle.std.specs.BTreeMap.{BTreeMap, IsOrdered}
+use Rattle.std.specs.Map.{keys_of}
+use Rattle.std.specs.List.Sorted.{IsStrictlySortedBy}
 use Rattle.redo_core.specs.Data.{RecordData}
 use Rattle.redo_core.specs.Shape.{record_fault}
 
@@ -44,9 +45,9 @@ abbrev pub by_key : List RecordData → List RecordData
 by_key [] = []
 by_key (r ∷ rs) = insert_by_key r (by_key rs)
 
-pub record IsPaged (m : BTreeMap (ℕ × (ℕ × ℕ)) RecordData) : Type 0 where
-  pub ordered : IsOrdered place_cmp m
-  pub placed : (e : (ℕ × (ℕ × ℕ)) × RecordData) → Contains m.entries e → e.0 ≡ place_of e.1
-  pub shaped : (r : RecordData) → Contains (records_in m.entries) r → record_fault r ≡ None
-  pub fits : (r : RecordData) → Contains (records_in m.entries) r → r.page < 65536
-  pub apart : (r s : RecordData) → Contains (records_in m.entries) r → Contains (records_in m.entries) s → r.epoch ≡ s.epoch → r.number ≡ s.number → r.page ≡ s.page
+pub record IsPaged (m : List ((ℕ × (ℕ × ℕ)) × RecordData)) : Type 0 where
+  pub ordered : IsStrictlySortedBy place_cmp (keys_of m)
+  pub placed : (e : (ℕ × (ℕ × ℕ)) × RecordData) → Contains m e → e.0 ≡ place_of e.1
+  pub shaped : (r : RecordData) → Contains (records_in m) r → record_fault r ≡ None
+  pub fits : (r : RecordData) → Contains (records_in m) r → r.page < 65536
+  pub apart : (r s : RecordData) → Contains (records_in m) r → Contains (records_in m) s → r.epoch ≡ s.epoch → r.number ≡ s.number → r.page ≡ s.page

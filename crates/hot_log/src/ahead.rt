@@ -1,16 +1,18 @@
 ghost use Rattle.std.specs.Prelude.{◌≡◌, IsTrue};
 ghost use Rattle.std.specs.List.{Contains};
+ghost use Rattle.std.specs.Map.Iter.{TakesFirst, deref};
 ghost use Rattle.redo_core.specs.Data.{RecordData};
+ghost use Rattle.hot_log.specs.Paged.{records_in};
 
 use redo_core::Record;
-use std::collections::btree_map::Values;
+use sorted_runs::Entries;
 use std::marker::Model;
 
 /// Records by page and key, and the one that comes next: they are gone over as far as those of another log are.
 #[derive(Drop)]
 pub struct Ahead<'a> {
     next: Option<&'a Record>,
-    rest: Values<'a, (u16, (u16, u64)), Record>,
+    rest: Entries<'a, (u16, (u16, u64)), Record>,
 }
 
 impl<'a> Model for Ahead<'a> {
@@ -18,17 +20,18 @@ impl<'a> Model for Ahead<'a> {
     ghost use Rattle.std.specs.Option.{option_copied};
     ghost use Rattle.std.specs.List.{cons_option};
     ghost use Rattle.redo_core.specs.Data.{RecordData};
+    ghost use Rattle.hot_log.specs.Paged.{records_in};
 
     ghost Value = { List RecordData };
 
-    ghost view = { λ a. cons_option (option_copied a.next) a.rest };
+    ghost view = { λ a. cons_option (option_copied a.next) (records_in a.rest) };
 }
 
 impl<'a> Ahead<'a> {
-    pub fn new(mut rest: Values<'a, (u16, (u16, u64)), Record>) -> Ahead<'a>
-        ensures { (r : RecordData) → Contains result r → Contains rest.entry r }
+    pub fn new(mut rest: Entries<'a, (u16, (u16, u64)), Record>) -> Ahead<'a>
+        ensures { (r : RecordData) → Contains result r → Contains (records_in rest.entry) r }
     {
-        let next = rest.next();
+        let next = next_of(&mut rest);
         Ahead { next, rest }
     }
 
@@ -41,7 +44,7 @@ impl<'a> Ahead<'a> {
             if (own.page(), (own.epoch(), own.number())) >= place {
                 return;
             }
-            self.next = self.rest.next();
+            self.next = next_of(&mut self.rest);
         }
     }
 
@@ -54,4 +57,12 @@ impl<'a> Ahead<'a> {
             None => false,
         }
     }
+}
+
+// The record of the next entry.
+fn next_of<'a>(rest: &mut Entries<'a, (u16, (u16, u64)), Record>) -> Option<&'a Record>
+    ensures { TakesFirst deref (records_in rest.old) result (records_in rest.new) }
+{
+    let (_, redo) = rest.next()?;
+    Some(redo)
 }

@@ -1,23 +1,24 @@
 ghost use Rattle.std.specs.Prelude.{◌≡◌, ◌⊎◌, [], IfOk, OnOk, OnErr};
 ghost use Rattle.hot_log.specs.Indexing.{IsNextKey, GainsKey, LosesKey};
 
+use sorted_runs::SortedRuns;
 use std::alloc::{AllocError, Global};
-use std::collections::BTreeSet;
 use std::marker::Model;
 use std::ops::Bound;
 
 /// Keys of records in groups, by their segment backlink.
 #[derive(Debug, Drop)]
 pub struct KeyIndex {
-    keys: BTreeSet<(u64, (u16, u64))>,
+    keys: SortedRuns<(u64, (u16, u64)), ()>,
 }
 
 impl Model for KeyIndex {
     ghost use Rattle.std.specs.Prelude.{ℕ, List};
+    ghost use Rattle.std.specs.Map.{keys_of};
 
     ghost Value = { List (ℕ × (ℕ × ℕ)) };
 
-    ghost view = { λ i. i.keys.keys };
+    ghost view = { λ i. keys_of i.keys };
 }
 
 impl KeyIndex {
@@ -25,7 +26,7 @@ impl KeyIndex {
         ensures { result ≡ [] }
     {
         KeyIndex {
-            keys: BTreeSet::new(alloc),
+            keys: SortedRuns::new(alloc),
         }
     }
 
@@ -34,7 +35,7 @@ impl KeyIndex {
         ensures { IfOk result (λ i. i ≡ self.now) }
     {
         Ok(KeyIndex {
-            keys: self.keys.clone()?,
+            keys: self.keys.copy()?,
         })
     }
 
@@ -43,7 +44,7 @@ impl KeyIndex {
         ensures gains { OnOk result (GainsKey self.old group key self.new) }
         ensures unchanged { OnErr result (self.new ≡ self.old) }
     {
-        let _ = self.keys.insert((group, key))?;
+        let _ = self.keys.insert((group, key), ())?;
         Ok(())
     }
 
@@ -58,8 +59,12 @@ impl KeyIndex {
     pub fn next(&self, group: u64, after: (u16, u64)) -> Option<(u16, u64)>
         ensures { IsNextKey self.now group after result }
     {
-        let bounds = (Bound::Excluded((group, after)), Bound::Unbounded);
-        let (of, key) = *self.keys.range(bounds).next()?;
-        if of == group { Some(key) } else { None }
+        let from = Bound::Excluded((group, after));
+        let (place, _) = self.keys.range(from, Bound::Unbounded).next()?;
+        if place.0 == group {
+            Some(place.1)
+        } else {
+            None
+        }
     }
 }

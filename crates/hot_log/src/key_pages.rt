@@ -1,6 +1,8 @@
 ghost use Rattle.std.specs.Prelude.{◌≡◌, [], IfOk, OnErr, Some, None, ℕ, OnOk};
 ghost use Rattle.std.specs.Option.{IsSome, IsNone};
-ghost use Rattle.std.specs.BTreeMap.{get, IsOrdered, insert_entry};
+ghost use Rattle.std.specs.Map.{keys_of, lookup};
+ghost use Rattle.std.specs.BTreeMap.{is_at, insert_entry};
+ghost use Rattle.std.specs.List.Sorted.{IsStrictlySortedBy};
 ghost use Rattle.hot_log.specs.Paged.{key_cmp};
 ghost use Rattle.hot_log.specs.Indexing.{AddsPage, LosesPage, IsPageOf, IsLeastKey, GainsPage, IsGreatestKey, IsGreatestOf};
 ghost use Rattle.hot_log.specs.Kept.{KeyPairBefore, IsKeyKept};
@@ -9,28 +11,28 @@ ghost use Rattle.std.specs.List.{Contains};
 
 use crate::search::is_kept;
 use epoch_book::EpochBook;
+use sorted_runs::SortedRuns;
 use std::alloc::{AllocError, Global};
-use std::collections::BTreeMap;
-use std::collections::btree_map::Entry;
 use std::marker::Model;
 use std::ops::Bound;
 
 /// The page of each key.
 #[derive(Debug, Drop)]
 pub struct KeyPages {
-    map: BTreeMap<(u16, u64), u16>,
+    map: SortedRuns<(u16, u64), u16>,
 }
 
 impl Model for KeyPages {
     ghost use Rattle.std.specs.Prelude.{ℕ, List};
-    ghost use Rattle.std.specs.BTreeMap.{IsOrdered};
+    ghost use Rattle.std.specs.Map.{keys_of};
+    ghost use Rattle.std.specs.List.Sorted.{IsStrictlySortedBy};
     ghost use Rattle.hot_log.specs.Paged.{key_cmp};
 
     ghost Value = { List ((ℕ × ℕ) × ℕ) };
 
-    ghost view = { λ k. k.map.entries };
+    ghost view = { λ k. k.map };
 
-    ghost invariant = { λ k. IsOrdered key_cmp k.map };
+    ghost invariant = { λ k. IsStrictlySortedBy key_cmp (keys_of k.map) };
 }
 
 impl KeyPages {
@@ -38,7 +40,7 @@ impl KeyPages {
         ensures { result ≡ [] }
     {
         KeyPages {
-            map: BTreeMap::new(alloc),
+            map: SortedRuns::new(alloc),
         }
     }
 
@@ -47,7 +49,7 @@ impl KeyPages {
         ensures { IfOk result (λ k. k ≡ self.now) }
     {
         Ok(KeyPages {
-            map: self.map.clone()?,
+            map: self.map.copy()?,
         })
     }
 
@@ -65,7 +67,11 @@ impl KeyPages {
         ensures absent { OnErr result (IsPageOf self.old key None) }
         ensures unchanged { OnErr result (self.new ≡ self.old) }
     {
-        add_to(&mut self.map, key, page)
+        if let Some(had) = self.map.get(&key) {
+            return Ok(Some(*had));
+        }
+        let _ = self.map.insert(key, page)?;
+        Ok(None)
     }
 
     /// Takes a key out, and tells the page that it had.
@@ -105,8 +111,8 @@ impl KeyPages {
     fn key_above(&self, after: (u16, u64)) -> Option<(u16, u64)>
         ensures { IsLeastKey self.now (Some after) result }
     {
-        let bounds = (Bound::Excluded(after), Bound::Unbounded);
-        let (key, _) = self.map.range(bounds).next()?;
+        let from = Bound::Excluded(after);
+        let (key, _) = self.map.range(from, Bound::Unbounded).next()?;
         Some(*key)
     }
 
@@ -114,8 +120,8 @@ impl KeyPages {
     pub fn key_to(&self, to: (u16, u64)) -> Option<(u16, u64)>
         ensures { IsGreatestKey self.now to result }
     {
-        let bounds = (Bound::Unbounded, Bound::Included(to));
-        let (key, _) = self.map.range(bounds).next_back()?;
+        let end = Bound::Included(to);
+        let (key, _) = self.map.range(Bound::Unbounded, end).next_back()?;
         Some(*key)
     }
 
@@ -130,35 +136,12 @@ impl KeyPages {
         ensures { IfOk result (λ v. Lists KeyPairBefore (IsKeyKept book.now self.now above point) v.items) }
     {
         let mut kept = Vec::new(alloc);
-        let bounds = (Bound::Excluded(above), Bound::Unbounded);
-        for (key, _) in self.map.range(bounds) {
+        let from = Bound::Excluded(above);
+        for (key, _) in self.map.range(from, Bound::Unbounded) {
             if is_kept(book, *key, point) {
                 kept.push(*key)?;
             }
         }
         Ok(kept)
-    }
-}
-
-// Gives a key a page where it has none, in one descent of the map, and tells what it had.
-fn add_to(
-    map: &mut BTreeMap<(u16, u64), u16>,
-    key: (u16, u64),
-    page: u16,
-) -> Result<Option<u16>, AllocError>
-    ensures had { IfOk result (λ had. had ≡ get key_cmp map.old key) }
-    ensures kept { IfOk result (λ had. IsSome had → map.new.entries ≡ map.old.entries) }
-    ensures gains { IfOk result (λ had. IsNone had → map.new.entries ≡ insert_entry key_cmp map.old.entries key page) }
-    ensures absent { OnErr result (get key_cmp map.old key ≡ None) }
-    ensures unchanged { OnErr result (map.new.entries ≡ map.old.entries) }
-    ensures was_ordered { IsOrdered key_cmp map.old }
-    ensures ordered { IsOrdered key_cmp map.new }
-{
-    match map.entry(key)? {
-        Entry::Occupied(entry) => Ok(Some(*entry.get())),
-        Entry::Vacant(entry) => {
-            let _ = entry.insert(page);
-            Ok(None)
-        }
     }
 }

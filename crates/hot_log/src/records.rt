@@ -16,15 +16,15 @@ use crate::ahead::Ahead;
 use crate::search::is_alive;
 use epoch_book::EpochBook;
 use redo_core::{Record, Refused};
+use sorted_runs::SortedRuns;
 use std::alloc::{AllocError, Global};
-use std::collections::BTreeMap;
 use std::marker::Model;
 use std::ops::Bound;
 
 /// Records by page and, within a page, by key: epoch, then number. No two have one key.
 #[derive(Debug, Drop)]
 pub struct PagedRecords {
-    map: BTreeMap<(u16, (u16, u64)), Record>,
+    map: SortedRuns<(u16, (u16, u64)), Record>,
 }
 
 impl Model for PagedRecords {
@@ -34,7 +34,7 @@ impl Model for PagedRecords {
 
     ghost Value = { List RecordData };
 
-    ghost view = { λ p. by_key (records_in p.map.entries) };
+    ghost view = { λ p. by_key (records_in p.map) };
 
     ghost invariant = { λ p. IsPaged p.map };
 }
@@ -44,7 +44,7 @@ impl PagedRecords {
         ensures { result ≡ [] }
     {
         PagedRecords {
-            map: BTreeMap::new(alloc),
+            map: SortedRuns::new(alloc),
         }
     }
 
@@ -53,7 +53,7 @@ impl PagedRecords {
         ensures { IfOk result (λ p. p ≡ self.now) }
     {
         Ok(PagedRecords {
-            map: self.map.clone()?,
+            map: self.map.copy()?,
         })
     }
 
@@ -114,8 +114,8 @@ impl PagedRecords {
         ensures next { IsNextRecord self.now page after (option_copied result) }
         ensures form { IsHeld self.now }
     {
-        let bounds = (Bound::Excluded((page, after)), Bound::Unbounded);
-        let (place, redo) = self.map.range(bounds).next()?;
+        let from = Bound::Excluded((page, after));
+        let (place, redo) = self.map.range(from, Bound::Unbounded).next()?;
         if place.0 == page { Some(redo) } else { None }
     }
 
@@ -124,8 +124,8 @@ impl PagedRecords {
         ensures last { IsLastRecord self.now page to (option_copied result) }
         ensures form { IsHeld self.now }
     {
-        let bounds = (Bound::Unbounded, Bound::Included((page, to)));
-        let (place, redo) = self.map.range(bounds).next_back()?;
+        let end = Bound::Included((page, to));
+        let (place, redo) = self.map.range(Bound::Unbounded, end).next_back()?;
         if place.0 == page { Some(redo) } else { None }
     }
 
@@ -138,8 +138,8 @@ impl PagedRecords {
             Some(page) => page.checked_add(1)?,
             None => 0,
         };
-        let bounds = (Bound::Included((from, (0, 0))), Bound::Unbounded);
-        let (place, _) = map.range(bounds).next()?;
+        let start = Bound::Included((from, (0, 0)));
+        let (place, _) = map.range(start, Bound::Unbounded).next()?;
         Some(place.0)
     }
 
@@ -156,8 +156,8 @@ impl PagedRecords {
         ensures { IfOk result (λ v. Lists BeforeByNumber (IsAliveBetween book.now self.now page above to) (map (λ x. x.now) v.items)) }
     {
         let mut found = Vec::new(alloc);
-        let bounds = (Bound::Excluded((page, above)), Bound::Included((page, to)));
-        for (_, redo) in self.map.range(bounds) {
+        let (from, end) = (Bound::Excluded((page, above)), Bound::Included((page, to)));
+        for (_, redo) in self.map.range(from, end) {
             if is_alive(book, redo.epoch(), redo.number()) {
                 found.push(redo)?;
             }
@@ -178,8 +178,8 @@ impl PagedRecords {
         ensures { IfOk result (λ v. ListsAnew (IsAliveBetween book.now self.now page above to) (map (λ x. x.now) v.items)) }
     {
         let mut found = Vec::new(alloc);
-        let bounds = (Bound::Excluded((page, above)), Bound::Included((page, to)));
-        let mut left = self.map.range(bounds);
+        let (from, end) = (Bound::Excluded((page, above)), Bound::Included((page, to)));
+        let mut left = self.map.range(from, end);
         while let Some((_, redo)) = left.next_back() {
             if is_alive(book, redo.epoch(), redo.number()) {
                 found.push(redo)?;
@@ -216,8 +216,8 @@ impl PagedRecords {
         ensures { IfOk result (λ v. Lists PlaceBefore (IsMissing self.now other.now) (map (λ x. x.now) v.items)) }
     {
         let mut missing = Vec::new(alloc);
-        let mut own = Ahead::new(self.map.values());
-        for redo in other.map.values() {
+        let mut own = Ahead::new(self.map.iter());
+        for (_, redo) in other.map.iter() {
             own.pass_to(redo);
             if !own.is_at(redo) && !self.has(redo) {
                 missing.push(redo)?;

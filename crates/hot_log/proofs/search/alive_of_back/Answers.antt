@@ -1,7 +1,6 @@
-use Rattle.std.proofs.Common.{◌≡◌, ℕ, ◌<◌, ◌≤◌, List, ⊎_elim, refl, sym, subst, arith, None}
+use Rattle.std.proofs.Common.{◌≡◌, ℕ, ◌<◌, ◌≤◌, List, ⊎_elim, refl, sym, subst, arith}
 use Rattle.redo_core.specs.Data.{RecordData}
 use Rattle.redo_core.specs.Order.{PairBefore}
-use Rattle.redo_core.specs.Shape.{record_fault}
 use Rattle.redo_core.specs.Standing.{IsAlive}
 use Rattle.redo_core.proofs.Pairs.{pair_trans}
 use Rattle.epoch_book.specs.Book.{BookData}

@@ -23,7 +23,7 @@ loop-redo-preserved-else-init c =
     subst (λ (e : ℕ). IsAlive b.cuts b.complete e x.1.number) c.epoch.ensures (subst (λ (n : ℕ). IsAlive b.cuts b.complete c.epoch.result n) c.number.ensures.value (c.if-is_alive.ensures.alive.0 refl)) in
     steps_down m c.args.page c.args.above c.args.to b c.range-left.result c.loop-redo.left c.next_back.new.self (map now c.loop-redo.found.items) (map now c.push.new.self.items) x
     c.self.invariant c.if-is_alive.ensures.book
-    (range_of m c.args.page c.args.above c.args.to c.range-left.result c.self.invariant (c.range-left.ensures.between tt))
+    (range_of m c.args.page c.args.above c.args.to c.range-left.result c.self.invariant (sym c.range-left.ensures.between))
     c.in-Some.ensures.steps c.loop-redo.invariant alive (rw (c.in_ok-push.ensures.items, map-append))
 
 pub loop-redo-preserved : goal.loop-redo-preserved
@@ -43,7 +43,7 @@ returns-then-init c =
     subst (λ (e : ℕ). IsAlive b.cuts b.complete e x.1.number) c.epoch.ensures (subst (λ (n : ℕ). IsAlive b.cuts b.complete c.epoch.result n) c.number.ensures.value (c.if-is_alive.ensures.alive.0 refl)) in
     let falling = map now c.loop-redo.found.items in
     let t = walks_down m c.args.page c.args.above c.args.to b c.range-left.result c.loop-redo.left c.next_back.new.self falling x c.self.invariant
-    (range_of m c.args.page c.args.above c.args.to c.range-left.result c.self.invariant (c.range-left.ensures.between tt)) c.in-Some.ensures.steps c.loop-redo.invariant in
+    (range_of m c.args.page c.args.above c.args.to c.range-left.result c.self.invariant (sym c.range-left.ensures.between)) c.in-Some.ensures.steps c.loop-redo.invariant in
     let lists = alive_front b m c.args.page c.args.above c.args.to c.next_back.new.self x (reverse falling) c.if-is_alive.ensures.book t.0 t.1 alive in
     let ends = ends_anew b m c.args.page c.args.above c.args.to c.next_back.new.self x (x.1 ∷ reverse falling) c.if-is_alive.ensures.book t.0 lists alive (sym c.init.ensures ∙ c.if-init.true) in
     let items : map now c.reversed.result.items ≡ x.1 ∷ reverse falling = turned now c.loop-redo.found.items c.push.new.self.items c.reversed.result.items c.in-Some.redo c.in_ok-push.ensures.items c.reversed.ensures in
@@ -55,7 +55,7 @@ returns c =
     let b = c.args.book.now in let m = c.self.inside.map in
     let falling = map now c.loop-redo.found.items in
     let ends = ends_all m c.args.page c.args.above c.args.to b c.range-left.result c.loop-redo.left falling c.self.invariant
-    (range_of m c.args.page c.args.above c.args.to c.range-left.result c.self.invariant (c.range-left.ensures.between tt)) c.in_default.ensures.steps.0 c.loop-redo.invariant in
+    (range_of m c.args.page c.args.above c.args.to c.range-left.result c.self.invariant (sym c.range-left.ensures.between)) c.in_default.ensures.steps.0 c.loop-redo.invariant in
     let items : map now c.reversed-2.result.items ≡ reverse falling = turned_all now c.loop-redo.found.items c.reversed-2.result.items c.reversed-2.ensures in
     subst (λ (l : List RecordData). ListsAnew (IsAliveBetween b l c.args.page c.args.above c.args.to) (map now c.reversed-2.result.items)) c.self.view_is
     (subst (ListsAnew (IsAliveBetween b _ c.args.page c.args.above c.args.to)) (sym items) ends)

@@ -27,7 +27,7 @@ loop-redo-preserved-in-Continue-1 c =
     let walks : Walks m c.args.page c.args.above c.args.to xs x = record {
       es = es;
       rest = c.next.new.self;
-      range = range_of m c.args.page c.args.above c.args.to es c.self.invariant (c.range-redo-items.ensures.between tt);
+      range = range_of m c.args.page c.args.above c.args.to es c.self.invariant (sym c.range-redo-items.ensures.between);
       split = split;
       paged = c.self.invariant;
     } in
@@ -59,5 +59,5 @@ returns c =
     sym start ∙ rest_so_far deref_pair c.loop-redo.yielded c.into_iter-redo-iterator.result c.loop-redo.redo-iterator c.loop-redo.yielded_by ∙ ap (λ (l : List Entry). xs ++ l) c.in-None.ensures.steps.0 ∙ append-nil xs in
     subst (λ (l : List RecordData). Lists BeforeByNumber (IsAliveBetween b l c.args.page c.args.above c.args.to) ys) c.self.view_is
     (alive_all b m c.args.page c.args.above c.args.to es ys c.self.invariant
-    (range_of m c.args.page c.args.above c.args.to es c.self.invariant (c.range-redo-items.ensures.between tt))
+    (range_of m c.args.page c.args.above c.args.to es c.self.invariant (sym c.range-redo-items.ensures.between))
     (subst (λ (l : List Entry). ListsAlive b l ys) (sym all) c.loop-redo.invariant))

@@ -1,7 +1,8 @@
 use Rattle.std.proofs.Common.{map}
 use Rattle.std.specs.List.{Contains}
-use Rattle.std.specs.Map.Iter.{deref}
+use Rattle.std.specs.Map.Iter.{deref_pair}
 use Rattle.redo_core.specs.Data.{RecordData}
+use Rattle.hot_log.specs.Paged.{records_in}
 use Rattle.hot_log.proofs.Sides.{LacksOf}
 use Rattle.hot_log.proofs.records.PagedRecords.missing_by_page.Given as goal
 
@@ -9,4 +10,4 @@ use Rattle.hot_log.proofs.records.PagedRecords.missing_by_page.Given as goal
 abbrev pub invariant-loop-redo : goal.invariant-loop-redo
 invariant-loop-redo l =
     ((r : RecordData) → Contains l.own r → Contains l.self r)
-    × LacksOf l.self (map deref l.yielded) (map (λ x. x.now) l.missing.items)
+    × LacksOf l.self (records_in (map deref_pair l.yielded)) (map (λ x. x.now) l.missing.items)

@@ -27,7 +27,7 @@ returns-in_err-place c =
     ] in
     let P : List RecordData → Type 0 = λ l. IsPageAfter l c.args.after None in
     subst (λ o. IsPageAfter c.args.self.now c.args.after o) (sym c.from_residual-in_err-place.ensures)
-    (subst P c.self.view_is (no_page c.self.inside.map c.args.after c.match-after.from c.self.invariant from (sym (c.range.ensures.between tt) ∙ c.in_err-place.ensures.steps.0)))
+    (subst P c.self.view_is (no_page c.self.inside.map c.args.after c.match-after.from c.self.invariant from (c.range.ensures.between ∙ c.in_err-place.ensures.steps.0)))
 
 pub returns : goal.returns
 returns c =
@@ -37,4 +37,4 @@ returns c =
     ] in
     let x : Entry = (c.in_ok-place.place.now, c.in_ok-place.field-0-1.now) in
     let P : List RecordData → Type 0 = λ l. IsPageAfter l c.args.after (Some x.0.0) in
-    subst P c.self.view_is (page_is c.self.inside.map c.args.after c.match-after.from x c.next.new.self c.self.invariant from (sym (c.range.ensures.between tt) ∙ c.in_ok-place.ensures.steps))
+    subst P c.self.view_is (page_is c.self.inside.map c.args.after c.match-after.from x c.next.new.self c.self.invariant from (c.range.ensures.between ∙ c.in_ok-place.ensures.steps))

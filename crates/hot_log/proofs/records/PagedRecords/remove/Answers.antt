@@ -7,17 +7,17 @@ use Rattle.hot_log.proofs.Paged.{seen, got, shrunk_members, shrunk_paged, held_o
 use Rattle.hot_log.proofs.records.PagedRecords.remove.Goals as goal
 
 pub invariant_of-self : goal.invariant_of-self
-invariant_of-self c = shrunk_paged c.self.inside.map c.remove.new.self c.args.page c.args.key (record { was = c.self.invariant; ordered = c.remove.ensures.ordered; at = c.remove.ensures.updates.0 })
+invariant_of-self c = shrunk_paged c.self.inside.map c.remove.new.self c.args.page c.args.key (record { was = c.self.invariant; ordered = c.remove.ensures.ordered; at = c.remove.ensures.loses })
 
 pub returns-clause-value : goal.returns-clause-value
 returns-clause-value c =
     subst (λ (l : List RecordData). IsRecordOf l c.args.page c.args.key c.remove.result) c.self.view_is
-    (got c.self.inside.map c.self.invariant c.args.page c.args.key c.remove.result c.remove.ensures.value)
+    (got c.self.inside.map c.self.invariant c.args.page c.args.key c.remove.result c.remove.ensures.had)
 
 pub returns-clause-removes : goal.returns-clause-removes
 returns-clause-removes c =
     subst (λ (l : List RecordData). Removes (λ r. (r.page ≡ c.args.page) × HasKey c.args.key.0 c.args.key.1 r) l (seen c.remove.new.self)) c.self.view_is
-    (shrunk_members c.self.inside.map c.remove.new.self c.args.page c.args.key (record { was = c.self.invariant; ordered = c.remove.ensures.ordered; at = c.remove.ensures.updates.0 }))
+    (shrunk_members c.self.inside.map c.remove.new.self c.args.page c.args.key (record { was = c.self.invariant; ordered = c.remove.ensures.ordered; at = c.remove.ensures.loses }))
 
 pub returns-clause-form : goal.returns-clause-form
 returns-clause-form c = held_of c.remove.new.self (invariant_of-self c)

@@ -1,0 +1,9 @@
+pub mod Found
+pub mod Lists
+pub mod Shaped
+pub mod Placed
+pub mod Removed
+pub mod Parts
+pub mod Cuts
+pub mod Copied
+pub mod Strides

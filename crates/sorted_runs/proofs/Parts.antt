@@ -1,0 +1,161 @@
+-- The entries between two places, and the iterator's three parts.
+use Rattle.std.proofs.Common.{◌≡◌, ℕ, zero, suc, ◌+◌, ◌-◌, ◌<◌, ◌≤◌, ◌⊎◌, ⊎_elim, List, [], ◌∷◌, ◌++◌, length, get_or, take, drop, sym, ap, ◌∙◌, refl, arith, append_assoc, length-append}
+use Rattle.std.specs.Global.{Vec}
+use Rattle.std.proofs.Math.Numerals.{add-one}
+use Rattle.std.proofs.lemmas.List.{append-nil, get_or_default}
+use Rattle.sorted_runs.specs.Rows.{entries}
+use Rattle.sorted_runs.specs.Edits.{offset}
+use Rattle.sorted_runs.proofs.Lists.{entries_split}
+use Rattle.sorted_runs.proofs.Shaped.{entries_push}
+
+module _ {X : Type 0} where
+  take_past : (a b : List X) (m n : ℕ) → m ≡ length a + n → take m (a ++ b) ≡ a ++ take n b
+  take_past [] b m n e = ap (λ (l : ℕ). take l b) (let h : m ≡ n = omega arith in h)
+  take_past (x ∷ a) b zero n e = absurd (omega arith)
+  take_past (x ∷ a) b (suc m) n e = ap (λ l. x ∷ l) (take_past a b m n (omega arith))
+
+  drop_past : (a b : List X) (m n : ℕ) → m ≡ length a + n → drop m (a ++ b) ≡ drop n b
+  drop_past [] b m n e = ap (λ (l : ℕ). drop l b) (let h : m ≡ n = omega arith in h)
+  drop_past (x ∷ a) b zero n e = absurd (omega arith)
+  drop_past (x ∷ a) b (suc m) n e = drop_past a b m n (omega arith)
+
+  take_within : (a b : List X) (n : ℕ) → n ≤ length a → take n (a ++ b) ≡ take n a
+  take_within a b zero le = refl
+  take_within [] b (suc n) le = absurd (omega arith)
+  take_within (x ∷ a) b (suc n) le = ap (λ l. x ∷ l) (take_within a b n (omega arith))
+
+  drop_within : (a b : List X) (n : ℕ) → n ≤ length a → drop n (a ++ b) ≡ drop n a ++ b
+  drop_within a b zero le = refl
+  drop_within [] b (suc n) le = absurd (omega arith)
+  drop_within (x ∷ a) b (suc n) le = drop_within a b n (omega arith)
+
+  none_between : (xs : List X) (p q : ℕ) → q ≤ p → drop p (take q xs) ≡ []
+  none_between xs zero zero le = refl
+  none_between xs zero (suc q) le = absurd (omega arith)
+  none_between xs (suc p) zero le = refl
+  none_between [] (suc p) (suc q) le = refl
+  none_between (x ∷ xs) (suc p) (suc q) le = none_between xs p q (omega arith)
+
+  take_take : (xs : List X) (r s : ℕ) → r < s → take r (take s xs) ≡ take r xs
+  take_take xs zero s lt = refl
+  take_take xs (suc r) zero lt = absurd (omega arith)
+  take_take [] (suc r) (suc s) lt = refl
+  take_take (x ∷ xs) (suc r) (suc s) lt = ap (λ l. x ∷ l) (take_take xs r s (omega arith))
+
+  at_take : (xs : List X) (r s : ℕ) (d : X) → r < s → get_or (take s xs) r d ≡ get_or xs r d
+  at_take xs r zero d lt = absurd (omega arith)
+  at_take [] r (suc s) d lt = refl
+  at_take (x ∷ xs) zero (suc s) d lt = refl
+  at_take (x ∷ xs) (suc r) (suc s) d lt = at_take xs r s d (omega arith)
+
+  long_take : (xs : List X) (r s : ℕ) → r < s → s ≤ length xs → r < length (take s xs)
+  long_take xs r zero lt le = absurd (omega arith)
+  long_take [] r (suc s) lt le = absurd (omega arith)
+  long_take (x ∷ xs) zero (suc s) lt le = omega arith
+  long_take (x ∷ xs) (suc r) (suc s) lt le = let h = long_take xs r s (omega arith) (omega arith) in omega arith
+
+module _ {K V : Type 0} (vs : List (Vec (K × V))) (d : Vec (K × V)) where
+  -- the entries of the runs before s, as those before r, those of r and the rest
+  up_to : (r s : ℕ) → r < s → s ≤ length vs → entries (take s vs) ≡ entries (take r vs) ++ ((get_or vs r d).items ++ entries (drop (suc r) (take s vs)))
+  up_to r s lt le =
+      let rest = entries (drop (suc r) (take s vs)) in
+      entries_split (take s vs) r d (long_take vs r s lt le)
+      ∙ ap (λ (l : List (Vec (K × V))). entries l ++ ((get_or (take s vs) r d).items ++ rest)) (take_take vs r s lt)
+      ∙ ap (λ (v : Vec (K × V)). entries (take r vs) ++ (v.items ++ rest)) (at_take vs r s d lt)
+
+  -- what is up to a place
+  taken_to : (s j : ℕ) → s < length vs → j ≤ length (get_or vs s d).items → take (offset vs s j) (entries vs) ≡ entries (take s vs) ++ take j (get_or vs s d).items
+  taken_to s j lt le =
+      let run = (get_or vs s d).items in
+      let back = entries (drop (suc s) vs) in
+      ap (λ l. take (offset vs s j) l) (entries_split vs s d lt)
+      ∙ take_past (entries (take s vs)) (run ++ back) (offset vs s j) j refl
+      ∙ ap (λ l. entries (take s vs) ++ l) (take_within run back j le)
+
+  module _ (r i s j : ℕ) (below : s < length vs) (inside : j ≤ length (get_or vs s d).items) where
+    -- a place in an earlier run and one in a later run
+    between_runs : r < s → i ≤ length (get_or vs r d).items → drop (offset vs r i) (take (offset vs s j) (entries vs)) ≡ drop i (get_or vs r d).items ++ (entries (drop (suc r) (take s vs)) ++ take j (get_or vs s d).items)
+    between_runs lt le =
+        let front = entries (take r vs) in
+        let run = (get_or vs r d).items in
+        let mid = entries (drop (suc r) (take s vs)) in
+        let last = take j (get_or vs s d).items in
+        ap (λ l. drop (offset vs r i) l) (taken_to s j below inside ∙ ap (λ l. l ++ last) (up_to r s lt (omega arith)) ∙ append_assoc front (run ++ mid) last)
+        ∙ drop_past front ((run ++ mid) ++ last) (offset vs r i) i refl
+        ∙ ap (λ l. drop i l) (append_assoc run mid last)
+        ∙ drop_within run (mid ++ last) i le
+
+    -- two places of one run
+    between_same : r ≡ s → drop (offset vs r i) (take (offset vs s j) (entries vs)) ≡ drop i (take j (get_or vs s d).items)
+    between_same same =
+        let last = take j (get_or vs s d).items in
+        ap (λ (q : ℕ). drop (offset vs q i) (take (offset vs s j) (entries vs))) same
+        ∙ ap (λ l. drop (offset vs s i) l) (taken_to s j below inside)
+        ∙ drop_past (entries (take s vs)) last (offset vs s i) i refl
+
+    -- the other way round there is nothing
+    pub between_none : r < length vs → (s < r) ⊎ ((r ≡ s) × (j < i)) → drop (offset vs r i) (take (offset vs s j) (entries vs)) ≡ []
+    between_none lt crossed = none_between (entries vs) (offset vs r i) (offset vs s j) (⊎_elim earlier same crossed)
+      where
+        earlier : s < r → offset vs s j ≤ offset vs r i
+        earlier h =
+            let e = ap (λ l. length l) (up_to s r h (omega arith)) in
+            let a = length-append (entries (take s vs)) ((get_or vs s d).items ++ entries (drop (suc s) (take r vs))) in
+            let b = length-append (get_or vs s d).items (entries (drop (suc s) (take r vs))) in
+            omega arith
+
+        same : (r ≡ s) × (j < i) → offset vs s j ≤ offset vs r i
+        same h =
+            let e = ap (λ (q : ℕ). length (entries (take q vs))) h.0 in
+            let lt = h.1 in
+            omega arith
+
+module _ {X : Type 0} where
+  abbrev nothing : List X
+  nothing = []
+
+  of_none : (n : ℕ) → take n nothing ≡ nothing
+  of_none zero = refl
+  of_none (suc n) = refl
+
+  -- a part of a list, as code names it
+  part : (xs : List X) (i j : ℕ) → take (j - i) (drop i xs) ≡ drop i (take j xs)
+  part xs zero j = ap (λ (n : ℕ). take n xs) (let h : j - 0 ≡ j = omega arith in h)
+  part [] (suc i) zero = of_none (0 - suc i)
+  part (x ∷ xs) (suc i) zero = ap (λ (n : ℕ). take n (drop i xs)) (let h : 0 - suc i ≡ 0 = omega arith in h)
+  part [] (suc i) (suc j) = of_none (suc j - suc i)
+  part (x ∷ xs) (suc i) (suc j) = ap (λ (n : ℕ). take n (drop i xs)) (let h : suc j - suc i ≡ j - i = omega arith in h) ∙ part xs i j
+
+  whole : (xs : List X) → take (length xs) xs ≡ xs
+  whole [] = refl
+  whole (x ∷ xs) = ap (λ l. x ∷ l) (whole xs)
+
+  rest : (xs : List X) (i : ℕ) → take (length xs - i) (drop i xs) ≡ drop i xs
+  rest xs i = part xs i (length xs) ∙ ap (λ l. drop i l) (whole xs)
+
+module _ {K V : Type 0} (vs : List (Vec (K × V))) (a b : Vec (K × V)) (r i s j : ℕ) (below : s < length vs) (inside : j ≤ length (get_or vs s b).items) (av : a ≡ get_or vs r a) (bv : b ≡ get_or vs s b) (first last : List (K × V)) (fa : first ≡ a.items) (lb : last ≡ b.items) (earlier : r < length vs) where
+  first_is : first ≡ (get_or vs r b).items
+  first_is = fa ∙ ap (λ (v : Vec (K × V)). v.items) (av ∙ get_or_default vs r a b earlier)
+
+  last_is : last ≡ (get_or vs s b).items
+  last_is = lb ∙ ap (λ (v : Vec (K × V)). v.items) bv
+
+  pub read_runs : r < s → i ≤ length (get_or vs r b).items → take (length first - i) (drop i first) ++ (entries (take (s - (r + 1)) (drop (r + 1) vs)) ++ take j last) ≡ drop (offset vs r i) (take (offset vs s j) (entries vs))
+  read_runs lt le =
+      let tail = take j last in
+      ap (λ l. l ++ (entries (take (s - (r + 1)) (drop (r + 1) vs)) ++ tail)) (rest first i ∙ ap (λ l. drop i l) first_is)
+      ∙ ap (λ (l : List (Vec (K × V))). drop i (get_or vs r b).items ++ (entries l ++ tail)) (part vs (r + 1) s ∙ ap (λ (n : ℕ). drop n (take s vs)) (add-one r))
+      ∙ ap (λ l. drop i (get_or vs r b).items ++ (entries (drop (suc r) (take s vs)) ++ l)) (ap (λ l. take j l) last_is)
+      ∙ sym (between_runs vs b r i s j below inside lt le)
+
+  pub read_same : r ≡ s → take (j - i) (drop i first) ++ [] ≡ drop (offset vs r i) (take (offset vs s j) (entries vs))
+  read_same same =
+      append-nil (take (j - i) (drop i first)) ∙ part first i j
+      ∙ ap (λ l. drop i (take j l)) (first_is ∙ ap (λ (q : ℕ). (get_or vs q b).items) same)
+      ∙ sym (between_same vs b r i s j below inside same)
+
+-- the last run of the middle becomes the back
+pub walked_back : {K V : Type 0} (front : List (K × V)) (middle rest : List (Vec (K × V))) (run : Vec (K × V)) (back new all : List (K × V)) → middle ≡ rest ++ run ∷ [] → length back ≡ 0 → new ≡ run.items → front ++ (entries middle ++ back) ≡ all → front ++ (entries rest ++ new) ≡ all
+walked_back {K} {V} front middle rest run [] new all is none same whole =
+    ap (λ l. front ++ l) (ap (λ l. entries rest ++ l) same ∙ sym (entries_push rest run) ∙ ap (λ (l : List (Vec (K × V))). entries l) (sym is) ∙ sym (append-nil (entries middle))) ∙ whole
+walked_back {K} {V} front middle rest run (x ∷ back) new all is none same whole = absurd (omega arith)

@@ -1,0 +1,231 @@
+-- Edits of one run.
+use Rattle.std.proofs.Math.Numerals.{add-one}
+use Rattle.std.specs.Result.{IsOk, is_ok}
+use Rattle.std.proofs.Common.{cond, Result, Ok, Err, OnErr, ◌≡◌, ℕ, zero, suc, ◌+◌, ◌-◌, ◌<◌, ◌≤◌, List, [], ◌∷◌, ◌++◌, length, get_or, set, take, drop, sym, ap, ◌∙◌, subst, refl, arith, append_assoc, length-append}
+use Rattle.std.specs.Global.{Vec}
+use Rattle.std.specs.List.{insert}
+use Rattle.std.proofs.lemmas.List.{append-nil, take-append-drop}
+use Rattle.std.proofs.lemmas.List.Edits.{insert-append_left, insert-append_right, length-insert}
+use Rattle.sorted_runs.specs.Rows.{entries, Headed, StartsWith, AllUpTo}
+use Rattle.sorted_runs.specs.Edits.{IsShaped, offset, GainsAt, Splits}
+use Rattle.sorted_runs.proofs.Lists.{entries_split, entries_set, insert_in, take_long}
+use Rattle.sorted_runs.specs.declared.edits.TheConstants.{FULL}
+
+module _ {K V : Type 0} where
+  pub headed_set : (fs : List K) (vs : List (Vec (K × V))) (r : ℕ) (f : K) (w : Vec (K × V)) → Headed fs vs → r < length vs → StartsWith f w.items → Headed (set fs r f) (set vs r w)
+  headed_set [] [] r f w h lt s = absurd (omega arith)
+  headed_set [] (v ∷ vs) r f w h lt s = absurd h
+  headed_set (g ∷ fs) [] r f w h lt s = absurd h
+  headed_set (g ∷ fs) (v ∷ vs) zero f w h lt s = (s, h.1)
+  headed_set (g ∷ fs) (v ∷ vs) (suc r) f w h lt s = (h.0, headed_set fs vs r f w h.1 (omega arith) s)
+
+  pub headed_keep : (fs : List K) (vs : List (Vec (K × V))) (r : ℕ) (d w : Vec (K × V)) → Headed fs vs → r < length vs → ((f : K) → StartsWith f (get_or vs r d).items → StartsWith f w.items) → Headed fs (set vs r w)
+  headed_keep [] [] r d w h lt s = absurd (omega arith)
+  headed_keep [] (v ∷ vs) r d w h lt s = absurd h
+  headed_keep (g ∷ fs) [] r d w h lt s = absurd h
+  headed_keep (g ∷ fs) (v ∷ vs) zero d w h lt s = (s g h.0, h.1)
+  headed_keep (g ∷ fs) (v ∷ vs) (suc r) d w h lt s = (h.0, headed_keep fs vs r d w h.1 (omega arith) s)
+
+  pub bounded_set : (vs : List (Vec (K × V))) (r m : ℕ) (w : Vec (K × V)) → AllUpTo m vs → length w.items ≤ m → AllUpTo m (set vs r w)
+  bounded_set [] r m w h le = tt
+  bounded_set (v ∷ vs) zero m w h le = (le, h.1)
+  bounded_set (v ∷ vs) (suc r) m w h le = (h.0, bounded_set vs r m w h.1 le)
+
+  headed_insert : (fs : List K) (vs : List (Vec (K × V))) (r : ℕ) (f : K) (w : Vec (K × V)) → Headed fs vs → StartsWith f w.items → Headed (insert fs r f) (insert vs r w)
+  headed_insert fs vs zero f w h s = (s, h)
+  headed_insert [] [] (suc r) f w h s = (s, tt)
+  headed_insert [] (v ∷ vs) (suc r) f w h s = absurd h
+  headed_insert (g ∷ fs) [] (suc r) f w h s = absurd h
+  headed_insert (g ∷ fs) (v ∷ vs) (suc r) f w h s = (h.0, headed_insert fs vs r f w h.1 s)
+
+  bounded_insert : (vs : List (Vec (K × V))) (r m : ℕ) (w : Vec (K × V)) → AllUpTo m vs → length w.items ≤ m → AllUpTo m (insert vs r w)
+  bounded_insert vs zero m w h le = (le, h)
+  bounded_insert [] (suc r) m w h le = (le, tt)
+  bounded_insert (v ∷ vs) (suc r) m w h le = (h.0, bounded_insert vs r m w h.1 le)
+
+  entries_insert : (vs : List (Vec (K × V))) (r : ℕ) (w : Vec (K × V)) → entries (insert vs r w) ≡ entries (take r vs) ++ (w.items ++ entries (drop r vs))
+  entries_insert vs zero w = refl
+  entries_insert [] (suc r) w = refl
+  entries_insert (v ∷ vs) (suc r) w = ap (λ l. v.items ++ l) (entries_insert vs r w) ∙ sym (append_assoc v.items (entries (take r vs)) (w.items ++ entries (drop r vs)))
+
+  entries_cut : (vs : List (Vec (K × V))) (r : ℕ) → entries vs ≡ entries (take r vs) ++ entries (drop r vs)
+  entries_cut vs zero = refl
+  entries_cut [] (suc r) = refl
+  entries_cut (v ∷ vs) (suc r) = ap (λ l. v.items ++ l) (entries_cut vs r) ∙ sym (append_assoc v.items (entries (take r vs)) (entries (drop r vs)))
+
+  pub bounded_at : (vs : List (Vec (K × V))) (r m : ℕ) (d : Vec (K × V)) → AllUpTo m vs → r < length vs → length (get_or vs r d).items ≤ m
+  bounded_at [] r m d h lt = absurd (omega arith)
+  bounded_at (v ∷ vs) zero m d h lt = h.0
+  bounded_at (v ∷ vs) (suc r) m d h lt = bounded_at vs r m d h.1 (omega arith)
+
+  entries_up_to : (vs : List (Vec (K × V))) (r : ℕ) (d : Vec (K × V)) → r < length vs → entries (take (suc r) vs) ≡ entries (take r vs) ++ (get_or vs r d).items
+  entries_up_to [] r d lt = absurd (omega arith)
+  entries_up_to (v ∷ vs) zero d lt = append-nil v.items
+  entries_up_to (v ∷ vs) (suc r) d lt = ap (λ l. v.items ++ l) (entries_up_to vs r d (omega arith)) ∙ sym (append_assoc v.items (entries (take r vs)) (get_or vs r d).items)
+
+  pub entries_push : (vs : List (Vec (K × V))) (w : Vec (K × V)) → entries (vs ++ w ∷ []) ≡ entries vs ++ w.items
+  entries_push [] w = append-nil w.items
+  entries_push (v ∷ vs) w = ap (λ l. v.items ++ l) (entries_push vs w) ∙ sym (append_assoc v.items (entries vs) w.items)
+
+  starts_insert : (f : K) (es : List (K × V)) (i : ℕ) (e : K × V) → StartsWith f es → (i ≡ 0 → ⊥) → StartsWith f (insert es i e)
+  starts_insert f [] i e s ne = absurd s
+  starts_insert f (x ∷ es) zero e s ne = absurd (ne refl)
+  starts_insert f (x ∷ es) (suc i) e s ne = s
+
+  -- an entry has come into the run r, behind its first
+  pub added_behind : (fs : List K) (vs : List (Vec (K × V))) (r i : ℕ) (e : K × V) (d w : Vec (K × V)) → IsShaped fs vs → r < length vs → i ≤ length (get_or vs r d).items → length (get_or vs r d).items < FULL → w.items ≡ insert (get_or vs r d).items i e → (i ≡ 0 → ⊥) → IsShaped fs (set vs r w)
+  added_behind fs vs r i e d w h lt le room is ne =
+      let long : length w.items ≡ length (get_or vs r d).items + 1 = ap (λ l. length l) is ∙ length-insert (get_or vs r d).items i e le in
+      record {
+        headed = headed_keep fs vs r d w h.headed lt (λ f s. subst (StartsWith f) (sym is) (starts_insert f (get_or vs r d).items i e s ne));
+        bounded = bounded_set vs r FULL w h.bounded (omega arith);
+      }
+
+  pub added_first : (fs : List K) (vs : List (Vec (K × V))) (r : ℕ) (e : K × V) (d w : Vec (K × V)) → IsShaped fs vs → r < length vs → length (get_or vs r d).items < FULL → w.items ≡ insert (get_or vs r d).items 0 e → IsShaped (set fs r e.0) (set vs r w)
+  added_first fs vs r e d w h lt room is =
+      let long : length w.items ≡ length (get_or vs r d).items + 1 = ap (λ l. length l) is ∙ length-insert (get_or vs r d).items 0 e (omega arith) in
+      record {
+        headed = headed_set fs vs r e.0 w h.headed lt (subst (StartsWith e.0) (sym is) refl);
+        bounded = bounded_set vs r FULL w h.bounded (omega arith);
+      }
+
+  pub added_gains : (vs : List (Vec (K × V))) (r i : ℕ) (e : K × V) (d w : Vec (K × V)) → r < length vs → i ≤ length (get_or vs r d).items → w.items ≡ insert (get_or vs r d).items i e → GainsAt vs r i e (set vs r w)
+  added_gains vs r i e d w lt le is =
+      let front = entries (take r vs) in
+      let run = (get_or vs r d).items in
+      let back = entries (drop (suc r) vs) in
+      let n = length front in
+      let place : n + i - n ≡ i = omega arith in
+      entries_set vs r w lt
+      ∙ ap (λ l. front ++ (l ++ back)) is
+      ∙ ap (λ l. front ++ l) (sym (insert-append_left run back i e le))
+      ∙ ap (λ (j : ℕ). front ++ insert (run ++ back) j e) (sym place)
+      ∙ sym (insert-append_right front (run ++ back) n (n + i) e refl (omega arith))
+      ∙ ap (λ l. insert l (n + i) e) (sym (entries_split vs r d lt))
+
+  -- nothing has changed but the block of a run
+  pub same_items : (fs : List K) (vs : List (Vec (K × V))) (r : ℕ) (d w : Vec (K × V)) → IsShaped fs vs → r < length vs → length (get_or vs r d).items ≤ FULL → w.items ≡ (get_or vs r d).items → IsShaped fs (set vs r w) × (entries (set vs r w) ≡ entries vs)
+  same_items fs vs r d w h lt le is =
+      let e = ap (λ l. length l) is in (
+        record {
+          headed = headed_keep fs vs r d w h.headed lt (λ f s. subst (StartsWith f) (sym is) s);
+          bounded = bounded_set vs r FULL w h.bounded (omega arith);
+        },
+        entries_set vs r w lt ∙ ap (λ l. entries (take r vs) ++ (l ++ entries (drop (suc r) vs))) is ∙ sym (entries_split vs r d lt),
+      )
+
+  -- a run of one entry is opened before the run r
+  pub opened_shape : (fs : List K) (vs : List (Vec (K × V))) (r : ℕ) (e : K × V) (w : Vec (K × V)) → IsShaped fs vs → w.items ≡ e ∷ [] → IsShaped (insert fs r e.0) (insert vs r w)
+  opened_shape fs vs r e w h is =
+      let long = ap (λ l. length l) is in
+      record {
+        headed = headed_insert fs vs r e.0 w h.headed (subst (StartsWith e.0) (sym is) refl);
+        bounded = bounded_insert vs r FULL w h.bounded (omega arith);
+      }
+
+  pub opened_gains : (vs : List (Vec (K × V))) (r : ℕ) (e : K × V) (w : Vec (K × V)) → w.items ≡ e ∷ [] → GainsAt vs r 0 e (insert vs r w)
+  opened_gains vs r e w is =
+      let front = entries (take r vs) in
+      let back = entries (drop r vs) in
+      entries_insert vs r w
+      ∙ ap (λ l. front ++ (l ++ back)) is
+      ∙ sym (insert_in front back (offset vs r 0) e (omega arith))
+      ∙ ap (λ l. insert l (offset vs r 0) e) (sym (entries_cut vs r))
+
+  -- the place behind a run is the first of the next
+  pub gains_behind : (vs new : List (Vec (K × V))) (r i : ℕ) (e : K × V) (d : Vec (K × V)) → r < length vs → i ≡ length (get_or vs r d).items → GainsAt vs (r + 1) 0 e new → GainsAt vs r i e new
+  gains_behind vs new r i e d lt end is =
+      let up_to = ap (λ l. length l) (entries_up_to vs r d lt) in
+      let joint = length-append (entries (take r vs)) (get_or vs r d).items in
+      let next = ap (λ (n : ℕ). length (entries (take n vs))) (add-one r) in
+      let same : offset vs (r + 1) 0 ≡ offset vs r i = omega arith in
+      is ∙ ap (λ (n : ℕ). insert (entries vs) n e) same
+
+-- a run is split
+abbrev pub parted : {K V : Type 0} → List (Vec (K × V)) → ℕ → Vec (K × V) → Vec (K × V) → List (Vec (K × V))
+parted vs r a b = insert (set vs r a) (suc r) b
+
+module _ {K V : Type 0} where
+  pub entries_part : (vs : List (Vec (K × V))) (r : ℕ) (d a b : Vec (K × V)) → r < length vs → a.items ++ b.items ≡ (get_or vs r d).items → entries (parted vs r a b) ≡ entries vs
+  entries_part [] r d a b lt is = absurd (omega arith)
+  entries_part (v ∷ vs) zero d a b lt is = sym (append_assoc a.items b.items (entries vs)) ∙ ap (λ l. l ++ entries vs) is
+  entries_part (v ∷ vs) (suc r) d a b lt is = ap (λ l. v.items ++ l) (entries_part vs r d a b (omega arith) is)
+
+  long_part : (vs : List (Vec (K × V))) (r : ℕ) (a b : Vec (K × V)) → r < length vs → r < length (parted vs r a b)
+  long_part [] r a b lt = absurd (omega arith)
+  long_part (v ∷ vs) zero a b lt = omega arith
+  long_part (v ∷ vs) (suc r) a b lt = let h = long_part vs r a b (omega arith) in omega arith
+
+  first_part : (vs : List (Vec (K × V))) (r : ℕ) (a b : Vec (K × V)) → r < length vs → take r (parted vs r a b) ≡ take r vs
+  first_part [] r a b lt = absurd (omega arith)
+  first_part (v ∷ vs) zero a b lt = refl
+  first_part (v ∷ vs) (suc r) a b lt = ap (λ l. v ∷ l) (first_part vs r a b (omega arith))
+
+  at_first : (vs : List (Vec (K × V))) (r : ℕ) (d a b : Vec (K × V)) → r < length vs → get_or (parted vs r a b) r d ≡ a
+  at_first [] r d a b lt = absurd (omega arith)
+  at_first (v ∷ vs) zero d a b lt = refl
+  at_first (v ∷ vs) (suc r) d a b lt = at_first vs r d a b (omega arith)
+
+  starts_take : (f : K) (es : List (K × V)) (n : ℕ) → 0 < n → StartsWith f es → StartsWith f (take n es)
+  starts_take f es zero some s = absurd (omega arith)
+  starts_take f [] (suc n) some s = absurd s
+  starts_take f (e ∷ es) (suc n) some s = s
+
+  pub starts_here : (es : List (K × V)) (x : K × V) → 0 < length es → x ≡ get_or es 0 x → StartsWith x.0 es
+  starts_here [] x lt e = absurd (omega arith)
+  starts_here (y ∷ es) x lt e = ap (λ (z : K × V). z.0) (sym e)
+
+  pub split_shape : (fs : List K) (vs : List (Vec (K × V))) (r n : ℕ) (x : K × V) (d a b : Vec (K × V)) → IsShaped fs vs → r < length vs → 0 < n → n < length (get_or vs r d).items → length (get_or vs r d).items ≤ FULL → a.items ≡ take n (get_or vs r d).items → b.items ≡ drop n (get_or vs r d).items → x ≡ get_or b.items 0 x → IsShaped (insert fs (suc r) x.0) (parted vs r a b)
+  split_shape fs vs r n x d a b h lt some within bound ea eb ex =
+      let run = (get_or vs r d).items in
+      let la : length a.items ≡ n = ap (λ l. length l) ea ∙ take_long run n (omega arith) in
+      let both : a.items ++ b.items ≡ run = ap (λ l. l ++ b.items) ea ∙ ap (λ l. take n run ++ l) eb ∙ take-append-drop n run in
+      let sum = ap (λ l. length l) both in
+      let joint = length-append a.items b.items in
+      record {
+        headed = headed_insert fs (set vs r a) (suc r) x.0 b (headed_keep fs vs r d a h.headed lt (λ f s. subst (StartsWith f) (sym ea) (starts_take f run n some s))) (starts_here b.items x (omega arith) ex);
+        bounded = bounded_insert (set vs r a) (suc r) FULL b (bounded_set vs r FULL a h.bounded (omega arith)) (omega arith);
+      }
+
+  pub split_is : (vs : List (Vec (K × V))) (r n : ℕ) (d a b : Vec (K × V)) → r < length vs → n < length (get_or vs r d).items → a.items ≡ take n (get_or vs r d).items → b.items ≡ drop n (get_or vs r d).items → (entries (parted vs r a b) ≡ entries vs) × Splits vs r n (parted vs r a b)
+  split_is vs r n d a b lt within ea eb =
+      let run = (get_or vs r d).items in
+      let la : length a.items ≡ n = ap (λ l. length l) ea ∙ take_long run n (omega arith) in (
+        entries_part vs r d a b lt (ap (λ l. l ++ b.items) ea ∙ ap (λ l. take n run ++ l) eb ∙ take-append-drop n run),
+        record {
+          within = long_part vs r a b lt;
+          place = ap (λ (l : List (Vec (K × V))). length (entries l) + 0) (first_part vs r a b lt);
+          long = λ e. ap (λ (v : Vec (K × V)). length v.items) (at_first vs r e a b lt) ∙ la;
+        },
+      )
+
+-- the same, as the code reads the run
+module _ {K V : Type 0} (vs : List (Vec (K × V))) (r : ℕ) (d : Vec (K × V)) (dv : d ≡ get_or vs r d) where
+  pub inserted_there : (i : ℕ) (e : K × V) (w : Vec (K × V)) → w.items ≡ insert d.items i e → w.items ≡ insert (get_or vs r d).items i e
+  inserted_there i e w is = is ∙ ap (λ (v : Vec (K × V)). insert v.items i e) dv
+
+  pub kept_there : (w : Vec (K × V)) → w.items ≡ d.items → w.items ≡ (get_or vs r d).items
+  kept_there w is = is ∙ ap (λ (v : Vec (K × V)). v.items) dv
+
+pub always_err : {T E P : Type 0} (r : Result T E) → P → OnErr r P
+always_err (Ok x) p = tt
+always_err (Err e) p = p
+
+pub kept_ok : {X T E : Type 0} (r : Result T E) (x y z : X) → IsOk r → z ≡ cond (is_ok r) x y → z ≡ x
+kept_ok (Ok a) x y z h e = e
+kept_ok (Err a) x y z h e = absurd (cc)
+
+module _ {K V : Type 0} where
+  pub split_all : (fs fs0 : List K) (vs vs0 : List (Vec (K × V))) (r n : ℕ) (x : K × V) (d a b : Vec (K × V)) (fs' : List K) (vs' : List (Vec (K × V))) → IsShaped fs0 vs0 → fs ≡ fs0 → vs ≡ vs0 → r < length vs0 → d ≡ get_or vs r d → 0 < n → n < length (get_or vs0 r d).items → a.items ≡ take n d.items → b.items ≡ drop n d.items → x ≡ get_or b.items 0 x → fs' ≡ insert fs (r + 1) x.0 → vs' ≡ insert (set vs r a) (r + 1) b → record { shaped : IsShaped fs' vs'; same : entries vs' ≡ entries vs0; splits : Splits vs0 r n vs' }
+  split_all fs fs0 vs vs0 r n x d a b fs' vs' h efs ev lt dv some within ea eb ex ef ew =
+      let run_d : d.items ≡ (get_or vs0 r d).items = ap (λ (v : Vec (K × V)). v.items) dv ∙ ap (λ (l : List (Vec (K × V))). (get_or l r d).items) ev in
+      let fa : a.items ≡ take n (get_or vs0 r d).items = ea ∙ ap (λ l. take n l) run_d in
+      let fb : b.items ≡ drop n (get_or vs0 r d).items = eb ∙ ap (λ l. drop n l) run_d in
+      let fs_is : fs' ≡ insert fs0 (suc r) x.0 = ef ∙ ap (λ l. insert l (r + 1) x.0) efs ∙ ap (λ (m : ℕ). insert fs0 m x.0) (add-one r) in
+      let vs_is : vs' ≡ parted vs0 r a b = ew ∙ ap (λ (l : List (Vec (K × V))). insert (set l r a) (r + 1) b) ev ∙ ap (λ (m : ℕ). insert (set vs0 r a) m b) (add-one r) in
+      let is = split_is vs0 r n d a b lt within fa fb in
+      record {
+        shaped = subst (λ l. IsShaped l vs') (sym fs_is) (subst (λ l. IsShaped (insert fs0 (suc r) x.0) l) (sym vs_is) (split_shape fs0 vs0 r n x d a b h lt some within (bounded_at vs0 r FULL d h.bounded lt) fa fb ex));
+        same = ap (λ l. entries l) vs_is ∙ is.0;
+        splits = subst (λ l. Splits vs0 r n l) (sym vs_is) is.1;
+      }

@@ -1,0 +1,166 @@
+ghost use Rattle.std.specs.Prelude.{◌≡◌, ◌<◌, ◌≤◌, length, IfErr, OnOk, OnErr, slice_index_or, slice_set};
+ghost use Rattle.std.specs.Global.{Vec};
+ghost use Rattle.sorted_runs.specs.Edits.{IsShaped, GainsAt, LosesAt, Splits};
+ghost use Rattle.sorted_runs.specs.Rows.{entries};
+
+use std::alloc::{AllocError, AllocFailed, Global};
+use std::mem::replace;
+
+// How many entries a run takes, and how many stay at least where a full one is split.
+const FULL: usize = 64;
+
+const HALF: usize = 32;
+
+// Writes over the value at a place.
+pub(crate) fn write<K, V>(run: &mut Vec<(K, V)>, at: usize, value: V) -> V
+    requires { at < length run.old.items }
+    ensures was { (d : K × V) → let e = slice_index_or run.old.items at d in result ≡ e.1 }
+    ensures written { (d : K × V) → let e = slice_index_or run.old.items at d in run.new.items ≡ slice_set run.old.items at (e.0, value) }
+{
+    let entry = &mut run[at];
+    replace(&mut entry.1, value)
+}
+
+// Takes the entry at a place out of its run, which goes where it was the last.
+pub(crate) fn take_out<K: Copy + Drop, V: Drop>(
+    firsts: &mut Vec<K>,
+    runs: &mut Vec<Vec<(K, V)>>,
+    r: usize,
+    at: usize,
+) -> V
+    requires shaped { IsShaped firsts.old.items runs.old.items }
+    requires within { r < length runs.old.items }
+    requires place { (d : Vec (K × V)) → let run = slice_index_or runs.old.items r d in at < length run.items }
+    ensures shaped { IsShaped firsts.new.items runs.new.items }
+    ensures value { (d : Vec (K × V)) (e : K × V) → let run = slice_index_or runs.old.items r d in let x = slice_index_or run.items at e in result ≡ x.1 }
+    ensures loses { (d : Vec (K × V)) → LosesAt runs.old.items r at d runs.new.items }
+{
+    let run = &mut runs[r];
+    let (_, value) = run.remove(at);
+    if run.is_empty() {
+        let _ = runs.remove(r);
+        let _ = firsts.remove(r);
+    } else if at == 0 {
+        firsts[r] = run[0].0;
+    }
+    value
+}
+
+// Puts an entry in its place in a run. Where that is full, it is split, or else the entry begins a run of its own behind it.
+pub(crate) fn add<K: Copy + Drop, V: Drop>(
+    alloc: Global,
+    firsts: &mut Vec<K>,
+    runs: &mut Vec<Vec<(K, V)>>,
+    r: usize,
+    at: usize,
+    key: K,
+    value: V,
+) -> Result<(), AllocFailed<(K, V)>>
+    requires shaped { IsShaped firsts.old.items runs.old.items }
+    requires within { r < length runs.old.items }
+    requires place { (d : Vec (K × V)) → let run = slice_index_or runs.old.items r d in at ≤ length run.items }
+    ensures shaped { IsShaped firsts.new.items runs.new.items }
+    ensures gains { OnOk result (GainsAt runs.old.items r at (key, value) runs.new.items) }
+    ensures returned { IfErr result (λ e. e.value ≡ (key, value)) }
+    ensures unchanged { OnErr result (entries runs.new.items ≡ entries runs.old.items) }
+{
+    let len = runs[r].len();
+    if len < FULL {
+        return add_into(firsts, runs, r, at, key, value);
+    }
+    if at == len {
+        return open(alloc, firsts, runs, r + 1, key, value);
+    }
+    // Nothing is to stand behind the entry, so that the next of a row of rising keys is a push; but half of the run stays.
+    let Ok(()) = split(firsts, runs, r, at.max(HALF)) else {
+        return Err(AllocFailed {
+            value: (key, value),
+        });
+    };
+    add_into(firsts, runs, r, at, key, value)
+}
+
+// Puts an entry into a run that is not full.
+pub(crate) fn add_into<K: Copy, V>(
+    firsts: &mut Vec<K>,
+    runs: &mut Vec<Vec<(K, V)>>,
+    r: usize,
+    at: usize,
+    key: K,
+    value: V,
+) -> Result<(), AllocFailed<(K, V)>>
+    requires shaped { IsShaped firsts.old.items runs.old.items }
+    requires within { r < length runs.old.items }
+    requires place { (d : Vec (K × V)) → let run = slice_index_or runs.old.items r d in at ≤ length run.items }
+    requires room { (d : Vec (K × V)) → let run = slice_index_or runs.old.items r d in length run.items < FULL }
+    ensures shaped { OnOk result (IsShaped firsts.new.items runs.new.items) }
+    ensures gains { OnOk result (GainsAt runs.old.items r at (key, value) runs.new.items) }
+    ensures returned { IfErr result (λ e. e.value ≡ (key, value)) }
+    ensures shape_stays { OnErr result (IsShaped firsts.new.items runs.new.items) }
+    ensures unchanged { OnErr result (entries runs.new.items ≡ entries runs.old.items) }
+{
+    let run = &mut runs[r];
+    run.insert(at, (key, value))?;
+    if at == 0 {
+        firsts[r] = key;
+    }
+    Ok(())
+}
+
+// Puts an entry before the run r, or behind all others, into a run of its own.
+pub(crate) fn open<K: Copy + Drop, V: Drop>(
+    alloc: Global,
+    firsts: &mut Vec<K>,
+    runs: &mut Vec<Vec<(K, V)>>,
+    r: usize,
+    key: K,
+    value: V,
+) -> Result<(), AllocFailed<(K, V)>>
+    requires shaped { IsShaped firsts.old.items runs.old.items }
+    requires within { r ≤ length runs.old.items }
+    ensures shaped { IsShaped firsts.new.items runs.new.items }
+    ensures gains { OnOk result (GainsAt runs.old.items r 0 (key, value) runs.new.items) }
+    ensures returned { IfErr result (λ e. e.value ≡ (key, value)) }
+    ensures unchanged { OnErr result (entries runs.new.items ≡ entries runs.old.items) }
+{
+    let Ok(()) = firsts.reserve(1) else {
+        return Err(AllocFailed {
+            value: (key, value),
+        });
+    };
+    let Ok(()) = runs.reserve(1) else {
+        return Err(AllocFailed {
+            value: (key, value),
+        });
+    };
+    let mut run = Vec::new(alloc);
+    run.push((key, value))?;
+    let _ = firsts.insert(r, key);
+    let _ = runs.insert(r, run);
+    Ok(())
+}
+
+// Moves the entries of a run from the place cut on into a run of their own behind it.
+pub(crate) fn split<K: Copy + Drop, V: Drop>(
+    firsts: &mut Vec<K>,
+    runs: &mut Vec<Vec<(K, V)>>,
+    r: usize,
+    cut: usize,
+) -> Result<(), AllocError>
+    requires shaped { IsShaped firsts.old.items runs.old.items }
+    requires within { r < length runs.old.items }
+    requires some { 0 < cut }
+    requires place { (d : Vec (K × V)) → let run = slice_index_or runs.old.items r d in cut < length run.items }
+    ensures shaped { IsShaped firsts.new.items runs.new.items }
+    ensures same { entries runs.new.items ≡ entries runs.old.items }
+    ensures cuts { OnOk result (Splits runs.old.items r cut runs.new.items) }
+{
+    firsts.reserve(1)?;
+    runs.reserve(1)?;
+    let run = &mut runs[r];
+    let rest = run.split_off(cut)?;
+    let first = rest[0].0;
+    let _ = firsts.insert(r + 1, first);
+    let _ = runs.insert(r + 1, rest);
+    Ok(())
+}

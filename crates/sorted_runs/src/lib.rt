@@ -1,0 +1,187 @@
+//! An ordered map whose entries stand in runs of bounded length, in the order of their keys.
+//!
+//! A key is looked for among the first keys of the runs, and then in its run. So a key behind all others is a push, and so is mostly
+//! the next of a row of rising keys that comes between others; a walk goes over memory from end to end. A full run is split and an
+//! empty one goes; the runs behind it then move by a place, which begins to weigh where a million keys come in no order. Reading takes
+//! no memory; `insert` and `copy` alone can want some.
+//!
+//! `search` finds places, `edits` changes runs, `entries` walks over them, and `copies` copies them.
+#![tactic(auto)]
+
+ghost use Rattle.std.specs.Prelude.{◌≡◌, [], length, IfOk, IfErr, OnOk, OnErr};
+ghost use Rattle.std.specs.Option.{option_copied};
+ghost use Rattle.std.specs.List.{filter, AllZip};
+ghost use Rattle.std.specs.Map.{keys_of, lookup, remove_entry};
+ghost use Rattle.std.specs.BTreeMap.{is_at, insert_entry};
+ghost use Rattle.std.specs.BTreeMap.Range.{range_contains};
+ghost use Rattle.std.specs.List.Sorted.{IsStrictlySortedBy};
+ghost use Rattle.sorted_runs.specs.Copies.{IsEntryCopy};
+
+mod copies;
+mod edits;
+mod entries;
+mod search;
+
+use copies::{copy_keys, copy_runs};
+use edits::{add, open, take_out, write};
+pub use entries::Entries;
+use search::{end_of, run_for, slot, start_of};
+use std::alloc::{AllocError, AllocFailed, Global};
+use std::marker::Model;
+use std::ops::Bound;
+
+/// Entries in the order of their keys.
+#[derive(Debug, Drop)]
+pub struct SortedRuns<K: Ord + Copy, V> {
+    alloc: Global,
+    firsts: Vec<K>,
+    runs: Vec<Vec<(K, V)>>,
+    len: usize,
+}
+
+impl<K: Ord + Copy, V> Model for SortedRuns<K, V> {
+    ghost use Rattle.std.specs.Prelude.{List};
+    ghost use Rattle.sorted_runs.specs.Rows.{entries, IsRuns};
+
+    ghost Value = { List (K × V) };
+
+    ghost view = { λ s. entries s.runs.items };
+
+    ghost invariant = { λ s. IsRuns K.cmp s.firsts.items s.runs.items s.len };
+}
+
+impl<K: Ord + Copy, V> SortedRuns<K, V> {
+    /// A map with no entries. It takes no memory yet.
+    pub fn new(alloc: Global) -> Self
+        ensures { result ≡ [] }
+    {
+        SortedRuns {
+            alloc,
+            firsts: Vec::new(alloc),
+            runs: Vec::new(alloc),
+            len: 0,
+        }
+    }
+
+    /// How many entries it holds.
+    pub fn len(&self) -> usize
+        ensures len { result ≡ length self.now }
+        ensures ordered { IsStrictlySortedBy K.cmp (keys_of self.now) }
+    {
+        self.len
+    }
+
+    /// The value of a key, or None where it has none.
+    pub fn get(&self, key: &K) -> Option<&V>
+        ensures value { option_copied result ≡ lookup (is_at (K.cmp key.now)) self.now }
+        ensures ordered { IsStrictlySortedBy K.cmp (keys_of self.now) }
+    {
+        if self.firsts.is_empty() {
+            return None;
+        }
+        let r = run_for(&self.firsts, key);
+        let run = &self.runs[r];
+        match slot(run, key) {
+            Ok(at) => Some(&run[at].1),
+            Err(_) => None,
+        }
+    }
+
+    /// All entries, rising.
+    pub fn iter(&self) -> Entries<'_, K, V>
+        ensures rest { result ≡ self.now }
+        ensures ordered { IsStrictlySortedBy K.cmp (keys_of self.now) }
+    {
+        Entries::all(&self.runs)
+    }
+
+    /// The entries with keys between two bounds, rising; none where the bounds cross.
+    pub fn range(&self, from: Bound<K>, to: Bound<K>) -> Entries<'_, K, V>
+        ensures between { filter (λ e. range_contains K.cmp from to e.0) self.now ≡ result }
+        ensures ordered { IsStrictlySortedBy K.cmp (keys_of self.now) }
+    {
+        if self.firsts.is_empty() {
+            return Entries::all(&self.runs);
+        }
+        let begin = start_of(&self.firsts, &self.runs, &from);
+        let end = end_of(&self.firsts, &self.runs, &to);
+        Entries::between(&self.runs, begin, end)
+    }
+}
+
+impl<K: Ord + Copy + Drop, V: Drop> SortedRuns<K, V> {
+    /// Gives a key a value, and tells the value that it had. Its only error is want of memory, or of numbers to count the entries with:
+    /// the entries are then as they were, without the key, and it comes back with the value.
+    pub fn insert(&mut self, key: K, value: V) -> Result<Option<V>, AllocFailed<(K, V)>>
+        ensures had { IfOk result (λ had. had ≡ lookup (is_at (K.cmp key)) self.old) }
+        ensures gains { OnOk result (self.new ≡ insert_entry K.cmp self.old key value) }
+        ensures returned { IfErr result (λ e. e.value ≡ (key, value)) }
+        ensures absent { OnErr result (lookup (is_at (K.cmp key)) self.old ≡ None) }
+        ensures unchanged { OnErr result (self.new ≡ self.old) }
+        ensures was_ordered { IsStrictlySortedBy K.cmp (keys_of self.old) }
+        ensures ordered { IsStrictlySortedBy K.cmp (keys_of self.new) }
+    {
+        if self.firsts.is_empty() {
+            open(self.alloc, &mut self.firsts, &mut self.runs, 0, key, value)?;
+            self.len = 1;
+            return Ok(None);
+        }
+        let r = run_for(&self.firsts, &key);
+        match slot(&self.runs[r], &key) {
+            Ok(at) => Ok(Some(write(&mut self.runs[r], at, value))),
+            Err(at) => {
+                let Some(len) = self.len.checked_add(1) else {
+                    return Err(AllocFailed {
+                        value: (key, value),
+                    });
+                };
+                add(
+                    self.alloc,
+                    &mut self.firsts,
+                    &mut self.runs,
+                    r,
+                    at,
+                    key,
+                    value,
+                )?;
+                self.len = len;
+                Ok(None)
+            }
+        }
+    }
+
+    /// Takes a key out, and tells the value that it had, or None where it had none.
+    pub fn remove(&mut self, key: &K) -> Option<V>
+        ensures had { result ≡ lookup (is_at (K.cmp key.now)) self.old }
+        ensures loses { self.new ≡ remove_entry (is_at (K.cmp key.now)) self.old }
+        ensures was_ordered { IsStrictlySortedBy K.cmp (keys_of self.old) }
+        ensures ordered { IsStrictlySortedBy K.cmp (keys_of self.new) }
+    {
+        if self.firsts.is_empty() {
+            return None;
+        }
+        let r = run_for(&self.firsts, key);
+        match slot(&self.runs[r], key) {
+            Ok(at) => {
+                let value = take_out(&mut self.firsts, &mut self.runs, r, at);
+                self.len -= 1;
+                Some(value)
+            }
+            Err(_) => None,
+        }
+    }
+}
+
+impl<K: Ord + Copy + Drop, V: Clone + Drop> SortedRuns<K, V> {
+    /// The same keys and clones of their values, in memory of their own. Its only error is want of memory.
+    pub fn copy(&self) -> Result<Self, AllocError>
+        ensures cases { IfOk result (λ m. AllZip (IsEntryCopy V.is_clone) self.now m) }
+    {
+        Ok(SortedRuns {
+            alloc: self.alloc,
+            firsts: copy_keys(self.alloc, &self.firsts)?,
+            runs: copy_runs(self.alloc, &self.runs)?,
+            len: self.len,
+        })
+    }
+}

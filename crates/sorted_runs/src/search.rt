@@ -1,0 +1,139 @@
+ghost use Rattle.std.specs.Prelude.{◌≡◌, ◌<◌, ◌≤◌, length, take, IfOk, IfErr, slice_index_or, true, false};
+ghost use Rattle.std.specs.Global.{Vec};
+ghost use Rattle.std.specs.Map.{keys_of};
+ghost use Rattle.std.specs.BTreeMap.Range.{is_from_start, is_past_end};
+ghost use Rattle.std.specs.List.Sorted.{IsStrictlySortedBy};
+ghost use Rattle.sorted_runs.specs.Edits.{offset};
+ghost use Rattle.sorted_runs.specs.Places.{IsRunFor, IsFoundAt, IsGap, IsCut, Passes, is_after};
+ghost use Rattle.sorted_runs.specs.Rows.{entries, IsRuns};
+
+use std::cmp::Ordering;
+use std::ops::Bound;
+
+// How far apart the entries of a run are that are looked at first.
+const STRIDE: usize = 8;
+
+// A place in a run, before an entry or behind the last one.
+#[derive(Debug, Clone, Copy)]
+pub(crate) struct Place {
+    pub(crate) run: usize,
+    pub(crate) at: usize,
+}
+
+// The last run whose first key is not above the key, or else the first.
+pub(crate) fn run_for<K: Ord>(firsts: &[K], key: &K) -> usize
+    requires some { 0 < length firsts.now }
+    requires rising { IsStrictlySortedBy K.cmp firsts.now }
+    ensures { IsRunFor K.cmp firsts.now key.now result }
+{
+    let last = firsts.len() - 1;
+    if key.cmp(&firsts[last]).is_ge() {
+        return last;
+    }
+    match firsts.binary_search_by(
+        |first: &K| -> Ordering
+            ensures { result ≡ K.cmp first.now key.entry.now }
+        { first.cmp(key) },
+    ) {
+        Ok(r) => r,
+        Err(r) => r.saturating_sub(1),
+    }
+}
+
+// Where the key is in a run, or where it would go.
+pub(crate) fn slot<K: Ord, V>(run: &[(K, V)], key: &K) -> Result<usize, usize>
+    requires { IsStrictlySortedBy K.cmp (keys_of run.now) }
+    ensures hit { IfOk result (IsFoundAt K.cmp run.now key.now) }
+    ensures gap { IfErr result (IsGap K.cmp run.now key.now) }
+{
+    slot_from(run, key, stride_to(run, key))
+}
+
+// A place before which all keys are below the key. Where it looks does not hang on what it found, so memory is read ahead: halving
+// would wait for each entry.
+fn stride_to<K: Ord, V>(run: &[(K, V)], key: &K) -> usize
+    requires { IsStrictlySortedBy K.cmp (keys_of run.now) }
+    ensures within { result ≤ length run.now }
+    ensures passed { Passes K.cmp key.now (take result run.now) }
+{
+    let mut at = 0;
+    while run.len() - at > STRIDE {
+        if key.cmp(&run[at + STRIDE].0).is_lt() {
+            return at;
+        }
+        at += STRIDE;
+    }
+    at
+}
+
+// The same as slot, from a place on before which all keys are below the key.
+fn slot_from<K: Ord, V>(run: &[(K, V)], key: &K, from: usize) -> Result<usize, usize>
+    requires sorted { IsStrictlySortedBy K.cmp (keys_of run.now) }
+    requires within { from ≤ length run.now }
+    requires passed { Passes K.cmp key.now (take from run.now) }
+    ensures hit { IfOk result (IsFoundAt K.cmp run.now key.now) }
+    ensures gap { IfErr result (IsGap K.cmp run.now key.now) }
+{
+    let mut at = from;
+    while at < run.len() {
+        match key.cmp(&run[at].0) {
+            Ordering::Greater => at += 1,
+            Ordering::Equal => return Ok(at),
+            Ordering::Less => return Err(at),
+        }
+    }
+    Err(at)
+}
+
+// Before the first entry at or above the key, or before the first above it.
+fn place_of<K: Ord, V>(firsts: &[K], runs: &[Vec<(K, V)>], key: &K, past: bool) -> Place
+    requires some { 0 < length firsts.now }
+    requires whole { IsRuns K.cmp firsts.now runs.now (length (entries runs.now)) }
+    ensures within { result.run < length runs.now }
+    ensures place { (d : Vec (K × V)) → let run = slice_index_or runs.now result.run d in result.at ≤ length run.items }
+    ensures cut { IsCut (λ k. is_after past (K.cmp key.now k)) (entries runs.now) (offset runs.now result.run result.at) }
+{
+    let run = run_for(firsts, key);
+    let at = match slot(&runs[run], key) {
+        Ok(at) if past => at + 1,
+        Ok(at) => at,
+        Err(at) => at,
+    };
+    Place { run, at }
+}
+
+// Where the entries within a lower bound begin.
+pub(crate) fn start_of<K: Ord, V>(firsts: &[K], runs: &[Vec<(K, V)>], from: &Bound<K>) -> Place
+    requires some { 0 < length firsts.now }
+    requires whole { IsRuns K.cmp firsts.now runs.now (length (entries runs.now)) }
+    ensures within { result.run < length runs.now }
+    ensures place { (d : Vec (K × V)) → let run = slice_index_or runs.now result.run d in result.at ≤ length run.items }
+    ensures cut { IsCut (is_from_start K.cmp from.now) (entries runs.now) (offset runs.now result.run result.at) }
+{
+    match from {
+        Bound::Included(key) => place_of(firsts, runs, key, false),
+        Bound::Excluded(key) => place_of(firsts, runs, key, true),
+        Bound::Unbounded => Place { run: 0, at: 0 },
+    }
+}
+
+// Where the entries within an upper bound end.
+pub(crate) fn end_of<K: Ord, V>(firsts: &[K], runs: &[Vec<(K, V)>], to: &Bound<K>) -> Place
+    requires some { 0 < length firsts.now }
+    requires whole { IsRuns K.cmp firsts.now runs.now (length (entries runs.now)) }
+    ensures within { result.run < length runs.now }
+    ensures place { (d : Vec (K × V)) → let run = slice_index_or runs.now result.run d in result.at ≤ length run.items }
+    ensures cut { IsCut (is_past_end K.cmp to.now) (entries runs.now) (offset runs.now result.run result.at) }
+{
+    match to {
+        Bound::Included(key) => place_of(firsts, runs, key, true),
+        Bound::Excluded(key) => place_of(firsts, runs, key, false),
+        Bound::Unbounded => {
+            let run = runs.len() - 1;
+            Place {
+                run,
+                at: runs[run].len(),
+            }
+        }
+    }
+}
