@@ -11,13 +11,11 @@ The gate judges each task at two small sizes by the instructions of its runs (`j
 their first line on it judges the memory held, too.
 """
 
-import argparse
 import functools
-import math
 import os
-import pathlib
 import tempfile
 
+import growth
 import instructions
 import measure
 
@@ -220,31 +218,6 @@ BAD_JUDGED = (4_000, 16_000)  # their sizes, which are judged in no time
 MOST_HELD = 3  # how often its own length a bad text may hold
 
 
-def length(lines):
-    return sum(len(line) + 1 for line in lines)
-
-
-def growth(lengths, values):
-    """The exponent from the least text to the longest; what is too small to be measured counts as a hundredth."""
-    least, most = max(values[0], 0.01), max(values[-1], 0.01)
-    return math.log(most / least) / math.log(lengths[-1] / lengths[0])
-
-
-def told(name, programs, given, folder):
-    """Prints a task's rows, and answers its greatest exponent."""
-    lengths, times, held = [], [], []
-    for size in given.sizes:
-        lines_of = functools.partial(TASKS[name], size)
-        seconds, peaks = measure.run_all(programs, "run", lines_of, given.runs, folder, BAD.get(name, 0))
-        lengths.append(length(lines_of()))
-        times.append(seconds[0])
-        held.append(peaks[0])
-        print(f"| {name} | {size} | {lengths[-1] // 1000} | {measure.both(seconds, '{:.3f}')} | {measure.both(peaks, '{:.0f}')} |", flush=True)
-    found = growth(lengths, times), growth(lengths, held)
-    print(f"| {name} | growth | | {found[0]:.2f} | | {found[1]:.2f} | |", flush=True)
-    return max(found)
-
-
 def instructions_of(program, lines, folder, wanted=0):
     """The instructions of a run over the lines, which ends with the status that is wanted."""
     text = os.path.join(folder, "given")
@@ -257,7 +230,7 @@ def is_within(name, program, idle, folder):
     """Whether a task's instructions grow no faster than is allowed; what a run costs that does nothing is taken off first."""
     texts = [TASKS[name](size) for size in (BAD_JUDGED if name in BAD else JUDGED)]
     counts = [instructions_of(program, text, folder, BAD.get(name, 0)) - idle for text in texts]
-    grown = growth([length(text) for text in texts], counts)
+    grown = growth.growth([growth.length(text) for text in texts], counts)
     most, reason = SLOWER.get(name, (MOST, ""))
     verdict = "" if grown <= most else " FAILED"
     print(f"hostile: {name}: grows by {grown:.2f}, {most} at most{': ' * bool(reason)}{reason}{verdict}", flush=True)
@@ -295,26 +268,5 @@ def judged(program):
     return sum(results), len(results) - sum(results)
 
 
-def main():
-    parser = argparse.ArgumentParser(description=__doc__, formatter_class=argparse.RawDescriptionHelpFormatter)
-    parser.add_argument("--program", type=pathlib.Path, default=measure.PROGRAM, help="the built program")
-    parser.add_argument("--peer", type=pathlib.Path, help="a program of the same forms to compare with")
-    parser.add_argument("--only", default=",".join(TASKS), help="tasks, by name")
-    parser.add_argument("--sizes", type=int, nargs="+", default=SIZES, help="sizes, rising")
-    parser.add_argument("--runs", type=int, default=1, help="how often each text is read")
-    parser.add_argument("--most", type=float, help="the greatest exponent that is allowed")
-    given = parser.parse_args()
-    names = given.only.split(",")
-    unknown = [name for name in names if name not in TASKS]
-    if unknown or len(given.sizes) < 2:
-        parser.error(f"no task is named {unknown[0]}" if unknown else "two sizes at least")
-    programs = [path.resolve() for path in (given.program, given.peer) if path is not None]
-    print(f"{os.cpu_count()} cores, processor time, median of {given.runs}\n")
-    print("| task | size | kB | s | peer, s | MB | peer, MB |\n|---|---|---|---|---|---|---|")
-    with tempfile.TemporaryDirectory(prefix="fleet-hostile-") as folder:
-        found = [told(name, programs, given, folder) for name in names]
-    return int(given.most is not None and max(found) > given.most)
-
-
 if __name__ == "__main__":
-    raise SystemExit(main())
+    raise SystemExit(growth.print_all(__doc__, TASKS, SIZES, BAD))
