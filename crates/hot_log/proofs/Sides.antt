@@ -1,25 +1,86 @@
 -- Two logs gone over side by side: what the one lacks of the other, by page and then by key.
-use Rattle.std.proofs.Common.{◌≡◌, ◌⊎◌, inl, inr, ⊎_elim, List, [], ◌∷◌, ◌++◌, Option, Some, None, Bor, sym, subst}
+use Rattle.std.proofs.Common.{◌≡◌, ◌<◌, ◌⊎◌, ◌↔◌, inl, inr, ⊎_elim, List, [], ◌∷◌, ◌++◌, Option, Some, None, Bor, refl, sym, ◌∙◌, subst, arith}
 use Rattle.std.specs.List.{Contains, cons_option}
 use Rattle.std.specs.Option.{option_copied}
 use Rattle.std.specs.Map.Iter.{TakesFirst, deref}
-use Rattle.std.specs.declared.cmp.Ordering.TheVariants.{Less}
+use Rattle.std.specs.declared.cmp.Ordering.TheVariants.{Less, Equal}
 use Rattle.std.proofs.lemmas.List.Elements.{Contains-append_left, Contains-append_right, Contains-append_cases}
 use Rattle.redo_core.specs.Data.{RecordData}
-use Rattle.redo_core.specs.Order.{IsRising, Lists}
+use Rattle.redo_core.specs.Order.{IsRising, Lists, RecordBefore}
 use Rattle.redo_core.proofs.Members.{none_in, here, there, which, each, all_of}
 use Rattle.redo_core.proofs.Listing.{lists_push, lists_as}
 use Rattle.hot_log.specs.Missing.{IsMissing}
-use Rattle.hot_log.specs.Paged.{PlaceBefore, place_cmp, place_of, records_in, IsPaged}
+use Rattle.hot_log.specs.Paged.{PlaceBefore, place_cmp, place_of, records_in, IsAhead, IsPaged}
 use Rattle.hot_log.proofs.Maps.{rising_entries}
 use Rattle.hot_log.proofs.Paged.{Entry, Map, seen, in_order, entry_of}
+use Rattle.hot_log.proofs.Orders.{places_exact, place_less, place_less_of}
 use Rattle.hot_log.proofs.Places.{Place}
 
--- what is taken off a list, and what is left, was of it
-pub taken : (old : List RecordData) (first : Option (Bor RecordData)) (new : List RecordData) (r : RecordData) → TakesFirst deref old first new
-    → Contains (cons_option (option_copied first) new) r → Contains old r
-taken old None new r takes h = absurd (none_in r (subst (λ (l : List RecordData). Contains l r) takes.1 h))
-taken old (Some x) new r takes h = subst (λ (l : List RecordData). Contains l r) (sym takes) h
+-- ---- the own records: some are passed, and one of the others comes next
+-- what is taken off a list, and what is left, are the list
+pub taken : (old : List RecordData) (first : Option (Bor RecordData)) (new : List RecordData) → TakesFirst deref old first new
+    → cons_option (option_copied first) new ≡ old
+taken old None new takes = takes.1 ∙ sym takes.0
+taken old (Some x) new takes = sym takes
+
+pub ahead_of : (old : List RecordData) (first : Option (Bor RecordData)) (new : List RecordData) → TakesFirst deref old first new
+    → IsRising PlaceBefore old → IsAhead (option_copied first) new
+ahead_of old None new takes rising = record { rising = subst (IsRising PlaceBefore) (sym (taken old None new takes)) rising; ended = λ n. takes.1 }
+ahead_of old (Some x) new takes rising = record { rising = subst (IsRising PlaceBefore) takes rising; ended = λ n. absurd (cc) }
+
+-- what comes is of all own records, and what is passed is before a record
+pub record Passes (all : List RecordData) (x : RecordData) (next : Option RecordData) (rest : List RecordData) : Type 0 where
+  pub ahead : IsAhead next rest
+  pub among : (r : RecordData) → Contains (cons_option next rest) r → Contains all r
+  pub before : (r : RecordData) → Contains all r → Contains (cons_option next rest) r ⊎ PlaceBefore r x
+
+place_before : (x y z : RecordData) → PlaceBefore x y → PlaceBefore y z → PlaceBefore x z
+place_before x y z p q =
+    place_less_of (place_of x) (place_of z) (after (place_less (place_of x) (place_of y) p) (place_less (place_of y) (place_of z) q))
+  where
+    after : (x.page < y.page) ⊎ ((x.page ≡ y.page) × RecordBefore x y) → (y.page < z.page) ⊎ ((y.page ≡ z.page) × RecordBefore y z)
+        → (x.page < z.page) ⊎ ((x.page ≡ z.page) × RecordBefore x z)
+    after u v = grind arith
+
+pub not_itself : (x : RecordData) → PlaceBefore x x → ⊥
+not_itself x p = let same : place_cmp (place_of x) (place_of x) ≡ Equal = places_exact.same (place_of x) in cc
+
+pub not_both : (x y : RecordData) → PlaceBefore x y → PlaceBefore y x → ⊥
+not_both x y p q = not_itself x (place_before x y x p q)
+
+pub passes_one : (all : List RecordData) (x own : RecordData) (rest : List RecordData) (first : Option (Bor RecordData)) (left : List RecordData)
+    → Passes all x (Some own) rest → PlaceBefore own x → TakesFirst deref rest first left → Passes all x (option_copied first) left
+passes_one all x own rest first left passes low takes =
+    let same : cons_option (option_copied first) left ≡ rest = taken rest first left takes in
+    record {
+      ahead = ahead_of rest first left takes passes.ahead.rising.1;
+      among = λ r h. passes.among r (there own rest r (subst (λ (l : List RecordData). Contains l r) same h));
+      before = λ r h. ⊎_elim
+          (λ (u : Contains (own ∷ rest) r). ⊎_elim
+          (λ (e : own ≡ r). inr (subst (λ (y : RecordData). PlaceBefore y x) e low))
+          (λ (v : Contains rest r). inl (subst (λ (l : List RecordData). Contains l r) (sym same) v))
+          (which own rest r u))
+          (λ (u : PlaceBefore r x). inr u)
+          (passes.before r h);
+    }
+
+-- where the one that comes next is not before a record, none that is left is
+pub passed_all : (all : List RecordData) (x own : RecordData) (rest : List RecordData) → Passes all x (Some own) rest → (PlaceBefore own x → ⊥)
+    → (r : RecordData) → Contains (own ∷ rest) r ↔ (Contains all r × (PlaceBefore r x → ⊥))
+passed_all all x own rest passes not_before r = (
+  λ h. (
+    passes.among r h,
+    λ p. ⊎_elim
+        (λ (e : own ≡ r). not_before (subst (λ (y : RecordData). PlaceBefore y x) (sym e) p))
+        (λ (u : Contains rest r). not_before (place_before own r x (each (PlaceBefore own) rest r passes.ahead.rising.0 u) p))
+        (which own rest r h),
+  ),
+  λ h. ⊎_elim (λ (u : Contains (own ∷ rest) r). u) (λ (u : PlaceBefore r x). absurd (h.1 u)) (passes.before r h.0),
+)
+
+-- what is left of the held records: those that none of the others gone over is after
+abbrev pub LeftOf : List RecordData → List RecordData → List RecordData → Type 0
+LeftOf held seen left = (r : RecordData) → Contains left r ↔ (Contains held r × ((y : RecordData) → Contains seen y → PlaceBefore r y → ⊥))
 
 -- the records are those of a list that are not held, in the order of that list
 abbrev pub LacksOf : List RecordData → List RecordData → List RecordData → Type 0
@@ -86,12 +147,15 @@ before_rest (z ∷ zs) ys x y rising h =
     (λ (u : Contains zs y). before_rest zs ys x y rising.1 u)
     (which z zs y h)
 
+pub map_rising : (m : Map) → IsPaged m → IsRising PlaceBefore (records_in m)
+map_rising m paged = rising_records m paged.placed (rising_entries place_cmp m paged.ordered)
+
 -- those gone over are before the one that the walk has come to
 pub before_next : (m : Map) (xs ys : List RecordData) (x : RecordData) → IsPaged m → records_in m ≡ xs ++ x ∷ ys
     → (y : RecordData) → Contains xs y → PlaceBefore y x
 before_next m xs ys x paged split y h =
     before_rest xs ys x y
-    (subst (IsRising PlaceBefore) split (rising_records m paged.placed (rising_entries place_cmp m paged.ordered))) h
+    (subst (IsRising PlaceBefore) split (map_rising m paged)) h
 
 pub lacks_all : (m : Map) (held seen_so missing : List RecordData) → records_in m ≡ seen_so → LacksOf held seen_so missing
     → Lists PlaceBefore (IsMissing held (seen m)) missing
@@ -103,6 +167,33 @@ lacks_all m held seen_so missing all lists =
     ))
     lists
 
--- what a map holds is seen
-pub in_seen : (m : Map) (r : RecordData) → Contains (records_in m) r → Contains (seen m) r
-in_seen m r h = (in_order (records_in m) r).1 h
+-- ---- what is left of the own records
+pub left_first : (m : Map) → LeftOf (seen m) [] (records_in m)
+left_first m r = (λ h. ((in_order (records_in m) r).1 h, λ y k. absurd (none_in y k)), λ h. (in_order (records_in m) r).0 h.0)
+
+pub left_next : (held seen_so own left : List RecordData) (x : RecordData) → LeftOf held seen_so own
+    → ((r : RecordData) → Contains left r ↔ (Contains own r × (PlaceBefore r x → ⊥))) → LeftOf held (seen_so ++ x ∷ []) left
+left_next held seen_so own left x was goes r = (
+  λ h.
+      let k = (goes r).0 h in
+      let w = (was r).0 k.0 in (
+        w.0,
+        λ y q p. ⊎_elim
+            (λ (u : Contains seen_so y). w.1 y u p)
+            (λ (u : y ≡ x). k.1 (subst (PlaceBefore r) u p))
+            (at_end seen_so x y q),
+      ),
+  λ h. (goes r).1 (
+    (was r).1 (h.0, λ y q. h.1 y (of_end seen_so x y (inl q))),
+    h.1 x (of_end seen_so x x (inr refl)),
+  ),
+)
+
+-- a record above those gone over is held just if it is left
+pub held_left : (held seen_so own left : List RecordData) (x : RecordData) → LeftOf held seen_so own
+    → ((r : RecordData) → Contains left r ↔ (Contains own r × (PlaceBefore r x → ⊥))) → ((y : RecordData) → Contains seen_so y → PlaceBefore y x)
+    → Contains held x ↔ Contains left x
+held_left held seen_so own left x was goes before = (
+  λ h. (goes x).1 ((was x).1 (h, λ y k p. not_both x y p (before y k)), not_itself x),
+  λ h. ((was x).0 ((goes x).0 h).0).0,
+)

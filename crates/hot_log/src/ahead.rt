@@ -1,8 +1,9 @@
-ghost use Rattle.std.specs.Prelude.{◌≡◌, IsTrue};
+ghost use Rattle.std.specs.Prelude.{◌≡◌, ◌↔◌, IsTrue};
 ghost use Rattle.std.specs.List.{Contains};
 ghost use Rattle.std.specs.Map.Iter.{TakesFirst, deref};
 ghost use Rattle.redo_core.specs.Data.{RecordData};
-ghost use Rattle.hot_log.specs.Paged.{records_in};
+ghost use Rattle.redo_core.specs.Order.{IsRising};
+ghost use Rattle.hot_log.specs.Paged.{PlaceBefore, records_in};
 
 use redo_core::Record;
 use sorted_runs::Entries;
@@ -20,16 +21,19 @@ impl<'a> Model for Ahead<'a> {
     ghost use Rattle.std.specs.Option.{option_copied};
     ghost use Rattle.std.specs.List.{cons_option};
     ghost use Rattle.redo_core.specs.Data.{RecordData};
-    ghost use Rattle.hot_log.specs.Paged.{records_in};
+    ghost use Rattle.hot_log.specs.Paged.{IsAhead, records_in};
 
     ghost Value = { List RecordData };
 
     ghost view = { λ a. cons_option (option_copied a.next) (records_in a.rest) };
+
+    ghost invariant = { λ a. IsAhead (option_copied a.next) (records_in a.rest) };
 }
 
 impl<'a> Ahead<'a> {
     pub fn new(mut rest: Entries<'a, (u16, (u16, u64)), Record>) -> Ahead<'a>
-        ensures { (r : RecordData) → Contains result r → Contains (records_in rest.entry) r }
+        requires { IsRising PlaceBefore (records_in rest) }
+        ensures { result ≡ records_in rest.entry }
     {
         let next = next_of(&mut rest);
         Ahead { next, rest }
@@ -37,20 +41,20 @@ impl<'a> Ahead<'a> {
 
     /// Goes past the records of lower pages, and of lower keys of the same page.
     pub fn pass_to(&mut self, redo: &Record)
-        ensures { (r : RecordData) → Contains self.new r → Contains self.old r }
+        ensures { (r : RecordData) → Contains self.new r ↔ (Contains self.old r × (PlaceBefore r redo.now → ⊥)) }
     {
-        let place = (redo.page(), (redo.epoch(), redo.number()));
         while let Some(own) = self.next {
-            if (own.page(), (own.epoch(), own.number())) >= place {
+            if !is_before(own, redo) {
                 return;
             }
             self.next = next_of(&mut self.rest);
         }
     }
 
-    /// Whether this record comes next.
+    /// Whether this record comes next; no other is it, once those before it are passed.
     pub fn is_at(&self, redo: &Record) -> bool
-        ensures { IsTrue result → Contains self.now redo.now }
+        requires { (r : RecordData) → Contains self.now r → PlaceBefore r redo.now → ⊥ }
+        ensures { IsTrue result ↔ Contains self.now redo.now }
     {
         match self.next {
             Some(own) => own.is_same(redo),
@@ -65,4 +69,12 @@ fn next_of<'a>(rest: &mut Entries<'a, (u16, (u16, u64)), Record>) -> Option<&'a 
 {
     let (_, redo) = rest.next()?;
     Some(redo)
+}
+
+// Whether the one record is of a lower page than the other, or of a lower key of the same page.
+fn is_before(redo: &Record, other: &Record) -> bool
+    ensures { IsTrue result ↔ PlaceBefore redo.now other.now }
+{
+    let place = (redo.page(), (redo.epoch(), redo.number()));
+    place < (other.page(), (other.epoch(), other.number()))
 }

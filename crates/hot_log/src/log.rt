@@ -344,8 +344,8 @@ impl HotLog {
         self.records.alive_anew(alloc, book, page, above, to)
     }
 
-    /// The records of another log that this one does not hold, rising by key. Both are gone over side by side, so what both hold
-    /// costs no look-up. Its only error is want of memory.
+    /// The records of another log that this one does not hold, rising by key. Both are gone over side by side, so none is
+    /// looked up. Its only error is want of memory.
     pub fn missing<'a>(
         &self,
         alloc: Global,

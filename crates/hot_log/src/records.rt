@@ -207,7 +207,7 @@ impl PagedRecords {
         Ok(missing)
     }
 
-    /// The same by page, and within a page by key. Both logs are gone over side by side: a look-up is spent on a missing record alone.
+    /// The same by page, and within a page by key. Both logs are gone over side by side, so none is looked up.
     pub fn missing_by_page<'a>(
         &self,
         alloc: Global,
@@ -219,7 +219,7 @@ impl PagedRecords {
         let mut own = Ahead::new(self.map.iter());
         for (_, redo) in other.map.iter() {
             own.pass_to(redo);
-            if !own.is_at(redo) && !self.has(redo) {
+            if !own.is_at(redo) {
                 missing.push(redo)?;
             }
         }

@@ -1,10 +1,20 @@
-use Rattle.redo_core.proofs.Members.{past}
+use Rattle.std.proofs.Common.{◌↔◌, sym, subst}
+use Rattle.std.specs.List.{Contains, cons_option}
 use Rattle.std.specs.Option.{option_copied}
-use Rattle.hot_log.specs.Paged.{records_in}
-use Rattle.hot_log.proofs.Sides.{taken}
+use Rattle.hot_log.specs.Paged.{PlaceBefore, records_in}
+use Rattle.hot_log.proofs.Sides.{Passes, passes_one, passed_all}
 use Rattle.hot_log.proofs.ahead.Ahead.pass_to.Goals as goal
 
+pub returns-then-not-is_before : goal.returns-then-not-is_before
+returns-then-not-is_before c r =
+    let all = c.args.self.now in let x = c.args.redo.now in let rest = records_in c.loop-self.self-inside.rest in
+    subst (λ o. Contains (cons_option (option_copied o) rest) r ↔ (Contains all r × (PlaceBefore r x → ⊥))) (sym c.in-Some.is)
+    (passed_all all x c.in-Some.own.now rest (subst (λ o. Passes all x (option_copied o) rest) c.in-Some.is c.loop-self.invariant)
+    (λ before. let yes = c.is_before.ensures.1 before in absurd (cc)) r)
+
 pub loop-self-preserved : goal.loop-self-preserved
-loop-self-preserved c = λ r h.
-    c.loop-self.invariant r (past (option_copied c.loop-self.self-inside.next) (records_in c.loop-self.self-inside.rest) r
-    (taken (records_in c.loop-self.self-inside.rest) c.next_of-self-inside.result (records_in c.next_of-self-inside.new.rest) r c.next_of-self-inside.ensures h))
+loop-self-preserved c =
+    let all = c.args.self.now in let x = c.args.redo.now in let rest = records_in c.loop-self.self-inside.rest in
+    passes_one all x c.in-Some.own.now rest c.next_of-self-inside.result (records_in c.next_of-self-inside.new.rest)
+    (subst (λ o. Passes all x (option_copied o) rest) c.in-Some.is c.loop-self.invariant)
+    (c.is_before.ensures.0 (cc)) c.next_of-self-inside.ensures

@@ -1,13 +1,11 @@
 use Rattle.std.proofs.Common.{map}
-use Rattle.std.specs.List.{Contains}
 use Rattle.std.specs.Map.Iter.{deref_pair}
-use Rattle.redo_core.specs.Data.{RecordData}
 use Rattle.hot_log.specs.Paged.{records_in}
-use Rattle.hot_log.proofs.Sides.{LacksOf}
+use Rattle.hot_log.proofs.Sides.{LacksOf, LeftOf}
 use Rattle.hot_log.proofs.records.PagedRecords.missing_by_page.Given as goal
 
--- what comes next is held, and what the other log has so far and this one lacks has been found
+-- what of this log is not before what is gone over is left, and what the other log has so far and this one lacks has been found
 abbrev pub invariant-loop-redo : goal.invariant-loop-redo
 invariant-loop-redo l =
-    ((r : RecordData) → Contains l.own r → Contains l.self r)
+    LeftOf l.self (records_in (map deref_pair l.yielded)) l.own
     × LacksOf l.self (records_in (map deref_pair l.yielded)) (map (λ x. x.now) l.missing.items)
