@@ -1,4 +1,5 @@
 pub mod Found
+pub mod Near
 pub mod Lists
 pub mod Shaped
 pub mod Placed

@@ -37,6 +37,8 @@ pub struct SortedRuns<K: Ord + Copy, V> {
     firsts: Vec<K>,
     runs: Vec<Vec<(K, V)>>,
     len: usize,
+    // Where an entry came or went last: rows of keys come and are asked for near each other, so this run is tried first.
+    near: usize,
 }
 
 impl<K: Ord + Copy, V> Model for SortedRuns<K, V> {
@@ -60,6 +62,7 @@ impl<K: Ord + Copy, V> SortedRuns<K, V> {
             firsts: Vec::new(alloc),
             runs: Vec::new(alloc),
             len: 0,
+            near: 0,
         }
     }
 
@@ -79,7 +82,7 @@ impl<K: Ord + Copy, V> SortedRuns<K, V> {
         if self.firsts.is_empty() {
             return None;
         }
-        let r = run_for(&self.firsts, key);
+        let r = run_for(&self.firsts, self.near, key);
         let run = &self.runs[r];
         match slot(run, key) {
             Ok(at) => Some(&run[at].1),
@@ -103,8 +106,8 @@ impl<K: Ord + Copy, V> SortedRuns<K, V> {
         if self.firsts.is_empty() {
             return Entries::all(&self.runs);
         }
-        let begin = start_of(&self.firsts, &self.runs, &from);
-        let end = end_of(&self.firsts, &self.runs, &to);
+        let begin = start_of(&self.firsts, &self.runs, self.near, &from);
+        let end = end_of(&self.firsts, &self.runs, self.near, &to);
         Entries::between(&self.runs, begin, end)
     }
 }
@@ -126,7 +129,8 @@ impl<K: Ord + Copy + Drop, V: Drop> SortedRuns<K, V> {
             self.len = 1;
             return Ok(None);
         }
-        let r = run_for(&self.firsts, &key);
+        let r = run_for(&self.firsts, self.near, &key);
+        self.near = r;
         match slot(&self.runs[r], &key) {
             Ok(at) => Ok(Some(write(&mut self.runs[r], at, value))),
             Err(at) => {
@@ -160,7 +164,8 @@ impl<K: Ord + Copy + Drop, V: Drop> SortedRuns<K, V> {
         if self.firsts.is_empty() {
             return None;
         }
-        let r = run_for(&self.firsts, key);
+        let r = run_for(&self.firsts, self.near, key);
+        self.near = r;
         match slot(&self.runs[r], key) {
             Ok(at) => {
                 let value = take_out(&mut self.firsts, &mut self.runs, r, at);
@@ -182,6 +187,7 @@ impl<K: Ord + Copy + Drop, V: Clone + Drop> SortedRuns<K, V> {
             firsts: copy_keys(self.alloc, &self.firsts)?,
             runs: copy_runs(self.alloc, &self.runs)?,
             len: self.len,
+            near: self.near,
         })
     }
 }

@@ -20,8 +20,23 @@ pub(crate) struct Place {
     pub(crate) at: usize,
 }
 
-// The last run whose first key is not above the key, or else the first.
-pub(crate) fn run_for<K: Ord>(firsts: &[K], key: &K) -> usize
+// The last run whose first key is not above the key, or else the first. The run `near` is tried before the others.
+pub(crate) fn run_for<K: Ord>(firsts: &[K], near: usize, key: &K) -> usize
+    requires some { 0 < length firsts.now }
+    requires rising { IsStrictlySortedBy K.cmp firsts.now }
+    ensures { IsRunFor K.cmp firsts.now key.now result }
+{
+    if near < firsts.len() - 1
+        && key.cmp(&firsts[near]).is_ge()
+        && key.cmp(&firsts[near + 1]).is_lt()
+    {
+        return near;
+    }
+    run_among(firsts, key)
+}
+
+// The same, looked for among all of them.
+fn run_among<K: Ord>(firsts: &[K], key: &K) -> usize
     requires some { 0 < length firsts.now }
     requires rising { IsStrictlySortedBy K.cmp firsts.now }
     ensures { IsRunFor K.cmp firsts.now key.now result }
@@ -86,14 +101,20 @@ fn slot_from<K: Ord, V>(run: &[(K, V)], key: &K, from: usize) -> Result<usize, u
 }
 
 // Before the first entry at or above the key, or before the first above it.
-fn place_of<K: Ord, V>(firsts: &[K], runs: &[Vec<(K, V)>], key: &K, past: bool) -> Place
+fn place_of<K: Ord, V>(
+    firsts: &[K],
+    runs: &[Vec<(K, V)>],
+    near: usize,
+    key: &K,
+    past: bool,
+) -> Place
     requires some { 0 < length firsts.now }
     requires whole { IsRuns K.cmp firsts.now runs.now (length (entries runs.now)) }
     ensures within { result.run < length runs.now }
     ensures place { (d : Vec (K × V)) → let run = slice_index_or runs.now result.run d in result.at ≤ length run.items }
     ensures cut { IsCut (λ k. is_after past (K.cmp key.now k)) (entries runs.now) (offset runs.now result.run result.at) }
 {
-    let run = run_for(firsts, key);
+    let run = run_for(firsts, near, key);
     let at = match slot(&runs[run], key) {
         Ok(at) if past => at + 1,
         Ok(at) => at,
@@ -103,7 +124,12 @@ fn place_of<K: Ord, V>(firsts: &[K], runs: &[Vec<(K, V)>], key: &K, past: bool) 
 }
 
 // Where the entries within a lower bound begin.
-pub(crate) fn start_of<K: Ord, V>(firsts: &[K], runs: &[Vec<(K, V)>], from: &Bound<K>) -> Place
+pub(crate) fn start_of<K: Ord, V>(
+    firsts: &[K],
+    runs: &[Vec<(K, V)>],
+    near: usize,
+    from: &Bound<K>,
+) -> Place
     requires some { 0 < length firsts.now }
     requires whole { IsRuns K.cmp firsts.now runs.now (length (entries runs.now)) }
     ensures within { result.run < length runs.now }
@@ -111,14 +137,19 @@ pub(crate) fn start_of<K: Ord, V>(firsts: &[K], runs: &[Vec<(K, V)>], from: &Bou
     ensures cut { IsCut (is_from_start K.cmp from.now) (entries runs.now) (offset runs.now result.run result.at) }
 {
     match from {
-        Bound::Included(key) => place_of(firsts, runs, key, false),
-        Bound::Excluded(key) => place_of(firsts, runs, key, true),
+        Bound::Included(key) => place_of(firsts, runs, near, key, false),
+        Bound::Excluded(key) => place_of(firsts, runs, near, key, true),
         Bound::Unbounded => Place { run: 0, at: 0 },
     }
 }
 
 // Where the entries within an upper bound end.
-pub(crate) fn end_of<K: Ord, V>(firsts: &[K], runs: &[Vec<(K, V)>], to: &Bound<K>) -> Place
+pub(crate) fn end_of<K: Ord, V>(
+    firsts: &[K],
+    runs: &[Vec<(K, V)>],
+    near: usize,
+    to: &Bound<K>,
+) -> Place
     requires some { 0 < length firsts.now }
     requires whole { IsRuns K.cmp firsts.now runs.now (length (entries runs.now)) }
     ensures within { result.run < length runs.now }
@@ -126,8 +157,8 @@ pub(crate) fn end_of<K: Ord, V>(firsts: &[K], runs: &[Vec<(K, V)>], to: &Bound<K
     ensures cut { IsCut (is_past_end K.cmp to.now) (entries runs.now) (offset runs.now result.run result.at) }
 {
     match to {
-        Bound::Included(key) => place_of(firsts, runs, key, true),
-        Bound::Excluded(key) => place_of(firsts, runs, key, false),
+        Bound::Included(key) => place_of(firsts, runs, near, key, true),
+        Bound::Excluded(key) => place_of(firsts, runs, near, key, false),
         Bound::Unbounded => {
             let run = runs.len() - 1;
             Place {
