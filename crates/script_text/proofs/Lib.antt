@@ -2,9 +2,13 @@ pub mod Options
 pub mod Split
 pub mod FirstPart
 pub mod Numbers
+pub mod Cursor
 pub mod Forms
 pub mod Results
 pub mod FirstParts
+pub mod Words
+pub mod RecordLine
+pub mod AdvanceLine
 pub mod Loops
 pub mod PatchSpelling
 pub mod StepSpelling

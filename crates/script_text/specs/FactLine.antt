@@ -9,6 +9,7 @@ use Rattle.redo_core.specs.declared.patches.Patch.{Patch}
 use Rattle.redo_core.specs.declared.patches.Patch.TheVariants.{Bytes, Fill}
 use Rattle.redo_core.specs.declared.facts.Fact.{Fact}
 use Rattle.redo_core.specs.declared.facts.Fact.TheVariants.{Record, Cut, Advance}
+use Rattle.script_text.specs.declared.fact_line.Head.{Head}
 use Rattle.script_text.specs.Number.{decimal_value}
 use Rattle.script_text.specs.Parts.{◌>>=◌, parts_at}
 use Rattle.script_text.specs.Fields.{numbers_of, of_two, of_three, of_five}
@@ -92,10 +93,17 @@ shaped (Record r) = unless (record_fault r) (Record r)
 shaped (Cut c) = unless (cut_fault c) (Cut c)
 shaped (Advance a) = unless (advance_fault a) (Advance a)
 
+-- the numbers of a record's line, and their limits
+abbrev pub head_numbers : Head → List ℕ
+head_numbers h = h.epoch ∷ h.number ∷ h.back ∷ h.page ∷ h.block_back ∷ []
+
+abbrev pub record_limits : List ℕ
+record_limits = 65535 ∷ max_number ∷ max_number ∷ 65535 ∷ max_number ∷ []
+
 -- the fields behind rec: epoch, number, segment backlink, page, block backlink, and the contents
 unfoldable pub record_line : List (List ℕ) → Option Fact
 record_line (e ∷ n ∷ b ∷ p ∷ k ∷ text ∷ []) = do
-  numbers ← numbers_of (65535 ∷ max_number ∷ max_number ∷ 65535 ∷ max_number ∷ []) (e ∷ n ∷ b ∷ p ∷ k ∷ [])
+  numbers ← numbers_of record_limits (e ∷ n ∷ b ∷ p ∷ k ∷ [])
   c ← contents_of text
   of_five (λ epoch number back page block_back. shaped (Record (record_with epoch number back page block_back c.init c.patches))) numbers
 record_line _ = None
