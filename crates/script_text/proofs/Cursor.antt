@@ -123,13 +123,9 @@ zero_onto limit d (word ∷ rest) = ap (λ (o : Option ℕ). o >>= λ n. Some (n
 zero_front : (limit : ℕ) (cs : List ℕ) → first_of limit (parts_at 32 (48 ∷ cs)) ≡ fields_behind (number_front limit (48 ∷ cs))
 zero_front limit [] = rw (zero_is limit) refl
 zero_front limit (d ∷ ds) =
-    elim (either_way (is_ascii_digit d)) [
-      | inl digit ↦ rw (digit, no_space d digit) (zero_onto limit d (parts_at 32 ds))
-      | inr other ↦
-          elim (either_way (eqb d 32)) [
-            | inl space ↦ rw (other, space, zero_is limit) refl
-            | inr another ↦ rw (other, another) (zero_onto limit d (parts_at 32 ds))
-          ]
+    elim (either_way (eqb d 32)) [
+      | inl space ↦ rw (space, zero_is limit) refl
+      | inr another ↦ rw another (zero_onto limit d (parts_at 32 ds))
     ]
 
 no_zero : (limit c : ℕ) (word : List ℕ) → eqb c 48 ≡ false → decimal_value limit (c ∷ word) ≡ digits_of limit (c ∷ word)

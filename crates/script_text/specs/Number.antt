@@ -1,5 +1,5 @@
 -- Decimal numbers without sign and without leading zeros.
-use Rattle.std.specs.Prelude.{ℕ, ◌+◌, ◌-◌, ◌*◌, ◌==◌, ◌&&◌, nat_lt, nat_le, if◌then◌else◌, Bool, false, List, [], ◌∷◌, length, Option, Some, None}
+use Rattle.std.specs.Prelude.{ℕ, ◌+◌, ◌-◌, ◌*◌, ◌==◌, ◌&&◌, nat_lt, nat_le, if◌then◌else◌, List, [], ◌∷◌, length, Option, Some, None}
 use Rattle.std.specs.Char.{is_ascii_digit}
 use Rattle.std.specs.Str.{all_ascii_digits}
 
@@ -24,15 +24,10 @@ number_on limit n (c ∷ cs) =
     if is_ascii_digit c then (if nat_le (10 * n + (c - 48)) limit then number_on limit (10 * n + (c - 48)) cs else None)
     else Some (n, c ∷ cs)
 
--- a digit stands in front
-abbrev pub has_digit : List ℕ → Bool
-has_digit [] = false
-has_digit (c ∷ cs) = is_ascii_digit c
-
--- the number in front of a text, with no 0 before other digits, and the text behind its digits; none where it is above limit
+-- the number in front of a text, a 0 alone or digits behind another one, and the text behind it; none where it is above limit
 abbrev pub number_front : ℕ → List ℕ → Option (ℕ × List ℕ)
 number_front limit [] = None
 number_front limit (c ∷ cs) =
-    if c == 48 then (if has_digit cs then None else Some (0, cs))
+    if c == 48 then Some (0, cs)
     else if is_ascii_digit c && nat_le (c - 48) limit then number_on limit (c - 48) cs
     else None

@@ -76,7 +76,8 @@ fn more_digits(first: u64, text: &[u8], limit: u64) -> Option<(u64, &[u8])>
     Some((value, left))
 }
 
-/// The number in front of the first byte that is no digit, if it is at most `limit`; and the text from that byte on.
+/// The number in front of the text, if it is at most `limit`, and the text behind it. A 0 is a number alone, so that digits behind it
+/// are left, and no field ends there.
 #[inline]
 fn number_before(text: &[u8], limit: u64) -> Option<(u64, &[u8])>
     requires { limit < 2 ^ 60 }
@@ -84,10 +85,7 @@ fn number_before(text: &[u8], limit: u64) -> Option<(u64, &[u8])>
     ensures bound { IfSome result (λ p. p.0 ≤ limit) }
 {
     match text {
-        [b'0', rest @ ..] => match rest {
-            [b'0'..=b'9', ..] => None,
-            _ => Some((0, rest)),
-        },
+        [b'0', rest @ ..] => Some((0, rest)),
         [first @ b'1'..=b'9', rest @ ..] => {
             let value = u64::from(*first - b'0');
             if value > limit {
