@@ -10,6 +10,7 @@ pub mod PatchSpelling
 pub mod StepSpelling
 pub mod FactSpelling
 pub mod FactTexts
+pub mod HexPairs
 pub mod Scripts
 pub mod Lines
 pub mod Rosters

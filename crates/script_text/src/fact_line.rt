@@ -7,9 +7,9 @@ ghost use Rattle.script_text.specs.Parts.{parts_at};
 ghost use Rattle.script_text.specs.FactLine.{decoded, write_at, fill_at, patch_at, patch_of, each_patch, contents, contents_from, contents_of, FitNoRecord, shaped, record_line, cut_line, advance_line, fact_line, fact_of};
 
 use crate::fields::{Parted, first_parts_into, part_at};
+use crate::hexed::decoded;
 use crate::limits::{PAGE, SHORT};
 use crate::number::{number, numbers};
-use hex::FromHexError;
 use redo_core::{Advance, Cut, Fact, MAX_NUMBER, MAX_PATCHES, MAX_READERS, Patch, Record, Write};
 use std::alloc::{AllocError, Global};
 
@@ -17,17 +17,6 @@ use std::alloc::{AllocError, Global};
 struct Contents {
     init: bool,
     patches: Vec<Patch>,
-}
-
-/// The bytes that hexadecimal digits of either case stand for; None where they stand for none. Its only error is want of memory.
-pub fn decoded(alloc: Global, digits: &[u8]) -> Result<Option<Vec<u8>>, AllocError>
-    ensures { IfOk result (λ o. option_map (λ v. v.items) o ≡ decoded (decode_of digits.now)) }
-{
-    match hex::decode(alloc, digits) {
-        Ok(bytes) => Ok(Some(bytes)),
-        Err(FromHexError::OutOfMemory) => Err(AllocError),
-        Err(_) => Ok(None),
-    }
 }
 
 /// The patch of bytes from an offset on.
