@@ -7,6 +7,7 @@ pub mod Results
 pub mod FirstParts
 pub mod Loops
 pub mod PatchSpelling
+pub mod RecordContents
 pub mod StepSpelling
 pub mod FactSpelling
 pub mod FactTexts

@@ -6,6 +6,7 @@
 //! lines before the bad line begin a script, which they do no more with it.
 #![tactic(auto)]
 
+mod contents;
 mod fact_line;
 mod fields;
 mod hexed;
