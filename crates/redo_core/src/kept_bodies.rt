@@ -1,13 +1,13 @@
 //! The patches of a record where they are kept: one short patch in the record itself, and a list for one record alone or shared by
 //! its copies.
 
-ghost use Rattle.std.specs.Prelude.{◌≡◌, IfOk, IfErr};
+ghost use Rattle.std.specs.Prelude.{◌≡◌, ◌↔◌, ◌∷◌, [], IsTrue, IfOk, IfErr};
 ghost use Rattle.redo_core.specs.Body.{patches_of};
 ghost use Rattle.redo_core.specs.Data.{plain};
 
 use crate::patches::{Body, Patch};
 use crate::writes::Write;
-use std::alloc::{AllocError, AllocFailed};
+use std::alloc::{AllocError, AllocFailed, Global};
 use std::marker::Model;
 use std::slice;
 use std::sync::Arc;
@@ -76,6 +76,22 @@ impl KeptBody {
         }
     }
 
+    /// One patch: a short one stands in the record itself. The only error is want of memory for a list.
+    pub fn of_patch(alloc: Global, patch: Patch) -> Result<Self, AllocError>
+        ensures { IfOk result (λ k. k ≡ patch ∷ []) }
+    {
+        if patch.is_short() {
+            return Ok(KeptBody {
+                holder: Holder::Short(patch),
+            });
+        }
+        let mut patches = Vec::with_capacity(alloc, 1)?;
+        patches.push(patch)?;
+        Ok(KeptBody {
+            holder: Holder::Patches(patches),
+        })
+    }
+
     pub fn body(&self) -> Body<'_>
         ensures { patches_of result ≡ self.now }
     {
@@ -85,6 +101,16 @@ impl KeptBody {
             Holder::Patches(patches) => Body::Patches(patches),
             Holder::SharedWrites(writes) => Body::Writes(&**writes),
             Holder::SharedPatches(patches) => Body::Patches(&**patches),
+        }
+    }
+
+    /// Whether the other has the same patches, in the same order. Most have one short patch each, which are compared at once.
+    pub fn is_same(&self, other: &KeptBody) -> bool
+        ensures { IsTrue result ↔ (self.now ≡ other.now) }
+    {
+        match (&self.holder, &other.holder) {
+            (Holder::Short(one), Holder::Short(two)) => one.is_same(two),
+            _ => self.body().is_same(&other.body()),
         }
     }
 

@@ -1,4 +1,4 @@
-ghost use Rattle.std.specs.Prelude.{◌≡◌, ℕ, Bool, List, ◌<◌, ◌≤◌, ◌↔◌, IsTrue, IfOk, IfErr, None, Some};
+ghost use Rattle.std.specs.Prelude.{◌≡◌, ℕ, Bool, List, [], ◌∷◌, ◌<◌, ◌≤◌, ◌↔◌, IsTrue, IfOk, IfErr, None, Some, IfSome, IfNone, IsSome};
 ghost use Rattle.redo_core.specs.Data.{record_with, record_of};
 ghost use Rattle.redo_core.specs.Body.{patches_of};
 ghost use Rattle.redo_core.specs.Shape.{record_fault, patches_fault, max_number};
@@ -10,8 +10,9 @@ use crate::patches::{Body, Patch};
 use crate::refusal::Refused;
 use crate::shapes::{MAX_NUMBER, ShapeFault};
 use crate::writes::Write;
-use std::alloc::{AllocError, AllocFailed};
+use std::alloc::{AllocError, AllocFailed, Global};
 use std::marker::Model;
+use std::slice;
 
 /// A redo record: patches to one page, with a number, a backlink in the segment's chain and one in the page's.
 /// With `init` its page begins anew, whatever was written to it before.
@@ -101,6 +102,38 @@ impl Record {
                 init,
                 body: KeptBody::of_patches(patches),
             }),
+        }
+    }
+
+    /// The same of a record with one patch, which takes no memory where it is short. None where the record's shape has a fault; the
+    /// only error is want of memory.
+    pub fn with_one(
+        alloc: Global,
+        epoch: u16,
+        number: u64,
+        back: u64,
+        page: u16,
+        block_back: u64,
+        init: bool,
+        patch: Patch,
+    ) -> Result<Option<Self>, AllocError>
+        ensures some { let given = record_with epoch number back page block_back init (patch ∷ []) in
+            IfOk result (λ o. IfSome o (λ r. (r ≡ given) × (record_fault given ≡ None))) }
+        ensures none { let given = record_with epoch number back page block_back init (patch ∷ []) in
+            IfOk result (λ o. IfNone o (IsSome (record_fault given))) }
+    {
+        let contents = patches_fault(slice::from_ref(&patch));
+        match first_fault(number, back, block_back, contents) {
+            Some(_) => Ok(None),
+            None => Ok(Some(Record {
+                epoch,
+                number,
+                back,
+                page,
+                block_back,
+                init,
+                body: KeptBody::of_patch(alloc, patch)?,
+            })),
         }
     }
 
@@ -221,7 +254,7 @@ impl Record {
             && self.page == other.page
             && self.block_back == other.block_back
             && self.init == other.init
-            && self.body.body().is_same(&other.body.body())
+            && self.body.is_same(&other.body)
     }
 }
 

@@ -1,7 +1,7 @@
 ghost use Rattle.std.specs.Prelude.{◌≡◌, ◌↔◌, IsTrue, IfOk};
 
 use smallvec::SmallVec;
-use std::alloc::AllocError;
+use std::alloc::{AllocError, Global};
 use std::marker::Model;
 
 /// How many bytes stand in the write itself.
@@ -34,6 +34,16 @@ impl Write {
         }
     }
 
+    /// A write of a copy of `bytes` from `offset` on: a short one takes no memory. Its only error is want of memory.
+    pub fn of_slice(alloc: Global, offset: u16, bytes: &[u8]) -> Result<Self, AllocError>
+        ensures { IfOk result (λ w. w ≡ record { offset = offset; bytes = bytes.now }) }
+    {
+        Ok(Write {
+            offset,
+            bytes: SmallVec::from_slice(alloc, bytes)?,
+        })
+    }
+
     /// The place in the page of the first byte.
     pub fn offset(&self) -> u16
         ensures { result ≡ self.now.offset }
@@ -62,7 +72,7 @@ impl Write {
     pub fn is_same(&self, other: &Write) -> bool
         ensures { IsTrue result ↔ (self.now ≡ other.now) }
     {
-        self.offset == other.offset && self.bytes == other.bytes
+        self.offset == other.offset && are_same_bytes(self.bytes(), other.bytes())
     }
 }
 
@@ -75,4 +85,18 @@ impl Clone for Write {
             bytes: SmallVec::from_slice(*self.bytes.allocator(), self.bytes())?,
         })
     }
+}
+
+// Whether two texts are one. It looks at all bytes, so that they are compared many at once.
+fn are_same_bytes(left: &[u8], right: &[u8]) -> bool
+    ensures { IsTrue result ↔ (left.now ≡ right.now) }
+{
+    if left.len() != right.len() {
+        return false;
+    }
+    let mut same = true;
+    for (i, byte) in left.iter().enumerate() {
+        same &= *byte == right[i];
+    }
+    same
 }

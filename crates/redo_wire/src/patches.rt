@@ -67,7 +67,7 @@ fn read_write(alloc: Global, left: usize, bytes: &[u8]) -> Result<(Write, &[u8])
         return Err(WireError::Fault(WireFault::Shape));
     }
     let (text, rest) = read_bytes(len, rest)?;
-    Ok((Write::new(offset, Vec::from_slice(alloc, text)?), rest))
+    Ok((Write::of_slice(alloc, offset, text)?, rest))
 }
 
 /// Whether so many bytes from the offset on are some, and end inside the page.

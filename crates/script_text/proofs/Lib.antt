@@ -11,9 +11,11 @@ pub mod RecordLine
 pub mod AdvanceLine
 pub mod Loops
 pub mod PatchSpelling
+pub mod RecordContents
 pub mod StepSpelling
 pub mod FactSpelling
 pub mod FactTexts
+pub mod HexPairs
 pub mod Scripts
 pub mod Lines
 pub mod Rosters

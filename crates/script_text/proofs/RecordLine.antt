@@ -1,17 +1,16 @@
 -- The fields of a fact line: its numbers first, and then what stands behind them.
-use Rattle.std.proofs.Common.{◌≡◌, ℕ, ◌+◌, Bool, eqb, List, [], ◌∷◌, ◌++◌, length, Option, Some, None, refl, sym, ap, ◌∙◌, arith}
+use Rattle.std.proofs.Common.{◌≡◌, ℕ, ◌+◌, eqb, List, [], ◌∷◌, ◌++◌, length, Option, Some, None, refl, sym, ap, ◌∙◌, arith}
 use Rattle.std.proofs.lemmas.List.Splits.{length-slice_split}
 use Rattle.redo_core.specs.Data.{record_with}
 use Rattle.redo_core.specs.Shape.{max_number}
-use Rattle.redo_core.specs.declared.patches.Patch.{Patch}
 use Rattle.redo_core.specs.declared.facts.Fact.{Fact}
 use Rattle.redo_core.specs.declared.facts.Fact.TheVariants.{Record}
 use Rattle.script_text.specs.Number.{decimal_value}
 use Rattle.script_text.specs.Parts.{◌>>=◌, parts_at}
 use Rattle.script_text.specs.Fields.{numbers_of, field_of, numbers_before, of_five}
-use Rattle.script_text.specs.FactLine.{Contents, contents, contents_of, FitNoRecord, shaped, record_limits, record_line}
+use Rattle.script_text.specs.declared.contents.Head.{Head}
+use Rattle.script_text.specs.FactLine.{Contents, contents_of, shaped, record_of, head_numbers, record_limits, record_line}
 use Rattle.script_text.proofs.Cursor.{paired}
-use Rattle.script_text.proofs.FirstParts.{no_record}
 
 -- ---- numbers, and the field behind them
 
@@ -122,11 +121,10 @@ record_line_is (e ∷ n ∷ b ∷ p ∷ k ∷ text ∷ more ∷ rest) = sym (non
 pub no_numbers : (fields : List (List ℕ)) → numbers_before record_limits fields ≡ None → record_line fields ≡ None
 no_numbers fields e = record_line_is fields ∙ ap read_behind e
 
-pub no_contents : (fields : List (List ℕ)) (ns text : List ℕ) → numbers_before record_limits fields ≡ Some (ns, text) → FitNoRecord (contents_of text)
-    → record_line fields ≡ None
-no_contents fields ns text e unfit = record_line_is fields ∙ ap read_behind e ∙ no_record (contents_of text) ns unfit
+made_is : (head : Head) (o : Option Contents) → made_of (head_numbers head) o ≡ record_of head o
+made_is head None = refl
+made_is head (Some c) = refl
 
-pub record_is : (fields : List (List ℕ)) (e n b p k : ℕ) (text : List ℕ) (init : Bool) (patches : List Patch)
-    → numbers_before record_limits fields ≡ Some (e ∷ n ∷ b ∷ p ∷ k ∷ [], text) → contents_of text ≡ Some (contents init patches)
-    → record_line fields ≡ shaped (Record (record_with e n b p k init patches))
-record_is fields e n b p k text init patches is said = record_line_is fields ∙ ap read_behind is ∙ ap (made_of (e ∷ n ∷ b ∷ p ∷ k ∷ [])) said
+pub record_is : (head : Head) (fields : List (List ℕ)) (text : List ℕ) → numbers_before record_limits fields ≡ Some (head_numbers head, text)
+    → record_line fields ≡ record_of head (contents_of text)
+record_is head fields text is = record_line_is fields ∙ ap read_behind is ∙ made_is head (contents_of text)

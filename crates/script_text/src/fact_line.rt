@@ -1,169 +1,18 @@
 //! Fact lines.
 
-ghost use Rattle.std.specs.Prelude.{◌≡◌, ◌≤◌, ◌∷◌, IfOk, IfSome, IfNone, map, option_map};
-ghost use Rattle.hex.specs.Hex.{decode_of};
-ghost use Rattle.redo_core.specs.Data.{record_with, advance_of};
+ghost use Rattle.std.specs.Prelude.{◌≡◌, ◌≤◌, ◌∷◌, IfOk, option_map};
+ghost use Rattle.redo_core.specs.Data.{advance_of};
 ghost use Rattle.redo_core.specs.Shape.{max_readers};
 ghost use Rattle.script_text.specs.Parts.{parts_at};
 ghost use Rattle.script_text.specs.Fields.{numbers_before};
-ghost use Rattle.script_text.specs.FactLine.{decoded, write_at, fill_at, patch_at, patch_of, each_patch, contents, contents_from, contents_of, FitNoRecord, shaped, head_numbers, record_limits, record_line, cut_line, advance_line, fact_line, fact_of};
+ghost use Rattle.script_text.specs.FactLine.{shaped, head_numbers, record_limits, record_line, cut_line, advance_line, fact_line, fact_of};
 
-use crate::fields::{Parted, first_part, first_parts_into, part_at};
-use crate::limits::{PAGE, SHORT};
-use crate::number::{field, first_field, last_field, number, three_fields};
-use hex::FromHexError;
-use redo_core::{Advance, Cut, Fact, MAX_NUMBER, MAX_PATCHES, MAX_READERS, Patch, Record, Write};
+use crate::contents::{Head, record_of};
+use crate::fields::first_part;
+use crate::limits::SHORT;
+use crate::number::{field, first_field, last_field, three_fields};
+use redo_core::{Advance, Cut, Fact, MAX_NUMBER, MAX_READERS};
 use std::alloc::{AllocError, Global};
-
-/// The numbers of a record's line.
-#[derive(Clone, Copy)]
-struct Head {
-    epoch: u16,
-    number: u64,
-    back: u64,
-    page: u16,
-    block_back: u64,
-}
-
-/// Whether a record begins its page anew, and its patches.
-struct Contents {
-    init: bool,
-    patches: Vec<Patch>,
-}
-
-/// The bytes that hexadecimal digits of either case stand for; None where they stand for none. Its only error is want of memory.
-pub fn decoded(alloc: Global, digits: &[u8]) -> Result<Option<Vec<u8>>, AllocError>
-    ensures { IfOk result (λ o. option_map (λ v. v.items) o ≡ decoded (decode_of digits.now)) }
-{
-    match hex::decode(alloc, digits) {
-        Ok(bytes) => Ok(Some(bytes)),
-        Err(FromHexError::OutOfMemory) => Err(AllocError),
-        Err(_) => Ok(None),
-    }
-}
-
-/// The patch of bytes from an offset on.
-fn write(offset: &[u8], bytes: Vec<u8>) -> Option<Patch>
-    ensures { result ≡ write_at offset.now bytes.items }
-{
-    if bytes.is_empty() {
-        return None;
-    }
-    let offset = number(offset, SHORT)?;
-    Some(Patch::Bytes(Write::new(offset as u16, bytes)))
-}
-
-/// The patch of one byte from an offset on over a length.
-fn fill(offset: &[u8], len: &[u8], bytes: &[u8]) -> Option<Patch>
-    ensures { result ≡ fill_at offset.now len.now bytes.now }
-{
-    let [byte] = bytes else {
-        return None;
-    };
-    let offset = number(offset, SHORT)?;
-    let len = number(len, PAGE)?;
-    Some(Patch::Fill {
-        offset: offset as u16,
-        len: len as u16,
-        byte: *byte,
-    })
-}
-
-/// The patch of bytes at a place.
-fn patch_at(place: &[u8], bytes: Vec<u8>) -> Option<Patch>
-    ensures { result ≡ patch_at (parts_at 42 place.now) bytes.items }
-{
-    match part_at(place, b'*') {
-        Parted::Whole => write(place, bytes),
-        Parted::Halves(offset, len) => fill(offset, len, &bytes),
-        Parted::More => None,
-    }
-}
-
-/// The patch that a place and hexadecimal digits spell.
-#[tactic(auto, unfolding(crate::specs::FactLine::patch_from))]
-fn patch(alloc: Global, text: &[u8]) -> Result<Option<Patch>, AllocError>
-    ensures { IfOk result (λ o. o ≡ patch_of text.now) }
-{
-    let Parted::Halves(place, digits) = part_at(text, b':') else {
-        return Ok(None);
-    };
-    let Some(bytes) = decoded(alloc, digits)? else {
-        return Ok(None);
-    };
-    Ok(patch_at(place, bytes))
-}
-
-/// The patches between commas.
-fn each_patch(alloc: Global, pieces: &[&[u8]]) -> Result<Option<Vec<Patch>>, AllocError>
-    ensures { IfOk result (λ o. option_map (λ v. v.items) o ≡ each_patch (map (λ x. x.now) pieces.now)) }
-{
-    let mut patches = Vec::with_capacity(alloc, pieces.len())?;
-    for piece in pieces {
-        let Some(next) = patch(alloc, piece)? else {
-            return Ok(None);
-        };
-        patches.push(next)?;
-    }
-    Ok(Some(patches))
-}
-
-/// The patches between commas, behind the word `init` or without it.
-#[tactic(auto, unfolding(crate::specs::FactLine::contents_from))]
-fn contents_from(alloc: Global, pieces: &[&[u8]]) -> Result<Option<Contents>, AllocError>
-    ensures { IfOk result (λ o. option_map (λ c. contents c.init c.patches.items) o ≡ contents_from (map (λ x. x.now) pieces.now)) }
-{
-    let (init, rest) = match pieces {
-        [] => return Ok(None),
-        [b"init", rest @ ..] => (true, rest),
-        _ => (false, pieces),
-    };
-    match each_patch(alloc, rest)? {
-        Some(patches) => Ok(Some(Contents { init, patches })),
-        None => Ok(None),
-    }
-}
-
-/// What a record does to its page; nothing for `-`. None also where there are more patches than a record has.
-#[tactic(auto, unfolding(crate::specs::FactLine::contents_of))]
-fn record_contents<'a>(
-    alloc: Global,
-    text: &'a [u8],
-    pieces: &mut Vec<&'a [u8]>,
-) -> Result<Option<Contents>, AllocError>
-    ensures some { IfOk result (λ o. IfSome o (λ c. contents_of text.now ≡ Some (contents c.init c.patches.items))) }
-    ensures none { IfOk result (λ o. IfNone o (FitNoRecord (contents_of text.now))) }
-{
-    if text == b"-".as_slice() {
-        let patches = Vec::new(alloc);
-        return Ok(Some(Contents {
-            init: false,
-            patches,
-        }));
-    }
-    first_parts_into(text, b',', pieces)?;
-    if pieces.len() > MAX_PATCHES + 1 {
-        return Ok(None);
-    }
-    contents_from(alloc, pieces)
-}
-
-/// The record, where its shape has no fault.
-#[tactic(auto, unfolding(crate::specs::FactLine::shaped))]
-fn shaped(
-    epoch: u16,
-    number: u64,
-    back: u64,
-    page: u16,
-    block_back: u64,
-    contents: Contents,
-) -> Option<Fact>
-    ensures { result ≡ shaped (Fact.Record (record_with epoch number back page block_back contents.init contents.patches.items)) }
-{
-    let Contents { init, patches } = contents;
-    let redo = Record::with(epoch, number, back, page, block_back, init, patches).ok()?;
-    Some(Fact::Record(redo))
-}
 
 /// The numbers of the fields behind `rec`, and the last field, which tells the contents.
 #[tactic(auto, using(crate::proofs::RecordLine::none_before, crate::proofs::RecordLine::more_behind))]
@@ -189,25 +38,14 @@ fn record_fields(fields: &[u8]) -> Option<(Head, &[u8])>
 }
 
 /// The fields behind `rec`.
-#[tactic(auto, using(crate::proofs::RecordLine::no_numbers, crate::proofs::RecordLine::no_contents, crate::proofs::RecordLine::record_is))]
+#[tactic(auto, using(crate::proofs::RecordLine::no_numbers, crate::proofs::RecordLine::record_is))]
 fn record_line(alloc: Global, fields: &[u8]) -> Result<Option<Fact>, AllocError>
     ensures { IfOk result (λ o. o ≡ record_line (parts_at 32 fields.now)) }
 {
     let Some((head, text)) = record_fields(fields) else {
         return Ok(None);
     };
-    let mut pieces = Vec::new(alloc);
-    let Some(contents) = record_contents(alloc, text, &mut pieces)? else {
-        return Ok(None);
-    };
-    let Head {
-        epoch,
-        number,
-        back,
-        page,
-        block_back,
-    } = head;
-    Ok(shaped(epoch, number, back, page, block_back, contents))
+    record_of(alloc, head, text)
 }
 
 /// The fields behind `cut`.
