@@ -9,6 +9,7 @@ use Rattle.redo_core.specs.declared.patches.Patch.{Patch}
 use Rattle.redo_core.specs.declared.patches.Patch.TheVariants.{Bytes, Fill}
 use Rattle.redo_core.specs.declared.facts.Fact.{Fact}
 use Rattle.redo_core.specs.declared.facts.Fact.TheVariants.{Record, Cut, Advance}
+use Rattle.script_text.specs.declared.contents.Head.{Head}
 use Rattle.script_text.specs.Number.{decimal_value}
 use Rattle.script_text.specs.Parts.{◌>>=◌, parts_at}
 use Rattle.script_text.specs.Fields.{numbers_of, of_two, of_three, of_five}
@@ -32,6 +33,13 @@ fill_at offset len (byte ∷ []) = do
   l ← decimal_value 4096 len
   Some (Fill o l byte)
 fill_at offset len _ = None
+
+-- the write and the fill whose bytes these digits stand for
+abbrev pub write_of : List ℕ → List ℕ → Option Patch
+write_of offset digits = decoded (decode_of digits) >>= write_at offset
+
+abbrev pub fill_of : List ℕ → List ℕ → List ℕ → Option Patch
+fill_of offset len digits = decoded (decode_of digits) >>= fill_at offset len
 
 -- the patch of bytes at a place, as 0 or 0*16
 abbrev pub patch_at : List (List ℕ) → List ℕ → Option Patch
@@ -75,10 +83,10 @@ contents_from (text ∷ texts) =
 unfoldable pub contents_of : List ℕ → Option Contents
 contents_of text = if bytes_eq text (codes "-") then Some (contents false []) else contents_from (parts_at 44 text)
 
--- no contents, or those of no record: they have too many patches
-abbrev pub FitNoRecord : Option Contents → Type 0
+-- no patches, or those of no record: they are too many
+abbrev pub FitNoRecord : Option (List Patch) → Type 0
 FitNoRecord None = Unit {0}
-FitNoRecord (Some c) = max_patches < length c.patches
+FitNoRecord (Some patches) = max_patches < length patches
 
 -- ---- facts
 
@@ -92,10 +100,27 @@ shaped (Record r) = unless (record_fault r) (Record r)
 shaped (Cut c) = unless (cut_fault c) (Cut c)
 shaped (Advance a) = unless (advance_fault a) (Advance a)
 
+-- the record of these numbers and patches, where its shape has no fault
+abbrev pub record_at : Head → Bool → Option (List Patch) → Option Fact
+record_at head init None = None
+record_at head init (Some patches) = shaped (Record (record_with head.epoch head.number head.back head.page head.block_back init patches))
+
+-- the record of these numbers and contents
+abbrev pub record_of : Head → Option Contents → Option Fact
+record_of head None = None
+record_of head (Some c) = record_at head c.init (Some c.patches)
+
+-- the numbers of a record's line, and their limits
+abbrev pub head_numbers : Head → List ℕ
+head_numbers h = h.epoch ∷ h.number ∷ h.back ∷ h.page ∷ h.block_back ∷ []
+
+abbrev pub record_limits : List ℕ
+record_limits = 65535 ∷ max_number ∷ max_number ∷ 65535 ∷ max_number ∷ []
+
 -- the fields behind rec: epoch, number, segment backlink, page, block backlink, and the contents
 unfoldable pub record_line : List (List ℕ) → Option Fact
 record_line (e ∷ n ∷ b ∷ p ∷ k ∷ text ∷ []) = do
-  numbers ← numbers_of (65535 ∷ max_number ∷ max_number ∷ 65535 ∷ max_number ∷ []) (e ∷ n ∷ b ∷ p ∷ k ∷ [])
+  numbers ← numbers_of record_limits (e ∷ n ∷ b ∷ p ∷ k ∷ [])
   c ← contents_of text
   of_five (λ epoch number back page block_back. shaped (Record (record_with epoch number back page block_back c.init c.patches))) numbers
 record_line _ = None

@@ -1,7 +1,8 @@
 -- Lines of a word and numbers, each with its limit.
 use Rattle.std.specs.Prelude.{ℕ, List, [], ◌∷◌, Option, Some, None, bytes_eq, if◌then◌else◌}
+use Rattle.std.specs.Borrow.{Bor}
 use Rattle.script_text.specs.Number.{decimal_value}
-use Rattle.script_text.specs.Parts.{◌>>=◌}
+use Rattle.script_text.specs.Parts.{◌>>=◌, parts_at}
 
 -- as many numbers as there are limits, each at most its limit
 abbrev pub numbers_of : List ℕ → List (List ℕ) → Option (List ℕ)
@@ -12,6 +13,30 @@ numbers_of (limit ∷ limits) (word ∷ words) = do
   n ← decimal_value limit word
   ns ← numbers_of limits words
   Some (n ∷ ns)
+
+-- the number of the first field, and the fields behind it
+abbrev pub first_of : ℕ → List (List ℕ) → Option (ℕ × List (List ℕ))
+first_of limit [] = None
+first_of limit (word ∷ rest) = decimal_value limit word >>= λ n. Some (n, rest)
+
+-- the same where a field stands behind it
+abbrev pub field_of : ℕ → List (List ℕ) → Option (ℕ × List (List ℕ))
+field_of limit (word ∷ next ∷ rest) = first_of limit (word ∷ next ∷ rest)
+field_of limit _ = None
+
+-- as many numbers as there are limits, and the one field behind them
+abbrev pub numbers_before : List ℕ → List (List ℕ) → Option (List ℕ × List ℕ)
+numbers_before [] (text ∷ []) = Some ([], text)
+numbers_before (limit ∷ limits) (word ∷ words) = do
+  n ← decimal_value limit word
+  rest ← numbers_before limits words
+  Some (n ∷ rest.0, rest.1)
+numbers_before _ _ = None
+
+-- the fields of a text; none where there is no text
+abbrev pub fields_in : Option (Bor (List ℕ)) → List (List ℕ)
+fields_in None = []
+fields_in (Some text) = parts_at 32 text.now
 
 -- what so many numbers make
 abbrev pub of_one : {A : Type 0} → (ℕ → Option A) → List ℕ → Option A

@@ -6,7 +6,7 @@ use Rattle.std.specs.List.{slice_split}
 abbrev pub parts_at : ℕ → List ℕ → List (List ℕ)
 parts_at separator text = slice_split (λ b. b == separator) text
 
--- how many parts of a text are looked at: one more than a line has, or what a record does to its page
+-- how many parts of a text are looked at: more than any line has
 abbrev pub most_parts : ℕ
 most_parts = 66
 

@@ -1,250 +1,119 @@
 //! Fact lines.
 
-ghost use Rattle.std.specs.Prelude.{◌≡◌, IfOk, IfSome, IfNone, map, option_map};
-ghost use Rattle.hex.specs.Hex.{decode_of};
-ghost use Rattle.redo_core.specs.Data.{record_with};
+ghost use Rattle.std.specs.Prelude.{◌≡◌, ◌≤◌, ◌∷◌, IfOk, option_map};
+ghost use Rattle.redo_core.specs.Data.{advance_of};
+ghost use Rattle.redo_core.specs.Shape.{max_readers};
 ghost use Rattle.script_text.specs.Parts.{parts_at};
-ghost use Rattle.script_text.specs.FactLine.{decoded, write_at, fill_at, patch_at, patch_of, each_patch, contents, contents_from, contents_of, FitNoRecord, shaped, record_line, cut_line, advance_line, fact_line, fact_of};
+ghost use Rattle.script_text.specs.Fields.{numbers_before};
+ghost use Rattle.script_text.specs.FactLine.{shaped, head_numbers, record_limits, record_line, cut_line, advance_line, fact_line, fact_of};
 
-use crate::fields::{Parted, first_parts_into, part_at};
-use crate::limits::{PAGE, SHORT};
-use crate::number::{number, numbers};
-use hex::FromHexError;
-use redo_core::{Advance, Cut, Fact, MAX_NUMBER, MAX_PATCHES, MAX_READERS, Patch, Record, Write};
+use crate::contents::{Head, record_of};
+use crate::fields::first_part;
+use crate::limits::SHORT;
+use crate::number::{field, first_field, last_field, three_fields};
+use redo_core::{Advance, Cut, Fact, MAX_NUMBER, MAX_READERS};
 use std::alloc::{AllocError, Global};
 
-/// Whether a record begins its page anew, and its patches.
-struct Contents {
-    init: bool,
-    patches: Vec<Patch>,
-}
-
-/// The bytes that hexadecimal digits of either case stand for; None where they stand for none. Its only error is want of memory.
-pub fn decoded(alloc: Global, digits: &[u8]) -> Result<Option<Vec<u8>>, AllocError>
-    ensures { IfOk result (λ o. option_map (λ v. v.items) o ≡ decoded (decode_of digits.now)) }
+/// The numbers of the fields behind `rec`, and the last field, which tells the contents.
+#[tactic(auto, using(crate::proofs::RecordLine::none_before, crate::proofs::RecordLine::more_behind))]
+fn record_fields(fields: &[u8]) -> Option<(Head, &[u8])>
+    ensures { option_map (λ p. (head_numbers p.0, p.1.now)) result ≡ numbers_before record_limits (parts_at 32 fields.now) }
 {
-    match hex::decode(alloc, digits) {
-        Ok(bytes) => Ok(Some(bytes)),
-        Err(FromHexError::OutOfMemory) => Err(AllocError),
-        Err(_) => Ok(None),
-    }
-}
-
-/// The patch of bytes from an offset on.
-fn write(offset: &[u8], bytes: Vec<u8>) -> Option<Patch>
-    ensures { result ≡ write_at offset.now bytes.items }
-{
-    if bytes.is_empty() {
+    let (epoch, rest) = field(fields, SHORT)?;
+    let (number, rest) = field(rest, MAX_NUMBER)?;
+    let (back, rest) = field(rest, MAX_NUMBER)?;
+    let (page, rest) = field(rest, SHORT)?;
+    let (block_back, text) = field(rest, MAX_NUMBER)?;
+    if first_part(text, b' ').is_some() {
         return None;
     }
-    let offset = number(offset, SHORT)?;
-    Some(Patch::Bytes(Write::new(offset as u16, bytes)))
-}
-
-/// The patch of one byte from an offset on over a length.
-fn fill(offset: &[u8], len: &[u8], bytes: &[u8]) -> Option<Patch>
-    ensures { result ≡ fill_at offset.now len.now bytes.now }
-{
-    let [byte] = bytes else {
-        return None;
+    let head = Head {
+        epoch: epoch as u16,
+        number,
+        back,
+        page: page as u16,
+        block_back,
     };
-    let offset = number(offset, SHORT)?;
-    let len = number(len, PAGE)?;
-    Some(Patch::Fill {
-        offset: offset as u16,
-        len: len as u16,
-        byte: *byte,
-    })
-}
-
-/// The patch of bytes at a place.
-fn patch_at(place: &[u8], bytes: Vec<u8>) -> Option<Patch>
-    ensures { result ≡ patch_at (parts_at 42 place.now) bytes.items }
-{
-    match part_at(place, b'*') {
-        Parted::Whole => write(place, bytes),
-        Parted::Halves(offset, len) => fill(offset, len, &bytes),
-        Parted::More => None,
-    }
-}
-
-/// The patch that a place and hexadecimal digits spell.
-#[tactic(auto, unfolding(crate::specs::FactLine::patch_from))]
-fn patch(alloc: Global, text: &[u8]) -> Result<Option<Patch>, AllocError>
-    ensures { IfOk result (λ o. o ≡ patch_of text.now) }
-{
-    let Parted::Halves(place, digits) = part_at(text, b':') else {
-        return Ok(None);
-    };
-    let Some(bytes) = decoded(alloc, digits)? else {
-        return Ok(None);
-    };
-    Ok(patch_at(place, bytes))
-}
-
-/// The patches between commas.
-fn each_patch(alloc: Global, pieces: &[&[u8]]) -> Result<Option<Vec<Patch>>, AllocError>
-    ensures { IfOk result (λ o. option_map (λ v. v.items) o ≡ each_patch (map (λ x. x.now) pieces.now)) }
-{
-    let mut patches = Vec::with_capacity(alloc, pieces.len())?;
-    for piece in pieces {
-        let Some(next) = patch(alloc, piece)? else {
-            return Ok(None);
-        };
-        patches.push(next)?;
-    }
-    Ok(Some(patches))
-}
-
-/// The patches between commas, behind the word `init` or without it.
-#[tactic(auto, unfolding(crate::specs::FactLine::contents_from))]
-fn contents_from(alloc: Global, pieces: &[&[u8]]) -> Result<Option<Contents>, AllocError>
-    ensures { IfOk result (λ o. option_map (λ c. contents c.init c.patches.items) o ≡ contents_from (map (λ x. x.now) pieces.now)) }
-{
-    let (init, rest) = match pieces {
-        [] => return Ok(None),
-        [b"init", rest @ ..] => (true, rest),
-        _ => (false, pieces),
-    };
-    match each_patch(alloc, rest)? {
-        Some(patches) => Ok(Some(Contents { init, patches })),
-        None => Ok(None),
-    }
-}
-
-/// What a record does to its page; nothing for `-`. None also where there are more patches than a record has.
-#[tactic(auto, unfolding(crate::specs::FactLine::contents_of))]
-fn record_contents<'a>(
-    alloc: Global,
-    text: &'a [u8],
-    pieces: &mut Vec<&'a [u8]>,
-) -> Result<Option<Contents>, AllocError>
-    ensures some { IfOk result (λ o. IfSome o (λ c. contents_of text.now ≡ Some (contents c.init c.patches.items))) }
-    ensures none { IfOk result (λ o. IfNone o (FitNoRecord (contents_of text.now))) }
-{
-    if text == b"-".as_slice() {
-        let patches = Vec::new(alloc);
-        return Ok(Some(Contents {
-            init: false,
-            patches,
-        }));
-    }
-    first_parts_into(text, b',', pieces)?;
-    if pieces.len() > MAX_PATCHES + 1 {
-        return Ok(None);
-    }
-    contents_from(alloc, pieces)
-}
-
-/// The record, where its shape has no fault.
-#[tactic(auto, unfolding(crate::specs::FactLine::shaped))]
-fn shaped(
-    epoch: u16,
-    number: u64,
-    back: u64,
-    page: u16,
-    block_back: u64,
-    contents: Contents,
-) -> Option<Fact>
-    ensures { result ≡ shaped (Fact.Record (record_with epoch number back page block_back contents.init contents.patches.items)) }
-{
-    let Contents { init, patches } = contents;
-    let redo = Record::with(epoch, number, back, page, block_back, init, patches).ok()?;
-    Some(Fact::Record(redo))
+    Some((head, text))
 }
 
 /// The fields behind `rec`.
-#[tactic(auto, unfolding(crate::specs::FactLine::record_line))]
-fn record_line<'a>(
-    alloc: Global,
-    fields: &[&'a [u8]],
-    pieces: &mut Vec<&'a [u8]>,
-) -> Result<Option<Fact>, AllocError>
-    ensures { IfOk result (λ o. o ≡ record_line (map (λ x. x.now) fields.now)) }
+#[tactic(auto, using(crate::proofs::RecordLine::no_numbers, crate::proofs::RecordLine::record_is))]
+fn record_line(alloc: Global, fields: &[u8]) -> Result<Option<Fact>, AllocError>
+    ensures { IfOk result (λ o. o ≡ record_line (parts_at 32 fields.now)) }
 {
-    let [epoch, number, back, page, block_back, text] = fields else {
+    let Some((head, text)) = record_fields(fields) else {
         return Ok(None);
     };
-    let limits = [SHORT, MAX_NUMBER, MAX_NUMBER, SHORT, MAX_NUMBER];
-    let spelled = [*epoch, *number, *back, *page, *block_back];
-    let Some(numbers) = numbers(limits, &spelled) else {
-        return Ok(None);
-    };
-    let [epoch, number, back, page, block_back] = numbers;
-    let Some(contents) = record_contents(alloc, text, pieces)? else {
-        return Ok(None);
-    };
-    let (epoch, page) = (epoch as u16, page as u16);
-    Ok(shaped(epoch, number, back, page, block_back, contents))
+    record_of(alloc, head, text)
 }
 
 /// The fields behind `cut`.
 #[tactic(auto, unfolding(crate::specs::FactLine::cut_line, crate::specs::FactLine::shaped))]
-fn cut_line(fields: &[&[u8]]) -> Option<Fact>
-    ensures { result ≡ cut_line (map (λ x. x.now) fields.now) }
+fn cut_line(fields: &[u8]) -> Option<Fact>
+    ensures { result ≡ cut_line (parts_at 32 fields.now) }
 {
-    let [epoch, lo, hi] = numbers([SHORT, MAX_NUMBER, MAX_NUMBER], fields)?;
+    let [epoch, lo, hi] = three_fields(fields, SHORT, MAX_NUMBER, MAX_NUMBER)?;
     let cut = Cut::new(epoch as u16, lo, hi).ok()?;
     Some(Fact::Cut(cut))
 }
 
-/// The fields behind `min`.
-#[tactic(auto, unfolding(crate::specs::FactLine::advance_line, crate::specs::FactLine::shaped))]
-fn advance_line(fields: &[&[u8]]) -> Option<Fact>
-    ensures { result ≡ advance_line (map (λ x. x.now) fields.now) }
+/// The advance, where its shape has no fault.
+#[tactic(auto, unfolding(crate::specs::FactLine::shaped))]
+fn advance(epoch: u64, point: u64, reader: u64) -> Option<Fact>
+    requires epoch { epoch ≤ 65535 }
+    requires reader { reader ≤ max_readers }
+    ensures { result ≡ shaped (Fact.Advance (advance_of epoch reader point)) }
 {
-    let (epoch, point, reader) = if fields.len() == 2 {
-        let [epoch, point] = numbers([SHORT, MAX_NUMBER], fields)?;
-        (epoch, point, 1)
-    } else {
-        let [epoch, point, reader] = numbers([SHORT, MAX_NUMBER, u64::from(MAX_READERS)], fields)?;
-        (epoch, point, reader)
-    };
     let advance = Advance::of_reader(reader as u8, epoch as u16, point).ok()?;
     Some(Fact::Advance(advance))
 }
 
-/// The fact of a line's fields.
-#[tactic(auto, unfolding(crate::specs::FactLine::fact_line))]
-fn fact_line<'a>(
-    alloc: Global,
-    fields: &[&'a [u8]],
-    pieces: &mut Vec<&'a [u8]>,
-) -> Result<Option<Fact>, AllocError>
-    ensures { IfOk result (λ o. o ≡ fact_line (map (λ x. x.now) fields.now)) }
+/// The fields behind `min`. The reader is 1 where it is not named.
+#[tactic(auto, using(crate::proofs::AdvanceLine::no_advance, crate::proofs::AdvanceLine::no_point, crate::proofs::AdvanceLine::advance_alone, crate::proofs::AdvanceLine::advance_named, crate::proofs::AdvanceLine::misnamed))]
+fn advance_line(fields: &[u8]) -> Option<Fact>
+    ensures { result ≡ advance_line (parts_at 32 fields.now) }
 {
-    match fields {
-        [b"rec", rest @ ..] => record_line(alloc, rest, pieces),
-        [b"cut", rest @ ..] => Ok(cut_line(rest)),
-        [b"min", rest @ ..] => Ok(advance_line(rest)),
+    let (epoch, rest) = field(fields, SHORT)?;
+    let (point, rest) = first_field(rest, MAX_NUMBER)?;
+    match rest {
+        None => advance(epoch, point, 1),
+        Some(field) => {
+            let reader = last_field(field, u64::from(MAX_READERS))?;
+            advance(epoch, point, reader)
+        }
+    }
+}
+
+/// The fact of a word and the fields behind it.
+#[tactic(auto, unfolding(crate::specs::FactLine::fact_line))]
+fn fact_line(alloc: Global, word: &[u8], fields: &[u8]) -> Result<Option<Fact>, AllocError>
+    ensures { IfOk result (λ o. o ≡ fact_line (word.now ∷ parts_at 32 fields.now)) }
+{
+    match word {
+        b"rec" => record_line(alloc, fields),
+        b"cut" => Ok(cut_line(fields)),
+        b"min" => Ok(advance_line(fields)),
         _ => Ok(None),
     }
 }
 
-/// The fact of a line. The lists of its fields and of a record's pieces are room that is used again.
-#[tactic(auto, using(crate::proofs::FirstParts::first_fact))]
-pub fn fact<'a>(
-    alloc: Global,
-    line: &'a [u8],
-    fields: &mut Vec<&'a [u8]>,
-    pieces: &mut Vec<&'a [u8]>,
-) -> Result<Option<Fact>, AllocError>
+/// The fact of a line. A word alone is none.
+#[tactic(auto, using(crate::proofs::Words::no_fact))]
+pub fn fact(alloc: Global, line: &[u8]) -> Result<Option<Fact>, AllocError>
     ensures { IfOk result (λ o. o ≡ fact_of line.now) }
 {
-    first_parts_into(line, b' ', fields)?;
-    fact_line(alloc, fields, pieces)
+    match first_part(line, b' ') {
+        Some((word, fields)) => fact_line(alloc, word, fields),
+        None => Ok(None),
+    }
 }
 
 /// The same fact, shared by its copies.
-pub fn shared_fact<'a>(
-    alloc: Global,
-    line: &'a [u8],
-    fields: &mut Vec<&'a [u8]>,
-    pieces: &mut Vec<&'a [u8]>,
-) -> Result<Option<Fact>, AllocError>
+pub fn shared_fact(alloc: Global, line: &[u8]) -> Result<Option<Fact>, AllocError>
     ensures { IfOk result (λ o. o ≡ fact_of line.now) }
 {
-    match fact(alloc, line, fields, pieces)? {
+    match fact(alloc, line)? {
         Some(fact) => Ok(Some(fact.share()?)),
         None => Ok(None),
     }

@@ -1,11 +1,10 @@
 //! The parts of a text round a separator: lines, fields, writes.
 
-ghost use Rattle.std.specs.Prelude.{◌≡◌, ◌<◌, ◌==◌, [], ◌∷◌, IfOk, OnOk, IfSome, IfNone, length, map, position};
+ghost use Rattle.std.specs.Prelude.{◌≡◌, ◌<◌, ◌==◌, [], ◌∷◌, IfOk, IfSome, IfNone, length, map, position};
 ghost use Rattle.script_text.specs.Parts.{parts_at, first_parts};
 ghost use Rattle.script_text.specs.Parting.{IsParted};
 
 use memchr::memchr;
-use redo_core::MAX_PATCHES;
 use std::alloc::{AllocError, Global};
 
 /// How often a separator stands in a text.
@@ -17,28 +16,15 @@ pub enum Parted<'a> {
     More,
 }
 
-/// How many parts of a text are looked at. The contents of a record have the most: the word `init` and its patches; and one more
-/// shows that a text has too many.
-const MOST_PARTS: usize = MAX_PATCHES + 2;
+/// How many parts of a text are looked at: more than any line has.
+const MOST_PARTS: usize = 66;
 
-/// The first parts between the bytes of that value, in a list whose room is used again: 66 of them, or all where there are fewer.
-pub fn first_parts_into<'a>(
-    text: &'a [u8],
-    separator: u8,
-    list: &mut Vec<&'a [u8]>,
-) -> Result<(), AllocError>
-    ensures { OnOk result (map (λ x. x.now) list.new.items ≡ first_parts separator text.now) }
-{
-    list.clear();
-    list.extend(text.split(|b| *b == separator).take(MOST_PARTS))
-}
-
-/// The same parts in a list of their own.
+/// The first parts between the bytes of that value: 66 of them, or all where there are fewer.
 pub fn first_parts(alloc: Global, text: &[u8], separator: u8) -> Result<Vec<&[u8]>, AllocError>
     ensures { IfOk result (λ v. map (λ x. x.now) v.items ≡ first_parts separator text.now) }
 {
     let mut list = Vec::new(alloc);
-    first_parts_into(text, separator, &mut list)?;
+    list.extend(text.split(|b| *b == separator).take(MOST_PARTS))?;
     Ok(list)
 }
 

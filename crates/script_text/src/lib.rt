@@ -6,8 +6,10 @@
 //! lines before the bad line begin a script, which they do no more with it.
 #![tactic(auto)]
 
+mod contents;
 mod fact_line;
 mod fields;
+mod hexed;
 mod laws;
 mod limits;
 mod number;
@@ -16,8 +18,8 @@ mod script;
 mod spelling;
 mod step_line;
 
-pub use fact_line::decoded;
 pub use fields::{first_part, first_parts};
+pub use hexed::decoded;
 pub use laws::{bad_lines_are_least, lines_are_spelled, numbers_are_decimals, scripts_are_spelled};
 pub use number::{number as read_number, numbers as read_numbers};
 pub use script::{Log, Script, ScriptError, read_facts, read_script};

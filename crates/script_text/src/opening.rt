@@ -1,12 +1,12 @@
 //! How a text opens: with a roster, or without.
 
-ghost use Rattle.std.specs.Prelude.{◌≡◌, ◌≤◌, map, drop};
+ghost use Rattle.std.specs.Prelude.{◌≡◌, ◌≤◌, drop};
 ghost use Rattle.script_text.specs.Parts.{parts_at};
 ghost use Rattle.script_text.specs.Fields.{made_by};
 ghost use Rattle.script_text.specs.Script.{opening_with, opening_of, roster_form, roster_in_line};
 
-use crate::fields::{Parted, first_part, part_at};
-use crate::number::numbers;
+use crate::fields::first_part;
+use crate::number::last_field;
 use redo_core::{MAX_READERS, Roster};
 
 /// The roster of a text, how many lines name it, one or none, and what stands below them.
@@ -18,10 +18,10 @@ pub struct Opening<'a> {
 }
 
 /// The readers that the field behind `roster` names.
-fn readers(fields: &[&[u8]]) -> Option<Roster>
-    ensures { result ≡ made_by roster_form (map (λ x. x.now) fields.now) }
+fn readers(field: &[u8]) -> Option<Roster>
+    ensures { result ≡ made_by roster_form (parts_at 32 field.now) }
 {
-    let [readers] = numbers([u64::from(MAX_READERS)], fields)?;
+    let readers = last_field(field, u64::from(MAX_READERS))?;
     Roster::new(readers as u8).ok()
 }
 
@@ -30,9 +30,11 @@ fn readers(fields: &[&[u8]]) -> Option<Roster>
 fn roster(line: &[u8]) -> Option<Roster>
     ensures { result ≡ roster_in_line line.now }
 {
-    match part_at(line, b' ') {
-        Parted::Halves(word, field) if word == b"roster".as_slice() => readers(&[field]),
-        _ => None,
+    let (word, field) = first_part(line, b' ')?;
+    if word == b"roster".as_slice() {
+        readers(field)
+    } else {
+        None
     }
 }
 

@@ -1,6 +1,6 @@
 //! Whole scripts.
 
-ghost use Rattle.std.specs.Prelude.{◌≡◌, ◌≤◌, ◌+◌, length, map, All, IfOk};
+ghost use Rattle.std.specs.Prelude.{◌≡◌, ◌≤◌, ◌+◌, length, All, IfOk};
 ghost use Rattle.script_text.specs.Fields.{made_by};
 ghost use Rattle.script_text.specs.Parts.{parts_at};
 ghost use Rattle.script_text.specs.FactLine.{fact_of};
@@ -10,8 +10,8 @@ ghost use Rattle.script_text.specs.Outcome.{Gives, log_data, script_data, asked_
 ghost use Rattle.script_text.specs.declared.script.ScriptError.TheVariants.{Memory};
 
 use crate::fact_line::{fact, shared_fact};
-use crate::fields::{Parted, first_part, part_at};
-use crate::number::numbers;
+use crate::fields::first_part;
+use crate::number::last_field;
 use crate::opening::read_opening;
 use crate::step_line::step;
 use fleet_steps::Step;
@@ -84,13 +84,12 @@ fn steps(
     ensures { Gives (λ v. v.items) result (lines_from (step_of facts) 0 at (parts_at 10 text.now)) }
 {
     let mut steps = Vec::new(alloc);
-    let mut fields = Vec::new(alloc);
     let mut rest = text;
     while let Some((line, behind)) = first_part(rest, b'\n') {
         if steps.len() >= MOST {
             return Err(ScriptError::BadLine(at + steps.len()));
         }
-        let Some(next) = step(facts, line, &mut fields)? else {
+        let Some(next) = step(facts, line) else {
             return Err(ScriptError::BadLine(at + steps.len()));
         };
         steps.push(next)?;
@@ -103,10 +102,10 @@ fn steps(
 }
 
 /// The number of nodes that the field behind `nodes` names.
-fn count(fields: &[&[u8]]) -> Option<u16>
-    ensures { result ≡ made_by nodes_form (map (λ x. x.now) fields.now) }
+fn count(field: &[u8]) -> Option<u16>
+    ensures { result ≡ made_by nodes_form (parts_at 32 field.now) }
 {
-    let [nodes] = numbers([MOST_NODES], fields)?;
+    let nodes = last_field(field, MOST_NODES)?;
     if nodes == 0 {
         return None;
     }
@@ -118,9 +117,11 @@ fn count(fields: &[&[u8]]) -> Option<u16>
 fn nodes(line: &[u8]) -> Option<u16>
     ensures { result ≡ nodes_in_line line.now }
 {
-    match part_at(line, b' ') {
-        Parted::Halves(word, field) if word == b"nodes".as_slice() => count(&[field]),
-        _ => None,
+    let (word, field) = first_part(line, b' ')?;
+    if word == b"nodes".as_slice() {
+        count(field)
+    } else {
+        None
     }
 }
 
@@ -150,7 +151,6 @@ fn script_lines(alloc: Global, text: &[u8], at: usize) -> Result<Asked, ScriptEr
     ensures { Gives asked_data result (script_from 0 at (parts_at 10 text.now)) }
 {
     let mut facts = Vec::new(alloc);
-    let (mut fields, mut pieces) = (Vec::new(alloc), Vec::new(alloc));
     let mut rest = text;
     while let Some((line, behind)) = first_part(rest, b'\n') {
         let here = at + facts.len();
@@ -160,7 +160,7 @@ fn script_lines(alloc: Global, text: &[u8], at: usize) -> Result<Asked, ScriptEr
         if facts.len() >= MOST {
             return Err(ScriptError::BadLine(here));
         }
-        let Some(next) = shared_fact(alloc, line, &mut fields, &mut pieces)? else {
+        let Some(next) = shared_fact(alloc, line)? else {
             return Err(ScriptError::BadLine(here));
         };
         facts.push(next)?;
@@ -175,13 +175,12 @@ fn facts(alloc: Global, text: &[u8], at: usize) -> Result<Vec<Fact>, ScriptError
     ensures { Gives (λ v. v.items) result (lines_from fact_of 0 at (parts_at 10 text.now)) }
 {
     let mut facts = Vec::new(alloc);
-    let (mut fields, mut pieces) = (Vec::new(alloc), Vec::new(alloc));
     let mut rest = text;
     while let Some((line, behind)) = first_part(rest, b'\n') {
         if facts.len() >= MOST {
             return Err(ScriptError::BadLine(at + facts.len()));
         }
-        let Some(next) = fact(alloc, line, &mut fields, &mut pieces)? else {
+        let Some(next) = fact(alloc, line)? else {
             return Err(ScriptError::BadLine(at + facts.len()));
         };
         facts.push(next)?;

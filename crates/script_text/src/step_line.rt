@@ -1,22 +1,22 @@
 //! Step lines.
 
-ghost use Rattle.std.specs.Prelude.{◌≡◌, ◌≤◌, map, IfOk};
+ghost use Rattle.std.specs.Prelude.{◌≡◌, ◌≤◌, ◌∷◌};
+ghost use Rattle.script_text.specs.Parts.{parts_at};
 ghost use Rattle.script_text.specs.Script.{most};
 ghost use Rattle.script_text.specs.Fields.{made_by};
 ghost use Rattle.script_text.specs.StepLine.{take_form, fold_form, discard_form, front_form, read_form, join_form, same_form, covers_form, wipe_form, ask_form, answer_form, absorb_form, step_line, step_of};
 
-use crate::fields::first_parts_into;
+use crate::fields::first_part;
 use crate::limits::{MESSAGE, PAGE, SHORT};
-use crate::number::numbers;
+use crate::number::{field, last_field, three_fields, two_fields};
 use fleet_steps::Step;
 use redo_core::MAX_NUMBER;
-use std::alloc::AllocError;
 
-fn take(facts: usize, fields: &[&[u8]]) -> Option<Step<usize>>
+fn take(facts: usize, fields: &[u8]) -> Option<Step<usize>>
     requires { facts ≤ most }
-    ensures { result ≡ made_by (take_form facts) (map (λ x. x.now) fields.now) }
+    ensures { result ≡ made_by (take_form facts) (parts_at 32 fields.now) }
 {
-    let [node, place] = numbers([SHORT, facts as u64], fields)?;
+    let [node, place] = two_fields(fields, SHORT, facts as u64)?;
     if place == 0 {
         return None;
     }
@@ -26,34 +26,36 @@ fn take(facts: usize, fields: &[&[u8]]) -> Option<Step<usize>>
     })
 }
 
-fn fold(fields: &[&[u8]]) -> Option<Step<usize>>
-    ensures { result ≡ made_by fold_form (map (λ x. x.now) fields.now) }
+fn fold(fields: &[u8]) -> Option<Step<usize>>
+    ensures { result ≡ made_by fold_form (parts_at 32 fields.now) }
 {
-    let [node, page] = numbers([SHORT, SHORT], fields)?;
+    let [node, page] = two_fields(fields, SHORT, SHORT)?;
     Some(Step::Fold {
         node: node as u16,
         page: page as u16,
     })
 }
 
-fn discard(fields: &[&[u8]]) -> Option<Step<usize>>
-    ensures { result ≡ made_by discard_form (map (λ x. x.now) fields.now) }
+fn discard(fields: &[u8]) -> Option<Step<usize>>
+    ensures { result ≡ made_by discard_form (parts_at 32 fields.now) }
 {
-    let [node] = numbers([SHORT], fields)?;
+    let node = last_field(fields, SHORT)?;
     Some(Step::Discard { node: node as u16 })
 }
 
-fn front(fields: &[&[u8]]) -> Option<Step<usize>>
-    ensures { result ≡ made_by front_form (map (λ x. x.now) fields.now) }
+fn front(fields: &[u8]) -> Option<Step<usize>>
+    ensures { result ≡ made_by front_form (parts_at 32 fields.now) }
 {
-    let [node] = numbers([SHORT], fields)?;
+    let node = last_field(fields, SHORT)?;
     Some(Step::Front { node: node as u16 })
 }
 
-fn read(fields: &[&[u8]]) -> Option<Step<usize>>
-    ensures { result ≡ made_by read_form (map (λ x. x.now) fields.now) }
+fn read(fields: &[u8]) -> Option<Step<usize>>
+    ensures { result ≡ made_by read_form (parts_at 32 fields.now) }
 {
-    let [node, page, point, offset, len] = numbers([SHORT, SHORT, MAX_NUMBER, PAGE, PAGE], fields)?;
+    let (node, rest) = field(fields, SHORT)?;
+    let (page, rest) = field(rest, SHORT)?;
+    let [point, offset, len] = three_fields(rest, MAX_NUMBER, PAGE, PAGE)?;
     if len == 0 {
         return None;
     }
@@ -69,116 +71,111 @@ fn read(fields: &[&[u8]]) -> Option<Step<usize>>
     })
 }
 
-fn join(fields: &[&[u8]]) -> Option<Step<usize>>
-    ensures { result ≡ made_by join_form (map (λ x. x.now) fields.now) }
+fn join(fields: &[u8]) -> Option<Step<usize>>
+    ensures { result ≡ made_by join_form (parts_at 32 fields.now) }
 {
-    let [node, from] = numbers([SHORT, SHORT], fields)?;
+    let [node, from] = two_fields(fields, SHORT, SHORT)?;
     Some(Step::Join {
         node: node as u16,
         from: from as u16,
     })
 }
 
-fn same(fields: &[&[u8]]) -> Option<Step<usize>>
-    ensures { result ≡ made_by same_form (map (λ x. x.now) fields.now) }
+fn same(fields: &[u8]) -> Option<Step<usize>>
+    ensures { result ≡ made_by same_form (parts_at 32 fields.now) }
 {
-    let [node, other] = numbers([SHORT, SHORT], fields)?;
+    let [node, other] = two_fields(fields, SHORT, SHORT)?;
     Some(Step::Same {
         node: node as u16,
         other: other as u16,
     })
 }
 
-fn covers(fields: &[&[u8]]) -> Option<Step<usize>>
-    ensures { result ≡ made_by covers_form (map (λ x. x.now) fields.now) }
+fn covers(fields: &[u8]) -> Option<Step<usize>>
+    ensures { result ≡ made_by covers_form (parts_at 32 fields.now) }
 {
-    let [node, other] = numbers([SHORT, SHORT], fields)?;
+    let [node, other] = two_fields(fields, SHORT, SHORT)?;
     Some(Step::Covers {
         node: node as u16,
         other: other as u16,
     })
 }
 
-fn wipe(fields: &[&[u8]]) -> Option<Step<usize>>
-    ensures { result ≡ made_by wipe_form (map (λ x. x.now) fields.now) }
+fn wipe(fields: &[u8]) -> Option<Step<usize>>
+    ensures { result ≡ made_by wipe_form (parts_at 32 fields.now) }
 {
-    let [node] = numbers([SHORT], fields)?;
+    let node = last_field(fields, SHORT)?;
     Some(Step::Wipe { node: node as u16 })
 }
 
-fn ask(fields: &[&[u8]]) -> Option<Step<usize>>
-    ensures { result ≡ made_by ask_form (map (λ x. x.now) fields.now) }
+fn ask(fields: &[u8]) -> Option<Step<usize>>
+    ensures { result ≡ made_by ask_form (parts_at 32 fields.now) }
 {
-    let [node] = numbers([SHORT], fields)?;
+    let node = last_field(fields, SHORT)?;
     Some(Step::Ask { node: node as u16 })
 }
 
-fn answer(fields: &[&[u8]]) -> Option<Step<usize>>
-    ensures { result ≡ made_by answer_form (map (λ x. x.now) fields.now) }
+fn answer(fields: &[u8]) -> Option<Step<usize>>
+    ensures { result ≡ made_by answer_form (parts_at 32 fields.now) }
 {
-    let [node, message] = numbers([SHORT, MESSAGE], fields)?;
+    let [node, message] = two_fields(fields, SHORT, MESSAGE)?;
     Some(Step::Answer {
         node: node as u16,
         message: message as usize,
     })
 }
 
-fn absorb(fields: &[&[u8]]) -> Option<Step<usize>>
-    ensures { result ≡ made_by absorb_form (map (λ x. x.now) fields.now) }
+fn absorb(fields: &[u8]) -> Option<Step<usize>>
+    ensures { result ≡ made_by absorb_form (parts_at 32 fields.now) }
 {
-    let [node, message] = numbers([SHORT, MESSAGE], fields)?;
+    let [node, message] = two_fields(fields, SHORT, MESSAGE)?;
     Some(Step::Absorb {
         node: node as u16,
         message: message as usize,
     })
 }
 
-/// The step of a line's fields, behind that many facts.
+/// The step of a word and the fields behind it, behind that many facts.
 #[tactic(auto, unfolding(crate::specs::StepLine::step_line))]
-fn step_line(facts: usize, fields: &[&[u8]]) -> Option<Step<usize>>
+fn step_line(facts: usize, word: &[u8], fields: &[u8]) -> Option<Step<usize>>
     requires { facts ≤ most }
-    ensures { result ≡ step_line facts (map (λ x. x.now) fields.now) }
+    ensures { result ≡ step_line facts (word.now ∷ parts_at 32 fields.now) }
 {
-    let (word, rest) = fields.split_first()?;
-    if *word == b"take".as_slice() {
-        take(facts, rest)
-    } else if *word == b"fold".as_slice() {
-        fold(rest)
-    } else if *word == b"discard".as_slice() {
-        discard(rest)
-    } else if *word == b"front".as_slice() {
-        front(rest)
-    } else if *word == b"read".as_slice() {
-        read(rest)
-    } else if *word == b"join".as_slice() {
-        join(rest)
-    } else if *word == b"same".as_slice() {
-        same(rest)
-    } else if *word == b"covers".as_slice() {
-        covers(rest)
-    } else if *word == b"wipe".as_slice() {
-        wipe(rest)
-    } else if *word == b"ask".as_slice() {
-        ask(rest)
-    } else if *word == b"answer".as_slice() {
-        answer(rest)
-    } else if *word == b"absorb".as_slice() {
-        absorb(rest)
+    if word == b"take".as_slice() {
+        take(facts, fields)
+    } else if word == b"fold".as_slice() {
+        fold(fields)
+    } else if word == b"discard".as_slice() {
+        discard(fields)
+    } else if word == b"front".as_slice() {
+        front(fields)
+    } else if word == b"read".as_slice() {
+        read(fields)
+    } else if word == b"join".as_slice() {
+        join(fields)
+    } else if word == b"same".as_slice() {
+        same(fields)
+    } else if word == b"covers".as_slice() {
+        covers(fields)
+    } else if word == b"wipe".as_slice() {
+        wipe(fields)
+    } else if word == b"ask".as_slice() {
+        ask(fields)
+    } else if word == b"answer".as_slice() {
+        answer(fields)
+    } else if word == b"absorb".as_slice() {
+        absorb(fields)
     } else {
         None
     }
 }
 
-/// The step of a line, behind that many facts. The list of its fields is room that is used again.
-#[tactic(auto, using(crate::proofs::FirstParts::first_step))]
-pub fn step<'a>(
-    facts: usize,
-    line: &'a [u8],
-    fields: &mut Vec<&'a [u8]>,
-) -> Result<Option<Step<usize>>, AllocError>
+/// The step of a line, behind that many facts. A word alone is none: each form has a number.
+#[tactic(auto, using(crate::proofs::Words::no_step))]
+pub fn step(facts: usize, line: &[u8]) -> Option<Step<usize>>
     requires { facts ≤ most }
-    ensures { IfOk result (λ o. o ≡ step_of facts line.now) }
+    ensures { result ≡ step_of facts line.now }
 {
-    first_parts_into(line, b' ', fields)?;
-    Ok(step_line(facts, fields))
+    let (word, fields) = first_part(line, b' ')?;
+    step_line(facts, word, fields)
 }

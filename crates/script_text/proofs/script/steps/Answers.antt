@@ -6,8 +6,8 @@ use Rattle.script_text.proofs.script.steps.Goals as goal
 pub returns-then-len-ge-MOST : goal.returns-then-len-ge-MOST
 returns-then-len-ge-MOST c = grind (arith, common_steps, said_past)
 
-pub returns-in_default-2 : goal.returns-in_default-2
-returns-in_default-2 c = grind (arith, common_steps, said_bad)
+pub returns-in_default-step : goal.returns-in_default-step
+returns-in_default-step c = grind (arith, common_steps, said_bad)
 
 pub loop-line-preserved : goal.loop-line-preserved
 loop-line-preserved c = record { so_far = grind (arith, common_steps, said_next); few = grind (arith, common_steps) }

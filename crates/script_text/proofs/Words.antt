@@ -1,0 +1,37 @@
+-- A line that is a word alone says nothing.
+use Rattle.std.proofs.Common.{◌≡◌, ℕ, ◌<◌, List, [], ◌∷◌, length, Option, None, codes, refl, ap, ◌∙◌, arith, rules}
+use Rattle.std.specs.Prelude.{bytes_eq}
+use Rattle.std.specs.List.{AllByRecursion}
+use Rattle.script_text.specs.Parts.{◌>>=◌, parts_at}
+use Rattle.script_text.specs.Fields.{Form, numbers_of, made_by, read_by}
+use Rattle.script_text.specs.FactLine.{record_line, cut_line, advance_line, fact_line, fact_of}
+use Rattle.script_text.specs.StepLine.{step_forms, step_line, step_of}
+use Rattle.script_text.proofs.FirstParts.{none_of}
+
+-- forms that have a number
+abbrev HaveNumbers : {A : Type 0} → List (Form A) → Type 0
+HaveNumbers forms = AllByRecursion (λ f. 0 < length f.limits) forms
+
+no_numbers : {A : Type 0} (limits : List ℕ) (make : List ℕ → Option A) → 0 < length limits → (numbers_of limits [] >>= make) ≡ None
+no_numbers [] make some = absurd (omega arith)
+no_numbers (limit ∷ limits) make some = refl
+
+none_alone : {A : Type 0} (forms : List (Form A)) (word : List ℕ) → HaveNumbers forms → read_by forms (word ∷ []) ≡ None
+none_alone [] word some = refl
+none_alone (f ∷ forms) word some = none_of (bytes_eq word f.word) (made_by f []) (read_by forms (word ∷ [])) (no_numbers f.limits f.made some.0)
+    (none_alone forms word some.1)
+
+steps_have_numbers : (facts : ℕ) → HaveNumbers (step_forms facts)
+steps_have_numbers facts = search rules
+
+pub no_step : (facts : ℕ) (line : List ℕ) → parts_at 32 line ≡ line ∷ [] → step_of facts line ≡ None
+unfolding step_line
+no_step facts line e = ap (read_by (step_forms facts)) e ∙ none_alone (step_forms facts) line (steps_have_numbers facts)
+
+no_fact_alone : (word : List ℕ) → fact_line (word ∷ []) ≡ None
+unfolding fact_line record_line cut_line advance_line
+no_fact_alone word = none_of (bytes_eq word (codes "rec")) None _ refl (none_of (bytes_eq word (codes "cut")) None _ refl
+    (none_of (bytes_eq word (codes "min")) None None refl refl))
+
+pub no_fact : (line : List ℕ) → parts_at 32 line ≡ line ∷ [] → fact_of line ≡ None
+no_fact line e = ap fact_line e ∙ no_fact_alone line

@@ -1,0 +1,221 @@
+//! What a record does to its page: the text behind the numbers of its line.
+
+ghost use Rattle.std.specs.Prelude.{true, ◌≡◌, ◌≤◌, ◌*◌, ◌⊎◌, [], ◌∷◌, length, IfOk, IfSome, IfNone, MatchOption};
+ghost use Rattle.redo_core.specs.Shape.{max_patches};
+ghost use Rattle.script_text.specs.Parts.{parts_at};
+ghost use Rattle.script_text.specs.FactLine.{write_of, fill_of, patch_of, each_patch, contents_of, FitNoRecord, record_at, record_of};
+
+use crate::fields::{Parted, first_part, part_at};
+use crate::hexed::{decoded, put_bytes};
+use crate::limits::{PAGE, SHORT};
+use crate::number::number;
+use redo_core::{Fact, MAX_PATCHES, Patch, Record, Write};
+use std::alloc::{AllocError, Global};
+
+/// The numbers of a record's line.
+#[derive(Clone, Copy)]
+pub struct Head {
+    pub epoch: u16,
+    pub number: u64,
+    pub back: u64,
+    pub page: u16,
+    pub block_back: u64,
+}
+
+/// So many bytes stand in a write itself, with no memory of their own.
+const SHORT_WRITE: usize = 16;
+
+/// The patch of at most so many bytes from an offset on.
+fn short_write(alloc: Global, offset: &[u8], digits: &[u8]) -> Result<Option<Patch>, AllocError>
+    requires { length digits.now ≤ 2 * SHORT_WRITE }
+    ensures { IfOk result (λ o. o ≡ write_of offset.now digits.now) }
+{
+    let mut room = [0u8; SHORT_WRITE];
+    let bytes = &mut room[..digits.len() / 2];
+    if digits.len() % 2 != 0 || !put_bytes(digits, bytes) || bytes.is_empty() {
+        return Ok(None);
+    }
+    let Some(offset) = number(offset, SHORT) else {
+        return Ok(None);
+    };
+    let write = Write::of_slice(alloc, offset as u16, bytes)?;
+    Ok(Some(Patch::Bytes(write)))
+}
+
+/// The patch of any number of bytes from an offset on.
+fn long_write(alloc: Global, offset: &[u8], digits: &[u8]) -> Result<Option<Patch>, AllocError>
+    ensures { IfOk result (λ o. o ≡ write_of offset.now digits.now) }
+{
+    let Some(bytes) = decoded(alloc, digits)? else {
+        return Ok(None);
+    };
+    if bytes.is_empty() {
+        return Ok(None);
+    }
+    let Some(offset) = number(offset, SHORT) else {
+        return Ok(None);
+    };
+    Ok(Some(Patch::Bytes(Write::new(offset as u16, bytes))))
+}
+
+/// The patch of the bytes that digits stand for, from an offset on.
+fn write(alloc: Global, offset: &[u8], digits: &[u8]) -> Result<Option<Patch>, AllocError>
+    ensures { IfOk result (λ o. o ≡ write_of offset.now digits.now) }
+{
+    if digits.len() <= 2 * SHORT_WRITE {
+        short_write(alloc, offset, digits)
+    } else {
+        long_write(alloc, offset, digits)
+    }
+}
+
+/// The patch of the one byte that digits stand for, from an offset on over a length.
+fn fill(offset: &[u8], len: &[u8], digits: &[u8]) -> Option<Patch>
+    ensures { result ≡ fill_of offset.now len.now digits.now }
+{
+    if digits.len() != 2 {
+        return None;
+    }
+    let mut byte = [0u8; 1];
+    if !put_bytes(digits, &mut byte) {
+        return None;
+    }
+    let offset = number(offset, SHORT)?;
+    let len = number(len, PAGE)?;
+    Some(Patch::Fill {
+        offset: offset as u16,
+        len: len as u16,
+        byte: byte[0],
+    })
+}
+
+/// The patch that a place and hexadecimal digits spell.
+#[tactic(auto, unfolding(crate::specs::FactLine::patch_from))]
+fn patch(alloc: Global, text: &[u8]) -> Result<Option<Patch>, AllocError>
+    ensures { IfOk result (λ o. o ≡ patch_of text.now) }
+{
+    let Parted::Halves(place, digits) = part_at(text, b':') else {
+        return Ok(None);
+    };
+    match part_at(place, b'*') {
+        Parted::Whole => write(alloc, place, digits),
+        Parted::Halves(offset, len) => Ok(fill(offset, len, digits)),
+        Parted::More => Ok(None),
+    }
+}
+
+/// The patch behind so many patches; None also where a record has no more.
+fn next_patch(alloc: Global, count: usize, text: &[u8]) -> Result<Option<Patch>, AllocError>
+    ensures { IfOk result (λ o. MatchOption o ((patch_of text.now ≡ None) ⊎ (max_patches ≤ count)) (λ p. patch_of text.now ≡ Some p)) }
+{
+    if count >= MAX_PATCHES {
+        return Ok(None);
+    }
+    patch(alloc, text)
+}
+
+/// The patches between commas; None also where there are more than a record has.
+fn each_patch(alloc: Global, text: &[u8]) -> Result<Option<Vec<Patch>>, AllocError>
+    ensures some { IfOk result (λ o. IfSome o (λ v. each_patch (parts_at 44 text.now) ≡ Some v.items)) }
+    ensures none { IfOk result (λ o. IfNone o (FitNoRecord (each_patch (parts_at 44 text.now)))) }
+{
+    let mut patches = Vec::with_capacity(alloc, 2)?;
+    let mut rest = text;
+    while let Some((piece, behind)) = first_part(rest, b',') {
+        let Some(next) = next_patch(alloc, patches.len(), piece)? else {
+            return Ok(None);
+        };
+        patches.push(next)?;
+        rest = behind;
+    }
+    let Some(last) = next_patch(alloc, patches.len(), rest)? else {
+        return Ok(None);
+    };
+    patches.push(last)?;
+    Ok(Some(patches))
+}
+
+/// The record of a list of patches, where its shape has no fault.
+#[tactic(auto, unfolding(crate::specs::FactLine::shaped))]
+fn of_list(head: Head, init: bool, patches: Vec<Patch>) -> Option<Fact>
+    ensures { result ≡ record_at head init (Some patches.items) }
+{
+    let Head {
+        epoch,
+        number,
+        back,
+        page,
+        block_back,
+    } = head;
+    let redo = Record::with(epoch, number, back, page, block_back, init, patches).ok()?;
+    Some(Fact::Record(redo))
+}
+
+/// The record of one patch, with no list.
+#[tactic(auto, unfolding(crate::specs::FactLine::shaped))]
+fn of_one(alloc: Global, head: Head, init: bool, text: &[u8]) -> Result<Option<Fact>, AllocError>
+    ensures { IfOk result (λ o. o ≡ record_at head init (each_patch (text.now ∷ []))) }
+{
+    let Some(patch) = patch(alloc, text)? else {
+        return Ok(None);
+    };
+    let Head {
+        epoch,
+        number,
+        back,
+        page,
+        block_back,
+    } = head;
+    match Record::with_one(alloc, epoch, number, back, page, block_back, init, patch)? {
+        Some(redo) => Ok(Some(Fact::Record(redo))),
+        None => Ok(None),
+    }
+}
+
+/// The record of patches between commas.
+fn of_many(alloc: Global, head: Head, init: bool, text: &[u8]) -> Result<Option<Fact>, AllocError>
+    ensures { IfOk result (λ o. o ≡ record_at head init (each_patch (parts_at 44 text.now))) }
+{
+    match each_patch(alloc, text)? {
+        Some(patches) => Ok(of_list(head, init, patches)),
+        None => Ok(None),
+    }
+}
+
+/// The record whose page begins anew, with one patch or more.
+fn anew(alloc: Global, head: Head, text: &[u8]) -> Result<Option<Fact>, AllocError>
+    ensures { IfOk result (λ o. o ≡ record_at head true (each_patch (parts_at 44 text.now))) }
+{
+    match first_part(text, b',') {
+        None => of_one(alloc, head, true, text),
+        Some(_) => of_many(alloc, head, true, text),
+    }
+}
+
+/// The record of contents with no comma.
+#[tactic(auto, unfolding(crate::specs::FactLine::contents_of, crate::specs::FactLine::contents_from))]
+fn of_word(alloc: Global, head: Head, text: &[u8]) -> Result<Option<Fact>, AllocError>
+    requires { parts_at 44 text.now ≡ text.now ∷ [] }
+    ensures { IfOk result (λ o. o ≡ record_of head (contents_of text.now)) }
+{
+    match text {
+        b"-" => Ok(of_list(head, false, Vec::new(alloc))),
+        b"init" => Ok(of_list(head, true, Vec::new(alloc))),
+        _ => of_one(alloc, head, false, text),
+    }
+}
+
+/// The record of these numbers and contents, where its shape has no fault: a dash for no patches, and else patches between commas,
+/// behind the word `init` or without it.
+pub fn record_of(alloc: Global, head: Head, text: &[u8]) -> Result<Option<Fact>, AllocError>
+    ensures { IfOk result (λ o. o ≡ record_of head (contents_of text.now)) }
+{
+    let Some((front, behind)) = first_part(text, b',') else {
+        return of_word(alloc, head, text);
+    };
+    if front == b"init".as_slice() {
+        anew(alloc, head, behind)
+    } else {
+        of_many(alloc, head, false, text)
+    }
+}
