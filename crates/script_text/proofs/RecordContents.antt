@@ -1,9 +1,9 @@
 -- What the text behind the numbers of a record's line says.
-use Rattle.std.proofs.Common.{◌≡◌, ℕ, ◌<◌, Bool, true, false, cond, eqb, ltb, leb, List, [], ◌∷◌, length, Option, Some, None, Result, Ok, Err, codes, refl, ap, arith}
+use Rattle.std.proofs.Common.{◌≡◌, ℕ, ◌<◌, Bool, true, false, cond, eqb, ltb, leb, List, [], ◌∷◌, length, Option, Some, None, Result, Ok, Err, codes, refl, sym, subst, ap, ◌∙◌, arith}
 use Rattle.std.specs.Prelude.{bytes_eq}
 use Rattle.std.specs.Option.{option_or}
 use Rattle.std.proofs.lemmas.Bool.Decides.{nat_tests}
-use Rattle.hex.specs.Hex.{decode_of}
+use Rattle.hex.specs.Hex.{decode_of, is_hex_digit}
 use Rattle.hex.specs.declared.error.FromHexError.{FromHexError}
 use Rattle.hex.proofs.HexLemmas.{decode_of-ok}
 use Rattle.redo_core.specs.Data.{RecordData, record_with}
@@ -11,13 +11,17 @@ use Rattle.redo_core.specs.Shape.{max_patches, patches_fault, record_fault}
 use Rattle.redo_core.specs.declared.shapes.ShapeFault.{ShapeFault}
 use Rattle.redo_core.specs.declared.shapes.ShapeFault.TheVariants.{NumberIsZero, BackNotBelow, BlockBackAbove}
 use Rattle.redo_core.specs.declared.patches.Patch.{Patch}
+use Rattle.redo_core.specs.declared.patches.Patch.TheVariants.{Fill}
 use Rattle.redo_core.specs.declared.facts.Fact.{Fact}
 use Rattle.redo_core.specs.declared.facts.Fact.TheVariants.{Record}
 use Rattle.script_text.specs.declared.contents.Head.{Head}
+use Rattle.script_text.specs.Number.{decimal_value}
 use Rattle.script_text.specs.Parts.{◌>>=◌, parts_at}
-use Rattle.script_text.specs.FactLine.{decoded, fill_at, fill_of, each_patch, contents, contents_from, contents_of, FitNoRecord, unless, shaped, record_at, record_of}
+use Rattle.script_text.specs.FactLine.{decoded, write_of, fill_at, fill_of, patch_at, patch_from, patch_of, each_patch, contents, contents_from, contents_of, FitNoRecord, unless, shaped, record_at, record_of}
+use Rattle.script_text.proofs.Numbers.{numbers_are_decimals, lacks_decimal}
 use Rattle.script_text.proofs.Options.{here, true_is, no_test}
 use Rattle.script_text.proofs.PatchSpelling.{some_parts}
+use Rattle.script_text.proofs.Split.{lacks, parts_joined, joined_parts, lacks_passing}
 
 -- ---- one patch
 
@@ -31,6 +35,70 @@ one_byte offset len (Ok (b ∷ c ∷ bs)) h = refl
 -- a fill has two digits
 pub no_fill : (offset len digits : List ℕ) → (length digits ≡ 2 → ⊥) → fill_of offset len digits ≡ None
 no_fill offset len digits other = one_byte offset len (decode_of digits) (λ bytes e one. other (omega (arith, (decode_of-ok digits bytes e).2, one)))
+
+-- digits are one part
+decoded_whole : (digits bytes : List ℕ) → decode_of digits ≡ Ok bytes → parts_at 58 digits ≡ digits ∷ []
+decoded_whole digits bytes e = joined_parts 58 digits [] (lacks_passing is_hex_digit 58 digits (decode_of-ok digits bytes e).1 refl, tt)
+
+not_decoded : (place digits : List ℕ) (parts : List (List ℕ)) (f : FromHexError) → parts_at 58 digits ≡ parts → decode_of digits ≡ Err f
+    → patch_from (place ∷ parts) ≡ None
+unfolding patch_from
+not_decoded place digits [] f is e = refl
+not_decoded place digits (x ∷ []) f is e =
+    let whole : decode_of x ≡ Err f = ap decode_of (sym (parts_joined 58 digits (x ∷ []) is)) ∙ e in
+    ap (λ (r : Result (List ℕ) FromHexError). decoded r >>= patch_at (parts_at 42 place)) whole
+not_decoded place digits (x ∷ y ∷ rest) f is e = refl
+
+behind_colon : (place digits : List ℕ) (r : Result (List ℕ) FromHexError) → decode_of digits ≡ r
+    → patch_from (place ∷ parts_at 58 digits) ≡ (decoded r >>= patch_at (parts_at 42 place))
+unfolding patch_from
+behind_colon place digits (Ok bytes) e = ap (λ (t : List (List ℕ)). patch_from (place ∷ t)) (decoded_whole digits bytes e)
+    ∙ ap (λ (r : Result (List ℕ) FromHexError). decoded r >>= patch_at (parts_at 42 place)) e
+behind_colon place digits (Err f) e = not_decoded place digits (parts_at 58 digits) f refl e
+
+-- behind the first colon stand digits, where there is a patch
+colon : (text place digits : List ℕ) → parts_at 58 text ≡ place ∷ parts_at 58 digits
+    → patch_of text ≡ (decoded (decode_of digits) >>= patch_at (parts_at 42 place))
+colon text place digits e = ap patch_from e ∙ behind_colon place digits (decode_of digits) refl
+
+-- a number is one part
+read_whole : (len : List ℕ) (n : ℕ) → decimal_value 4096 len ≡ Some n → parts_at 42 len ≡ len ∷ []
+read_whole len n e =
+    let is = (numbers_are_decimals 4096 n len (omega arith)).0 e in
+    joined_parts 42 len [] (subst (λ (t : List ℕ). lacks 42 t ≡ true) (sym is.0) (lacks_decimal 42 n (omega (arith, is.1)) refl), tt)
+
+no_len : (offset len bytes : List ℕ) → decimal_value 4096 len ≡ None → fill_at offset len bytes ≡ None
+no_len offset len [] e = refl
+no_len offset len (b ∷ c ∷ bs) e = refl
+no_len offset len (b ∷ []) e =
+    elim (decimal_value 65535 offset) as (λ (a : Option ℕ). (a >>= (λ n. decimal_value 4096 len >>= (λ l. here (Fill n l b)))) ≡ None) [
+      | None ↦ refl
+      | Some n ↦ ap (λ (o : Option ℕ). o >>= (λ l. here (Fill n l b))) e
+    ]
+
+behind_star : (offset len bytes : List ℕ) (o : Option ℕ) (parts : List (List ℕ)) → decimal_value 4096 len ≡ o → parts_at 42 len ≡ parts
+    → patch_at (offset ∷ parts) bytes ≡ fill_at offset len bytes
+behind_star offset len bytes (Some n) parts e is = ap (λ (t : List (List ℕ)). patch_at (offset ∷ t) bytes) (sym is ∙ read_whole len n e)
+behind_star offset len bytes None [] e is = absurd (omega (arith, some_parts 42 len, ap length is))
+behind_star offset len bytes None (x ∷ []) e is = ap (λ (t : List ℕ). fill_at offset t bytes) (sym (parts_joined 42 len (x ∷ []) is))
+behind_star offset len bytes None (x ∷ y ∷ rest) e is = sym (no_len offset len bytes e)
+
+then_same : (o : Option (List ℕ)) (f g : List ℕ → Option Patch) → ((bytes : List ℕ) → f bytes ≡ g bytes) → (o >>= f) ≡ (o >>= g)
+then_same None f g same = refl
+then_same (Some bytes) f g same = same bytes
+
+-- a write has no star in its place
+pub write_is : (text place digits : List ℕ) → parts_at 58 text ≡ place ∷ parts_at 58 digits → parts_at 42 place ≡ place ∷ []
+    → patch_of text ≡ write_of place digits
+write_is text place digits e whole = colon text place digits e ∙ ap (λ (t : List (List ℕ)). decoded (decode_of digits) >>= patch_at t) whole
+
+-- a fill's length stands behind the star
+pub fill_is : (text place digits offset len : List ℕ) → parts_at 58 text ≡ place ∷ parts_at 58 digits → parts_at 42 place ≡ offset ∷ parts_at 42 len
+    → patch_of text ≡ fill_of offset len digits
+fill_is text place digits offset len e star = colon text place digits e
+    ∙ ap (λ (t : List (List ℕ)). decoded (decode_of digits) >>= patch_at t) star
+    ∙ then_same (decoded (decode_of digits)) (patch_at (offset ∷ parts_at 42 len)) (fill_at offset len)
+    (λ bytes. behind_star offset len bytes (decimal_value 4096 len) (parts_at 42 len) refl refl)
 
 -- ---- too many patches are those of no record
 

@@ -5,7 +5,7 @@ ghost use Rattle.redo_core.specs.Shape.{max_patches};
 ghost use Rattle.script_text.specs.Parts.{parts_at};
 ghost use Rattle.script_text.specs.FactLine.{write_of, fill_of, patch_of, each_patch, contents_of, FitNoRecord, record_at, record_of};
 
-use crate::fields::{Parted, first_part, part_at};
+use crate::fields::first_part;
 use crate::hexed::{decoded, put_bytes};
 use crate::limits::{PAGE, SHORT};
 use crate::number::number;
@@ -90,17 +90,17 @@ fn fill(offset: &[u8], len: &[u8], digits: &[u8]) -> Option<Patch>
 }
 
 /// The patch that a place and hexadecimal digits spell.
-#[tactic(auto, unfolding(crate::specs::FactLine::patch_from))]
+#[tactic(auto, using(crate::proofs::RecordContents::write_is, crate::proofs::RecordContents::fill_is), unfolding(crate::specs::FactLine::patch_from))]
 fn patch(alloc: Global, text: &[u8]) -> Result<Option<Patch>, AllocError>
     ensures { IfOk result (λ o. o ≡ patch_of text.now) }
 {
-    let Parted::Halves(place, digits) = part_at(text, b':') else {
+    // A second colon is no digit, and a second star none of a number.
+    let Some((place, digits)) = first_part(text, b':') else {
         return Ok(None);
     };
-    match part_at(place, b'*') {
-        Parted::Whole => write(alloc, place, digits),
-        Parted::Halves(offset, len) => Ok(fill(offset, len, digits)),
-        Parted::More => Ok(None),
+    match first_part(place, b'*') {
+        None => write(alloc, place, digits),
+        Some((offset, len)) => Ok(fill(offset, len, digits)),
     }
 }
 
