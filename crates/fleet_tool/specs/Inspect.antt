@@ -1,8 +1,7 @@
 -- What is told of a capture: one line for each line of hexadecimal digits.
-use Rattle.std.specs.Prelude.{ℕ, List, [], ◌∷◌, ◌++◌, length, ◌==◌, if◌then◌else◌, Result, Ok, Err, codes}
+use Rattle.std.specs.Prelude.{ℕ, List, [], ◌∷◌, ◌++◌, length, ◌==◌, if◌then◌else◌, Option, Some, None, Result, Ok, Err, codes}
 use Rattle.std.specs.Fmt.{decimal}
 use Rattle.hex.specs.Hex.{decode_of}
-use Rattle.hex.specs.declared.error.FromHexError.{FromHexError}
 use Rattle.redo_wire.specs.declared.faults.WireFault.{WireFault}
 use Rattle.redo_wire.specs.Faults.{fault_number}
 use Rattle.redo_wire.specs.Summaries.{SummaryData}
@@ -14,6 +13,7 @@ use Rattle.redo_wire.specs.Pieces.{PieceData}
 use Rattle.redo_wire.specs.Values.{decoded_value}
 use Rattle.redo_wire.specs.declared.values.WireValue.{WireValue}
 use Rattle.redo_wire.specs.declared.values.WireValue.TheVariants.{Fact, Summary, Delta, Piece}
+use Rattle.script_text.specs.FactLine.{decoded}
 use Rattle.script_text.specs.Parts.{parts_at}
 use Rattle.script_text.specs.FactText.{fact_text}
 
@@ -55,13 +55,14 @@ value_text (Err fault) = codes "wire " ++ decimal (fault_number fault)
 
 -- ---- lines
 
-abbrev pub digits_text : Result (List ℕ) FromHexError → List ℕ
-digits_text (Ok bytes) = value_text (decoded_value bytes)
-digits_text (Err e) = codes "bad hex"
+-- what is told of the bytes of a line, or of digits that stand for none
+abbrev pub bytes_text : Option (List ℕ) → List ℕ
+bytes_text (Some bytes) = value_text (decoded_value bytes)
+bytes_text None = codes "bad hex"
 
 -- what is told of a line of digits, with its LF
 abbrev pub line_text : List ℕ → List ℕ
-line_text digits = digits_text (decode_of digits) ++ codes "\n"
+line_text digits = bytes_text (decoded (decode_of digits)) ++ codes "\n"
 
 -- the parts round the LFs, one line each; the last part is a line where it is not empty
 abbrev pub parts_text : List (List ℕ) → List ℕ

@@ -6,11 +6,10 @@ ghost use Rattle.redo_wire.specs.Faults.{fault_number};
 ghost use Rattle.redo_wire.specs.Values.{decoded_value};
 ghost use Rattle.fleet_tool.specs.Inspect.{summary_text, delta_text, content_text, piece_text, told, value_text, line_text, inspected};
 
-use hex::FromHexError;
 use redo_wire::{
     Delta, Piece, PieceContent, Summary, WireError, WireFault, WireValue, decode_value,
 };
-use script_text::{fact_text, first_part};
+use script_text::{decoded, fact_text, first_part};
 use std::alloc::{AllocError, Global};
 
 fn fault_text(alloc: Global, fault: WireFault) -> Result<String, AllocError>
@@ -97,13 +96,12 @@ fn value_text(alloc: Global, bytes: &[u8]) -> Result<String, AllocError>
 fn put_line(alloc: Global, text: &mut String, digits: &[u8]) -> Result<(), AllocError>
     ensures { OnOk result (string_bytes text.new ≡ string_bytes text.old ++ line_text digits.now) }
 {
-    match hex::decode(alloc, digits) {
-        Ok(bytes) => {
+    match decoded(alloc, digits)? {
+        Some(bytes) => {
             let value = value_text(alloc, &bytes)?;
             text.push_str(&value)?;
         }
-        Err(FromHexError::OutOfMemory) => return Err(AllocError),
-        Err(_) => text.push_str("bad hex")?,
+        None => text.push_str("bad hex")?,
     }
     text.push_str("\n")
 }
