@@ -3,18 +3,19 @@ use Rattle.std.proofs.Common.{◌≡◌, ◌<◌, ◌⊎◌, ◌↔◌, inl, inr
 use Rattle.std.specs.List.{Contains, cons_option}
 use Rattle.std.specs.Option.{option_copied}
 use Rattle.std.specs.Map.Iter.{TakesFirst, deref}
-use Rattle.std.specs.declared.cmp.Ordering.TheVariants.{Less, Equal}
+use Rattle.std.specs.declared.cmp.Ordering.TheVariants.{Less}
 use Rattle.std.proofs.lemmas.List.Elements.{Contains-append_left, Contains-append_right, Contains-append_cases}
 use Rattle.redo_core.specs.Data.{RecordData}
 use Rattle.redo_core.specs.Order.{IsRising, Lists, RecordBefore}
 use Rattle.redo_core.proofs.Members.{none_in, here, there, which, each, all_of}
 use Rattle.redo_core.proofs.Listing.{lists_push, lists_as}
 use Rattle.hot_log.specs.Missing.{IsMissing}
-use Rattle.hot_log.specs.Paged.{PlaceBefore, place_cmp, place_of, records_in, IsAhead, IsPaged}
+use Rattle.hot_log.specs.Paged.{PlaceBefore, place_cmp, place_of, records_in, StandsNext, IsPaged}
 use Rattle.hot_log.proofs.Maps.{rising_entries}
 use Rattle.hot_log.proofs.Paged.{Entry, Map, seen, in_order, entry_of}
-use Rattle.hot_log.proofs.Orders.{places_exact, place_less, place_less_of}
+use Rattle.hot_log.proofs.Orders.{place_less, place_less_of}
 use Rattle.hot_log.proofs.Places.{Place}
+use Rattle.hot_log.proofs.Sorting.{not_itself}
 
 -- ---- the own records: some are passed, and one of the others comes next
 -- what is taken off a list, and what is left, are the list
@@ -24,13 +25,13 @@ taken old None new takes = takes.1 ∙ sym takes.0
 taken old (Some x) new takes = sym takes
 
 pub ahead_of : (old : List RecordData) (first : Option (Bor RecordData)) (new : List RecordData) → TakesFirst deref old first new
-    → IsRising PlaceBefore old → IsAhead (option_copied first) new
+    → IsRising PlaceBefore old → StandsNext (option_copied first) new
 ahead_of old None new takes rising = record { rising = subst (IsRising PlaceBefore) (sym (taken old None new takes)) rising; ended = λ n. takes.1 }
 ahead_of old (Some x) new takes rising = record { rising = subst (IsRising PlaceBefore) takes rising; ended = λ n. absurd (cc) }
 
 -- what comes is of all own records, and what is passed is before a record
 pub record Passes (all : List RecordData) (x : RecordData) (next : Option RecordData) (rest : List RecordData) : Type 0 where
-  pub ahead : IsAhead next rest
+  pub ahead : StandsNext next rest
   pub among : (r : RecordData) → Contains (cons_option next rest) r → Contains all r
   pub before : (r : RecordData) → Contains all r → Contains (cons_option next rest) r ⊎ PlaceBefore r x
 
@@ -41,9 +42,6 @@ place_before x y z p q =
     after : (x.page < y.page) ⊎ ((x.page ≡ y.page) × RecordBefore x y) → (y.page < z.page) ⊎ ((y.page ≡ z.page) × RecordBefore y z)
         → (x.page < z.page) ⊎ ((x.page ≡ z.page) × RecordBefore x z)
     after u v = grind arith
-
-pub not_itself : (x : RecordData) → PlaceBefore x x → ⊥
-not_itself x p = let same : place_cmp (place_of x) (place_of x) ≡ Equal = places_exact.same (place_of x) in cc
 
 pub not_both : (x y : RecordData) → PlaceBefore x y → PlaceBefore y x → ⊥
 not_both x y p q = not_itself x (place_before x y x p q)

@@ -56,8 +56,8 @@ one_of e n (y ∷ ys) x h p q =
 abbrev OneOfKey : List RecordData → Type 0
 OneOfKey xs = (r x : RecordData) → Contains xs r → Contains xs x → r.epoch ≡ x.epoch → r.number ≡ x.number → r ≡ x
 
-not_before : (r : RecordData) → PlaceBefore r r → ⊥
-not_before r h = grind (arith, nat_tests)
+pub not_itself : (r : RecordData) → PlaceBefore r r → ⊥
+not_itself r h = grind (arith, nat_tests)
 
 at_most_one : (e n : ℕ) (xs : List RecordData) → IsRising PlaceBefore xs → OneOfKey xs → sum_by (of_key e n) xs ≤ 1
 at_most_one e n [] rising one = omega arith
@@ -67,7 +67,7 @@ at_most_one e n (x ∷ xs) rising one =
     (λ (u : (x.epoch ≡ e) × (x.number ≡ n) × (of_key e n x ≡ 1)).
     let none = none_of e n xs (λ r h p q.
     let same : x ≡ r = one x r (here x xs) (there x xs r h) (u.0 ∙ sym p) (u.1 ∙ sym q) in
-    not_before x (subst (PlaceBefore x) (sym same) (each (PlaceBefore x) xs r rising.0 h))) in
+    not_itself x (subst (PlaceBefore x) (sym same) (each (PlaceBefore x) xs r rising.0 h))) in
     let first = u.2 in
     omega (arith, all, none, first))
     (λ (u : of_key e n x ≡ 0).

@@ -31,7 +31,7 @@ abbrev pub PlaceBefore : RecordData → RecordData → Type 0
 PlaceBefore r s = place_cmp (place_of r) (place_of s) ≡ Less
 
 -- the record that comes next and the rest rise by place; where none comes next, none is left
-pub record IsAhead (next : Option RecordData) (rest : List RecordData) : Type 0 where
+pub record StandsNext (next : Option RecordData) (rest : List RecordData) : Type 0 where
   pub rising : IsRising PlaceBefore (cons_option next rest)
   pub ended : IsNone next → rest ≡ []
 

@@ -21,13 +21,13 @@ impl<'a> Model for Ahead<'a> {
     ghost use Rattle.std.specs.Option.{option_copied};
     ghost use Rattle.std.specs.List.{cons_option};
     ghost use Rattle.redo_core.specs.Data.{RecordData};
-    ghost use Rattle.hot_log.specs.Paged.{IsAhead, records_in};
+    ghost use Rattle.hot_log.specs.Paged.{StandsNext, records_in};
 
     ghost Value = { List RecordData };
 
     ghost view = { λ a. cons_option (option_copied a.next) (records_in a.rest) };
 
-    ghost invariant = { λ a. IsAhead (option_copied a.next) (records_in a.rest) };
+    ghost invariant = { λ a. StandsNext (option_copied a.next) (records_in a.rest) };
 }
 
 impl<'a> Ahead<'a> {

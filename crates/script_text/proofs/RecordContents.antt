@@ -17,7 +17,7 @@ use Rattle.redo_core.specs.declared.facts.Fact.TheVariants.{Record}
 use Rattle.script_text.specs.declared.contents.Head.{Head}
 use Rattle.script_text.specs.Number.{decimal_value}
 use Rattle.script_text.specs.Parts.{◌>>=◌, parts_at}
-use Rattle.script_text.specs.FactLine.{decoded, write_of, fill_at, fill_of, patch_at, patch_from, patch_of, each_patch, contents, contents_from, contents_of, FitNoRecord, unless, shaped, record_at, record_of}
+use Rattle.script_text.specs.FactLine.{decoded, write_of, fill_at, fill_of, patch_at, patch_from, patch_of, each_patch, contents, contents_from, contents_of, FitNoRecord, unless, shaped, record_of_patches, record_of_contents}
 use Rattle.script_text.proofs.Numbers.{numbers_are_decimals, lacks_decimal}
 use Rattle.script_text.proofs.Options.{here, true_is, no_test}
 use Rattle.script_text.proofs.PatchSpelling.{some_parts}
@@ -122,7 +122,7 @@ many_patches r lt =
     no_fact (record_fault r) (Record r) (fault_of (eqb r.number 0) NumberIsZero _ (fault_of (leb r.number r.back) BackNotBelow _
     (fault_of (ltb r.back r.block_back) BlockBackAbove _ (either_fault (patches_fault r.patches) _ faulty))))
 
-pub no_record : (head : Head) (init : Bool) (o : Option (List Patch)) → FitNoRecord o → record_at head init o ≡ None
+pub no_record : (head : Head) (init : Bool) (o : Option (List Patch)) → FitNoRecord o → record_of_patches head init o ≡ None
 no_record head init None fit = refl
 no_record head init (Some ps) fit = many_patches (record_with head.epoch head.number head.back head.page head.block_back init ps) fit
 
@@ -133,18 +133,18 @@ no_dash text front rest e some = no_test (bytes_eq text (codes "-")) (λ is.
     let one : length (parts_at 44 text) ≡ 1 = ap (λ (t : List ℕ). length (parts_at 44 t)) (true_is text (codes "-") is) in
     omega (arith, one, ap length e, some))
 
-of_patches : (head : Head) (init : Bool) (o : Option (List Patch)) → record_of head (o >>= (λ ps. here (contents init ps))) ≡ record_at head init o
+of_patches : (head : Head) (init : Bool) (o : Option (List Patch)) → record_of_contents head (o >>= (λ ps. here (contents init ps))) ≡ record_of_patches head init o
 of_patches head init None = refl
 of_patches head init (Some ps) = refl
 
 pub anew_with : (head : Head) (text front behind : List ℕ) → parts_at 44 text ≡ front ∷ parts_at 44 behind → bytes_eq front (codes "init") ≡ true
-    → record_of head (contents_of text) ≡ record_at head true (each_patch (parts_at 44 behind))
+    → record_of_contents head (contents_of text) ≡ record_of_patches head true (each_patch (parts_at 44 behind))
 unfolding contents_of contents_from
 anew_with head text front behind e is = rw (no_dash text front (parts_at 44 behind) e (some_parts 44 behind), e, is)
     (of_patches head true (each_patch (parts_at 44 behind)))
 
 pub kept_with : (head : Head) (text front behind : List ℕ) → parts_at 44 text ≡ front ∷ parts_at 44 behind → bytes_eq front (codes "init") ≡ false
-    → record_of head (contents_of text) ≡ record_at head false (each_patch (parts_at 44 text))
+    → record_of_contents head (contents_of text) ≡ record_of_patches head false (each_patch (parts_at 44 text))
 unfolding contents_of contents_from
 kept_with head text front behind e is = rw (no_dash text front (parts_at 44 behind) e (some_parts 44 behind), e, is)
     (of_patches head false (each_patch (front ∷ parts_at 44 behind)))

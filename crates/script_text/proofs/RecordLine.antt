@@ -9,7 +9,7 @@ use Rattle.script_text.specs.Number.{decimal_value}
 use Rattle.script_text.specs.Parts.{◌>>=◌, parts_at}
 use Rattle.script_text.specs.Fields.{numbers_of, field_of, numbers_before, of_five}
 use Rattle.script_text.specs.declared.contents.Head.{Head}
-use Rattle.script_text.specs.FactLine.{Contents, contents_of, shaped, record_of, head_numbers, record_limits, record_line}
+use Rattle.script_text.specs.FactLine.{Contents, contents_of, shaped, record_of_contents, head_numbers, record_limits, record_line}
 use Rattle.script_text.proofs.Cursor.{paired}
 
 -- ---- numbers, and the field behind them
@@ -121,10 +121,10 @@ record_line_is (e ∷ n ∷ b ∷ p ∷ k ∷ text ∷ more ∷ rest) = sym (non
 pub no_numbers : (fields : List (List ℕ)) → numbers_before record_limits fields ≡ None → record_line fields ≡ None
 no_numbers fields e = record_line_is fields ∙ ap read_behind e
 
-made_is : (head : Head) (o : Option Contents) → made_of (head_numbers head) o ≡ record_of head o
+made_is : (head : Head) (o : Option Contents) → made_of (head_numbers head) o ≡ record_of_contents head o
 made_is head None = refl
 made_is head (Some c) = refl
 
 pub record_is : (head : Head) (fields : List (List ℕ)) (text : List ℕ) → numbers_before record_limits fields ≡ Some (head_numbers head, text)
-    → record_line fields ≡ record_of head (contents_of text)
+    → record_line fields ≡ record_of_contents head (contents_of text)
 record_is head fields text is = record_line_is fields ∙ ap read_behind is ∙ made_is head (contents_of text)

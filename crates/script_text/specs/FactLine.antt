@@ -101,14 +101,14 @@ shaped (Cut c) = unless (cut_fault c) (Cut c)
 shaped (Advance a) = unless (advance_fault a) (Advance a)
 
 -- the record of these numbers and patches, where its shape has no fault
-abbrev pub record_at : Head → Bool → Option (List Patch) → Option Fact
-record_at head init None = None
-record_at head init (Some patches) = shaped (Record (record_with head.epoch head.number head.back head.page head.block_back init patches))
+abbrev pub record_of_patches : Head → Bool → Option (List Patch) → Option Fact
+record_of_patches head init None = None
+record_of_patches head init (Some patches) = shaped (Record (record_with head.epoch head.number head.back head.page head.block_back init patches))
 
 -- the record of these numbers and contents
-abbrev pub record_of : Head → Option Contents → Option Fact
-record_of head None = None
-record_of head (Some c) = record_at head c.init (Some c.patches)
+abbrev pub record_of_contents : Head → Option Contents → Option Fact
+record_of_contents head None = None
+record_of_contents head (Some c) = record_of_patches head c.init (Some c.patches)
 
 -- the numbers of a record's line, and their limits
 abbrev pub head_numbers : Head → List ℕ

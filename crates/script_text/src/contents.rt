@@ -3,7 +3,7 @@
 ghost use Rattle.std.specs.Prelude.{true, ◌≡◌, ◌≤◌, ◌*◌, ◌⊎◌, [], ◌∷◌, length, IfOk, IfSome, IfNone, MatchOption};
 ghost use Rattle.redo_core.specs.Shape.{max_patches};
 ghost use Rattle.script_text.specs.Parts.{parts_at};
-ghost use Rattle.script_text.specs.FactLine.{write_of, fill_of, patch_of, each_patch, contents_of, FitNoRecord, record_at, record_of};
+ghost use Rattle.script_text.specs.FactLine.{write_of, fill_of, patch_of, each_patch, contents_of, FitNoRecord, record_of_patches, record_of_contents};
 
 use crate::fields::first_part;
 use crate::hexed::{decoded, put_bytes};
@@ -138,7 +138,7 @@ fn each_patch(alloc: Global, text: &[u8]) -> Result<Option<Vec<Patch>>, AllocErr
 /// The record of a list of patches, where its shape has no fault.
 #[tactic(auto, unfolding(crate::specs::FactLine::shaped))]
 fn of_list(head: Head, init: bool, patches: Vec<Patch>) -> Option<Fact>
-    ensures { result ≡ record_at head init (Some patches.items) }
+    ensures { result ≡ record_of_patches head init (Some patches.items) }
 {
     let Head {
         epoch,
@@ -154,7 +154,7 @@ fn of_list(head: Head, init: bool, patches: Vec<Patch>) -> Option<Fact>
 /// The record of one patch, with no list.
 #[tactic(auto, unfolding(crate::specs::FactLine::shaped))]
 fn of_one(alloc: Global, head: Head, init: bool, text: &[u8]) -> Result<Option<Fact>, AllocError>
-    ensures { IfOk result (λ o. o ≡ record_at head init (each_patch (text.now ∷ []))) }
+    ensures { IfOk result (λ o. o ≡ record_of_patches head init (each_patch (text.now ∷ []))) }
 {
     let Some(patch) = patch(alloc, text)? else {
         return Ok(None);
@@ -174,7 +174,7 @@ fn of_one(alloc: Global, head: Head, init: bool, text: &[u8]) -> Result<Option<F
 
 /// The record of patches between commas.
 fn of_many(alloc: Global, head: Head, init: bool, text: &[u8]) -> Result<Option<Fact>, AllocError>
-    ensures { IfOk result (λ o. o ≡ record_at head init (each_patch (parts_at 44 text.now))) }
+    ensures { IfOk result (λ o. o ≡ record_of_patches head init (each_patch (parts_at 44 text.now))) }
 {
     match each_patch(alloc, text)? {
         Some(patches) => Ok(of_list(head, init, patches)),
@@ -184,7 +184,7 @@ fn of_many(alloc: Global, head: Head, init: bool, text: &[u8]) -> Result<Option<
 
 /// The record whose page begins anew, with one patch or more.
 fn anew(alloc: Global, head: Head, text: &[u8]) -> Result<Option<Fact>, AllocError>
-    ensures { IfOk result (λ o. o ≡ record_at head true (each_patch (parts_at 44 text.now))) }
+    ensures { IfOk result (λ o. o ≡ record_of_patches head true (each_patch (parts_at 44 text.now))) }
 {
     match first_part(text, b',') {
         None => of_one(alloc, head, true, text),
@@ -196,7 +196,7 @@ fn anew(alloc: Global, head: Head, text: &[u8]) -> Result<Option<Fact>, AllocErr
 #[tactic(auto, unfolding(crate::specs::FactLine::contents_of, crate::specs::FactLine::contents_from))]
 fn of_word(alloc: Global, head: Head, text: &[u8]) -> Result<Option<Fact>, AllocError>
     requires { parts_at 44 text.now ≡ text.now ∷ [] }
-    ensures { IfOk result (λ o. o ≡ record_of head (contents_of text.now)) }
+    ensures { IfOk result (λ o. o ≡ record_of_contents head (contents_of text.now)) }
 {
     match text {
         b"-" => Ok(of_list(head, false, Vec::new(alloc))),
@@ -208,7 +208,7 @@ fn of_word(alloc: Global, head: Head, text: &[u8]) -> Result<Option<Fact>, Alloc
 /// The record of these numbers and contents, where its shape has no fault: a dash for no patches, and else patches between commas,
 /// behind the word `init` or without it.
 pub fn record_of(alloc: Global, head: Head, text: &[u8]) -> Result<Option<Fact>, AllocError>
-    ensures { IfOk result (λ o. o ≡ record_of head (contents_of text.now)) }
+    ensures { IfOk result (λ o. o ≡ record_of_contents head (contents_of text.now)) }
 {
     let Some((front, behind)) = first_part(text, b',') else {
         return of_word(alloc, head, text);
