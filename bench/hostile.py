@@ -210,7 +210,7 @@ MOST = 1.2
 SLOWER = {
     "answers_again": (2.1, "each answer lists all its pages"),
 }
-IDLE = ["go", "nodes 1"]
+IDLE = {0: ["go", "nodes 1"], 2: ["x"]}  # texts that cost nothing by themselves, by the status that their runs end with
 
 # The tasks whose text is bad, and the status that their runs end with.
 BAD = {"blanks": 2, "line_ends": 2, "many_writes": 2}
@@ -256,13 +256,13 @@ def judged(program):
     """How many tasks grow and hold as they may, and how many do not. Where nothing counts instructions, no growth is judged."""
     found = instructions.counter()
     with tempfile.TemporaryDirectory(prefix="fleet-hostile-") as folder:
-        idle, _ = held_by(program, lambda: IDLE, folder)
+        idle, _ = held_by(program, lambda: IDLE[0], folder)
         results = [is_light(name, program, idle, folder) for name in BAD]
         if found is None:
             print("hostile: growth is not judged, since neither perf nor callgrind counts instructions here")
         else:
-            idle = instructions_of(program, IDLE, folder)
-            results += [is_within(name, program, idle, folder) for name in TASKS]
+            idles = {status: instructions_of(program, lines, folder, status) for status, lines in IDLE.items()}
+            results += [is_within(name, program, idles[BAD.get(name, 0)], folder) for name in TASKS]
     by = f", by {found[0]}" if found else ""
     print(f"hostile: {sum(results)} of {len(results)} judgements{by}")
     return sum(results), len(results) - sum(results)
