@@ -9,8 +9,6 @@ import tempfile
 
 import measure
 
-TURNS = 1
-
 
 def length(lines):
     return sum(len(line) + 1 for line in lines)
@@ -50,7 +48,7 @@ def print_all(description, tasks, sizes, statuses):
     parser.add_argument("--peer", type=pathlib.Path, help="a program of the same forms to compare with")
     parser.add_argument("--only", default=",".join(tasks), help="tasks, by name")
     parser.add_argument("--sizes", type=int, nargs="+", default=sizes, help="sizes, rising")
-    parser.add_argument("--runs", type=int, default=TURNS, help="how often each text is read")
+    parser.add_argument("--runs", type=int, default=1, help="how often each text is read")
     parser.add_argument("--most", type=float, help="the greatest exponent that is allowed")
     given = parser.parse_args()
     names = given.only.split(",")

@@ -1,6 +1,5 @@
 pub mod Number
 pub mod Parts
-pub mod Parting
 pub mod Fields
 pub mod FactLine
 pub mod FactText

@@ -2,19 +2,9 @@
 
 ghost use Rattle.std.specs.Prelude.{◌≡◌, ◌<◌, ◌==◌, [], ◌∷◌, IfOk, IfSome, IfNone, length, map, position};
 ghost use Rattle.script_text.specs.Parts.{parts_at, first_parts};
-ghost use Rattle.script_text.specs.Parting.{IsParted};
 
 use memchr::memchr;
 use std::alloc::{AllocError, Global};
-
-/// How often a separator stands in a text.
-#[derive(Clone, Copy)]
-pub enum Parted<'a> {
-    Whole,
-    /// The parts in front of the one separator and behind it.
-    Halves(&'a [u8], &'a [u8]),
-    More,
-}
 
 /// How many parts of a text are looked at: more than any line has.
 const MOST_PARTS: usize = 66;
@@ -48,18 +38,5 @@ pub fn first_part(text: &[u8], separator: u8) -> Option<(&[u8], &[u8])>
             let (_, behind) = text.split_at(at + 1);
             Some((front, behind))
         }
-    }
-}
-
-/// How often that byte stands in a text, and the parts round it where it stands once.
-pub fn part_at(text: &[u8], separator: u8) -> Parted<'_>
-    ensures { IsParted separator text.now result }
-{
-    match first_part(text, separator) {
-        None => Parted::Whole,
-        Some((front, behind)) => match first_part(behind, separator) {
-            None => Parted::Halves(front, behind),
-            Some(_) => Parted::More,
-        },
     }
 }
