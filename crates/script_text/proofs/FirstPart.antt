@@ -1,8 +1,8 @@
 -- The first part of a text.
-use Rattle.std.proofs.Common.{◌≡◌, ℕ, ◌+◌, ◌<◌, ◌≤◌, Bool, true, false, cond, eqb, ltb, List, [], ◌∷◌, length, get_or, take, drop, Option, Some, None, refl, sym, subst, ap, ◌∙◌, arith}
+use Rattle.std.proofs.Common.{◌≡◌, ℕ, ◌+◌, ◌<◌, ◌≤◌, Bool, true, false, cond, eqb, ltb, List, [], ◌∷◌, length, get_or, take, drop, Option, Some, None, refl, sym, subst, ap, arith}
 use Rattle.std.specs.Prelude.{position}
 use Rattle.std.specs.List.{position_or_len, slice_split}
-use Rattle.std.proofs.lemmas.List.Splits.{slice_split_first, slice_split_none, length-slice_split}
+use Rattle.std.proofs.lemmas.List.Splits.{slice_split_first, slice_split_none}
 use Rattle.std.proofs.lemmas.List.Sums.{fails_before_first, position_or_len_is}
 use Rattle.memchr.specs.Find.{IsFirstByte, is_byte}
 use Rattle.std.proofs.lemmas.Bool.Decides.{nat_tests}
@@ -59,11 +59,3 @@ one_part c text h =
 
 pub not_parted : (c : ℕ) (text : List ℕ) → position (λ b. eqb b c) text ≡ None → parts_at c text ≡ text ∷ []
 not_parted c text h = one_part c text (not_found (ltb (position_or_len (λ b. eqb b c) text) (length text)) (position_or_len (λ b. eqb b c) text) h)
-
--- a first part twice, and what is left
-pub three_parts : (c : ℕ) (text first behind second rest : List ℕ) → parts_at c text ≡ first ∷ parts_at c behind → parts_at c behind ≡ second ∷ parts_at c rest
-    → 3 ≤ length (parts_at c text)
-three_parts c text first behind second rest h k =
-    let all : length (parts_at c text) ≡ length (first ∷ second ∷ parts_at c rest) = ap length (h ∙ ap (λ (t : List (List ℕ)). first ∷ t) k) in
-    let some : 0 < length (parts_at c rest) = omega (arith, length-slice_split (λ b. eqb b c) rest) in
-    omega (arith, all, some)
