@@ -135,16 +135,16 @@ module _ {K V : Type 0} {R : K → K → Ordering} (o : IsTotalOrder R) (k : K) 
         after)
 
 -- tests of one key
-past_end : (a b : Bool) → b ≡ true → (a && not b) ≡ false
+pub past_end : (a b : Bool) → b ≡ true → (a && not b) ≡ false
 past_end true true h = refl
 past_end false true h = refl
 past_end a false h = absurd (cc)
 
-before_start : (a b : Bool) → a ≡ false → (a && not b) ≡ false
+pub before_start : (a b : Bool) → a ≡ false → (a && not b) ≡ false
 before_start false b h = refl
 before_start true b h = absurd (cc)
 
-within : (a b : Bool) → a ≡ true → b ≡ false → (a && not b) ≡ true
+pub within : (a b : Bool) → a ≡ true → b ≡ false → (a && not b) ≡ true
 within true false h k = refl
 within true true h k = absurd (cc)
 within false b h k = absurd (cc)

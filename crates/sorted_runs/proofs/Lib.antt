@@ -1,4 +1,5 @@
 pub mod Found
+pub mod Halved
 pub mod Near
 pub mod Lists
 pub mod Shaped
@@ -6,5 +7,7 @@ pub mod Placed
 pub mod Removed
 pub mod Parts
 pub mod Cuts
+pub mod Gone
+pub mod Outside
 pub mod Copied
 pub mod Strides

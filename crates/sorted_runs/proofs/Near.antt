@@ -6,14 +6,10 @@ use Rattle.std.specs.Cmp.{IsTotalOrder}
 use Rattle.std.specs.List.Sorted.{IsStrictlySortedBy}
 use Rattle.std.specs.Ordering.{is_ge, is_lt}
 use Rattle.std.specs.declared.cmp.Ordering.{Ordering}
-use Rattle.std.specs.declared.cmp.Ordering.TheVariants.{Less, Equal, Greater}
+use Rattle.std.specs.declared.cmp.Ordering.TheVariants.{Less}
 use Rattle.sorted_runs.specs.Places.{IsRunFor}
 use Rattle.sorted_runs.proofs.Found.{left}
-
-is_less : (p : Ordering) → is_lt p ≡ true → p ≡ Less
-is_less Less e = cc
-is_less Equal e = absurd (cc)
-is_less Greater e = absurd (cc)
+use Rattle.sorted_runs.proofs.Halved.{is_less}
 
 module _ {K : Type 0} {R : K → K → Ordering} (o : IsTotalOrder R) (k : K) (fs : List K) (rising : IsStrictlySortedBy R fs) where
   pub run_between : (r : ℕ) (x y : K) → r < length fs - 1 → ((d : K) → get_or fs r d ≡ x) → ((d : K) → get_or fs (r + 1) d ≡ y)

@@ -9,22 +9,22 @@ use Rattle.sorted_runs.proofs.Lists.{entries_split}
 use Rattle.sorted_runs.proofs.Shaped.{entries_push}
 
 module _ {X : Type 0} where
-  take_past : (a b : List X) (m n : ℕ) → m ≡ length a + n → take m (a ++ b) ≡ a ++ take n b
+  pub take_past : (a b : List X) (m n : ℕ) → m ≡ length a + n → take m (a ++ b) ≡ a ++ take n b
   take_past [] b m n e = ap (λ (l : ℕ). take l b) (let h : m ≡ n = omega arith in h)
   take_past (x ∷ a) b zero n e = absurd (omega arith)
   take_past (x ∷ a) b (suc m) n e = ap (λ l. x ∷ l) (take_past a b m n (omega arith))
 
-  drop_past : (a b : List X) (m n : ℕ) → m ≡ length a + n → drop m (a ++ b) ≡ drop n b
+  pub drop_past : (a b : List X) (m n : ℕ) → m ≡ length a + n → drop m (a ++ b) ≡ drop n b
   drop_past [] b m n e = ap (λ (l : ℕ). drop l b) (let h : m ≡ n = omega arith in h)
   drop_past (x ∷ a) b zero n e = absurd (omega arith)
   drop_past (x ∷ a) b (suc m) n e = drop_past a b m n (omega arith)
 
-  take_within : (a b : List X) (n : ℕ) → n ≤ length a → take n (a ++ b) ≡ take n a
+  pub take_within : (a b : List X) (n : ℕ) → n ≤ length a → take n (a ++ b) ≡ take n a
   take_within a b zero le = refl
   take_within [] b (suc n) le = absurd (omega arith)
   take_within (x ∷ a) b (suc n) le = ap (λ l. x ∷ l) (take_within a b n (omega arith))
 
-  drop_within : (a b : List X) (n : ℕ) → n ≤ length a → drop n (a ++ b) ≡ drop n a ++ b
+  pub drop_within : (a b : List X) (n : ℕ) → n ≤ length a → drop n (a ++ b) ≡ drop n a ++ b
   drop_within a b zero le = refl
   drop_within [] b (suc n) le = absurd (omega arith)
   drop_within (x ∷ a) b (suc n) le = drop_within a b n (omega arith)

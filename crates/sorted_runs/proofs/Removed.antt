@@ -35,19 +35,19 @@ module _ {K V : Type 0} where
   starts_remove f (e ∷ es) zero s ne = absurd (ne refl)
   starts_remove f (e ∷ es) (suc i) s ne = s
 
-  headed_gone : (fs : List K) (vs : List (Vec (K × V))) (r : ℕ) (w : Vec (K × V)) → Headed fs vs → r < length vs → Headed (remove fs r) (remove (set vs r w) r)
+  pub headed_gone : (fs : List K) (vs : List (Vec (K × V))) (r : ℕ) (w : Vec (K × V)) → Headed fs vs → r < length vs → Headed (remove fs r) (remove (set vs r w) r)
   headed_gone [] [] r w h lt = absurd (omega arith)
   headed_gone [] (v ∷ vs) r w h lt = absurd h
   headed_gone (f ∷ fs) [] r w h lt = absurd h
   headed_gone (f ∷ fs) (v ∷ vs) zero w h lt = h.1
   headed_gone (f ∷ fs) (v ∷ vs) (suc r) w h lt = (h.0, headed_gone fs vs r w h.1 (omega arith))
 
-  bounded_gone : (vs : List (Vec (K × V))) (r m : ℕ) (w : Vec (K × V)) → AllUpTo m vs → r < length vs → AllUpTo m (remove (set vs r w) r)
+  pub bounded_gone : (vs : List (Vec (K × V))) (r m : ℕ) (w : Vec (K × V)) → AllUpTo m vs → r < length vs → AllUpTo m (remove (set vs r w) r)
   bounded_gone [] r m w h lt = absurd (omega arith)
   bounded_gone (v ∷ vs) zero m w h lt = h.1
   bounded_gone (v ∷ vs) (suc r) m w h lt = (h.0, bounded_gone vs r m w h.1 (omega arith))
 
-  entries_gone : (vs : List (Vec (K × V))) (r : ℕ) (w : Vec (K × V)) → r < length vs → entries (remove (set vs r w) r) ≡ entries (take r vs) ++ entries (drop (suc r) vs)
+  pub entries_gone : (vs : List (Vec (K × V))) (r : ℕ) (w : Vec (K × V)) → r < length vs → entries (remove (set vs r w) r) ≡ entries (take r vs) ++ entries (drop (suc r) vs)
   entries_gone [] r w lt = absurd (omega arith)
   entries_gone (v ∷ vs) zero w lt = refl
   entries_gone (v ∷ vs) (suc r) w lt = ap (λ l. v.items ++ l) (entries_gone vs r w (omega arith)) ∙ sym (append_assoc v.items (entries (take r vs)) (entries (drop (suc r) vs)))

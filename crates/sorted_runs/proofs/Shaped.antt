@@ -48,7 +48,7 @@ module _ {K V : Type 0} where
   entries_insert [] (suc r) w = refl
   entries_insert (v ∷ vs) (suc r) w = ap (λ l. v.items ++ l) (entries_insert vs r w) ∙ sym (append_assoc v.items (entries (take r vs)) (w.items ++ entries (drop r vs)))
 
-  entries_cut : (vs : List (Vec (K × V))) (r : ℕ) → entries vs ≡ entries (take r vs) ++ entries (drop r vs)
+  pub entries_cut : (vs : List (Vec (K × V))) (r : ℕ) → entries vs ≡ entries (take r vs) ++ entries (drop r vs)
   entries_cut vs zero = refl
   entries_cut [] (suc r) = refl
   entries_cut (v ∷ vs) (suc r) = ap (λ l. v.items ++ l) (entries_cut vs r) ∙ sym (append_assoc v.items (entries (take r vs)) (entries (drop r vs)))
@@ -58,7 +58,7 @@ module _ {K V : Type 0} where
   bounded_at (v ∷ vs) zero m d h lt = h.0
   bounded_at (v ∷ vs) (suc r) m d h lt = bounded_at vs r m d h.1 (omega arith)
 
-  entries_up_to : (vs : List (Vec (K × V))) (r : ℕ) (d : Vec (K × V)) → r < length vs → entries (take (suc r) vs) ≡ entries (take r vs) ++ (get_or vs r d).items
+  pub entries_up_to : (vs : List (Vec (K × V))) (r : ℕ) (d : Vec (K × V)) → r < length vs → entries (take (suc r) vs) ≡ entries (take r vs) ++ (get_or vs r d).items
   entries_up_to [] r d lt = absurd (omega arith)
   entries_up_to (v ∷ vs) zero d lt = append-nil v.items
   entries_up_to (v ∷ vs) (suc r) d lt = ap (λ l. v.items ++ l) (entries_up_to vs r d (omega arith)) ∙ sym (append_assoc v.items (entries (take r vs)) (get_or vs r d).items)

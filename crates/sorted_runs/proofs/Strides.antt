@@ -1,13 +1,13 @@
 -- A search that goes over a run in strides, and then entry by entry.
-use Rattle.std.proofs.Common.{◌≡◌, ℕ, zero, suc, ◌+◌, ◌<◌, ◌≤◌, List, [], ◌∷◌, length, get_or, take, drop, sym, ap, ◌∙◌, subst, refl, arith, false}
+use Rattle.std.proofs.Common.{◌≡◌, ℕ, zero, suc, ◌+◌, ◌<◌, ◌≤◌, List, [], ◌∷◌, length, get_or, take, drop, sym, ap, ◌∙◌, subst, refl, arith, false, IsTrue}
 use Rattle.std.specs.List.{AllByRecursion}
 use Rattle.std.specs.Map.{keys_of}
 use Rattle.std.specs.Cmp.{IsTotalOrder}
-use Rattle.std.specs.Ordering.{is_lt}
+use Rattle.std.specs.Ordering.{is_gt, is_lt}
 use Rattle.std.specs.List.Sorted.{IsStrictlySortedBy}
 use Rattle.std.specs.declared.cmp.Ordering.{Ordering}
 use Rattle.std.specs.declared.cmp.Ordering.TheVariants.{Less, Equal, Greater}
-use Rattle.std.proofs.lemmas.List.{get_or_default}
+use Rattle.std.proofs.lemmas.List.{get_or_default, take_all}
 use Rattle.sorted_runs.specs.Places.{IsFoundAt, IsGap, Passes, Precedes}
 use Rattle.sorted_runs.proofs.Lists.{Rises, rises_from, all_more, all_at, past_by}
 
@@ -26,6 +26,11 @@ no_more P (x ∷ xs) (suc n) le = no_more P xs n (omega arith)
 
 not_less : (p : Ordering) → is_lt p ≡ false → p ≡ Less → ⊥
 not_less p h e = let f = ap is_lt e in cc
+
+pub is_greater : (p : Ordering) → IsTrue (is_gt p) → p ≡ Greater
+is_greater Less h = cc
+is_greater Equal h = cc
+is_greater Greater h = refl
 
 module _ {K V : Type 0} {R : K → K → Ordering} (o : IsTotalOrder R) (k : K) where
   -- all before an entry that is not above the key
@@ -55,6 +60,12 @@ module _ {K V : Type 0} {R : K → K → Ordering} (o : IsTotalOrder R) (k : K) 
   module _ (es : List (K × V)) (sorted : IsStrictlySortedBy R (keys_of es)) (n : ℕ) (x : K × V) (lt : n < length es) (at : x ≡ get_or es n x) where
     pub stride : is_lt (R k x.0) ≡ false → Passes R k (take n es)
     stride not = below_it es n x lt at (not_less (R k x.0) not) (rises_from R es sorted)
+
+    -- the last one is below the key
+    pub behind : n + 1 ≡ length es → R k x.0 ≡ Greater → Passes R k es
+    behind last is =
+        let before = below_it es n x lt at (λ (less : R k x.0 ≡ Less). let e = sym less ∙ is in cc) (rises_from R es sorted) in
+        subst (λ (ys : List (K × V)). Passes R k ys) (take_all (n + 1) es (omega arith)) (taken_more (λ (e : K × V). R k e.0 ≡ Greater) es n x lt at is before)
 
     pub hit_it : R k x.0 ≡ Equal → Passes R k (take n es) → IsFoundAt R es k n
     hit_it is before = record {

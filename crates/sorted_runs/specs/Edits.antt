@@ -1,7 +1,7 @@
 -- Edits of runs, as their entries see them.
 use Rattle.std.specs.Prelude.{◌≡◌, ℕ, suc, ◌+◌, ◌<◌, List, ◌++◌, length, take, drop, slice_index_or}
 use Rattle.std.specs.Global.{Vec}
-use Rattle.std.specs.List.{insert, remove}
+use Rattle.std.specs.List.{insert, remove, remove_range}
 use Rattle.sorted_runs.specs.Rows.{entries, Headed, AllUpTo}
 use Rattle.sorted_runs.specs.declared.edits.TheConstants.{FULL}
 
@@ -27,3 +27,7 @@ pub record Splits {K V : Type 0} (old : List (Vec (K × V))) (r n : ℕ) (new : 
 -- the entry at the place i of the run r has gone
 abbrev pub LosesAt : {K V : Type 0} → List (Vec (K × V)) → ℕ → ℕ → Vec (K × V) → List (Vec (K × V)) → Type 0
 LosesAt old r i d new = let run = slice_index_or old r d in entries new ≡ entries (take r old) ++ (remove run.items i ++ entries (drop (suc r) old))
+
+-- the entries from the place p among all entries on, and up to the place q, have gone
+abbrev pub LosesBetween : {K V : Type 0} → List (Vec (K × V)) → ℕ → ℕ → List (Vec (K × V)) → Type 0
+LosesBetween old p q new = entries new ≡ remove_range (entries old) p q

@@ -5,10 +5,10 @@
 //! empty one goes; the runs behind it then move by a place, which begins to weigh where a million keys come in no order. Reading takes
 //! no memory; `insert` and `copy` alone can want some.
 //!
-//! `search` finds places, `edits` changes runs, `entries` walks over them, and `copies` copies them.
+//! `search` finds places, `edits` changes runs, `ranges` cuts many entries out, `entries` walks over them, and `copies` copies them.
 #![tactic(auto)]
 
-ghost use Rattle.std.specs.Prelude.{◌≡◌, [], length, IfOk, IfErr, OnOk, OnErr};
+ghost use Rattle.std.specs.Prelude.{◌≡◌, [], length, not, IfOk, IfErr, OnOk, OnErr};
 ghost use Rattle.std.specs.Option.{option_copied};
 ghost use Rattle.std.specs.List.{filter, AllZip};
 ghost use Rattle.std.specs.Map.{keys_of, lookup, remove_entry};
@@ -20,11 +20,13 @@ ghost use Rattle.sorted_runs.specs.Copies.{IsEntryCopy};
 mod copies;
 mod edits;
 mod entries;
+mod ranges;
 mod search;
 
 use copies::{copy_keys, copy_runs};
 use edits::{add, open, take_out, write};
 pub use entries::Entries;
+use ranges::cut_out;
 use search::{end_of, run_for, slot, start_of};
 use std::alloc::{AllocError, AllocFailed, Global};
 use std::marker::Model;
@@ -174,6 +176,20 @@ impl<K: Ord + Copy + Drop, V: Drop> SortedRuns<K, V> {
             }
             Err(_) => None,
         }
+    }
+
+    /// Takes out the entries with keys between two bounds; none where the bounds cross. It takes no memory.
+    pub fn remove_range(&mut self, from: Bound<K>, to: Bound<K>)
+        ensures loses { self.new ≡ filter (λ e. not (range_contains K.cmp from to e.0)) self.old }
+        ensures was_ordered { IsStrictlySortedBy K.cmp (keys_of self.old) }
+        ensures ordered { IsStrictlySortedBy K.cmp (keys_of self.new) }
+    {
+        if self.firsts.is_empty() {
+            return;
+        }
+        let begin = start_of(&self.firsts, &self.runs, self.near, &from);
+        let end = end_of(&self.firsts, &self.runs, self.near, &to);
+        self.len = cut_out(&mut self.firsts, &mut self.runs, self.len, begin, end);
     }
 }
 

@@ -1,4 +1,4 @@
-ghost use Rattle.std.specs.Prelude.{◌≡◌, ◌<◌, ◌≤◌, length, take, IfOk, IfErr, slice_index_or, true, false};
+ghost use Rattle.std.specs.Prelude.{◌≡◌, ◌<◌, ◌≤◌, length, take, IfOk, IfErr, IsTrue, slice_index_or, true, false};
 ghost use Rattle.std.specs.Global.{Vec};
 ghost use Rattle.std.specs.Map.{keys_of};
 ghost use Rattle.std.specs.BTreeMap.Range.{is_from_start, is_past_end};
@@ -35,7 +35,7 @@ pub(crate) fn run_for<K: Ord>(firsts: &[K], near: usize, key: &K) -> usize
     run_among(firsts, key)
 }
 
-// The same, looked for among all of them.
+// The same, looked for among all of them. The key is below each first key from `end` on, and not below that of `r`, unless it is 0.
 fn run_among<K: Ord>(firsts: &[K], key: &K) -> usize
     requires some { 0 < length firsts.now }
     requires rising { IsStrictlySortedBy K.cmp firsts.now }
@@ -45,14 +45,17 @@ fn run_among<K: Ord>(firsts: &[K], key: &K) -> usize
     if key.cmp(&firsts[last]).is_ge() {
         return last;
     }
-    match firsts.binary_search_by(
-        |first: &K| -> Ordering
-            ensures { result ≡ K.cmp first.now key.entry.now }
-        { first.cmp(key) },
-    ) {
-        Ok(r) => r,
-        Err(r) => r.saturating_sub(1),
+    let mut r = 0;
+    let mut end = firsts.len();
+    while end - r > 1 {
+        let middle = r + (end - r) / 2;
+        if key.cmp(&firsts[middle]).is_lt() {
+            end = middle;
+        } else {
+            r = middle;
+        }
     }
+    r
 }
 
 // Where the key is in a run, or where it would go.
@@ -61,7 +64,22 @@ pub(crate) fn slot<K: Ord, V>(run: &[(K, V)], key: &K) -> Result<usize, usize>
     ensures hit { IfOk result (IsFoundAt K.cmp run.now key.now) }
     ensures gap { IfErr result (IsGap K.cmp run.now key.now) }
 {
+    if is_behind(run, key) {
+        return Err(run.len());
+    }
     slot_from(run, key, stride_to(run, key))
+}
+
+// Whether the key is above all of a run, as its last entry tells: so are those of a row of rising keys.
+fn is_behind<K: Ord, V>(run: &[(K, V)], key: &K) -> bool
+    requires { IsStrictlySortedBy K.cmp (keys_of run.now) }
+    ensures { IsTrue result → Passes K.cmp key.now run.now }
+{
+    let len = run.len();
+    if len == 0 {
+        return true;
+    }
+    key.cmp(&run[len - 1].0).is_gt()
 }
 
 // A place before which all keys are below the key. Where it looks does not hang on what it found, so memory is read ahead: halving
