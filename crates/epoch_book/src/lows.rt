@@ -72,5 +72,10 @@ pub fn count_to(lows: &[u64], number: u64) -> usize
     ensures below { (e : ℕ) → e < result → slice_index lows.now e ≤ number }
     ensures above { (e : ℕ) → result ≤ e → e < length lows.now → number < slice_index lows.now e }
 {
+    // Most numbers that are asked for are of the last epoch.
+    let len = lows.len();
+    if len == 0 || lows[len - 1] <= number {
+        return len;
+    }
     lows.partition_point(|low| *low <= number)
 }
