@@ -11,7 +11,7 @@ use Rattle.redo_core.proofs.Pairs.{pair_trans}
 use Rattle.epoch_book.specs.Book.{BookData, IsBook}
 use Rattle.epoch_book.specs.Lows.{CutsAt}
 use Rattle.hot_log.specs.Held.{IsHeld, HasKey, IsRecordAt}
-use Rattle.hot_log.specs.Alive.{PartsAt, PartsAtKey, IsHeldAlive}
+use Rattle.hot_log.specs.Alive.{PartsAt, IsHeldAlive}
 use Rattle.hot_log.specs.Found.{IsLeastRecord, IsOnlyRecord}
 use Rattle.hot_log.proofs.Keys.{pair_not_same}
 use Rattle.hot_log.proofs.Views.{IsView, view_of, number_before}
@@ -135,14 +135,11 @@ pub record Rest (b : BookData) (held : List RecordData) (Q : RecordData → Type
   pub above : (r : RecordData) → Contains held r → IsAlive b.cuts b.complete r.epoch r.number → Q r → number < r.number → PairBefore at.0 at.1 r.epoch r.number
   pub low : (e n : ℕ) → IsAlive b.cuts b.complete e n → PairBefore at.0 at.1 e n → number < n
 
-pub rest_at : (b : BookData) (held : List RecordData) (Q : RecordData → Type 0) (number : ℕ) (at : ℕ × ℕ) → PartsAtKey b number at → Rest b held Q number at
-rest_at b held Q number at parts = record {
-  above = λ r h a q lt. (parts r.epoch r.number a).0 lt;
-  low = λ e n a p. (parts e n a).1 p;
-}
-
 pub rest_start : (b : BookData) (held : List RecordData) (Q : RecordData → Type 0) (number epoch : ℕ) → PartsAt b number epoch → Rest b held Q number (epoch, number)
-rest_start b held Q number epoch parts = rest_at b held Q number (epoch, number) parts.0
+rest_start b held Q number epoch parts = record {
+  above = λ r h a q lt. (parts.0 r.epoch r.number a).0 lt;
+  low = λ e n a p. (parts.0 e n a).1 p;
+}
 
 pub rest_step : (b : BookData) (held : List RecordData) (Q : RecordData → Type 0) (number : ℕ) (at key : ℕ × ℕ) → Rest b held Q number at → ((r : RecordData) → Contains held r → Q r → PairBefore at.0 at.1 r.epoch r.number → HasKey key.0 key.1 r ⊎ PairBefore key.0 key.1 r.epoch r.number) → PairBefore at.0 at.1 key.0 key.1 → (IsAlive b.cuts b.complete key.0 key.1 → ⊥) → Rest b held Q number key
 rest_step b held Q number at key rest next up dead = record {

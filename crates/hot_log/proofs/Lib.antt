@@ -21,3 +21,5 @@ pub mod Descending
 pub mod Sides
 pub mod Sorting
 pub mod Hanging
+pub mod Gone
+pub mod Rows

@@ -118,7 +118,7 @@ pub record InPage (group : ℕ) (low high : ℕ × ℕ) (q : Place) : Type 0 whe
   pub above : PairBefore low.0 low.1 q.1.0 q.1.1
   pub up_to : PairBefore high.0 high.1 q.1.0 q.1.1 → ⊥
 
-in_page : (page : ℕ) (above to : ℕ × ℕ) (q : Place) → range_contains place_cmp (Excluded (page, above)) (Included (page, to)) q ≡ true → InPage page above to q
+pub in_page : (page : ℕ) (above to : ℕ × ℕ) (q : Place) → range_contains place_cmp (Excluded (page, above)) (Included (page, to)) q ≡ true → InPage page above to q
 in_page page above to q h =
     let t = both (place_cmp (page, above) q) (place_cmp (page, to) q) h in
     let not_up : ((page < q.0) ⊎ ((page ≡ q.0) × PairBefore to.0 to.1 q.1.0 q.1.1)) → ⊥ = λ u. t.1 (place_less_of (page, to) q u) in
@@ -127,7 +127,7 @@ in_page page above to q h =
     (λ (u : (page ≡ q.0) × PairBefore above.0 above.1 q.1.0 q.1.1). record { page = sym u.0; above = u.1; up_to = λ p. not_up (inr (u.0, p)) })
     (place_less (page, above) q t.0)
 
-in_range : (page : ℕ) (above to : ℕ × ℕ) (q : Place) → InPage page above to q → range_contains place_cmp (Excluded (page, above)) (Included (page, to)) q ≡ true
+pub in_range : (page : ℕ) (above to : ℕ × ℕ) (q : Place) → InPage page above to q → range_contains place_cmp (Excluded (page, above)) (Included (page, to)) q ≡ true
 in_range page above to q is =
     both_of (place_cmp (page, above) q) (place_cmp (page, to) q) (
       place_less_of (page, above) q (inr (sym is.page, is.above)),
@@ -164,7 +164,7 @@ ListsAlive b es ys = Lists BeforeByNumber (AliveIn b es) ys
 pub alive_none : (b : BookData) (ys : List RecordData) → ys ≡ [] → ListsAlive b [] ys
 alive_none b ys is = subst (λ (l : List RecordData). ListsAlive b [] l) (sym is) (record { rising = tt; members = λ r. (λ h. absurd (none_in r h), λ h. absurd (none_in r h.0)) })
 
-joined : (xs : List Entry) (x : Entry) (r : RecordData) → Contains (records_in (xs ++ x ∷ [])) r ↔ (Contains (records_in xs) r ⊎ (r ≡ x.1))
+pub joined : (xs : List Entry) (x : Entry) (r : RecordData) → Contains (records_in (xs ++ x ∷ [])) r ↔ (Contains (records_in xs) r ⊎ (r ≡ x.1))
 joined [] x r = (
   λ h. ⊎_elim (λ (u : x.1 ≡ r). inr (sym u)) (λ (u : Contains [] r). inl u) (which x.1 [] r h),
   λ h. ⊎_elim (λ (u : Contains [] r). absurd (none_in r u)) (λ (u : r ≡ x.1). subst (λ (s : RecordData). Contains (x.1 ∷ []) s) (sym u) (here x.1 [])) h,

@@ -13,7 +13,7 @@ ghost use Rattle.hot_log.specs.Indexing.{IsIndexBy, IsNextHeld, IsNextRecord, Is
 ghost use Rattle.hot_log.specs.Missing.{IsMissing};
 ghost use Rattle.hot_log.specs.Paged.{PlaceBefore};
 ghost use Rattle.hot_log.specs.Putting.{Puts, RefusesPut};
-ghost use Rattle.hot_log.specs.Removing.{IsFolded, Removes};
+ghost use Rattle.hot_log.specs.Removing.{IsFolded, Removes, RemovesRow};
 ghost use Rattle.hot_log.specs.declared.log.PutFault.TheVariants.{Memory as OfMemory};
 ghost use Rattle.std.specs.List.{Contains};
 
@@ -177,6 +177,24 @@ impl HotLog {
             return;
         };
         self.by_back.remove(redo.back(), key);
+    }
+
+    // Removes the first row of alive records of a page between two keys, and tells its last key.
+    pub(crate) fn remove_row(
+        &mut self,
+        book: &EpochBook,
+        page: u16,
+        above: (u16, u64),
+        to: (u16, u64),
+    ) -> Option<(u16, u64)>
+        ensures { RemovesRow book.now page above to self.old self.new result }
+    {
+        let (by_key, by_back) = (&mut self.by_key, &mut self.by_back);
+        let row = self
+            .records
+            .unlist_row(by_key, by_back, book, page, above, to)?;
+        self.records.remove_between(page, row.0, row.1);
+        Some(row.1)
     }
 
     // The record of a page with the least key above the one given.

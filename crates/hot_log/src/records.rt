@@ -7,12 +7,14 @@ ghost use Rattle.hot_log.specs.Held.{IsHeld, HasKey, IsRecordAt};
 ghost use Rattle.hot_log.specs.Alive.{IsAliveBetween};
 ghost use Rattle.hot_log.specs.Anew.{ListsAnew};
 ghost use Rattle.hot_log.specs.Found.{IsPageAfter};
-ghost use Rattle.hot_log.specs.Indexing.{IsRecordOf, IsNextRecord, IsLastRecord};
+ghost use Rattle.hot_log.specs.Indexing.{IsIndexed, IsRecordOf, IsNextRecord, IsLastRecord};
 ghost use Rattle.hot_log.specs.Missing.{IsMissing};
 ghost use Rattle.hot_log.specs.Paged.{PlaceBefore};
-ghost use Rattle.hot_log.specs.Removing.{Removes};
+ghost use Rattle.hot_log.specs.Removing.{IsBetween, Removes, UnlistsRow};
 
 use crate::ahead::Ahead;
+use crate::index::KeyIndex;
+use crate::key_pages::KeyPages;
 use crate::search::is_alive;
 use epoch_book::EpochBook;
 use redo_core::{Record, Refused};
@@ -107,6 +109,15 @@ impl PagedRecords {
         ensures form { IsHeld self.new }
     {
         self.map.remove(&(page, key))
+    }
+
+    /// Takes out the records of a page with keys above one and up to another.
+    pub fn remove_between(&mut self, page: u16, above: (u16, u64), to: (u16, u64))
+        ensures removes { Removes (IsBetween page above to) self.old self.new }
+        ensures form { IsHeld self.new }
+    {
+        let (from, end) = (Bound::Excluded((page, above)), Bound::Included((page, to)));
+        self.map.remove_range(from, end);
     }
 
     /// The record of a page with the least key above the one given.
@@ -224,6 +235,40 @@ impl PagedRecords {
             }
         }
         Ok(missing)
+    }
+}
+
+impl PagedRecords {
+    /// Takes the keys of the first row of alive records of a page between two keys from what lists the records, and tells a key that
+    /// the row is above, and its last one.
+    pub fn unlist_row(
+        &self,
+        by_key: &mut KeyPages,
+        by_back: &mut KeyIndex,
+        book: &EpochBook,
+        page: u16,
+        above: (u16, u64),
+        to: (u16, u64),
+    ) -> Option<((u16, u64), (u16, u64))>
+        requires { IsIndexed self.now by_key.old by_back.old }
+        ensures { UnlistsRow book.now self.now page above to by_key.new by_back.new result }
+    {
+        let (from, end) = (Bound::Excluded((page, above)), Bound::Included((page, to)));
+        let mut start = above;
+        let mut last = None;
+        for (_, redo) in self.map.range(from, end) {
+            let key = (redo.epoch(), redo.number());
+            if is_alive(book, key.0, key.1) {
+                let _ = by_key.remove(key);
+                by_back.remove(redo.back(), key);
+                last = Some(key);
+            } else if let Some(last) = last {
+                return Some((start, last));
+            } else {
+                start = key;
+            }
+        }
+        Some((start, last?))
     }
 }
 

@@ -114,26 +114,6 @@ impl HotLog {
         None
     }
 
-    // The same where a key parts the alive records at the number, as that of an alive one does: it is mostly the page's next record,
-    // and the book is asked for where to go on only where that one is not alive.
-    pub(crate) fn alive_next(
-        &self,
-        book: &EpochBook,
-        page: u16,
-        after: (u16, u64),
-    ) -> Option<&Record>
-        requires { PartsAtKey book.now after.1 after }
-        ensures found { IsLeastRecord (λ r. IsPageAlive book.now self.now page r × (after.1 < r.number)) (option_copied result) }
-        ensures form { IsHeld self.now }
-    {
-        let redo = self.next_of_page(page, after)?;
-        if is_alive(book, redo.epoch(), redo.number()) {
-            Some(redo)
-        } else {
-            self.alive_above(book, page, after.1)
-        }
-    }
-
     // The last alive record of a page up to a number.
     pub(crate) fn alive_to(&self, book: &EpochBook, page: u16, number: u64) -> Option<&Record>
         ensures found { IsGreatestRecord (λ r. IsPageAlive book.now self.now page r × (r.number ≤ number)) (option_copied result) }

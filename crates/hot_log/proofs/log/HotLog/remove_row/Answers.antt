@@ -1,0 +1,11 @@
+use Rattle.std.proofs.Common.{Some, subst, List}
+use Rattle.redo_core.specs.Data.{RecordData}
+use Rattle.hot_log.specs.Removing.{RemovesRow}
+use Rattle.hot_log.proofs.Rows.{row_gone}
+use Rattle.hot_log.proofs.log.HotLog.remove_row.Goals as goal
+
+pub returns : goal.returns
+returns c =
+    let row = c.in_ok-row.row in
+    subst (λ (l : List RecordData). RemovesRow c.args.book.now c.args.page c.args.above c.args.to l c.remove_between.new.self (Some row.1)) c.self.view_is
+    (row_gone c.args.book.now c.args.page c.args.above c.args.to row.0 row.1 c.self.inside.records c.remove_between.new.self c.in_ok-row.ensures.0 c.remove_between.ensures.removes)
