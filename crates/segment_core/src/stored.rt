@@ -1,4 +1,4 @@
-ghost use Rattle.std.specs.Prelude.{◌≡◌, ℕ, ◌≤◌, ◌↔◌, map, IsTrue, IfOk, IfErr, OnOk, OnErr};
+ghost use Rattle.std.specs.Prelude.{◌≡◌, ℕ, ◌≤◌, ◌↔◌, length, map, IsTrue, IfOk, IfErr, OnOk, OnErr};
 ghost use Rattle.std.specs.Option.{option_copied};
 ghost use Rattle.redo_core.specs.Order.{IsRising, CutBefore, AdvanceBefore, RecordBefore, Lists, BeforeByNumber};
 ghost use Rattle.hot_log.specs.Held.{IsRecordAt, IsKeyAfter, HoldsKey};
@@ -127,6 +127,13 @@ impl Segment {
         ensures { result ≡ version_of self.now.store page }
     {
         self.store.version(page)
+    }
+
+    /// How many records are held.
+    pub fn held_len(&self) -> usize
+        ensures { result ≡ length self.now.held }
+    {
+        self.hot.len()
     }
 
     /// The records that another segment holds and this one does not, rising by key. Its only error is want of memory.
