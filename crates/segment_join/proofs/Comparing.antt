@@ -9,8 +9,8 @@ use Rattle.redo_core.specs.Meaning.{Meaning}
 use Rattle.redo_core.proofs.Members.{lists_unique}
 use Rattle.redo_laws.specs.OrderOfMeanings.{Covers, CoversAt, OrderByParts}
 use Rattle.redo_core.proofs.CompleteEpochs.{one_complete_epoch}
-use Rattle.segment_state.specs.State.{State, min_of}
-use Rattle.segment_state.specs.HasMeaning.{IsLinkedIn, HasAnchor, IsKeptBy, HasMeaning}
+use Rattle.segment_state.specs.State.{State}
+use Rattle.segment_state.specs.HasMeaning.{HasAnchor, IsKeptBy, HasMeaning}
 use Rattle.segment_state.specs.Laws.{SameMeaning}
 use Rattle.segment_core.specs.Form.{IsSegment}
 use Rattle.segment_join.specs.Covering.{CoversState, CoversByParts}

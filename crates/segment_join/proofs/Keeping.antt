@@ -1,22 +1,22 @@
--- The kept records of keys, and how the standing of a key tells whether its record is there.
-use Rattle.std.proofs.Common.{◌≡◌, ℕ, ◌<◌, ◌≤◌, ◌⊎◌, ◌↔◌, inl, inr, ⊎_elim, Bool, true, false, IsTrue, List, [], ◌∷◌, zero, suc, length, get_or, take, map, Some, None, refl, sym, ap, subst, arith, ◌∙◌}
-use Rattle.std.specs.List.{Contains}
+-- The kept records of keys, and whether the record of a key is there.
+use Rattle.std.proofs.Common.{◌≡◌, ℕ, ◌<◌, ◌≤◌, ◌⊎◌, ◌↔◌, inl, inr, ⊎_elim, Bool, IsTrue, List, [], ◌∷◌, zero, suc, length, get_or, take, map, Some, None, refl, sym, ap, subst, arith, ◌∙◌}
+use Rattle.std.specs.List.{All, Contains}
 use Rattle.std.proofs.lemmas.List.{get_or-map, length-map}
 use Rattle.redo_core.specs.Data.{RecordData}
 use Rattle.redo_core.specs.Standing.{IsAlive, IsDead, IsWaiting}
 use Rattle.redo_core.specs.Order.{IsRising, RecordBefore}
-use Rattle.redo_laws.proofs.Deciding.{settled_lt}
+use Rattle.redo_core.proofs.Members.{all_members}
+use Rattle.redo_laws.proofs.Deciding.{Settled, settled_lt, settled_and, settled_or}
 use Rattle.redo_laws.proofs.Fronts.{settled_alive}
-use Rattle.hot_log.specs.Held.{IsRecordAt}
-use Rattle.hot_log.specs.Kept.{ListsKeysOf}
-use Rattle.epoch_book.specs.declared.standing.Standing.{Standing}
-use Rattle.epoch_book.specs.declared.standing.Standing.TheVariants.{Alive, Dead}
+use Rattle.redo_laws.proofs.Meanings.{in_map, from_map}
+use Rattle.hot_log.specs.Held.{HasKey, IsRecordAt}
+use Rattle.hot_log.specs.Kept.{KeepsKey, ListsKeysOf}
 use Rattle.segment_state.specs.State.{State}
 use Rattle.segment_state.specs.HasMeaning.{IsKeptBy}
 use Rattle.segment_core.specs.Keys.{key_of}
-use Rattle.segment_core.specs.Standing.{StandsAt}
 use Rattle.segment_core.proofs.Keys.{one_of_key}
-use Rattle.segment_join.specs.Covering.{HasRecord}
+use Rattle.segment_join.specs.Covering.{HasRecord, HasAllKept, HasAt, IsHeldAt}
+use Rattle.segment_join.proofs.Scanning.{of_member}
 
 -- the records so far of those that are kept, which have these keys
 pub record KeepsTo (s : State) (anchor : ℕ) (keys : List (ℕ × ℕ)) (i : ℕ) (kept : List RecordData) : Type 0 where
@@ -46,70 +46,73 @@ key_at held keys i x d is lt at =
 pub same_length : (held : List RecordData) (keys : List (ℕ × ℕ)) → keys ≡ map key_of held → length keys ≡ length held
 same_length held keys is = ap (λ (ks : List (ℕ × ℕ)). length ks) is ∙ length-map held key_of
 
--- how the standing of a record's own key tells whether a segment has it, or needs it no more
-pub of_record : (s : State) (epoch number : ℕ) (r : RecordData) (standing : Standing) → StandsAt s epoch number standing → epoch ≡ r.epoch → number ≡ r.number
-    → StandsAt s r.epoch r.number standing
-of_record s epoch number r standing stands e n = subst (λ i. StandsAt s i r.number standing) e (subst (λ i. StandsAt s epoch i standing) n stands)
-
-pub dead_has : (s : State) (anchor : ℕ) (r : RecordData) → StandsAt s r.epoch r.number Dead → IsTrue true ↔ HasRecord s anchor r
-dead_has s anchor r stands = (λ h. inr (inl (stands.dead.0 refl)), λ h. refl)
-
-pub settled_has : (s : State) (anchor : ℕ) (r : RecordData) → StandsAt s r.epoch r.number Alive → r.number ≤ anchor → IsTrue true ↔ HasRecord s anchor r
-settled_has s anchor r stands low = (λ h. inr (inr (low, (stands.alive.0 refl).known)), λ h. refl)
-
-pub held_has : (s : State) (anchor : ℕ) (r : RecordData) (is_held : Bool) → IsWaiting s.book.complete r.epoch ⊎ (IsAlive s.book.cuts s.book.complete r.epoch r.number × (anchor < r.number))
-    → IsTrue is_held ↔ Contains s.held r → IsTrue is_held ↔ HasRecord s anchor r
-held_has s anchor r is_held wanted tells = (
-  λ h. inl (tells.0 h, wanted),
-  λ has. ⊎_elim
-      (λ (kept : IsKeptBy s anchor r). tells.1 kept.0)
-      (λ (gone : IsDead s.book.cuts s.book.complete r.epoch r.number ⊎ ((r.number ≤ anchor) × (r.epoch ≤ s.book.complete))). absurd (⊎_elim
-      (λ (dead : IsDead s.book.cuts s.book.complete r.epoch r.number). ⊎_elim
-      (λ (w : IsWaiting s.book.complete r.epoch). omega (arith, w, dead.0))
-      (λ (a : IsAlive s.book.cuts s.book.complete r.epoch r.number × (anchor < r.number)). dead.1 a.0) wanted)
-      (λ (low : (r.number ≤ anchor) × (r.epoch ≤ s.book.complete)). ⊎_elim
-      (λ (w : IsWaiting s.book.complete r.epoch). omega (arith, w, low.1))
-      (λ (a : IsAlive s.book.cuts s.book.complete r.epoch r.number × (anchor < r.number)). omega (arith, a.1, low.0)) wanted)
-      gone))
-      has,
-)
-
--- a record is held where it is the one under its key
-pub same_is_held : (held : List RecordData) (found r : RecordData) (epoch number : ℕ) (same : Bool) → IsRising RecordBefore held → IsRecordAt held epoch number (Some found)
-    → epoch ≡ r.epoch → number ≡ r.number → IsTrue same ↔ (found ≡ r) → IsTrue same ↔ Contains held r
-same_is_held held found r epoch number same rising at e n tells = (
-  λ h. subst (Contains held) (tells.0 h) at.0,
-  λ h. tells.1 (one_of_key held found r rising at.0 h (at.1.0 ∙ e) (at.1.1 ∙ n)),
-)
-
-pub none_is_held : (held : List RecordData) (r : RecordData) (epoch number : ℕ) → IsRecordAt held epoch number None → epoch ≡ r.epoch → number ≡ r.number
-    → IsTrue false ↔ Contains held r
-none_is_held held r epoch number none e n = (λ (h : false ≡ true). absurd (cc), λ h. absurd (none r h (sym e, sym n)))
-
--- a record that is held is kept, or needed no more
-pub own_record : (s : State) (anchor : ℕ) (r : RecordData) → Contains s.held r → HasRecord s anchor r
-own_record s anchor r has =
+-- a record that waits or is alive above the anchor is there exactly where it is held
+pub wanted_is_held : (s : State) (anchor : ℕ) (r : RecordData) → KeepsKey s.book anchor (key_of r) → HasRecord s anchor r → Contains s.held r
+wanted_is_held s anchor r wanted has =
     ⊎_elim
-    (λ (waits : s.book.complete < r.epoch). inl (has, inl waits))
+    (λ (kept : IsKeptBy s anchor r). kept.0)
+    (λ (gone : IsDead s.book.cuts s.book.complete r.epoch r.number ⊎ ((r.number ≤ anchor) × (r.epoch ≤ s.book.complete))). absurd (⊎_elim
+    (λ (dead : IsDead s.book.cuts s.book.complete r.epoch r.number). ⊎_elim
+    (λ (w : IsWaiting s.book.complete r.epoch). omega (arith, w, dead.0))
+    (λ (a : IsAlive s.book.cuts s.book.complete r.epoch r.number × (anchor < r.number)). dead.1 a.0) wanted)
+    (λ (low : (r.number ≤ anchor) × (r.epoch ≤ s.book.complete)). ⊎_elim
+    (λ (w : IsWaiting s.book.complete r.epoch). omega (arith, w, low.1))
+    (λ (a : IsAlive s.book.cuts s.book.complete r.epoch r.number × (anchor < r.number)). omega (arith, a.1, low.0)) wanted)
+    gone))
+    has
+
+-- any other one is needed no more
+pub needless_has : (s : State) (anchor : ℕ) (r : RecordData) → (KeepsKey s.book anchor (key_of r) → ⊥) → HasRecord s anchor r
+needless_has s anchor r needless =
+    ⊎_elim
+    (λ (waits : s.book.complete < r.epoch). absurd (needless (inl waits)))
     (λ (known : s.book.complete < r.epoch → ⊥). ⊎_elim
     (λ (alive : IsAlive s.book.cuts s.book.complete r.epoch r.number). ⊎_elim
-    (λ (above : anchor < r.number). inl (has, inr (alive, above)))
+    (λ (above : anchor < r.number). absurd (needless (inr (alive, above))))
     (λ (low : anchor < r.number → ⊥). inr (inr (omega (arith, low), omega (arith, known))))
     (settled_lt anchor r.number))
     (λ (dead : IsAlive s.book.cuts s.book.complete r.epoch r.number → ⊥). inr (inl (omega (arith, known), dead)))
     (settled_alive s.book.cuts s.book.complete r.epoch r.number))
     (settled_lt s.book.complete r.epoch)
 
--- a record that is alive and not held is needed no more exactly where it is at or below the anchor
-pub alive_has : (s : State) (anchor : ℕ) (r : RecordData) (answer : Bool) → StandsAt s r.epoch r.number Alive → (Contains s.held r → ⊥)
-    → IsTrue answer ↔ (r.number ≤ anchor) → IsTrue answer ↔ HasRecord s anchor r
-alive_has s anchor r answer stands lacks tells = (
-  λ h. inr (inr (tells.0 h, (stands.alive.0 refl).known)),
-  λ has. ⊎_elim
-      (λ (kept : IsKeptBy s anchor r). absurd (lacks kept.0))
-      (λ (gone : IsDead s.book.cuts s.book.complete r.epoch r.number ⊎ ((r.number ≤ anchor) × (r.epoch ≤ s.book.complete))). ⊎_elim
-      (λ (dead : IsDead s.book.cuts s.book.complete r.epoch r.number). let e : Alive ≡ Dead = stands.dead.1 dead in absurd (cc))
-      (λ (low : (r.number ≤ anchor) × (r.epoch ≤ s.book.complete)). tells.1 low.0)
-      gone)
-      has,
+-- what is so of a key is so of a record of the key
+pub of_key : (s : State) (anchor : ℕ) (key : ℕ × ℕ) (r : RecordData) → HasKey key.0 key.1 r → KeepsKey s.book anchor key ↔ KeepsKey s.book anchor (key_of r)
+of_key s anchor key r is = (
+  λ h. subst (λ e. KeepsKey s.book anchor (e, r.number)) (sym is.0) (subst (λ n. KeepsKey s.book anchor (key.0, n)) (sym is.1) h),
+  λ h. subst (λ e. KeepsKey s.book anchor (e, key.1)) is.0 (subst (λ n. KeepsKey s.book anchor (r.epoch, n)) is.1 h),
+)
+
+-- where a segment holds a record under a key, another one has that where it holds the same there
+pub same_at : (s t : State) (key : ℕ × ℕ) (r x : RecordData) (same : Bool) → IsRising RecordBefore s.held → IsRising RecordBefore t.held
+    → IsRecordAt t.held key.0 key.1 (Some r) → IsRecordAt s.held key.0 key.1 (Some x) → IsTrue same ↔ (x ≡ r) → IsTrue same ↔ IsHeldAt s t key
+same_at s t key r x same rising other_rising at held tells = (
+  λ h y has is. let e = one_of_key t.held r y other_rising at.0 has (at.1.0 ∙ sym is.0) (at.1.1 ∙ sym is.1) in
+      subst (Contains s.held) (tells.0 h ∙ e) held.0,
+  λ each. tells.1 (one_of_key s.held x r rising held.0 (each r at.0 at.1) (held.1.0 ∙ sym at.1.0) (held.1.1 ∙ sym at.1.1)),
+)
+
+-- a record that is held is kept, or needed no more
+pub own_record : (s : State) (anchor : ℕ) (r : RecordData) → Contains s.held r → HasRecord s anchor r
+own_record s anchor r has =
+    ⊎_elim
+    (λ (wanted : KeepsKey s.book anchor (key_of r)). inl (has, wanted))
+    (λ (needless : KeepsKey s.book anchor (key_of r) → ⊥). needless_has s anchor r needless)
+    (settled_wanted s anchor r)
+  where
+    settled_wanted : (s : State) (anchor : ℕ) (r : RecordData) → Settled (KeepsKey s.book anchor (key_of r))
+    settled_wanted s anchor r = settled_or _ _ (settled_lt s.book.complete r.epoch)
+        (settled_and _ _ (settled_alive s.book.cuts s.book.complete r.epoch r.number) (λ _. settled_lt anchor r.number))
+
+-- the records of just the kept keys are there exactly where each kept record is
+pub at_all_keys : (s : State) (anchor : ℕ) (t : State) (base : ℕ) (keys : List (ℕ × ℕ)) → IsRising RecordBefore t.held → ListsKeysOf (IsKeptBy t base) keys
+    → All (HasAt s anchor t) keys ↔ HasAllKept s anchor t base
+at_all_keys s anchor t base keys rising all = (
+  λ each r kept. of_member (HasAt s anchor t) keys each (key_of r)
+      (subst (λ (ks : List (ℕ × ℕ)). Contains ks (key_of r)) (sym all.keys_are) (in_map key_of all.kept r ((all.lists.members r).1 kept))) r kept.0 (refl, refl),
+  λ has. all_members (HasAt s anchor t) keys (λ key h.
+      let x = from_map key_of all.kept key (subst (λ (ks : List (ℕ × ℕ)). Contains ks key) all.keys_are h) in
+      let kept = (all.lists.members x.0).0 x.1 in
+      λ r held is.
+      let e : x.0 ≡ r = one_of_key t.held x.0 r rising kept.0 held (ap (λ (y : ℕ × ℕ). y.0) x.2 ∙ sym is.0) (ap (λ (y : ℕ × ℕ). y.1) x.2 ∙ sym is.1) in
+      subst (HasRecord s anchor) e (has x.0 kept)),
 )

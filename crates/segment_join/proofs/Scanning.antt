@@ -1,7 +1,6 @@
 -- Loops that test each element of a list and stop at the first that fails.
-use Rattle.std.proofs.Common.{◌≡◌, ◌↔◌, ℕ, ◌<◌, ◌≤◌, ◌+◌, List, [], ◌∷◌, zero, suc, length, get_or, take, Bool, true, false, refl, sym, subst, IsTrue, ◌∙◌, arith}
+use Rattle.std.proofs.Common.{◌≡◌, ◌↔◌, ℕ, ◌<◌, ◌≤◌, ◌+◌, List, [], ◌∷◌, suc, length, get_or, take, Bool, true, false, refl, sym, subst, IsTrue, ◌∙◌, arith}
 use Rattle.std.specs.List.{All, AllZip, Contains}
-use Rattle.redo_core.proofs.Members.{here, there}
 use Rattle.redo_core.proofs.Scans.{whole, one_more}
 
 -- one element fails, so not all pass

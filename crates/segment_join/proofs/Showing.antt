@@ -1,10 +1,10 @@
 -- What states show of their pages: each something, and zeros where nothing is stored.
-use Rattle.std.proofs.Common.{◌≡◌, ℕ, ◌⊎◌, inl, inr, ⊎_elim, List, [], ◌∷◌, ◌++◌, get_or, Bool, refl, sym, ap, ◌∙◌, subst, arith}
+use Rattle.std.proofs.Common.{◌≡◌, ℕ, ◌⊎◌, inl, inr, ⊎_elim, List, [], ◌∷◌, ◌++◌, get_or, Bool, refl, sym, ◌∙◌, subst}
 use Rattle.std.specs.List.{Contains, All}
 use Rattle.redo_core.specs.Data.{RecordData}
 use Rattle.redo_core.specs.Order.{Lists, BeforeByNumber}
 use Rattle.redo_core.specs.Writing.{zeros, after_records}
-use Rattle.redo_core.proofs.Members.{here, lists_unique}
+use Rattle.redo_core.proofs.Members.{here}
 use Rattle.redo_laws.proofs.Deciding.{settled_eq, some_or_none}
 use Rattle.redo_laws.proofs.Storing.{stored_images}
 use Rattle.segment_state.specs.State.{State, StoredImage, image_of}

@@ -4,14 +4,13 @@ use Rattle.std.specs.List.{Contains}
 use Rattle.std.proofs.lemmas.List.Elements.{Contains-append_left, Contains-append_right, Contains-append_cases}
 use Rattle.redo_core.specs.Data.{RecordData, CutData, AdvanceData}
 use Rattle.redo_core.specs.Order.{IsGreatest}
-use Rattle.redo_core.specs.CompleteEpoch.{HasCutsTo, IsCompleteEpoch}
+use Rattle.redo_core.specs.CompleteEpoch.{IsCompleteEpoch}
 use Rattle.redo_core.specs.Roster.{IsReader, point_of}
 use Rattle.redo_core.specs.Points.{HasAdvance}
 use Rattle.redo_core.specs.Learning.{Counts, Waits}
 use Rattle.redo_core.specs.declared.facts.Fact.{Fact}
 use Rattle.redo_core.specs.declared.facts.Fact.TheVariants.{Record, Cut, Advance}
 use Rattle.redo_core.proofs.Members.{none_in, here, which, only}
-use Rattle.redo_core.proofs.Numbers.{greatest_le}
 use Rattle.redo_laws.proofs.Deciding.{settled_lt}
 use Rattle.segment_state.specs.State.{State}
 use Rattle.segment_state.specs.Known.{IsKnown}

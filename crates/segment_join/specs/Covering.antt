@@ -8,6 +8,7 @@ use Rattle.redo_core.specs.Meaning.{Meaning, IsMeaning}
 use Rattle.redo_core.specs.AtMost.{IsAtMost}
 use Rattle.redo_core.specs.declared.facts.Fact.{Fact}
 use Rattle.redo_core.specs.declared.facts.Fact.TheVariants.{Advance}
+use Rattle.hot_log.specs.Held.{HasKey}
 use Rattle.segment_state.specs.Means.{Means}
 use Rattle.segment_state.specs.State.{State}
 use Rattle.segment_state.specs.Known.{IsKnown}
@@ -21,6 +22,17 @@ HasRecord s anchor r = IsKeptBy s anchor r ⊎ (IsDead s.book.cuts s.book.comple
 abbrev pub HasKept : State → ℕ → State → ℕ → RecordData → Type 0
 HasKept upper anchor lower base r = IsKeptBy lower base r → HasRecord upper anchor r
 
+abbrev pub HasAllKept : State → ℕ → State → ℕ → Type 0
+HasAllKept upper anchor lower base = (r : RecordData) → HasKept upper anchor lower base r
+
+-- so of the record that the lower segment holds under a key
+abbrev pub HasAt : State → ℕ → State → ℕ × ℕ → Type 0
+HasAt upper anchor lower key = (r : RecordData) → Contains lower.held r → HasKey key.0 key.1 r → HasRecord upper anchor r
+
+-- that record is held in the upper segment
+abbrev pub IsHeldAt : State → State → ℕ × ℕ → Type 0
+IsHeldAt upper lower key = (r : RecordData) → Contains lower.held r → HasKey key.0 key.1 r → Contains upper.held r
+
 -- each truncation, reader's point and waiting advance of the lower segment is known in the upper one
 pub record CoversBook (upper lower : State) : Type 0 where
   pub cuts : (c : CutData) → Contains lower.book.cuts c → Contains upper.book.cuts c
@@ -31,7 +43,7 @@ pub record CoversBook (upper lower : State) : Type 0 where
 pub record CoversState (anchor : ℕ) (upper : State) (base : ℕ) (lower : State) : Type 0 where
   pub book : CoversBook upper lower
   pub anchors : base ≤ anchor
-  pub kept : (r : RecordData) → HasKept upper anchor lower base r
+  pub kept : HasAllKept upper anchor lower base
 
 -- Inside one sound log: the answer is yes exactly where the lower meaning is at most the upper one.
 abbrev pub CoversByParts : State → State → Bool → Type 0

@@ -1,4 +1,4 @@
-ghost use Rattle.std.specs.Prelude.{◌≡◌, ℕ, ◌≤◌, ◌↔◌, List, map, IsTrue, IfOk};
+ghost use Rattle.std.specs.Prelude.{◌≡◌, ℕ, ◌≤◌, ◌*◌, ◌↔◌, List, length, map, IsTrue, IfOk};
 ghost use Rattle.std.specs.List.{Contains, AllZip, All};
 ghost use Rattle.redo_core.specs.Data.{RecordData};
 ghost use Rattle.redo_core.specs.Meaning.{Meaning, IsMeaning};
@@ -11,12 +11,12 @@ ghost use Rattle.segment_state.specs.Means.{Means};
 ghost use Rattle.segment_state.specs.HasMeaning.{HasAnchor, HasMeaning};
 ghost use Rattle.segment_state.specs.Known.{IsKnown};
 ghost use Rattle.hot_log.specs.Missing.{IsMissing};
-ghost use Rattle.segment_join.specs.Covering.{HasRecord, HasKept, CoversBook, CoversState, CoversByParts};
+ghost use Rattle.segment_join.specs.Covering.{HasRecord, HasKept, HasAllKept, HasAt, IsHeldAt, CoversBook, CoversState, CoversByParts};
 
-use crate::missing::keeps;
+use crate::missing::{keeps, keeps_key};
 use redo_core::{Advance, Cut, Record};
 use redo_laws::order_by_parts;
-use segment_core::{Segment, Standing};
+use segment_core::Segment;
 use segment_state::same_meaning;
 use std::alloc::AllocError;
 
@@ -49,8 +49,72 @@ fn covers_state(upper: &Segment, lower: &Segment) -> Result<bool, AllocError>
     if anchor < base {
         return Ok(false);
     }
+    has_all(upper, anchor, lower, base)
+}
+
+/// Whether so many records are few of those that a segment holds, at most one of eight: it is then cheaper to look each of them up than
+/// to go over all.
+pub fn are_few(count: usize, segment: &Segment) -> bool
+    ensures { IsTrue result ↔ (8 * count ≤ length segment.now.held) }
+{
+    count <= segment.held_len() / 8
+}
+
+/// Whether an upper segment keeps each record that a lower one keeps above a base, or needs it no more.
+fn has_all(upper: &Segment, anchor: u64, lower: &Segment, base: u64) -> Result<bool, AllocError>
+    ensures { IfOk result (λ answer. IsTrue answer ↔ HasAllKept upper.now anchor lower.now base) }
+{
+    let keys = lower.kept_keys(base)?;
+    if are_few(keys.len(), lower) {
+        return Ok(has_keys(upper, anchor, lower, &keys));
+    }
+    has_missing(upper, anchor, lower, base)
+}
+
+/// The same by a walk over all that the two hold, side by side.
+fn has_missing(upper: &Segment, anchor: u64, lower: &Segment, base: u64) -> Result<bool, AllocError>
+    ensures { IfOk result (λ answer. IsTrue answer ↔ HasAllKept upper.now anchor lower.now base) }
+{
     let missing = upper.missing_by_page(lower)?;
     Ok(has_records(upper, anchor, lower, base, &missing))
+}
+
+/// Whether an upper segment keeps the record that a lower one holds under each of these keys, or needs it no more.
+fn has_keys(upper: &Segment, anchor: u64, lower: &Segment, keys: &[(u16, u64)]) -> bool
+    ensures { IsTrue result ↔ All (HasAt upper.now anchor lower.now) keys.now }
+{
+    for key in keys {
+        if !has_at(upper, anchor, lower, *key) {
+            return false;
+        }
+    }
+    true
+}
+
+fn has_at(upper: &Segment, anchor: u64, lower: &Segment, key: (u16, u64)) -> bool
+    ensures { IsTrue result ↔ HasAt upper.now anchor lower.now key }
+{
+    // What is needed no more is looked up in neither segment.
+    if !keeps_key(upper, anchor, key) {
+        return true;
+    }
+    holds_at(upper, lower, key)
+}
+
+/// Whether the record that a lower segment holds under a key, if any, is held in an upper one.
+fn holds_at(upper: &Segment, lower: &Segment, key: (u16, u64)) -> bool
+    ensures { IsTrue result ↔ IsHeldAt upper.now lower.now key }
+{
+    // They open the segments' forms: at most one record stands under a key.
+    let _upper = upper.base_point();
+    let _lower = lower.base_point();
+    let Some(redo) = lower.get(key.0, key.1) else {
+        return true;
+    };
+    match upper.get(key.0, key.1) {
+        Some(held) => held.is_same(redo),
+        None => false,
+    }
 }
 
 fn covers_book(upper: &Segment, lower: &Segment) -> bool
@@ -106,11 +170,7 @@ fn has_record(segment: &Segment, anchor: u64, redo: &Record) -> bool
     requires { Contains segment.now.held redo.now → ⊥ }
     ensures { IsTrue result ↔ HasRecord segment.now anchor redo.now }
 {
-    match segment.stands(redo.epoch(), redo.number()) {
-        Standing::Dead => true,
-        Standing::Waiting => false,
-        Standing::Alive => redo.number() <= anchor,
-    }
+    !keeps_key(segment, anchor, (redo.epoch(), redo.number()))
 }
 
 /// Whether that is so of a record which a lower segment holds, or the lower one keeps it not.

@@ -1,7 +1,8 @@
 ghost use Rattle.std.specs.Prelude.{◌≡◌, ◌≢◌, ◌⊎◌, map, OnOk, OnErr, IfErr};
-ghost use Rattle.redo_core.specs.Order.{Lists, RecordBefore};
+ghost use Rattle.redo_core.specs.Order.{Lists};
 ghost use Rattle.redo_core.specs.Book.{roster_of};
 ghost use Rattle.hot_log.specs.Missing.{IsMissing};
+ghost use Rattle.hot_log.specs.Paged.{PlaceBefore};
 ghost use Rattle.segment_core.specs.Form.{IsSegment};
 ghost use Rattle.segment_core.specs.Savepoint.{RollsBackAs};
 ghost use Rattle.segment_core.specs.declared.answers.Refusal.TheVariants.{OtherRoster as OtherRosterOf, Memory as MemoryOf};
@@ -87,7 +88,7 @@ fn know_and_hold(
 {
     // It is called for what it ensures: the segment has its form.
     let _own = segment.base_point();
-    let Ok(missing) = segment.missing(other) else {
+    let Ok(missing) = segment.missing_by_page(other) else {
         return Err(Refusal::Memory);
     };
     if let Err(why) = take_all(segment, saved, other, &missing) {
@@ -106,7 +107,7 @@ fn take_all(
     other: &Segment,
     missing: &[&Record],
 ) -> Result<(), Refusal>
-    requires { Lists RecordBefore (IsMissing segment.old.held other.now.held) (map (λ x. x.now) missing.now) }
+    requires { Lists PlaceBefore (IsMissing segment.old.held other.now.held) (map (λ x. x.now) missing.now) }
     ensures takes { OnOk result (TakesAll segment.old other.now segment.new) }
     ensures refused { IfErr result (λ e. (e ≡ MemoryOf) ⊎ RefusesAll segment.old other.now e) }
     ensures rolls_back { RollsBackAs saved.old segment.old saved.new segment.new }

@@ -19,7 +19,7 @@ mod missing;
 mod sameness;
 mod told;
 
-pub use covering::covers;
+pub use covering::{are_few, covers};
 pub use joining::join;
 pub use kept::kept_of;
 pub use sameness::same;

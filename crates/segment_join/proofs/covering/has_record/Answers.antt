@@ -1,22 +1,13 @@
-use Rattle.std.proofs.Common.{◌≡◌, ◌≤◌, inl, false, true, refl, arith}
-use Rattle.std.proofs.lemmas.Bool.{leb-true, le-leb}
-use Rattle.segment_join.proofs.Keeping.{of_record, dead_has, held_has, alive_has}
+use Rattle.std.proofs.Common.{◌≡◌, false, true, sym}
+use Rattle.std.proofs.lemmas.Bool.{not-true, not_from_false, false_from_ne_true}
+use Rattle.segment_join.proofs.Keeping.{wanted_is_held, needless_has, of_key}
 use Rattle.segment_join.proofs.covering.has_record.Goals as goal
 
-pub returns-in-Dead : goal.returns-in-Dead
-returns-in-Dead c =
-    dead_has c.args.segment.now c.args.anchor c.args.redo.now
-    (of_record c.args.segment.now c.epoch.result c.number.result c.args.redo.now _ c.in-Dead.ensures c.epoch.ensures c.number.ensures.value)
-
-pub returns-in-Waiting : goal.returns-in-Waiting
-returns-in-Waiting c =
-    let stands = of_record c.args.segment.now c.epoch.result c.number.result c.args.redo.now _ c.in-Waiting.ensures c.epoch.ensures c.number.ensures.value in
-    held_has c.args.segment.now c.args.anchor c.args.redo.now false (inl (stands.waiting.0 refl)) (λ (h : false ≡ true). absurd (cc), λ h. absurd (c.requires h))
-
-pub returns-in-Alive : goal.returns-in-Alive
-returns-in-Alive c =
-    let stands = of_record c.args.segment.now c.epoch.result c.number.result c.args.redo.now _ c.in-Alive.ensures c.epoch.ensures c.number.ensures.value in
-    alive_has c.args.segment.now c.args.anchor c.args.redo.now _ stands c.requires (
-      λ h. let low : c.number-in-Alive.result ≤ c.args.anchor = leb-true _ _ h in omega (arith, low, c.number-in-Alive.ensures.value),
-      λ low. le-leb _ _ (omega (arith, low, c.number-in-Alive.ensures.value)),
+pub returns : goal.returns
+returns c =
+    let s = c.args.segment.now in let anchor = c.args.anchor in let r = c.args.redo.now in let keeps = c.keeps_key.result in
+    let same = of_key s anchor (c.epoch.result, c.number.result) r (sym c.epoch.ensures, sym c.number.ensures.value) in (
+      λ h. needless_has s anchor r (λ wanted.
+          let no : keeps ≡ false = not-true keeps h in let yes : keeps ≡ true = c.keeps_key.ensures.1 (same.1 wanted) in absurd (cc)),
+      λ has. not_from_false keeps (false_from_ne_true keeps (λ yes. c.requires (wanted_is_held s anchor r (same.0 (c.keeps_key.ensures.0 yes)) has))),
     )

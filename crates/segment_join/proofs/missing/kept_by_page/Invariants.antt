@@ -1,0 +1,11 @@
+use Rattle.std.proofs.Common.{take, map}
+use Rattle.std.specs.List.{Contains}
+use Rattle.redo_core.specs.Order.{Lists}
+use Rattle.hot_log.specs.Paged.{PlaceBefore}
+use Rattle.segment_state.specs.HasMeaning.{IsKeptBy}
+use Rattle.segment_join.proofs.missing.kept_by_page.Given as goal
+
+-- those so far that are kept
+abbrev pub invariant-loop-redo : goal.invariant-loop-redo
+invariant-loop-redo l =
+    Lists PlaceBefore (λ r. Contains (take l.redo-index (map (λ x. x.now) l.records)) r × IsKeptBy l.segment l.point r) (map (λ x. x.now) l.kept.items)
