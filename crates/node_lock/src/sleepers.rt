@@ -7,7 +7,7 @@ use std::sync::atomic::{AtomicU64, Ordering};
 use std::thread::yield_now;
 
 // How often a taker looks at the word, and lets others run where the state is out, before it sleeps.
-const LOOKS: u32 = 32;
+const LOOKS: u32 = 6;
 
 // The takers that sleep, or are about to. Nothing of it is proved: a wake that is lost would leave a taker asleep.
 //
