@@ -1,11 +1,13 @@
 -- A line that is a word alone says nothing.
-use Rattle.std.proofs.Common.{◌≡◌, ℕ, ◌<◌, List, [], ◌∷◌, length, Option, None, codes, refl, ap, ◌∙◌, arith, rules}
+use Rattle.std.proofs.Common.{◌≡◌, ℕ, ◌<◌, List, [], ◌∷◌, ◌++◌, length, take, drop, Option, None, codes, true, nat_eq, refl, sym, ap, ◌∙◌, arith, rules}
 use Rattle.std.specs.Prelude.{bytes_eq}
+use Rattle.std.proofs.lemmas.List.{take-append-drop}
 use Rattle.std.specs.List.{AllByRecursion}
+use Rattle.std.specs.Cmp.Lexicographic.{pointwise, same_text}
 use Rattle.script_text.specs.Parts.{◌>>=◌, parts_at}
 use Rattle.script_text.specs.Fields.{Form, numbers_of, made_by, read_by}
 use Rattle.script_text.specs.FactLine.{record_line, cut_line, advance_line, fact_line, fact_of}
-use Rattle.script_text.specs.StepLine.{step_forms, step_line, step_of}
+use Rattle.script_text.specs.StepLine.{step_forms, take_form, step_line, step_of}
 use Rattle.script_text.proofs.FirstParts.{none_of}
 
 -- forms that have a number
@@ -35,3 +37,16 @@ no_fact_alone word = none_of (bytes_eq word (codes "rec")) None _ refl (none_of 
 
 pub no_fact : (line : List ℕ) → parts_at 32 line ≡ line ∷ [] → fact_of line ≡ None
 no_fact line e = ap fact_line e ∙ no_fact_alone line
+
+begins : (line first : List ℕ) (n : ℕ) → pointwise nat_eq (take n line) first ≡ true → line ≡ first ++ drop n line
+begins line first n same = sym (take-append-drop n line) ∙ ap (λ x. x ++ drop n line) (same_text (take n line) first (sym same))
+
+-- a line that begins with the word of a record
+pub record_first : (line fields : List ℕ) → pointwise nat_eq (take 4 line) (codes "rec ") ≡ true → fields ≡ drop 4 line → record_line (parts_at 32 fields) ≡ fact_of line
+unfolding fact_line
+record_first line fields same rest = ap (λ x. record_line (parts_at 32 x)) rest ∙ ap fact_of (sym (begins line (codes "rec ") 4 same))
+
+-- and with that of a take
+pub take_first : (facts : ℕ) (line fields : List ℕ) → pointwise nat_eq (take 5 line) (codes "take ") ≡ true → fields ≡ drop 5 line → made_by (take_form facts) (parts_at 32 fields) ≡ step_of facts line
+unfolding step_line
+take_first facts line fields same rest = ap (λ x. made_by (take_form facts) (parts_at 32 x)) rest ∙ ap (step_of facts) (sym (begins line (codes "take ") 5 same))

@@ -99,10 +99,14 @@ fn fact_line(alloc: Global, word: &[u8], fields: &[u8]) -> Result<Option<Fact>, 
 }
 
 /// The fact of a line. A word alone is none.
-#[tactic(auto, using(crate::proofs::Words::no_fact))]
+#[tactic(auto, using(crate::proofs::Words::no_fact, crate::proofs::Words::record_first))]
 pub fn fact(alloc: Global, line: &[u8]) -> Result<Option<Fact>, AllocError>
     ensures { IfOk result (λ o. o ≡ fact_of line.now) }
 {
+    // Most facts are records, whose word ends where it is known to.
+    if let Some(fields) = line.strip_prefix(b"rec ") {
+        return record_line(alloc, fields);
+    }
     match first_part(line, b' ') {
         Some((word, fields)) => fact_line(alloc, word, fields),
         None => Ok(None),

@@ -171,11 +171,15 @@ fn step_line(facts: usize, word: &[u8], fields: &[u8]) -> Option<Step<usize>>
 }
 
 /// The step of a line, behind that many facts. A word alone is none: each form has a number.
-#[tactic(auto, using(crate::proofs::Words::no_step))]
+#[tactic(auto, using(crate::proofs::Words::no_step, crate::proofs::Words::take_first))]
 pub fn step(facts: usize, line: &[u8]) -> Option<Step<usize>>
     requires { facts ≤ most }
     ensures { result ≡ step_of facts line.now }
 {
+    // Most steps are takes, whose word ends where it is known to.
+    if let Some(fields) = line.strip_prefix(b"take ") {
+        return take(facts, fields);
+    }
     let (word, fields) = first_part(line, b' ')?;
     step_line(facts, word, fields)
 }
