@@ -24,14 +24,13 @@ abbrev pub field_of : ℕ → List (List ℕ) → Option (ℕ × List (List ℕ)
 field_of limit (word ∷ next ∷ rest) = first_of limit (word ∷ next ∷ rest)
 field_of limit _ = None
 
--- as many numbers as there are limits, and the one field behind them
-abbrev pub numbers_before : List ℕ → List (List ℕ) → Option (List ℕ × List ℕ)
-numbers_before [] (text ∷ []) = Some ([], text)
-numbers_before (limit ∷ limits) (word ∷ words) = do
-  n ← decimal_value limit word
-  rest ← numbers_before limits words
-  Some (n ∷ rest.0, rest.1)
-numbers_before _ _ = None
+-- as many numbers as there are limits, each of a field with another behind it, and the fields behind them
+abbrev pub numbers_then : List ℕ → List (List ℕ) → Option (List ℕ × List (List ℕ))
+numbers_then [] fields = Some ([], fields)
+numbers_then (limit ∷ limits) fields = do
+  first ← field_of limit fields
+  others ← numbers_then limits first.1
+  Some (first.0 ∷ others.0, others.1)
 
 -- the fields of a text; none where there is no text
 abbrev pub fields_in : Option (Bor (List ℕ)) → List (List ℕ)

@@ -194,7 +194,7 @@ fn anew(alloc: Global, head: Head, text: &[u8]) -> Result<Option<Fact>, AllocErr
 
 /// The record of contents with no comma.
 #[tactic(auto, unfolding(crate::specs::FactLine::contents_of, crate::specs::FactLine::contents_from))]
-fn of_word(alloc: Global, head: Head, text: &[u8]) -> Result<Option<Fact>, AllocError>
+pub(crate) fn of_word(alloc: Global, head: Head, text: &[u8]) -> Result<Option<Fact>, AllocError>
     requires { parts_at 44 text.now ≡ text.now ∷ [] }
     ensures { IfOk result (λ o. o ≡ record_of_contents head (contents_of text.now)) }
 {

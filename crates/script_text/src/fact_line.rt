@@ -4,29 +4,25 @@ ghost use Rattle.std.specs.Prelude.{◌≡◌, ◌≤◌, ◌∷◌, IfOk, optio
 ghost use Rattle.redo_core.specs.Data.{advance_of};
 ghost use Rattle.redo_core.specs.Shape.{max_readers};
 ghost use Rattle.script_text.specs.Parts.{parts_at};
-ghost use Rattle.script_text.specs.Fields.{numbers_before};
+ghost use Rattle.script_text.specs.Fields.{numbers_then};
 ghost use Rattle.script_text.specs.FactLine.{shaped, head_numbers, record_limits, record_line, cut_line, advance_line, fact_line, fact_of};
 
-use crate::contents::{Head, record_of};
-use crate::fields::first_part;
+use crate::contents::{Head, of_word, record_of};
+use crate::fields::{first_part, is_one_part};
 use crate::limits::SHORT;
 use crate::number::{field, first_field, last_field, three_fields};
 use redo_core::{Advance, Cut, Fact, MAX_NUMBER, MAX_READERS};
 use std::alloc::{AllocError, Global};
 
-/// The numbers of the fields behind `rec`, and the last field, which tells the contents.
-#[tactic(auto, using(crate::proofs::RecordLine::none_before, crate::proofs::RecordLine::more_behind))]
+/// The numbers of the fields behind `rec`, and the text behind them, which tells the contents where it is one field.
 fn record_fields(fields: &[u8]) -> Option<(Head, &[u8])>
-    ensures { option_map (λ p. (head_numbers p.0, p.1.now)) result ≡ numbers_before record_limits (parts_at 32 fields.now) }
+    ensures { option_map (λ p. (head_numbers p.0, parts_at 32 p.1.now)) result ≡ numbers_then record_limits (parts_at 32 fields.now) }
 {
     let (epoch, rest) = field(fields, SHORT)?;
     let (number, rest) = field(rest, MAX_NUMBER)?;
     let (back, rest) = field(rest, MAX_NUMBER)?;
     let (page, rest) = field(rest, SHORT)?;
     let (block_back, text) = field(rest, MAX_NUMBER)?;
-    if first_part(text, b' ').is_some() {
-        return None;
-    }
     let head = Head {
         epoch: epoch as u16,
         number,
@@ -38,13 +34,20 @@ fn record_fields(fields: &[u8]) -> Option<(Head, &[u8])>
 }
 
 /// The fields behind `rec`.
-#[tactic(auto, using(crate::proofs::RecordLine::no_numbers, crate::proofs::RecordLine::record_is))]
+#[tactic(auto, using(crate::proofs::RecordLine::no_numbers, crate::proofs::RecordLine::record_is, crate::proofs::RecordLine::more_behind))]
 fn record_line(alloc: Global, fields: &[u8]) -> Result<Option<Fact>, AllocError>
     ensures { IfOk result (λ o. o ≡ record_line (parts_at 32 fields.now)) }
 {
     let Some((head, text)) = record_fields(fields) else {
         return Ok(None);
     };
+    // Most records have one patch, and then one search finds that neither a field nor a patch stands behind it.
+    if is_one_part(text, b' ', b',') {
+        return of_word(alloc, head, text);
+    }
+    if first_part(text, b' ').is_some() {
+        return Ok(None);
+    }
     record_of(alloc, head, text)
 }
 

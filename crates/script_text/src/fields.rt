@@ -1,9 +1,9 @@
 //! The parts of a text round a separator: lines, fields, writes.
 
-ghost use Rattle.std.specs.Prelude.{◌≡◌, ◌<◌, ◌==◌, [], ◌∷◌, IfOk, IfSome, IfNone, length, map, position};
+ghost use Rattle.std.specs.Prelude.{◌≡◌, ◌↔◌, ◌<◌, ◌==◌, [], ◌∷◌, IfOk, IfSome, IfNone, IsTrue, length, map, position};
 ghost use Rattle.script_text.specs.Parts.{parts_at, first_parts};
 
-use memchr::memchr;
+use memchr::{memchr, memchr2};
 use std::alloc::{AllocError, Global};
 
 /// How many parts of a text are looked at: more than any line has.
@@ -39,4 +39,11 @@ pub fn first_part(text: &[u8], separator: u8) -> Option<(&[u8], &[u8])>
             Some((front, behind))
         }
     }
+}
+
+/// Whether neither byte parts the text, by one search for both.
+pub fn is_one_part(text: &[u8], separator: u8, other: u8) -> bool
+    ensures { IsTrue result ↔ (parts_at separator text.now ≡ text.now ∷ []) × (parts_at other text.now ≡ text.now ∷ []) }
+{
+    memchr2(separator, other, text).is_none()
 }
