@@ -1,7 +1,6 @@
 -- The fields of an advance, one by one.
 use Rattle.std.proofs.Common.{◌≡◌, ℕ, ◌<◌, inl, inr, false, eqb, List, [], ◌∷◌, length, Option, Some, None, refl, ap, ◌∙◌, arith}
 use Rattle.std.proofs.lemmas.Bool.Decides.{nat_tests}
-use Rattle.std.proofs.lemmas.List.Splits.{length-slice_split}
 use Rattle.redo_core.specs.Data.{advance_of}
 use Rattle.redo_core.specs.Shape.{max_number, max_readers}
 use Rattle.redo_core.specs.declared.facts.Fact.{Fact}
@@ -12,6 +11,7 @@ use Rattle.script_text.specs.Fields.{numbers_of, first_of, field_of, of_one}
 use Rattle.script_text.specs.FactLine.{shaped, advance_line}
 use Rattle.script_text.proofs.Forms.{numbers_apart}
 use Rattle.script_text.proofs.Results.{found}
+use Rattle.script_text.proofs.Split.{some_parts}
 
 abbrev advance_by : ℕ → ℕ → ℕ → Option Fact
 advance_by epoch point reader = shaped (Advance (advance_of epoch reader point))
@@ -96,7 +96,7 @@ after_named : (epoch point : ℕ) (fields rest : List (List ℕ)) (text : List �
     → first_of max_number rest ≡ Some (point, parts_at 32 text)
     → advance_line fields ≡ (numbers_of (max_readers ∷ []) (parts_at 32 text) >>= of_one (advance_by epoch point))
 after_named epoch point fields rest text e x = after_point epoch point fields rest (parts_at 32 text) e x
-    ∙ behind_some epoch point (parts_at 32 text) (omega (arith, length-slice_split (λ b. eqb b 32) text))
+    ∙ behind_some epoch point (parts_at 32 text) (some_parts 32 text)
 
 pub advance_named : (epoch point reader : ℕ) (fields rest : List (List ℕ)) (text : List ℕ) → field_of 65535 fields ≡ Some (epoch, rest)
     → first_of max_number rest ≡ Some (point, parts_at 32 text) → numbers_of (max_readers ∷ []) (parts_at 32 text) ≡ Some (reader ∷ [])

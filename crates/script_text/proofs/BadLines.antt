@@ -14,7 +14,7 @@ use Rattle.script_text.specs.Spelled.{AreFacts, AsksSteps, IsLog, IsScript, Spel
 use Rattle.script_text.proofs.Results.{end, bad_is, not_bad, refused, one_of, found, within_ok, within_bad, some_left, room_is, ended}
 use Rattle.script_text.proofs.Scripts.{lines_next, script_next}
 use Rattle.script_text.proofs.Rosters.{Reader, facts_reader, steps_reader, opened_plain, opened_named, opened_last, opened_read, rostered_is_spelled, rostered_is_read, scripts_are_spelled, logs_are_spelled}
-use Rattle.script_text.proofs.PatchSpelling.{some_parts}
+use Rattle.script_text.proofs.Split.{some_parts}
 
 -- Where a reader stops: behind the lines before, which more lines would complete, at a line that no others complete.
 record Stops {A : Type 0} (read : List (List ℕ) → Result A ℕ) (at : ℕ) (parts : List (List ℕ)) (stop : ℕ) : Type 0 where

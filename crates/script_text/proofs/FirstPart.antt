@@ -2,12 +2,13 @@
 use Rattle.std.proofs.Common.{◌≡◌, ℕ, ◌+◌, ◌<◌, ◌≤◌, ◌⊎◌, inl, inr, ◌↔◌, Bool, true, false, cond, not, ◌||◌, eqb, ltb, List, [], ◌∷◌, length, get_or, take, drop, Option, Some, None, is_some, refl, sym, subst, ap, ◌∙◌, arith}
 use Rattle.std.specs.Prelude.{position}
 use Rattle.std.specs.List.{position_or_len}
-use Rattle.std.proofs.lemmas.List.Splits.{length-slice_split, slice_split_first, slice_split_none}
+use Rattle.std.proofs.lemmas.List.Splits.{slice_split_first, slice_split_none}
 use Rattle.std.proofs.lemmas.List.Sums.{fails_before_first, position_or_len_is}
 use Rattle.memchr.specs.Find.{IsFirstByte, is_byte, is_byte2}
 use Rattle.std.proofs.lemmas.Bool.Decides.{nat_tests}
 use Rattle.script_text.specs.Parts.{parts_at}
 use Rattle.script_text.proofs.Options.{no_test}
+use Rattle.script_text.proofs.Split.{some_parts}
 
 found : (b : Bool) (q at : ℕ) → cond b (Some q) None ≡ Some at → (b ≡ true) × (q ≡ at)
 found true q at h = (refl, cc)
@@ -84,7 +85,7 @@ parted c text k None lt is none whole =
     cc (sym is ∙ fails)
 parted c text k (Some at) lt is some whole =
     let cut = (parted_at c text at some).1 in
-    omega (arith, ap length whole, ap length cut, length-slice_split (λ b. eqb b c) (drop (at + 1) text))
+    omega (arith, ap length whole, ap length cut, some_parts c (drop (at + 1) text))
 
 none_of_one : (c d : ℕ) (text : List ℕ) → IsFirstByte (is_byte2 c d) text None → parts_at c text ≡ text ∷ []
 none_of_one c d text h = not_parted c text (sym (first_is c text None (λ k from lt is. h k from lt (either_is _ _ is))))

@@ -8,9 +8,9 @@ use Rattle.script_text.specs.Parts.{parts_at}
 use Rattle.script_text.specs.FactLine.{fact_of}
 use Rattle.script_text.specs.StepLine.{step_of}
 use Rattle.script_text.specs.Script.{ScriptData, most, nodes_in_line, roster_in_line, lines_from, nodes_from, script_from, opening_with, opening_by, opening_of, with_fact, with_facts, within}
-use Rattle.script_text.proofs.PatchSpelling.{some_parts}
 use Rattle.script_text.proofs.Results.{bad, some_left}
 use Rattle.script_text.proofs.Scripts.{lines_next, script_next}
+use Rattle.script_text.proofs.Split.{some_parts}
 
 bad_either : {A : Type 0} (b : Bool) (at : ℕ) → cond b (Err at) (Err at) ≡ bad {A = A} at
 bad_either true at = refl

@@ -4,7 +4,6 @@ use Rattle.std.specs.Prelude.{bytes_eq}
 use Rattle.std.specs.Char.{is_ascii_digit}
 use Rattle.std.specs.Fmt.{decimal}
 use Rattle.std.specs.List.{AllZip, join_with_byte}
-use Rattle.std.proofs.lemmas.List.Splits.{length-slice_split}
 use Rattle.hex.specs.Hex.{decode_of, is_hex_digit}
 use Rattle.hex.specs.declared.error.FromHexError.{FromHexError}
 use Rattle.hex.proofs.HexLemmas.{decode_of-ok}
@@ -85,9 +84,6 @@ patches_are (t ∷ ts) ps h =
     let one = bind_some (patch_of t) (λ p. each_patch ts >>= (λ rest. here (p ∷ rest))) ps h in
     let more = bind_some (each_patch ts) (λ rest. here (one.0 ∷ rest)) ps one.2 in
     subst (AllZip SpellsPatch (t ∷ ts)) (some_is (one.0 ∷ more.0) ps more.2) (patch_is t (parts_at 58 t) one.0 refl one.1, patches_are ts more.0 more.1)
-
-pub some_parts : (c : ℕ) (text : List ℕ) → 0 < length (parts_at c text)
-some_parts c text = omega (arith, length-slice_split (λ b. eqb b c) text)
 
 from_parts : (text : List ℕ) (parts : List (List ℕ)) (c : Contents) → parts_at 44 text ≡ parts → contents_from parts ≡ Some c
     → SpellsContents text c.init c.patches

@@ -1,6 +1,7 @@
 -- What the text behind the numbers of a record's line says.
-use Rattle.std.proofs.Common.{◌≡◌, ℕ, ◌<◌, Bool, true, false, cond, eqb, ltb, leb, List, [], ◌∷◌, length, Option, Some, None, Result, Ok, Err, codes, refl, sym, subst, ap, ◌∙◌, arith}
+use Rattle.std.proofs.Common.{◌≡◌, ℕ, ◌^◌, ◌<◌, Bool, true, false, cond, eqb, ltb, leb, List, [], ◌∷◌, length, Option, Some, None, Result, Ok, Err, codes, refl, sym, subst, ap, ◌∙◌, arith}
 use Rattle.std.specs.Prelude.{bytes_eq}
+use Rattle.std.specs.Fmt.{decimal}
 use Rattle.std.specs.Option.{option_or}
 use Rattle.std.proofs.lemmas.Bool.Decides.{nat_tests}
 use Rattle.hex.specs.Hex.{decode_of, is_hex_digit}
@@ -11,17 +12,18 @@ use Rattle.redo_core.specs.Shape.{max_patches, patches_fault, record_fault}
 use Rattle.redo_core.specs.declared.shapes.ShapeFault.{ShapeFault}
 use Rattle.redo_core.specs.declared.shapes.ShapeFault.TheVariants.{NumberIsZero, BackNotBelow, BlockBackAbove}
 use Rattle.redo_core.specs.declared.patches.Patch.{Patch}
-use Rattle.redo_core.specs.declared.patches.Patch.TheVariants.{Fill}
+use Rattle.redo_core.specs.declared.patches.Patch.TheVariants.{Bytes, Fill}
 use Rattle.redo_core.specs.declared.facts.Fact.{Fact}
 use Rattle.redo_core.specs.declared.facts.Fact.TheVariants.{Record}
 use Rattle.script_text.specs.declared.contents.Head.{Head}
 use Rattle.script_text.specs.Number.{decimal_value}
 use Rattle.script_text.specs.Parts.{◌>>=◌, parts_at}
-use Rattle.script_text.specs.FactLine.{decoded, write_of, fill_at, fill_of, patch_at, patch_from, patch_of, each_patch, contents, contents_from, contents_of, FitNoRecord, unless, shaped, record_of_patches, record_of_contents}
+use Rattle.script_text.specs.Fields.{field_of}
+use Rattle.script_text.specs.FactLine.{decoded, write_at, write_of, fill_at, fill_of, patch_at, patch_from, patch_of, each_patch, contents, contents_from, contents_of, FitNoRecord, unless, shaped, record_of_patches, record_of_contents}
 use Rattle.script_text.proofs.Numbers.{numbers_are_decimals, lacks_decimal}
 use Rattle.script_text.proofs.Options.{here, true_is, no_test}
-use Rattle.script_text.proofs.PatchSpelling.{some_parts}
-use Rattle.script_text.proofs.Split.{lacks, parts_joined, joined_parts, lacks_passing}
+use Rattle.script_text.proofs.Cursor.{first_number, no_number}
+use Rattle.script_text.proofs.Split.{some_parts, lacks, parts_joined, joined_parts, lacks_passing}
 
 -- ---- one patch
 
@@ -62,10 +64,10 @@ colon : (text place digits : List ℕ) → parts_at 58 text ≡ place ∷ parts_
 colon text place digits e = ap patch_from e ∙ behind_colon place digits (decode_of digits) refl
 
 -- a number is one part
-read_whole : (len : List ℕ) (n : ℕ) → decimal_value 4096 len ≡ Some n → parts_at 42 len ≡ len ∷ []
-read_whole len n e =
-    let is = (numbers_are_decimals 4096 n len (omega arith)).0 e in
-    joined_parts 42 len [] (subst (λ (t : List ℕ). lacks 42 t ≡ true) (sym is.0) (lacks_decimal 42 n (omega (arith, is.1)) refl), tt)
+read_whole : (limit : ℕ) (word : List ℕ) (n : ℕ) → limit < 2 ^ 64 → decimal_value limit word ≡ Some n → parts_at 42 word ≡ word ∷ []
+read_whole limit word n lt e =
+    let is = (numbers_are_decimals limit n word lt).0 e in
+    joined_parts 42 word [] (subst (λ (t : List ℕ). lacks 42 t ≡ true) (sym is.0) (lacks_decimal 42 n (omega (arith, lt, is.1)) refl), tt)
 
 no_len : (offset len bytes : List ℕ) → decimal_value 4096 len ≡ None → fill_at offset len bytes ≡ None
 no_len offset len [] e = refl
@@ -78,7 +80,7 @@ no_len offset len (b ∷ []) e =
 
 behind_star : (offset len bytes : List ℕ) (o : Option ℕ) (parts : List (List ℕ)) → decimal_value 4096 len ≡ o → parts_at 42 len ≡ parts
     → patch_at (offset ∷ parts) bytes ≡ fill_at offset len bytes
-behind_star offset len bytes (Some n) parts e is = ap (λ (t : List (List ℕ)). patch_at (offset ∷ t) bytes) (sym is ∙ read_whole len n e)
+behind_star offset len bytes (Some n) parts e is = ap (λ (t : List (List ℕ)). patch_at (offset ∷ t) bytes) (sym is ∙ read_whole 4096 len n (omega arith) e)
 behind_star offset len bytes None [] e is = absurd (omega (arith, some_parts 42 len, ap length is))
 behind_star offset len bytes None (x ∷ []) e is = ap (λ (t : List ℕ). fill_at offset t bytes) (sym (parts_joined 42 len (x ∷ []) is))
 behind_star offset len bytes None (x ∷ y ∷ rest) e is = sym (no_len offset len bytes e)
@@ -87,10 +89,33 @@ then_same : (o : Option (List ℕ)) (f g : List ℕ → Option Patch) → ((byte
 then_same None f g same = refl
 then_same (Some bytes) f g same = same bytes
 
--- a write has no star in its place
-pub write_is : (text place digits : List ℕ) → parts_at 58 text ≡ place ∷ parts_at 58 digits → parts_at 42 place ≡ place ∷ []
+-- a place with no star is that of a write
+unstarred : (text place digits : List ℕ) → parts_at 58 text ≡ place ∷ parts_at 58 digits → parts_at 42 place ≡ place ∷ []
     → patch_of text ≡ write_of place digits
-write_is text place digits e whole = colon text place digits e ∙ ap (λ (t : List (List ℕ)). decoded (decode_of digits) >>= patch_at t) whole
+unstarred text place digits e whole = colon text place digits e ∙ ap (λ (t : List (List ℕ)). decoded (decode_of digits) >>= patch_at t) whole
+
+-- a number and a colon begin a write
+pub write_is : (n : ℕ) (text digits : List ℕ) → field_of 65535 (parts_at 58 text) ≡ Some (n, parts_at 58 digits)
+    → patch_of text ≡ write_of (decimal n) digits
+write_is n text digits e =
+    let place = first_number 65535 n (parts_at 58 text) (parts_at 58 digits) e in
+    let is = (numbers_are_decimals 65535 n place.0 (omega arith)).0 place.2 in
+    unstarred text place.0 digits place.1 (read_whole 65535 place.0 n (omega arith) place.2) ∙ ap (λ (t : List ℕ). write_of t digits) is.0
+
+no_write : (place bytes : List ℕ) → decimal_value 65535 place ≡ None → write_at place bytes ≡ None
+no_write place [] e = refl
+no_write place (b ∷ bs) e = ap (λ (o : Option ℕ). o >>= (λ n. here (Bytes (record { offset = n; bytes = b ∷ bs })))) e
+
+then_none : (o : Option (List ℕ)) (f : List ℕ → Option Patch) → ((bytes : List ℕ) → f bytes ≡ None) → (o >>= f) ≡ None
+then_none None f none = refl
+then_none (Some bytes) f none = none bytes
+
+-- a place with neither a number nor a star spells nothing
+pub no_place : (text place digits : List ℕ) → field_of 65535 (parts_at 58 text) ≡ None → parts_at 58 text ≡ place ∷ parts_at 58 digits
+    → parts_at 42 place ≡ place ∷ [] → patch_of text ≡ None
+no_place text place digits none e whole =
+    let word = no_number 65535 place (parts_at 58 digits) (ap (field_of 65535) (sym e) ∙ none) (some_parts 58 digits) in
+    unstarred text place digits e whole ∙ then_none (decoded (decode_of digits)) (write_at place) (λ bytes. no_write place bytes word)
 
 -- a fill's length stands behind the star
 pub fill_is : (text place digits offset len : List ℕ) → parts_at 58 text ≡ place ∷ parts_at 58 digits → parts_at 42 place ≡ offset ∷ parts_at 42 len

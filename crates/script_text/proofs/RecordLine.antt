@@ -1,6 +1,5 @@
 -- The fields of a fact line: its numbers first, and then what stands behind them.
-use Rattle.std.proofs.Common.{◌≡◌, ℕ, ◌+◌, ◌<◌, ◌≤◌, eqb, List, [], ◌∷◌, ◌++◌, length, Option, Some, None, refl, sym, ap, ◌∙◌, arith, length-append}
-use Rattle.std.proofs.lemmas.List.Splits.{length-slice_split}
+use Rattle.std.proofs.Common.{◌≡◌, ℕ, ◌+◌, ◌<◌, ◌≤◌, List, [], ◌∷◌, ◌++◌, length, Option, Some, None, refl, sym, ap, ◌∙◌, arith, length-append}
 use Rattle.redo_core.specs.Data.{record_with}
 use Rattle.redo_core.specs.Shape.{max_number}
 use Rattle.redo_core.specs.declared.facts.Fact.{Fact}
@@ -11,6 +10,7 @@ use Rattle.script_text.specs.Fields.{numbers_of, numbers_then, of_five}
 use Rattle.script_text.specs.declared.contents.Head.{Head}
 use Rattle.script_text.specs.FactLine.{Contents, contents_of, shaped, record_of_contents, head_numbers, record_limits, record_line}
 use Rattle.script_text.proofs.Cursor.{paired}
+use Rattle.script_text.proofs.Split.{some_parts}
 
 -- ---- numbers, and the fields behind them
 
@@ -122,4 +122,4 @@ none_made ns word (next ∷ rest) some = refl
 pub more_behind : (ns : List ℕ) (fields : List (List ℕ)) (text word behind : List ℕ) → numbers_then record_limits fields ≡ Some (ns, parts_at 32 text)
     → parts_at 32 text ≡ word ∷ parts_at 32 behind → record_line fields ≡ None
 more_behind ns fields text word behind is more = record_line_is fields ∙ ap read_behind is ∙ ap (made_of ns) more
-    ∙ none_made ns word (parts_at 32 behind) (omega (arith, length-slice_split (λ b. eqb b 32) behind))
+    ∙ none_made ns word (parts_at 32 behind) (some_parts 32 behind)

@@ -14,9 +14,9 @@ use Rattle.script_text.specs.Laws.{ScriptsAreSpelled, LogsAreSpelled}
 use Rattle.script_text.specs.Spelled.{worded, SpellsFact, SpellsStep, SpellsRoster, IsRostered, AreFacts, AsksSteps}
 use Rattle.script_text.proofs.FactSpelling.{fact_lines_are_spelled}
 use Rattle.script_text.proofs.Forms.{form_fields}
-use Rattle.script_text.proofs.PatchSpelling.{some_parts}
 use Rattle.script_text.proofs.Results.{end, found, within_ok, ended}
 use Rattle.script_text.proofs.Scripts.{Counts, count_is_spelled, count_is_read, facts_are_read, facts_are_spelled, steps_are_read, steps_are_spelled}
+use Rattle.script_text.proofs.Split.{some_parts}
 
 -- ---- the line of a roster
 

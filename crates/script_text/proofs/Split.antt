@@ -1,5 +1,5 @@
 -- Parts that were joined are found again.
-use Rattle.std.proofs.Common.{◌≡◌, ℕ, Bool, true, false, not, eqb, List, [], ◌∷◌, ◌++◌, refl, sym, ap, ◌∙◌, arith}
+use Rattle.std.proofs.Common.{◌≡◌, ℕ, ◌<◌, Bool, true, false, not, eqb, List, [], ◌∷◌, ◌++◌, length, refl, sym, ap, ◌∙◌, arith}
 use Rattle.std.specs.Char.{is_ascii_digit}
 use Rattle.std.specs.List.{AllByRecursion, AllPass, All, list_all, join_with_byte}
 use Rattle.std.specs.Str.{all_ascii_digits}
@@ -7,7 +7,7 @@ use Rattle.std.proofs.lemmas.Bool.{and_parts, eqb-true}
 use Rattle.std.proofs.lemmas.Bool.Decides.{nat_tests}
 use Rattle.std.proofs.lemmas.List.Folds.{list_all-append}
 use Rattle.std.proofs.lemmas.List.Sums.{AllPass-from_list_all, list_all-from_AllPass}
-use Rattle.std.proofs.lemmas.List.Splits.{join_with_byte-slice_split, slice_split_none, slice_split_at}
+use Rattle.std.proofs.lemmas.List.Splits.{length-slice_split, join_with_byte-slice_split, slice_split_none, slice_split_at}
 use Rattle.script_text.specs.Parts.{parts_at}
 
 -- the byte stands nowhere in the text
@@ -23,6 +23,10 @@ not_true false h = refl
 
 lacks_all : (c : ℕ) (text : List ℕ) → lacks c text ≡ true → All (λ b. eqb b c ≡ false) text
 lacks_all c text h = λ k d lt. not_true _ (AllPass-from_list_all (λ b. not (eqb b c)) text h k d lt)
+
+-- a text has a part, if only an empty one
+pub some_parts : (c : ℕ) (text : List ℕ) → 0 < length (parts_at c text)
+some_parts c text = omega (arith, length-slice_split (λ b. eqb b c) text)
 
 -- the parts of a text, joined again
 pub parts_joined : (c : ℕ) (text : List ℕ) (parts : List (List ℕ)) → parts_at c text ≡ parts → text ≡ join_with_byte c parts

@@ -1,14 +1,16 @@
 //! What a record does to its page: the text behind the numbers of its line.
 
-ghost use Rattle.std.specs.Prelude.{true, ◌≡◌, ◌≤◌, ◌*◌, ◌⊎◌, [], ◌∷◌, length, IfOk, IfSome, IfNone, MatchOption};
+ghost use Rattle.std.specs.Prelude.{true, ◌≡◌, ◌≤◌, ◌*◌, ◌⊎◌, [], ◌∷◌, length, IfOk, IfSome, IfNone, MatchOption, option_map};
+ghost use Rattle.std.specs.Fmt.{decimal};
 ghost use Rattle.redo_core.specs.Shape.{max_patches};
 ghost use Rattle.script_text.specs.Parts.{parts_at};
+ghost use Rattle.script_text.specs.Fields.{field_of};
 ghost use Rattle.script_text.specs.FactLine.{write_of, fill_of, patch_of, each_patch, contents_of, FitNoRecord, record_of_patches, record_of_contents};
 
 use crate::fields::first_part;
 use crate::hexed::{decoded, put_bytes};
 use crate::limits::{PAGE, SHORT};
-use crate::number::number;
+use crate::number::{number, number_before};
 use redo_core::{Fact, MAX_PATCHES, Patch, Record, Write};
 use std::alloc::{AllocError, Global};
 
@@ -26,25 +28,24 @@ pub struct Head {
 const SHORT_WRITE: usize = 16;
 
 /// The patch of at most so many bytes from an offset on.
-fn short_write(alloc: Global, offset: &[u8], digits: &[u8]) -> Result<Option<Patch>, AllocError>
+#[tactic(auto, using(crate::proofs::Numbers::decimal_is_read))]
+fn short_write(alloc: Global, offset: u16, digits: &[u8]) -> Result<Option<Patch>, AllocError>
     requires { length digits.now ≤ 2 * SHORT_WRITE }
-    ensures { IfOk result (λ o. o ≡ write_of offset.now digits.now) }
+    ensures { IfOk result (λ o. o ≡ write_of (decimal offset) digits.now) }
 {
     let mut room = [0u8; SHORT_WRITE];
     let bytes = &mut room[..digits.len() / 2];
     if digits.len() % 2 != 0 || !put_bytes(digits, bytes) || bytes.is_empty() {
         return Ok(None);
     }
-    let Some(offset) = number(offset, SHORT) else {
-        return Ok(None);
-    };
-    let write = Write::of_slice(alloc, offset as u16, bytes)?;
+    let write = Write::of_slice(alloc, offset, bytes)?;
     Ok(Some(Patch::Bytes(write)))
 }
 
 /// The patch of any number of bytes from an offset on.
-fn long_write(alloc: Global, offset: &[u8], digits: &[u8]) -> Result<Option<Patch>, AllocError>
-    ensures { IfOk result (λ o. o ≡ write_of offset.now digits.now) }
+#[tactic(auto, using(crate::proofs::Numbers::decimal_is_read))]
+fn long_write(alloc: Global, offset: u16, digits: &[u8]) -> Result<Option<Patch>, AllocError>
+    ensures { IfOk result (λ o. o ≡ write_of (decimal offset) digits.now) }
 {
     let Some(bytes) = decoded(alloc, digits)? else {
         return Ok(None);
@@ -52,15 +53,12 @@ fn long_write(alloc: Global, offset: &[u8], digits: &[u8]) -> Result<Option<Patc
     if bytes.is_empty() {
         return Ok(None);
     }
-    let Some(offset) = number(offset, SHORT) else {
-        return Ok(None);
-    };
-    Ok(Some(Patch::Bytes(Write::new(offset as u16, bytes))))
+    Ok(Some(Patch::Bytes(Write::new(offset, bytes))))
 }
 
 /// The patch of the bytes that digits stand for, from an offset on.
-fn write(alloc: Global, offset: &[u8], digits: &[u8]) -> Result<Option<Patch>, AllocError>
-    ensures { IfOk result (λ o. o ≡ write_of offset.now digits.now) }
+fn write(alloc: Global, offset: u16, digits: &[u8]) -> Result<Option<Patch>, AllocError>
+    ensures { IfOk result (λ o. o ≡ write_of (decimal offset) digits.now) }
 {
     if digits.len() <= 2 * SHORT_WRITE {
         short_write(alloc, offset, digits)
@@ -89,17 +87,34 @@ fn fill(offset: &[u8], len: &[u8], digits: &[u8]) -> Option<Patch>
     })
 }
 
+/// The offset in front of the first colon, and what stands behind it, where the place is a number alone.
+#[inline]
+fn offset_before(text: &[u8]) -> Option<(u16, &[u8])>
+    ensures { option_map (λ p. (p.0, parts_at 58 p.1.now)) result ≡ field_of 65535 (parts_at 58 text.now) }
+{
+    let (offset, rest) = number_before(text, SHORT)?;
+    match rest {
+        [b':', digits @ ..] => Some((offset as u16, digits)),
+        _ => None,
+    }
+}
+
 /// The patch that a place and hexadecimal digits spell.
-#[tactic(auto, using(crate::proofs::RecordContents::write_is, crate::proofs::RecordContents::fill_is), unfolding(crate::specs::FactLine::patch_from))]
+#[tactic(auto, using(crate::proofs::RecordContents::write_is, crate::proofs::RecordContents::no_place), unfolding(crate::specs::FactLine::patch_from))]
 fn patch(alloc: Global, text: &[u8]) -> Result<Option<Patch>, AllocError>
     ensures { IfOk result (λ o. o ≡ patch_of text.now) }
 {
-    // A second colon is no digit, and a second star none of a number.
+    // Most patches are writes, and no search is needed for where their place ends.
+    if let Some((offset, digits)) = offset_before(text) {
+        return write(alloc, offset, digits);
+    }
+    // What is left is a fill, since no place without a star is a number here. A second colon is no digit, and a second star none of a
+    // number.
     let Some((place, digits)) = first_part(text, b':') else {
         return Ok(None);
     };
     match first_part(place, b'*') {
-        None => write(alloc, place, digits),
+        None => Ok(None),
         Some((offset, len)) => Ok(fill(offset, len, digits)),
     }
 }

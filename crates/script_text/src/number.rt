@@ -79,7 +79,7 @@ fn more_digits(first: u64, text: &[u8], limit: u64) -> Option<(u64, &[u8])>
 /// The number in front of the text, if it is at most `limit`, and the text behind it. A 0 is a number alone, so that digits behind it
 /// are left, and no field ends there.
 #[inline]
-fn number_before(text: &[u8], limit: u64) -> Option<(u64, &[u8])>
+pub(crate) fn number_before(text: &[u8], limit: u64) -> Option<(u64, &[u8])>
     requires { limit < 2 ^ 60 }
     ensures value { option_map (λ p. (p.0, p.1.now)) result ≡ number_front limit text.now }
     ensures bound { IfSome result (λ p. p.0 ≤ limit) }
