@@ -18,6 +18,8 @@ use Rattle.script_text.specs.Spelled.{SpellsPatch, SpellsContents}
 use Rattle.script_text.proofs.Numbers.{numbers_are_decimals, decimal_is_read, lacks_decimal}
 use Rattle.script_text.proofs.Options.{here, some_is, bind_some, either, true_is, no_test}
 use Rattle.script_text.proofs.Split.{lacks, AllLack, parts_joined, joined_parts, lacks_passing, lacks_append, lacks_joined}
+-- proofs of the crates above cite it from here
+pub use Rattle.script_text.proofs.Split.{some_parts}
 
 abbrev write : ℕ → List ℕ → WriteData
 write o bytes = record { offset = o; bytes = bytes }
