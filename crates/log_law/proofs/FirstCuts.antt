@@ -116,14 +116,13 @@ pub counted_among : (log : List Fact) (c : CutData) → Contains (counted log) c
 counted_among log c h = first_among c.epoch (cuts log) c ((counted_is log c).0 h)
 
 -- one more fact of a table
-pub table_nil : (table : List (Option CutData)) → length table ≡ 65536 → ((k : ℕ) → get_or table k None ≡ None) → IsTable [] table
+pub table_nil : (table : List (Option CutData)) → ((k : ℕ) → get_or table k None ≡ None) → IsTable [] table
 unfolding cuts
-table_nil table l h = record { len = l; at = λ e. h e; shapes = λ c k. absurd (none_in c k) }
+table_nil table h = record { at = λ e. h e; shapes = λ c k. absurd (none_in c k) }
 
 pub table_other : (xs : List Fact) (f : Fact) (table : List (Option CutData)) → IsTable xs table → ((c : CutData) → f ≡ Cut c → ⊥)
     → IsTable (xs ++ f ∷ []) table
 table_other xs f table t h = record {
-  len = t.len;
   at = λ e. t.at e ∙ sym (first_cut-append xs (f ∷ []) e ∙ ap (or_first (first_cut xs e)) (no_first f e h) ∙ or_none (first_cut xs e));
   shapes = λ c k. ⊎_elim
       (λ (q : Contains xs (Cut c)). t.shapes c ((cut_in xs c).1 q))
@@ -132,9 +131,8 @@ table_other xs f table t h = record {
 }
 
 pub table_cut : (xs : List Fact) (f : Fact) (c : CutData) (old new : List (Option CutData)) → f ≡ Cut c → cut_fault c ≡ None → IsTable xs old
-    → length new ≡ 65536 → ((e : ℕ) → get_or new e None ≡ or_first (get_or old e None) (first_at e (c ∷ []))) → IsTable (xs ++ f ∷ []) new
-table_cut xs f c old new q le t l h = record {
-  len = l;
+    → ((e : ℕ) → get_or new e None ≡ or_first (get_or old e None) (first_at e (c ∷ []))) → IsTable (xs ++ f ∷ []) new
+table_cut xs f c old new q le t h = record {
   at = λ e. h e ∙ ap (λ o. or_first o (first_at e (c ∷ []))) (t.at e) ∙ sym
       (first_cut-append xs (f ∷ []) e ∙ ap (or_first (first_cut xs e)) (ap (λ g. first_cut (g ∷ []) e) q ∙ first_cut-one c e));
   shapes = λ d k. ⊎_elim
@@ -158,41 +156,41 @@ begun_to log k h e l m =
     let c = counted_at log e s.0 s.1 in
     (s.0, c.0, c.1)
 
-pub is_begun : (log : List Fact) (k : ℕ) → ((e : ℕ) → 1 ≤ e → e ≤ k → first_cut log e ≡ None → ⊥) → (k + 1 < 65536 → first_cut log (k + 1) ≡ None)
+pub is_begun : (log : List Fact) (k : ℕ) → ((e : ℕ) → 1 ≤ e → e ≤ k → first_cut log e ≡ None → ⊥) → first_cut log (k + 1) ≡ None
     → AreBegunTo log k
-is_begun log k has stop e small = (
+is_begun log k has stop e = (
   λ h. ⊎_elim
       (λ (l : k < e). absurd (
       let c = h (k + 1) (omega arith) (omega arith) in
-      none-some c.0 (sym (stop (omega arith)) ∙ at_counted log (k + 1) c.0 c.1 c.2)))
+      none-some c.0 (sym stop ∙ at_counted log (k + 1) c.0 c.1 c.2)))
       (λ (l : e ≤ k). l)
       (cases_lt k e),
   λ l. begun_to log e (λ i p q. has i p (omega arith)),
 )
 
--- the least later lo of the last epoch, and of the one before
-pub later_lo_last : (roster : ℕ) (log : List Fact) (table : List (Option CutData)) (later : ℕ) → IsTable log table → later ≡ 281474976710655
-    → IsLeastLaterLo roster log 65535 later
-later_lo_last roster log table later t q = record {
+-- the least later lo from the last epoch of the table on, and of the epoch before
+pub later_lo_last : (roster : ℕ) (log : List Fact) (table : List (Option CutData)) (e later : ℕ) → IsTable log table → length table ≤ e + 1
+    → later ≡ 281474976710655 → IsLeastLaterLo roster log e later
+later_lo_last roster log table e later t last q = record {
   below = λ c h l past. absurd (none-some c (sym (outside c l) ∙ t.at c.epoch ∙ at_counted log c.epoch c h refl));
   least = inl q;
 }
   where
-    outside : (c : CutData) → 65535 < c.epoch → get_or table c.epoch None ≡ None
-    outside c l = get_or_past table c.epoch None (let n : length table ≡ 65536 = t.len in omega arith)
+    outside : (c : CutData) → e < c.epoch → get_or table c.epoch None ≡ None
+    outside c l = get_or_past table c.epoch None (omega arith)
 
-pub later_lo_step : (roster : ℕ) (log : List Fact) (lows : List ℕ) (e old new : ℕ) (o : Option CutData) → e + 1 < 65536 → AreLeastPoints roster log lows
-    → first_cut log (e + 1) ≡ o → IsLeastLaterLo roster log (e + 1) old
+pub later_lo_step : (roster : ℕ) (log : List Fact) (count : ℕ) (lows : List ℕ) (e old new : ℕ) (o : Option CutData) → e + 1 < count
+    → AreLeastPoints roster log count lows → first_cut log (e + 1) ≡ o → IsLeastLaterLo roster log (e + 1) old
     → MatchOption o (new ≡ old) (λ c. (c.lo < get_or lows (e + 1) 0 → new ≤ c.lo) × (new ≤ old)
     × ((new ≡ old) ⊎ ((c.lo < get_or lows (e + 1) 0) × (new ≡ c.lo)))) → IsLeastLaterLo roster log e new
-later_lo_step roster log lows e old new None small a q f h = record {
+later_lo_step roster log count lows e old new None small a q f h = record {
   below = λ c k l past. ⊎_elim
       (λ (s : c.epoch ≡ e + 1). absurd (none-some c (sym q ∙ at_counted log (e + 1) c k s)))
       (λ (s : c.epoch ≢ e + 1). let b : old ≤ c.lo = f.below c k (omega arith) past in omega arith)
       (cases_eq c.epoch (e + 1));
   least = ⊎_elim (λ (s : old ≡ 281474976710655). inl (h ∙ s)) (λ s. inr (s.0, s.1, (let l : e + 1 < s.0.epoch = s.2 in omega arith), s.3, s.4 ∙ sym h)) f.least;
 }
-later_lo_step roster log lows e old new (Some d) small a q f h =
+later_lo_step roster log count lows e old new (Some d) small a q f h =
     let b : new ≤ old = h.1 in
     let here = counted_at log (e + 1) d q in
     let ep : d.epoch ≡ e + 1 = here.1 in
@@ -200,7 +198,7 @@ later_lo_step roster log lows e old new (Some d) small a q f h =
       below = λ c k l past. ⊎_elim
           (λ (s : c.epoch ≡ e + 1).
           let u : d ≡ c = same_Some d c (sym q ∙ at_counted log (e + 1) c k s) in
-          let under : c.lo < get_or lows (e + 1) 0 = subst (λ i. c.lo < get_or lows i 0) s (past_low roster log lows c a (omega arith) past) in
+          let under : c.lo < get_or lows (e + 1) 0 = subst (λ i. c.lo < get_or lows i 0) s (past_low roster log count lows c a (omega arith) past) in
           subst (λ x. new ≤ x.lo) u (h.0 (subst (λ x. x.lo < get_or lows (e + 1) 0) (sym u) under)))
           (λ (s : c.epoch ≢ e + 1). let v : old ≤ c.lo = f.below c k (omega arith) past in omega arith)
           (cases_eq c.epoch (e + 1));
@@ -208,7 +206,7 @@ later_lo_step roster log lows e old new (Some d) small a q f h =
           (λ (s : new ≡ old). ⊎_elim (λ (t : old ≡ 281474976710655). inl (s ∙ t))
           (λ t. inr (t.0, t.1, (let l : e + 1 < t.0.epoch = t.2 in omega arith), t.3, t.4 ∙ sym s)) f.least)
           (λ (s : (d.lo < get_or lows (e + 1) 0) × (new ≡ d.lo)). inr
-          (d, here.0, omega arith, low_past roster log lows d a (omega arith) (subst (λ i. d.lo < get_or lows i 0) (sym ep) s.0), sym s.1))
+          (d, here.0, omega arith, low_past roster log count lows d a (omega arith) (subst (λ i. d.lo < get_or lows i 0) (sym ep) s.0), sym s.1))
           h.2;
     }
 
@@ -221,8 +219,8 @@ law2_at log r (Some d) b q h has = (
   λ law. let s = counted_at log r.epoch d q in h.1 (law.1 d s.0 s.1),
 )
 
-pub law2_not : (log : List Fact) (r : RecordData) (k : ℕ) → AreBegunTo log k → r.epoch < 65536 → k < r.epoch → Law2 log (Record r) → ⊥
-law2_not log r k b small l law = let m : r.epoch ≤ k = (b r.epoch small).0 law.0 in absurd (omega arith)
+pub law2_not : (log : List Fact) (r : RecordData) (k : ℕ) → AreBegunTo log k → k < r.epoch → Law2 log (Record r) → ⊥
+law2_not log r k b l law = let m : r.epoch ≤ k = (b r.epoch).0 law.0 in absurd (omega arith)
 
 pub law5_at : (roster : ℕ) (log : List Fact) (a : AdvanceData) (later : ℕ) → IsLeastLaterLo roster log a.epoch later → a.point ≤ 281474976710655
     → IsReader roster a.reader → HasCutsTo (counted log) a.epoch → (a.point ≤ later) ↔ Law5 roster log (Advance a)

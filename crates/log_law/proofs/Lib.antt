@@ -1,5 +1,6 @@
 pub mod FirstCuts
 pub mod Reaching
+pub mod LastEpoch
 pub mod Stacks
 pub mod Entered
 pub mod Least

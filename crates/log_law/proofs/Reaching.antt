@@ -12,18 +12,19 @@ use Rattle.redo_core.proofs.Rising.{front_to, up_to, take_grows}
 use Rattle.log_law.specs.Lows.{HasAbove, AreTops, AreLeastPoints, AreSteps, IsStep, HasTopAbove}
 
 -- the readers are past a truncation just where its lo is below the number at its epoch
-pub past_low : (roster : ℕ) (log : List Fact) (lows : List ℕ) (c : CutData) → AreLeastPoints roster log lows → c.epoch < 65536 → ArePast roster (advances log) c
-    → c.lo < get_or lows c.epoch 0
-past_low roster log lows c a small past = (a.each c.epoch c.lo small).1 (λ reader r. let s = past reader r in (s.0, (advance_in log s.0).0 s.1, s.2, s.3, s.4))
+pub past_low : (roster : ℕ) (log : List Fact) (count : ℕ) (lows : List ℕ) (c : CutData) → AreLeastPoints roster log count lows → c.epoch < count
+    → ArePast roster (advances log) c → c.lo < get_or lows c.epoch 0
+past_low roster log count lows c a small past =
+    (a.each c.epoch c.lo small).1 (λ reader r. let s = past reader r in (s.0, (advance_in log s.0).0 s.1, s.2, s.3, s.4))
 
-pub low_past : (roster : ℕ) (log : List Fact) (lows : List ℕ) (c : CutData) → AreLeastPoints roster log lows → c.epoch < 65536 → c.lo < get_or lows c.epoch 0
-    → ArePast roster (advances log) c
-low_past roster log lows c a small low reader r = let s = (a.each c.epoch c.lo small).0 low reader r in (s.0, (advance_in log s.0).1 s.1, s.2, s.3, s.4)
+pub low_past : (roster : ℕ) (log : List Fact) (count : ℕ) (lows : List ℕ) (c : CutData) → AreLeastPoints roster log count lows → c.epoch < count
+    → c.lo < get_or lows c.epoch 0 → ArePast roster (advances log) c
+low_past roster log count lows c a small low reader r = let s = (a.each c.epoch c.lo small).0 low reader r in (s.0, (advance_in log s.0).1 s.1, s.2, s.3, s.4)
 
 -- points up to each epoch are the greatest of those of single epochs
-pub tops_from : (facts : List Fact) (reader : ℕ) (steps tops : List ℕ) → AreSteps facts reader steps → length tops ≡ 65536
-    → ((e n : ℕ) → e < 65536 → (n < get_or tops e 0) ↔ HasTopAbove steps e n) → AreTops facts reader tops
-tops_from facts reader steps tops s len risen = record {
+pub tops_from : (facts : List Fact) (reader count : ℕ) (steps tops : List ℕ) → AreSteps facts reader count steps → length tops ≡ count
+    → ((e n : ℕ) → e < count → (n < get_or tops e 0) ↔ HasTopAbove steps e n) → AreTops facts reader count tops
+tops_from facts reader count steps tops s len risen = record {
   len = len;
   each = λ e n l. (
     λ h. let j = (risen e n l).0 h in let a = (s.each j.0 n (omega (arith, j.1, l))).0 j.2 in let q : a.0.epoch + 1 ≡ j.0 = a.2.1 in
@@ -33,8 +34,8 @@ tops_from facts reader steps tops s len risen = record {
 }
 
 -- one reader more
-pub lows_one : (facts : List Fact) (tops : List ℕ) → AreTops facts 1 tops → AreLeastPoints 1 facts tops
-lows_one facts tops t = record {
+pub lows_one : (facts : List Fact) (count : ℕ) (tops : List ℕ) → AreTops facts 1 count tops → AreLeastPoints 1 facts count tops
+lows_one facts count tops t = record {
   len = t.len;
   each = λ e n l. (
     λ h reader r. subst (λ i. HasAbove facts i e n) (let q : 1 ≡ reader = omega (arith, r.0, r.1) in q) ((t.each e n l).0 h),
@@ -42,9 +43,10 @@ lows_one facts tops t = record {
   );
 }
 
-pub lows_more : (roster : ℕ) (facts : List Fact) (lows tops new : List ℕ) → AreLeastPoints roster facts lows → AreTops facts (roster + 1) tops → length new ≡ 65536
-    → ((e : ℕ) → e < 65536 → get_or new e 0 ≡ min (get_or lows e 0) (get_or tops e 0)) → AreLeastPoints (roster + 1) facts new
-lows_more roster facts lows tops new a t len lower = record {
+pub lows_more : (roster : ℕ) (facts : List Fact) (count : ℕ) (lows tops new : List ℕ) → AreLeastPoints roster facts count lows
+    → AreTops facts (roster + 1) count tops → length new ≡ count → ((e : ℕ) → e < count → get_or new e 0 ≡ min (get_or lows e 0) (get_or tops e 0))
+    → AreLeastPoints (roster + 1) facts count new
+lows_more roster facts count lows tops new a t len lower = record {
   len = len;
   each = λ e n l.
       let is = lower e l in (
@@ -95,10 +97,10 @@ rise_step old cur new i some r at others = record {
         )
 
 -- one fact more is noted
-pub steps_more : (facts : List Fact) (reader i : ℕ) (f : Fact) (a : AdvanceData) (cur new : List ℕ) → i < length facts → f ≡ get_or facts i f → f ≡ Advance a
-    → AreSteps (take i facts) reader cur → length new ≡ 65536
-    → ((e n : ℕ) → e < 65536 → (n < get_or new e 0) ↔ ((n < get_or cur e 0) ⊎ IsStep a reader e n)) → AreSteps (take (i + 1) facts) reader new
-steps_more facts reader i f a cur new l at is s len each = record {
+pub steps_more : (facts : List Fact) (reader count i : ℕ) (f : Fact) (a : AdvanceData) (cur new : List ℕ) → i < length facts → f ≡ get_or facts i f
+    → f ≡ Advance a → AreSteps (take i facts) reader count cur → length new ≡ count
+    → ((e n : ℕ) → e < count → (n < get_or new e 0) ↔ ((n < get_or cur e 0) ⊎ IsStep a reader e n)) → AreSteps (take (i + 1) facts) reader count new
+steps_more facts reader count i f a cur new l at is s len each = record {
   len = len;
   each = λ e n m. (
     λ h. ⊎_elim
@@ -113,9 +115,9 @@ steps_more facts reader i f a cur new l at is s len each = record {
   );
 }
 
-pub steps_other : (facts : List Fact) (reader i : ℕ) (f : Fact) (cur : List ℕ) → i < length facts → f ≡ get_or facts i f
-    → ((a : AdvanceData) → f ≡ Advance a → ⊥) → AreSteps (take i facts) reader cur → AreSteps (take (i + 1) facts) reader cur
-steps_other facts reader i f cur l at off s = record {
+pub steps_other : (facts : List Fact) (reader count i : ℕ) (f : Fact) (cur : List ℕ) → i < length facts → f ≡ get_or facts i f
+    → ((a : AdvanceData) → f ≡ Advance a → ⊥) → AreSteps (take i facts) reader count cur → AreSteps (take (i + 1) facts) reader count cur
+steps_other facts reader count i f cur l at off s = record {
   len = s.len;
   each = λ e n m. (
     λ h. let t = (s.each e n m).0 h in (t.0, take_grows facts i (Advance t.0) t.1, t.2),
@@ -128,8 +130,8 @@ steps_other facts reader i f cur l at off s = record {
   );
 }
 
-pub no_steps : (reader : ℕ) (tops : List ℕ) → length tops ≡ 65536 → ((k : ℕ) → k < 65536 → get_or tops k 0 ≡ 0) → AreSteps [] reader tops
-no_steps reader tops len zeros = record {
+pub no_steps : (reader count : ℕ) (tops : List ℕ) → length tops ≡ count → ((k : ℕ) → get_or tops k 0 ≡ 0) → AreSteps [] reader count tops
+no_steps reader count tops len zeros = record {
   len = len;
-  each = λ e n l. (λ h. let z = zeros e l in absurd (omega (arith, z, h)), λ h. absurd (none_in (Advance h.0) h.1));
+  each = λ e n l. (λ h. let z = zeros e in absurd (omega (arith, z, h)), λ h. absurd (none_in (Advance h.0) h.1));
 }

@@ -1,8 +1,8 @@
 -- The truncations that count in a log, as a table by epoch.
-use Rattle.std.specs.Prelude.{◌≡◌, ℕ, ◌<◌, ◌≤◌, ◌⊎◌, ◌↔◌, ◌==◌, List, [], ◌∷◌, length, slice_index, slice_index_or, Option, Some, None, if◌then◌else◌}
+use Rattle.std.specs.Prelude.{◌≡◌, ℕ, ◌<◌, ◌≤◌, ◌⊎◌, ◌↔◌, ◌==◌, List, [], ◌∷◌, slice_index_or, Option, Some, None, if◌then◌else◌}
 use Rattle.std.specs.List.{Contains}
 use Rattle.redo_core.specs.Data.{CutData}
-use Rattle.redo_core.specs.Shape.{cut_fault, epoch_count, max_number}
+use Rattle.redo_core.specs.Shape.{cut_fault, max_number}
 use Rattle.redo_core.specs.Sets.{cuts, advances}
 use Rattle.redo_core.specs.Roster.{IsRoster}
 use Rattle.redo_core.specs.Past.{ArePast}
@@ -24,15 +24,14 @@ abbrev pub or_first : Option CutData → Option CutData → Option CutData
 or_first (Some c) other = Some c
 or_first None other = other
 
--- the table has each epoch's first truncation in its place, and the log's truncations have their shape
+-- the table has each epoch's first truncation in its place, with none past its end, and the log's truncations have their shape
 pub record IsTable (log : List Fact) (table : List (Option CutData)) : Type 0 where
-  pub len : length table ≡ epoch_count
   pub at : (e : ℕ) → slice_index_or table e None ≡ first_cut log e
   pub shapes : (c : CutData) → Contains (cuts log) c → cut_fault c ≡ None
 
 -- the epochs up to k, and no later ones, have begun
 abbrev pub AreBegunTo : List Fact → ℕ → Type 0
-AreBegunTo log k = (e : ℕ) → e < epoch_count → HasCutsTo (counted log) e ↔ (e ≤ k)
+AreBegunTo log k = (e : ℕ) → HasCutsTo (counted log) e ↔ (e ≤ k)
 
 -- the least lo of the truncations after an epoch that all readers are past, or the greatest number where there is none
 pub record IsLeastLaterLo (roster : ℕ) (log : List Fact) (e later : ℕ) : Type 0 where
@@ -44,9 +43,8 @@ pub record Describes (log : List Fact) (known : CountedCuts) : Type 0 where
   pub table : IsTable log known.by_epoch.items
   pub complete : AreBegunTo log known.complete
 
--- what the least_later_lo say of a log of the roster
+-- what the least_later_lo say of a log of the roster, with the greatest number past their end
 pub record HasLeastLaterLo (roster : ℕ) (log : List Fact) (known : CountedCuts) : Type 0 where
   pub some_readers : IsRoster roster
   pub readers : known.readers ≡ roster
-  pub los_len : length known.least_later_lo.items ≡ epoch_count
-  pub least_later_lo : (e : ℕ) → e < epoch_count → IsLeastLaterLo roster log e (slice_index known.least_later_lo.items e)
+  pub least_later_lo : (e : ℕ) → IsLeastLaterLo roster log e (slice_index_or known.least_later_lo.items e max_number)

@@ -1,5 +1,4 @@
-ghost use Rattle.std.specs.Prelude.{◌≡◌, ◌<◌, ◌≤◌, List, [], ◌∷◌, length, reverse, IfOk, OnOk, OnErr, ◌+◌};
-ghost use Rattle.redo_core.specs.Shape.{epoch_count};
+ghost use Rattle.std.specs.Prelude.{◌≡◌, ◌<◌, ◌≤◌, List, [], ◌∷◌, reverse, IfOk, OnOk, OnErr, ◌+◌};
 ghost use Rattle.redo_core.specs.declared.facts.Fact.{Fact};
 ghost use Rattle.log_law.specs.declared.links.Item.{Item};
 ghost use Rattle.log_law.specs.Counted.{Describes};
@@ -121,8 +120,7 @@ impl AliveRecords {
 
     /// Goes on to the view of a later epoch.
     pub(crate) fn enter(&mut self, epoch: u16, cuts: &CountedCuts)
-        requires table { length cuts.now.by_epoch.items ≡ epoch_count }
-        requires stack { IsStack self.old }
+        requires { IsStack self.old }
         ensures stack { IsStack self.new }
         ensures view { self.old.view ≤ epoch → self.new.view ≡ epoch }
         ensures holds { (log : List Fact) (past : List Item) → Describes log cuts.now → HoldsAlive log past self.old → HoldsAlive log past self.new }

@@ -1,5 +1,4 @@
-ghost use Rattle.std.specs.Prelude.{◌≡◌, ℕ, List, IfOk, OnOk, IfErr, IsTrue, MatchOption, true, false, length, take, slice_get, Some};
-ghost use Rattle.redo_core.specs.Shape.{epoch_count};
+ghost use Rattle.std.specs.Prelude.{◌≡◌, ℕ, List, IfOk, OnOk, IfErr, IsTrue, MatchOption, true, false, take, slice_get, Some};
 ghost use Rattle.redo_core.specs.Sound.{IsSound, KeepsLaws, Law1};
 ghost use Rattle.redo_core.specs.declared.facts.Fact.{Fact};
 ghost use Rattle.redo_core.specs.Fault.{BreaksFirst};
@@ -86,8 +85,6 @@ fn law_at(link: Option<BrokenLink>, place: usize) -> Option<Law>
 }
 
 fn broken_law(fact: &Fact, cuts: &CountedCuts, is_other: bool, link: Option<Law>) -> Option<Law>
-    requires table { length cuts.now.by_epoch.items ≡ epoch_count }
-    requires least_later_lo { length cuts.now.least_later_lo.items ≡ epoch_count }
     ensures { (roster : ℕ) (log : List Fact) (place : ℕ) → Describes log cuts.now → HasLeastLaterLo roster log cuts.now → slice_get log place ≡ Some fact.now
         → (is_other ≡ true → Law1 (take place log) fact.now → ⊥) → (is_other ≡ false → Law1 (take place log) fact.now) → LinkJudges log fact.now link
         → MatchOption result (KeepsLaws roster log place fact.now) (BreaksFirst roster log place fact.now) }

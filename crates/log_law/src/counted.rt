@@ -1,6 +1,10 @@
-ghost use Rattle.std.specs.Prelude.{◌≡◌, ℕ, ◌≤◌, ◌<◌, ◌⊎◌, ◌↔◌, List, [], ◌∷◌, length, slice_index, slice_index_or, IsTrue, IfOk, MatchOption, None, Some};
-ghost use Rattle.redo_core.specs.Data.{RecordData};
-ghost use Rattle.redo_core.specs.Shape.{cut_fault, advance_fault, epoch_count};
+ghost use Rattle.std.specs.Prelude.{◌≡◌, ℕ, ◌≤◌, ◌<◌, ◌⊎◌, ◌↔◌, List, [], ◌∷◌, length, slice_index_or, IsTrue, IfOk, MatchOption, None, Some};
+ghost use Rattle.std.specs.List.{Contains};
+ghost use Rattle.redo_core.specs.CompleteEpoch.{HasCut};
+ghost use Rattle.redo_core.specs.Data.{CutData, RecordData};
+ghost use Rattle.redo_core.specs.Order.{IsGreatest};
+ghost use Rattle.redo_core.specs.Sets.{cuts};
+ghost use Rattle.redo_core.specs.Shape.{cut_fault, advance_fault, epoch_count, max_number};
 ghost use Rattle.redo_core.specs.Sound.{Law2, Law5};
 ghost use Rattle.redo_core.specs.declared.facts.Fact.{Fact};
 ghost use Rattle.redo_core.specs.declared.facts.Fact.TheVariants.{Record, Advance as OfAdvance};
@@ -8,7 +12,7 @@ ghost use Rattle.log_law.specs.Counted.{first_at, first_cut, or_first, IsTable, 
 ghost use Rattle.log_law.specs.Lows.{AreLeastPoints};
 
 use crate::lows::lows_of;
-use redo_core::{Advance, Cut, EPOCH_COUNT, Fact, MAX_NUMBER, Roster};
+use redo_core::{Advance, Cut, Fact, MAX_NUMBER, Roster};
 use std::alloc::{AllocError, Global};
 
 /// The truncations that count in a log, by epoch, and what they decide.
@@ -16,11 +20,11 @@ use std::alloc::{AllocError, Global};
 pub(crate) struct CountedCuts {
     /// How many readers the log has.
     readers: u8,
-    /// Each epoch's first truncation.
+    /// Each epoch's first truncation. It ends with the last epoch that has one.
     by_epoch: Vec<Option<Cut>>,
     /// The last epoch up to which every epoch from 1 has a truncation.
     complete: u16,
-    /// For each epoch the least `lo` of the truncations of later epochs that all readers are past.
+    /// For each epoch of the table the least `lo` of the truncations of later epochs that all readers are past.
     least_later_lo: Vec<u64>,
 }
 
@@ -30,9 +34,10 @@ impl CountedCuts {
         ensures cuts { IfOk result (Describes facts.now) }
         ensures least_later_lo { IfOk result (HasLeastLaterLo roster facts.now) }
     {
-        let by_epoch = first_cuts(alloc, facts)?;
+        let len = usize::from(last_epoch(facts)) + 1;
+        let by_epoch = first_cuts(alloc, facts, len)?;
         let complete = complete_epoch(&by_epoch);
-        let lows = lows_of(alloc, facts, roster)?;
+        let lows = lows_of(alloc, facts, roster, len)?;
         let least_later_lo = least_later_los(alloc, &by_epoch, &lows)?;
         Ok(CountedCuts {
             readers: roster.readers(),
@@ -44,15 +49,13 @@ impl CountedCuts {
 
     /// The truncation that counts for an epoch.
     pub(crate) fn at(&self, epoch: u16) -> Option<Cut>
-        requires { length self.now.by_epoch.items ≡ epoch_count }
         ensures { result ≡ slice_index_or self.now.by_epoch.items epoch None }
     {
-        self.by_epoch[usize::from(epoch)]
+        self.by_epoch.get(usize::from(epoch)).copied().flatten()
     }
 
     /// Whether the truncation is the one that counts for its epoch.
     pub(crate) fn counts(&self, cut: &Cut) -> bool
-        requires { length self.now.by_epoch.items ≡ epoch_count }
         ensures { IsTrue result ↔ (slice_index_or self.now.by_epoch.items cut.now.epoch None ≡ Some cut.now) }
     {
         match self.at(cut.epoch()) {
@@ -63,7 +66,6 @@ impl CountedCuts {
 
     /// Whether an epoch has begun, and a record of this number may stand in it.
     pub(crate) fn admits(&self, epoch: u16, number: u64) -> bool
-        requires { length self.now.by_epoch.items ≡ epoch_count }
         ensures { (log : List Fact) (r : RecordData) → Describes log self.now → r.epoch ≡ epoch → r.number ≡ number → IsTrue result ↔ Law2 log (Record r) }
     {
         if epoch > self.complete {
@@ -78,7 +80,6 @@ impl CountedCuts {
     /// Whether an advance's reader is of the roster, its epoch has begun, and no later truncation that all readers are past cuts
     /// below its point.
     pub(crate) fn spares(&self, advance: Advance) -> bool
-        requires { length self.now.least_later_lo.items ≡ epoch_count }
         ensures shape { advance_fault advance ≡ None }
         ensures law { (roster : ℕ) (log : List Fact) → Describes log self.now → HasLeastLaterLo roster log self.now
             → IsTrue result ↔ Law5 roster log (OfAdvance advance) }
@@ -89,14 +90,38 @@ impl CountedCuts {
         if advance.epoch() > self.complete {
             return false;
         }
-        advance.point() <= self.least_later_lo[usize::from(advance.epoch())]
+        advance.point() <= self.later_lo(advance.epoch())
+    }
+
+    fn later_lo(&self, epoch: u16) -> u64
+        ensures { result ≡ slice_index_or self.now.least_later_lo.items epoch max_number }
+    {
+        self.least_later_lo
+            .get(usize::from(epoch))
+            .copied()
+            .unwrap_or(MAX_NUMBER)
     }
 }
 
-fn first_cuts(alloc: Global, facts: &[Fact]) -> Result<Vec<Option<Cut>>, AllocError>
-    ensures { IfOk result (λ v. IsTable facts.now v.items) }
+// The greatest epoch of a truncation, or 0.
+fn last_epoch(facts: &[Fact]) -> u16
+    ensures { IsGreatest (HasCut (cuts facts.now)) result }
 {
-    let mut table = empty_table(alloc, EPOCH_COUNT)?;
+    let mut last = 0;
+    for fact in facts {
+        if let Fact::Cut(cut) = fact {
+            last = cut.epoch().max(last);
+        }
+    }
+    last
+}
+
+fn first_cuts(alloc: Global, facts: &[Fact], len: usize) -> Result<Vec<Option<Cut>>, AllocError>
+    requires { (c : CutData) → Contains (cuts facts.now) c → c.epoch < len }
+    ensures len { IfOk result (λ v. length v.items ≡ len) }
+    ensures table { IfOk result (λ v. IsTable facts.now v.items) }
+{
+    let mut table = empty_table(alloc, len)?;
     for fact in facts {
         if let Fact::Cut(cut) = fact {
             count(&mut table, cut);
@@ -105,7 +130,6 @@ fn first_cuts(alloc: Global, facts: &[Fact]) -> Result<Vec<Option<Cut>>, AllocEr
     Ok(table)
 }
 
-// Kept apart from the number of epochs, so that no proof computes with it.
 fn empty_table(alloc: Global, len: usize) -> Result<Vec<Option<Cut>>, AllocError>
     ensures { IfOk result (λ v. (length v.items ≡ len) × ((k : ℕ) → slice_index_or v.items k None ≡ None)) }
 {
@@ -114,13 +138,14 @@ fn empty_table(alloc: Global, len: usize) -> Result<Vec<Option<Cut>>, AllocError
 
 /// A list of `len` times the same number. Its only error is want of memory.
 pub(crate) fn filled(alloc: Global, number: u64, len: usize) -> Result<Vec<u64>, AllocError>
-    ensures { IfOk result (λ v. (length v.items ≡ len) × ((k : ℕ) → k < len → slice_index v.items k ≡ number)) }
+    ensures { IfOk result (λ v. (length v.items ≡ len) × ((k : ℕ) → slice_index_or v.items k number ≡ number)) }
 {
     vec![in alloc; number; len]
 }
 
 fn count(table: &mut [Option<Cut>], cut: &Cut)
-    requires { length table.old ≡ epoch_count }
+    requires { cut.now.epoch < length table.old }
+    ensures len { length table.new ≡ length table.old }
     ensures slots { (e : ℕ) → slice_index_or table.new e None ≡ or_first (slice_index_or table.old e None) (first_at e (cut.now ∷ [])) }
     ensures shape { cut_fault cut.now ≡ None }
 {
@@ -131,15 +156,16 @@ fn count(table: &mut [Option<Cut>], cut: &Cut)
 }
 
 fn complete_epoch(table: &[Option<Cut>]) -> u16
-    requires { length table.now ≡ epoch_count }
+    requires some { 0 < length table.now }
+    requires few { length table.now ≤ epoch_count }
     ensures { (log : List Fact) → IsTable log table.now → AreBegunTo log result }
 {
-    for epoch in 1..EPOCH_COUNT {
+    for epoch in 1..table.len() {
         if table[epoch].is_none() {
             return (epoch - 1) as u16;
         }
     }
-    u16::MAX
+    (table.len() - 1) as u16
 }
 
 fn least_later_los(
@@ -147,13 +173,13 @@ fn least_later_los(
     table: &[Option<Cut>],
     lows: &[u64],
 ) -> Result<Vec<u64>, AllocError>
-    requires table { length table.now ≡ epoch_count }
-    requires lows { length lows.now ≡ epoch_count }
-    ensures { (roster : ℕ) (log : List Fact) → IsTable log table.now → AreLeastPoints roster log lows.now
-        → IfOk result (λ v. (length v.items ≡ epoch_count) × ((e : ℕ) → e < epoch_count → IsLeastLaterLo roster log e (slice_index v.items e))) }
+    requires table { 0 < length table.now }
+    requires lows { length lows.now ≡ length table.now }
+    ensures { (roster : ℕ) (log : List Fact) → IsTable log table.now → AreLeastPoints roster log (length table.now) lows.now
+        → IfOk result (λ v. (e : ℕ) → IsLeastLaterLo roster log e (slice_index_or v.items e max_number)) }
 {
-    let mut least_later_lo = filled(alloc, MAX_NUMBER, EPOCH_COUNT)?;
-    let mut epoch = EPOCH_COUNT - 1;
+    let mut least_later_lo = filled(alloc, MAX_NUMBER, table.len())?;
+    let mut epoch = table.len() - 1;
     while epoch > 0 {
         epoch -= 1;
         least_later_lo[epoch] = lower(table[epoch + 1], lows[epoch + 1], least_later_lo[epoch + 1]);

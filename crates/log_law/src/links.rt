@@ -1,5 +1,4 @@
 ghost use Rattle.std.specs.Prelude.{◌≡◌, ℕ, ◌<◌, ◌≤◌, ◌↔◌, List, [], ◌∷◌, ◌++◌, length, slice_index_or, IfOk, OnOk, IsTrue, Some, Contains};
-ghost use Rattle.redo_core.specs.Shape.{epoch_count};
 ghost use Rattle.redo_core.specs.declared.facts.Fact.{Fact};
 ghost use Rattle.log_law.specs.Counted.{Describes};
 ghost use Rattle.log_law.specs.Alive.{stack_of, IsStack, HoldsAlive, CanPush};
@@ -114,7 +113,6 @@ fn least_broken(
     items: &[Item],
     cuts: &CountedCuts,
 ) -> Result<Option<BrokenLink>, AllocError>
-    requires { length cuts.now.by_epoch.items ≡ epoch_count }
     ensures { (log : List Fact) → Describes log cuts.now → AreItems log items.now → IsInKeyOrder items.now → IfOk result (IsLeastBroken log items.now) }
 {
     let mut alive = AliveRecords::new(alloc)?;

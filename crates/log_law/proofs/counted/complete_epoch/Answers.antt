@@ -1,5 +1,6 @@
-use Rattle.std.proofs.Common.{◌≡◌, ◌+◌, ◌-◌, ◌≢◌, None, get_or, arith, sym, ◌∙◌, subst, ⊎_elim}
+use Rattle.std.proofs.Common.{◌≡◌, ◌+◌, ◌-◌, ◌≢◌, None, get_or, length, arith, sym, ◌∙◌, subst, ⊎_elim}
 use Rattle.std.proofs.lemmas.Bool.{cases_eq}
+use Rattle.std.proofs.lemmas.List.{get_or_past}
 use Rattle.log_law.specs.Counted.{first_cut}
 use Rattle.log_law.proofs.FirstCuts.{is_begun, some_item, none_item}
 use Rattle.log_law.proofs.counted.complete_epoch.Goals as goal
@@ -18,7 +19,8 @@ returns-then-is_none c log t =
     (omega arith) c.index-table-epoch.is c.if-is_none.ensures in
     let back : c.loop-epoch.epoch ≡ c.loop-epoch.epoch - 1 + 1 = omega arith in
     is_begun log (c.loop-epoch.epoch - 1) (λ e l m q. c.loop-epoch.invariant e l (omega arith) (t.at e ∙ q))
-    (λ l. subst (λ k. first_cut log k ≡ None) back (sym (t.at c.loop-epoch.epoch) ∙ none))
+    (subst (λ k. first_cut log k ≡ None) back (sym (t.at c.loop-epoch.epoch) ∙ none))
 
 pub returns : goal.returns
-returns c log t = is_begun log 65535 (λ e l m q. c.loop-epoch.invariant e l (omega arith) (t.at e ∙ q)) (λ l. absurd (omega arith))
+returns c log t = is_begun log (length c.args.table.now - 1) (λ e l m q. c.loop-epoch.invariant e l (omega arith) (t.at e ∙ q))
+    (sym (t.at (length c.args.table.now - 1 + 1)) ∙ get_or_past c.args.table.now (length c.args.table.now - 1 + 1) None (omega arith))

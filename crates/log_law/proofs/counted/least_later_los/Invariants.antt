@@ -6,10 +6,10 @@ use Rattle.log_law.proofs.counted.least_later_los.Given as goal
 
 abbrev pub invariant-loop-epoch : goal.invariant-loop-epoch
 invariant-loop-epoch l = record {
-  len : length l.least_later_lo.items ≡ 65536;
-  inside : l.epoch < 65536;
-  least_later_lo : (roster : ℕ) (log : List Fact) → IsTable log l.table → AreLeastPoints roster log l.lows → (e : ℕ) → l.epoch ≤ e → e < 65536
-      → IsLeastLaterLo roster log e (get_or l.least_later_lo.items e 0);
+  len : length l.least_later_lo.items ≡ length l.table;
+  inside : l.epoch < length l.table;
+  least_later_lo : (roster : ℕ) (log : List Fact) → IsTable log l.table → AreLeastPoints roster log (length l.table) l.lows → (e : ℕ)
+      → l.epoch ≤ e → IsLeastLaterLo roster log e (get_or l.least_later_lo.items e 281474976710655);
 }
 
 abbrev pub decreases-loop-epoch : goal.decreases-loop-epoch

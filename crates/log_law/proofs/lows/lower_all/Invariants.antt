@@ -4,7 +4,7 @@ use Rattle.log_law.proofs.lows.lower_all.Given as goal
 -- the numbers so far are lowered, and the others are as they were
 abbrev pub invariant-loop-epoch : goal.invariant-loop-epoch
 invariant-loop-epoch l = record {
-  len : length l.lows.items ≡ 65536;
+  len : length l.lows.items ≡ length l.fn.lows.items;
   done : (e : ℕ) → e < l.epoch → get_or l.lows.items e 0 ≡ min (get_or l.fn.lows.items e 0) (get_or l.tops e 0);
   rest : (e : ℕ) → l.epoch ≤ e → get_or l.lows.items e 0 ≡ get_or l.fn.lows.items e 0;
 }

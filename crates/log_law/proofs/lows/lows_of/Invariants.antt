@@ -7,7 +7,7 @@ abbrev pub invariant-loop-reader : goal.invariant-loop-reader
 invariant-loop-reader l = record {
   some : 1 ≤ l.reader;
   within : l.reader ≤ l.readers;
-  lows : AreLeastPoints l.reader l.facts l.lows.items;
+  lows : AreLeastPoints l.reader l.facts l.len l.lows.items;
 }
 
 abbrev pub decreases-loop-reader : goal.decreases-loop-reader

@@ -1,10 +1,10 @@
-use Rattle.std.proofs.Common.{◌≡◌, ◌-◌, get_or, max, ap, ◌∙◌, arith}
+use Rattle.std.proofs.Common.{◌≡◌, ◌-◌, get_or, max, ap, refl, ◌∙◌, arith}
 use Rattle.std.proofs.lemmas.List.{get_or_default}
 use Rattle.log_law.proofs.Reaching.{rise_step, risen_none}
 use Rattle.log_law.proofs.lows.rise.Goals as goal
 
 pub loop-epoch-init : goal.loop-epoch-init
-loop-epoch-init c = record { len = c.requires; some = omega arith; risen = risen_none c.args.tops.now.items }
+loop-epoch-init c = record { len = refl; some = omega arith; risen = risen_none c.args.tops.now.items }
 
 pub loop-epoch-preserved : goal.loop-epoch-preserved
 loop-epoch-preserved c =

@@ -5,7 +5,7 @@ use Rattle.log_law.proofs.FirstCuts.{law2_at, law2_not}
 use Rattle.log_law.proofs.counted.CountedCuts.admits.Goals as goal
 
 pub returns-then-epoch-self : goal.returns-then-epoch-self
-returns-then-epoch-self c log r d e n = (λ h. absurd (cc), λ law. absurd (law2_not log r c.args.self.now.complete d.complete (omega arith) (omega arith) law))
+returns-then-epoch-self c log r d e n = (λ h. absurd (cc), λ law. absurd (law2_not log r c.args.self.now.complete d.complete (omega arith) law))
 
 pub returns-in-Some : goal.returns-in-Some
 returns-in-Some c log r d e n =
@@ -17,9 +17,9 @@ returns-in-Some c log r d e n =
       λ l. lt-ltb _ _
           (let v : c.hi.result ≡ cut.hi = c.hi.ensures.value in omega arith),
     )
-    ((d.complete r.epoch (omega arith)).1 (omega arith))
+    ((d.complete r.epoch).1 (omega arith))
 
 pub returns-in-None : goal.returns-in-None
 returns-in-None c log r d e n =
     law2_at log r None true (sym (d.table.at r.epoch) ∙ ap (λ k. get_or c.args.self.now.by_epoch.items k None) e ∙ sym c.at.ensures ∙ c.in-None.is) refl
-    ((d.complete r.epoch (omega arith)).1 (omega arith))
+    ((d.complete r.epoch).1 (omega arith))
