@@ -1,6 +1,6 @@
 -- The stack holds what is alive: at the start, in the view of the next epoch, and with one more record.
 use Rattle.std.proofs.Common.{◌≡◌, ℕ, ◌+◌, ◌<◌, ◌≤◌, ⊎_elim, List, [], ◌∷◌, ◌++◌, length, get_or, reverse, refl, sym, ap, ◌∙◌, subst, arith, Option, Some, None}
-use Rattle.std.specs.List.{Contains}
+use Rattle.std.specs.List.{All, Contains}
 use Rattle.std.proofs.lemmas.Bool.{cases_lt}
 use Rattle.std.proofs.lemmas.Option.{none-some, same_Some}
 use Rattle.std.proofs.lemmas.List.Elements.{recursion_from_All, All-contains_itself, All-weaker, Contains-append_left, Contains-append_cases, Contains-push}
@@ -131,7 +131,8 @@ holds_push log past old new t x num pg k v s a above h = record {
 
 pub same_but_view : (old new : AliveRecords) → IsStack old → new.entries ≡ old.entries → new.page_tops ≡ old.page_tops → IsStack new
 same_but_view old new s e t = record {
-  len = ap (λ v. length v.items) t ∙ s.len;
+  inside = subst (λ v. All (λ x. x.page < length v.items) new.entries.items) (sym t)
+      (subst (λ v. All (λ x. x.page < length old.page_tops.items) v.items) (sym e) s.inside);
   tops = λ g. ap (λ v. get_or v.items g 0) t ∙ s.tops g ∙ sym (ap (λ v. page_top g (reverse v.items)) e);
   beneath = subst (λ v. KnowsBeneath (reverse v.items)) (sym e) s.beneath;
 }

@@ -1,6 +1,6 @@
 -- The stack of alive records, seen from its top down.
-use Rattle.std.specs.Prelude.{◌≡◌, ℕ, ◌≤◌, ◌==◌, nat_lt, List, [], ◌∷◌, length, reverse, slice_index, if◌then◌else◌}
-use Rattle.std.specs.List.{Contains}
+use Rattle.std.specs.Prelude.{◌≡◌, ℕ, ◌<◌, ◌≤◌, ◌==◌, nat_lt, List, [], ◌∷◌, length, reverse, slice_index, if◌then◌else◌}
+use Rattle.std.specs.List.{All, Contains}
 use Rattle.redo_core.specs.Order.{IsRising}
 use Rattle.redo_core.specs.Standing.{IsAlive}
 use Rattle.redo_core.specs.Sound.{counted}
@@ -8,10 +8,6 @@ use Rattle.redo_core.specs.declared.facts.Fact.{Fact}
 use Rattle.log_law.specs.declared.alive.Entry.{Entry}
 use Rattle.log_law.specs.declared.alive.AliveRecords.{AliveRecords}
 use Rattle.log_law.specs.declared.links.Item.{Item}
-
--- how many pages a segment has: 2^16
-abbrev pub page_count : ℕ
-page_count = 65536
 
 abbrev pub stack_of : AliveRecords → List Entry
 stack_of s = reverse s.entries.items
@@ -41,9 +37,9 @@ abbrev pub KnowsBeneath : List Entry → Type 0
 KnowsBeneath [] = Unit {0}
 KnowsBeneath (x ∷ xs) = (x.beneath ≡ page_top x.page xs) × KnowsBeneath xs
 
--- the pages' tops are those of the stack
+-- the pages' tops are those of the stack, whose pages are all in the table
 pub record IsStack (s : AliveRecords) : Type 0 where
-  pub len : length s.page_tops.items ≡ page_count
+  pub inside : All (λ x. x.page < length s.page_tops.items) s.entries.items
   pub tops : (g : ℕ) → slice_index s.page_tops.items g ≡ page_top g (stack_of s)
   pub beneath : KnowsBeneath (stack_of s)
 

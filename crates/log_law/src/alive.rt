@@ -1,10 +1,10 @@
-ghost use Rattle.std.specs.Prelude.{◌≡◌, ◌<◌, ◌≤◌, List, [], ◌∷◌, reverse, IfOk, OnOk, OnErr, ◌+◌};
+ghost use Rattle.std.specs.Prelude.{◌≡◌, ◌<◌, ◌≤◌, List, [], ◌∷◌, length, OnOk, OnErr, ◌+◌};
 ghost use Rattle.redo_core.specs.declared.facts.Fact.{Fact};
 ghost use Rattle.log_law.specs.declared.links.Item.{Item};
 ghost use Rattle.log_law.specs.Counted.{Describes};
 ghost use Rattle.log_law.specs.Alive.{stack_of, top_number, page_top, without_above, without_top, IsStack, HoldsAlive};
 
-use crate::counted::{CountedCuts, filled};
+use crate::counted::CountedCuts;
 use std::alloc::{AllocError, Global};
 
 /// A record on the stack of alive ones.
@@ -16,28 +16,27 @@ pub(crate) struct Entry {
     beneath: u64,
 }
 
-/// How many pages a segment has: 0 to 65,535.
-const PAGE_COUNT: usize = 65536;
-
 /// The records of some epochs that are alive in a view, by rising number, with the greatest number of each page.
 #[derive(Drop)]
 pub(crate) struct AliveRecords {
     view: u16,
     entries: Vec<Entry>,
+    /// As long as the records needed: a page past its end has none.
     page_tops: Vec<u64>,
 }
 
 impl AliveRecords {
     /// No record, in the view of epoch 0.
-    pub(crate) fn new(alloc: Global) -> Result<Self, AllocError>
-        ensures { IfOk result (λ s. IsStack s × (stack_of s ≡ []) × (s.view ≡ 0)) }
+    pub(crate) fn new(alloc: Global) -> Self
+        ensures stack { IsStack result }
+        ensures none { stack_of result ≡ [] }
+        ensures view { result.view ≡ 0 }
     {
-        let page_tops = filled(alloc, 0, PAGE_COUNT)?;
-        Ok(AliveRecords {
+        AliveRecords {
             view: 0,
             entries: Vec::new(alloc),
-            page_tops,
-        })
+            page_tops: Vec::new(alloc),
+        }
     }
 
     /// The greatest number, or 0.
@@ -55,7 +54,7 @@ impl AliveRecords {
         requires { IsStack self.now }
         ensures { result ≡ page_top page (stack_of self.now) }
     {
-        self.page_tops[usize::from(page)]
+        self.page_tops.get(usize::from(page)).copied().unwrap_or(0)
     }
 
     /// Puts a record on top.
@@ -68,12 +67,28 @@ impl AliveRecords {
         ensures err { OnErr result ((stack_of self.new ≡ stack_of self.old) × IsStack self.new) }
     {
         let beneath = self.top_of(page);
+        self.reach(page)?;
         self.entries.push(Entry {
             number,
             page,
             beneath,
         })?;
         self.page_tops[usize::from(page)] = number;
+        Ok(())
+    }
+
+    // Lengthens the table until it has the page.
+    fn reach(&mut self, page: u16) -> Result<(), AllocError>
+        requires { IsStack self.old }
+        ensures stack { IsStack self.new }
+        ensures reached { OnOk result (page < length self.new.page_tops.items) }
+        ensures entries { self.new.entries ≡ self.old.entries }
+        ensures view { self.new.view ≡ self.old.view }
+    {
+        let len = usize::from(page) + 1;
+        if self.page_tops.len() < len {
+            self.page_tops.resize(len, 0)?;
+        }
         Ok(())
     }
 

@@ -115,7 +115,7 @@ fn least_broken(
 ) -> Result<Option<BrokenLink>, AllocError>
     ensures { (log : List Fact) → Describes log cuts.now → AreItems log items.now → IsInKeyOrder items.now → IfOk result (IsLeastBroken log items.now) }
 {
-    let mut alive = AliveRecords::new(alloc)?;
+    let mut alive = AliveRecords::new(alloc);
     let mut least = None;
     let mut start = 0;
     while start < items.len() {

@@ -56,10 +56,9 @@ impl Writer {
         ensures { IfOk result (λ w. w ≡ writer_of roster []) }
     {
         let points = ReadPoints::new(alloc, roster)?;
-        let alive = AliveRecords::new(alloc)?;
         Ok(Writer {
             log: Vec::new(alloc),
-            alive,
+            alive: AliveRecords::new(alloc),
             last: 0,
             points,
         })

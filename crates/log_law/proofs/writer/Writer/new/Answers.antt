@@ -6,10 +6,10 @@ use Rattle.log_law.proofs.writer.Writer.new.Goals as goal
 
 pub invariant_of-result : goal.invariant_of-result
 invariant_of-result c =
-    let e = c.in_ok-alive.ensures in
+    let e = c.new-3.ensures in
     let ps : c.in_ok-points.points ≡ replicate c.args.roster 0 = c.in_ok-points.ensures.zeros in
     let n : length c.in_ok-points.points ≡ c.args.roster = ap length ps ∙ length-replicate c.args.roster 0 in
-    subst (λ xs. IsWritten (length c.in_ok-points.points) xs c.in_ok-alive.alive 0 c.in_ok-points.points) (sym c.new-3.ensures.items)
-    (subst (λ (i : ℕ). IsWritten i [] c.in_ok-alive.alive 0 c.in_ok-points.points) (sym n)
-    (subst (λ (ps : List ℕ). IsWritten c.args.roster [] c.in_ok-alive.alive 0 ps) (sym ps)
-    (written_nothing c.args.roster c.in_ok-alive.alive c.new.ensures.range e.0 e.1 e.2)))
+    subst (λ xs. IsWritten (length c.in_ok-points.points) xs c.new-3.result 0 c.in_ok-points.points) (sym c.new-2.ensures.items)
+    (subst (λ (i : ℕ). IsWritten i [] c.new-3.result 0 c.in_ok-points.points) (sym n)
+    (subst (λ (ps : List ℕ). IsWritten c.args.roster [] c.new-3.result 0 ps) (sym ps)
+    (written_nothing c.args.roster c.new-3.result c.new.ensures.range e.stack e.none e.view)))
