@@ -1,17 +1,20 @@
 -- The first element of a list that fails a test, and how the standing of a key tells whether it is accounted for.
-use Rattle.std.proofs.Common.{◌≡◌, ◌↔◌, ℕ, ◌<◌, ◌≤◌, ◌⊎◌, inl, inr, ⊎_elim, List, [], ◌∷◌, zero, suc, length, get_or, take, Bool, true, IsTrue, refl, sym, subst, ◌∙◌, arith}
+use Rattle.std.proofs.Common.{◌≡◌, ◌↔◌, ℕ, ◌<◌, ◌≤◌, ◌⊎◌, inl, inr, ⊎_elim, List, [], ◌∷◌, zero, suc, length, get_or, take, Bool, true, false, IsTrue, eqb, ◌&&◌, refl, sym, ap, subst, ◌∙◌, arith}
+use Rattle.std.proofs.lemmas.Bool.{eqb-true}
 use Rattle.std.specs.List.{All, AllByRecursion, Contains}
 use Rattle.redo_core.specs.Order.{IsRising, IsFirst}
 use Rattle.redo_core.specs.Standing.{IsAlive, IsDead, IsWaiting}
 use Rattle.redo_core.proofs.Members.{none_in, here, there, which}
 use Rattle.redo_wire.specs.declared.keys.Key.{Key}
 use Rattle.epoch_book.specs.declared.standing.Standing.TheVariants.{Alive, Dead}
-use Rattle.redo_core.proofs.Numbers.{greatest_unique}
-use Rattle.segment_state.specs.State.{State, min_of}
-use Rattle.segment_state.specs.HasMeaning.{IsLinkedIn, HasAnchor}
+use Rattle.segment_state.specs.State.{State}
+use Rattle.segment_state.specs.HasMeaning.{IsKeptBy}
 use Rattle.segment_core.specs.Standing.{StandsAt}
 use Rattle.gossip_core.specs.Answering.{IsCovered}
 use Rattle.hot_log.specs.Held.{HoldsKey}
+use Rattle.hot_log.specs.Kept.{ListsKeysOf}
+use Rattle.hot_log.specs.Paged.{key_of}
+use Rattle.redo_laws.proofs.Meanings.{from_map}
 
 each_of : {X : Type 0} (P : X → Type 0) (xs : List X) → AllByRecursion P xs → (x : X) → Contains xs x → P x
 each_of P [] all x h = absurd (none_in x h)
@@ -70,3 +73,23 @@ held_covers s anchor key is_held wanted tells = (
       gone))
       has,
 )
+
+-- a key and a pair that are told to be equal are: what has the one has the other
+both : (p q : Bool) → (p && q) ≡ true → (p ≡ true) × (q ≡ true)
+both true true h = (refl, refl)
+both true false h = absurd (cc)
+both false q h = absurd (cc)
+
+pub same_key : (pairs : List (ℕ × ℕ)) (key : Key) (pair : ℕ × ℕ) → (eqb key.epoch pair.0 && eqb key.number pair.1) ≡ true → Contains pairs pair
+    → Contains pairs (key.epoch, key.number)
+same_key pairs key pair same has =
+    let parts = both (eqb key.epoch pair.0) (eqb key.number pair.1) same in
+    subst (λ e. Contains pairs (e, key.number)) (sym (eqb-true key.epoch pair.0 parts.0))
+    (subst (λ n. Contains pairs (pair.0, n)) (sym (eqb-true key.number pair.1 parts.1)) has)
+
+-- a kept key is accounted for
+pub kept_is_covered : (s : State) (anchor : ℕ) (keys : List (ℕ × ℕ)) → ListsKeysOf (IsKeptBy s anchor) keys → (key : Key) → Contains keys (key.epoch, key.number)
+    → IsCovered s anchor key
+kept_is_covered s anchor keys all key has =
+    let x = from_map key_of all.kept (key.epoch, key.number) (subst (λ (ks : List (ℕ × ℕ)). Contains ks (key.epoch, key.number)) all.keys_are has) in
+    let kept = (all.lists.members x.0).0 x.1 in inl (x.0, kept.0, (ap (λ (y : ℕ × ℕ). y.0) x.2, ap (λ (y : ℕ × ℕ). y.1) x.2))

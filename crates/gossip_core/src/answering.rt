@@ -1,4 +1,5 @@
 ghost use Rattle.std.specs.Prelude.{◌≡◌, ℕ, ◌↔◌, List, None, IsTrue};
+ghost use Rattle.std.specs.List.{All, Contains};
 ghost use Rattle.redo_core.specs.Order.{IsRising};
 ghost use Rattle.redo_core.specs.Position.{Position};
 ghost use Rattle.redo_core.specs.Sound.{IsSound};
@@ -12,6 +13,7 @@ ghost use Rattle.gossip_core.specs.Answering.{IsCovered, IsFirstUncovered, IsUnc
 
 use redo_wire::{Key, Summary};
 use segment_core::{Segment, Standing};
+use segment_join::are_few;
 
 /// What of a summary a segment does not answer for.
 #[derive(Clone, Copy, Debug, PartialEq, Eq)]
@@ -51,12 +53,42 @@ fn first_uncovered(segment: &Segment, anchor: u64, keys: &[Key]) -> Option<Key>
     requires { IsRising KeyBefore keys.now }
     ensures { IsFirstUncovered segment.now anchor keys.now result }
 {
+    // A summary mostly comes back to who made it, and lists what that still keeps.
+    if keeps_all(segment, anchor, keys) {
+        return None;
+    }
     for key in keys {
         if !is_covered(segment, anchor, *key) {
             return Some(*key);
         }
     }
     None
+}
+
+/// Whether a segment is seen to keep a record of each key without any being looked up; not so where they are few, or memory lacks.
+fn keeps_all(segment: &Segment, anchor: u64, keys: &[Key]) -> bool
+    ensures { IsTrue result → All (IsCovered segment.now anchor) keys.now }
+{
+    if are_few(keys.len(), segment) {
+        return false;
+    }
+    match segment.kept_keys(anchor) {
+        Ok(kept) => are_among(keys, &kept),
+        Err(_) => false,
+    }
+}
+
+/// Whether each of rising keys is seen to be among kept ones, which rise too: both are gone over side by side.
+fn are_among(keys: &[Key], kept: &[(u16, u64)]) -> bool
+    ensures { IsTrue result → All (λ key. Contains kept.now (key.epoch, key.number)) keys.now }
+{
+    let mut place = 0;
+    for key in kept {
+        if place < keys.len() && (keys[place].epoch, keys[place].number) == *key {
+            place += 1;
+        }
+    }
+    place == keys.len()
 }
 
 /// Whether a segment with this anchor accounts for a key.
