@@ -1,23 +1,17 @@
 -- What of a summary a segment does not answer for is what the facts that it means do not answer for.
-use Rattle.std.proofs.Common.{◌≡◌, ℕ, inl, ⊎_elim, List, [], ◌∷◌, sym, subst, arith, Some, None}
-use Rattle.std.specs.List.{Contains}
-use Rattle.redo_core.specs.Order.{IsFirst}
+use Rattle.std.proofs.Common.{◌≡◌, ℕ, List, arith, Some}
 use Rattle.redo_core.specs.Position.{Position}
 use Rattle.redo_core.specs.Sound.{IsSound}
 use Rattle.redo_core.specs.declared.facts.Fact.{Fact}
-use Rattle.redo_core.proofs.Members.{here, which, none_in, all_members}
 use Rattle.redo_laws.proofs.Log.{log_of_sound}
-use Rattle.redo_wire.specs.declared.keys.Key.{Key}
-use Rattle.redo_wire.specs.Summaries.{SummaryData, KeyBefore}
+use Rattle.redo_wire.specs.Summaries.{SummaryData}
 use Rattle.segment_state.specs.State.{State}
 use Rattle.segment_state.specs.Means.{MeansAt}
 use Rattle.segment_state.specs.HasMeaning.{HasAnchor}
-use Rattle.segment_state.specs.Gossip.{IsAccounted}
 use Rattle.segment_state.proofs.Own.{anchor_law}
-use Rattle.gossip_core.specs.Answering.{IsCovered, IsUncoveredKey, IsUncovered, listed_key}
+use Rattle.gossip_core.specs.Answering.{IsUncovered}
 use Rattle.gossip_core.specs.declared.answering.Shown.{Shown}
 use Rattle.gossip_core.specs.declared.answering.Shown.TheVariants.{Anchor as OfAnchor, Key as OfKey}
-use Rattle.gossip_core.proofs.AnsweringFacts.{answers_for, tells_answer}
 use Rattle.node_cell.specs.Gossiping.{LeavesUncovered}
 use Rattle.gossip_core.proofs.Uncovering.{accounted, not_accounted}
 

@@ -34,7 +34,7 @@ const CACHED_IMAGES: usize = 64;
 /// The segment means a part of the log that has every fact of the trail.
 #[derive(Drop)]
 pub struct Kept<L: LogName> {
-    segment: CachedSegment,
+    segment: Box<CachedSegment>,
     trail: Vec<(u64, u64)>,
     of: PhantomData<L>,
 }
@@ -44,9 +44,9 @@ impl<L: LogName> Model for Kept<L> {
 
     ghost Value = { KeptData };
 
-    ghost view = { λ k. record { segment = k.segment.segment; trail = k.trail.items } };
+    ghost view = { λ k. record { segment = k.segment.value.segment; trail = k.trail.items } };
 
-    ghost invariant = { λ k. MeansTrail L.roster L.log k.segment.segment k.trail.items };
+    ghost invariant = { λ k. MeansTrail L.roster L.log k.segment.value.segment k.trail.items };
 }
 
 impl<L: LogName> Trailed for Kept<L> {
@@ -65,14 +65,12 @@ impl<L: LogName> Kept<L> {
         ensures keeps { IfOk result (λ k. MeansTrail L.roster L.log k.segment k.trail) }
     {
         let segment = Segment::new(alloc, L::roster())?;
-        match CachedSegment::new(segment, CACHED_IMAGES) {
-            Ok(segment) => Ok(Kept {
-                segment,
-                trail: Vec::new(alloc),
-                of: PhantomData,
-            }),
-            Err(refused) => Err(refused.fault),
-        }
+        let cached = boxed(alloc, segment)?;
+        Ok(Kept {
+            segment: cached,
+            trail: Vec::new(alloc),
+            of: PhantomData,
+        })
     }
 
     /// Takes a fact, and notes it in the trail under the number of a pass. The answer is the place there, from 1, and the front
@@ -276,6 +274,19 @@ impl<L: LogName> Kept<L> {
         } else {
             Err(Stranger { found })
         }
+    }
+}
+
+// The segment with a cache, in memory of its own: each turn at the lock hands it on several times, and it is long.
+fn boxed(alloc: Global, segment: Segment) -> Result<Box<CachedSegment>, AllocError>
+    ensures { IfOk result (λ b. b.value.segment ≡ segment) }
+{
+    let Ok(cached) = CachedSegment::new(segment, CACHED_IMAGES) else {
+        return Err(AllocError);
+    };
+    match Box::new(alloc, cached) {
+        Ok(boxed) => Ok(boxed),
+        Err(_) => Err(AllocError),
     }
 }
 

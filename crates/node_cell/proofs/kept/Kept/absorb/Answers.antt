@@ -1,4 +1,4 @@
-use Rattle.std.proofs.Common.{◌++◌, subst, sym, ap}
+use Rattle.std.proofs.Common.{◌++◌, subst, sym, ap, ◌∙◌}
 use Rattle.segment_state.specs.Means.{MeansAt}
 use Rattle.gossip_core.specs.Absorbing.{MeansBoth}
 use Rattle.node_cell.specs.Kept.{MeansTrail}
@@ -15,13 +15,14 @@ new-requires g c =
     let trail = c.self.inside.trail.items in
     let old = c.segment_mut-segment.result.now in
     let new = c.absorb-absorbed.new.segment in
-    let k : MeansTrail roster log old trail = subst (λ s. MeansTrail roster log s trail) (sym c.segment_mut-segment.ensures.lent) c.self.invariant in
+    let k : MeansTrail roster log old trail = subst (λ s. MeansTrail roster log s trail) (sym c.segment_mut-segment.ensures.lent)
+    (subst (λ x. MeansTrail roster log x.segment trail) (sym c.deref_mut.ensures.value) c.self.invariant) in
     let own = c.summary.ensures.own in
     let m = both_meant roster log old new trail c.args.mail c.summary.result.now c.delta.result.now sound k own c.summary.ensures.value
     c.delta.ensures.value c.in_default.ensures.means in
     let both = k.facts ++ own.facts in
     log_front roster log both new c.front-front.result sound m
-    (c.front-front.ensures.front roster log both m.0 sound (subst (MeansAt roster log both m.0) (sym c.segment.ensures) m.1))
+    (c.front-front.ensures.front roster log both m.0 sound (subst (MeansAt roster log both m.0) (sym (c.segment.ensures ∙ ap (λ x. x.segment) c.deref.ensures)) m.1))
 
 pub invariant_of-self-2 : goal.invariant_of-self-2
 invariant_of-self-2 g c =
@@ -31,7 +32,8 @@ invariant_of-self-2 g c =
     let trail = c.self.inside.trail.items in
     let old = c.segment_mut-segment.result.now in
     let new = c.absorb-absorbed.new.segment in
-    let k : MeansTrail roster log old trail = subst (λ s. MeansTrail roster log s trail) (sym c.segment_mut-segment.ensures.lent) c.self.invariant in
+    let k : MeansTrail roster log old trail = subst (λ s. MeansTrail roster log s trail) (sym c.segment_mut-segment.ensures.lent)
+    (subst (λ x. MeansTrail roster log x.segment trail) (sym c.deref_mut.ensures.value) c.self.invariant) in
     let own = c.summary.ensures.own in
     let m = both_meant roster log old new trail c.args.mail c.summary.result.now c.delta.result.now sound k own c.summary.ensures.value
     c.delta.ensures.value c.in_default.ensures.means in
@@ -44,9 +46,10 @@ pub returns-clause-meaning : goal.returns-clause-meaning
 returns-clause-meaning g c =
     let new = c.absorb-absorbed.new.segment in
     subst (λ s. MeansBoth s c.args.mail.summary c.args.mail.delta new) (ap (λ k. k.segment) c.self.view_is)
+    (subst (λ x. MeansBoth x.segment c.args.mail.summary c.args.mail.delta new) c.deref_mut.ensures.value
     (subst (λ s. MeansBoth s c.args.mail.summary c.args.mail.delta new) c.segment_mut-segment.ensures.lent
     (subst (λ x. MeansBoth c.segment_mut-segment.result.now x c.args.mail.delta new) c.summary.ensures.value
-    (subst (λ d. MeansBoth c.segment_mut-segment.result.now c.summary.result.now d new) c.delta.ensures.value c.in_default.ensures.means)))
+    (subst (λ d. MeansBoth c.segment_mut-segment.result.now c.summary.result.now d new) c.delta.ensures.value c.in_default.ensures.means))))
 
 pub returns-clause-front : goal.returns-clause-front
 returns-clause-front g c =
@@ -56,13 +59,14 @@ returns-clause-front g c =
     let trail = c.self.inside.trail.items in
     let old = c.segment_mut-segment.result.now in
     let new = c.absorb-absorbed.new.segment in
-    let k : MeansTrail roster log old trail = subst (λ s. MeansTrail roster log s trail) (sym c.segment_mut-segment.ensures.lent) c.self.invariant in
+    let k : MeansTrail roster log old trail = subst (λ s. MeansTrail roster log s trail) (sym c.segment_mut-segment.ensures.lent)
+    (subst (λ x. MeansTrail roster log x.segment trail) (sym c.deref_mut.ensures.value) c.self.invariant) in
     let own = c.summary.ensures.own in
     let m = both_meant roster log old new trail c.args.mail c.summary.result.now c.delta.result.now sound k own c.summary.ensures.value
     c.delta.ensures.value c.in_default.ensures.means in
     let both = k.facts ++ own.facts in
     front_with_mail roster log new c.args.mail k.facts c.front-front.result c.new.result own m
-    (c.front-front.ensures.front roster log both m.0 sound (subst (MeansAt roster log both m.0) (sym c.segment.ensures) m.1)) c.new.ensures
+    (c.front-front.ensures.front roster log both m.0 sound (subst (MeansAt roster log both m.0) (sym (c.segment.ensures ∙ ap (λ x. x.segment) c.deref.ensures)) m.1)) c.new.ensures
 
 pub returns-in-Err-clause-refused : goal.returns-in-Err-clause-refused
 returns-in-Err-clause-refused g c =
@@ -70,7 +74,8 @@ returns-in-Err-clause-refused g c =
     let log = g.L.LogName.log in
     let trail = c.self.inside.trail.items in
     let old = c.segment_mut-segment.result.now in
-    let k : MeansTrail roster log old trail = subst (λ s. MeansTrail roster log s trail) (sym c.segment_mut-segment.ensures.lent) c.self.invariant in
+    let k : MeansTrail roster log old trail = subst (λ s. MeansTrail roster log s trail) (sym c.segment_mut-segment.ensures.lent)
+    (subst (λ x. MeansTrail roster log x.segment trail) (sym c.deref_mut.ensures.value) c.self.invariant) in
     subst (λ f. RefusesMail roster log c.args.mail f) (sym c.absorb_fault.ensures)
     (refuses_mail roster log old trail c.args.mail c.summary.result.now c.delta.result.now c.in-Err.why g.met.L.LogName.sound k
     c.summary.ensures.value c.in-Err.ensures.refused)

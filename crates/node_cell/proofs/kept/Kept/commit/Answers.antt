@@ -9,7 +9,8 @@ pub invariant_of-self : goal.invariant_of-self
 invariant_of-self g c =
     let roster = g.L.LogName.roster in
     let log = g.L.LogName.log in
-    let k = c.self.invariant in elim c.match-commit_fold.branch [
+    let k : MeansTrail roster log c.deref_mut.result.now.segment c.self.inside.trail.items =
+    subst (λ x. MeansTrail roster log x.segment c.self.inside.trail.items) (sym c.deref_mut.ensures.value) c.self.invariant in elim c.match-commit_fold.branch [
       | in-Ok w ↦ keeps_still roster log _ _ _ k
           (w.in-Ok.ensures.keeps roster log k.facts g.met.L.LogName.sound (final roster log c.into_segment_fold.result c.into_segment_fold.ensures.own) k.means)
       | in-Err w ↦ subst (λ s. MeansTrail roster log s c.self.inside.trail.items) (sym (ap (λ k. k.segment) w.in-Err.ensures.unchanged)) k
@@ -22,10 +23,11 @@ pub returns-clause-refused : goal.returns-clause-refused
 returns-clause-refused g c =
     let roster = g.L.LogName.roster in
     let log = g.L.LogName.log in
-    let k = c.self.invariant in elim c.match-commit_fold.branch [
+    let k : MeansTrail roster log c.deref_mut.result.now.segment c.self.inside.trail.items =
+    subst (λ x. MeansTrail roster log x.segment c.self.inside.trail.items) (sym c.deref_mut.ensures.value) c.self.invariant in elim c.match-commit_fold.branch [
       | in-Ok w ↦ subst (λ r. IfErr r (λ e. RefusesFold roster log c.args.folded e.fault)) (sym w.result-is) tt
       | in-Err w ↦ subst (λ r. IfErr r (λ e. RefusesFold roster log c.args.folded e.fault)) (sym w.result-is)
           (subst (λ f. RefusesFold roster log f w.in-Err.refused.fault) c.into_segment_fold.ensures.value
-          (refuses_fold roster log k.facts k.means.0 c.self.inside.segment.segment c.into_segment_fold.result w.in-Err.refused.fault g.met.L.LogName.sound
+          (refuses_fold roster log k.facts k.means.0 c.deref_mut.result.now.segment c.into_segment_fold.result w.in-Err.refused.fault g.met.L.LogName.sound
           k.means.1 w.in-Err.ensures.refused))
     ]

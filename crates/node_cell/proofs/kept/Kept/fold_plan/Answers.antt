@@ -10,7 +10,7 @@ new-requires g c =
     let m = k.means.1 in
     fold_of_log g.L.LogName.roster g.L.LogName.log k.facts k.means.0 c.args.page c.in-Ok.plan m.part m.position
     (c.in-Ok.ensures.result g.L.LogName.roster g.L.LogName.log k.facts k.means.0 g.met.L.LogName.sound
-    (subst (MeansAt g.L.LogName.roster g.L.LogName.log k.facts k.means.0) (sym c.segment.ensures) m))
+    (subst (MeansAt g.L.LogName.roster g.L.LogName.log k.facts k.means.0) (sym (c.segment.ensures ∙ ap (λ x. x.segment) c.deref.ensures)) m))
 
 pub returns-in-Ok-clause-fold : goal.returns-in-Ok-clause-fold
 returns-in-Ok-clause-fold g c =
@@ -19,10 +19,10 @@ returns-in-Ok-clause-fold g c =
     subst (IsFoldOfLog g.L.LogName.roster g.L.LogName.log) (sym c.new.ensures)
     (fold_of_log g.L.LogName.roster g.L.LogName.log k.facts k.means.0 c.args.page c.in-Ok.plan m.part m.position
     (c.in-Ok.ensures.result g.L.LogName.roster g.L.LogName.log k.facts k.means.0 g.met.L.LogName.sound
-    (subst (MeansAt g.L.LogName.roster g.L.LogName.log k.facts k.means.0) (sym c.segment.ensures) m)))
+    (subst (MeansAt g.L.LogName.roster g.L.LogName.log k.facts k.means.0) (sym (c.segment.ensures ∙ ap (λ x. x.segment) c.deref.ensures)) m)))
 
 pub returns-in-Ok-clause-page : goal.returns-in-Ok-clause-page
 returns-in-Ok-clause-page g c =
     let k = c.self.invariant in
     ap (λ f. f.page) c.new.ensures ∙ (c.in-Ok.ensures.result g.L.LogName.roster g.L.LogName.log k.facts k.means.0 g.met.L.LogName.sound
-    (subst (MeansAt g.L.LogName.roster g.L.LogName.log k.facts k.means.0) (sym c.segment.ensures) k.means.1)).page_is
+    (subst (MeansAt g.L.LogName.roster g.L.LogName.log k.facts k.means.0) (sym (c.segment.ensures ∙ ap (λ x. x.segment) c.deref.ensures)) k.means.1)).page_is

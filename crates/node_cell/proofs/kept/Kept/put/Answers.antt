@@ -12,25 +12,27 @@ new-requires g c =
     let roster = g.L.LogName.roster in
     let log = g.L.LogName.log in
     let sound = g.met.L.LogName.sound in
-    let k = c.self.invariant in
+    let k : MeansTrail roster log c.deref_mut.result.now.segment c.self.inside.trail.items =
+    subst (λ x. MeansTrail roster log x.segment c.self.inside.trail.items) (sym c.deref_mut.ensures.value) c.self.invariant in
     let f = c.into_fact.result in
     let m = c.in-Ok.ensures.takes.means roster log k.facts sound (in_log log c.args.fact.place f c.into_fact.ensures.stands) k.means in
     log_front roster log (k.facts ++ f ∷ []) c.take.new.self.segment c.front-front.result sound m
-    (c.front-front.ensures.front roster log (k.facts ++ f ∷ []) m.0 sound (subst (MeansAt roster log (k.facts ++ f ∷ []) m.0) (sym c.segment.ensures) m.1))
+    (c.front-front.ensures.front roster log (k.facts ++ f ∷ []) m.0 sound (subst (MeansAt roster log (k.facts ++ f ∷ []) m.0) (sym (c.segment.ensures ∙ ap (λ x. x.segment) c.deref.ensures)) m.1))
 
 pub invariant_of-self-in-Ok : goal.invariant_of-self-in-Ok
 invariant_of-self-in-Ok g c =
     let roster = g.L.LogName.roster in
     let log = g.L.LogName.log in
     let sound = g.met.L.LogName.sound in
-    let k = c.self.invariant in
+    let k : MeansTrail roster log c.deref_mut.result.now.segment c.self.inside.trail.items =
+    subst (λ x. MeansTrail roster log x.segment c.self.inside.trail.items) (sym c.deref_mut.ensures.value) c.self.invariant in
     let f = c.into_fact.result in
     let at = c.into_fact.ensures.stands in
     let m = c.in-Ok.ensures.takes.means roster log k.facts sound (in_log log c.args.fact.place f at) k.means in
     let items : c.push_reserved.new.self.items ≡ c.self.inside.trail.items ++ (c.args.number, c.args.fact.place) ∷ [] =
     c.push_reserved.ensures.items ∙ rw (c.reserve.ensures.items, c.place-place.ensures.value) refl in
     subst (MeansTrail roster log c.take.new.self.segment) (sym items)
-    (keeps roster log c.self.inside.segment.segment c.take.new.self.segment c.self.inside.trail.items c.args.number c.args.fact.place f k at m)
+    (keeps roster log c.deref_mut.result.now.segment c.take.new.self.segment c.self.inside.trail.items c.args.number c.args.fact.place f k at m)
 
 pub returns-in-Ok-clause-keeps : goal.returns-in-Ok-clause-keeps
 returns-in-Ok-clause-keeps g c = invariant_of-self-in-Ok g c
@@ -40,21 +42,23 @@ returns-in-Ok-clause-front g c =
     let roster = g.L.LogName.roster in
     let log = g.L.LogName.log in
     let sound = g.met.L.LogName.sound in
-    let k = c.self.invariant in
+    let k : MeansTrail roster log c.deref_mut.result.now.segment c.self.inside.trail.items =
+    subst (λ x. MeansTrail roster log x.segment c.self.inside.trail.items) (sym c.deref_mut.ensures.value) c.self.invariant in
     let f = c.into_fact.result in
     let at = c.into_fact.ensures.stands in
     let m = c.in-Ok.ensures.takes.means roster log k.facts sound (in_log log c.args.fact.place f at) k.means in
     let is = c.front-front.ensures.front roster log (k.facts ++ f ∷ []) m.0 sound
-    (subst (MeansAt roster log (k.facts ++ f ∷ []) m.0) (sym c.segment.ensures) m.1) in
+    (subst (MeansAt roster log (k.facts ++ f ∷ []) m.0) (sym (c.segment.ensures ∙ ap (λ x. x.segment) c.deref.ensures)) m.1) in
     subst (λ t. IsFrontWith roster log t c.args.fact.place c.new.result) (ap (λ k. k.trail) c.self.view_is)
-    (front_with roster log c.self.inside.segment.segment c.take.new.self.segment c.self.inside.trail.items c.args.fact.place f c.front-front.result
+    (front_with roster log c.deref_mut.result.now.segment c.take.new.self.segment c.self.inside.trail.items c.args.fact.place f c.front-front.result
     c.new.result k at m is c.new.ensures)
 
 pub unreachable-requires : goal.unreachable-requires
 unreachable-requires g c =
     let roster = g.L.LogName.roster in
     let log = g.L.LogName.log in
-    let k = c.self.invariant in
+    let k : MeansTrail roster log c.deref_mut.result.now.segment c.self.inside.trail.items =
+    subst (λ x. MeansTrail roster log x.segment c.self.inside.trail.items) (sym c.deref_mut.ensures.value) c.self.invariant in
     c.in_default.not-Memory (c.in-Err.ensures.sound (
       roster,
       log,

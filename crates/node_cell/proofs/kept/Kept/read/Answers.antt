@@ -1,4 +1,4 @@
-use Rattle.std.proofs.Common.{sym, refl, ap, subst, Result, Ok}
+use Rattle.std.proofs.Common.{sym, refl, ap, subst, Result, Ok, ◌∙◌}
 use Rattle.segment_core.specs.declared.answers.ReadFault.{ReadFault}
 use Rattle.segment_state.specs.Means.{MeansAt}
 use Rattle.node_cell.specs.View.{ViewData}
@@ -14,9 +14,10 @@ new-requires g c =
     let sound = g.met.L.LogName.sound in
     let k = c.self.invariant in
     let m = k.means.1 in
+    let lent = subst (λ x. MeansAt roster log k.facts k.means.0 x.segment) (sym c.deref_mut.ensures.value) m in
     log_page roster log k.facts k.means.0 c.front-epoch.result.epoch c.args.page c.args.point c.in-Ok.image sound m.part m.position
-    (c.front-epoch.ensures.front roster log k.facts k.means.0 sound (subst (MeansAt roster log k.facts k.means.0) (sym c.segment.ensures) m)).epoch
-    (c.in-Ok.ensures.result roster log k.facts k.means.0 sound m)
+    (c.front-epoch.ensures.front roster log k.facts k.means.0 sound (subst (MeansAt roster log k.facts k.means.0) (sym (c.segment.ensures ∙ ap (λ x. x.segment) c.deref.ensures)) m)).epoch
+    (c.in-Ok.ensures.result roster log k.facts k.means.0 sound lent)
 
 pub returns-clause-answer : goal.returns-clause-answer
 returns-clause-answer g c =
@@ -25,15 +26,16 @@ returns-clause-answer g c =
     let sound = g.met.L.LogName.sound in
     let k = c.self.invariant in
     let m = k.means.1 in
+    let lent = subst (λ x. MeansAt roster log k.facts k.means.0 x.segment) (sym c.deref_mut.ensures.value) m in
     let Tells : Result ViewData ReadFault → Type 0 = λ r. IsViewResult k.facts k.means.0 c.args.page c.args.point r in
     let answer : Tells c.match-read.result = elim c.match-read.branch [
       | in-Ok w ↦ subst Tells (sym w.result-is) (subst (λ v. Tells (Ok v)) (sym w.new.ensures) (
-        (c.front-epoch.ensures.front roster log k.facts k.means.0 sound (subst (MeansAt roster log k.facts k.means.0) (sym c.segment.ensures) m)).epoch,
+        (c.front-epoch.ensures.front roster log k.facts k.means.0 sound (subst (MeansAt roster log k.facts k.means.0) (sym (c.segment.ensures ∙ ap (λ x. x.segment) c.deref.ensures)) m)).epoch,
         refl,
         refl,
-        w.in-Ok.ensures.result roster log k.facts k.means.0 sound m,
+        w.in-Ok.ensures.result roster log k.facts k.means.0 sound lent,
       ))
-      | in-Err w ↦ subst Tells (sym w.result-is) (w.in-Err.ensures.result roster log k.facts k.means.0 sound m)
+      | in-Err w ↦ subst Tells (sym w.result-is) (w.in-Err.ensures.result roster log k.facts k.means.0 sound lent)
     ] in
     subst (λ t. TellsRead roster log t c.args.page c.args.point c.match-read.result) (ap (λ k. k.trail) c.self.view_is)
-    (tells roster log c.self.inside.segment.segment c.self.inside.trail.items c.args.page c.args.point c.match-read.result k answer)
+    (tells roster log c.self.inside.segment.value.segment c.self.inside.trail.items c.args.page c.args.point c.match-read.result k answer)

@@ -1,4 +1,4 @@
-use Rattle.std.proofs.Common.{subst, sym}
+use Rattle.std.proofs.Common.{subst, sym, ap, ◌∙◌}
 use Rattle.segment_state.specs.Means.{MeansAt}
 use Rattle.node_cell.specs.Gossiping.{IsMail}
 use Rattle.node_cell.proofs.kept.Kept.reply.Goals as goal
@@ -14,7 +14,7 @@ new-requires g c =
       part = m.part;
       position = m.position;
       sent = c.in-Ok.ensures.fills roster log k.facts k.means.0 g.met.L.LogName.sound
-          (subst (MeansAt roster log k.facts k.means.0) (sym c.segment.ensures) m);
+          (subst (MeansAt roster log k.facts k.means.0) (sym (c.segment.ensures ∙ ap (λ x. x.segment) c.deref.ensures)) m);
     }
 
 pub returns-in-Ok-clause-mail : goal.returns-in-Ok-clause-mail
@@ -29,5 +29,5 @@ returns-in-Ok-clause-mail g c =
       part = m.part;
       position = m.position;
       sent = c.in-Ok.ensures.fills roster log k.facts k.means.0 g.met.L.LogName.sound
-          (subst (MeansAt roster log k.facts k.means.0) (sym c.segment.ensures) m);
+          (subst (MeansAt roster log k.facts k.means.0) (sym (c.segment.ensures ∙ ap (λ x. x.segment) c.deref.ensures)) m);
     })
