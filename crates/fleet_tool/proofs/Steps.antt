@@ -1,6 +1,6 @@
 -- A fleet's answers to the steps of a script.
 use Rattle.std.proofs.Common.{◌≡◌, ℕ, ◌+◌, ◌-◌, ◌<◌, List, [], ◌∷◌, ◌++◌, length, drop, get_or, Some, Result, Ok, Err, refl, ap, sym, ◌∙◌, subst, add-one, append_assoc}
-use Rattle.std.specs.Prelude.{OnOk, is_ok, if◌then◌else◌}
+use Rattle.std.specs.Prelude.{OnOk}
 use Rattle.std.specs.List.{Contains, slice_get}
 use Rattle.std.proofs.Math.Seq.{drop-cons}
 use Rattle.redo_core.specs.declared.facts.Fact.{Fact}
@@ -52,8 +52,8 @@ answered_more start old new facts steps i d text longer line lt more first so_fa
     let joined : text ++ (line ++ rest) ≡ longer ++ rest = sym (append_assoc text line rest) ∙ ap (λ (t : List ℕ). t ++ rest) (sym more) in
     subst (AnswersSteps start facts steps) joined whole
 
--- a line that was appended
-pub pushed : {E : Type 0} (r : Result (Unit {0}) E) (old new line : List ℕ) (P : List ℕ → Type 0) → new ≡ (if is_ok r then old ++ line else old) → P line
+-- a line that was appended, of a reply that came
+pub pushed : {E : Type 0} (r : Result (Unit {0}) E) (Came : Type 0) (old new line : List ℕ) (P : List ℕ → Type 0) → OnOk r (new ≡ old ++ line) → OnOk r Came → (Came → P line)
     → OnOk r ((x : List ℕ) × (new ≡ old ++ x) × P x)
-pushed (Ok u) old new line P e h = (line, e, h)
-pushed (Err x) old new line P e h = tt
+pushed (Ok u) Came old new line P e came h = (line, e, h came)
+pushed (Err x) Came old new line P e came h = tt

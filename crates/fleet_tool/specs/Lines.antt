@@ -5,6 +5,7 @@ use Rattle.std.specs.Fmt.{decimal}
 use Rattle.hex.specs.Hex.{encode_lower}
 use Rattle.gossip_core.specs.declared.answering.Shown.{Shown}
 use Rattle.gossip_core.specs.declared.answering.Shown.TheVariants.{Anchor, Key}
+use Rattle.segment_core.specs.declared.answers.Front.{Front}
 use Rattle.fleet_steps.specs.declared.steps.Step.{Step}
 use Rattle.fleet_steps.specs.declared.steps.Step.TheVariants.{Read}
 use Rattle.fleet_core.specs.declared.replies.Reply.{Reply}
@@ -20,6 +21,10 @@ abbrev pub answer_text : Bool → List ℕ
 answer_text true = codes "yes\n"
 answer_text false = codes "no\n"
 
+-- a node's front
+abbrev pub front_text : Front → List ℕ
+front_text f = codes "front " ++ (decimal f.epoch ++ (codes " " ++ (decimal f.complete ++ (codes " " ++ (decimal f.min ++ codes "\n")))))
+
 -- what an answer tells that a node does not answer for
 abbrev pub uncovered_text : Shown → List ℕ
 uncovered_text (Anchor anchor) = codes "anchor " ++ decimal anchor
@@ -31,7 +36,7 @@ line_of step reply.Changed = codes "changed\n"
 line_of step reply.Unchanged = codes "unchanged\n"
 line_of step reply.Folded = codes "folded\n"
 line_of step reply.Discarded = codes "discarded\n"
-line_of step (reply.Front f) = codes "front " ++ (decimal f.epoch ++ (codes " " ++ (decimal f.complete ++ (codes " " ++ (decimal f.min ++ codes "\n")))))
+line_of step (reply.Front front) = front_text front
 line_of step (reply.Page image) = codes "page " ++ (encode_lower (shown_bytes step image) ++ codes "\n")
 line_of step (reply.Below min) = codes "below " ++ (decimal min ++ codes "\n")
 line_of step (reply.Above complete) = codes "above " ++ (decimal complete ++ codes "\n")

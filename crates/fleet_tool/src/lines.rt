@@ -1,14 +1,16 @@
 //! Answer lines.
 
-ghost use Rattle.std.specs.Prelude.{◌≡◌, IfOk, OnOk, string_bytes};
+ghost use Rattle.std.specs.Prelude.{◌≡◌, ◌++◌, IfOk, OnOk, codes, string_bytes};
+ghost use Rattle.hex.specs.Hex.{encode_lower};
 ghost use Rattle.fleet_steps.specs.Shown.{ShowsInside};
 ghost use Rattle.fleet_core.specs.Replies.{HasCome};
-ghost use Rattle.fleet_tool.specs.Lines.{shown_bytes, uncovered_text, line_of};
+ghost use Rattle.fleet_tool.specs.Lines.{shown_bytes, front_text, uncovered_text, line_of};
 
 use fleet_core::Reply;
 use fleet_steps::Step;
 use gossip_core::Shown;
 use redo_core::Page;
+use segment_core::Front;
 use std::alloc::{AllocError, Global};
 
 /// The bytes of a page that the step shows: only a read shows some.
@@ -25,6 +27,25 @@ fn shown_bytes<'a>(step: Step<usize>, page: &'a Page) -> &'a [u8]
     }
 }
 
+/// Appends the line that shows these bytes.
+fn put_page(alloc: Global, bytes: &[u8], text: &mut String) -> Result<(), AllocError>
+    ensures { OnOk result (string_bytes text.new ≡ string_bytes text.old ++ (codes "page " ++ (encode_lower bytes.now ++ codes "\n"))) }
+{
+    let digits = hex::encode(alloc, bytes)?;
+    text.push_str("page ")?;
+    text.push_str(&digits)?;
+    text.push_str("\n")
+}
+
+fn front_line(alloc: Global, front: &Front) -> Result<String, AllocError>
+    ensures { IfOk result (λ s. string_bytes s ≡ front_text front.now) }
+{
+    let epoch = front.epoch;
+    let complete = front.complete;
+    let min = front.min;
+    format!(in alloc; "front {epoch} {complete} {min}\n")
+}
+
 /// What of a summary a node does not answer for.
 fn uncovered_text(alloc: Global, shown: Shown) -> Result<String, AllocError>
     ensures { IfOk result (λ s. string_bytes s ≡ uncovered_text shown) }
@@ -39,43 +60,44 @@ fn uncovered_text(alloc: Global, shown: Shown) -> Result<String, AllocError>
     }
 }
 
-/// The answer line of a reply to a step. A step that lacked memory is an error too.
-pub fn line(alloc: Global, step: Step<usize>, reply: &Reply) -> Result<String, AllocError>
+fn uncovered_line(alloc: Global, shown: Shown) -> Result<String, AllocError>
+    ensures { IfOk result (λ s. string_bytes s ≡ codes "uncovered " ++ (uncovered_text shown ++ codes "\n")) }
+{
+    let shown = uncovered_text(alloc, shown)?;
+    format!(in alloc; "uncovered {shown}\n")
+}
+
+/// Appends the answer line of a reply to a step. A step that lacked memory is an error too.
+pub fn put_line(
+    alloc: Global,
+    step: Step<usize>,
+    reply: &Reply,
+    text: &mut String,
+) -> Result<(), AllocError>
     requires { ShowsInside step }
-    ensures text { IfOk result (λ s. string_bytes s ≡ line_of step reply.now) }
+    ensures text { OnOk result (string_bytes text.new ≡ string_bytes text.old ++ line_of step reply.now) }
     ensures came { OnOk result (HasCome reply.now) }
 {
     match reply {
-        Reply::Changed => String::from_str(alloc, "changed\n"),
-        Reply::Unchanged => String::from_str(alloc, "unchanged\n"),
-        Reply::Folded => String::from_str(alloc, "folded\n"),
-        Reply::Discarded => String::from_str(alloc, "discarded\n"),
-        Reply::Front(front) => {
-            let epoch = front.epoch;
-            let complete = front.complete;
-            let min = front.min;
-            format!(in alloc; "front {epoch} {complete} {min}\n")
-        }
-        Reply::Page(page) => {
-            let digits = hex::encode(alloc, shown_bytes(step, page))?;
-            format!(in alloc; "page {digits}\n")
-        }
-        Reply::Below(min) => format!(in alloc; "below {min}\n"),
-        Reply::Above(complete) => format!(in alloc; "above {complete}\n"),
-        Reply::Joined => String::from_str(alloc, "joined\n"),
-        Reply::Answer(true) => String::from_str(alloc, "yes\n"),
-        Reply::Answer(false) => String::from_str(alloc, "no\n"),
-        Reply::Wiped => String::from_str(alloc, "wiped\n"),
-        Reply::Message(number) => format!(in alloc; "message {number}\n"),
-        Reply::Absorbed => String::from_str(alloc, "absorbed\n"),
-        Reply::Uncovered(shown) => {
-            let shown = uncovered_text(alloc, *shown)?;
-            format!(in alloc; "uncovered {shown}\n")
-        }
-        Reply::NoMessage(number) => format!(in alloc; "no message {number}\n"),
-        Reply::NoNode(node) => format!(in alloc; "no node {node}\n"),
-        Reply::Refused(_) => Ok(String::new(alloc)),
-        Reply::BrokenBlockChain { .. } => Ok(String::new(alloc)),
+        Reply::Changed => text.push_str("changed\n"),
+        Reply::Unchanged => text.push_str("unchanged\n"),
+        Reply::Folded => text.push_str("folded\n"),
+        Reply::Discarded => text.push_str("discarded\n"),
+        Reply::Front(front) => text.push_str(&front_line(alloc, front)?),
+        Reply::Page(page) => put_page(alloc, shown_bytes(step, page), text),
+        Reply::Below(min) => text.push_str(&format!(in alloc; "below {min}\n")?),
+        Reply::Above(complete) => text.push_str(&format!(in alloc; "above {complete}\n")?),
+        Reply::Joined => text.push_str("joined\n"),
+        Reply::Answer(true) => text.push_str("yes\n"),
+        Reply::Answer(false) => text.push_str("no\n"),
+        Reply::Wiped => text.push_str("wiped\n"),
+        Reply::Message(number) => text.push_str(&format!(in alloc; "message {number}\n")?),
+        Reply::Absorbed => text.push_str("absorbed\n"),
+        Reply::Uncovered(shown) => text.push_str(&uncovered_line(alloc, *shown)?),
+        Reply::NoMessage(number) => text.push_str(&format!(in alloc; "no message {number}\n")?),
+        Reply::NoNode(node) => text.push_str(&format!(in alloc; "no node {node}\n")?),
+        Reply::Refused(_) => Ok(()),
+        Reply::BrokenBlockChain { .. } => Ok(()),
         Reply::Memory => Err(AllocError),
     }
 }

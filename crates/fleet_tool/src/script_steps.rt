@@ -5,7 +5,7 @@ ghost use Rattle.script_text.specs.StepLine.{IsInRange};
 ghost use Rattle.fleet_core.specs.Runs.{FollowsStep};
 ghost use Rattle.fleet_tool.specs.ScriptSteps.{IsStepOf, AnswersSteps, AnswersStep};
 
-use crate::lines::line;
+use crate::lines::put_line;
 use fleet_core::{Fleet, Reply};
 use fleet_steps::Step;
 use redo_core::Fact;
@@ -42,8 +42,7 @@ fn put_answer(
 {
     let asked = step_of(facts, step)?;
     let reply = carry_out(fleet, asked);
-    let line = line(alloc, step, &reply)?;
-    text.push_str(&line)
+    put_line(alloc, step, &reply, text)
 }
 
 /// The answer lines of a fleet to steps that take their facts from the list. No page is kept for an answer: each step's line is
