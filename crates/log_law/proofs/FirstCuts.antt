@@ -211,12 +211,12 @@ later_lo_step roster log count lows e old new (Some d) small a q f h =
     }
 
 -- what a description decides
-pub law2_at : (log : List Fact) (r : RecordData) (o : Option CutData) (b : Bool) → first_cut log r.epoch ≡ o
-    → MatchOption o (b ≡ true) (λ c. (b ≡ true) ↔ (c.hi < r.number)) → HasCutsTo (counted log) r.epoch → (b ≡ true) ↔ Law2 log (Record r)
-law2_at log r None b q h has = (λ _. (has, λ c k e. absurd (none-some c (sym q ∙ at_counted log r.epoch c k e))), λ _. h)
-law2_at log r (Some d) b q h has = (
-  λ t. (has, λ c k e. let u : d ≡ c = same_Some d c (sym q ∙ at_counted log r.epoch c k e) in subst (λ x. x.hi < r.number) u (h.0 t)),
-  λ law. let s = counted_at log r.epoch d q in h.1 (law.1 d s.0 s.1),
+pub above_hi : (log : List Fact) (e n : ℕ) (o : Option CutData) (b : Bool) → first_cut log e ≡ o
+    → MatchOption o (b ≡ true) (λ c. (b ≡ true) ↔ (c.hi < n)) → (b ≡ true) ↔ ((c : CutData) → Contains (counted log) c → c.epoch ≡ e → c.hi < n)
+above_hi log e n None b q h = (λ _. λ c k s. absurd (none-some c (sym q ∙ at_counted log e c k s)), λ _. h)
+above_hi log e n (Some d) b q h = (
+  λ t. λ c k s. let u : d ≡ c = same_Some d c (sym q ∙ at_counted log e c k s) in subst (λ x. x.hi < n) u (h.0 t),
+  λ above. let s = counted_at log e d q in h.1 (above d s.0 s.1),
 )
 
 pub law2_not : (log : List Fact) (r : RecordData) (k : ℕ) → AreBegunTo log k → k < r.epoch → Law2 log (Record r) → ⊥

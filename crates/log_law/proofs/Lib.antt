@@ -11,3 +11,4 @@ pub mod InOrder
 pub mod Verdict
 pub mod Lengthened
 pub mod Written
+pub mod Breaches

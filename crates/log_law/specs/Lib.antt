@@ -5,3 +5,4 @@ pub mod Links
 pub mod Keys
 pub mod Report
 pub mod Writing
+pub mod Breach

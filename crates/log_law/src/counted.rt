@@ -1,14 +1,15 @@
 ghost use Rattle.std.specs.Prelude.{◌≡◌, ℕ, ◌≤◌, ◌<◌, ◌⊎◌, ◌↔◌, List, [], ◌∷◌, length, slice_index_or, IsTrue, IfOk, MatchOption, None, Some};
 ghost use Rattle.std.specs.List.{Contains};
-ghost use Rattle.redo_core.specs.CompleteEpoch.{HasCut};
+ghost use Rattle.redo_core.specs.CompleteEpoch.{HasCut, HasCutsTo};
 ghost use Rattle.redo_core.specs.Data.{CutData, RecordData};
 ghost use Rattle.redo_core.specs.Order.{IsGreatest};
 ghost use Rattle.redo_core.specs.Sets.{cuts};
 ghost use Rattle.redo_core.specs.Shape.{cut_fault, advance_fault, epoch_count, max_number};
-ghost use Rattle.redo_core.specs.Sound.{Law2, Law5};
+ghost use Rattle.redo_core.specs.Sound.{Law2, Law5, counted};
 ghost use Rattle.redo_core.specs.declared.facts.Fact.{Fact};
 ghost use Rattle.redo_core.specs.declared.facts.Fact.TheVariants.{Record, Advance as OfAdvance};
 ghost use Rattle.log_law.specs.Counted.{first_at, first_cut, or_first, IsTable, AreBegunTo, IsLeastLaterLo, Describes, HasLeastLaterLo};
+ghost use Rattle.log_law.specs.Breach.{IsFirstMissing};
 ghost use Rattle.log_law.specs.Lows.{AreLeastPoints};
 
 use crate::lows::lows_of;
@@ -71,10 +72,35 @@ impl CountedCuts {
         if epoch > self.complete {
             return false;
         }
+        self.is_above_hi(epoch, number)
+    }
+
+    /// Whether a number is above the `hi` of an epoch, where it has one.
+    pub(crate) fn is_above_hi(&self, epoch: u16, number: u64) -> bool
+        ensures { (log : List Fact) → Describes log self.now
+            → IsTrue result ↔ ((c : CutData) → Contains (counted log) c → c.epoch ≡ epoch → c.hi < number) }
+    {
         match self.at(epoch) {
             Some(cut) => cut.hi() < number,
             None => true,
         }
+    }
+
+    /// The least epoch from 1 up to this one that has no truncation.
+    pub(crate) fn first_missing(&self, epoch: u16) -> Option<u16>
+        ensures { (log : List Fact) → Describes log self.now → MatchOption result (HasCutsTo (counted log) epoch) (IsFirstMissing log epoch) }
+    {
+        if epoch > self.complete {
+            return Some(self.complete + 1);
+        }
+        None
+    }
+
+    /// How many epochs the table has: the last one with a truncation, and 1.
+    pub(crate) fn epochs(&self) -> usize
+        ensures { result ≡ length self.now.by_epoch.items }
+    {
+        self.by_epoch.len()
     }
 
     /// Whether an advance's reader is of the roster, its epoch has begun, and no later truncation that all readers are past cuts

@@ -11,6 +11,7 @@
 #![tactic(auto)]
 
 mod alive;
+mod breach;
 mod check;
 mod counted;
 mod fixed;
@@ -19,5 +20,6 @@ mod links;
 mod lows;
 mod writer;
 
+pub use breach::{Breach, breach_of};
 pub use check::{CheckFault, check_log};
 pub use writer::{Writer, WriterFault};

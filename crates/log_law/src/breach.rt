@@ -1,0 +1,366 @@
+ghost use Rattle.std.specs.Prelude.{◌≡◌, ℕ, ◌+◌, ◌<◌, ◌≤◌, ◌↔◌, List, length, take, slice_get, slice_index, Option, None, Some, IfOk, IfSome, IsSome, IsTrue, MatchBool, MatchOption, min};
+ghost use Rattle.std.specs.List.{Contains};
+ghost use Rattle.redo_core.specs.Data.{CutData};
+ghost use Rattle.redo_core.specs.Fault.{KeepsLaw};
+ghost use Rattle.redo_core.specs.Order.{IsGreatest};
+ghost use Rattle.redo_core.specs.Past.{ArePast};
+ghost use Rattle.redo_core.specs.Sets.{advances};
+ghost use Rattle.redo_core.specs.Sound.{SameKey, Law1, Law2, Law3, Law4, Law5, IsAliveBelow, counted};
+ghost use Rattle.redo_core.specs.Standing.{IsAlive};
+ghost use Rattle.redo_core.specs.declared.facts.Fact.{Fact};
+ghost use Rattle.log_law.specs.Counted.{Describes};
+ghost use Rattle.log_law.specs.Lows.{AreLeastPoints};
+ghost use Rattle.log_law.specs.Report.{Reports};
+ghost use Rattle.log_law.specs.Breach.{StandsAt, Tells, TellsOf, TellsKey, TellsBegun, TellsSegment, TellsBlock, TellsLink, TellsAdvance, IsCutBelow, IsOfPage, AreBoundsTo, IsTarget};
+
+use crate::counted::{CountedCuts, filled};
+use crate::lows::lows_of;
+use redo_core::{Advance, Cut, Fact, Law, LawFault, MAX_NUMBER, Record, Roster};
+use std::alloc::{AllocError, Global};
+use thiserror::Error;
+
+/// With what else a fact breaks its law. Places count from 1.
+#[derive(Clone, Copy, Debug, PartialEq, Eq, Error)]
+pub enum Breach {
+    /// The earlier fact of the same key (law 1).
+    #[error("fact {place} has the same key and another content")]
+    OtherFact { place: u64 },
+    /// The least epoch that has no truncation, up to the fact's own (laws 2 and 5).
+    #[error("epoch {epoch} has no truncation")]
+    NotBegun { epoch: u16 },
+    /// The truncation of the record's epoch, whose `hi` is not below its number (law 2).
+    #[error("its number is not above the hi of fact {place}")]
+    NotAbove { place: u64 },
+    /// The record that the backlink has to name, above the number that it names (laws 3 and 4).
+    #[error("the record at {place} is alive there and stands between the two")]
+    Passes { place: u64 },
+    /// The number that the backlink names, which no record alive below has (laws 3 and 4).
+    #[error("no record that is alive there has the number {number}")]
+    NoTarget { number: u64 },
+    /// The reader, outside the roster (law 5).
+    #[error("reader {reader} is not of the roster")]
+    NoReader { reader: u8 },
+    /// The later truncation that all readers are past, whose `lo` is below the advance's point (law 5).
+    #[error("fact {place} cuts below its point, and all readers are past that")]
+    CutBelow { place: u64 },
+}
+
+/// The greatest number that a backlink may name, or 0, and the place (from 1) of its record.
+#[derive(Clone, Copy)]
+struct Target {
+    place: u64,
+    number: u64,
+}
+
+/// With what else a reported fact breaks its law. None only for a fault that is none; the only error is want of memory.
+pub fn breach_of(
+    alloc: Global,
+    facts: &[Fact],
+    roster: Roster,
+    fault: LawFault,
+) -> Result<Option<Breach>, AllocError>
+    ensures tells { IfOk result (λ found. IfSome found (Tells roster facts.now fault)) }
+    ensures found { Reports roster facts.now fault → IfOk result (λ found. IsSome found) }
+{
+    match fault.place {
+        0 => Ok(None),
+        place => breach_at(alloc, facts, roster, (place - 1) as usize, fault.law),
+    }
+}
+
+// The same of a place from 0.
+fn breach_at(
+    alloc: Global,
+    facts: &[Fact],
+    roster: Roster,
+    place: usize,
+    law: Law,
+) -> Result<Option<Breach>, AllocError>
+    ensures none { slice_get facts.now place ≡ None → IfOk result (λ found. found ≡ None) }
+    ensures some { (fact : Fact) → slice_get facts.now place ≡ Some fact → IfOk result
+        (λ found. MatchOption found (KeepsLaw roster facts.now place fact law) (TellsOf roster facts.now (place + 1) fact law)) }
+{
+    let Some(fact) = facts.get(place) else {
+        return Ok(None);
+    };
+    let cuts = CountedCuts::new(alloc, facts, roster)?;
+    match law {
+        Law::OneFactPerKey => Ok(key_breach(facts, place, fact)),
+        Law::EpochBegun => Ok(begun_breach(facts, &cuts, fact)),
+        Law::SegmentBacklink => segment_breach(alloc, facts, &cuts, fact),
+        Law::BlockBacklink => block_breach(alloc, facts, &cuts, fact),
+        Law::AdvanceKept => advance_breach(alloc, facts, roster, &cuts, fact),
+    }
+}
+
+fn key_breach(facts: &[Fact], place: usize, fact: &Fact) -> Option<Breach>
+    requires { slice_get facts.now place ≡ Some fact.now }
+    ensures { MatchOption result (Law1 (take place facts.now) fact.now) (TellsKey facts.now (place + 1) fact.now) }
+{
+    for earlier in 0..place {
+        if is_other(&facts[earlier], fact) {
+            return Some(Breach::OtherFact {
+                place: earlier as u64 + 1,
+            });
+        }
+    }
+    None
+}
+
+/// Whether two facts have one key and differ.
+fn is_other(one: &Fact, two: &Fact) -> bool
+    ensures { MatchBool result (SameKey one.now two.now × (one.now ≡ two.now → ⊥)) (SameKey one.now two.now → one.now ≡ two.now) }
+{
+    has_same_key(one, two) && !one.is_same(two)
+}
+
+fn has_same_key(one: &Fact, two: &Fact) -> bool
+    ensures { IsTrue result ↔ SameKey one.now two.now }
+{
+    match (one, two) {
+        (Fact::Record(one), Fact::Record(two)) => {
+            one.epoch() == two.epoch() && one.number() == two.number()
+        }
+        (Fact::Cut(one), Fact::Cut(two)) => one.epoch() == two.epoch(),
+        _ => false,
+    }
+}
+
+fn begun_breach(facts: &[Fact], cuts: &CountedCuts, fact: &Fact) -> Option<Breach>
+    requires { Describes facts.now cuts.now }
+    ensures { MatchOption result (Law2 facts.now fact.now) (TellsBegun facts.now fact.now) }
+{
+    let Fact::Record(redo) = fact else {
+        return None;
+    };
+    if let Some(epoch) = cuts.first_missing(redo.epoch()) {
+        return Some(Breach::NotBegun { epoch });
+    }
+    let cut = cuts.at(redo.epoch())?;
+    if cut.hi() < redo.number() {
+        return None;
+    }
+    let place = place_of_cut(facts, cut)?;
+    Some(Breach::NotAbove { place })
+}
+
+/// Where a truncation stands first.
+fn place_of_cut(facts: &[Fact], sought: Cut) -> Option<u64>
+    ensures { MatchOption result (Contains facts.now (Fact.Cut sought) → ⊥) (λ place. StandsAt facts.now place (Fact.Cut sought)) }
+{
+    for (place, fact) in facts.iter().enumerate() {
+        if is_cut(fact, sought) {
+            return Some(place as u64 + 1);
+        }
+    }
+    None
+}
+
+fn is_cut(fact: &Fact, sought: Cut) -> bool
+    ensures { IsTrue result ↔ (fact.now ≡ Fact.Cut sought) }
+{
+    match fact {
+        Fact::Cut(cut) => *cut == sought,
+        _ => false,
+    }
+}
+
+fn segment_breach(
+    alloc: Global,
+    facts: &[Fact],
+    cuts: &CountedCuts,
+    fact: &Fact,
+) -> Result<Option<Breach>, AllocError>
+    requires { Describes facts.now cuts.now }
+    ensures { IfOk result (λ found. MatchOption found (Law3 facts.now fact.now) (TellsSegment facts.now fact.now)) }
+{
+    match fact {
+        Fact::Record(redo) => link_breach(alloc, facts, cuts, redo, None, redo.back()),
+        _ => Ok(None),
+    }
+}
+
+fn block_breach(
+    alloc: Global,
+    facts: &[Fact],
+    cuts: &CountedCuts,
+    fact: &Fact,
+) -> Result<Option<Breach>, AllocError>
+    requires { Describes facts.now cuts.now }
+    ensures { IfOk result (λ found. MatchOption found (Law4 facts.now fact.now) (TellsBlock facts.now fact.now)) }
+{
+    match fact {
+        Fact::Record(redo) => {
+            let page = Some(redo.page());
+            link_breach(alloc, facts, cuts, redo, page, redo.block_back())
+        }
+        _ => Ok(None),
+    }
+}
+
+/// What is wrong with a backlink of a record, over the records of a page or of all pages.
+fn link_breach(
+    alloc: Global,
+    facts: &[Fact],
+    cuts: &CountedCuts,
+    redo: &Record,
+    page: Option<u16>,
+    back: u64,
+) -> Result<Option<Breach>, AllocError>
+    requires { Describes facts.now cuts.now }
+    ensures { IfOk result (λ found. MatchOption found (IsGreatest (IsAliveBelow facts.now redo.now (λ s. IsOfPage page s)) back)
+        (TellsLink facts.now redo.now (λ s. IsOfPage page s) back)) }
+{
+    let bounds = alive_bounds(alloc, cuts, redo.epoch())?;
+    let target = target_of(facts, cuts, &bounds, redo, page);
+    if back < target.number {
+        return Ok(Some(Breach::Passes {
+            place: target.place,
+        }));
+    }
+    if target.number < back {
+        return Ok(Some(Breach::NoTarget { number: back }));
+    }
+    Ok(None)
+}
+
+/// For each epoch up to the view's, the greatest number of a record that the later truncations leave alive.
+fn alive_bounds(alloc: Global, cuts: &CountedCuts, view: u16) -> Result<Vec<u64>, AllocError>
+    ensures { (log : List Fact) → Describes log cuts.now → IfOk result (λ v. AreBoundsTo log view v.items) }
+{
+    let mut bounds = filled(alloc, MAX_NUMBER, usize::from(view) + 1)?;
+    let mut epoch = view;
+    while epoch > 0 {
+        let place = usize::from(epoch);
+        let later = bounds[place];
+        bounds[place - 1] = lowered(later, cuts.at(epoch));
+        epoch -= 1;
+    }
+    Ok(bounds)
+}
+
+/// A bound, or the `lo` of a truncation that is lower.
+fn lowered(bound: u64, cut: Option<Cut>) -> u64
+    ensures { MatchOption cut (result ≡ bound) (λ c. result ≡ min c.lo bound) }
+{
+    match cut {
+        Some(cut) => cut.lo().min(bound),
+        None => bound,
+    }
+}
+
+fn target_of(
+    facts: &[Fact],
+    cuts: &CountedCuts,
+    bounds: &[u64],
+    redo: &Record,
+    page: Option<u16>,
+) -> Target
+    requires cuts { Describes facts.now cuts.now }
+    requires bounds { AreBoundsTo facts.now redo.now.epoch bounds.now }
+    ensures { IsTarget facts.now redo.now (λ s. IsOfPage page s) result }
+{
+    let mut target = Target {
+        place: 0,
+        number: 0,
+    };
+    for (place, fact) in facts.iter().enumerate() {
+        if let Fact::Record(other) = fact {
+            let number = other.number();
+            if target.number < number && is_candidate(other, redo, page, cuts, bounds) {
+                target = Target {
+                    place: place as u64 + 1,
+                    number,
+                };
+            }
+        }
+    }
+    target
+}
+
+/// Whether a backlink of `redo` may name another record, in the view of the bounds.
+fn is_candidate(
+    other: &Record,
+    redo: &Record,
+    page: Option<u16>,
+    cuts: &CountedCuts,
+    bounds: &[u64],
+) -> bool
+    ensures { (log : List Fact) → Describes log cuts.now → AreBoundsTo log redo.now.epoch bounds.now
+        → IsTrue result ↔ (IsAlive (counted log) redo.now.epoch other.now.epoch other.now.number × IsOfPage page other.now × (other.now.number < redo.now.number)) }
+{
+    other.number() < redo.number() && is_of_page(other, page) && is_alive(other, cuts, bounds)
+}
+
+fn is_of_page(redo: &Record, page: Option<u16>) -> bool
+    ensures { IsTrue result ↔ IsOfPage page redo.now }
+{
+    match page {
+        Some(page) => redo.page() == page,
+        None => true,
+    }
+}
+
+/// Whether a record is alive in the view of the bounds.
+fn is_alive(redo: &Record, cuts: &CountedCuts, bounds: &[u64]) -> bool
+    ensures { (log : List Fact) (view : ℕ) → Describes log cuts.now → AreBoundsTo log view bounds.now
+        → IsTrue result ↔ IsAlive (counted log) view redo.now.epoch redo.now.number }
+{
+    let epoch = usize::from(redo.epoch());
+    if epoch >= bounds.len() {
+        return false;
+    }
+    redo.number() <= bounds[epoch] && cuts.is_above_hi(redo.epoch(), redo.number())
+}
+
+fn advance_breach(
+    alloc: Global,
+    facts: &[Fact],
+    roster: Roster,
+    cuts: &CountedCuts,
+    fact: &Fact,
+) -> Result<Option<Breach>, AllocError>
+    requires { Describes facts.now cuts.now }
+    ensures { IfOk result (λ found. MatchOption found (Law5 roster facts.now fact.now) (TellsAdvance roster facts.now fact.now)) }
+{
+    let Fact::Advance(advance) = fact else {
+        return Ok(None);
+    };
+    let reader = advance.reader();
+    if reader > roster.readers() {
+        return Ok(Some(Breach::NoReader { reader }));
+    }
+    if let Some(epoch) = cuts.first_missing(advance.epoch()) {
+        return Ok(Some(Breach::NotBegun { epoch }));
+    }
+    let lows = lows_of(alloc, facts, roster, cuts.epochs())?;
+    match cut_below(facts, cuts, &lows, *advance) {
+        Some(place) => Ok(Some(Breach::CutBelow { place })),
+        None => Ok(None),
+    }
+}
+
+/// The first truncation that counts, cuts below a later advance's point, and all readers are past.
+fn cut_below(facts: &[Fact], cuts: &CountedCuts, lows: &[u64], advance: Advance) -> Option<u64>
+    requires { Describes facts.now cuts.now }
+    ensures { (roster : ℕ) → AreLeastPoints roster facts.now (length cuts.now.by_epoch.items) lows.now
+        → MatchOption result
+        ((c : CutData) → Contains (counted facts.now) c → advance.epoch < c.epoch → ArePast roster (advances facts.now) c → advance.point ≤ c.lo)
+        (IsCutBelow roster facts.now advance) }
+{
+    for (place, fact) in facts.iter().enumerate() {
+        if let Fact::Cut(cut) = fact {
+            if is_below(cut, lows, advance) && cuts.counts(cut) {
+                return Some(place as u64 + 1);
+            }
+        }
+    }
+    None
+}
+
+fn is_below(cut: &Cut, lows: &[u64], advance: Advance) -> bool
+    ensures { IsTrue result ↔ ((advance.epoch < cut.now.epoch) × (cut.now.lo < advance.point) × (cut.now.lo < slice_index lows.now cut.now.epoch)) }
+{
+    let low = lows.get(usize::from(cut.epoch())).copied().unwrap_or(0);
+    advance.epoch() < cut.epoch() && cut.lo() < advance.point() && cut.lo() < low
+}
