@@ -11,4 +11,5 @@ pub mod InOrder
 pub mod Verdict
 pub mod Lengthened
 pub mod Written
+pub mod Candidates
 pub mod Breaches

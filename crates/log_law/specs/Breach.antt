@@ -1,9 +1,9 @@
 -- With what else a fact breaks its law. Places count from 1.
-use Rattle.std.specs.Prelude.{◌≡◌, ℕ, ◌+◌, ◌<◌, ◌≤◌, ◌⊎◌, ◌↔◌, List, length, slice_get, slice_index, Option, Some, None}
+use Rattle.std.specs.Prelude.{◌≡◌, ℕ, ◌+◌, ◌<◌, ◌≤◌, List, slice_get, Some}
 use Rattle.std.specs.List.{Contains}
 use Rattle.redo_core.specs.Data.{RecordData, CutData, AdvanceData}
-use Rattle.redo_core.specs.Shape.{max_number}
 use Rattle.redo_core.specs.Sets.{advances}
+use Rattle.redo_core.specs.Fault.{KeepsLaw}
 use Rattle.redo_core.specs.Order.{IsGreatest}
 use Rattle.redo_core.specs.CompleteEpoch.{HasCut, LacksCut}
 use Rattle.redo_core.specs.Roster.{IsReader}
@@ -14,13 +14,9 @@ use Rattle.redo_core.specs.declared.facts.Fact.TheVariants.{Record, Cut, Advance
 use Rattle.redo_core.specs.declared.laws.Law.{Law}
 use Rattle.redo_core.specs.declared.laws.Law.TheVariants.{OneFactPerKey, EpochBegun, SegmentBacklink, BlockBacklink, AdvanceKept}
 use Rattle.redo_core.specs.declared.laws.LawFault.{LawFault}
-use Rattle.log_law.specs.declared.breach.Target.{Target}
+use Rattle.log_law.specs.Targets.{StandsAt}
 use Rattle.log_law.specs.declared.breach.Breach.{Breach}
 use Rattle.log_law.specs.declared.breach.Breach.TheVariants.{OtherFact, NotBegun, NotAbove, Passes, NoTarget, NoReader, CutBelow}
-
--- the fact stands at a place
-abbrev pub StandsAt : List Fact → ℕ → Fact → Type 0
-StandsAt log place fact = (before : ℕ) × (place ≡ before + 1) × (slice_get log before ≡ Some fact)
 
 -- an earlier place has the fact's key and another content
 abbrev pub IsOtherAt : List Fact → ℕ → Fact → ℕ → Type 0
@@ -41,11 +37,11 @@ IsNotAbove log r place = (c : CutData) × StandsAt log place (Cut c) × Contains
 abbrev pub IsPassed : List Fact → RecordData → (RecordData → Type 0) → ℕ → ℕ → Type 0
 IsPassed log r Only back place = (n : ℕ) × (s : IsAliveBelow log r Only n) × StandsAt log place (Record s.other) × IsGreatest (IsAliveBelow log r Only) n × (back < n)
 
--- the backlink names a number, and those of all records that it may name are below
+-- the backlink names a number above those of all records that it may name
 abbrev pub IsAboveAll : List Fact → RecordData → (RecordData → Type 0) → ℕ → Type 0
 IsAboveAll log r Only back = (0 < back) × ((n : ℕ) → IsAliveBelow log r Only n → n < back)
 
--- the truncation at a place counts, is of a later epoch than the advance and past all readers, and its lo is below the point
+-- The truncation at a place counts and is of a later epoch than the advance; all readers are past it, and its lo is below the point.
 abbrev pub IsCutBelow : ℕ → List Fact → AdvanceData → ℕ → Type 0
 IsCutBelow roster log a place =
     (c : CutData) × StandsAt log place (Cut c) × Contains (counted log) c × (a.epoch < c.epoch) × ArePast roster (advances log) c × (c.lo < a.point)
@@ -84,7 +80,7 @@ TellsAdvance roster log (Advance a) (NotBegun epoch) = IsFirstMissing log a.epoc
 TellsAdvance roster log (Advance a) (CutBelow place) = IsCutBelow roster log a place
 TellsAdvance roster log _ _ = ⊥
 
--- the breach is one of the law by the fact at the place
+-- the breach says truly with what the fact at the place breaks the law
 abbrev pub TellsOf : ℕ → List Fact → ℕ → Fact → Law → Breach → Type 0
 TellsOf roster log place fact OneFactPerKey breach = TellsKey log place fact breach
 TellsOf roster log place fact EpochBegun breach = TellsBegun log fact breach
@@ -96,21 +92,7 @@ TellsOf roster log place fact AdvanceKept breach = TellsAdvance roster log fact 
 abbrev pub Tells : ℕ → List Fact → LawFault → Breach → Type 0
 Tells roster log fault breach = (fact : Fact) × StandsAt log fault.place fact × TellsOf roster log fault.place fact fault.law breach
 
--- a record of the page, where there is one to keep to
-abbrev pub IsOfPage : Option ℕ → RecordData → Type 0
-IsOfPage None s = Unit {0}
-IsOfPage (Some page) s = s.page ≡ page
-
--- a bound is the greatest number of a record of the epoch that the later truncations up to the view's epoch leave alive
-abbrev pub IsBoundTo : List Fact → ℕ → ℕ → ℕ → Type 0
-IsBoundTo log view epoch bound = (n : ℕ) → (n ≤ bound) ↔ ((n ≤ max_number) × ((c : CutData) → Contains (counted log) c → epoch < c.epoch → c.epoch ≤ view → n ≤ c.lo))
-
--- the bounds of the epochs up to the view's
-pub record AreBoundsTo (log : List Fact) (view : ℕ) (bounds : List ℕ) : Type 0 where
-  pub len : length bounds ≡ view + 1
-  pub each : (epoch : ℕ) → epoch ≤ view → IsBoundTo log view epoch (slice_index bounds epoch)
-
--- the number is the greatest that the backlink may name, with its record's place, or 0
-abbrev pub IsTarget : List Fact → RecordData → (RecordData → Type 0) → Target → Type 0
-IsTarget log r Only t =
-    ((t.number ≡ 0) ⊎ ((s : IsAliveBelow log r Only t.number) × StandsAt log t.place (Record s.other))) × ((n : ℕ) → IsAliveBelow log r Only n → n ≤ t.number)
+-- what is told shows that the law is broken
+abbrev pub ShowsBroken : Type 0
+ShowsBroken = (roster : ℕ) (log : List Fact) (fault : LawFault) (breach : Breach) (place : ℕ) (fact : Fact) → Tells roster log fault breach
+    → fault.place ≡ place + 1 → slice_get log place ≡ Some fact → KeepsLaw roster log place fact fault.law → ⊥

@@ -5,4 +5,5 @@ pub mod Links
 pub mod Keys
 pub mod Report
 pub mod Writing
+pub mod Targets
 pub mod Breach

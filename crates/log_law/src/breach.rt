@@ -1,4 +1,4 @@
-ghost use Rattle.std.specs.Prelude.{◌≡◌, ℕ, ◌+◌, ◌<◌, ◌≤◌, ◌↔◌, List, length, take, slice_get, slice_index, Option, None, Some, IfOk, IfSome, IsSome, IsTrue, MatchBool, MatchOption, min};
+ghost use Rattle.std.specs.Prelude.{◌≡◌, ℕ, ◌+◌, ◌<◌, ◌≤◌, ◌↔◌, length, take, slice_get, slice_index, None, Some, IfOk, IfSome, IsSome, IsTrue, MatchBool, MatchOption};
 ghost use Rattle.std.specs.List.{Contains};
 ghost use Rattle.redo_core.specs.Data.{CutData};
 ghost use Rattle.redo_core.specs.Fault.{KeepsLaw};
@@ -6,16 +6,17 @@ ghost use Rattle.redo_core.specs.Order.{IsGreatest};
 ghost use Rattle.redo_core.specs.Past.{ArePast};
 ghost use Rattle.redo_core.specs.Sets.{advances};
 ghost use Rattle.redo_core.specs.Sound.{SameKey, Law1, Law2, Law3, Law4, Law5, IsAliveBelow, counted};
-ghost use Rattle.redo_core.specs.Standing.{IsAlive};
 ghost use Rattle.redo_core.specs.declared.facts.Fact.{Fact};
 ghost use Rattle.log_law.specs.Counted.{Describes};
 ghost use Rattle.log_law.specs.Lows.{AreLeastPoints};
 ghost use Rattle.log_law.specs.Report.{Reports};
-ghost use Rattle.log_law.specs.Breach.{StandsAt, Tells, TellsOf, TellsKey, TellsBegun, TellsSegment, TellsBlock, TellsLink, TellsAdvance, IsCutBelow, IsOfPage, AreBoundsTo, IsTarget};
+ghost use Rattle.log_law.specs.Targets.{StandsAt, IsOfPage};
+ghost use Rattle.log_law.specs.Breach.{Tells, TellsOf, TellsKey, TellsBegun, TellsSegment, TellsBlock, TellsLink, TellsAdvance, IsCutBelow};
 
-use crate::counted::{CountedCuts, filled};
+use crate::counted::CountedCuts;
 use crate::lows::lows_of;
-use redo_core::{Advance, Cut, Fact, Law, LawFault, MAX_NUMBER, Record, Roster};
+use crate::targets::target_of;
+use redo_core::{Advance, Cut, Fact, Law, LawFault, Record, Roster};
 use std::alloc::{AllocError, Global};
 use thiserror::Error;
 
@@ -29,27 +30,20 @@ pub enum Breach {
     #[error("epoch {epoch} has no truncation")]
     NotBegun { epoch: u16 },
     /// The truncation of the record's epoch, whose `hi` is not below its number (law 2).
-    #[error("its number is not above the hi of fact {place}")]
+    #[error("the hi of the truncation at {place} is not below its number")]
     NotAbove { place: u64 },
     /// The record that the backlink has to name, above the number that it names (laws 3 and 4).
     #[error("the record at {place} is alive there and stands between the two")]
     Passes { place: u64 },
-    /// The number that the backlink names, which no record alive below has (laws 3 and 4).
-    #[error("no record that is alive there has the number {number}")]
+    /// The number that the backlink names, above those of all records that it may name (laws 3 and 4).
+    #[error("no record that its backlink may name has the number {number}")]
     NoTarget { number: u64 },
     /// The reader, outside the roster (law 5).
     #[error("reader {reader} is not of the roster")]
     NoReader { reader: u8 },
     /// The later truncation that all readers are past, whose `lo` is below the advance's point (law 5).
-    #[error("fact {place} cuts below its point, and all readers are past that")]
+    #[error("the truncation at {place} cuts below its point, and all readers are past it")]
     CutBelow { place: u64 },
-}
-
-/// The greatest number that a backlink may name, or 0, and the place (from 1) of its record.
-#[derive(Clone, Copy)]
-struct Target {
-    place: u64,
-    number: u64,
 }
 
 /// With what else a reported fact breaks its law. None only for a fault that is none; the only error is want of memory.
@@ -68,7 +62,7 @@ pub fn breach_of(
     }
 }
 
-// The same of a place from 0.
+/// The same of a place from 0.
 fn breach_at(
     alloc: Global,
     facts: &[Fact],
@@ -144,7 +138,7 @@ fn begun_breach(facts: &[Fact], cuts: &CountedCuts, fact: &Fact) -> Option<Breac
     Some(Breach::NotAbove { place })
 }
 
-/// Where a truncation stands first.
+/// The place (from 1) where a truncation stands first.
 fn place_of_cut(facts: &[Fact], sought: Cut) -> Option<u64>
     ensures { MatchOption result (Contains facts.now (Fact.Cut sought) → ⊥) (λ place. StandsAt facts.now place (Fact.Cut sought)) }
 {
@@ -211,106 +205,15 @@ fn link_breach(
     ensures { IfOk result (λ found. MatchOption found (IsGreatest (IsAliveBelow facts.now redo.now (λ s. IsOfPage page s)) back)
         (TellsLink facts.now redo.now (λ s. IsOfPage page s) back)) }
 {
-    let bounds = alive_bounds(alloc, cuts, redo.epoch())?;
-    let target = target_of(facts, cuts, &bounds, redo, page);
+    let target = target_of(alloc, facts, cuts, redo, page)?;
     if back < target.number {
-        return Ok(Some(Breach::Passes {
-            place: target.place,
-        }));
+        let place = target.place;
+        return Ok(Some(Breach::Passes { place }));
     }
     if target.number < back {
         return Ok(Some(Breach::NoTarget { number: back }));
     }
     Ok(None)
-}
-
-/// For each epoch up to the view's, the greatest number of a record that the later truncations leave alive.
-fn alive_bounds(alloc: Global, cuts: &CountedCuts, view: u16) -> Result<Vec<u64>, AllocError>
-    ensures { (log : List Fact) → Describes log cuts.now → IfOk result (λ v. AreBoundsTo log view v.items) }
-{
-    let mut bounds = filled(alloc, MAX_NUMBER, usize::from(view) + 1)?;
-    let mut epoch = view;
-    while epoch > 0 {
-        let place = usize::from(epoch);
-        let later = bounds[place];
-        bounds[place - 1] = lowered(later, cuts.at(epoch));
-        epoch -= 1;
-    }
-    Ok(bounds)
-}
-
-/// A bound, or the `lo` of a truncation that is lower.
-fn lowered(bound: u64, cut: Option<Cut>) -> u64
-    ensures { MatchOption cut (result ≡ bound) (λ c. result ≡ min c.lo bound) }
-{
-    match cut {
-        Some(cut) => cut.lo().min(bound),
-        None => bound,
-    }
-}
-
-fn target_of(
-    facts: &[Fact],
-    cuts: &CountedCuts,
-    bounds: &[u64],
-    redo: &Record,
-    page: Option<u16>,
-) -> Target
-    requires cuts { Describes facts.now cuts.now }
-    requires bounds { AreBoundsTo facts.now redo.now.epoch bounds.now }
-    ensures { IsTarget facts.now redo.now (λ s. IsOfPage page s) result }
-{
-    let mut target = Target {
-        place: 0,
-        number: 0,
-    };
-    for (place, fact) in facts.iter().enumerate() {
-        if let Fact::Record(other) = fact {
-            let number = other.number();
-            if target.number < number && is_candidate(other, redo, page, cuts, bounds) {
-                target = Target {
-                    place: place as u64 + 1,
-                    number,
-                };
-            }
-        }
-    }
-    target
-}
-
-/// Whether a backlink of `redo` may name another record, in the view of the bounds.
-fn is_candidate(
-    other: &Record,
-    redo: &Record,
-    page: Option<u16>,
-    cuts: &CountedCuts,
-    bounds: &[u64],
-) -> bool
-    ensures { (log : List Fact) → Describes log cuts.now → AreBoundsTo log redo.now.epoch bounds.now
-        → IsTrue result ↔ (IsAlive (counted log) redo.now.epoch other.now.epoch other.now.number × IsOfPage page other.now × (other.now.number < redo.now.number)) }
-{
-    other.number() < redo.number() && is_of_page(other, page) && is_alive(other, cuts, bounds)
-}
-
-fn is_of_page(redo: &Record, page: Option<u16>) -> bool
-    ensures { IsTrue result ↔ IsOfPage page redo.now }
-{
-    match page {
-        Some(page) => redo.page() == page,
-        None => true,
-    }
-}
-
-/// Whether a record is alive in the view of the bounds.
-fn is_alive(redo: &Record, cuts: &CountedCuts, bounds: &[u64]) -> bool
-    ensures { (log : List Fact) (view : ℕ) → Describes log cuts.now → AreBoundsTo log view bounds.now
-        → IsTrue result ↔ IsAlive (counted log) view redo.now.epoch redo.now.number }
-{
-    let epoch = usize::from(redo.epoch());
-    if epoch >= bounds.len() {
-        return false;
-    }
-    redo.number() <= bounds[epoch] && cuts.is_above_hi(redo.epoch(), redo.number())
 }
 
 fn advance_breach(
@@ -340,7 +243,7 @@ fn advance_breach(
     }
 }
 
-/// The first truncation that counts, cuts below a later advance's point, and all readers are past.
+/// The place (from 1) of a truncation of a later epoch that counts, cuts below the advance's point, and all readers are past.
 fn cut_below(facts: &[Fact], cuts: &CountedCuts, lows: &[u64], advance: Advance) -> Option<u64>
     requires { Describes facts.now cuts.now }
     ensures { (roster : ℕ) → AreLeastPoints roster facts.now (length cuts.now.by_epoch.items) lows.now

@@ -2,6 +2,7 @@
 
 ghost use Rattle.std.specs.Prelude.{◌≡◌, IfSome, MatchOption};
 ghost use Rattle.redo_core.specs.Sound.{IsSound};
+ghost use Rattle.log_law.specs.Breach.{ShowsBroken};
 ghost use Rattle.log_law.specs.Report.{Reports};
 
 use crate::check::{CheckFault, check_log};
@@ -37,3 +38,8 @@ fn log_is_told_one_way(writer: &Writer) -> (&[Fact], &[Fact])
 {
     (writer.log(), writer.log())
 }
+
+// What a breach tells shows that the fault is one.
+fn breach_shows_broken()
+    ensures { ShowsBroken }
+{}

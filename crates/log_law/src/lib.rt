@@ -6,6 +6,8 @@
 //! record's own, and law 5 where an advance's reader is not of the roster, its epoch has not begun, or a later truncation
 //! that all readers are past cuts below its point.
 //!
+//! `breach_of` tells with what else a reported fact breaks its law: the other fact, the missing epoch, or the reader.
+//!
 //! `Writer` makes logs that are sound at all times: it gives each record its epoch and backlinks, and refuses what would break
 //! a law.
 #![tactic(auto)]
@@ -18,6 +20,7 @@ mod fixed;
 mod keys;
 mod links;
 mod lows;
+mod targets;
 mod writer;
 
 pub use breach::{Breach, breach_of};

@@ -6,7 +6,8 @@ use Rattle.redo_core.specs.Sound.{counted}
 use Rattle.redo_core.specs.declared.facts.Fact.TheVariants.{Cut}
 use Rattle.log_law.specs.Counted.{first_cut}
 use Rattle.log_law.proofs.FirstCuts.{counted_is}
-use Rattle.log_law.proofs.Breaches.{IsBelowBy, each_more, cut_below_at, no_cut_below}
+use Rattle.log_law.proofs.Candidates.{each_more}
+use Rattle.log_law.proofs.Breaches.{IsBelowBy, cut_below_at, no_cut_below}
 use Rattle.log_law.proofs.breach.cut_below.Goals as goal
 use Rattle.log_law.proofs.breach.cut_below.Goals.{in-Cut+else-is_below, else-is_below-via-then-is_below+else-counts, else-is_below-via-else-is_below, in_default}
 

@@ -1,4 +1,5 @@
-use Rattle.log_law.proofs.Breaches.{EachBefore, IsBelowBy}
+use Rattle.log_law.proofs.Candidates.{EachBefore}
+use Rattle.log_law.proofs.Breaches.{IsBelowBy}
 use Rattle.log_law.proofs.breach.cut_below.Given as goal
 
 abbrev pub invariant-loop-place : goal.invariant-loop-place

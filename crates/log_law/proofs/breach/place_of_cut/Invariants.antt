@@ -1,6 +1,6 @@
 use Rattle.std.proofs.Common.{◌≡◌}
 use Rattle.redo_core.specs.declared.facts.Fact.TheVariants.{Cut}
-use Rattle.log_law.proofs.Breaches.{EachBefore}
+use Rattle.log_law.proofs.Candidates.{EachBefore}
 use Rattle.log_law.proofs.breach.place_of_cut.Given as goal
 
 abbrev pub invariant-loop-place : goal.invariant-loop-place

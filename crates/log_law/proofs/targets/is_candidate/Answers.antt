@@ -1,8 +1,8 @@
 use Rattle.std.proofs.Common.{◌≡◌, ◌<◌, ◌∙◌, sym, arith}
 use Rattle.std.proofs.lemmas.Bool.{ltb-true}
-use Rattle.log_law.specs.Breach.{IsOfPage}
-use Rattle.log_law.proofs.breach.is_candidate.Goals as goal
-use Rattle.log_law.proofs.breach.is_candidate.Goals.{then-number, else-number}
+use Rattle.log_law.specs.Targets.{IsOfPage}
+use Rattle.log_law.proofs.targets.is_candidate.Goals as goal
+use Rattle.log_law.proofs.targets.is_candidate.Goals.{then-number, else-number}
 
 pub returns-then-is_of_page : goal.returns-then-is_of_page
 returns-then-is_of_page c log d b =

@@ -1,8 +1,8 @@
 use Rattle.std.proofs.Common.{◌≡◌, ◌≤◌, ◌+◌, ℕ, List, length, get_or}
 use Rattle.redo_core.specs.declared.facts.Fact.{Fact}
 use Rattle.log_law.specs.Counted.{Describes}
-use Rattle.log_law.specs.Breach.{IsBoundTo}
-use Rattle.log_law.proofs.breach.alive_bounds.Given as goal
+use Rattle.log_law.specs.Targets.{IsBoundTo}
+use Rattle.log_law.proofs.targets.alive_bounds.Given as goal
 
 abbrev pub invariant-loop-epoch : goal.invariant-loop-epoch
 invariant-loop-epoch l = record {

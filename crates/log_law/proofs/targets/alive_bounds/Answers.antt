@@ -2,9 +2,9 @@ use Rattle.std.proofs.Common.{◌≡◌, ◌≢◌, ◌+◌, ◌-◌, ◌<◌, �
 use Rattle.std.proofs.lemmas.Bool.{cases_eq}
 use Rattle.std.proofs.lemmas.List.{get_or_default}
 use Rattle.log_law.specs.Counted.{first_cut}
-use Rattle.log_law.specs.Breach.{IsBoundTo}
-use Rattle.log_law.proofs.Breaches.{bound_step}
-use Rattle.log_law.proofs.breach.alive_bounds.Goals as goal
+use Rattle.log_law.specs.Targets.{IsBoundTo}
+use Rattle.log_law.proofs.Candidates.{bound_step}
+use Rattle.log_law.proofs.targets.alive_bounds.Goals as goal
 
 pub loop-epoch-preserved : goal.loop-epoch-preserved
 loop-epoch-preserved c = record {

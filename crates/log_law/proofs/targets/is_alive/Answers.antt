@@ -1,7 +1,7 @@
 use Rattle.std.proofs.Common.{◌≡◌, ◌<◌, ◌≤◌, ◌∙◌, get_or, sym, subst, arith}
 use Rattle.std.proofs.lemmas.Bool.{leb-true}
-use Rattle.log_law.proofs.Breaches.{alive_within}
-use Rattle.log_law.proofs.breach.is_alive.Goals as goal
+use Rattle.log_law.proofs.Candidates.{alive_within}
+use Rattle.log_law.proofs.targets.is_alive.Goals as goal
 
 pub returns-then-number-bounds : goal.returns-then-number-bounds
 returns-then-number-bounds c log view d b =

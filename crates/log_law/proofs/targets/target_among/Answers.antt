@@ -4,11 +4,11 @@ use Rattle.std.proofs.lemmas.Option.{slice_get_read}
 use Rattle.redo_core.specs.Data.{RecordData}
 use Rattle.redo_core.specs.Standing.{IsAlive}
 use Rattle.redo_core.specs.Sound.{counted}
-use Rattle.log_law.specs.Breach.{IsOfPage}
+use Rattle.log_law.specs.Targets.{IsOfPage}
 use Rattle.log_law.proofs.Least.{same_redo}
-use Rattle.log_law.proofs.Breaches.{IsTargetTo, target_end, target_kept, target_new}
-use Rattle.log_law.proofs.breach.target_of.Goals as goal
-use Rattle.log_law.proofs.breach.target_of.Goals.{in-Record+then-target-number+then-is_candidate, in-Record+else-target-number, else-target-number-via-then-target-number+else-is_candidate, else-target-number-via-else-target-number, in_default}
+use Rattle.log_law.proofs.Candidates.{IsTargetTo, target_end, target_kept, target_new}
+use Rattle.log_law.proofs.targets.target_among.Goals as goal
+use Rattle.log_law.proofs.targets.target_among.Goals.{in-Record+then-target-number+then-is_candidate, in-Record+else-target-number, else-target-number-via-then-target-number+else-is_candidate, else-target-number-via-else-target-number, in_default}
 
 pub loop-place-preserved : goal.loop-place-preserved
 loop-place-preserved c =
