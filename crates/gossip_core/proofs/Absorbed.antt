@@ -18,11 +18,11 @@ use Rattle.segment_state.specs.Joining.{JoinsBooks}
 use Rattle.segment_state.specs.Gossip.{HasImage, JoinsDelta}
 use Rattle.segment_core.specs.Form.{IsSegment}
 use Rattle.segment_core.specs.Uniting.{Unites}
-use Rattle.segment_join.specs.Told.{facts_told}
-use Rattle.segment_join.specs.InOrder.{TakesEach}
-use Rattle.segment_join.proofs.TakingAll.{IsLate, LeavesAll, leaves_all}
-use Rattle.segment_join.proofs.ToldFacts.{listed_cut, listed_advance, listed_record}
-use Rattle.segment_join.proofs.JoinedStates.{HasBook, all, book_joined, least_fits, late_of}
+use Rattle.segment_told.specs.Told.{facts_told}
+use Rattle.segment_told.specs.InOrder.{TakesEach}
+use Rattle.segment_told.proofs.TakingAll.{IsLate, LeavesAll, leaves_all}
+use Rattle.segment_told.proofs.ToldFacts.{listed_cut, listed_advance, listed_record}
+use Rattle.segment_told.proofs.BookTaken.{HasBook, all, book_joined, least_fits, late_of}
 use Rattle.gossip_core.specs.Absorbing.{filling_of, based_image, AbsorbsInto}
 
 -- the state has taken what the delta tells

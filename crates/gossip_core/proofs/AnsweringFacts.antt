@@ -20,7 +20,7 @@ use Rattle.segment_state.specs.Means.{MeansAt, Matters, IsInImage}
 use Rattle.segment_state.specs.HasMeaning.{HasAnchor}
 use Rattle.segment_state.specs.Gossip.{IsAccounted, AnswersFor}
 use Rattle.segment_state.proofs.Own.{anchor_law}
-use Rattle.segment_join.proofs.Scanning.{of_member}
+use Rattle.segment_told.proofs.Scanning.{of_member}
 use Rattle.gossip_core.specs.Answering.{IsCovered, IsUncovered, listed_key, listing_of}
 use Rattle.gossip_core.specs.declared.answering.Shown.{Shown}
 use Rattle.gossip_core.specs.declared.answering.Shown.TheVariants.{Anchor as OfAnchor, Key as OfKey}

@@ -13,10 +13,10 @@ use Rattle.segment_state.proofs.Absorbing.{absorb_law}
 use Rattle.segment_state.proofs.Booked.{epoch_of}
 use Rattle.segment_core.specs.declared.answers.Refusal.{Refusal}
 use Rattle.segment_core.specs.declared.answers.Refusal.TheVariants.{Memory}
-use Rattle.segment_join.specs.Told.{facts_told}
-use Rattle.segment_join.specs.InOrder.{RefusesOne}
-use Rattle.segment_join.proofs.TakingAll.{IsLate}
-use Rattle.segment_join.proofs.JoinInLog.{TellsPart, none_of_part, kept_of_part}
+use Rattle.segment_told.specs.Told.{facts_told}
+use Rattle.segment_told.specs.InOrder.{RefusesOne}
+use Rattle.segment_told.proofs.TakingAll.{IsLate}
+use Rattle.segment_told.proofs.ToldInLog.{TellsPart, none_of_part, kept_of_part}
 use Rattle.gossip_core.specs.Answering.{listing_of}
 use Rattle.gossip_core.proofs.AnsweringFacts.{answers_for}
 use Rattle.gossip_core.specs.Absorbing.{filling_of, IsAnsweredInLog, MeansBoth, IsOfOneLog, Answers, AbsorbsInto, RefusesTold}

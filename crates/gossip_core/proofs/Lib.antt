@@ -2,8 +2,6 @@ pub mod Parts
 pub mod Summed
 pub mod KeySearch
 pub mod Sending
-pub mod NextPage
-pub mod PagesShown
 pub mod Broken
 pub mod Filling
 pub mod Accounting

@@ -18,7 +18,7 @@ use Rattle.segment_state.specs.Shows.{Shows}
 use Rattle.segment_state.specs.HasMeaning.{IsLinkedIn, HasAnchor, IsKeptBy, HasMeaning}
 use Rattle.segment_core.specs.Form.{IsSegment}
 use Rattle.segment_core.proofs.Keys.{one_of_key}
-use Rattle.segment_join.proofs.Showing.{IsBare, shows_some, bare_is_zeros, bare_or_not}
+use Rattle.segment_told.proofs.BarePages.{IsBare, shows_some, bare_is_zeros, bare_or_not}
 use Rattle.gossip_core.specs.Laws.{EverySegmentHasOneMeaning}
 use Rattle.segment_core.proofs.OneView.{one_anchor}
 use Rattle.segment_core.proofs.SamePages.{shows_one}

@@ -10,7 +10,7 @@ use Rattle.hot_log.specs.Kept.{ListsKeysOf}
 use Rattle.segment_state.specs.State.{State}
 use Rattle.segment_state.specs.HasMeaning.{IsKeptBy}
 use Rattle.segment_core.specs.Keys.{key_of}
-use Rattle.segment_join.proofs.Keeping.{at_key, not_at_key}
+use Rattle.segment_told.proofs.KeptKeys.{at_key, not_at_key}
 use Rattle.gossip_core.specs.Summarizing.{wire_key}
 use Rattle.gossip_core.specs.Replying.{IsSent, IsUnlistedAt, key_data}
 use Rattle.gossip_core.proofs.Parts.{one_key}

@@ -14,7 +14,7 @@ use Rattle.redo_wire.specs.Summaries.{SummaryData, IsKey, KeyBefore}
 use Rattle.segment_state.specs.State.{State}
 use Rattle.segment_state.specs.HasMeaning.{HasMeaning, IsKeptBy}
 use Rattle.segment_core.specs.Form.{IsSegment}
-use Rattle.segment_join.proofs.Comparing.{same_cuts}
+use Rattle.segment_told.proofs.StoredCuts.{same_cuts}
 use Rattle.gossip_core.specs.Summarizing.{wire_key, Summarizes, IsSummaryOf}
 use Rattle.segment_core.proofs.OneView.{one_anchor}
 

@@ -17,8 +17,8 @@ use Rattle.segment_state.specs.Joining.{JoinsBooks}
 use Rattle.segment_state.specs.Gossip.{Delta, Fills, HasImage}
 use Rattle.segment_core.specs.declared.answers.Refusal.{Refusal}
 use Rattle.segment_core.specs.declared.answers.Refusal.TheVariants.{OtherRoster, Memory}
-use Rattle.segment_join.specs.Told.{facts_told}
-use Rattle.segment_join.specs.InOrder.{TakesEach, RefusesOne}
+use Rattle.segment_told.specs.Told.{facts_told}
+use Rattle.segment_told.specs.InOrder.{TakesEach, RefusesOne}
 use Rattle.gossip_core.specs.Answering.{IsUncovered, listing_of}
 use Rattle.gossip_core.specs.declared.absorbing.AbsorbRefusal.{AbsorbRefusal}
 use Rattle.gossip_core.specs.declared.absorbing.AbsorbRefusal.TheVariants.{Uncovered, Refused}

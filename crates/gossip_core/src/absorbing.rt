@@ -2,8 +2,8 @@ ghost use Rattle.std.specs.Prelude.{◌≡◌, ◌⊎◌, map, IfOk, OnOk, IfErr
 ghost use Rattle.redo_core.specs.Book.{roster_of};
 ghost use Rattle.segment_core.specs.Savepoint.{RollsBackAs};
 ghost use Rattle.segment_core.specs.declared.answers.Refusal.TheVariants.{Memory as MemoryOf};
-ghost use Rattle.segment_join.specs.Told.{facts_told};
-ghost use Rattle.segment_join.specs.InOrder.{TakesEach, RefusesOne};
+ghost use Rattle.segment_told.specs.Told.{facts_told};
+ghost use Rattle.segment_told.specs.InOrder.{TakesEach, RefusesOne};
 ghost use Rattle.gossip_core.specs.declared.absorbing.AbsorbRefusal.TheVariants.{Refused as RefusedFor, Uncovered as UncoveredBy};
 ghost use Rattle.gossip_core.specs.declared.answering.Shown.{Shown as AnyShown};
 ghost use Rattle.gossip_core.specs.Absorbing.{based_image, MeansBoth, IsOfOneLog, Answers, AbsorbsInto, RefusesAbsorb, TellsRoster};
@@ -13,7 +13,7 @@ use page_base::BaseImage;
 use redo_core::Record;
 use redo_wire::{Delta, PageImage, Summary};
 use segment_core::{Refusal, Savepoint, Segment};
-use segment_join::take_told;
+use segment_told::take_told;
 use std::alloc::{AllocError, Global};
 use thiserror::Error;
 

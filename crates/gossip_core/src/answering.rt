@@ -13,7 +13,7 @@ ghost use Rattle.gossip_core.specs.Answering.{IsCovered, IsFirstUncovered, IsUnc
 
 use redo_wire::{Key, Summary};
 use segment_core::{Segment, Standing};
-use segment_join::are_few;
+use segment_told::are_few;
 
 /// What of a summary a segment does not answer for.
 #[derive(Clone, Copy, Debug, PartialEq, Eq)]

@@ -10,17 +10,14 @@
 
 mod absorbing;
 mod answering;
-mod books;
 mod fixed;
 pub mod laws;
-mod pages;
 mod replies;
 mod summaries;
 mod unlisted;
 
 pub use absorbing::{AbsorbRefusal, absorb};
 pub use answering::{Shown, uncovered};
-pub use books::book_of;
-pub use pages::stored_page_after;
 pub use replies::reply;
+pub use segment_told::{book_of, stored_page_after};
 pub use summaries::summary;

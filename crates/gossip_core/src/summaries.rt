@@ -8,10 +8,10 @@ ghost use Rattle.segment_core.specs.Form.{IsSegment};
 ghost use Rattle.gossip_core.specs.Replying.{key_data};
 ghost use Rattle.gossip_core.specs.Summarizing.{Summarizes, IsSummaryOf};
 
-use crate::books::book_of;
 use redo_wire::{Key, Summary};
 use segment_core::Segment;
 use segment_state::same_meaning;
+use segment_told::book_of;
 use std::alloc::{AllocError, Global};
 
 /// What a segment tells of itself: its book, its anchor and the keys of the records that its meaning keeps, rising.

@@ -1,16 +1,13 @@
 ghost use Rattle.std.specs.Prelude.{◌≡◌, ℕ, ◌<◌, ◌≤◌, map, IfOk, IfErr, IfSome, IsNone};
 ghost use Rattle.redo_core.specs.Order.{Lists, RecordBefore};
 ghost use Rattle.segment_state.specs.HasMeaning.{HasAnchor, IsKeptBy};
-ghost use Rattle.gossip_core.specs.Replying.{AreShown, IsImageAtAnchor};
 ghost use Rattle.hydration.specs.Snapshots.{SnapshotData as AnySnapshot, Freezes, IsPieceCount, max_total};
 ghost use Rattle.hydration.specs.declared.freezing.FreezeFault.TheVariants.{TooMany as TooManyOf, Memory as MemoryOf};
 
 use crate::snapshot::{BATCH, Snapshot};
-use gossip_core::{book_of, stored_page_after};
 use redo_core::Record;
-use redo_wire::PageImage;
 use segment_core::Segment;
-use segment_join::kept_of;
+use segment_told::{book_of, kept_of, pages_at_anchor};
 use std::alloc::{AllocError, Global};
 use thiserror::Error;
 
@@ -57,34 +54,6 @@ fn piece_count(pages: usize, records: usize) -> Option<u32>
     let batches = records.div_ceil(BATCH);
     let total = pages.saturating_add(batches).saturating_add(1);
     u32::try_from(total).ok()
-}
-
-/// The pages at the anchor that are not zeros, rising.
-fn pages_at_anchor(segment: &Segment) -> Result<Vec<PageImage>, AllocError>
-    ensures { IfOk result (λ v. AreShown segment.now v.items) }
-{
-    // It opens the segment's form: the images rise by page.
-    let _base = segment.base_point();
-    let mut pages = Vec::new(segment.allocator());
-    let mut next = stored_page_after(segment, None);
-    while let Some(page) = next {
-        if let Some(image) = image_at_anchor(segment, page)? {
-            pages.push(image)?;
-        }
-        next = stored_page_after(segment, Some(page));
-    }
-    Ok(pages)
-}
-
-/// A page at the anchor, where it is not zeros.
-fn image_at_anchor(segment: &Segment, page: u16) -> Result<Option<PageImage>, AllocError>
-    ensures { IfOk result (IsImageAtAnchor segment.now page) }
-{
-    let image = segment.page_at_anchor(page)?;
-    if image.is_zero() {
-        return Ok(None);
-    }
-    Ok(Some(PageImage::new(page, image)))
 }
 
 /// Copies of the records that the segment's meaning keeps, rising by key.

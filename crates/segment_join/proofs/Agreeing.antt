@@ -19,9 +19,9 @@ use Rattle.segment_state.specs.HasMeaning.{HasAnchor, HasMeaning}
 use Rattle.segment_state.specs.Laws.{SameMeaning}
 use Rattle.segment_core.specs.Form.{IsSegment}
 use Rattle.segment_join.specs.Sameness.{ShowOne, TellsPages, TellsSame, SameByParts}
-use Rattle.segment_join.proofs.Comparing.{same_cuts}
-use Rattle.segment_join.proofs.Scanning.{of_member}
-use Rattle.segment_join.proofs.Showing.{shows_some}
+use Rattle.segment_told.proofs.StoredCuts.{same_cuts}
+use Rattle.segment_told.proofs.Scanning.{of_member}
+use Rattle.segment_told.proofs.BarePages.{shows_some}
 use Rattle.segment_core.proofs.OneView.{one_anchor}
 use Rattle.segment_core.proofs.SamePages.{shows_one}
 

@@ -11,11 +11,11 @@ use Rattle.redo_core.proofs.Members.{none_in, here, there}
 use Rattle.segment_state.specs.State.{State}
 use Rattle.segment_state.specs.Known.{IsKnown}
 use Rattle.segment_state.specs.Learning.{PutsRecord}
-use Rattle.segment_join.specs.Told.{book_facts, facts_told}
-use Rattle.segment_join.specs.InOrder.{TakesOne, TakesEach}
-use Rattle.segment_join.proofs.TakingAll.{IsLate, leaves_all}
-use Rattle.segment_join.proofs.ToldFacts.{listed_record}
-use Rattle.segment_join.proofs.TellingAll.{in_two}
+use Rattle.segment_told.specs.Told.{book_facts, facts_told}
+use Rattle.segment_told.specs.InOrder.{TakesOne, TakesEach}
+use Rattle.segment_told.proofs.TakingAll.{IsLate, leaves_all}
+use Rattle.segment_told.proofs.ToldFacts.{listed_record}
+use Rattle.segment_told.proofs.TellingAll.{in_two}
 
 -- the records that a state holds more than another one are of a list, and none is dead in its view
 pub record Brings (s : State) (rs : List RecordData) (t : State) : Type 0 where

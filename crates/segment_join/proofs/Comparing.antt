@@ -1,12 +1,11 @@
 -- The order of two meanings, read off two states part by part.
-use Rattle.std.proofs.Common.{◌≡◌, ℕ, ◌≤◌, ◌⊎◌, ◌↔◌, inl, inr, ⊎_elim, Bool, IsTrue, Result, Ok, Err, IfOk, sym, subst, arith}
+use Rattle.std.proofs.Common.{◌≡◌, ℕ, ◌≤◌, ◌⊎◌, ◌↔◌, inl, inr, ⊎_elim, Bool, IsTrue, sym, subst}
 use Rattle.std.specs.List.{Contains, AllZip}
 use Rattle.redo_core.specs.Order.{IsRising, CutBefore}
 use Rattle.redo_core.specs.Roster.{point_of}
 use Rattle.redo_core.specs.CompleteEpoch.{IsCompleteEpoch}
 use Rattle.redo_core.specs.Standing.{IsDead}
 use Rattle.redo_core.specs.Meaning.{Meaning}
-use Rattle.redo_core.proofs.Members.{lists_unique}
 use Rattle.redo_laws.specs.OrderOfMeanings.{Covers, CoversAt, OrderByParts}
 use Rattle.redo_core.proofs.CompleteEpochs.{one_complete_epoch}
 use Rattle.segment_state.specs.State.{State}
@@ -14,19 +13,8 @@ use Rattle.segment_state.specs.HasMeaning.{HasAnchor, IsKeptBy, HasMeaning}
 use Rattle.segment_state.specs.Laws.{SameMeaning}
 use Rattle.segment_core.specs.Form.{IsSegment}
 use Rattle.segment_join.specs.Covering.{CoversState, CoversByParts}
+use Rattle.segment_told.proofs.StoredCuts.{same_cuts}
 use Rattle.segment_core.proofs.OneView.{one_anchor}
-
--- what holds of an Ok, as something else that follows
-pub ok_as : {X E : Type 0} (r : Result X E) (P Q : X → Type 0) → IfOk r P → ((x : X) → P x → Q x) → IfOk r Q
-ok_as (Ok x) P Q p to = to x p
-ok_as (Err e) P Q p to = tt
-
--- a meaning's truncations are those that the state stores
-pub same_cuts : (s : State) (m : Meaning) → IsRising CutBefore s.book.cuts → HasMeaning s m → m.cuts ≡ s.book.cuts
-same_cuts s m rising has =
-    lists_unique CutBefore (λ c d a b. omega (arith, a, b)) (Contains s.book.cuts) (Contains s.book.cuts)
-    (λ c. (λ u. u, λ u. u)) m.cuts s.book.cuts has.same_cuts
-    (record { rising = rising; members = λ c. (λ u. u, λ u. u) })
 
 pub to_meanings : (anchor : ℕ) (upper : State) (base : ℕ) (lower : State) (y x : Meaning)
     → IsRising CutBefore upper.book.cuts → HasAnchor upper anchor → HasAnchor lower base → HasMeaning upper y → HasMeaning lower x

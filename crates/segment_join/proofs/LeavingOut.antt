@@ -20,12 +20,12 @@ use Rattle.segment_core.specs.Refusing.{Refuses, IsDeadOrSettled}
 use Rattle.segment_core.specs.declared.answers.Refusal.{Refusal}
 use Rattle.segment_core.specs.declared.answers.Refusal.TheVariants.{OtherRoster, OtherCut, Contradiction, OtherRecord, Memory}
 use Rattle.segment_core.proofs.Keys.{one_of_key}
-use Rattle.segment_join.specs.Told.{book_facts, facts_told}
-use Rattle.segment_join.specs.InOrder.{TakesOne, TakesEach, RefusesOne}
+use Rattle.segment_told.specs.Told.{book_facts, facts_told}
+use Rattle.segment_told.specs.InOrder.{TakesOne, TakesEach, RefusesOne}
 use Rattle.segment_join.specs.Knowing.{TakesAll, RefusesAll}
 use Rattle.segment_join.proofs.Alike.{settled_record}
 use Rattle.segment_join.proofs.Telling.{takes_all, refuses_all}
-use Rattle.segment_join.proofs.TellingAll.{in_two}
+use Rattle.segment_told.proofs.TellingAll.{in_two}
 
 -- ---- the list without what is held
 pub settled_held : (held : List RecordData) (r : RecordData) → Settled (Contains held r)

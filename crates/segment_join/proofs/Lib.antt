@@ -1,14 +1,9 @@
 pub mod Keeping
-pub mod Scanning
 pub mod Comparing
-pub mod Ordered
 pub mod Alike
 pub mod Sparing
-pub mod TellingAll
 pub mod Bringing
 pub mod Telling
-pub mod TakingAll
-pub mod ToldFacts
 pub mod JoinedStates
 pub mod JoinInLog
 pub mod Showing

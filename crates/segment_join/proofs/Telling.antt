@@ -5,8 +5,8 @@ use Rattle.redo_core.specs.Order.{Lists, RecordBefore}
 use Rattle.segment_state.specs.State.{State}
 use Rattle.segment_state.specs.HasMeaning.{HasAnchor, IsKeptBy}
 use Rattle.segment_core.specs.declared.answers.Refusal.{Refusal}
-use Rattle.segment_join.specs.Told.{AreTold, facts_told}
-use Rattle.segment_join.specs.InOrder.{TakesEach, RefusesOne}
+use Rattle.segment_told.specs.Told.{AreTold, facts_told}
+use Rattle.segment_told.specs.InOrder.{TakesEach, RefusesOne}
 use Rattle.segment_join.specs.Knowing.{TakesAll, RefusesAll}
 
 module _ (other : State) (anchor : ℕ) (kept : List RecordData) (above : HasAnchor other anchor) (lists : Lists RecordBefore (IsKeptBy other anchor) kept) where

@@ -14,9 +14,9 @@ use Rattle.segment_state.specs.Joining.{JoinsBooks}
 use Rattle.segment_core.specs.Refusing.{HoldsOther}
 use Rattle.segment_core.specs.declared.answers.Refusal.{Refusal}
 use Rattle.segment_core.specs.declared.answers.Refusal.TheVariants.{OtherRoster}
-use Rattle.segment_join.specs.Told.{AreTold}
+use Rattle.segment_told.specs.Told.{AreTold}
 use Rattle.segment_join.specs.Holding.{InOtherImage}
-use Rattle.segment_join.specs.InOrder.{TakesEach, RefusesOne}
+use Rattle.segment_told.specs.InOrder.{TakesEach, RefusesOne}
 
 -- Inside one sound log: whatever parts of it the two mean, the new state means their union.
 abbrev pub MeansUnion : State → State → State → Type 0

@@ -6,8 +6,8 @@ use Rattle.redo_core.specs.declared.facts.Fact.{Fact}
 use Rattle.hot_log.specs.Held.{HasKey}
 use Rattle.segment_state.specs.State.{State, SameBase}
 use Rattle.segment_core.specs.declared.answers.Refusal.{Refusal}
-use Rattle.segment_join.specs.Told.{AreTold}
-use Rattle.segment_join.specs.InOrder.{TakesEach, RefusesOne}
+use Rattle.segment_told.specs.Told.{AreTold}
+use Rattle.segment_told.specs.InOrder.{TakesEach, RefusesOne}
 use Rattle.segment_join.specs.Holding.{IsNeedless, IsSpared, HoldsRest}
 
 -- each fact that the other tells is taken, in order

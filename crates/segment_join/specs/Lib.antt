@@ -1,6 +1,4 @@
 pub mod Covering
-pub mod Told
-pub mod InOrder
 pub mod Joining
 pub mod Sameness
 pub mod Holding

@@ -1,4 +1,4 @@
-ghost use Rattle.std.specs.Prelude.{◌≡◌, ℕ, ◌≤◌, ◌*◌, ◌↔◌, List, length, map, IsTrue, IfOk};
+ghost use Rattle.std.specs.Prelude.{◌≡◌, ℕ, ◌≤◌, ◌↔◌, List, map, IsTrue, IfOk};
 ghost use Rattle.std.specs.List.{Contains, AllZip, All};
 ghost use Rattle.redo_core.specs.Data.{RecordData};
 ghost use Rattle.redo_core.specs.Meaning.{Meaning, IsMeaning};
@@ -18,6 +18,7 @@ use redo_core::{Advance, Cut, Record};
 use redo_laws::order_by_parts;
 use segment_core::Segment;
 use segment_state::same_meaning;
+use segment_told::are_few;
 use std::alloc::AllocError;
 
 /// Whether one segment's meaning is at or above another's: each truncation, reader's point and waiting advance of the lower one is
@@ -50,14 +51,6 @@ fn covers_state(upper: &Segment, lower: &Segment) -> Result<bool, AllocError>
         return Ok(false);
     }
     has_all(upper, anchor, lower, base)
-}
-
-/// Whether so many records are few of those that a segment holds, at most one of eight: it is then cheaper to look each of them up than
-/// to go over all.
-pub fn are_few(count: usize, segment: &Segment) -> bool
-    ensures { IsTrue result ↔ (8 * count ≤ length segment.now.held) }
-{
-    count <= segment.held_len() / 8
 }
 
 /// Whether an upper segment keeps each record that a lower one keeps above a base, or needs it no more.

@@ -11,9 +11,9 @@ ghost use Rattle.segment_join.specs.Knowing.{TakesAll, RefusesAll, IsJoined};
 
 use crate::holding::{hold_rest, newer_images};
 use crate::missing::kept_among;
-use crate::told::take_told;
 use redo_core::Record;
 use segment_core::{Refusal, Savepoint, Segment};
+use segment_told::take_told;
 
 /// Brings what another segment means into a segment, whatever each has folded and thrown away.
 ///

@@ -5,22 +5,18 @@
 //! the union, and over any facts it is refused as the first told fact would be. `covers` tells whether one meaning is at or above
 //! another, part by part and over any facts; inside one sound log that is so exactly where the one segment means a part of the log that
 //! holds a part of the other's meaning. `same` tells whether the two meanings are one: each covers the other, and the pages at their
-//! anchors are the same. `kept_of` lists what a meaning keeps, and `take_told` takes a told book and records, whoever tells them. `laws`
-//! says what merging keeps. `joining`, `told` and `holding` have the join, `covering` and `sameness` the comparisons, `kept` and `missing`
-//! the lists.
+//! anchors are the same. `laws` says what merging keeps. `joining` and `holding` have the join, `missing` what it brings in, and
+//! `covering` and `sameness` the comparisons; what a segment tells, and how told facts are taken, is `segment_told`'s.
 #![tactic(auto)]
 
 mod covering;
 mod holding;
 mod joining;
-mod kept;
 pub mod laws;
 mod missing;
 mod sameness;
-mod told;
 
-pub use covering::{are_few, covers};
+pub use covering::covers;
 pub use joining::join;
-pub use kept::kept_of;
 pub use sameness::same;
-pub use told::take_told;
+pub use segment_told::{are_few, kept_of, take_told};

@@ -4,8 +4,8 @@ use Rattle.redo_core.specs.Meaning.{ImageData}
 use Rattle.segment_core.specs.Form.{IsSegment}
 use Rattle.segment_core.specs.Uniting.{Unites}
 use Rattle.segment_state.specs.State.{State, StoredImage}
-use Rattle.segment_join.specs.Told.{facts_told}
-use Rattle.segment_join.specs.InOrder.{TakesEach}
+use Rattle.segment_told.specs.Told.{facts_told}
+use Rattle.segment_told.specs.InOrder.{TakesEach}
 use Rattle.redo_wire.specs.Deltas.{DeltaData, IsDelta}
 use Rattle.gossip_core.specs.Absorbing.{based_image}
 use Rattle.gossip_core.proofs.Absorbed.{HasDelta, base_fits, absorbs}

@@ -1,6 +1,6 @@
 use Rattle.std.proofs.Common.{◌≡◌, get_or, true, false, sym, ◌∙◌}
 use Rattle.redo_core.proofs.Scans.{whole}
-use Rattle.segment_join.proofs.Scanning.{next_passes}
+use Rattle.segment_told.proofs.Scanning.{next_passes}
 use Rattle.redo_wire.specs.declared.keys.Key.{Key}
 use Rattle.redo_wire.specs.Summaries.{KeyBefore}
 use Rattle.gossip_core.specs.Answering.{IsCovered}

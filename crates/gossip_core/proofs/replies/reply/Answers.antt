@@ -1,14 +1,14 @@
 use Rattle.std.proofs.Common.{◌<◌, arith}
-use Rattle.segment_join.proofs.Comparing.{ok_as}
+use Rattle.std.proofs.lemmas.Result.{IfOk-weaker}
 use Rattle.gossip_core.proofs.Filling.{fills, answers_short, answers_whole}
 use Rattle.gossip_core.proofs.replies.reply.Goals as goal
 
 pub returns-then-anchor-base_point-clause-fills : goal.returns-then-anchor-base_point-clause-fills
 returns-then-anchor-base_point-clause-fills c =
     let s = c.args.segment.now in let summary = c.args.summary.now in
-    ok_as c.with_pages.result _ _ c.with_pages.ensures.sends
-    (λ d sends. fills c.reply_fills.ensures c.same_anchor.ensures s summary d
+    IfOk-weaker c.with_pages.result _ _ (λ d sends. fills c.reply_fills.ensures c.same_anchor.ensures s summary d
     (answers_whole s summary d (omega (arith, c.anchor.ensures.anchor, c.base_point.ensures.own, c.if-anchor-base_point.true)) sends))
+    c.with_pages.ensures.sends
 
 pub returns-in-Ok-clause-fills : goal.returns-in-Ok-clause-fills
 returns-in-Ok-clause-fills c =

@@ -8,7 +8,7 @@ use Rattle.redo_core.proofs.Members.{item}
 use Rattle.redo_core.proofs.Listing.{lists_more, lists_left, lists_whole, lists_as}
 use Rattle.hot_log.specs.Kept.{ListsKeysOf}
 use Rattle.segment_state.specs.HasMeaning.{IsKeptBy}
-use Rattle.segment_join.proofs.Keeping.{item_at, key_at, same_length}
+use Rattle.segment_told.proofs.KeptKeys.{item_at, key_at, same_length}
 use Rattle.gossip_core.specs.Replying.{IsSent, IsUnlistedAt}
 use Rattle.gossip_core.proofs.Sending.{sent_at_key, not_sent_at_key, none_sent}
 use Rattle.gossip_core.proofs.unlisted.unlisted.Goals as goal

@@ -1,5 +1,5 @@
 use Rattle.std.proofs.Common.{refl, arith}
-use Rattle.segment_join.proofs.Scanning.{zip_at_most}
+use Rattle.segment_told.proofs.Scanning.{zip_at_most}
 use Rattle.segment_join.proofs.covering.are_at_most.Goals as goal
 
 pub returns : goal.returns

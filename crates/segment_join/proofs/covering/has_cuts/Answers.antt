@@ -1,6 +1,6 @@
 use Rattle.std.specs.List.{Contains}
 use Rattle.redo_core.specs.Data.{CutData}
-use Rattle.segment_join.proofs.Scanning.{one_fails, all_pass, next_passes}
+use Rattle.segment_told.proofs.Scanning.{one_fails, all_pass, next_passes}
 use Rattle.segment_join.proofs.covering.has_cuts.Goals as goal
 
 pub loop-cut-preserved : goal.loop-cut-preserved

@@ -5,7 +5,7 @@ use Rattle.segment_core.specs.declared.answers.Refusal.{Refusal}
 use Rattle.segment_core.specs.declared.answers.Refusal.TheVariants.{Memory}
 use Rattle.segment_join.specs.Joining.{AreOfOneLog, RefusesJoin}
 use Rattle.segment_join.specs.Knowing.{RefusesAll}
-use Rattle.segment_join.proofs.Ordered.{memory_or}
+use Rattle.segment_told.proofs.Ordered.{memory_or}
 use Rattle.segment_join.proofs.JoinInLog.{sound_join, means_union}
 use Rattle.segment_join.proofs.joining.join.Goals as goal
 

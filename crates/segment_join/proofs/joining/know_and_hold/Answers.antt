@@ -1,9 +1,9 @@
 use Rattle.std.proofs.Common.{inl, inr, ⊎_elim, List, map, sym, subst, Bor}
 use Rattle.std.specs.List.{Contains}
 use Rattle.redo_core.specs.Data.{RecordData}
-use Rattle.segment_join.proofs.JoinedStates.{late_of}
+use Rattle.segment_told.proofs.BookTaken.{late_of}
 use Rattle.segment_join.proofs.LeavingOut.{settled_held}
-use Rattle.segment_join.proofs.TakingAll.{leaves_all}
+use Rattle.segment_told.proofs.TakingAll.{leaves_all}
 use Rattle.segment_join.proofs.joining.know_and_hold.Goals as goal
 
 pub hold_rest-requires-clause-known : goal.hold_rest-requires-clause-known

@@ -8,12 +8,12 @@ use Rattle.redo_core.proofs.Listing.{lists_as}
 use Rattle.segment_state.specs.HasMeaning.{IsKeptBy}
 use Rattle.segment_core.specs.declared.answers.Refusal.{Refusal}
 use Rattle.segment_core.specs.declared.answers.Refusal.TheVariants.{Memory}
-use Rattle.segment_join.specs.Told.{facts_told}
-use Rattle.segment_join.specs.InOrder.{TakesEach, RefusesOne}
+use Rattle.segment_told.specs.Told.{facts_told}
+use Rattle.segment_told.specs.InOrder.{TakesEach, RefusesOne}
 use Rattle.segment_join.specs.Knowing.{RefusesAll}
 use Rattle.segment_join.proofs.LeavingOut.{takes_left_out, refuses_left_out}
-use Rattle.segment_join.proofs.Ordered.{memory_or}
-use Rattle.segment_join.proofs.TellingAll.{same_book}
+use Rattle.segment_told.proofs.Ordered.{memory_or}
+use Rattle.segment_told.proofs.TellingAll.{same_book}
 use Rattle.segment_join.proofs.joining.take_all.Goals as goal
 
 pub kept_among-requires-clause-held : goal.kept_among-requires-clause-held

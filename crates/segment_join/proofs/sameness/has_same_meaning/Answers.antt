@@ -1,4 +1,4 @@
-use Rattle.segment_join.proofs.Comparing.{ok_as}
+use Rattle.std.proofs.lemmas.Result.{IfOk-weaker}
 use Rattle.segment_join.proofs.Agreeing.{tells_same, not_covered, not_covering}
 use Rattle.segment_join.proofs.sameness.has_same_meaning.Goals as goal
 
@@ -13,7 +13,7 @@ returns-then-not-branch-2 c =
 
 pub returns : goal.returns
 returns c =
-    ok_as c.has_same_pages.result _ _ c.has_same_pages.ensures (λ same tells.
+    IfOk-weaker c.has_same_pages.result _ _ (λ same tells.
     tells_same c.args.one.now c.args.other.now c.anchor.result c.anchor-2.result same c.base_point-base.ensures.form c.base_point-other_base.ensures.form
     c.anchor.ensures.own c.anchor-2.ensures.own
     (λ y x hy hx. (
@@ -21,3 +21,4 @@ returns c =
       (c.in_ok-covers-2.ensures.meanings x y hx hy).0 c.if-not-branch-2.false,
     ))
     tells)
+    c.has_same_pages.ensures

@@ -1,10 +1,10 @@
-use Rattle.segment_join.proofs.Comparing.{ok_as}
+use Rattle.std.proofs.lemmas.Result.{IfOk-weaker}
 use Rattle.segment_join.proofs.Showing.{tells_page}
 use Rattle.segment_join.proofs.sameness.has_same_page.Goals as goal
 
 pub returns : goal.returns
 returns c =
-    ok_as c.is_same_page.result _ _ c.is_same_page.ensures
-    (λ same tells.
+    IfOk-weaker c.is_same_page.result _ _ (λ same tells.
     tells_page c.args.one.now c.args.point c.args.other.now c.args.other_point c.args.page same c.base_point-base.ensures.form
     c.base_point-other_base.ensures.form tells)
+    c.is_same_page.ensures

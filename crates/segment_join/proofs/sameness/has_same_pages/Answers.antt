@@ -4,8 +4,8 @@ use Rattle.std.proofs.lemmas.List.Elements.{Contains-append_left, Contains-appen
 use Rattle.redo_core.specs.Data.{RecordData}
 use Rattle.segment_state.specs.State.{StoredImage}
 use Rattle.segment_join.specs.Sameness.{ShowOne, IsUnwritten}
-use Rattle.segment_join.proofs.Scanning.{part_fails}
-use Rattle.segment_join.proofs.Comparing.{ok_as}
+use Rattle.segment_told.proofs.Scanning.{part_fails}
+use Rattle.std.proofs.lemmas.Result.{IfOk-weaker}
 use Rattle.segment_join.proofs.Showing.{all_pages, stored_of_both}
 use Rattle.segment_join.proofs.sameness.has_same_pages.Goals as goal
 
@@ -25,7 +25,7 @@ returns-then-not-branch-2 c =
 
 pub returns : goal.returns
 returns c =
-    ok_as c.has_same_images-2.result _ _ c.has_same_images-2.ensures (λ same tells.
+    IfOk-weaker c.has_same_images-2.result _ _ (λ same tells.
     let s = c.args.one.now in let t = c.args.other.now in
     let Shown : ℕ → Type 0 = ShowOne s c.args.point t c.args.other_point in
     let Stored : List StoredImage → Type 0 = All (λ (i : StoredImage). Shown i.page) in
@@ -42,3 +42,4 @@ returns c =
           }),
       λ all. tells.1 (λ i d lt none. all _),
     ))
+    c.has_same_images-2.ensures

@@ -1,5 +1,5 @@
 use Rattle.std.proofs.Common.{refl}
-use Rattle.segment_join.proofs.Comparing.{ok_as}
+use Rattle.std.proofs.lemmas.Result.{IfOk-weaker}
 use Rattle.segment_join.proofs.sameness.has_same_unwritten.Goals as goal
 
 pub returns-then-is_written : goal.returns-then-is_written
@@ -7,7 +7,8 @@ returns-then-is_written c = (λ h none. absurd (c.if-is_written.ensures.written 
 
 pub returns : goal.returns
 returns c =
-    ok_as c.has_same_page.result _ _ c.has_same_page.ensures (λ same tells. (
+    IfOk-weaker c.has_same_page.result _ _ (λ same tells. (
       λ h none. tells.0 h,
       λ all. tells.1 (all (c.is_written.ensures.unwritten c.if-is_written.false)),
     ))
+    c.has_same_page.ensures

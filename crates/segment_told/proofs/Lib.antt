@@ -1,0 +1,12 @@
+pub mod Scanning
+pub mod KeptKeys
+pub mod StoredCuts
+pub mod BarePages
+pub mod NextPage
+pub mod PagesShown
+pub mod Ordered
+pub mod TellingAll
+pub mod TakingAll
+pub mod ToldFacts
+pub mod BookTaken
+pub mod ToldInLog
