@@ -1,7 +1,7 @@
 -- What a turn does to its node's snapshot and to its staging.
 use Rattle.std.proofs.Common.{◌≡◌, ℕ, ◌⊎◌, inl, inr, ⊎_elim, List, [], refl, sym, ap, subst, Option, Some, None, Result, Ok, Err}
 use Rattle.redo_core.specs.declared.facts.Fact.{Fact}
-use Rattle.redo_wire.specs.Pieces.{PieceData}
+use Rattle.messages.specs.Pieces.{PieceData}
 use Rattle.segment_state.specs.State.{State}
 use Rattle.read_cache.specs.Cached.{Cached}
 use Rattle.hydration.specs.Snapshots.{SnapshotData}

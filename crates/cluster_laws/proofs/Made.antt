@@ -8,10 +8,9 @@ use Rattle.redo_core.specs.Sets.{SameSet}
 use Rattle.redo_core.specs.Sound.{IsSound}
 use Rattle.redo_core.specs.declared.facts.Fact.{Fact}
 use Rattle.redo_laws.proofs.Fronts.{same_sym}
-use Rattle.redo_wire.specs.Limits.{max_batch}
-use Rattle.redo_wire.specs.Pieces.{PieceData}
-use Rattle.redo_wire.specs.declared.pieces.PieceContent.{PieceContent}
-use Rattle.redo_wire.specs.declared.pieces.PieceContent.TheVariants.{Head, Page, Records}
+use Rattle.messages.specs.Pieces.{PieceData, max_batch}
+use Rattle.messages.specs.declared.pieces.PieceContent.{PieceContent}
+use Rattle.messages.specs.declared.pieces.PieceContent.TheVariants.{Head, Page, Records}
 use Rattle.segment_state.specs.State.{State}
 use Rattle.segment_state.specs.Means.{Means}
 use Rattle.hydration.specs.Snapshots.{SnapshotData, Freezes, IsContentAt, IsPieceOf}

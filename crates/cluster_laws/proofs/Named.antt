@@ -4,7 +4,7 @@ use Rattle.std.specs.List.{Contains}
 use Rattle.std.proofs.lemmas.Option.{same_Some}
 use Rattle.redo_core.specs.declared.facts.Fact.{Fact}
 use Rattle.redo_core.proofs.Members.{none_in, which}
-use Rattle.redo_wire.specs.Pieces.{PieceData}
+use Rattle.messages.specs.Pieces.{PieceData}
 use Rattle.hydration.specs.Snapshots.{SnapshotData}
 use Rattle.hydration.specs.Stagings.{StagingData, staging_of}
 use Rattle.replica.specs.declared.requests.Request.{Request}

@@ -8,8 +8,8 @@ use Rattle.redo_core.specs.declared.facts.Fact.{Fact}
 use Rattle.redo_core.specs.declared.refusal.Refused.{Refused}
 use Rattle.redo_laws.proofs.Fronts.{front_unique, page_unique}
 use Rattle.redo_laws.proofs.Log.{log_of_sound}
-use Rattle.redo_wire.specs.Deltas.{DeltaData}
-use Rattle.redo_wire.specs.Summaries.{SummaryData}
+use Rattle.messages.specs.Deltas.{DeltaData}
+use Rattle.messages.specs.Summaries.{SummaryData}
 use Rattle.segment_state.specs.State.{State, version_of}
 use Rattle.segment_state.specs.Means.{Means}
 use Rattle.segment_state.proofs.Same.{meaning_law}

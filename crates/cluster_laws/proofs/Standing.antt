@@ -2,9 +2,9 @@
 use Rattle.std.proofs.Common.{◌≡◌, ◌≢◌, ℕ, ◌<◌, ◌≤◌, ◌⊎◌, ⊎_elim, List, [], ◌∷◌, ◌++◌, refl, sym, subst, arith, Option, Some, None, Result, Ok, Err, IfOk}
 use Rattle.redo_core.specs.Sound.{IsSound}
 use Rattle.redo_core.specs.declared.facts.Fact.{Fact}
-use Rattle.redo_wire.specs.Deltas.{DeltaData}
-use Rattle.redo_wire.specs.Pieces.{PieceData}
-use Rattle.redo_wire.specs.Summaries.{SummaryData}
+use Rattle.messages.specs.Deltas.{DeltaData}
+use Rattle.messages.specs.Pieces.{PieceData}
+use Rattle.messages.specs.Summaries.{SummaryData}
 use Rattle.segment_state.specs.State.{State}
 use Rattle.segment_state.specs.Means.{Means}
 use Rattle.segment_state.proofs.Bare.{empty_means}

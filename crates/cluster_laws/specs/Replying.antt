@@ -3,8 +3,8 @@ use Rattle.std.specs.Prelude.{◌≡◌, ℕ, ◌⊎◌, ◌↔◌, List, [], �
 use Rattle.redo_core.specs.Meaning.{Meaning, IsMeaning}
 use Rattle.redo_core.specs.Position.{Position, IsPosition}
 use Rattle.redo_core.specs.declared.facts.Fact.{Fact}
-use Rattle.redo_wire.specs.Deltas.{DeltaData}
-use Rattle.redo_wire.specs.Summaries.{SummaryData}
+use Rattle.messages.specs.Deltas.{DeltaData}
+use Rattle.messages.specs.Summaries.{SummaryData}
 use Rattle.segment_state.specs.Gossip.{AnswersFor, Fills}
 use Rattle.segment_core.specs.Reading.{IsFrontAt, IsReadResult}
 use Rattle.segment_core.specs.declared.answers.Front.{Front}

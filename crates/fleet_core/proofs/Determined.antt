@@ -15,7 +15,7 @@ use Rattle.redo_laws.proofs.Fronts.{front_unique, page_unique}
 use Rattle.redo_laws.proofs.Meanings.{meaning_exists, in_map}
 use Rattle.redo_core.specs.Meaning.{Meaning}
 use Rattle.redo_core.proofs.Pairs.{pair_apart}
-use Rattle.redo_wire.specs.Summaries.{KeyBefore}
+use Rattle.messages.specs.Keys.{KeyBefore}
 use Rattle.segment_state.specs.Gossip.{AnswersFor}
 use Rattle.gossip_core.specs.Answering.{listed_key}
 use Rattle.gossip_core.specs.declared.answering.Shown.{Shown}

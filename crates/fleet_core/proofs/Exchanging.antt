@@ -5,8 +5,8 @@ use Rattle.std.specs.Prelude.{MatchOption}
 use Rattle.redo_core.specs.Sound.{IsSound}
 use Rattle.redo_core.specs.declared.facts.Fact.{Fact}
 use Rattle.redo_laws.proofs.Log.{log_of_sound}
-use Rattle.redo_wire.specs.Summaries.{SummaryData}
-use Rattle.redo_wire.specs.Deltas.{DeltaData}
+use Rattle.messages.specs.Summaries.{SummaryData}
+use Rattle.messages.specs.Deltas.{DeltaData}
 use Rattle.segment_state.specs.State.{State}
 use Rattle.segment_state.specs.Means.{Means}
 use Rattle.segment_state.proofs.Same.{meaning_law}
@@ -20,8 +20,8 @@ use Rattle.fleet_steps.specs.declared.steps.Step.{Step}
 use Rattle.fleet_steps.specs.declared.steps.Step.TheVariants as step
 use Rattle.fleet_core.specs.declared.replies.Reply.{Reply}
 use Rattle.fleet_core.specs.declared.replies.Reply.TheVariants.{Message as MessageIs, Absorbed, Uncovered, NoMessage, Memory}
-use Rattle.fleet_core.specs.declared.messages.Made.{Made}
-use Rattle.fleet_core.specs.declared.messages.Made.TheVariants.{Question, Answer}
+use Rattle.fleet_core.specs.declared.making.Made.{Made}
+use Rattle.fleet_core.specs.declared.making.Made.TheVariants.{Question, Answer}
 use Rattle.fleet_core.specs.Machine.{Message, asked_in, answered_in, answers_to, brought_by, facts_after, messages_after}
 use Rattle.fleet_core.specs.Machine.Message.{Asked, Answered}
 use Rattle.fleet_core.specs.Replies.{RepliesAbsorb, NodeReplies}

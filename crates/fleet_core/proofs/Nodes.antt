@@ -14,7 +14,7 @@ use Rattle.fleet_steps.specs.declared.steps.Step.{Step}
 use Rattle.fleet_steps.specs.declared.steps.Step.TheVariants as step
 use Rattle.fleet_core.specs.declared.replies.Reply.{Reply}
 use Rattle.fleet_core.specs.declared.replies.Reply.TheVariants.{NoNode, NoMessage}
-use Rattle.fleet_core.specs.declared.messages.Made.{Made}
+use Rattle.fleet_core.specs.declared.making.Made.{Made}
 use Rattle.fleet_core.specs.Messages.{LacksMessage}
 use Rattle.fleet_core.specs.Machine.{Message, Machine, node_facts, facts_after, messages_after, after}
 use Rattle.fleet_core.specs.Replies.{Replies}

@@ -3,10 +3,10 @@ use Rattle.std.proofs.Common.{◌≡◌, ℕ, zero, suc, ◌⊎◌, inl, inr, Li
 use Rattle.std.specs.Prelude.{slice_get}
 use Rattle.std.specs.List.{AllZip, AllByRecursion}
 use Rattle.redo_core.specs.declared.facts.Fact.{Fact}
-use Rattle.redo_wire.specs.Summaries.{SummaryData}
-use Rattle.redo_wire.specs.Deltas.{DeltaData}
-use Rattle.fleet_core.specs.declared.messages.Made.{Made}
-use Rattle.fleet_core.specs.declared.messages.Made.TheVariants.{Question, Answer}
+use Rattle.messages.specs.Summaries.{SummaryData}
+use Rattle.messages.specs.Deltas.{DeltaData}
+use Rattle.fleet_core.specs.declared.making.Made.{Made}
+use Rattle.fleet_core.specs.declared.making.Made.TheVariants.{Question, Answer}
 use Rattle.fleet_core.specs.Machine.{Message, numbered, asked_by, answered_by}
 use Rattle.fleet_core.specs.Machine.Message.{Asked, Answered}
 use Rattle.fleet_core.specs.Messages.{question_by, question_in, beside_question, answer_by, AsksWith, AnswersWith, IsMade, AreMade}

@@ -10,7 +10,7 @@ use Rattle.redo_core.specs.declared.facts.Fact.{Fact}
 use Rattle.segment_state.specs.State.{State}
 use Rattle.fleet_steps.specs.declared.steps.Step.{Step}
 use Rattle.fleet_core.specs.declared.replies.Reply.{Reply}
-use Rattle.fleet_core.specs.declared.messages.Made.{Made}
+use Rattle.fleet_core.specs.declared.making.Made.{Made}
 use Rattle.fleet_core.specs.FleetState.{other_than}
 use Rattle.fleet_core.specs.AtNode.{IsCarriedOut, CarriesOut}
 

@@ -2,8 +2,8 @@
 use Rattle.std.proofs.Common.{◌≡◌, ℕ, ◌+◌, ⊎_elim, List, [], ◌∷◌, ◌++◌, length, refl, ap, ◌∙◌, Option, Some, None, Result, Ok, Err}
 use Rattle.std.specs.Prelude.{MatchOption}
 use Rattle.redo_core.specs.declared.facts.Fact.{Fact}
-use Rattle.redo_wire.specs.Summaries.{SummaryData}
-use Rattle.redo_wire.specs.Deltas.{DeltaData}
+use Rattle.messages.specs.Summaries.{SummaryData}
+use Rattle.messages.specs.Deltas.{DeltaData}
 use Rattle.segment_state.specs.State.{State}
 use Rattle.segment_core.specs.declared.answers.ReadFault.{ReadFault}
 use Rattle.fleet_steps.specs.Nodes.{nodes_of, first_missing}
@@ -11,8 +11,8 @@ use Rattle.fleet_steps.specs.declared.steps.Step.{Step}
 use Rattle.fleet_steps.specs.declared.steps.Step.TheVariants as step
 use Rattle.fleet_core.specs.declared.replies.Reply.{Reply}
 use Rattle.fleet_core.specs.declared.replies.Reply.TheVariants.{Message as MessageIs, NoMessage, NoNode, Memory}
-use Rattle.fleet_core.specs.declared.messages.Made.{Made}
-use Rattle.fleet_core.specs.declared.messages.Made.TheVariants.{Question, Answer}
+use Rattle.fleet_core.specs.declared.making.Made.{Made}
+use Rattle.fleet_core.specs.declared.making.Made.TheVariants.{Question, Answer}
 use Rattle.fleet_core.specs.FleetState.{FleetState}
 use Rattle.fleet_core.specs.Messages.{question_in}
 use Rattle.fleet_core.specs.MessageCalls.{Makes, SumsUp, MakesAnswer, AnswersQuestion}

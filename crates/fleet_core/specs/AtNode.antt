@@ -13,7 +13,7 @@ use Rattle.fleet_core.specs.Refused.{IsRefusal}
 use Rattle.fleet_core.specs.Runs.{TakesFrom}
 use Rattle.fleet_core.specs.Calls.{NodeCalls}
 use Rattle.fleet_core.specs.FleetState.{other_than}
-use Rattle.fleet_core.specs.declared.messages.Made.{Made}
+use Rattle.fleet_core.specs.declared.making.Made.{Made}
 use Rattle.fleet_core.specs.Messages.{AreMade, missing_message}
 
 -- Where the segment, and that of the other node if there is another, mean facts of a sound log, the reply is that of a node with those

@@ -28,7 +28,7 @@ use Rattle.fleet_steps.specs.declared.steps.Step.TheVariants as step
 use Rattle.fleet_core.specs.declared.replies.Reply.{Reply}
 use Rattle.fleet_core.specs.declared.replies.Reply.TheVariants.{Folded as FoldedIs, Discarded, Front as FrontIs, Joined, Answer, Wiped, NoNode, Memory}
 use Rattle.fleet_core.specs.FleetState.{FleetState, ChangesNode, beside}
-use Rattle.fleet_core.specs.declared.messages.Made.{Made}
+use Rattle.fleet_core.specs.declared.making.Made.{Made}
 use Rattle.fleet_core.specs.MessageCalls.{Asks, AnswersNumber, AbsorbsNumber}
 use Rattle.fleet_core.specs.Replying.{taken_reply, fault_reply, read_reply, joined_reply}
 

@@ -3,7 +3,7 @@ use Rattle.std.specs.Prelude.{◌≡◌, ℕ, ◌-◌, ◌==◌, if◌then◌els
 use Rattle.segment_state.specs.State.{State, empty_state}
 use Rattle.fleet_steps.specs.Nodes.{node_of, other_of}
 use Rattle.fleet_steps.specs.declared.steps.Step.{Step}
-use Rattle.fleet_core.specs.declared.messages.Made.{Made}
+use Rattle.fleet_core.specs.declared.making.Made.{Made}
 
 -- the number of readers, the segments, node 1 first, and the messages that were made, message 1 first
 pub record FleetState : Type 0 where

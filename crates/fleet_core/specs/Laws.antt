@@ -12,7 +12,7 @@ use Rattle.fleet_core.specs.Replies.{IsReply, HasCome}
 use Rattle.fleet_core.specs.Runs.{TakesFrom, AreReplies, FollowsStep, FollowsMachine}
 use Rattle.fleet_core.specs.Calls.{StepCalls, RunCalls}
 use Rattle.fleet_core.specs.FleetState.{FleetState}
-use Rattle.fleet_core.specs.declared.messages.Made.{Made}
+use Rattle.fleet_core.specs.declared.making.Made.{Made}
 
 -- the facts that a message speaks of are of the log
 abbrev pub IsMessageOf : List Fact → Message → Type 0

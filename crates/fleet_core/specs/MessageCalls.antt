@@ -1,8 +1,8 @@
 -- What the steps with messages do over any facts: each reply, and each message, is that of the segment's call.
 use Rattle.std.specs.Prelude.{◌≡◌, ℕ, ◌+◌, ◌<◌, ◌⊎◌, ◌↔◌, List, [], ◌∷◌, ◌++◌, length, Result, Ok, Err, IfOk, IfErr, OnOk, OnErr, MatchOption}
 use Rattle.redo_core.specs.Meaning.{Meaning}
-use Rattle.redo_wire.specs.Summaries.{SummaryData}
-use Rattle.redo_wire.specs.Deltas.{DeltaData}
+use Rattle.messages.specs.Summaries.{SummaryData}
+use Rattle.messages.specs.Deltas.{DeltaData}
 use Rattle.segment_state.specs.State.{State}
 use Rattle.segment_state.specs.HasMeaning.{HasMeaning}
 use Rattle.segment_core.specs.Forgetting.{IsSoundState, IsWhole, IsFirstBreak}
@@ -17,8 +17,8 @@ use Rattle.gossip_core.specs.declared.absorbing.AbsorbRefusal.TheVariants.{Refus
 use Rattle.gossip_core.specs.declared.answering.Shown.{Shown}
 use Rattle.fleet_core.specs.declared.replies.Reply.{Reply}
 use Rattle.fleet_core.specs.declared.replies.Reply.TheVariants.{Message as MessageIs, NoMessage, Memory}
-use Rattle.fleet_core.specs.declared.messages.Made.{Made}
-use Rattle.fleet_core.specs.declared.messages.Made.TheVariants.{Question, Answer}
+use Rattle.fleet_core.specs.declared.making.Made.{Made}
+use Rattle.fleet_core.specs.declared.making.Made.TheVariants.{Question, Answer}
 use Rattle.fleet_core.specs.Messages.{question_in, answer_in}
 use Rattle.fleet_core.specs.Replying.{fault_reply, absorbed_reply}
 

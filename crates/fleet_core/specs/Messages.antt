@@ -5,8 +5,8 @@ use Rattle.redo_core.specs.Meaning.{Meaning, IsMeaning}
 use Rattle.redo_core.specs.Position.{Position, IsPosition}
 use Rattle.redo_core.specs.Sets.{IsPart}
 use Rattle.redo_core.specs.declared.facts.Fact.{Fact}
-use Rattle.redo_wire.specs.Summaries.{SummaryData}
-use Rattle.redo_wire.specs.Deltas.{DeltaData}
+use Rattle.messages.specs.Summaries.{SummaryData}
+use Rattle.messages.specs.Deltas.{DeltaData}
 use Rattle.segment_state.specs.Gossip.{Fills}
 use Rattle.gossip_core.specs.Summarizing.{IsSummaryOf}
 use Rattle.gossip_core.specs.Answering.{listing_of}
@@ -15,8 +15,8 @@ use Rattle.fleet_steps.specs.Nodes.{nodes_of, first_missing}
 use Rattle.fleet_steps.specs.declared.steps.Step.{Step}
 use Rattle.fleet_steps.specs.declared.steps.Step.TheVariants as step
 use Rattle.fleet_core.specs.FleetState.{FleetState}
-use Rattle.fleet_core.specs.declared.messages.Made.{Made}
-use Rattle.fleet_core.specs.declared.messages.Made.TheVariants.{Question, Answer}
+use Rattle.fleet_core.specs.declared.making.Made.{Made}
+use Rattle.fleet_core.specs.declared.making.Made.TheVariants.{Question, Answer}
 use Rattle.fleet_core.specs.Machine.{Message, numbered}
 use Rattle.fleet_core.specs.Machine.Message.{Asked, Answered}
 

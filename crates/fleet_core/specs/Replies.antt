@@ -8,8 +8,8 @@ use Rattle.redo_core.specs.Answer.ReadAnswer.{Image as OfImage, Below as OfBelow
 use Rattle.redo_core.specs.Meaning.{Meaning, IsMeaning}
 use Rattle.redo_core.specs.declared.facts.Fact.{Fact}
 use Rattle.redo_laws.specs.OrderOfMeanings.{Covers}
-use Rattle.redo_wire.specs.declared.keys.Key.{Key}
-use Rattle.redo_wire.specs.Summaries.{KeyBefore}
+use Rattle.messages.specs.declared.keys.Key.{Key}
+use Rattle.messages.specs.Keys.{KeyBefore}
 use Rattle.segment_state.specs.Gossip.{Listing, IsAccounted, AnswersFor}
 use Rattle.segment_core.specs.Reading.{IsFrontAt}
 use Rattle.segment_core.specs.declared.answers.Front.{Front}

@@ -1,6 +1,6 @@
 ghost use Rattle.fleet_core.specs.MessageCalls.{Makes, Asks, AnswersNumber, AbsorbsNumber};
 
-use crate::messages::{Made, answer, question};
+use crate::making::{Made, answer, question};
 use crate::replies::Reply;
 use crate::replying::{absorbed_reply, fault_reply};
 use gossip_core::{absorb, reply, summary};

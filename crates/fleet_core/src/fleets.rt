@@ -9,13 +9,13 @@ ghost use Rattle.fleet_core.specs.Calls.{StepCalls, RunCalls, Takes, Folds, Wipe
 ghost use Rattle.fleet_core.specs.FleetState.{empty_fleet};
 ghost use Rattle.fleet_core.specs.Machine.{empty_machine};
 ghost use Rattle.fleet_core.specs.Messages.{LacksMessage};
-ghost use Rattle.fleet_core.specs.declared.messages.Made.{Made};
+ghost use Rattle.fleet_core.specs.declared.making.Made.{Made};
 ghost use Rattle.fleet_core.specs.Refused.{IsRefusal};
 ghost use Rattle.fleet_core.specs.Runs.{MeansMachine, FollowsStep, FollowsMachine};
 ghost use Rattle.fleet_core.specs.declared.replies.Reply.TheVariants.{NoNode, NoMessage};
 
 use crate::asking::{absorb_answer, answer_question, ask};
-use crate::messages::Made;
+use crate::making::Made;
 use crate::pairs::{covers_beside, join_beside, same_beside};
 use crate::replies::Reply;
 use crate::replying::{fault_reply, read_reply, taken_reply};

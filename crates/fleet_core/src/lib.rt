@@ -14,12 +14,12 @@
 mod asking;
 mod fleets;
 pub mod laws;
-mod messages;
+mod making;
 mod pairs;
 mod replies;
 mod replying;
 
 pub use fleet_steps::Step;
 pub use fleets::Fleet;
-pub use messages::Made;
+pub use making::Made;
 pub use replies::Reply;

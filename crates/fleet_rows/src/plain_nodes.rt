@@ -3,9 +3,9 @@
 
 use fleet_core::{Reply, Step};
 use gossip_core::Shown;
+use messages::Key;
 use plain_model::{Position, Standing, covers, page_at, position, same, standing};
 use redo_core::{Fact, Roster};
-use redo_wire::Key;
 use segment_core::Front;
 use std::alloc::{AllocError, Global};
 

@@ -11,7 +11,7 @@ use Rattle.redo_laws.proofs.Deciding.{settled_lt}
 use Rattle.redo_laws.proofs.Meanings.{in_map, from_map}
 use Rattle.page_base.specs.Raising.{SamePage}
 use Rattle.page_base.specs.Merging.{IsTaken, IsFloored, Merges}
-use Rattle.redo_wire.specs.Deltas.{DeltaData, IsDelta}
+use Rattle.messages.specs.Deltas.{DeltaData, IsDelta}
 use Rattle.segment_state.specs.State.{State, StoredImage, min_of, version_of, image_of}
 use Rattle.segment_state.specs.Means.{Matters, IsInImage}
 use Rattle.segment_state.specs.Joining.{JoinsBooks}

@@ -5,7 +5,7 @@ use Rattle.std.specs.List.{All, AllByRecursion, Contains}
 use Rattle.redo_core.specs.Order.{IsRising, IsFirst}
 use Rattle.redo_core.specs.Standing.{IsAlive, IsDead, IsWaiting}
 use Rattle.redo_core.proofs.Members.{none_in, here, there, which}
-use Rattle.redo_wire.specs.declared.keys.Key.{Key}
+use Rattle.messages.specs.declared.keys.Key.{Key}
 use Rattle.epoch_book.specs.declared.standing.Standing.TheVariants.{Alive, Dead}
 use Rattle.segment_state.specs.State.{State}
 use Rattle.segment_state.specs.HasMeaning.{IsKeptBy}

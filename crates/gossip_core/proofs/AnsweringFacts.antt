@@ -13,8 +13,8 @@ use Rattle.redo_laws.proofs.Deciding.{settled_lt}
 use Rattle.redo_laws.proofs.Fronts.{settled_alive, same_sym}
 use Rattle.redo_laws.proofs.Log.{log_of_sound}
 use Rattle.redo_laws.proofs.Meanings.{in_map, from_map}
-use Rattle.redo_wire.specs.declared.keys.Key.{Key}
-use Rattle.redo_wire.specs.Summaries.{SummaryData}
+use Rattle.messages.specs.declared.keys.Key.{Key}
+use Rattle.messages.specs.Summaries.{SummaryData}
 use Rattle.segment_state.specs.State.{State}
 use Rattle.segment_state.specs.Means.{MeansAt, Matters, IsInImage}
 use Rattle.segment_state.specs.HasMeaning.{HasAnchor}

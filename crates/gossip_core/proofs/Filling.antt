@@ -9,9 +9,9 @@ use Rattle.redo_core.specs.Writing.{zeros}
 use Rattle.redo_core.specs.Meaning.{ImageBefore}
 use Rattle.redo_core.proofs.Members.{none_in, here, there, which}
 use Rattle.redo_laws.proofs.Deciding.{settled_eq, settled_and, some_or_none}
-use Rattle.redo_wire.specs.declared.keys.Key.{Key}
-use Rattle.redo_wire.specs.Summaries.{SummaryData}
-use Rattle.redo_wire.specs.Deltas.{DeltaData}
+use Rattle.messages.specs.declared.keys.Key.{Key}
+use Rattle.messages.specs.Summaries.{SummaryData}
+use Rattle.messages.specs.Deltas.{DeltaData}
 use Rattle.segment_state.specs.State.{State}
 use Rattle.segment_state.specs.Shows.{Shows}
 use Rattle.segment_state.specs.HasMeaning.{IsKeptBy}

@@ -5,8 +5,8 @@ use Rattle.redo_core.specs.Position.{Position}
 use Rattle.redo_core.specs.declared.facts.Fact.{Fact}
 use Rattle.redo_core.proofs.FactParts.{record_in, cut_in, advance_in, part_records}
 use Rattle.redo_laws.proofs.Log.{log_of_sound}
-use Rattle.redo_wire.specs.Summaries.{SummaryData}
-use Rattle.redo_wire.specs.Deltas.{DeltaData, IsDelta}
+use Rattle.messages.specs.Summaries.{SummaryData}
+use Rattle.messages.specs.Deltas.{DeltaData, IsDelta}
 use Rattle.segment_state.specs.State.{State}
 use Rattle.segment_state.specs.Means.{MeansAt}
 use Rattle.segment_state.proofs.Absorbing.{absorb_law}

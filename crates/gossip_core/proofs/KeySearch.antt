@@ -8,8 +8,8 @@ use Rattle.std.proofs.lemmas.Cmp.{ranked}
 use Rattle.redo_core.specs.Order.{IsRising}
 use Rattle.redo_core.proofs.Pairs.{pair_apart, pair_trans}
 use Rattle.redo_core.proofs.Rising.{rising_by}
-use Rattle.redo_wire.specs.declared.keys.Key.{Key}
-use Rattle.redo_wire.specs.Summaries.{KeyBefore}
+use Rattle.messages.specs.declared.keys.Key.{Key}
+use Rattle.messages.specs.Keys.{KeyBefore}
 use Rattle.gossip_core.proofs.Parts.{one_key}
 use Rattle.epoch_book.proofs.Places.{rank_le, at_less, at_equal, at_greater, then_at, turned}
 

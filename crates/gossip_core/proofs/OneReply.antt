@@ -6,8 +6,8 @@ use Rattle.redo_core.specs.Order.{Lists, RecordBefore}
 use Rattle.redo_core.specs.Writing.{zeros}
 use Rattle.redo_core.proofs.Members.{lists_unique}
 use Rattle.redo_core.proofs.Pairs.{pair_apart}
-use Rattle.redo_wire.specs.Summaries.{SummaryData, summary_of}
-use Rattle.redo_wire.specs.Deltas.{DeltaData, delta_of}
+use Rattle.messages.specs.Summaries.{SummaryData, summary_of}
+use Rattle.messages.specs.Deltas.{DeltaData, delta_of}
 use Rattle.segment_state.specs.State.{State}
 use Rattle.segment_state.specs.Shows.{Shows}
 use Rattle.segment_state.specs.HasMeaning.{IsKeptBy}

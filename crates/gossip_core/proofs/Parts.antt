@@ -3,7 +3,7 @@ use Rattle.std.proofs.Common.{◌≡◌, ℕ, ◌≤◌, ⊎_elim, List, ap, ◌
 use Rattle.redo_core.specs.Data.{CutData, AdvanceData}
 use Rattle.redo_core.specs.Book.{BookData, book_of}
 use Rattle.redo_core.specs.Linked.Linked.{start}
-use Rattle.redo_wire.specs.declared.keys.Key.{Key}
+use Rattle.messages.specs.declared.keys.Key.{Key}
 use Rattle.segment_state.specs.State.{State, min_of}
 use Rattle.segment_state.specs.HasMeaning.{IsLinkedIn, HasAnchor}
 use Rattle.segment_core.specs.Form.{IsSegment}

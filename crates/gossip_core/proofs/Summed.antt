@@ -9,8 +9,9 @@ use Rattle.redo_core.specs.CompleteEpoch.{IsCompleteEpoch}
 use Rattle.redo_core.specs.Meaning.{Meaning}
 use Rattle.redo_core.proofs.Members.{here, there, each, lists_unique}
 use Rattle.redo_core.proofs.Pairs.{pair_apart, advance_apart}
-use Rattle.redo_wire.specs.declared.keys.Key.{Key}
-use Rattle.redo_wire.specs.Summaries.{SummaryData, IsKey, KeyBefore}
+use Rattle.messages.specs.declared.keys.Key.{Key}
+use Rattle.messages.specs.Summaries.{SummaryData}
+use Rattle.messages.specs.Keys.{IsKey, KeyBefore}
 use Rattle.segment_state.specs.State.{State}
 use Rattle.segment_state.specs.HasMeaning.{HasMeaning, IsKeptBy}
 use Rattle.segment_core.specs.Form.{IsSegment}

@@ -8,8 +8,8 @@ use Rattle.redo_core.specs.Sound.{IsSound}
 use Rattle.redo_core.specs.declared.facts.Fact.{Fact}
 use Rattle.page_base.specs.Raising.{SamePage}
 use Rattle.page_base.specs.Stored.{stored}
-use Rattle.redo_wire.specs.Summaries.{SummaryData}
-use Rattle.redo_wire.specs.Deltas.{DeltaData}
+use Rattle.messages.specs.Summaries.{SummaryData}
+use Rattle.messages.specs.Deltas.{DeltaData}
 use Rattle.segment_state.specs.State.{State, StoredImage, version_of, image_of}
 use Rattle.segment_state.specs.Means.{MeansAt, Means}
 use Rattle.segment_state.specs.HasMeaning.{HasAnchor}

@@ -4,8 +4,9 @@ use Rattle.std.specs.List.{Contains, All}
 use Rattle.redo_core.specs.Order.{IsFirst}
 use Rattle.redo_core.specs.Standing.{IsDead}
 use Rattle.hot_log.specs.Held.{HoldsKey}
-use Rattle.redo_wire.specs.declared.keys.Key.{Key}
-use Rattle.redo_wire.specs.Summaries.{SummaryData, KeyBefore}
+use Rattle.messages.specs.declared.keys.Key.{Key}
+use Rattle.messages.specs.Summaries.{SummaryData}
+use Rattle.messages.specs.Keys.{KeyBefore}
 use Rattle.segment_state.specs.State.{State}
 use Rattle.segment_state.specs.Gossip.{KeyData, Listing}
 use Rattle.gossip_core.specs.declared.answering.Shown.{Shown}

@@ -8,9 +8,9 @@ use Rattle.redo_core.specs.Meaning.{ImageBefore}
 use Rattle.redo_core.specs.Position.{Position}
 use Rattle.redo_core.specs.Sound.{IsSound}
 use Rattle.redo_core.specs.declared.facts.Fact.{Fact}
-use Rattle.redo_wire.specs.declared.keys.Key.{Key}
-use Rattle.redo_wire.specs.Summaries.{SummaryData}
-use Rattle.redo_wire.specs.Deltas.{DeltaData}
+use Rattle.messages.specs.declared.keys.Key.{Key}
+use Rattle.messages.specs.Summaries.{SummaryData}
+use Rattle.messages.specs.Deltas.{DeltaData}
 use Rattle.hot_log.specs.Held.{IsRecordAt}
 use Rattle.segment_state.specs.State.{State}
 use Rattle.segment_state.specs.Means.{MeansAt}

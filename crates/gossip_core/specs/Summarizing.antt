@@ -4,8 +4,8 @@ use Rattle.redo_core.specs.Data.{RecordData}
 use Rattle.redo_core.specs.Order.{Lists, RecordBefore}
 use Rattle.redo_core.specs.CompleteEpoch.{IsCompleteEpoch}
 use Rattle.redo_core.specs.Meaning.{Meaning}
-use Rattle.redo_wire.specs.declared.keys.Key.{Key}
-use Rattle.redo_wire.specs.Summaries.{SummaryData}
+use Rattle.messages.specs.declared.keys.Key.{Key}
+use Rattle.messages.specs.Summaries.{SummaryData}
 use Rattle.segment_state.specs.State.{State}
 use Rattle.segment_state.specs.HasMeaning.{HasAnchor, IsKeptBy}
 

@@ -9,9 +9,9 @@ ghost use Rattle.gossip_core.specs.declared.answering.Shown.{Shown as AnyShown};
 ghost use Rattle.gossip_core.specs.Absorbing.{based_image, MeansBoth, IsOfOneLog, Answers, AbsorbsInto, RefusesAbsorb, TellsRoster};
 
 use crate::answering::{Shown, uncovered};
+use messages::{Delta, PageImage, Summary};
 use page_base::BaseImage;
 use redo_core::Record;
-use redo_wire::{Delta, PageImage, Summary};
 use segment_core::{Refusal, Savepoint, Segment};
 use segment_told::take_told;
 use std::alloc::{AllocError, Global};

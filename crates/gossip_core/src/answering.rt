@@ -5,13 +5,13 @@ ghost use Rattle.redo_core.specs.Position.{Position};
 ghost use Rattle.redo_core.specs.Sound.{IsSound};
 ghost use Rattle.redo_core.specs.declared.facts.Fact.{Fact as AnyFact};
 ghost use Rattle.hot_log.specs.Held.{HoldsKey};
-ghost use Rattle.redo_wire.specs.Summaries.{KeyBefore};
+ghost use Rattle.messages.specs.Keys.{KeyBefore};
 ghost use Rattle.segment_state.specs.Means.{MeansAt};
 ghost use Rattle.segment_state.specs.HasMeaning.{HasAnchor};
 ghost use Rattle.segment_state.specs.Gossip.{AnswersFor};
 ghost use Rattle.gossip_core.specs.Answering.{IsCovered, IsFirstUncovered, IsUncovered, listing_of};
 
-use redo_wire::{Key, Summary};
+use messages::{Key, Summary};
 use segment_core::{Segment, Standing};
 use segment_told::are_few;
 

@@ -9,7 +9,7 @@ use crate::absorbing::{AbsorbRefusal, absorb};
 use crate::answering::{Shown, uncovered};
 use crate::replies::reply;
 use crate::summaries::summary;
-use redo_wire::{Delta, Summary};
+use messages::{Delta, Summary};
 use segment_core::{ReadFault, Segment};
 use std::alloc::AllocError;
 

@@ -5,7 +5,7 @@ ghost use Rattle.segment_told.specs.StoredPages.{AreShown};
 ghost use Rattle.gossip_core.specs.Replying.{SendsRecords, SendsPages, AnswersSummary, FillsSummary, IsLeastBreak};
 
 use crate::unlisted::unlisted;
-use redo_wire::{Delta, PageImage, Summary};
+use messages::{Delta, PageImage, Summary};
 use segment_core::{ReadFault, Segment};
 use segment_state::{reply_fills, same_anchor};
 use segment_told::{book_of, pages_at_anchor};

@@ -8,7 +8,7 @@ ghost use Rattle.segment_core.specs.Form.{IsSegment};
 ghost use Rattle.gossip_core.specs.Replying.{key_data};
 ghost use Rattle.gossip_core.specs.Summarizing.{Summarizes, IsSummaryOf};
 
-use redo_wire::{Key, Summary};
+use messages::{Key, Summary};
 use segment_core::Segment;
 use segment_state::same_meaning;
 use segment_told::book_of;

@@ -3,11 +3,11 @@ ghost use Rattle.std.specs.Prelude.{◌↔◌, IsTrue, IfOk};
 ghost use Rattle.std.specs.List.{Contains};
 ghost use Rattle.std.specs.Option.{option_copied};
 ghost use Rattle.redo_core.specs.Order.{IsRising, Lists, RecordBefore};
-ghost use Rattle.redo_wire.specs.Summaries.{KeyBefore};
+ghost use Rattle.messages.specs.Keys.{KeyBefore};
 ghost use Rattle.gossip_core.specs.Replying.{IsSent, IsUnlistedAt, key_data};
 
+use messages::Key;
 use redo_core::Record;
-use redo_wire::Key;
 use segment_core::Segment;
 use std::alloc::AllocError;
 

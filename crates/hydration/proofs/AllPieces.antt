@@ -7,10 +7,9 @@ use Rattle.redo_core.specs.Data.{RecordData}
 use Rattle.redo_core.specs.Meaning.{ImageData}
 use Rattle.redo_core.proofs.Rising.{in_take, in_drop}
 use Rattle.redo_core.proofs.ByPlace.{contains_at}
-use Rattle.redo_wire.specs.Limits.{max_batch}
-use Rattle.redo_wire.specs.Pieces.{PieceData}
-use Rattle.redo_wire.specs.declared.pieces.PieceContent.{PieceContent}
-use Rattle.redo_wire.specs.declared.pieces.PieceContent.TheVariants.{Head, Page, Records}
+use Rattle.messages.specs.Pieces.{PieceData, max_batch}
+use Rattle.messages.specs.declared.pieces.PieceContent.{PieceContent}
+use Rattle.messages.specs.declared.pieces.PieceContent.TheVariants.{Head, Page, Records}
 use Rattle.segment_state.specs.State.{State}
 use Rattle.hydration.specs.Snapshots.{SnapshotData, IsPieceCount, IsContentAt}
 use Rattle.hydration.specs.Stagings.{StagingData, piece_at, IsStaging}

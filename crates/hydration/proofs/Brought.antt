@@ -10,9 +10,9 @@ use Rattle.redo_core.specs.Writing.{zeros}
 use Rattle.redo_core.proofs.Members.{none_in, here, there, which}
 use Rattle.redo_core.proofs.Listing.{rising_append}
 use Rattle.page_base.specs.Adopting.{first_given}
-use Rattle.redo_wire.specs.Pieces.{PieceData, IsContent}
-use Rattle.redo_wire.specs.declared.pieces.PieceContent.{PieceContent}
-use Rattle.redo_wire.specs.declared.pieces.PieceContent.TheVariants.{Head, Page, Records}
+use Rattle.messages.specs.Pieces.{PieceData, IsContent}
+use Rattle.messages.specs.declared.pieces.PieceContent.{PieceContent}
+use Rattle.messages.specs.declared.pieces.PieceContent.TheVariants.{Head, Page, Records}
 use Rattle.hydration.specs.Stagings.{StagingData, piece_at, IsStaging}
 use Rattle.hydration.specs.Placing.{IsInOrder}
 use Rattle.hydration.specs.Hydrating.{records_of, pages_of, BringsRecord, BringsPage, IsBrought}

@@ -8,7 +8,7 @@ use Rattle.redo_core.specs.declared.facts.Fact.{Fact}
 use Rattle.redo_laws.proofs.Log.{IsLog}
 use Rattle.redo_laws.proofs.Views.{anchor_is}
 use Rattle.redo_laws.proofs.Meanings.{page_exists, list_eq}
-use Rattle.redo_wire.specs.declared.pieces.PieceContent.TheVariants.{Head}
+use Rattle.messages.specs.declared.pieces.PieceContent.TheVariants.{Head}
 use Rattle.segment_state.specs.State.{State, image_of}
 use Rattle.segment_state.specs.Shows.{Shows}
 use Rattle.segment_state.specs.Means.{MeansAt}

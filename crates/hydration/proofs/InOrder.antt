@@ -8,10 +8,9 @@ use Rattle.redo_core.specs.Meaning.{ImageData}
 use Rattle.redo_core.specs.Order.{RecordBefore}
 use Rattle.redo_core.proofs.Members.{here}
 use Rattle.redo_core.proofs.Pairs.{record_trans}
-use Rattle.redo_wire.specs.Limits.{max_batch}
-use Rattle.redo_wire.specs.Pieces.{PieceData}
-use Rattle.redo_wire.specs.declared.pieces.PieceContent.{PieceContent}
-use Rattle.redo_wire.specs.declared.pieces.PieceContent.TheVariants.{Head, Page, Records}
+use Rattle.messages.specs.Pieces.{PieceData, max_batch}
+use Rattle.messages.specs.declared.pieces.PieceContent.{PieceContent}
+use Rattle.messages.specs.declared.pieces.PieceContent.TheVariants.{Head, Page, Records}
 use Rattle.hydration.specs.Stagings.{StagingData, piece_at, IsStaging}
 use Rattle.hydration.specs.Placing.{CanFollow, CanStand, HasHead, PageFollows, RecordsFollow, IsInOrder}
 

@@ -8,8 +8,8 @@ use Rattle.redo_core.specs.Standing.{IsAlive, SparesIn}
 use Rattle.redo_core.proofs.Members.{all_members}
 use Rattle.epoch_book.specs.Contradicted.{IsContradicted}
 use Rattle.hot_log.specs.Found.{IsLeast}
-use Rattle.redo_wire.specs.Pieces.{PieceData}
-use Rattle.redo_wire.specs.declared.pieces.PieceContent.TheVariants.{Head}
+use Rattle.messages.specs.Pieces.{PieceData}
+use Rattle.messages.specs.declared.pieces.PieceContent.TheVariants.{Head}
 use Rattle.hydration.specs.Stagings.{StagingData, piece_at}
 use Rattle.hydration.specs.Placing.{IsKeptFor, HasHead, CanFollow, CanStand, IsMisplaced}
 

@@ -7,8 +7,8 @@ use Rattle.redo_core.specs.Meaning.{ImageData}
 use Rattle.redo_core.specs.Order.{Lists, RecordBefore}
 use Rattle.redo_core.specs.Roster.{least}
 use Rattle.redo_core.proofs.Members.{here}
-use Rattle.redo_wire.specs.Pieces.{IsContent}
-use Rattle.redo_wire.specs.declared.pieces.PieceContent.TheVariants.{Head}
+use Rattle.messages.specs.Pieces.{IsContent}
+use Rattle.messages.specs.declared.pieces.PieceContent.TheVariants.{Head}
 use Rattle.page_base.specs.Adopting.{first_given}
 use Rattle.segment_state.specs.State.{State}
 use Rattle.segment_core.specs.Restoring.{IsMadeOf}

@@ -10,10 +10,9 @@ use Rattle.redo_core.specs.Writing.{zeros}
 use Rattle.redo_core.proofs.Members.{all_of, each}
 use Rattle.redo_core.proofs.Rising.{in_take}
 use Rattle.redo_core.proofs.ByPlace.{contains_at}
-use Rattle.redo_wire.specs.Limits.{max_batch}
-use Rattle.redo_wire.specs.Pieces.{IsPiece, piece_of}
-use Rattle.redo_wire.specs.declared.pieces.PieceContent.{PieceContent}
-use Rattle.redo_wire.specs.declared.pieces.PieceContent.TheVariants.{Head, Page, Records}
+use Rattle.messages.specs.Pieces.{IsPiece, max_batch, piece_of}
+use Rattle.messages.specs.declared.pieces.PieceContent.{PieceContent}
+use Rattle.messages.specs.declared.pieces.PieceContent.TheVariants.{Head, Page, Records}
 use Rattle.hydration.specs.Snapshots.{SnapshotData, IsSnapshot, IsContentAt}
 
 -- parts of a list that rises rise

@@ -20,9 +20,9 @@ use Rattle.redo_core.proofs.Rising.{rising_at, in_take, across}
 use Rattle.redo_core.proofs.ByPlace.{contains_at}
 use Rattle.redo_laws.proofs.Log.{IsLog, log_of_sound}
 use Rattle.epoch_book.specs.Contradicted.{IsContradicted}
-use Rattle.redo_wire.specs.Limits.{max_batch}
-use Rattle.redo_wire.specs.declared.pieces.PieceContent.{PieceContent}
-use Rattle.redo_wire.specs.declared.pieces.PieceContent.TheVariants.{Head, Page, Records}
+use Rattle.messages.specs.Pieces.{max_batch}
+use Rattle.messages.specs.declared.pieces.PieceContent.{PieceContent}
+use Rattle.messages.specs.declared.pieces.PieceContent.TheVariants.{Head, Page, Records}
 use Rattle.segment_state.specs.State.{State}
 use Rattle.segment_state.specs.Shows.{Shows}
 use Rattle.segment_state.specs.Means.{MeansAt, Means}

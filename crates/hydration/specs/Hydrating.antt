@@ -4,9 +4,9 @@ use Rattle.std.specs.List.{Contains}
 use Rattle.redo_core.specs.Data.{RecordData}
 use Rattle.redo_core.specs.Meaning.{ImageData}
 use Rattle.redo_core.specs.Writing.{zeros}
-use Rattle.redo_wire.specs.Pieces.{PieceData}
-use Rattle.redo_wire.specs.declared.pieces.PieceContent.{PieceContent}
-use Rattle.redo_wire.specs.declared.pieces.PieceContent.TheVariants.{Head, Page, Records}
+use Rattle.messages.specs.Pieces.{PieceData}
+use Rattle.messages.specs.declared.pieces.PieceContent.{PieceContent}
+use Rattle.messages.specs.declared.pieces.PieceContent.TheVariants.{Head, Page, Records}
 use Rattle.segment_state.specs.State.{State, version_of, image_of}
 use Rattle.segment_state.specs.Promises.{KeepsMeaning}
 use Rattle.segment_core.specs.Forgetting.{IsSoundState}

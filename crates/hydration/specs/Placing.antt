@@ -7,10 +7,9 @@ use Rattle.redo_core.specs.Meaning.{ImageData}
 use Rattle.redo_core.specs.Order.{RecordBefore}
 use Rattle.redo_core.specs.Standing.{IsAlive, IsWaiting}
 use Rattle.epoch_book.specs.Contradicted.{IsContradicted}
-use Rattle.redo_wire.specs.Limits.{max_batch}
-use Rattle.redo_wire.specs.Pieces.{PieceData}
-use Rattle.redo_wire.specs.declared.pieces.PieceContent.{PieceContent}
-use Rattle.redo_wire.specs.declared.pieces.PieceContent.TheVariants.{Head, Page, Records}
+use Rattle.messages.specs.Pieces.{PieceData, max_batch}
+use Rattle.messages.specs.declared.pieces.PieceContent.{PieceContent}
+use Rattle.messages.specs.declared.pieces.PieceContent.TheVariants.{Head, Page, Records}
 use Rattle.hydration.specs.Stagings.{StagingData, piece_at, IsMissingPiece}
 
 -- a record that waits for the book, or is alive in its view above the anchor

@@ -3,7 +3,7 @@ use Rattle.std.specs.Prelude.{◌≡◌, ◌≢◌, ℕ, ◌<◌, ◌⊎◌, Lis
 use Rattle.std.specs.Ordering.{nat_cmp}
 use Rattle.std.specs.BTreeMap.{is_at}
 use Rattle.std.specs.Map.{lookup}
-use Rattle.redo_wire.specs.Pieces.{PieceData, IsPiece}
+use Rattle.messages.specs.Pieces.{PieceData, IsPiece}
 use Rattle.hydration.specs.declared.staging.AddFault.{AddFault}
 use Rattle.hydration.specs.declared.staging.AddFault.TheVariants.{Stranger, Double, Memory}
 

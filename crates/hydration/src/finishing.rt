@@ -11,8 +11,8 @@ ghost use Rattle.hydration.specs.declared.finishing.FinishFault.TheVariants.{Mis
 
 use crate::staging::Staging;
 use epoch_book::EpochBook;
+use messages::{Book, Piece, PieceContent};
 use redo_core::{ReadPoints, Record, SharedPage};
-use redo_wire::{Book, Piece, PieceContent};
 use segment_core::Segment;
 use segment_state::restore_keeps;
 use std::alloc::{AllocError, Global};

@@ -7,15 +7,15 @@ ghost use Rattle.redo_core.specs.Order.{IsRising, RecordBefore};
 ghost use Rattle.redo_core.specs.Standing.{SparesIn};
 ghost use Rattle.epoch_book.specs.Contradicted.{IsContradicted as HasContradiction};
 ghost use Rattle.hot_log.specs.Found.{IsLeast};
-ghost use Rattle.redo_wire.specs.Pieces.{IsContent};
+ghost use Rattle.messages.specs.Pieces.{IsContent};
 ghost use Rattle.hydration.specs.Stagings.{IsMissingPiece};
 ghost use Rattle.hydration.specs.Placing.{IsComplete, IsMisplaced, IsKeptFor, PageFollows, RecordsFollow, CanFollow, CanStand, HasHead};
 
 use crate::snapshot::BATCH;
 use crate::staging::Staging;
 use epoch_book::is_contradicted;
+use messages::{Book, PageImage, PieceContent};
 use redo_core::{Cut, Record};
-use redo_wire::{Book, PageImage, PieceContent};
 
 impl Staging {
     /// The least index whose piece is missing.

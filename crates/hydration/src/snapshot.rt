@@ -1,9 +1,9 @@
 ghost use Rattle.std.specs.Prelude.{◌≡◌, ◌<◌, ◌≤◌, ◌+◌, ◌*◌, length, take, drop, IfOk};
-ghost use Rattle.redo_wire.specs.Limits.{max_batch};
+ghost use Rattle.messages.specs.Pieces.{max_batch};
 ghost use Rattle.hydration.specs.Snapshots.{snapshot_of, IsSnapshot, IsContentAt, IsPieceOf};
 
+use messages::{Book, PageImage, Piece, PieceContent, RecordBatch};
 use redo_core::Record;
-use redo_wire::{Book, PageImage, Piece, PieceContent, RecordBatch};
 use std::alloc::{AllocError, Global};
 use std::marker::Model;
 

@@ -2,8 +2,8 @@ ghost use Rattle.std.specs.Prelude.{◌≡◌, ◌↔◌, [], Some, None, IfErr,
 ghost use Rattle.std.specs.Option.{option_copied};
 ghost use Rattle.hydration.specs.Stagings.{staging_of, piece_at, IsStranger, IsStaging, Adds, RefusesPiece};
 
+use messages::Piece;
 use redo_core::Refused;
-use redo_wire::Piece;
 use std::alloc::Global;
 use std::collections::BTreeMap;
 use std::marker::Model;

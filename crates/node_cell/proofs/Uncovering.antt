@@ -4,7 +4,7 @@ use Rattle.redo_core.specs.Position.{Position}
 use Rattle.redo_core.specs.Sound.{IsSound}
 use Rattle.redo_core.specs.declared.facts.Fact.{Fact}
 use Rattle.redo_laws.proofs.Log.{log_of_sound}
-use Rattle.redo_wire.specs.Summaries.{SummaryData}
+use Rattle.messages.specs.Summaries.{SummaryData}
 use Rattle.segment_state.specs.State.{State}
 use Rattle.segment_state.specs.Means.{MeansAt}
 use Rattle.segment_state.specs.HasMeaning.{HasAnchor}

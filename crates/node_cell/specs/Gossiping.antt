@@ -6,9 +6,10 @@ use Rattle.redo_core.specs.Order.{IsFirst}
 use Rattle.redo_core.specs.Position.{Position, IsPosition}
 use Rattle.redo_core.specs.Meaning.{Meaning, IsMeaning}
 use Rattle.redo_core.specs.declared.facts.Fact.{Fact}
-use Rattle.redo_wire.specs.declared.keys.Key.{Key}
-use Rattle.redo_wire.specs.Summaries.{SummaryData, KeyBefore}
-use Rattle.redo_wire.specs.Deltas.{DeltaData}
+use Rattle.messages.specs.declared.keys.Key.{Key}
+use Rattle.messages.specs.Summaries.{SummaryData}
+use Rattle.messages.specs.Keys.{KeyBefore}
+use Rattle.messages.specs.Deltas.{DeltaData}
 use Rattle.segment_state.specs.Gossip.{Fills, IsAccounted}
 use Rattle.front_board.specs.FrontWord.{FrontData}
 use Rattle.gossip_core.specs.Summarizing.{IsSummaryOf}

@@ -1,8 +1,8 @@
 ghost use Rattle.std.specs.Prelude.{◌≡◌, IfOk};
 ghost use Rattle.node_cell.specs.Gossiping.{IsMail};
 
+use messages::{Delta, Summary};
 use named_log::LogName;
-use redo_wire::{Delta, Summary};
 use std::alloc::AllocError;
 use std::marker::{Model, PhantomData};
 

@@ -3,9 +3,9 @@ use Rattle.std.specs.Prelude.{◌≡◌, ℕ, ◌+◌, ◌==◌, nat_lt, List, [
 use Rattle.hex.specs.Hex.{decode_of}
 use Rattle.redo_core.specs.Shape.{max_number, max_readers}
 use Rattle.redo_core.specs.declared.facts.Fact.{Fact}
-use Rattle.redo_wire.specs.Summaries.{SummaryData}
-use Rattle.redo_wire.specs.Deltas.{DeltaData}
-use Rattle.redo_wire.specs.Pieces.{PieceData}
+use Rattle.messages.specs.Summaries.{SummaryData}
+use Rattle.messages.specs.Deltas.{DeltaData}
+use Rattle.messages.specs.Pieces.{PieceData}
 use Rattle.redo_wire.specs.FactReading.{decoded_fact}
 use Rattle.redo_wire.specs.SummaryReading.{decoded_summary}
 use Rattle.redo_wire.specs.DeltaReading.{decoded_delta}

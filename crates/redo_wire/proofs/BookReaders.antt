@@ -18,7 +18,8 @@ use Rattle.redo_wire.specs.Places.{WaitPlace, is_wait_above}
 use Rattle.redo_wire.specs.Forms.{within_at, byte_in}
 use Rattle.redo_wire.specs.Facts.{IsWireCut, IsWireAdvance, cut_bytes, advance_bytes}
 use Rattle.redo_wire.specs.FactReading.{cut_at, advance_at}
-use Rattle.redo_wire.specs.Books.{book_min, has_many, IsWireBook, book_bytes}
+use Rattle.messages.specs.Books.{book_min, has_many}
+use Rattle.redo_wire.specs.Books.{IsWireBook, book_bytes}
 use Rattle.redo_wire.specs.BookReading.{complete, cut_epoch, last_point, wait_place, next_cut_at, next_point_at, next_wait_at, book_at}
 use Rattle.redo_wire.proofs.Readers.{IsBytes, bind_ok, ok_is, Takes, Takes-then, Reads, ordered_reads}
 use Rattle.redo_wire.proofs.FieldReaders.{u16_reads, u32_reads, u48_reads}

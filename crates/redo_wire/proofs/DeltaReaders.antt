@@ -15,9 +15,12 @@ use Rattle.redo_wire.specs.Lists.{each_at}
 use Rattle.redo_wire.specs.Places.{Place, is_above}
 use Rattle.redo_wire.specs.Records.{IsWireRecord, record_bytes}
 use Rattle.redo_wire.specs.RecordReading.{record_at}
-use Rattle.redo_wire.specs.Books.{book_min, has_many, book_bytes}
+use Rattle.messages.specs.Books.{book_min, has_many}
+use Rattle.redo_wire.specs.Books.{book_bytes}
 use Rattle.redo_wire.specs.BookReading.{book_at}
-use Rattle.redo_wire.specs.Deltas.{DeltaData, delta_of, image_of, IsDelta, IsWireImage, IsWireDelta, image_bytes, delta_part_bytes, delta_bytes}
+use Rattle.messages.specs.Deltas.{DeltaData, delta_of, IsDelta}
+use Rattle.messages.specs.Images.{image_of}
+use Rattle.redo_wire.specs.Deltas.{IsWireImage, IsWireDelta, image_bytes, delta_part_bytes, delta_bytes}
 use Rattle.redo_wire.specs.DeltaReading.{is_nonzero, may_have, image_at, page_after, next_image_at, record_place, next_record_at, delta_part_at, delta_at}
 use Rattle.redo_wire.proofs.Readers.{IsBytes, bind_ok, ok_is, shaped_ok, Takes, Takes-then, Reads, ordered_reads}
 use Rattle.redo_wire.proofs.FieldReaders.{u16_reads, u32_reads, u48_reads, bytes_take, bytes_again}

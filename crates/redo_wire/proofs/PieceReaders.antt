@@ -8,18 +8,20 @@ use Rattle.redo_core.specs.Data.{RecordData}
 use Rattle.redo_core.specs.Order.{RecordBefore}
 use Rattle.redo_core.specs.Meaning.{ImageData}
 use Rattle.redo_wire.specs.declared.faults.WireFault.TheVariants.{UnknownTag}
-use Rattle.redo_wire.specs.declared.pieces.PieceContent.{PieceContent}
-use Rattle.redo_wire.specs.declared.pieces.PieceContent.TheVariants.{Head, Page, Records}
+use Rattle.messages.specs.declared.pieces.PieceContent.{PieceContent}
+use Rattle.messages.specs.declared.pieces.PieceContent.TheVariants.{Head, Page, Records}
 use Rattle.redo_wire.specs.Reading.{Read, shaped, known, mapped}
 use Rattle.redo_wire.specs.Fields.{byte_at, u32_at, u48_at, u64_at, u32, u48, u64}
 use Rattle.redo_wire.specs.Lists.{each_at}
 use Rattle.redo_wire.specs.Places.{is_above}
 use Rattle.redo_wire.specs.Records.{IsWireRecord, record_bytes}
-use Rattle.redo_wire.specs.Books.{book_min, book_bytes}
+use Rattle.messages.specs.Books.{book_min}
+use Rattle.redo_wire.specs.Books.{book_bytes}
 use Rattle.redo_wire.specs.BookReading.{book_at}
 use Rattle.redo_wire.specs.Deltas.{image_bytes}
 use Rattle.redo_wire.specs.DeltaReading.{image_at, record_place, next_record_at}
-use Rattle.redo_wire.specs.Pieces.{PieceData, piece_of, is_head, IsContent, IsPiece, IsWireContent, IsWirePiece, kind_of, is_for_many, content_bytes, piece_part_bytes, piece_bytes}
+use Rattle.messages.specs.Pieces.{PieceData, piece_of, is_head, IsContent, IsPiece}
+use Rattle.redo_wire.specs.Pieces.{IsWireContent, IsWirePiece, kind_of, is_for_many, content_bytes, piece_part_bytes, piece_bytes}
 use Rattle.redo_wire.specs.PieceReading.{last_kind, is_in_place, head_content_at, records_content_at, content_at, piece_part_at, piece_at}
 use Rattle.redo_wire.proofs.Readers.{IsBytes, bind_ok, ok_is, guard_true, shaped_ok, mapped_ok, Takes, Takes-then, Reads}
 use Rattle.redo_wire.proofs.FieldReaders.{byte_reads, u32_reads, u48_reads, u64_reads}

@@ -2,15 +2,18 @@
 use Rattle.std.proofs.Common.{◌≡◌, ℕ, ◌^◌, ◌<◌, ◌≤◌, Bool, ltb, leb, true, List, ◌++◌, length, Ok, refl, ap, subst, ◌∙◌, append_assoc, arith}
 use Rattle.std.specs.List.{flat_map}
 use Rattle.std.proofs.lemmas.Bool.{ltb-true, leb-true, lt-ltb, le-leb}
-use Rattle.redo_wire.specs.declared.keys.Key.{Key}
+use Rattle.messages.specs.declared.keys.Key.{Key}
 use Rattle.redo_wire.specs.Reading.{shaped}
 use Rattle.redo_wire.specs.Fields.{u16_at, u32_at, u48_at, u16, u32, u48}
 use Rattle.redo_wire.specs.Lists.{each_at}
 use Rattle.redo_wire.specs.Places.{Place, is_above}
 use Rattle.redo_core.specs.Book.{BookData}
-use Rattle.redo_wire.specs.Books.{book_min, has_many, book_bytes}
+use Rattle.messages.specs.Books.{book_min, has_many}
+use Rattle.redo_wire.specs.Books.{book_bytes}
 use Rattle.redo_wire.specs.BookReading.{book_at}
-use Rattle.redo_wire.specs.Summaries.{SummaryData, summary_of, KeyBefore, IsKey, IsSummary, IsWireSummary, key_bytes, summary_part_bytes, summary_bytes}
+use Rattle.messages.specs.Summaries.{SummaryData, summary_of, IsSummary}
+use Rattle.messages.specs.Keys.{KeyBefore, IsKey}
+use Rattle.redo_wire.specs.Summaries.{IsWireSummary, key_bytes, summary_part_bytes, summary_bytes}
 use Rattle.redo_wire.specs.SummaryReading.{key_at, key_place, next_key_at, summary_part_at, summary_at}
 use Rattle.redo_wire.proofs.Readers.{IsBytes, bind_ok, ok_is, shaped_ok, Takes, Takes-then, Reads, ordered_reads}
 use Rattle.redo_wire.proofs.FieldReaders.{u16_reads, u32_reads, u48_reads}

@@ -12,7 +12,7 @@ use Rattle.redo_wire.specs.Forms.{form_bytes}
 use Rattle.redo_wire.specs.Records.{is_full, record_part_bytes}
 use Rattle.redo_wire.specs.Facts.{IsWireFact, is_of_other, advance_bytes, fact_bytes}
 use Rattle.redo_wire.specs.FactReading.{fact_at, decoded_fact}
-use Rattle.redo_wire.specs.Books.{has_many}
+use Rattle.messages.specs.Books.{has_many}
 use Rattle.redo_wire.specs.Summaries.{IsWireSummary, summary_part_bytes, summary_bytes}
 use Rattle.redo_wire.specs.SummaryReading.{summary_at, decoded_summary}
 use Rattle.redo_wire.specs.Deltas.{IsWireDelta, delta_part_bytes, delta_bytes}

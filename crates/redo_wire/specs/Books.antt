@@ -1,22 +1,13 @@
--- Books: the part that summaries and deltas share. Which there are, and the one spelling of each.
-use Rattle.std.specs.Prelude.{ℕ, ◌<◌, ◌^◌, Bool, List, ◌++◌, length, nat_lt, nat_le, ◌||◌}
+-- Books: the part that summaries, deltas and heads of pieces share. Which have bytes, and the one spelling of each.
+use Rattle.std.specs.Prelude.{ℕ, ◌<◌, ◌^◌, Bool, List, ◌++◌, length, nat_le, ◌||◌}
 use Rattle.std.specs.List.{AllByRecursion, flat_map}
-use Rattle.redo_core.specs.Book.{BookData, IsBook, roster_of}
-use Rattle.redo_core.specs.Roster.{least}
+use Rattle.redo_core.specs.Book.{BookData, IsBook}
 use Rattle.redo_wire.specs.Limits.{count16_end, count32_end}
 use Rattle.redo_wire.specs.Fields.{u16, u32, u48}
 use Rattle.redo_wire.specs.Forms.{byte_in}
 use Rattle.redo_wire.specs.Facts.{IsWireAdvance, cut_bytes, advance_bytes}
 
--- the minimum read point: the least reader's point
-abbrev pub book_min : BookData → ℕ
-book_min b = least b.points
-
--- the roster has several readers
-abbrev pub has_many : BookData → Bool
-has_many b = nat_lt 1 (roster_of b)
-
--- ---- which there are
+-- ---- which have bytes
 
 -- A book, whose waiting advances have the fields that their type holds, and whose lists are no longer than their count fields hold.
 pub record IsWireBook (b : BookData) : Type 0 where

@@ -12,9 +12,10 @@ use Rattle.redo_wire.specs.Tags.{delta_tag, roster_delta_tag}
 use Rattle.redo_wire.specs.Forms.{form_at}
 use Rattle.redo_wire.specs.Places.{Place, is_above}
 use Rattle.redo_wire.specs.RecordReading.{record_at}
-use Rattle.redo_wire.specs.Books.{book_min}
+use Rattle.messages.specs.Books.{book_min}
 use Rattle.redo_wire.specs.BookReading.{book_at}
-use Rattle.redo_wire.specs.Deltas.{DeltaData, delta_of, image_of}
+use Rattle.messages.specs.Deltas.{DeltaData, delta_of}
+use Rattle.messages.specs.Images.{image_of}
 
 abbrev pub is_nonzero : List ℕ → Bool
 is_nonzero bytes = list_any (λ b. not (b == 0)) bytes

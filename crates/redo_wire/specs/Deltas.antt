@@ -1,48 +1,22 @@
--- Deltas: which there are, and the one spelling of each.
-use Rattle.std.specs.Prelude.{◌≡◌, ◌≢◌, ℕ, ◌<◌, ◌≤◌, ◌^◌, Bool, List, [], ◌++◌, length, nat_le, ◌||◌}
+-- Deltas: which have bytes, and the one spelling of each.
+use Rattle.std.specs.Prelude.{◌≡◌, ℕ, ◌<◌, ◌^◌, Bool, List, ◌++◌, length, nat_le, ◌||◌}
 use Rattle.std.specs.List.{AllByRecursion, flat_map}
-use Rattle.redo_core.specs.Book.{BookData, IsBook}
-use Rattle.redo_core.specs.Data.{RecordData}
-use Rattle.redo_core.specs.Order.{IsRising, RecordBefore}
-use Rattle.redo_core.specs.Writing.{zeros}
-use Rattle.redo_core.specs.Meaning.{ImageData, ImageBefore}
+use Rattle.redo_core.specs.Meaning.{ImageData}
+use Rattle.messages.specs.Books.{has_many}
+use Rattle.messages.specs.Deltas.{DeltaData, IsDelta}
 use Rattle.redo_wire.specs.Fields.{u16, u32, u48}
 use Rattle.redo_core.specs.Shape.{page_len}
 use Rattle.redo_wire.specs.Limits.{count32_end}
 use Rattle.redo_wire.specs.Tags.{delta_tag, roster_delta_tag}
 use Rattle.redo_wire.specs.Forms.{form_bytes}
 use Rattle.redo_wire.specs.Records.{IsWireRecord, record_bytes}
-use Rattle.redo_wire.specs.Books.{IsWireBook, book_min, has_many, is_long_book, book_bytes}
-
--- the book, the base point with the pages there, and records
-pub record DeltaData : Type 0 where
-  pub book : BookData
-  pub base : ℕ
-  pub pages : List ImageData
-  pub records : List RecordData
-
-abbrev pub delta_of : BookData → ℕ → List ImageData → List RecordData → DeltaData
-delta_of book base pages records = record { book = book; base = base; pages = pages; records = records }
-
-abbrev pub image_of : ℕ → List ℕ → ImageData
-image_of page bytes = record { page = page; bytes = bytes }
-
--- ---- which there are
-
--- a base up to the minimum read point, pages in order and none of zeros, none at all at base 0, and records in order
-pub record IsDelta (d : DeltaData) : Type 0 where
-  pub book : IsBook d.book
-  pub base : d.base ≤ book_min d.book
-  pub no_base : d.base ≡ 0 → d.pages ≡ []
-  pub pages : IsRising ImageBefore d.pages
-  pub each_page : AllByRecursion (λ p. p.bytes ≢ zeros) d.pages
-  pub records : IsRising RecordBefore d.records
+use Rattle.redo_wire.specs.Books.{IsWireBook, is_long_book, book_bytes}
 
 pub record IsWireImage (p : ImageData) : Type 0 where
   pub page : p.page < 2 ^ 16
   pub size : length p.bytes ≡ page_len
 
--- Moreover its elements have the fields that their types hold, and its lists are no longer than their count fields hold.
+-- Its elements have the fields that their types hold, and its lists are no longer than their count fields hold.
 pub record IsWireDelta (d : DeltaData) : Type 0 where
   pub shape : IsDelta d
   pub book : IsWireBook d.book

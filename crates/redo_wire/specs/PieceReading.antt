@@ -1,18 +1,17 @@
 -- Reading pieces. The order of the lines is the order of the faults.
 use Rattle.std.specs.Prelude.{ℕ, Bool, true, false, not, List, Result, Ok, nat_lt, nat_le, ◌==◌, ◌&&◌, if◌then◌else◌}
 use Rattle.redo_wire.specs.declared.faults.WireFault.{WireFault}
-use Rattle.redo_wire.specs.declared.pieces.PieceContent.{PieceContent}
-use Rattle.redo_wire.specs.declared.pieces.PieceContent.TheVariants.{Head, Page, Records}
+use Rattle.messages.specs.declared.pieces.PieceContent.{PieceContent}
+use Rattle.messages.specs.declared.pieces.PieceContent.TheVariants.{Head, Page, Records}
 use Rattle.redo_wire.specs.Reading.{◌>>=◌, Read, shaped, known, mapped, whole}
-use Rattle.redo_wire.specs.Limits.{max_batch}
+use Rattle.messages.specs.Pieces.{max_batch, PieceData, piece_of}
 use Rattle.redo_wire.specs.Fields.{byte_at, u32_at, u48_at, u64_at}
 use Rattle.redo_wire.specs.Lists.{each_at}
 use Rattle.redo_wire.specs.Tags.{piece_tag, roster_piece_tag, head_kind, page_kind, records_kind}
 use Rattle.redo_wire.specs.Forms.{form_at}
-use Rattle.redo_wire.specs.Books.{book_min}
+use Rattle.messages.specs.Books.{book_min}
 use Rattle.redo_wire.specs.BookReading.{book_at}
 use Rattle.redo_wire.specs.DeltaReading.{image_at, next_record_at, record_place}
-use Rattle.redo_wire.specs.Pieces.{PieceData, piece_of}
 
 -- the last of the kinds, which are numbered from the head on; for several readers there are heads alone
 abbrev pub last_kind : Bool → ℕ

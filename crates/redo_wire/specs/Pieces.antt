@@ -1,55 +1,23 @@
--- Pieces: which there are, and the one spelling of each. A segment is frozen into pieces under one name: first its head, then its
--- pages and its records.
-use Rattle.std.specs.Prelude.{◌≡◌, ◌≢◌, ℕ, ◌<◌, ◌≤◌, ◌^◌, Bool, true, false, List, [], ◌∷◌, ◌++◌, length, ◌==◌}
+-- Pieces: which have bytes, and the one spelling of each.
+use Rattle.std.specs.Prelude.{◌≡◌, ℕ, ◌<◌, ◌^◌, Bool, false, List, [], ◌∷◌, ◌++◌, length}
 use Rattle.std.specs.List.{AllByRecursion, flat_map}
-use Rattle.redo_core.specs.Book.{IsBook}
-use Rattle.redo_core.specs.Order.{IsRising, RecordBefore}
-use Rattle.redo_core.specs.Writing.{zeros}
-use Rattle.redo_wire.specs.declared.pieces.PieceContent.{PieceContent}
-use Rattle.redo_wire.specs.declared.pieces.PieceContent.TheVariants.{Head, Page, Records}
-use Rattle.redo_wire.specs.Limits.{max_batch}
+use Rattle.messages.specs.declared.pieces.PieceContent.{PieceContent}
+use Rattle.messages.specs.declared.pieces.PieceContent.TheVariants.{Head, Page, Records}
+use Rattle.messages.specs.Books.{has_many}
+use Rattle.messages.specs.Pieces.{PieceData, IsPiece}
 use Rattle.redo_wire.specs.Fields.{u32, u48, u64}
 use Rattle.redo_wire.specs.Tags.{piece_tag, roster_piece_tag, head_kind, page_kind, records_kind}
 use Rattle.redo_wire.specs.Forms.{form_bytes}
 use Rattle.redo_wire.specs.Records.{IsWireRecord, record_bytes}
-use Rattle.redo_wire.specs.Books.{IsWireBook, book_min, has_many, is_long_book, book_bytes}
+use Rattle.redo_wire.specs.Books.{IsWireBook, is_long_book, book_bytes}
 use Rattle.redo_wire.specs.Deltas.{IsWireImage, image_bytes}
-
--- the name of the whole, which piece of how many it is, and what it brings
-pub record PieceData : Type 0 where
-  pub name : ℕ
-  pub index : ℕ
-  pub total : ℕ
-  pub content : PieceContent
-
-abbrev pub piece_of : ℕ → ℕ → ℕ → PieceContent → PieceData
-piece_of name index total content = record { name = name; index = index; total = total; content = content }
-
--- ---- which there are
-
-abbrev pub is_head : PieceContent → Bool
-is_head (Head book anchor) = true
-is_head (Page p) = false
-is_head (Records rs) = false
-
--- an anchor up to the minimum read point; a page that is not all zeros; some records, in order
-abbrev pub IsContent : PieceContent → Type 0
-IsContent (Head book anchor) = IsBook book × (anchor ≤ book_min book)
-IsContent (Page p) = p.bytes ≢ zeros
-IsContent (Records rs) = (0 < length rs) × (length rs ≤ max_batch) × IsRising RecordBefore rs
-
--- an index below the total, which is 0 for the head and for no other
-pub record IsPiece (p : PieceData) : Type 0 where
-  pub index : p.index < p.total
-  pub first : is_head p.content ≡ (p.index == 0)
-  pub content : IsContent p.content
 
 abbrev pub IsWireContent : PieceContent → Type 0
 IsWireContent (Head book anchor) = IsWireBook book
 IsWireContent (Page p) = IsWireImage p
 IsWireContent (Records rs) = AllByRecursion IsWireRecord rs
 
--- Moreover its parts have the fields that their types hold, and the lists of a head are no longer than their count fields hold.
+-- Its parts have the fields that their types hold, and the lists of a head are no longer than their count fields hold.
 pub record IsWirePiece (p : PieceData) : Type 0 where
   pub shape : IsPiece p
   pub name : p.name < 2 ^ 64

@@ -1,42 +1,16 @@
--- Summaries: which there are, and the one spelling of each.
-use Rattle.std.specs.Prelude.{◌≡◌, ℕ, ◌<◌, ◌≤◌, ◌^◌, Bool, List, ◌++◌, length, nat_le, ◌||◌}
+-- Summaries: which have bytes, and the one spelling of each.
+use Rattle.std.specs.Prelude.{◌≡◌, ℕ, ◌<◌, ◌^◌, Bool, List, ◌++◌, length, nat_le, ◌||◌}
 use Rattle.std.specs.List.{AllByRecursion, flat_map}
-use Rattle.redo_core.specs.Book.{BookData, IsBook}
-use Rattle.redo_core.specs.Shape.{max_number}
-use Rattle.redo_core.specs.Order.{IsRising, PairBefore}
-use Rattle.redo_wire.specs.declared.keys.Key.{Key}
+use Rattle.messages.specs.declared.keys.Key.{Key}
+use Rattle.messages.specs.Books.{has_many}
+use Rattle.messages.specs.Summaries.{SummaryData, IsSummary}
 use Rattle.redo_wire.specs.Fields.{u16, u32, u48}
 use Rattle.redo_wire.specs.Limits.{count32_end}
 use Rattle.redo_wire.specs.Tags.{summary_tag, roster_summary_tag}
 use Rattle.redo_wire.specs.Forms.{form_bytes}
-use Rattle.redo_wire.specs.Books.{IsWireBook, book_min, has_many, is_long_book, book_bytes}
+use Rattle.redo_wire.specs.Books.{IsWireBook, is_long_book, book_bytes}
 
--- the book, the anchor and the keys of the records that a segment keeps
-pub record SummaryData : Type 0 where
-  pub book : BookData
-  pub anchor : ℕ
-  pub keys : List Key
-
-abbrev pub summary_of : BookData → ℕ → List Key → SummaryData
-summary_of book anchor keys = record { book = book; anchor = anchor; keys = keys }
-
--- ---- which there are
-
--- keys by epoch, then number
-abbrev pub KeyBefore : Key → Key → Type 0
-KeyBefore k l = PairBefore k.epoch k.number l.epoch l.number
-
-abbrev pub IsKey : Key → Type 0
-IsKey k = (0 < k.number) × (k.number ≤ max_number)
-
--- an anchor up to the minimum read point, and keys in order
-pub record IsSummary (s : SummaryData) : Type 0 where
-  pub book : IsBook s.book
-  pub anchor : s.anchor ≤ book_min s.book
-  pub keys : IsRising KeyBefore s.keys
-  pub each_key : AllByRecursion IsKey s.keys
-
--- Moreover its elements have the fields that their types hold, and its lists are no longer than their count fields hold.
+-- Its elements have the fields that their types hold, and its lists are no longer than their count fields hold.
 pub record IsWireSummary (s : SummaryData) : Type 0 where
   pub shape : IsSummary s
   pub book : IsWireBook s.book

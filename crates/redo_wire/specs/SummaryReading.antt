@@ -1,16 +1,16 @@
 -- Reading summaries. The order of the lines is the order of the faults.
 use Rattle.std.specs.Prelude.{ℕ, Bool, List, Result, Ok, nat_lt, nat_le}
 use Rattle.redo_wire.specs.declared.faults.WireFault.{WireFault}
-use Rattle.redo_wire.specs.declared.keys.Key.{Key}
+use Rattle.messages.specs.declared.keys.Key.{Key}
 use Rattle.redo_wire.specs.Reading.{◌>>=◌, Read, shaped, ordered, whole}
 use Rattle.redo_wire.specs.Fields.{u16_at, u32_at, u48_at}
 use Rattle.redo_wire.specs.Lists.{each_at}
 use Rattle.redo_wire.specs.Tags.{summary_tag, roster_summary_tag}
 use Rattle.redo_wire.specs.Forms.{form_at}
 use Rattle.redo_wire.specs.Places.{Place, is_above}
-use Rattle.redo_wire.specs.Books.{book_min}
+use Rattle.messages.specs.Books.{book_min}
 use Rattle.redo_wire.specs.BookReading.{book_at}
-use Rattle.redo_wire.specs.Summaries.{SummaryData, summary_of}
+use Rattle.messages.specs.Summaries.{SummaryData, summary_of}
 
 unfoldable pub key_at : List ℕ → Read Key
 key_at bytes = do

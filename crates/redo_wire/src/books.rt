@@ -1,9 +1,9 @@
-ghost use Rattle.std.specs.Prelude.{◌≡◌, ◌<◌, ◌++◌, false, length, OnOk, IfOk};
-ghost use Rattle.std.specs.List.{AllByRecursion, flat_map};
-ghost use Rattle.redo_core.specs.Book.{book_of, IsBook};
-ghost use Rattle.redo_core.specs.Roster.{least};
+//! Books, both ways.
+
+ghost use Rattle.std.specs.Prelude.{◌≡◌, ◌++◌, false, OnOk};
 ghost use Rattle.redo_wire.specs.Outcomes.{Gives};
-ghost use Rattle.redo_wire.specs.Books.{book_min, has_many, IsWireBook, is_long_book, book_bytes};
+ghost use Rattle.messages.specs.Books.{has_many};
+ghost use Rattle.redo_wire.specs.Books.{IsWireBook, is_long_book, book_bytes};
 ghost use Rattle.redo_wire.specs.BookReading.{complete, book_at};
 
 use crate::advances::{AdvanceList, WaitList};
@@ -14,9 +14,9 @@ use crate::forms::{put_within, read_within};
 use crate::limits::{COUNT16_END, COUNT32_END};
 use crate::lists::{ListReader, ListWriter, put_list, read_list};
 use bytes::BytesMut;
+use messages::Book;
 use redo_core::{Advance, Cut, MAX_READERS};
 use std::alloc::{AllocError, Global};
-use std::marker::Model;
 use std::mem::size_of;
 
 const CUT_SIZE: usize = size_of::<Cut>();
@@ -24,117 +24,6 @@ const CUT_SIZE: usize = size_of::<Cut>();
 const POINT_SIZE: usize = size_of::<u64>();
 
 const ADVANCE_SIZE: usize = size_of::<Advance>();
-
-/// The part that summaries, deltas and pieces share: the truncations by epoch and their complete epoch, the point of each reader of
-/// the roster, and the waiting advances by epoch, reader and point, each of an epoch above the complete one.
-#[derive(Debug, Drop)]
-pub struct Book {
-    cuts: Vec<Cut>,
-    complete: u16,
-    points: Vec<u64>,
-    waits: Vec<Advance>,
-}
-
-impl Model for Book {
-    ghost use Rattle.redo_core.specs.Book.{BookData, book_of, IsBook};
-
-    ghost Value = { BookData };
-
-    ghost view = { λ b. book_of b.cuts.items b.complete b.points.items b.waits.items };
-
-    ghost invariant = { λ b. IsBook (book_of b.cuts.items b.complete b.points.items b.waits.items) };
-}
-
-impl Book {
-    /// A book of truncations with their complete epoch, the points of 1 to 15 readers, each up to 2^48 - 1, and waiting advances.
-    pub fn new(cuts: Vec<Cut>, complete: u16, points: Vec<u64>, waits: Vec<Advance>) -> Self
-        requires { IsBook (book_of cuts.items complete points.items waits.items) }
-        ensures { result ≡ book_of cuts.items complete points.items waits.items }
-    {
-        Book {
-            cuts,
-            complete,
-            points,
-            waits,
-        }
-    }
-
-    pub fn cuts(&self) -> &[Cut]
-        ensures cuts { result.now ≡ self.now.cuts }
-        ensures shape { IsBook self.now }
-    {
-        &self.cuts
-    }
-
-    /// The complete epoch: the last one up to which every truncation is there.
-    pub fn complete(&self) -> u16
-        ensures complete { result ≡ self.now.complete }
-        ensures shape { IsBook self.now }
-    {
-        self.complete
-    }
-
-    /// The point of each reader, from reader 1 on, each up to 2^48 - 1.
-    pub fn points(&self) -> &[u64]
-        ensures points { result.now ≡ self.now.points }
-        ensures shape { IsBook self.now }
-    {
-        &self.points
-    }
-
-    /// The minimum read point, the least reader's point, up to 2^48 - 1.
-    pub fn min(&self) -> u64
-        ensures min { result ≡ book_min self.now }
-        ensures shape { IsBook self.now }
-    {
-        least_of(&self.points)
-    }
-
-    pub fn waits(&self) -> &[Advance]
-        ensures waits { result.now ≡ self.now.waits }
-        ensures shape { IsBook self.now }
-    {
-        &self.waits
-    }
-
-    /// An equal book with memory of its own. Its only error is want of memory.
-    pub fn copy(&self) -> Result<Self, AllocError>
-        ensures { IfOk result (λ b. b ≡ self.now) }
-    {
-        Ok(Book {
-            cuts: self.cuts.clone()?,
-            complete: self.complete,
-            points: self.points.clone()?,
-            waits: self.waits.clone()?,
-        })
-    }
-
-    /// Whether the roster has several readers.
-    pub(crate) fn has_many(&self) -> bool
-        ensures { result ≡ has_many self.now }
-    {
-        self.points.len() > 1
-    }
-
-    /// Whether a list is longer than its count field holds.
-    pub(crate) fn has_long_list(&self) -> bool
-        ensures { result ≡ is_long_book self.now }
-    {
-        self.cuts().len() >= COUNT16_END || self.waits().len() >= COUNT32_END
-    }
-}
-
-/// The least of the points.
-fn least_of(points: &[u64]) -> u64
-    requires { 0 < length points.now }
-    ensures { result ≡ least points.now }
-{
-    let mut low = points[0];
-    for p in points {
-        low = low.min(*p);
-    }
-    low
-}
 
 /// The complete epoch of truncations that rise by epoch.
 fn complete_of(cuts: &[Cut]) -> u16
@@ -219,15 +108,14 @@ pub fn read_book(alloc: Global, has_many: bool, bytes: &[u8]) -> Result<(Book, &
         alloc,
         rest,
     )?;
-    Ok((
-        Book {
-            cuts,
-            complete,
-            points,
-            waits,
-        },
-        rest,
-    ))
+    Ok((Book::new(cuts, complete, points, waits), rest))
+}
+
+/// Whether a list is longer than its count field holds.
+pub fn is_long_book(book: &Book) -> bool
+    ensures { result ≡ is_long_book book.now }
+{
+    book.cuts().len() >= COUNT16_END || book.waits().len() >= COUNT32_END
 }
 
 /// Appends the book in the form for its roster. The complete epoch has no bytes of its own.

@@ -1,111 +1,28 @@
+//! Deltas, both ways.
+
 ghost use Rattle.std.specs.Prelude.{◌≡◌, ◌↔◌, ◌⊎◌, ◌++◌, true, false, IfOk, IfErr, OnOk, OnErr, Ok, IsErrOf};
 ghost use Rattle.redo_wire.specs.declared.faults.WireError.{WireError};
 ghost use Rattle.redo_wire.specs.declared.faults.WireFault.TheVariants.{TooLong};
 ghost use Rattle.redo_wire.specs.Outcomes.{Gives, GivesRead};
-ghost use Rattle.redo_wire.specs.Deltas.{DeltaData, delta_of, IsDelta, IsWireDelta, is_long_delta, delta_bytes, SpellsDelta};
+ghost use Rattle.messages.specs.Deltas.{DeltaData};
+ghost use Rattle.redo_wire.specs.Deltas.{IsWireDelta, is_long_delta, delta_bytes, SpellsDelta};
 ghost use Rattle.redo_wire.specs.DeltaReading.{may_have, delta_part_at, delta_at, decoded_delta};
 
-use crate::books::{Book, put_book, read_book};
+use crate::books::{is_long_book, put_book, read_book};
 use crate::faults::{WireError, WireFault};
 use crate::fields::{put_u32, put_u48, read_u32, read_u48};
 use crate::forms::{put_form, read_form};
-use crate::images::{ImageList, PageImage};
+use crate::images::ImageList;
 use crate::limits::COUNT32_END;
 use crate::lists::{put_list, read_list};
 use crate::record_lists::{RECORD_SIZE, RecordList};
 use crate::tags;
 use bytes::BytesMut;
-use redo_core::Record;
+use messages::{Delta, PageImage};
 use std::alloc::{AllocError, Global};
-use std::marker::Model;
 use std::mem::size_of;
 
 const IMAGE_SIZE: usize = size_of::<PageImage>();
-
-/// What one segment sends to another: its book, a base point up to the minimum read point with the pages there, none of
-/// zeros, by number, and records by epoch and number. At base 0 there are no pages.
-#[derive(Debug, Drop)]
-pub struct Delta {
-    book: Book,
-    base: u64,
-    pages: Vec<PageImage>,
-    records: Vec<Record>,
-}
-
-impl Model for Delta {
-    ghost use Rattle.redo_wire.specs.Deltas.{DeltaData, delta_of, IsDelta};
-
-    ghost Value = { DeltaData };
-
-    ghost view = { λ d. delta_of d.book d.base d.pages.items d.records.items };
-
-    ghost invariant = { λ d. IsDelta (delta_of d.book d.base d.pages.items d.records.items) };
-}
-
-impl Delta {
-    /// A delta of a book, a base, pages and records.
-    pub fn new(book: Book, base: u64, pages: Vec<PageImage>, records: Vec<Record>) -> Self
-        requires { IsDelta (delta_of book base pages.items records.items) }
-        ensures { result ≡ delta_of book base pages.items records.items }
-    {
-        Delta {
-            book,
-            base,
-            pages,
-            records,
-        }
-    }
-
-    pub fn book(&self) -> &Book
-        ensures book { result.now ≡ self.now.book }
-        ensures shape { IsDelta self.now }
-    {
-        &self.book
-    }
-
-    /// The base point, up to the minimum read point.
-    pub fn base(&self) -> u64
-        ensures base { result ≡ self.now.base }
-        ensures shape { IsDelta self.now }
-    {
-        self.base
-    }
-
-    pub fn pages(&self) -> &[PageImage]
-        ensures pages { result.now ≡ self.now.pages }
-        ensures shape { IsDelta self.now }
-    {
-        &self.pages
-    }
-
-    pub fn records(&self) -> &[Record]
-        ensures records { result.now ≡ self.now.records }
-        ensures shape { IsDelta self.now }
-    {
-        &self.records
-    }
-
-    /// An equal delta, which shares the pages. Its only error is want of memory.
-    pub fn copy(&self) -> Result<Self, AllocError>
-        ensures { IfOk result (λ d. d ≡ self.now) }
-    {
-        Ok(Delta {
-            book: self.book.copy()?,
-            base: self.base,
-            pages: self.pages.clone()?,
-            records: self.records.clone()?,
-        })
-    }
-
-    /// Whether a list is longer than its count field holds.
-    fn has_long_list(&self) -> bool
-        ensures { result ≡ is_long_delta self.now }
-    {
-        self.book().has_long_list()
-            || self.pages().len() >= COUNT32_END
-            || self.records().len() >= COUNT32_END
-    }
-}
 
 /// The delta that the bytes spell, all of them.
 ///
@@ -133,7 +50,7 @@ pub fn encode_delta(out: &mut BytesMut, delta: &Delta) -> Result<(), WireError>
     ensures too_long { IsErrOf result (WireError.Fault TooLong) ↔ (is_long_delta delta.now ≡ true) }
     ensures only { IfErr result (λ e. (e ≡ WireError.Fault TooLong) ⊎ (e ≡ WireError.Memory)) }
 {
-    if delta.has_long_list() {
+    if is_long_delta(delta) {
         return Err(WireError::Fault(WireFault::TooLong));
     }
     let mut text = BytesMut::new(*out.allocator());
@@ -167,15 +84,7 @@ fn read_delta_part(alloc: Global, has_many: bool, bytes: &[u8]) -> Result<(Delta
     let (record_count, rest) = read_u32(rest)?;
     let count = record_count as usize;
     let (records, rest) = read_list(RecordList, (0, 0), RECORD_SIZE, count, alloc, rest)?;
-    Ok((
-        Delta {
-            book,
-            base,
-            pages,
-            records,
-        },
-        rest,
-    ))
+    Ok((Delta::new(book, base, pages, records), rest))
 }
 
 #[tactic(auto, unfolding(crate::specs::DeltaReading::delta_at))]
@@ -197,6 +106,15 @@ fn whole_delta(alloc: Global, bytes: &[u8]) -> Result<Delta, WireError>
 }
 
 // ---- writing
+
+/// Whether a list is longer than its count field holds.
+fn is_long_delta(delta: &Delta) -> bool
+    ensures { result ≡ is_long_delta delta.now }
+{
+    is_long_book(delta.book())
+        || delta.pages().len() >= COUNT32_END
+        || delta.records().len() >= COUNT32_END
+}
 
 fn put_delta(out: &mut BytesMut, delta: &Delta) -> Result<(), AllocError>
     requires { is_long_delta delta.now ≡ false }

@@ -3,85 +3,15 @@
 ghost use Rattle.std.specs.Prelude.{◌≡◌, ◌++◌, length, IfOk, OnOk};
 ghost use Rattle.redo_core.specs.Shape.{page_len};
 ghost use Rattle.redo_wire.specs.Outcomes.{Gives};
-ghost use Rattle.redo_wire.specs.Deltas.{image_of, IsWireImage, image_bytes};
 ghost use Rattle.redo_wire.specs.DeltaReading.{is_nonzero, image_at, next_image_at};
 
 use crate::faults::{WireError, WireFault};
 use crate::fields::{put_u16, read_bytes, read_u16};
 use crate::lists::{ListReader, ListWriter};
 use bytes::{BufMut, BytesMut};
+use messages::PageImage;
 use redo_core::{PAGE_LEN, Page, SharedPage};
 use std::alloc::{AllocError, Global};
-use std::marker::Model;
-
-/// A page's number and its bytes.
-#[derive(Debug, Drop)]
-pub struct PageImage {
-    number: u16,
-    page: SharedPage,
-}
-
-impl Model for PageImage {
-    ghost use Rattle.redo_core.specs.Meaning.{ImageData};
-    ghost use Rattle.redo_wire.specs.Deltas.{image_of};
-
-    ghost Value = { ImageData };
-
-    ghost view = { λ p. image_of p.number p.page };
-}
-
-impl PageImage {
-    /// The image of the page of this number.
-    pub fn new(number: u16, page: SharedPage) -> Self
-        ensures { result ≡ image_of number page }
-    {
-        PageImage { number, page }
-    }
-
-    pub fn number(&self) -> u16
-        ensures { result ≡ self.now.page }
-    {
-        self.number
-    }
-
-    pub fn page(&self) -> &Page
-        ensures { result.now ≡ self.now.bytes }
-    {
-        self.page.page()
-    }
-
-    /// The page as it is shared.
-    pub fn shared_page(&self) -> &SharedPage
-        ensures { result.now ≡ self.now.bytes }
-    {
-        &self.page
-    }
-
-    /// The page, without taking memory.
-    pub fn into_page(self) -> SharedPage
-        ensures { result ≡ self.bytes }
-    {
-        self.page
-    }
-
-    /// An equal image, which shares the page. It takes no memory; the error comes where no more owners of the page can be counted.
-    pub fn copy(&self) -> Result<Self, AllocError>
-        ensures { IfOk result (λ p. p ≡ self.now) }
-    {
-        self.clone()
-    }
-}
-
-impl Clone for PageImage {
-    ghost is_clone = { λ p copied. copied ≡ p };
-
-    fn clone(&self) -> Result<Self, AllocError> {
-        Ok(PageImage {
-            number: self.number,
-            page: self.page.share()?,
-        })
-    }
-}
 
 /// Pages by number, none of zeros.
 #[derive(Clone, Copy)]
@@ -154,7 +84,7 @@ pub fn read_image(alloc: Global, bytes: &[u8]) -> Result<(PageImage, &[u8]), Wir
         return Err(WireError::Fault(WireFault::Shape));
     }
     let page = page_of(alloc, text)?;
-    Ok((PageImage { number, page }, rest))
+    Ok((PageImage::new(number, page), rest))
 }
 
 fn read_next_image(alloc: Global, least: u32, bytes: &[u8]) -> Result<(PageImage, &[u8]), WireError>

@@ -10,14 +10,8 @@ use crate::fields::{put_u16, put_u48, read_u16, read_u48};
 use crate::lists::{ListReader, ListWriter};
 use crate::places::is_above;
 use bytes::BytesMut;
+use messages::Key;
 use std::alloc::{AllocError, Global};
-
-/// The name of a record: its epoch and its number there.
-#[derive(Clone, Copy, Debug, PartialEq, Eq)]
-pub struct Key {
-    pub epoch: u16,
-    pub number: u64,
-}
 
 /// Keys by epoch and number.
 #[derive(Clone, Copy)]

@@ -33,12 +33,10 @@ mod summaries;
 mod tags;
 mod values;
 
-pub use books::Book;
-pub use deltas::{Delta, decode_delta, encode_delta};
+pub use deltas::{decode_delta, encode_delta};
 pub use facts::{decode_fact, encode_fact};
 pub use faults::{WireError, WireFault};
-pub use images::PageImage;
-pub use keys::Key;
-pub use pieces::{Piece, PieceContent, RecordBatch, decode_piece, encode_piece};
-pub use summaries::{Summary, decode_summary, encode_summary};
+pub use messages::{Book, Delta, Key, PageImage, Piece, PieceContent, RecordBatch, Summary};
+pub use pieces::{decode_piece, encode_piece};
+pub use summaries::{decode_summary, encode_summary};
 pub use values::{WireValue, decode_value};

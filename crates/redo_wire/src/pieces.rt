@@ -1,158 +1,31 @@
+//! Pieces, both ways.
+
 ghost use Rattle.std.specs.Prelude.{◌≡◌, ◌≤◌, ◌↔◌, ◌⊎◌, ◌++◌, ◌&&◌, ◌∷◌, [], true, false, length, nat_lt, nat_le, IfOk, IfErr, OnOk, OnErr, Ok, IsErrOf};
 ghost use Rattle.std.specs.List.{AllByRecursion, flat_map};
 ghost use Rattle.redo_wire.specs.declared.faults.WireError.{WireError};
 ghost use Rattle.redo_wire.specs.declared.faults.WireFault.TheVariants.{TooLong};
-ghost use Rattle.redo_wire.specs.Limits.{max_batch};
 ghost use Rattle.redo_wire.specs.Reading.{known};
 ghost use Rattle.redo_wire.specs.Fields.{byte_at, u48};
 ghost use Rattle.redo_wire.specs.Outcomes.{Gives, GivesRead};
 ghost use Rattle.redo_wire.specs.Records.{IsWireRecord, record_bytes};
-ghost use Rattle.redo_wire.specs.Books.{IsWireBook, has_many, is_long_book, book_bytes};
-ghost use Rattle.redo_wire.specs.Pieces.{PieceData, piece_of, IsPiece, IsContent, IsWireContent, IsWirePiece, kind_of, is_for_many, is_long_content, is_long_piece, content_bytes, piece_bytes, SpellsPiece};
+ghost use Rattle.messages.specs.Books.{has_many};
+ghost use Rattle.messages.specs.Pieces.{PieceData, IsContent, max_batch};
+ghost use Rattle.redo_wire.specs.Books.{IsWireBook, is_long_book, book_bytes};
+ghost use Rattle.redo_wire.specs.Pieces.{IsWireContent, IsWirePiece, kind_of, is_for_many, is_long_content, is_long_piece, content_bytes, piece_bytes, SpellsPiece};
 ghost use Rattle.redo_wire.specs.PieceReading.{last_kind, is_in_place, head_content_at, records_content_at, content_at, piece_part_at, piece_at, decoded_piece};
 
-use crate::books::{Book, put_book, read_book};
+use crate::books::{is_long_book, put_book, read_book};
 use crate::faults::{WireError, WireFault};
 use crate::fields::{put_u32, put_u48, put_u64, read_byte, read_u32, read_u48, read_u64};
 use crate::forms::{put_form, read_form};
-use crate::images::{ImageList, PageImage, read_image};
-use crate::limits::MAX_BATCH;
+use crate::images::{ImageList, read_image};
 use crate::lists::{ListWriter, put_list, read_list};
 use crate::record_lists::{RECORD_SIZE, RecordList};
 use crate::tags;
 use bytes::{BufMut, BytesMut};
+use messages::{Book, MAX_BATCH, Piece, PieceContent, RecordBatch};
 use redo_core::Record;
 use std::alloc::{AllocError, Global};
-use std::marker::Model;
-
-/// Records of one piece, by epoch and number.
-#[derive(Debug, Drop)]
-pub struct RecordBatch {
-    records: Vec<Record>,
-}
-
-impl Model for RecordBatch {
-    ghost use Rattle.std.specs.Prelude.{List};
-    ghost use Rattle.redo_core.specs.Data.{RecordData};
-
-    ghost Value = { List RecordData };
-
-    ghost view = { λ b. b.records.items };
-}
-
-impl RecordBatch {
-    /// A batch of these records. A piece has 1 to 64, in order.
-    pub fn new(records: Vec<Record>) -> Self
-        ensures { result ≡ records.items }
-    {
-        RecordBatch { records }
-    }
-
-    pub fn records(&self) -> &[Record]
-        ensures { result.now ≡ self.now }
-    {
-        &self.records
-    }
-
-    /// The records, without taking memory.
-    pub fn into_records(self) -> Vec<Record>
-        ensures { result.items ≡ self }
-    {
-        self.records
-    }
-}
-
-/// What a piece brings: the head with the book and the anchor, the image of a page, or records.
-#[derive(Debug, Drop)]
-pub enum PieceContent {
-    Head { book: Book, anchor: u64 },
-    Page(PageImage),
-    Records(RecordBatch),
-}
-
-/// A piece of a snapshot: the name of the snapshot, which piece of how many it is, and what it brings. The head is piece 0, its
-/// anchor up to the minimum read point; a page is not all zeros; records are 1 to 64, by epoch and number.
-#[derive(Debug, Drop)]
-pub struct Piece {
-    name: u64,
-    index: u32,
-    total: u32,
-    content: PieceContent,
-}
-
-impl Model for Piece {
-    ghost use Rattle.redo_wire.specs.Pieces.{PieceData, piece_of, IsPiece};
-
-    ghost Value = { PieceData };
-
-    ghost view = { λ p. piece_of p.name p.index p.total p.content };
-
-    ghost invariant = { λ p. IsPiece (piece_of p.name p.index p.total p.content) };
-}
-
-impl Piece {
-    /// The piece of this index, from 0 to below the total, of the snapshot of a name.
-    pub fn new(name: u64, index: u32, total: u32, content: PieceContent) -> Self
-        requires { IsPiece (piece_of name index total content) }
-        ensures { result ≡ piece_of name index total content }
-    {
-        Piece {
-            name,
-            index,
-            total,
-            content,
-        }
-    }
-
-    pub fn name(&self) -> u64
-        ensures name { result ≡ self.now.name }
-        ensures shape { IsPiece self.now }
-    {
-        self.name
-    }
-
-    /// From 0, for the head, to below the total.
-    pub fn index(&self) -> u32
-        ensures index { result ≡ self.now.index }
-        ensures shape { IsPiece self.now }
-    {
-        self.index
-    }
-
-    /// How many pieces the snapshot has, at least 1.
-    pub fn total(&self) -> u32
-        ensures total { result ≡ self.now.total }
-        ensures shape { IsPiece self.now }
-    {
-        self.total
-    }
-
-    pub fn content(&self) -> &PieceContent
-        ensures content { result.now ≡ self.now.content }
-        ensures shape { IsPiece self.now }
-    {
-        &self.content
-    }
-
-    /// The content, without taking memory.
-    pub fn into_content(self) -> PieceContent
-        ensures content { result ≡ self.content }
-        ensures shape { IsPiece self }
-    {
-        self.content
-    }
-
-    /// Whether a list is longer than its count field holds.
-    fn has_long_list(&self) -> bool
-        ensures { result ≡ is_long_piece self.now }
-    {
-        match self.content() {
-            PieceContent::Head { book, anchor: _ } => book.has_long_list(),
-            PieceContent::Page(_) => false,
-            PieceContent::Records(_) => false,
-        }
-    }
-}
 
 /// The piece that the bytes spell, all of them.
 ///
@@ -180,7 +53,7 @@ pub fn encode_piece(out: &mut BytesMut, piece: &Piece) -> Result<(), WireError>
     ensures too_long { IsErrOf result (WireError.Fault TooLong) ↔ (is_long_piece piece.now ≡ true) }
     ensures only { IfErr result (λ e. (e ≡ WireError.Fault TooLong) ⊎ (e ≡ WireError.Memory)) }
 {
-    if piece.has_long_list() {
+    if is_long_content(piece.content()) {
         return Err(WireError::Fault(WireFault::TooLong));
     }
     let mut text = BytesMut::new(*out.allocator());
@@ -224,7 +97,7 @@ fn read_records_content(alloc: Global, bytes: &[u8]) -> Result<(PieceContent, &[
         return Err(WireError::Fault(WireFault::Shape));
     }
     let (records, rest) = read_list(RecordList, (0, 0), RECORD_SIZE, count, alloc, rest)?;
-    Ok((PieceContent::Records(RecordBatch { records }), rest))
+    Ok((PieceContent::Records(RecordBatch::new(records)), rest))
 }
 
 /// What a piece of a kind brings.
@@ -294,15 +167,7 @@ fn read_piece_part(alloc: Global, has_many: bool, bytes: &[u8]) -> Result<(Piece
         return Err(WireError::Fault(WireFault::Shape));
     }
     let (content, rest) = read_content(alloc, has_many, kind, rest)?;
-    Ok((
-        Piece {
-            name,
-            index,
-            total,
-            content,
-        },
-        rest,
-    ))
+    Ok((Piece::new(name, index, total, content), rest))
 }
 
 #[tactic(auto, unfolding(crate::specs::PieceReading::piece_at))]
@@ -324,6 +189,16 @@ fn whole_piece(alloc: Global, bytes: &[u8]) -> Result<Piece, WireError>
 }
 
 // ---- writing
+
+fn is_long_content(content: &PieceContent) -> bool
+    ensures { result ≡ is_long_content content.now }
+{
+    match content {
+        PieceContent::Head { book, anchor: _ } => is_long_book(book),
+        PieceContent::Page(_) => false,
+        PieceContent::Records(_) => false,
+    }
+}
 
 /// Whether the content has the form for several readers.
 fn is_of_many(content: &PieceContent) -> bool

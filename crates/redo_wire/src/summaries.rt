@@ -1,93 +1,27 @@
+//! Summaries, both ways.
+
 ghost use Rattle.std.specs.Prelude.{◌≡◌, ◌↔◌, ◌⊎◌, ◌++◌, true, false, IfOk, IfErr, OnOk, OnErr, Ok, IsErrOf};
 ghost use Rattle.redo_wire.specs.declared.faults.WireError.{WireError};
 ghost use Rattle.redo_wire.specs.declared.faults.WireFault.TheVariants.{TooLong};
 ghost use Rattle.redo_wire.specs.Outcomes.{Gives, GivesRead};
-ghost use Rattle.redo_wire.specs.Summaries.{SummaryData, summary_of, IsSummary, IsWireSummary, is_long_summary, summary_bytes, SpellsSummary};
+ghost use Rattle.messages.specs.Summaries.{SummaryData};
+ghost use Rattle.redo_wire.specs.Summaries.{IsWireSummary, is_long_summary, summary_bytes, SpellsSummary};
 ghost use Rattle.redo_wire.specs.SummaryReading.{summary_part_at, summary_at, decoded_summary};
 
-use crate::books::{Book, put_book, read_book};
+use crate::books::{is_long_book, put_book, read_book};
 use crate::faults::{WireError, WireFault};
 use crate::fields::{put_u32, put_u48, read_u32, read_u48};
 use crate::forms::{put_form, read_form};
-use crate::keys::{Key, KeyList};
+use crate::keys::KeyList;
 use crate::limits::COUNT32_END;
 use crate::lists::{put_list, read_list};
 use crate::tags;
 use bytes::BytesMut;
+use messages::{Key, Summary};
 use std::alloc::{AllocError, Global};
-use std::marker::Model;
 use std::mem::size_of;
 
 const KEY_SIZE: usize = size_of::<Key>();
-
-/// What one segment tells another of itself: its book, its anchor up to the minimum read point, and the keys of the records
-/// that it keeps, by epoch and number, each number from 1 to 2^48 - 1.
-#[derive(Debug, Drop)]
-pub struct Summary {
-    book: Book,
-    anchor: u64,
-    keys: Vec<Key>,
-}
-
-impl Model for Summary {
-    ghost use Rattle.redo_wire.specs.Summaries.{SummaryData, summary_of, IsSummary};
-
-    ghost Value = { SummaryData };
-
-    ghost view = { λ s. summary_of s.book s.anchor s.keys.items };
-
-    ghost invariant = { λ s. IsSummary (summary_of s.book s.anchor s.keys.items) };
-}
-
-impl Summary {
-    /// A summary of a book, an anchor and keys.
-    pub fn new(book: Book, anchor: u64, keys: Vec<Key>) -> Self
-        requires { IsSummary (summary_of book anchor keys.items) }
-        ensures { result ≡ summary_of book anchor keys.items }
-    {
-        Summary { book, anchor, keys }
-    }
-
-    pub fn book(&self) -> &Book
-        ensures book { result.now ≡ self.now.book }
-        ensures shape { IsSummary self.now }
-    {
-        &self.book
-    }
-
-    /// The anchor, up to the minimum read point.
-    pub fn anchor(&self) -> u64
-        ensures anchor { result ≡ self.now.anchor }
-        ensures shape { IsSummary self.now }
-    {
-        self.anchor
-    }
-
-    pub fn keys(&self) -> &[Key]
-        ensures keys { result.now ≡ self.now.keys }
-        ensures shape { IsSummary self.now }
-    {
-        &self.keys
-    }
-
-    /// An equal summary with memory of its own. Its only error is want of memory.
-    pub fn copy(&self) -> Result<Self, AllocError>
-        ensures { IfOk result (λ s. s ≡ self.now) }
-    {
-        Ok(Summary {
-            book: self.book.copy()?,
-            anchor: self.anchor,
-            keys: self.keys.clone()?,
-        })
-    }
-
-    /// Whether a list is longer than its count field holds.
-    fn has_long_list(&self) -> bool
-        ensures { result ≡ is_long_summary self.now }
-    {
-        self.book().has_long_list() || self.keys().len() >= COUNT32_END
-    }
-}
 
 /// The summary that the bytes spell, all of them.
 ///
@@ -115,7 +49,7 @@ pub fn encode_summary(out: &mut BytesMut, summary: &Summary) -> Result<(), WireE
     ensures too_long { IsErrOf result (WireError.Fault TooLong) ↔ (is_long_summary summary.now ≡ true) }
     ensures only { IfErr result (λ e. (e ≡ WireError.Fault TooLong) ⊎ (e ≡ WireError.Memory)) }
 {
-    if summary.has_long_list() {
+    if is_long_summary(summary) {
         return Err(WireError::Fault(WireFault::TooLong));
     }
     let mut text = BytesMut::new(*out.allocator());
@@ -141,7 +75,7 @@ fn read_summary_part(
     }
     let (count, rest) = read_u32(rest)?;
     let (keys, rest) = read_list(KeyList, (0, 0), KEY_SIZE, count as usize, alloc, rest)?;
-    Ok((Summary { book, anchor, keys }, rest))
+    Ok((Summary::new(book, anchor, keys), rest))
 }
 
 #[tactic(auto, unfolding(crate::specs::SummaryReading::summary_at))]
@@ -163,6 +97,13 @@ fn whole_summary(alloc: Global, bytes: &[u8]) -> Result<Summary, WireError>
 }
 
 // ---- writing
+
+/// Whether a list is longer than its count field holds.
+fn is_long_summary(summary: &Summary) -> bool
+    ensures { result ≡ is_long_summary summary.now }
+{
+    is_long_book(summary.book()) || summary.keys().len() >= COUNT32_END
+}
 
 fn put_summary(out: &mut BytesMut, summary: &Summary) -> Result<(), AllocError>
     requires { is_long_summary summary.now ≡ false }

@@ -5,12 +5,13 @@ ghost use Rattle.redo_wire.specs.declared.values.WireValue.{WireValue};
 ghost use Rattle.redo_wire.specs.Outcomes.{GivesRead};
 ghost use Rattle.redo_wire.specs.Values.{SpellsValue, decoded_value};
 
-use crate::deltas::{Delta, decode_delta};
+use crate::deltas::decode_delta;
 use crate::facts::decode_fact;
 use crate::faults::{WireError, WireFault};
-use crate::pieces::{Piece, decode_piece};
-use crate::summaries::{Summary, decode_summary};
+use crate::pieces::decode_piece;
+use crate::summaries::decode_summary;
 use crate::tags;
+use messages::{Delta, Piece, Summary};
 use redo_core::Fact;
 use std::alloc::Global;
 

@@ -4,8 +4,8 @@ use Rattle.std.specs.List.{Contains}
 use Rattle.redo_core.specs.Sound.{IsSound}
 use Rattle.redo_core.specs.declared.facts.Fact.{Fact}
 use Rattle.redo_core.specs.declared.refusal.Refused.{Refused}
-use Rattle.redo_wire.specs.Summaries.{SummaryData}
-use Rattle.redo_wire.specs.Deltas.{DeltaData}
+use Rattle.messages.specs.Summaries.{SummaryData}
+use Rattle.messages.specs.Deltas.{DeltaData}
 use Rattle.segment_state.specs.State.{State, empty_state}
 use Rattle.segment_state.specs.Means.{Means}
 use Rattle.segment_state.specs.Promises.{TakesFact, KeepsMeaning}

@@ -3,7 +3,7 @@ use Rattle.std.proofs.Common.{◌≡◌, ◌≢◌, ℕ, ◌⊎◌, ⊎_elim, Li
 use Rattle.std.specs.List.{AllByRecursion}
 use Rattle.redo_core.specs.Sound.{IsSound}
 use Rattle.redo_core.specs.declared.facts.Fact.{Fact}
-use Rattle.redo_wire.specs.Pieces.{PieceData}
+use Rattle.messages.specs.Pieces.{PieceData}
 use Rattle.segment_state.specs.State.{State}
 use Rattle.segment_state.specs.Means.{Means}
 use Rattle.read_cache.specs.Cached.{Cached}

@@ -7,7 +7,7 @@ use Rattle.redo_core.specs.Sound.{IsSound}
 use Rattle.redo_core.specs.declared.facts.Fact.{Fact}
 use Rattle.redo_core.specs.declared.facts.Fact.TheVariants.{Cut}
 use Rattle.redo_core.specs.declared.refusal.Refused.{Refused}
-use Rattle.redo_wire.specs.declared.keys.Key.{Key}
+use Rattle.messages.specs.declared.keys.Key.{Key}
 use Rattle.hot_log.specs.Held.{IsKeyAfter, IsRecordAt}
 use Rattle.hot_log.specs.Kept.{ListsKeysOf}
 use Rattle.segment_state.specs.State.{State, version_of, empty_state, min_of}

@@ -1,8 +1,8 @@
 -- What the requests of gossip do, over any facts.
 use Rattle.std.specs.Prelude.{◌≡◌, ℕ, ◌<◌, ◌⊎◌, ◌↔◌, [], Result, Err, IfOk, IfErr, OnOk, OnErr}
 use Rattle.redo_core.specs.Meaning.{Meaning}
-use Rattle.redo_wire.specs.Summaries.{SummaryData}
-use Rattle.redo_wire.specs.Deltas.{DeltaData}
+use Rattle.messages.specs.Summaries.{SummaryData}
+use Rattle.messages.specs.Deltas.{DeltaData}
 use Rattle.segment_state.specs.State.{State}
 use Rattle.segment_state.specs.HasMeaning.{HasMeaning}
 use Rattle.segment_core.specs.Forgetting.{IsSoundState, IsWhole, IsFirstBreak}

@@ -1,6 +1,6 @@
 -- What the requests of snapshots and stagings do, over any facts.
 use Rattle.std.specs.Prelude.{◌≡◌, ℕ, ◌<◌, ◌≤◌, ◌⊎◌, ◌↔◌, [], Option, Some, None, Result, Ok, Err, IfOk, IfErr}
-use Rattle.redo_wire.specs.Pieces.{PieceData}
+use Rattle.messages.specs.Pieces.{PieceData}
 use Rattle.hot_log.specs.Found.{IsLeast}
 use Rattle.segment_state.specs.State.{State}
 use Rattle.read_cache.specs.Cached.{Cached, cached}

@@ -2,7 +2,7 @@
 use Rattle.std.specs.Prelude.{ℕ, List, Option, Some, None, Result, Ok, Err}
 use Rattle.redo_core.specs.declared.facts.Fact.{Fact}
 use Rattle.redo_core.specs.declared.refusal.Refused.{Refused}
-use Rattle.redo_wire.specs.Deltas.{DeltaData}
+use Rattle.messages.specs.Deltas.{DeltaData}
 use Rattle.segment_core.specs.declared.answers.Taken.{Taken}
 use Rattle.segment_core.specs.declared.answers.Taken.TheVariants as taken
 use Rattle.segment_core.specs.declared.answers.Refusal.{Refusal}

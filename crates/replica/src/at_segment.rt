@@ -9,9 +9,9 @@ ghost use Rattle.replica.specs.AtSegment.{pair_of as pair_of_key, TellsRecord, T
 
 use crate::replies::{Reply, Status};
 use crate::replying::{fault_reply, gap_reply, read_reply, taken_reply, tidied_reply};
+use messages::Key;
 use read_cache::CachedSegment;
 use redo_core::{Fact, Roster};
-use redo_wire::Key;
 use segment_core::{CommitFault, Segment};
 use std::alloc::AllocError;
 

@@ -4,8 +4,8 @@ ghost use Rattle.replica.specs.Gossiping.{Asks, RepliesTo, Absorbs};
 use crate::replies::Reply;
 use crate::replying::{absorbed_reply, delta_reply};
 use gossip_core::{absorb, reply, summary};
+use messages::{Delta, Summary};
 use read_cache::CachedSegment;
-use redo_wire::{Delta, Summary};
 use segment_core::Segment;
 
 /// Tells the segment's summary.

@@ -5,8 +5,8 @@ use crate::at_segment::put;
 use crate::replies::Reply;
 use crate::replying::{unadded_reply, unfinished_reply};
 use hydration::{FreezeFault, Snapshot, Staging, freeze};
+use messages::Piece;
 use read_cache::CachedSegment;
-use redo_wire::Piece;
 use segment_core::Segment;
 
 /// Keeps a snapshot of the segment in place of an older one.

@@ -1,6 +1,6 @@
 use gossip_core::Shown;
+use messages::{Delta, Piece, Summary};
 use redo_core::{Page, Record};
-use redo_wire::{Delta, Piece, Summary};
 use segment_core::{Front, Gap, Refusal};
 
 /// What a replica replies to a request.

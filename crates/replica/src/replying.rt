@@ -8,8 +8,8 @@ ghost use Rattle.replica.specs.Replying.{absorbed_reply as absorbed_reply_of, un
 use crate::replies::Reply;
 use gossip_core::AbsorbRefusal;
 use hydration::{AddFault, FinishFault};
+use messages::Delta;
 use redo_core::{Fact, Page, Refused};
-use redo_wire::Delta;
 use segment_core::{Gap, ReadFault, Refusal, Taken};
 
 pub fn refusal_reply(refusal: Refusal) -> Reply

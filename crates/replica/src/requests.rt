@@ -1,5 +1,5 @@
+use messages::{Delta, Key, Piece, Summary};
 use redo_core::{Fact, Roster};
-use redo_wire::{Delta, Key, Piece, Summary};
 
 /// What a replica is asked.
 #[derive(Debug, Drop)]

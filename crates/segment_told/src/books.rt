@@ -2,7 +2,7 @@
 ghost use Rattle.std.specs.Prelude.{◌≡◌, IfOk};
 ghost use Rattle.segment_core.specs.Form.{IsSegment};
 
-use redo_wire::Book;
+use messages::Book;
 use segment_core::Segment;
 use std::alloc::AllocError;
 use std::vec::Vec;

@@ -5,7 +5,7 @@ ghost use Rattle.redo_core.specs.Store.{PageBefore};
 ghost use Rattle.hot_log.specs.Found.{IsLeast, IsPageAbove};
 ghost use Rattle.segment_told.specs.StoredPages.{AreShown, BeginsAbove, IsStoredPage, IsImageOf, IsImageAtAnchor};
 
-use redo_wire::PageImage;
+use messages::PageImage;
 use segment_core::{BaseImage, Segment};
 use std::alloc::AllocError;
 

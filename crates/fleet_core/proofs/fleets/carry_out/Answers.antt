@@ -1,7 +1,7 @@
 use Rattle.std.proofs.Common.{◌≡◌, List, refl, subst}
 use Rattle.std.specs.Option.{option_copied}
 use Rattle.fleet_core.specs.declared.replies.Reply.TheVariants.{Front as FrontIs, NoNode, NoMessage}
-use Rattle.fleet_core.specs.declared.messages.Made.{Made}
+use Rattle.fleet_core.specs.declared.making.Made.{Made}
 use Rattle.fleet_core.specs.MessageCalls.{AbsorbsNumber}
 use Rattle.fleet_core.proofs.Following.{follows_front, follows_read}
 use Rattle.fleet_core.proofs.Carrying.{own_step, never_no_node, never_no_message, ask_step, answer_step, absorb_step}

@@ -6,7 +6,7 @@ use Rattle.segment_core.specs.Uniting.{Unites}
 use Rattle.segment_state.specs.State.{State, StoredImage}
 use Rattle.segment_told.specs.Told.{facts_told}
 use Rattle.segment_told.specs.InOrder.{TakesEach}
-use Rattle.redo_wire.specs.Deltas.{DeltaData, IsDelta}
+use Rattle.messages.specs.Deltas.{DeltaData, IsDelta}
 use Rattle.gossip_core.specs.Absorbing.{based_image}
 use Rattle.gossip_core.proofs.Absorbed.{HasDelta, base_fits, absorbs}
 use Rattle.gossip_core.proofs.absorbing.take_in.Goals as goal

@@ -3,7 +3,7 @@ use Rattle.std.proofs.lemmas.Bool.{eqb-true}
 use Rattle.std.specs.List.{All, Contains}
 use Rattle.redo_core.proofs.Members.{item}
 use Rattle.redo_core.proofs.Scans.{whole, one_more}
-use Rattle.redo_wire.specs.declared.keys.Key.{Key}
+use Rattle.messages.specs.declared.keys.Key.{Key}
 use Rattle.gossip_core.proofs.Accounting.{any_default, same_key}
 use Rattle.gossip_core.proofs.answering.are_among.Goals as goal
 use Rattle.gossip_core.proofs.answering.are_among.Goals.{then-place-keys+then-eq, else-place-keys}

@@ -1,6 +1,6 @@
 use Rattle.std.proofs.Common.{ℕ, List, get_or, subst}
 use Rattle.std.specs.List.{Contains}
-use Rattle.redo_wire.specs.declared.keys.Key.{Key}
+use Rattle.messages.specs.declared.keys.Key.{Key}
 use Rattle.gossip_core.proofs.Accounting.{kept_is_covered}
 use Rattle.gossip_core.proofs.answering.keeps_all.Goals as goal
 

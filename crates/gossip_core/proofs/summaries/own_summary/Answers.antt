@@ -3,7 +3,7 @@ use Rattle.std.specs.List.{AllByRecursion}
 use Rattle.redo_core.specs.Order.{IsRising}
 use Rattle.redo_core.specs.Book.{IsBook}
 use Rattle.redo_core.specs.Roster.{least}
-use Rattle.redo_wire.specs.Summaries.{IsKey, KeyBefore}
+use Rattle.messages.specs.Keys.{IsKey, KeyBefore}
 use Rattle.gossip_core.specs.Replying.{key_data}
 use Rattle.gossip_core.specs.Summarizing.{wire_key}
 use Rattle.gossip_core.proofs.Sending.{wire_keys}

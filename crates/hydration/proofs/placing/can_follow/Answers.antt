@@ -1,7 +1,7 @@
 use Rattle.std.proofs.Common.{◌≡◌, List, refl, sym, subst}
 use Rattle.std.specs.List.{Contains}
 use Rattle.redo_core.specs.Data.{RecordData}
-use Rattle.redo_wire.specs.declared.pieces.PieceContent.TheVariants.{Records}
+use Rattle.messages.specs.declared.pieces.PieceContent.TheVariants.{Records}
 use Rattle.hydration.specs.Placing.{CanFollow, RecordsFollow, IsKeptFor}
 use Rattle.hydration.proofs.placing.can_follow.Goals as goal
 

@@ -1,7 +1,7 @@
 use Rattle.std.proofs.Common.{◌≡◌, List, length, sym, ap, ◌∙◌, subst, arith}
 use Rattle.redo_core.specs.Data.{RecordData}
-use Rattle.redo_wire.specs.Pieces.{IsContent}
-use Rattle.redo_wire.specs.declared.pieces.PieceContent.TheVariants.{Records}
+use Rattle.messages.specs.Pieces.{IsContent}
+use Rattle.messages.specs.declared.pieces.PieceContent.TheVariants.{Records}
 use Rattle.hydration.specs.Placing.{RecordsFollow}
 use Rattle.hydration.proofs.Following.{all_before}
 use Rattle.hydration.proofs.placing.records_follow.Goals as goal

@@ -3,8 +3,8 @@ use Rattle.redo_wire.proofs.BookReaders.{book_steps}
 use Rattle.redo_wire.proofs.books.read_book.Goals as goal
 
 -- what was judged on the way has the shape of a book
-pub invariant_of-result : goal.invariant_of-result
-invariant_of-result c =
+pub new-requires : goal.new-requires
+new-requires c =
     let told = rw c.deref.ensures.value at c.complete_of-complete.ensures in
     let waits = rw told at c.in_ok-waits.ensures in
     rw told (book_steps c.args.has_many c.args.bytes.now (c.in_ok-count.count, c.in_ok-count.rest.now) (c.in_ok-cuts.cuts.items, c.in_ok-cuts.rest.now)

@@ -4,8 +4,8 @@ use Rattle.redo_wire.proofs.DeltaReaders.{delta_steps}
 use Rattle.redo_wire.proofs.deltas.read_delta_part.Goals as goal
 
 -- what was judged on the way has the shape of a delta
-pub invariant_of-result : goal.invariant_of-result
-invariant_of-result c =
+pub new-requires : goal.new-requires
+new-requires c =
     let first : may_have c.in_ok-base.base c.in_ok-page_count.page_count ≡ true = cc in
     (delta_steps c.args.has_many c.args.bytes.now (c.in_ok-book.book, c.in_ok-book.rest.now) (c.in_ok-base.base, c.in_ok-base.rest.now)
     (c.in_ok-page_count.page_count, c.in_ok-page_count.rest.now) (c.in_ok-pages.pages.items, c.in_ok-pages.rest.now)

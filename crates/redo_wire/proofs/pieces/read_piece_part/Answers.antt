@@ -4,8 +4,8 @@ use Rattle.redo_wire.proofs.PieceReaders.{piece_steps}
 use Rattle.redo_wire.proofs.pieces.read_piece_part.Goals as goal
 
 -- what was judged on the way has the shape of a piece
-pub invariant_of-result : goal.invariant_of-result
-invariant_of-result c =
+pub new-requires : goal.new-requires
+new-requires c =
     let place : is_in_place c.in_ok-index.index c.in_ok-kind.kind ≡ true = cc in
     (piece_steps c.args.has_many c.args.bytes.now (c.in_ok-name.name, c.in_ok-name.rest.now) (c.in_ok-index.index, c.in_ok-index.rest.now)
     (c.in_ok-total.total, c.in_ok-total.rest.now) (c.in_ok-kind.kind, c.in_ok-kind.rest.now) (c.in_ok-content.content, c.in_ok-content.rest.now)

@@ -3,7 +3,7 @@ use Rattle.std.specs.List.{AllZip}
 use Rattle.segment_state.specs.State.{State, empty_state}
 use Rattle.segment_state.specs.Means.{Means}
 use Rattle.segment_state.proofs.Bare.{empty_means}
-use Rattle.fleet_core.specs.declared.messages.Made.{Made}
+use Rattle.fleet_core.specs.declared.making.Made.{Made}
 use Rattle.fleet_core.specs.Messages.{AreMade}
 use Rattle.fleet_core.proofs.Nodes.{none_mean}
 use Rattle.fleet_core.proofs.fleets.Fleet.new.Goals as goal

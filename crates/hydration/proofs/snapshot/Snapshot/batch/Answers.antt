@@ -1,6 +1,6 @@
 use Rattle.std.proofs.Common.{◌≡◌, ◌*◌, IfOk, List, take, drop, ap, ◌∙◌, subst}
 use Rattle.redo_core.specs.Data.{RecordData}
-use Rattle.redo_wire.specs.Limits.{max_batch}
+use Rattle.messages.specs.Pieces.{max_batch}
 use Rattle.hydration.specs.Snapshots.{SnapshotData}
 use Rattle.hydration.proofs.Batches.{batch_is}
 use Rattle.hydration.proofs.snapshot.Snapshot.batch.Goals as goal

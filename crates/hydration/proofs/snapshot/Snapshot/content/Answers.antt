@@ -1,6 +1,6 @@
 use Rattle.std.proofs.Common.{◌≡◌, ◌<◌, ◌*◌, ◌-◌, List, length, take, drop, get_or, Some, sym, ap, ◌∙◌, subst, arith}
 use Rattle.redo_core.specs.Data.{RecordData}
-use Rattle.redo_wire.specs.Limits.{max_batch}
+use Rattle.messages.specs.Pieces.{max_batch}
 use Rattle.hydration.specs.Snapshots.{SnapshotData, IsSnapshot}
 use Rattle.hydration.proofs.Batches.{batch_some, slice_at}
 use Rattle.hydration.proofs.snapshot.Snapshot.content.Goals as goal

@@ -5,7 +5,7 @@ use Rattle.std.specs.BTreeMap.{is_at}
 use Rattle.std.specs.Map.{lookup}
 use Rattle.std.proofs.lemmas.Bool.{cases_eq}
 use Rattle.std.proofs.lemmas.Grind.{common_steps}
-use Rattle.redo_wire.specs.Pieces.{PieceData, IsPiece}
+use Rattle.messages.specs.Pieces.{PieceData, IsPiece}
 use Rattle.hydration.specs.Stagings.{staging_of, IsStaging, IsStranger, RefusesPiece}
 use Rattle.hydration.specs.declared.staging.AddFault.TheVariants.{Double}
 use Rattle.hydration.proofs.staging.Staging.add.Goals as goal

@@ -1,8 +1,8 @@
 use Rattle.std.proofs.Common.{◌≡◌, ◌+◌, ◌-◌, Some, sym, subst, arith}
-use Rattle.redo_wire.specs.Pieces.{PieceData}
+use Rattle.messages.specs.Pieces.{PieceData}
 use Rattle.hydration.specs.Stagings.{piece_at}
 use Rattle.hydration.specs.Placing.{CanFollow}
-use Rattle.redo_wire.specs.declared.pieces.PieceContent.{PieceContent}
+use Rattle.messages.specs.declared.pieces.PieceContent.{PieceContent}
 use Rattle.hydration.proofs.Placed.{stands, follows}
 use Rattle.hydration.proofs.staging.Staging.can_stand.Goals as goal
 

@@ -1,5 +1,5 @@
 use Rattle.std.proofs.Common.{◌≡◌, ℕ, ◌+◌, ◌<◌, ◌≤◌, ◌++◌, List, Some, sym, subst}
-use Rattle.redo_wire.specs.Pieces.{PieceData}
+use Rattle.messages.specs.Pieces.{PieceData}
 use Rattle.hydration.specs.Stagings.{StagingData, piece_at, IsStaging}
 use Rattle.hydration.specs.Hydrating.{pages_of}
 use Rattle.hydration.proofs.Brought.{AreBelow, below_none, below_more, brought, only_brought}

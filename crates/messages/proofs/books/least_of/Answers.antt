@@ -4,7 +4,7 @@ use Rattle.std.proofs.lemmas.List.Elements.{All-contains}
 use Rattle.redo_core.proofs.Members.{item}
 use Rattle.redo_core.proofs.Points.{least_is, get_or_any}
 use Rattle.redo_core.proofs.Scans.{whole, one_more}
-use Rattle.redo_wire.proofs.books.least_of.Goals as goal
+use Rattle.messages.proofs.books.least_of.Goals as goal
 
 pub loop-p-preserved : goal.loop-p-preserved
 loop-p-preserved c =

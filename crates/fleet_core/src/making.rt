@@ -2,7 +2,7 @@ ghost use Rattle.std.specs.Prelude.{◌≡◌};
 ghost use Rattle.std.specs.Option.{option_copied, option_map};
 ghost use Rattle.fleet_core.specs.Messages.{question_in, answer_in};
 
-use redo_wire::{Delta, Summary};
+use messages::{Delta, Summary};
 
 /// A message that was made. It stays, whatever becomes of the node that made it, and may be used again.
 #[derive(Debug, Drop)]

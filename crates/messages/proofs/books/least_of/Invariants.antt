@@ -1,6 +1,6 @@
 use Rattle.std.proofs.Common.{◌≤◌, take}
 use Rattle.std.specs.List.{All, Contains}
-use Rattle.redo_wire.proofs.books.least_of.Given as goal
+use Rattle.messages.proofs.books.least_of.Given as goal
 
 -- one of the points, and none so far is below it
 abbrev pub invariant-loop-p : goal.invariant-loop-p

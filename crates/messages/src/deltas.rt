@@ -1,0 +1,84 @@
+ghost use Rattle.std.specs.Prelude.{◌≡◌, IfOk};
+ghost use Rattle.messages.specs.Deltas.{delta_of, IsDelta};
+
+use crate::books::Book;
+use crate::images::PageImage;
+use redo_core::Record;
+use std::alloc::AllocError;
+use std::marker::Model;
+
+/// What one segment sends to another: its book, a base point up to the minimum read point with the pages there, none of
+/// zeros, by number, and records by epoch and number. At base 0 there are no pages.
+#[derive(Debug, Drop)]
+pub struct Delta {
+    book: Book,
+    base: u64,
+    pages: Vec<PageImage>,
+    records: Vec<Record>,
+}
+
+impl Model for Delta {
+    ghost use Rattle.messages.specs.Deltas.{DeltaData, delta_of, IsDelta};
+
+    ghost Value = { DeltaData };
+
+    ghost view = { λ d. delta_of d.book d.base d.pages.items d.records.items };
+
+    ghost invariant = { λ d. IsDelta (delta_of d.book d.base d.pages.items d.records.items) };
+}
+
+impl Delta {
+    /// A delta of a book, a base, pages and records.
+    pub fn new(book: Book, base: u64, pages: Vec<PageImage>, records: Vec<Record>) -> Self
+        requires { IsDelta (delta_of book base pages.items records.items) }
+        ensures { result ≡ delta_of book base pages.items records.items }
+    {
+        Delta {
+            book,
+            base,
+            pages,
+            records,
+        }
+    }
+
+    pub fn book(&self) -> &Book
+        ensures book { result.now ≡ self.now.book }
+        ensures shape { IsDelta self.now }
+    {
+        &self.book
+    }
+
+    /// The base point, up to the minimum read point.
+    pub fn base(&self) -> u64
+        ensures base { result ≡ self.now.base }
+        ensures shape { IsDelta self.now }
+    {
+        self.base
+    }
+
+    pub fn pages(&self) -> &[PageImage]
+        ensures pages { result.now ≡ self.now.pages }
+        ensures shape { IsDelta self.now }
+    {
+        &self.pages
+    }
+
+    pub fn records(&self) -> &[Record]
+        ensures records { result.now ≡ self.now.records }
+        ensures shape { IsDelta self.now }
+    {
+        &self.records
+    }
+
+    /// An equal delta, which shares the pages. Its only error is want of memory.
+    pub fn copy(&self) -> Result<Self, AllocError>
+        ensures { IfOk result (λ d. d ≡ self.now) }
+    {
+        Ok(Delta {
+            book: self.book.copy()?,
+            base: self.base,
+            pages: self.pages.clone()?,
+            records: self.records.clone()?,
+        })
+    }
+}

@@ -1,0 +1,128 @@
+ghost use Rattle.std.specs.Prelude.{◌≡◌};
+ghost use Rattle.messages.specs.Pieces.{piece_of, IsPiece};
+
+use crate::books::Book;
+use crate::images::PageImage;
+use redo_core::Record;
+use std::marker::Model;
+
+/// A piece has at most so many records.
+pub const MAX_BATCH: usize = 64;
+
+/// Records of one piece, by epoch and number.
+#[derive(Debug, Drop)]
+pub struct RecordBatch {
+    records: Vec<Record>,
+}
+
+impl Model for RecordBatch {
+    ghost use Rattle.std.specs.Prelude.{List};
+    ghost use Rattle.redo_core.specs.Data.{RecordData};
+
+    ghost Value = { List RecordData };
+
+    ghost view = { λ b. b.records.items };
+}
+
+impl RecordBatch {
+    /// A batch of these records. A piece has 1 to 64, in order.
+    pub fn new(records: Vec<Record>) -> Self
+        ensures { result ≡ records.items }
+    {
+        RecordBatch { records }
+    }
+
+    pub fn records(&self) -> &[Record]
+        ensures { result.now ≡ self.now }
+    {
+        &self.records
+    }
+
+    /// The records, without taking memory.
+    pub fn into_records(self) -> Vec<Record>
+        ensures { result.items ≡ self }
+    {
+        self.records
+    }
+}
+
+/// What a piece brings: the head with the book and the anchor, the image of a page, or records.
+#[derive(Debug, Drop)]
+pub enum PieceContent {
+    Head { book: Book, anchor: u64 },
+    Page(PageImage),
+    Records(RecordBatch),
+}
+
+/// A piece of a snapshot: the name of the snapshot, which piece of how many it is, and what it brings. The head is piece 0, its
+/// anchor up to the minimum read point; a page is not all zeros; records are 1 to 64, by epoch and number.
+#[derive(Debug, Drop)]
+pub struct Piece {
+    name: u64,
+    index: u32,
+    total: u32,
+    content: PieceContent,
+}
+
+impl Model for Piece {
+    ghost use Rattle.messages.specs.Pieces.{PieceData, piece_of, IsPiece};
+
+    ghost Value = { PieceData };
+
+    ghost view = { λ p. piece_of p.name p.index p.total p.content };
+
+    ghost invariant = { λ p. IsPiece (piece_of p.name p.index p.total p.content) };
+}
+
+impl Piece {
+    /// The piece of this index, from 0 to below the total, of the snapshot of a name.
+    pub fn new(name: u64, index: u32, total: u32, content: PieceContent) -> Self
+        requires { IsPiece (piece_of name index total content) }
+        ensures { result ≡ piece_of name index total content }
+    {
+        Piece {
+            name,
+            index,
+            total,
+            content,
+        }
+    }
+
+    pub fn name(&self) -> u64
+        ensures name { result ≡ self.now.name }
+        ensures shape { IsPiece self.now }
+    {
+        self.name
+    }
+
+    /// From 0, for the head, to below the total.
+    pub fn index(&self) -> u32
+        ensures index { result ≡ self.now.index }
+        ensures shape { IsPiece self.now }
+    {
+        self.index
+    }
+
+    /// How many pieces the snapshot has, at least 1.
+    pub fn total(&self) -> u32
+        ensures total { result ≡ self.now.total }
+        ensures shape { IsPiece self.now }
+    {
+        self.total
+    }
+
+    pub fn content(&self) -> &PieceContent
+        ensures content { result.now ≡ self.now.content }
+        ensures shape { IsPiece self.now }
+    {
+        &self.content
+    }
+
+    /// The content, without taking memory.
+    pub fn into_content(self) -> PieceContent
+        ensures content { result ≡ self.content }
+        ensures shape { IsPiece self }
+    {
+        self.content
+    }
+}
