@@ -27,8 +27,8 @@ use Rattle.log_law.specs.Report.{Reports}
 use Rattle.log_law.specs.declared.breach.Breach.{Breach}
 use Rattle.log_law.specs.declared.breach.Breach.TheVariants.{OtherFact, NotBegun, NotAbove, Passes, NoTarget, NoReader, CutBelow}
 use Rattle.log_law.specs.declared.targets.Target.{Target}
-use Rattle.log_law.specs.Breach.{IsFirstMissing, IsPassed, IsAboveAll, IsCutBelow, TellsKey, TellsBegun, TellsLink, TellsSegment, TellsBlock, TellsAdvance, TellsOf, Tells, ShowsBroken}
-use Rattle.log_law.specs.Targets.{StandsAt, IsTarget}
+use Rattle.log_law.specs.Breach.{IsFirstMissing, IsPassed, IsAboveAll, IsCutBelow, TellsKey, TellsBegun, TellsLink, TellsSegment, TellsBlock, TellsAdvance, TellsOf, TellsBreach, ShowsBroken}
+use Rattle.log_law.specs.Targets.{IsPlaced, IsTarget}
 use Rattle.log_law.proofs.FirstCuts.{above_hi, at_counted, counted_among}
 use Rattle.log_law.proofs.Reaching.{past_low, low_past}
 use Rattle.log_law.proofs.Candidates.{EachBefore, each_member}
@@ -67,7 +67,7 @@ pub link_passed : (log : List Fact) (r : RecordData) (Only : RecordData → Type
 link_passed log r Only t back target l =
     ⊎_elim
     (λ (z : t.number ≡ 0). absurd (omega arith))
-    (λ (w : (s : IsAliveBelow log r Only t.number) × StandsAt log t.place (Record s.other)). (t.number, w.0, w.1, (inr w.0, target.1), l))
+    (λ (w : (s : IsAliveBelow log r Only t.number) × IsPlaced log t.place (Record s.other)). (t.number, w.0, w.1, (inr w.0, target.1), l))
     target.0
 
 pub link_above : (log : List Fact) (r : RecordData) (Only : RecordData → Type 0) (t : Target) (back : ℕ) → IsTarget log r Only t → t.number < back
@@ -79,7 +79,7 @@ pub link_right : (log : List Fact) (r : RecordData) (Only : RecordData → Type 
 link_right log r Only t back target l m =
     let e : t.number ≡ back = omega arith in (
       ⊎_elim (λ (z : t.number ≡ 0). inl (sym e ∙ z))
-          (λ (w : (s : IsAliveBelow log r Only t.number) × StandsAt log t.place (Record s.other)). inr (subst (IsAliveBelow log r Only) e w.0))
+          (λ (w : (s : IsAliveBelow log r Only t.number) × IsPlaced log t.place (Record s.other)). inr (subst (IsAliveBelow log r Only) e w.0))
           target.0,
       λ n b. let k : n ≤ t.number = target.1 n b in omega arith,
     )
@@ -195,7 +195,7 @@ AnswersAt roster log place law found fact = MatchOption found (KeepsLaw roster l
 
 told_by : (roster : ℕ) (log : List Fact) (place : ℕ) (fault : LawFault) (found : Option Breach) (at : Option Fact) → slice_get log place ≡ at
     → fault.place ≡ place + 1 → (slice_get log place ≡ None → found ≡ None)
-    → ((fact : Fact) → slice_get log place ≡ Some fact → AnswersAt roster log place fault.law found fact) → IfSome found (Tells roster log fault)
+    → ((fact : Fact) → slice_get log place ≡ Some fact → AnswersAt roster log place fault.law found fact) → IfSome found (TellsBreach roster log fault)
 told_by roster log place fault None at q e none some = tt
 told_by roster log place fault (Some b) None q e none some = absurd (none-some b (sym (none q)))
 told_by roster log place fault (Some b) (Some f) q e none some =
@@ -204,7 +204,7 @@ told_by roster log place fault (Some b) (Some f) q e none some =
 pub told : (roster : ℕ) (log : List Fact) (place : ℕ) (fault : LawFault) (r : Result (Option Breach) AllocError) → fault.place ≡ place + 1
     → (slice_get log place ≡ None → IfOk r (λ found. found ≡ None))
     → ((fact : Fact) → slice_get log place ≡ Some fact → IfOk r (λ found. AnswersAt roster log place fault.law found fact))
-    → IfOk r (λ found. IfSome found (Tells roster log fault))
+    → IfOk r (λ found. IfSome found (TellsBreach roster log fault))
 told roster log place fault (Ok found) e none some = told_by roster log place fault found (slice_get log place) refl e none some
 told roster log place fault (Err e') e none some = tt
 

@@ -14,7 +14,7 @@ use Rattle.redo_core.proofs.SoundFacts.{place_of}
 use Rattle.log_law.specs.Counted.{first_cut}
 use Rattle.log_law.proofs.FirstCuts.{counted_at, at_counted}
 use Rattle.log_law.proofs.Least.{same_redo}
-use Rattle.log_law.specs.Targets.{StandsAt, IsBoundTo, IsTarget}
+use Rattle.log_law.specs.Targets.{IsPlaced, IsBoundTo, IsTarget}
 use Rattle.log_law.specs.declared.targets.Target.{Target}
 
 -- each fact before a place has P
@@ -31,9 +31,6 @@ each_more log P p f at here each q g l h =
 -- and so each member has, where the place is the end
 pub each_member : (log : List Fact) (P : Fact → Type 0) (p : ℕ) (f : Fact) → length log ≤ p → EachBefore log P p → Contains log f → P f
 each_member log P p f l each h = each h.0 f (let m : h.0 < length log = h.1 in omega arith) (place_of log f h.0 h.1 h.2)
-
-pub in_log : (log : List Fact) (p : ℕ) (f : Fact) → slice_get log p ≡ Some f → Contains log f
-in_log log p f at = (p, slice_get_within log p f at, get_or_from_slice_get log p f f at)
 
 -- one epoch's bound from the next one's
 pub bound_last : (log : List Fact) (view bound : ℕ) → bound ≡ 281474976710655 → IsBoundTo log view view bound
@@ -87,7 +84,7 @@ IsNoBetter log r Only top f = IsBetter log r Only top f → ⊥
 
 -- the target is that of the facts before a place
 pub record IsTargetTo (log : List Fact) (r : RecordData) (Only : RecordData → Type 0) (p : ℕ) (t : Target) : Type 0 where
-  pub stands : (t.number ≡ 0) ⊎ ((s : IsAliveBelow log r Only t.number) × StandsAt log t.place (Record s.other))
+  pub stands : (t.number ≡ 0) ⊎ ((s : IsAliveBelow log r Only t.number) × IsPlaced log t.place (Record s.other))
   pub each : EachBefore log (IsNoBetter log r Only t.number) p
 
 pub target_end : (log : List Fact) (r : RecordData) (Only : RecordData → Type 0) (p : ℕ) (t : Target) → length log ≤ p → IsTargetTo log r Only p t
@@ -118,7 +115,7 @@ target_new log r Only p s old new at place number alive only below above so_far 
   stands = inr (
     record {
       other = s;
-      among = (record_in log s).1 (in_log log p (Record s) at);
+      among = (record_in log s).1 (p, slice_get_within log p (Record s) at, get_or_from_slice_get log p (Record s) (Record s) at);
       alive = alive;
       only = only;
       number = sym number;

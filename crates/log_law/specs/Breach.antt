@@ -14,13 +14,13 @@ use Rattle.redo_core.specs.declared.facts.Fact.TheVariants.{Record, Cut, Advance
 use Rattle.redo_core.specs.declared.laws.Law.{Law}
 use Rattle.redo_core.specs.declared.laws.Law.TheVariants.{OneFactPerKey, EpochBegun, SegmentBacklink, BlockBacklink, AdvanceKept}
 use Rattle.redo_core.specs.declared.laws.LawFault.{LawFault}
-use Rattle.log_law.specs.Targets.{StandsAt}
+use Rattle.log_law.specs.Targets.{IsPlaced}
 use Rattle.log_law.specs.declared.breach.Breach.{Breach}
 use Rattle.log_law.specs.declared.breach.Breach.TheVariants.{OtherFact, NotBegun, NotAbove, Passes, NoTarget, NoReader, CutBelow}
 
 -- an earlier place has the fact's key and another content
 abbrev pub IsOtherAt : List Fact → ℕ → Fact → ℕ → Type 0
-IsOtherAt log place fact earlier = (earlier < place) × ((other : Fact) × StandsAt log earlier other × SameKey other fact × (other ≡ fact → ⊥))
+IsOtherAt log place fact earlier = (earlier < place) × ((other : Fact) × IsPlaced log earlier other × SameKey other fact × (other ≡ fact → ⊥))
 
 -- the least epoch from 1 that has no truncation is at most this one
 pub record IsFirstMissing (log : List Fact) (epoch missing : ℕ) : Type 0 where
@@ -31,11 +31,11 @@ pub record IsFirstMissing (log : List Fact) (epoch missing : ℕ) : Type 0 where
 
 -- the truncation at a place counts for the record's epoch, and the record's number is not above its hi
 abbrev pub IsNotAbove : List Fact → RecordData → ℕ → Type 0
-IsNotAbove log r place = (c : CutData) × StandsAt log place (Cut c) × Contains (counted log) c × (c.epoch ≡ r.epoch) × (r.number ≤ c.hi)
+IsNotAbove log r place = (c : CutData) × IsPlaced log place (Cut c) × Contains (counted log) c × (c.epoch ≡ r.epoch) × (r.number ≤ c.hi)
 
 -- at a place stands the record that the backlink has to name, and its number is above the one that is named
 abbrev pub IsPassed : List Fact → RecordData → (RecordData → Type 0) → ℕ → ℕ → Type 0
-IsPassed log r Only back place = (n : ℕ) × (s : IsAliveBelow log r Only n) × StandsAt log place (Record s.other) × IsGreatest (IsAliveBelow log r Only) n × (back < n)
+IsPassed log r Only back place = (n : ℕ) × (s : IsAliveBelow log r Only n) × IsPlaced log place (Record s.other) × IsGreatest (IsAliveBelow log r Only) n × (back < n)
 
 -- the backlink names a number above those of all records that it may name
 abbrev pub IsAboveAll : List Fact → RecordData → (RecordData → Type 0) → ℕ → Type 0
@@ -44,7 +44,7 @@ IsAboveAll log r Only back = (0 < back) × ((n : ℕ) → IsAliveBelow log r Onl
 -- The truncation at a place counts and is of a later epoch than the advance; all readers are past it, and its lo is below the point.
 abbrev pub IsCutBelow : ℕ → List Fact → AdvanceData → ℕ → Type 0
 IsCutBelow roster log a place =
-    (c : CutData) × StandsAt log place (Cut c) × Contains (counted log) c × (a.epoch < c.epoch) × ArePast roster (advances log) c × (c.lo < a.point)
+    (c : CutData) × IsPlaced log place (Cut c) × Contains (counted log) c × (a.epoch < c.epoch) × ArePast roster (advances log) c × (c.lo < a.point)
 
 -- a breach of law 1
 abbrev pub TellsKey : List Fact → ℕ → Fact → Breach → Type 0
@@ -89,10 +89,10 @@ TellsOf roster log place fact BlockBacklink breach = TellsBlock log fact breach
 TellsOf roster log place fact AdvanceKept breach = TellsAdvance roster log fact breach
 
 -- the breach is true of the log, and shows that the fault is one
-abbrev pub Tells : ℕ → List Fact → LawFault → Breach → Type 0
-Tells roster log fault breach = (fact : Fact) × StandsAt log fault.place fact × TellsOf roster log fault.place fact fault.law breach
+abbrev pub TellsBreach : ℕ → List Fact → LawFault → Breach → Type 0
+TellsBreach roster log fault breach = (fact : Fact) × IsPlaced log fault.place fact × TellsOf roster log fault.place fact fault.law breach
 
 -- what is told shows that the law is broken
 abbrev pub ShowsBroken : Type 0
-ShowsBroken = (roster : ℕ) (log : List Fact) (fault : LawFault) (breach : Breach) (place : ℕ) (fact : Fact) → Tells roster log fault breach
+ShowsBroken = (roster : ℕ) (log : List Fact) (fault : LawFault) (breach : Breach) (place : ℕ) (fact : Fact) → TellsBreach roster log fault breach
     → fault.place ≡ place + 1 → slice_get log place ≡ Some fact → KeepsLaw roster log place fact fault.law → ⊥

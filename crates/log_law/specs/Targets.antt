@@ -9,8 +9,8 @@ use Rattle.redo_core.specs.declared.facts.Fact.TheVariants.{Record}
 use Rattle.log_law.specs.declared.targets.Target.{Target}
 
 -- the fact stands at a place
-abbrev pub StandsAt : List Fact → ℕ → Fact → Type 0
-StandsAt log place fact = (before : ℕ) × (place ≡ before + 1) × (slice_get log before ≡ Some fact)
+abbrev pub IsPlaced : List Fact → ℕ → Fact → Type 0
+IsPlaced log place fact = (before : ℕ) × (place ≡ before + 1) × (slice_get log before ≡ Some fact)
 
 -- a record of the page, where there is one to keep to
 abbrev pub IsOfPage : Option ℕ → RecordData → Type 0
@@ -29,4 +29,4 @@ pub record AreBoundsTo (log : List Fact) (view : ℕ) (bounds : List ℕ) : Type
 -- the number is the greatest that the backlink may name, with its record's place, or 0
 abbrev pub IsTarget : List Fact → RecordData → (RecordData → Type 0) → Target → Type 0
 IsTarget log r Only t =
-    ((t.number ≡ 0) ⊎ ((s : IsAliveBelow log r Only t.number) × StandsAt log t.place (Record s.other))) × ((n : ℕ) → IsAliveBelow log r Only n → n ≤ t.number)
+    ((t.number ≡ 0) ⊎ ((s : IsAliveBelow log r Only t.number) × IsPlaced log t.place (Record s.other))) × ((n : ℕ) → IsAliveBelow log r Only n → n ≤ t.number)

@@ -10,8 +10,8 @@ ghost use Rattle.redo_core.specs.declared.facts.Fact.{Fact};
 ghost use Rattle.log_law.specs.Counted.{Describes};
 ghost use Rattle.log_law.specs.Lows.{AreLeastPoints};
 ghost use Rattle.log_law.specs.Report.{Reports};
-ghost use Rattle.log_law.specs.Targets.{StandsAt, IsOfPage};
-ghost use Rattle.log_law.specs.Breach.{Tells, TellsOf, TellsKey, TellsBegun, TellsSegment, TellsBlock, TellsLink, TellsAdvance, IsCutBelow};
+ghost use Rattle.log_law.specs.Targets.{IsPlaced, IsOfPage};
+ghost use Rattle.log_law.specs.Breach.{TellsBreach, TellsOf, TellsKey, TellsBegun, TellsSegment, TellsBlock, TellsLink, TellsAdvance, IsCutBelow};
 
 use crate::counted::CountedCuts;
 use crate::lows::lows_of;
@@ -53,7 +53,7 @@ pub fn breach_of(
     roster: Roster,
     fault: LawFault,
 ) -> Result<Option<Breach>, AllocError>
-    ensures tells { IfOk result (λ found. IfSome found (Tells roster facts.now fault)) }
+    ensures tells { IfOk result (λ found. IfSome found (TellsBreach roster facts.now fault)) }
     ensures found { Reports roster facts.now fault → IfOk result (λ found. IsSome found) }
 {
     match fault.place {
@@ -140,7 +140,7 @@ fn begun_breach(facts: &[Fact], cuts: &CountedCuts, fact: &Fact) -> Option<Breac
 
 /// The place (from 1) where a truncation stands first.
 fn place_of_cut(facts: &[Fact], sought: Cut) -> Option<u64>
-    ensures { MatchOption result (Contains facts.now (Fact.Cut sought) → ⊥) (λ place. StandsAt facts.now place (Fact.Cut sought)) }
+    ensures { MatchOption result (Contains facts.now (Fact.Cut sought) → ⊥) (λ place. IsPlaced facts.now place (Fact.Cut sought)) }
 {
     for (place, fact) in facts.iter().enumerate() {
         if is_cut(fact, sought) {
