@@ -1,0 +1,5 @@
+pub mod NumberFaults
+pub mod FieldReasons
+pub mod FormReasons
+pub mod LineReasons
+pub mod Laws

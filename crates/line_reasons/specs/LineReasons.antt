@@ -1,0 +1,38 @@
+-- Whether a line is read where it stands, and why it is not.
+use Rattle.std.specs.Prelude.{◌≡◌, ◌⊎◌, ◌-◌, ℕ, List, [], ◌∷◌, length, IsSome, slice_get, Some}
+use Rattle.script_text.specs.Parts.{first_parts}
+use Rattle.script_text.specs.StepLine.{step_of, step_forms}
+use Rattle.script_text.specs.Fields.{read_by}
+use Rattle.script_text.specs.Script.{nodes_form, nodes_in_line}
+use Rattle.line_reasons.specs.declared.lines.Place.{Place}
+use Rattle.line_reasons.specs.declared.lines.Place.TheVariants.{Nodes, Steps}
+use Rattle.line_reasons.specs.declared.reasons.LineReason.{LineReason}
+use Rattle.line_reasons.specs.declared.reasons.LineReason.TheVariants.{CarriageReturn}
+use Rattle.line_reasons.specs.FormReasons.{IsReasonBy}
+
+-- something is read of the line there
+abbrev pub IsRead : Place → List ℕ → Type 0
+IsRead Nodes line = IsSome (nodes_in_line line)
+IsRead (Steps facts) line = IsSome (step_of facts line)
+
+-- the fields of a line, as far as they are looked at: more than any good line has
+abbrev pub fields_of : List ℕ → List (List ℕ)
+fields_of line = first_parts 32 line
+
+-- something is read of fields there
+abbrev pub AreRead : Place → List (List ℕ) → Type 0
+AreRead Nodes fields = IsSome (read_by (nodes_form ∷ []) fields)
+AreRead (Steps facts) fields = IsSome (read_by (step_forms facts) fields)
+
+-- fields are wrong there
+abbrev pub IsReason : Place → List (List ℕ) → LineReason → Type 0
+IsReason Nodes fields reason = IsReasonBy (nodes_form ∷ []) fields reason
+IsReason (Steps facts) fields reason = IsReasonBy (step_forms facts) fields reason
+
+-- the reason is the CR with which the line ends, which is not read there
+abbrev pub IsReturn : Place → List ℕ → LineReason → Type 0
+IsReturn place line reason = (reason ≡ CarriageReturn) × (slice_get line (length line - 1) ≡ Some 13) × (IsRead place line → ⊥)
+
+-- the reason is true of the line there: its fields are wrong, or it is not read and ends with CR
+abbrev pub Explains : Place → List ℕ → LineReason → Type 0
+Explains place line reason = IsReason place (fields_of line) reason ⊎ IsReturn place line reason

@@ -1,0 +1,17 @@
+//! Why a line of a script text is bad, and which of its fields.
+//!
+//! `line_reason` gives a reason exactly where a line is not read at its place, and a true one: for the line of the nodes and for step
+//! lines. It is for lines that were refused, and not made to be fast.
+#![tactic(auto)]
+
+mod forms;
+mod laws;
+mod limits;
+mod lines;
+mod numbers;
+mod reasons;
+mod steps;
+
+pub use laws::reasons_are_of_bad_lines;
+pub use lines::{Place, line_reason};
+pub use reasons::{LineReason, NumberFault};

@@ -1,0 +1,57 @@
+//! One line.
+
+ghost use Rattle.std.specs.Prelude.{◌≡◌, ◌-◌, ◌⊎◌, ◌∷◌, length, map, slice_get, Some, IfOk, MatchOption, MatchResult};
+ghost use Rattle.line_reasons.specs.LineReasons.{IsRead, AreRead, IsReason, Explains};
+ghost use Rattle.line_reasons.specs.declared.reasons.LineReason.TheVariants.{CarriageReturn};
+
+use crate::forms::counted;
+use crate::limits::NODES;
+use crate::reasons::LineReason;
+use crate::steps::step;
+use script_text::first_parts;
+use std::alloc::{AllocError, Global};
+
+/// What kind of line is wanted: the number of nodes, or a step behind so many facts.
+#[derive(Clone, Copy, Debug, PartialEq, Eq)]
+pub enum Place {
+    Nodes,
+    Steps(u32),
+}
+
+/// Whether a word and the fields behind it are read at that place.
+fn check(place: Place, word: &[u8], fields: &[&[u8]]) -> Result<(), LineReason>
+    ensures { MatchResult result (λ _. AreRead place (word.now ∷ map (λ x. x.now) fields.now)) (IsReason place (word.now ∷ map (λ x. x.now) fields.now)) }
+{
+    match place {
+        Place::Nodes => counted(b"nodes", NODES, word, fields),
+        Place::Steps(facts) => step(facts, word, fields),
+    }
+}
+
+/// The reason, or the CR with which a bad line ends: an editor put it there, and it makes the last field bad.
+fn told(line: &[u8], reason: LineReason) -> LineReason
+    ensures { (result ≡ reason) ⊎ ((result ≡ CarriageReturn) × (slice_get line.now (length line.now - 1) ≡ Some 13)) }
+{
+    match line {
+        [.., b'\r'] => LineReason::CarriageReturn,
+        _ => reason,
+    }
+}
+
+/// Why the line is bad at that place: a reason exactly where it is not read there, and a true one. Its only error is want of memory.
+pub fn line_reason(
+    alloc: Global,
+    place: Place,
+    line: &[u8],
+) -> Result<Option<LineReason>, AllocError>
+    ensures { IfOk result (λ o. MatchOption o (IsRead place line.now) (Explains place line.now)) }
+{
+    let parts = first_parts(alloc, line, b' ')?;
+    let [word, fields @ ..] = parts.as_slice() else {
+        return Ok(Some(LineReason::UnknownWord));
+    };
+    match check(place, word, fields) {
+        Ok(()) => Ok(None),
+        Err(reason) => Ok(Some(told(line, reason))),
+    }
+}

@@ -1,0 +1,33 @@
+//! The reasons, and their words.
+
+use thiserror::Error;
+
+/// Why a word is no number.
+#[derive(Clone, Copy, Debug, PartialEq, Eq, Error)]
+pub enum NumberFault {
+    #[error("is empty: one space parts two fields, and none stands at an end")]
+    Empty,
+    #[error("has a byte that is no decimal digit")]
+    NotDigits,
+    #[error("has a leading zero")]
+    LeadingZero,
+    #[error("is above {0}")]
+    Above(u64),
+}
+
+/// Why a line is bad. Fields are numbered from 1, the word that begins the line first.
+#[derive(Clone, Copy, Debug, PartialEq, Eq, Error)]
+pub enum LineReason {
+    #[error("it ends with CR, and a line ends with LF alone")]
+    CarriageReturn,
+    #[error("no line that begins with that word may stand here")]
+    UnknownWord,
+    #[error("another number of fields behind the word than {wanted}")]
+    FieldCount { wanted: usize },
+    #[error("field {at} {fault}")]
+    Field { at: usize, fault: NumberFault },
+    #[error("field {at} is 0")]
+    Zero { at: usize },
+    #[error("the bytes to read end past the page, at 4096")]
+    PastPage,
+}
