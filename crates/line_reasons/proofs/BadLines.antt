@@ -10,7 +10,7 @@ use Rattle.line_reasons.specs.declared.lines.Place.{Place}
 use Rattle.line_reasons.specs.declared.lines.Place.TheVariants.{Nodes, Steps}
 use Rattle.line_reasons.specs.declared.reasons.LineReason.{LineReason}
 use Rattle.line_reasons.specs.declared.reasons.LineReason.TheVariants.{CarriageReturn}
-use Rattle.line_reasons.specs.LineReasons.{IsRead, AreRead, fields_of, IsReason, Explains}
+use Rattle.line_reasons.specs.LineReasons.{IsReadThere, AreRead, fields_of, IsReason, Explains}
 use Rattle.line_reasons.specs.Laws.{ReasonsAreOfBadLines}
 use Rattle.line_reasons.proofs.Parts.{read_first}
 use Rattle.line_reasons.proofs.FormLines.{reason_by}
@@ -27,7 +27,7 @@ pub nodes_first : (line : List ℕ) → nodes_in_line line ≡ read_by (nodes_fo
 unfolding nodes_in_line
 nodes_first line = sym (read_first 1 (nodes_form ∷ []) 32 line (search rules) (omega arith))
 
-pub reason_is : (place : Place) (line : List ℕ) (reason : LineReason) → IsReason place (fields_of line) reason → IsRead place line → ⊥
+pub reason_is : (place : Place) (line : List ℕ) (reason : LineReason) → IsReason place (fields_of line) reason → IsReadThere place line → ⊥
 unfolding step_line
 reason_is Nodes line reason h read = unread _ (nodes_first line ∙ reason_by (nodes_form ∷ []) (first_parts 32 line) reason h) read
 reason_is (Steps facts) line reason h read = unread _ (sym (steps_first facts line) ∙ reason_by (step_forms facts) (first_parts 32 line) reason h) read
@@ -37,7 +37,7 @@ reasons_are_of_bad_lines place line reason h = elim h [ inl wrong ↦ reason_is 
 
 -- ---- what is found of a line
 
-pub read_is : (place : Place) (line : List ℕ) (parts : List (List ℕ)) → parts ≡ first_parts 32 line → AreRead place parts → IsRead place line
+pub read_is : (place : Place) (line : List ℕ) (parts : List (List ℕ)) → parts ≡ first_parts 32 line → AreRead place parts → IsReadThere place line
 unfolding step_line
 read_is Nodes line parts e h = rw (nodes_first line, ← e) h
 read_is (Steps facts) line parts e h = rw (← steps_first facts line, ← e) h

@@ -11,9 +11,9 @@ use Rattle.line_reasons.specs.declared.reasons.LineReason.TheVariants.{CarriageR
 use Rattle.line_reasons.specs.FormReasons.{IsReasonBy}
 
 -- something is read of the line there
-abbrev pub IsRead : Place → List ℕ → Type 0
-IsRead Nodes line = IsSome (nodes_in_line line)
-IsRead (Steps facts) line = IsSome (step_of facts line)
+abbrev pub IsReadThere : Place → List ℕ → Type 0
+IsReadThere Nodes line = IsSome (nodes_in_line line)
+IsReadThere (Steps facts) line = IsSome (step_of facts line)
 
 -- the fields of a line, as far as they are looked at: more than any good line has
 abbrev pub fields_of : List ℕ → List (List ℕ)
@@ -31,7 +31,7 @@ IsReason (Steps facts) fields reason = IsReasonBy (step_forms facts) fields reas
 
 -- the reason is the CR with which the line ends, which is not read there
 abbrev pub IsReturn : Place → List ℕ → LineReason → Type 0
-IsReturn place line reason = (reason ≡ CarriageReturn) × (slice_get line (length line - 1) ≡ Some 13) × (IsRead place line → ⊥)
+IsReturn place line reason = (reason ≡ CarriageReturn) × (slice_get line (length line - 1) ≡ Some 13) × (IsReadThere place line → ⊥)
 
 -- the reason is true of the line there: its fields are wrong, or it is not read and ends with CR
 abbrev pub Explains : Place → List ℕ → LineReason → Type 0

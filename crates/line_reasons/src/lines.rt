@@ -1,7 +1,7 @@
 //! One line.
 
 ghost use Rattle.std.specs.Prelude.{◌≡◌, ◌-◌, ◌⊎◌, ◌∷◌, length, map, slice_get, Some, IfOk, MatchOption, MatchResult};
-ghost use Rattle.line_reasons.specs.LineReasons.{IsRead, AreRead, IsReason, Explains};
+ghost use Rattle.line_reasons.specs.LineReasons.{IsReadThere, AreRead, IsReason, Explains};
 ghost use Rattle.line_reasons.specs.declared.reasons.LineReason.TheVariants.{CarriageReturn};
 
 use crate::forms::counted;
@@ -44,7 +44,7 @@ pub fn line_reason(
     place: Place,
     line: &[u8],
 ) -> Result<Option<LineReason>, AllocError>
-    ensures { IfOk result (λ o. MatchOption o (IsRead place line.now) (Explains place line.now)) }
+    ensures { IfOk result (λ o. MatchOption o (IsReadThere place line.now) (Explains place line.now)) }
 {
     let parts = first_parts(alloc, line, b' ')?;
     let [word, fields @ ..] = parts.as_slice() else {
