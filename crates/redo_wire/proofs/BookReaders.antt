@@ -7,10 +7,9 @@ use Rattle.std.proofs.lemmas.List.Elements.{All-from_recursion, recursion_from_A
 use Rattle.redo_core.specs.Book.{BookData, book_of, IsBook}
 use Rattle.redo_core.specs.Data.{CutData, AdvanceData}
 use Rattle.redo_core.specs.Shape.{cut_fault, advance_fault, max_number, epoch_count}
-use Rattle.redo_core.specs.Roster.{IsReader, least}
+use Rattle.redo_core.specs.Roster.{IsReader}
 use Rattle.redo_core.specs.Order.{IsRising, CutBefore, AdvanceBefore}
 use Rattle.redo_core.specs.CompleteEpoch.{IsCompleteEpoch}
-use Rattle.redo_core.proofs.Points.{least_le}
 use Rattle.redo_core.proofs.CompleteEpochs.{one_complete_epoch}
 use Rattle.redo_wire.specs.Fields.{u16_at, u32_at, u16, u32, u48}
 use Rattle.redo_wire.specs.Lists.{each_at}
@@ -18,7 +17,7 @@ use Rattle.redo_wire.specs.Places.{WaitPlace, is_wait_above}
 use Rattle.redo_wire.specs.Forms.{within_at, byte_in}
 use Rattle.redo_wire.specs.Facts.{IsWireCut, IsWireAdvance, cut_bytes, advance_bytes}
 use Rattle.redo_wire.specs.FactReading.{cut_at, advance_at}
-use Rattle.messages.specs.Books.{book_min, has_many}
+use Rattle.messages.specs.Books.{has_many}
 use Rattle.redo_wire.specs.Books.{IsWireBook, book_bytes}
 use Rattle.redo_wire.specs.BookReading.{complete, cut_epoch, last_point, wait_place, next_cut_at, next_point_at, next_wait_at, book_at}
 use Rattle.redo_wire.proofs.Readers.{IsBytes, bind_ok, ok_is, Takes, Takes-then, Reads, ordered_reads}
@@ -52,17 +51,6 @@ next_point_reads last = u48_reads
 small_points : (last : ℕ) (ps : List ℕ) → EachFrom IsNextPoint last_point last ps → AllByRecursion (λ p. p ≤ max_number) ps
 small_points last [] h = tt
 small_points last (p ∷ ps) h = let lt = h.0 in (omega (arith, lt), small_points p ps h.1)
-
-small_least : (ps : List ℕ) → 1 ≤ length ps → AllByRecursion (λ p. p ≤ max_number) ps → least ps ≤ max_number
-small_least [] one h = absurd (omega (arith, one))
-small_least (p ∷ ps) one h =
-    let low : least (p ∷ ps) ≤ p = least_le (length (p ∷ ps)) (p ∷ ps) 1 refl (omega arith, one) in
-    let high = h.0 in
-    omega arith
-
--- the minimum read point of a book is a number
-pub min_small : (b : BookData) → IsBook b → book_min b ≤ max_number
-min_small b book = small_least b.points book.roster.0 (recursion_from_All (λ p. p ≤ max_number) b.points book.points_shaped)
 
 each_point : (last : ℕ) (ps : List ℕ) → AllByRecursion (λ p. p ≤ max_number) ps → EachFrom IsNextPoint last_point last ps
 each_point last [] h = tt

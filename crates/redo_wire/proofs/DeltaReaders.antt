@@ -28,7 +28,8 @@ use Rattle.redo_wire.proofs.FormReaders.{form_then}
 use Rattle.redo_wire.proofs.ListReaders.{EachFrom, each_takes, each_again}
 use Rattle.redo_wire.proofs.RecordReaders.{record_reads, number_above_zero}
 use Rattle.redo_wire.proofs.Orders.{All-weaker, All-both, IsNext, rising_from_each, each_from_rising, image_tests, place_tests, above_zero}
-use Rattle.redo_wire.proofs.BookReaders.{book_reads, min_small}
+use Rattle.messages.proofs.BookMins.{min_small}
+use Rattle.redo_wire.proofs.BookReaders.{book_reads}
 
 -- ---- pages of zeros
 

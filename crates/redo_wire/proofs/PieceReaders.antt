@@ -28,7 +28,8 @@ use Rattle.redo_wire.proofs.FieldReaders.{byte_reads, u32_reads, u48_reads, u64_
 use Rattle.redo_wire.proofs.FormReaders.{form_then}
 use Rattle.redo_wire.proofs.ListReaders.{each_takes, each_again}
 use Rattle.redo_wire.proofs.Orders.{rising_from_each, place_tests}
-use Rattle.redo_wire.proofs.BookReaders.{book_reads, min_small}
+use Rattle.messages.proofs.BookMins.{min_small}
+use Rattle.redo_wire.proofs.BookReaders.{book_reads}
 use Rattle.redo_wire.proofs.DeltaReaders.{IsNextRecord, next_record_reads, each_record, image_reads, read_image, written_page}
 
 -- ---- what a piece brings

@@ -20,7 +20,8 @@ use Rattle.redo_wire.proofs.FieldReaders.{u16_reads, u32_reads, u48_reads}
 use Rattle.redo_wire.proofs.FormReaders.{form_then}
 use Rattle.redo_wire.proofs.ListReaders.{EachFrom, each_takes, each_again}
 use Rattle.redo_wire.proofs.Orders.{All-weaker, All-both, IsNext, rising_from_each, each_from_rising, place_tests, above_zero}
-use Rattle.redo_wire.proofs.BookReaders.{book_reads, min_small}
+use Rattle.messages.proofs.BookMins.{min_small}
+use Rattle.redo_wire.proofs.BookReaders.{book_reads}
 
 -- ---- keys in their places
 
