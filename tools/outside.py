@@ -11,6 +11,7 @@ import itertools
 import os
 import pathlib
 import random
+import re
 import runpy
 import shutil
 import subprocess
@@ -117,6 +118,9 @@ TEXTS = [
 BAD_COMMAND_LINES = [
     *([], [""], ["walk"], ["Drill"], ["help"], ["Run"], ["Inspect"], ["--run"], ["--nodes", "3"]),
     *(["run", "run"], ["run", "check"], ["run", "-"], ["run", "--"], ["check", "x"], ["check", "first.txt"]),
+    # an explanation: before the task, twice, with a value, behind a mark, of a capture or a drill
+    *(["--explain", "run"], ["run", "--explain", "--explain"], ["check", "--explain=yes"], ["run", "--", "--explain"], ["run", "--explai"]),
+    *(["inspect", "--explain"], ["drill", "--explain"], ["run", "-explain"], ["run", "explain"], ["run", "--explain", "--"]),
     *(["inspect", "04"], ["inspect", "--loud"], ["run", "--nodes", "3"], ["--nodes", "3", "drill"], ["--", "drill"]),
     # drills: a number out of its range, or none
     *(["drill", "--nodes", "0"], ["drill", "--nodes", "7"], ["drill", "--nodes=7"], ["drill", "--nodes", "-1"]),
@@ -141,6 +145,35 @@ def statuses_of_texts(program):
     for task, text, status, output in TEXTS:
         expect(f"{task} of {text!r}", answer(program, [task], input=text), (status, output, b""))
     return f"{len(TEXTS)} texts"
+
+
+SAYS_BAD = re.compile(rb"fleet: line ([0-9]+): [^\n]+\n")
+SAYS_UNSOUND = re.compile(rb"fleet: fact ([0-9]+) breaks law ([1-5]): [^\n]+\n")
+
+
+def said_of(output):
+    """What an explanation of an answer has to begin with."""
+    if found := re.fullmatch(rb"bad line ([0-9]+)\n", output):
+        return SAYS_BAD, found.groups()
+    if found := re.fullmatch(rb"unsound ([0-9]+) law ([1-5])\n", output):
+        return SAYS_UNSOUND, found.groups()
+    return re.compile(b""), ()
+
+
+def explanations(program):
+    """An explained answer and its status are those without the option, and what is said names the same line or fact; the words of some."""
+    texts = [row[:2] for path in sorted((ROOT / "rows").glob("*.py")) for row in runpy.run_path(str(path))["ROWS"]]
+    texts = [it for it in [*texts, *(row[:2] for row in TEXTS)] if it[0] != "inspect"]
+    for task, text in texts:
+        status, output, _ = answer(program, [task], input=text)
+        explained, same, said = answer(program, [task, "--explain"], input=text)
+        form, names = said_of(output)
+        found = form.fullmatch(said)
+        expect(f"{task} --explain of {text[-200:]!r}", (explained, same, found and found.groups()), (status, output, names))
+    rows = runpy.run_path(str(ROOT / "rows/explained.py"))["SAID"]
+    for task, text, wanted in rows:
+        expect(f"what is said of {text[-200:]!r}", answer(program, [task, "--explain"], input=text)[2], b"fleet: " + wanted + b"\n")
+    return f"{len(texts)} texts, the words of {len(rows)}"
 
 
 MOST_LINES = 1_000_000  # fact lines, and step lines, that a text may have
@@ -277,11 +310,12 @@ def failing_output(program):
     if not full.is_char_device():
         raise Failed("this machine has no /dev/full")
     lost = [("run", SCRIPT), ("check", SOUND), ("check", UNSOUND), ("check", b"x\n"), ("inspect", b"04\n"), ("drill", b"")]
-    for task, text in lost:
+    lost = [*(([task], text) for task, text in lost), (["check", "--explain"], UNSOUND)]
+    for words, text in lost:
         for device in (full.open("wb"), unread_pipe()):
             with device as output:
-                seen = answer(program, [task], input=text, stdout=output)
-            expect(f"{task} of {text!r} to a device that takes nothing", seen, (4, None, b"fleet: output failed\n"))
+                seen = answer(program, words, input=text, stdout=output)
+            expect(f"{words} of {text!r} to a device that takes nothing", seen, (4, None, b"fleet: output failed\n"))
     return f"{len(lost)} texts"
 
 
@@ -400,6 +434,7 @@ def tests(rounds, seed):
         "examples": examples,
         "rows": rows,
         "statuses 0, 2 and 3, of texts": statuses_of_texts,
+        "why, with --explain": explanations,
         "a million lines and one more": most_lines,
         "status 2, of command lines": bad_command_lines,
         "status 0, of the help": help_is_printed,

@@ -127,6 +127,8 @@ FUNCTION = re.compile(r"fn (\w+)::(\S+): (not proved|no proof|proved)")
 # A goal that is left, before the line of its function.
 LEFT = re.compile(r"note: src/\S+:\d+:\d+: it is not proved .*\(`([^`\s]+)`\)")
 PROOF_FAULT = re.compile(r"(?:\./)?(proofs/(\S+)/(?:Answers|Invariants|Proof)\.antt):\d+:\d+: error")
+# A long message goes on in lines that are set in.
+CONTINUED = re.compile(r"\n {2,}")
 # What a proof file says where the edit only took a name away: it shows nothing of the contract.
 UNFIT = re.compile(r"has no field|is not in scope|has no `|was not admitted|\(nearest: |which was rejected")
 RENAMED = re.compile(r"module `\S*\.Goals` has no `")
@@ -137,7 +139,7 @@ class Report:
 
     def __init__(self, crate, said):
         self.folder, self.left, self.faults, goals = crate.folder, {}, {}, []
-        for line in said.split("\n"):
+        for line in CONTINUED.sub(" ", said).split("\n"):
             goal, fault, function = LEFT.match(line), PROOF_FAULT.match(line), FUNCTION.match(line)
             if goal:
                 goals.append(goal[1])

@@ -143,13 +143,33 @@ def tries_a_forged_sum_at_its_turn(top):
     expect("at its turn", status == 1 and "firm/next_is_two_above.edit: NOT REFUSED" in text, text)
 
 
+# What a check says of an edit that took a goal's name away, where the message goes on in a second line, and of one that broke an answer.
+LONG = """
+import sys, types
+sys.path.insert(0, "tools")
+import wrong_bodies as it
+fault = "./proofs/next/Answers.antt:5:1: error: `returns`: "
+taken = fault + "`goal.returns`: module `Rattle.firm.proofs.next.Goals`\\n  has no `returns` that can be named from here"
+broken = fault + "the two types differ only where one\\n  has `x + 1` (expected)"
+crate = types.SimpleNamespace(folder="crates/firm", name="firm")
+for said in (taken, broken):
+    print(it.Report(crate, said + "\\nfn firm::next: not proved").is_refused("next"))
+"""
+
+
+def reads_a_long_message_whole(top):
+    """A message of several lines is one fault."""
+    ran = subprocess.run([sys.executable, "-c", LONG], cwd=top, capture_output=True, text=True, timeout=60)
+    expect("a missing name, and a broken answer", ran.stdout.split() == ["False", "True"], ran.stdout + ran.stderr)
+
+
 def tests():
     """How many tests passed, and how many failed."""
     passed = failed = 0
     with tempfile.TemporaryDirectory() as folder:
         top = pathlib.Path(folder) / "tree"
         make(top)
-        for test in (tells_what_is_refused, tells_what_is_due, tries_a_forged_sum_at_its_turn):
+        for test in (tells_what_is_refused, tells_what_is_due, tries_a_forged_sum_at_its_turn, reads_a_long_message_whole):
             try:
                 test(top)
                 passed += 1
