@@ -7,13 +7,14 @@ use Rattle.script_text.specs.Fields.{read_by}
 use Rattle.script_text.specs.StepLine.{step_forms, step_line}
 use Rattle.script_text.specs.Script.{nodes_form, nodes_in_line}
 use Rattle.line_reasons.specs.declared.lines.Place.{Place}
-use Rattle.line_reasons.specs.declared.lines.Place.TheVariants.{Nodes, Steps}
+use Rattle.line_reasons.specs.declared.lines.Place.TheVariants.{Facts, Nodes, Steps}
 use Rattle.line_reasons.specs.declared.reasons.LineReason.{LineReason}
 use Rattle.line_reasons.specs.declared.reasons.LineReason.TheVariants.{CarriageReturn}
 use Rattle.line_reasons.specs.LineReasons.{IsReadThere, AreRead, fields_of, IsReason, Explains}
 use Rattle.line_reasons.specs.Laws.{ReasonsAreOfBadLines}
 use Rattle.line_reasons.proofs.Parts.{read_first}
 use Rattle.line_reasons.proofs.FormLines.{reason_by}
+use Rattle.line_reasons.proofs.FactLines.{fact_first, fact_reason}
 
 unread : {A : Type 0} (o : Option A) → o ≡ None → IsSome o → ⊥
 unread (Some x) e some = absurd cc
@@ -29,6 +30,7 @@ nodes_first line = sym (read_first 1 (nodes_form ∷ []) 32 line (search rules) 
 
 pub reason_is : (place : Place) (line : List ℕ) (reason : LineReason) → IsReason place (fields_of line) reason → IsReadThere place line → ⊥
 unfolding step_line
+reason_is Facts line reason h read = unread _ (sym (fact_first line) ∙ fact_reason (first_parts 32 line) reason h) read
 reason_is Nodes line reason h read = unread _ (nodes_first line ∙ reason_by (nodes_form ∷ []) (first_parts 32 line) reason h) read
 reason_is (Steps facts) line reason h read = unread _ (sym (steps_first facts line) ∙ reason_by (step_forms facts) (first_parts 32 line) reason h) read
 
@@ -39,6 +41,7 @@ reasons_are_of_bad_lines place line reason h = elim h [ inl wrong ↦ reason_is 
 
 pub read_is : (place : Place) (line : List ℕ) (parts : List (List ℕ)) → parts ≡ first_parts 32 line → AreRead place parts → IsReadThere place line
 unfolding step_line
+read_is Facts line parts e h = rw (← fact_first line, ← e) h
 read_is Nodes line parts e h = rw (nodes_first line, ← e) h
 read_is (Steps facts) line parts e h = rw (← steps_first facts line, ← e) h
 

@@ -1,12 +1,29 @@
 -- Reasons of lines of a word and numbers.
-use Rattle.std.proofs.Common.{◌≡◌, ℕ, Bool, true, false, cond, List, [], ◌∷◌, Option, None, refl, ap}
-use Rattle.std.specs.Prelude.{bytes_eq, MatchBool}
+use Rattle.std.proofs.Common.{get_or, ◌≡◌, ℕ, Bool, true, false, cond, List, [], ◌∷◌, length, Option, Some, None, refl, sym, ap, arith}
+use Rattle.std.proofs.lemmas.Slice.Zip.{AllZip-long}
+use Rattle.std.specs.Result.{result_err}
+use Rattle.std.specs.Prelude.{Result, Ok, Err, bytes_eq, MatchBool, MatchOption, MatchResult}
 use Rattle.script_text.specs.Parts.{◌>>=◌}
-use Rattle.script_text.specs.Fields.{Form, made_by, read_by}
+use Rattle.script_text.specs.Fields.{Form, numbers_of, made_by, read_by}
+use Rattle.script_text.proofs.Forms.{numbers_within}
 use Rattle.line_reasons.specs.declared.reasons.LineReason.{LineReason}
-use Rattle.line_reasons.specs.declared.reasons.LineReason.TheVariants.{CarriageReturn, UnknownWord, FieldCount, Field, Zero, PastPage}
+use Rattle.line_reasons.specs.declared.reasons.LineReason.TheVariants.{CarriageReturn, UnknownWord, FieldCount, AdvanceFieldCount, Field, Zero, PastPage, ManyPatches, Patch, Shape}
 use Rattle.line_reasons.specs.FormReasons.{IsFormReason, IsReasonBy}
 use Rattle.line_reasons.proofs.Faults.{field_reason}
+
+-- fields that are no numbers make nothing
+pub unread_numbers : {A : Type 0} (limits : List ℕ) (fields : List (List ℕ)) (make : List ℕ → Option A) → numbers_of limits fields ≡ None
+    → (numbers_of limits fields >>= make) ≡ None
+unread_numbers limits fields make e = ap (λ (o : Option (List ℕ)). o >>= make) e
+
+-- the test of a word against a constant
+pub same_test : (word other constant : List ℕ) (test is : Bool) → test ≡ bytes_eq word other → other ≡ constant → test ≡ is → bytes_eq word constant ≡ is
+same_test word other constant test is e same tested = rw (← same, ← e) tested
+
+-- what a reading tells of its error
+pub told_by : {U : Type 0} (r : Result U LineReason) (o : Option LineReason) (P : Type 0) (Q : LineReason → Type 0) → o ≡ result_err r → MatchResult r (λ _. P) Q → MatchOption o P Q
+told_by (Ok u) o P Q e h = rw e h
+told_by (Err reason) o P Q e h = rw e h
 
 -- what holds by a test, of the two sides
 pub by_test : {A : Type 0} (b : Bool) (P Q : Type 0) (x y : Option A) → (P → x ≡ None) → (Q → y ≡ None) → MatchBool b P Q → cond b x y ≡ None
@@ -18,10 +35,42 @@ form_reason f fields (Zero at) h = rw h.1.0 h.1.1
 form_reason f fields PastPage h = rw h.1.0 h.1.1
 form_reason f fields CarriageReturn h = absurd h
 form_reason f fields UnknownWord h = absurd h
-form_reason f fields (FieldCount wanted) h = ap (λ (o : Option (List ℕ)). o >>= f.made) (field_reason f.limits fields (FieldCount wanted) h)
-form_reason f fields (Field at fault) h = ap (λ (o : Option (List ℕ)). o >>= f.made) (field_reason f.limits fields (Field at fault) h)
+form_reason f fields (FieldCount wanted) h = unread_numbers f.limits fields f.made (field_reason f.limits fields (FieldCount wanted) h)
+form_reason f fields AdvanceFieldCount h = absurd h
+form_reason f fields (Field at fault) h = unread_numbers f.limits fields f.made (field_reason f.limits fields (Field at fault) h)
+form_reason f fields ManyPatches h = absurd h
+form_reason f fields (Patch at) h = absurd h
+form_reason f fields (Shape fault) h = absurd h
 
 pub reason_by : {A : Type 0} (forms : List (Form A)) (fields : List (List ℕ)) (reason : LineReason) → IsReasonBy forms fields reason → read_by forms fields ≡ None
 reason_by forms [] reason h = refl
 reason_by [] (word ∷ fields) reason h = refl
 reason_by (f ∷ forms) (word ∷ fields) reason h = by_test (bytes_eq word f.word) _ _ _ _ (form_reason f fields reason) (reason_by forms (word ∷ fields) reason) h
+
+-- ---- lists of so many numbers
+
+-- there are as many numbers as limits
+pub numbers_long : (limits : List ℕ) (fields : List (List ℕ)) (ns : List ℕ) → numbers_of limits fields ≡ Some ns → length ns ≡ length limits
+numbers_long limits fields ns e = sym (AllZip-long _ ns limits (numbers_within limits fields ns e))
+
+pub two_are : (ns : List ℕ) → length ns ≡ 2 → ns ≡ get_or ns 0 0 ∷ get_or ns 1 0 ∷ []
+two_are [] e = absurd (omega (arith, e))
+two_are (a ∷ []) e = absurd (omega (arith, e))
+two_are (a ∷ b ∷ []) e = refl
+two_are (a ∷ b ∷ c ∷ rest) e = absurd (omega (arith, e))
+
+pub three_are : (ns : List ℕ) → length ns ≡ 3 → ns ≡ get_or ns 0 0 ∷ get_or ns 1 0 ∷ get_or ns 2 0 ∷ []
+three_are [] e = absurd (omega (arith, e))
+three_are (a ∷ []) e = absurd (omega (arith, e))
+three_are (a ∷ b ∷ []) e = absurd (omega (arith, e))
+three_are (a ∷ b ∷ c ∷ []) e = refl
+three_are (a ∷ b ∷ c ∷ d ∷ rest) e = absurd (omega (arith, e))
+
+pub five_are : (ns : List ℕ) → length ns ≡ 5 → ns ≡ get_or ns 0 0 ∷ get_or ns 1 0 ∷ get_or ns 2 0 ∷ get_or ns 3 0 ∷ get_or ns 4 0 ∷ []
+five_are [] e = absurd (omega (arith, e))
+five_are (a ∷ []) e = absurd (omega (arith, e))
+five_are (a ∷ b ∷ []) e = absurd (omega (arith, e))
+five_are (a ∷ b ∷ c ∷ []) e = absurd (omega (arith, e))
+five_are (a ∷ b ∷ c ∷ d ∷ []) e = absurd (omega (arith, e))
+five_are (a ∷ b ∷ c ∷ d ∷ f ∷ []) e = refl
+five_are (a ∷ b ∷ c ∷ d ∷ f ∷ g ∷ rest) e = absurd (omega (arith, e))

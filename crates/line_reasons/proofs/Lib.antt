@@ -1,4 +1,6 @@
 pub mod Faults
 pub mod Parts
 pub mod FormLines
+pub mod PatchLists
+pub mod FactLines
 pub mod BadLines

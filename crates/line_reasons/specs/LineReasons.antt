@@ -1,17 +1,20 @@
 -- Whether a line is read where it stands, and why it is not.
 use Rattle.std.specs.Prelude.{◌≡◌, ◌⊎◌, ◌-◌, ℕ, List, [], ◌∷◌, length, IsSome, slice_get, Some}
 use Rattle.script_text.specs.Parts.{first_parts}
+use Rattle.script_text.specs.FactLine.{fact_of, fact_line}
 use Rattle.script_text.specs.StepLine.{step_of, step_forms}
 use Rattle.script_text.specs.Fields.{read_by}
 use Rattle.script_text.specs.Script.{nodes_form, nodes_in_line}
 use Rattle.line_reasons.specs.declared.lines.Place.{Place}
-use Rattle.line_reasons.specs.declared.lines.Place.TheVariants.{Nodes, Steps}
+use Rattle.line_reasons.specs.declared.lines.Place.TheVariants.{Facts, Nodes, Steps}
 use Rattle.line_reasons.specs.declared.reasons.LineReason.{LineReason}
 use Rattle.line_reasons.specs.declared.reasons.LineReason.TheVariants.{CarriageReturn}
 use Rattle.line_reasons.specs.FormReasons.{IsReasonBy}
+use Rattle.line_reasons.specs.FactReasons.{IsFactReason}
 
 -- something is read of the line there
 abbrev pub IsReadThere : Place → List ℕ → Type 0
+IsReadThere Facts line = IsSome (fact_of line)
 IsReadThere Nodes line = IsSome (nodes_in_line line)
 IsReadThere (Steps facts) line = IsSome (step_of facts line)
 
@@ -21,11 +24,13 @@ fields_of line = first_parts 32 line
 
 -- something is read of fields there
 abbrev pub AreRead : Place → List (List ℕ) → Type 0
+AreRead Facts fields = IsSome (fact_line fields)
 AreRead Nodes fields = IsSome (read_by (nodes_form ∷ []) fields)
 AreRead (Steps facts) fields = IsSome (read_by (step_forms facts) fields)
 
 -- fields are wrong there
 abbrev pub IsReason : Place → List (List ℕ) → LineReason → Type 0
+IsReason Facts fields reason = IsFactReason fields reason
 IsReason Nodes fields reason = IsReasonBy (nodes_form ∷ []) fields reason
 IsReason (Steps facts) fields reason = IsReasonBy (step_forms facts) fields reason
 

@@ -1,9 +1,11 @@
 //! Why a line of a script text is bad, and which of its fields.
 //!
-//! `line_reason` gives a reason exactly where a line is not read at its place, and a true one: for the line of the nodes and for step
-//! lines. It is for lines that were refused, and not made to be fast.
+//! `line_reason` gives a reason exactly where a line is not read at its place, and a true one: for fact lines, the line of the nodes and
+//! step lines. It is for lines that were refused, and not made to be fast.
 #![tactic(auto)]
 
+mod contents;
+mod facts;
 mod forms;
 mod laws;
 mod limits;

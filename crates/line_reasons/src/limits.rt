@@ -11,3 +11,6 @@ pub const MESSAGE: u64 = 4294967295;
 
 /// How many nodes there may be.
 pub const NODES: u64 = 64;
+
+/// The readers of the largest roster.
+pub const READERS: u64 = 15;

@@ -1,9 +1,10 @@
 //! One line.
 
-ghost use Rattle.std.specs.Prelude.{◌≡◌, ◌-◌, ◌⊎◌, ◌∷◌, length, map, slice_get, Some, IfOk, MatchOption, MatchResult};
+ghost use Rattle.std.specs.Prelude.{◌≡◌, ◌-◌, ◌⊎◌, ◌∷◌, length, map, slice_get, Some, IfOk, MatchOption};
 ghost use Rattle.line_reasons.specs.LineReasons.{IsReadThere, AreRead, IsReason, Explains};
 ghost use Rattle.line_reasons.specs.declared.reasons.LineReason.TheVariants.{CarriageReturn};
 
+use crate::facts::fact;
 use crate::forms::counted;
 use crate::limits::NODES;
 use crate::reasons::LineReason;
@@ -11,20 +12,27 @@ use crate::steps::step;
 use script_text::first_parts;
 use std::alloc::{AllocError, Global};
 
-/// What kind of line is wanted: the number of nodes, or a step behind so many facts.
+/// What kind of line is wanted: a fact, the number of nodes, or a step behind so many facts.
 #[derive(Clone, Copy, Debug, PartialEq, Eq)]
 pub enum Place {
+    Facts,
     Nodes,
     Steps(u32),
 }
 
-/// Whether a word and the fields behind it are read at that place.
-fn check(place: Place, word: &[u8], fields: &[&[u8]]) -> Result<(), LineReason>
-    ensures { MatchResult result (λ _. AreRead place (word.now ∷ map (λ x. x.now) fields.now)) (IsReason place (word.now ∷ map (λ x. x.now) fields.now)) }
+/// Why a word and the fields behind it are not read at that place, if they are not.
+fn check(
+    alloc: Global,
+    place: Place,
+    word: &[u8],
+    fields: &[&[u8]],
+) -> Result<Option<LineReason>, AllocError>
+    ensures { IfOk result (λ o. MatchOption o (AreRead place (word.now ∷ map (λ x. x.now) fields.now)) (IsReason place (word.now ∷ map (λ x. x.now) fields.now))) }
 {
     match place {
-        Place::Nodes => counted(b"nodes", NODES, word, fields),
-        Place::Steps(facts) => step(facts, word, fields),
+        Place::Facts => fact(alloc, word, fields),
+        Place::Nodes => Ok(counted(b"nodes", NODES, word, fields).err()),
+        Place::Steps(facts) => Ok(step(facts, word, fields).err()),
     }
 }
 
@@ -50,8 +58,8 @@ pub fn line_reason(
     let [word, fields @ ..] = parts.as_slice() else {
         return Ok(Some(LineReason::UnknownWord));
     };
-    match check(place, word, fields) {
-        Ok(()) => Ok(None),
-        Err(reason) => Ok(Some(told(line, reason))),
+    match check(alloc, place, word, fields)? {
+        None => Ok(None),
+        Some(reason) => Ok(Some(told(line, reason))),
     }
 }

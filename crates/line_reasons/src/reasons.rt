@@ -1,5 +1,6 @@
 //! The reasons, and their words.
 
+use redo_core::ShapeFault;
 use thiserror::Error;
 
 /// Why a word is no number.
@@ -15,19 +16,27 @@ pub enum NumberFault {
     Above(u64),
 }
 
-/// Why a line is bad. Fields are numbered from 1, the word that begins the line first.
+/// Why a line is bad. Fields are numbered from 1, the word that begins the line first, and patches from 1.
 #[derive(Clone, Copy, Debug, PartialEq, Eq, Error)]
 pub enum LineReason {
     #[error("it ends with CR, and a line ends with LF alone")]
     CarriageReturn,
     #[error("no line that begins with that word may stand here")]
     UnknownWord,
-    #[error("another number of fields behind the word than {wanted}")]
+    #[error("its word takes {wanted} fields behind it")]
     FieldCount { wanted: usize },
+    #[error("`min` takes 2 or 3 fields behind it")]
+    AdvanceFieldCount,
     #[error("field {at} {fault}")]
     Field { at: usize, fault: NumberFault },
     #[error("field {at} is 0")]
     Zero { at: usize },
     #[error("the bytes to read end past the page, at 4096")]
     PastPage,
+    #[error("field 7 has more than 64 patches")]
+    ManyPatches,
+    #[error("patch {at} of field 7 is no OFF:HEX and no OFF*LEN:HH")]
+    Patch { at: usize },
+    #[error("{0}")]
+    Shape(ShapeFault),
 }

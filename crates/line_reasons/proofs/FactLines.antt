@@ -1,0 +1,287 @@
+-- Fact lines, and what is wrong with them.
+use Rattle.std.proofs.Common.{◌≡◌, ◌≢◌, ℕ, ◌<◌, ◌≤◌, inl, inr, true, false, eqb, List, [], ◌∷◌, length, get_or, take, Option, Some, None, codes, refl, sym, ◌∙◌, arith}
+use Rattle.std.specs.Prelude.{bytes_eq, IsSome, MatchOption, MatchResult, Result, Ok, Err}
+use Rattle.std.proofs.lemmas.Bool.{cases_eq}
+use Rattle.std.proofs.lemmas.Bool.Decides.{nat_tests}
+use Rattle.std.proofs.lemmas.List.{get_or-take, length-take-le}
+use Rattle.redo_core.specs.Data.{record_with, cut_of, advance_of}
+use Rattle.redo_core.specs.Shape.{max_number, max_patches, cut_fault, advance_fault}
+use Rattle.redo_core.specs.declared.shapes.ShapeFault.{ShapeFault}
+use Rattle.redo_core.specs.declared.facts.Fact.{Fact}
+use Rattle.redo_core.specs.declared.facts.Fact.TheVariants.{Record, Cut, Advance}
+use Rattle.script_text.specs.Parts.{◌>>=◌, parts_at, first_parts}
+use Rattle.script_text.specs.Fields.{numbers_of, of_two, of_three, of_five}
+use Rattle.script_text.specs.declared.contents.Head.{Head}
+use Rattle.script_text.specs.FactLine.{Contents, contents_of, unless, shaped, head_numbers, record_limits, record_line, cut_line, advance_line, fact_line}
+use Rattle.script_text.proofs.FirstParts.{few_are_all, none_of}
+use Rattle.script_text.proofs.Forms.{numbers_apart}
+use Rattle.script_text.proofs.RecordContents.{no_record}
+use Rattle.line_reasons.specs.declared.reasons.NumberFault.{NumberFault}
+use Rattle.line_reasons.specs.declared.reasons.LineReason.{LineReason}
+use Rattle.line_reasons.specs.declared.reasons.LineReason.TheVariants.{CarriageReturn, UnknownWord, FieldCount, AdvanceFieldCount, Field, Zero, PastPage, ManyPatches, Patch, Shape}
+use Rattle.line_reasons.specs.FieldReasons.{IsFaultAt}
+use Rattle.line_reasons.specs.ContentsReasons.{IsContentsReason}
+use Rattle.line_reasons.specs.FactReasons.{IsShape, fault_with, IsRecordReason, IsCutReason, cut_limits, advance_limits, IsFaultyAdvance, IsAdvanceReason, IsFactReason}
+use Rattle.line_reasons.proofs.Faults.{fault_at, none_at, number_fault, field_reason}
+use Rattle.line_reasons.proofs.FormLines.{unread_numbers, by_test}
+use Rattle.line_reasons.proofs.PatchLists.{patchless_contents, many_contents}
+
+-- ---- shapes
+
+pub unless_fault : (o : Option ShapeFault) (fault : ShapeFault) (fact : Fact) → o ≡ Some fault → unless o fact ≡ None
+unless_fault (Some f) fault fact e = refl
+unless_fault None fault fact e = absurd cc
+
+pub unless_none : (o : Option ShapeFault) (fact : Fact) → o ≡ None → unless o fact ≡ Some fact
+unless_none (Some f) fact e = absurd cc
+unless_none None fact e = refl
+
+-- ---- records
+
+then_all : (n : Option (List ℕ)) (o : Option Contents) (make : List ℕ → Contents → Option Fact) → o ≡ None
+    → (n >>= λ ns. o >>= λ c. make ns c) ≡ None
+then_all None o make e = refl
+then_all (Some ns) None make e = refl
+then_all (Some ns) (Some c) make e = absurd cc
+
+-- the record of six fields
+abbrev record_by : Option (List ℕ) → Option Contents → Option Fact
+record_by numbers contents = numbers >>= λ ns. contents
+    >>= λ c. of_five (λ epoch number back page block_back. shaped (Record (record_with epoch number back page block_back c.init c.patches))) ns
+
+six_fields : (fields : List (List ℕ)) → length fields ≡ 6
+    → record_line fields ≡ record_by (numbers_of record_limits (take 5 fields)) (contents_of (get_or fields 5 []))
+unfolding record_line
+six_fields [] e = absurd (omega (arith, e))
+six_fields (a ∷ []) e = absurd (omega (arith, e))
+six_fields (a ∷ b ∷ []) e = absurd (omega (arith, e))
+six_fields (a ∷ b ∷ c ∷ []) e = absurd (omega (arith, e))
+six_fields (a ∷ b ∷ c ∷ d ∷ []) e = absurd (omega (arith, e))
+six_fields (a ∷ b ∷ c ∷ d ∷ f ∷ []) e = absurd (omega (arith, e))
+six_fields (a ∷ b ∷ c ∷ d ∷ f ∷ g ∷ []) e = refl
+six_fields (a ∷ b ∷ c ∷ d ∷ f ∷ g ∷ h ∷ rest) e = absurd (omega (arith, e))
+
+other_fields : (fields : List (List ℕ)) → length fields ≢ 6 → record_line fields ≡ None
+unfolding record_line
+other_fields [] e = refl
+other_fields (a ∷ []) e = refl
+other_fields (a ∷ b ∷ []) e = refl
+other_fields (a ∷ b ∷ c ∷ []) e = refl
+other_fields (a ∷ b ∷ c ∷ d ∷ []) e = refl
+other_fields (a ∷ b ∷ c ∷ d ∷ f ∷ []) e = refl
+other_fields (a ∷ b ∷ c ∷ d ∷ f ∷ g ∷ []) e = absurd (e refl)
+other_fields (a ∷ b ∷ c ∷ d ∷ f ∷ g ∷ h ∷ rest) e = refl
+
+-- where six fields would be no record, there is none
+record_none : (fields : List (List ℕ)) → (length fields ≡ 6 → record_by (numbers_of record_limits (take 5 fields)) (contents_of (get_or fields 5 [])) ≡ None)
+    → record_line fields ≡ None
+record_none fields none =
+    elim (cases_eq (length fields) 6) [
+      | inl six ↦ six_fields fields six ∙ none six
+      | inr other ↦ other_fields fields other
+    ]
+
+-- a record of numbers and contents
+pub record_made : (fields : List (List ℕ)) (head : Head) (c : Contents) → length fields ≡ 6
+    → numbers_of record_limits (take 5 fields) ≡ Some (head_numbers head) → contents_of (get_or fields 5 []) ≡ Some c
+    → record_line fields ≡ unless (fault_with head c) (Record (record_with head.epoch head.number head.back head.page head.block_back c.init c.patches))
+unfolding shaped
+record_made fields head c six numbers spelled = six_fields fields six ∙ rw (numbers, spelled) refl
+
+many_five : (ns : List ℕ) (c : Contents) → max_patches < length c.patches
+    → of_five (λ epoch number back page block_back. shaped (Record (record_with epoch number back page block_back c.init c.patches))) ns ≡ None
+many_five [] c many = refl
+many_five (e ∷ []) c many = refl
+many_five (e ∷ n ∷ []) c many = refl
+many_five (e ∷ n ∷ b ∷ []) c many = refl
+many_five (e ∷ n ∷ b ∷ p ∷ []) c many = refl
+many_five (e ∷ n ∷ b ∷ p ∷ k ∷ []) c many = no_record (record { epoch = e; number = n; back = b; page = p; block_back = k }) c.init (Some c.patches) many
+many_five (e ∷ n ∷ b ∷ p ∷ k ∷ m ∷ ms) c many = refl
+
+many_none : (n : Option (List ℕ)) (o : Option Contents) → ((c : Contents) → o ≡ Some c → max_patches < length c.patches) → record_by n o ≡ None
+many_none None o many = refl
+many_none (Some ns) None many = refl
+many_none (Some ns) (Some c) many = many_five ns c (many c refl)
+
+-- a fault of a number is one of the first five fields
+fault_in_front : (fields : List (List ℕ)) (at : ℕ) (fault : NumberFault) → IsFaultAt record_limits fields at fault → length fields ≡ 6
+    → numbers_of record_limits (take 5 fields) ≡ None
+fault_in_front fields at fault h six =
+    let front : h.before < 5 = omega (arith, h.limited) in
+    let same = get_or-take 5 fields h.before [] front in
+    none_at record_limits (take 5 fields) h.before h.limited (omega (arith, six, length-take-le 5 fields (omega (arith, six))))
+    (rw same (number_fault _ _ fault h.faulty))
+
+pub record_reason : (fields : List (List ℕ)) (reason : LineReason) → IsRecordReason fields reason → record_line fields ≡ None
+record_reason fields (FieldCount wanted) h = other_fields fields h.1
+record_reason fields (Field at fault) h = record_none fields (λ six. unread_numbers record_limits (take 5 fields) _ (fault_in_front fields at fault h six))
+record_reason fields (Shape fault) h = record_made fields h.head h.contents h.many h.numbers h.spelled
+    ∙ unless_fault (fault_with h.head h.contents) fault (Record (record_with h.head.epoch h.head.number h.head.back h.head.page h.head.block_back h.contents.init h.contents.patches)) h.faulty
+record_reason fields ManyPatches h = record_none fields (λ six. many_none (numbers_of record_limits (take 5 fields)) (contents_of (get_or fields 5 []))
+    (λ c e. many_contents (get_or fields 5 []) c h e))
+record_reason fields (Patch at) h = record_none fields
+    (λ six. then_all (numbers_of record_limits (take 5 fields)) (contents_of (get_or fields 5 [])) _ (patchless_contents (get_or fields 5 []) at h))
+record_reason fields CarriageReturn h = absurd h.1
+record_reason fields UnknownWord h = absurd h.1
+record_reason fields AdvanceFieldCount h = absurd h.1
+record_reason fields (Zero at) h = absurd h.1
+record_reason fields PastPage h = absurd h.1
+
+-- ---- truncations and advances
+
+pub cut_reason : (fields : List (List ℕ)) (reason : LineReason) → IsCutReason fields reason → cut_line fields ≡ None
+unfolding cut_line shaped
+cut_reason fields (Shape fault) h = rw h.numbers (unless_fault (cut_fault (cut_of h.epoch h.lo h.hi)) fault (Cut (cut_of h.epoch h.lo h.hi)) h.faulty)
+cut_reason fields (FieldCount wanted) h = unread_numbers cut_limits fields _ (field_reason cut_limits fields (FieldCount wanted) h)
+cut_reason fields (Field at fault) h = unread_numbers cut_limits fields _ (field_reason cut_limits fields (Field at fault) h)
+cut_reason fields CarriageReturn h = absurd h
+cut_reason fields UnknownWord h = absurd h
+cut_reason fields AdvanceFieldCount h = absurd h
+cut_reason fields (Zero at) h = absurd h
+cut_reason fields PastPage h = absurd h
+cut_reason fields ManyPatches h = absurd h
+cut_reason fields (Patch at) h = absurd h
+
+two_fields : (fields : List (List ℕ)) → length fields ≡ 2
+    → advance_line fields ≡ (numbers_of (65535 ∷ max_number ∷ []) fields >>= of_two (λ epoch point. shaped (Advance (advance_of epoch 1 point))))
+unfolding advance_line
+two_fields fields two = let is : eqb (length fields) 2 ≡ true = grind (arith, nat_tests, two) in rw is refl
+
+three_fields : (fields : List (List ℕ)) → length fields ≢ 2
+    → advance_line fields ≡ (numbers_of advance_limits fields >>= of_three (λ epoch point reader. shaped (Advance (advance_of epoch reader point))))
+unfolding advance_line
+three_fields fields other = let is : eqb (length fields) 2 ≡ false = grind (arith, nat_tests, other) in rw is refl
+
+-- numbers are as many as their limits
+many_numbers : (limits : List ℕ) (fields : List (List ℕ)) (ns : List ℕ) → numbers_of limits fields ≡ Some ns → length fields ≡ length limits
+many_numbers limits fields ns e =
+    elim (cases_eq (length fields) (length limits)) [
+      | inl same ↦ same
+      | inr other ↦ absurd (cc (sym e ∙ numbers_apart limits fields other))
+    ]
+
+pub advance_two : (fields : List (List ℕ)) (epoch point : ℕ) → numbers_of (65535 ∷ max_number ∷ []) fields ≡ Some (epoch ∷ point ∷ [])
+    → advance_line fields ≡ unless (advance_fault (advance_of epoch 1 point)) (Advance (advance_of epoch 1 point))
+unfolding shaped
+advance_two fields epoch point e = two_fields fields (many_numbers (65535 ∷ max_number ∷ []) fields (epoch ∷ point ∷ []) e) ∙ rw e refl
+
+pub advance_three : (fields : List (List ℕ)) (epoch point reader : ℕ) → numbers_of advance_limits fields ≡ Some (epoch ∷ point ∷ reader ∷ [])
+    → advance_line fields ≡ unless (advance_fault (advance_of epoch reader point)) (Advance (advance_of epoch reader point))
+unfolding shaped
+advance_three fields epoch point reader e =
+    let three = many_numbers advance_limits fields (epoch ∷ point ∷ reader ∷ []) e in
+    three_fields fields (λ two. absurd (omega (arith, two, three))) ∙ rw e refl
+
+faulty_field : (fields : List (List ℕ)) (at : ℕ) (fault : NumberFault) → IsFaultAt advance_limits fields at fault → advance_line fields ≡ None
+faulty_field fields at fault h =
+    elim (cases_eq (length fields) 2) [
+      | inl two ↦
+          let front : h.before < 2 = omega (arith, two, h.within) in
+          let same : get_or (65535 ∷ max_number ∷ []) h.before 0 ≡ get_or advance_limits h.before 0 = get_or-take 2 advance_limits h.before 0 front in
+          two_fields fields two ∙ unread_numbers (65535 ∷ max_number ∷ []) fields _ (none_at (65535 ∷ max_number ∷ []) fields h.before front h.within
+          (rw same (number_fault _ _ fault h.faulty)))
+      | inr other ↦ three_fields fields other ∙ unread_numbers advance_limits fields _ (fault_at advance_limits fields at fault h)
+    ]
+
+faulty_advance : (fields : List (List ℕ)) (fault : ShapeFault) → IsFaultyAdvance fields fault → advance_line fields ≡ None
+faulty_advance fields fault h =
+    let none = unless_fault (advance_fault (advance_of h.epoch h.reader h.point)) fault (Advance (advance_of h.epoch h.reader h.point)) h.faulty in
+    elim h.numbers [
+      | inl two ↦ advance_two fields h.epoch h.point two.0 ∙ rw two.1 at none
+      | inr three ↦ advance_three fields h.epoch h.point h.reader three ∙ none
+    ]
+
+pub advance_reason : (fields : List (List ℕ)) (reason : LineReason) → IsAdvanceReason fields reason → advance_line fields ≡ None
+advance_reason fields AdvanceFieldCount h = three_fields fields h.0 ∙ unread_numbers advance_limits fields _ (numbers_apart advance_limits fields h.1)
+advance_reason fields (Field at fault) h = faulty_field fields at fault h
+advance_reason fields (Shape fault) h = faulty_advance fields fault h
+advance_reason fields CarriageReturn h = absurd h
+advance_reason fields UnknownWord h = absurd h
+advance_reason fields (FieldCount wanted) h = absurd h
+advance_reason fields (Zero at) h = absurd h
+advance_reason fields PastPage h = absurd h
+advance_reason fields ManyPatches h = absurd h
+advance_reason fields (Patch at) h = absurd h
+
+-- ---- by the word
+
+pub fact_reason : (fields : List (List ℕ)) (reason : LineReason) → IsFactReason fields reason → fact_line fields ≡ None
+unfolding fact_line
+fact_reason [] reason h = refl
+fact_reason (word ∷ fields) reason h = by_test (bytes_eq word (codes "rec")) _ _ _ _ (record_reason fields reason)
+    (by_test (bytes_eq word (codes "cut")) _ _ _ _ (cut_reason fields reason)
+    (by_test (bytes_eq word (codes "min")) _ _ _ _ (advance_reason fields reason) (λ other. refl))) h
+
+-- ---- the first fields
+
+long_record : (fields : List (List ℕ)) → 65 ≤ length fields → record_line fields ≡ None
+long_record fields long = other_fields fields (λ six. absurd (omega (arith, six, long)))
+
+long_fact : (fields : List (List ℕ)) → 66 ≤ length fields → fact_line fields ≡ None
+unfolding fact_line cut_line
+long_fact [] long = absurd (omega arith)
+long_fact (word ∷ fields) long =
+    let cut : (numbers_of cut_limits fields >>= of_three (λ epoch lo hi. shaped (Cut (cut_of epoch lo hi)))) ≡ None = unread_numbers cut_limits fields _ (numbers_apart cut_limits fields (λ e. absurd (omega (arith, e, long)))) in
+    let two : length fields ≢ 2 = λ e. absurd (omega (arith, e, long)) in
+    let three : length fields ≢ 3 = λ e. absurd (omega (arith, e, long)) in
+    none_of (bytes_eq word (codes "rec")) _ _ (long_record fields (omega (arith, long))) (none_of (bytes_eq word (codes "cut")) _ _ cut
+    (none_of (bytes_eq word (codes "min")) _ _ (advance_reason fields AdvanceFieldCount (two, three)) refl))
+
+pub fact_first : (line : List ℕ) → fact_line (first_parts 32 line) ≡ fact_line (parts_at 32 line)
+unfolding first_parts
+fact_first line = few_are_all fact_line None 66 (parts_at 32 line) long_fact
+
+-- ---- what is found of fields
+
+pub cut_read : (fields : List (List ℕ)) (epoch lo hi : ℕ) → numbers_of cut_limits fields ≡ Some (epoch ∷ lo ∷ hi ∷ []) → cut_fault (cut_of epoch lo hi) ≡ None
+    → IsSome (cut_line fields)
+unfolding cut_line shaped
+cut_read fields epoch lo hi numbers sound = rw (numbers, sound) refl
+
+pub two_judged : {U : Type 0} (fields : List (List ℕ)) (epoch point : ℕ) (r : Result U LineReason) → numbers_of (65535 ∷ max_number ∷ []) fields ≡ Some (epoch ∷ point ∷ [])
+    → MatchResult r (λ _. advance_fault (advance_of epoch 1 point) ≡ None) (IsShape (advance_fault (advance_of epoch 1 point)))
+    → MatchResult r (λ _. IsSome (advance_line fields)) (IsAdvanceReason fields)
+two_judged fields epoch point (Ok u) numbers h = rw (advance_two fields epoch point numbers, h) refl
+two_judged fields epoch point (Err (Shape fault)) numbers h = record { epoch = epoch; point = point; reader = 1; numbers = inl (numbers, refl); faulty = h }
+two_judged fields epoch point (Err _) numbers h = absurd h
+
+pub three_judged : {U : Type 0} (fields : List (List ℕ)) (epoch point reader : ℕ) (r : Result U LineReason)
+    → numbers_of advance_limits fields ≡ Some (epoch ∷ point ∷ reader ∷ [])
+    → MatchResult r (λ _. advance_fault (advance_of epoch reader point) ≡ None) (IsShape (advance_fault (advance_of epoch reader point)))
+    → MatchResult r (λ _. IsSome (advance_line fields)) (IsAdvanceReason fields)
+three_judged fields epoch point reader (Ok u) numbers h = rw (advance_three fields epoch point reader numbers, h) refl
+three_judged fields epoch point reader (Err (Shape fault)) numbers h = record { epoch = epoch; point = point; reader = reader; numbers = inr numbers; faulty = h }
+three_judged fields epoch point reader (Err _) numbers h = absurd h
+
+pub record_judged : (fields : List (List ℕ)) (o : Option LineReason) (head : Head) (c : Contents) → length fields ≡ 6
+    → numbers_of record_limits (take 5 fields) ≡ Some (head_numbers head) → contents_of (get_or fields 5 []) ≡ Some c
+    → MatchOption o (fault_with head c ≡ None) (IsShape (fault_with head c)) → MatchOption o (IsSome (record_line fields)) (IsRecordReason fields)
+record_judged fields None head c six numbers spelled h = rw (record_made fields head c six numbers spelled, h) refl
+record_judged fields (Some (Shape fault)) head c six numbers spelled h = record { head = head; contents = c; many = six; numbers = numbers; spelled = spelled; faulty = h }
+record_judged fields (Some _) head c six numbers spelled h = absurd h
+
+pub contents_reason : (fields : List (List ℕ)) (reason : LineReason) → IsContentsReason (get_or fields 5 []) reason → IsRecordReason fields reason
+contents_reason fields ManyPatches h = h
+contents_reason fields (Patch at) h = h
+contents_reason fields _ h = absurd h.1
+
+-- ---- by the word
+
+pub record_told : (word : List ℕ) (fields : List (List ℕ)) (o : Option LineReason) → bytes_eq word (codes "rec") ≡ true
+    → MatchOption o (IsSome (record_line fields)) (IsRecordReason fields) → MatchOption o (IsSome (fact_line (word ∷ fields))) (IsFactReason (word ∷ fields))
+unfolding fact_line
+record_told word fields None e h = rw e h
+record_told word fields (Some reason) e h = rw e h
+
+pub cut_told : (word : List ℕ) (fields : List (List ℕ)) (o : Option LineReason) → bytes_eq word (codes "rec") ≡ false → bytes_eq word (codes "cut") ≡ true
+    → MatchOption o (IsSome (cut_line fields)) (IsCutReason fields) → MatchOption o (IsSome (fact_line (word ∷ fields))) (IsFactReason (word ∷ fields))
+unfolding fact_line
+cut_told word fields None e f h = rw (e, f) h
+cut_told word fields (Some reason) e f h = rw (e, f) h
+
+pub advance_told : (word : List ℕ) (fields : List (List ℕ)) (o : Option LineReason) → bytes_eq word (codes "rec") ≡ false → bytes_eq word (codes "cut") ≡ false
+    → bytes_eq word (codes "min") ≡ true → MatchOption o (IsSome (advance_line fields)) (IsAdvanceReason fields)
+    → MatchOption o (IsSome (fact_line (word ∷ fields))) (IsFactReason (word ∷ fields))
+unfolding fact_line
+advance_told word fields None e f g h = rw (e, f, g) h
+advance_told word fields (Some reason) e f g h = rw (e, f, g) h
