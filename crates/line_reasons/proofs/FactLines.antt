@@ -32,10 +32,6 @@ pub unless_fault : (o : Option ShapeFault) (fault : ShapeFault) (fact : Fact) �
 unless_fault (Some f) fault fact e = refl
 unless_fault None fault fact e = absurd cc
 
-pub unless_none : (o : Option ShapeFault) (fact : Fact) → o ≡ None → unless o fact ≡ Some fact
-unless_none (Some f) fact e = absurd cc
-unless_none None fact e = refl
-
 -- ---- records
 
 then_all : (n : Option (List ℕ)) (o : Option Contents) (make : List ℕ → Contents → Option Fact) → o ≡ None

@@ -4,3 +4,5 @@ pub mod FormLines
 pub mod PatchLists
 pub mod FactLines
 pub mod BadLines
+pub mod GoLines
+pub mod Openings

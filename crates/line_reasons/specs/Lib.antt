@@ -5,3 +5,5 @@ pub mod ContentsReasons
 pub mod FactReasons
 pub mod LineReasons
 pub mod Laws
+pub mod Spots
+pub mod TextReasons

@@ -14,3 +14,6 @@ pub const NODES: u64 = 64;
 
 /// The readers of the largest roster.
 pub const READERS: u64 = 15;
+
+/// How many fact lines, and how many step lines, there may be.
+pub const LINES: usize = 1000000;

@@ -40,3 +40,20 @@ pub enum LineReason {
     #[error("{0}")]
     Shape(ShapeFault),
 }
+
+/// Why a line of a whole text is bad.
+#[derive(Clone, Copy, Debug, PartialEq, Eq, Error)]
+pub enum TextReason {
+    #[error("the text ends before the line `go`")]
+    NoGo,
+    #[error("the text ends before the line `nodes K`")]
+    NoNodes,
+    #[error("no LF ends it")]
+    NoLineEnd,
+    #[error("there are more than 1,000,000 fact lines")]
+    ManyFacts,
+    #[error("there are more than 1,000,000 step lines")]
+    ManySteps,
+    #[error("{0}")]
+    Line(LineReason),
+}
