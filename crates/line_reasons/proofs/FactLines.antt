@@ -115,8 +115,8 @@ record_reason fields (Shape fault) h = record_made fields h.head h.contents h.ma
     ∙ unless_fault (fault_with h.head h.contents) fault (Record (record_with h.head.epoch h.head.number h.head.back h.head.page h.head.block_back h.contents.init h.contents.patches)) h.faulty
 record_reason fields ManyPatches h = record_none fields (λ six. many_none (numbers_of record_limits (take 5 fields)) (contents_of (get_or fields 5 []))
     (λ c e. many_contents (get_or fields 5 []) c h e))
-record_reason fields (Patch at) h = record_none fields
-    (λ six. then_all (numbers_of record_limits (take 5 fields)) (contents_of (get_or fields 5 [])) _ (patchless_contents (get_or fields 5 []) at h))
+record_reason fields (Patch at fault) h = record_none fields
+    (λ six. then_all (numbers_of record_limits (take 5 fields)) (contents_of (get_or fields 5 [])) _ (patchless_contents (get_or fields 5 []) at fault h))
 record_reason fields CarriageReturn h = absurd h.1
 record_reason fields UnknownWord h = absurd h.1
 record_reason fields AdvanceFieldCount h = absurd h.1
@@ -136,7 +136,7 @@ cut_reason fields AdvanceFieldCount h = absurd h
 cut_reason fields (Zero at) h = absurd h
 cut_reason fields PastPage h = absurd h
 cut_reason fields ManyPatches h = absurd h
-cut_reason fields (Patch at) h = absurd h
+cut_reason fields (Patch at fault) h = absurd h
 
 two_fields : (fields : List (List ℕ)) → length fields ≡ 2
     → advance_line fields ≡ (numbers_of (65535 ∷ max_number ∷ []) fields >>= of_two (λ epoch point. shaped (Advance (advance_of epoch 1 point))))
@@ -197,7 +197,7 @@ advance_reason fields (FieldCount wanted) h = absurd h
 advance_reason fields (Zero at) h = absurd h
 advance_reason fields PastPage h = absurd h
 advance_reason fields ManyPatches h = absurd h
-advance_reason fields (Patch at) h = absurd h
+advance_reason fields (Patch at fault) h = absurd h
 
 -- ---- by the word
 
@@ -258,7 +258,7 @@ record_judged fields (Some _) head c six numbers spelled h = absurd h
 
 pub contents_reason : (fields : List (List ℕ)) (reason : LineReason) → IsContentsReason (get_or fields 5 []) reason → IsRecordReason fields reason
 contents_reason fields ManyPatches h = h
-contents_reason fields (Patch at) h = h
+contents_reason fields (Patch at fault) h = h
 contents_reason fields _ h = absurd h.1
 
 -- ---- by the word

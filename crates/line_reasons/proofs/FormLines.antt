@@ -39,7 +39,7 @@ form_reason f fields (FieldCount wanted) h = unread_numbers f.limits fields f.ma
 form_reason f fields AdvanceFieldCount h = absurd h
 form_reason f fields (Field at fault) h = unread_numbers f.limits fields f.made (field_reason f.limits fields (Field at fault) h)
 form_reason f fields ManyPatches h = absurd h
-form_reason f fields (Patch at) h = absurd h
+form_reason f fields (Patch at fault) h = absurd h
 form_reason f fields (Shape fault) h = absurd h
 
 pub reason_by : {A : Type 0} (forms : List (Form A)) (fields : List (List ℕ)) (reason : LineReason) → IsReasonBy forms fields reason → read_by forms fields ≡ None

@@ -1,6 +1,7 @@
 pub mod Faults
 pub mod Parts
 pub mod FormLines
+pub mod PatchWords
 pub mod PatchLists
 pub mod FactLines
 pub mod BadLines

@@ -8,7 +8,10 @@ use Rattle.script_text.specs.Parts.{◌>>=◌, parts_at, first_parts}
 use Rattle.script_text.specs.FactLine.{patch_of, each_patch, Contents, contents, contents_from, contents_of}
 use Rattle.script_text.proofs.Options.{bind_some, some_is, true_is, no_test}
 use Rattle.line_reasons.specs.declared.reasons.LineReason.TheVariants.{ManyPatches, Patch}
-use Rattle.line_reasons.specs.ContentsReasons.{begins_anew, patch_words, IsNoPatchAt, IsContentsReason}
+use Rattle.line_reasons.specs.declared.reasons.LineReason.{LineReason}
+use Rattle.line_reasons.specs.declared.reasons.PatchFault.{PatchFault}
+use Rattle.line_reasons.proofs.PatchWords.{faulty_word}
+use Rattle.line_reasons.specs.ContentsReasons.{begins_anew, patch_words, IsFaultyPatch, IsListReason, IsContentsReason}
 use Rattle.script_text.proofs.Split.{some_parts}
 
 none_left : (o : Option patches.Patch) (os : Option (List patches.Patch)) → os ≡ None → (o >>= (λ p. os >>= (λ ps. Some (p ∷ ps)))) ≡ None
@@ -22,8 +25,8 @@ none_at [] k lt e = absurd (omega arith)
 none_at (word ∷ words) zero lt e = rw e refl
 none_at (word ∷ words) (suc k) lt e = none_left (patch_of word) (each_patch words) (none_at words k (omega arith) e)
 
-pub no_patch : (words : List (List ℕ)) (at : ℕ) → IsNoPatchAt words at → each_patch words ≡ None
-no_patch words at h = none_at words h.before h.within h.unread
+pub faulty_patch : (words : List (List ℕ)) (at : ℕ) (fault : PatchFault) → IsFaultyPatch words at fault → each_patch words ≡ None
+faulty_patch words at fault h = none_at words h.before h.within (faulty_word (get_or words h.before []) fault h.faulty)
 
 -- one word more
 one_more : (p : patches.Patch) (o : Option patches.Patch) (os : Option (List patches.Patch)) (ps : List patches.Patch) → o ≡ Some p → os ≡ Some ps
@@ -75,9 +78,9 @@ contents_none : (text : List ℕ) → bytes_eq text (codes "-") ≡ false → ea
 contents_none text undashed none = contents_is text undashed (some_parts 44 text) ∙ ap (λ (o : Option (List patches.Patch)). o >>= (λ ps. Some (contents (begins_anew (parts_at 44 text)) ps))) none
 
 -- a word that is no patch leaves no contents, and too many leave them or none
-pub patchless_contents : (text : List ℕ) (at : ℕ) → IsContentsReason text (Patch at) → contents_of text ≡ None
-patchless_contents text at h = contents_none text (no_test (bytes_eq text (codes "-")) (λ e. h.0 (true_is text (codes "-") e)))
-    (no_patch (patch_words (parts_at 44 text)) at h.1)
+pub patchless_contents : (text : List ℕ) (at : ℕ) (fault : PatchFault) → IsContentsReason text (Patch at fault) → contents_of text ≡ None
+patchless_contents text at fault h = contents_none text (no_test (bytes_eq text (codes "-")) (λ e. h.0 (true_is text (codes "-") e)))
+    (faulty_patch (patch_words (parts_at 44 text)) at fault h.1)
 
 pub many_contents : (text : List ℕ) (c : Contents) → IsContentsReason text ManyPatches → contents_of text ≡ Some c → max_patches < length c.patches
 many_contents text c h e =
@@ -135,8 +138,8 @@ pub many_is : (text : List ℕ) (words : List (List ℕ)) → bytes_eq text (cod
     → IsContentsReason text ManyPatches
 many_is text words undashed is many = (undashed_is text undashed, many_first text (rw (← is) many))
 
-pub unread_is : (text : List ℕ) (words : List (List ℕ)) (at : ℕ) → bytes_eq text (codes "-") ≡ false → length words ≤ max_patches
-    → words ≡ patch_words (first_parts 44 text) → IsNoPatchAt words at → IsContentsReason text (Patch at)
-unread_is text words at undashed few is h =
+pub unread_is : (text : List ℕ) (words : List (List ℕ)) (reason : LineReason) → bytes_eq text (codes "-") ≡ false → length words ≤ max_patches
+    → words ≡ patch_words (first_parts 44 text) → IsListReason words reason → IsContentsReason text reason
+unread_is text words reason undashed few is h =
     let all = few_first text (rw (← is) few) in
     (undashed_is text undashed, rw (← all, ← is) h)

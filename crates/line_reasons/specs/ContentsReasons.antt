@@ -1,10 +1,11 @@
 -- What is wrong with field 7 of a record.
-use Rattle.std.specs.Prelude.{◌≡◌, ◌≢◌, ◌<◌, ◌+◌, ℕ, Bool, false, List, [], ◌∷◌, length, slice_index_or, None, bytes_eq, codes, if◌then◌else◌}
+use Rattle.std.specs.Prelude.{◌≡◌, ◌≢◌, ◌<◌, ◌+◌, ℕ, Bool, false, List, [], ◌∷◌, length, slice_index_or, bytes_eq, codes, if◌then◌else◌}
 use Rattle.redo_core.specs.Shape.{max_patches}
 use Rattle.script_text.specs.Parts.{parts_at}
-use Rattle.script_text.specs.FactLine.{patch_of}
 use Rattle.line_reasons.specs.declared.reasons.LineReason.{LineReason}
 use Rattle.line_reasons.specs.declared.reasons.LineReason.TheVariants.{ManyPatches, Patch}
+use Rattle.line_reasons.specs.declared.reasons.PatchFault.{PatchFault}
+use Rattle.line_reasons.specs.PatchFaults.{IsPatchFault}
 
 -- whether the words between commas begin with `init`
 abbrev pub begins_anew : List (List ℕ) → Bool
@@ -16,17 +17,17 @@ abbrev pub patch_words : List (List ℕ) → List (List ℕ)
 patch_words [] = []
 patch_words (word ∷ words) = if bytes_eq word (codes "init") then words else word ∷ words
 
--- the word of that number, from 1, is no patch
-pub record IsNoPatchAt (words : List (List ℕ)) (at : ℕ) : Type 0 where
+-- the word of that number, from 1, has this fault as a patch
+pub record IsFaultyPatch (words : List (List ℕ)) (at : ℕ) (fault : PatchFault) : Type 0 where
   pub before : ℕ
   pub number : at ≡ before + 1
   pub within : before < length words
-  pub unread : patch_of (slice_index_or words before []) ≡ None
+  pub faulty : IsPatchFault (slice_index_or words before []) fault
 
 -- a list of patches is wrong: a word is none, or there are more than a record has
 abbrev pub IsListReason : List (List ℕ) → LineReason → Type 0
 IsListReason words ManyPatches = max_patches < length words
-IsListReason words (Patch at) = IsNoPatchAt words at
+IsListReason words (Patch at fault) = IsFaultyPatch words at fault
 IsListReason words _ = ⊥
 
 -- the field is no dash, and its list of patches is wrong

@@ -1,6 +1,7 @@
 pub mod NumberFaults
 pub mod FieldReasons
 pub mod FormReasons
+pub mod PatchFaults
 pub mod ContentsReasons
 pub mod FactReasons
 pub mod LineReasons

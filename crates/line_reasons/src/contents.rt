@@ -2,8 +2,9 @@
 
 ghost use Rattle.std.specs.Prelude.{◌≡◌, Some, IfOk, MatchResult, map};
 ghost use Rattle.script_text.specs.FactLine.{each_patch, contents, contents_of};
-ghost use Rattle.line_reasons.specs.ContentsReasons.{begins_anew, patch_words, IsNoPatchAt, IsContentsReason};
+ghost use Rattle.line_reasons.specs.ContentsReasons.{begins_anew, patch_words, IsListReason, IsContentsReason};
 
+use crate::patches::patch_fault;
 use crate::reasons::LineReason;
 use redo_core::{MAX_PATCHES, Patch};
 use script_text::{first_parts, read_patch};
@@ -27,14 +28,15 @@ fn patch_words<'a>(parts: &'a [&'a [u8]]) -> (bool, &'a [&'a [u8]])
     }
 }
 
-/// The patches that the words spell, or the number of the first that spells none.
-fn patches(alloc: Global, words: &[&[u8]]) -> Result<Result<Vec<Patch>, usize>, AllocError>
-    ensures { IfOk result (λ r. MatchResult r (λ v. each_patch (map (λ x. x.now) words.now) ≡ Some v.items) (IsNoPatchAt (map (λ x. x.now) words.now))) }
+/// The patches that the words spell, or why the first that spells none does not.
+fn patches(alloc: Global, words: &[&[u8]]) -> Result<Result<Vec<Patch>, LineReason>, AllocError>
+    ensures { IfOk result (λ r. MatchResult r (λ v. each_patch (map (λ x. x.now) words.now) ≡ Some v.items) (IsListReason (map (λ x. x.now) words.now))) }
 {
     let mut patches = Vec::new(alloc);
     for i in 0..words.len() {
         let Some(patch) = read_patch(alloc, words[i])? else {
-            return Ok(Err(i + 1));
+            let fault = patch_fault(alloc, words[i])?;
+            return Ok(Err(LineReason::Patch { at: i + 1, fault }));
         };
         patches.push(patch)?;
     }
@@ -58,6 +60,6 @@ pub fn read_contents(alloc: Global, word: &[u8]) -> Result<Result<Contents, Line
     }
     match patches(alloc, words)? {
         Ok(patches) => Ok(Ok(Contents { init, patches })),
-        Err(at) => Ok(Err(LineReason::Patch { at })),
+        Err(reason) => Ok(Err(reason)),
     }
 }

@@ -12,6 +12,7 @@ mod laws;
 mod limits;
 mod lines;
 mod numbers;
+mod patches;
 mod reasons;
 mod spots;
 mod steps;
@@ -19,5 +20,5 @@ mod texts;
 
 pub use laws::reasons_are_of_bad_lines;
 pub use lines::{Place, line_reason};
-pub use reasons::{LineReason, NumberFault, TextReason};
+pub use reasons::{LineReason, NumberFault, PatchFault, TextReason};
 pub use texts::text_reason;

@@ -16,6 +16,21 @@ pub enum NumberFault {
     Above(u64),
 }
 
+/// Why a word is no patch, OFF:HEX or OFF*LEN:HH.
+#[derive(Clone, Copy, Debug, PartialEq, Eq, Error)]
+pub enum PatchFault {
+    #[error("has no colon, or several")]
+    Colon,
+    #[error("has a place that is no OFF up to 65535, and no OFF*LEN with LEN up to 4096")]
+    Place,
+    #[error("has digits that are odd in number, or not hexadecimal")]
+    Digits,
+    #[error("brings no bytes")]
+    NoBytes,
+    #[error("is a fill, and brings more than one byte")]
+    FillBytes,
+}
+
 /// Why a line is bad. Fields are numbered from 1, the word that begins the line first, and patches from 1.
 #[derive(Clone, Copy, Debug, PartialEq, Eq, Error)]
 pub enum LineReason {
@@ -35,8 +50,8 @@ pub enum LineReason {
     PastPage,
     #[error("field 7 has more than 64 patches")]
     ManyPatches,
-    #[error("patch {at} of field 7 is no OFF:HEX and no OFF*LEN:HH")]
-    Patch { at: usize },
+    #[error("patch {at} of field 7 {fault}")]
+    Patch { at: usize, fault: PatchFault },
     #[error("{0}")]
     Shape(ShapeFault),
 }

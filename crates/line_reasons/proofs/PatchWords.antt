@@ -1,0 +1,148 @@
+-- Patches, and their faults.
+use Rattle.std.proofs.Common.{◌≡◌, ◌≢◌, ℕ, ◌<◌, inl, inr, Bool, true, false, List, [], ◌∷◌, length, Option, Some, None, refl, sym, ap, ◌∙◌, arith}
+use Rattle.std.specs.Prelude.{IsSome, is_some, MatchBool}
+use Rattle.std.proofs.lemmas.Bool.{cases_eq}
+use Rattle.hex.specs.Hex.{decode_of}
+use Rattle.redo_core.specs.declared.patches.Patch.{Patch}
+use Rattle.script_text.specs.Number.{decimal_value}
+use Rattle.script_text.specs.Parts.{◌>>=◌, parts_at, first_parts}
+use Rattle.script_text.specs.Fields.{numbers_of}
+use Rattle.script_text.specs.FactLine.{decoded, patch_at, patch_from, patch_of}
+use Rattle.script_text.proofs.FirstParts.{few_are_all}
+use Rattle.script_text.proofs.Forms.{numbers_apart}
+use Rattle.script_text.proofs.Results.{found}
+use Rattle.line_reasons.specs.declared.reasons.PatchFault.{PatchFault}
+use Rattle.line_reasons.specs.declared.reasons.PatchFault.TheVariants.{Colon, Place, NoBytes, Digits, FillBytes}
+use Rattle.line_reasons.specs.PatchFaults.{offset_limits, range_limits, IsPlace, IsNoPlace, RoundColon, IsWideFill, IsPatchFault}
+
+-- ---- a place
+
+no_place_at : (parts : List (List ℕ)) (bytes : List ℕ) → numbers_of offset_limits parts ≡ None → numbers_of range_limits parts ≡ None
+    → patch_at parts bytes ≡ None
+no_place_at [] bytes no_offset no_range = refl
+no_place_at (o ∷ []) [] no_offset no_range = refl
+no_place_at (o ∷ []) (b ∷ bs) no_offset no_range =
+    elim (found (decimal_value 65535 o)) [
+      | inl x ↦ rw x refl
+      | inr x ↦ absurd (cc (rw x.1 at no_offset))
+    ]
+no_place_at (o ∷ l ∷ []) [] no_offset no_range = refl
+no_place_at (o ∷ l ∷ []) (b ∷ c ∷ bs) no_offset no_range = refl
+no_place_at (o ∷ l ∷ []) (b ∷ []) no_offset no_range =
+    elim (found (decimal_value 65535 o)) [
+      | inl x ↦ rw x refl
+      | inr x ↦
+          elim (found (decimal_value 4096 l)) [
+            | inl y ↦ rw (x.1, y) refl
+            | inr y ↦ absurd (cc (rw (x.1, y.1) at no_range))
+          ]
+    ]
+no_place_at (o ∷ l ∷ w ∷ ws) bytes no_offset no_range = refl
+
+no_bytes_at : (parts : List (List ℕ)) → patch_at parts [] ≡ None
+no_bytes_at [] = refl
+no_bytes_at (o ∷ []) = refl
+no_bytes_at (o ∷ l ∷ []) = refl
+no_bytes_at (o ∷ l ∷ w ∷ ws) = refl
+
+wide_at : (parts : List (List ℕ)) (bytes : List ℕ) → length parts ≡ 2 → length bytes ≢ 1 → patch_at parts bytes ≡ None
+wide_at [] bytes two many = refl
+wide_at (o ∷ []) bytes two many = absurd (omega (arith, two))
+wide_at (o ∷ l ∷ []) [] two many = refl
+wide_at (o ∷ l ∷ []) (b ∷ []) two many = absurd (many refl)
+wide_at (o ∷ l ∷ []) (b ∷ c ∷ bs) two many = refl
+wide_at (o ∷ l ∷ w ∷ ws) bytes two many = refl
+
+-- ---- a patch
+
+then_none : (o : Option (List ℕ)) (f : List ℕ → Option Patch) → ((bytes : List ℕ) → f bytes ≡ None) → (o >>= f) ≡ None
+then_none None f none = refl
+then_none (Some bytes) f none = none bytes
+
+not_two : (parts : List (List ℕ)) → length parts ≢ 2 → patch_from parts ≡ None
+unfolding patch_from
+not_two [] other = refl
+not_two (place ∷ []) other = refl
+not_two (place ∷ digits ∷ []) other = absurd (other refl)
+not_two (place ∷ digits ∷ w ∷ ws) other = refl
+
+-- round one colon stand a place and digits
+round_colon : (text place digits : List ℕ) → parts_at 58 text ≡ place ∷ digits ∷ [] → patch_of text ≡ (decoded (decode_of digits) >>= patch_at (parts_at 42 place))
+unfolding patch_from
+round_colon text place digits e = rw e refl
+
+pub patch_read : (text place digits bytes : List ℕ) → parts_at 58 text ≡ place ∷ digits ∷ [] → decoded (decode_of digits) ≡ Some bytes
+    → patch_of text ≡ patch_at (parts_at 42 place) bytes
+patch_read text place digits bytes parts stand = round_colon text place digits parts ∙ rw stand refl
+
+-- a word with a fault is no patch
+pub faulty_word : (text : List ℕ) (fault : PatchFault) → IsPatchFault text fault → patch_of text ≡ None
+faulty_word text Colon h = not_two (parts_at 58 text) h
+faulty_word text Place h = round_colon text h.place h.digits h.parts
+    ∙ then_none (decoded (decode_of h.digits)) (patch_at (parts_at 42 h.place)) (λ bytes. no_place_at (parts_at 42 h.place) bytes h.holds.0 h.holds.1)
+faulty_word text NoBytes h = patch_read text h.place h.digits [] h.parts h.holds ∙ no_bytes_at (parts_at 42 h.place)
+faulty_word text Digits h = round_colon text h.place h.digits h.parts ∙ rw h.holds refl
+faulty_word text FillBytes h = patch_read text h.place h.digits h.holds.bytes h.parts h.holds.stand
+    ∙ wide_at (parts_at 42 h.place) h.holds.bytes h.holds.range h.holds.many
+
+-- ---- what is found of a word
+
+-- the numbers of the first parts of a place are those of all
+pub place_numbers : (limits : List ℕ) (word : List ℕ) (parts : List (List ℕ)) (r : Option (List ℕ)) → length limits < 66 → parts ≡ first_parts 42 word
+    → r ≡ numbers_of limits parts → r ≡ numbers_of limits (parts_at 42 word)
+unfolding first_parts
+place_numbers limits word parts r lt e read =
+    read ∙ ap (numbers_of limits) e ∙ few_are_all (numbers_of limits) None 66 (parts_at 42 word) (λ ys le. numbers_apart limits ys (λ f. omega (arith, f)))
+
+-- what both readings of a place tell
+pub placed : (word : List ℕ) (b : Bool) (offset range : Option (List ℕ)) → is_some offset ≡ false → offset ≡ numbers_of offset_limits (parts_at 42 word)
+    → b ≡ is_some range → range ≡ numbers_of range_limits (parts_at 42 word) → MatchBool b (IsPlace word) (IsNoPlace word)
+placed word b (Some x) range none e test f = absurd cc
+placed word true None (Some x) none e test f = inr (rw (← f) refl)
+placed word true None None none e test f = absurd cc
+placed word false None (Some x) none e test f = absurd cc
+placed word false None None none e test f = (sym e, sym f)
+
+no_write : (parts : List (List ℕ)) (bytes : List ℕ) → 0 < length bytes → patch_at parts bytes ≡ None → numbers_of offset_limits parts ≡ None
+no_write [] bytes some none = refl
+no_write (o ∷ l ∷ ws) bytes some none = numbers_apart offset_limits (o ∷ l ∷ ws) (λ e. absurd (omega (arith, e)))
+no_write (o ∷ []) [] some none = absurd (omega arith)
+no_write (o ∷ []) (b ∷ bs) some none = elim (found (decimal_value 65535 o)) [ inl x ↦ rw x refl | inr x ↦ absurd (cc (rw x.1 at none)) ]
+
+no_fill_at : (parts : List (List ℕ)) (b : ℕ) → patch_at parts (b ∷ []) ≡ None → numbers_of range_limits parts ≡ None
+no_fill_at [] b none = refl
+no_fill_at (o ∷ []) b none = numbers_apart range_limits (o ∷ []) (λ e. absurd (omega (arith, e)))
+no_fill_at (o ∷ l ∷ []) b none =
+    elim (found (decimal_value 65535 o)) [
+      | inl x ↦ rw x refl
+      | inr x ↦ elim (found (decimal_value 4096 l)) [ inl y ↦ rw (x.1, y) refl | inr y ↦ absurd (cc (rw (x.1, y.1) at none)) ]
+    ]
+no_fill_at (o ∷ l ∷ w ∷ ws) b none = numbers_apart range_limits (o ∷ l ∷ w ∷ ws) (λ e. absurd (omega (arith, e)))
+
+wide_bytes : (parts : List (List ℕ)) (bytes : List ℕ) → patch_at parts bytes ≡ None → IsSome (numbers_of range_limits parts) → length bytes ≢ 1
+wide_bytes parts [] none range = λ e. absurd (omega (arith, e))
+wide_bytes parts (b ∷ []) none range = absurd (cc (rw (no_fill_at parts b none) at range))
+wide_bytes parts (b ∷ c ∷ bs) none range = λ e. absurd (omega (arith, e))
+
+range_parts : (parts : List (List ℕ)) → IsSome (numbers_of range_limits parts) → length parts ≡ 2
+range_parts parts range =
+    elim (cases_eq (length parts) 2) [
+      | inl two ↦ two
+      | inr other ↦ absurd (cc (rw (numbers_apart range_limits parts other) at range))
+    ]
+
+-- a place and bytes that are no patch are a wide fill
+pub wide_fill : (text place digits bytes : List ℕ) → patch_of text ≡ None → parts_at 58 text ≡ place ∷ digits ∷ [] → IsPlace place
+    → decoded (decode_of digits) ≡ Some bytes → 0 < length bytes → RoundColon text IsWideFill
+wide_fill text place digits bytes none parts is stand some =
+    let unpatched : patch_at (parts_at 42 place) bytes ≡ None = sym (patch_read text place digits bytes parts stand) ∙ none in
+    let range : IsSome (numbers_of range_limits (parts_at 42 place)) = elim is [
+      | inl offset ↦ absurd (cc (rw (no_write (parts_at 42 place) bytes some unpatched) at offset))
+      | inr found ↦ found
+    ] in
+    record {
+      place = place;
+      digits = digits;
+      parts = parts;
+      holds = record { bytes = bytes; range = range_parts (parts_at 42 place) range; stand = stand; many = wide_bytes (parts_at 42 place) bytes unpatched range };
+    }

@@ -1,0 +1,55 @@
+//! Patches.
+
+ghost use Rattle.std.specs.Prelude.{◌≡◌, ◌≢◌, ◌∷◌, [], length, None, MatchBool, MatchOption, IfOk};
+ghost use Rattle.script_text.specs.Parts.{parts_at};
+ghost use Rattle.script_text.specs.FactLine.{patch_of};
+ghost use Rattle.line_reasons.specs.PatchFaults.{IsPlace, IsNoPlace, IsPatchFault};
+
+use crate::limits::{PAGE, SHORT};
+use crate::reasons::PatchFault;
+use script_text::{decoded, first_part, first_parts, read_numbers};
+use std::alloc::{AllocError, Global};
+
+/// Whether the word is a place: an offset, or an offset and a length round a star.
+fn is_place(alloc: Global, word: &[u8]) -> Result<bool, AllocError>
+    ensures { IfOk result (λ b. MatchBool b (IsPlace word.now) (IsNoPlace word.now)) }
+{
+    let parts = first_parts(alloc, word, b'*')?;
+    if read_numbers([SHORT], &parts).is_some() {
+        return Ok(true);
+    }
+    Ok(read_numbers([SHORT, PAGE], &parts).is_some())
+}
+
+/// The place and the digits round the one colon of a word.
+#[tactic(auto, using(script_text::proofs::Split::some_parts))]
+fn round_colon(word: &[u8]) -> Option<(&[u8], &[u8])>
+    ensures { MatchOption result (length (parts_at 58 word.now) ≢ 2) (λ p. parts_at 58 word.now ≡ p.0.now ∷ p.1.now ∷ []) }
+{
+    let (place, digits) = first_part(word, b':')?;
+    match first_part(digits, b':') {
+        None => Some((place, digits)),
+        Some(_) => None,
+    }
+}
+
+/// Why a word that is no patch is none.
+pub fn patch_fault(alloc: Global, word: &[u8]) -> Result<PatchFault, AllocError>
+    requires { patch_of word.now ≡ None }
+    ensures { IfOk result (λ fault. IsPatchFault word.now fault) }
+{
+    let Some((place, digits)) = round_colon(word) else {
+        return Ok(PatchFault::Colon);
+    };
+    if !is_place(alloc, place)? {
+        return Ok(PatchFault::Place);
+    }
+    let Some(bytes) = decoded(alloc, digits)? else {
+        return Ok(PatchFault::Digits);
+    };
+    if bytes.is_empty() {
+        return Ok(PatchFault::NoBytes);
+    }
+    // A place and bytes are a patch, unless they are a fill of more than one byte.
+    Ok(PatchFault::FillBytes)
+}
