@@ -3,7 +3,6 @@ use Rattle.std.proofs.Common.{◌≡◌, ◌≢◌, ℕ, ◌<◌, inl, inr, Bool
 use Rattle.std.specs.Prelude.{IsSome, is_some, MatchBool}
 use Rattle.std.proofs.lemmas.Bool.{cases_eq}
 use Rattle.hex.specs.Hex.{decode_of}
-use Rattle.redo_core.specs.declared.patches.Patch.{Patch}
 use Rattle.script_text.specs.Number.{decimal_value}
 use Rattle.script_text.specs.Parts.{◌>>=◌, parts_at, first_parts}
 use Rattle.script_text.specs.Fields.{numbers_of}
@@ -13,7 +12,7 @@ use Rattle.script_text.proofs.Forms.{numbers_apart}
 use Rattle.script_text.proofs.Results.{found}
 use Rattle.line_reasons.specs.declared.reasons.PatchFault.{PatchFault}
 use Rattle.line_reasons.specs.declared.reasons.PatchFault.TheVariants.{Colon, Place, NoBytes, Digits, FillBytes}
-use Rattle.line_reasons.specs.PatchFaults.{offset_limits, range_limits, IsPlace, IsNoPlace, RoundColon, IsWideFill, IsPatchFault}
+use Rattle.line_reasons.specs.PatchFaults.{offset_limits, range_limits, IsPatchPlace, IsNoPatchPlace, RoundColon, IsWideFill, IsPatchFault}
 
 -- ---- a place
 
@@ -55,9 +54,9 @@ wide_at (o ∷ l ∷ w ∷ ws) bytes two many = refl
 
 -- ---- a patch
 
-then_none : (o : Option (List ℕ)) (f : List ℕ → Option Patch) → ((bytes : List ℕ) → f bytes ≡ None) → (o >>= f) ≡ None
-then_none None f none = refl
-then_none (Some bytes) f none = none bytes
+unplaced : (parts : List (List ℕ)) (o : Option (List ℕ)) → numbers_of offset_limits parts ≡ None → numbers_of range_limits parts ≡ None → (o >>= patch_at parts) ≡ None
+unplaced parts None no_offset no_range = refl
+unplaced parts (Some bytes) no_offset no_range = no_place_at parts bytes no_offset no_range
 
 not_two : (parts : List (List ℕ)) → length parts ≢ 2 → patch_from parts ≡ None
 unfolding patch_from
@@ -79,7 +78,7 @@ patch_read text place digits bytes parts stand = round_colon text place digits p
 pub faulty_word : (text : List ℕ) (fault : PatchFault) → IsPatchFault text fault → patch_of text ≡ None
 faulty_word text Colon h = not_two (parts_at 58 text) h
 faulty_word text Place h = round_colon text h.place h.digits h.parts
-    ∙ then_none (decoded (decode_of h.digits)) (patch_at (parts_at 42 h.place)) (λ bytes. no_place_at (parts_at 42 h.place) bytes h.holds.0 h.holds.1)
+    ∙ unplaced (parts_at 42 h.place) (decoded (decode_of h.digits)) h.holds.0 h.holds.1
 faulty_word text NoBytes h = patch_read text h.place h.digits [] h.parts h.holds ∙ no_bytes_at (parts_at 42 h.place)
 faulty_word text Digits h = round_colon text h.place h.digits h.parts ∙ rw h.holds refl
 faulty_word text FillBytes h = patch_read text h.place h.digits h.holds.bytes h.parts h.holds.stand
@@ -96,7 +95,7 @@ place_numbers limits word parts r lt e read =
 
 -- what both readings of a place tell
 pub placed : (word : List ℕ) (b : Bool) (offset range : Option (List ℕ)) → is_some offset ≡ false → offset ≡ numbers_of offset_limits (parts_at 42 word)
-    → b ≡ is_some range → range ≡ numbers_of range_limits (parts_at 42 word) → MatchBool b (IsPlace word) (IsNoPlace word)
+    → b ≡ is_some range → range ≡ numbers_of range_limits (parts_at 42 word) → MatchBool b (IsPatchPlace word) (IsNoPatchPlace word)
 placed word b (Some x) range none e test f = absurd cc
 placed word true None (Some x) none e test f = inr (rw (← f) refl)
 placed word true None None none e test f = absurd cc
@@ -132,7 +131,7 @@ range_parts parts range =
     ]
 
 -- a place and bytes that are no patch are a wide fill
-pub wide_fill : (text place digits bytes : List ℕ) → patch_of text ≡ None → parts_at 58 text ≡ place ∷ digits ∷ [] → IsPlace place
+pub wide_fill : (text place digits bytes : List ℕ) → patch_of text ≡ None → parts_at 58 text ≡ place ∷ digits ∷ [] → IsPatchPlace place
     → decoded (decode_of digits) ≡ Some bytes → 0 < length bytes → RoundColon text IsWideFill
 wide_fill text place digits bytes none parts is stand some =
     let unpatched : patch_at (parts_at 42 place) bytes ≡ None = sym (patch_read text place digits bytes parts stand) ∙ none in

@@ -14,12 +14,12 @@ abbrev pub range_limits : List ℕ
 range_limits = 65535 ∷ 4096 ∷ []
 
 -- the word is an offset, or an offset and a length round a star
-abbrev pub IsPlace : List ℕ → Type 0
-IsPlace word = IsSome (numbers_of offset_limits (parts_at 42 word)) ⊎ IsSome (numbers_of range_limits (parts_at 42 word))
+abbrev pub IsPatchPlace : List ℕ → Type 0
+IsPatchPlace word = IsSome (numbers_of offset_limits (parts_at 42 word)) ⊎ IsSome (numbers_of range_limits (parts_at 42 word))
 
 -- it is neither
-abbrev pub IsNoPlace : List ℕ → Type 0
-IsNoPlace word = (numbers_of offset_limits (parts_at 42 word) ≡ None) × (numbers_of range_limits (parts_at 42 word) ≡ None)
+abbrev pub IsNoPatchPlace : List ℕ → Type 0
+IsNoPatchPlace word = (numbers_of offset_limits (parts_at 42 word) ≡ None) × (numbers_of range_limits (parts_at 42 word) ≡ None)
 
 -- a place and digits round one colon, of which this holds
 pub record RoundColon (text : List ℕ) (Holds : List ℕ → List ℕ → Type 0) : Type 0 where
@@ -38,7 +38,7 @@ pub record IsWideFill (place digits : List ℕ) : Type 0 where
 -- the text has this fault as a patch
 abbrev pub IsPatchFault : List ℕ → PatchFault → Type 0
 IsPatchFault text Colon = length (parts_at 58 text) ≢ 2
-IsPatchFault text Place = RoundColon text (λ place digits. IsNoPlace place)
+IsPatchFault text Place = RoundColon text (λ place digits. IsNoPatchPlace place)
 IsPatchFault text NoBytes = RoundColon text (λ place digits. decoded (decode_of digits) ≡ Some [])
 IsPatchFault text Digits = RoundColon text (λ place digits. decoded (decode_of digits) ≡ None)
 IsPatchFault text FillBytes = RoundColon text IsWideFill

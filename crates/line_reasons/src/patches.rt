@@ -3,7 +3,7 @@
 ghost use Rattle.std.specs.Prelude.{◌≡◌, ◌≢◌, ◌∷◌, [], length, None, MatchBool, MatchOption, IfOk};
 ghost use Rattle.script_text.specs.Parts.{parts_at};
 ghost use Rattle.script_text.specs.FactLine.{patch_of};
-ghost use Rattle.line_reasons.specs.PatchFaults.{IsPlace, IsNoPlace, IsPatchFault};
+ghost use Rattle.line_reasons.specs.PatchFaults.{IsPatchPlace, IsNoPatchPlace, IsPatchFault};
 
 use crate::limits::{PAGE, SHORT};
 use crate::reasons::PatchFault;
@@ -12,7 +12,7 @@ use std::alloc::{AllocError, Global};
 
 /// Whether the word is a place: an offset, or an offset and a length round a star.
 fn is_place(alloc: Global, word: &[u8]) -> Result<bool, AllocError>
-    ensures { IfOk result (λ b. MatchBool b (IsPlace word.now) (IsNoPlace word.now)) }
+    ensures { IfOk result (λ b. MatchBool b (IsPatchPlace word.now) (IsNoPatchPlace word.now)) }
 {
     let parts = first_parts(alloc, word, b'*')?;
     if read_numbers([SHORT], &parts).is_some() {
