@@ -1,5 +1,5 @@
 -- Why a line of a whole text is bad.
-use Rattle.std.specs.Prelude.{◌≡◌, ◌≢◌, ◌<◌, ◌+◌, ◌-◌, ◌==◌, ◌⊎◌, ℕ, Bool, true, List, [], length, slice_get, Option, Some, None, IsSomeAnd, IfSome, MatchBool, codes, if◌then◌else◌}
+use Rattle.std.specs.Prelude.{◌≡◌, ◌≢◌, ◌<◌, ◌≤◌, ◌+◌, ◌-◌, ◌==◌, ◌⊎◌, ℕ, Bool, true, List, [], length, slice_get, Option, Some, None, IsSomeAnd, IfSome, MatchBool, codes, if◌then◌else◌}
 use Rattle.script_text.specs.Script.{most, opening_of}
 use Rattle.line_reasons.specs.declared.lines.Place.{Place}
 use Rattle.line_reasons.specs.declared.lines.Place.TheVariants.{Facts, Nodes, Steps}
@@ -35,9 +35,13 @@ IsEndedReason go opening before line ManyFacts = most < fact_lines go opening be
 IsEndedReason go opening before line ManySteps = most < step_lines go before
 IsEndedReason go opening before line reason = IsLineReason (place_by go opening before) line reason
 
+-- the line is read at its place, where there are not too many up to it
+abbrev pub IsReadInPlace : Option ℕ → ℕ → ℕ → List ℕ → Type 0
+IsReadInPlace go opening before line = (fact_lines go opening before ≤ most) × (step_lines go before ≤ most) × IsReadThere (place_by go opening before) line
+
 -- the line names the roster, or is the first `go` of a script, or is read at its place
 abbrev pub IsGoodEnded : Bool → Option ℕ → ℕ → ℕ → List ℕ → Type 0
-IsGoodEnded is_script go opening before line = (before < opening) ⊎ ((is_script ≡ true) × (go ≡ None) × (line ≡ codes "go")) ⊎ IsReadThere (place_by go opening before) line
+IsGoodEnded is_script go opening before line = (before < opening) ⊎ ((is_script ≡ true) × (go ≡ None) × (line ≡ codes "go")) ⊎ IsReadInPlace go opening before line
 
 -- ---- what stands behind the last LF
 

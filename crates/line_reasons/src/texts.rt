@@ -3,7 +3,7 @@
 ghost use Rattle.std.specs.Prelude.{◌≡◌, ◌<◌, ◌-◌, Some, IfOk, IfSome, MatchOption, is_some};
 ghost use Rattle.script_text.specs.Parts.{parts_at};
 ghost use Rattle.script_text.specs.Script.{roster_in_line, opening_of};
-ghost use Rattle.line_reasons.specs.TextReasons.{place_by, IsLineReason, IsEndedReason, IsGoodEnded, IsRestReason, IsGoodRest, IsTextReason, IsGoodLine};
+ghost use Rattle.line_reasons.specs.TextReasons.{IsLineReason, IsReadInPlace, IsEndedReason, IsGoodEnded, IsRestReason, IsGoodRest, IsTextReason, IsGoodLine};
 ghost use Rattle.line_reasons.specs.LineReasons.{IsReadThere};
 
 use crate::forms::counted;
@@ -73,7 +73,7 @@ fn reason_behind(
     line: &[u8],
 ) -> Result<Option<TextReason>, AllocError>
     requires { go < before }
-    ensures { IfOk result (λ o. MatchOption o (IsReadThere (place_by (Some go) opening before) line.now)
+    ensures { IfOk result (λ o. MatchOption o (IsReadInPlace (Some go) opening before line.now)
         (IsEndedReason (Some go) opening before line.now)) }
 {
     let facts = go.saturating_sub(opening);
