@@ -1,10 +1,13 @@
 -- A step that was carried out at its node, from what the node's call ensures.
-use Rattle.std.proofs.Common.{◌≡◌, ℕ, ◌+◌, ⊎_elim, ◌↔◌, List, [], ◌∷◌, ◌++◌, length, refl, sym, ap, ◌∙◌, subst, Option, Some, None, Result, Ok, Err}
+use Rattle.std.proofs.Common.{◌≡◌, ℕ, ◌+◌, ⊎_elim, ◌↔◌, List, [], ◌∷◌, ◌++◌, length, refl, sym, ap, ◌∙◌, subst, Option, Some, None, Result, Ok, Err, OnErr}
 use Rattle.std.specs.Prelude.{MatchOption}
 use Rattle.redo_core.specs.declared.facts.Fact.{Fact}
 use Rattle.messages.specs.Summaries.{SummaryData}
 use Rattle.messages.specs.Deltas.{DeltaData}
 use Rattle.segment_state.specs.State.{State}
+use Rattle.redo_core.specs.declared.refusal.Refused.{Refused}
+use Rattle.segment_core.specs.declared.answers.Taken.{Taken}
+use Rattle.segment_core.specs.declared.answers.Taken.TheVariants as taken
 use Rattle.segment_core.specs.declared.answers.ReadFault.{ReadFault}
 use Rattle.segment_core.specs.declared.answers.ReadFault.TheVariants as fault
 use Rattle.segment_core.specs.declared.answers.Refusal.{Refusal}
@@ -20,10 +23,11 @@ use Rattle.fleet_core.specs.declared.making.Made.TheVariants.{Question, Answer}
 use Rattle.fleet_core.specs.Machine.{Message, messages_after}
 use Rattle.fleet_core.specs.Messages.{question_in, answer_in, lacking, missing_message, AreMade}
 use Rattle.fleet_core.specs.Refused.{IsRefusal}
-use Rattle.fleet_core.specs.Replying.{fault_reply, read_reply, refusal_reply, absorbed_reply}
+use Rattle.fleet_core.specs.Replying.{fault_reply, taken_reply, read_reply, refusal_reply, absorbed_reply}
 use Rattle.fleet_core.specs.MessageCalls.{Makes, SumsUp, Asks, MakesAnswer, AnswersQuestion, AnswersNumber, AbsorbsDelta, AbsorbsAnswer, AbsorbsNumber}
-use Rattle.fleet_core.specs.Calls.{NodeCalls}
+use Rattle.fleet_core.specs.Calls.{Takes, NodeCalls}
 use Rattle.fleet_core.specs.AtNode.{OwnFollows, IsCarriedOut}
+use Rattle.fleet_core.proofs.Following.{follows_taken}
 use Rattle.fleet_core.proofs.Exchanging.{follows_ask, follows_answer, follows_absorb}
 
 -- ---- steps that speak of no message
@@ -65,6 +69,11 @@ of_refusal : (why : Refusal) → IsOfNode (refusal_reply why)
 of_refusal refusal.Memory = tt
 of_refusal other = tt
 
+of_taken : (answer : Result Taken (Refused Fact Refusal)) → IsOfNode (taken_reply answer)
+of_taken (Ok taken.Changed) = tt
+of_taken (Ok taken.Unchanged) = tt
+of_taken (Err refused) = of_refusal refused.fault
+
 of_absorbed : (answer : Result (Unit {0}) AbsorbRefusal) → IsOfNode (absorbed_reply answer)
 of_absorbed (Ok done) = tt
 of_absorbed (Err (absorb.Uncovered shown)) = tt
@@ -84,6 +93,21 @@ never_no_message answer reply told = not_lacking reply (subst IsOfNode (sym told
 
 of_told : (reply told : Reply) → reply ≡ told → IsOfNode told → IsOfNode reply
 of_told reply told e of = subst IsOfNode (sym e) of
+
+-- ---- taking
+
+-- a fact that the segment refuses leaves it as it was
+left_by_take : (old new : State) (answer : Result Taken (Refused Fact Refusal)) → OnErr answer (new ≡ old) → IsRefusal (taken_reply answer) → new ≡ old
+left_by_take old new (Ok taken.Changed) same is = absurd is
+left_by_take old new (Ok taken.Unchanged) same is = absurd is
+left_by_take old new (Err refused) same is = same
+
+pub take_step : (readers : ℕ) (old : State) (other : Option State) (messages : List Made) (node : ℕ) (fact : Fact) (reply : Reply) (new : State)
+    → Takes old fact reply new → IsCarriedOut readers old other messages (step.Take node fact) reply new messages
+take_step readers old other messages node fact reply new takes =
+    let of = of_told reply (taken_reply takes.0) takes.2 (of_taken takes.0) in
+    own_step readers old other messages (step.Take node fact) reply new (λ told facts. refl) refl (follows_taken readers other old new node fact reply takes)
+    (takes, refl) (not_missing reply of) (not_lacking reply of) (λ is. left_by_take old new takes.0 takes.1.unchanged (subst IsRefusal takes.2 is))
 
 of_made : (messages : List Made) (message : Made) (reply : Reply) (made : List Made) → Makes messages message reply made → IsOfNode reply
 of_made messages message reply made makes =

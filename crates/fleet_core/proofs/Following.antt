@@ -29,10 +29,13 @@ use Rattle.fleet_core.specs.declared.replies.Reply.{Reply}
 use Rattle.fleet_core.specs.declared.replies.Reply.TheVariants.{Folded as FoldedIs, Discarded, Front as FrontIs, Memory}
 use Rattle.fleet_core.specs.Replying.{refusal_reply, taken_reply, read_reply, fault_reply}
 use Rattle.fleet_core.specs.AtNode.{OwnFollows}
+use Rattle.fleet_core.specs.Calls.{Takes}
 use Rattle.segment_core.proofs.Finality.{fold_is_final}
+use Rattle.segment_core.proofs.Taking.{take_tells, take_sound}
+use Rattle.segment_state.proofs.Knowing.{unchanged_exactly, no_conflict}
 
 -- a step that is replied Memory, and changes nothing
-pub take_without_memory : (readers : ℕ) (other : Option State) (s : State) (node : ℕ) (fact : Fact) → OwnFollows readers s other (Take node fact) Memory s
+take_without_memory : (readers : ℕ) (other : Option State) (s : State) (node : ℕ) (fact : Fact) → OwnFollows readers s other (Take node fact) Memory s
 take_without_memory readers other s node fact = λ roster log facts others messages size sound t means beside. (inl refl, means)
 
 fold_without_memory : (readers : ℕ) (other : Option State) (s : State) (node g : ℕ) → OwnFollows readers s other (Fold node g) Memory s
@@ -48,7 +51,7 @@ refused_at readers other old new node fact why reply sound same is = λ roster l
     (subst (λ x. OwnFollows readers old other (Take node fact) Memory x) (sym same)
     (take_without_memory readers other old node fact)) roster log facts others messages size s t means beside
 
-pub follows_take : (readers : ℕ) (other : Option State) (old new : State) (node : ℕ) (fact : Fact) (answer : Result Taken (Refused Fact Refusal))
+follows_take : (readers : ℕ) (other : Option State) (old new : State) (node : ℕ) (fact : Fact) (answer : Result Taken (Refused Fact Refusal))
     (reply : Reply) → OnOk answer (TakesFact old fact new) → IfOk answer (TellsChange old fact) → IfErr answer
     (λ e. FitsSoundLog old fact → e.fault ≡ refusal.Memory) → OnErr answer (new ≡ old) → reply ≡ taken_reply answer → OwnFollows readers old other
     (Take node fact) reply new
@@ -68,6 +71,14 @@ follows_take readers other old new node fact (Ok taken.Unchanged) reply takes te
     (inr (inr (refl, λ m before. (tells roster log facts m s t means before).0 refl)), takes roster log facts s t means))
 follows_take readers other old new node fact (Err refused) reply takes tells sound same is =
     refused_at readers other old new node fact refused.fault reply sound same is
+
+-- a take that is replied as the segment answers it
+pub follows_taken : (readers : ℕ) (other : Option State) (old new : State) (node : ℕ) (fact : Fact) (reply : Reply) → Takes old fact reply new
+    → OwnFollows readers old other (Take node fact) reply new
+follows_taken readers other old new node fact reply takes =
+    let e = takes.1 in
+    follows_take readers other old new node fact takes.0 reply e.means (take_tells unchanged_exactly old fact takes.0 e.known)
+    (take_sound no_conflict old fact takes.0 e.refused) e.unchanged takes.2
 
 pub follows_front : (readers : ℕ) (other : Option State) (s : State) (node : ℕ) (front : Front)
     → ((roster : ℕ) (log facts : List Fact) (p : Position) → IsSound roster log → MeansAt roster log facts p s → IsFrontAt p front)

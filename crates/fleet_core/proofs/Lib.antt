@@ -4,6 +4,7 @@ pub mod Numbering
 pub mod Uncovering
 pub mod Exchanging
 pub mod Carrying
+pub mod Uncopied
 pub mod Places
 pub mod Nodes
 pub mod Pairing

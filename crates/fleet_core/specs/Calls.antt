@@ -36,11 +36,9 @@ use Rattle.fleet_core.specs.Replying.{taken_reply, fault_reply, read_reply, join
 abbrev pub LacksMemory : State → Reply → State → Type 0
 LacksMemory old reply new = (reply ≡ Memory) × (new ≡ old)
 
--- the segment takes the fact
+-- the segment takes the fact, and what it answers is replied
 abbrev pub Takes : State → Fact → Reply → State → Type 0
-Takes old fact reply new =
-    LacksMemory old reply new
-    ⊎ ((answer : Result Taken (Refused Fact Refusal)) × TakesExactly old fact answer new × (reply ≡ taken_reply answer))
+Takes old fact reply new = (answer : Result Taken (Refused Fact Refusal)) × TakesExactly old fact answer new × (reply ≡ taken_reply answer)
 
 -- the page that was planned is committed; there is no plan where the segment has none
 abbrev pub CommitsPlan : State → Result Folded ReadFault → Reply → State → Type 0

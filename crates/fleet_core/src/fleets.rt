@@ -5,7 +5,7 @@ ghost use Rattle.segment_state.specs.State.{State};
 ghost use Rattle.fleet_steps.specs.Nodes.{nodes_of, first_missing};
 ghost use Rattle.fleet_steps.specs.declared.steps.Step.TheVariants.{Take as TakeOf, Fold as FoldOf, Wipe as WipeOf};
 ghost use Rattle.fleet_core.specs.AtNode.{OwnFollows, IsCarriedOut, CarriesOut};
-ghost use Rattle.fleet_core.specs.Calls.{StepCalls, RunCalls, Takes, Folds, Wipes};
+ghost use Rattle.fleet_core.specs.Calls.{StepCalls, RunCalls, Folds, Wipes};
 ghost use Rattle.fleet_core.specs.FleetState.{empty_fleet};
 ghost use Rattle.fleet_core.specs.Machine.{empty_machine};
 ghost use Rattle.fleet_core.specs.Messages.{LacksMessage};
@@ -18,7 +18,8 @@ use crate::asking::{absorb_answer, answer_question, ask};
 use crate::making::Made;
 use crate::pairs::{covers_beside, join_beside, same_beside};
 use crate::replies::Reply;
-use crate::replying::{fault_reply, read_reply, taken_reply};
+use crate::replying::{fault_reply, read_reply};
+use crate::taking::{take_copy, take_fact};
 use fleet_steps::Step;
 use redo_core::{Fact, Roster};
 use segment_core::{CommitFault, Segment};
@@ -178,31 +179,6 @@ fn take_at(segments: &mut [Segment], place: usize, node: u16, fact: Fact) -> Rep
     ensures { (readers : ℕ) (messages : List Made) → CarriesOut readers segments.old place place messages (TakeOf node fact) result segments.new messages }
 {
     take_fact(&mut segments[place], fact)
-}
-
-/// Takes a fact.
-fn take_fact(segment: &mut Segment, fact: Fact) -> Reply
-    ensures follows { (readers node : ℕ) (other : Option State) → OwnFollows readers segment.old other (TakeOf node fact) result segment.new }
-    ensures calls { Takes segment.old fact result segment.new }
-    ensures found { (node : ℕ) → result ≡ NoNode node → ⊥ }
-    ensures named { (number : ℕ) → result ≡ NoMessage number → ⊥ }
-    ensures refused { IsRefusal result → segment.new ≡ segment.old }
-{
-    taken_reply(segment.take(fact))
-}
-
-/// Takes a copy of a fact.
-fn take_copy(segment: &mut Segment, fact: &Fact) -> Reply
-    ensures follows { (readers node : ℕ) (other : Option State) → OwnFollows readers segment.old other (TakeOf node fact.now) result segment.new }
-    ensures calls { Takes segment.old fact.now result segment.new }
-    ensures found { (node : ℕ) → result ≡ NoNode node → ⊥ }
-    ensures named { (number : ℕ) → result ≡ NoMessage number → ⊥ }
-    ensures refused { IsRefusal result → segment.new ≡ segment.old }
-{
-    match fact.copy() {
-        Ok(fact) => take_fact(segment, fact),
-        Err(_) => Reply::Memory,
-    }
 }
 
 /// Folds a page to the segment's anchor, and commits it.

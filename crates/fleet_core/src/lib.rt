@@ -18,6 +18,7 @@ mod making;
 mod pairs;
 mod replies;
 mod replying;
+mod taking;
 
 pub use fleet_steps::Step;
 pub use fleets::Fleet;

@@ -4,15 +4,12 @@ use Rattle.fleet_core.specs.declared.replies.Reply.TheVariants.{Front as FrontIs
 use Rattle.fleet_core.specs.declared.making.Made.{Made}
 use Rattle.fleet_core.specs.MessageCalls.{AbsorbsNumber}
 use Rattle.fleet_core.proofs.Following.{follows_front, follows_read}
-use Rattle.fleet_core.proofs.Carrying.{own_step, never_no_node, never_no_message, ask_step, answer_step, absorb_step}
+use Rattle.fleet_core.proofs.Carrying.{own_step, take_step, never_no_node, never_no_message, ask_step, answer_step, absorb_step}
 use Rattle.fleet_core.proofs.fleets.carry_out.Goals as goal
 
 pub returns-in-Take : goal.returns-in-Take
 returns-in-Take c =
-    let e = c.take_copy.ensures in
-    let other = option_copied c.args.other in
-    rw c.in-Take.is
-    (own_step c.args.roster _ other _ _ _ _ (λ told facts. refl) refl (e.follows c.args.roster c.in-Take.node other) (e.calls, refl) e.found e.named e.refused)
+    rw c.in-Take.is (take_step c.args.roster _ (option_copied c.args.other) _ c.in-Take.node _ _ _ c.take_copy.ensures)
 
 pub returns-in-Fold : goal.returns-in-Fold
 returns-in-Fold c =
