@@ -1,5 +1,5 @@
 -- The subcommand that a parse entered, and the words that name it.
-use Rattle.std.proofs.Common.{◌≡◌, ◌∙◌, ◌↔◌, ℕ, List, [], ◌∷◌, Option, Some, None, Result, Ok, Err, Bool, IsTrue, option_map, map, Box, codes, true, false, refl, sym, subst, ap, get_or, arith}
+use Rattle.std.proofs.Common.{◌≡◌, ◌∙◌, ◌↔◌, ℕ, List, [], ◌∷◌, Option, Some, None, Result, Ok, Bool, IsTrue, option_map, map, Box, codes, true, false, refl, sym, subst, ap, get_or, arith}
 use Rattle.std.specs.List.{list_any}
 use Rattle.std.specs.Str.{bytes_eq}
 use Rattle.std.specs.Box.{box_value}
@@ -10,15 +10,17 @@ use Rattle.clap.specs.declared.parser.matches.ArgMatches.TheViews.{out-ArgMatche
 use Rattle.clap.specs.declared.parser.matches.SubCommand.{SubCommand}
 use Rattle.clap.proofs.OnLiterals.{clap_on_literals}
 use Rattle.clap.proofs.WalkLemmas.{list_any-map}
-use Rattle.fleet_tool.specs.CommandLine.{AsksDrill, NameTask, fleet_app, line_faults, subcommand_in}
+use Rattle.fleet_tool.specs.CommandLine.{AsksDrill, NameTask, NameExplained, fleet_app, line_faults, subcommand_in}
 use Rattle.fleet_tool.specs.DrillLine.{IsDrillTask, SpellsDrill}
 use Rattle.fleet_tool.specs.declared.job.LineFault.{LineFault}
 use Rattle.fleet_tool.specs.declared.job.Task.{Task}
-use Rattle.fleet_tool.specs.declared.job.Task.TheVariants.{Text, Drill}
+use Rattle.fleet_tool.specs.declared.job.Task.TheVariants.{Drill}
 use Rattle.fleet_tool.specs.declared.drill_line.DrillTask.{DrillTask}
-use Rattle.fleet_tool.specs.TaskName.{name_of}
+use Rattle.fleet_tool.specs.TaskName.{name_of, as_text_task}
 use Rattle.fleet_tool.specs.declared.job.TextTask.{TextTask}
 use Rattle.fleet_tool.specs.declared.job.TextTask.TheVariants.{Run, Check, Inspect}
+use Rattle.fleet_tool.specs.declared.job.LinesTask.{LinesTask}
+use Rattle.fleet_tool.specs.declared.job.LinesTask.TheVariants as lines
 
 -- the name and the rows of one subcommand
 rows_by_name : {Z : Type 0} (o : Option (Box SubCommand Z)) (name : List ℕ) (rows : List Row)
@@ -49,12 +51,28 @@ unfolding subcommand_in
 entered_is m words app is has =
     let whole = subst (λ (a : App). HasMatchesOf a words m) is has in (whole simple).1
 
--- the words of a text's task enter it
-pub enters : (program : List ℕ) (task : TextTask) → subcommand_in (program ∷ name_of task ∷ []) ≡ Some (name_of task, [])
+-- the first of a pair that is there
+name_alone : (o : Option (List ℕ × List Row)) (name : List ℕ) → option_map (λ p. p.0) o ≡ Some name → (rows : List Row) × (o ≡ Some (name, rows))
+name_alone None name is = absurd cc
+name_alone (Some p) name is = let e : p.0 ≡ name = cc in (p.1, ap (λ n. Some (n, p.1)) e)
+
+pub entered_first : (m : ArgMatches) (words : List (List ℕ)) (name : List ℕ) → subcommand_rows_of m ≡ subcommand_in words
+    → option_map (λ p. p.0) (subcommand_in words) ≡ Some name → subcommand_name_of m ≡ Some name
+entered_first m words name entered is =
+    let named = name_alone (subcommand_in words) name is in entered_name m name named.0 (entered ∙ named.1)
+
+-- the words of a text's task enter it, with the option too
+pub enters : (program : List ℕ) (task : TextTask) → option_map (λ p. p.0) (subcommand_in (program ∷ name_of task ∷ [])) ≡ Some (name_of task)
 unfolding clap_on_literals subcommand_in
 enters program Run = refl
 enters program Check = refl
 enters program Inspect = refl
+
+pub enters_explained : (program : List ℕ) (task : LinesTask)
+    → option_map (λ p. p.0) (subcommand_in (program ∷ name_of (as_text_task task) ∷ codes "--explain" ∷ [])) ≡ Some (name_of (as_text_task task))
+unfolding clap_on_literals subcommand_in
+enters_explained program lines.Run = refl
+enters_explained program lines.Check = refl
 
 first_differs : (n : ℕ) → n ≡ 100 → (n ≡ 100 → ⊥) → ⊥
 first_differs n is differs = differs is
@@ -66,12 +84,18 @@ no_drill Check e = first_differs 99 (ap (λ (t : List ℕ). get_or t 0 0) e) (om
 no_drill Inspect e = first_differs 105 (ap (λ (t : List ℕ). get_or t 0 0) e) (omega arith)
 
 -- words that name a text's task enter no drill
+other_entered : (m : ArgMatches) (task : TextTask) → subcommand_name_of m ≡ Some (name_of task) → subcommand_name_of m ≡ Some (codes "drill") → ⊥
+other_entered m task name is = no_drill task cc
+
 pub no_drill_entered : (m : ArgMatches) (words : List (List ℕ)) (task : TextTask) → subcommand_rows_of m ≡ subcommand_in words → NameTask words task
     → subcommand_name_of m ≡ Some (codes "drill") → ⊥
 no_drill_entered m words task entered names is =
-    let rows : subcommand_in words ≡ Some (name_of task, []) = rw names.1 (enters names.0 task) in
-    let name : subcommand_name_of m ≡ Some (name_of task) = entered_name m (name_of task) [] (entered ∙ rows) in
-    no_drill task cc
+    other_entered m task (entered_first m words (name_of task) entered (rw names.1 (enters names.0 task))) is
+
+pub no_drill_explained : (m : ArgMatches) (words : List (List ℕ)) (task : LinesTask) → subcommand_rows_of m ≡ subcommand_in words → NameExplained words task
+    → subcommand_name_of m ≡ Some (codes "drill") → ⊥
+no_drill_explained m words task entered names is =
+    other_entered m (as_text_task task) (entered_first m words (name_of (as_text_task task)) entered (rw names.1 (enters_explained names.0 task))) is
 
 -- words that ask for a drill enter it
 pub drill_entered : (m : ArgMatches) (words : List (List ℕ)) (task : DrillTask) → subcommand_rows_of m ≡ subcommand_in words → AsksDrill words task
@@ -102,9 +126,6 @@ drill_asked m words found task options entered name rows spells right whole same
 pub same_drill : (found task : DrillTask) → ◌≡◌ {A = Result Task LineFault} (Ok (Drill found)) (Ok (Drill task)) → found ≡ task
 same_drill found task is = cc
 
-pub same_text_task : (found task : TextTask) → ◌≡◌ {A = Result Task LineFault} (Ok (Text found)) (Ok (Text task)) → found ≡ task
-same_text_task found task is = cc
-
 pub true_is_false : (b : Bool) → b ≡ true → b ≡ false → ⊥
 true_is_false b holds fails = absurd cc
 
@@ -118,6 +139,3 @@ out_of_range found task b is tells out range =
 pub mark_is : {S : Type 0} (text : S → List ℕ) (ws : List S) (b : Bool) → b ≡ list_any (λ w. bytes_eq (text w) (codes "--")) ws
     → list_any (λ word. bytes_eq word (codes "--")) (map text ws) ≡ b
 mark_is text ws b is = sym (is ∙ list_any-map (λ word. bytes_eq word (codes "--")) text ws)
-
-pub err_is_ok : {A E : Type 0} (e : E) (x : A) → Err e ≡ Ok x → ⊥
-err_is_ok e x is = absurd cc

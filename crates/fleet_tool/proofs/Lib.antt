@@ -2,7 +2,6 @@ pub mod Captures
 pub mod Steps
 pub mod Outputs
 pub mod OneText
-pub mod TaskWords
 pub mod TakenWords
 pub mod Whys
 pub mod DrillWords

@@ -1,5 +1,5 @@
 -- Why a command line names no task.
-use Rattle.std.proofs.Common.{◌≡◌, inl, inr, ℕ, List, [], Result, true, refl, sym, subst}
+use Rattle.std.proofs.Common.{◌≡◌, inl, inr, ℕ, List, [], Result, Ok, Err, IfErr, true, refl, sym, subst}
 use Rattle.clap.specs.Words.{App, Kinds, FailsBy, HasKind, fault_of, is_simple_and_free, kind_of}
 use Rattle.clap.specs.declared.error.Error.{Error}
 use Rattle.clap.specs.declared.error.kind.ErrorKind.TheVariants.{OutOfMemory}
@@ -18,8 +18,10 @@ pub line_fails : {T : Type 0} (app : App) (words : List (List ℕ)) (r : Result 
 unfolding line_faults
 line_fails {T} app words r e h = subst (λ (a : App). is_simple_and_free a ≡ true → FailsBy (fault_of a words) r) e h simple
 
-pub bad_why : (kinds : Kinds) (fault : LineFault) → kinds ≡ [] → fault ≡ Bad → IsWhy kinds fault
-bad_why kinds fault none is = subst (IsWhy kinds) (sym is) (inl none)
+-- words that clap takes are bad where they are no task's
+pub bad_why : {T : Type 0} (kinds : Kinds) (r : Result T LineFault) → kinds ≡ [] → IfErr r (λ e. e ≡ Bad) → IfErr r (IsWhy kinds)
+bad_why kinds (Ok task) none is = tt
+bad_why kinds (Err fault) none is = subst (IsWhy kinds) (sym is) (inl none)
 
 -- words without a fault fail for want of memory alone
 pub only_memory : (kinds : Kinds) (e : Error) → kinds ≡ [] → HasKind kinds e → kind_of e ≡ OutOfMemory

@@ -2,14 +2,16 @@
 use Rattle.std.specs.Prelude.{◌≡◌, ◌⊎◌, ℕ, List, [], ◌∷◌, Option, Some, codes, true, false}
 use Rattle.std.specs.List.{list_any}
 use Rattle.std.specs.Str.{bytes_eq}
-use Rattle.clap.specs.Words.{App, Kinds, IsAmong, Row, new_app, with_subcommand, fault_of, subcommand_of}
+use Rattle.clap.specs.Words.{App, Kinds, IsAmong, Row, Rule, Shape, new_app, new_rule, with_subcommand, fault_of, subcommand_of}
+use Rattle.clap.specs.declared.builder.action.ArgAction.TheVariants.{SetTrue}
 use Rattle.clap.specs.declared.error.kind.ErrorKind.{ErrorKind}
 use Rattle.clap.specs.declared.error.kind.ErrorKind.TheVariants.{DisplayHelp, DisplayVersion}
 use Rattle.fleet_tool.specs.declared.job.LineFault.{LineFault}
 use Rattle.fleet_tool.specs.declared.job.LineFault.TheVariants.{Help, Bad, Memory}
 use Rattle.fleet_tool.specs.declared.job.TextTask.{TextTask}
 use Rattle.fleet_tool.specs.declared.drill_line.DrillTask.{DrillTask}
-use Rattle.fleet_tool.specs.TaskName.{name_of}
+use Rattle.fleet_tool.specs.TaskName.{name_of, as_text_task}
+use Rattle.fleet_tool.specs.declared.job.LinesTask.{LinesTask}
 use Rattle.fleet_tool.specs.DrillLine.{drill_shape, SpellsDrill}
 
 -- the command, with a version, and its subcommands, of which the drill alone has words of its own
@@ -22,8 +24,19 @@ top = record (new_app (codes "fleet")) {
   };
 }
 
+-- the flag that has an answer explained
+abbrev pub explain_rule : Rule
+explain_rule = record (new_rule (codes "explain")) {
+  long = Some (codes "explain");
+  action = Some SetTrue;
+}
+
+-- a task over lines, with that flag
+abbrev pub lines_shape : List ℕ → Shape
+lines_shape name = record (new_app name).top { rules = explain_rule ∷ [] }
+
 abbrev pub texts_app : App
-texts_app = with_subcommand (with_subcommand (with_subcommand top (new_app (codes "run")).top) (new_app (codes "check")).top) (new_app (codes "inspect")).top
+texts_app = with_subcommand (with_subcommand (with_subcommand top (lines_shape (codes "run"))) (lines_shape (codes "check"))) (new_app (codes "inspect")).top
 
 abbrev pub fleet_app : App
 fleet_app = with_subcommand texts_app drill_shape
@@ -39,6 +52,10 @@ subcommand_in words = subcommand_of fleet_app words
 -- the words are the program's and the task's
 abbrev pub NameTask : List (List ℕ) → TextTask → Type 0
 NameTask words task = (program : List ℕ) × (words ≡ program ∷ name_of task ∷ [])
+
+-- the words are the program's, the task's and the option's
+abbrev pub NameExplained : List (List ℕ) → LinesTask → Type 0
+NameExplained words task = (program : List ℕ) × (words ≡ program ∷ name_of (as_text_task task) ∷ codes "--explain" ∷ [])
 
 -- The words name the drill and spell its numbers and its size, as clap takes them: they have no fault, and no word that it leaves out.
 pub record AsksDrill (words : List (List ℕ)) (task : DrillTask) : Type 0 where

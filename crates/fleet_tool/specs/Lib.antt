@@ -6,6 +6,7 @@ pub mod OneOutput
 pub mod TextCall
 pub mod Ending
 pub mod TaskName
+pub mod Explaining
 pub mod DrillLine
 pub mod CommandLine
 pub mod PlainDrill

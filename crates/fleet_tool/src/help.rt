@@ -27,6 +27,10 @@ pub const RUN: &str = "Input, a line each; fields stand between single spaces:
 Statuses: 0 answered, 2 a bad line, 3 a log that is not sound, 4 a device that failed, 5 no memory.
 All forms and answers stand in docs/FORMATS.md.";
 
+/// What stands beside the option of `run` and `check`.
+pub const EXPLAIN: &str =
+    "Also says on standard error why a line is bad, or with which fact a law is broken";
+
 pub const CHECK: &str =
     "Input, a line each: the lines roster, rec, cut and min of a script (see fleet run --help).
 Output: sound and the number of facts, or the first fact that breaks a law, or the first bad line.

@@ -3,15 +3,15 @@
 ghost use Rattle.std.specs.Prelude.{◌≡◌, ◌∷◌, [], IfOk, IfErr, Ok, codes, map};
 ghost use Rattle.std.specs.List.{list_any};
 ghost use Rattle.std.specs.Str.{bytes_eq};
-ghost use Rattle.clap.specs.Words.{app_of, kind_of, Kinds, HasKind};
-ghost use Rattle.fleet_tool.specs.CommandLine.{fleet_app, line_faults, NameTask, AsksDrill, IsWhy};
+ghost use Rattle.clap.specs.Words.{app_of, shape_of, kind_of, Kinds, HasKind};
+ghost use Rattle.fleet_tool.specs.CommandLine.{fleet_app, lines_shape, line_faults, NameTask, NameExplained, AsksDrill, IsWhy};
 ghost use Rattle.fleet_tool.specs.DrillLine.{IsDrillTask};
-ghost use Rattle.fleet_tool.specs.TaskName.{name_of};
+ghost use Rattle.fleet_tool.specs.TaskName.{name_of, as_text_task};
 
 use crate::drill_line::{DrillTask, drill_command, drill_in};
 use crate::help;
 use clap::error::ErrorKind;
-use clap::{Command, Error};
+use clap::{Arg, ArgAction, Command, Error};
 use std::alloc::{AllocError, Global};
 use std::convert::AsStr;
 use thiserror::Error as ErrorTraits;
@@ -24,10 +24,30 @@ pub enum TextTask {
     Inspect,
 }
 
-/// What the command line asks for: an answer to what stands on standard input, or a drill.
+/// An answer to a script or to a log, whose lines may be bad and whose facts may break a law.
+#[derive(Clone, Copy, Debug, PartialEq, Eq)]
+pub enum LinesTask {
+    Run,
+    Check,
+}
+
+impl LinesTask {
+    /// The task of the same name.
+    pub fn text_task(self) -> TextTask
+        ensures { result ≡ as_text_task self }
+    {
+        match self {
+            LinesTask::Run => TextTask::Run,
+            LinesTask::Check => TextTask::Check,
+        }
+    }
+}
+
+/// What the command line asks for: an answer to what stands on standard input, one that standard error explains, or a drill.
 #[derive(Clone, Copy, Debug, PartialEq, Eq)]
 pub enum Task {
     Text(TextTask),
+    Explained(LinesTask),
     Drill(DrillTask),
 }
 
@@ -43,15 +63,40 @@ pub enum LineFault {
     Memory,
 }
 
+// A task over lines, which may be explained.
+fn lines_command<'a>(
+    alloc: Global,
+    name: &'a str,
+    about: &'a str,
+    forms: &'a str,
+) -> Result<Command<'a>, AllocError>
+    ensures { IfOk result (λ c. shape_of c ≡ lines_shape name.entry.now) }
+{
+    let explain = Arg::new(alloc, "explain")
+        .long("explain")
+        .help(help::EXPLAIN)
+        .action(ArgAction::SetTrue);
+    Command::new(alloc, name)
+        .about(about)
+        .after_help(forms)
+        .arg(explain)
+}
+
 fn command<'a>(alloc: Global) -> Result<Command<'a>, AllocError>
     ensures { IfOk result (λ c. app_of c ≡ fleet_app) }
 {
-    let run = Command::new(alloc, "run")
-        .about("Answers the script on standard input")
-        .after_help(help::RUN);
-    let check = Command::new(alloc, "check")
-        .about("Tells whether the log on standard input is sound")
-        .after_help(help::CHECK);
+    let run = lines_command(
+        alloc,
+        "run",
+        "Answers the script on standard input",
+        help::RUN,
+    )?;
+    let check = lines_command(
+        alloc,
+        "check",
+        "Tells whether the log on standard input is sound",
+        help::CHECK,
+    )?;
     let inspect = Command::new(alloc, "inspect")
         .about("Tells what each line of hexadecimal digits on standard input spells")
         .after_help(help::INSPECT);
@@ -104,6 +149,43 @@ fn task_of(name: &str) -> Result<TextTask, LineFault>
     }
 }
 
+// The task of this name and this option; `Bad` where they are no such ones.
+fn explained_of(name: &str, option: &str) -> Result<LinesTask, LineFault>
+    ensures named { IfOk result (λ task. name.now ≡ name_of (as_text_task task)) }
+    ensures option { IfOk result (λ _. option.now ≡ codes "--explain") }
+    ensures known { (task : LinesTask) → name.now ≡ name_of (as_text_task task) → option.now ≡ codes "--explain" → result ≡ Ok task }
+    ensures bad { IfErr result (λ e. e ≡ LineFault.Bad) }
+{
+    match (task_of(name), option) {
+        (Ok(TextTask::Run), "--explain") => Ok(LinesTask::Run),
+        (Ok(TextTask::Check), "--explain") => Ok(LinesTask::Check),
+        _ => Err(LineFault::Bad),
+    }
+}
+
+// The task over standard input that the words name, by themselves or with the option.
+fn text_task_of<S: AsStr>(words: &[S]) -> Result<Task, LineFault>
+    ensures text { (task : TextTask) → result ≡ Ok (Task.Text task) → (program word : S) × (words.now ≡ program ∷ word ∷ []) × (S.text word ≡ name_of task) }
+    ensures explained { (task : LinesTask) → result ≡ Ok (Task.Explained task) → (program word option : S) × (words.now ≡ program ∷ word ∷ option ∷ [])
+        × (S.text word ≡ name_of (as_text_task task)) × (S.text option ≡ codes "--explain") }
+    ensures drill { (task : DrillTask) → result ≡ Ok (Task.Drill task) → ⊥ }
+    ensures taken { (task : TextTask) → NameTask (map S.text words.now) task → result ≡ Ok (Task.Text task) }
+    ensures explained_taken { (task : LinesTask) → NameExplained (map S.text words.now) task → result ≡ Ok (Task.Explained task) }
+    ensures bad { IfErr result (λ e. e ≡ LineFault.Bad) }
+{
+    match words {
+        [_, name] => match task_of(name.as_str()) {
+            Ok(task) => Ok(Task::Text(task)),
+            Err(fault) => Err(fault),
+        },
+        [_, name, option] => match explained_of(name.as_str(), option.as_str()) {
+            Ok(task) => Ok(Task::Explained(task)),
+            Err(fault) => Err(fault),
+        },
+        _ => Err(LineFault::Bad),
+    }
+}
+
 // Whether a word is `--`, behind which no word is an option: clap leaves it out.
 fn has_mark<S: AsStr>(words: &[S]) -> bool
     ensures { result ≡ list_any (λ word. bytes_eq (S.text word) (codes "--")) words.now }
@@ -113,12 +195,17 @@ fn has_mark<S: AsStr>(words: &[S]) -> bool
 
 /// The task that the words of the command line name; the first word is the program's. A drill is within its ranges.
 ///
+/// `--explain` stands behind `run` or `check` alone.
+///
 /// Errors: `Help` where the words ask for it or for the version, `Bad` for other words than the task's own, `Memory`.
 pub fn job_of<S: AsStr>(alloc: Global, words: &[S]) -> Result<Task, LineFault>
     ensures text { (task : TextTask) → result ≡ Ok (Task.Text task) → (program word : S) × (words.now ≡ program ∷ word ∷ []) × (S.text word ≡ name_of task) }
+    ensures explained { (task : LinesTask) → result ≡ Ok (Task.Explained task) → (program word option : S) × (words.now ≡ program ∷ word ∷ option ∷ [])
+        × (S.text word ≡ name_of (as_text_task task)) × (S.text option ≡ codes "--explain") }
     ensures drill { (task : DrillTask) → result ≡ Ok (Task.Drill task) → AsksDrill (map S.text words.now) task }
     ensures range { (task : DrillTask) → result ≡ Ok (Task.Drill task) → IsDrillTask task }
     ensures taken { (task : TextTask) → NameTask (map S.text words.now) task → IfErr result (λ e. e ≡ LineFault.Memory) }
+    ensures explained_taken { (task : LinesTask) → NameExplained (map S.text words.now) task → IfErr result (λ e. e ≡ LineFault.Memory) }
     ensures drilled { (task : DrillTask) → AsksDrill (map S.text words.now) task → IsDrillTask task → IfErr result (λ e. e ≡ LineFault.Memory) }
     ensures why { IfErr result (IsWhy (line_faults (map S.text words.now))) }
 {
@@ -139,15 +226,6 @@ pub fn job_of<S: AsStr>(alloc: Global, words: &[S]) -> Result<Task, LineFault>
         }
         return Ok(Task::Drill(task));
     }
-    // Another task has no words of its own, and `--` would be one that clap leaves out.
-    if words.len() != 2 {
-        return Err(LineFault::Bad);
-    }
-    match words {
-        [_, name] => match task_of(name.as_str()) {
-            Ok(task) => Ok(Task::Text(task)),
-            Err(fault) => Err(fault),
-        },
-        _ => unreachable!(),
-    }
+    // What else a task might be given, clap has refused, or it is `--`, which clap would leave out.
+    text_task_of(words)
 }

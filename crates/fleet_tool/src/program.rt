@@ -6,9 +6,9 @@ use crate::answer::Verdict;
 use crate::drill_line::DrillTask;
 use crate::drilling::drill_text;
 use crate::ending::{status_of, words_of};
-use crate::job::{LineFault, Task, TextTask, complaint, job_of};
+use crate::job::{LineFault, LinesTask, Task, TextTask, complaint, job_of};
 use crate::named::Named;
-use crate::run::{check_text, inspect_text, run_text};
+use crate::run::{check_text, explain_text, inspect_text, run_text};
 use line_stream::{RunFault, Watched};
 use std::alloc::AllocError;
 use std::process::ExitCode;
@@ -63,6 +63,19 @@ fn answer_input(rt: &(impl Input + Print + Eprint + AllocGlobal), task: TextTask
     status_after(rt, ended)
 }
 
+/// The same, and the reason on standard error.
+fn explain_input(rt: &(impl Input + Print + Eprint + AllocGlobal), task: LinesTask) -> ExitCode {
+    let mut reader = Watched::new(rt.reader());
+    let mut writer = Watched::new(io::writer(rt));
+    let ended = explain_text(rt.alloc(), task, &mut reader, &mut writer);
+    if let Ok(explained) = &ended {
+        if let Some(reason) = &explained.reason {
+            let _ = rt.eprintln(format_args!("fleet: {reason}"));
+        }
+    }
+    status_after(rt, ended.map(|explained| explained.verdict))
+}
+
 /// A drill, to standard output.
 fn run_drill<R: Print + Eprint + AllocGlobal + Threads + Wait + Sync>(
     rt: &R,
@@ -80,7 +93,8 @@ fn run_drill<R: Print + Eprint + AllocGlobal + Threads + Wait + Sync>(
     status_after(rt, ended.map(|()| Verdict::Done))
 }
 
-/// What the program `fleet` does, by its command line: an answer from standard input to standard output, a drill, or the help.
+/// What the program `fleet` does, by its command line: an answer from standard input to standard output, perhaps with its reason on
+/// standard error, a drill, or the help.
 ///
 /// Statuses: 0 done, 2 a bad line or a bad command line, 3 a log that is not sound, 4 a device that failed, 5 no memory.
 pub fn run_program<R: Env + Input + Print + Eprint + AllocGlobal + Threads + Wait + Sync>(
@@ -99,6 +113,7 @@ pub fn run_program<R: Env + Input + Print + Eprint + AllocGlobal + Threads + Wai
     };
     match job_of(rt.alloc(), words.as_slice()) {
         Ok(Task::Text(task)) => answer_input(rt, task),
+        Ok(Task::Explained(task)) => explain_input(rt, task),
         Ok(Task::Drill(task)) => run_drill(rt, task),
         Err(LineFault::Help(text)) => match print!(rt; "{text}") {
             Ok(_) => ExitCode::SUCCESS,

@@ -1,13 +1,16 @@
 //! From a reader to a writer.
 
-ghost use Rattle.std.specs.Prelude.{◌≡◌, false};
+ghost use Rattle.std.specs.Prelude.{◌≡◌, IfSome, false};
+ghost use Rattle.fleet_tool.specs.Explaining.{IsTrueReason};
 ghost use Rattle.fleet_tool.specs.Inspect.{inspected};
 ghost use Rattle.fleet_tool.specs.Output.{IsOutputOf};
+ghost use Rattle.fleet_tool.specs.TaskName.{as_text_task};
 ghost use Rattle.fleet_tool.specs.TextCall.{IsTextCall};
 ghost use Rattle.line_stream.specs.Watching.{has_failed};
 
 use crate::answer::{Verdict, answer};
-use crate::job::TextTask;
+use crate::explaining::{Reason, reason_of};
+use crate::job::{LinesTask, TextTask};
 use line_stream::{RunFault, Watched, read_all, write_all};
 use std::alloc::Global;
 use std::io::{Read, Write};
@@ -58,6 +61,38 @@ pub fn check_text<R: Read, W: Write>(
     ensures { IsTextCall R.remaining W.contents (IsOutputOf TextTask.Check) reader.old reader.new writer.old writer.new result }
 {
     answer_text(alloc, TextTask::Check, reader, writer)
+}
+
+/// How an answered script or log ended, and why where its text names a bad line or a fault.
+#[derive(Clone, Copy, Debug, PartialEq, Eq)]
+pub struct Explained {
+    pub verdict: Verdict,
+    pub reason: Option<Reason>,
+}
+
+/// Answers a script or a log as `run_text` and `check_text` do, and gives a reason that is true where the text names a bad line or a
+/// fault.
+///
+/// Errors as for `run_text`.
+pub fn explain_text<R: Read, W: Write>(
+    alloc: Global,
+    task: LinesTask,
+    reader: &mut Watched<R>,
+    writer: &mut Watched<W>,
+) -> Result<Explained, RunFault>
+    requires reader { has_failed reader.old ≡ false }
+    requires writer { has_failed writer.old ≡ false }
+    ensures { IsTextCall R.remaining W.contents (λ input text e. IsOutputOf (as_text_task task) input text e.verdict × IfSome e.reason (IsTrueReason task input))
+        reader.old reader.new writer.old writer.new result }
+{
+    let input = read_all(alloc, reader)?;
+    let reason = reason_of(alloc, task, &input)?;
+    let output = answer(alloc, task.text_task(), input)?;
+    write_all(writer, output.text.as_bytes())?;
+    Ok(Explained {
+        verdict: output.verdict,
+        reason,
+    })
 }
 
 /// Tells what each line of hexadecimal digits spells: a fact's line, what a summary, a delta or a piece of a snapshot holds,

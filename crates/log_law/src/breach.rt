@@ -30,19 +30,19 @@ pub enum Breach {
     #[error("epoch {epoch} has no truncation")]
     NotBegun { epoch: u16 },
     /// The truncation of the record's epoch, whose `hi` is not below its number (law 2).
-    #[error("the hi of the truncation at {place} is not below its number")]
+    #[error("its number is not above the hi of fact {place}")]
     NotAbove { place: u64 },
     /// The record that the backlink has to name, above the number that it names (laws 3 and 4).
-    #[error("the record at {place} is alive there and stands between the two")]
+    #[error("its backlink passes over the record of fact {place}")]
     Passes { place: u64 },
     /// The number that the backlink names, above those of all records that it may name (laws 3 and 4).
-    #[error("no record that its backlink may name has the number {number}")]
+    #[error("its backlink names {number}, which no record has that it may name")]
     NoTarget { number: u64 },
     /// The reader, outside the roster (law 5).
     #[error("reader {reader} is not of the roster")]
     NoReader { reader: u8 },
     /// The later truncation that all readers are past, whose `lo` is below the advance's point (law 5).
-    #[error("the truncation at {place} cuts below its point, and all readers are past it")]
+    #[error("fact {place} cuts below its point, and all readers are past that")]
     CutBelow { place: u64 },
 }
 

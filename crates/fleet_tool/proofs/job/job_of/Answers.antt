@@ -1,11 +1,10 @@
 use Rattle.std.proofs.Common.{◌∙◌, inl, ap, sym, map, refl, Ok, Err}
 use Rattle.clap.specs.Words.{takes, app_of}
 use Rattle.fleet_tool.specs.CommandLine.{line_faults}
-use Rattle.fleet_tool.proofs.TaskWords.{names_task}
-use Rattle.fleet_tool.proofs.TakenWords.{words_taken, length_of, second_names}
+use Rattle.fleet_tool.proofs.TakenWords.{words_taken, explained_taken}
 use Rattle.fleet_tool.proofs.Whys.{line_fails, bad_why, only_memory}
 use Rattle.fleet_tool.proofs.DrillWords.{none_is_some}
-use Rattle.fleet_tool.proofs.Entered.{entered_is, no_drill_entered, drill_entered, drill_spelled, drill_asked, same_drill, same_text_task, out_of_range, mark_is, true_is_false, err_is_ok}
+use Rattle.fleet_tool.proofs.Entered.{entered_is, no_drill_entered, no_drill_explained, drill_entered, drill_spelled, drill_asked, same_drill, out_of_range, mark_is, true_is_false}
 use Rattle.fleet_tool.proofs.job.job_of.Goals.{then-not-is_in_range-via-then-not-is_in_range, then-not-is_in_range-via-else-not-is_in_range+then-has_mark}
 use Rattle.fleet_tool.proofs.job.job_of.Goals as goal
 
@@ -15,6 +14,11 @@ pub returns-in-Err-try_get_matches_from-clause-taken : goal.returns-in-Err-try_g
 returns-in-Err-try_get_matches_from-clause-taken g c = λ task names.
     c.fault_of.ensures.memory (c.in-Err-try_get_matches_from.ensures.passes
     (ap (λ a. takes a (map g.S.AsStr.text c.args.words.now)) c.in-Ok.ensures ∙ words_taken _ task names))
+
+pub returns-in-Err-try_get_matches_from-clause-explained_taken : goal.returns-in-Err-try_get_matches_from-clause-explained_taken
+returns-in-Err-try_get_matches_from-clause-explained_taken g c = λ task names.
+    c.fault_of.ensures.memory (c.in-Err-try_get_matches_from.ensures.passes
+    (ap (λ a. takes a (map g.S.AsStr.text c.args.words.now)) c.in-Ok.ensures ∙ explained_taken _ task names))
 
 pub returns-in-Err-try_get_matches_from-clause-drilled : goal.returns-in-Err-try_get_matches_from-clause-drilled
 returns-in-Err-try_get_matches_from-clause-drilled g c = λ task asks range.
@@ -35,6 +39,11 @@ returns-in_default-drill_in-clause-taken g c = λ task names.
     let entered = entered_is _ _ (app_of c.in-Ok.command) c.in-Ok.ensures c.in-Ok-try_get_matches_from.ensures.matches in
     absurd (no_drill_entered _ _ task entered names (c.in-Some.ensures.found.0 refl))
 
+pub returns-in_default-drill_in-clause-explained_taken : goal.returns-in_default-drill_in-clause-explained_taken
+returns-in_default-drill_in-clause-explained_taken g c = λ task names.
+    let entered = entered_is _ _ (app_of c.in-Ok.command) c.in-Ok.ensures c.in-Ok-try_get_matches_from.ensures.matches in
+    absurd (no_drill_explained _ _ task entered names (c.in-Some.ensures.found.0 refl))
+
 pub returns-in_default-drill_in-clause-drilled : goal.returns-in_default-drill_in-clause-drilled
 returns-in_default-drill_in-clause-drilled g c = λ task asks range.
     let entered = entered_is _ _ (app_of c.in-Ok.command) c.in-Ok.ensures c.in-Ok-try_get_matches_from.ensures.matches in
@@ -49,6 +58,11 @@ pub returns-then-not-is_in_range-clause-taken : goal.returns-then-not-is_in_rang
 returns-then-not-is_in_range-clause-taken g c = λ task names.
     let entered = entered_is _ _ (app_of c.in-Ok.command) c.in-Ok.ensures c.in-Ok-try_get_matches_from.ensures.matches in
     absurd (no_drill_entered _ _ task entered names (c.in-Some.ensures.found.0 refl))
+
+pub returns-then-not-is_in_range-clause-explained_taken : goal.returns-then-not-is_in_range-clause-explained_taken
+returns-then-not-is_in_range-clause-explained_taken g c = λ task names.
+    let entered = entered_is _ _ (app_of c.in-Ok.command) c.in-Ok.ensures c.in-Ok-try_get_matches_from.ensures.matches in
+    absurd (no_drill_explained _ _ task entered names (c.in-Some.ensures.found.0 refl))
 
 pub returns-then-not-is_in_range-clause-drilled : goal.returns-then-not-is_in_range-clause-drilled
 returns-then-not-is_in_range-clause-drilled g c = λ task asks range.
@@ -74,34 +88,18 @@ returns-in-Some-clause-drill g c = λ task is.
 
 -- ---- another task
 
-pub returns-then-words-ne2-clause-taken : goal.returns-then-words-ne2-clause-taken
-returns-then-words-ne2-clause-taken g c = λ task names. absurd (c.if-words-ne2.true (length_of g.S.AsStr.text c.args.words.now task names))
+pub returns-clause-taken : goal.returns-clause-taken
+returns-clause-taken g c = λ task names. rw (c.text_task_of.ensures.taken task names) tt
 
-pub returns-then-words-ne2-clause-drilled : goal.returns-then-words-ne2-clause-drilled
-returns-then-words-ne2-clause-drilled g c = λ task asks range.
+pub returns-clause-explained_taken : goal.returns-clause-explained_taken
+returns-clause-explained_taken g c = λ task names. rw (c.text_task_of.ensures.explained_taken task names) tt
+
+pub returns-clause-drilled : goal.returns-clause-drilled
+returns-clause-drilled g c = λ task asks range.
     let entered = entered_is _ _ (app_of c.in-Ok.command) c.in-Ok.ensures c.in-Ok-try_get_matches_from.ensures.matches in
     absurd (true_is_false _ (c.in_default.ensures.found.1 (drill_entered _ _ task entered asks)) refl)
 
-pub returns-then-words-ne2-clause-why : goal.returns-then-words-ne2-clause-why
-returns-then-words-ne2-clause-why g c =
-    inl (line_fails {T = Unit {0}} (app_of c.in-Ok.command) (map g.S.AsStr.text c.args.words.now) (Ok tt) c.in-Ok.ensures c.in-Ok-try_get_matches_from.ensures.kinds)
-
-pub returns-in-Ok-task_of-clause-text : goal.returns-in-Ok-task_of-clause-text
-returns-in-Ok-task_of-clause-text g c = λ task is.
-    names_task g.S.AsStr.text c.args.words.now c.name-item.result c.as_str.result.now _ task c.in-len2.len_at_least c.in-len2.len_below c.name-item.is
-    c.as_str.ensures c.in-Ok-task_of.ensures.named (same_text_task _ task is)
-
-pub returns-in-len2-clause-taken : goal.returns-in-len2-clause-taken
-returns-in-len2-clause-taken g c = λ task names.
-    absurd (err_is_ok _ _ (c.in-Err-task_of.ensures.known task
-    (c.as_str.ensures ∙ second_names g.S.AsStr.text c.args.words.now c.name-item.result task names c.name-item.is)))
-
-pub returns-in-len2-clause-drilled : goal.returns-in-len2-clause-drilled
-returns-in-len2-clause-drilled g c = λ task asks range.
-    let entered = entered_is _ _ (app_of c.in-Ok.command) c.in-Ok.ensures c.in-Ok-try_get_matches_from.ensures.matches in
-    absurd (true_is_false _ (c.in_default.ensures.found.1 (drill_entered _ _ task entered asks)) refl)
-
-pub returns-in-len2-clause-why : goal.returns-in-len2-clause-why
-returns-in-len2-clause-why g c =
+pub returns-clause-why : goal.returns-clause-why
+returns-clause-why g c =
     let fails = line_fails {T = Unit {0}} (app_of c.in-Ok.command) (map g.S.AsStr.text c.args.words.now) (Ok tt) c.in-Ok.ensures c.in-Ok-try_get_matches_from.ensures.kinds in
-    bad_why (line_faults (map g.S.AsStr.text c.args.words.now)) c.in-Err-task_of.fault fails c.in-Err-task_of.ensures.bad
+    bad_why (line_faults (map g.S.AsStr.text c.args.words.now)) c.text_task_of.result fails c.text_task_of.ensures.bad

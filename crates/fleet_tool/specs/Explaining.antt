@@ -1,0 +1,37 @@
+-- Why a text names a bad line, or a fault of its log.
+use Rattle.std.specs.Prelude.{◌≡◌, ◌-◌, ℕ, Bool, true, false, List, Result, Ok, Err}
+use Rattle.redo_core.specs.declared.facts.Fact.{Fact}
+use Rattle.redo_core.specs.declared.laws.LawFault.{LawFault}
+use Rattle.log_law.specs.Report.{Reports}
+use Rattle.log_law.specs.Breach.{TellsBreach}
+use Rattle.script_text.specs.Parts.{parts_at}
+use Rattle.script_text.specs.Script.{ScriptData, Rostered, rostered, script_of, facts_of}
+use Rattle.line_reasons.specs.TextReasons.{IsTextReason}
+use Rattle.fleet_tool.specs.declared.explaining.Reason.{Reason}
+use Rattle.fleet_tool.specs.declared.explaining.Reason.TheVariants.{BadLine, Unsound}
+use Rattle.fleet_tool.specs.declared.job.LinesTask.{LinesTask}
+use Rattle.fleet_tool.specs.declared.job.LinesTask.TheVariants.{Run, Check}
+
+-- the log of a script
+abbrev pub script_log : Result (Rostered ScriptData) ℕ → Result (Rostered (List Fact)) ℕ
+script_log (Ok script) = Ok (rostered script.roster (script.said).facts)
+script_log (Err at) = Err at
+
+-- the log that a text of the task spells, or its bad line
+abbrev pub log_of : LinesTask → List ℕ → Result (Rostered (List Fact)) ℕ
+log_of Run text = script_log (script_of text)
+log_of Check text = facts_of text
+
+abbrev pub is_script : LinesTask → Bool
+is_script Run = true
+is_script Check = false
+
+-- the reason names the first fault of a log, and with what else it breaks its law
+abbrev pub IsUnsoundReason : Rostered (List Fact) → Reason → Type 0
+IsUnsoundReason log (BadLine at reason) = ⊥
+IsUnsoundReason log (Unsound fault breach) = Reports log.roster log.said fault × TellsBreach log.roster log.said fault breach
+
+-- the reason names the text's bad line, and is true of it; or its log's first fault
+abbrev pub IsTrueReason : LinesTask → List ℕ → Reason → Type 0
+IsTrueReason task text (BadLine at reason) = (log_of task text ≡ Err at) × IsTextReason (is_script task) (parts_at 10 text) (at - 1) reason
+IsTrueReason task text (Unsound fault breach) = (log : Rostered (List Fact)) × (log_of task text ≡ Ok log) × IsUnsoundReason log (Unsound fault breach)
