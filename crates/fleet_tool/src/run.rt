@@ -1,6 +1,6 @@
 //! From a reader to a writer.
 
-ghost use Rattle.std.specs.Prelude.{◌≡◌, IfSome, false};
+ghost use Rattle.std.specs.Prelude.{◌≡◌, IfOk, IfSome, false, string_bytes};
 ghost use Rattle.fleet_tool.specs.Explaining.{IsTrueReason};
 ghost use Rattle.fleet_tool.specs.Inspect.{inspected};
 ghost use Rattle.fleet_tool.specs.Output.{IsOutputOf};
@@ -8,11 +8,11 @@ ghost use Rattle.fleet_tool.specs.TaskName.{as_text_task};
 ghost use Rattle.fleet_tool.specs.TextCall.{IsTextCall};
 ghost use Rattle.line_stream.specs.Watching.{has_failed};
 
-use crate::answer::{Verdict, answer};
+use crate::answer::{Answered, Verdict, answer};
 use crate::explaining::{Reason, reason_of};
 use crate::job::{LinesTask, TextTask};
 use line_stream::{RunFault, Watched, read_all, write_all};
-use std::alloc::Global;
+use std::alloc::{AllocError, Global};
 use std::io::{Read, Write};
 
 /// Reads all there is, and writes the answer of the task to it and nothing else.
@@ -70,6 +70,19 @@ pub struct Explained {
     pub reason: Option<Reason>,
 }
 
+// The text that answers an input to the task, how it ends, and why.
+fn answer_and_reason(
+    alloc: Global,
+    task: LinesTask,
+    input: Vec<u8>,
+) -> Result<(String, Explained), AllocError>
+    ensures { IfOk result (λ p. IsOutputOf (as_text_task task) input.items (string_bytes p.0) p.1.verdict × IfSome p.1.reason (IsTrueReason task input.items)) }
+{
+    let reason = reason_of(alloc, task, &input)?;
+    let Answered { text, verdict } = answer(alloc, task.text_task(), input)?;
+    Ok((text, Explained { verdict, reason }))
+}
+
 /// Answers a script or a log as `run_text` and `check_text` do, and gives a reason that is true where the text names a bad line or a
 /// fault.
 ///
@@ -86,13 +99,9 @@ pub fn explain_text<R: Read, W: Write>(
         reader.old reader.new writer.old writer.new result }
 {
     let input = read_all(alloc, reader)?;
-    let reason = reason_of(alloc, task, &input)?;
-    let output = answer(alloc, task.text_task(), input)?;
-    write_all(writer, output.text.as_bytes())?;
-    Ok(Explained {
-        verdict: output.verdict,
-        reason,
-    })
+    let (text, explained) = answer_and_reason(alloc, task, input)?;
+    write_all(writer, text.as_bytes())?;
+    Ok(explained)
 }
 
 /// Tells what each line of hexadecimal digits spells: a fact's line, what a summary, a delta or a piece of a snapshot holds,
