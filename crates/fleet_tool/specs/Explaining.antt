@@ -1,12 +1,13 @@
 -- Why a text names a bad line, or a fault of its log.
-use Rattle.std.specs.Prelude.{◌≡◌, ◌-◌, ℕ, Bool, true, false, List, Result, Ok, Err}
+use Rattle.std.specs.Prelude.{◌≡◌, ◌-◌, ◌⊎◌, ℕ, Bool, true, false, List, Result, Ok, Err}
+use Rattle.redo_core.specs.Sound.{IsSound}
 use Rattle.redo_core.specs.declared.facts.Fact.{Fact}
 use Rattle.redo_core.specs.declared.laws.LawFault.{LawFault}
 use Rattle.log_law.specs.Report.{Reports}
 use Rattle.log_law.specs.Breach.{TellsBreach}
 use Rattle.script_text.specs.Parts.{parts_at}
 use Rattle.script_text.specs.Script.{ScriptData, Rostered, rostered, script_of, facts_of}
-use Rattle.line_reasons.specs.TextReasons.{IsTextReason}
+use Rattle.line_reasons.specs.TextReasons.{IsTextReason, IsGoodLine}
 use Rattle.fleet_tool.specs.declared.explaining.Reason.{Reason}
 use Rattle.fleet_tool.specs.declared.explaining.Reason.TheVariants.{BadLine, Unsound}
 use Rattle.fleet_tool.specs.declared.job.LinesTask.{LinesTask}
@@ -25,6 +26,12 @@ log_of Check text = facts_of text
 abbrev pub is_script : LinesTask → Bool
 is_script Run = true
 is_script Check = false
+
+-- there is nothing to tell of a text: its log is sound, or nothing is wrong with the line that is told as bad
+abbrev pub HasNothingToTell : LinesTask → List ℕ → Type 0
+HasNothingToTell task text =
+    ((log : Rostered (List Fact)) × (log_of task text ≡ Ok log) × IsSound log.roster log.said)
+    ⊎ ((at : ℕ) × (log_of task text ≡ Err at) × IsGoodLine (is_script task) (parts_at 10 text) (at - 1))
 
 -- the reason names the first fault of a log, and with what else it breaks its law
 abbrev pub IsUnsoundReason : Rostered (List Fact) → Reason → Type 0

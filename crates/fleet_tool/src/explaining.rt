@@ -1,8 +1,9 @@
 //! Why a text names a bad line, or a fault of its log.
 
-ghost use Rattle.std.specs.Prelude.{◌≡◌, Err, IfOk, IfSome};
+ghost use Rattle.std.specs.Prelude.{◌≡◌, Err, IfOk, MatchOption};
+ghost use Rattle.redo_core.specs.Sound.{IsSound};
 ghost use Rattle.script_text.specs.Outcome.{Gives, log_data};
-ghost use Rattle.fleet_tool.specs.Explaining.{log_of, is_script, IsTrueReason, IsUnsoundReason};
+ghost use Rattle.fleet_tool.specs.Explaining.{log_of, is_script, HasNothingToTell, IsTrueReason, IsUnsoundReason};
 
 use crate::job::LinesTask;
 use line_reasons::{TextReason, text_reason};
@@ -53,15 +54,17 @@ fn bad_line(
     at: usize,
 ) -> Result<Option<Reason>, AllocError>
     requires { log_of task text.now ≡ Err at }
-    ensures { IfOk result (λ found. IfSome found (IsTrueReason task text.now)) }
+    ensures { IfOk result (λ found. MatchOption found (HasNothingToTell task text.now) (IsTrueReason task text.now)) }
 {
-    let reason = text_reason(alloc, is_script(task), text, at)?;
-    Ok(reason.map(|reason| Reason::BadLine { at, reason }))
+    match text_reason(alloc, is_script(task), text, at)? {
+        Some(reason) => Ok(Some(Reason::BadLine { at, reason })),
+        None => Ok(None),
+    }
 }
 
 // With what the first fault of the log breaks its law, where the log is not sound.
 fn unsound(alloc: Global, log: &Log) -> Result<Option<Reason>, AllocError>
-    ensures { IfOk result (λ found. IfSome found (IsUnsoundReason (log_data log.now))) }
+    ensures { let read = log_data log.now in IfOk result (λ found. MatchOption found (IsSound read.roster read.said) (IsUnsoundReason read)) }
 {
     match check_log(alloc, &log.facts, log.roster) {
         Err(CheckFault::Memory) => Err(AllocError),
@@ -77,7 +80,7 @@ fn unsound(alloc: Global, log: &Log) -> Result<Option<Reason>, AllocError>
 
 /// Why the task's answer to the text names a bad line or a fault of its log; None where it does neither. Its only error is want of memory.
 pub fn reason_of(alloc: Global, task: LinesTask, text: &[u8]) -> Result<Option<Reason>, AllocError>
-    ensures { IfOk result (λ found. IfSome found (IsTrueReason task text.now)) }
+    ensures { IfOk result (λ found. MatchOption found (HasNothingToTell task text.now) (IsTrueReason task text.now)) }
 {
     match read_log(alloc, task, text) {
         Err(ScriptError::Memory) => Err(AllocError),
