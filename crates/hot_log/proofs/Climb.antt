@@ -3,6 +3,8 @@ use Rattle.std.proofs.Common.{◌≡◌, ℕ, ◌+◌, ◌<◌, ◌≤◌, ◌�
 use Rattle.std.specs.List.{Contains, filter}
 use Rattle.std.proofs.lemmas.Bool.{cases_lt}
 use Rattle.redo_core.specs.Data.{RecordData, CutData}
+use Rattle.redo_core.specs.Keys.{key_at, key_of, KeyBefore}
+use Rattle.redo_core.specs.declared.keys.Key.{Key}
 use Rattle.redo_core.specs.Order.{IsGreatest, PairBefore}
 use Rattle.redo_core.specs.Shape.{record_fault}
 use Rattle.redo_core.specs.Standing.{IsAlive}
@@ -70,27 +72,27 @@ parts_from b number epoch is last =
         last.0
 
 -- how many records have a key above one
-abbrev pub is_after : ℕ × ℕ → RecordData → Bool
-is_after at r = nat_lt at.0 r.epoch || (at.0 == r.epoch && nat_lt at.1 r.number)
+abbrev pub is_after : Key → RecordData → Bool
+is_after at r = nat_lt at.epoch r.epoch || (at.epoch == r.epoch && nat_lt at.number r.number)
 
-abbrev pub above : ℕ × ℕ → List RecordData → ℕ
+abbrev pub above : Key → List RecordData → ℕ
 above at held = length (filter (is_after at) held)
 
-abbrev pub not_after : ℕ × ℕ → RecordData → Bool
+abbrev pub not_after : Key → RecordData → Bool
 not_after at r = not (is_after at r)
 
 -- how many have a key at or below one
-abbrev pub up_to : ℕ × ℕ → List RecordData → ℕ
+abbrev pub up_to : Key → List RecordData → ℕ
 up_to at held = length (filter (λ r. not_after at r) held)
 
-after_of : (at : ℕ × ℕ) (r : RecordData) → PairBefore at.0 at.1 r.epoch r.number → is_after at r ≡ true
+after_of : (at : Key) (r : RecordData) → KeyBefore at (key_of r) → is_after at r ≡ true
 after_of at r p = grind arith
 
-after_is : (at : ℕ × ℕ) (r : RecordData) → is_after at r ≡ true → PairBefore at.0 at.1 r.epoch r.number
+after_is : (at : Key) (r : RecordData) → is_after at r ≡ true → KeyBefore at (key_of r)
 after_is at r h = grind arith
 
-is_not_after : (at : ℕ × ℕ) (r : RecordData) → (PairBefore at.0 at.1 r.epoch r.number → ⊥) → is_after at r ≡ false
-is_not_after at r h = elim (is_after at r) as (λ b. (b ≡ true → PairBefore at.0 at.1 r.epoch r.number) → b ≡ false) [ true ↦ λ f. absurd (h (f refl)) | false ↦ λ f. refl ] (after_is at r)
+is_not_after : (at : Key) (r : RecordData) → (KeyBefore at (key_of r) → ⊥) → is_after at r ≡ false
+is_not_after at r h = elim (is_after at r) as (λ b. (b ≡ true → KeyBefore at (key_of r)) → b ≡ false) [ true ↦ λ f. absurd (h (f refl)) | false ↦ λ f. refl ] (after_is at r)
 
 no_more : {X : Type 0} (p q : X → Bool) (xs : List X) → ((y : X) → p y ≡ true → q y ≡ true) → length (filter p xs) ≤ length (filter q xs)
 no_more p q [] h = omega arith
@@ -123,46 +125,46 @@ fewer {X} p q (z ∷ xs) x h a b f =
     step ps qs x false true f lt = omega (arith, lt)
     step ps qs x false false f lt = lt
 
-pub above_falls : (at key : ℕ × ℕ) (held : List RecordData) (r : RecordData) → Contains held r → HasKey key.0 key.1 r → PairBefore at.0 at.1 r.epoch r.number → above key held < above at held
+pub above_falls : (at key : Key) (held : List RecordData) (r : RecordData) → Contains held r → HasKey key r → KeyBefore at (key_of r) → above key held < above at held
 above_falls at key held r h k p =
     fewer (is_after key) (is_after at) held r h
-    (is_not_after key r (λ q. pair_not_same key.0 key.1 r.epoch r.number q (sym k.0) (sym k.1)))
+    (is_not_after key r (λ q. pair_not_same key.epoch key.number r.epoch r.number q (sym k.0) (sym k.1)))
     (after_of at r p)
-    (λ y q. after_of at y (pair_trans at.0 at.1 r.epoch r.number y.epoch y.number p (subst (λ (a : ℕ). PairBefore a r.number y.epoch y.number) (sym k.0) (subst (λ (a : ℕ). PairBefore key.0 a y.epoch y.number) (sym k.1) (after_is key y q)))))
+    (λ y q. after_of at y (pair_trans at.epoch at.number r.epoch r.number y.epoch y.number p (subst (λ (a : ℕ). KeyBefore (key_at a r.number) (key_of y)) (sym k.0) (subst (λ (a : ℕ). KeyBefore (key_at key.epoch a) (key_of y)) (sym k.1) (after_is key y q)))))
 
 -- what is left of a search upwards from a number: the candidates, which have Q, are above a key, and what is above it is above the number
-pub record Rest (b : BookData) (held : List RecordData) (Q : RecordData → Type 0) (number : ℕ) (at : ℕ × ℕ) : Type 0 where
-  pub above : (r : RecordData) → Contains held r → IsAlive b.cuts b.complete r.epoch r.number → Q r → number < r.number → PairBefore at.0 at.1 r.epoch r.number
-  pub low : (e n : ℕ) → IsAlive b.cuts b.complete e n → PairBefore at.0 at.1 e n → number < n
+pub record Rest (b : BookData) (held : List RecordData) (Q : RecordData → Type 0) (number : ℕ) (at : Key) : Type 0 where
+  pub above : (r : RecordData) → Contains held r → IsAlive b.cuts b.complete r.epoch r.number → Q r → number < r.number → KeyBefore at (key_of r)
+  pub low : (e n : ℕ) → IsAlive b.cuts b.complete e n → KeyBefore at (key_at e n) → number < n
 
-pub rest_start : (b : BookData) (held : List RecordData) (Q : RecordData → Type 0) (number epoch : ℕ) → PartsAt b number epoch → Rest b held Q number (epoch, number)
+pub rest_start : (b : BookData) (held : List RecordData) (Q : RecordData → Type 0) (number epoch : ℕ) → PartsAt b number epoch → Rest b held Q number (key_at epoch number)
 rest_start b held Q number epoch parts = record {
   above = λ r h a q lt. (parts.0 r.epoch r.number a).0 lt;
   low = λ e n a p. (parts.0 e n a).1 p;
 }
 
-pub rest_step : (b : BookData) (held : List RecordData) (Q : RecordData → Type 0) (number : ℕ) (at key : ℕ × ℕ) → Rest b held Q number at → ((r : RecordData) → Contains held r → Q r → PairBefore at.0 at.1 r.epoch r.number → HasKey key.0 key.1 r ⊎ PairBefore key.0 key.1 r.epoch r.number) → PairBefore at.0 at.1 key.0 key.1 → (IsAlive b.cuts b.complete key.0 key.1 → ⊥) → Rest b held Q number key
+pub rest_step : (b : BookData) (held : List RecordData) (Q : RecordData → Type 0) (number : ℕ) (at key : Key) → Rest b held Q number at → ((r : RecordData) → Contains held r → Q r → KeyBefore at (key_of r) → HasKey key r ⊎ KeyBefore key (key_of r)) → KeyBefore at key → (IsAlive b.cuts b.complete key.epoch key.number → ⊥) → Rest b held Q number key
 rest_step b held Q number at key rest next up dead = record {
   above = λ r h a q lt. ⊎_elim
-      (λ (k : HasKey key.0 key.1 r). absurd (dead (subst (λ (x : ℕ). IsAlive b.cuts b.complete x key.1) k.0 (subst (λ (x : ℕ). IsAlive b.cuts b.complete r.epoch x) k.1 a))))
-      (λ (p : PairBefore key.0 key.1 r.epoch r.number). p)
+      (λ (k : HasKey key r). absurd (dead (subst (λ (x : ℕ). IsAlive b.cuts b.complete x key.number) k.0 (subst (λ (x : ℕ). IsAlive b.cuts b.complete r.epoch x) k.1 a))))
+      (λ (p : KeyBefore key (key_of r)). p)
       (next r h q (rest.above r h a q lt));
-  low = λ e n a p. rest.low e n a (pair_trans at.0 at.1 key.0 key.1 e n up p);
+  low = λ e n a p. rest.low e n a (pair_trans at.epoch at.number key.epoch key.number e n up p);
 }
 
 -- the record of the first alive key is the least
-pub rest_found : (b : BookData) (held : List RecordData) (Q P : RecordData → Type 0) (number : ℕ) (at key : ℕ × ℕ) (o : Option RecordData) → IsBook b → IsHeld held → Rest b held Q number at → ((r : RecordData) × Contains held r × Q r × HasKey key.0 key.1 r × PairBefore at.0 at.1 r.epoch r.number) → ((r : RecordData) → Contains held r → Q r → PairBefore at.0 at.1 r.epoch r.number → HasKey key.0 key.1 r ⊎ PairBefore key.0 key.1 r.epoch r.number) → IsAlive b.cuts b.complete key.0 key.1 → IsRecordAt held key.0 key.1 o → ((r : RecordData) → Contains held r → IsAlive b.cuts b.complete r.epoch r.number → Q r → number < r.number → P r) → ((r : RecordData) → P r → Contains held r × IsAlive b.cuts b.complete r.epoch r.number × Q r × (number < r.number)) → IsLeastRecord P o
+pub rest_found : (b : BookData) (held : List RecordData) (Q P : RecordData → Type 0) (number : ℕ) (at key : Key) (o : Option RecordData) → IsBook b → IsHeld held → Rest b held Q number at → ((r : RecordData) × Contains held r × Q r × HasKey key r × KeyBefore at (key_of r)) → ((r : RecordData) → Contains held r → Q r → KeyBefore at (key_of r) → HasKey key r ⊎ KeyBefore key (key_of r)) → IsAlive b.cuts b.complete key.epoch key.number → IsRecordAt held key o → ((r : RecordData) → Contains held r → IsAlive b.cuts b.complete r.epoch r.number → Q r → number < r.number → P r) → ((r : RecordData) → P r → Contains held r × IsAlive b.cuts b.complete r.epoch r.number × Q r × (number < r.number)) → IsLeastRecord P o
 rest_found b held Q P number at key None book is rest found next alive none to fro = absurd (none found.0 found.1 found.3)
 rest_found b held Q P number at key (Some x) book is rest found next alive at_key to fro =
     let same : found.0 ≡ x = one_key held is.rising found.0 x found.1 at_key.0 (found.3.0 ∙ sym at_key.1.0) (found.3.1 ∙ sym at_key.1.1) in
-    let a : IsAlive b.cuts b.complete x.epoch x.number = subst (λ (e : ℕ). IsAlive b.cuts b.complete e x.number) (sym at_key.1.0) (subst (λ (n : ℕ). IsAlive b.cuts b.complete key.0 n) (sym at_key.1.1) alive) in
-    let up : PairBefore at.0 at.1 x.epoch x.number = subst (λ (r : RecordData). PairBefore at.0 at.1 r.epoch r.number) same found.4 in (
+    let a : IsAlive b.cuts b.complete x.epoch x.number = subst (λ (e : ℕ). IsAlive b.cuts b.complete e x.number) (sym at_key.1.0) (subst (λ (n : ℕ). IsAlive b.cuts b.complete key.epoch n) (sym at_key.1.1) alive) in
+    let up : KeyBefore at (key_of x) = subst (λ (r : RecordData). KeyBefore at (key_of r)) same found.4 in (
       to x at_key.0 a (subst Q same found.2) (rest.low x.epoch x.number a up),
       λ s h.
           let t = fro s h in
           ⊎_elim
-          (λ (k : HasKey key.0 key.1 s). inl (one_key held is.rising s x t.0 at_key.0 (k.0 ∙ sym at_key.1.0) (k.1 ∙ sym at_key.1.1)))
-          (λ (p : PairBefore key.0 key.1 s.epoch s.number). inr (number_before b.cuts b.complete (view_of b book) x s a t.1 (subst (λ (e : ℕ). PairBefore e x.number s.epoch s.number) (sym at_key.1.0) (subst (λ (n : ℕ). PairBefore key.0 n s.epoch s.number) (sym at_key.1.1) p))))
+          (λ (k : HasKey key s). inl (one_key held is.rising s x t.0 at_key.0 (k.0 ∙ sym at_key.1.0) (k.1 ∙ sym at_key.1.1)))
+          (λ (p : KeyBefore key (key_of s)). inr (number_before b.cuts b.complete (view_of b book) x s a t.1 (subst (λ (e : ℕ). KeyBefore (key_at e x.number) (key_of s)) (sym at_key.1.0) (subst (λ (n : ℕ). KeyBefore (key_at key.epoch n) (key_of s)) (sym at_key.1.1) p))))
           (next s t.0 t.2 (rest.above s t.0 t.1 t.2 t.3)),
     )
 
@@ -170,7 +172,7 @@ pub positive : (r : RecordData) → record_fault r ≡ None → 0 < r.number
 positive r h = grind arith
 
 -- the record that a look-up in the epoch that may have the number finds
-pub only_there : (b : BookData) (held : List RecordData) (number epoch : ℕ) (o : Option RecordData) → IsBook b → IsHeld held → ((e : ℕ) → IsAlive b.cuts b.complete e number → e ≡ epoch) → IsAlive b.cuts b.complete epoch number → IsRecordAt held epoch number o → IsOnlyRecord (λ r. IsHeldAlive b held r × (r.number ≡ number)) o
+pub only_there : (b : BookData) (held : List RecordData) (number epoch : ℕ) (o : Option RecordData) → IsBook b → IsHeld held → ((e : ℕ) → IsAlive b.cuts b.complete e number → e ≡ epoch) → IsAlive b.cuts b.complete epoch number → IsRecordAt held (key_at epoch number) o → IsOnlyRecord (λ r. IsHeldAlive b held r × (r.number ≡ number)) o
 only_there b held number epoch None book is own alive none = λ r h. none r h.0.0 (own r.epoch (subst (λ (n : ℕ). IsAlive b.cuts b.complete r.epoch n) h.1 h.0.1), h.1)
 only_there b held number epoch (Some x) book is own alive at = (
   ((at.0, subst (λ (e : ℕ). IsAlive b.cuts b.complete e x.number) (sym at.1.0) (subst (λ (n : ℕ). IsAlive b.cuts b.complete epoch n) (sym at.1.1) alive)), at.1.1),
@@ -178,37 +180,37 @@ only_there b held number epoch (Some x) book is own alive at = (
 )
 
 -- every key is above (0, 0)
-pub from_zero : (held : List RecordData) (r : RecordData) → IsHeld held → Contains held r → PairBefore 0 0 r.epoch r.number
+pub from_zero : (held : List RecordData) (r : RecordData) → IsHeld held → Contains held r → KeyBefore (key_at 0 0) (key_of r)
 from_zero held r is h = let up : 0 < r.number = positive r (is.shaped r h) in grind arith
 
-pub alive_key : (b : BookData) (r : RecordData) (key : ℕ × ℕ) → HasKey key.0 key.1 r → IsAlive b.cuts b.complete key.0 key.1 → IsAlive b.cuts b.complete r.epoch r.number
-alive_key b r key k a = subst (λ (e : ℕ). IsAlive b.cuts b.complete e r.number) (sym k.0) (subst (λ (n : ℕ). IsAlive b.cuts b.complete key.0 n) (sym k.1) a)
+pub alive_key : (b : BookData) (r : RecordData) (key : Key) → HasKey key r → IsAlive b.cuts b.complete key.epoch key.number → IsAlive b.cuts b.complete r.epoch r.number
+alive_key b r key k a = subst (λ (e : ℕ). IsAlive b.cuts b.complete e r.number) (sym k.0) (subst (λ (n : ℕ). IsAlive b.cuts b.complete key.epoch n) (sym k.1) a)
 
-pub key_alive : (b : BookData) (r : RecordData) (key : ℕ × ℕ) → HasKey key.0 key.1 r → IsAlive b.cuts b.complete r.epoch r.number → IsAlive b.cuts b.complete key.0 key.1
-key_alive b r key k a = subst (λ (e : ℕ). IsAlive b.cuts b.complete e key.1) k.0 (subst (λ (n : ℕ). IsAlive b.cuts b.complete r.epoch n) k.1 a)
+pub key_alive : (b : BookData) (r : RecordData) (key : Key) → HasKey key r → IsAlive b.cuts b.complete r.epoch r.number → IsAlive b.cuts b.complete key.epoch key.number
+key_alive b r key k a = subst (λ (e : ℕ). IsAlive b.cuts b.complete e key.number) k.0 (subst (λ (n : ℕ). IsAlive b.cuts b.complete r.epoch n) k.1 a)
 
-pub least_number : (b : BookData) (held : List RecordData) (r s : RecordData) (key : ℕ × ℕ) (n : ℕ) → IsBook b → HasKey key.0 key.1 r → IsAlive b.cuts b.complete r.epoch r.number → IsAlive b.cuts b.complete s.epoch s.number → s.number ≡ n → HasKey key.0 key.1 s ⊎ PairBefore key.0 key.1 s.epoch s.number → key.1 ≤ n
+pub least_number : (b : BookData) (held : List RecordData) (r s : RecordData) (key : Key) (n : ℕ) → IsBook b → HasKey key r → IsAlive b.cuts b.complete r.epoch r.number → IsAlive b.cuts b.complete s.epoch s.number → s.number ≡ n → HasKey key s ⊎ KeyBefore key (key_of s) → key.number ≤ n
 least_number b held r s key n book k a c e either =
     ⊎_elim
-    (λ (h : HasKey key.0 key.1 s). let same : s.number ≡ key.1 = h.1 in omega arith)
-    (λ (p : PairBefore key.0 key.1 s.epoch s.number).
-    let up : r.number < s.number = number_before b.cuts b.complete (view_of b book) r s a c (subst (λ (x : ℕ). PairBefore x r.number s.epoch s.number) (sym k.0) (subst (λ (x : ℕ). PairBefore key.0 x s.epoch s.number) (sym k.1) p)) in
-    let same : r.number ≡ key.1 = k.1 in
+    (λ (h : HasKey key s). let same : s.number ≡ key.number = h.1 in omega arith)
+    (λ (p : KeyBefore key (key_of s)).
+    let up : r.number < s.number = number_before b.cuts b.complete (view_of b book) r s a c (subst (λ (x : ℕ). KeyBefore (key_at x r.number) (key_of s)) (sym k.0) (subst (λ (x : ℕ). KeyBefore (key_at key.epoch x) (key_of s)) (sym k.1) p)) in
+    let same : r.number ≡ key.number = k.1 in
     omega arith)
     either
 
-pub past : (at : ℕ × ℕ) (r : RecordData) → PairBefore at.0 at.1 r.epoch r.number → not_after at r ≡ false
+pub past : (at : Key) (r : RecordData) → KeyBefore at (key_of r) → not_after at r ≡ false
 past at r p = ap not (after_of at r p)
 
-pub still : (at : ℕ × ℕ) (r : RecordData) → (PairBefore at.0 at.1 r.epoch r.number → ⊥) → not_after at r ≡ true
+pub still : (at : Key) (r : RecordData) → (KeyBefore at (key_of r) → ⊥) → not_after at r ≡ true
 still at r h = ap not (is_not_after at r h)
 
-pub passed : (at : ℕ × ℕ) (r : RecordData) → not_after at r ≡ true → PairBefore at.0 at.1 r.epoch r.number → ⊥
+pub passed : (at : Key) (r : RecordData) → not_after at r ≡ true → KeyBefore at (key_of r) → ⊥
 passed at r h p = let no : not_after at r ≡ false = past at r p in cc
 
 -- a key that was read off a record
-pub key_is : (a b e n : ℕ) → a ≡ e → b ≡ n → ◌≡◌ {A = ℕ × ℕ} (e, n) (a, b)
-key_is a b e n p q = let one : ℕ → ℕ × ℕ = λ x. (x, n) in let two : ℕ → ℕ × ℕ = λ x. (a, x) in ap one (sym p) ∙ ap two (sym q)
+pub key_is : (a b e n : ℕ) → a ≡ e → b ≡ n → ◌≡◌ {A = Key} (key_at e n) (key_at a b)
+key_is a b e n p q = let one : ℕ → Key = λ x. key_at x n in let two : ℕ → Key = λ x. key_at a x in ap one (sym p) ∙ ap two (sym q)
 
 pub alive_as : (b : BookData) (a n e m : ℕ) → a ≡ e → n ≡ m → IsAlive b.cuts b.complete a n → IsAlive b.cuts b.complete e m
 alive_as b a n e m p q h = subst (λ (x : ℕ). IsAlive b.cuts b.complete x m) p (subst (λ (x : ℕ). IsAlive b.cuts b.complete a x) q h)

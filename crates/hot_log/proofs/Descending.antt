@@ -4,6 +4,7 @@ use Rattle.std.specs.List.{Contains}
 use Rattle.std.proofs.lemmas.List.{append_assoc, append-nil, map-append, reverse-append}
 use Rattle.std.proofs.lemmas.List.Elements.{Contains-append_right, Contains-append_cases}
 use Rattle.redo_core.specs.Data.{RecordData}
+use Rattle.redo_core.specs.declared.keys.Key.{Key}
 use Rattle.redo_core.specs.Order.{IsRising, Lists, BeforeByNumber, RecordBefore}
 use Rattle.redo_core.specs.Standing.{IsAlive}
 use Rattle.redo_core.proofs.Members.{here, there, which, each, all_of}
@@ -49,7 +50,7 @@ rising_behind Before [] ys rises = rises
 rising_behind Before (x ∷ xs) ys rises = rising_behind Before xs ys rises.1
 
 -- what a walk down has passed is above the entry that it has come to
-behind : (m : Map) (page : ℕ) (above to : ℕ × ℕ) (xs : List Entry) (x : Entry) (w : Walks m page above to xs x) (r : RecordData)
+behind : (m : Map) (page : ℕ) (above to : Key) (xs : List Entry) (x : Entry) (w : Walks m page above to xs x) (r : RecordData)
     → Contains (records_in w.rest) r → RecordBefore x.1 r
 behind m page above to xs x w r h =
     let Before : Entry → Entry → Type 0 = λ x y. place_cmp x.0 y.0 ≡ Less in
@@ -60,7 +61,7 @@ behind m page above to xs x w r h =
     same_page page x.0 t.0 x.1 r (w.paged.placed x left.0) (w.paged.placed (t.0, r) right.0) left.1.page right.1.page
     (each (Before x) w.rest (t.0, r) (rising_behind Before xs (x ∷ w.rest) (subst (IsRising Before) w.split w.range.rising)).0 t.1)
 
-pub alive_front : (b : BookData) (m : Map) (page : ℕ) (above to : ℕ × ℕ) (xs : List Entry) (x : Entry) (ys : List RecordData) → IsBook b
+pub alive_front : (b : BookData) (m : Map) (page : ℕ) (above to : Key) (xs : List Entry) (x : Entry) (ys : List RecordData) → IsBook b
     → (w : Walks m page above to xs x) → ListsAlive b w.rest ys → IsAlive b.cuts b.complete x.1.epoch x.1.number → ListsAlive b (x ∷ w.rest) (x.1 ∷ ys)
 alive_front b m page above to xs x ys book w lists alive =
     lists_front BeforeByNumber (AliveIn b w.rest) (AliveIn b (x ∷ w.rest)) ys x.1 lists
@@ -90,7 +91,7 @@ alive_skipped b x passed ys lists dead =
     lists
 
 -- where the walk ends at a record with `init`, what it has found are the alive records from that one on
-pub ends_anew : (b : BookData) (m : Map) (page : ℕ) (above to : ℕ × ℕ) (xs : List Entry) (x : Entry) (ys : List RecordData) → IsBook b
+pub ends_anew : (b : BookData) (m : Map) (page : ℕ) (above to : Key) (xs : List Entry) (x : Entry) (ys : List RecordData) → IsBook b
     → (w : Walks m page above to xs x) → ListsAlive b (x ∷ w.rest) ys → IsAlive b.cuts b.complete x.1.epoch x.1.number → x.1.init ≡ true
     → ListsAnew (IsAliveBetween b (seen m) page above to) ys
 ends_anew b m page above to xs x ys book w lists alive anew =
@@ -156,7 +157,7 @@ starts b es falling none = record {
 }
 
 -- one step down
-abbrev pub walks_down : (m : Map) (page : ℕ) (above to : ℕ × ℕ) (b : BookData) (es left rest : List Entry) (falling : List RecordData) (x : Entry) → IsPaged m
+abbrev pub walks_down : (m : Map) (page : ℕ) (above to : Key) (b : BookData) (es left rest : List Entry) (falling : List RecordData) (x : Entry) → IsPaged m
     → IsRange m page above to es → left ≡ rest ++ x ∷ [] → Descends b es left falling
     → (w : Walks m page above to rest x) × ListsAlive b w.rest (reverse falling) × (w.es ≡ es)
 walks_down m page above to b es left rest falling x paged range step at = (
@@ -171,7 +172,7 @@ walks_down m page above to b es left rest falling x paged range step at = (
   refl,
 )
 
-pub steps_down : (m : Map) (page : ℕ) (above to : ℕ × ℕ) (b : BookData) (es left rest : List Entry) (falling more : List RecordData) (x : Entry) → IsPaged m
+pub steps_down : (m : Map) (page : ℕ) (above to : Key) (b : BookData) (es left rest : List Entry) (falling more : List RecordData) (x : Entry) → IsPaged m
     → IsBook b → IsRange m page above to es → left ≡ rest ++ x ∷ [] → Descends b es left falling → IsAlive b.cuts b.complete x.1.epoch x.1.number
     → more ≡ falling ++ x.1 ∷ [] → Descends b es rest more
 steps_down m page above to b es left rest falling more x paged book range step at alive is =
@@ -192,7 +193,7 @@ passes_down b es left rest falling x step at dead = record {
 }
 
 -- where the walk ends with nothing left, it has found all
-pub ends_all : (m : Map) (page : ℕ) (above to : ℕ × ℕ) (b : BookData) (es left : List Entry) (falling : List RecordData) → IsPaged m
+pub ends_all : (m : Map) (page : ℕ) (above to : Key) (b : BookData) (es left : List Entry) (falling : List RecordData) → IsPaged m
     → IsRange m page above to es → left ≡ [] → Descends b es left falling → ListsAnew (IsAliveBetween b (seen m) page above to) (reverse falling)
 ends_all m page above to b es left falling paged range none at =
     inl (alive_all b m page above to es (reverse falling) paged range

@@ -5,7 +5,9 @@ use Rattle.std.proofs.lemmas.Bool.{cases_lt}
 use Rattle.std.proofs.lemmas.List.{length-take, length-drop, length-append}
 use Rattle.std.proofs.lemmas.List.Elements.{Contains-append_left, Contains-append_right}
 use Rattle.redo_core.specs.Data.{RecordData, CutData}
-use Rattle.redo_core.specs.Order.{IsRising, RecordBefore, PairBefore, Lists}
+use Rattle.redo_core.specs.Keys.{key_at, key_of, KeyBefore}
+use Rattle.redo_core.specs.declared.keys.Key.{Key}
+use Rattle.redo_core.specs.Order.{IsRising, RecordBefore, Lists}
 use Rattle.redo_core.specs.Linked.{Linked}
 use Rattle.redo_core.specs.Linked.Linked.{start, next}
 use Rattle.redo_core.proofs.Members.{none_in, here, there, which, each, all_of}
@@ -13,7 +15,6 @@ use Rattle.redo_core.proofs.Pairs.{pair_trans}
 use Rattle.redo_core.proofs.Rising.{side, rest_from}
 use Rattle.epoch_book.specs.Book.{BookData, IsBook}
 use Rattle.hot_log.specs.Held.{IsHeld, HasKey}
-use Rattle.hot_log.specs.Paged.{key_of}
 use Rattle.hot_log.specs.Alive.{IsHeldAlive, IsLinkedFrom, IsReached, IsAliveOfBack}
 use Rattle.hot_log.proofs.Keys.{pair_not_same}
 use Rattle.hot_log.proofs.Views.{view_of, one_number}
@@ -25,14 +26,14 @@ one_alive b held r s book is h k e = one_number b.cuts b.complete held (view_of 
 
 -- The alive records that a search still comes to, where it stands behind a key among those of a backlink: those of the backlink
 -- behind that key, and those that it comes to from the record of the backlink on.
-pub data Ahead (b : BookData) (held : List RecordData) (from : ℕ) : ℕ → ℕ × ℕ → RecordData → Type 0 where
-  beside : (r : RecordData) (at : ℕ × ℕ) → IsHeldAlive b held r → PairBefore at.0 at.1 r.epoch r.number → Ahead b held from r.back at r
-  above : (u r : RecordData) (at : ℕ × ℕ) → IsHeldAlive b held u → from < u.number → Ahead b held from u.back (key_of u) r → Ahead b held from u.number at r
+pub data Ahead (b : BookData) (held : List RecordData) (from : ℕ) : ℕ → Key → RecordData → Type 0 where
+  beside : (r : RecordData) (at : Key) → IsHeldAlive b held r → KeyBefore at (key_of r) → Ahead b held from r.back at r
+  above : (u r : RecordData) (at : Key) → IsHeldAlive b held u → from < u.number → Ahead b held from u.back (key_of u) r → Ahead b held from u.number at r
 
-pub record Beside (b : BookData) (held : List RecordData) (back : ℕ) (at : ℕ × ℕ) (r : RecordData) : Type 0 where
+pub record Beside (b : BookData) (held : List RecordData) (back : ℕ) (at : Key) (r : RecordData) : Type 0 where
   pub alive : IsHeldAlive b held r
   pub of : r.back ≡ back
-  pub behind : PairBefore at.0 at.1 r.epoch r.number
+  pub behind : KeyBefore at (key_of r)
 
 pub record Above (b : BookData) (held : List RecordData) (from back : ℕ) (r : RecordData) : Type 0 where
   pub by : RecordData
@@ -45,28 +46,28 @@ pub record Above (b : BookData) (held : List RecordData) (from back : ℕ) (r : 
 abbrev pub IsAlone : BookData → List RecordData → ℕ → ℕ → Type 0
 IsAlone b held from back = (r : RecordData) → Above b held from back r → ⊥
 
-ahead_cases : (b : BookData) (held : List RecordData) (from back : ℕ) (at : ℕ × ℕ) (r : RecordData) → Ahead b held from back at r → Beside b held back at r ⊎ Above b held from back r
+ahead_cases : (b : BookData) (held : List RecordData) (from back : ℕ) (at : Key) (r : RecordData) → Ahead b held from back at r → Beside b held back at r ⊎ Above b held from back r
 ahead_cases b held from back at r (beside s t h p) = inl record { alive = h; of = refl; behind = p }
 ahead_cases b held from back at r (above u s t h l rest) = inr record { by = u; alive = h; higher = l; at = refl; rest = rest }
 
-beside_at : (b : BookData) (held : List RecordData) (from back : ℕ) (at : ℕ × ℕ) (r : RecordData) → IsHeldAlive b held r → r.back ≡ back → PairBefore at.0 at.1 r.epoch r.number → Ahead b held from back at r
+beside_at : (b : BookData) (held : List RecordData) (from back : ℕ) (at : Key) (r : RecordData) → IsHeldAlive b held r → r.back ≡ back → KeyBefore at (key_of r) → Ahead b held from back at r
 beside_at b held from back at r h e p = subst (λ (x : ℕ). Ahead b held from x at r) e (beside r at h p)
 
-above_at : (b : BookData) (held : List RecordData) (from back : ℕ) (at : ℕ × ℕ) (r : RecordData) → Above b held from back r → Ahead b held from back at r
+above_at : (b : BookData) (held : List RecordData) (from back : ℕ) (at : Key) (r : RecordData) → Above b held from back r → Ahead b held from back at r
 above_at b held from back at r u = subst (λ (x : ℕ). Ahead b held from x at r) u.at (above u.by r at u.alive u.higher u.rest)
 
-ahead_alive : (b : BookData) (held : List RecordData) (from back : ℕ) (at : ℕ × ℕ) (r : RecordData) → Ahead b held from back at r → IsHeldAlive b held r
+ahead_alive : (b : BookData) (held : List RecordData) (from back : ℕ) (at : Key) (r : RecordData) → Ahead b held from back at r → IsHeldAlive b held r
 ahead_alive b held from back at r (beside s t h p) = h
 ahead_alive b held from back at r (above u s t h l rest) = ahead_alive b held from u.back (key_of u) s rest
 
-ahead_later : (b : BookData) (held : List RecordData) (from back : ℕ) (at to : ℕ × ℕ) (r : RecordData) → PairBefore at.0 at.1 to.0 to.1 → Ahead b held from back to r → Ahead b held from back at r
+ahead_later : (b : BookData) (held : List RecordData) (from back : ℕ) (at to : Key) (r : RecordData) → KeyBefore at to → Ahead b held from back to r → Ahead b held from back at r
 ahead_later b held from back at to r p h =
     ⊎_elim
-    (λ (u : Beside b held back to r). beside_at b held from back at r u.alive u.of (pair_trans at.0 at.1 to.0 to.1 r.epoch r.number p u.behind))
+    (λ (u : Beside b held back to r). beside_at b held from back at r u.alive u.of (pair_trans at.epoch at.number to.epoch to.number r.epoch r.number p u.behind))
     (λ (u : Above b held from back r). above_at b held from back at r u)
     (ahead_cases b held from back to r h)
 
-ahead_back : (b : BookData) (held : List RecordData) (from back : ℕ) (at : ℕ × ℕ) (r : RecordData) → IsHeld held → Ahead b held from back at r → r.back ≤ back
+ahead_back : (b : BookData) (held : List RecordData) (from back : ℕ) (at : Key) (r : RecordData) → IsHeld held → Ahead b held from back at r → r.back ≤ back
 ahead_back b held from back at r is (beside s t h p) = omega arith
 ahead_back b held from back at r is (above u s t h l rest) = let le : s.back ≤ u.back = ahead_back b held from u.back (key_of u) s is rest in let lt : u.back < u.number = back_below u (is.shaped u h.0) in omega arith
 
@@ -82,7 +83,7 @@ not_self b held from r is h =
     (ahead_cases b held from r.back (key_of r) r h)
 
 -- nothing that is ahead is above the place on its chain
-no_ancestor : (b : BookData) (held : List RecordData) (from back : ℕ) (at : ℕ × ℕ) (q : RecordData) → IsBook b → IsHeld held → Ahead b held from back at q → IsLinkedFrom b held q.number back → ⊥
+no_ancestor : (b : BookData) (held : List RecordData) (from back : ℕ) (at : Key) (q : RecordData) → IsBook b → IsHeld held → Ahead b held from back at q → IsLinkedFrom b held q.number back → ⊥
 no_ancestor b held from back at q book is (beside s t h p) l =
     let low : s.number ≤ s.back = link_at_least b.cuts held b.complete s.number s.back l in
     let lt : s.back < s.number = back_below s (is.shaped s h.0) in
@@ -149,19 +150,19 @@ no_more_than (x ∷ seen) xs apart part =
     omega arith
 
 -- the search still comes to a record, or to one from which its number is linked
-abbrev pub ComesTo : BookData → List RecordData → ℕ → ℕ → ℕ × ℕ → RecordData → Type 0
+abbrev pub ComesTo : BookData → List RecordData → ℕ → ℕ → Key → RecordData → Type 0
 ComesTo b held from back at r = (q : RecordData) × Ahead b held from back at q × IsLinkedFrom b held q.number r.number
 
 -- from the start of the records of a backlink it comes to each that is linked from there
-comes_from : (b : BookData) (held : List RecordData) (from base : ℕ) (r : RecordData) → IsHeld held → base < r.number → IsLinkedFrom b held base r.number → ComesTo b held from base (0, 0) r
+comes_from : (b : BookData) (held : List RecordData) (from base : ℕ) (r : RecordData) → IsHeld held → base < r.number → IsLinkedFrom b held base r.number → ComesTo b held from base (key_at 0 0) r
 comes_from b held from base r is lt l =
     ⊎_elim
     (λ (e : r.number ≡ base). absurd (omega arith))
-    (λ (s : Step b held base r.number). (s.by, beside_at b held from base (0, 0) s.by s.alive s.of (from_zero held s.by is s.alive.0), s.rest))
+    (λ (s : Step b held base r.number). (s.by, beside_at b held from base (key_at 0 0) s.by s.alive s.of (from_zero held s.by is s.alive.0), s.rest))
     (first_step b held base r.number is l)
 
 -- where the search stands: at a linked number, with the greatest linked one so far and the records looked at
-pub record Search (b : BookData) (held : List RecordData) (from limit back : ℕ) (at : ℕ × ℕ) (top count : ℕ) : Type 0 where
+pub record Search (b : BookData) (held : List RecordData) (from limit back : ℕ) (at : Key) (top count : ℕ) : Type 0 where
   pub back_linked : IsLinkedFrom b held from back
   pub back_bound : back ≤ limit
   pub top_linked : IsLinkedFrom b held from top
@@ -174,7 +175,7 @@ pub record Search (b : BookData) (held : List RecordData) (from limit back : ℕ
   pub all : (r : RecordData) → IsReached b held from limit r → Contains seen r ⊎ ComesTo b held from back at r
   pub once : (r : RecordData) → Contains seen r → ComesTo b held from back at r → ⊥
 
-pub search_start : (b : BookData) (held : List RecordData) (from limit : ℕ) → IsHeld held → from ≤ limit → Search b held from limit from (0, 0) from 0
+pub search_start : (b : BookData) (held : List RecordData) (from limit : ℕ) → IsHeld held → from ≤ limit → Search b held from limit from (key_at 0 0) from 0
 search_start b held from limit is le = record {
   back_linked = start;
   back_bound = le;
@@ -194,16 +195,16 @@ search_start b held from limit is le = record {
 }
 
 -- the record that the search comes to next
-pub record IsNext (b : BookData) (held : List RecordData) (back : ℕ) (at : ℕ × ℕ) (x : RecordData) : Type 0 where
+pub record IsNext (b : BookData) (held : List RecordData) (back : ℕ) (at : Key) (x : RecordData) : Type 0 where
   pub alive : IsHeldAlive b held x
   pub of : x.back ≡ back
-  pub behind : PairBefore at.0 at.1 x.epoch x.number
-  pub first : (s : RecordData) → IsHeldAlive b held s → s.back ≡ back → PairBefore at.0 at.1 s.epoch s.number → (s ≡ x) ⊎ PairBefore x.epoch x.number s.epoch s.number
+  pub behind : KeyBefore at (key_of x)
+  pub first : (s : RecordData) → IsHeldAlive b held s → s.back ≡ back → KeyBefore at (key_of s) → (s ≡ x) ⊎ KeyBefore (key_of x) (key_of s)
 
-next_ahead : (b : BookData) (held : List RecordData) (from back : ℕ) (at : ℕ × ℕ) (x : RecordData) → IsNext b held back at x → Ahead b held from back at x
+next_ahead : (b : BookData) (held : List RecordData) (from back : ℕ) (at : Key) (x : RecordData) → IsNext b held back at x → Ahead b held from back at x
 next_ahead b held from back at x c = beside_at b held from back at x c.alive c.of c.behind
 
-next_up : (b : BookData) (held : List RecordData) (from limit back : ℕ) (at : ℕ × ℕ) (top count : ℕ) (x : RecordData) → IsHeld held → Search b held from limit back at top count → IsNext b held back at x → from < x.number
+next_up : (b : BookData) (held : List RecordData) (from limit back : ℕ) (at : Key) (top count : ℕ) (x : RecordData) → IsHeld held → Search b held from limit back at top count → IsNext b held back at x → from < x.number
 next_up b held from limit back at top count x is s c =
     let low : from ≤ back = link_at_least b.cuts held b.complete from back s.back_linked in
     let of : x.back ≡ back = c.of in
@@ -211,13 +212,13 @@ next_up b held from limit back at top count x is s c =
     omega arith
 
 -- it joins what was seen
-looked : (b : BookData) (held : List RecordData) (from limit back : ℕ) (at : ℕ × ℕ) (top count : ℕ) (x : RecordData) (s : Search b held from limit back at top count) → IsNext b held back at x → IsApart (x ∷ s.seen)
+looked : (b : BookData) (held : List RecordData) (from limit back : ℕ) (at : Key) (top count : ℕ) (x : RecordData) (s : Search b held from limit back at top count) → IsNext b held back at x → IsApart (x ∷ s.seen)
 looked b held from limit back at top count x s c = (
   all_of (λ (y : RecordData). x ≡ y → ⊥) s.seen (λ y h e. s.once y h (x, next_ahead b held from back at x c, subst (λ (z : RecordData). IsLinkedFrom b held x.number z.number) e start)),
   s.apart,
 )
 
-reached_too : (b : BookData) (held : List RecordData) (from limit back : ℕ) (at : ℕ × ℕ) (top count : ℕ) (x : RecordData) (s : Search b held from limit back at top count) → IsNext b held back at x → (r : RecordData) → Contains (x ∷ s.seen) r → IsReached b held from limit r
+reached_too : (b : BookData) (held : List RecordData) (from limit back : ℕ) (at : Key) (top count : ℕ) (x : RecordData) (s : Search b held from limit back at top count) → IsNext b held back at x → (r : RecordData) → Contains (x ∷ s.seen) r → IsReached b held from limit r
 reached_too b held from limit back at top count x s c r h =
     ⊎_elim
     (λ (e : x ≡ r).
@@ -226,32 +227,32 @@ reached_too b held from limit back at top count x s c r h =
     (λ (u : Contains s.seen r). s.reached r u)
     (which x s.seen r h)
 
-counted_too : (b : BookData) (held : List RecordData) (from limit back : ℕ) (at : ℕ × ℕ) (top count : ℕ) (x : RecordData) (s : Search b held from limit back at top count) → length (x ∷ s.seen) ≡ count + 1
+counted_too : (b : BookData) (held : List RecordData) (from limit back : ℕ) (at : Key) (top count : ℕ) (x : RecordData) (s : Search b held from limit back at top count) → length (x ∷ s.seen) ≡ count + 1
 counted_too b held from limit back at top count x s = let e : length s.seen ≡ count = s.counted in omega arith
 
 -- what is ahead behind it leads to nothing that was seen
-once_behind : (b : BookData) (held : List RecordData) (from limit back : ℕ) (at : ℕ × ℕ) (top count : ℕ) (x : RecordData) → IsBook b → IsHeld held → (s : Search b held from limit back at top count) → IsNext b held back at x → (r : RecordData) → Contains (x ∷ s.seen) r → ComesTo b held from back (key_of x) r → ⊥
+once_behind : (b : BookData) (held : List RecordData) (from limit back : ℕ) (at : Key) (top count : ℕ) (x : RecordData) → IsBook b → IsHeld held → (s : Search b held from limit back at top count) → IsNext b held back at x → (r : RecordData) → Contains (x ∷ s.seen) r → ComesTo b held from back (key_of x) r → ⊥
 once_behind b held from limit back at top count x book is s c r h w =
     ⊎_elim
     (λ (e : x ≡ r).
     let on : Ahead b held from x.back (key_of x) w.0 = subst (λ (n : ℕ). Ahead b held from n (key_of x) w.0) (sym c.of) w.1 in
-    no_ancestor b held from x.number (0, 0) w.0 book is (above x w.0 (0, 0) c.alive (next_up b held from limit back at top count x is s c) on)
+    no_ancestor b held from x.number (key_at 0 0) w.0 book is (above x w.0 (key_at 0 0) c.alive (next_up b held from limit back at top count x is s c) on)
     (subst (λ (y : RecordData). IsLinkedFrom b held w.0.number y.number) (sym e) w.2))
     (λ (u : Contains s.seen r). s.once r u (w.0, ahead_later b held from back at (key_of x) w.0 c.behind w.1, w.2))
     (which x s.seen r h)
 
 -- what was ahead is the record that the search looks at, or is still ahead behind it
-passes : (b : BookData) (held : List RecordData) (from back : ℕ) (at : ℕ × ℕ) (x : RecordData) → IsNext b held back at x → (q : RecordData) → Ahead b held from back at q → (q ≡ x) ⊎ Ahead b held from back (key_of x) q
+passes : (b : BookData) (held : List RecordData) (from back : ℕ) (at : Key) (x : RecordData) → IsNext b held back at x → (q : RecordData) → Ahead b held from back at q → (q ≡ x) ⊎ Ahead b held from back (key_of x) q
 passes b held from back at x c q h =
     ⊎_elim
     (λ (u : Beside b held back at q). ⊎_elim
     (λ (e : q ≡ x). inl e)
-    (λ (p : PairBefore x.epoch x.number q.epoch q.number). inr (beside_at b held from back (key_of x) q u.alive u.of p))
+    (λ (p : KeyBefore (key_of x) (key_of q)). inr (beside_at b held from back (key_of x) q u.alive u.of p))
     (c.first q u.alive u.of u.behind))
     (λ (u : Above b held from back q). inr (above_at b held from back (key_of x) q u))
     (ahead_cases b held from back at q h)
 
-all_skip : (b : BookData) (held : List RecordData) (from limit back : ℕ) (at : ℕ × ℕ) (top count : ℕ) (x : RecordData) → IsBook b → IsHeld held → (s : Search b held from limit back at top count) → IsNext b held back at x → limit < x.number → (r : RecordData) → IsReached b held from limit r → Contains (x ∷ s.seen) r ⊎ ComesTo b held from back (key_of x) r
+all_skip : (b : BookData) (held : List RecordData) (from limit back : ℕ) (at : Key) (top count : ℕ) (x : RecordData) → IsBook b → IsHeld held → (s : Search b held from limit back at top count) → IsNext b held back at x → limit < x.number → (r : RecordData) → IsReached b held from limit r → Contains (x ∷ s.seen) r ⊎ ComesTo b held from back (key_of x) r
 all_skip b held from limit back at top count x book is s c over r reached =
     ⊎_elim
     (λ (u : Contains s.seen r). inl (there x s.seen r u))
@@ -274,7 +275,7 @@ all_skip b held from limit back at top count x book is s c over r reached =
         omega arith))
         (link_cases b.cuts held b.complete q.number r.number l)
 
-all_down : (b : BookData) (held : List RecordData) (from limit back : ℕ) (at : ℕ × ℕ) (top count : ℕ) (x : RecordData) → IsBook b → IsHeld held → (s : Search b held from limit back at top count) → IsNext b held back at x → (r : RecordData) → IsReached b held from limit r → Contains (x ∷ s.seen) r ⊎ ComesTo b held from x.number (0, 0) r
+all_down : (b : BookData) (held : List RecordData) (from limit back : ℕ) (at : Key) (top count : ℕ) (x : RecordData) → IsBook b → IsHeld held → (s : Search b held from limit back at top count) → IsNext b held back at x → (r : RecordData) → IsReached b held from limit r → Contains (x ∷ s.seen) r ⊎ ComesTo b held from x.number (key_at 0 0) r
 all_down b held from limit back at top count x book is s c r reached =
     ⊎_elim
     (λ (u : Contains s.seen r). inl (there x s.seen r u))
@@ -287,12 +288,12 @@ all_down b held from limit back at top count x book is s c r reached =
     (λ (le : r.number ≤ x.number). let same : x.number ≡ r.number = omega arith in inl (subst (Contains (x ∷ s.seen)) (one_alive b held x r book is c.alive reached.0 same) (here x s.seen)))
     (cases_lt x.number r.number))
     (λ (v : Ahead b held from back (key_of x) w.0).
-    inr (w.0, above x w.0 (0, 0) c.alive (next_up b held from limit back at top count x is s c) (subst (λ (n : ℕ). Ahead b held from n (key_of x) w.0) (sym c.of) v), w.2))
+    inr (w.0, above x w.0 (key_at 0 0) c.alive (next_up b held from limit back at top count x is s c) (subst (λ (n : ℕ). Ahead b held from n (key_of x) w.0) (sym c.of) v), w.2))
     (passes b held from back at x c w.0 w.1))
     (s.all r reached)
 
 -- the search passes a record above the limit
-pub search_skip : (b : BookData) (held : List RecordData) (from limit back : ℕ) (at : ℕ × ℕ) (top count : ℕ) (x : RecordData) → IsBook b → IsHeld held → Search b held from limit back at top count → IsNext b held back at x → limit < x.number → Search b held from limit back (key_of x) top (count + 1)
+pub search_skip : (b : BookData) (held : List RecordData) (from limit back : ℕ) (at : Key) (top count : ℕ) (x : RecordData) → IsBook b → IsHeld held → Search b held from limit back at top count → IsNext b held back at x → limit < x.number → Search b held from limit back (key_of x) top (count + 1)
 search_skip b held from limit back at top count x book is s c over = record {
   back_linked = s.back_linked;
   back_bound = s.back_bound;
@@ -311,10 +312,10 @@ search_skip b held from limit back at top count x book is s c over = record {
 }
 
 -- what is ahead where the search goes down to a record leads to nothing that was seen
-once_down : (b : BookData) (held : List RecordData) (from limit back : ℕ) (at : ℕ × ℕ) (top count : ℕ) (x : RecordData) → IsBook b → IsHeld held → (s : Search b held from limit back at top count) → IsNext b held back at x → (r : RecordData) → Contains (x ∷ s.seen) r → ComesTo b held from x.number (0, 0) r → ⊥
+once_down : (b : BookData) (held : List RecordData) (from limit back : ℕ) (at : Key) (top count : ℕ) (x : RecordData) → IsBook b → IsHeld held → (s : Search b held from limit back at top count) → IsNext b held back at x → (r : RecordData) → Contains (x ∷ s.seen) r → ComesTo b held from x.number (key_at 0 0) r → ⊥
 once_down b held from limit back at top count x book is s c r h w =
     ⊎_elim
-    (λ (u : Beside b held x.number (0, 0) w.0).
+    (λ (u : Beside b held x.number (key_at 0 0) w.0).
     let of : w.0.back ≡ x.number = u.of in
     let up : w.0.back < w.0.number = back_below w.0 (is.shaped w.0 u.alive.0) in
     ⊎_elim
@@ -332,10 +333,10 @@ once_down b held from limit back at top count x book is s c r h w =
     let same : u.by ≡ x = one_alive b held u.by x book is u.alive c.alive u.at in
     let on : Ahead b held from x.back (key_of x) w.0 = subst (λ (y : RecordData). Ahead b held from y.back (key_of y) w.0) same u.rest in
     once_behind b held from limit back at top count x book is s c r h (w.0, subst (λ (n : ℕ). Ahead b held from n (key_of x) w.0) c.of on, w.2))
-    (ahead_cases b held from x.number (0, 0) w.0 w.1)
+    (ahead_cases b held from x.number (key_at 0 0) w.0 w.1)
 
 -- the search goes down to a record
-pub search_down : (b : BookData) (held : List RecordData) (from limit back : ℕ) (at : ℕ × ℕ) (top count most : ℕ) (x : RecordData) → IsBook b → IsHeld held → Search b held from limit back at top count → IsNext b held back at x → x.number ≤ limit → top ≤ most → x.number ≤ most → (most ≡ top) ⊎ (most ≡ x.number) → Search b held from limit x.number (0, 0) most (count + 1)
+pub search_down : (b : BookData) (held : List RecordData) (from limit back : ℕ) (at : Key) (top count most : ℕ) (x : RecordData) → IsBook b → IsHeld held → Search b held from limit back at top count → IsNext b held back at x → x.number ≤ limit → top ≤ most → x.number ≤ most → (most ≡ top) ⊎ (most ≡ x.number) → Search b held from limit x.number (key_at 0 0) most (count + 1)
 search_down b held from limit back at top count most x book is s c bound grows covers either =
     let linked : IsLinkedFrom b held from x.number = next x c.alive.0 c.alive.1 (next_up b held from limit back at top count x is s c) (subst (IsLinkedFrom b held from) (sym c.of) s.back_linked) in
     record {
@@ -356,7 +357,7 @@ search_down b held from limit back at top count most x book is s c bound grows c
     }
 
 -- the search has come to the end of a chain: what is ahead is ahead of the record of the backlink
-climbs : (b : BookData) (held : List RecordData) (from back : ℕ) (at : ℕ × ℕ) (u : RecordData) → IsBook b → IsHeld held → IsAliveOfBack b held back at None → IsHeldAlive b held u → u.number ≡ back → (q : RecordData) → Ahead b held from back at q → Ahead b held from u.back (key_of u) q
+climbs : (b : BookData) (held : List RecordData) (from back : ℕ) (at : Key) (u : RecordData) → IsBook b → IsHeld held → IsAliveOfBack b held back at None → IsHeldAlive b held u → u.number ≡ back → (q : RecordData) → Ahead b held from back at q → Ahead b held from u.back (key_of u) q
 climbs b held from back at u book is none alive e q h =
     ⊎_elim
     (λ (w : Beside b held back at q). absurd (none q w.alive w.of w.behind))
@@ -365,7 +366,7 @@ climbs b held from back at u book is none alive e q h =
     subst (λ (x : RecordData). Ahead b held from x.back (key_of x) q) same w.rest)
     (ahead_cases b held from back at q h)
 
-pub search_climb : (b : BookData) (held : List RecordData) (from limit back : ℕ) (at : ℕ × ℕ) (top count : ℕ) (u : RecordData) → IsBook b → IsHeld held → Search b held from limit back at top count → IsAliveOfBack b held back at None → IsHeldAlive b held u → u.number ≡ back → from < back → Search b held from limit u.back (key_of u) top count
+pub search_climb : (b : BookData) (held : List RecordData) (from limit back : ℕ) (at : Key) (top count : ℕ) (u : RecordData) → IsBook b → IsHeld held → Search b held from limit back at top count → IsAliveOfBack b held back at None → IsHeldAlive b held u → u.number ≡ back → from < back → Search b held from limit u.back (key_of u) top count
 search_climb b held from limit back at top count u book is s none alive e lt =
     let low : u.back < u.number = back_below u (is.shaped u alive.0) in
     let le : back ≤ limit = s.back_bound in
@@ -391,24 +392,24 @@ pub alone_at_base : (b : BookData) (held : List RecordData) (from back : ℕ) �
 alone_at_base b held from back le r w = let same : w.by.number ≡ back = w.at in let higher : from < w.by.number = w.higher in omega arith
 
 -- nor is there below a record that is the last one of its backlink, where there was nowhere before
-pub alone_below : (b : BookData) (held : List RecordData) (from back : ℕ) (at key : ℕ × ℕ) → IsBook b → IsHeld held → IsAlone b held from back → IsAliveOfBack b held back at (Some key) → IsAliveOfBack b held back key None → IsAlone b held from key.1
+pub alone_below : (b : BookData) (held : List RecordData) (from back : ℕ) (at key : Key) → IsBook b → IsHeld held → IsAlone b held from back → IsAliveOfBack b held back at (Some key) → IsAliveOfBack b held back key None → IsAlone b held from key.number
 alone_below b held from back at key book is alone n last r w =
     let x : RecordData = n.0.0 in
-    let k : HasKey key.0 key.1 x = n.0.3 in
+    let k : HasKey key x = n.0.3 in
     let same : w.by ≡ x = one_alive b held w.by x book is w.alive n.0.1 (w.at ∙ sym k.1) in
     let rest : Ahead b held from x.back (key_of x) r = subst (λ (y : RecordData). Ahead b held from y.back (key_of y) r) same w.rest in
     let beside_key : Ahead b held from back (key_of x) r = subst (λ (n : ℕ). Ahead b held from n (key_of x) r) n.0.2 rest in
     ⊎_elim
     (λ (u : Beside b held back key r). last r u.alive u.of u.behind)
     (λ (u : Above b held from back r). alone r u)
-    (ahead_cases b held from back key r (subst (λ (p : ℕ × ℕ). Ahead b held from back p r) (key_is key.0 key.1 x.epoch x.number (sym k.0) (sym k.1)) beside_key))
+    (ahead_cases b held from back key r (subst (λ (p : Key). Ahead b held from back p r) (key_is key.epoch key.number x.epoch x.number (sym k.0) (sym k.1)) beside_key))
 
 -- the search has come back to its base, or to a number with nowhere to climb to: nothing is ahead
-spent : (b : BookData) (held : List RecordData) (from back : ℕ) (at : ℕ × ℕ) (q : RecordData) → IsAliveOfBack b held back at None → IsAlone b held from back → Ahead b held from back at q → ⊥
+spent : (b : BookData) (held : List RecordData) (from back : ℕ) (at : Key) (q : RecordData) → IsAliveOfBack b held back at None → IsAlone b held from back → Ahead b held from back at q → ⊥
 spent b held from back at q none alone h =
     ⊎_elim (λ (w : Beside b held back at q). none q w.alive w.of w.behind) (λ (w : Above b held from back q). alone q w) (ahead_cases b held from back at q h)
 
-pub search_end : (b : BookData) (held : List RecordData) (from limit back : ℕ) (at : ℕ × ℕ) (top count : ℕ) → IsHeld held → Search b held from limit back at top count → IsAliveOfBack b held back at None → IsAlone b held from back → (m : ℕ) → IsLinkedFrom b held from m → m ≤ limit → m ≤ top
+pub search_end : (b : BookData) (held : List RecordData) (from limit back : ℕ) (at : Key) (top count : ℕ) → IsHeld held → Search b held from limit back at top count → IsAliveOfBack b held back at None → IsAlone b held from back → (m : ℕ) → IsLinkedFrom b held from m → m ≤ limit → m ≤ top
 search_end b held from limit back at top count is s none alone m l up =
     ⊎_elim
     (λ (e : m ≡ from). let low : from ≤ top = link_at_least b.cuts held b.complete from top s.top_linked in omega arith)
@@ -432,7 +433,7 @@ apart_of (x ∷ xs) rising = (
   apart_of xs rising.1,
 )
 
-pub search_counts : (b : BookData) (held : List RecordData) (from limit back : ℕ) (at : ℕ × ℕ) (top count : ℕ) → Search b held from limit back at top count → IsAliveOfBack b held back at None → IsAlone b held from back → (xs : List RecordData) → Lists RecordBefore (IsReached b held from limit) xs → count ≡ length xs
+pub search_counts : (b : BookData) (held : List RecordData) (from limit back : ℕ) (at : Key) (top count : ℕ) → Search b held from limit back at top count → IsAliveOfBack b held back at None → IsAlone b held from back → (xs : List RecordData) → Lists RecordBefore (IsReached b held from limit) xs → count ≡ length xs
 search_counts b held from limit back at top count s none alone xs lists =
     let most : length s.seen ≤ length xs = no_more_than s.seen xs s.apart (λ r h. (lists.members r).1 (s.reached r h)) in
     let least : length xs ≤ length s.seen = no_more_than xs s.seen (apart_of xs lists.rising) (λ r h. ⊎_elim
@@ -443,38 +444,38 @@ search_counts b held from limit back at top count s none alone xs lists =
     omega arith
 
 -- ---- from what the calls say
-next_of : (b : BookData) (held : List RecordData) (back : ℕ) (at key : ℕ × ℕ) → IsBook b → IsHeld held → (n : IsAliveOfBack b held back at (Some key)) → IsNext b held back at n.0.0
+next_of : (b : BookData) (held : List RecordData) (back : ℕ) (at key : Key) → IsBook b → IsHeld held → (n : IsAliveOfBack b held back at (Some key)) → IsNext b held back at n.0.0
 next_of b held back at key book is n =
     let x : RecordData = n.0.0 in
-    let k : HasKey key.0 key.1 x = n.0.3 in
+    let k : HasKey key x = n.0.3 in
     record {
       alive = n.0.1;
       of = n.0.2;
       behind = n.0.4;
       first = λ s h e p. ⊎_elim
-          (λ (u : HasKey key.0 key.1 s). inl (one_alive b held s x book is h n.0.1 (u.1 ∙ sym k.1)))
-          (λ (u : PairBefore key.0 key.1 s.epoch s.number). inr (subst (λ (y : ℕ). PairBefore y x.number s.epoch s.number) (sym k.0) (subst (λ (y : ℕ). PairBefore key.0 y s.epoch s.number) (sym k.1) u)))
+          (λ (u : HasKey key s). inl (one_alive b held s x book is h n.0.1 (u.1 ∙ sym k.1)))
+          (λ (u : KeyBefore key (key_of s)). inr (subst (λ (y : ℕ). KeyBefore (key_at y x.number) (key_of s)) (sym k.0) (subst (λ (y : ℕ). KeyBefore (key_at key.epoch y) (key_of s)) (sym k.1) u)))
           (n.1 s h e p);
     }
 
-pub skip : (b : BookData) (held : List RecordData) (from limit back : ℕ) (at key : ℕ × ℕ) (top count more : ℕ) → IsBook b → IsHeld held → Search b held from limit back at top count → IsAliveOfBack b held back at (Some key) → more ≡ count + 1 → limit < key.1 → Search b held from limit back key top more
+pub skip : (b : BookData) (held : List RecordData) (from limit back : ℕ) (at key : Key) (top count more : ℕ) → IsBook b → IsHeld held → Search b held from limit back at top count → IsAliveOfBack b held back at (Some key) → more ≡ count + 1 → limit < key.number → Search b held from limit back key top more
 skip b held from limit back at key top count more book is s n e over =
     let x : RecordData = n.0.0 in
-    let k : HasKey key.0 key.1 x = n.0.3 in
-    let same : x.number ≡ key.1 = k.1 in
+    let k : HasKey key x = n.0.3 in
+    let same : x.number ≡ key.number = k.1 in
     let it : Search b held from limit back (key_of x) top (count + 1) = search_skip b held from limit back at top count x book is s (next_of b held back at key book is n) (omega arith) in
-    let P : ℕ × ℕ → Type 0 = λ p. Search b held from limit back p top (count + 1) in
-    subst (Search b held from limit back key top) (sym e) (subst P (key_is key.0 key.1 x.epoch x.number (sym k.0) (sym k.1)) it)
+    let P : Key → Type 0 = λ p. Search b held from limit back p top (count + 1) in
+    subst (Search b held from limit back key top) (sym e) (subst P (key_is key.epoch key.number x.epoch x.number (sym k.0) (sym k.1)) it)
 
-pub down : (b : BookData) (held : List RecordData) (from limit back : ℕ) (at key : ℕ × ℕ) (top count more most : ℕ) → IsBook b → IsHeld held → Search b held from limit back at top count → IsAliveOfBack b held back at (Some key) → more ≡ count + 1 → key.1 ≤ limit → most ≡ max top key.1 → Search b held from limit key.1 (0, 0) most more
+pub down : (b : BookData) (held : List RecordData) (from limit back : ℕ) (at key : Key) (top count more most : ℕ) → IsBook b → IsHeld held → Search b held from limit back at top count → IsAliveOfBack b held back at (Some key) → more ≡ count + 1 → key.number ≤ limit → most ≡ max top key.number → Search b held from limit key.number (key_at 0 0) most more
 down b held from limit back at key top count more most book is s n e le m =
     let x : RecordData = n.0.0 in
-    let same : x.number ≡ key.1 = n.0.3.1 in
+    let same : x.number ≡ key.number = n.0.3.1 in
     let either : (most ≡ top) ⊎ (most ≡ x.number) = grind arith in
-    let P : ℕ → Type 0 = λ y. Search b held from limit y (0, 0) most more in
-    subst P same (subst (Search b held from limit x.number (0, 0) most) (sym e) (search_down b held from limit back at top count most x book is s (next_of b held back at key book is n) (omega arith) (omega arith) (omega arith) either))
+    let P : ℕ → Type 0 = λ y. Search b held from limit y (key_at 0 0) most more in
+    subst P same (subst (Search b held from limit x.number (key_at 0 0) most) (sym e) (search_down b held from limit back at top count most x book is s (next_of b held back at key book is n) (omega arith) (omega arith) (omega arith) either))
 
-pub looks : (b : BookData) (held : List RecordData) (from limit back : ℕ) (at key : ℕ × ℕ) (top count : ℕ) → IsBook b → IsHeld held → Search b held from limit back at top count → IsAliveOfBack b held back at (Some key) → count + 1 ≤ length held
+pub looks : (b : BookData) (held : List RecordData) (from limit back : ℕ) (at key : Key) (top count : ℕ) → IsBook b → IsHeld held → Search b held from limit back at top count → IsAliveOfBack b held back at (Some key) → count + 1 ≤ length held
 looks b held from limit back at key top count book is s n =
     let x : RecordData = n.0.0 in
     let c : IsNext b held back at x = next_of b held back at key book is n in
@@ -490,11 +491,11 @@ falls_by_one h c d l x y e le up =
     let out : ((h - d) + 1) * (l + 1) ≡ (h - d) * (l + 1) + (l + 1) = omega arith in
     omega arith
 
-pub climbs_to : (b : BookData) (held : List RecordData) (from limit back : ℕ) (at : ℕ × ℕ) (top count : ℕ) (u : RecordData) (e n k : ℕ) → IsBook b → IsHeld held → Search b held from limit back at top count → IsAliveOfBack b held back at None → IsHeldAlive b held u → u.number ≡ back → from < back → k ≡ u.back → e ≡ u.epoch → n ≡ u.number → Search b held from limit k (e, n) top count
+pub climbs_to : (b : BookData) (held : List RecordData) (from limit back : ℕ) (at : Key) (top count : ℕ) (u : RecordData) (e n k : ℕ) → IsBook b → IsHeld held → Search b held from limit back at top count → IsAliveOfBack b held back at None → IsHeldAlive b held u → u.number ≡ back → from < back → k ≡ u.back → e ≡ u.epoch → n ≡ u.number → Search b held from limit k (key_at e n) top count
 climbs_to b held from limit back at top count u e n k book is s none alive same lt p q r =
-    let P : ℕ → Type 0 = λ x. Search b held from limit x (e, n) top count in
-    let Q : ℕ → Type 0 = λ x. Search b held from limit u.back (x, n) top count in
-    let R : ℕ → Type 0 = λ x. Search b held from limit u.back (u.epoch, x) top count in
+    let P : ℕ → Type 0 = λ x. Search b held from limit x (key_at e n) top count in
+    let Q : ℕ → Type 0 = λ x. Search b held from limit u.back (key_at x n) top count in
+    let R : ℕ → Type 0 = λ x. Search b held from limit u.back (key_at u.epoch x) top count in
     subst P (sym p) (subst Q (sym q) (subst R (sym r) (search_climb b held from limit back at top count u book is s none alive same lt)))
 
 -- a linked number above the base is that of a record

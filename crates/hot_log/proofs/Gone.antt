@@ -7,7 +7,8 @@ use Rattle.std.specs.List.Sorted.{IsStrictlySortedBy}
 use Rattle.std.specs.declared.ops.Bound.TheVariants.{Included, Excluded}
 use Rattle.std.proofs.lemmas.Bool.{cases_lt}
 use Rattle.redo_core.specs.Data.{RecordData}
-use Rattle.redo_core.specs.Order.{PairBefore}
+use Rattle.redo_core.specs.Keys.{key_at, key_of, KeyBefore}
+use Rattle.redo_core.specs.declared.keys.Key.{Key}
 use Rattle.redo_core.proofs.Members.{filtered, passed}
 use Rattle.redo_core.proofs.Pairs.{pair_trans}
 use Rattle.epoch_book.specs.Book.{BookData}
@@ -21,39 +22,39 @@ use Rattle.hot_log.proofs.Places.{Place, pair_or_not}
 use Rattle.hot_log.proofs.Ranges.{InPage, in_page, in_range}
 
 -- those with P of keys at or below one are gone
-abbrev pub Gone : (RecordData → Type 0) → ℕ × ℕ → List RecordData → List RecordData → Type 0
-Gone P at old now = Removes (λ r. P r × (PairBefore at.0 at.1 r.epoch r.number → ⊥)) old now
+abbrev pub Gone : (RecordData → Type 0) → Key → List RecordData → List RecordData → Type 0
+Gone P at old now = Removes (λ r. P r × (KeyBefore at (key_of r) → ⊥)) old now
 
-pub gone_none : (P : RecordData → Type 0) (at : ℕ × ℕ) (held : List RecordData) → ((r : RecordData) → Contains held r → P r → PairBefore at.0 at.1 r.epoch r.number) → Gone P at held held
+pub gone_none : (P : RecordData → Type 0) (at : Key) (held : List RecordData) → ((r : RecordData) → Contains held r → P r → KeyBefore at (key_of r)) → Gone P at held held
 gone_none P at held up r = (λ h. (h, λ k. k.1 (up r h k.0)), λ h. h.0)
 
-pub gone_next : (P Q : RecordData → Type 0) (at key : ℕ × ℕ) (old now after : List RecordData) → Gone P at old now → Removes Q now after → PairBefore at.0 at.1 key.0 key.1 → ((r : RecordData) → Contains now r → P r → PairBefore at.0 at.1 r.epoch r.number → (PairBefore key.0 key.1 r.epoch r.number → ⊥) → Q r) → ((r : RecordData) → Contains now r → Q r → P r × (PairBefore key.0 key.1 r.epoch r.number → ⊥)) → Gone P key old after
+pub gone_next : (P Q : RecordData → Type 0) (at key : Key) (old now after : List RecordData) → Gone P at old now → Removes Q now after → KeyBefore at key → ((r : RecordData) → Contains now r → P r → KeyBefore at (key_of r) → (KeyBefore key (key_of r) → ⊥) → Q r) → ((r : RecordData) → Contains now r → Q r → P r × (KeyBefore key (key_of r) → ⊥)) → Gone P key old after
 gone_next P Q at key old now after gone removes up to fro r = (
   λ h.
       let k = (removes r).0 h in
       let g = (gone r).0 k.0 in
-      (g.0, λ p. ⊎_elim (λ (u : PairBefore at.0 at.1 r.epoch r.number). k.1 (to r k.0 p.0 u p.1)) (λ (u : PairBefore at.0 at.1 r.epoch r.number → ⊥). g.1 (p.0, u)) (pair_or_not at.0 at.1 r.epoch r.number)),
+      (g.0, λ p. ⊎_elim (λ (u : KeyBefore at (key_of r)). k.1 (to r k.0 p.0 u p.1)) (λ (u : KeyBefore at (key_of r) → ⊥). g.1 (p.0, u)) (pair_or_not at.epoch at.number r.epoch r.number)),
   λ h.
-      let still = (gone r).1 (h.0, λ p. h.1 (p.0, λ u. p.1 (pair_trans at.0 at.1 key.0 key.1 r.epoch r.number up u))) in
+      let still = (gone r).1 (h.0, λ p. h.1 (p.0, λ u. p.1 (pair_trans at.epoch at.number key.epoch key.number r.epoch r.number up u))) in
       (removes r).1 (still, λ q. h.1 (fro r still q)),
 )
 
-pub gone_all : (P : RecordData → Type 0) (at : ℕ × ℕ) (old now : List RecordData) → Gone P at old now → ((r : RecordData) → Contains now r → P r → PairBefore at.0 at.1 r.epoch r.number → ⊥) → Removes P old now
+pub gone_all : (P : RecordData → Type 0) (at : Key) (old now : List RecordData) → Gone P at old now → ((r : RecordData) → Contains now r → P r → KeyBefore at (key_of r) → ⊥) → Removes P old now
 gone_all P at old now gone none r = (
   λ h.
       let g = (gone r).0 h in
-      (g.0, λ p. ⊎_elim (λ (u : PairBefore at.0 at.1 r.epoch r.number). none r h p u) (λ (u : PairBefore at.0 at.1 r.epoch r.number → ⊥). g.1 (p, u)) (pair_or_not at.0 at.1 r.epoch r.number)),
+      (g.0, λ p. ⊎_elim (λ (u : KeyBefore at (key_of r)). none r h p u) (λ (u : KeyBefore at (key_of r) → ⊥). g.1 (p, u)) (pair_or_not at.epoch at.number r.epoch r.number)),
   λ h. (gone r).1 (h.0, λ p. h.1 p.0),
 )
 
 -- the alive records of a page up to a number, row by row
-pub folded_none : (b : BookData) (page version point : ℕ) (at : ℕ × ℕ) (held : List RecordData) → ((r : RecordData) → Contains held r → 0 < r.number) → PartsAtKey b 0 at → Gone (IsFolded b page version point) at held held
+pub folded_none : (b : BookData) (page version point : ℕ) (at : Key) (held : List RecordData) → ((r : RecordData) → Contains held r → 0 < r.number) → PartsAtKey b 0 at → Gone (IsFolded b page version point) at held held
 folded_none b page version point at held positive parts = gone_none (IsFolded b page version point) at held (λ r h p. (parts r.epoch r.number p.0).0 (positive r h))
 
-pub folded_next : (b : BookData) (page version point to : ℕ) (at end last : ℕ × ℕ) (old now after : List RecordData) → PartsAtKey b to end → to ≤ version → to ≤ point → Gone (IsFolded b page version point) at old now → Removes (IsAliveBetween b now page at last) now after → ((r : RecordData) × IsAliveBetween b now page at end r × HasKey last.0 last.1 r) → Gone (IsFolded b page version point) last old after
+pub folded_next : (b : BookData) (page version point to : ℕ) (at end last : Key) (old now after : List RecordData) → PartsAtKey b to end → to ≤ version → to ≤ point → Gone (IsFolded b page version point) at old now → Removes (IsAliveBetween b now page at last) now after → ((r : RecordData) × IsAliveBetween b now page at end r × HasKey last r) → Gone (IsFolded b page version point) last old after
 folded_next b page version point to at end last old now after parts low small gone removes found =
     gone_next (IsFolded b page version point) (IsAliveBetween b now page at last) at last old now after gone removes
-    (subst (λ (e : ℕ). PairBefore at.0 at.1 e last.1) found.2.0 (subst (λ (n : ℕ). PairBefore at.0 at.1 found.0.epoch n) found.2.1 found.1.1))
+    (subst (λ (e : ℕ). KeyBefore at (key_at e last.number)) found.2.0 (subst (λ (n : ℕ). KeyBefore at (key_at found.0.epoch n)) found.2.1 found.1.1))
     (λ r h p up over. ((h, p.0, p.1), up, over))
     (λ r h q.
     let le : r.number ≤ to = ⊎_elim
@@ -64,12 +65,12 @@ folded_next b page version point to at end last old now after parts low small go
     let two : r.number ≤ point = omega (arith, le, small) in
     ((q.0.1, q.0.2, one, two), q.2))
   where
-    below : (r : RecordData) → (PairBefore last.0 last.1 r.epoch r.number → ⊥) → PairBefore end.0 end.1 r.epoch r.number → ⊥
+    below : (r : RecordData) → (KeyBefore last (key_of r) → ⊥) → KeyBefore end (key_of r) → ⊥
     below r least up =
-        let over : PairBefore end.0 end.1 last.0 last.1 → ⊥ = subst (λ (e : ℕ). PairBefore end.0 end.1 e last.1 → ⊥) found.2.0 (subst (λ (n : ℕ). PairBefore end.0 end.1 found.0.epoch n → ⊥) found.2.1 found.1.2) in
-        over (pair_up_to end.0 end.1 last.0 last.1 r.epoch r.number up least)
+        let over : KeyBefore end last → ⊥ = subst (λ (e : ℕ). KeyBefore end (key_at e last.number) → ⊥) found.2.0 (subst (λ (n : ℕ). KeyBefore end (key_at found.0.epoch n) → ⊥) found.2.1 found.1.2) in
+        over (pair_up_to end.epoch end.number last.epoch last.number r.epoch r.number up least)
 
-pub folded_all : (b : BookData) (page version point to : ℕ) (at end : ℕ × ℕ) (old now : List RecordData) → PartsAtKey b to end → ((n : ℕ) → n ≤ version → n ≤ point → n ≤ to) → Gone (IsFolded b page version point) at old now → ((r : RecordData) → IsAliveBetween b now page at end r → ⊥) → Removes (IsFolded b page version point) old now
+pub folded_all : (b : BookData) (page version point to : ℕ) (at end : Key) (old now : List RecordData) → PartsAtKey b to end → ((n : ℕ) → n ≤ version → n ≤ point → n ≤ to) → Gone (IsFolded b page version point) at old now → ((r : RecordData) → IsAliveBetween b now page at end r → ⊥) → Removes (IsFolded b page version point) old now
 folded_all b page version point to at end old now parts least gone none =
     gone_all (IsFolded b page version point) at old now gone
     (λ r h p up. none r (
@@ -82,12 +83,12 @@ folded_all b page version point to at end old now parts least gone none =
     ))
 
 -- a map without a range of keys of a page
-pub record Cuts (old new : Map) (page : ℕ) (above to : ℕ × ℕ) : Type 0 where
+pub record Cuts (old new : Map) (page : ℕ) (above to : Key) : Type 0 where
   pub was : IsPaged old
   pub ordered : IsStrictlySortedBy place_cmp (keys_of new)
   pub at : new ≡ filter (λ (e : Entry). not (range_contains place_cmp (Excluded (page, above)) (Included (page, to)) e.0)) old
 
-cut : (old new : Map) (page : ℕ) (above to : ℕ × ℕ) → Cuts old new page above to → (e : Entry) → Contains new e ↔ (Contains old e × (InPage page above to e.0 → ⊥))
+cut : (old new : Map) (page : ℕ) (above to : Key) → Cuts old new page above to → (e : Entry) → Contains new e ↔ (Contains old e × (InPage page above to e.0 → ⊥))
 cut old new page above to is e = (
   λ h.
       let t = filtered test old e (subst (λ (l : List Entry). Contains l e) is.at h) in
@@ -109,7 +110,7 @@ cut old new page above to is e = (
     yes true f = absurd (f refl)
     yes false f = refl
 
-pub cut_members : (old new : Map) (page : ℕ) (above to : ℕ × ℕ) → Cuts old new page above to → Removes (IsBetween page above to) (seen old) (seen new)
+pub cut_members : (old new : Map) (page : ℕ) (above to : Key) → Cuts old new page above to → Removes (IsBetween page above to) (seen old) (seen new)
 cut_members old new page above to is r = (
   λ h.
       let t = entry_of new r ((in_order (records_in new) r).0 h) in
@@ -119,7 +120,7 @@ cut_members old new page above to is r = (
   λ h. seen_in new (place_of r, r) ((cut old new page above to is (place_of r, r)).1 (own_entry old is.was r h.0, λ p. h.1 (p.page, p.above, p.up_to))),
 )
 
-pub cut_paged : (old new : Map) (page : ℕ) (above to : ℕ × ℕ) → Cuts old new page above to → IsPaged new
+pub cut_paged : (old new : Map) (page : ℕ) (above to : Key) → Cuts old new page above to → IsPaged new
 cut_paged old new page above to is = record {
   ordered = is.ordered;
   placed = λ e h. is.was.placed e ((cut old new page above to is e).0 h).0;

@@ -8,6 +8,8 @@ use Rattle.std.specs.List.Sorted.{IsStrictlySortedBy}
 use Rattle.std.specs.Map.{keys_of}
 use Rattle.std.specs.BTreeMap.Range.{range_contains}
 use Rattle.redo_core.specs.Data.{RecordData}
+use Rattle.redo_core.specs.Keys.{key_at, key_of, key_cmp, KeyBefore}
+use Rattle.redo_core.specs.declared.keys.Key.{Key}
 use Rattle.redo_core.specs.Order.{IsRising, Lists, RecordBefore}
 use Rattle.redo_core.specs.Standing.{IsAlive, IsWaiting}
 use Rattle.redo_core.proofs.Members.{none_in, here, there, which, each, all_of, filtered, passed}
@@ -16,8 +18,7 @@ use Rattle.redo_core.proofs.Rising.{rising_filter}
 use Rattle.epoch_book.specs.Book.{BookData}
 use Rattle.hot_log.specs.Alive.{PartsAt}
 use Rattle.hot_log.specs.Indexing.{IsKeyPages}
-use Rattle.hot_log.specs.Kept.{KeepsKey, IsKeptAbove, ListsKeysOf, KeyPairBefore, IsKeyKept}
-use Rattle.hot_log.specs.Paged.{key_cmp, key_of}
+use Rattle.hot_log.specs.Kept.{KeepsKey, IsKeptAbove, ListsKeysOf, IsKeyKept}
 use Rattle.hot_log.proofs.Indexed.{one_key}
 use Rattle.hot_log.proofs.Keyed.{Entry, Map}
 use Rattle.hot_log.proofs.Maps.{rising_entries, before_join, lt_true, lt_of}
@@ -26,22 +27,22 @@ use Rattle.hot_log.proofs.Orders.{key_less, key_less_of}
 -- ---- the walk over the entries of a range
 
 -- of some entries the keys that wait, or are alive above a point
-abbrev pub KeptIn : BookData → ℕ → List Entry → ℕ × ℕ → Type 0
+abbrev pub KeptIn : BookData → ℕ → List Entry → Key → Type 0
 KeptIn b point xs k = ((page : ℕ) × Contains xs (k, page)) × KeepsKey b point k
 
-abbrev pub ListsKept : BookData → ℕ → List Entry → List (ℕ × ℕ) → Type 0
-ListsKept b point xs keys = Lists KeyPairBefore (KeptIn b point xs) keys
+abbrev pub ListsKept : BookData → ℕ → List Entry → List Key → Type 0
+ListsKept b point xs keys = Lists KeyBefore (KeptIn b point xs) keys
 
-pub kept_none : (b : BookData) (point : ℕ) (keys : List (ℕ × ℕ)) → keys ≡ [] → ListsKept b point [] keys
+pub kept_none : (b : BookData) (point : ℕ) (keys : List Key) → keys ≡ [] → ListsKept b point [] keys
 kept_none b point keys is = subst (ListsKept b point []) (sym is) (record {
   rising = tt;
   members = λ k. (λ h. absurd (none_in k h), λ h. absurd (none_in (k, h.0.0) h.0.1));
 })
 
 -- the entries in front of one in a range have lower keys
-in_front : (m : Map) (above : ℕ × ℕ) (es xs rest : List Entry) (x : Entry) → IsStrictlySortedBy key_cmp (keys_of m)
+in_front : (m : Map) (above : Key) (es xs rest : List Entry) (x : Entry) → IsStrictlySortedBy key_cmp (keys_of m)
     → es ≡ filter (λ (e : Entry). range_contains key_cmp (Excluded above) Unbounded e.0) m → es ≡ xs ++ x ∷ rest
-    → (k : ℕ × ℕ) (page : ℕ) → Contains xs (k, page) → KeyPairBefore k x.0
+    → (k : Key) (page : ℕ) → Contains xs (k, page) → KeyBefore k x.0
 in_front m above es xs rest x ordered is split k page h =
     let Before : Entry → Entry → Type 0 = λ x y. key_cmp x.0 y.0 ≡ Less in
     let test = λ (e : Entry). range_contains key_cmp (Excluded above) Unbounded e.0 in
@@ -60,11 +61,11 @@ joined xs x y = (
       h,
 )
 
-pub kept_more : (b : BookData) (point : ℕ) (m : Map) (above : ℕ × ℕ) (es xs rest : List Entry) (x : Entry) (keys : List (ℕ × ℕ)) → IsStrictlySortedBy key_cmp (keys_of m)
+pub kept_more : (b : BookData) (point : ℕ) (m : Map) (above : Key) (es xs rest : List Entry) (x : Entry) (keys : List Key) → IsStrictlySortedBy key_cmp (keys_of m)
     → es ≡ filter (λ (e : Entry). range_contains key_cmp (Excluded above) Unbounded e.0) m → es ≡ xs ++ x ∷ rest
     → ListsKept b point xs keys → KeepsKey b point x.0 → ListsKept b point (xs ++ x ∷ []) (keys ++ x.0 ∷ [])
 kept_more b point m above es xs rest x keys ordered is split lists keeps =
-    lists_push KeyPairBefore (KeptIn b point xs) (KeptIn b point (xs ++ x ∷ [])) keys x.0 lists
+    lists_push KeyBefore (KeptIn b point xs) (KeptIn b point (xs ++ x ∷ [])) keys x.0 lists
     (λ k h. in_front m above es xs rest x ordered is split k h.0.0 h.0.1)
     (λ k. (
       λ h. ⊎_elim
@@ -77,10 +78,10 @@ kept_more b point m above es xs rest x keys ordered is split lists keeps =
           h,
     ))
 
-pub kept_left : (b : BookData) (point : ℕ) (xs : List Entry) (x : Entry) (keys : List (ℕ × ℕ)) → ListsKept b point xs keys → (KeepsKey b point x.0 → ⊥)
+pub kept_left : (b : BookData) (point : ℕ) (xs : List Entry) (x : Entry) (keys : List Key) → ListsKept b point xs keys → (KeepsKey b point x.0 → ⊥)
     → ListsKept b point (xs ++ x ∷ []) keys
 kept_left b point xs x keys lists not =
-    lists_as KeyPairBefore (KeptIn b point xs) (KeptIn b point (xs ++ x ∷ [])) keys
+    lists_as KeyBefore (KeptIn b point xs) (KeptIn b point (xs ++ x ∷ [])) keys
     (λ k. (
       λ h. ((h.0.0, (joined xs x (k, h.0.0)).1 (inl h.0.1)), h.1),
       λ h. ⊎_elim
@@ -91,12 +92,12 @@ kept_left b point xs x keys lists not =
     lists
 
 -- at the end of the range they are all
-pub kept_all : (b : BookData) (point : ℕ) (m : Map) (above : ℕ × ℕ) (es : List Entry) (keys : List (ℕ × ℕ))
+pub kept_all : (b : BookData) (point : ℕ) (m : Map) (above : Key) (es : List Entry) (keys : List Key)
     → es ≡ filter (λ (e : Entry). range_contains key_cmp (Excluded above) Unbounded e.0) m → ListsKept b point es keys
-    → Lists KeyPairBefore (IsKeyKept b m above point) keys
+    → Lists KeyBefore (IsKeyKept b m above point) keys
 kept_all b point m above es keys is lists =
     let test = λ (e : Entry). range_contains key_cmp (Excluded above) Unbounded e.0 in
-    lists_as KeyPairBefore (KeptIn b point es) (IsKeyKept b m above point) keys
+    lists_as KeyBefore (KeptIn b point es) (IsKeyKept b m above point) keys
     (λ k. (
       λ h.
           let t = filtered test m (k, h.0.0) (subst (λ (l : List Entry). Contains l (k, h.0.0)) is h.0.1) in
@@ -115,19 +116,19 @@ kept_all b point m above es keys is lists =
 -- ---- the records of keys
 
 -- the records with P that have these keys
-record OfKeys (P : RecordData → Type 0) (keys : List (ℕ × ℕ)) : Type 0 where
+record OfKeys (P : RecordData → Type 0) (keys : List Key) : Type 0 where
   records : List RecordData
   keys_are : keys ≡ map key_of records
   each_has : (r : RecordData) → Contains records r → P r
 
-of_keys : (P : RecordData → Type 0) (keys : List (ℕ × ℕ)) → ((k : ℕ × ℕ) → Contains keys k → (r : RecordData) × P r × (k ≡ key_of r)) → OfKeys P keys
+of_keys : (P : RecordData → Type 0) (keys : List Key) → ((k : Key) → Contains keys k → (r : RecordData) × P r × (k ≡ key_of r)) → OfKeys P keys
 of_keys P [] has = record { records = []; keys_are = refl; each_has = λ r h. absurd (none_in r h) }
 of_keys P (k ∷ ks) has =
     let own = has k (here k ks) in
     let rest = of_keys P ks (λ l h. has l (there k ks l h)) in
     record {
       records = own.0 ∷ rest.records;
-      keys_are = ap (λ (l : ℕ × ℕ). l ∷ ks) own.2 ∙ ap (λ (l : List (ℕ × ℕ)). key_of own.0 ∷ l) rest.keys_are;
+      keys_are = ap (λ (l : Key). l ∷ ks) own.2 ∙ ap (λ (l : List Key). key_of own.0 ∷ l) rest.keys_are;
       each_has = λ r h. ⊎_elim (λ (u : own.0 ≡ r). subst P u own.1) (λ (u : Contains rest.records r). rest.each_has r u) (which own.0 rest.records r h);
     }
 
@@ -138,7 +139,7 @@ key_among (x ∷ rs) r h = ⊎_elim
     (λ (u : Contains rs r). there (key_of x) (map key_of rs) (key_of r) (key_among rs r u))
     (which x rs r h)
 
-record_among : (rs : List RecordData) (k : ℕ × ℕ) → Contains (map key_of rs) k → (r : RecordData) × Contains rs r × (key_of r ≡ k)
+record_among : (rs : List RecordData) (k : Key) → Contains (map key_of rs) k → (r : RecordData) × Contains rs r × (key_of r ≡ k)
 record_among [] k h = absurd (none_in k h)
 record_among (x ∷ rs) k h = ⊎_elim
     (λ (u : key_of x ≡ k). (x, here x rs, u))
@@ -146,45 +147,45 @@ record_among (x ∷ rs) k h = ⊎_elim
     (which (key_of x) (map key_of rs) k h)
 
 -- records rise where their keys do
-records_rise : (rs : List RecordData) → IsRising KeyPairBefore (map key_of rs) → IsRising RecordBefore rs
+records_rise : (rs : List RecordData) → IsRising KeyBefore (map key_of rs) → IsRising RecordBefore rs
 records_rise [] rising = tt
 records_rise (r ∷ rs) rising = (
-  all_of (RecordBefore r) rs (λ s h. each (KeyPairBefore (key_of r)) (map key_of rs) (key_of s) rising.0 (key_among rs s h)),
+  all_of (RecordBefore r) rs (λ s h. each (KeyBefore (key_of r)) (map key_of rs) (key_of s) rising.0 (key_among rs s h)),
   records_rise rs rising.1,
 )
 
 -- what waits, or is alive above a point, has a key above the one that parts the alive records there
-past_parts : (b : BookData) (point epoch : ℕ) (k : ℕ × ℕ) → PartsAt b point epoch → epoch ≤ b.complete → KeepsKey b point k → KeyPairBefore (epoch, point) k
+past_parts : (b : BookData) (point epoch : ℕ) (k : Key) → PartsAt b point epoch → epoch ≤ b.complete → KeepsKey b point k → KeyBefore (key_at epoch point) k
 past_parts b point epoch k parts known keeps = ⊎_elim
-    (λ (waits : IsWaiting b.complete k.0). inl (omega (arith, waits, known)))
-    (λ (alive : IsAlive b.cuts b.complete k.0 k.1 × (point < k.1)). (parts.0 k.0 k.1 alive.0).0 alive.1)
+    (λ (waits : IsWaiting b.complete k.epoch). inl (omega (arith, waits, known)))
+    (λ (alive : IsAlive b.cuts b.complete k.epoch k.number × (point < k.number)). (parts.0 k.epoch k.number alive.0).0 alive.1)
     keeps
 
-pub kept_records : (b : BookData) (held : List RecordData) (entries : List Entry) (point epoch : ℕ) (keys : List (ℕ × ℕ)) → IsRising RecordBefore held
-    → IsKeyPages held entries → PartsAt b point epoch → epoch ≤ b.complete → Lists KeyPairBefore (IsKeyKept b entries (epoch, point) point) keys
+pub kept_records : (b : BookData) (held : List RecordData) (entries : List Entry) (point epoch : ℕ) (keys : List Key) → IsRising RecordBefore held
+    → IsKeyPages held entries → PartsAt b point epoch → epoch ≤ b.complete → Lists KeyBefore (IsKeyKept b entries (key_at epoch point) point) keys
     → ListsKeysOf (IsKeptAbove b held point) keys
 kept_records b held entries point epoch keys rising pages parts known lists =
     let of = of_keys (IsKeptAbove b held point) keys (λ k h. record_of k ((lists.members k).0 h)) in
     record {
       kept = of.records;
       lists = record {
-        rising = records_rise of.records (subst (IsRising KeyPairBefore) of.keys_are lists.rising);
+        rising = records_rise of.records (subst (IsRising KeyBefore) of.keys_are lists.rising);
         members = λ r. (
           λ h. of.each_has r h,
           λ h.
               let among = (lists.members (key_of r)).1 ((r.page, pages.listed r h.0), past_parts b point epoch (key_of r) parts known h.1, h.1) in
-              let t = record_among of.records (key_of r) (subst (λ (l : List (ℕ × ℕ)). Contains l (key_of r)) of.keys_are among) in
-              let same : t.0 ≡ r = one_key held rising t.0 r (of.each_has t.0 t.1).0 h.0 (ap (λ (k : ℕ × ℕ). k.0) t.2) (ap (λ (k : ℕ × ℕ). k.1) t.2) in
+              let t = record_among of.records (key_of r) (subst (λ (l : List Key). Contains l (key_of r)) of.keys_are among) in
+              let same : t.0 ≡ r = one_key held rising t.0 r (of.each_has t.0 t.1).0 h.0 (ap (λ (k : Key). k.epoch) t.2) (ap (λ (k : Key). k.number) t.2) in
               subst (Contains of.records) same t.1,
         );
       };
       keys_are = of.keys_are;
     }
   where
-    record_of : (k : ℕ × ℕ) → IsKeyKept b entries (epoch, point) point k → (r : RecordData) × IsKeptAbove b held point r × (k ≡ key_of r)
+    record_of : (k : Key) → IsKeyKept b entries (key_at epoch point) point k → (r : RecordData) × IsKeptAbove b held point r × (k ≡ key_of r)
     record_of k h =
-        let t = pages.backed k.0 k.1 h.0.0 h.0.1 in
-        let one : ℕ → ℕ × ℕ = λ e. (e, k.1) in
-        let two : ℕ → ℕ × ℕ = λ n. (t.0.epoch, n) in
+        let t = pages.backed k.epoch k.number h.0.0 h.0.1 in
+        let one : ℕ → Key = λ e. key_at e k.number in
+        let two : ℕ → Key = λ n. key_at t.0.epoch n in
         let own : k ≡ key_of t.0 = ap one (sym t.2.0) ∙ ap two (sym t.2.1) in
         (t.0, (t.1, subst (KeepsKey b point) own h.2), own)

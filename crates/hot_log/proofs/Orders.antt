@@ -1,5 +1,5 @@
 -- The order of keys in groups, and what stands first and last among the members of a rising list that pass a test.
-use Rattle.std.proofs.Common.{◌≡◌, ℕ, ◌<◌, ◌⊎◌, inl, inr, ⊎_elim, List, [], ◌∷◌, ◌++◌, refl, sym, subst, arith, Bool, true}
+use Rattle.std.proofs.Common.{◌≡◌, ℕ, ◌<◌, ◌⊎◌, inl, inr, ⊎_elim, List, [], ◌∷◌, ◌++◌, refl, sym, ◌∙◌, ap, subst, arith, Bool, true}
 use Rattle.std.specs.List.{Contains, filter}
 use Rattle.std.specs.List.Sorted.{IsStrictlySortedBy}
 use Rattle.std.specs.Ordering.{nat_cmp, ordering_then}
@@ -8,28 +8,37 @@ use Rattle.std.specs.declared.cmp.Ordering.{Ordering}
 use Rattle.std.specs.declared.cmp.Ordering.TheVariants.{Less, Equal, Greater}
 use Rattle.std.proofs.lemmas.Map.Lookups.{CmpEqualImpliesEq, exact_pairs, exact_unsigned}
 use Rattle.std.proofs.lemmas.List.Elements.{Contains-append_cases}
-use Rattle.redo_core.specs.Order.{IsRising, PairBefore}
-use Rattle.hot_log.specs.Paged.{key_cmp, place_cmp}
+use Rattle.redo_core.specs.Order.{IsRising}
+use Rattle.redo_core.specs.Keys.{key_at, key_cmp, KeyBefore}
+use Rattle.redo_core.specs.declared.keys.Key.{Key}
+use Rattle.hot_log.specs.Paged.{place_cmp}
 use Rattle.hot_log.proofs.Maps.{IsExact}
 use Rattle.redo_core.proofs.Members.{none_in, here, there, which, each, filtered, passed}
 use Rattle.redo_core.proofs.Rising.{rising_filter}
 
 pub key_total : IsTotalOrder key_cmp
-key_total = then_total (on_total (λ (t : ℕ × ℕ). t.0) nat_cmp_total) (on_total (λ (t : ℕ × ℕ). t.1) nat_cmp_total)
+key_total = then_total (on_total (λ (t : Key). t.epoch) nat_cmp_total) (on_total (λ (t : Key). t.number) nat_cmp_total)
 
 pub place_total : IsTotalOrder place_cmp
-place_total = then_total (on_total (λ (t : ℕ × (ℕ × ℕ)). t.0) nat_cmp_total) (on_total (λ (t : ℕ × (ℕ × ℕ)). t.1) key_total)
+place_total = then_total (on_total (λ (t : ℕ × Key). t.0) nat_cmp_total) (on_total (λ (t : ℕ × Key). t.1) key_total)
+
+both_equal : (o p : Ordering) → ordering_then o p ≡ Equal → (o ≡ Equal) × (p ≡ Equal)
+both_equal Less p h = cc
+both_equal Equal p h = (refl, h)
+both_equal Greater p h = cc
 
 pub key_exact : CmpEqualImpliesEq key_cmp
-key_exact = exact_pairs nat_cmp nat_cmp exact_unsigned exact_unsigned
+key_exact k l h =
+    let t = both_equal (nat_cmp k.epoch l.epoch) (nat_cmp k.number l.number) h in
+    ap (λ (n : ℕ). key_at n k.number) (exact_unsigned k.epoch l.epoch t.0) ∙ ap (λ (n : ℕ). key_at l.epoch n) (exact_unsigned k.number l.number t.1)
 
 pub place_exact : CmpEqualImpliesEq place_cmp
 place_exact = exact_pairs nat_cmp key_cmp exact_unsigned key_exact
 
-key_same : (p : ℕ × ℕ) → key_cmp p p ≡ Equal
+key_same : (p : Key) → key_cmp p p ≡ Equal
 key_same p = grind arith
 
-place_same : (p : ℕ × (ℕ × ℕ)) → place_cmp p p ≡ Equal
+place_same : (p : ℕ × Key) → place_cmp p p ≡ Equal
 place_same p = grind arith
 
 pub keys_exact : IsExact key_cmp
@@ -38,10 +47,10 @@ keys_exact = record { total = key_total; exact = key_exact; same = key_same }
 pub places_exact : IsExact place_cmp
 places_exact = record { total = place_total; exact = place_exact; same = place_same }
 
-pub key_less : (x y : ℕ × ℕ) → key_cmp x y ≡ Less → PairBefore x.0 x.1 y.0 y.1
+pub key_less : (x y : Key) → key_cmp x y ≡ Less → KeyBefore x y
 key_less x y h = grind arith
 
-pub key_less_of : (x y : ℕ × ℕ) → PairBefore x.0 x.1 y.0 y.1 → key_cmp x y ≡ Less
+pub key_less_of : (x y : Key) → KeyBefore x y → key_cmp x y ≡ Less
 key_less_of x y h = grind arith
 
 then_less : (o p : Ordering) → ordering_then o p ≡ Less → (o ≡ Less) ⊎ ((o ≡ Equal) × (p ≡ Less))
@@ -63,19 +72,19 @@ nat_less_of a b h = grind arith
 nat_same : (a b : ℕ) → a ≡ b → nat_cmp a b ≡ Equal
 nat_same a b h = grind arith
 
-pub place_less : (x y : ℕ × (ℕ × ℕ)) → place_cmp x y ≡ Less → (x.0 < y.0) ⊎ ((x.0 ≡ y.0) × PairBefore x.1.0 x.1.1 y.1.0 y.1.1)
+pub place_less : (x y : ℕ × Key) → place_cmp x y ≡ Less → (x.0 < y.0) ⊎ ((x.0 ≡ y.0) × KeyBefore x.1 y.1)
 place_less x y h =
     ⊎_elim
     (λ (u : nat_cmp x.0 y.0 ≡ Less). inl (nat_less x.0 y.0 u))
     (λ (u : (nat_cmp x.0 y.0 ≡ Equal) × (key_cmp x.1 y.1 ≡ Less)). inr (exact_unsigned x.0 y.0 u.0, key_less x.1 y.1 u.1))
     (then_less (nat_cmp x.0 y.0) (key_cmp x.1 y.1) h)
 
-pub place_less_of : (x y : ℕ × (ℕ × ℕ)) → (x.0 < y.0) ⊎ ((x.0 ≡ y.0) × PairBefore x.1.0 x.1.1 y.1.0 y.1.1) → place_cmp x y ≡ Less
+pub place_less_of : (x y : ℕ × Key) → (x.0 < y.0) ⊎ ((x.0 ≡ y.0) × KeyBefore x.1 y.1) → place_cmp x y ≡ Less
 place_less_of x y h =
     less_then (nat_cmp x.0 y.0) (key_cmp x.1 y.1)
     (⊎_elim
     (λ (u : x.0 < y.0). inl (nat_less_of x.0 y.0 u))
-    (λ (u : (x.0 ≡ y.0) × PairBefore x.1.0 x.1.1 y.1.0 y.1.1). inr (nat_same x.0 y.0 u.0, key_less_of x.1 y.1 u.1))
+    (λ (u : (x.0 ≡ y.0) × KeyBefore x.1 y.1). inr (nat_same x.0 y.0 u.0, key_less_of x.1 y.1 u.1))
     h)
 
 -- the order of keys is that of the list

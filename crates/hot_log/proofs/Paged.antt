@@ -6,6 +6,8 @@ use Rattle.std.specs.BTreeMap.{is_at, insert_entry}
 use Rattle.std.specs.Map.{keys_of, lookup, remove_entry}
 use Rattle.std.specs.List.Sorted.{IsStrictlySortedBy}
 use Rattle.redo_core.specs.Data.{RecordData}
+use Rattle.redo_core.specs.Keys.{key_at, key_of}
+use Rattle.redo_core.specs.declared.keys.Key.{Key}
 use Rattle.redo_core.specs.Shape.{record_fault}
 use Rattle.redo_core.specs.Order.{IsRising, RecordBefore}
 use Rattle.redo_core.proofs.Members.{none_in, here, there, which, each, all_of}
@@ -124,11 +126,11 @@ entry_of (f ∷ es) r h =
     (λ (u : Contains (records_in es) r). let t = entry_of es r u in (t.0, there f es (t.0, r) t.1))
     (which f.1 (records_in es) r h)
 
-pub place_as : (g e n h a b : ℕ) → g ≡ h → e ≡ a → n ≡ b → ◌≡◌ {A = Place} (g, (e, n)) (h, (a, b))
+pub place_as : (g e n h a b : ℕ) → g ≡ h → e ≡ a → n ≡ b → ◌≡◌ {A = Place} (g, key_at e n) (h, key_at a b)
 place_as g e n h a b p q r =
-    let one : ℕ → Place = λ x. (x, (e, n)) in
-    let two : ℕ → Place = λ x. (h, (x, n)) in
-    let three : ℕ → Place = λ x. (h, (a, x)) in
+    let one : ℕ → Place = λ x. (x, key_at e n) in
+    let two : ℕ → Place = λ x. (h, key_at x n) in
+    let three : ℕ → Place = λ x. (h, key_at a x) in
     ap one p ∙ ap two q ∙ ap three r
 
 -- records with different places and no key twice, in the order of their keys
@@ -186,30 +188,30 @@ pub page_index : (m : Map) → IsPaged m → IsIndexBy (λ r. r.page) (seen m) (
 page_index m is = record {
   listed = λ r h. key_in m (place_of r, r) (own_entry m is r h);
   backed = λ g e n h.
-      let t = value_of m (g, (e, n)) h in
-      let k : (g, (e, n)) ≡ place_of t.0 = is.placed ((g, (e, n)), t.0) t.1 in (
+      let t = value_of m (g, key_at e n) h in
+      let k : (g, key_at e n) ≡ place_of t.0 = is.placed ((g, key_at e n), t.0) t.1 in (
         t.0,
-        seen_in m ((g, (e, n)), t.0) t.1,
+        seen_in m ((g, key_at e n), t.0) t.1,
         sym (ap (λ (p : Place). p.0) k),
-        (sym (ap (λ (p : Place). p.1.0) k), sym (ap (λ (p : Place). p.1.1) k)),
+        (sym (ap (λ (p : Place). p.1.epoch) k), sym (ap (λ (p : Place). p.1.number) k)),
       );
 }
 
-pub got : (m : Map) → IsPaged m → (page : ℕ) (key : ℕ × ℕ) (o : Option RecordData) → o ≡ lookup (is_at (place_cmp (page, key))) m → IsRecordOf (seen m) page key o
+pub got : (m : Map) → IsPaged m → (page : ℕ) (key : Key) (o : Option RecordData) → o ≡ lookup (is_at (place_cmp (page, key))) m → IsRecordOf (seen m) page key o
 got m is page key None e = λ r h p k.
-    let at : place_of r ≡ (page, key) = place_as r.page r.epoch r.number page key.0 key.1 p k.0 k.1 in
+    let at : place_of r ≡ (page, key) = place_as r.page r.epoch r.number page key.epoch key.number p k.0 k.1 in
     let found : lookup (is_at (place_cmp (page, key))) m ≡ Some r = (held_at place_cmp places_exact m is.ordered (page, key) r).1 (subst (λ (x : Place). Contains m (x, r)) at (own_entry m is r h)) in
     cc
 got m is page key (Some r) e =
     let at : Contains m ((page, key), r) = (held_at place_cmp places_exact m is.ordered (page, key) r).0 (sym e) in
     let k : (page, key) ≡ place_of r = is.placed ((page, key), r) at in
-    (seen_in m ((page, key), r) at, sym (ap (λ (p : Place). p.0) k), (sym (ap (λ (p : Place). p.1.0) k), sym (ap (λ (p : Place). p.1.1) k)))
+    (seen_in m ((page, key), r) at, sym (ap (λ (p : Place). p.0) k), (sym (ap (λ (p : Place). p.1.epoch) k), sym (ap (λ (p : Place). p.1.number) k)))
 
 -- what a map that gains a record under its free key holds
 pub record Grows (old new : Map) (redo : RecordData) : Type 0 where
   pub was : IsPaged old
   pub ordered : IsStrictlySortedBy place_cmp (keys_of new)
-  pub free : IsRecordAt (seen old) redo.epoch redo.number None
+  pub free : IsRecordAt (seen old) (key_of redo) None
   pub shaped : record_fault redo ≡ None
   pub fits : redo.page < 65536
   pub at : new ≡ insert_entry place_cmp old (place_of redo) redo
@@ -220,7 +222,7 @@ gains old new redo g e =
     subst (λ (l : List Entry). Contains l e ↔ (Contains old e ⊎ (e ≡ (place_of redo, redo)))) (sym g.at)
     (joins place_cmp old (place_of redo) redo (λ (y : Entry) h q.
     let at : place_of y.1 ≡ place_of redo = sym (g.was.placed y h) ∙ (at_key place_cmp places_exact (place_of redo) y.0).0 q in
-    g.free y.1 (seen_in old y h) (ap (λ (x : Place). x.1.0) at, ap (λ (x : Place). x.1.1) at)) e)
+    g.free y.1 (seen_in old y h) (ap (λ (x : Place). x.1.epoch) at, ap (λ (x : Place). x.1.number) at)) e)
 
 pub grown_members : (old new : Map) (redo : RecordData) → Grows old new redo → (r : RecordData) → Contains (seen new) r ↔ (Contains (seen old) r ⊎ (r ≡ redo))
 grown_members old new redo g r = (
@@ -271,31 +273,31 @@ grown_paged old new redo g = record {
     was r h = (grown_members old new redo g r).0 ((in_order (records_in new) r).1 h)
 
 -- what a map that loses a place holds
-pub record Shrinks (old new : Map) (page : ℕ) (key : ℕ × ℕ) : Type 0 where
+pub record Shrinks (old new : Map) (page : ℕ) (key : Key) : Type 0 where
   pub was : IsPaged old
   pub ordered : IsStrictlySortedBy place_cmp (keys_of new)
   pub at : new ≡ remove_entry (is_at (place_cmp (page, key))) old
 
-sheds : (old new : Map) (page : ℕ) (key : ℕ × ℕ) → Shrinks old new page key → (e : Entry) → Contains new e ↔ ((e.0 ≡ (page, key) → ⊥) × Contains old e)
+sheds : (old new : Map) (page : ℕ) (key : Key) → Shrinks old new page key → (e : Entry) → Contains new e ↔ ((e.0 ≡ (page, key) → ⊥) × Contains old e)
 sheds old new page key s e =
     subst (λ (l : List Entry). Contains l e ↔ ((e.0 ≡ (page, key) → ⊥) × Contains old e)) (sym s.at)
     (shrunk place_cmp places_exact old (page, key) s.was.ordered e)
 
-pub shrunk_members : (old new : Map) (page : ℕ) (key : ℕ × ℕ) → Shrinks old new page key → Removes (λ r. (r.page ≡ page) × HasKey key.0 key.1 r) (seen old) (seen new)
+pub shrunk_members : (old new : Map) (page : ℕ) (key : Key) → Shrinks old new page key → Removes (λ r. (r.page ≡ page) × HasKey key r) (seen old) (seen new)
 shrunk_members old new page key s r = (
   λ h.
       let t = entry_of new r ((in_order (records_in new) r).0 h) in
       let u = (sheds old new page key s (t.0, r)).0 t.1 in (
         seen_in old (t.0, r) u.1,
-        λ k. u.0 (s.was.placed (t.0, r) u.1 ∙ place_as r.page r.epoch r.number page key.0 key.1 k.0 k.1.0 k.1.1),
+        λ k. u.0 (s.was.placed (t.0, r) u.1 ∙ place_as r.page r.epoch r.number page key.epoch key.number k.0 k.1.0 k.1.1),
       ),
   λ h. seen_in new (place_of r, r) ((sheds old new page key s (place_of r, r)).1 (
-    λ e. h.1 (ap (λ (x : Place). x.0) e, (ap (λ (x : Place). x.1.0) e, ap (λ (x : Place). x.1.1) e)),
+    λ e. h.1 (ap (λ (x : Place). x.0) e, (ap (λ (x : Place). x.1.epoch) e, ap (λ (x : Place). x.1.number) e)),
     own_entry old s.was r h.0,
   )),
 )
 
-pub shrunk_paged : (old new : Map) (page : ℕ) (key : ℕ × ℕ) → Shrinks old new page key → IsPaged new
+pub shrunk_paged : (old new : Map) (page : ℕ) (key : Key) → Shrinks old new page key → IsPaged new
 shrunk_paged old new page key s = record {
   ordered = s.ordered;
   placed = λ e h. s.was.placed e ((sheds old new page key s e).0 h).1;

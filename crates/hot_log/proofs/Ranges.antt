@@ -8,7 +8,9 @@ use Rattle.std.specs.declared.ops.Bound.TheVariants.{Included, Excluded, Unbound
 use Rattle.std.specs.BTreeMap.Range.{range_contains}
 use Rattle.std.specs.Map.{keys_of}
 use Rattle.redo_core.specs.Data.{RecordData}
-use Rattle.redo_core.specs.Order.{IsRising, Lists, BeforeByNumber, PairBefore, RecordBefore}
+use Rattle.redo_core.specs.Keys.{key_at, key_of, KeyBefore}
+use Rattle.redo_core.specs.declared.keys.Key.{Key}
+use Rattle.redo_core.specs.Order.{IsRising, Lists, BeforeByNumber, RecordBefore}
 use Rattle.redo_core.specs.Standing.{IsAlive}
 use Rattle.std.proofs.lemmas.List.Elements.{Contains-append_left, Contains-append_right}
 use Rattle.redo_core.proofs.Members.{none_in, here, there, which, filtered, passed}
@@ -29,29 +31,29 @@ use Rattle.hot_log.proofs.Paged.{Entry, Map, seen, in_order, record_in, entry_of
 entry_in : (p : Place → Bool) (m : Map) (es : List Entry) (x : Entry) → filter (λ (e : Entry). p e.0) m ≡ es → Contains es x → Contains m x
 entry_in p m es x is h = (filtered (λ (e : Entry). p e.0) m x (subst (λ (l : List Entry). Contains l x) (sym is) h)).0
 
-own_key : (m : Map) (x : Entry) → IsPaged m → Contains m x → x.0.1 ≡ (x.1.epoch, x.1.number)
+own_key : (m : Map) (x : Entry) → IsPaged m → Contains m x → x.0.1 ≡ (key_at x.1.epoch x.1.number)
 own_key m x is h = ap (λ (p : Place). p.1) (is.placed x h)
 
-pub no_next : (m : Map) (page : ℕ) (after : ℕ × ℕ) → IsPaged m → filter (λ (e : Entry). range_contains place_cmp (Excluded (page, after)) Unbounded e.0) m ≡ [] → IsNextRecord (seen m) page after None
+pub no_next : (m : Map) (page : ℕ) (after : Key) → IsPaged m → filter (λ (e : Entry). range_contains place_cmp (Excluded (page, after)) Unbounded e.0) m ≡ [] → IsNextRecord (seen m) page after None
 no_next m page after paged is =
     next_held (λ r. r.page) (seen m) (keys_of m) page after None (page_index m paged)
     (next_none (keys_of m) page after (keys_range (range_contains place_cmp (Excluded (page, after)) Unbounded) m [] is))
 
-pub next_is : (m : Map) (page : ℕ) (after : ℕ × ℕ) (x : Entry) (t : List Entry) → IsPaged m → filter (λ (e : Entry). range_contains place_cmp (Excluded (page, after)) Unbounded e.0) m ≡ x ∷ t → x.0.0 ≡ page → IsNextRecord (seen m) page after (Some x.1)
+pub next_is : (m : Map) (page : ℕ) (after : Key) (x : Entry) (t : List Entry) → IsPaged m → filter (λ (e : Entry). range_contains place_cmp (Excluded (page, after)) Unbounded e.0) m ≡ x ∷ t → x.0.0 ≡ page → IsNextRecord (seen m) page after (Some x.1)
 next_is m page after x t paged is same =
     let test : Place → Bool = range_contains place_cmp (Excluded (page, after)) Unbounded in
     let among : Contains m x = entry_in test m (x ∷ t) x is (here x t) in
     let found : IsNextHeld (λ r. r.page) (seen m) page after (Some x.0.1) =
     next_held (λ r. r.page) (seen m) (keys_of m) page after (Some x.0.1) (page_index m paged)
     (next_some (keys_of m) page after x.0 (keys_of t) (rises place_cmp (keys_of m) paged.ordered) (keys_range test m (x ∷ t) is) same) in
-    (seen_in m x among, subst (λ (k : ℕ × ℕ). IsNextHeld (λ r. r.page) (seen m) page after (Some k)) (own_key m x paged among) found)
+    (seen_in m x among, subst (λ (k : Key). IsNextHeld (λ r. r.page) (seen m) page after (Some k)) (own_key m x paged among) found)
 
-pub next_elsewhere : (m : Map) (page : ℕ) (after : ℕ × ℕ) (x : Entry) (t : List Entry) → IsPaged m → filter (λ (e : Entry). range_contains place_cmp (Excluded (page, after)) Unbounded e.0) m ≡ x ∷ t → (x.0.0 ≡ page → ⊥) → IsNextRecord (seen m) page after None
+pub next_elsewhere : (m : Map) (page : ℕ) (after : Key) (x : Entry) (t : List Entry) → IsPaged m → filter (λ (e : Entry). range_contains place_cmp (Excluded (page, after)) Unbounded e.0) m ≡ x ∷ t → (x.0.0 ≡ page → ⊥) → IsNextRecord (seen m) page after None
 next_elsewhere m page after x t paged is other =
     next_held (λ r. r.page) (seen m) (keys_of m) page after None (page_index m paged)
     (next_other (keys_of m) page after x.0 (keys_of t) (rises place_cmp (keys_of m) paged.ordered) (keys_range (range_contains place_cmp (Excluded (page, after)) Unbounded) m (x ∷ t) is) other)
 
-pub no_last : (m : Map) (page : ℕ) (to : ℕ × ℕ) → IsPaged m → filter (λ (e : Entry). range_contains place_cmp Unbounded (Included (page, to)) e.0) m ≡ [] → IsLastRecord (seen m) page to None
+pub no_last : (m : Map) (page : ℕ) (to : Key) → IsPaged m → filter (λ (e : Entry). range_contains place_cmp Unbounded (Included (page, to)) e.0) m ≡ [] → IsLastRecord (seen m) page to None
 no_last m page to paged is =
     last_held (λ r. r.page) (seen m) (keys_of m) page to None (page_index m paged)
     (last_none (keys_of m) page to (keys_range (range_contains place_cmp Unbounded (Included (page, to))) m [] is))
@@ -63,16 +65,16 @@ keys_end (e ∷ t) x = ap (λ (l : List Place). e.0 ∷ l) (keys_end t x)
 at_end : (t : List Entry) (x : Entry) → Contains (t ++ x ∷ []) x
 at_end t x = Contains-append_right t (x ∷ []) x (here x [])
 
-pub last_is : (m : Map) (page : ℕ) (to : ℕ × ℕ) (x : Entry) (t : List Entry) → IsPaged m → filter (λ (e : Entry). range_contains place_cmp Unbounded (Included (page, to)) e.0) m ≡ t ++ x ∷ [] → x.0.0 ≡ page → IsLastRecord (seen m) page to (Some x.1)
+pub last_is : (m : Map) (page : ℕ) (to : Key) (x : Entry) (t : List Entry) → IsPaged m → filter (λ (e : Entry). range_contains place_cmp Unbounded (Included (page, to)) e.0) m ≡ t ++ x ∷ [] → x.0.0 ≡ page → IsLastRecord (seen m) page to (Some x.1)
 last_is m page to x t paged is same =
     let test : Place → Bool = range_contains place_cmp Unbounded (Included (page, to)) in
     let among : Contains m x = entry_in test m (t ++ x ∷ []) x is (at_end t x) in
     let found : IsLastHeld (λ r. r.page) (seen m) page to (Some x.0.1) =
     last_held (λ r. r.page) (seen m) (keys_of m) page to (Some x.0.1) (page_index m paged)
     (last_some (keys_of m) page to x.0 (keys_of t) (rises place_cmp (keys_of m) paged.ordered) (keys_range test m (t ++ x ∷ []) is ∙ keys_end t x) same) in
-    (seen_in m x among, subst (λ (k : ℕ × ℕ). IsLastHeld (λ r. r.page) (seen m) page to (Some k)) (own_key m x paged among) found)
+    (seen_in m x among, subst (λ (k : Key). IsLastHeld (λ r. r.page) (seen m) page to (Some k)) (own_key m x paged among) found)
 
-pub last_elsewhere : (m : Map) (page : ℕ) (to : ℕ × ℕ) (x : Entry) (t : List Entry) → IsPaged m → filter (λ (e : Entry). range_contains place_cmp Unbounded (Included (page, to)) e.0) m ≡ t ++ x ∷ [] → (x.0.0 ≡ page → ⊥) → IsLastRecord (seen m) page to None
+pub last_elsewhere : (m : Map) (page : ℕ) (to : Key) (x : Entry) (t : List Entry) → IsPaged m → filter (λ (e : Entry). range_contains place_cmp Unbounded (Included (page, to)) e.0) m ≡ t ++ x ∷ [] → (x.0.0 ≡ page → ⊥) → IsLastRecord (seen m) page to None
 last_elsewhere m page to x t paged is other =
     last_held (λ r. r.page) (seen m) (keys_of m) page to None (page_index m paged)
     (last_other (keys_of m) page to x.0 (keys_of t) (rises place_cmp (keys_of m) paged.ordered) (keys_range (range_contains place_cmp Unbounded (Included (page, to))) m (t ++ x ∷ []) is ∙ keys_end t x) other)
@@ -81,14 +83,14 @@ last_elsewhere m page to x t paged is other =
 abbrev pub Above_from : Option ℕ → ℕ → Type 0
 Above_from after from = (p : ℕ) → (IsPageAbove after p → from ≤ p) × (from ≤ p → IsPageAbove after p)
 
-pub no_page : (m : Map) (after : Option ℕ) (from : ℕ) → IsPaged m → Above_from after from → filter (λ (e : Entry). range_contains place_cmp (Included (from, (0, 0))) Unbounded e.0) m ≡ [] → IsPageAfter (seen m) after None
+pub no_page : (m : Map) (after : Option ℕ) (from : ℕ) → IsPaged m → Above_from after from → filter (λ (e : Entry). range_contains place_cmp (Included (from, key_at 0 0)) Unbounded e.0) m ≡ [] → IsPageAfter (seen m) after None
 no_page m after from paged up is r h above =
-    group_none (keys_of m) from (keys_range (range_contains place_cmp (Included (from, (0, 0))) Unbounded) m [] is) (place_of r)
+    group_none (keys_of m) from (keys_range (range_contains place_cmp (Included (from, key_at 0 0)) Unbounded) m [] is) (place_of r)
     (key_in m (place_of r, r) (own_entry m paged r h)) ((up r.page).0 above)
 
-pub page_is : (m : Map) (after : Option ℕ) (from : ℕ) (x : Entry) (t : List Entry) → IsPaged m → Above_from after from → filter (λ (e : Entry). range_contains place_cmp (Included (from, (0, 0))) Unbounded e.0) m ≡ x ∷ t → IsPageAfter (seen m) after (Some x.0.0)
+pub page_is : (m : Map) (after : Option ℕ) (from : ℕ) (x : Entry) (t : List Entry) → IsPaged m → Above_from after from → filter (λ (e : Entry). range_contains place_cmp (Included (from, key_at 0 0)) Unbounded e.0) m ≡ x ∷ t → IsPageAfter (seen m) after (Some x.0.0)
 page_is m after from x t paged up is =
-    let test : Place → Bool = range_contains place_cmp (Included (from, (0, 0))) Unbounded in
+    let test : Place → Bool = range_contains place_cmp (Included (from, key_at 0 0)) Unbounded in
     let among : Contains m x = entry_in test m (x ∷ t) x is (here x t) in
     let found : IsGroup (keys_of m) from x.0 = group_some (keys_of m) from x.0 (keys_of t) (rises place_cmp (keys_of m) paged.ordered) (keys_range test m (x ∷ t) is) in (
       (x.1, seen_in m x among, sym (ap (λ (p : Place). p.0) (paged.placed x among)), (up x.0.0).1 found.from),
@@ -113,36 +115,36 @@ both_of Less Greater h = refl
 both_of Equal p h = let e = h.0 in cc
 both_of Greater p h = let e = h.0 in cc
 
-pub record InPage (group : ℕ) (low high : ℕ × ℕ) (q : Place) : Type 0 where
+pub record InPage (group : ℕ) (low high : Key) (q : Place) : Type 0 where
   pub page : q.0 ≡ group
-  pub above : PairBefore low.0 low.1 q.1.0 q.1.1
-  pub up_to : PairBefore high.0 high.1 q.1.0 q.1.1 → ⊥
+  pub above : KeyBefore low q.1
+  pub up_to : KeyBefore high q.1 → ⊥
 
-pub in_page : (page : ℕ) (above to : ℕ × ℕ) (q : Place) → range_contains place_cmp (Excluded (page, above)) (Included (page, to)) q ≡ true → InPage page above to q
+pub in_page : (page : ℕ) (above to : Key) (q : Place) → range_contains place_cmp (Excluded (page, above)) (Included (page, to)) q ≡ true → InPage page above to q
 in_page page above to q h =
     let t = both (place_cmp (page, above) q) (place_cmp (page, to) q) h in
-    let not_up : ((page < q.0) ⊎ ((page ≡ q.0) × PairBefore to.0 to.1 q.1.0 q.1.1)) → ⊥ = λ u. t.1 (place_less_of (page, to) q u) in
+    let not_up : ((page < q.0) ⊎ ((page ≡ q.0) × KeyBefore to q.1)) → ⊥ = λ u. t.1 (place_less_of (page, to) q u) in
     ⊎_elim
     (λ (u : page < q.0). absurd (not_up (inl u)))
-    (λ (u : (page ≡ q.0) × PairBefore above.0 above.1 q.1.0 q.1.1). record { page = sym u.0; above = u.1; up_to = λ p. not_up (inr (u.0, p)) })
+    (λ (u : (page ≡ q.0) × KeyBefore above q.1). record { page = sym u.0; above = u.1; up_to = λ p. not_up (inr (u.0, p)) })
     (place_less (page, above) q t.0)
 
-pub in_range : (page : ℕ) (above to : ℕ × ℕ) (q : Place) → InPage page above to q → range_contains place_cmp (Excluded (page, above)) (Included (page, to)) q ≡ true
+pub in_range : (page : ℕ) (above to : Key) (q : Place) → InPage page above to q → range_contains place_cmp (Excluded (page, above)) (Included (page, to)) q ≡ true
 in_range page above to q is =
     both_of (place_cmp (page, above) q) (place_cmp (page, to) q) (
       place_less_of (page, above) q (inr (sym is.page, is.above)),
       λ b. ⊎_elim
           (λ (u : page < q.0). let e : q.0 ≡ page = is.page in omega arith)
-          (λ (u : (page ≡ q.0) × PairBefore to.0 to.1 q.1.0 q.1.1). is.up_to u.1)
+          (λ (u : (page ≡ q.0) × KeyBefore to q.1). is.up_to u.1)
           (place_less (page, to) q b),
     )
 
 -- the entries of a map in such a range
-pub record IsRange (m : Map) (page : ℕ) (above to : ℕ × ℕ) (es : List Entry) : Type 0 where
+pub record IsRange (m : Map) (page : ℕ) (above to : Key) (es : List Entry) : Type 0 where
   pub rising : IsRising (λ (x y : Entry). place_cmp x.0 y.0 ≡ Less) es
   pub members : (e : Entry) → Contains es e ↔ (Contains m e × InPage page above to e.0)
 
-pub range_of : (m : Map) (page : ℕ) (above to : ℕ × ℕ) (es : List Entry) → IsPaged m → es ≡ filter (λ (e : Entry). range_contains place_cmp (Excluded (page, above)) (Included (page, to)) e.0) m → IsRange m page above to es
+pub range_of : (m : Map) (page : ℕ) (above to : Key) (es : List Entry) → IsPaged m → es ≡ filter (λ (e : Entry). range_contains place_cmp (Excluded (page, above)) (Included (page, to)) e.0) m → IsRange m page above to es
 range_of m page above to es paged is =
     let test : Entry → Bool = λ e. range_contains place_cmp (Excluded (page, above)) (Included (page, to)) e.0 in
     let Before : Entry → Entry → Type 0 = λ x y. place_cmp x.0 y.0 ≡ Less in
@@ -186,22 +188,22 @@ joined (z ∷ xs) x r = (
 -- within one page, a place below another is that of a record with a lower key
 pub same_page : (page : ℕ) (p q : Place) (r s : RecordData) → p ≡ place_of r → q ≡ place_of s → p.0 ≡ page → q.0 ≡ page → place_cmp p q ≡ Less → RecordBefore r s
 same_page page p q r s at bt e f low =
-    let below : PairBefore p.1.0 p.1.1 q.1.0 q.1.1 = ⊎_elim
+    let below : KeyBefore p.1 q.1 = ⊎_elim
     (λ (u : p.0 < q.0). absurd (omega arith))
-    (λ (u : (p.0 ≡ q.0) × PairBefore p.1.0 p.1.1 q.1.0 q.1.1). u.1)
+    (λ (u : (p.0 ≡ q.0) × KeyBefore p.1 q.1). u.1)
     (place_less p q low) in
-    let half : PairBefore r.epoch r.number q.1.0 q.1.1 = subst (λ (x : Place). PairBefore x.1.0 x.1.1 q.1.0 q.1.1) at below in
-    subst (λ (x : Place). PairBefore r.epoch r.number x.1.0 x.1.1) bt half
+    let half : KeyBefore (key_of r) q.1 = subst (λ (x : Place). KeyBefore x.1 q.1) at below in
+    subst (λ (x : Place). KeyBefore (key_of r) x.1) bt half
 
 -- a walk through a range that has come to an entry
-pub record Walks (m : Map) (page : ℕ) (above to : ℕ × ℕ) (xs : List Entry) (x : Entry) : Type 0 where
+pub record Walks (m : Map) (page : ℕ) (above to : Key) (xs : List Entry) (x : Entry) : Type 0 where
   pub es : List Entry
   pub rest : List Entry
   pub range : IsRange m page above to es
   pub split : es ≡ xs ++ x ∷ rest
   pub paged : IsPaged m
 
-pub in_front : (m : Map) (page : ℕ) (above to : ℕ × ℕ) (xs : List Entry) (x : Entry) → Walks m page above to xs x → (r : RecordData) → Contains (records_in xs) r → RecordBefore r x.1
+pub in_front : (m : Map) (page : ℕ) (above to : Key) (xs : List Entry) (x : Entry) → Walks m page above to xs x → (r : RecordData) → Contains (records_in xs) r → RecordBefore r x.1
 in_front m page above to xs x w r h =
     let t = entry_of xs r h in
     let member = λ (e : Entry) (k : Contains (xs ++ x ∷ w.rest) e). (w.range.members e).0 (subst (λ (l : List Entry). Contains l e) (sym w.split) k) in
@@ -211,7 +213,7 @@ in_front m page above to xs x w r h =
     same_page page t.0 x.0 r x.1 (w.paged.placed (t.0, r) left.0) (w.paged.placed x right.0) left.1.page right.1.page
     (before_join Before xs w.rest x (t.0, r) (subst (IsRising Before) w.split w.range.rising) t.1)
 
-pub alive_more : (b : BookData) (m : Map) (page : ℕ) (above to : ℕ × ℕ) (xs : List Entry) (x : Entry) (ys : List RecordData) → IsBook b → Walks m page above to xs x → ListsAlive b xs ys → IsAlive b.cuts b.complete x.1.epoch x.1.number → ListsAlive b (xs ++ x ∷ []) (ys ++ x.1 ∷ [])
+pub alive_more : (b : BookData) (m : Map) (page : ℕ) (above to : Key) (xs : List Entry) (x : Entry) (ys : List RecordData) → IsBook b → Walks m page above to xs x → ListsAlive b xs ys → IsAlive b.cuts b.complete x.1.epoch x.1.number → ListsAlive b (xs ++ x ∷ []) (ys ++ x.1 ∷ [])
 alive_more b m page above to xs x ys book w lists alive =
     lists_push BeforeByNumber (AliveIn b xs) (AliveIn b (xs ++ x ∷ [])) ys x.1 lists
     (λ r h. number_before b.cuts b.complete (view_of b book) r x.1 h.1 alive (in_front m page above to xs x w r h.0))
@@ -236,14 +238,14 @@ alive_left b xs x ys lists dead =
     lists
 
 -- the alive of a range are the alive records between its keys
-pub between_is : (b : BookData) (m : Map) (page : ℕ) (above to : ℕ × ℕ) (es : List Entry) → IsPaged m → IsRange m page above to es → (r : RecordData) → AliveIn b es r ↔ IsAliveBetween b (seen m) page above to r
+pub between_is : (b : BookData) (m : Map) (page : ℕ) (above to : Key) (es : List Entry) → IsPaged m → IsRange m page above to es → (r : RecordData) → AliveIn b es r ↔ IsAliveBetween b (seen m) page above to r
 between_is b m page above to es paged range r = (
   λ h.
       let t = entry_of es r h.0 in
       let k = (range.members (t.0, r)).0 t.1 in
       let at : t.0 ≡ place_of r = paged.placed (t.0, r) k.0 in
-      let P : Place → Type 0 = λ p. PairBefore above.0 above.1 p.1.0 p.1.1 in
-      let Q : Place → Type 0 = λ p. PairBefore to.0 to.1 p.1.0 p.1.1 → ⊥ in (
+      let P : Place → Type 0 = λ p. KeyBefore above p.1 in
+      let Q : Place → Type 0 = λ p. KeyBefore to p.1 → ⊥ in (
         (seen_in m (t.0, r) k.0, h.1, sym (ap (λ (p : Place). p.0) at) ∙ k.1.page),
         subst P at k.1.above,
         subst Q at k.1.up_to,
@@ -254,6 +256,6 @@ between_is b m page above to es paged range r = (
       (record_in es (place_of r, r) there_in, h.0.1),
 )
 
-pub alive_all : (b : BookData) (m : Map) (page : ℕ) (above to : ℕ × ℕ) (es : List Entry) (ys : List RecordData) → IsPaged m → IsRange m page above to es → ListsAlive b es ys → Lists BeforeByNumber (IsAliveBetween b (seen m) page above to) ys
+pub alive_all : (b : BookData) (m : Map) (page : ℕ) (above to : Key) (es : List Entry) (ys : List RecordData) → IsPaged m → IsRange m page above to es → ListsAlive b es ys → Lists BeforeByNumber (IsAliveBetween b (seen m) page above to) ys
 alive_all b m page above to es ys paged range lists =
     lists_as BeforeByNumber (AliveIn b es) (IsAliveBetween b (seen m) page above to) ys (between_is b m page above to es paged range) lists

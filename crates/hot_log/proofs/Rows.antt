@@ -7,6 +7,8 @@ use Rattle.std.specs.declared.ops.Bound.TheVariants.{Included, Excluded}
 use Rattle.std.proofs.lemmas.List.{map-append}
 use Rattle.std.proofs.lemmas.List.Elements.{Contains-append_left, Contains-append_right, Contains-append_cases}
 use Rattle.redo_core.specs.Data.{RecordData}
+use Rattle.redo_core.specs.Keys.{key_at, key_of, KeyBefore}
+use Rattle.redo_core.specs.declared.keys.Key.{Key}
 use Rattle.redo_core.specs.Order.{IsRising, PairBefore, RecordBefore}
 use Rattle.redo_core.specs.Standing.{IsAlive}
 use Rattle.redo_core.proofs.Members.{none_in, here, which, each, filtered, passed}
@@ -30,10 +32,10 @@ other_key e n r = not (r.epoch == e && r.number == n)
 abbrev without : ℕ → ℕ → List RecordData → List RecordData
 without e n held = filter (other_key e n) held
 
-other_is : (e n : ℕ) (r : RecordData) → other_key e n r ≡ true → HasKey e n r → ⊥
+other_is : (e n : ℕ) (r : RecordData) → other_key e n r ≡ true → HasKey (key_at e n) r → ⊥
 other_is e n r h k = grind arith
 
-is_other : (e n : ℕ) (r : RecordData) → (HasKey e n r → ⊥) → other_key e n r ≡ true
+is_other : (e n : ℕ) (r : RecordData) → (HasKey (key_at e n) r → ⊥) → other_key e n r ≡ true
 is_other e n r h = grind arith
 
 without_held : (e n : ℕ) (held : List RecordData) → IsHeld held → IsHeld (without e n held)
@@ -42,7 +44,7 @@ without_held e n held form = record {
   shaped = λ r h. form.shaped r (filtered (other_key e n) held r h).0;
 }
 
-without_one : (e n : ℕ) (held : List RecordData) → Removes (HasKey e n) held (without e n held)
+without_one : (e n : ℕ) (held : List RecordData) → Removes (HasKey (key_at e n)) held (without e n held)
 without_one e n held r = (
   λ h. let t = filtered (other_key e n) held r h in (t.0, other_is e n r t.1),
   λ h. passed (other_key e n) held r (is_other e n r h.1) h.0,
@@ -55,22 +57,22 @@ index_same f old new keys same is = record {
   backed = λ g e n h. let t = is.backed g e n h in (t.0, (same t.0).0 t.1, t.2, t.3);
 }
 
-pages_same : (old new : List RecordData) (keys : List ((ℕ × ℕ) × ℕ)) → ((r : RecordData) → Contains old r ↔ Contains new r) → IsKeyPages old keys → IsKeyPages new keys
+pages_same : (old new : List RecordData) (keys : List (Key × ℕ)) → ((r : RecordData) → Contains old r ↔ Contains new r) → IsKeyPages old keys → IsKeyPages new keys
 pages_same old new keys same is = record {
   listed = λ r h. is.listed r ((same r).1 h);
   backed = λ e n page h. let t = is.backed e n page h in (t.0, (same t.0).0 t.1, t.2, t.3);
 }
 
 -- what is listed are the held records without those with P
-pub record Left (P : RecordData → Type 0) (held : List RecordData) (keys : List ((ℕ × ℕ) × ℕ)) (backs : List Place) : Type 0 where
+pub record Left (P : RecordData → Type 0) (held : List RecordData) (keys : List (Key × ℕ)) (backs : List Place) : Type 0 where
   pub left : List RecordData
   pub removes : Removes P held left
   pub indexed : IsIndexed left keys backs
 
-left_none : (P : RecordData → Type 0) (held : List RecordData) (keys : List ((ℕ × ℕ) × ℕ)) (backs : List Place) → IsIndexed held keys backs → ((r : RecordData) → Contains held r → P r → ⊥) → Left P held keys backs
+left_none : (P : RecordData → Type 0) (held : List RecordData) (keys : List (Key × ℕ)) (backs : List Place) → IsIndexed held keys backs → ((r : RecordData) → Contains held r → P r → ⊥) → Left P held keys backs
 left_none P held keys backs is none = record { left = held; removes = λ r. (λ h. (h, none r h), λ h. h.0); indexed = is }
 
-left_as : (P Q : RecordData → Type 0) (held : List RecordData) (keys : List ((ℕ × ℕ) × ℕ)) (backs : List Place) → ((r : RecordData) → Contains held r → P r ↔ Q r) → Left P held keys backs → Left Q held keys backs
+left_as : (P Q : RecordData → Type 0) (held : List RecordData) (keys : List (Key × ℕ)) (backs : List Place) → ((r : RecordData) → Contains held r → P r ↔ Q r) → Left P held keys backs → Left Q held keys backs
 left_as P Q held keys backs same is = record {
   left = is.left;
   removes = λ r. (
@@ -81,7 +83,7 @@ left_as P Q held keys backs same is = record {
 }
 
 -- one more of them leaves
-left_more : (P Q : RecordData → Type 0) (held : List RecordData) (keys less : List ((ℕ × ℕ) × ℕ)) (backs fewer : List Place) (x : RecordData) (g e n : ℕ) → IsHeld held → Left P held keys backs → Contains held x → (P x → ⊥) → ((r : RecordData) → Contains held r → Q r ↔ (P r ⊎ (r ≡ x))) → g ≡ x.back → e ≡ x.epoch → n ≡ x.number → LosesPage keys (e, n) less → LosesKey backs g (e, n) fewer → Left Q held less fewer
+left_more : (P Q : RecordData → Type 0) (held : List RecordData) (keys less : List (Key × ℕ)) (backs fewer : List Place) (x : RecordData) (g e n : ℕ) → IsHeld held → Left P held keys backs → Contains held x → (P x → ⊥) → ((r : RecordData) → Contains held r → Q r ↔ (P r ⊎ (r ≡ x))) → g ≡ x.back → e ≡ x.epoch → n ≡ x.number → LosesPage keys (key_at e n) less → LosesKey backs g (key_at e n) fewer → Left Q held less fewer
 left_more P Q held keys less backs fewer x g e n form is among not_yet more p q s loses drops =
     let removes = without_one e n is.left in
     record {
@@ -103,7 +105,7 @@ left_more P Q held keys less backs fewer x g e n form is among not_yet more p q 
       };
     }
 
-left_lists : (P : RecordData → Type 0) (held : List RecordData) (keys : List ((ℕ × ℕ) × ℕ)) (backs : List Place) → Left P held keys backs → ListsWithout P held keys backs
+left_lists : (P : RecordData → Type 0) (held : List RecordData) (keys : List (Key × ℕ)) (backs : List Place) → Left P held keys backs → ListsWithout P held keys backs
 left_lists P held keys backs is left form removes =
     let same : (r : RecordData) → Contains is.left r ↔ Contains left r = λ r. (λ h. (removes r).1 ((is.removes r).0 h), λ h. (is.removes r).1 ((removes r).0 h)) in
     record {
@@ -113,23 +115,23 @@ left_lists P held keys backs is left form removes =
     }
 
 -- a walk over the records of a page between two keys: those passed, and those to come
-pub record Walk (m : Map) (page : ℕ) (above to : ℕ × ℕ) (xs ys : List Entry) : Type 0 where
+pub record Walk (m : Map) (page : ℕ) (above to : Key) (xs ys : List Entry) : Type 0 where
   pub paged : IsPaged m
   pub range : IsRange m page above to (xs ++ ys)
 
-pub walk_of : (m : Map) (page : ℕ) (above to : ℕ × ℕ) (es xs ys : List Entry) → IsPaged m → es ≡ filter (λ (e : Entry). range_contains place_cmp (Excluded (page, above)) (Included (page, to)) e.0) m → es ≡ xs ++ ys → Walk m page above to xs ys
+pub walk_of : (m : Map) (page : ℕ) (above to : Key) (es xs ys : List Entry) → IsPaged m → es ≡ filter (λ (e : Entry). range_contains place_cmp (Excluded (page, above)) (Included (page, to)) e.0) m → es ≡ xs ++ ys → Walk m page above to xs ys
 walk_of m page above to es xs ys paged is split = record { paged = paged; range = subst (IsRange m page above to) split (range_of m page above to es paged is) }
 
-walked : (m : Map) (page : ℕ) (above to : ℕ × ℕ) (xs ys : List Entry) → Walk m page above to xs ys → (r : RecordData) → Contains (records_in (xs ++ ys)) r → Contains (seen m) r × IsBetween page above to r
+walked : (m : Map) (page : ℕ) (above to : Key) (xs ys : List Entry) → Walk m page above to xs ys → (r : RecordData) → Contains (records_in (xs ++ ys)) r → Contains (seen m) r × IsBetween page above to r
 walked m page above to xs ys w r h =
     let t = entry_of (xs ++ ys) r h in
     let k = (w.range.members (t.0, r)).0 t.1 in
     let at : t.0 ≡ place_of r = w.paged.placed (t.0, r) k.0 in
-    let P : Place → Type 0 = λ p. PairBefore above.0 above.1 p.1.0 p.1.1 in
-    let Q : Place → Type 0 = λ p. PairBefore to.0 to.1 p.1.0 p.1.1 → ⊥ in
+    let P : Place → Type 0 = λ p. KeyBefore above p.1 in
+    let Q : Place → Type 0 = λ p. KeyBefore to p.1 → ⊥ in
     (seen_in m (t.0, r) k.0, (sym (ap (λ (p : Place). p.0) at) ∙ k.1.page, subst P at k.1.above, subst Q at k.1.up_to))
 
-passes : (m : Map) (page : ℕ) (above to : ℕ × ℕ) (xs ys : List Entry) → Walk m page above to xs ys → (r : RecordData) → Contains (seen m) r → IsBetween page above to r → Contains (records_in xs) r ⊎ Contains (records_in ys) r
+passes : (m : Map) (page : ℕ) (above to : Key) (xs ys : List Entry) → Walk m page above to xs ys → (r : RecordData) → Contains (seen m) r → IsBetween page above to r → Contains (records_in xs) r ⊎ Contains (records_in ys) r
 passes m page above to xs ys w r h is =
     Contains-append_cases (records_in xs) (records_in ys) r (subst (λ (l : List RecordData). Contains l r) (map-append (λ (e : Entry). e.1) xs ys)
     (record_in (xs ++ ys) (place_of r, r) ((w.range.members (place_of r, r)).1 (own_entry m w.paged r h, record { page = is.0; above = is.1; up_to = is.2 }))))
@@ -148,7 +150,7 @@ before_come {X} Before (z ∷ xs) ys x y rising h k =
     (λ (u : Contains xs x). before_come Before xs ys x y rising.1 u k)
     (which z xs x h)
 
-front : (m : Map) (page : ℕ) (above to : ℕ × ℕ) (xs ys : List Entry) → Walk m page above to xs ys → (r s : RecordData) → Contains (records_in xs) r → Contains (records_in ys) s → RecordBefore r s
+front : (m : Map) (page : ℕ) (above to : Key) (xs ys : List Entry) → Walk m page above to xs ys → (r s : RecordData) → Contains (records_in xs) r → Contains (records_in ys) s → RecordBefore r s
 front m page above to xs ys w r s h k =
     let Before : Entry → Entry → Type 0 = λ x y. place_cmp x.0 y.0 ≡ Less in
     let t = entry_of xs r h in
@@ -159,24 +161,24 @@ front m page above to xs ys w r s h k =
     (before_come Before xs ys (t.0, r) (u.0, s) w.range.rising t.1 u.1)
 
 -- the last of the row so far; none of those passed is above it, or none of a row has come
-abbrev pub EndsRow : List Entry → ℕ × ℕ → Option (ℕ × ℕ) → Type 0
-EndsRow xs start None = (r : RecordData) → Contains (records_in xs) r → PairBefore start.0 start.1 r.epoch r.number → ⊥
+abbrev pub EndsRow : List Entry → Key → Option Key → Type 0
+EndsRow xs start None = (r : RecordData) → Contains (records_in xs) r → KeyBefore start (key_of r) → ⊥
 EndsRow xs start (Some last) =
-    ((r : RecordData) × Contains (records_in xs) r × PairBefore start.0 start.1 r.epoch r.number × HasKey last.0 last.1 r)
-    × ((r : RecordData) → Contains (records_in xs) r → PairBefore last.0 last.1 r.epoch r.number → ⊥)
+    ((r : RecordData) × Contains (records_in xs) r × KeyBefore start (key_of r) × HasKey last r)
+    × ((r : RecordData) → Contains (records_in xs) r → KeyBefore last (key_of r) → ⊥)
 
-abbrev pub InRow : List Entry → ℕ × ℕ → RecordData → Type 0
-InRow xs start r = Contains (records_in xs) r × PairBefore start.0 start.1 r.epoch r.number
+abbrev pub InRow : List Entry → Key → RecordData → Type 0
+InRow xs start r = Contains (records_in xs) r × KeyBefore start (key_of r)
 
 -- what the walk knows: the alive of those passed are those above a key, and they are no longer listed
-pub record Rowed (b : BookData) (held : List RecordData) (above : ℕ × ℕ) (xs : List Entry) (start : ℕ × ℕ) (last : Option (ℕ × ℕ)) (keys : List ((ℕ × ℕ) × ℕ)) (backs : List Place) : Type 0 where
-  pub low : (start ≡ above) ⊎ ((r : RecordData) × Contains (records_in xs) r × HasKey start.0 start.1 r)
-  pub up : (r : RecordData) → Contains (records_in xs) r → IsAlive b.cuts b.complete r.epoch r.number → PairBefore start.0 start.1 r.epoch r.number
+pub record Rowed (b : BookData) (held : List RecordData) (above : Key) (xs : List Entry) (start : Key) (last : Option Key) (keys : List (Key × ℕ)) (backs : List Place) : Type 0 where
+  pub low : (start ≡ above) ⊎ ((r : RecordData) × Contains (records_in xs) r × HasKey start r)
+  pub up : (r : RecordData) → Contains (records_in xs) r → IsAlive b.cuts b.complete r.epoch r.number → KeyBefore start (key_of r)
   pub alive : (r : RecordData) → InRow xs start r → IsAlive b.cuts b.complete r.epoch r.number
   pub ends : EndsRow xs start last
   pub left : Left (InRow xs start) held keys backs
 
-pub rowed_none : (b : BookData) (held : List RecordData) (above : ℕ × ℕ) (keys : List ((ℕ × ℕ) × ℕ)) (backs : List Place) → IsIndexed held keys backs → Rowed b held above [] above None keys backs
+pub rowed_none : (b : BookData) (held : List RecordData) (above : Key) (keys : List (Key × ℕ)) (backs : List Place) → IsIndexed held keys backs → Rowed b held above [] above None keys backs
 rowed_none b held above keys backs is = record {
   low = inl refl;
   up = λ r h a. absurd (none_in r h);
@@ -186,16 +188,16 @@ rowed_none b held above keys backs is = record {
 }
 
 -- an alive record is one more of the row
-pub rowed_alive : (b : BookData) (m : Map) (page : ℕ) (above to : ℕ × ℕ) (xs rest : List Entry) (x : Entry) (start : ℕ × ℕ) (last : Option (ℕ × ℕ)) (keys less : List ((ℕ × ℕ) × ℕ)) (backs fewer : List Place) (g e n : ℕ) → Walk m page above to xs (x ∷ rest) → Rowed b (seen m) above xs start last keys backs
-    → IsAlive b.cuts b.complete x.1.epoch x.1.number → g ≡ x.1.back → e ≡ x.1.epoch → n ≡ x.1.number → LosesPage keys (e, n) less → LosesKey backs g (e, n) fewer → Rowed b (seen m) above (xs ++ x ∷ []) start (Some (e, n)) less fewer
+pub rowed_alive : (b : BookData) (m : Map) (page : ℕ) (above to : Key) (xs rest : List Entry) (x : Entry) (start : Key) (last : Option Key) (keys less : List (Key × ℕ)) (backs fewer : List Place) (g e n : ℕ) → Walk m page above to xs (x ∷ rest) → Rowed b (seen m) above xs start last keys backs
+    → IsAlive b.cuts b.complete x.1.epoch x.1.number → g ≡ x.1.back → e ≡ x.1.epoch → n ≡ x.1.number → LosesPage keys (key_at e n) less → LosesKey backs g (key_at e n) fewer → Rowed b (seen m) above (xs ++ x ∷ []) start (Some (key_at e n)) less fewer
 rowed_alive b m page above to xs rest x start last keys less backs fewer g e n w is alive p q s loses drops = record {
   low = ⊎_elim (λ (u : start ≡ above). inl u) (λ u. inr (u.0, (joined xs x u.0).1 (inl u.1), u.2)) is.low;
-  up = λ r h a. ⊎_elim (λ (u : Contains (records_in xs) r). is.up r u a) (λ (u : r ≡ x.1). subst (λ (y : RecordData). PairBefore start.0 start.1 y.epoch y.number) (sym u) over) ((joined xs x r).0 h);
+  up = λ r h a. ⊎_elim (λ (u : Contains (records_in xs) r). is.up r u a) (λ (u : r ≡ x.1). subst (λ (y : RecordData). KeyBefore start (key_of y)) (sym u) over) ((joined xs x r).0 h);
   alive = λ r h. ⊎_elim (λ (u : Contains (records_in xs) r). is.alive r (u, h.1)) (λ (u : r ≡ x.1). subst (λ (y : RecordData). IsAlive b.cuts b.complete y.epoch y.number) (sym u) alive) ((joined xs x r).0 h.0);
   ends = (
     (x.1, (joined xs x x.1).1 (inr refl), over, (sym q, sym s)),
     λ r h k. ⊎_elim
-        (λ (u : Contains (records_in xs) r). pair_apart r.epoch r.number x.1.epoch x.1.number (behind r u) (subst (λ (y : ℕ). PairBefore y x.1.number r.epoch r.number) q (subst (λ (y : ℕ). PairBefore e y r.epoch r.number) s k)))
+        (λ (u : Contains (records_in xs) r). pair_apart r.epoch r.number x.1.epoch x.1.number (behind r u) (subst (λ (y : ℕ). KeyBefore (key_at y x.1.number) (key_of r)) q (subst (λ (y : ℕ). KeyBefore (key_at e y) (key_of r)) s k)))
         (λ (u : r ≡ x.1). pair_not_same e n r.epoch r.number k (q ∙ ap (λ (y : RecordData). y.epoch) (sym u)) (s ∙ ap (λ (y : RecordData). y.number) (sym u)))
         ((joined xs x r).0 h),
   );
@@ -205,7 +207,7 @@ rowed_alive b m page above to xs rest x start last keys less backs fewer g e n w
         λ k. ⊎_elim (λ (u : Contains (records_in xs) r). inl (u, k.1)) (λ (u : r ≡ x.1). inr u) ((joined xs x r).0 k.0),
         λ k. ⊎_elim
             (λ (u : InRow xs start r). ((joined xs x r).1 (inl u.0), u.1))
-            (λ (u : r ≡ x.1). ((joined xs x r).1 (inr u), subst (λ (y : RecordData). PairBefore start.0 start.1 y.epoch y.number) (sym u) over))
+            (λ (u : r ≡ x.1). ((joined xs x r).1 (inr u), subst (λ (y : RecordData). KeyBefore start (key_of y)) (sym u) over))
             k,
       ))
       p q s loses drops;
@@ -217,15 +219,15 @@ rowed_alive b m page above to xs rest x start last keys less backs fewer g e n w
     found : Contains (seen m) x.1 × IsBetween page above to x.1
     found = walked m page above to xs (x ∷ rest) w x.1 (come_in xs (x ∷ rest) x.1 (record_in (x ∷ rest) x (here x rest)))
 
-    over : PairBefore start.0 start.1 x.1.epoch x.1.number
+    over : KeyBefore start (key_of x.1)
     over = ⊎_elim
-        (λ (u : start ≡ above). subst (λ (k : ℕ × ℕ). PairBefore k.0 k.1 x.1.epoch x.1.number) (sym u) found.1.1)
-        (λ u. subst (λ (y : ℕ). PairBefore y start.1 x.1.epoch x.1.number) u.2.0 (subst (λ (y : ℕ). PairBefore u.0.epoch y x.1.epoch x.1.number) u.2.1 (behind u.0 u.1)))
+        (λ (u : start ≡ above). subst (λ (k : Key). KeyBefore k (key_of x.1)) (sym u) found.1.1)
+        (λ u. subst (λ (y : ℕ). KeyBefore (key_at y start.number) (key_of x.1)) u.2.0 (subst (λ (y : ℕ). KeyBefore (key_at u.0.epoch y) (key_of x.1)) u.2.1 (behind u.0 u.1)))
         is.low
 
 -- one that is not alive, in front of the row
-pub rowed_dead : (b : BookData) (m : Map) (page : ℕ) (above to : ℕ × ℕ) (xs rest : List Entry) (x : Entry) (start : ℕ × ℕ) (keys : List ((ℕ × ℕ) × ℕ)) (backs : List Place) (e n : ℕ) → Walk m page above to xs (x ∷ rest) → Rowed b (seen m) above xs start None keys backs
-    → (IsAlive b.cuts b.complete x.1.epoch x.1.number → ⊥) → e ≡ x.1.epoch → n ≡ x.1.number → Rowed b (seen m) above (xs ++ x ∷ []) (e, n) None keys backs
+pub rowed_dead : (b : BookData) (m : Map) (page : ℕ) (above to : Key) (xs rest : List Entry) (x : Entry) (start : Key) (keys : List (Key × ℕ)) (backs : List Place) (e n : ℕ) → Walk m page above to xs (x ∷ rest) → Rowed b (seen m) above xs start None keys backs
+    → (IsAlive b.cuts b.complete x.1.epoch x.1.number → ⊥) → e ≡ x.1.epoch → n ≡ x.1.number → Rowed b (seen m) above (xs ++ x ∷ []) (key_at e n) None keys backs
 rowed_dead b m page above to xs rest x start keys backs e n w is dead q s = record {
   low = inr (x.1, (joined xs x x.1).1 (inr refl), (sym q, sym s));
   up = λ r h a. absurd (⊎_elim
@@ -234,24 +236,24 @@ rowed_dead b m page above to xs rest x start keys backs e n w is dead q s = reco
       ((joined xs x r).0 h));
   alive = λ r h. absurd (none_up r h.0 h.1);
   ends = none_up;
-  left = left_as (InRow xs start) (InRow (xs ++ x ∷ []) (e, n)) (seen m) keys backs (λ r h. (λ k. absurd (is.ends r k.0 k.1), λ k. absurd (none_up r k.0 k.1))) is.left;
+  left = left_as (InRow xs start) (InRow (xs ++ x ∷ []) (key_at e n)) (seen m) keys backs (λ r h. (λ k. absurd (is.ends r k.0 k.1), λ k. absurd (none_up r k.0 k.1))) is.left;
 }
   where
-    none_up : (r : RecordData) → Contains (records_in (xs ++ x ∷ [])) r → PairBefore e n r.epoch r.number → ⊥
+    none_up : (r : RecordData) → Contains (records_in (xs ++ x ∷ [])) r → KeyBefore (key_at e n) (key_of r) → ⊥
     none_up r h k = ⊎_elim
-        (λ (u : Contains (records_in xs) r). pair_apart r.epoch r.number x.1.epoch x.1.number (front m page above to xs (x ∷ rest) w r x.1 u (record_in (x ∷ rest) x (here x rest))) (subst (λ (y : ℕ). PairBefore y x.1.number r.epoch r.number) q (subst (λ (y : ℕ). PairBefore e y r.epoch r.number) s k)))
+        (λ (u : Contains (records_in xs) r). pair_apart r.epoch r.number x.1.epoch x.1.number (front m page above to xs (x ∷ rest) w r x.1 u (record_in (x ∷ rest) x (here x rest))) (subst (λ (y : ℕ). KeyBefore (key_at y x.1.number) (key_of r)) q (subst (λ (y : ℕ). KeyBefore (key_at e y) (key_of r)) s k)))
         (λ (u : r ≡ x.1). pair_not_same e n r.epoch r.number k (q ∙ ap (λ (y : RecordData). y.epoch) (sym u)) (s ∙ ap (λ (y : RecordData). y.number) (sym u)))
         ((joined xs x r).0 h)
 
 -- the walk ends in front of a record that is not alive, or where none is left
-pub rowed_some : (b : BookData) (m : Map) (page : ℕ) (above to : ℕ × ℕ) (xs ys : List Entry) (start last : ℕ × ℕ) (keys : List ((ℕ × ℕ) × ℕ)) (backs : List Place) → Walk m page above to xs ys → Rowed b (seen m) above xs start (Some last) keys backs → UnlistsRow b (seen m) page above to keys backs (Some (start, last))
+pub rowed_some : (b : BookData) (m : Map) (page : ℕ) (above to : Key) (xs ys : List Entry) (start last : Key) (keys : List (Key × ℕ)) (backs : List Place) → Walk m page above to xs ys → Rowed b (seen m) above xs start (Some last) keys backs → UnlistsRow b (seen m) page above to keys backs (Some (start, last))
 rowed_some b m page above to xs ys start last keys backs w is = (
   record {
     low = λ u. ⊎_elim
-        (λ (v : start ≡ above). pair_not_same start.0 start.1 above.0 above.1 u (ap (λ (k : ℕ × ℕ). k.0) v) (ap (λ (k : ℕ × ℕ). k.1) v))
-        (λ v. pair_apart start.0 start.1 above.0 above.1 u (key_above v.0 start v.2 (among v.0 v.1).1.1))
+        (λ (v : start ≡ above). pair_not_same start.epoch start.number above.epoch above.number u (ap (λ (k : Key). k.epoch) v) (ap (λ (k : Key). k.number) v))
+        (λ v. pair_apart start.epoch start.number above.epoch above.number u (key_above v.0 start v.2 (among v.0 v.1).1.1))
         is.low;
-    first = λ r h. h.2 (is.up r (inside r h.0.0 h.0.2 h.1 (λ p. h.2 (pair_trans start.0 start.1 end.0.epoch end.0.number r.epoch r.number end.2 p))) h.0.1);
+    first = λ r h. h.2 (is.up r (inside r h.0.0 h.0.2 h.1 (λ p. h.2 (pair_trans start.epoch start.number end.0.epoch end.0.number r.epoch r.number end.2 p))) h.0.1);
     alive = λ r h k. is.alive r (own r h k, k.1);
     ends = (end.0, (((among end.0 end.1).0, is.alive end.0 (end.1, end.2), (among end.0 end.1).1.0), (among end.0 end.1).1.1, (among end.0 end.1).1.2), end.3);
   },
@@ -261,31 +263,31 @@ rowed_some b m page above to xs ys start last keys backs w is = (
   )) is.left),
 )
   where
-    end : (r : RecordData) × Contains (records_in xs) r × PairBefore start.0 start.1 r.epoch r.number × HasKey last.0 last.1 r
+    end : (r : RecordData) × Contains (records_in xs) r × KeyBefore start (key_of r) × HasKey last r
     end = is.ends.0
 
     among : (r : RecordData) → Contains (records_in xs) r → Contains (seen m) r × IsBetween page above to r
     among r h = walked m page above to xs ys w r (passed_in xs ys r h)
 
-    key_above : (r : RecordData) (k : ℕ × ℕ) → HasKey k.0 k.1 r → PairBefore above.0 above.1 r.epoch r.number → PairBefore above.0 above.1 k.0 k.1
-    key_above r k h p = subst (λ (y : ℕ). PairBefore above.0 above.1 y k.1) h.0 (subst (λ (y : ℕ). PairBefore above.0 above.1 r.epoch y) h.1 p)
+    key_above : (r : RecordData) (k : Key) → HasKey k r → KeyBefore above (key_of r) → KeyBefore above k
+    key_above r k h p = subst (λ (y : ℕ). KeyBefore above (key_at y k.number)) h.0 (subst (λ (y : ℕ). KeyBefore above (key_at r.epoch y)) h.1 p)
 
-    over : (r : RecordData) → PairBefore start.0 start.1 r.epoch r.number → PairBefore above.0 above.1 r.epoch r.number
+    over : (r : RecordData) → KeyBefore start (key_of r) → KeyBefore above (key_of r)
     over r p = ⊎_elim
-        (λ (u : start ≡ above). subst (λ (k : ℕ × ℕ). PairBefore k.0 k.1 r.epoch r.number) u p)
-        (λ u. pair_trans above.0 above.1 start.0 start.1 r.epoch r.number (key_above u.0 start u.2 (among u.0 u.1).1.1) p)
+        (λ (u : start ≡ above). subst (λ (k : Key). KeyBefore k (key_of r)) u p)
+        (λ u. pair_trans above.epoch above.number start.epoch start.number r.epoch r.number (key_above u.0 start u.2 (among u.0 u.1).1.1) p)
         is.low
 
-    inside : (r : RecordData) → Contains (seen m) r → r.page ≡ page → PairBefore above.0 above.1 r.epoch r.number → (RecordBefore end.0 r → ⊥) → Contains (records_in xs) r
+    inside : (r : RecordData) → Contains (seen m) r → r.page ≡ page → KeyBefore above (key_of r) → (RecordBefore end.0 r → ⊥) → Contains (records_in xs) r
     inside r h p up down = ⊎_elim
         (λ (u : Contains (records_in xs) r). u)
         (λ (u : Contains (records_in ys) r). absurd (down (front m page above to xs ys w end.0 r end.1 u)))
-        (passes m page above to xs ys w r h (p, up, λ past. (among end.0 end.1).1.2 (pair_up_to to.0 to.1 end.0.epoch end.0.number r.epoch r.number past down)))
+        (passes m page above to xs ys w r h (p, up, λ past. (among end.0 end.1).1.2 (pair_up_to to.epoch to.number end.0.epoch end.0.number r.epoch r.number past down)))
 
     own : (r : RecordData) → Contains (seen m) r → IsBetween page start last r → Contains (records_in xs) r
-    own r h k = inside r h k.0 (over r k.1) (λ p. k.2 (subst (λ (y : ℕ). PairBefore y last.1 r.epoch r.number) end.3.0 (subst (λ (y : ℕ). PairBefore end.0.epoch y r.epoch r.number) end.3.1 p)))
+    own r h k = inside r h k.0 (over r k.1) (λ p. k.2 (subst (λ (y : ℕ). KeyBefore (key_at y last.number) (key_of r)) end.3.0 (subst (λ (y : ℕ). KeyBefore (key_at end.0.epoch y) (key_of r)) end.3.1 p)))
 
-pub rowed_all : (b : BookData) (m : Map) (page : ℕ) (above to : ℕ × ℕ) (xs : List Entry) (start : ℕ × ℕ) (keys : List ((ℕ × ℕ) × ℕ)) (backs : List Place) → Walk m page above to xs [] → Rowed b (seen m) above xs start None keys backs → UnlistsRow b (seen m) page above to keys backs None
+pub rowed_all : (b : BookData) (m : Map) (page : ℕ) (above to : Key) (xs : List Entry) (start : Key) (keys : List (Key × ℕ)) (backs : List Place) → Walk m page above to xs [] → Rowed b (seen m) above xs start None keys backs → UnlistsRow b (seen m) page above to keys backs None
 rowed_all b m page above to xs start keys backs w is = (
   λ r h. ⊎_elim
       (λ (u : Contains (records_in xs) r). is.ends r u (is.up r u h.0.1))
@@ -295,18 +297,18 @@ rowed_all b m page above to xs start keys backs w is = (
 )
 
 -- without the records of the row
-pub row_gone : (b : BookData) (page : ℕ) (above to start last : ℕ × ℕ) (old new : List RecordData) → IsRow b old page above to start last → Removes (IsBetween page start last) old new → RemovesRow b page above to old new (Some last)
+pub row_gone : (b : BookData) (page : ℕ) (above to start last : Key) (old new : List RecordData) → IsRow b old page above to start last → Removes (IsBetween page start last) old new → RemovesRow b page above to old new (Some last)
 row_gone b page above to start last old new row removes = (
   λ r. (
     λ h.
         let t = (removes r).0 h in (
           t.0,
           λ k. ⊎_elim
-              (λ (u : PairBefore start.0 start.1 r.epoch r.number). t.1 (k.0.2, u, k.2))
-              (λ (u : PairBefore start.0 start.1 r.epoch r.number → ⊥). row.first r (k.0, k.1, u))
-              (pair_or_not start.0 start.1 r.epoch r.number),
+              (λ (u : KeyBefore start (key_of r)). t.1 (k.0.2, u, k.2))
+              (λ (u : KeyBefore start (key_of r) → ⊥). row.first r (k.0, k.1, u))
+              (pair_or_not start.epoch start.number r.epoch r.number),
         ),
-    λ h. (removes r).1 (h.0, λ k. h.1 ((h.0, row.alive r h.0 k, k.0), raised above.0 above.1 start.0 start.1 r.epoch r.number row.low k.1, k.2)),
+    λ h. (removes r).1 (h.0, λ k. h.1 ((h.0, row.alive r h.0 k, k.0), raised above.epoch above.number start.epoch start.number r.epoch r.number row.low k.1, k.2)),
   ),
   row.ends,
 )

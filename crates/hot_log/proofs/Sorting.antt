@@ -7,9 +7,11 @@ use Rattle.std.proofs.lemmas.Bool.Decides.{nat_tests}
 use Rattle.std.proofs.lemmas.List.{get_or-map, length-map}
 use Rattle.std.proofs.lemmas.List.Sorted.{sorted_far, ranks_by, sum_by-IsPermutation, IsPermutation-map, IsPermutation-sym, Contains-permutation}
 use Rattle.redo_core.specs.Data.{RecordData}
+use Rattle.redo_core.specs.Keys.{key_at, key_of, key_cmp}
+use Rattle.redo_core.specs.declared.keys.Key.{Key}
 use Rattle.redo_core.specs.Order.{IsRising, Lists, RecordBefore}
 use Rattle.redo_core.proofs.Members.{none_in, here, there, which, each, all_of}
-use Rattle.hot_log.specs.Paged.{key_cmp, key_of, PlaceBefore}
+use Rattle.hot_log.specs.Paged.{PlaceBefore}
 use Rattle.hot_log.proofs.Orders.{key_total}
 
 -- ---- how many records of a list have a key
@@ -88,7 +90,7 @@ AreInOrder xs = (i j : ℕ) (d : RecordData) → i ≤ j → j < length xs → I
 at_most : (r s : RecordData) → is_lt (key_cmp (key_of s) (key_of r)) ≡ false → IsAtMost r s
 at_most r s h = grind (arith, nat_tests)
 
-in_order : (items : List (Bor RecordData)) → IsSortedByKey {K = ℕ × ℕ} (λ (b : Bor RecordData). (b.now.epoch, b.now.number)) key_cmp items → AreInOrder (map now items)
+in_order : (items : List (Bor RecordData)) → IsSortedByKey {K = Key} (λ (b : Bor RecordData). (key_at b.now.epoch b.now.number)) key_cmp items → AreInOrder (map now items)
 in_order [] sorted i j d le lt = absurd (omega (arith, lt))
 in_order (b ∷ bs) sorted i j d le lt =
     let items = b ∷ bs in
@@ -127,7 +129,7 @@ rising_sorted (x ∷ xs) order few = (
 -- records of a list by page and key, sorted by key, are those of the list by key
 pub sorted_lists : (P : RecordData → Type 0) (items sorted : List (Bor RecordData)) → ((r x : RecordData) → P r → P x → r.epoch ≡ x.epoch → r.number ≡ x.number → r ≡ x)
     → Lists PlaceBefore P (map (λ x. x.now) items) → IsPermutation items sorted
-    → IsSortedByKey {K = ℕ × ℕ} (λ (b : Bor RecordData). (b.now.epoch, b.now.number)) key_cmp sorted → Lists RecordBefore P (map (λ x. x.now) sorted)
+    → IsSortedByKey {K = Key} (λ (b : Bor RecordData). (key_at b.now.epoch b.now.number)) key_cmp sorted → Lists RecordBefore P (map (λ x. x.now) sorted)
 sorted_lists P items sorted one lists moved order =
     let xs = map now items in let ys = map now sorted in
     let moves = IsPermutation-map now items sorted moved in

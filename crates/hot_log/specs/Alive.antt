@@ -1,6 +1,8 @@
 -- Which of the held records are alive in a book's view, and which numbers they link.
 use Rattle.std.specs.Prelude.{◌≡◌, ℕ, ◌+◌, ◌<◌, ◌≤◌, ◌⊎◌, ◌↔◌, List, Option, Some, None}
 use Rattle.redo_core.specs.Order.{PairBefore}
+use Rattle.redo_core.specs.Keys.{key_at, key_of, KeyBefore}
+use Rattle.redo_core.specs.declared.keys.Key.{Key}
 use Rattle.std.specs.List.{Contains}
 use Rattle.redo_core.specs.Data.{RecordData, CutData}
 use Rattle.redo_core.specs.Standing.{IsAlive}
@@ -35,9 +37,9 @@ abbrev pub IsPageAlive : BookData → List RecordData → ℕ → RecordData →
 IsPageAlive book held page r = Contains held r × IsAlive book.cuts book.complete r.epoch r.number × (r.page ≡ page)
 
 -- an alive record of a page with a key above one and at most another
-abbrev pub IsAliveBetween : BookData → List RecordData → ℕ → ℕ × ℕ → ℕ × ℕ → RecordData → Type 0
+abbrev pub IsAliveBetween : BookData → List RecordData → ℕ → Key → Key → RecordData → Type 0
 IsAliveBetween book held page above to r =
-    IsPageAlive book held page r × PairBefore above.0 above.1 r.epoch r.number × (PairBefore to.0 to.1 r.epoch r.number → ⊥)
+    IsPageAlive book held page r × KeyBefore above (key_of r) × (KeyBefore to (key_of r) → ⊥)
 
 -- the epoch parts the alive records at a number: those with a higher number are those with a higher key, and the next number
 -- can be alive in this epoch alone
@@ -47,8 +49,8 @@ PartsAt book number epoch =
     × ((e : ℕ) → IsAlive book.cuts book.complete e (number + 1) → e ≡ epoch)
 
 -- a key parts the alive records at a number: those with a higher number are those with a higher key
-abbrev pub PartsAtKey : BookData → ℕ → ℕ × ℕ → Type 0
-PartsAtKey book number key = (e n : ℕ) → IsAlive book.cuts book.complete e n → (number < n) ↔ PairBefore key.0 key.1 e n
+abbrev pub PartsAtKey : BookData → ℕ → Key → Type 0
+PartsAtKey book number key = (e n : ℕ) → IsAlive book.cuts book.complete e n → (number < n) ↔ KeyBefore key (key_at e n)
 
 -- each truncation of an epoch above one and up to the complete one has its lo at or above a number
 abbrev pub SparesAbove : BookData → ℕ → ℕ → Type 0
@@ -75,15 +77,15 @@ pub record IsStraightEnd (book : BookData) (held : List RecordData) (from n : �
   pub straight : IsStraight book held from n
 
 -- the key of the alive record with the least number above one, or none where there is none
-abbrev pub IsAliveKey : BookData → List RecordData → ℕ → Option (ℕ × ℕ) → Type 0
+abbrev pub IsAliveKey : BookData → List RecordData → ℕ → Option Key → Type 0
 IsAliveKey book held above None = (r : RecordData) → IsHeldAlive book held r → above < r.number → ⊥
 IsAliveKey book held above (Some key) =
-    ((r : RecordData) × IsHeldAlive book held r × HasKey key.0 key.1 r × (above < r.number))
-    × ((r : RecordData) → IsHeldAlive book held r → above < r.number → HasKey key.0 key.1 r ⊎ (key.1 < r.number))
+    ((r : RecordData) × IsHeldAlive book held r × HasKey key r × (above < r.number))
+    × ((r : RecordData) → IsHeldAlive book held r → above < r.number → HasKey key r ⊎ (key.number < r.number))
 
 -- the least key above the one given of the alive records with this segment backlink, or none
-abbrev pub IsAliveOfBack : BookData → List RecordData → ℕ → ℕ × ℕ → Option (ℕ × ℕ) → Type 0
-IsAliveOfBack book held back after None = (r : RecordData) → IsHeldAlive book held r → r.back ≡ back → PairBefore after.0 after.1 r.epoch r.number → ⊥
+abbrev pub IsAliveOfBack : BookData → List RecordData → ℕ → Key → Option Key → Type 0
+IsAliveOfBack book held back after None = (r : RecordData) → IsHeldAlive book held r → r.back ≡ back → KeyBefore after (key_of r) → ⊥
 IsAliveOfBack book held back after (Some key) =
-    ((r : RecordData) × IsHeldAlive book held r × (r.back ≡ back) × HasKey key.0 key.1 r × PairBefore after.0 after.1 r.epoch r.number)
-    × ((r : RecordData) → IsHeldAlive book held r → r.back ≡ back → PairBefore after.0 after.1 r.epoch r.number → HasKey key.0 key.1 r ⊎ PairBefore key.0 key.1 r.epoch r.number)
+    ((r : RecordData) × IsHeldAlive book held r × (r.back ≡ back) × HasKey key r × KeyBefore after (key_of r))
+    × ((r : RecordData) → IsHeldAlive book held r → r.back ≡ back → KeyBefore after (key_of r) → HasKey key r ⊎ KeyBefore key (key_of r))

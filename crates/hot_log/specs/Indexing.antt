@@ -2,120 +2,121 @@
 use Rattle.std.specs.Prelude.{◌≡◌, ℕ, ◌⊎◌, ◌↔◌, List, Option, Some, None}
 use Rattle.std.specs.List.{Contains}
 use Rattle.redo_core.specs.Data.{RecordData}
-use Rattle.redo_core.specs.Order.{PairBefore}
+use Rattle.redo_core.specs.Keys.{key_at, key_of, KeyBefore}
+use Rattle.redo_core.specs.declared.keys.Key.{Key}
 use Rattle.hot_log.specs.Held.{IsHeld, HasKey}
 
 -- a group has a key
-abbrev pub InGroup : List (ℕ × (ℕ × ℕ)) → ℕ → ℕ → ℕ → Type 0
-InGroup keys group epoch number = Contains keys (group, (epoch, number))
+abbrev pub InGroup : List (ℕ × Key) → ℕ → ℕ → ℕ → Type 0
+InGroup keys group epoch number = Contains keys (group, key_at epoch number)
 
 -- the least key of a group above the one given, or none where no key of the group is above it
-abbrev pub IsNextKey : List (ℕ × (ℕ × ℕ)) → ℕ → ℕ × ℕ → Option (ℕ × ℕ) → Type 0
-IsNextKey keys group after None = (e n : ℕ) → InGroup keys group e n → PairBefore after.0 after.1 e n → ⊥
+abbrev pub IsNextKey : List (ℕ × Key) → ℕ → Key → Option Key → Type 0
+IsNextKey keys group after None = (e n : ℕ) → InGroup keys group e n → KeyBefore after (key_at e n) → ⊥
 IsNextKey keys group after (Some key) =
-    InGroup keys group key.0 key.1 × PairBefore after.0 after.1 key.0 key.1
-    × ((e n : ℕ) → InGroup keys group e n → PairBefore after.0 after.1 e n → ((e ≡ key.0) × (n ≡ key.1)) ⊎ PairBefore key.0 key.1 e n)
+    InGroup keys group key.epoch key.number × KeyBefore after key
+    × ((e n : ℕ) → InGroup keys group e n → KeyBefore after (key_at e n) → ((e ≡ key.epoch) × (n ≡ key.number)) ⊎ KeyBefore key (key_at e n))
 
 -- the greatest key of a group at or below the one given, or none where each key of the group is above it
-abbrev pub IsLastKey : List (ℕ × (ℕ × ℕ)) → ℕ → ℕ × ℕ → Option (ℕ × ℕ) → Type 0
-IsLastKey keys group to None = (e n : ℕ) → InGroup keys group e n → PairBefore to.0 to.1 e n
+abbrev pub IsLastKey : List (ℕ × Key) → ℕ → Key → Option Key → Type 0
+IsLastKey keys group to None = (e n : ℕ) → InGroup keys group e n → KeyBefore to (key_at e n)
 IsLastKey keys group to (Some key) =
-    InGroup keys group key.0 key.1 × (PairBefore to.0 to.1 key.0 key.1 → ⊥)
-    × ((e n : ℕ) → InGroup keys group e n → (PairBefore to.0 to.1 e n → ⊥) → ((e ≡ key.0) × (n ≡ key.1)) ⊎ PairBefore e n key.0 key.1)
+    InGroup keys group key.epoch key.number × (KeyBefore to key → ⊥)
+    × ((e n : ℕ) → InGroup keys group e n → (KeyBefore to (key_at e n) → ⊥) → ((e ≡ key.epoch) × (n ≡ key.number)) ⊎ KeyBefore (key_at e n) key)
 
 -- the key joins its group
-abbrev pub GainsKey : List (ℕ × (ℕ × ℕ)) → ℕ → ℕ × ℕ → List (ℕ × (ℕ × ℕ)) → Type 0
-GainsKey old group key new = (p : ℕ × (ℕ × ℕ)) → Contains new p ↔ (Contains old p ⊎ (p ≡ (group, key)))
+abbrev pub GainsKey : List (ℕ × Key) → ℕ → Key → List (ℕ × Key) → Type 0
+GainsKey old group key new = (p : ℕ × Key) → Contains new p ↔ (Contains old p ⊎ (p ≡ (group, key)))
 
 -- the key leaves its group
-abbrev pub LosesKey : List (ℕ × (ℕ × ℕ)) → ℕ → ℕ × ℕ → List (ℕ × (ℕ × ℕ)) → Type 0
-LosesKey old group key new = (p : ℕ × (ℕ × ℕ)) → Contains new p ↔ (Contains old p × (p ≡ (group, key) → ⊥))
+abbrev pub LosesKey : List (ℕ × Key) → ℕ → Key → List (ℕ × Key) → Type 0
+LosesKey old group key new = (p : ℕ × Key) → Contains new p ↔ (Contains old p × (p ≡ (group, key) → ⊥))
 
 -- the keys are those of the held records, each in the group that a number of its record names
-pub record IsIndexBy (group : RecordData → ℕ) (held : List RecordData) (keys : List (ℕ × (ℕ × ℕ))) : Type 0 where
+pub record IsIndexBy (group : RecordData → ℕ) (held : List RecordData) (keys : List (ℕ × Key)) : Type 0 where
   pub listed : (r : RecordData) → Contains held r → InGroup keys (group r) r.epoch r.number
-  pub backed : (g e n : ℕ) → InGroup keys g e n → (r : RecordData) × Contains held r × (group r ≡ g) × HasKey e n r
+  pub backed : (g e n : ℕ) → InGroup keys g e n → (r : RecordData) × Contains held r × (group r ≡ g) × HasKey (key_at e n) r
 
 -- a key has joined those that have pages
-abbrev pub GainsPage : List ((ℕ × ℕ) × ℕ) → ℕ × ℕ → ℕ → List ((ℕ × ℕ) × ℕ) → Type 0
-GainsPage old key page new = (e : (ℕ × ℕ) × ℕ) → Contains new e ↔ (Contains old e ⊎ (e ≡ (key, page)))
+abbrev pub GainsPage : List (Key × ℕ) → Key → ℕ → List (Key × ℕ) → Type 0
+GainsPage old key page new = (e : Key × ℕ) → Contains new e ↔ (Contains old e ⊎ (e ≡ (key, page)))
 
 -- a key has left them
-abbrev pub LosesPage : List ((ℕ × ℕ) × ℕ) → ℕ × ℕ → List ((ℕ × ℕ) × ℕ) → Type 0
-LosesPage old key new = (e : (ℕ × ℕ) × ℕ) → Contains new e ↔ (Contains old e × (e.0 ≡ key → ⊥))
+abbrev pub LosesPage : List (Key × ℕ) → Key → List (Key × ℕ) → Type 0
+LosesPage old key new = (e : Key × ℕ) → Contains new e ↔ (Contains old e × (e.0 ≡ key → ⊥))
 
 -- the page of a key, or none where it has none
-abbrev pub IsPageOf : List ((ℕ × ℕ) × ℕ) → ℕ × ℕ → Option ℕ → Type 0
+abbrev pub IsPageOf : List (Key × ℕ) → Key → Option ℕ → Type 0
 IsPageOf keys key None = (page : ℕ) → Contains keys (key, page) → ⊥
 IsPageOf keys key (Some page) = Contains keys (key, page)
 
 -- a key without a page has been given one; that of another stays
-abbrev pub AddsPage : List ((ℕ × ℕ) × ℕ) → ℕ × ℕ → ℕ → List ((ℕ × ℕ) × ℕ) → Option ℕ → Type 0
+abbrev pub AddsPage : List (Key × ℕ) → Key → ℕ → List (Key × ℕ) → Option ℕ → Type 0
 AddsPage old key page new None = IsPageOf old key None × GainsPage old key page new
 AddsPage old key page new (Some was) = IsPageOf old key (Some was) × (new ≡ old)
 
 -- the key (e, n) is above the one given; with none given each is
-abbrev pub IsAboveKey : Option (ℕ × ℕ) → ℕ → ℕ → Type 0
+abbrev pub IsAboveKey : Option Key → ℕ → ℕ → Type 0
 IsAboveKey None e n = Unit {0}
-IsAboveKey (Some key) e n = PairBefore key.0 key.1 e n
+IsAboveKey (Some key) e n = KeyBefore key (key_at e n)
 
 -- the least key with a page above the one given, or none where no key is above it
-abbrev pub IsLeastKey : List ((ℕ × ℕ) × ℕ) → Option (ℕ × ℕ) → Option (ℕ × ℕ) → Type 0
-IsLeastKey keys after None = (e n page : ℕ) → Contains keys ((e, n), page) → IsAboveKey after e n → ⊥
+abbrev pub IsLeastKey : List (Key × ℕ) → Option Key → Option Key → Type 0
+IsLeastKey keys after None = (e n page : ℕ) → Contains keys (key_at e n, page) → IsAboveKey after e n → ⊥
 IsLeastKey keys after (Some key) =
-    ((page : ℕ) × Contains keys (key, page) × IsAboveKey after key.0 key.1)
-    × ((e n page : ℕ) → Contains keys ((e, n), page) → IsAboveKey after e n → ((e ≡ key.0) × (n ≡ key.1)) ⊎ PairBefore key.0 key.1 e n)
+    ((page : ℕ) × Contains keys (key, page) × IsAboveKey after key.epoch key.number)
+    × ((e n page : ℕ) → Contains keys (key_at e n, page) → IsAboveKey after e n → ((e ≡ key.epoch) × (n ≡ key.number)) ⊎ KeyBefore key (key_at e n))
 
 -- the greatest key with a page at or below the one given, or none where each key is above it
-abbrev pub IsGreatestKey : List ((ℕ × ℕ) × ℕ) → ℕ × ℕ → Option (ℕ × ℕ) → Type 0
-IsGreatestKey keys to None = (e n page : ℕ) → Contains keys ((e, n), page) → PairBefore to.0 to.1 e n
+abbrev pub IsGreatestKey : List (Key × ℕ) → Key → Option Key → Type 0
+IsGreatestKey keys to None = (e n page : ℕ) → Contains keys (key_at e n, page) → KeyBefore to (key_at e n)
 IsGreatestKey keys to (Some key) =
-    ((page : ℕ) × Contains keys (key, page) × (PairBefore to.0 to.1 key.0 key.1 → ⊥))
-    × ((e n page : ℕ) → Contains keys ((e, n), page) → (PairBefore to.0 to.1 e n → ⊥) → ((e ≡ key.0) × (n ≡ key.1)) ⊎ PairBefore e n key.0 key.1)
+    ((page : ℕ) × Contains keys (key, page) × (KeyBefore to key → ⊥))
+    × ((e n page : ℕ) → Contains keys (key_at e n, page) → (KeyBefore to (key_at e n) → ⊥) → ((e ≡ key.epoch) × (n ≡ key.number)) ⊎ KeyBefore (key_at e n) key)
 
 -- the greatest key with a page, or none where no key has one
-abbrev pub IsGreatestOf : List ((ℕ × ℕ) × ℕ) → Option (ℕ × ℕ) → Type 0
-IsGreatestOf keys None = (e n page : ℕ) → Contains keys ((e, n), page) → ⊥
+abbrev pub IsGreatestOf : List (Key × ℕ) → Option Key → Type 0
+IsGreatestOf keys None = (e n page : ℕ) → Contains keys (key_at e n, page) → ⊥
 IsGreatestOf keys (Some key) =
     ((page : ℕ) × Contains keys (key, page))
-    × ((e n page : ℕ) → Contains keys ((e, n), page) → ((e ≡ key.0) × (n ≡ key.1)) ⊎ PairBefore e n key.0 key.1)
+    × ((e n page : ℕ) → Contains keys (key_at e n, page) → ((e ≡ key.epoch) × (n ≡ key.number)) ⊎ KeyBefore (key_at e n) key)
 
 -- the keys are those of the held records, each with the page of its record
-pub record IsKeyPages (held : List RecordData) (keys : List ((ℕ × ℕ) × ℕ)) : Type 0 where
-  pub listed : (r : RecordData) → Contains held r → Contains keys ((r.epoch, r.number), r.page)
-  pub backed : (e n page : ℕ) → Contains keys ((e, n), page) → (r : RecordData) × Contains held r × HasKey e n r × (r.page ≡ page)
+pub record IsKeyPages (held : List RecordData) (keys : List (Key × ℕ)) : Type 0 where
+  pub listed : (r : RecordData) → Contains held r → Contains keys (key_of r, r.page)
+  pub backed : (e n page : ℕ) → Contains keys (key_at e n, page) → (r : RecordData) × Contains held r × HasKey (key_at e n) r × (r.page ≡ page)
 
 -- held records with the page of each key and the index by segment backlink
-pub record IsIndexed (held : List RecordData) (keys : List ((ℕ × ℕ) × ℕ)) (backs : List (ℕ × (ℕ × ℕ))) : Type 0 where
+pub record IsIndexed (held : List RecordData) (keys : List (Key × ℕ)) (backs : List (ℕ × Key)) : Type 0 where
   pub form : IsHeld held
   pub by_key : IsKeyPages held keys
   pub by_back : IsIndexBy (λ r. r.back) held backs
 
 -- the least key above the one given of the held records that a number puts into a group, or none
-abbrev pub IsNextHeld : (RecordData → ℕ) → List RecordData → ℕ → ℕ × ℕ → Option (ℕ × ℕ) → Type 0
-IsNextHeld group held g after None = (r : RecordData) → Contains held r → group r ≡ g → PairBefore after.0 after.1 r.epoch r.number → ⊥
+abbrev pub IsNextHeld : (RecordData → ℕ) → List RecordData → ℕ → Key → Option Key → Type 0
+IsNextHeld group held g after None = (r : RecordData) → Contains held r → group r ≡ g → KeyBefore after (key_of r) → ⊥
 IsNextHeld group held g after (Some key) =
-    ((r : RecordData) × Contains held r × (group r ≡ g) × HasKey key.0 key.1 r × PairBefore after.0 after.1 r.epoch r.number)
-    × ((r : RecordData) → Contains held r → group r ≡ g → PairBefore after.0 after.1 r.epoch r.number → HasKey key.0 key.1 r ⊎ PairBefore key.0 key.1 r.epoch r.number)
+    ((r : RecordData) × Contains held r × (group r ≡ g) × HasKey key r × KeyBefore after (key_of r))
+    × ((r : RecordData) → Contains held r → group r ≡ g → KeyBefore after (key_of r) → HasKey key r ⊎ KeyBefore key (key_of r))
 
 -- the greatest key at or below the one given of the held records that a number puts into a group, or none
-abbrev pub IsLastHeld : (RecordData → ℕ) → List RecordData → ℕ → ℕ × ℕ → Option (ℕ × ℕ) → Type 0
-IsLastHeld group held g to None = (r : RecordData) → Contains held r → group r ≡ g → PairBefore to.0 to.1 r.epoch r.number
+abbrev pub IsLastHeld : (RecordData → ℕ) → List RecordData → ℕ → Key → Option Key → Type 0
+IsLastHeld group held g to None = (r : RecordData) → Contains held r → group r ≡ g → KeyBefore to (key_of r)
 IsLastHeld group held g to (Some key) =
-    ((r : RecordData) × Contains held r × (group r ≡ g) × HasKey key.0 key.1 r × (PairBefore to.0 to.1 r.epoch r.number → ⊥))
-    × ((r : RecordData) → Contains held r → group r ≡ g → (PairBefore to.0 to.1 r.epoch r.number → ⊥) → HasKey key.0 key.1 r ⊎ PairBefore r.epoch r.number key.0 key.1)
+    ((r : RecordData) × Contains held r × (group r ≡ g) × HasKey key r × (KeyBefore to (key_of r) → ⊥))
+    × ((r : RecordData) → Contains held r → group r ≡ g → (KeyBefore to (key_of r) → ⊥) → HasKey key r ⊎ KeyBefore (key_of r) key)
 
 -- the record of a page and a key, or none where none is held
-abbrev pub IsRecordOf : List RecordData → ℕ → ℕ × ℕ → Option RecordData → Type 0
-IsRecordOf held page key None = (r : RecordData) → Contains held r → r.page ≡ page → HasKey key.0 key.1 r → ⊥
-IsRecordOf held page key (Some r) = Contains held r × (r.page ≡ page) × HasKey key.0 key.1 r
+abbrev pub IsRecordOf : List RecordData → ℕ → Key → Option RecordData → Type 0
+IsRecordOf held page key None = (r : RecordData) → Contains held r → r.page ≡ page → HasKey key r → ⊥
+IsRecordOf held page key (Some r) = Contains held r × (r.page ≡ page) × HasKey key r
 
 -- the record of a page with the least key above the one given, or none
-abbrev pub IsNextRecord : List RecordData → ℕ → ℕ × ℕ → Option RecordData → Type 0
+abbrev pub IsNextRecord : List RecordData → ℕ → Key → Option RecordData → Type 0
 IsNextRecord held page after None = IsNextHeld (λ r. r.page) held page after None
-IsNextRecord held page after (Some r) = Contains held r × IsNextHeld (λ r. r.page) held page after (Some (r.epoch, r.number))
+IsNextRecord held page after (Some r) = Contains held r × IsNextHeld (λ r. r.page) held page after (Some (key_of r))
 
 -- the record of a page with the greatest key at or below the one given, or none
-abbrev pub IsLastRecord : List RecordData → ℕ → ℕ × ℕ → Option RecordData → Type 0
+abbrev pub IsLastRecord : List RecordData → ℕ → Key → Option RecordData → Type 0
 IsLastRecord held page to None = IsLastHeld (λ r. r.page) held page to None
-IsLastRecord held page to (Some r) = Contains held r × IsLastHeld (λ r. r.page) held page to (Some (r.epoch, r.number))
+IsLastRecord held page to (Some r) = Contains held r × IsLastHeld (λ r. r.page) held page to (Some (key_of r))

@@ -8,22 +8,17 @@ use Rattle.std.specs.declared.cmp.Ordering.TheVariants.{Less}
 use Rattle.std.specs.Map.{keys_of}
 use Rattle.std.specs.List.Sorted.{IsStrictlySortedBy}
 use Rattle.redo_core.specs.Data.{RecordData}
+use Rattle.redo_core.specs.Keys.{key_of, key_cmp}
+use Rattle.redo_core.specs.declared.keys.Key.{Key}
 use Rattle.redo_core.specs.Order.{IsRising}
 use Rattle.redo_core.specs.Shape.{record_fault}
 
--- the order of keys: epoch, then number
-abbrev pub key_cmp : ℕ × ℕ → ℕ × ℕ → Ordering
-key_cmp x y = ordering_then (nat_cmp x.0 y.0) (nat_cmp x.1 y.1)
-
 -- the order of keys in groups, such as pages
-abbrev pub place_cmp : ℕ × (ℕ × ℕ) → ℕ × (ℕ × ℕ) → Ordering
+abbrev pub place_cmp : ℕ × Key → ℕ × Key → Ordering
 place_cmp x y = ordering_then (nat_cmp x.0 y.0) (key_cmp x.1 y.1)
 
-abbrev pub key_of : RecordData → ℕ × ℕ
-key_of r = (r.epoch, r.number)
-
 -- a record's page and key
-abbrev pub place_of : RecordData → ℕ × (ℕ × ℕ)
+abbrev pub place_of : RecordData → ℕ × Key
 place_of r = (r.page, key_of r)
 
 -- a record's page, or on one page its key, is below that of another
@@ -35,8 +30,8 @@ pub record StandsNext (next : Option RecordData) (rest : List RecordData) : Type
   pub rising : IsRising PlaceBefore (cons_option next rest)
   pub ended : IsNone next → rest ≡ []
 
-abbrev pub records_in : List ((ℕ × (ℕ × ℕ)) × RecordData) → List RecordData
-records_in entries = map (λ (e : (ℕ × (ℕ × ℕ)) × RecordData). e.1) entries
+abbrev pub records_in : List ((ℕ × Key) × RecordData) → List RecordData
+records_in entries = map (λ (e : (ℕ × Key) × RecordData). e.1) entries
 
 -- a record's key is below that of another
 abbrev pub is_below : RecordData → RecordData → Bool
@@ -52,9 +47,9 @@ abbrev pub by_key : List RecordData → List RecordData
 by_key [] = []
 by_key (r ∷ rs) = insert_by_key r (by_key rs)
 
-pub record IsPaged (m : List ((ℕ × (ℕ × ℕ)) × RecordData)) : Type 0 where
+pub record IsPaged (m : List ((ℕ × Key) × RecordData)) : Type 0 where
   pub ordered : IsStrictlySortedBy place_cmp (keys_of m)
-  pub placed : (e : (ℕ × (ℕ × ℕ)) × RecordData) → Contains m e → e.0 ≡ place_of e.1
+  pub placed : (e : (ℕ × Key) × RecordData) → Contains m e → e.0 ≡ place_of e.1
   pub shaped : (r : RecordData) → Contains (records_in m) r → record_fault r ≡ None
   pub fits : (r : RecordData) → Contains (records_in m) r → r.page < 65536
   pub apart : (r s : RecordData) → Contains (records_in m) r → Contains (records_in m) s → r.epoch ≡ s.epoch → r.number ≡ s.number → r.page ≡ s.page

@@ -5,7 +5,7 @@ ghost use Rattle.redo_core.specs.Data.{RecordData};
 ghost use Rattle.redo_core.specs.Order.{IsRising};
 ghost use Rattle.hot_log.specs.Paged.{PlaceBefore, records_in};
 
-use redo_core::Record;
+use redo_core::{Key, Record};
 use sorted_runs::Entries;
 use std::marker::Model;
 
@@ -13,7 +13,7 @@ use std::marker::Model;
 #[derive(Drop)]
 pub struct Ahead<'a> {
     next: Option<&'a Record>,
-    rest: Entries<'a, (u16, (u16, u64)), Record>,
+    rest: Entries<'a, (u16, Key), Record>,
 }
 
 impl<'a> Model for Ahead<'a> {
@@ -31,7 +31,7 @@ impl<'a> Model for Ahead<'a> {
 }
 
 impl<'a> Ahead<'a> {
-    pub fn new(mut rest: Entries<'a, (u16, (u16, u64)), Record>) -> Ahead<'a>
+    pub fn new(mut rest: Entries<'a, (u16, Key), Record>) -> Ahead<'a>
         requires { IsRising PlaceBefore (records_in rest) }
         ensures { result ≡ records_in rest.entry }
     {
@@ -64,7 +64,7 @@ impl<'a> Ahead<'a> {
 }
 
 // The record of the next entry.
-fn next_of<'a>(rest: &mut Entries<'a, (u16, (u16, u64)), Record>) -> Option<&'a Record>
+fn next_of<'a>(rest: &mut Entries<'a, (u16, Key), Record>) -> Option<&'a Record>
     ensures { TakesFirst deref (records_in rest.old) result (records_in rest.new) }
 {
     let (_, redo) = rest.next()?;
@@ -75,6 +75,5 @@ fn next_of<'a>(rest: &mut Entries<'a, (u16, (u16, u64)), Record>) -> Option<&'a 
 fn is_before(redo: &Record, other: &Record) -> bool
     ensures { IsTrue result ↔ PlaceBefore redo.now other.now }
 {
-    let place = (redo.page(), (redo.epoch(), redo.number()));
-    place < (other.page(), (other.epoch(), other.number()))
+    (redo.page(), redo.key()) < (other.page(), other.key())
 }

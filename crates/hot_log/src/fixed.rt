@@ -6,6 +6,7 @@ ghost use Rattle.std.specs.Prelude.{◌≡◌, ◌≤◌};
 use crate::log::HotLog;
 use crate::steps::Steps;
 use epoch_book::EpochBook;
+use redo_core::Key;
 
 fn linked_number_has_one_answer(log: &HotLog, book: &EpochBook, from: u64, limit: u64) -> (u64, u64)
     requires { from ≤ limit }
@@ -27,10 +28,7 @@ fn straight_end_has_one_answer(
     (log.straight_end(book, from), log.straight_end(book, from))
 }
 
-fn key_after_has_one_answer(
-    log: &HotLog,
-    after: Option<(u16, u64)>,
-) -> (Option<(u16, u64)>, Option<(u16, u64)>)
+fn key_after_has_one_answer(log: &HotLog, after: Option<Key>) -> (Option<Key>, Option<Key>)
     ensures { result.0 ≡ result.1 }
 {
     (log.key_after(after), log.key_after(after))

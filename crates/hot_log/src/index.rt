@@ -1,6 +1,7 @@
 ghost use Rattle.std.specs.Prelude.{◌≡◌, ◌⊎◌, [], IfOk, OnOk, OnErr};
 ghost use Rattle.hot_log.specs.Indexing.{IsNextKey, GainsKey, LosesKey};
 
+use redo_core::Key;
 use sorted_runs::SortedRuns;
 use std::alloc::{AllocError, Global};
 use std::marker::Model;
@@ -9,14 +10,15 @@ use std::ops::Bound;
 /// Keys of records in groups, by their segment backlink.
 #[derive(Debug, Drop)]
 pub struct KeyIndex {
-    keys: SortedRuns<(u64, (u16, u64)), ()>,
+    keys: SortedRuns<(u64, Key), ()>,
 }
 
 impl Model for KeyIndex {
     ghost use Rattle.std.specs.Prelude.{ℕ, List};
+    ghost use Rattle.redo_core.specs.declared.keys.Key.{Key};
     ghost use Rattle.std.specs.Map.{keys_of};
 
-    ghost Value = { List (ℕ × (ℕ × ℕ)) };
+    ghost Value = { List (ℕ × Key) };
 
     ghost view = { λ i. keys_of i.keys };
 }
@@ -40,7 +42,7 @@ impl KeyIndex {
     }
 
     /// Adds a key to a group. Its only error is want of memory; the index is then as it was.
-    pub fn insert(&mut self, group: u64, key: (u16, u64)) -> Result<(), AllocError>
+    pub fn insert(&mut self, group: u64, key: Key) -> Result<(), AllocError>
         ensures gains { OnOk result (GainsKey self.old group key self.new) }
         ensures unchanged { OnErr result (self.new ≡ self.old) }
     {
@@ -49,14 +51,14 @@ impl KeyIndex {
     }
 
     /// Takes a key out of a group.
-    pub fn remove(&mut self, group: u64, key: (u16, u64))
+    pub fn remove(&mut self, group: u64, key: Key)
         ensures { LosesKey self.old group key self.new }
     {
         let _ = self.keys.remove(&(group, key));
     }
 
     /// The least key of a group above the one given.
-    pub fn next(&self, group: u64, after: (u16, u64)) -> Option<(u16, u64)>
+    pub fn next(&self, group: u64, after: Key) -> Option<Key>
         ensures { IsNextKey self.now group after result }
     {
         let from = Bound::Excluded((group, after));

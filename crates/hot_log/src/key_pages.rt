@@ -3,14 +3,15 @@ ghost use Rattle.std.specs.Option.{IsSome, IsNone};
 ghost use Rattle.std.specs.Map.{keys_of, lookup};
 ghost use Rattle.std.specs.BTreeMap.{is_at, insert_entry};
 ghost use Rattle.std.specs.List.Sorted.{IsStrictlySortedBy};
-ghost use Rattle.hot_log.specs.Paged.{key_cmp};
 ghost use Rattle.hot_log.specs.Indexing.{AddsPage, LosesPage, IsPageOf, IsLeastKey, GainsPage, IsGreatestKey, IsGreatestOf};
-ghost use Rattle.hot_log.specs.Kept.{KeyPairBefore, IsKeyKept};
+ghost use Rattle.hot_log.specs.Kept.{IsKeyKept};
 ghost use Rattle.redo_core.specs.Order.{Lists};
+ghost use Rattle.redo_core.specs.Keys.{KeyBefore};
 ghost use Rattle.std.specs.List.{Contains};
 
 use crate::search::is_kept;
 use epoch_book::EpochBook;
+use redo_core::Key;
 use sorted_runs::SortedRuns;
 use std::alloc::{AllocError, Global};
 use std::marker::Model;
@@ -19,16 +20,17 @@ use std::ops::Bound;
 /// The page of each key.
 #[derive(Debug, Drop)]
 pub struct KeyPages {
-    map: SortedRuns<(u16, u64), u16>,
+    map: SortedRuns<Key, u16>,
 }
 
 impl Model for KeyPages {
     ghost use Rattle.std.specs.Prelude.{ℕ, List};
     ghost use Rattle.std.specs.Map.{keys_of};
     ghost use Rattle.std.specs.List.Sorted.{IsStrictlySortedBy};
-    ghost use Rattle.hot_log.specs.Paged.{key_cmp};
+    ghost use Rattle.redo_core.specs.Keys.{key_cmp};
+    ghost use Rattle.redo_core.specs.declared.keys.Key.{Key};
 
-    ghost Value = { List ((ℕ × ℕ) × ℕ) };
+    ghost Value = { List (Key × ℕ) };
 
     ghost view = { λ k. k.map };
 
@@ -54,7 +56,7 @@ impl KeyPages {
     }
 
     /// The page of a key, or None where it has none.
-    pub fn page_of(&self, key: (u16, u64)) -> Option<u16>
+    pub fn page_of(&self, key: Key) -> Option<u16>
         ensures { IsPageOf self.now key result }
     {
         self.map.get(&key).copied()
@@ -62,7 +64,7 @@ impl KeyPages {
 
     /// Gives a key a page where it has none, and tells the page that it had. Its only error is want of memory; the keys are then as
     /// they were, without this one.
-    pub fn add(&mut self, key: (u16, u64), page: u16) -> Result<Option<u16>, AllocError>
+    pub fn add(&mut self, key: Key, page: u16) -> Result<Option<u16>, AllocError>
         ensures adds { IfOk result (AddsPage self.old key page self.new) }
         ensures absent { OnErr result (IsPageOf self.old key None) }
         ensures unchanged { OnErr result (self.new ≡ self.old) }
@@ -75,7 +77,7 @@ impl KeyPages {
     }
 
     /// Takes a key out, and tells the page that it had.
-    pub fn remove(&mut self, key: (u16, u64)) -> Option<u16>
+    pub fn remove(&mut self, key: Key) -> Option<u16>
         ensures had { IsPageOf self.old key result }
         ensures loses { LosesPage self.old key self.new }
         ensures unchanged { IsNone result → self.new ≡ self.old }
@@ -84,7 +86,7 @@ impl KeyPages {
     }
 
     /// The least key above the one given, or the least of all for None.
-    pub fn key_after(&self, after: Option<(u16, u64)>) -> Option<(u16, u64)>
+    pub fn key_after(&self, after: Option<Key>) -> Option<Key>
         ensures { IsLeastKey self.now after result }
     {
         match after {
@@ -94,21 +96,21 @@ impl KeyPages {
     }
 
     /// The greatest key, or None where there is none.
-    pub fn greatest_key(&self) -> Option<(u16, u64)>
+    pub fn greatest_key(&self) -> Option<Key>
         ensures { IsGreatestOf self.now result }
     {
         let (key, _) = self.map.iter().next_back()?;
         Some(*key)
     }
 
-    fn first_key(&self) -> Option<(u16, u64)>
+    fn first_key(&self) -> Option<Key>
         ensures { IsLeastKey self.now None result }
     {
         let (key, _) = self.map.iter().next()?;
         Some(*key)
     }
 
-    fn key_above(&self, after: (u16, u64)) -> Option<(u16, u64)>
+    fn key_above(&self, after: Key) -> Option<Key>
         ensures { IsLeastKey self.now (Some after) result }
     {
         let from = Bound::Excluded(after);
@@ -117,7 +119,7 @@ impl KeyPages {
     }
 
     /// The greatest key at or below the one given.
-    pub fn key_to(&self, to: (u16, u64)) -> Option<(u16, u64)>
+    pub fn key_to(&self, to: Key) -> Option<Key>
         ensures { IsGreatestKey self.now to result }
     {
         let end = Bound::Included(to);
@@ -130,10 +132,10 @@ impl KeyPages {
         &self,
         alloc: Global,
         book: &EpochBook,
-        above: (u16, u64),
+        above: Key,
         point: u64,
-    ) -> Result<Vec<(u16, u64)>, AllocError>
-        ensures { IfOk result (λ v. Lists KeyPairBefore (IsKeyKept book.now self.now above point) v.items) }
+    ) -> Result<Vec<Key>, AllocError>
+        ensures { IfOk result (λ v. Lists KeyBefore (IsKeyKept book.now self.now above point) v.items) }
     {
         let mut kept = Vec::new(alloc);
         let from = Bound::Excluded(above);

@@ -12,7 +12,7 @@ use crate::log::HotLog;
 use crate::search::alive_of_back;
 use crate::steps::Steps;
 use epoch_book::EpochBook;
-use redo_core::Record;
+use redo_core::{Key, Record};
 
 // The greatest number up to a limit that is linked. The search goes down each chain in turn, and where one ends it climbs back
 // to the last fork, if there was one: so each alive record whose backlink is linked is looked at once, and no memory is taken.
@@ -36,17 +36,23 @@ pub fn linked_counted(
     let _held = log.len();
     let mut top = from;
     let mut back = from;
-    let mut at = (0, 0);
+    let mut at = Key {
+        epoch: 0,
+        number: 0,
+    };
     let mut forked = false;
     loop {
         match alive_of_back(log, book, back, at) {
             Some(key) => {
                 steps.step();
-                if key.1 <= limit {
-                    top = top.max(key.1);
+                if key.number <= limit {
+                    top = top.max(key.number);
                     forked = passes_fork(log, book, back, key, forked);
-                    back = key.1;
-                    at = (0, 0);
+                    back = key.number;
+                    at = Key {
+                        epoch: 0,
+                        number: 0,
+                    };
                 } else {
                     at = key;
                 }
@@ -62,14 +68,14 @@ pub fn linked_counted(
                     return top;
                 };
                 back = redo.back();
-                at = (redo.epoch(), redo.number());
+                at = redo.key();
             }
         }
     }
 }
 
 // Whether a fork was passed: one was before, or an alive record with this backlink has a key above the one given.
-fn passes_fork(log: &HotLog, book: &EpochBook, back: u64, key: (u16, u64), forked: bool) -> bool
+fn passes_fork(log: &HotLog, book: &EpochBook, back: u64, key: Key, forked: bool) -> bool
     ensures { result ≡ false → (forked ≡ false) × IsAliveOfBack book.now log.now back key None }
 {
     forked || alive_of_back(log, book, back, key).is_some()
@@ -136,14 +142,22 @@ pub fn straight_end(log: &HotLog, book: &EpochBook, from: u64) -> Option<u64>
     ensures none { IsNone result → (n : ℕ) → IsStraightEnd book.now log.now from n → ⊥ }
 {
     let mut top = from;
-    while let Some(key) = alive_of_back(log, book, top, (0, 0)) {
-        if log.has_between(book, top, key.1) {
+    while let Some(key) = alive_of_back(
+        log,
+        book,
+        top,
+        Key {
+            epoch: 0,
+            number: 0,
+        },
+    ) {
+        if log.has_between(book, top, key.number) {
             return None;
         }
         if alive_of_back(log, book, top, key).is_some() {
             return None;
         }
-        top = key.1;
+        top = key.number;
     }
     Some(top)
 }

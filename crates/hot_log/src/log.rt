@@ -1,6 +1,7 @@
 ghost use Rattle.std.specs.Prelude.{◌≡◌, ℕ, Some, ◌<◌, ◌≤◌, ◌⊎◌, ◌↔◌, [], None, List, length, map, IsTrue, IfOk, IfErr, OnErr, IfSome, IsNone, OnOk};
 ghost use Rattle.std.specs.Option.{option_copied};
 ghost use Rattle.redo_core.specs.Data.{RecordData};
+ghost use Rattle.redo_core.specs.Keys.{key_of};
 ghost use Rattle.redo_core.specs.Order.{Lists, BeforeByNumber, RecordBefore};
 ghost use Rattle.redo_core.specs.Standing.{IsDead};
 ghost use Rattle.hot_log.specs.Held.{IsHeld, IsRecordAt, IsKeyAfter, IsKeyTo, IsGreatestHeld, HasKey, HoldsKey};
@@ -24,7 +25,7 @@ use crate::search::epoch_above;
 use crate::steps::Steps;
 use crate::{links, removal, search};
 use epoch_book::EpochBook;
-use redo_core::{Record, Refused};
+use redo_core::{Key, Record, Refused};
 use std::alloc::{AllocError, Global};
 use std::marker::Model;
 use thiserror::Error;
@@ -106,26 +107,25 @@ impl HotLog {
     }
 
     /// The record of a key, or None where none is held.
-    pub fn get(&self, epoch: u16, number: u64) -> Option<&Record>
-        ensures { IsRecordAt self.now epoch number (option_copied result) }
+    pub fn get(&self, key: Key) -> Option<&Record>
+        ensures { IsRecordAt self.now key (option_copied result) }
     {
-        let key = (epoch, number);
         let page = self.by_key.page_of(key)?;
         self.records.get(page, key)
     }
 
     /// Whether a record of a key is held.
-    pub fn holds_key(&self, epoch: u16, number: u64) -> bool
-        ensures { IsTrue result ↔ HoldsKey self.now epoch number }
+    pub fn holds_key(&self, key: Key) -> bool
+        ensures { IsTrue result ↔ HoldsKey self.now key }
     {
-        match self.by_key.page_of((epoch, number)) {
+        match self.by_key.page_of(key) {
             Some(_) => true,
             None => false,
         }
     }
 
     /// The least key above the one given, or the least of all for None.
-    pub fn key_after(&self, after: Option<(u16, u64)>) -> Option<(u16, u64)>
+    pub fn key_after(&self, after: Option<Key>) -> Option<Key>
         ensures { IsKeyAfter self.now after result }
     {
         self.by_key.key_after(after)
@@ -139,7 +139,7 @@ impl HotLog {
         ensures form { IsHeld self.new }
     {
         let _held = self.len();
-        let key = (redo.epoch(), redo.number());
+        let key = redo.key();
         let Ok(page) = self.by_key.add(key, redo.page()) else {
             return Err(Refused {
                 value: redo,
@@ -165,11 +165,10 @@ impl HotLog {
     }
 
     /// Removes the record of a key, if one is held.
-    pub fn remove(&mut self, epoch: u16, number: u64)
-        ensures removes { Removes (HasKey epoch number) self.old self.new }
+    pub fn remove(&mut self, key: Key)
+        ensures removes { Removes (HasKey key) self.old self.new }
         ensures form { IsHeld self.new }
     {
-        let key = (epoch, number);
         let Some(page) = self.by_key.remove(key) else {
             return;
         };
@@ -184,9 +183,9 @@ impl HotLog {
         &mut self,
         book: &EpochBook,
         page: u16,
-        above: (u16, u64),
-        to: (u16, u64),
-    ) -> Option<(u16, u64)>
+        above: Key,
+        to: Key,
+    ) -> Option<Key>
         ensures { RemovesRow book.now page above to self.old self.new result }
     {
         let (by_key, by_back) = (&mut self.by_key, &mut self.by_back);
@@ -198,7 +197,7 @@ impl HotLog {
     }
 
     // The record of a page with the least key above the one given.
-    pub(crate) fn next_of_page(&self, page: u16, after: (u16, u64)) -> Option<&Record>
+    pub(crate) fn next_of_page(&self, page: u16, after: Key) -> Option<&Record>
         ensures next { IsNextRecord self.now page after (option_copied result) }
         ensures form { IsHeld self.now }
     {
@@ -206,7 +205,7 @@ impl HotLog {
     }
 
     // The record of a page with the greatest key at or below the one given.
-    pub(crate) fn last_of_page(&self, page: u16, to: (u16, u64)) -> Option<&Record>
+    pub(crate) fn last_of_page(&self, page: u16, to: Key) -> Option<&Record>
         ensures last { IsLastRecord self.now page to (option_copied result) }
         ensures form { IsHeld self.now }
     {
@@ -214,7 +213,7 @@ impl HotLog {
     }
 
     // The least key above the one given.
-    pub(crate) fn next_key(&self, after: (u16, u64)) -> Option<(u16, u64)>
+    pub(crate) fn next_key(&self, after: Key) -> Option<Key>
         ensures next { IsKeyAfter self.now (Some after) result }
         ensures form { IsHeld self.now }
     {
@@ -222,7 +221,7 @@ impl HotLog {
     }
 
     // The least key above the one given of the records with a segment backlink.
-    pub(crate) fn next_of_back(&self, back: u64, after: (u16, u64)) -> Option<(u16, u64)>
+    pub(crate) fn next_of_back(&self, back: u64, after: Key) -> Option<Key>
         ensures next { IsNextHeld (λ r. r.back) self.now back after result }
         ensures form { IsHeld self.now }
     {
@@ -334,9 +333,15 @@ impl HotLog {
     ) -> Result<Vec<&Record>, AllocError>
         ensures { IfOk result (λ v. Lists BeforeByNumber (IsHeldOf book.now self.now page from to) (map (λ x. x.now) v.items)) }
     {
-        let above = (epoch_above(book, from), from);
-        let to = (epoch_above(book, to), to);
-        if above.0 > to.0 || from >= to.1 {
+        let above = Key {
+            epoch: epoch_above(book, from),
+            number: from,
+        };
+        let to = Key {
+            epoch: epoch_above(book, to),
+            number: to,
+        };
+        if above.epoch > to.epoch || from >= to.number {
             return Ok(Vec::new(alloc));
         }
         self.records.alive_between(alloc, book, page, above, to)
@@ -354,9 +359,15 @@ impl HotLog {
     ) -> Result<Vec<&Record>, AllocError>
         ensures { IfOk result (λ v. ListsAnew (IsHeldOf book.now self.now page from to) (map (λ x. x.now) v.items)) }
     {
-        let above = (epoch_above(book, from), from);
-        let to = (epoch_above(book, to), to);
-        if above.0 > to.0 || from >= to.1 {
+        let above = Key {
+            epoch: epoch_above(book, from),
+            number: from,
+        };
+        let to = Key {
+            epoch: epoch_above(book, to),
+            number: to,
+        };
+        if above.epoch > to.epoch || from >= to.number {
             return Ok(Vec::new(alloc));
         }
         self.records.alive_anew(alloc, book, page, above, to)
@@ -391,11 +402,14 @@ impl HotLog {
         alloc: Global,
         book: &EpochBook,
         point: u64,
-    ) -> Result<Vec<(u16, u64)>, AllocError>
+    ) -> Result<Vec<Key>, AllocError>
         ensures { IfOk result (λ v. ListsKeysOf (IsKeptAbove book.now self.now point) v.items) }
     {
         // A record that waits, or is alive above the number, has a key above this one.
-        let above = (epoch_above(book, point), point);
+        let above = Key {
+            epoch: epoch_above(book, point),
+            number: point,
+        };
         self.by_key.kept_keys(alloc, book, above, point)
     }
 
@@ -416,7 +430,7 @@ impl HotLog {
     }
 
     // The greatest key, or None where no record is held.
-    pub(crate) fn greatest_key(&self) -> Option<(u16, u64)>
+    pub(crate) fn greatest_key(&self) -> Option<Key>
         ensures greatest { IsGreatestHeld self.now result }
         ensures form { IsHeld self.now }
     {
@@ -424,7 +438,7 @@ impl HotLog {
     }
 
     // The greatest key at or below the one given.
-    pub(crate) fn last_key(&self, to: (u16, u64)) -> Option<(u16, u64)>
+    pub(crate) fn last_key(&self, to: Key) -> Option<Key>
         ensures last { IsKeyTo self.now to result }
         ensures form { IsHeld self.now }
     {
@@ -453,7 +467,7 @@ impl HotLog {
     {
         let complete = book.complete_epoch();
         let key = self.greatest_key()?;
-        if complete < key.0 {
+        if complete < key.epoch {
             Some(complete + 1)
         } else {
             None
@@ -476,7 +490,7 @@ fn hold(
     by_back: &mut KeyIndex,
     redo: Record,
 ) -> Result<(), Refused<Record, PutFault>>
-    requires free { IsRecordAt records.old redo.epoch redo.number None }
+    requires free { IsRecordAt records.old (key_of redo) None }
     requires listed { IsIndexBy (λ r. r.back) records.old by_back.old }
     ensures gains { OnOk result ((r : RecordData) → Contains records.new r ↔ (Contains records.old r ⊎ (r ≡ redo))) }
     ensures refused { IfErr result (λ e. (e.value ≡ redo) × (e.fault ≡ OfMemory)) }
@@ -485,7 +499,7 @@ fn hold(
     ensures form { IsHeld records.new }
 {
     let _held = records.len();
-    let key = (redo.epoch(), redo.number());
+    let key = redo.key();
     let back = redo.back();
     if by_back.insert(back, key).is_err() {
         return Err(Refused {

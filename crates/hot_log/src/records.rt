@@ -2,7 +2,8 @@ ghost use Rattle.std.specs.Prelude.{◌≡◌, ◌⊎◌, ◌↔◌, [], None, l
 ghost use Rattle.std.specs.Option.{option_copied};
 ghost use Rattle.std.specs.List.{Contains};
 ghost use Rattle.redo_core.specs.Data.{RecordData};
-ghost use Rattle.redo_core.specs.Order.{Lists, BeforeByNumber, PairBefore, RecordBefore};
+ghost use Rattle.redo_core.specs.Keys.{key_of, KeyBefore};
+ghost use Rattle.redo_core.specs.Order.{Lists, BeforeByNumber, RecordBefore};
 ghost use Rattle.hot_log.specs.Held.{IsHeld, HasKey, IsRecordAt};
 ghost use Rattle.hot_log.specs.Alive.{IsAliveBetween};
 ghost use Rattle.hot_log.specs.Anew.{ListsAnew};
@@ -17,7 +18,7 @@ use crate::index::KeyIndex;
 use crate::key_pages::KeyPages;
 use crate::search::is_alive;
 use epoch_book::EpochBook;
-use redo_core::{Record, Refused};
+use redo_core::{Key, Record, Refused};
 use sorted_runs::SortedRuns;
 use std::alloc::{AllocError, Global};
 use std::marker::Model;
@@ -26,7 +27,7 @@ use std::ops::Bound;
 /// Records by page and, within a page, by key: epoch, then number. No two have one key.
 #[derive(Debug, Drop)]
 pub struct PagedRecords {
-    map: SortedRuns<(u16, (u16, u64)), Record>,
+    map: SortedRuns<(u16, Key), Record>,
 }
 
 impl Model for PagedRecords {
@@ -67,7 +68,7 @@ impl PagedRecords {
     }
 
     /// The record of a page and a key, or None where there is none.
-    pub fn get(&self, page: u16, key: (u16, u64)) -> Option<&Record>
+    pub fn get(&self, page: u16, key: Key) -> Option<&Record>
         ensures { IsRecordOf self.now page key (option_copied result) }
     {
         self.map.get(&(page, key))
@@ -78,7 +79,7 @@ impl PagedRecords {
         ensures { IsTrue result ↔ Contains self.now redo.now }
     {
         let _held = self.len();
-        match self.get(redo.page(), (redo.epoch(), redo.number())) {
+        match self.get(redo.page(), redo.key()) {
             Some(held) => held.is_same(redo),
             None => false,
         }
@@ -86,13 +87,13 @@ impl PagedRecords {
 
     /// Holds a record under its page and key. Its only error is want of memory: the records are then as they were, and it comes back.
     pub fn insert(&mut self, redo: Record) -> Result<(), Refused<Record, AllocError>>
-        requires { IsRecordAt self.old redo.epoch redo.number None }
+        requires { IsRecordAt self.old (key_of redo) None }
         ensures gains { OnOk result ((r : RecordData) → Contains self.new r ↔ (Contains self.old r ⊎ (r ≡ redo))) }
         ensures refused { IfErr result (λ e. e.value ≡ redo) }
         ensures unchanged { OnErr result (self.new ≡ self.old) }
         ensures form { IsHeld self.new }
     {
-        let place = (redo.page(), (redo.epoch(), redo.number()));
+        let place = (redo.page(), redo.key());
         match self.map.insert(place, redo) {
             Ok(_) => Ok(()),
             Err(failed) => Err(Refused {
@@ -103,16 +104,16 @@ impl PagedRecords {
     }
 
     /// Takes out the record of a page and a key, if there is one.
-    pub fn remove(&mut self, page: u16, key: (u16, u64)) -> Option<Record>
+    pub fn remove(&mut self, page: u16, key: Key) -> Option<Record>
         ensures value { IsRecordOf self.old page key result }
-        ensures removes { Removes (λ r. (r.page ≡ page) × HasKey key.0 key.1 r) self.old self.new }
+        ensures removes { Removes (λ r. (r.page ≡ page) × HasKey key r) self.old self.new }
         ensures form { IsHeld self.new }
     {
         self.map.remove(&(page, key))
     }
 
     /// Takes out the records of a page with keys above one and up to another.
-    pub fn remove_between(&mut self, page: u16, above: (u16, u64), to: (u16, u64))
+    pub fn remove_between(&mut self, page: u16, above: Key, to: Key)
         ensures removes { Removes (IsBetween page above to) self.old self.new }
         ensures form { IsHeld self.new }
     {
@@ -121,7 +122,7 @@ impl PagedRecords {
     }
 
     /// The record of a page with the least key above the one given.
-    pub fn next(&self, page: u16, after: (u16, u64)) -> Option<&Record>
+    pub fn next(&self, page: u16, after: Key) -> Option<&Record>
         ensures next { IsNextRecord self.now page after (option_copied result) }
         ensures form { IsHeld self.now }
     {
@@ -131,7 +132,7 @@ impl PagedRecords {
     }
 
     /// The record of a page with the greatest key at or below the one given.
-    pub fn last(&self, page: u16, to: (u16, u64)) -> Option<&Record>
+    pub fn last(&self, page: u16, to: Key) -> Option<&Record>
         ensures last { IsLastRecord self.now page to (option_copied result) }
         ensures form { IsHeld self.now }
     {
@@ -149,7 +150,13 @@ impl PagedRecords {
             Some(page) => page.checked_add(1)?,
             None => 0,
         };
-        let start = Bound::Included((from, (0, 0)));
+        let start = Bound::Included((
+            from,
+            Key {
+                epoch: 0,
+                number: 0,
+            },
+        ));
         let (place, _) = map.range(start, Bound::Unbounded).next()?;
         Some(place.0)
     }
@@ -160,10 +167,10 @@ impl PagedRecords {
         alloc: Global,
         book: &EpochBook,
         page: u16,
-        above: (u16, u64),
-        to: (u16, u64),
+        above: Key,
+        to: Key,
     ) -> Result<Vec<&Record>, AllocError>
-        requires { PairBefore above.0 above.1 to.0 to.1 }
+        requires { KeyBefore above to }
         ensures { IfOk result (λ v. Lists BeforeByNumber (IsAliveBetween book.now self.now page above to) (map (λ x. x.now) v.items)) }
     {
         let mut found = Vec::new(alloc);
@@ -182,10 +189,10 @@ impl PagedRecords {
         alloc: Global,
         book: &EpochBook,
         page: u16,
-        above: (u16, u64),
-        to: (u16, u64),
+        above: Key,
+        to: Key,
     ) -> Result<Vec<&Record>, AllocError>
-        requires { PairBefore above.0 above.1 to.0 to.1 }
+        requires { KeyBefore above to }
         ensures { IfOk result (λ v. ListsAnew (IsAliveBetween book.now self.now page above to) (map (λ x. x.now) v.items)) }
     {
         let mut found = Vec::new(alloc);
@@ -214,7 +221,7 @@ impl PagedRecords {
     {
         let _held = other.len();
         let mut missing = self.missing_by_page(alloc, other)?;
-        missing.sort_unstable_by_key(|redo| (redo.epoch(), redo.number()));
+        missing.sort_unstable_by_key(|redo| redo.key());
         Ok(missing)
     }
 
@@ -247,9 +254,9 @@ impl PagedRecords {
         by_back: &mut KeyIndex,
         book: &EpochBook,
         page: u16,
-        above: (u16, u64),
-        to: (u16, u64),
-    ) -> Option<((u16, u64), (u16, u64))>
+        above: Key,
+        to: Key,
+    ) -> Option<(Key, Key)>
         requires { IsIndexed self.now by_key.old by_back.old }
         ensures { UnlistsRow book.now self.now page above to by_key.new by_back.new result }
     {
@@ -257,8 +264,8 @@ impl PagedRecords {
         let mut start = above;
         let mut last = None;
         for (_, redo) in self.map.range(from, end) {
-            let key = (redo.epoch(), redo.number());
-            if is_alive(book, key.0, key.1) {
+            let key = redo.key();
+            if is_alive(book, key.epoch, key.number) {
                 let _ = by_key.remove(key);
                 by_back.remove(redo.back(), key);
                 last = Some(key);

@@ -2,7 +2,8 @@
 ghost use Rattle.std.specs.Prelude.{◌≡◌, ℕ, ◌<◌, ◌≤◌, ◌⊎◌, ◌↔◌, map, IsTrue, IfOk, length, Some};
 ghost use Rattle.std.specs.Option.{option_copied};
 ghost use Rattle.redo_core.specs.Data.{RecordData};
-ghost use Rattle.redo_core.specs.Order.{Lists, BeforeByNumber, PairBefore};
+ghost use Rattle.redo_core.specs.Keys.{key_at, KeyBefore};
+ghost use Rattle.redo_core.specs.Order.{Lists, BeforeByNumber};
 ghost use Rattle.redo_core.specs.Standing.{IsAlive};
 ghost use Rattle.epoch_book.specs.Book.{IsBook};
 ghost use Rattle.epoch_book.specs.Lows.{CutsAt};
@@ -14,7 +15,7 @@ ghost use Rattle.hot_log.specs.Kept.{KeepsKey};
 
 use crate::log::HotLog;
 use epoch_book::{EpochBook, Standing};
-use redo_core::Record;
+use redo_core::{Key, Record};
 use std::alloc::{AllocError, Global};
 
 // Whether a record is alive; one that waits is not looked up.
@@ -26,10 +27,11 @@ pub fn is_alive(book: &EpochBook, epoch: u16, number: u64) -> bool
 }
 
 // Whether a record of a key waits, or is alive above a number.
-pub fn is_kept(book: &EpochBook, key: (u16, u64), point: u64) -> bool
+pub fn is_kept(book: &EpochBook, key: Key, point: u64) -> bool
     ensures { IsTrue result ↔ KeepsKey book.now point key }
 {
-    key.0 > book.complete_epoch() || (point < key.1 && is_alive(book, key.0, key.1))
+    key.epoch > book.complete_epoch()
+        || (point < key.number && is_alive(book, key.epoch, key.number))
 }
 
 // The epoch that parts the alive records at a number: those above the number are those above this epoch and number by key.
@@ -46,40 +48,49 @@ pub fn epoch_above(book: &EpochBook, number: u64) -> u16
 //
 // Its epoch is the one in which the number itself can be alive. The epoch that parts the alive records at the number is a later one
 // where truncations have it as their `lo`, and from there a search would meet every dead record between the two.
-fn last_key_to(book: &EpochBook, number: u64) -> (u16, u64)
+fn last_key_to(book: &EpochBook, number: u64) -> Key
     ensures parts { PartsAtKey book.now number result }
-    ensures low { (epoch : ℕ) → SparesAbove book.now epoch number → result.0 ≤ epoch }
-    ensures number { result.1 ≡ number }
+    ensures low { (epoch : ℕ) → SparesAbove book.now epoch number → result.epoch ≤ epoch }
+    ensures number { result.number ≡ number }
     ensures book { IsBook book.now }
 {
     if number == 0 {
         let _complete = book.complete_epoch();
-        return (0, 0);
+        return Key {
+            epoch: 0,
+            number: 0,
+        };
     }
-    (epoch_above(book, number - 1), number)
+    Key {
+        epoch: epoch_above(book, number - 1),
+        number,
+    }
 }
 
 // Below a dead key, a key that each alive record of a lower key is at or below.
 //
 // What is above the least `lo` of the later truncations is dead in each epoch up to this one, so a search passes over all of it in one
 // step, and not record by record.
-fn key_down(book: &EpochBook, key: (u16, u64)) -> (u16, u64)
-    requires { 0 < key.1 }
-    ensures below { PairBefore result.0 result.1 key.0 key.1 }
-    ensures spares { (e n : ℕ) → IsAlive book.now.cuts book.now.complete e n → PairBefore e n key.0 key.1 → PairBefore result.0 result.1 e n → ⊥ }
+fn key_down(book: &EpochBook, key: Key) -> Key
+    requires { 0 < key.number }
+    ensures below { KeyBefore result key }
+    ensures spares { (e n : ℕ) → IsAlive book.now.cuts book.now.complete e n → KeyBefore (key_at e n) key → KeyBefore result (key_at e n) → ⊥ }
 {
-    match book.least_lo(key.0) {
-        Some(lo) if lo < key.1 => last_key_to(book, lo),
+    match book.least_lo(key.epoch) {
+        Some(lo) if lo < key.number => last_key_to(book, lo),
         // It is not above the `hi` of its own epoch: an alive record of an earlier one may have a higher number.
-        _ => (key.0, key.1 - 1),
+        _ => Key {
+            epoch: key.epoch,
+            number: key.number - 1,
+        },
     }
 }
 
 // Whether a key is at or below another one.
-fn is_up_to(key: (u16, u64), to: (u16, u64)) -> bool
-    ensures { IsTrue result ↔ (PairBefore to.0 to.1 key.0 key.1 → ⊥) }
+fn is_up_to(key: Key, to: Key) -> bool
+    ensures { IsTrue result ↔ (KeyBefore to key → ⊥) }
 {
-    key.0 < to.0 || (key.0 == to.0 && key.1 <= to.1)
+    key.epoch < to.epoch || (key.epoch == to.epoch && key.number <= to.number)
 }
 
 impl HotLog {
@@ -93,7 +104,7 @@ impl HotLog {
         }
         let epoch = epoch_above(book, number - 1);
         if is_alive(book, epoch, number) {
-            self.get(epoch, number)
+            self.get(Key { epoch, number })
         } else {
             None
         }
@@ -104,10 +115,13 @@ impl HotLog {
         ensures found { IsLeastRecord (λ r. IsPageAlive book.now self.now page r × (number < r.number)) (option_copied result) }
         ensures form { IsHeld self.now }
     {
-        let mut at = (epoch_above(book, number), number);
+        let mut at = Key {
+            epoch: epoch_above(book, number),
+            number,
+        };
         while let Some(redo) = self.next_of_page(page, at) {
-            at = (redo.epoch(), redo.number());
-            if is_alive(book, at.0, at.1) {
+            at = redo.key();
+            if is_alive(book, at.epoch, at.number) {
                 return Some(redo);
             }
         }
@@ -121,8 +135,8 @@ impl HotLog {
     {
         let mut at = last_key_to(book, number);
         while let Some(redo) = self.last_of_page(page, at) {
-            let key = (redo.epoch(), redo.number());
-            if is_alive(book, key.0, key.1) {
+            let key = redo.key();
+            if is_alive(book, key.epoch, key.number) {
                 return Some(redo);
             }
             at = key_down(book, key);
@@ -135,19 +149,22 @@ impl HotLog {
         ensures found { IsLeastRecord (λ r. IsHeldAlive book.now self.now r × (number < r.number)) (option_copied result) }
         ensures form { IsHeld self.now }
     {
-        let (epoch, number) = self.alive_key(book, number)?;
-        self.get(epoch, number)
+        let key = self.alive_key(book, number)?;
+        self.get(key)
     }
 
     // The key of the first alive record above a number.
-    fn alive_key(&self, book: &EpochBook, number: u64) -> Option<(u16, u64)>
+    fn alive_key(&self, book: &EpochBook, number: u64) -> Option<Key>
         ensures found { IsAliveKey book.now self.now number result }
         ensures book { IsBook book.now }
         ensures form { IsHeld self.now }
     {
-        let mut at = (epoch_above(book, number), number);
+        let mut at = Key {
+            epoch: epoch_above(book, number),
+            number,
+        };
         while let Some(key) = self.next_key(at) {
-            if is_alive(book, key.0, key.1) {
+            if is_alive(book, key.epoch, key.number) {
                 return Some(key);
             }
             at = key;
@@ -161,7 +178,7 @@ impl HotLog {
         ensures form { IsHeld self.now }
     {
         match self.alive_key(book, above) {
-            Some(key) => key.1 < below,
+            Some(key) => key.number < below,
             None => false,
         }
     }
@@ -172,7 +189,13 @@ impl HotLog {
         ensures { IsTrue result → HasNoneAbove book.now self.now number }
     {
         match self.greatest_key() {
-            Some(key) => is_up_to(key, (epoch_above(book, number), number)),
+            Some(key) => {
+                let to = Key {
+                    epoch: epoch_above(book, number),
+                    number,
+                };
+                is_up_to(key, to)
+            }
             None => true,
         }
     }
@@ -181,24 +204,22 @@ impl HotLog {
 // The least key above the one given of the alive records with this segment backlink. An alive number is above its backlink, so its
 // key is above the one that parts the alive records there: dead records of earlier epochs are passed unseen. What waits has a key
 // above all that is alive, so the search ends there.
-pub fn alive_of_back(
-    log: &HotLog,
-    book: &EpochBook,
-    back: u64,
-    after: (u16, u64),
-) -> Option<(u16, u64)>
+pub fn alive_of_back(log: &HotLog, book: &EpochBook, back: u64, after: Key) -> Option<Key>
     ensures found { IsAliveOfBack book.now log.now back after result }
     ensures book { IsBook book.now }
     ensures form { IsHeld log.now }
 {
     let complete = book.complete_epoch();
-    let low = (epoch_above(book, back), back);
+    let low = Key {
+        epoch: epoch_above(book, back),
+        number: back,
+    };
     let mut at = if is_up_to(after, low) { low } else { after };
     while let Some(key) = log.next_of_back(back, at) {
-        if key.0 > complete {
+        if key.epoch > complete {
             return None;
         }
-        if is_alive(book, key.0, key.1) {
+        if is_alive(book, key.epoch, key.number) {
             return Some(key);
         }
         at = key;
@@ -210,19 +231,27 @@ pub fn alive_of_back(
 pub fn next_after(log: &HotLog, book: &EpochBook, back: u64) -> Option<u64>
     ensures { IsLeast (λ n. (r : RecordData) × IsHeldAlive book.now log.now r × (r.back ≡ back) × (r.number ≡ n)) result }
 {
-    let key = alive_of_back(log, book, back, (0, 0))?;
-    Some(key.1)
+    let key = alive_of_back(
+        log,
+        book,
+        back,
+        Key {
+            epoch: 0,
+            number: 0,
+        },
+    )?;
+    Some(key.number)
 }
 
 // Whether the record of a key is alive, and its segment backlink below a number.
-fn is_below(log: &HotLog, book: &EpochBook, key: (u16, u64), number: u64) -> bool
-    ensures { IsTrue result ↔ ((r : RecordData) × IsHeldAlive book.now log.now r × HasKey key.0 key.1 r × (r.back < number)) }
+fn is_below(log: &HotLog, book: &EpochBook, key: Key, number: u64) -> bool
+    ensures { IsTrue result ↔ ((r : RecordData) × IsHeldAlive book.now log.now r × HasKey key r × (r.back < number)) }
 {
     let _held = log.len();
-    if !is_alive(book, key.0, key.1) {
+    if !is_alive(book, key.epoch, key.number) {
         return false;
     }
-    match log.get(key.0, key.1) {
+    match log.get(key) {
         Some(redo) => redo.back() < number,
         None => false,
     }
@@ -236,8 +265,8 @@ impl HotLog {
     {
         let mut at = last_key_to(book, to);
         while let Some(key) = self.last_key(at) {
-            if is_alive(book, key.0, key.1) {
-                return self.get(key.0, key.1);
+            if is_alive(book, key.epoch, key.number) {
+                return self.get(key);
             }
             at = key_down(book, key);
         }
@@ -249,9 +278,12 @@ impl HotLog {
         ensures { IsTrue result ↔ ((r : RecordData) × IsOpenedBelow book.now self.now epoch number r) }
     {
         let complete = book.complete_epoch();
-        let mut at = (epoch, u64::MAX);
+        let mut at = Key {
+            epoch,
+            number: u64::MAX,
+        };
         while let Some(key) = self.next_key(at) {
-            if key.0 > complete {
+            if key.epoch > complete {
                 return false;
             }
             if is_below(self, book, key, number) {

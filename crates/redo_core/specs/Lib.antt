@@ -6,6 +6,7 @@ pub mod Shape
 pub mod Writing
 pub mod Sets
 pub mod Order
+pub mod Keys
 pub mod CompleteEpoch
 pub mod Standing
 pub mod Linked

@@ -1,11 +1,13 @@
 ghost use Rattle.std.specs.Prelude.{◌≡◌, ℕ, Bool, List, [], ◌∷◌, ◌<◌, ◌≤◌, ◌↔◌, IsTrue, IfOk, IfErr, None, Some, IfSome, IfNone, IsSome};
 ghost use Rattle.redo_core.specs.Data.{record_with, record_of};
 ghost use Rattle.redo_core.specs.Body.{patches_of};
+ghost use Rattle.redo_core.specs.Keys.{key_of};
 ghost use Rattle.redo_core.specs.Shape.{record_fault, patches_fault, max_number};
 ghost use Rattle.redo_core.specs.declared.patches.Patch.{Patch};
 
 use crate::contents::{patches_fault, writes_fault};
 use crate::kept_bodies::KeptBody;
+use crate::keys::Key;
 use crate::patches::{Body, Patch};
 use crate::refusal::Refused;
 use crate::shapes::{MAX_NUMBER, ShapeFault};
@@ -163,6 +165,17 @@ impl Record {
         ensures shape { record_fault self.now ≡ None }
     {
         self.number
+    }
+
+    /// The record's name: its epoch and its number there.
+    pub fn key(&self) -> Key
+        ensures value { result ≡ key_of self.now }
+        ensures shape { record_fault self.now ≡ None }
+    {
+        Key {
+            epoch: self.epoch,
+            number: self.number,
+        }
     }
 
     /// The segment backlink: the number before this one in the segment's chain, or 0.

@@ -1,10 +1,12 @@
 use Rattle.std.proofs.Common.{◌≡◌, ◌+◌, ◌<◌, ◌≤◌, le_refl, sym, subst, arith, length}
 use Rattle.hot_log.proofs.Forks.{Search, alone_at_base, alone_below, search_start, search_end, search_counts, skip, down, looks, climbs_to, falls_by_one, has_record}
 use Rattle.hot_log.proofs.links.linked_counted.Goals as goal
+use Rattle.hot_log.proofs.Keys.{same_epoch, same_number}
+use Rattle.redo_core.specs.Keys.{key_at}
 
 pub loop-key-init : goal.loop-key-init
 loop-key-init c = record {
-  search = λ is. subst (Search c.args.book.now c.args.log.now c.args.from c.args.limit c.args.from (0, 0) c.args.from) (sym c.requires.fresh) (search_start c.args.book.now c.args.log.now c.args.from c.args.limit is c.requires.ordered);
+  search = λ is. subst (Search c.args.book.now c.args.log.now c.args.from c.args.limit c.args.from (key_at 0 0) c.args.from) (sym c.requires.fresh) (search_start c.args.book.now c.args.log.now c.args.from c.args.limit is c.requires.ordered);
   alone = λ is no. alone_at_base c.args.book.now c.args.log.now c.args.from c.args.from (le_refl c.args.from);
 }
 
@@ -17,7 +19,7 @@ step-requires c =
 pub loop-key-smaller-then-key-limit : goal.loop-key-smaller-then-key-limit
 loop-key-smaller-then-key-limit c =
     let le : c.loop-key.steps.count + 1 ≤ length c.args.log.now = looks c.args.book.now c.args.log.now c.args.from c.args.limit c.loop-key.back c.loop-key.at c.in-Some.key c.loop-key.top c.loop-key.steps.count c.in-Some.ensures.book c.in-Some.ensures.form (c.loop-key.invariant.search c.in-Some.ensures.form) c.in-Some.ensures.found in
-    falls_by_one (length c.args.log.now) c.loop-key.steps.count c.step.new.self.count c.args.limit c.in-Some.key.1 c.loop-key.back c.step.ensures le c.if-key-limit.true
+    falls_by_one (length c.args.log.now) c.loop-key.steps.count c.step.new.self.count c.args.limit c.in-Some.key.number c.loop-key.back c.step.ensures le c.if-key-limit.true
 
 pub loop-key-preserved-then-key-limit : goal.loop-key-preserved-then-key-limit
 loop-key-preserved-then-key-limit c = record {
@@ -36,7 +38,7 @@ loop-key-smaller-else-key-limit c =
 
 pub loop-key-preserved-else-key-limit : goal.loop-key-preserved-else-key-limit
 loop-key-preserved-else-key-limit c =
-    let over : c.args.limit < c.in-Some.key.1 = omega (arith, c.if-key-limit.false) in
+    let over : c.args.limit < c.in-Some.key.number = omega (arith, c.if-key-limit.false) in
     record {
       search = λ is. skip c.args.book.now c.args.log.now c.args.from c.args.limit c.loop-key.back c.loop-key.at c.in-Some.key c.loop-key.top c.loop-key.steps.count c.step.new.self.count c.in-Some.ensures.book is (c.loop-key.invariant.search is) c.in-Some.ensures.found c.step.ensures over;
       alone = c.loop-key.invariant.alone;
@@ -96,6 +98,6 @@ pub loop-key-preserved : goal.loop-key-preserved
 loop-key-preserved c =
     let u = c.in-Some-alive_of.redo.now in let found = c.in-Some-alive_of.ensures.0 in
     record {
-      search = λ is. climbs_to c.args.book.now c.args.log.now c.args.from c.args.limit c.loop-key.back c.loop-key.at c.loop-key.top c.loop-key.steps.count u c.epoch.result c.number.result c.back-back.result c.in-None.ensures.book is (c.loop-key.invariant.search is) c.in-None.ensures.found found.0 found.1 c.if-back-from.false c.back-back.ensures.value c.epoch.ensures c.number.ensures.value;
+      search = λ is. climbs_to c.args.book.now c.args.log.now c.args.from c.args.limit c.loop-key.back c.loop-key.at c.loop-key.top c.loop-key.steps.count u c.key-at.result.epoch c.key-at.result.number c.back-back.result c.in-None.ensures.book is (c.loop-key.invariant.search is) c.in-None.ensures.found found.0 found.1 c.if-back-from.false c.back-back.ensures.value (same_epoch c.key-at.ensures.value) (same_number c.key-at.ensures.value);
       alone = λ is no. let yes = c.if-not-forked.false in absurd (cc);
     }

@@ -1,5 +1,7 @@
 use Rattle.std.proofs.Common.{◌≡◌, ℕ, ◌<◌, ◌≤◌, List, ⊎_elim, refl, sym, subst, arith}
 use Rattle.redo_core.specs.Data.{RecordData}
+use Rattle.redo_core.specs.Keys.{key_at, key_of, KeyBefore}
+use Rattle.redo_core.specs.declared.keys.Key.{Key}
 use Rattle.redo_core.specs.Order.{PairBefore}
 use Rattle.redo_core.specs.Standing.{IsAlive}
 use Rattle.redo_core.proofs.Pairs.{pair_trans}
@@ -12,18 +14,18 @@ use Rattle.hot_log.proofs.search.alive_of_back.Goals as goal
 use Rattle.hot_log.proofs.search.alive_of_back.Goals.{then-is_up_to, else-is_up_to}
 
 -- each alive record with the backlink is above the key that parts the alive records there
-over_low : (b : BookData) (held : List RecordData) (back epoch : ℕ) (at : ℕ × ℕ) → PartsAt b back epoch → at ≡ (epoch, back) → IsHeld held → (r : RecordData) → IsHeldAlive b held r → r.back ≡ back → PairBefore at.0 at.1 r.epoch r.number
+over_low : (b : BookData) (held : List RecordData) (back epoch : ℕ) (at : Key) → PartsAt b back epoch → at ≡ (key_at epoch back) → IsHeld held → (r : RecordData) → IsHeldAlive b held r → r.back ≡ back → KeyBefore at (key_of r)
 over_low b held back epoch at parts is form r h e =
     let up : r.back < r.number = back_below r (form.shaped r h.0) in
     let lt : back < r.number = omega arith in
-    subst (λ (p : ℕ × ℕ). PairBefore p.0 p.1 r.epoch r.number) (sym is) ((parts.0 r.epoch r.number h.1).0 lt)
+    subst (λ (p : Key). KeyBefore p (key_of r)) (sym is) ((parts.0 r.epoch r.number h.1).0 lt)
 
-over_after : (after at : ℕ × ℕ) (epoch back e n : ℕ) → at ≡ (epoch, back) → (PairBefore epoch back after.0 after.1 → ⊥) → PairBefore at.0 at.1 e n → PairBefore after.0 after.1 e n
+over_after : (after at : Key) (epoch back e n : ℕ) → at ≡ (key_at epoch back) → (KeyBefore (key_at epoch back) after → ⊥) → KeyBefore at (key_at e n) → KeyBefore after (key_at e n)
 over_after after at epoch back e n is not p =
-    let q : PairBefore epoch back e n = subst (λ (p : ℕ × ℕ). PairBefore p.0 p.1 e n) is p in
+    let q : PairBefore epoch back e n = subst (λ (p : Key). KeyBefore p (key_at e n)) is p in
     grind arith
 
-waits : (b : BookData) (key : ℕ × ℕ) (e n : ℕ) → b.complete < key.0 → IsAlive b.cuts b.complete e n → (key.0 ≡ e → ⊥) × (PairBefore key.0 key.1 e n → ⊥)
+waits : (b : BookData) (key : Key) (e n : ℕ) → b.complete < key.epoch → IsAlive b.cuts b.complete e n → (key.epoch ≡ e → ⊥) × (KeyBefore key (key_at e n) → ⊥)
 waits b key e n over a = let known : e ≤ b.complete = a.known in (λ p. omega arith, λ p. grind arith)
 
 pub loop-key-init : goal.loop-key-init
@@ -33,19 +35,19 @@ loop-key-init c = elim c.if-is_up_to.branch [
     later = λ e n p. over_after c.args.after c.if-is_up_to.at c.epoch_above.result c.args.back e n w.at-is (c.is_up_to.ensures.0 w.if-is_up_to.true) p;
   }
   | else-is_up_to w ↦ record {
-    above = λ form r h e p. subst (λ (k : ℕ × ℕ). PairBefore k.0 k.1 r.epoch r.number) (sym w.at-is) p;
-    later = λ e n p. subst (λ (k : ℕ × ℕ). PairBefore k.0 k.1 e n) w.at-is p;
+    above = λ form r h e p. subst (λ (k : Key). KeyBefore k (key_of r)) (sym w.at-is) p;
+    later = λ e n p. subst (λ (k : Key). KeyBefore k (key_at e n)) w.at-is p;
   }
 ]
 
 pub returns-then-key-complete-clause-found : goal.returns-then-key-complete-clause-found
 returns-then-key-complete-clause-found c = λ r h e p.
     let key = c.in-Some.key in
-    let over : c.args.book.now.complete < key.0 = let same : c.complete_epoch-complete.result ≡ c.args.book.now.complete = c.complete_epoch-complete.ensures.value in omega (arith, c.if-key-complete.true) in
+    let over : c.args.book.now.complete < key.epoch = let same : c.complete_epoch-complete.result ≡ c.args.book.now.complete = c.complete_epoch-complete.ensures.value in omega (arith, c.if-key-complete.true) in
     let no = waits c.args.book.now key r.epoch r.number over h.1 in
     ⊎_elim
-    (λ (k : HasKey key.0 key.1 r). no.0 (sym k.0))
-    (λ (q : PairBefore key.0 key.1 r.epoch r.number). no.1 q)
+    (λ (k : HasKey key r). no.0 (sym k.0))
+    (λ (q : KeyBefore key (key_of r)). no.1 q)
     (c.in-Some.ensures.next.1 r h.0 e (c.loop-key.invariant.above c.in-Some.ensures.form r h e p))
 
 pub returns-then-is_alive-clause-found : goal.returns-then-is_alive-clause-found
@@ -65,13 +67,13 @@ loop-key-preserved c =
     let key = c.in-Some.key in
     let at = c.loop-key.at in
     let t = c.in-Some.ensures.next.0 in
-    let up : PairBefore at.0 at.1 key.0 key.1 = subst (λ (e : ℕ). PairBefore at.0 at.1 e key.1) t.3.0 (subst (λ (n : ℕ). PairBefore at.0 at.1 t.0.epoch n) t.3.1 t.4) in
+    let up : KeyBefore at key = subst (λ (e : ℕ). KeyBefore at (key_at e key.number)) t.3.0 (subst (λ (n : ℕ). KeyBefore at (key_at t.0.epoch n)) t.3.1 t.4) in
     record {
       above = λ form r h e p. ⊎_elim
-          (λ (k : HasKey key.0 key.1 r). absurd (let yes = c.if-is_alive.ensures.alive.1 (key_alive c.args.book.now r key k h.1) in cc))
-          (λ (q : PairBefore key.0 key.1 r.epoch r.number). q)
+          (λ (k : HasKey key r). absurd (let yes = c.if-is_alive.ensures.alive.1 (key_alive c.args.book.now r key k h.1) in cc))
+          (λ (q : KeyBefore key (key_of r)). q)
           (c.in-Some.ensures.next.1 r h.0 e (c.loop-key.invariant.above form r h e p));
-      later = λ e n p. c.loop-key.invariant.later e n (pair_trans at.0 at.1 key.0 key.1 e n up p);
+      later = λ e n p. c.loop-key.invariant.later e n (pair_trans at.epoch at.number key.epoch key.number e n up p);
     }
 
 pub returns-clause-found : goal.returns-clause-found

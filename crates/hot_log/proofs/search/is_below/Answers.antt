@@ -23,7 +23,7 @@ returns-in-Some c =
     let key = c.args.key in
     let x = c.in-Some.redo.now in
     let at = c.in-Some.ensures in
-    let alive : IsAlive b.cuts b.complete key.0 key.1 = c.if-not-is_alive.ensures.alive.0 refl in (
+    let alive : IsAlive b.cuts b.complete key.epoch key.number = c.if-not-is_alive.ensures.alive.0 refl in (
       λ (h : IsTrue (nat_lt c.back.result c.args.number)). (x, (at.0, alive_key b x key at.1 alive), at.1, lower c.back.result x.back c.args.number c.back.ensures.value h),
       λ h.
           let same : h.0 ≡ x = one_key c.args.log.now c.len-held.ensures.form.rising h.0 x h.1.0 at.0 (h.2.0 ∙ sym at.1.0) (h.2.1 ∙ sym at.1.1) in

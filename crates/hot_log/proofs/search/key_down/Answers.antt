@@ -8,8 +8,8 @@ up_to_epoch e n epoch number p = grind arith
 pub returns-in-Some-clause-spares : goal.returns-in-Some-clause-spares
 returns-in-Some-clause-spares c e n a p q =
     let f = c.in-Some.ensures.least.0 in
-    let early : e ≤ c.args.key.0 = up_to_epoch e n c.args.key.0 c.args.key.1 p in
-    let later : c.args.key.0 < f.0.epoch = f.2 in
+    let early : e ≤ c.args.key.epoch = up_to_epoch e n c.args.key.epoch c.args.key.number p in
+    let later : c.args.key.epoch < f.0.epoch = f.2 in
     let le : n ≤ f.0.lo = a.spared f.0 f.1 (omega arith) f.3 in
     let is : f.0.lo ≡ c.in-Some.lo = f.4 in
     let up : c.in-Some.lo < n = (c.last_key_to.ensures.parts e n a).1 q in

@@ -8,12 +8,13 @@ use Rattle.hot_log.specs.Paged.{place_cmp}
 use Rattle.hot_log.proofs.Orders.{rises}
 use Rattle.hot_log.proofs.Places.{Place, next_none, next_some, next_other}
 use Rattle.hot_log.proofs.index.KeyIndex.next.Goals as goal
+use Rattle.redo_core.specs.declared.keys.Key.{Key}
 
 pub returns-in_err-place : goal.returns-in_err-place
 returns-in_err-place c =
     let test : Place → Bool = range_contains place_cmp (Excluded (c.args.group, c.args.after)) Unbounded in
     let P : List Place → Type 0 = λ l. IsNextKey l c.args.group c.args.after c.from_residual.result in
-    let Q : Option (ℕ × ℕ) → Type 0 = λ o. IsNextKey (keys_of c.self.inside.keys) c.args.group c.args.after o in
+    let Q : Option Key → Type 0 = λ o. IsNextKey (keys_of c.self.inside.keys) c.args.group c.args.after o in
     subst P c.self.view_is (subst Q (sym c.from_residual.ensures) (next_none (keys_of c.self.inside.keys) c.args.group c.args.after (keys_range test c.self.inside.keys [] (c.range.ensures.between ∙ c.in_err-place.ensures.steps.0))))
 
 pub returns-then-place-group : goal.returns-then-place-group

@@ -1,10 +1,10 @@
 use Rattle.std.proofs.Common.{◌≡◌, sym, ◌∙◌, ap, subst, List}
 use Rattle.std.specs.List.Sorted.{IsStrictlySortedBy}
 use Rattle.std.specs.Map.{keys_of}
-use Rattle.hot_log.specs.Paged.{key_cmp}
 use Rattle.hot_log.proofs.Maps.{zipped}
 use Rattle.hot_log.proofs.Keyed.{Entry}
 use Rattle.hot_log.proofs.key_pages.KeyPages.copy.Goals as goal
+use Rattle.redo_core.specs.Keys.{key_cmp}
 
 same : (c : goal.In_ok-copy) → c.in_ok-copy.field-0 ≡ c.self.inside.map
 same c =

@@ -3,7 +3,9 @@ use Rattle.std.specs.Map.Iter.{deref_pair}
 use Rattle.std.proofs.lemmas.Map.Iter.{rest_so_far}
 use Rattle.std.proofs.lemmas.List.{map-append, append-nil}
 use Rattle.redo_core.specs.Order.{Lists}
-use Rattle.hot_log.specs.Kept.{KeepsKey, KeyPairBefore, IsKeyKept}
+use Rattle.redo_core.specs.Keys.{KeyBefore}
+use Rattle.redo_core.specs.declared.keys.Key.{Key}
+use Rattle.hot_log.specs.Kept.{KeepsKey, IsKeyKept}
 use Rattle.hot_log.proofs.Keyed.{Entry}
 use Rattle.hot_log.proofs.Kept.{ListsKept, kept_more, kept_left, kept_all}
 use Rattle.hot_log.proofs.key_pages.KeyPages.kept_keys.Goals as goal
@@ -35,11 +37,11 @@ pub returns : goal.returns
 returns c =
     let b = c.args.book.now in let m = c.self.inside.map in
     let xs : List Entry = map deref_pair c.loop-key.yielded in
-    let keys : List (ℕ × ℕ) = c.loop-key.kept.items in
+    let keys : List Key = c.loop-key.kept.items in
     let es = c.range-key-items.result in
     let start : c.into_iter-key-iterator.result ≡ es = cc in
     let all : es ≡ xs =
     sym start ∙ rest_so_far deref_pair c.loop-key.yielded c.into_iter-key-iterator.result c.loop-key.key-iterator c.loop-key.yielded_by ∙ ap (λ (l : List Entry). xs ++ l) c.in-None.ensures.steps.0 ∙ append-nil xs in
-    subst (λ (l : List Entry). Lists KeyPairBefore (IsKeyKept b l c.args.above c.args.point) keys) c.self.view_is
+    subst (λ (l : List Entry). Lists KeyBefore (IsKeyKept b l c.args.above c.args.point) keys) c.self.view_is
     (kept_all b c.args.point m c.args.above es keys (sym c.range-key-items.ensures.between)
     (subst (λ (l : List Entry). ListsKept b c.args.point l keys) (sym all) c.loop-key.invariant))

@@ -2,11 +2,12 @@ use Rattle.std.proofs.Common.{ℕ, sym, ◌∙◌, subst, List, Option, Some, No
 use Rattle.hot_log.specs.Indexing.{IsLeastKey}
 use Rattle.hot_log.proofs.Keyed.{Entry, none_above, next_above}
 use Rattle.hot_log.proofs.key_pages.KeyPages.key_above.Goals as goal
+use Rattle.redo_core.specs.declared.keys.Key.{Key}
 
 pub returns-in_err-key : goal.returns-in_err-key
 returns-in_err-key c =
     let P : List Entry → Type 0 = λ l. IsLeastKey l (Some c.args.after) None in
-    subst (λ (o : Option (ℕ × ℕ)). IsLeastKey c.args.self.now (Some c.args.after) o) (sym c.from_residual.ensures)
+    subst (λ (o : Option Key). IsLeastKey c.args.self.now (Some c.args.after) o) (sym c.from_residual.ensures)
     (subst P c.self.view_is (none_above c.self.inside.map c.args.after (c.range.ensures.between ∙ c.in_err-key.ensures.steps.0)))
 
 pub returns : goal.returns

@@ -2,11 +2,12 @@ use Rattle.std.proofs.Common.{ℕ, sym, ◌∙◌, subst, List, Option, Some, No
 use Rattle.hot_log.specs.Indexing.{IsGreatestKey}
 use Rattle.hot_log.proofs.Keyed.{Entry, none_to, last_to}
 use Rattle.hot_log.proofs.key_pages.KeyPages.key_to.Goals as goal
+use Rattle.redo_core.specs.declared.keys.Key.{Key}
 
 pub returns-in_err-key : goal.returns-in_err-key
 returns-in_err-key c =
     let P : List Entry → Type 0 = λ l. IsGreatestKey l c.args.to None in
-    subst (λ (o : Option (ℕ × ℕ)). IsGreatestKey c.args.self.now c.args.to o) (sym c.from_residual.ensures)
+    subst (λ (o : Option Key). IsGreatestKey c.args.self.now c.args.to o) (sym c.from_residual.ensures)
     (subst P c.self.view_is (none_to c.self.inside.map c.args.to (c.range.ensures.between ∙ c.in_err-key.ensures.steps.0)))
 
 pub returns : goal.returns

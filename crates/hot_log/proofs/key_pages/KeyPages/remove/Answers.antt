@@ -1,11 +1,11 @@
 use Rattle.std.proofs.Common.{◌≡◌, ℕ, sym, ◌∙◌, subst, refl, List, Option, Some, None}
 use Rattle.std.specs.Option.{IsNone}
 use Rattle.std.specs.BTreeMap.{is_at}
-use Rattle.hot_log.specs.Paged.{key_cmp}
 use Rattle.hot_log.proofs.Maps.{none_leaves}
 use Rattle.hot_log.specs.Indexing.{LosesPage, IsPageOf}
 use Rattle.hot_log.proofs.Keyed.{Entry, page_at, pages_lose}
 use Rattle.hot_log.proofs.key_pages.KeyPages.remove.Goals as goal
+use Rattle.redo_core.specs.Keys.{key_cmp}
 
 none_is : (o : Option ℕ) → IsNone o → o ≡ None
 none_is None h = refl

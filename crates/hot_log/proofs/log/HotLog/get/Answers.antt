@@ -7,11 +7,11 @@ use Rattle.hot_log.proofs.log.HotLog.get.Goals as goal
 
 pub returns-in_err-page : goal.returns-in_err-page
 returns-in_err-page c =
-    subst (λ o. IsRecordAt c.args.self.now c.args.epoch c.args.number (option_copied o)) (sym c.from_residual.ensures)
-    (subst (λ (l : List RecordData). IsRecordAt l c.args.epoch c.args.number None) c.self.view_is
-    (unpaged c.self.inside.records c.self.inside.by_key c.args.epoch c.args.number c.self.invariant.by_key c.in_err-page.ensures))
+    subst (λ o. IsRecordAt c.args.self.now c.args.key (option_copied o)) (sym c.from_residual.ensures)
+    (subst (λ (l : List RecordData). IsRecordAt l c.args.key None) c.self.view_is
+    (unpaged c.self.inside.records c.self.inside.by_key c.args.key.epoch c.args.key.number c.self.invariant.by_key c.in_err-page.ensures))
 
 pub returns : goal.returns
 returns c =
-    subst (λ (l : List RecordData). IsRecordAt l c.args.epoch c.args.number (option_copied c.get.result)) c.self.view_is
-    (paged_at c.self.inside.records c.self.inside.by_key c.args.epoch c.args.number c.in_ok-page.page (option_copied c.get.result) c.self.invariant.form c.self.invariant.by_key c.in_ok-page.ensures c.get.ensures)
+    subst (λ (l : List RecordData). IsRecordAt l c.args.key (option_copied c.get.result)) c.self.view_is
+    (paged_at c.self.inside.records c.self.inside.by_key c.args.key.epoch c.args.key.number c.in_ok-page.page (option_copied c.get.result) c.self.invariant.form c.self.invariant.by_key c.in_ok-page.ensures c.get.ensures)

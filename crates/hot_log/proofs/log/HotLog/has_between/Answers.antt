@@ -14,12 +14,12 @@ returns-in-Some-clause-found c =
     let below = c.args.below in
     let found = c.in-Some.ensures.found in
     let t = found.0 in
-    let at : t.0.number ≡ key.1 = t.2.1 in (
-      λ (h : IsTrue (nat_lt key.1 below)). (t.0, t.1, t.3, let lt : key.1 < below = lower key.1 below h in omega arith),
+    let at : t.0.number ≡ key.number = t.2.1 in (
+      λ (h : IsTrue (nat_lt key.number below)). (t.0, t.1, t.3, let lt : key.number < below = lower key.number below h in omega arith),
       λ h.
           let lt : h.0.number < below = h.3 in
-          lower_of key.1 below (⊎_elim
-          (λ (k : HasKey key.0 key.1 h.0). let e : h.0.number ≡ key.1 = k.1 in omega arith)
-          (λ (u : key.1 < h.0.number). omega arith)
+          lower_of key.number below (⊎_elim
+          (λ (k : HasKey key h.0). let e : h.0.number ≡ key.number = k.1 in omega arith)
+          (λ (u : key.number < h.0.number). omega arith)
           (found.1 h.0 h.1 h.2)),
     )

@@ -1,6 +1,7 @@
 use Rattle.std.proofs.Common.{ℕ, ◌<◌, ◌≤◌, refl, subst, Some, List}
 use Rattle.std.specs.Option.{option_copied}
 use Rattle.redo_core.specs.Data.{RecordData}
+use Rattle.redo_core.specs.declared.keys.Key.{Key}
 use Rattle.redo_core.specs.Standing.{IsAlive}
 use Rattle.hot_log.specs.Held.{IsKeyTo}
 use Rattle.hot_log.specs.Alive.{IsHeldAlive}
@@ -11,7 +12,7 @@ use Rattle.hot_log.proofs.log.HotLog.last_alive.Goals as goal
 abbrev Any : RecordData → Type 0
 Any r = Unit {0}
 
-last_of : (held : List RecordData) (at key : ℕ × ℕ) → IsKeyTo held at (Some key) → LastUnder held Any at key
+last_of : (held : List RecordData) (at key : Key) → IsKeyTo held at (Some key) → LastUnder held Any at key
 last_of held at key last = let t = last.0 in record { by = t.0; among = t.1; candidate = tt; has = t.2; under = t.3; last = λ r h q not. last.1 r h not }
 
 pub loop-key-init : goal.loop-key-init
@@ -38,7 +39,7 @@ loop-key-smaller c =
 pub loop-key-preserved : goal.loop-key-preserved
 loop-key-preserved c =
     let b = c.args.book.now in let held = c.args.self.now in let key = c.in-Some.key in
-    let dead : IsAlive b.cuts b.complete key.0 key.1 → ⊥ = λ a. let yes = c.if-is_alive.ensures.alive.1 a in absurd (cc) in
+    let dead : IsAlive b.cuts b.complete key.epoch key.number → ⊥ = λ a. let yes = c.if-is_alive.ensures.alive.1 a in absurd (cc) in
     under_step b held Any c.args.to c.loop-key.at key c.key_down-at.result c.loop-key.invariant (last_of held c.loop-key.at key c.in-Some.ensures.last)
     c.key_down-at.ensures.below c.key_down-at.ensures.spares dead
 

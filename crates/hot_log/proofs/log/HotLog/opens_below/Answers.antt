@@ -1,5 +1,6 @@
 use Rattle.std.proofs.Common.{◌≡◌, ℕ, ◌<◌, ◌≤◌, inl, ⊎_elim, IsTrue, false, refl, sym, ◌∙◌, subst, arith, None}
 use Rattle.redo_core.specs.Data.{RecordData}
+use Rattle.redo_core.specs.Keys.{key_at, key_of, KeyBefore}
 use Rattle.redo_core.specs.Order.{PairBefore}
 use Rattle.redo_core.specs.Shape.{record_fault}
 use Rattle.redo_core.proofs.Pairs.{pair_trans}
@@ -24,13 +25,13 @@ pub loop-key-preserved : goal.loop-key-preserved
 loop-key-preserved c =
     let key = c.in-Some.key in
     let t = c.in-Some.ensures.next.0 in
-    let up : PairBefore c.loop-key.at.0 c.loop-key.at.1 key.0 key.1 = subst (λ (e : ℕ). PairBefore c.loop-key.at.0 c.loop-key.at.1 e key.1) t.2.0 (subst (λ (n : ℕ). PairBefore c.loop-key.at.0 c.loop-key.at.1 t.0.epoch n) t.2.1 t.3) in
+    let up : KeyBefore c.loop-key.at key = subst (λ (e : ℕ). KeyBefore c.loop-key.at (key_at e key.number)) t.2.0 (subst (λ (n : ℕ). KeyBefore c.loop-key.at (key_at t.0.epoch n)) t.2.1 t.3) in
     record {
       above = λ r h. ⊎_elim
-          (λ (k : HasKey key.0 key.1 r). absurd (let yes : IsTrue false = c.if-is_below.ensures.1 (r, h.0, k, h.2) in cc))
-          (λ (p : PairBefore key.0 key.1 r.epoch r.number). p)
+          (λ (k : HasKey key r). absurd (let yes : IsTrue false = c.if-is_below.ensures.1 (r, h.0, k, h.2) in cc))
+          (λ (p : KeyBefore key (key_of r)). p)
           (c.in-Some.ensures.next.1 r h.0.0 (c.loop-key.invariant.above r h));
-      later = λ e n p le. c.loop-key.invariant.later e n (pair_trans c.loop-key.at.0 c.loop-key.at.1 key.0 key.1 e n up p) le;
+      later = λ e n p le. c.loop-key.invariant.later e n (pair_trans c.loop-key.at.epoch c.loop-key.at.number key.epoch key.number e n up p) le;
     }
 
 -- what waits is not alive
@@ -41,12 +42,12 @@ returns-then-key-complete c = (
       let key = c.in-Some.key in
       let r = h.0 in
       let known : r.epoch ≤ c.args.book.now.complete = h.1.0.1.known in
-      let up : c.args.book.now.complete < key.0 = omega (arith, c.if-key-complete.true, c.complete_epoch-complete.ensures.value) in
+      let up : c.args.book.now.complete < key.epoch = omega (arith, c.if-key-complete.true, c.complete_epoch-complete.ensures.value) in
       absurd (⊎_elim
-      (λ (k : HasKey key.0 key.1 r). let e : r.epoch ≡ key.0 = k.0 in omega arith)
-      (λ (p : PairBefore key.0 key.1 r.epoch r.number). ⊎_elim
-      (λ (l : key.0 < r.epoch). omega arith)
-      (λ (q : (key.0 ≡ r.epoch) × (key.1 < r.number)). let e : key.0 ≡ r.epoch = q.0 in omega arith)
+      (λ (k : HasKey key r). let e : r.epoch ≡ key.epoch = k.0 in omega arith)
+      (λ (p : KeyBefore key (key_of r)). ⊎_elim
+      (λ (l : key.epoch < r.epoch). omega arith)
+      (λ (q : (key.epoch ≡ r.epoch) × (key.number < r.number)). let e : key.epoch ≡ r.epoch = q.0 in omega arith)
       p)
       (c.in-Some.ensures.next.1 r h.1.0.0 (c.loop-key.invariant.above r h.1))),
 )

@@ -2,22 +2,24 @@ use Rattle.std.proofs.Common.{◌≡◌, ◌⊎◌, ◌↔◌, sym, subst, List,
 use Rattle.std.specs.List.{Contains}
 use Rattle.std.specs.BTreeMap.{insert_entry}
 use Rattle.redo_core.specs.Data.{RecordData}
+use Rattle.redo_core.specs.Keys.{key_of}
 use Rattle.hot_log.specs.Held.{IsRecordAt}
 use Rattle.hot_log.specs.Paged.{place_cmp, place_of}
 use Rattle.hot_log.proofs.Places.{Place}
 use Rattle.hot_log.proofs.Paged.{seen, place_as, Grows, grown_members, grown_paged, same_paged, held_of}
+use Rattle.hot_log.proofs.Keys.{same_epoch, same_number}
 use Rattle.hot_log.proofs.records.PagedRecords.insert.Goals as goal
 
 grows : (c : goal.Joined-insert-2) → Grows c.self.inside.map c.insert.new.self c.args.redo
 grows c =
-    let key : (c.page.result, (c.epoch.result, c.number.result)) ≡ place_of c.args.redo =
-    place_as c.page.result c.epoch.result c.number.result c.args.redo.page c.args.redo.epoch c.args.redo.number c.page.ensures c.epoch.ensures c.number.ensures.value in
+    let key : (c.page.result, c.key.result) ≡ place_of c.args.redo =
+    place_as c.page.result c.key.result.epoch c.key.result.number c.args.redo.page c.args.redo.epoch c.args.redo.number c.page.ensures (same_epoch c.key.ensures.value) (same_number c.key.ensures.value) in
     let P : Place → Type 0 = λ k. c.insert.new.self ≡ insert_entry place_cmp c.self.inside.map k c.args.redo in
     record {
       was = c.self.invariant;
       ordered = c.in-Ok.ensures.ordered;
-      free = subst (λ (l : List RecordData). IsRecordAt l c.args.redo.epoch c.args.redo.number None) (sym c.self.view_is) c.requires;
-      shaped = c.number.ensures.shape;
+      free = subst (λ (l : List RecordData). IsRecordAt l (key_of c.args.redo) None) (sym c.self.view_is) c.requires;
+      shaped = c.key.ensures.shape;
       fits = omega (arith, c.page.type_inv, c.page.ensures);
       at = subst P key c.in-Ok.ensures.gains;
     }

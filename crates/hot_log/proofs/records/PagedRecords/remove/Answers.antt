@@ -16,7 +16,7 @@ returns-clause-value c =
 
 pub returns-clause-removes : goal.returns-clause-removes
 returns-clause-removes c =
-    subst (λ (l : List RecordData). Removes (λ r. (r.page ≡ c.args.page) × HasKey c.args.key.0 c.args.key.1 r) l (seen c.remove.new.self)) c.self.view_is
+    subst (λ (l : List RecordData). Removes (λ r. (r.page ≡ c.args.page) × HasKey c.args.key r) l (seen c.remove.new.self)) c.self.view_is
     (shrunk_members c.self.inside.map c.remove.new.self c.args.page c.args.key (record { was = c.self.invariant; ordered = c.remove.ensures.ordered; at = c.remove.ensures.loses }))
 
 pub returns-clause-form : goal.returns-clause-form

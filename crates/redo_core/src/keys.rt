@@ -1,0 +1,6 @@
+/// The name of a record: its epoch, and its log sequence number there. Keys are in order by epoch, then by number.
+#[derive(Clone, Copy, Debug, PartialEq, Eq, PartialOrd, Ord, Hash)]
+pub struct Key {
+    pub epoch: u16,
+    pub number: u64,
+}
