@@ -19,7 +19,6 @@ pub mod Ends
 pub mod Growth
 pub mod Descending
 pub mod Sides
-pub mod Sorting
 pub mod Hanging
 pub mod Gone
 pub mod Rows

@@ -4,6 +4,7 @@ use Rattle.std.specs.List.{Contains, cons_option}
 use Rattle.std.specs.Option.{option_copied}
 use Rattle.std.specs.Map.Iter.{TakesFirst, deref}
 use Rattle.std.specs.declared.cmp.Ordering.TheVariants.{Less}
+use Rattle.std.proofs.lemmas.Bool.Decides.{nat_tests}
 use Rattle.std.proofs.lemmas.List.Elements.{Contains-append_left, Contains-append_right, Contains-append_cases}
 use Rattle.redo_core.specs.Data.{RecordData}
 use Rattle.redo_core.specs.Order.{IsRising, Lists, RecordBefore}
@@ -15,7 +16,6 @@ use Rattle.hot_log.proofs.Maps.{rising_entries}
 use Rattle.hot_log.proofs.Paged.{Entry, Map, seen, in_order, entry_of}
 use Rattle.hot_log.proofs.Orders.{place_less, place_less_of}
 use Rattle.hot_log.proofs.Places.{Place}
-use Rattle.hot_log.proofs.Sorting.{not_itself}
 
 -- ---- the own records: some are passed, and one of the others comes next
 -- what is taken off a list, and what is left, are the list
@@ -34,6 +34,9 @@ pub record Passes (all : List RecordData) (x : RecordData) (next : Option Record
   pub ahead : StandsNext next rest
   pub among : (r : RecordData) → Contains (cons_option next rest) r → Contains all r
   pub before : (r : RecordData) → Contains all r → Contains (cons_option next rest) r ⊎ PlaceBefore r x
+
+not_itself : (r : RecordData) → PlaceBefore r r → ⊥
+not_itself r h = grind (arith, nat_tests)
 
 place_before : (x y z : RecordData) → PlaceBefore x y → PlaceBefore y z → PlaceBefore x z
 place_before x y z p q =

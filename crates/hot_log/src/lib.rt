@@ -4,7 +4,7 @@
 //! refused. Against a book of truncations it answers which numbers are linked from a base, the alive records of a page in
 //! order of their numbers, the successor of a number, and what the first alive record above a number hangs on; it removes what an
 //! image has, what is dead, and the record of a key. Every answer is exact over every set of records, also one that no sound log
-//! has. Only `put`, `copy`, `records_of`, `records_anew`, `kept_keys` and `missing` want memory.
+//! has. Only `put`, `copy`, `records_of`, `records_anew`, `kept_keys` and `missing_by_page` want memory.
 //!
 //! The records stand by page and, within a page, by key (`records`); beside them are the page of each key (`key_pages`) and the
 //! keys by segment backlink (`index`). `search` goes from key to key, `links` along backlinks, `removal` removes one by one, and
@@ -23,4 +23,5 @@ mod search;
 mod steps;
 
 pub use log::{HotLog, Put, PutFault};
+pub use search::is_kept;
 pub use steps::Steps;

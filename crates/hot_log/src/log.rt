@@ -373,19 +373,8 @@ impl HotLog {
         self.records.alive_anew(alloc, book, page, above, to)
     }
 
-    /// The records of another log that this one does not hold, rising by key. Both are gone over side by side, so none is
-    /// looked up. Its only error is want of memory.
-    pub fn missing<'a>(
-        &self,
-        alloc: Global,
-        other: &'a HotLog,
-    ) -> Result<Vec<&'a Record>, AllocError>
-        ensures { IfOk result (λ v. Lists RecordBefore (IsMissing self.now other.now) (map (λ x. x.now) v.items)) }
-    {
-        self.records.missing(alloc, &other.records)
-    }
-
-    /// The same by page, and within a page by key: no sort is spent on them.
+    /// The records of another log that this one does not hold, by page, and within a page by key. Both are gone over side by side, so
+    /// none is looked up. Its only error is want of memory.
     pub fn missing_by_page<'a>(
         &self,
         alloc: Global,

@@ -211,21 +211,8 @@ impl PagedRecords {
 }
 
 impl PagedRecords {
-    /// The records of another log that this one does not hold, rising by key. Its only error is want of memory.
-    pub fn missing<'a>(
-        &self,
-        alloc: Global,
-        other: &'a PagedRecords,
-    ) -> Result<Vec<&'a Record>, AllocError>
-        ensures { IfOk result (λ v. Lists RecordBefore (IsMissing self.now other.now) (map (λ x. x.now) v.items)) }
-    {
-        let _held = other.len();
-        let mut missing = self.missing_by_page(alloc, other)?;
-        missing.sort_unstable_by_key(|redo| redo.key());
-        Ok(missing)
-    }
-
-    /// The same by page, and within a page by key. Both logs are gone over side by side, so none is looked up.
+    /// The records of another log that this one does not hold, by page, and within a page by key. Both logs are gone over side by side,
+    /// so none is looked up. Its only error is want of memory.
     pub fn missing_by_page<'a>(
         &self,
         alloc: Global,

@@ -26,7 +26,7 @@ pub fn is_alive(book: &EpochBook, epoch: u16, number: u64) -> bool
     epoch <= book.complete_epoch() && matches!(book.stands(epoch, number), Standing::Alive)
 }
 
-// Whether a record of a key waits, or is alive above a number.
+/// Whether a record of a key waits, or is alive above a number.
 pub fn is_kept(book: &EpochBook, key: Key, point: u64) -> bool
     ensures { IsTrue result ↔ KeepsKey book.now point key }
 {

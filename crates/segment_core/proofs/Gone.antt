@@ -4,6 +4,8 @@ use Rattle.std.specs.List.{Contains}
 use Rattle.std.proofs.lemmas.List.{take_more, take_all}
 use Rattle.std.proofs.lemmas.List.Elements.{Contains-append_left, Contains-append_right, Contains-append_cases}
 use Rattle.redo_core.specs.Data.{RecordData}
+use Rattle.redo_core.specs.Keys.{key_at, key_of}
+use Rattle.redo_core.specs.declared.keys.Key.{Key}
 use Rattle.redo_core.specs.Standing.{IsAlive}
 use Rattle.redo_core.proofs.Members.{here, which, none_in}
 use Rattle.redo_laws.proofs.Deciding.{settled_eq, some_or_none}
@@ -14,7 +16,6 @@ use Rattle.hot_log.specs.Removing.{IsFolded, Removes}
 use Rattle.hot_log.proofs.Climb.{positive}
 use Rattle.page_base.specs.Stored.{IsStored}
 use Rattle.segment_state.specs.State.{Store, StoredImage, version_of}
-use Rattle.segment_core.specs.Keys.{key_of}
 
 -- of the records just those that one of the things hits are gone
 abbrev pub GoneBy : {X : Type 0} → (X → RecordData → Type 0) → List X → List RecordData → List RecordData → Type 0
@@ -48,15 +49,15 @@ pub gone_by_all : {X : Type 0} (Hits : X → RecordData → Type 0) (xs : List X
 gone_by_all Hits xs i old new end seen = subst (λ ys. GoneBy Hits ys old new) (take_all i xs end) seen
 
 -- ---- by keys
-pub of_keys : (keys : List (ℕ × ℕ)) (old new : List RecordData) → GoneBy (λ (key : ℕ × ℕ) r. HasKey key.0 key.1 r) keys old new
+pub of_keys : (keys : List Key) (old new : List RecordData) → GoneBy (λ (key : Key) r. HasKey key r) keys old new
     → (r : RecordData) → Contains new r ↔ (Contains old r × (Contains keys (key_of r) → ⊥))
 of_keys keys old new gone r = (
   λ h. let left = (gone r).0 h in (left.0, λ has. left.1 (key_of r) has (refl, refl)),
   λ h. (gone r).1 (h.0, λ key has same. h.1 (subst (Contains keys) (sym (key_is key same)) has)),
 )
   where
-    key_is : (key : ℕ × ℕ) → HasKey key.0 key.1 r → key_of r ≡ key
-    key_is key same = ap (λ e. (e, r.number)) same.0 ∙ ap (λ n. (key.0, n)) same.1
+    key_is : (key : Key) → HasKey key r → key_of r ≡ key
+    key_is key same = ap (λ e. key_at e r.number) same.0 ∙ ap (λ n. key_at key.epoch n) same.1
 
 -- ---- by images, where a page that has none is at version 0
 pub of_images : (book : BookData) (store : Store) (point : ℕ) (old new : List RecordData) → IsStored store → store.floor ≡ 0 → IsHeld old

@@ -2,6 +2,7 @@
 use Rattle.std.proofs.Common.{◌≡◌, ℕ, ◌⊎◌, inl, inr, List, refl, sym, subst}
 use Rattle.std.specs.List.{Contains}
 use Rattle.redo_core.specs.Data.{RecordData}
+use Rattle.redo_core.specs.Keys.{key_of}
 use Rattle.epoch_book.specs.Book.{BookData}
 use Rattle.hot_log.specs.Held.{HasKey}
 use Rattle.hot_log.specs.Putting.{Puts, RefusesPut}
@@ -13,7 +14,7 @@ use Rattle.segment_state.specs.State.{state_of}
 use Rattle.segment_core.specs.Uniting.{HoldsRecord}
 
 same_holds : (b : BookData) (hs : List RecordData) (base : ℕ) (store : Store) (r : RecordData)
-    → Contains hs r ⊎ ((other : RecordData) × Contains hs other × HasKey r.epoch r.number other × (other ≡ r → ⊥))
+    → Contains hs r ⊎ ((other : RecordData) × Contains hs other × HasKey (key_of r) other × (other ≡ r → ⊥))
     → HoldsRecord (state_of b hs base store) r (state_of b hs base store)
 same_holds b hs base store r there = record {
   book = refl;

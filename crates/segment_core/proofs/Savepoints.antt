@@ -3,6 +3,8 @@ use Rattle.std.proofs.Common.{◌≡◌, ℕ, ◌⊎◌, ◌↔◌, inl, inr, �
 use Rattle.std.specs.List.{Contains}
 use Rattle.std.proofs.lemmas.List.Elements.{Contains-append_left, Contains-append_right, Contains-append_cases}
 use Rattle.redo_core.specs.Data.{RecordData}
+use Rattle.redo_core.specs.Keys.{key_of}
+use Rattle.redo_core.specs.declared.keys.Key.{Key}
 use Rattle.redo_core.specs.Order.{RecordBefore}
 use Rattle.redo_core.specs.declared.facts.Fact.{Fact}
 use Rattle.redo_core.specs.declared.facts.Fact.TheVariants.{Record, Cut, Advance}
@@ -12,7 +14,6 @@ use Rattle.redo_core.proofs.Pairs.{pair_apart}
 use Rattle.hot_log.specs.Held.{IsHeld, HasKey}
 use Rattle.segment_state.specs.State.{State, SameBase, state_of}
 use Rattle.segment_state.specs.Known.{IsKnown}
-use Rattle.segment_core.specs.Keys.{key_of}
 use Rattle.segment_core.specs.Savepoint.{SavepointData, RollsBackTo, RollsBackAs, NotesKey, TakesNoted}
 use Rattle.segment_core.specs.Taking.{Stores}
 use Rattle.segment_core.specs.Answering.{FaultAlone}
@@ -35,7 +36,7 @@ same_rolls_back saved s t held rest = λ old r. record {
 
 -- a record joins the others under a free key, which is noted
 pub more_rolls_back : (saved noted : SavepointData) (s t : State) (x : RecordData) → NotesKey saved (key_of x) noted → SameBase s t
-    → ((r : RecordData) → Contains s.held r → HasKey x.epoch x.number r → ⊥)
+    → ((r : RecordData) → Contains s.held r → HasKey (key_of x) r → ⊥)
     → ((r : RecordData) → Contains t.held r ↔ (Contains s.held r ⊎ (r ≡ x))) → RollsBackAs saved s noted t
 more_rolls_back saved noted s t x notes rest free more = λ old r.
     subst (λ n. RollsBackTo n t old) (sym notes) (record {
@@ -47,11 +48,11 @@ more_rolls_back saved noted s t x notes rest free more = λ old r.
       due = r.due;
     })
   where
-    keys : List (ℕ × ℕ)
+    keys : List Key
     keys = saved.came ++ key_of x ∷ []
 
     other_key : (y : RecordData) → Contains s.held y → key_of x ≡ key_of y → ⊥
-    other_key y h same = free y h (sym (ap (λ (k : ℕ × ℕ). k.0) same), sym (ap (λ (k : ℕ × ℕ). k.1) same))
+    other_key y h same = free y h (sym (ap (λ (k : Key). k.epoch) same), sym (ap (λ (k : Key). k.number) same))
 
     kept : (y : RecordData) → Contains s.held y × (Contains saved.came (key_of y) → ⊥) → Contains t.held y × (Contains keys (key_of y) → ⊥)
     kept y h = (
@@ -75,13 +76,6 @@ more_rolls_back saved noted s t x notes rest free more = λ old r.
       λ z. free_key (Contains-append_left saved.came (key_of x ∷ []) (key_of y) z),
     )
 
--- the key that is noted is the record's
-pub notes_key_of : (saved noted : SavepointData) (r : RecordData) (epoch number : ℕ) → epoch ≡ r.epoch → number ≡ r.number
-    → NotesKey saved (epoch, number) noted → NotesKey saved (key_of r) noted
-notes_key_of saved noted r epoch number e n notes =
-    subst (λ x. NotesKey saved (x, r.number) noted) e (subst (λ x. NotesKey saved (epoch, x) noted) n notes)
-
--- a record that was not known is stored, and its key noted
 pub record_rolls_back : (saved noted : SavepointData) (s t : State) (r : RecordData) → IsHeld t.held → NotesKey saved (key_of r) noted
     → (IsKnown s (Record r) → ⊥) → Stores s (Record r) t → RollsBackAs saved s noted t
 record_rolls_back saved noted s t r held notes new puts =

@@ -13,7 +13,6 @@ pub mod Adopting
 pub mod Uniting
 pub mod Savepoint
 pub mod Comparing
-pub mod Keys
 pub mod Laws
 pub mod Restoring
 pub mod Due

@@ -2,12 +2,13 @@
 use Rattle.std.specs.Prelude.{◌≡◌, ℕ, ◌⊎◌, ◌↔◌, List, [], ◌∷◌, ◌++◌, Result, OnOk, OnErr, IfOk, IfErr}
 use Rattle.std.specs.List.{Contains}
 use Rattle.redo_core.specs.Book.{BookData}
+use Rattle.redo_core.specs.Keys.{key_of}
+use Rattle.redo_core.specs.declared.keys.Key.{Key}
 use Rattle.redo_core.specs.Data.{RecordData}
 use Rattle.redo_core.specs.declared.facts.Fact.{Fact}
 use Rattle.segment_state.specs.State.{State, SameBase}
 use Rattle.segment_core.specs.Due.{DueData, HasDue}
 use Rattle.segment_core.specs.Form.{IsSegment}
-use Rattle.segment_core.specs.Keys.{key_of}
 use Rattle.segment_core.specs.Points.{HasPoints}
 use Rattle.segment_core.specs.Refusing.{Refuses}
 use Rattle.segment_core.specs.Taking.{TellsKnown, Stores}
@@ -22,7 +23,7 @@ pub record SavepointData : Type 0 where
   pub book : BookData
   pub points : Points
   pub due : DueData
-  pub came : List (ℕ × ℕ)
+  pub came : List Key
 
 -- Rolled back to the savepoint, a state is the old one: its book is the saved one, and its records are those that were there before.
 pub record RollsBackTo (saved : SavepointData) (s old : State) : Type 0 where
@@ -38,7 +39,7 @@ abbrev pub RollsBackAs : SavepointData → State → SavepointData → State →
 RollsBackAs saved s noted t = (old : State) → RollsBackTo saved s old → RollsBackTo noted t old
 
 -- one key more is noted
-abbrev pub NotesKey : SavepointData → ℕ × ℕ → SavepointData → Type 0
+abbrev pub NotesKey : SavepointData → Key → SavepointData → Type 0
 NotesKey saved key noted = noted ≡ record { book = saved.book; points = saved.points; due = saved.due; came = saved.came ++ key ∷ [] }
 
 -- What a noted take answers and leaves, over any facts: what a take does, but that memory may be wanting for a fact that is known or refused.

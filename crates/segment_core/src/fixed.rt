@@ -4,7 +4,7 @@
 ghost use Rattle.std.specs.Prelude.{◌≡◌, IfOk};
 
 use crate::{Front, Gap, ReadFault, Segment, Standing};
-use redo_core::Page;
+use redo_core::{Key, Page};
 
 fn front_has_one_answer(segment: &Segment) -> (Front, Front)
     ensures { result.0 ≡ result.1 }
@@ -15,8 +15,7 @@ fn front_has_one_answer(segment: &Segment) -> (Front, Front)
 fn anchor_has_one_answer(segment: &Segment) -> (u64, u64)
     ensures { result.0 ≡ result.1 }
 {
-    // It is called for what it ensures: the segment has the form of one.
-    let _base = segment.base_point();
+    segment.opens_form();
     (segment.anchor(), segment.anchor())
 }
 
@@ -26,10 +25,7 @@ fn standing_has_one_answer(segment: &Segment, epoch: u16, number: u64) -> (Stand
     (segment.stands(epoch, number), segment.stands(epoch, number))
 }
 
-fn next_key_has_one_answer(
-    segment: &Segment,
-    after: Option<(u16, u64)>,
-) -> (Option<(u16, u64)>, Option<(u16, u64)>)
+fn next_key_has_one_answer(segment: &Segment, after: Option<Key>) -> (Option<Key>, Option<Key>)
     ensures { result.0 ≡ result.1 }
 {
     (segment.key_after(after), segment.key_after(after))

@@ -16,6 +16,7 @@ mod due;
 mod fixed;
 mod fold_plan;
 mod gaps;
+mod images;
 mod known;
 pub mod laws;
 mod points;
@@ -24,7 +25,6 @@ mod savepoint;
 mod segment;
 mod shedding;
 mod stored;
-mod union;
 mod walk;
 
 pub use answers::{Front, Gap, ReadFault, Refusal, Taken};

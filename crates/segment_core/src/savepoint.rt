@@ -2,11 +2,12 @@
 ghost use Rattle.std.specs.Prelude.{◌≡◌, ℕ, ◌↔◌, IfOk, OnOk, OnErr};
 ghost use Rattle.std.specs.List.{Contains};
 ghost use Rattle.redo_core.specs.Data.{RecordData};
+ghost use Rattle.redo_core.specs.Keys.{key_of};
+ghost use Rattle.redo_core.specs.declared.keys.Key.{Key};
 ghost use Rattle.redo_core.specs.declared.facts.Fact.TheVariants.{Record as OfRecord};
 ghost use Rattle.hot_log.specs.Held.{IsHeld};
 ghost use Rattle.segment_state.specs.State.{State};
 ghost use Rattle.segment_core.specs.Answering.{FaultAlone};
-ghost use Rattle.segment_core.specs.Keys.{key_of};
 ghost use Rattle.segment_core.specs.Savepoint.{SavepointData, RollsBackTo, RollsBackAs, NotesKey, TakesNoted};
 ghost use Rattle.segment_core.specs.Uniting.{HoldsRecord};
 
@@ -16,7 +17,7 @@ use crate::points::Points;
 use crate::segment::Segment;
 use epoch_book::EpochBook;
 use hot_log::{HotLog, Put, PutFault};
-use redo_core::{Fact, Record, Refused};
+use redo_core::{Fact, Key, Record, Refused};
 use std::alloc::AllocError;
 use std::marker::Model;
 
@@ -26,7 +27,7 @@ pub struct Savepoint {
     book: EpochBook,
     points: Points,
     due: Due,
-    came: Vec<(u16, u64)>,
+    came: Vec<Key>,
 }
 
 impl Model for Savepoint {
@@ -39,7 +40,7 @@ impl Model for Savepoint {
 
 impl Savepoint {
     /// Notes a key. Its only error is want of memory; what is noted is then as it was.
-    fn note(&mut self, key: (u16, u64)) -> Result<(), AllocError>
+    fn note(&mut self, key: Key) -> Result<(), AllocError>
         ensures notes { OnOk result (NotesKey self.old key self.new) }
         ensures unchanged { OnErr result (self.new ≡ self.old) }
     {
@@ -51,7 +52,7 @@ impl Savepoint {
 
     /// Takes the note of the last key back.
     fn forget_last(&mut self)
-        ensures { (before : SavepointData) (key : ℕ × ℕ) → NotesKey before key self.old → self.new ≡ before }
+        ensures { (before : SavepointData) (key : Key) → NotesKey before key self.old → self.new ≡ before }
     {
         let _ = self.came.pop();
     }
@@ -89,13 +90,13 @@ impl Segment {
         ensures takes { TakesNoted self.old (OfRecord redo) result self.new }
         ensures rolls_back { RollsBackAs saved.old self.old saved.new self.new }
     {
-        if let Err(_) = saved.note((redo.epoch(), redo.number())) {
+        if let Err(_) = saved.note(redo.key()) {
             return Err(Refusal::Memory);
         }
         match self.take_record(redo) {
             Ok(Taken::Changed) => {
                 // It opens the segment's form: one record stands under a key.
-                let _base = self.base_point();
+                self.opens_form();
                 Ok(Taken::Changed)
             }
             Ok(Taken::Unchanged) => {
@@ -116,7 +117,7 @@ impl Segment {
         ensures unchanged { OnErr result (self.new ≡ self.old) }
         ensures rolls_back { RollsBackAs saved.old self.old saved.new self.new }
     {
-        if let Err(failed) = saved.note((redo.epoch(), redo.number())) {
+        if let Err(failed) = saved.note(redo.key()) {
             return Err(failed);
         }
         self.due.add_held(&redo);
@@ -159,12 +160,12 @@ fn taken_or_fault(answer: Result<Taken, Refused<Fact, Refusal>>) -> Result<Taken
 }
 
 /// Removes the records of these keys.
-fn take_out(hot: &mut HotLog, keys: &[(u16, u64)])
+fn take_out(hot: &mut HotLog, keys: &[Key])
     ensures removes { (r : RecordData) → Contains hot.new r ↔ (Contains hot.old r × (Contains keys.now (key_of r) → ⊥)) }
     ensures form { IsHeld hot.new }
 {
     for key in keys {
-        hot.remove(key.0, key.1);
+        hot.remove(*key);
     }
     let _held = hot.len();
 }

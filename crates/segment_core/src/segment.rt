@@ -18,6 +18,7 @@ ghost use Rattle.segment_core.specs.Refusing.{Refuses, IsDeadOrSettled, FitsSoun
 ghost use Rattle.hot_log.specs.Held.{IsHeld};
 ghost use Rattle.hot_log.specs.Alive.{IsLinkedHeld};
 ghost use Rattle.hot_log.specs.Found.{IsOnlyRecord};
+ghost use Rattle.hot_log.specs.Kept.{KeepsKey};
 ghost use Rattle.segment_core.specs.BlockChain.{BreaksAt, TellsBreak};
 ghost use Rattle.segment_core.specs.Answering.{AnswersBook, AnswersPut, refusal_of, put_refusal_of};
 ghost use Rattle.segment_core.specs.Exactly.{TakesExactly};
@@ -30,9 +31,9 @@ use crate::answers::{Front, ReadFault, Refusal, Taken};
 use crate::due::Due;
 use crate::points::Points;
 use epoch_book::{BookRefusal, EpochBook, Learnt, Standing};
-use hot_log::{HotLog, Put, PutFault};
+use hot_log::{HotLog, Put, PutFault, is_kept};
 use page_base::BaseStore;
-use redo_core::{Advance, Cut, Fact, Page, Record, Refused, Roster, apply};
+use redo_core::{Advance, Cut, Fact, Key, Page, Record, Refused, Roster, apply};
 use std::alloc::{AllocError, Global};
 use std::marker::Model;
 
@@ -165,7 +166,15 @@ impl Segment {
         ensures own { result ≡ self.now.base }
         ensures form { IsSegment self.now }
     {
+        self.opens_form();
         self.base
+    }
+
+    /// It does nothing. It is called for what it ensures: a segment has the form of one.
+    pub fn opens_form(&self)
+        ensures form { IsSegment self.now }
+    {
+        let _base = self.base;
     }
 
     /// How a record of an epoch and number stands in the segment's view.
@@ -173,6 +182,24 @@ impl Segment {
         ensures { StandsAt self.now epoch number result }
     {
         self.book.stands(epoch, number)
+    }
+
+    /// Whether a record is dead, or alive at or below the anchor: such a record is not compared, and a take of it changes nothing.
+    pub fn is_settled(&self, redo: &Record) -> bool
+        ensures { IsTrue result ↔ IsDeadOrSettled self.now redo.now }
+    {
+        match self.book.stands(redo.epoch(), redo.number()) {
+            Standing::Dead => true,
+            Standing::Waiting => false,
+            Standing::Alive => redo.number() <= self.anchor(),
+        }
+    }
+
+    /// Whether a record of a key waits, or is alive above a point: at the anchor, whether a segment that holds it keeps it.
+    pub fn keeps(&self, key: Key, point: u64) -> bool
+        ensures { IsTrue result ↔ KeepsKey self.now.book point key }
+    {
+        is_kept(&self.book, key, point)
     }
 }
 
@@ -271,21 +298,10 @@ impl Segment {
         book_answer(Fact::Advance(advance), learnt)
     }
 
-    /// Whether a record is dead, or alive at or below the anchor.
-    fn is_dead_or_settled(&self, redo: &Record) -> bool
-        ensures { IsTrue result ↔ IsDeadOrSettled self.now redo.now }
-    {
-        match self.book.stands(redo.epoch(), redo.number()) {
-            Standing::Dead => true,
-            Standing::Waiting => false,
-            Standing::Alive => redo.number() <= self.anchor(),
-        }
-    }
-
     pub(crate) fn take_record(&mut self, redo: Record) -> Result<Taken, Refused<Fact, Refusal>>
         ensures { TakesExactly self.old (OfRecord redo) result self.new }
     {
-        if self.is_dead_or_settled(&redo) {
+        if self.is_settled(&redo) {
             return Ok(Taken::Unchanged);
         }
         self.due.add_held(&redo);

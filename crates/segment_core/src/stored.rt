@@ -1,6 +1,7 @@
-ghost use Rattle.std.specs.Prelude.{◌≡◌, ℕ, ◌≤◌, ◌↔◌, length, map, IsTrue, IfOk, IfErr, OnOk, OnErr};
+ghost use Rattle.std.specs.Prelude.{◌≡◌, ◌↔◌, length, map, IsTrue, IfOk};
 ghost use Rattle.std.specs.Option.{option_copied};
 ghost use Rattle.redo_core.specs.Order.{IsRising, CutBefore, AdvanceBefore, RecordBefore, Lists, BeforeByNumber};
+ghost use Rattle.redo_core.specs.Keys.{key_of};
 ghost use Rattle.hot_log.specs.Held.{IsRecordAt, IsKeyAfter, HoldsKey};
 ghost use Rattle.hot_log.specs.Alive.{IsHeldOf};
 ghost use Rattle.hot_log.specs.Found.{IsPageAfter};
@@ -9,14 +10,11 @@ ghost use Rattle.hot_log.specs.Paged.{PlaceBefore};
 ghost use Rattle.hot_log.specs.Kept.{ListsKeysOf};
 ghost use Rattle.page_base.specs.Stored.{IsStored};
 ghost use Rattle.segment_state.specs.HasMeaning.{IsKeptBy};
-ghost use Rattle.segment_state.specs.State.{min_of, version_of, image_of};
-ghost use Rattle.segment_core.specs.Adopting.{AdoptsBase};
-ghost use Rattle.segment_core.specs.Form.{IsSegment};
-ghost use Rattle.segment_core.specs.Keys.{key_of, HasKeysAfter};
+ghost use Rattle.segment_state.specs.State.{version_of, image_of};
 
 use crate::segment::Segment;
 use page_base::BaseImage;
-use redo_core::{Advance, Cut, Page, Record, Refused, SharedPage};
+use redo_core::{Advance, Cut, Key, Page, Record};
 use std::alloc::{AllocError, Global};
 
 impl Segment {
@@ -25,34 +23,26 @@ impl Segment {
         self.alloc
     }
 
-    /// The keys (epoch and number) of the records held, rising. Its only error is want of memory.
-    pub fn stored(&self) -> Result<Vec<(u16, u64)>, AllocError>
+    /// The keys of the records held, rising. Its only error is want of memory.
+    pub fn stored(&self) -> Result<Vec<Key>, AllocError>
         ensures keys { IfOk result (λ v. v.items ≡ map key_of self.now.held) }
         ensures rising { IsRising RecordBefore self.now.held }
     {
-        self.keys_after(None)
-    }
-
-    /// The keys of the held records that wait, or are alive above a point, rising. Its only error is want of memory.
-    pub fn kept_keys(&self, point: u64) -> Result<Vec<(u16, u64)>, AllocError>
-        ensures keys { IfOk result (λ v. ListsKeysOf (IsKeptBy self.now point) v.items) }
-        ensures rising { IsRising RecordBefore self.now.held }
-    {
-        self.hot.kept_keys(self.alloc, &self.book, point)
-    }
-
-    /// The keys of held records above the one given, rising; all for None.
-    fn keys_after(&self, above: Option<(u16, u64)>) -> Result<Vec<(u16, u64)>, AllocError>
-        ensures keys { IfOk result (λ v. HasKeysAfter self.now.held above v.items) }
-        ensures form { IsSegment self.now }
-    {
-        let mut keys = Vec::new(self.alloc);
-        let mut next = self.hot.key_after(above);
+        let mut keys = Vec::with_capacity(self.alloc, self.hot.len())?;
+        let mut next = self.hot.key_after(None);
         while let Some(key) = next {
             keys.push(key)?;
             next = self.hot.key_after(Some(key));
         }
         Ok(keys)
+    }
+
+    /// The keys of the held records that wait, or are alive above a point, rising. Its only error is want of memory.
+    pub fn kept_keys(&self, point: u64) -> Result<Vec<Key>, AllocError>
+        ensures keys { IfOk result (λ v. ListsKeysOf (IsKeptBy self.now point) v.items) }
+        ensures rising { IsRising RecordBefore self.now.held }
+    {
+        self.hot.kept_keys(self.alloc, &self.book, point)
     }
 
     /// The truncations known, rising by epoch.
@@ -72,7 +62,7 @@ impl Segment {
     }
 
     /// The least key of a held record above the one given; with none given, the least of all.
-    pub fn key_after(&self, after: Option<(u16, u64)>) -> Option<(u16, u64)>
+    pub fn key_after(&self, after: Option<Key>) -> Option<Key>
         ensures { IsKeyAfter self.now.held after result }
     {
         self.hot.key_after(after)
@@ -86,17 +76,17 @@ impl Segment {
     }
 
     /// Whether a record of a key is held.
-    pub fn holds_key(&self, epoch: u16, number: u64) -> bool
-        ensures { IsTrue result ↔ HoldsKey self.now.held epoch number }
+    pub fn holds_key(&self, key: Key) -> bool
+        ensures { IsTrue result ↔ HoldsKey self.now.held key }
     {
-        self.hot.holds_key(epoch, number)
+        self.hot.holds_key(key)
     }
 
     /// The held record of a key.
-    pub fn get(&self, epoch: u16, number: u64) -> Option<&Record>
-        ensures { IsRecordAt self.now.held epoch number (option_copied result) }
+    pub fn get(&self, key: Key) -> Option<&Record>
+        ensures { IsRecordAt self.now.held key (option_copied result) }
     {
-        self.hot.get(epoch, number)
+        self.hot.get(key)
     }
 
     /// The stored base images, rising by page; a page without one is zeros at the greatest base
@@ -136,14 +126,7 @@ impl Segment {
         self.hot.len()
     }
 
-    /// The records that another segment holds and this one does not, rising by key. Its only error is want of memory.
-    pub fn missing<'a>(&self, other: &'a Segment) -> Result<Vec<&'a Record>, AllocError>
-        ensures { IfOk result (λ v. Lists RecordBefore (IsMissing self.now.held other.now.held) (map (λ x. x.now) v.items)) }
-    {
-        self.hot.missing(self.alloc, &other.hot)
-    }
-
-    /// The same by page, and within a page by key: no sort is spent on them.
+    /// The records that another segment holds and this one does not, by page, and within a page by key. Its only error is want of memory.
     pub fn missing_by_page<'a>(&self, other: &'a Segment) -> Result<Vec<&'a Record>, AllocError>
         ensures { IfOk result (λ v. Lists PlaceBefore (IsMissing self.now.held other.now.held) (map (λ x. x.now) v.items)) }
     {
@@ -155,32 +138,5 @@ impl Segment {
         ensures { IfOk result (λ v. Lists BeforeByNumber (IsHeldOf self.now.book self.now.held page from to) (map (λ x. x.now) v.items)) }
     {
         self.hot.records_of(self.alloc, &self.book, page, from, to)
-    }
-
-    /// Raises the base point to `base` where that is higher, and adopts base images: each page of a version below `base` takes
-    /// the first image given for it, or zeros, at `base`.
-    ///
-    /// `base` is a number of the log, at most the minimum read point. Its only error is want of memory: the segment is then as
-    /// it was, and the images come back.
-    pub fn adopt(
-        &mut self,
-        base: u64,
-        pages: Vec<(u16, SharedPage)>,
-    ) -> Result<(), Refused<Vec<(u16, SharedPage)>, AllocError>>
-        requires { base ≤ min_of self.old }
-        ensures adopts { OnOk result (AdoptsBase self.old base pages.items self.new) }
-        ensures refused { IfErr result (λ e. e.value ≡ pages) }
-        ensures unchanged { OnErr result (self.new ≡ self.old) }
-    {
-        match self.store.adopt(base, pages) {
-            Ok(()) => {
-                let raised = self.base.max(base);
-                self.points = self.points.over(&self.hot, &self.book, self.base, raised);
-                self.base = raised;
-                self.due.add_images(&self.store);
-                Ok(())
-            }
-            Err(refused) => Err(refused),
-        }
     }
 }

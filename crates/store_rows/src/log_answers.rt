@@ -63,7 +63,7 @@ fn lists(bench: &Bench, alloc: Global, call: Call) -> Result<Option<Answer>, All
     let answer = match call.name {
         "records_of" => numbers(alloc, log.records_of(alloc, book, page, from, to)),
         "records_anew" => numbers(alloc, log.records_anew(alloc, book, page, from, to)),
-        "missing" => numbers(alloc, log.missing(alloc, &bench.other)),
+        "missing" => numbers(alloc, log.missing_by_page(alloc, &bench.other)),
         "kept_keys" => log.kept_keys(alloc, book, first).map(Answer::Keys),
         _ => return Ok(None),
     };

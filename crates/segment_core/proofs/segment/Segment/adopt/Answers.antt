@@ -1,16 +1,18 @@
-use Rattle.std.proofs.Common.{refl, subst}
-use Rattle.segment_state.specs.State.{State, state_of}
-use Rattle.segment_core.specs.Adopting.{AdoptsBase}
+use Rattle.std.proofs.Common.{sym, ◌∙◌, ap, subst, max}
+use Rattle.redo_core.specs.Store.{Store}
+use Rattle.page_base.specs.Adopting.{Adopts, StoresJust}
+use Rattle.segment_state.specs.State.{State}
 use Rattle.segment_core.proofs.segment.Segment.adopt.Goals as goal
 
 pub returns-in-Ok-clause-adopts : goal.returns-in-Ok-clause-adopts
 returns-in-Ok-clause-adopts c =
-    let i = c.self.inside in
-    subst (λ (s : State). AdoptsBase s c.args.base c.args.pages.items (state_of i.book i.hot c.max-raised.result c.adopt.new.self)) c.self.view_is
-    (record {
-      book = refl;
-      held = refl;
-      base_is = c.max-raised.ensures;
-      store = c.in-Ok.ensures.adopts;
-      listed = c.in-Ok.ensures.listed;
-    })
+    let raised = c.raise_base.ensures in
+    let own = ap (λ (s : State). s.store) c.self.view_is in
+    let stored = λ (P : Store → Store → Type 0) (h : P c.self.inside.store c.adopt.new.self).
+    subst (P c.args.self.now.store) (sym raised.store) (subst (λ (st : Store). P st c.adopt.new.self) own h) in record {
+      book = raised.book ∙ ap (λ (s : State). s.book) c.self.view_is;
+      held = raised.held ∙ ap (λ (s : State). s.held) c.self.view_is;
+      base_is = raised.base_is ∙ ap (λ (s : State). max s.base c.args.base) c.self.view_is;
+      store = stored (λ old new. Adopts old c.args.base c.args.pages.items new) c.in-Ok.ensures.adopts;
+      listed = stored (λ old new. StoresJust old c.args.base c.args.pages.items new) c.in-Ok.ensures.listed;
+    }

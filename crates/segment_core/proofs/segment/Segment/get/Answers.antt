@@ -5,4 +5,4 @@ use Rattle.segment_state.specs.State.{State}
 use Rattle.segment_core.proofs.segment.Segment.get.Goals as goal
 
 pub returns : goal.returns
-returns c = subst (λ (s : State). IsRecordAt s.held c.args.epoch c.args.number (option_copied c.get.result)) c.self.view_is c.get.ensures
+returns c = subst (λ (s : State). IsRecordAt s.held c.args.key (option_copied c.get.result)) c.self.view_is c.get.ensures

@@ -1,11 +1,12 @@
 use Rattle.std.proofs.Common.{refl, subst}
 use Rattle.hot_log.specs.Putting.{Puts, RefusesPut}
 use Rattle.hot_log.specs.declared.log.Put.TheVariants.{New}
+use Rattle.redo_core.specs.declared.keys.Key.{Key}
 use Rattle.segment_state.specs.State.{State, state_of}
-use Rattle.segment_core.specs.Savepoint.{RollsBackAs}
+use Rattle.segment_core.specs.Savepoint.{NotesKey, RollsBackAs}
 use Rattle.segment_core.specs.Uniting.{HoldsRecord}
 use Rattle.segment_core.proofs.Holding.{put_holds, refused_holds}
-use Rattle.segment_core.proofs.Savepoints.{more_rolls_back, notes_key_of}
+use Rattle.segment_core.proofs.Savepoints.{more_rolls_back}
 use Rattle.segment_core.proofs.DuePages.{put_due}
 use Rattle.segment_core.proofs.segment.Segment.hold_noted.Goals as goal
 
@@ -22,7 +23,7 @@ returns-in-Ok-New-clause-rolls_back c =
     subst (λ p. Puts i.hot c.args.redo c.put.new.hot p) c.in-Ok-New.field-0-is c.in-Ok-New.ensures.put in
     subst (λ (s : State). RollsBackAs c.args.saved.now s c.note.new.self (state_of i.book c.put.new.hot i.base i.store)) c.self.view_is
     (more_rolls_back c.args.saved.now c.note.new.self (state_of i.book i.hot i.base i.store) (state_of i.book c.put.new.hot i.base i.store) c.args.redo
-    (notes_key_of c.args.saved.now c.note.new.self c.args.redo c.epoch.result c.number.result c.epoch.ensures c.number.ensures.value c.in_default.ensures.notes)
+    (subst (λ (k : Key). NotesKey c.args.saved.now k c.note.new.self) c.key.ensures.value c.in_default.ensures.notes)
     (record { base = refl; store = refl }) put.0 put.1)
 
 pub returns-in-OtherRecord-clause-holds : goal.returns-in-OtherRecord-clause-holds

@@ -1,11 +1,12 @@
 use Rattle.std.proofs.Common.{◌≤◌, ◌↔◌, ℕ, List, sym, subst}
 use Rattle.std.specs.List.{Contains}
 use Rattle.redo_core.specs.Data.{RecordData}
+use Rattle.redo_core.specs.Keys.{key_of}
+use Rattle.redo_core.specs.declared.keys.Key.{Key}
 use Rattle.redo_core.specs.Roster.{least}
 use Rattle.epoch_book.specs.Book.{BookData, IsBook}
 use Rattle.segment_state.specs.State.{State, Store, state_of}
 use Rattle.segment_core.specs.Due.{HasDue}
-use Rattle.segment_core.specs.Keys.{key_of}
 use Rattle.segment_core.specs.Points.{HasPoints}
 use Rattle.segment_core.specs.Savepoint.{SavepointData, RollsBackTo}
 use Rattle.segment_core.proofs.Savepoints.{old_held, is_old}
@@ -27,7 +28,7 @@ removes : (c : goal.After-drop-saved-inside) (r : RecordData)
 unfolding saved now
 removes c =
     subst
-    (λ (keys : List (ℕ × ℕ)). (r : RecordData) → Contains c.take_out.new.hot r ↔ (Contains c.self.inside.hot r × (Contains keys (key_of r) → ⊥)))
+    (λ (keys : List Key). (r : RecordData) → Contains c.take_out.new.hot r ↔ (Contains c.self.inside.hot r × (Contains keys (key_of r) → ⊥)))
     c.deref.ensures.value c.take_out.ensures.removes
 
 pub invariant_of-self : goal.invariant_of-self

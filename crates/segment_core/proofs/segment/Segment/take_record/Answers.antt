@@ -9,17 +9,17 @@ use Rattle.segment_core.proofs.Taking.{settled_exact, put_exact}
 use Rattle.segment_core.proofs.DuePages.{put_due}
 use Rattle.segment_core.proofs.segment.Segment.take_record.Goals as goal
 
-pub returns-then-is_dead_or_settled : goal.returns-then-is_dead_or_settled
-returns-then-is_dead_or_settled c =
-    settled_exact takes_known c.args.self.now c.args.redo (c.is_dead_or_settled.ensures.0 c.if-is_dead_or_settled.true)
+pub returns-then-is_settled : goal.returns-then-is_settled
+returns-then-is_settled c =
+    settled_exact takes_known c.args.self.now c.args.redo (c.is_settled.ensures.0 c.if-is_settled.true)
 
 pub returns : goal.returns
 returns c =
     let book = c.self.inside.book in
     let held = c.self.inside.hot in
     let compared = subst (λ (s : State). IsDeadOrSettled s c.args.redo → ⊥) (sym c.self.view_is)
-    (λ h. let t : c.is_dead_or_settled.result ≡ true = c.is_dead_or_settled.ensures.1 h in let f : c.is_dead_or_settled.result ≡ false =
-    c.if-is_dead_or_settled.false in absurd (cc)) in
+    (λ h. let t : c.is_settled.result ≡ true = c.is_settled.ensures.1 h in let f : c.is_settled.result ≡ false =
+    c.if-is_settled.false in absurd (cc)) in
     subst (λ s. TakesExactly s (Record c.args.redo) c.put_answer.result (state_of book c.put.new.hot c.self.inside.base c.self.inside.store)) c.self.view_is
     (put_exact takes_record takes_known book held c.put.new.hot c.self.inside.base c.self.inside.store c.args.redo c.put.result c.put_answer.result
     c.put.ensures.form compared c.put.ensures.put c.put.ensures.refused c.put.ensures.unchanged c.put_answer.ensures)

@@ -1,12 +1,39 @@
-ghost use Rattle.std.specs.Prelude.{◌≡◌, ◌≤◌, OnOk, OnErr};
+ghost use Rattle.std.specs.Prelude.{◌≡◌, ◌≤◌, OnOk, OnErr, IfErr};
 ghost use Rattle.segment_state.specs.State.{min_of};
+ghost use Rattle.segment_core.specs.Adopting.{AdoptsBase};
 ghost use Rattle.segment_core.specs.Uniting.{Unites, RaisesBase};
 
 use crate::segment::Segment;
 use page_base::BaseImage;
+use redo_core::{Refused, SharedPage};
 use std::alloc::AllocError;
 
 impl Segment {
+    /// Raises the base point to `base` where that is higher, and adopts base images: each page of a version below `base` takes
+    /// the first image given for it, or zeros, at `base`.
+    ///
+    /// `base` is a number of the log, at most the minimum read point. Its only error is want of memory: the segment is then as
+    /// it was, and the images come back.
+    pub fn adopt(
+        &mut self,
+        base: u64,
+        pages: Vec<(u16, SharedPage)>,
+    ) -> Result<(), Refused<Vec<(u16, SharedPage)>, AllocError>>
+        requires { base ≤ min_of self.old }
+        ensures adopts { OnOk result (AdoptsBase self.old base pages.items self.new) }
+        ensures refused { IfErr result (λ e. e.value ≡ pages) }
+        ensures unchanged { OnErr result (self.new ≡ self.old) }
+    {
+        match self.store.adopt(base, pages) {
+            Ok(()) => {
+                self.due.add_images(&self.store);
+                self.raise_base(base);
+                Ok(())
+            }
+            Err(refused) => Err(refused),
+        }
+    }
+
     /// Raises the base point to `base`, and takes in images: each is raised to its version, and then each page below `floor` to it,
     /// as zeros.
     ///

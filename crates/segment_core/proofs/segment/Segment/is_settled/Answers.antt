@@ -3,7 +3,7 @@ use Rattle.segment_state.specs.State.{State}
 use Rattle.segment_core.specs.Refusing.{IsDeadOrSettled}
 use Rattle.redo_core.specs.Standing.{IsAlive}
 use Rattle.segment_core.proofs.Chain.{dead_is_not, waiting_is, alive_is}
-use Rattle.segment_core.proofs.segment.Segment.is_dead_or_settled.Goals as goal
+use Rattle.segment_core.proofs.segment.Segment.is_settled.Goals as goal
 
 pub returns-in-Dead : goal.returns-in-Dead
 returns-in-Dead c =
