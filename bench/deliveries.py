@@ -1,7 +1,7 @@
 #!/usr/bin/env python3
 """Measures how fast threads deliver the facts of a log to a node, beside a mutex round the same segment.
 
-The program is the crate `cell_bench`, proved and built over this tree's `node_cell`. It makes the facts of a log, deals them to
+The program is the crate `node_bench`, proved and built over this tree's `node_cell`. It makes the facts of a log, deals them to
 threads and lets those deliver them, each fact once. A round has a run that delivers to a node, one to the mutex, and one that makes
 and deals the facts and lets them go, whose wall and processor seconds are taken off those of both. The medians of the rounds are
 printed.
@@ -22,15 +22,15 @@ FACTS = 2_097_154
 
 def built():
     """The program, over the libraries that are built already."""
-    crate = ROOT / "crates/cell_bench"
+    crate = ROOT / "crates/node_bench"
     subprocess.run(["rt", "run"], cwd=crate, stdin=subprocess.DEVNULL, stdout=sys.stderr, check=True)
-    return crate / "out/cell_bench"
+    return crate / "out/node_bench"
 
 
 def measured(program, taker, threads, facts):
     """Wall and processor seconds of a run."""
     before, start = resource.getrusage(resource.RUSAGE_CHILDREN), time.perf_counter()
-    answer = subprocess.run([program], input=f"{taker} {threads} {facts}\n".encode(), stdout=subprocess.PIPE, check=True).stdout
+    answer = subprocess.run([program], input=f"deliver {taker} all {threads} {facts}\n".encode(), stdout=subprocess.PIPE, check=True).stdout
     wall, after = time.perf_counter() - start, resource.getrusage(resource.RUSAGE_CHILDREN)
     wanted = 0 if taker == "none" else facts
     if answer != f"{wanted} accepted\n".encode():

@@ -1,7 +1,7 @@
 #!/usr/bin/env python3
 """Measures how threads wait at a node's lock, beside a mutex round the same work.
 
-The program is the crate `lock_bench`, proved and built over this tree's `node_lock`. Each task is run a few times at each
+The program is the crate `node_bench`, proved and built over this tree's `node_lock`. Each task is run a few times at each
 number of threads, with the lock and with the mutex, and the medians of the wall and processor seconds are printed.
 """
 
@@ -24,9 +24,9 @@ TASKS = [
 
 def built():
     """The program, over the libraries that are built already."""
-    crate = ROOT / "crates/lock_bench"
+    crate = ROOT / "crates/node_bench"
     subprocess.run(["rt", "run"], cwd=crate, stdin=subprocess.DEVNULL, stdout=sys.stderr, check=True)
-    return crate / "out/lock_bench"
+    return crate / "out/node_bench"
 
 
 def measured(program, line):
@@ -52,7 +52,7 @@ def main(words):
     print("| task | threads | the lock, wall / processor seconds | a mutex |\n|---|---|---|---|")
     for name, kind, turns, rounds in TASKS:
         for threads in given.threads:
-            told = [median(program, given.runs, f"{lock} {kind} {threads} {turns} {rounds}\n") for lock in ("lock", "mutex")]
+            told = [median(program, given.runs, f"turns {lock} {kind} {threads} {turns} {rounds}\n") for lock in ("lock", "mutex")]
             print(f"| {name} | {threads} | {told[0]} | {told[1]} |", flush=True)
 
 

@@ -13,10 +13,10 @@ use Rattle.redo_laws.proofs.Fronts.{same_sym}
 use Rattle.redo_laws.proofs.Log.{log_of_sound}
 use Rattle.redo_laws.proofs.Meanings.{meaning_exists}
 use Rattle.redo_laws.proofs.SameSets.{agree, alike_same, same_meanings}
-use Rattle.segment_state.specs.State.{State}
-use Rattle.segment_state.specs.Means.{Means, Matters}
-use Rattle.segment_state.specs.HasMeaning.{HasMeaning}
-use Rattle.segment_state.proofs.Same.{meaning_law}
+use Rattle.state_laws.specs.State.{State}
+use Rattle.state_laws.specs.Means.{Means, Matters}
+use Rattle.state_laws.specs.HasMeaning.{HasMeaning}
+use Rattle.state_laws.proofs.Same.{meaning_law}
 use Rattle.hydration.specs.Snapshots.{SnapshotData, Freezes}
 use Rattle.hydration.proofs.Frozen.{same_pages, same_records}
 

@@ -2,7 +2,7 @@
 use Rattle.std.proofs.Common.{◌≡◌, ℕ, ◌⊎◌, inl, inr, ⊎_elim, List, [], refl, sym, ap, subst, Option, Some, None, Result, Ok, Err}
 use Rattle.redo_core.specs.declared.facts.Fact.{Fact}
 use Rattle.messages.specs.Pieces.{PieceData}
-use Rattle.segment_state.specs.State.{State}
+use Rattle.state_laws.specs.State.{State}
 use Rattle.read_cache.specs.Cached.{Cached}
 use Rattle.hydration.specs.Snapshots.{SnapshotData}
 use Rattle.hydration.specs.Stagings.{StagingData, staging_of, Adds, RefusesPiece, IsStaging}

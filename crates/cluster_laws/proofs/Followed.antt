@@ -3,8 +3,8 @@ use Rattle.std.proofs.Common.{◌≡◌, ℕ, ⊎_elim, List, [], ◌∷◌, ◌
 use Rattle.std.proofs.lemmas.List.{append-nil}
 use Rattle.redo_core.specs.Sound.{IsSound}
 use Rattle.redo_core.specs.declared.facts.Fact.{Fact}
-use Rattle.segment_state.specs.State.{empty_state}
-use Rattle.segment_state.specs.AnswersAs.{StatesAnswer}
+use Rattle.state_laws.specs.State.{empty_state}
+use Rattle.state_laws.specs.AnswersAs.{StatesAnswer}
 use Rattle.read_cache.specs.Cached.{Cached, cached}
 use Rattle.hydration.specs.Snapshots.{SnapshotData}
 use Rattle.hydration.specs.Stagings.{StagingData}

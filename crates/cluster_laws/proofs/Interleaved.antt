@@ -3,7 +3,7 @@ use Rattle.std.proofs.Common.{ℕ, List, [], ◌∷◌, Bool, true, false, sym, 
 use Rattle.std.specs.List.{AllZip}
 use Rattle.redo_core.specs.Sound.{IsSound}
 use Rattle.redo_core.specs.declared.facts.Fact.{Fact}
-use Rattle.segment_state.specs.AnswersAs.{StatesAnswer}
+use Rattle.state_laws.specs.AnswersAs.{StatesAnswer}
 use Rattle.replica.specs.declared.requests.Request.{Request}
 use Rattle.replica.specs.declared.replies.Reply.{Reply}
 use Rattle.replica.specs.Machine.{IsReply}

@@ -11,8 +11,8 @@ use Rattle.redo_laws.proofs.Fronts.{same_sym}
 use Rattle.messages.specs.Pieces.{PieceData, max_batch}
 use Rattle.messages.specs.declared.pieces.PieceContent.{PieceContent}
 use Rattle.messages.specs.declared.pieces.PieceContent.TheVariants.{Head, Page, Records}
-use Rattle.segment_state.specs.State.{State}
-use Rattle.segment_state.specs.Means.{Means}
+use Rattle.state_laws.specs.State.{State}
+use Rattle.state_laws.specs.Means.{Means}
 use Rattle.hydration.specs.Snapshots.{SnapshotData, Freezes, IsContentAt, IsPieceOf}
 use Rattle.hydration.specs.Stagings.{StagingData, piece_at, IsStranger, IsStaging}
 use Rattle.hydration.specs.Hydrating.{Hydrates, IsOfState}

@@ -10,9 +10,9 @@ use Rattle.redo_laws.proofs.Fronts.{front_unique, page_unique}
 use Rattle.redo_laws.proofs.Log.{log_of_sound}
 use Rattle.messages.specs.Deltas.{DeltaData}
 use Rattle.messages.specs.Summaries.{SummaryData}
-use Rattle.segment_state.specs.State.{State, version_of}
-use Rattle.segment_state.specs.Means.{Means}
-use Rattle.segment_state.proofs.Same.{meaning_law}
+use Rattle.state_laws.specs.State.{State, version_of}
+use Rattle.state_laws.specs.Means.{Means}
+use Rattle.state_laws.proofs.Same.{meaning_law}
 use Rattle.segment_core.specs.Folding.{Commits}
 use Rattle.segment_core.specs.Forgetting.{IsSoundState}
 use Rattle.segment_core.specs.Reading.{IsFrontAt, IsReadResult}

@@ -4,7 +4,7 @@ use Rattle.std.proofs.lemmas.Option.{same_Some}
 use Rattle.redo_core.specs.declared.facts.Fact.{Fact}
 use Rattle.redo_core.proofs.Members.{here, there}
 use Rattle.messages.specs.Pieces.{PieceData}
-use Rattle.segment_state.specs.Means.{Means}
+use Rattle.state_laws.specs.Means.{Means}
 use Rattle.hydration.specs.Stagings.{StagingData, staging_of, piece_at}
 use Rattle.replica.specs.declared.requests.Request.{Request}
 use Rattle.replica.specs.declared.requests.Request.TheVariants as request

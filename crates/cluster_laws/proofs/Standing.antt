@@ -5,9 +5,9 @@ use Rattle.redo_core.specs.declared.facts.Fact.{Fact}
 use Rattle.messages.specs.Deltas.{DeltaData}
 use Rattle.messages.specs.Pieces.{PieceData}
 use Rattle.messages.specs.Summaries.{SummaryData}
-use Rattle.segment_state.specs.State.{State}
-use Rattle.segment_state.specs.Means.{Means}
-use Rattle.segment_state.proofs.Bare.{empty_means}
+use Rattle.state_laws.specs.State.{State}
+use Rattle.state_laws.specs.Means.{Means}
+use Rattle.state_laws.proofs.Bare.{empty_means}
 use Rattle.segment_core.specs.declared.answers.ReadFault.{ReadFault}
 use Rattle.segment_core.specs.declared.answers.ReadFault.TheVariants as fault
 use Rattle.gossip_core.specs.Replying.{FillsSummary}

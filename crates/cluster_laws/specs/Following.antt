@@ -3,7 +3,7 @@ use Rattle.std.specs.Prelude.{◌≡◌, ℕ, List, ◌∷◌, ◌++◌}
 use Rattle.redo_core.specs.Sets.{SameSet}
 use Rattle.redo_core.specs.Sound.{IsSound}
 use Rattle.redo_core.specs.declared.facts.Fact.{Fact}
-use Rattle.segment_state.specs.AnswersAs.{AnswersAs}
+use Rattle.state_laws.specs.AnswersAs.{AnswersAs}
 use Rattle.replica.specs.declared.requests.Request.{Request}
 use Rattle.replica.specs.declared.requests.Request.TheVariants as request
 use Rattle.replica.specs.declared.replies.Reply.TheVariants as reply

@@ -5,7 +5,7 @@ use Rattle.redo_core.specs.Position.{Position, IsPosition}
 use Rattle.redo_core.specs.declared.facts.Fact.{Fact}
 use Rattle.messages.specs.Deltas.{DeltaData}
 use Rattle.messages.specs.Summaries.{SummaryData}
-use Rattle.segment_state.specs.Gossip.{AnswersFor, Fills}
+use Rattle.state_laws.specs.Gossip.{AnswersFor, Fills}
 use Rattle.segment_core.specs.Reading.{IsFrontAt, IsReadResult}
 use Rattle.segment_core.specs.declared.answers.Front.{Front}
 use Rattle.segment_core.specs.declared.answers.ReadFault.{ReadFault}

@@ -13,7 +13,7 @@ ghost use Rattle.cluster_laws.specs.Naming.{NamesSuffice};
 ghost use Rattle.cluster_laws.specs.Streams.{StreamsFollow};
 
 use node_stream::laws::{answers_run, frames_run};
-use segment_state::states_answer;
+use state_laws::states_answer;
 
 /// After any run each node answers as the set of facts that has reached it, and each reply of the run is that of the facts that had
 /// reached its node by then.

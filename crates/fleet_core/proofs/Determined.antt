@@ -4,6 +4,7 @@ use Rattle.std.proofs.Common.{◌∷◌, ◌++◌, refl, sym, ap, ◌∙◌, sub
 use Rattle.std.specs.Prelude.{MatchOption, length}
 use Rattle.std.specs.List.{Contains, AllByRecursion}
 use Rattle.redo_core.specs.Sets.{IsPart}
+use Rattle.redo_core.specs.Keys.{KeyBefore}
 use Rattle.redo_core.specs.Position.{Position, IsPosition}
 use Rattle.redo_core.specs.Sound.{IsSound}
 use Rattle.redo_core.specs.Answer.{ReadAnswer, IsReadAnswer}
@@ -15,9 +16,7 @@ use Rattle.redo_laws.proofs.Fronts.{front_unique, page_unique}
 use Rattle.redo_laws.proofs.Meanings.{meaning_exists, in_map}
 use Rattle.redo_core.specs.Meaning.{Meaning}
 use Rattle.redo_core.proofs.Pairs.{pair_apart}
-use Rattle.messages.specs.Keys.{KeyBefore}
-use Rattle.segment_state.specs.Gossip.{AnswersFor}
-use Rattle.gossip_core.specs.Answering.{listed_key}
+use Rattle.state_laws.specs.Gossip.{AnswersFor}
 use Rattle.gossip_core.specs.declared.answering.Shown.{Shown}
 use Rattle.gossip_core.specs.declared.answering.Shown.TheVariants.{Anchor as OfAnchor, Key as OfKey}
 use Rattle.redo_core.proofs.Members.{none_in, which}
@@ -112,7 +111,7 @@ one_covers roster log facts others r s sound part its h k =
 not_both : (facts : List Fact) (p : Position) (m : Meaning) (shown : Shown) → AnswersFor facts p (summary_of_meaning m) → LeavesUncovered facts p m shown → ⊥
 not_both facts p m (OfAnchor a) all h = let low : m.anchor ≤ p.anchor = all.anchor in
     omega (arith, low, h.1)
-not_both facts p m (OfKey key) all h = h.1.has.1 (all.keys (listed_key key) (in_map listed_key (keys_of m) key h.1.has.0))
+not_both facts p m (OfKey key) all h = h.1.has.1 (all.keys key h.1.has.0)
 
 one_shown : (facts : List Fact) (p : Position) (m : Meaning) (x y : Shown) → LeavesUncovered facts p m x → LeavesUncovered facts p m y → x ≡ y
 one_shown facts p m (OfAnchor a) (OfAnchor b) h k = ap OfAnchor (h.0 ∙ sym k.0)

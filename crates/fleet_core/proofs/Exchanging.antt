@@ -7,9 +7,9 @@ use Rattle.redo_core.specs.declared.facts.Fact.{Fact}
 use Rattle.redo_laws.proofs.Log.{log_of_sound}
 use Rattle.messages.specs.Summaries.{SummaryData}
 use Rattle.messages.specs.Deltas.{DeltaData}
-use Rattle.segment_state.specs.State.{State}
-use Rattle.segment_state.specs.Means.{Means}
-use Rattle.segment_state.proofs.Same.{meaning_law}
+use Rattle.state_laws.specs.State.{State}
+use Rattle.state_laws.specs.Means.{Means}
+use Rattle.state_laws.proofs.Same.{meaning_law}
 use Rattle.segment_core.specs.declared.answers.ReadFault.{ReadFault}
 use Rattle.segment_core.specs.declared.answers.ReadFault.TheVariants as fault
 use Rattle.segment_core.specs.declared.answers.Refusal.TheVariants as refusal

@@ -5,10 +5,10 @@ use Rattle.redo_core.specs.Position.{Position}
 use Rattle.redo_core.specs.Answer.ReadAnswer.{Image as OfImage, Below as OfBelow, Above as OfAbove}
 use Rattle.redo_core.specs.declared.facts.Fact.{Fact}
 use Rattle.redo_core.specs.declared.refusal.Refused.{Refused}
-use Rattle.segment_state.specs.State.{State, min_of}
-use Rattle.segment_state.specs.Means.{Means, MeansAt}
-use Rattle.segment_state.specs.HasMeaning.{HasAnchor, IsLinkedIn}
-use Rattle.segment_state.specs.Promises.{TakesFact, KeepsMeaning, KeepsMeaningWith, IsFinalPage}
+use Rattle.state_laws.specs.State.{State, min_of}
+use Rattle.state_laws.specs.Means.{Means, MeansAt}
+use Rattle.state_laws.specs.HasMeaning.{HasAnchor, IsLinkedIn}
+use Rattle.state_laws.specs.Promises.{TakesFact, KeepsMeaning, KeepsMeaningWith, IsFinalPage}
 use Rattle.redo_core.specs.PageAt.{IsPageAt}
 use Rattle.redo_core.proofs.Numbers.{greatest_unique}
 use Rattle.segment_core.specs.Folding.{IsFoldOf, PlansFold, RefusesCommit}
@@ -32,7 +32,7 @@ use Rattle.fleet_core.specs.AtNode.{OwnFollows}
 use Rattle.fleet_core.specs.Calls.{Takes}
 use Rattle.segment_core.proofs.Finality.{fold_is_final}
 use Rattle.segment_core.proofs.Taking.{take_tells, take_sound}
-use Rattle.segment_state.proofs.Knowing.{unchanged_exactly, no_conflict}
+use Rattle.state_laws.proofs.Knowing.{unchanged_exactly, no_conflict}
 
 -- a step that is replied Memory, and changes nothing
 take_without_memory : (readers : ℕ) (other : Option State) (s : State) (node : ℕ) (fact : Fact) → OwnFollows readers s other (Take node fact) Memory s

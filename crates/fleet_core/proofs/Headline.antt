@@ -4,10 +4,10 @@ use Rattle.std.specs.List.{AllZip}
 use Rattle.redo_core.specs.Sound.{IsSound}
 use Rattle.redo_core.specs.declared.facts.Fact.{Fact}
 use Rattle.redo_laws.specs.OrderOfMeanings.{LeastUpperBound, OrderByParts}
-use Rattle.segment_state.specs.State.{State, empty_state}
-use Rattle.segment_state.specs.Means.{Means}
-use Rattle.segment_state.specs.AnswersAs.{AnswersAs, StatesAnswer}
-use Rattle.segment_state.proofs.Bare.{empty_means}
+use Rattle.state_laws.specs.State.{State, empty_state}
+use Rattle.state_laws.specs.Means.{Means}
+use Rattle.state_laws.specs.AnswersAs.{AnswersAs, StatesAnswer}
+use Rattle.state_laws.proofs.Bare.{empty_means}
 use Rattle.fleet_core.specs.Machine.{empty_machine}
 use Rattle.fleet_core.specs.Runs.{MeansMachine}
 use Rattle.fleet_core.specs.FleetState.{empty_fleet}

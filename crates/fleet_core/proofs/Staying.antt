@@ -4,7 +4,7 @@ use Rattle.std.specs.Prelude.{MatchOption}
 use Rattle.redo_core.specs.declared.facts.Fact.{Fact}
 use Rattle.messages.specs.Summaries.{SummaryData}
 use Rattle.messages.specs.Deltas.{DeltaData}
-use Rattle.segment_state.specs.State.{State}
+use Rattle.state_laws.specs.State.{State}
 use Rattle.segment_core.specs.declared.answers.ReadFault.{ReadFault}
 use Rattle.fleet_steps.specs.Nodes.{nodes_of, first_missing}
 use Rattle.fleet_steps.specs.declared.steps.Step.{Step}

@@ -1,13 +1,14 @@
 -- A record that there is no memory to copy is answered as the segment's own take of it would, where it finds none.
-use Rattle.std.proofs.Common.{◌≡◌, ◌≢◌, ℕ, List, refl, subst, Option, Some, None, Ok, Err}
+use Rattle.std.proofs.Common.{◌≡◌, ◌≢◌, refl, subst, Option, Some, None, Ok, Err}
 use Rattle.redo_core.specs.Data.{RecordData}
+use Rattle.redo_core.specs.Keys.{key_of}
 use Rattle.redo_core.specs.declared.facts.Fact.TheVariants.{Record}
 use Rattle.hot_log.specs.Held.{IsHeld, IsRecordAt}
 use Rattle.hot_log.specs.declared.log.Put.TheVariants as put
 use Rattle.hot_log.specs.declared.log.PutFault.TheVariants as fault
-use Rattle.segment_state.specs.State.{State}
-use Rattle.segment_state.proofs.Learnt.{takes_record}
-use Rattle.segment_state.proofs.Knowing.{takes_known}
+use Rattle.state_laws.specs.State.{State}
+use Rattle.state_laws.proofs.Learnt.{takes_record}
+use Rattle.state_laws.proofs.Knowing.{takes_known}
 use Rattle.segment_core.specs.Refusing.{IsDeadOrSettled}
 use Rattle.segment_core.specs.declared.answers.Taken.TheVariants as taken
 use Rattle.segment_core.specs.declared.answers.Refusal.TheVariants as refusal
@@ -19,24 +20,18 @@ use Rattle.fleet_core.specs.Calls.{Takes}
 pub takes_settled : (s : State) (r : RecordData) → IsDeadOrSettled s r → Takes s (Record r) Unchanged s
 takes_settled s r settled = (Ok taken.Unchanged, settled_exact takes_known s r settled, refl)
 
--- what stands under a key that is the record's
-pub at_own_key : (held : List RecordData) (r : RecordData) (epoch number : ℕ) (found : Option RecordData) → epoch ≡ r.epoch → number ≡ r.number
-    → IsRecordAt held epoch number found → IsRecordAt held r.epoch r.number found
-at_own_key held r epoch number found e n at =
-    subst (λ x. IsRecordAt held r.epoch x found) n (subst (λ x. IsRecordAt held x number found) e at)
-
 -- it is held itself
-pub takes_held : (s : State) (r found : RecordData) → IsHeld s.held → (IsDeadOrSettled s r → ⊥) → IsRecordAt s.held r.epoch r.number (Some found)
+pub takes_held : (s : State) (r found : RecordData) → IsHeld s.held → (IsDeadOrSettled s r → ⊥) → IsRecordAt s.held (key_of r) (Some found)
     → found ≡ r → Takes s (Record r) Unchanged s
 takes_held s r found held compared at same = (
   Ok taken.Unchanged,
   put_exact takes_record takes_known s.book s.held s.held s.base s.store r (Ok put.Known) (Ok taken.Unchanged) held compared
-      ((subst (λ x. IsRecordAt s.held r.epoch r.number (Some x)) same at).0, refl) tt tt refl,
+      ((subst (λ x. IsRecordAt s.held (key_of r) (Some x)) same at).0, refl) tt tt refl,
   refl,
 )
 
 -- another one is held under its key
-pub refuses_other : (s : State) (r found : RecordData) → IsHeld s.held → (IsDeadOrSettled s r → ⊥) → IsRecordAt s.held r.epoch r.number (Some found)
+pub refuses_other : (s : State) (r found : RecordData) → IsHeld s.held → (IsDeadOrSettled s r → ⊥) → IsRecordAt s.held (key_of r) (Some found)
     → found ≢ r → Takes s (Record r) (Refused refusal.OtherRecord) s
 refuses_other s r found held compared at other = (
   Err (record { value = Record r; fault = refusal.OtherRecord }),
@@ -46,7 +41,7 @@ refuses_other s r found held compared at other = (
 )
 
 -- none is
-pub lacks_memory : (s : State) (r : RecordData) → IsHeld s.held → (IsDeadOrSettled s r → ⊥) → IsRecordAt s.held r.epoch r.number None
+pub lacks_memory : (s : State) (r : RecordData) → IsHeld s.held → (IsDeadOrSettled s r → ⊥) → IsRecordAt s.held (key_of r) None
     → Takes s (Record r) Memory s
 lacks_memory s r held compared none = (
   Err (record { value = Record r; fault = refusal.Memory }),

@@ -2,22 +2,21 @@
 use Rattle.std.proofs.Common.{◌≡◌, ℕ, inl, ⊎_elim, List, [], ◌∷◌, map, sym, ap, ◌∙◌, subst, arith, Some, None}
 use Rattle.std.specs.List.{Contains}
 use Rattle.redo_core.specs.Order.{IsFirst}
+use Rattle.redo_core.specs.declared.keys.Key.{Key}
 use Rattle.redo_core.specs.Position.{Position}
 use Rattle.redo_core.specs.Meaning.{Meaning}
 use Rattle.redo_core.specs.Sound.{IsSound}
 use Rattle.redo_core.specs.declared.facts.Fact.{Fact}
 use Rattle.redo_core.proofs.Members.{here, which, none_in, all_members}
 use Rattle.redo_laws.proofs.Log.{log_of_sound}
-use Rattle.messages.specs.declared.keys.Key.{Key}
 use Rattle.messages.specs.Summaries.{SummaryData}
-use Rattle.messages.specs.Keys.{KeyBefore}
-use Rattle.segment_state.specs.State.{State}
-use Rattle.segment_state.specs.Means.{MeansAt}
-use Rattle.segment_state.specs.HasMeaning.{HasAnchor}
-use Rattle.segment_state.specs.Gossip.{Listing, IsAccounted, AnswersFor}
-use Rattle.segment_state.proofs.Own.{anchor_law}
+use Rattle.state_laws.specs.State.{State}
+use Rattle.state_laws.specs.Means.{MeansAt}
+use Rattle.state_laws.specs.HasMeaning.{HasAnchor}
+use Rattle.state_laws.specs.Gossip.{Listing, IsAccounted, AnswersFor}
+use Rattle.state_laws.proofs.Own.{anchor_law}
 use Rattle.gossip_core.specs.Summarizing.{IsSummaryOf}
-use Rattle.gossip_core.specs.Answering.{IsCovered, IsUncoveredKey, IsUncovered, listed_key, listing_of}
+use Rattle.gossip_core.specs.Answering.{IsCovered, IsUncoveredKey, IsUncovered, listing_of}
 use Rattle.gossip_core.specs.declared.answering.Shown.{Shown}
 use Rattle.gossip_core.specs.declared.answering.Shown.TheVariants.{Anchor as OfAnchor, Key as OfKey}
 use Rattle.gossip_core.proofs.AnsweringFacts.{answers_for, tells_answer}
@@ -27,8 +26,8 @@ use Rattle.gossip_core.proofs.Uncovering.{accounted, not_accounted}
 -- the summary of a meaning, as messages carry it and as the machine speaks of it
 same_summary : (m : Meaning) (x : SummaryData) → IsSummaryOf m x → listing_of x ≡ summary_of_meaning m
 same_summary m x of =
-    ap (λ a. let l : Listing = record { anchor = a; keys = map listed_key x.keys } in l) of.anchor
-    ∙ ap (λ (keys : List Key). let l : Listing = record { anchor = m.anchor; keys = map listed_key keys } in l) of.keys
+    ap (λ a. let l : Listing = record { anchor = a; keys = x.keys } in l) of.anchor
+    ∙ ap (λ (keys : List Key). let l : Listing = record { anchor = m.anchor; keys = map keys } in l) of.keys
 
 module _ (roster : ℕ) (log F : List Fact) (f : Position) (s : State) (sound : IsSound roster log) (means : MeansAt roster log F f s) (anchor : ℕ)
     (has : HasAnchor s anchor) where

@@ -2,19 +2,17 @@
 use Rattle.std.specs.Prelude.{◌≡◌, ℕ, ◌+◌, ◌<◌, ◌≤◌, ◌⊎◌, ◌↔◌, Bool, IsTrue, List, [], ◌∷◌, ◌++◌, map, length, MatchOption}
 use Rattle.std.specs.List.{Contains}
 use Rattle.redo_core.specs.Order.{IsFirst}
+use Rattle.redo_core.specs.Keys.{key_of, KeyBefore}
+use Rattle.redo_core.specs.declared.keys.Key.{Key}
 use Rattle.redo_core.specs.Position.{Position, IsPosition}
 use Rattle.redo_core.specs.Answer.{ReadAnswer, IsReadAnswer}
 use Rattle.redo_core.specs.Answer.ReadAnswer.{Image as OfImage, Below as OfBelow, Above as OfAbove}
 use Rattle.redo_core.specs.Meaning.{Meaning, IsMeaning}
 use Rattle.redo_core.specs.declared.facts.Fact.{Fact}
 use Rattle.redo_laws.specs.OrderOfMeanings.{Covers}
-use Rattle.messages.specs.declared.keys.Key.{Key}
-use Rattle.messages.specs.Keys.{KeyBefore}
-use Rattle.segment_state.specs.Gossip.{Listing, IsAccounted, AnswersFor}
+use Rattle.state_laws.specs.Gossip.{Listing, IsAccounted, AnswersFor}
 use Rattle.segment_core.specs.Reading.{IsFrontAt}
 use Rattle.segment_core.specs.declared.answers.Front.{Front}
-use Rattle.gossip_core.specs.Summarizing.{wire_key}
-use Rattle.gossip_core.specs.Answering.{listed_key}
 use Rattle.gossip_core.specs.declared.answering.Shown.{Shown}
 use Rattle.gossip_core.specs.declared.answering.Shown.TheVariants.{Anchor as OfAnchor, Key as OfKey}
 use Rattle.fleet_steps.specs.Nodes.{node_of, other_of, nodes_of, first_missing}
@@ -75,15 +73,15 @@ pub record RepliesCovers (roster : ℕ) (facts others : List Fact) (reply : Repl
 
 -- the keys of the records that a meaning keeps
 abbrev pub keys_of : Meaning → List Key
-keys_of m = map wire_key m.kept
+keys_of m = map key_of m.kept
 
 -- the summary of a meaning
 abbrev pub summary_of_meaning : Meaning → Listing
-summary_of_meaning m = record { anchor = m.anchor; keys = map listed_key (keys_of m) }
+summary_of_meaning m = record { anchor = m.anchor; keys = keys_of m }
 
 -- the summary has a key that facts which stand at p do not account for
 abbrev pub LacksKey : List Fact → Position → Meaning → Key → Type 0
-LacksKey facts p m key = Contains (keys_of m) key × (IsAccounted facts p (listed_key key) → ⊥)
+LacksKey facts p m key = Contains (keys_of m) key × (IsAccounted facts p key → ⊥)
 
 -- what of the summary they do not answer for: its anchor where that is above theirs, else the least such key
 abbrev pub LeavesUncovered : List Fact → Position → Meaning → Shown → Type 0

@@ -1,7 +1,7 @@
 ghost use Rattle.std.specs.Prelude.{◌≡◌, ℕ, ◌<◌, ◌↔◌, List, [], ◌∷◌, Option, Some, length, IfOk, OnErr};
 ghost use Rattle.std.specs.Option.{option_copied};
 ghost use Rattle.redo_core.specs.declared.facts.Fact.{Fact as AnyFact};
-ghost use Rattle.segment_state.specs.State.{State};
+ghost use Rattle.state_laws.specs.State.{State};
 ghost use Rattle.fleet_steps.specs.Nodes.{nodes_of, first_missing};
 ghost use Rattle.fleet_steps.specs.declared.steps.Step.TheVariants.{Take as TakeOf, Fold as FoldOf, Wipe as WipeOf};
 ghost use Rattle.fleet_core.specs.AtNode.{OwnFollows, IsCarriedOut, CarriesOut};

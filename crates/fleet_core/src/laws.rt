@@ -3,7 +3,7 @@ ghost use Rattle.fleet_core.specs.Headline.{Headline, NodesCoverByParts};
 ghost use Rattle.fleet_core.specs.Laws.{OneReply, OneRun, RunsGoOn, CallsGoOn, MessagesStay};
 
 use redo_laws::{least_upper_bound, order_by_parts};
-use segment_state::states_answer;
+use state_laws::states_answer;
 
 /// The headline: after any script over a sound log the replies are those of the machine, and each segment answers as the set of facts
 /// that reached its node; and the meaning of a union is the least that is at or above both.

@@ -1,13 +1,11 @@
 //! Facts that reach a node.
-ghost use Rattle.std.specs.Prelude.{◌↔◌, IsTrue};
 ghost use Rattle.redo_core.specs.declared.facts.Fact.TheVariants.{Record as RecordOf};
-ghost use Rattle.segment_core.specs.Refusing.{IsDeadOrSettled};
 ghost use Rattle.fleet_core.specs.Calls.{Takes};
 
 use crate::replies::Reply;
 use crate::replying::taken_reply;
 use redo_core::{Fact, Record};
-use segment_core::{Refusal, Segment, Standing};
+use segment_core::{Refusal, Segment};
 
 /// Takes a fact.
 pub fn take_fact(segment: &mut Segment, fact: Fact) -> Reply
@@ -34,12 +32,12 @@ pub fn take_copy(segment: &mut Segment, fact: &Fact) -> Reply
 fn uncopied_reply(segment: &Segment, redo: &Record) -> Reply
     ensures { Takes segment.now (RecordOf redo.now) result segment.now }
 {
-    if is_dead_or_settled(segment, redo) {
+    if segment.is_settled(redo) {
         return Reply::Unchanged;
     }
-    // It is called for what it ensures: at most one record is held under a key.
-    let _base = segment.base_point();
-    match segment.get(redo.epoch(), redo.number()) {
+    // At most one record is held under a key.
+    segment.opens_form();
+    match segment.get(redo.key()) {
         Some(held) => {
             if held.is_same(redo) {
                 Reply::Unchanged
@@ -48,16 +46,5 @@ fn uncopied_reply(segment: &Segment, redo: &Record) -> Reply
             }
         }
         None => Reply::Memory,
-    }
-}
-
-/// Whether a record is dead, or alive at or below the anchor.
-fn is_dead_or_settled(segment: &Segment, redo: &Record) -> bool
-    ensures { IsTrue result ↔ IsDeadOrSettled segment.now redo.now }
-{
-    match segment.stands(redo.epoch(), redo.number()) {
-        Standing::Dead => true,
-        Standing::Waiting => false,
-        Standing::Alive => redo.number() <= segment.anchor(),
     }
 }

@@ -18,7 +18,7 @@ pub struct Joined<L: LogName> {
 }
 
 impl<L: LogName> Model for Joined<L> {
-    ghost use Rattle.segment_state.specs.State.{State};
+    ghost use Rattle.state_laws.specs.State.{State};
     ghost use Rattle.fleet_drill.specs.Parts.{MeansPart};
 
     ghost Value = { State };

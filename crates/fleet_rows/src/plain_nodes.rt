@@ -3,9 +3,8 @@
 
 use fleet_core::{Reply, Step};
 use gossip_core::Shown;
-use messages::Key;
 use plain_model::{Position, Standing, covers, page_at, position, same, standing};
-use redo_core::{Fact, Roster};
+use redo_core::{Fact, Key, Roster};
 use segment_core::Front;
 use std::alloc::{AllocError, Global};
 
@@ -242,10 +241,7 @@ impl PlainNodes {
 
 fn key_of(fact: &Fact) -> Option<Key> {
     match fact {
-        Fact::Record(redo) => Some(Key {
-            epoch: redo.epoch(),
-            number: redo.number(),
-        }),
+        Fact::Record(redo) => Some(redo.key()),
         _ => None,
     }
 }
@@ -266,7 +262,7 @@ fn has_key(facts: &[Fact], key: Key) -> bool {
 /// Whether the key comes before the other one, if there is another.
 fn is_first(key: Key, other: Option<Key>) -> bool {
     match other {
-        Some(other) => (key.epoch, key.number) < (other.epoch, other.number),
+        Some(other) => key < other,
         None => true,
     }
 }

@@ -12,10 +12,10 @@ use Rattle.redo_laws.proofs.Meanings.{in_map, from_map}
 use Rattle.page_base.specs.Raising.{SamePage}
 use Rattle.page_base.specs.Merging.{IsTaken, IsFloored, Merges}
 use Rattle.messages.specs.Deltas.{DeltaData, IsDelta}
-use Rattle.segment_state.specs.State.{State, StoredImage, min_of, version_of, image_of}
-use Rattle.segment_state.specs.Means.{Matters, IsInImage}
-use Rattle.segment_state.specs.Joining.{JoinsBooks}
-use Rattle.segment_state.specs.Gossip.{HasImage, JoinsDelta}
+use Rattle.state_laws.specs.State.{State, StoredImage, min_of, version_of, image_of}
+use Rattle.state_laws.specs.Means.{Matters, IsInImage}
+use Rattle.state_laws.specs.Joining.{JoinsBooks}
+use Rattle.state_laws.specs.Gossip.{HasImage, JoinsDelta}
 use Rattle.segment_core.specs.Form.{IsSegment}
 use Rattle.segment_core.specs.Uniting.{Unites}
 use Rattle.segment_told.specs.Told.{facts_told}

@@ -3,18 +3,19 @@ use Rattle.std.proofs.Common.{◌≡◌, ◌↔◌, ℕ, ◌<◌, ◌≤◌, ◌
 use Rattle.std.proofs.lemmas.Bool.{eqb-true}
 use Rattle.std.specs.List.{All, AllByRecursion, Contains}
 use Rattle.redo_core.specs.Order.{IsRising, IsFirst}
+use Rattle.redo_core.specs.Keys.{key_of}
+use Rattle.redo_core.specs.declared.keys.Key.{Key}
 use Rattle.redo_core.specs.Standing.{IsAlive, IsDead, IsWaiting}
 use Rattle.redo_core.proofs.Members.{none_in, here, there, which}
-use Rattle.messages.specs.declared.keys.Key.{Key}
 use Rattle.epoch_book.specs.declared.standing.Standing.TheVariants.{Alive, Dead}
-use Rattle.segment_state.specs.State.{State}
-use Rattle.segment_state.specs.HasMeaning.{IsKeptBy}
+use Rattle.state_laws.specs.State.{State}
+use Rattle.state_laws.specs.HasMeaning.{IsKeptBy}
 use Rattle.segment_core.specs.Standing.{StandsAt}
 use Rattle.gossip_core.specs.Answering.{IsCovered}
 use Rattle.hot_log.specs.Held.{HoldsKey}
 use Rattle.hot_log.specs.Kept.{ListsKeysOf}
-use Rattle.hot_log.specs.Paged.{key_of}
 use Rattle.redo_laws.proofs.Meanings.{from_map}
+use Rattle.gossip_core.proofs.Parts.{one_key}
 
 each_of : {X : Type 0} (P : X → Type 0) (xs : List X) → AllByRecursion P xs → (x : X) → Contains xs x → P x
 each_of P [] all x h = absurd (none_in x h)
@@ -50,46 +51,20 @@ any_default [] i x y lt = absurd (omega (arith, lt))
 any_default (z ∷ zs) zero x y lt = refl
 any_default (z ∷ zs) (suc i) x y lt = any_default zs i x y (omega (arith, lt))
 
-pub dead_covers : (s : State) (anchor : ℕ) (key : Key) → StandsAt s key.epoch key.number Dead → IsTrue true ↔ IsCovered s anchor key
-dead_covers s anchor key stands = (λ h. inr (inl (stands.dead.0 refl)), λ h. refl)
-
-pub settled_covers : (s : State) (anchor : ℕ) (key : Key) → StandsAt s key.epoch key.number Alive → key.number ≤ anchor → IsTrue true ↔ IsCovered s anchor key
-settled_covers s anchor key stands low = (λ h. inr (inr ((stands.alive.0 refl).known, low)), λ h. refl)
-
-pub held_covers : (s : State) (anchor : ℕ) (key : Key) (is_held : Bool)
-    → IsWaiting s.book.complete key.epoch ⊎ (IsAlive s.book.cuts s.book.complete key.epoch key.number × (anchor < key.number))
-    → IsTrue is_held ↔ HoldsKey s.held key.epoch key.number → IsTrue is_held ↔ IsCovered s anchor key
-held_covers s anchor key is_held wanted tells = (
-  λ h. inl (tells.0 h),
-  λ has. ⊎_elim
-      (λ (held : HoldsKey s.held key.epoch key.number). tells.1 held)
-      (λ gone. absurd (⊎_elim
-      (λ (dead : IsDead s.book.cuts s.book.complete key.epoch key.number). ⊎_elim
-      (λ (w : IsWaiting s.book.complete key.epoch). omega (arith, w, dead.0))
-      (λ (a : IsAlive s.book.cuts s.book.complete key.epoch key.number × (anchor < key.number)). dead.1 a.0) wanted)
-      (λ (low : (key.epoch ≤ s.book.complete) × (key.number ≤ anchor)). ⊎_elim
-      (λ (w : IsWaiting s.book.complete key.epoch). omega (arith, w, low.0))
-      (λ (a : IsAlive s.book.cuts s.book.complete key.epoch key.number × (anchor < key.number)). omega (arith, a.1, low.1)) wanted)
-      gone))
-      has,
-)
-
--- a key and a pair that are told to be equal are: what has the one has the other
+-- two keys that are told to be equal are: what lists the one lists the other
 both : (p q : Bool) → (p && q) ≡ true → (p ≡ true) × (q ≡ true)
 both true true h = (refl, refl)
 both true false h = absurd (cc)
 both false q h = absurd (cc)
 
-pub same_key : (pairs : List (ℕ × ℕ)) (key : Key) (pair : ℕ × ℕ) → (eqb key.epoch pair.0 && eqb key.number pair.1) ≡ true → Contains pairs pair
-    → Contains pairs (key.epoch, key.number)
-same_key pairs key pair same has =
-    let parts = both (eqb key.epoch pair.0) (eqb key.number pair.1) same in
-    subst (λ e. Contains pairs (e, key.number)) (sym (eqb-true key.epoch pair.0 parts.0))
-    (subst (λ n. Contains pairs (pair.0, n)) (sym (eqb-true key.number pair.1 parts.1)) has)
+pub same_key : (keys : List Key) (key other : Key) → (eqb key.epoch other.epoch && eqb key.number other.number) ≡ true → Contains keys other → Contains keys key
+same_key keys key other same has =
+    let parts = both (eqb key.epoch other.epoch) (eqb key.number other.number) same in
+    subst (Contains keys) (one_key other key (sym (eqb-true key.epoch other.epoch parts.0)) (sym (eqb-true key.number other.number parts.1))) has
 
 -- a kept key is accounted for
-pub kept_is_covered : (s : State) (anchor : ℕ) (keys : List (ℕ × ℕ)) → ListsKeysOf (IsKeptBy s anchor) keys → (key : Key) → Contains keys (key.epoch, key.number)
+pub kept_is_covered : (s : State) (anchor : ℕ) (keys : List Key) → ListsKeysOf (IsKeptBy s anchor) keys → (key : Key) → Contains keys key
     → IsCovered s anchor key
 kept_is_covered s anchor keys all key has =
-    let x = from_map key_of all.kept (key.epoch, key.number) (subst (λ (ks : List (ℕ × ℕ)). Contains ks (key.epoch, key.number)) all.keys_are has) in
-    let kept = (all.lists.members x.0).0 x.1 in inl (x.0, kept.0, (ap (λ (y : ℕ × ℕ). y.0) x.2, ap (λ (y : ℕ × ℕ). y.1) x.2))
+    let x = from_map key_of all.kept key (subst (λ (ks : List Key). Contains ks key) all.keys_are has) in
+    let kept = (all.lists.members x.0).0 x.1 in inl (x.0, kept.0, (ap (λ (y : Key). y.epoch) x.2, ap (λ (y : Key). y.number) x.2))

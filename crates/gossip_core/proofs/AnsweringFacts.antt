@@ -2,6 +2,7 @@
 use Rattle.std.proofs.Common.{◌≡◌, ℕ, ◌<◌, ◌≤◌, ◌⊎◌, ◌↔◌, inl, inr, ⊎_elim, List, Option, Some, None, refl, sym, subst, arith}
 use Rattle.std.specs.List.{Contains}
 use Rattle.redo_core.specs.Data.{RecordData}
+use Rattle.redo_core.specs.declared.keys.Key.{Key}
 use Rattle.redo_core.specs.Position.{Position}
 use Rattle.redo_core.specs.Sets.{cuts}
 use Rattle.redo_core.specs.Sound.{IsSound}
@@ -13,15 +14,14 @@ use Rattle.redo_laws.proofs.Deciding.{settled_lt}
 use Rattle.redo_laws.proofs.Fronts.{settled_alive, same_sym}
 use Rattle.redo_laws.proofs.Log.{log_of_sound}
 use Rattle.redo_laws.proofs.Meanings.{in_map, from_map}
-use Rattle.messages.specs.declared.keys.Key.{Key}
 use Rattle.messages.specs.Summaries.{SummaryData}
-use Rattle.segment_state.specs.State.{State}
-use Rattle.segment_state.specs.Means.{MeansAt, Matters, IsInImage}
-use Rattle.segment_state.specs.HasMeaning.{HasAnchor}
-use Rattle.segment_state.specs.Gossip.{IsAccounted, AnswersFor}
-use Rattle.segment_state.proofs.Own.{anchor_law}
+use Rattle.state_laws.specs.State.{State}
+use Rattle.state_laws.specs.Means.{MeansAt, Matters, IsInImage}
+use Rattle.state_laws.specs.HasMeaning.{HasAnchor}
+use Rattle.state_laws.specs.Gossip.{IsAccounted, AnswersFor}
+use Rattle.state_laws.proofs.Own.{anchor_law}
 use Rattle.segment_told.proofs.Scanning.{of_member}
-use Rattle.gossip_core.specs.Answering.{IsCovered, IsUncovered, listed_key, listing_of}
+use Rattle.gossip_core.specs.Answering.{IsCovered, IsUncovered, listing_of}
 use Rattle.gossip_core.specs.declared.answering.Shown.{Shown}
 use Rattle.gossip_core.specs.declared.answering.Shown.TheVariants.{Anchor as OfAnchor, Key as OfKey}
 use Rattle.hot_log.specs.Held.{HoldsKey}
@@ -31,7 +31,7 @@ module _ (roster : ℕ) (log F : List Fact) (f : Position) (s : State) (sound : 
   IsWanted : Key → Type 0
   IsWanted key = IsWaiting f.epoch key.epoch ⊎ (IsAlive (cuts F) f.epoch key.epoch key.number × (f.anchor < key.number))
 
-  kept : (key : Key) (r : RecordData) → Contains s.held r → r.epoch ≡ key.epoch → r.number ≡ key.number → IsWanted key → IsAccounted F f (listed_key key)
+  kept : (key : Key) (r : RecordData) → Contains s.held r → r.epoch ≡ key.epoch → r.number ≡ key.number → IsWanted key → IsAccounted F f key
   unfolding IsWanted
   kept key r has e n wanted =
       let own : IsWaiting f.epoch r.epoch ⊎ (IsAlive (cuts F) f.epoch r.epoch r.number × (f.anchor < r.number)) =
@@ -42,7 +42,7 @@ module _ (roster : ℕ) (log F : List Fact) (f : Position) (s : State) (sound : 
       (λ (x : IsAlive (cuts F) f.epoch r.epoch r.number × (f.anchor < r.number)). inr x.0) own in
       inl (r, (m.of_facts r has matters, own), e, n)
 
-  of_held : (key : Key) → HoldsKey s.held key.epoch key.number → IsAccounted F f (listed_key key)
+  of_held : (key : Key) → HoldsKey s.held key → IsAccounted F f key
   unfolding IsWanted
   of_held key held =
       ⊎_elim
@@ -75,11 +75,11 @@ module _ (roster : ℕ) (log F : List Fact) (f : Position) (s : State) (sound : 
       )
 
   -- a key that the state accounts for is one that its facts do
-  accounted : (anchor : ℕ) → anchor ≡ f.anchor → (key : Key) → IsCovered s anchor key → IsAccounted F f (listed_key key)
+  accounted : (anchor : ℕ) → anchor ≡ f.anchor → (key : Key) → IsCovered s anchor key → IsAccounted F f key
   accounted anchor at key has =
       let e = m.epoch in
       ⊎_elim
-      (λ (held : HoldsKey s.held key.epoch key.number). of_held key held)
+      (λ (held : HoldsKey s.held key). of_held key held)
       (λ gone. inr (⊎_elim
       (λ (dead : IsDead s.book.cuts s.book.complete key.epoch key.number). inl (dead_there key dead))
       (λ (low : (key.epoch ≤ s.book.complete) × (key.number ≤ anchor)). inr (omega (arith, e, low.0), omega (arith, at, low.1)))
@@ -87,7 +87,7 @@ module _ (roster : ℕ) (log F : List Fact) (f : Position) (s : State) (sound : 
       has
 
   -- and the other way
-  covered : (anchor : ℕ) → anchor ≡ f.anchor → (key : Key) → IsAccounted F f (listed_key key) → IsCovered s anchor key
+  covered : (anchor : ℕ) → anchor ≡ f.anchor → (key : Key) → IsAccounted F f key → IsCovered s anchor key
   covered anchor at key has =
       let e = m.epoch in
       ⊎_elim
@@ -113,9 +113,7 @@ module _ (roster : ℕ) (log F : List Fact) (f : Position) (s : State) (sound : 
       let low : summary.anchor ≤ anchor = none.0 in
       record {
         anchor = omega (arith, low, at);
-        keys = λ key h.
-            let from = from_map listed_key summary.keys key h in
-            subst (IsAccounted F f) from.2 (accounted anchor at from.0 (of_member (IsCovered s anchor) summary.keys none.1 from.0 from.1));
+        keys = λ key h. accounted anchor at key (of_member (IsCovered s anchor) summary.keys none.1 key h);
       }
 
   -- nothing is uncovered exactly where the facts answer
@@ -130,5 +128,5 @@ module _ (roster : ℕ) (log F : List Fact) (f : Position) (s : State) (sound : 
   tells_answer summary anchor above (Some (OfKey key)) first = (
     λ (e : Some (OfKey key) ≡ None). absurd (cc),
     λ a. absurd (let at : anchor ≡ f.anchor = (anchor_law log F f s anchor (log_of_sound roster log sound) m above).1 in
-        first.1.has.1 (covered anchor at key (a.keys (listed_key key) (in_map listed_key summary.keys key first.1.has.0)))),
+        first.1.has.1 (covered anchor at key (a.keys key first.1.has.0))),
   )

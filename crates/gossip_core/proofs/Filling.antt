@@ -3,45 +3,44 @@ use Rattle.std.proofs.Common.{◌≡◌, ◌≢◌, ℕ, ◌<◌, ◌≤◌, ◌
 use Rattle.std.specs.List.{Contains}
 use Rattle.std.proofs.Math.Nat.{min-le_right}
 use Rattle.redo_core.specs.Data.{RecordData}
+use Rattle.redo_core.specs.Keys.{key_of}
+use Rattle.redo_core.specs.declared.keys.Key.{Key}
 use Rattle.redo_core.specs.Order.{Lists, RecordBefore}
 use Rattle.redo_core.specs.Standing.{IsAlive, IsWaiting}
 use Rattle.redo_core.specs.Writing.{zeros}
 use Rattle.redo_core.specs.Meaning.{ImageBefore}
 use Rattle.redo_core.proofs.Members.{none_in, here, there, which}
 use Rattle.redo_laws.proofs.Deciding.{settled_eq, settled_and, some_or_none}
-use Rattle.messages.specs.declared.keys.Key.{Key}
 use Rattle.messages.specs.Summaries.{SummaryData}
 use Rattle.messages.specs.Deltas.{DeltaData}
-use Rattle.segment_state.specs.State.{State}
-use Rattle.segment_state.specs.Shows.{Shows}
-use Rattle.segment_state.specs.HasMeaning.{IsKeptBy}
-use Rattle.segment_state.specs.Laws.{SameAnchor}
-use Rattle.segment_state.specs.Gossip.{IsListed, IsDeltaFor, ReplyFills}
-use Rattle.gossip_core.specs.Summarizing.{wire_key}
-use Rattle.gossip_core.specs.Answering.{listed_key, listing_of}
+use Rattle.state_laws.specs.State.{State}
+use Rattle.state_laws.specs.Shows.{Shows}
+use Rattle.state_laws.specs.HasMeaning.{IsKeptBy}
+use Rattle.state_laws.specs.Laws.{SameAnchor}
+use Rattle.state_laws.specs.Gossip.{IsListed, IsDeltaFor, ReplyFills}
+use Rattle.gossip_core.specs.Answering.{listing_of}
 use Rattle.gossip_core.specs.Absorbing.{filling_of}
 use Rattle.gossip_core.specs.Replying.{IsSent, SendsRecords, SendsPages, AnswersSummary, FillsSummary}
 use Rattle.gossip_core.proofs.Parts.{one_key}
-use Rattle.redo_laws.proofs.Meanings.{in_map}
 
-listed_or_not : (keys : List Key) (r : RecordData) → Contains keys (wire_key r) ⊎ (Contains keys (wire_key r) → ⊥)
+listed_or_not : (keys : List Key) (r : RecordData) → Contains keys (key_of r) ⊎ (Contains keys (key_of r) → ⊥)
 listed_or_not keys r =
     let P : Key → Type 0 = λ k. (k.epoch ≡ r.epoch) × (k.number ≡ r.number) in
     ⊎_elim
-    (λ (t : (k : Key) × Contains keys k × P k). inl (subst (Contains keys) (let p : P t.0 = t.2 in one_key t.0 (wire_key r) p.0 p.1) t.1))
-    (λ (no : (k : Key) → Contains keys k → P k → ⊥). inr (λ has. no (wire_key r) has (refl, refl)))
+    (λ (t : (k : Key) × Contains keys k × P k). inl (subst (Contains keys) (let p : P t.0 = t.2 in one_key t.0 (key_of r) p.0 p.1) t.1))
+    (λ (no : (k : Key) → Contains keys k → P k → ⊥). inr (λ has. no (key_of r) has (refl, refl)))
     (some_or_none P (λ k. settled_and _ _ (settled_eq k.epoch r.epoch) (λ _. settled_eq k.number r.number)) keys)
 
-is_listed : (summary : SummaryData) (r : RecordData) → Contains summary.keys (wire_key r) → IsListed (listing_of summary) r
-is_listed summary r has = (listed_key (wire_key r), in_map listed_key summary.keys (wire_key r) has, refl, refl)
+is_listed : (summary : SummaryData) (r : RecordData) → Contains summary.keys (key_of r) → IsListed (listing_of summary) r
+is_listed summary r has = (key_of r, has, refl, refl)
 
 -- a kept record is sent or listed
 sent_or_listed : (s : State) (point : ℕ) (summary : SummaryData) (rs : List RecordData) → Lists RecordBefore (IsSent s point summary.keys) rs
     → (r : RecordData) → IsKeptBy s point r → Contains rs r ⊎ IsListed (listing_of summary) r
 sent_or_listed s point summary rs lists r kept =
     ⊎_elim
-    (λ (has : Contains summary.keys (wire_key r)). inr (is_listed summary r has))
-    (λ (not : Contains summary.keys (wire_key r) → ⊥). inl ((lists.members r).1 (kept, not)))
+    (λ (has : Contains summary.keys (key_of r)). inr (is_listed summary r has))
+    (λ (not : Contains summary.keys (key_of r) → ⊥). inl ((lists.members r).1 (kept, not)))
     (listed_or_not summary.keys r)
 
 sent_is_held : (s : State) (point : ℕ) (keys : List Key) (r : RecordData) → IsSent s point keys r

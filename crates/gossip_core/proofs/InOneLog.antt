@@ -7,10 +7,10 @@ use Rattle.redo_core.proofs.FactParts.{record_in, cut_in, advance_in, part_recor
 use Rattle.redo_laws.proofs.Log.{log_of_sound}
 use Rattle.messages.specs.Summaries.{SummaryData}
 use Rattle.messages.specs.Deltas.{DeltaData, IsDelta}
-use Rattle.segment_state.specs.State.{State}
-use Rattle.segment_state.specs.Means.{MeansAt}
-use Rattle.segment_state.proofs.Absorbing.{absorb_law}
-use Rattle.segment_state.proofs.Booked.{epoch_of}
+use Rattle.state_laws.specs.State.{State}
+use Rattle.state_laws.specs.Means.{MeansAt}
+use Rattle.state_laws.proofs.Absorbing.{absorb_law}
+use Rattle.state_laws.proofs.Booked.{epoch_of}
 use Rattle.segment_core.specs.declared.answers.Refusal.{Refusal}
 use Rattle.segment_core.specs.declared.answers.Refusal.TheVariants.{Memory}
 use Rattle.segment_told.specs.Told.{facts_told}

@@ -6,15 +6,12 @@ use Rattle.std.specs.Ordering.{nat_cmp, ordering_then, ordering_index, MatchOrde
 use Rattle.std.specs.Result.{is_ok}
 use Rattle.std.proofs.lemmas.Cmp.{ranked}
 use Rattle.redo_core.specs.Order.{IsRising}
+use Rattle.redo_core.specs.Keys.{key_cmp, KeyBefore}
+use Rattle.redo_core.specs.declared.keys.Key.{Key}
 use Rattle.redo_core.proofs.Pairs.{pair_apart, pair_trans}
 use Rattle.redo_core.proofs.Rising.{rising_by}
-use Rattle.messages.specs.declared.keys.Key.{Key}
-use Rattle.messages.specs.Keys.{KeyBefore}
 use Rattle.gossip_core.proofs.Parts.{one_key}
 use Rattle.epoch_book.proofs.Places.{rank_le, at_less, at_equal, at_greater, then_at, turned}
-
-abbrev pub key_cmp : Key → Key → Ordering
-key_cmp k l = ordering_then (nat_cmp k.epoch l.epoch) (nat_cmp k.number l.number)
 
 above_key : (k l : Key) → (l.epoch < k.epoch) ⊎ ((k.epoch ≡ l.epoch) × (l.number < k.number)) → KeyBefore l k
 above_key k l h = grind arith

@@ -1,6 +1,7 @@
 -- A segment has one summary, and one reply to each.
 use Rattle.std.proofs.Common.{◌≡◌, ◌≢◌, ℕ, ◌<◌, ◌≤◌, ◌⊎◌, ⊎_elim, min, List, map, sym, ap, ◌∙◌, subst, arith}
 use Rattle.redo_core.specs.Data.{RecordData}
+use Rattle.redo_core.specs.Keys.{key_of}
 use Rattle.redo_core.specs.Meaning.{ImageBefore}
 use Rattle.redo_core.specs.Order.{Lists, RecordBefore}
 use Rattle.redo_core.specs.Writing.{zeros}
@@ -8,10 +9,10 @@ use Rattle.redo_core.proofs.Members.{lists_unique}
 use Rattle.redo_core.proofs.Pairs.{pair_apart}
 use Rattle.messages.specs.Summaries.{SummaryData, summary_of}
 use Rattle.messages.specs.Deltas.{DeltaData, delta_of}
-use Rattle.segment_state.specs.State.{State}
-use Rattle.segment_state.specs.Shows.{Shows}
-use Rattle.segment_state.specs.HasMeaning.{IsKeptBy}
-use Rattle.gossip_core.specs.Summarizing.{wire_key, Summarizes}
+use Rattle.state_laws.specs.State.{State}
+use Rattle.state_laws.specs.Shows.{Shows}
+use Rattle.state_laws.specs.HasMeaning.{IsKeptBy}
+use Rattle.gossip_core.specs.Summarizing.{Summarizes}
 use Rattle.gossip_core.specs.Replying.{IsSent, SendsRecords, SendsPages, AnswersSummary}
 use Rattle.segment_core.proofs.OneView.{one_anchor}
 
@@ -28,7 +29,7 @@ one_summary s x y a b =
     let anchor : x.anchor ≡ y.anchor = one_anchor s x.anchor y.anchor a.anchor b.anchor in
     let kept : a.kept ≡ b.kept = records (IsKeptBy s) x.anchor y.anchor a.kept b.kept anchor a.kept_are b.kept_are in
     ap (λ z. summary_of z x.anchor x.keys) (a.book ∙ sym b.book) ∙ ap (λ n. summary_of y.book n x.keys) anchor
-    ∙ ap (summary_of y.book y.anchor) (a.keys ∙ ap (map wire_key) kept ∙ sym b.keys)
+    ∙ ap (summary_of y.book y.anchor) (a.keys ∙ ap (map key_of) kept ∙ sym b.keys)
 
 by_parts : (d e : DeltaData) → d.book ≡ e.book → d.base ≡ e.base → d.pages ≡ e.pages → d.records ≡ e.records → d ≡ e
 by_parts d e book base pages sent =

@@ -13,9 +13,9 @@ use Rattle.redo_laws.proofs.Deciding.{settled_le, settled_lt, settled_and, settl
 use Rattle.redo_laws.proofs.Fronts.{settled_alive, settled_linked}
 use Rattle.redo_laws.proofs.Meanings.{lists_as, nat_order, same_image, list_eq, in_map, from_map, record_of_meaning}
 use Rattle.redo_core.proofs.Numbers.{greatest_below}
-use Rattle.segment_state.specs.State.{State, StoredImage, min_of}
-use Rattle.segment_state.specs.Shows.{Shows}
-use Rattle.segment_state.specs.HasMeaning.{IsLinkedIn, HasAnchor, IsKeptBy, HasMeaning}
+use Rattle.state_laws.specs.State.{State, StoredImage, min_of}
+use Rattle.state_laws.specs.Shows.{Shows}
+use Rattle.state_laws.specs.HasMeaning.{IsLinkedIn, HasAnchor, IsKeptBy, HasMeaning}
 use Rattle.segment_core.specs.Form.{IsSegment}
 use Rattle.segment_core.proofs.Keys.{one_of_key}
 use Rattle.segment_told.proofs.BarePages.{IsBare, shows_some, bare_is_zeros, bare_or_not}

@@ -1,16 +1,16 @@
 -- Books and keys that are equal part by part, and where an anchor stands.
 use Rattle.std.proofs.Common.{◌≡◌, ℕ, ◌≤◌, ⊎_elim, List, ap, ◌∙◌, arith}
 use Rattle.redo_core.specs.Data.{CutData, AdvanceData}
+use Rattle.redo_core.specs.Keys.{key_in}
+use Rattle.redo_core.specs.declared.keys.Key.{Key}
 use Rattle.redo_core.specs.Book.{BookData, book_of}
 use Rattle.redo_core.specs.Linked.Linked.{start}
-use Rattle.messages.specs.declared.keys.Key.{Key}
-use Rattle.segment_state.specs.State.{State, min_of}
-use Rattle.segment_state.specs.HasMeaning.{IsLinkedIn, HasAnchor}
+use Rattle.state_laws.specs.State.{State, min_of}
+use Rattle.state_laws.specs.HasMeaning.{IsLinkedIn, HasAnchor}
 use Rattle.segment_core.specs.Form.{IsSegment}
-use Rattle.gossip_core.specs.Replying.{key_data}
 
 pub one_key : (k l : Key) → k.epoch ≡ l.epoch → k.number ≡ l.number → k ≡ l
-one_key k l e n = ap (λ x. key_data x k.number) e ∙ ap (λ x. key_data l.epoch x) n
+one_key k l e n = ap (λ x. key_in x k.number) e ∙ ap (λ x. key_in l.epoch x) n
 
 pub base_low : (s : State) (anchor : ℕ) → IsSegment s → HasAnchor s anchor → s.base ≤ anchor
 base_low s anchor form has = has.1 s.base (start, form.base)

@@ -10,11 +10,11 @@ use Rattle.page_base.specs.Raising.{SamePage}
 use Rattle.page_base.specs.Stored.{stored}
 use Rattle.messages.specs.Summaries.{SummaryData}
 use Rattle.messages.specs.Deltas.{DeltaData}
-use Rattle.segment_state.specs.State.{State, StoredImage, version_of, image_of}
-use Rattle.segment_state.specs.Means.{MeansAt, Means}
-use Rattle.segment_state.specs.HasMeaning.{HasAnchor}
-use Rattle.segment_state.specs.Joining.{JoinsBooks}
-use Rattle.segment_state.specs.Gossip.{Delta, Fills, HasImage}
+use Rattle.state_laws.specs.State.{State, StoredImage, version_of, image_of}
+use Rattle.state_laws.specs.Means.{MeansAt, Means}
+use Rattle.state_laws.specs.HasMeaning.{HasAnchor}
+use Rattle.state_laws.specs.Joining.{JoinsBooks}
+use Rattle.state_laws.specs.Gossip.{Delta, Fills, HasImage}
 use Rattle.segment_core.specs.declared.answers.Refusal.{Refusal}
 use Rattle.segment_core.specs.declared.answers.Refusal.TheVariants.{OtherRoster, Memory}
 use Rattle.segment_told.specs.Told.{facts_told}

@@ -1,29 +1,26 @@
 -- What of a summary a state answers for.
-use Rattle.std.specs.Prelude.{◌≡◌, ℕ, ◌<◌, ◌≤◌, ◌⊎◌, List, map, Option, Some, None}
+use Rattle.std.specs.Prelude.{◌≡◌, ℕ, ◌<◌, ◌≤◌, ◌⊎◌, List, Option, Some, None}
 use Rattle.std.specs.List.{Contains, All}
 use Rattle.redo_core.specs.Order.{IsFirst}
+use Rattle.redo_core.specs.Keys.{KeyBefore}
+use Rattle.redo_core.specs.declared.keys.Key.{Key}
 use Rattle.redo_core.specs.Standing.{IsDead}
 use Rattle.hot_log.specs.Held.{HoldsKey}
-use Rattle.messages.specs.declared.keys.Key.{Key}
 use Rattle.messages.specs.Summaries.{SummaryData}
-use Rattle.messages.specs.Keys.{KeyBefore}
-use Rattle.segment_state.specs.State.{State}
-use Rattle.segment_state.specs.Gossip.{KeyData, Listing}
+use Rattle.state_laws.specs.State.{State}
+use Rattle.state_laws.specs.Gossip.{Listing}
 use Rattle.gossip_core.specs.declared.answering.Shown.{Shown}
 use Rattle.gossip_core.specs.declared.answering.Shown.TheVariants.{Anchor as OfAnchor, Key as OfKey}
 
 -- ---- a summary as the laws of states speak of it
-abbrev pub listed_key : Key → KeyData
-listed_key key = record { epoch = key.epoch; number = key.number }
-
 abbrev pub listing_of : SummaryData → Listing
-listing_of summary = record { anchor = summary.anchor; keys = map listed_key summary.keys }
+listing_of summary = record { anchor = summary.anchor; keys = summary.keys }
 
 -- ---- what is uncovered
 -- a state with this anchor accounts for the key: it is held, dead, or at or below the anchor and not waiting
 abbrev pub IsCovered : State → ℕ → Key → Type 0
 IsCovered s anchor key =
-    HoldsKey s.held key.epoch key.number ⊎ (IsDead s.book.cuts s.book.complete key.epoch key.number ⊎ ((key.epoch ≤ s.book.complete) × (key.number ≤ anchor)))
+    HoldsKey s.held key ⊎ (IsDead s.book.cuts s.book.complete key.epoch key.number ⊎ ((key.epoch ≤ s.book.complete) × (key.number ≤ anchor)))
 
 -- the key is one that the state cannot account for
 abbrev pub IsUncoveredKey : State → ℕ → List Key → Key → Type 0

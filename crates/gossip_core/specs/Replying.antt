@@ -2,41 +2,38 @@
 use Rattle.std.specs.Prelude.{◌≡◌, ◌≢◌, ℕ, ◌<◌, ◌≤◌, ◌⊎◌, min, List, [], Option, Some, None}
 use Rattle.std.specs.List.{Contains}
 use Rattle.redo_core.specs.Data.{RecordData}
+use Rattle.redo_core.specs.Keys.{key_of}
+use Rattle.redo_core.specs.declared.keys.Key.{Key}
 use Rattle.redo_core.specs.Order.{Lists, RecordBefore}
 use Rattle.redo_core.specs.Writing.{zeros}
 use Rattle.redo_core.specs.Meaning.{ImageBefore}
 use Rattle.redo_core.specs.Position.{Position}
 use Rattle.redo_core.specs.Sound.{IsSound}
 use Rattle.redo_core.specs.declared.facts.Fact.{Fact}
-use Rattle.messages.specs.declared.keys.Key.{Key}
 use Rattle.messages.specs.Summaries.{SummaryData}
 use Rattle.messages.specs.Deltas.{DeltaData}
 use Rattle.hot_log.specs.Held.{IsRecordAt}
-use Rattle.segment_state.specs.State.{State}
-use Rattle.segment_state.specs.Means.{MeansAt}
-use Rattle.segment_state.specs.Shows.{Shows}
-use Rattle.segment_state.specs.HasMeaning.{HasAnchor, IsKeptBy}
-use Rattle.segment_state.specs.Gossip.{Fills}
+use Rattle.state_laws.specs.State.{State}
+use Rattle.state_laws.specs.Means.{MeansAt}
+use Rattle.state_laws.specs.Shows.{Shows}
+use Rattle.state_laws.specs.HasMeaning.{HasAnchor, IsKeptBy}
+use Rattle.state_laws.specs.Gossip.{Fills}
 use Rattle.segment_core.specs.Forgetting.{IsFirstBreak}
 use Rattle.segment_core.specs.declared.answers.ReadFault.{ReadFault}
 use Rattle.segment_core.specs.declared.answers.ReadFault.TheVariants.{BrokenBlockChain}
-use Rattle.gossip_core.specs.Summarizing.{wire_key}
 use Rattle.gossip_core.specs.Answering.{listing_of}
 use Rattle.gossip_core.specs.Absorbing.{filling_of}
 
 -- ---- the records
 
-abbrev pub key_data : ℕ → ℕ → Key
-key_data epoch number = record { epoch = epoch; number = number }
-
 -- a held record is sent where it waits, or is alive above a point, and its key is not listed
 abbrev pub IsSent : State → ℕ → List Key → RecordData → Type 0
-IsSent s point keys r = IsKeptBy s point r × (Contains keys (wire_key r) → ⊥)
+IsSent s point keys r = IsKeptBy s point r × (Contains keys (key_of r) → ⊥)
 
 -- the held record of a key that is not listed, or none where the key is listed or no record of it is held
-abbrev pub IsUnlistedAt : List RecordData → List Key → ℕ × ℕ → Option RecordData → Type 0
-IsUnlistedAt held keys key None = Contains keys (key_data key.0 key.1) ⊎ IsRecordAt held key.0 key.1 None
-IsUnlistedAt held keys key (Some r) = (Contains keys (key_data key.0 key.1) → ⊥) × IsRecordAt held key.0 key.1 (Some r)
+abbrev pub IsUnlistedAt : List RecordData → List Key → Key → Option RecordData → Type 0
+IsUnlistedAt held keys key None = Contains keys key ⊎ IsRecordAt held key None
+IsUnlistedAt held keys key (Some r) = (Contains keys key → ⊥) × IsRecordAt held key (Some r)
 
 -- ---- the pages
 

@@ -1,17 +1,13 @@
 -- Summaries of states and of meanings.
 use Rattle.std.specs.Prelude.{◌≡◌, List, map}
 use Rattle.redo_core.specs.Data.{RecordData}
+use Rattle.redo_core.specs.Keys.{key_of}
 use Rattle.redo_core.specs.Order.{Lists, RecordBefore}
 use Rattle.redo_core.specs.CompleteEpoch.{IsCompleteEpoch}
 use Rattle.redo_core.specs.Meaning.{Meaning}
-use Rattle.messages.specs.declared.keys.Key.{Key}
 use Rattle.messages.specs.Summaries.{SummaryData}
-use Rattle.segment_state.specs.State.{State}
-use Rattle.segment_state.specs.HasMeaning.{HasAnchor, IsKeptBy}
-
--- a record's key, as messages carry it
-abbrev pub wire_key : RecordData → Key
-wire_key r = record { epoch = r.epoch; number = r.number }
+use Rattle.state_laws.specs.State.{State}
+use Rattle.state_laws.specs.HasMeaning.{HasAnchor, IsKeptBy}
 
 -- the summary of a state: its book, its anchor, and the keys of its kept records, rising
 pub record Summarizes (s : State) (summary : SummaryData) : Type 0 where
@@ -19,7 +15,7 @@ pub record Summarizes (s : State) (summary : SummaryData) : Type 0 where
   pub anchor : HasAnchor s summary.anchor
   pub kept : List RecordData
   pub kept_are : Lists RecordBefore (IsKeptBy s summary.anchor) kept
-  pub keys : summary.keys ≡ map wire_key kept
+  pub keys : summary.keys ≡ map key_of kept
 
 -- the summary of a meaning: all that it has but its pages, and of its kept records the keys
 pub record IsSummaryOf (m : Meaning) (summary : SummaryData) : Type 0 where
@@ -28,4 +24,4 @@ pub record IsSummaryOf (m : Meaning) (summary : SummaryData) : Type 0 where
   pub points : summary.book.points ≡ m.points
   pub waits : summary.book.waits ≡ m.waits
   pub anchor : summary.anchor ≡ m.anchor
-  pub keys : summary.keys ≡ map wire_key m.kept
+  pub keys : summary.keys ≡ map key_of m.kept

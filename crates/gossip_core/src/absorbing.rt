@@ -87,8 +87,7 @@ fn take_in(segment: &mut Segment, saved: &mut Savepoint, delta: &Delta) -> Resul
     ensures refused { IfErr result (λ e. (e ≡ MemoryOf) ⊎ RefusesOne segment.old (facts_told delta.now.book delta.now.records) e) }
     ensures rolls_back { OnErr result (RollsBackAs saved.old segment.old saved.new segment.new) }
 {
-    // It is called for what it ensures: a segment has its form.
-    let _own = segment.base_point();
+    segment.opens_form();
     let base = delta.base();
     let Ok(images) = images_at(segment.allocator(), base, delta.pages()) else {
         return Err(Refusal::Memory);

@@ -4,15 +4,15 @@ ghost use Rattle.redo_core.specs.Order.{IsRising};
 ghost use Rattle.redo_core.specs.Position.{Position};
 ghost use Rattle.redo_core.specs.Sound.{IsSound};
 ghost use Rattle.redo_core.specs.declared.facts.Fact.{Fact as AnyFact};
-ghost use Rattle.hot_log.specs.Held.{HoldsKey};
-ghost use Rattle.messages.specs.Keys.{KeyBefore};
-ghost use Rattle.segment_state.specs.Means.{MeansAt};
-ghost use Rattle.segment_state.specs.HasMeaning.{HasAnchor};
-ghost use Rattle.segment_state.specs.Gossip.{AnswersFor};
+ghost use Rattle.redo_core.specs.Keys.{KeyBefore};
+ghost use Rattle.state_laws.specs.Means.{MeansAt};
+ghost use Rattle.state_laws.specs.HasMeaning.{HasAnchor};
+ghost use Rattle.state_laws.specs.Gossip.{AnswersFor};
 ghost use Rattle.gossip_core.specs.Answering.{IsCovered, IsFirstUncovered, IsUncovered, listing_of};
 
-use messages::{Key, Summary};
-use segment_core::{Segment, Standing};
+use messages::Summary;
+use redo_core::Key;
+use segment_core::Segment;
 use segment_told::are_few;
 
 /// What of a summary a segment does not answer for.
@@ -79,12 +79,12 @@ fn keeps_all(segment: &Segment, anchor: u64, keys: &[Key]) -> bool
 }
 
 /// Whether each of rising keys is seen to be among kept ones, which rise too: both are gone over side by side.
-fn are_among(keys: &[Key], kept: &[(u16, u64)]) -> bool
-    ensures { IsTrue result → All (λ key. Contains kept.now (key.epoch, key.number)) keys.now }
+fn are_among(keys: &[Key], kept: &[Key]) -> bool
+    ensures { IsTrue result → All (Contains kept.now) keys.now }
 {
     let mut place = 0;
     for key in kept {
-        if place < keys.len() && (keys[place].epoch, keys[place].number) == *key {
+        if place < keys.len() && keys[place] == *key {
             place += 1;
         }
     }
@@ -95,22 +95,5 @@ fn are_among(keys: &[Key], kept: &[(u16, u64)]) -> bool
 fn is_covered(segment: &Segment, anchor: u64, key: Key) -> bool
     ensures { IsTrue result ↔ IsCovered segment.now anchor key }
 {
-    match segment.stands(key.epoch, key.number) {
-        Standing::Dead => true,
-        Standing::Waiting => holds(segment, key),
-        Standing::Alive => {
-            if key.number <= anchor {
-                true
-            } else {
-                holds(segment, key)
-            }
-        }
-    }
-}
-
-/// Whether a segment holds a record of the key.
-fn holds(segment: &Segment, key: Key) -> bool
-    ensures { IsTrue result ↔ HoldsKey segment.now.held key.epoch key.number }
-{
-    segment.holds_key(key.epoch, key.number)
+    !segment.keeps(key, anchor) || segment.holds_key(key)
 }

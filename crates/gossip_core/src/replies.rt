@@ -7,7 +7,7 @@ ghost use Rattle.gossip_core.specs.Replying.{SendsRecords, SendsPages, AnswersSu
 use crate::unlisted::unlisted;
 use messages::{Delta, PageImage, Summary};
 use segment_core::{ReadFault, Segment};
-use segment_state::{reply_fills, same_anchor};
+use state_laws::{reply_fills, same_anchor};
 use segment_told::{book_of, pages_at_anchor};
 use std::alloc::AllocError;
 

@@ -1,18 +1,17 @@
-ghost use Rattle.std.specs.Prelude.{◌≡◌, ℕ, List, map, IfOk};
+ghost use Rattle.std.specs.Prelude.{ℕ, List, IfOk};
 ghost use Rattle.redo_core.specs.Meaning.{Meaning, IsMeaning};
 ghost use Rattle.redo_core.specs.Sound.{IsSound};
 ghost use Rattle.redo_core.specs.declared.facts.Fact.{Fact as AnyFact};
-ghost use Rattle.segment_state.specs.Means.{Means};
-ghost use Rattle.segment_state.specs.HasMeaning.{HasMeaning};
+ghost use Rattle.state_laws.specs.Means.{Means};
+ghost use Rattle.state_laws.specs.HasMeaning.{HasMeaning};
 ghost use Rattle.segment_core.specs.Form.{IsSegment};
-ghost use Rattle.gossip_core.specs.Replying.{key_data};
 ghost use Rattle.gossip_core.specs.Summarizing.{Summarizes, IsSummaryOf};
 
-use messages::{Key, Summary};
+use messages::Summary;
 use segment_core::Segment;
-use segment_state::same_meaning;
+use state_laws::same_meaning;
 use segment_told::book_of;
-use std::alloc::{AllocError, Global};
+use std::alloc::AllocError;
 
 /// What a segment tells of itself: its book, its anchor and the keys of the records that its meaning keeps, rising.
 ///
@@ -36,21 +35,6 @@ fn own_summary(segment: &Segment) -> Result<Summary, AllocError>
 {
     let book = book_of(segment)?;
     let anchor = segment.anchor();
-    let kept = segment.kept_keys(anchor)?;
-    let keys = keys_of(segment.allocator(), &kept)?;
+    let keys = segment.kept_keys(anchor)?;
     Ok(Summary::new(book, anchor, keys))
-}
-
-/// Keys as messages carry them, in order. Its only error is want of memory.
-fn keys_of(alloc: Global, kept: &[(u16, u64)]) -> Result<Vec<Key>, AllocError>
-    ensures { IfOk result (λ v. v.items ≡ map (λ k. key_data k.0 k.1) kept.now) }
-{
-    let mut keys = Vec::with_capacity(alloc, kept.len())?;
-    for key in kept {
-        keys.push(Key {
-            epoch: key.0,
-            number: key.1,
-        })?;
-    }
-    Ok(keys)
 }

@@ -3,11 +3,10 @@ ghost use Rattle.std.specs.Prelude.{◌↔◌, IsTrue, IfOk};
 ghost use Rattle.std.specs.List.{Contains};
 ghost use Rattle.std.specs.Option.{option_copied};
 ghost use Rattle.redo_core.specs.Order.{IsRising, Lists, RecordBefore};
-ghost use Rattle.messages.specs.Keys.{KeyBefore};
-ghost use Rattle.gossip_core.specs.Replying.{IsSent, IsUnlistedAt, key_data};
+ghost use Rattle.redo_core.specs.Keys.{KeyBefore};
+ghost use Rattle.gossip_core.specs.Replying.{IsSent, IsUnlistedAt};
 
-use messages::Key;
-use redo_core::Record;
+use redo_core::{Key, Record};
 use segment_core::Segment;
 use std::alloc::AllocError;
 
@@ -33,9 +32,9 @@ pub(crate) fn unlisted(
 }
 
 /// The first place from one on where the listed key is not below a key. Held and listed keys are gone over side by side.
-fn reach(keys: &[Key], from: usize, key: (u16, u64)) -> usize {
+fn reach(keys: &[Key], from: usize, key: Key) -> usize {
     let mut place = from;
-    while place < keys.len() && (keys[place].epoch, keys[place].number) < key {
+    while place < keys.len() && keys[place] < key {
         place += 1;
     }
     place
@@ -46,7 +45,7 @@ fn unlisted_at<'a>(
     segment: &'a Segment,
     keys: &[Key],
     place: usize,
-    key: (u16, u64),
+    key: Key,
 ) -> Option<&'a Record>
     requires { IsRising KeyBefore keys.now }
     ensures { IsUnlistedAt segment.now.held keys.now key (option_copied result) }
@@ -54,17 +53,16 @@ fn unlisted_at<'a>(
     if is_listed(keys, place, key) {
         return None;
     }
-    segment.get(key.0, key.1)
+    segment.get(key)
 }
 
 /// Whether a key is among keys that rise. It is looked for at a place first.
-fn is_listed(keys: &[Key], place: usize, key: (u16, u64)) -> bool
+fn is_listed(keys: &[Key], place: usize, key: Key) -> bool
     requires { IsRising KeyBefore keys.now }
-    ensures { IsTrue result ↔ Contains keys.now (key_data key.0 key.1) }
+    ensures { IsTrue result ↔ Contains keys.now key }
 {
-    if place < keys.len() && (keys[place].epoch, keys[place].number) == key {
+    if place < keys.len() && keys[place] == key {
         return true;
     }
-    keys.binary_search_by_key(&key, |listed| { (listed.epoch, listed.number) })
-        .is_ok()
+    keys.binary_search(&key).is_ok()
 }

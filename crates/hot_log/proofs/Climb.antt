@@ -3,7 +3,7 @@ use Rattle.std.proofs.Common.{◌≡◌, ℕ, ◌+◌, ◌<◌, ◌≤◌, ◌�
 use Rattle.std.specs.List.{Contains, filter}
 use Rattle.std.proofs.lemmas.Bool.{cases_lt}
 use Rattle.redo_core.specs.Data.{RecordData, CutData}
-use Rattle.redo_core.specs.Keys.{key_at, key_of, KeyBefore}
+use Rattle.redo_core.specs.Keys.{key_in, key_of, KeyBefore}
 use Rattle.redo_core.specs.declared.keys.Key.{Key}
 use Rattle.redo_core.specs.Order.{IsGreatest, PairBefore}
 use Rattle.redo_core.specs.Shape.{record_fault}
@@ -130,14 +130,14 @@ above_falls at key held r h k p =
     fewer (is_after key) (is_after at) held r h
     (is_not_after key r (λ q. pair_not_same key.epoch key.number r.epoch r.number q (sym k.0) (sym k.1)))
     (after_of at r p)
-    (λ y q. after_of at y (pair_trans at.epoch at.number r.epoch r.number y.epoch y.number p (subst (λ (a : ℕ). KeyBefore (key_at a r.number) (key_of y)) (sym k.0) (subst (λ (a : ℕ). KeyBefore (key_at key.epoch a) (key_of y)) (sym k.1) (after_is key y q)))))
+    (λ y q. after_of at y (pair_trans at.epoch at.number r.epoch r.number y.epoch y.number p (subst (λ (a : ℕ). KeyBefore (key_in a r.number) (key_of y)) (sym k.0) (subst (λ (a : ℕ). KeyBefore (key_in key.epoch a) (key_of y)) (sym k.1) (after_is key y q)))))
 
 -- what is left of a search upwards from a number: the candidates, which have Q, are above a key, and what is above it is above the number
 pub record Rest (b : BookData) (held : List RecordData) (Q : RecordData → Type 0) (number : ℕ) (at : Key) : Type 0 where
   pub above : (r : RecordData) → Contains held r → IsAlive b.cuts b.complete r.epoch r.number → Q r → number < r.number → KeyBefore at (key_of r)
-  pub low : (e n : ℕ) → IsAlive b.cuts b.complete e n → KeyBefore at (key_at e n) → number < n
+  pub low : (e n : ℕ) → IsAlive b.cuts b.complete e n → KeyBefore at (key_in e n) → number < n
 
-pub rest_start : (b : BookData) (held : List RecordData) (Q : RecordData → Type 0) (number epoch : ℕ) → PartsAt b number epoch → Rest b held Q number (key_at epoch number)
+pub rest_start : (b : BookData) (held : List RecordData) (Q : RecordData → Type 0) (number epoch : ℕ) → PartsAt b number epoch → Rest b held Q number (key_in epoch number)
 rest_start b held Q number epoch parts = record {
   above = λ r h a q lt. (parts.0 r.epoch r.number a).0 lt;
   low = λ e n a p. (parts.0 e n a).1 p;
@@ -164,7 +164,7 @@ rest_found b held Q P number at key (Some x) book is rest found next alive at_ke
           let t = fro s h in
           ⊎_elim
           (λ (k : HasKey key s). inl (one_key held is.rising s x t.0 at_key.0 (k.0 ∙ sym at_key.1.0) (k.1 ∙ sym at_key.1.1)))
-          (λ (p : KeyBefore key (key_of s)). inr (number_before b.cuts b.complete (view_of b book) x s a t.1 (subst (λ (e : ℕ). KeyBefore (key_at e x.number) (key_of s)) (sym at_key.1.0) (subst (λ (n : ℕ). KeyBefore (key_at key.epoch n) (key_of s)) (sym at_key.1.1) p))))
+          (λ (p : KeyBefore key (key_of s)). inr (number_before b.cuts b.complete (view_of b book) x s a t.1 (subst (λ (e : ℕ). KeyBefore (key_in e x.number) (key_of s)) (sym at_key.1.0) (subst (λ (n : ℕ). KeyBefore (key_in key.epoch n) (key_of s)) (sym at_key.1.1) p))))
           (next s t.0 t.2 (rest.above s t.0 t.1 t.2 t.3)),
     )
 
@@ -172,7 +172,7 @@ pub positive : (r : RecordData) → record_fault r ≡ None → 0 < r.number
 positive r h = grind arith
 
 -- the record that a look-up in the epoch that may have the number finds
-pub only_there : (b : BookData) (held : List RecordData) (number epoch : ℕ) (o : Option RecordData) → IsBook b → IsHeld held → ((e : ℕ) → IsAlive b.cuts b.complete e number → e ≡ epoch) → IsAlive b.cuts b.complete epoch number → IsRecordAt held (key_at epoch number) o → IsOnlyRecord (λ r. IsHeldAlive b held r × (r.number ≡ number)) o
+pub only_there : (b : BookData) (held : List RecordData) (number epoch : ℕ) (o : Option RecordData) → IsBook b → IsHeld held → ((e : ℕ) → IsAlive b.cuts b.complete e number → e ≡ epoch) → IsAlive b.cuts b.complete epoch number → IsRecordAt held (key_in epoch number) o → IsOnlyRecord (λ r. IsHeldAlive b held r × (r.number ≡ number)) o
 only_there b held number epoch None book is own alive none = λ r h. none r h.0.0 (own r.epoch (subst (λ (n : ℕ). IsAlive b.cuts b.complete r.epoch n) h.1 h.0.1), h.1)
 only_there b held number epoch (Some x) book is own alive at = (
   ((at.0, subst (λ (e : ℕ). IsAlive b.cuts b.complete e x.number) (sym at.1.0) (subst (λ (n : ℕ). IsAlive b.cuts b.complete epoch n) (sym at.1.1) alive)), at.1.1),
@@ -180,7 +180,7 @@ only_there b held number epoch (Some x) book is own alive at = (
 )
 
 -- every key is above (0, 0)
-pub from_zero : (held : List RecordData) (r : RecordData) → IsHeld held → Contains held r → KeyBefore (key_at 0 0) (key_of r)
+pub from_zero : (held : List RecordData) (r : RecordData) → IsHeld held → Contains held r → KeyBefore (key_in 0 0) (key_of r)
 from_zero held r is h = let up : 0 < r.number = positive r (is.shaped r h) in grind arith
 
 pub alive_key : (b : BookData) (r : RecordData) (key : Key) → HasKey key r → IsAlive b.cuts b.complete key.epoch key.number → IsAlive b.cuts b.complete r.epoch r.number
@@ -194,7 +194,7 @@ least_number b held r s key n book k a c e either =
     ⊎_elim
     (λ (h : HasKey key s). let same : s.number ≡ key.number = h.1 in omega arith)
     (λ (p : KeyBefore key (key_of s)).
-    let up : r.number < s.number = number_before b.cuts b.complete (view_of b book) r s a c (subst (λ (x : ℕ). KeyBefore (key_at x r.number) (key_of s)) (sym k.0) (subst (λ (x : ℕ). KeyBefore (key_at key.epoch x) (key_of s)) (sym k.1) p)) in
+    let up : r.number < s.number = number_before b.cuts b.complete (view_of b book) r s a c (subst (λ (x : ℕ). KeyBefore (key_in x r.number) (key_of s)) (sym k.0) (subst (λ (x : ℕ). KeyBefore (key_in key.epoch x) (key_of s)) (sym k.1) p)) in
     let same : r.number ≡ key.number = k.1 in
     omega arith)
     either
@@ -209,8 +209,8 @@ pub passed : (at : Key) (r : RecordData) → not_after at r ≡ true → KeyBefo
 passed at r h p = let no : not_after at r ≡ false = past at r p in cc
 
 -- a key that was read off a record
-pub key_is : (a b e n : ℕ) → a ≡ e → b ≡ n → ◌≡◌ {A = Key} (key_at e n) (key_at a b)
-key_is a b e n p q = let one : ℕ → Key = λ x. key_at x n in let two : ℕ → Key = λ x. key_at a x in ap one (sym p) ∙ ap two (sym q)
+pub key_is : (a b e n : ℕ) → a ≡ e → b ≡ n → ◌≡◌ {A = Key} (key_in e n) (key_in a b)
+key_is a b e n p q = let one : ℕ → Key = λ x. key_in x n in let two : ℕ → Key = λ x. key_in a x in ap one (sym p) ∙ ap two (sym q)
 
 pub alive_as : (b : BookData) (a n e m : ℕ) → a ≡ e → n ≡ m → IsAlive b.cuts b.complete a n → IsAlive b.cuts b.complete e m
 alive_as b a n e m p q h = subst (λ (x : ℕ). IsAlive b.cuts b.complete x m) p (subst (λ (x : ℕ). IsAlive b.cuts b.complete a x) q h)

@@ -3,7 +3,7 @@ use Rattle.std.proofs.Common.{◌≡◌, ℕ, ◌<◌, ◌≤◌, ◌⊎◌, inl
 use Rattle.std.specs.List.{Contains}
 use Rattle.std.proofs.lemmas.Bool.{cases_lt}
 use Rattle.redo_core.specs.Data.{RecordData}
-use Rattle.redo_core.specs.Keys.{key_at, key_of, KeyBefore}
+use Rattle.redo_core.specs.Keys.{key_in, key_of, KeyBefore}
 use Rattle.redo_core.specs.declared.keys.Key.{Key}
 use Rattle.redo_core.specs.Order.{PairBefore}
 use Rattle.redo_core.specs.Standing.{IsAlive}
@@ -36,14 +36,14 @@ pub record LastUnder (held : List RecordData) (Q : RecordData → Type 0) (at ke
   pub last : (r : RecordData) → Contains held r → Q r → (KeyBefore at (key_of r) → ⊥) → HasKey key r ⊎ KeyBefore (key_of r) key
 
 -- below a dead key the search goes on at a key that no alive one below the dead key is above
-pub under_step : (b : BookData) (held : List RecordData) (Q : RecordData → Type 0) (number : ℕ) (at key next : Key) → Under b held Q number at → LastUnder held Q at key → KeyBefore next key → ((e n : ℕ) → IsAlive b.cuts b.complete e n → KeyBefore (key_at e n) key → KeyBefore next (key_at e n) → ⊥) → (IsAlive b.cuts b.complete key.epoch key.number → ⊥) → Under b held Q number next
+pub under_step : (b : BookData) (held : List RecordData) (Q : RecordData → Type 0) (number : ℕ) (at key next : Key) → Under b held Q number at → LastUnder held Q at key → KeyBefore next key → ((e n : ℕ) → IsAlive b.cuts b.complete e n → KeyBefore (key_in e n) key → KeyBefore next (key_in e n) → ⊥) → (IsAlive b.cuts b.complete key.epoch key.number → ⊥) → Under b held Q number next
 under_step b held Q number at key next under last down spares dead = record {
   below = λ r h a q le p. ⊎_elim
       (λ (k : HasKey key r). dead (key_alive b r key k a))
       (λ (u : KeyBefore (key_of r) key). spares r.epoch r.number a u p)
       (last.last r h q (λ u. under.below r h a q le u));
-  high = λ r a not. under.high r a (λ q. last.under (subst (λ (x : ℕ). KeyBefore at (key_at x last.by.number)) (sym last.has.0)
-      (subst (λ (x : ℕ). KeyBefore at (key_at key.epoch x)) (sym last.has.1) (above_both at.epoch at.number key.epoch key.number next.epoch next.number r.epoch r.number down q not))));
+  high = λ r a not. under.high r a (λ q. last.under (subst (λ (x : ℕ). KeyBefore at (key_in x last.by.number)) (sym last.has.0)
+      (subst (λ (x : ℕ). KeyBefore at (key_in key.epoch x)) (sym last.has.1) (above_both at.epoch at.number key.epoch key.number next.epoch next.number r.epoch r.number down q not))));
 }
   where
     above_both : (x y a b d n e m : ℕ) → PairBefore d n a b → PairBefore x y e m → (PairBefore d n e m → ⊥) → PairBefore x y a b
@@ -61,14 +61,14 @@ under_found b held Q P number at key (Some x) book is under last alive at_key to
           let t = fro s h in
           ⊎_elim
           (λ (k : HasKey key s). inl (one_key held is.rising s x t.0 at_key.0 (k.0 ∙ sym at_key.1.0) (k.1 ∙ sym at_key.1.1)))
-          (λ (p : KeyBefore (key_of s) key). inr (number_before b.cuts b.complete (view_of b book) s x t.1 a (subst (λ (e : ℕ). KeyBefore (key_of s) (key_at e x.number)) (sym at_key.1.0) (subst (λ (n : ℕ). KeyBefore (key_of s) (key_at key.epoch n)) (sym at_key.1.1) p))))
+          (λ (p : KeyBefore (key_of s) key). inr (number_before b.cuts b.complete (view_of b book) s x t.1 a (subst (λ (e : ℕ). KeyBefore (key_of s) (key_in e x.number)) (sym at_key.1.0) (subst (λ (n : ℕ). KeyBefore (key_of s) (key_in key.epoch n)) (sym at_key.1.1) p))))
           (last.last s t.0 t.2 (λ p. under.below s t.0 t.1 t.2 t.3 p)),
     )
 
 pub up_to_falls : (at key next : Key) (held : List RecordData) (r : RecordData) → Contains held r → HasKey key r → (KeyBefore at (key_of r) → ⊥) → KeyBefore next key → up_to next held < up_to at held
 up_to_falls at key next held r h k not down =
     fewer (λ s. not_after next s) (λ s. not_after at s) held r h
-    (past next r (subst (λ (e : ℕ). KeyBefore next (key_at e r.number)) (sym k.0) (subst (λ (n : ℕ). KeyBefore next (key_at key.epoch n)) (sym k.1) down)))
+    (past next r (subst (λ (e : ℕ). KeyBefore next (key_in e r.number)) (sym k.0) (subst (λ (n : ℕ). KeyBefore next (key_in key.epoch n)) (sym k.1) down)))
     (still at r not)
     (λ y q. still at y (λ p. back key next r y at k down not (passed next y q) p))
   where

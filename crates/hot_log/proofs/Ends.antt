@@ -2,7 +2,7 @@
 use Rattle.std.proofs.Common.{◌≡◌, ℕ, ◌<◌, ◌≤◌, ◌⊎◌, inl, inr, ⊎_elim, List, refl, sym, ◌∙◌, ap, subst, arith, Some}
 use Rattle.std.proofs.lemmas.Bool.{cases_lt}
 use Rattle.redo_core.specs.Data.{RecordData}
-use Rattle.redo_core.specs.Keys.{key_at, key_of, KeyBefore}
+use Rattle.redo_core.specs.Keys.{key_in, key_of, KeyBefore}
 use Rattle.redo_core.specs.declared.keys.Key.{Key}
 use Rattle.redo_core.specs.Order.{RecordBefore}
 use Rattle.redo_core.specs.Linked.Linked.{start, next}
@@ -139,7 +139,7 @@ not_over_fork b held from top n x y book form c s h back lt end =
     omega arith
 
 -- ---- from what the search says
-pub step_of : (b : BookData) (held : List RecordData) (top : ℕ) (key : Key) → IsBook b → IsHeld held → (found : IsAliveOfBack b held top (key_at 0 0) (Some key))
+pub step_of : (b : BookData) (held : List RecordData) (top : ℕ) (key : Key) → IsBook b → IsHeld held → (found : IsAliveOfBack b held top (key_in 0 0) (Some key))
     → IsStep b held top found.0.0
 step_of b held top key book form found = record {
   alive = found.0.1;
@@ -151,7 +151,7 @@ step_of b held top key book form found = record {
 }
   where
     key_before : (r : RecordData) → KeyBefore key (key_of r) → RecordBefore found.0.0 r
-    key_before r p = subst (λ (e : ℕ). KeyBefore (key_at e found.0.0.number) (key_of r)) (sym found.0.3.0) (subst (λ (n : ℕ). KeyBefore (key_at key.epoch n) (key_of r)) (sym found.0.3.1) p)
+    key_before r p = subst (λ (e : ℕ). KeyBefore (key_in e found.0.0.number) (key_of r)) (sym found.0.3.0) (subst (λ (n : ℕ). KeyBefore (key_in key.epoch n) (key_of r)) (sym found.0.3.1) p)
 
     same_key : (r : RecordData) → IsHeldAlive b held r → HasKey key r → r ≡ found.0.0
     same_key r h k = one_number b.cuts b.complete held (view_of b book) form.rising r found.0.0 h.0 found.0.1.0 h.1 found.0.1.1 (k.1 ∙ sym found.0.3.1)
@@ -162,7 +162,7 @@ pub key_after : (b : BookData) (held : List RecordData) (key : Key) (x r : Recor
 key_after b held key x r book form hx k hr lt = ⊎_elim
     (λ (e : x ≡ r). absurd (let same : x.number ≡ r.number = ap (λ (y : RecordData). y.number) e in omega arith))
     (λ (o : RecordBefore x r ⊎ RecordBefore r x). ⊎_elim
-    (λ (u : RecordBefore x r). subst (λ (e : ℕ). KeyBefore (key_at e key.number) (key_of r)) k.0 (subst (λ (n : ℕ). KeyBefore (key_at x.epoch n) (key_of r)) k.1 u))
+    (λ (u : RecordBefore x r). subst (λ (e : ℕ). KeyBefore (key_in e key.number) (key_of r)) k.0 (subst (λ (n : ℕ). KeyBefore (key_in x.epoch n) (key_of r)) k.1 u))
     (λ (u : RecordBefore r x). absurd (let low : r.number < x.number = number_before b.cuts b.complete (view_of b book) r x hr.1 hx.1 u in omega arith))
     o)
     (rising_members RecordBefore held x r form.rising hx.0 hr.0)

@@ -5,7 +5,7 @@ use Rattle.std.proofs.lemmas.Bool.{cases_lt}
 use Rattle.std.proofs.lemmas.List.{length-take, length-drop, length-append}
 use Rattle.std.proofs.lemmas.List.Elements.{Contains-append_left, Contains-append_right}
 use Rattle.redo_core.specs.Data.{RecordData, CutData}
-use Rattle.redo_core.specs.Keys.{key_at, key_of, KeyBefore}
+use Rattle.redo_core.specs.Keys.{key_in, key_of, KeyBefore}
 use Rattle.redo_core.specs.declared.keys.Key.{Key}
 use Rattle.redo_core.specs.Order.{IsRising, RecordBefore, Lists}
 use Rattle.redo_core.specs.Linked.{Linked}
@@ -154,11 +154,11 @@ abbrev pub ComesTo : BookData → List RecordData → ℕ → ℕ → Key → Re
 ComesTo b held from back at r = (q : RecordData) × Ahead b held from back at q × IsLinkedFrom b held q.number r.number
 
 -- from the start of the records of a backlink it comes to each that is linked from there
-comes_from : (b : BookData) (held : List RecordData) (from base : ℕ) (r : RecordData) → IsHeld held → base < r.number → IsLinkedFrom b held base r.number → ComesTo b held from base (key_at 0 0) r
+comes_from : (b : BookData) (held : List RecordData) (from base : ℕ) (r : RecordData) → IsHeld held → base < r.number → IsLinkedFrom b held base r.number → ComesTo b held from base (key_in 0 0) r
 comes_from b held from base r is lt l =
     ⊎_elim
     (λ (e : r.number ≡ base). absurd (omega arith))
-    (λ (s : Step b held base r.number). (s.by, beside_at b held from base (key_at 0 0) s.by s.alive s.of (from_zero held s.by is s.alive.0), s.rest))
+    (λ (s : Step b held base r.number). (s.by, beside_at b held from base (key_in 0 0) s.by s.alive s.of (from_zero held s.by is s.alive.0), s.rest))
     (first_step b held base r.number is l)
 
 -- where the search stands: at a linked number, with the greatest linked one so far and the records looked at
@@ -175,7 +175,7 @@ pub record Search (b : BookData) (held : List RecordData) (from limit back : ℕ
   pub all : (r : RecordData) → IsReached b held from limit r → Contains seen r ⊎ ComesTo b held from back at r
   pub once : (r : RecordData) → Contains seen r → ComesTo b held from back at r → ⊥
 
-pub search_start : (b : BookData) (held : List RecordData) (from limit : ℕ) → IsHeld held → from ≤ limit → Search b held from limit from (key_at 0 0) from 0
+pub search_start : (b : BookData) (held : List RecordData) (from limit : ℕ) → IsHeld held → from ≤ limit → Search b held from limit from (key_in 0 0) from 0
 search_start b held from limit is le = record {
   back_linked = start;
   back_bound = le;
@@ -236,7 +236,7 @@ once_behind b held from limit back at top count x book is s c r h w =
     ⊎_elim
     (λ (e : x ≡ r).
     let on : Ahead b held from x.back (key_of x) w.0 = subst (λ (n : ℕ). Ahead b held from n (key_of x) w.0) (sym c.of) w.1 in
-    no_ancestor b held from x.number (key_at 0 0) w.0 book is (above x w.0 (key_at 0 0) c.alive (next_up b held from limit back at top count x is s c) on)
+    no_ancestor b held from x.number (key_in 0 0) w.0 book is (above x w.0 (key_in 0 0) c.alive (next_up b held from limit back at top count x is s c) on)
     (subst (λ (y : RecordData). IsLinkedFrom b held w.0.number y.number) (sym e) w.2))
     (λ (u : Contains s.seen r). s.once r u (w.0, ahead_later b held from back at (key_of x) w.0 c.behind w.1, w.2))
     (which x s.seen r h)
@@ -275,7 +275,7 @@ all_skip b held from limit back at top count x book is s c over r reached =
         omega arith))
         (link_cases b.cuts held b.complete q.number r.number l)
 
-all_down : (b : BookData) (held : List RecordData) (from limit back : ℕ) (at : Key) (top count : ℕ) (x : RecordData) → IsBook b → IsHeld held → (s : Search b held from limit back at top count) → IsNext b held back at x → (r : RecordData) → IsReached b held from limit r → Contains (x ∷ s.seen) r ⊎ ComesTo b held from x.number (key_at 0 0) r
+all_down : (b : BookData) (held : List RecordData) (from limit back : ℕ) (at : Key) (top count : ℕ) (x : RecordData) → IsBook b → IsHeld held → (s : Search b held from limit back at top count) → IsNext b held back at x → (r : RecordData) → IsReached b held from limit r → Contains (x ∷ s.seen) r ⊎ ComesTo b held from x.number (key_in 0 0) r
 all_down b held from limit back at top count x book is s c r reached =
     ⊎_elim
     (λ (u : Contains s.seen r). inl (there x s.seen r u))
@@ -288,7 +288,7 @@ all_down b held from limit back at top count x book is s c r reached =
     (λ (le : r.number ≤ x.number). let same : x.number ≡ r.number = omega arith in inl (subst (Contains (x ∷ s.seen)) (one_alive b held x r book is c.alive reached.0 same) (here x s.seen)))
     (cases_lt x.number r.number))
     (λ (v : Ahead b held from back (key_of x) w.0).
-    inr (w.0, above x w.0 (key_at 0 0) c.alive (next_up b held from limit back at top count x is s c) (subst (λ (n : ℕ). Ahead b held from n (key_of x) w.0) (sym c.of) v), w.2))
+    inr (w.0, above x w.0 (key_in 0 0) c.alive (next_up b held from limit back at top count x is s c) (subst (λ (n : ℕ). Ahead b held from n (key_of x) w.0) (sym c.of) v), w.2))
     (passes b held from back at x c w.0 w.1))
     (s.all r reached)
 
@@ -312,10 +312,10 @@ search_skip b held from limit back at top count x book is s c over = record {
 }
 
 -- what is ahead where the search goes down to a record leads to nothing that was seen
-once_down : (b : BookData) (held : List RecordData) (from limit back : ℕ) (at : Key) (top count : ℕ) (x : RecordData) → IsBook b → IsHeld held → (s : Search b held from limit back at top count) → IsNext b held back at x → (r : RecordData) → Contains (x ∷ s.seen) r → ComesTo b held from x.number (key_at 0 0) r → ⊥
+once_down : (b : BookData) (held : List RecordData) (from limit back : ℕ) (at : Key) (top count : ℕ) (x : RecordData) → IsBook b → IsHeld held → (s : Search b held from limit back at top count) → IsNext b held back at x → (r : RecordData) → Contains (x ∷ s.seen) r → ComesTo b held from x.number (key_in 0 0) r → ⊥
 once_down b held from limit back at top count x book is s c r h w =
     ⊎_elim
-    (λ (u : Beside b held x.number (key_at 0 0) w.0).
+    (λ (u : Beside b held x.number (key_in 0 0) w.0).
     let of : w.0.back ≡ x.number = u.of in
     let up : w.0.back < w.0.number = back_below w.0 (is.shaped w.0 u.alive.0) in
     ⊎_elim
@@ -333,10 +333,10 @@ once_down b held from limit back at top count x book is s c r h w =
     let same : u.by ≡ x = one_alive b held u.by x book is u.alive c.alive u.at in
     let on : Ahead b held from x.back (key_of x) w.0 = subst (λ (y : RecordData). Ahead b held from y.back (key_of y) w.0) same u.rest in
     once_behind b held from limit back at top count x book is s c r h (w.0, subst (λ (n : ℕ). Ahead b held from n (key_of x) w.0) c.of on, w.2))
-    (ahead_cases b held from x.number (key_at 0 0) w.0 w.1)
+    (ahead_cases b held from x.number (key_in 0 0) w.0 w.1)
 
 -- the search goes down to a record
-pub search_down : (b : BookData) (held : List RecordData) (from limit back : ℕ) (at : Key) (top count most : ℕ) (x : RecordData) → IsBook b → IsHeld held → Search b held from limit back at top count → IsNext b held back at x → x.number ≤ limit → top ≤ most → x.number ≤ most → (most ≡ top) ⊎ (most ≡ x.number) → Search b held from limit x.number (key_at 0 0) most (count + 1)
+pub search_down : (b : BookData) (held : List RecordData) (from limit back : ℕ) (at : Key) (top count most : ℕ) (x : RecordData) → IsBook b → IsHeld held → Search b held from limit back at top count → IsNext b held back at x → x.number ≤ limit → top ≤ most → x.number ≤ most → (most ≡ top) ⊎ (most ≡ x.number) → Search b held from limit x.number (key_in 0 0) most (count + 1)
 search_down b held from limit back at top count most x book is s c bound grows covers either =
     let linked : IsLinkedFrom b held from x.number = next x c.alive.0 c.alive.1 (next_up b held from limit back at top count x is s c) (subst (IsLinkedFrom b held from) (sym c.of) s.back_linked) in
     record {
@@ -454,7 +454,7 @@ next_of b held back at key book is n =
       behind = n.0.4;
       first = λ s h e p. ⊎_elim
           (λ (u : HasKey key s). inl (one_alive b held s x book is h n.0.1 (u.1 ∙ sym k.1)))
-          (λ (u : KeyBefore key (key_of s)). inr (subst (λ (y : ℕ). KeyBefore (key_at y x.number) (key_of s)) (sym k.0) (subst (λ (y : ℕ). KeyBefore (key_at key.epoch y) (key_of s)) (sym k.1) u)))
+          (λ (u : KeyBefore key (key_of s)). inr (subst (λ (y : ℕ). KeyBefore (key_in y x.number) (key_of s)) (sym k.0) (subst (λ (y : ℕ). KeyBefore (key_in key.epoch y) (key_of s)) (sym k.1) u)))
           (n.1 s h e p);
     }
 
@@ -467,13 +467,13 @@ skip b held from limit back at key top count more book is s n e over =
     let P : Key → Type 0 = λ p. Search b held from limit back p top (count + 1) in
     subst (Search b held from limit back key top) (sym e) (subst P (key_is key.epoch key.number x.epoch x.number (sym k.0) (sym k.1)) it)
 
-pub down : (b : BookData) (held : List RecordData) (from limit back : ℕ) (at key : Key) (top count more most : ℕ) → IsBook b → IsHeld held → Search b held from limit back at top count → IsAliveOfBack b held back at (Some key) → more ≡ count + 1 → key.number ≤ limit → most ≡ max top key.number → Search b held from limit key.number (key_at 0 0) most more
+pub down : (b : BookData) (held : List RecordData) (from limit back : ℕ) (at key : Key) (top count more most : ℕ) → IsBook b → IsHeld held → Search b held from limit back at top count → IsAliveOfBack b held back at (Some key) → more ≡ count + 1 → key.number ≤ limit → most ≡ max top key.number → Search b held from limit key.number (key_in 0 0) most more
 down b held from limit back at key top count more most book is s n e le m =
     let x : RecordData = n.0.0 in
     let same : x.number ≡ key.number = n.0.3.1 in
     let either : (most ≡ top) ⊎ (most ≡ x.number) = grind arith in
-    let P : ℕ → Type 0 = λ y. Search b held from limit y (key_at 0 0) most more in
-    subst P same (subst (Search b held from limit x.number (key_at 0 0) most) (sym e) (search_down b held from limit back at top count most x book is s (next_of b held back at key book is n) (omega arith) (omega arith) (omega arith) either))
+    let P : ℕ → Type 0 = λ y. Search b held from limit y (key_in 0 0) most more in
+    subst P same (subst (Search b held from limit x.number (key_in 0 0) most) (sym e) (search_down b held from limit back at top count most x book is s (next_of b held back at key book is n) (omega arith) (omega arith) (omega arith) either))
 
 pub looks : (b : BookData) (held : List RecordData) (from limit back : ℕ) (at key : Key) (top count : ℕ) → IsBook b → IsHeld held → Search b held from limit back at top count → IsAliveOfBack b held back at (Some key) → count + 1 ≤ length held
 looks b held from limit back at key top count book is s n =
@@ -491,11 +491,11 @@ falls_by_one h c d l x y e le up =
     let out : ((h - d) + 1) * (l + 1) ≡ (h - d) * (l + 1) + (l + 1) = omega arith in
     omega arith
 
-pub climbs_to : (b : BookData) (held : List RecordData) (from limit back : ℕ) (at : Key) (top count : ℕ) (u : RecordData) (e n k : ℕ) → IsBook b → IsHeld held → Search b held from limit back at top count → IsAliveOfBack b held back at None → IsHeldAlive b held u → u.number ≡ back → from < back → k ≡ u.back → e ≡ u.epoch → n ≡ u.number → Search b held from limit k (key_at e n) top count
+pub climbs_to : (b : BookData) (held : List RecordData) (from limit back : ℕ) (at : Key) (top count : ℕ) (u : RecordData) (e n k : ℕ) → IsBook b → IsHeld held → Search b held from limit back at top count → IsAliveOfBack b held back at None → IsHeldAlive b held u → u.number ≡ back → from < back → k ≡ u.back → e ≡ u.epoch → n ≡ u.number → Search b held from limit k (key_in e n) top count
 climbs_to b held from limit back at top count u e n k book is s none alive same lt p q r =
-    let P : ℕ → Type 0 = λ x. Search b held from limit x (key_at e n) top count in
-    let Q : ℕ → Type 0 = λ x. Search b held from limit u.back (key_at x n) top count in
-    let R : ℕ → Type 0 = λ x. Search b held from limit u.back (key_at u.epoch x) top count in
+    let P : ℕ → Type 0 = λ x. Search b held from limit x (key_in e n) top count in
+    let Q : ℕ → Type 0 = λ x. Search b held from limit u.back (key_in x n) top count in
+    let R : ℕ → Type 0 = λ x. Search b held from limit u.back (key_in u.epoch x) top count in
     subst P (sym p) (subst Q (sym q) (subst R (sym r) (search_climb b held from limit back at top count u book is s none alive same lt)))
 
 -- a linked number above the base is that of a record

@@ -7,7 +7,7 @@ use Rattle.std.specs.List.Sorted.{IsStrictlySortedBy}
 use Rattle.std.specs.declared.ops.Bound.TheVariants.{Included, Excluded}
 use Rattle.std.proofs.lemmas.Bool.{cases_lt}
 use Rattle.redo_core.specs.Data.{RecordData}
-use Rattle.redo_core.specs.Keys.{key_at, key_of, KeyBefore}
+use Rattle.redo_core.specs.Keys.{key_in, key_of, KeyBefore}
 use Rattle.redo_core.specs.declared.keys.Key.{Key}
 use Rattle.redo_core.proofs.Members.{filtered, passed}
 use Rattle.redo_core.proofs.Pairs.{pair_trans}
@@ -54,7 +54,7 @@ folded_none b page version point at held positive parts = gone_none (IsFolded b 
 pub folded_next : (b : BookData) (page version point to : ℕ) (at end last : Key) (old now after : List RecordData) → PartsAtKey b to end → to ≤ version → to ≤ point → Gone (IsFolded b page version point) at old now → Removes (IsAliveBetween b now page at last) now after → ((r : RecordData) × IsAliveBetween b now page at end r × HasKey last r) → Gone (IsFolded b page version point) last old after
 folded_next b page version point to at end last old now after parts low small gone removes found =
     gone_next (IsFolded b page version point) (IsAliveBetween b now page at last) at last old now after gone removes
-    (subst (λ (e : ℕ). KeyBefore at (key_at e last.number)) found.2.0 (subst (λ (n : ℕ). KeyBefore at (key_at found.0.epoch n)) found.2.1 found.1.1))
+    (subst (λ (e : ℕ). KeyBefore at (key_in e last.number)) found.2.0 (subst (λ (n : ℕ). KeyBefore at (key_in found.0.epoch n)) found.2.1 found.1.1))
     (λ r h p up over. ((h, p.0, p.1), up, over))
     (λ r h q.
     let le : r.number ≤ to = ⊎_elim
@@ -67,7 +67,7 @@ folded_next b page version point to at end last old now after parts low small go
   where
     below : (r : RecordData) → (KeyBefore last (key_of r) → ⊥) → KeyBefore end (key_of r) → ⊥
     below r least up =
-        let over : KeyBefore end last → ⊥ = subst (λ (e : ℕ). KeyBefore end (key_at e last.number) → ⊥) found.2.0 (subst (λ (n : ℕ). KeyBefore end (key_at found.0.epoch n) → ⊥) found.2.1 found.1.2) in
+        let over : KeyBefore end last → ⊥ = subst (λ (e : ℕ). KeyBefore end (key_in e last.number) → ⊥) found.2.0 (subst (λ (n : ℕ). KeyBefore end (key_in found.0.epoch n) → ⊥) found.2.1 found.1.2) in
         over (pair_up_to end.epoch end.number last.epoch last.number r.epoch r.number up least)
 
 pub folded_all : (b : BookData) (page version point to : ℕ) (at end : Key) (old now : List RecordData) → PartsAtKey b to end → ((n : ℕ) → n ≤ version → n ≤ point → n ≤ to) → Gone (IsFolded b page version point) at old now → ((r : RecordData) → IsAliveBetween b now page at end r → ⊥) → Removes (IsFolded b page version point) old now

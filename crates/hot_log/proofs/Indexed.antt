@@ -4,7 +4,7 @@ use Rattle.std.specs.Option.{is_some}
 use Rattle.std.specs.Result.{is_err, OnOk, OnErr}
 use Rattle.std.specs.List.{Contains}
 use Rattle.redo_core.specs.Data.{RecordData}
-use Rattle.redo_core.specs.Keys.{key_at, key_of, KeyBefore}
+use Rattle.redo_core.specs.Keys.{key_in, key_of, KeyBefore}
 use Rattle.redo_core.specs.declared.keys.Key.{Key}
 use Rattle.redo_core.specs.Order.{IsRising, RecordBefore}
 use Rattle.redo_core.proofs.Members.{none_in}
@@ -28,43 +28,43 @@ one_key held rising r s h k e n =
     (rising_members RecordBefore held r s rising h k)
 
 -- one more record, one more key
-pub index_grows : (f : RecordData → ℕ) (old new : List RecordData) (keys more : List Place) (redo : RecordData) (g e n : ℕ) → IsIndexBy f old keys → ((r : RecordData) → Contains new r ↔ (Contains old r ⊎ (r ≡ redo))) → g ≡ f redo → e ≡ redo.epoch → n ≡ redo.number → GainsKey keys g (key_at e n) more → IsIndexBy f new more
+pub index_grows : (f : RecordData → ℕ) (old new : List RecordData) (keys more : List Place) (redo : RecordData) (g e n : ℕ) → IsIndexBy f old keys → ((r : RecordData) → Contains new r ↔ (Contains old r ⊎ (r ≡ redo))) → g ≡ f redo → e ≡ redo.epoch → n ≡ redo.number → GainsKey keys g (key_in e n) more → IsIndexBy f new more
 index_grows f old new keys more redo g e n is grows p q r gains = record {
   listed = λ s h. ⊎_elim
       (λ (u : Contains old s). (gains (f s, key_of s)).1 (inl (is.listed s u)))
       (λ (u : s ≡ redo). (gains (f s, key_of s)).1 (inr (place_as (f s) s.epoch s.number g e n (ap f u ∙ sym p) (ap (λ (x : RecordData). x.epoch) u ∙ sym q) (ap (λ (x : RecordData). x.number) u ∙ sym r))))
       ((grows s).0 h);
   backed = λ h a b k. ⊎_elim
-      (λ (u : Contains keys (h, key_at a b)). let t = is.backed h a b u in (t.0, (grows t.0).1 (inl t.1), t.2, t.3))
-      (λ (u : (h, key_at a b) ≡ (g, key_at e n)). (redo, (grows redo).1 (inr refl), sym (ap (λ (x : Place). x.0) u ∙ p), (sym (ap (λ (x : Place). x.1.epoch) u ∙ q), sym (ap (λ (x : Place). x.1.number) u ∙ r))))
-      ((gains (h, key_at a b)).0 k);
+      (λ (u : Contains keys (h, key_in a b)). let t = is.backed h a b u in (t.0, (grows t.0).1 (inl t.1), t.2, t.3))
+      (λ (u : (h, key_in a b) ≡ (g, key_in e n)). (redo, (grows redo).1 (inr refl), sym (ap (λ (x : Place). x.0) u ∙ p), (sym (ap (λ (x : Place). x.1.epoch) u ∙ q), sym (ap (λ (x : Place). x.1.number) u ∙ r))))
+      ((gains (h, key_in a b)).0 k);
 }
 
 -- a key that was added and taken out again
-pub index_undone : (f : RecordData → ℕ) (held : List RecordData) (keys more back : List Place) (redo : RecordData) (g e n : ℕ) → IsIndexBy f held keys → IsRecordAt held (key_of redo) None → e ≡ redo.epoch → n ≡ redo.number → GainsKey keys g (key_at e n) more → LosesKey more g (key_at e n) back → IsIndexBy f held back
+pub index_undone : (f : RecordData → ℕ) (held : List RecordData) (keys more back : List Place) (redo : RecordData) (g e n : ℕ) → IsIndexBy f held keys → IsRecordAt held (key_of redo) None → e ≡ redo.epoch → n ≡ redo.number → GainsKey keys g (key_in e n) more → LosesKey more g (key_in e n) back → IsIndexBy f held back
 index_undone f held keys more back redo g e n is free q r gains loses = record {
   listed = λ s h. (loses (f s, key_of s)).1 (
     (gains (f s, key_of s)).1 (inl (is.listed s h)),
     λ u. free s h (ap (λ (x : Place). x.1.epoch) u ∙ q, ap (λ (x : Place). x.1.number) u ∙ r),
   );
   backed = λ h a b k.
-      let l = (loses (h, key_at a b)).0 k in
+      let l = (loses (h, key_in a b)).0 k in
       ⊎_elim
-      (λ (u : Contains keys (h, key_at a b)). is.backed h a b u)
-      (λ (u : (h, key_at a b) ≡ (g, key_at e n)). absurd (l.1 u))
-      ((gains (h, key_at a b)).0 l.0);
+      (λ (u : Contains keys (h, key_in a b)). is.backed h a b u)
+      (λ (u : (h, key_in a b) ≡ (g, key_in e n)). absurd (l.1 u))
+      ((gains (h, key_in a b)).0 l.0);
 }
 
 -- one record less, one key less
-pub index_shrinks : (f : RecordData → ℕ) (old new : List RecordData) (keys less : List Place) (redo : RecordData) (g e n : ℕ) → IsHeld old → IsIndexBy f old keys → Contains old redo → HasKey (key_at e n) redo → g ≡ f redo → Removes (HasKey (key_at e n)) old new → LosesKey keys g (key_at e n) less → IsIndexBy f new less
+pub index_shrinks : (f : RecordData → ℕ) (old new : List RecordData) (keys less : List Place) (redo : RecordData) (g e n : ℕ) → IsHeld old → IsIndexBy f old keys → Contains old redo → HasKey (key_in e n) redo → g ≡ f redo → Removes (HasKey (key_in e n)) old new → LosesKey keys g (key_in e n) less → IsIndexBy f new less
 index_shrinks f old new keys less redo g e n form is among key p removes loses = record {
   listed = λ s h.
       let t = (removes s).0 h in
       (loses (f s, key_of s)).1 (is.listed s t.0, λ u. t.1 (ap (λ (x : Place). x.1.epoch) u, ap (λ (x : Place). x.1.number) u));
   backed = λ h a b k.
-      let l = (loses (h, key_at a b)).0 k in
+      let l = (loses (h, key_in a b)).0 k in
       let t = is.backed h a b l.0 in
-      let other : HasKey (key_at e n) t.0 → ⊥ = λ same.
+      let other : HasKey (key_in e n) t.0 → ⊥ = λ same.
       let it : t.0 ≡ redo = one_key old form.rising t.0 redo t.1 among (same.0 ∙ sym key.0) (same.1 ∙ sym key.1) in
       l.1 (place_as h a b g e n (sym t.2 ∙ ap f it ∙ sym p) (sym t.3.0 ∙ same.0) (sym t.3.1 ∙ same.1)) in
       (t.0, (removes t.0).1 (t.1, other), t.2, t.3);
@@ -74,10 +74,10 @@ index_shrinks f old new keys less redo g e n form is among key p removes loses =
 pub index_of_none : (f : RecordData → ℕ) (held : List RecordData) (keys : List Place) → held ≡ [] → keys ≡ [] → IsIndexBy f held keys
 index_of_none f held keys p q = record {
   listed = λ r h. absurd (none_in r (subst (λ (l : List RecordData). Contains l r) p h));
-  backed = λ g e n h. absurd (none_in (g, key_at e n) (subst (λ (l : List Place). Contains l (g, key_at e n)) q h));
+  backed = λ g e n h. absurd (none_in (g, key_in e n) (subst (λ (l : List Place). Contains l (g, key_in e n)) q h));
 }
 
-pub removes_none : (held : List RecordData) (e n : ℕ) → IsRecordAt held (key_at e n) None → Removes (HasKey (key_at e n)) held held
+pub removes_none : (held : List RecordData) (e n : ℕ) → IsRecordAt held (key_in e n) None → Removes (HasKey (key_in e n)) held held
 removes_none held e n none r = (λ h. (h, λ k. none r h k), λ h. h.0)
 
 pub on_ok : {T E : Type 0} (r : Result T E) (b : Bool) (P : Type 0) → b ≡ is_err r → b ≡ false → OnOk r P → P
@@ -88,14 +88,14 @@ pub on_err : {T E : Type 0} (r : Result T E) (b : Bool) (P : Type 0) → b ≡ i
 on_err (Ok x) b P e f h = absurd (cc)
 on_err (Err x) b P e f h = h
 
-pub none_for : (held : List RecordData) (e n a b : ℕ) → e ≡ a → n ≡ b → IsRecordAt held (key_at e n) None → IsRecordAt held (key_at a b) None
+pub none_for : (held : List RecordData) (e n a b : ℕ) → e ≡ a → n ≡ b → IsRecordAt held (key_in e n) None → IsRecordAt held (key_in a b) None
 none_for held e n a b p q none r h key = none r h (key.0 ∙ sym p, key.1 ∙ sym q)
 
 pub next_held : (f : RecordData → ℕ) (held : List RecordData) (keys : List Place) (g : ℕ) (after : Key) (o : Option Key) → IsIndexBy f held keys → IsNextKey keys g after o → IsNextHeld f held g after o
 next_held f held keys g after None is next = λ r h e p. next r.epoch r.number (subst (λ (x : ℕ). Contains keys (x, key_of r)) e (is.listed r h)) p
 next_held f held keys g after (Some key) is next =
     let t = is.backed g key.epoch key.number next.0 in
-    let up : KeyBefore after (key_of t.0) = subst (λ (x : ℕ). KeyBefore after (key_at x t.0.number)) (sym t.3.0) (subst (λ (x : ℕ). KeyBefore after (key_at key.epoch x)) (sym t.3.1) next.1) in (
+    let up : KeyBefore after (key_of t.0) = subst (λ (x : ℕ). KeyBefore after (key_in x t.0.number)) (sym t.3.0) (subst (λ (x : ℕ). KeyBefore after (key_in key.epoch x)) (sym t.3.1) next.1) in (
       (t.0, t.1, t.2, t.3, up),
       λ r h e p. next.2 r.epoch r.number (subst (λ (x : ℕ). Contains keys (x, key_of r)) e (is.listed r h)) p,
     )
@@ -104,20 +104,20 @@ pub last_held : (f : RecordData → ℕ) (held : List RecordData) (keys : List P
 last_held f held keys g to None is last = λ r h e. last r.epoch r.number (subst (λ (x : ℕ). Contains keys (x, key_of r)) e (is.listed r h))
 last_held f held keys g to (Some key) is last =
     let t = is.backed g key.epoch key.number last.0 in
-    let down : KeyBefore to (key_of t.0) → ⊥ = subst (λ (x : ℕ). KeyBefore to (key_at x t.0.number) → ⊥) (sym t.3.0) (subst (λ (x : ℕ). KeyBefore to (key_at key.epoch x) → ⊥) (sym t.3.1) last.1) in (
+    let down : KeyBefore to (key_of t.0) → ⊥ = subst (λ (x : ℕ). KeyBefore to (key_in x t.0.number) → ⊥) (sym t.3.0) (subst (λ (x : ℕ). KeyBefore to (key_in key.epoch x) → ⊥) (sym t.3.1) last.1) in (
       (t.0, t.1, t.2, t.3, down),
       λ r h e p. last.2 r.epoch r.number (subst (λ (x : ℕ). Contains keys (x, key_of r)) e (is.listed r h)) p,
     )
 
 -- the pages of keys: one more record, one that was added and taken out again, one record less, no record
-entry_as : (e n p a b q : ℕ) → e ≡ a → n ≡ b → p ≡ q → ◌≡◌ {A = Key × ℕ} (key_at e n, p) (key_at a b, q)
+entry_as : (e n p a b q : ℕ) → e ≡ a → n ≡ b → p ≡ q → ◌≡◌ {A = Key × ℕ} (key_in e n, p) (key_in a b, q)
 entry_as e n p a b q x y z =
-    let one : ℕ → Key × ℕ = λ w. (key_at w n, p) in
-    let two : ℕ → Key × ℕ = λ w. (key_at a w, p) in
-    let three : ℕ → Key × ℕ = λ w. (key_at a b, w) in
+    let one : ℕ → Key × ℕ = λ w. (key_in w n, p) in
+    let two : ℕ → Key × ℕ = λ w. (key_in a w, p) in
+    let three : ℕ → Key × ℕ = λ w. (key_in a b, w) in
     ap one x ∙ ap two y ∙ ap three z
 
-pub pages_grow : (old new : List RecordData) (keys more : List (Key × ℕ)) (redo : RecordData) (e n p : ℕ) → IsKeyPages old keys → ((r : RecordData) → Contains new r ↔ (Contains old r ⊎ (r ≡ redo))) → e ≡ redo.epoch → n ≡ redo.number → p ≡ redo.page → GainsPage keys (key_at e n) p more → IsKeyPages new more
+pub pages_grow : (old new : List RecordData) (keys more : List (Key × ℕ)) (redo : RecordData) (e n p : ℕ) → IsKeyPages old keys → ((r : RecordData) → Contains new r ↔ (Contains old r ⊎ (r ≡ redo))) → e ≡ redo.epoch → n ≡ redo.number → p ≡ redo.page → GainsPage keys (key_in e n) p more → IsKeyPages new more
 pages_grow old new keys more redo e n p is grows x y z gains = record {
   listed = λ s h. ⊎_elim
       (λ (u : Contains old s). (gains (key_of s, s.page)).1 (inl (is.listed s u)))
@@ -125,46 +125,46 @@ pages_grow old new keys more redo e n p is grows x y z gains = record {
       (ap (λ (r : RecordData). r.epoch) u ∙ sym x) (ap (λ (r : RecordData). r.number) u ∙ sym y) (ap (λ (r : RecordData). r.page) u ∙ sym z))))
       ((grows s).0 h);
   backed = λ a b q h. ⊎_elim
-      (λ (u : Contains keys (key_at a b, q)). let t = is.backed a b q u in (t.0, (grows t.0).1 (inl t.1), t.2, t.3))
-      (λ (u : (key_at a b, q) ≡ (key_at e n, p)). (
+      (λ (u : Contains keys (key_in a b, q)). let t = is.backed a b q u in (t.0, (grows t.0).1 (inl t.1), t.2, t.3))
+      (λ (u : (key_in a b, q) ≡ (key_in e n, p)). (
         redo,
         (grows redo).1 (inr refl),
         (sym (ap (λ (w : Key × ℕ). w.0.epoch) u ∙ x), sym (ap (λ (w : Key × ℕ). w.0.number) u ∙ y)),
         sym (ap (λ (w : Key × ℕ). w.1) u ∙ z),
       ))
-      ((gains (key_at a b, q)).0 h);
+      ((gains (key_in a b, q)).0 h);
 }
 
-pub pages_undone : (held : List RecordData) (keys more back : List (Key × ℕ)) (redo : RecordData) (e n p : ℕ) → IsKeyPages held keys → IsRecordAt held (key_of redo) None → e ≡ redo.epoch → n ≡ redo.number → GainsPage keys (key_at e n) p more → LosesPage more (key_at e n) back → IsKeyPages held back
+pub pages_undone : (held : List RecordData) (keys more back : List (Key × ℕ)) (redo : RecordData) (e n p : ℕ) → IsKeyPages held keys → IsRecordAt held (key_of redo) None → e ≡ redo.epoch → n ≡ redo.number → GainsPage keys (key_in e n) p more → LosesPage more (key_in e n) back → IsKeyPages held back
 pages_undone held keys more back redo e n p is free x y gains loses = record {
   listed = λ s h. (loses (key_of s, s.page)).1 (
     (gains (key_of s, s.page)).1 (inl (is.listed s h)),
     λ u. free s h (ap (λ (k : Key). k.epoch) u ∙ x, ap (λ (k : Key). k.number) u ∙ y),
   );
   backed = λ a b q h.
-      let l = (loses (key_at a b, q)).0 h in
+      let l = (loses (key_in a b, q)).0 h in
       ⊎_elim
-      (λ (u : Contains keys (key_at a b, q)). is.backed a b q u)
-      (λ (u : (key_at a b, q) ≡ (key_at e n, p)). absurd (l.1 (ap (λ (w : Key × ℕ). w.0) u)))
-      ((gains (key_at a b, q)).0 l.0);
+      (λ (u : Contains keys (key_in a b, q)). is.backed a b q u)
+      (λ (u : (key_in a b, q) ≡ (key_in e n, p)). absurd (l.1 (ap (λ (w : Key × ℕ). w.0) u)))
+      ((gains (key_in a b, q)).0 l.0);
 }
 
-pub pages_shrink : (old new : List RecordData) (keys less : List (Key × ℕ)) (e n : ℕ) → IsKeyPages old keys → Removes (HasKey (key_at e n)) old new → LosesPage keys (key_at e n) less → IsKeyPages new less
+pub pages_shrink : (old new : List RecordData) (keys less : List (Key × ℕ)) (e n : ℕ) → IsKeyPages old keys → Removes (HasKey (key_in e n)) old new → LosesPage keys (key_in e n) less → IsKeyPages new less
 pages_shrink old new keys less e n is removes loses = record {
   listed = λ s h.
       let t = (removes s).0 h in
       (loses (key_of s, s.page)).1 (is.listed s t.0, λ u. t.1 (ap (λ (k : Key). k.epoch) u, ap (λ (k : Key). k.number) u));
   backed = λ a b q h.
-      let l = (loses (key_at a b, q)).0 h in
+      let l = (loses (key_in a b, q)).0 h in
       let t = is.backed a b q l.0 in
-      let key : key_of t.0 ≡ key_at a b = ap (λ (x : ℕ). key_at x t.0.number) t.2.0 ∙ ap (λ (x : ℕ). key_at a x) t.2.1 in
-      (t.0, (removes t.0).1 (t.1, λ k. l.1 (sym key ∙ ap (λ (x : ℕ). key_at x t.0.number) k.0 ∙ ap (λ (x : ℕ). key_at e x) k.1)), t.2, t.3);
+      let key : key_of t.0 ≡ key_in a b = ap (λ (x : ℕ). key_in x t.0.number) t.2.0 ∙ ap (λ (x : ℕ). key_in a x) t.2.1 in
+      (t.0, (removes t.0).1 (t.1, λ k. l.1 (sym key ∙ ap (λ (x : ℕ). key_in x t.0.number) k.0 ∙ ap (λ (x : ℕ). key_in e x) k.1)), t.2, t.3);
 }
 
 pub pages_of_none : (held : List RecordData) (keys : List (Key × ℕ)) → held ≡ [] → keys ≡ [] → IsKeyPages held keys
 pages_of_none held keys p q = record {
   listed = λ r h. absurd (none_in r (subst (λ (l : List RecordData). Contains l r) p h));
-  backed = λ e n page h. absurd (none_in (key_at e n, page) (subst (λ (l : List (Key × ℕ)). Contains l (key_at e n, page)) q h));
+  backed = λ e n page h. absurd (none_in (key_in e n, page) (subst (λ (l : List (Key × ℕ)). Contains l (key_in e n, page)) q h));
 }
 
 -- whether the key that was given a page had one
@@ -177,21 +177,21 @@ had_none None b old new key page e f h = h
 had_none (Some p) b old new key page e f h = absurd (cc)
 
 -- a key without a page is free, and each other key leads to its record
-pub unpaged : (held : List RecordData) (keys : List (Key × ℕ)) (e n : ℕ) → IsKeyPages held keys → IsPageOf keys (key_at e n) None → IsRecordAt held (key_at e n) None
-unpaged held keys e n is none r h k = none r.page (subst (λ (x : ℕ). Contains keys (key_at x n, r.page)) k.0 (subst (λ (x : ℕ). Contains keys (key_at r.epoch x, r.page)) k.1 (is.listed r h)))
+pub unpaged : (held : List RecordData) (keys : List (Key × ℕ)) (e n : ℕ) → IsKeyPages held keys → IsPageOf keys (key_in e n) None → IsRecordAt held (key_in e n) None
+unpaged held keys e n is none r h k = none r.page (subst (λ (x : ℕ). Contains keys (key_in x n, r.page)) k.0 (subst (λ (x : ℕ). Contains keys (key_in r.epoch x, r.page)) k.1 (is.listed r h)))
 
-pub paged_at : (held : List RecordData) (keys : List (Key × ℕ)) (e n page : ℕ) (o : Option RecordData) → IsHeld held → IsKeyPages held keys → IsPageOf keys (key_at e n) (Some page) → IsRecordOf held page (key_at e n) o → IsRecordAt held (key_at e n) o
+pub paged_at : (held : List RecordData) (keys : List (Key × ℕ)) (e n page : ℕ) (o : Option RecordData) → IsHeld held → IsKeyPages held keys → IsPageOf keys (key_in e n) (Some page) → IsRecordOf held page (key_in e n) o → IsRecordAt held (key_in e n) o
 paged_at held keys e n page None form is at none = let t = is.backed e n page at in absurd (none t.0 t.1 t.3 t.2)
 paged_at held keys e n page (Some r) form is at found = (found.0, found.2)
 
 -- a key's record is of the key's page
-pub key_page : (held : List RecordData) (keys : List (Key × ℕ)) (e n page : ℕ) → IsHeld held → IsKeyPages held keys → IsPageOf keys (key_at e n) (Some page) → (r : RecordData) → Contains held r → HasKey (key_at e n) r → r.page ≡ page
+pub key_page : (held : List RecordData) (keys : List (Key × ℕ)) (e n page : ℕ) → IsHeld held → IsKeyPages held keys → IsPageOf keys (key_in e n) (Some page) → (r : RecordData) → Contains held r → HasKey (key_in e n) r → r.page ≡ page
 key_page held keys e n page form is at r h k =
     let t = is.backed e n page at in
     let same : r ≡ t.0 = one_key held form.rising r t.0 h t.1 (k.0 ∙ sym t.2.0) (k.1 ∙ sym t.2.1) in
     ap (λ (x : RecordData). x.page) same ∙ t.3
 
-pub removes_key : (old new : List RecordData) (keys : List (Key × ℕ)) (e n page : ℕ) → IsHeld old → IsKeyPages old keys → IsPageOf keys (key_at e n) (Some page) → Removes (λ r. (r.page ≡ page) × HasKey (key_at e n) r) old new → Removes (HasKey (key_at e n)) old new
+pub removes_key : (old new : List RecordData) (keys : List (Key × ℕ)) (e n page : ℕ) → IsHeld old → IsKeyPages old keys → IsPageOf keys (key_in e n) (Some page) → Removes (λ r. (r.page ≡ page) × HasKey (key_in e n) r) old new → Removes (HasKey (key_in e n)) old new
 removes_key old new keys e n page form is at removes r = (
   λ h. let t = (removes r).0 h in (t.0, λ k. t.1 (key_page old keys e n page form is at r t.0 k, k)),
   λ h. (removes r).1 (h.0, λ k. h.1 k.1),
@@ -202,9 +202,9 @@ key_above : (after : Option Key) (r : RecordData) → IsAbove after r → IsAbov
 key_above None r h = tt
 key_above (Some key) r h = h
 
-above_key : (after : Option Key) (r : RecordData) (e n : ℕ) → HasKey (key_at e n) r → IsAboveKey after e n → IsAbove after r
+above_key : (after : Option Key) (r : RecordData) (e n : ℕ) → HasKey (key_in e n) r → IsAboveKey after e n → IsAbove after r
 above_key None r e n k h = tt
-above_key (Some key) r e n k h = subst (λ (x : ℕ). KeyBefore key (key_at x r.number)) (sym k.0) (subst (λ (x : ℕ). KeyBefore key (key_at e x)) (sym k.1) h)
+above_key (Some key) r e n k h = subst (λ (x : ℕ). KeyBefore key (key_in x r.number)) (sym k.0) (subst (λ (x : ℕ). KeyBefore key (key_in e x)) (sym k.1) h)
 
 pub key_held : (held : List RecordData) (keys : List (Key × ℕ)) (after o : Option Key) → IsKeyPages held keys → IsLeastKey keys after o → IsKeyAfter held after o
 key_held held keys after None is least = λ r h up. least r.epoch r.number r.page (is.listed r h) (key_above after r up)
@@ -218,7 +218,7 @@ pub key_held_to : (held : List RecordData) (keys : List (Key × ℕ)) (to : Key)
 key_held_to held keys to None is greatest = λ r h. greatest r.epoch r.number r.page (is.listed r h)
 key_held_to held keys to (Some key) is greatest =
     let t = is.backed key.epoch key.number greatest.0.0 greatest.0.1 in (
-      (t.0, t.1, t.2, λ p. greatest.0.2 (subst (λ (x : ℕ). KeyBefore to (key_at x key.number)) t.2.0 (subst (λ (x : ℕ). KeyBefore to (key_at t.0.epoch x)) t.2.1 p))),
+      (t.0, t.1, t.2, λ p. greatest.0.2 (subst (λ (x : ℕ). KeyBefore to (key_in x key.number)) t.2.0 (subst (λ (x : ℕ). KeyBefore to (key_in t.0.epoch x)) t.2.1 p))),
       λ r h not. greatest.1 r.epoch r.number r.page (is.listed r h) not,
     )
 

@@ -8,7 +8,7 @@ use Rattle.std.specs.List.Sorted.{IsStrictlySortedBy}
 use Rattle.std.specs.Map.{keys_of}
 use Rattle.std.specs.BTreeMap.Range.{range_contains}
 use Rattle.redo_core.specs.Data.{RecordData}
-use Rattle.redo_core.specs.Keys.{key_at, key_of, key_cmp, KeyBefore}
+use Rattle.redo_core.specs.Keys.{key_in, key_of, key_cmp, KeyBefore}
 use Rattle.redo_core.specs.declared.keys.Key.{Key}
 use Rattle.redo_core.specs.Order.{IsRising, Lists, RecordBefore}
 use Rattle.redo_core.specs.Standing.{IsAlive, IsWaiting}
@@ -155,14 +155,14 @@ records_rise (r ∷ rs) rising = (
 )
 
 -- what waits, or is alive above a point, has a key above the one that parts the alive records there
-past_parts : (b : BookData) (point epoch : ℕ) (k : Key) → PartsAt b point epoch → epoch ≤ b.complete → KeepsKey b point k → KeyBefore (key_at epoch point) k
+past_parts : (b : BookData) (point epoch : ℕ) (k : Key) → PartsAt b point epoch → epoch ≤ b.complete → KeepsKey b point k → KeyBefore (key_in epoch point) k
 past_parts b point epoch k parts known keeps = ⊎_elim
     (λ (waits : IsWaiting b.complete k.epoch). inl (omega (arith, waits, known)))
     (λ (alive : IsAlive b.cuts b.complete k.epoch k.number × (point < k.number)). (parts.0 k.epoch k.number alive.0).0 alive.1)
     keeps
 
 pub kept_records : (b : BookData) (held : List RecordData) (entries : List Entry) (point epoch : ℕ) (keys : List Key) → IsRising RecordBefore held
-    → IsKeyPages held entries → PartsAt b point epoch → epoch ≤ b.complete → Lists KeyBefore (IsKeyKept b entries (key_at epoch point) point) keys
+    → IsKeyPages held entries → PartsAt b point epoch → epoch ≤ b.complete → Lists KeyBefore (IsKeyKept b entries (key_in epoch point) point) keys
     → ListsKeysOf (IsKeptAbove b held point) keys
 kept_records b held entries point epoch keys rising pages parts known lists =
     let of = of_keys (IsKeptAbove b held point) keys (λ k h. record_of k ((lists.members k).0 h)) in
@@ -182,10 +182,10 @@ kept_records b held entries point epoch keys rising pages parts known lists =
       keys_are = of.keys_are;
     }
   where
-    record_of : (k : Key) → IsKeyKept b entries (key_at epoch point) point k → (r : RecordData) × IsKeptAbove b held point r × (k ≡ key_of r)
+    record_of : (k : Key) → IsKeyKept b entries (key_in epoch point) point k → (r : RecordData) × IsKeptAbove b held point r × (k ≡ key_of r)
     record_of k h =
         let t = pages.backed k.epoch k.number h.0.0 h.0.1 in
-        let one : ℕ → Key = λ e. key_at e k.number in
-        let two : ℕ → Key = λ n. key_at t.0.epoch n in
+        let one : ℕ → Key = λ e. key_in e k.number in
+        let two : ℕ → Key = λ n. key_in t.0.epoch n in
         let own : k ≡ key_of t.0 = ap one (sym t.2.0) ∙ ap two (sym t.2.1) in
         (t.0, (t.1, subst (KeepsKey b point) own h.2), own)

@@ -8,7 +8,7 @@ use Rattle.std.specs.Map.{keys_of, lookup, remove_entry}
 use Rattle.std.specs.List.Sorted.{IsStrictlySortedBy}
 use Rattle.std.specs.BTreeMap.Range.{range_contains}
 use Rattle.redo_core.specs.Order.{IsRising}
-use Rattle.redo_core.specs.Keys.{key_at, key_cmp, KeyBefore}
+use Rattle.redo_core.specs.Keys.{key_in, key_cmp, KeyBefore}
 use Rattle.redo_core.specs.declared.keys.Key.{Key}
 use Rattle.redo_core.proofs.Members.{none_in, here, which, each}
 use Rattle.hot_log.specs.Indexing.{AddsPage, LosesPage, IsPageOf, IsLeastKey, IsGreatestKey, IsGreatestOf}
@@ -43,40 +43,40 @@ pages_lose old new key ordered is e =
 
 pub none_above : (m : Map) (after : Key) → filter (λ (e : Entry). range_contains key_cmp (Excluded after) Unbounded e.0) m ≡ [] → IsLeastKey m (Some after) None
 none_above m after is e n page h up =
-    none_kept (λ (e : Entry). range_contains key_cmp (Excluded after) Unbounded e.0) m is (key_at e n, page) h (lt_of (key_cmp after (key_at e n)) (key_less_of after (key_at e n) up))
+    none_kept (λ (e : Entry). range_contains key_cmp (Excluded after) Unbounded e.0) m is (key_in e n, page) h (lt_of (key_cmp after (key_in e n)) (key_less_of after (key_in e n) up))
 
 pub next_above : (m : Map) (after : Key) (x : Entry) (t : List Entry) → IsStrictlySortedBy key_cmp (keys_of m) → filter (λ (e : Entry). range_contains key_cmp (Excluded after) Unbounded e.0) m ≡ x ∷ t → IsLeastKey m (Some after) (Some x.0)
 next_above m after x t ordered is =
     let f = first_kept (λ (x y : Entry). key_cmp x.0 y.0 ≡ Less) (λ (e : Entry). range_contains key_cmp (Excluded after) Unbounded e.0) m x t (rising_entries key_cmp m ordered) is in (
       (x.1, f.0, key_less after x.0 (lt_true (key_cmp after x.0) f.1)),
       λ e n page h up. ⊎_elim
-          (λ (u : x ≡ (key_at e n, page)). inl (ap (λ (y : Entry). y.0.epoch) (sym u), ap (λ (y : Entry). y.0.number) (sym u)))
-          (λ (u : key_cmp x.0 (key_at e n) ≡ Less). inr (key_less x.0 (key_at e n) u))
-          (f.2 (key_at e n, page) h (lt_of (key_cmp after (key_at e n)) (key_less_of after (key_at e n) up))),
+          (λ (u : x ≡ (key_in e n, page)). inl (ap (λ (y : Entry). y.0.epoch) (sym u), ap (λ (y : Entry). y.0.number) (sym u)))
+          (λ (u : key_cmp x.0 (key_in e n) ≡ Less). inr (key_less x.0 (key_in e n) u))
+          (f.2 (key_in e n, page) h (lt_of (key_cmp after (key_in e n)) (key_less_of after (key_in e n) up))),
     )
 
 pub no_first : (m : Map) → m ≡ [] → IsLeastKey m None None
-no_first m is e n page h up = none_in (key_at e n, page) (subst (λ (l : List Entry). Contains l (key_at e n, page)) is h)
+no_first m is e n page h up = none_in (key_in e n, page) (subst (λ (l : List Entry). Contains l (key_in e n, page)) is h)
 
 pub first_of : (m : Map) (x : Entry) (t : List Entry) → IsStrictlySortedBy key_cmp (keys_of m) → m ≡ x ∷ t → IsLeastKey m None (Some x.0)
 first_of m x t ordered is =
     let rising : IsRising (λ (x y : Entry). key_cmp x.0 y.0 ≡ Less) (x ∷ t) = subst (IsRising (λ (x y : Entry). key_cmp x.0 y.0 ≡ Less)) is (rising_entries key_cmp m ordered) in (
       (x.1, subst (λ (l : List Entry). Contains l x) (sym is) (here x t), tt),
       λ e n page h up. ⊎_elim
-          (λ (u : x ≡ (key_at e n, page)). inl (ap (λ (y : Entry). y.0.epoch) (sym u), ap (λ (y : Entry). y.0.number) (sym u)))
-          (λ (u : Contains t (key_at e n, page)). inr (key_less x.0 (key_at e n) (each (λ (y : Entry). key_cmp x.0 y.0 ≡ Less) t (key_at e n, page) rising.0 u)))
-          (which x t (key_at e n, page) (subst (λ (l : List Entry). Contains l (key_at e n, page)) is h)),
+          (λ (u : x ≡ (key_in e n, page)). inl (ap (λ (y : Entry). y.0.epoch) (sym u), ap (λ (y : Entry). y.0.number) (sym u)))
+          (λ (u : Contains t (key_in e n, page)). inr (key_less x.0 (key_in e n) (each (λ (y : Entry). key_cmp x.0 y.0 ≡ Less) t (key_in e n, page) rising.0 u)))
+          (which x t (key_in e n, page) (subst (λ (l : List Entry). Contains l (key_in e n, page)) is h)),
     )
 
 -- the keys up to one
-kept_to : (to : Key) (e n : ℕ) → (KeyBefore to (key_at e n) → ⊥) → range_contains key_cmp Unbounded (Included to) (key_at e n) ≡ true
-kept_to to e n not = not_lt_of (key_cmp to (key_at e n)) (λ b. not (key_less to (key_at e n) b))
+kept_to : (to : Key) (e n : ℕ) → (KeyBefore to (key_in e n) → ⊥) → range_contains key_cmp Unbounded (Included to) (key_in e n) ≡ true
+kept_to to e n not = not_lt_of (key_cmp to (key_in e n)) (λ b. not (key_less to (key_in e n) b))
 
 pub none_to : (m : Map) (to : Key) → filter (λ (e : Entry). range_contains key_cmp Unbounded (Included to) e.0) m ≡ [] → IsGreatestKey m to None
 none_to m to is e n page h =
     ⊎_elim
-    (λ (p : KeyBefore to (key_at e n)). p)
-    (λ (q : KeyBefore to (key_at e n) → ⊥). absurd (none_kept (λ (e : Entry). range_contains key_cmp Unbounded (Included to) e.0) m is (key_at e n, page) h (kept_to to e n q)))
+    (λ (p : KeyBefore to (key_in e n)). p)
+    (λ (q : KeyBefore to (key_in e n) → ⊥). absurd (none_kept (λ (e : Entry). range_contains key_cmp Unbounded (Included to) e.0) m is (key_in e n, page) h (kept_to to e n q)))
     (pair_or_not to.epoch to.number e n)
 
 pub last_to : (m : Map) (to : Key) (x : Entry) (t : List Entry) → IsStrictlySortedBy key_cmp (keys_of m) → filter (λ (e : Entry). range_contains key_cmp Unbounded (Included to) e.0) m ≡ t ++ x ∷ [] → IsGreatestKey m to (Some x.0)
@@ -84,21 +84,21 @@ last_to m to x t ordered is =
     let f = last_kept (λ (x y : Entry). key_cmp x.0 y.0 ≡ Less) (λ (e : Entry). range_contains key_cmp Unbounded (Included to) e.0) m x t (rising_entries key_cmp m ordered) is in (
       (x.1, f.0, λ p. not_lt_true (key_cmp to x.0) f.1 (key_less_of to x.0 p)),
       λ e n page h not. ⊎_elim
-          (λ (u : x ≡ (key_at e n, page)). inl (ap (λ (y : Entry). y.0.epoch) (sym u), ap (λ (y : Entry). y.0.number) (sym u)))
-          (λ (u : key_cmp (key_at e n) x.0 ≡ Less). inr (key_less (key_at e n) x.0 u))
-          (f.2 (key_at e n, page) h (kept_to to e n not)),
+          (λ (u : x ≡ (key_in e n, page)). inl (ap (λ (y : Entry). y.0.epoch) (sym u), ap (λ (y : Entry). y.0.number) (sym u)))
+          (λ (u : key_cmp (key_in e n) x.0 ≡ Less). inr (key_less (key_in e n) x.0 u))
+          (f.2 (key_in e n, page) h (kept_to to e n not)),
     )
 
 -- the greatest key
 pub no_greatest : (m : Map) → m ≡ [] → IsGreatestOf m None
-no_greatest m is e n page h = none_in (key_at e n, page) (subst (λ (l : List Entry). Contains l (key_at e n, page)) is h)
+no_greatest m is e n page h = none_in (key_in e n, page) (subst (λ (l : List Entry). Contains l (key_in e n, page)) is h)
 
 pub greatest_of : (m : Map) (x : Entry) (t : List Entry) → IsStrictlySortedBy key_cmp (keys_of m) → m ≡ t ++ x ∷ [] → IsGreatestOf m (Some x.0)
 greatest_of m x t ordered is =
     let last = last_of (λ (x y : Entry). key_cmp x.0 y.0 ≡ Less) m x t (rising_entries key_cmp m ordered) is in (
       (x.1, last.0),
       λ e n page h. ⊎_elim
-          (λ (u : x ≡ (key_at e n, page)). inl (ap (λ (y : Entry). y.0.epoch) (sym u), ap (λ (y : Entry). y.0.number) (sym u)))
-          (λ (u : key_cmp (key_at e n) x.0 ≡ Less). inr (key_less (key_at e n) x.0 u))
-          (last.1 (key_at e n, page) h),
+          (λ (u : x ≡ (key_in e n, page)). inl (ap (λ (y : Entry). y.0.epoch) (sym u), ap (λ (y : Entry). y.0.number) (sym u)))
+          (λ (u : key_cmp (key_in e n) x.0 ≡ Less). inr (key_less (key_in e n) x.0 u))
+          (last.1 (key_in e n, page) h),
     )

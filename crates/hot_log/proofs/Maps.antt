@@ -15,12 +15,12 @@ use Rattle.std.proofs.lemmas.Map.Lookups.{CmpEqualImpliesEq}
 use Rattle.redo_core.specs.Order.{IsRising}
 use Rattle.redo_core.proofs.Members.{none_in, here, there, which, each, all_of}
 
-pub key_in : {K X : Type 0} (es : List (K × X)) (e : K × X) → Contains es e → Contains (keys_of es) e.0
-key_in [] e h = absurd (none_in e h)
-key_in {K} {X} (f ∷ es) e h =
+pub key_listed : {K X : Type 0} (es : List (K × X)) (e : K × X) → Contains es e → Contains (keys_of es) e.0
+key_listed [] e h = absurd (none_in e h)
+key_listed {K} {X} (f ∷ es) e h =
     ⊎_elim
     (λ (u : f ≡ e). subst (λ (x : K × X). Contains (keys_of (f ∷ es)) x.0) u (here f.0 (keys_of es)))
-    (λ (u : Contains es e). there f.0 (keys_of es) e.0 (key_in es e u))
+    (λ (u : Contains es e). there f.0 (keys_of es) e.0 (key_listed es e u))
     (which f es e h)
 
 pub value_of : {K X : Type 0} (es : List (K × X)) (k : K) → Contains (keys_of es) k → (v : X) × Contains es (k, v)
@@ -35,7 +35,7 @@ pub rising_entries : {K X : Type 0} (c : K → K → Ordering) (es : List (K × 
 unfolding IsStrictlySortedBy
 rising_entries c [] s = tt
 rising_entries {K} {X} c (f ∷ es) s = (
-  all_of (λ (y : K × X). c f.0 y.0 ≡ Less) es (λ e h. each (λ (y : K). c f.0 y ≡ Less) (keys_of es) e.0 s.0 (key_in es e h)),
+  all_of (λ (y : K × X). c f.0 y.0 ≡ Less) es (λ e h. each (λ (y : K). c f.0 y ≡ Less) (keys_of es) e.0 s.0 (key_listed es e h)),
   rising_entries c es s.1,
 )
 
@@ -190,10 +190,10 @@ lost c is es k ordered q = (
   λ h.
       let t = value_of (remove_entry (is_at (c k)) es) q h in
       let u = (shrunk c is es k ordered (q, t.0)).0 t.1 in
-      (key_in es (q, t.0) u.1, u.0),
+      (key_listed es (q, t.0) u.1, u.0),
   λ h.
       let t = value_of es q h.0 in
-      key_in (remove_entry (is_at (c k)) es) (q, t.0) ((shrunk c is es k ordered (q, t.0)).1 (h.1, t.1)),
+      key_listed (remove_entry (is_at (c k)) es) (q, t.0) ((shrunk c is es k ordered (q, t.0)).1 (h.1, t.1)),
 )
 
 -- where no entry has the key, none leaves

@@ -9,7 +9,7 @@ use Rattle.std.specs.declared.cmp.Ordering.TheVariants.{Less, Equal, Greater}
 use Rattle.std.proofs.lemmas.Map.Lookups.{CmpEqualImpliesEq, exact_pairs, exact_unsigned}
 use Rattle.std.proofs.lemmas.List.Elements.{Contains-append_cases}
 use Rattle.redo_core.specs.Order.{IsRising}
-use Rattle.redo_core.specs.Keys.{key_at, key_cmp, KeyBefore}
+use Rattle.redo_core.specs.Keys.{key_in, key_cmp, KeyBefore}
 use Rattle.redo_core.specs.declared.keys.Key.{Key}
 use Rattle.hot_log.specs.Paged.{place_cmp}
 use Rattle.hot_log.proofs.Maps.{IsExact}
@@ -30,7 +30,7 @@ both_equal Greater p h = cc
 pub key_exact : CmpEqualImpliesEq key_cmp
 key_exact k l h =
     let t = both_equal (nat_cmp k.epoch l.epoch) (nat_cmp k.number l.number) h in
-    ap (λ (n : ℕ). key_at n k.number) (exact_unsigned k.epoch l.epoch t.0) ∙ ap (λ (n : ℕ). key_at l.epoch n) (exact_unsigned k.number l.number t.1)
+    ap (λ (n : ℕ). key_in n k.number) (exact_unsigned k.epoch l.epoch t.0) ∙ ap (λ (n : ℕ). key_in l.epoch n) (exact_unsigned k.number l.number t.1)
 
 pub place_exact : CmpEqualImpliesEq place_cmp
 place_exact = exact_pairs nat_cmp key_cmp exact_unsigned key_exact

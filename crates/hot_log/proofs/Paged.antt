@@ -6,7 +6,7 @@ use Rattle.std.specs.BTreeMap.{is_at, insert_entry}
 use Rattle.std.specs.Map.{keys_of, lookup, remove_entry}
 use Rattle.std.specs.List.Sorted.{IsStrictlySortedBy}
 use Rattle.redo_core.specs.Data.{RecordData}
-use Rattle.redo_core.specs.Keys.{key_at, key_of}
+use Rattle.redo_core.specs.Keys.{key_in, key_of}
 use Rattle.redo_core.specs.declared.keys.Key.{Key}
 use Rattle.redo_core.specs.Shape.{record_fault}
 use Rattle.redo_core.specs.Order.{IsRising, RecordBefore}
@@ -16,7 +16,7 @@ use Rattle.hot_log.specs.Held.{IsHeld, HasKey, IsRecordAt}
 use Rattle.hot_log.specs.Indexing.{IsRecordOf, IsIndexBy}
 use Rattle.hot_log.specs.Removing.{Removes}
 use Rattle.hot_log.specs.Paged.{place_cmp, place_of, records_in, is_below, insert_by_key, by_key, IsPaged}
-use Rattle.hot_log.proofs.Maps.{key_in, value_of, rising_entries, held_at, at_key, joins, shrunk}
+use Rattle.hot_log.proofs.Maps.{key_listed, value_of, rising_entries, held_at, at_key, joins, shrunk}
 use Rattle.hot_log.proofs.Orders.{places_exact}
 use Rattle.hot_log.proofs.Places.{Place}
 
@@ -126,11 +126,11 @@ entry_of (f ∷ es) r h =
     (λ (u : Contains (records_in es) r). let t = entry_of es r u in (t.0, there f es (t.0, r) t.1))
     (which f.1 (records_in es) r h)
 
-pub place_as : (g e n h a b : ℕ) → g ≡ h → e ≡ a → n ≡ b → ◌≡◌ {A = Place} (g, key_at e n) (h, key_at a b)
+pub place_as : (g e n h a b : ℕ) → g ≡ h → e ≡ a → n ≡ b → ◌≡◌ {A = Place} (g, key_in e n) (h, key_in a b)
 place_as g e n h a b p q r =
-    let one : ℕ → Place = λ x. (x, key_at e n) in
-    let two : ℕ → Place = λ x. (h, key_at x n) in
-    let three : ℕ → Place = λ x. (h, key_at a x) in
+    let one : ℕ → Place = λ x. (x, key_in e n) in
+    let two : ℕ → Place = λ x. (h, key_in x n) in
+    let three : ℕ → Place = λ x. (h, key_in a x) in
     ap one p ∙ ap two q ∙ ap three r
 
 -- records with different places and no key twice, in the order of their keys
@@ -186,12 +186,12 @@ seen_in m e h = (in_order (records_in m) e.1).1 (record_in m e h)
 
 pub page_index : (m : Map) → IsPaged m → IsIndexBy (λ r. r.page) (seen m) (keys_of m)
 page_index m is = record {
-  listed = λ r h. key_in m (place_of r, r) (own_entry m is r h);
+  listed = λ r h. key_listed m (place_of r, r) (own_entry m is r h);
   backed = λ g e n h.
-      let t = value_of m (g, key_at e n) h in
-      let k : (g, key_at e n) ≡ place_of t.0 = is.placed ((g, key_at e n), t.0) t.1 in (
+      let t = value_of m (g, key_in e n) h in
+      let k : (g, key_in e n) ≡ place_of t.0 = is.placed ((g, key_in e n), t.0) t.1 in (
         t.0,
-        seen_in m ((g, key_at e n), t.0) t.1,
+        seen_in m ((g, key_in e n), t.0) t.1,
         sym (ap (λ (p : Place). p.0) k),
         (sym (ap (λ (p : Place). p.1.epoch) k), sym (ap (λ (p : Place). p.1.number) k)),
       );

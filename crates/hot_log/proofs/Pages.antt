@@ -2,7 +2,7 @@
 use Rattle.std.proofs.Common.{◌≡◌, ℕ, ◌<◌, ◌≤◌, ◌↔◌, ⊎_elim, List, [], sym, ap, subst, arith, Some, Result, Ok, Err, IfOk}
 use Rattle.std.proofs.lemmas.Bool.{cases_lt}
 use Rattle.redo_core.specs.Data.{RecordData}
-use Rattle.redo_core.specs.Keys.{key_at, key_of, KeyBefore}
+use Rattle.redo_core.specs.Keys.{key_in, key_of, KeyBefore}
 use Rattle.redo_core.specs.Order.{Lists, BeforeByNumber, PairBefore}
 use Rattle.redo_core.proofs.Members.{none_in}
 use Rattle.redo_core.proofs.Listing.{lists_as}
@@ -16,7 +16,7 @@ if_ok (Ok v) P Q f h = f v h
 if_ok (Err e) P Q f h = tt
 
 -- the alive records between the keys that part them at two numbers are those between the numbers
-pub number_is : (b : BookData) (held : List RecordData) (page from to low high : ℕ) → PartsAt b from low → PartsAt b to high → (r : RecordData) → IsAliveBetween b held page (key_at low from) (key_at high to) r ↔ IsHeldOf b held page from to r
+pub number_is : (b : BookData) (held : List RecordData) (page from to low high : ℕ) → PartsAt b from low → PartsAt b to high → (r : RecordData) → IsAliveBetween b held page (key_in low from) (key_in high to) r ↔ IsHeldOf b held page from to r
 number_is b held page from to low high above up r = (
   λ h. (
     h.0.0,
@@ -35,9 +35,9 @@ number_is b held page from to low high above up r = (
   ),
 )
 
-pub by_number : (b : BookData) (held : List RecordData) (page from to low high : ℕ) (xs : List RecordData) → PartsAt b from low → PartsAt b to high → Lists BeforeByNumber (IsAliveBetween b held page (key_at low from) (key_at high to)) xs → Lists BeforeByNumber (IsHeldOf b held page from to) xs
+pub by_number : (b : BookData) (held : List RecordData) (page from to low high : ℕ) (xs : List RecordData) → PartsAt b from low → PartsAt b to high → Lists BeforeByNumber (IsAliveBetween b held page (key_in low from) (key_in high to)) xs → Lists BeforeByNumber (IsHeldOf b held page from to) xs
 by_number b held page from to low high xs above up lists =
-    lists_as BeforeByNumber (IsAliveBetween b held page (key_at low from) (key_at high to)) (IsHeldOf b held page from to) xs
+    lists_as BeforeByNumber (IsAliveBetween b held page (key_in low from) (key_in high to)) (IsHeldOf b held page from to) xs
     (number_is b held page from to low high above up) lists
 
 -- there are none where the keys, or the numbers, do not rise
@@ -49,8 +49,8 @@ none_between b held page from to low high xs above up apart is =
       members = λ r. (
         λ h. absurd (none_in r h),
         λ h.
-            let over : KeyBefore (key_at low from) (key_of r) = (above.0 r.epoch r.number h.1).0 h.3 in
-            let under : KeyBefore (key_at high to) (key_of r) → ⊥ = λ p. let l : to < r.number = (up.0 r.epoch r.number h.1).1 p in let le : r.number ≤ to = h.4 in omega arith in
+            let over : KeyBefore (key_in low from) (key_of r) = (above.0 r.epoch r.number h.1).0 h.3 in
+            let under : KeyBefore (key_in high to) (key_of r) → ⊥ = λ p. let l : to < r.number = (up.0 r.epoch r.number h.1).1 p in let le : r.number ≤ to = h.4 in omega arith in
             let lt : from < r.number = h.3 in
             let le : r.number ≤ to = h.4 in
             absurd (apart (rise low from high to r.epoch r.number over under) (omega arith)),

@@ -7,7 +7,7 @@ use Rattle.std.specs.declared.cmp.Ordering.TheVariants.{Less, Equal, Greater}
 use Rattle.std.specs.declared.ops.Bound.TheVariants.{Included, Excluded, Unbounded}
 use Rattle.std.specs.BTreeMap.Range.{range_contains}
 use Rattle.redo_core.specs.Order.{IsRising, PairBefore}
-use Rattle.redo_core.specs.Keys.{key_at, KeyBefore}
+use Rattle.redo_core.specs.Keys.{key_in, KeyBefore}
 use Rattle.redo_core.specs.declared.keys.Key.{Key}
 use Rattle.hot_log.specs.Indexing.{IsNextKey, IsLastKey}
 use Rattle.hot_log.specs.Paged.{place_cmp}
@@ -41,8 +41,8 @@ le_of Equal h = refl
 le_of Greater h = absurd (h refl)
 
 -- a key of the group above another, as the order of places says it
-in_group_above : (g a b e n : ℕ) → PairBefore a b e n → Below (g, key_at a b) (g, key_at e n)
-in_group_above g a b e n p = place_less_of (g, key_at a b) (g, key_at e n) (inr (refl, p))
+in_group_above : (g a b e n : ℕ) → PairBefore a b e n → Below (g, key_in a b) (g, key_in e n)
+in_group_above g a b e n p = place_less_of (g, key_in a b) (g, key_in e n) (inr (refl, p))
 
 group_and_key : (x y : Place) → x.0 ≡ y.0 → Below x y → KeyBefore x.1 y.1
 group_and_key x y e b =
@@ -53,7 +53,7 @@ group_and_key x y e b =
 
 pub next_none : (keys : List Place) (g : ℕ) (after : Key) → filter (range_contains place_cmp (Excluded (g, after)) Unbounded) keys ≡ [] → IsNextKey keys g after None
 next_none keys g after is e n h p =
-    none_kept (range_contains place_cmp (Excluded (g, after)) Unbounded) keys is (g, key_at e n) h (lt_of (place_cmp (g, after) (g, key_at e n)) (in_group_above g after.epoch after.number e n p))
+    none_kept (range_contains place_cmp (Excluded (g, after)) Unbounded) keys is (g, key_in e n) h (lt_of (place_cmp (g, after) (g, key_in e n)) (in_group_above g after.epoch after.number e n p))
 
 pub next_some : (keys : List Place) (g : ℕ) (after : Key) (x : Place) (t : List Place) → IsRising Below keys → filter (range_contains place_cmp (Excluded (g, after)) Unbounded) keys ≡ x ∷ t → x.0 ≡ g → IsNextKey keys g after (Some x.1)
 next_some keys g after x t rising is same =
@@ -64,9 +64,9 @@ next_some keys g after x t rising is same =
       subst P same f.0,
       group_and_key (g, after) x (sym same) above,
       λ e n h p. ⊎_elim
-          (λ (q : x ≡ (g, key_at e n)). inl (ap (λ (y : Place). y.1.epoch) (sym q), ap (λ (y : Place). y.1.number) (sym q)))
-          (λ (b : Below x (g, key_at e n)). inr (group_and_key x (g, key_at e n) same b))
-          (f.2 (g, key_at e n) h (lt_of (place_cmp (g, after) (g, key_at e n)) (in_group_above g after.epoch after.number e n p))),
+          (λ (q : x ≡ (g, key_in e n)). inl (ap (λ (y : Place). y.1.epoch) (sym q), ap (λ (y : Place). y.1.number) (sym q)))
+          (λ (b : Below x (g, key_in e n)). inr (group_and_key x (g, key_in e n) same b))
+          (f.2 (g, key_in e n) h (lt_of (place_cmp (g, after) (g, key_in e n)) (in_group_above g after.epoch after.number e n p))),
     )
 
 pub next_other : (keys : List Place) (g : ℕ) (after : Key) (x : Place) (t : List Place) → IsRising Below keys → filter (range_contains place_cmp (Excluded (g, after)) Unbounded) keys ≡ x ∷ t → (x.0 ≡ g → ⊥) → IsNextKey keys g after None
@@ -76,13 +76,13 @@ next_other keys g after x t rising is other e n h p =
     let above : Below (g, after) x = lt_true (place_cmp (g, after) x) f.1 in
     let up : g < x.0 = ⊎_elim (λ (l : g < x.0). l) (λ (q : (g ≡ x.0) × KeyBefore after x.1). absurd (other (sym q.0))) (place_less (g, after) x above) in
     ⊎_elim
-    (λ (q : x ≡ (g, key_at e n)). other (ap (λ (y : Place). y.0) q))
-    (λ (b : Below x (g, key_at e n)). ⊎_elim (λ (l : x.0 < g). omega arith) (λ (q : (x.0 ≡ g) × KeyBefore x.1 (key_at e n)). other q.0) (place_less x (g, key_at e n) b))
-    (f.2 (g, key_at e n) h (lt_of (place_cmp (g, after) (g, key_at e n)) (in_group_above g after.epoch after.number e n p)))
+    (λ (q : x ≡ (g, key_in e n)). other (ap (λ (y : Place). y.0) q))
+    (λ (b : Below x (g, key_in e n)). ⊎_elim (λ (l : x.0 < g). omega arith) (λ (q : (x.0 ≡ g) × KeyBefore x.1 (key_in e n)). other q.0) (place_less x (g, key_in e n) b))
+    (f.2 (g, key_in e n) h (lt_of (place_cmp (g, after) (g, key_in e n)) (in_group_above g after.epoch after.number e n p)))
 
 -- the range up to a key of a group
-up_to_group : (g e n : ℕ) (to : Key) → (KeyBefore to (key_at e n) → ⊥) → range_contains place_cmp Unbounded (Included (g, to)) (g, key_at e n) ≡ true
-up_to_group g e n to not = not_lt_of (place_cmp (g, to) (g, key_at e n)) (λ b. not (group_and_key (g, to) (g, key_at e n) refl b))
+up_to_group : (g e n : ℕ) (to : Key) → (KeyBefore to (key_in e n) → ⊥) → range_contains place_cmp Unbounded (Included (g, to)) (g, key_in e n) ≡ true
+up_to_group g e n to not = not_lt_of (place_cmp (g, to) (g, key_in e n)) (λ b. not (group_and_key (g, to) (g, key_in e n) refl b))
 
 pub pair_or_not : (a b c d : ℕ) → PairBefore a b c d ⊎ (PairBefore a b c d → ⊥)
 pair_or_not a b c d = grind arith
@@ -90,8 +90,8 @@ pair_or_not a b c d = grind arith
 pub last_none : (keys : List Place) (g : ℕ) (to : Key) → filter (range_contains place_cmp Unbounded (Included (g, to))) keys ≡ [] → IsLastKey keys g to None
 last_none keys g to is e n h =
     ⊎_elim
-    (λ (p : KeyBefore to (key_at e n)). p)
-    (λ (q : KeyBefore to (key_at e n) → ⊥). absurd (none_kept (range_contains place_cmp Unbounded (Included (g, to))) keys is (g, key_at e n) h (up_to_group g e n to q)))
+    (λ (p : KeyBefore to (key_in e n)). p)
+    (λ (q : KeyBefore to (key_in e n) → ⊥). absurd (none_kept (range_contains place_cmp Unbounded (Included (g, to))) keys is (g, key_in e n) h (up_to_group g e n to q)))
     (pair_or_not to.epoch to.number e n)
 
 pub last_some : (keys : List Place) (g : ℕ) (to : Key) (x : Place) (t : List Place) → IsRising Below keys → filter (range_contains place_cmp Unbounded (Included (g, to))) keys ≡ t ++ x ∷ [] → x.0 ≡ g → IsLastKey keys g to (Some x.1)
@@ -102,9 +102,9 @@ last_some keys g to x t rising is same =
       subst P same f.0,
       λ p. not_lt_true (place_cmp (g, to) x) f.1 (place_less_of (g, to) x (inr (sym same, p))),
       λ e n h p. ⊎_elim
-          (λ (q : x ≡ (g, key_at e n)). inl (ap (λ (y : Place). y.1.epoch) (sym q), ap (λ (y : Place). y.1.number) (sym q)))
-          (λ (b : Below (g, key_at e n) x). inr (group_and_key (g, key_at e n) x (sym same) b))
-          (f.2 (g, key_at e n) h (up_to_group g e n to p)),
+          (λ (q : x ≡ (g, key_in e n)). inl (ap (λ (y : Place). y.1.epoch) (sym q), ap (λ (y : Place). y.1.number) (sym q)))
+          (λ (b : Below (g, key_in e n) x). inr (group_and_key (g, key_in e n) x (sym same) b))
+          (f.2 (g, key_in e n) h (up_to_group g e n to p)),
     )
 
 pub last_other : (keys : List Place) (g : ℕ) (to : Key) (x : Place) (t : List Place) → IsRising Below keys → filter (range_contains place_cmp Unbounded (Included (g, to))) keys ≡ t ++ x ∷ [] → (x.0 ≡ g → ⊥) → IsLastKey keys g to None
@@ -112,26 +112,26 @@ last_other keys g to x t rising is other e n h =
     let test : Place → Bool = range_contains place_cmp Unbounded (Included (g, to)) in
     let f = last_kept Below test keys x t rising is in
     ⊎_elim
-    (λ (p : KeyBefore to (key_at e n)). p)
-    (λ (q : KeyBefore to (key_at e n) → ⊥). absurd (⊎_elim
-    (λ (u : x ≡ (g, key_at e n)). other (ap (λ (y : Place). y.0) u))
-    (λ (b : Below (g, key_at e n) x). ⊎_elim
+    (λ (p : KeyBefore to (key_in e n)). p)
+    (λ (q : KeyBefore to (key_in e n) → ⊥). absurd (⊎_elim
+    (λ (u : x ≡ (g, key_in e n)). other (ap (λ (y : Place). y.0) u))
+    (λ (b : Below (g, key_in e n) x). ⊎_elim
     (λ (l : g < x.0). not_lt_true (place_cmp (g, to) x) f.1 (place_less_of (g, to) x (inl l)))
-    (λ (v : (g ≡ x.0) × KeyBefore (key_at e n) x.1). other (sym v.0))
-    (place_less (g, key_at e n) x b))
-    (f.2 (g, key_at e n) h (up_to_group g e n to q))))
+    (λ (v : (g ≡ x.0) × KeyBefore (key_in e n) x.1). other (sym v.0))
+    (place_less (g, key_in e n) x b))
+    (f.2 (g, key_in e n) h (up_to_group g e n to q))))
     (pair_or_not to.epoch to.number e n)
 
 -- the range from the start of a group
-not_above_zero : (group g e n : ℕ) → group ≤ g → place_cmp (group, key_at 0 0) (g, key_at e n) ≡ Greater → ⊥
+not_above_zero : (group g e n : ℕ) → group ≤ g → place_cmp (group, key_in 0 0) (g, key_in e n) ≡ Greater → ⊥
 not_above_zero group g e n le h = grind arith
 
-group_le : (group : ℕ) (x : Place) → (place_cmp (group, key_at 0 0) x ≡ Greater → ⊥) → group ≤ x.0
+group_le : (group : ℕ) (x : Place) → (place_cmp (group, key_in 0 0) x ≡ Greater → ⊥) → group ≤ x.0
 group_le group x not = grind arith
 
-pub group_none : (keys : List Place) (group : ℕ) → filter (range_contains place_cmp (Included (group, key_at 0 0)) Unbounded) keys ≡ [] → (x : Place) → Contains keys x → group ≤ x.0 → ⊥
+pub group_none : (keys : List Place) (group : ℕ) → filter (range_contains place_cmp (Included (group, key_in 0 0)) Unbounded) keys ≡ [] → (x : Place) → Contains keys x → group ≤ x.0 → ⊥
 group_none keys group is x h le =
-    none_kept (range_contains place_cmp (Included (group, key_at 0 0)) Unbounded) keys is x h (le_of (place_cmp (group, key_at 0 0) x) (not_above_zero group x.0 x.1.epoch x.1.number le))
+    none_kept (range_contains place_cmp (Included (group, key_in 0 0)) Unbounded) keys is x h (le_of (place_cmp (group, key_in 0 0) x) (not_above_zero group x.0 x.1.epoch x.1.number le))
 
 -- the least group from one on that has a key
 pub record IsGroup (keys : List Place) (group : ℕ) (x : Place) : Type 0 where
@@ -139,15 +139,15 @@ pub record IsGroup (keys : List Place) (group : ℕ) (x : Place) : Type 0 where
   pub from : group ≤ x.0
   pub least : (y : Place) → Contains keys y → group ≤ y.0 → x.0 ≤ y.0
 
-pub group_some : (keys : List Place) (group : ℕ) (x : Place) (t : List Place) → IsRising Below keys → filter (range_contains place_cmp (Included (group, key_at 0 0)) Unbounded) keys ≡ x ∷ t → IsGroup keys group x
+pub group_some : (keys : List Place) (group : ℕ) (x : Place) (t : List Place) → IsRising Below keys → filter (range_contains place_cmp (Included (group, key_in 0 0)) Unbounded) keys ≡ x ∷ t → IsGroup keys group x
 group_some keys group x t rising is =
-    let test : Place → Bool = range_contains place_cmp (Included (group, key_at 0 0)) Unbounded in
+    let test : Place → Bool = range_contains place_cmp (Included (group, key_in 0 0)) Unbounded in
     let f = first_kept Below test keys x t rising is in
     record {
       among = f.0;
-      from = group_le group x (le_true (place_cmp (group, key_at 0 0) x) f.1);
+      from = group_le group x (le_true (place_cmp (group, key_in 0 0) x) f.1);
       least = λ y h le. ⊎_elim
           (λ (u : x ≡ y). let same : x.0 ≡ y.0 = ap (λ (z : Place). z.0) u in omega arith)
           (λ (b : Below x y). ⊎_elim (λ (l : x.0 < y.0). omega arith) (λ (v : (x.0 ≡ y.0) × KeyBefore x.1 y.1). omega arith) (place_less x y b))
-          (f.2 y h (le_of (place_cmp (group, key_at 0 0) y) (not_above_zero group y.0 y.1.epoch y.1.number le)));
+          (f.2 y h (le_of (place_cmp (group, key_in 0 0) y) (not_above_zero group y.0 y.1.epoch y.1.number le)));
     }

@@ -8,7 +8,7 @@ use Rattle.std.specs.declared.ops.Bound.TheVariants.{Included, Excluded, Unbound
 use Rattle.std.specs.BTreeMap.Range.{range_contains}
 use Rattle.std.specs.Map.{keys_of}
 use Rattle.redo_core.specs.Data.{RecordData}
-use Rattle.redo_core.specs.Keys.{key_at, key_of, KeyBefore}
+use Rattle.redo_core.specs.Keys.{key_in, key_of, KeyBefore}
 use Rattle.redo_core.specs.declared.keys.Key.{Key}
 use Rattle.redo_core.specs.Order.{IsRising, Lists, BeforeByNumber, RecordBefore}
 use Rattle.redo_core.specs.Standing.{IsAlive}
@@ -21,7 +21,7 @@ use Rattle.hot_log.specs.Alive.{IsAliveBetween}
 use Rattle.hot_log.specs.Found.{IsPageAbove, IsPageAfter}
 use Rattle.hot_log.specs.Indexing.{IsNextRecord, IsLastRecord, IsNextHeld, IsLastHeld}
 use Rattle.hot_log.specs.Paged.{place_cmp, place_of, records_in, IsPaged}
-use Rattle.hot_log.proofs.Maps.{keys_range, key_in, rising_entries, before_join}
+use Rattle.hot_log.proofs.Maps.{keys_range, key_listed, rising_entries, before_join}
 use Rattle.hot_log.proofs.Orders.{place_less, place_less_of, rises}
 use Rattle.hot_log.proofs.Places.{Place, next_none, next_some, next_other, last_none, last_some, last_other, group_none, group_some, IsGroup}
 use Rattle.hot_log.proofs.Indexed.{next_held, last_held}
@@ -31,7 +31,7 @@ use Rattle.hot_log.proofs.Paged.{Entry, Map, seen, in_order, record_in, entry_of
 entry_in : (p : Place → Bool) (m : Map) (es : List Entry) (x : Entry) → filter (λ (e : Entry). p e.0) m ≡ es → Contains es x → Contains m x
 entry_in p m es x is h = (filtered (λ (e : Entry). p e.0) m x (subst (λ (l : List Entry). Contains l x) (sym is) h)).0
 
-own_key : (m : Map) (x : Entry) → IsPaged m → Contains m x → x.0.1 ≡ (key_at x.1.epoch x.1.number)
+own_key : (m : Map) (x : Entry) → IsPaged m → Contains m x → x.0.1 ≡ key_of x.1
 own_key m x is h = ap (λ (p : Place). p.1) (is.placed x h)
 
 pub no_next : (m : Map) (page : ℕ) (after : Key) → IsPaged m → filter (λ (e : Entry). range_contains place_cmp (Excluded (page, after)) Unbounded e.0) m ≡ [] → IsNextRecord (seen m) page after None
@@ -83,18 +83,18 @@ last_elsewhere m page to x t paged is other =
 abbrev pub Above_from : Option ℕ → ℕ → Type 0
 Above_from after from = (p : ℕ) → (IsPageAbove after p → from ≤ p) × (from ≤ p → IsPageAbove after p)
 
-pub no_page : (m : Map) (after : Option ℕ) (from : ℕ) → IsPaged m → Above_from after from → filter (λ (e : Entry). range_contains place_cmp (Included (from, key_at 0 0)) Unbounded e.0) m ≡ [] → IsPageAfter (seen m) after None
+pub no_page : (m : Map) (after : Option ℕ) (from : ℕ) → IsPaged m → Above_from after from → filter (λ (e : Entry). range_contains place_cmp (Included (from, key_in 0 0)) Unbounded e.0) m ≡ [] → IsPageAfter (seen m) after None
 no_page m after from paged up is r h above =
-    group_none (keys_of m) from (keys_range (range_contains place_cmp (Included (from, key_at 0 0)) Unbounded) m [] is) (place_of r)
-    (key_in m (place_of r, r) (own_entry m paged r h)) ((up r.page).0 above)
+    group_none (keys_of m) from (keys_range (range_contains place_cmp (Included (from, key_in 0 0)) Unbounded) m [] is) (place_of r)
+    (key_listed m (place_of r, r) (own_entry m paged r h)) ((up r.page).0 above)
 
-pub page_is : (m : Map) (after : Option ℕ) (from : ℕ) (x : Entry) (t : List Entry) → IsPaged m → Above_from after from → filter (λ (e : Entry). range_contains place_cmp (Included (from, key_at 0 0)) Unbounded e.0) m ≡ x ∷ t → IsPageAfter (seen m) after (Some x.0.0)
+pub page_is : (m : Map) (after : Option ℕ) (from : ℕ) (x : Entry) (t : List Entry) → IsPaged m → Above_from after from → filter (λ (e : Entry). range_contains place_cmp (Included (from, key_in 0 0)) Unbounded e.0) m ≡ x ∷ t → IsPageAfter (seen m) after (Some x.0.0)
 page_is m after from x t paged up is =
-    let test : Place → Bool = range_contains place_cmp (Included (from, key_at 0 0)) Unbounded in
+    let test : Place → Bool = range_contains place_cmp (Included (from, key_in 0 0)) Unbounded in
     let among : Contains m x = entry_in test m (x ∷ t) x is (here x t) in
     let found : IsGroup (keys_of m) from x.0 = group_some (keys_of m) from x.0 (keys_of t) (rises place_cmp (keys_of m) paged.ordered) (keys_range test m (x ∷ t) is) in (
       (x.1, seen_in m x among, sym (ap (λ (p : Place). p.0) (paged.placed x among)), (up x.0.0).1 found.from),
-      λ r h above. found.least (place_of r) (key_in m (place_of r, r) (own_entry m paged r h)) ((up r.page).0 above),
+      λ r h above. found.least (place_of r) (key_listed m (place_of r, r) (own_entry m paged r h)) ((up r.page).0 above),
     )
 
 pub past_pages : (m : Map) (page : ℕ) → IsPaged m → (page + 1 < 65536 → ⊥) → IsPageAfter (seen m) (Some page) None

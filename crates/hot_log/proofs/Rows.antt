@@ -7,7 +7,7 @@ use Rattle.std.specs.declared.ops.Bound.TheVariants.{Included, Excluded}
 use Rattle.std.proofs.lemmas.List.{map-append}
 use Rattle.std.proofs.lemmas.List.Elements.{Contains-append_left, Contains-append_right, Contains-append_cases}
 use Rattle.redo_core.specs.Data.{RecordData}
-use Rattle.redo_core.specs.Keys.{key_at, key_of, KeyBefore}
+use Rattle.redo_core.specs.Keys.{key_in, key_of, KeyBefore}
 use Rattle.redo_core.specs.declared.keys.Key.{Key}
 use Rattle.redo_core.specs.Order.{IsRising, PairBefore, RecordBefore}
 use Rattle.redo_core.specs.Standing.{IsAlive}
@@ -32,10 +32,10 @@ other_key e n r = not (r.epoch == e && r.number == n)
 abbrev without : ℕ → ℕ → List RecordData → List RecordData
 without e n held = filter (other_key e n) held
 
-other_is : (e n : ℕ) (r : RecordData) → other_key e n r ≡ true → HasKey (key_at e n) r → ⊥
+other_is : (e n : ℕ) (r : RecordData) → other_key e n r ≡ true → HasKey (key_in e n) r → ⊥
 other_is e n r h k = grind arith
 
-is_other : (e n : ℕ) (r : RecordData) → (HasKey (key_at e n) r → ⊥) → other_key e n r ≡ true
+is_other : (e n : ℕ) (r : RecordData) → (HasKey (key_in e n) r → ⊥) → other_key e n r ≡ true
 is_other e n r h = grind arith
 
 without_held : (e n : ℕ) (held : List RecordData) → IsHeld held → IsHeld (without e n held)
@@ -44,7 +44,7 @@ without_held e n held form = record {
   shaped = λ r h. form.shaped r (filtered (other_key e n) held r h).0;
 }
 
-without_one : (e n : ℕ) (held : List RecordData) → Removes (HasKey (key_at e n)) held (without e n held)
+without_one : (e n : ℕ) (held : List RecordData) → Removes (HasKey (key_in e n)) held (without e n held)
 without_one e n held r = (
   λ h. let t = filtered (other_key e n) held r h in (t.0, other_is e n r t.1),
   λ h. passed (other_key e n) held r (is_other e n r h.1) h.0,
@@ -83,7 +83,7 @@ left_as P Q held keys backs same is = record {
 }
 
 -- one more of them leaves
-left_more : (P Q : RecordData → Type 0) (held : List RecordData) (keys less : List (Key × ℕ)) (backs fewer : List Place) (x : RecordData) (g e n : ℕ) → IsHeld held → Left P held keys backs → Contains held x → (P x → ⊥) → ((r : RecordData) → Contains held r → Q r ↔ (P r ⊎ (r ≡ x))) → g ≡ x.back → e ≡ x.epoch → n ≡ x.number → LosesPage keys (key_at e n) less → LosesKey backs g (key_at e n) fewer → Left Q held less fewer
+left_more : (P Q : RecordData → Type 0) (held : List RecordData) (keys less : List (Key × ℕ)) (backs fewer : List Place) (x : RecordData) (g e n : ℕ) → IsHeld held → Left P held keys backs → Contains held x → (P x → ⊥) → ((r : RecordData) → Contains held r → Q r ↔ (P r ⊎ (r ≡ x))) → g ≡ x.back → e ≡ x.epoch → n ≡ x.number → LosesPage keys (key_in e n) less → LosesKey backs g (key_in e n) fewer → Left Q held less fewer
 left_more P Q held keys less backs fewer x g e n form is among not_yet more p q s loses drops =
     let removes = without_one e n is.left in
     record {
@@ -189,7 +189,7 @@ rowed_none b held above keys backs is = record {
 
 -- an alive record is one more of the row
 pub rowed_alive : (b : BookData) (m : Map) (page : ℕ) (above to : Key) (xs rest : List Entry) (x : Entry) (start : Key) (last : Option Key) (keys less : List (Key × ℕ)) (backs fewer : List Place) (g e n : ℕ) → Walk m page above to xs (x ∷ rest) → Rowed b (seen m) above xs start last keys backs
-    → IsAlive b.cuts b.complete x.1.epoch x.1.number → g ≡ x.1.back → e ≡ x.1.epoch → n ≡ x.1.number → LosesPage keys (key_at e n) less → LosesKey backs g (key_at e n) fewer → Rowed b (seen m) above (xs ++ x ∷ []) start (Some (key_at e n)) less fewer
+    → IsAlive b.cuts b.complete x.1.epoch x.1.number → g ≡ x.1.back → e ≡ x.1.epoch → n ≡ x.1.number → LosesPage keys (key_in e n) less → LosesKey backs g (key_in e n) fewer → Rowed b (seen m) above (xs ++ x ∷ []) start (Some (key_in e n)) less fewer
 rowed_alive b m page above to xs rest x start last keys less backs fewer g e n w is alive p q s loses drops = record {
   low = ⊎_elim (λ (u : start ≡ above). inl u) (λ u. inr (u.0, (joined xs x u.0).1 (inl u.1), u.2)) is.low;
   up = λ r h a. ⊎_elim (λ (u : Contains (records_in xs) r). is.up r u a) (λ (u : r ≡ x.1). subst (λ (y : RecordData). KeyBefore start (key_of y)) (sym u) over) ((joined xs x r).0 h);
@@ -197,7 +197,7 @@ rowed_alive b m page above to xs rest x start last keys less backs fewer g e n w
   ends = (
     (x.1, (joined xs x x.1).1 (inr refl), over, (sym q, sym s)),
     λ r h k. ⊎_elim
-        (λ (u : Contains (records_in xs) r). pair_apart r.epoch r.number x.1.epoch x.1.number (behind r u) (subst (λ (y : ℕ). KeyBefore (key_at y x.1.number) (key_of r)) q (subst (λ (y : ℕ). KeyBefore (key_at e y) (key_of r)) s k)))
+        (λ (u : Contains (records_in xs) r). pair_apart r.epoch r.number x.1.epoch x.1.number (behind r u) (subst (λ (y : ℕ). KeyBefore (key_in y x.1.number) (key_of r)) q (subst (λ (y : ℕ). KeyBefore (key_in e y) (key_of r)) s k)))
         (λ (u : r ≡ x.1). pair_not_same e n r.epoch r.number k (q ∙ ap (λ (y : RecordData). y.epoch) (sym u)) (s ∙ ap (λ (y : RecordData). y.number) (sym u)))
         ((joined xs x r).0 h),
   );
@@ -222,12 +222,12 @@ rowed_alive b m page above to xs rest x start last keys less backs fewer g e n w
     over : KeyBefore start (key_of x.1)
     over = ⊎_elim
         (λ (u : start ≡ above). subst (λ (k : Key). KeyBefore k (key_of x.1)) (sym u) found.1.1)
-        (λ u. subst (λ (y : ℕ). KeyBefore (key_at y start.number) (key_of x.1)) u.2.0 (subst (λ (y : ℕ). KeyBefore (key_at u.0.epoch y) (key_of x.1)) u.2.1 (behind u.0 u.1)))
+        (λ u. subst (λ (y : ℕ). KeyBefore (key_in y start.number) (key_of x.1)) u.2.0 (subst (λ (y : ℕ). KeyBefore (key_in u.0.epoch y) (key_of x.1)) u.2.1 (behind u.0 u.1)))
         is.low
 
 -- one that is not alive, in front of the row
 pub rowed_dead : (b : BookData) (m : Map) (page : ℕ) (above to : Key) (xs rest : List Entry) (x : Entry) (start : Key) (keys : List (Key × ℕ)) (backs : List Place) (e n : ℕ) → Walk m page above to xs (x ∷ rest) → Rowed b (seen m) above xs start None keys backs
-    → (IsAlive b.cuts b.complete x.1.epoch x.1.number → ⊥) → e ≡ x.1.epoch → n ≡ x.1.number → Rowed b (seen m) above (xs ++ x ∷ []) (key_at e n) None keys backs
+    → (IsAlive b.cuts b.complete x.1.epoch x.1.number → ⊥) → e ≡ x.1.epoch → n ≡ x.1.number → Rowed b (seen m) above (xs ++ x ∷ []) (key_in e n) None keys backs
 rowed_dead b m page above to xs rest x start keys backs e n w is dead q s = record {
   low = inr (x.1, (joined xs x x.1).1 (inr refl), (sym q, sym s));
   up = λ r h a. absurd (⊎_elim
@@ -236,12 +236,12 @@ rowed_dead b m page above to xs rest x start keys backs e n w is dead q s = reco
       ((joined xs x r).0 h));
   alive = λ r h. absurd (none_up r h.0 h.1);
   ends = none_up;
-  left = left_as (InRow xs start) (InRow (xs ++ x ∷ []) (key_at e n)) (seen m) keys backs (λ r h. (λ k. absurd (is.ends r k.0 k.1), λ k. absurd (none_up r k.0 k.1))) is.left;
+  left = left_as (InRow xs start) (InRow (xs ++ x ∷ []) (key_in e n)) (seen m) keys backs (λ r h. (λ k. absurd (is.ends r k.0 k.1), λ k. absurd (none_up r k.0 k.1))) is.left;
 }
   where
-    none_up : (r : RecordData) → Contains (records_in (xs ++ x ∷ [])) r → KeyBefore (key_at e n) (key_of r) → ⊥
+    none_up : (r : RecordData) → Contains (records_in (xs ++ x ∷ [])) r → KeyBefore (key_in e n) (key_of r) → ⊥
     none_up r h k = ⊎_elim
-        (λ (u : Contains (records_in xs) r). pair_apart r.epoch r.number x.1.epoch x.1.number (front m page above to xs (x ∷ rest) w r x.1 u (record_in (x ∷ rest) x (here x rest))) (subst (λ (y : ℕ). KeyBefore (key_at y x.1.number) (key_of r)) q (subst (λ (y : ℕ). KeyBefore (key_at e y) (key_of r)) s k)))
+        (λ (u : Contains (records_in xs) r). pair_apart r.epoch r.number x.1.epoch x.1.number (front m page above to xs (x ∷ rest) w r x.1 u (record_in (x ∷ rest) x (here x rest))) (subst (λ (y : ℕ). KeyBefore (key_in y x.1.number) (key_of r)) q (subst (λ (y : ℕ). KeyBefore (key_in e y) (key_of r)) s k)))
         (λ (u : r ≡ x.1). pair_not_same e n r.epoch r.number k (q ∙ ap (λ (y : RecordData). y.epoch) (sym u)) (s ∙ ap (λ (y : RecordData). y.number) (sym u)))
         ((joined xs x r).0 h)
 
@@ -270,7 +270,7 @@ rowed_some b m page above to xs ys start last keys backs w is = (
     among r h = walked m page above to xs ys w r (passed_in xs ys r h)
 
     key_above : (r : RecordData) (k : Key) → HasKey k r → KeyBefore above (key_of r) → KeyBefore above k
-    key_above r k h p = subst (λ (y : ℕ). KeyBefore above (key_at y k.number)) h.0 (subst (λ (y : ℕ). KeyBefore above (key_at r.epoch y)) h.1 p)
+    key_above r k h p = subst (λ (y : ℕ). KeyBefore above (key_in y k.number)) h.0 (subst (λ (y : ℕ). KeyBefore above (key_in r.epoch y)) h.1 p)
 
     over : (r : RecordData) → KeyBefore start (key_of r) → KeyBefore above (key_of r)
     over r p = ⊎_elim
@@ -285,7 +285,7 @@ rowed_some b m page above to xs ys start last keys backs w is = (
         (passes m page above to xs ys w r h (p, up, λ past. (among end.0 end.1).1.2 (pair_up_to to.epoch to.number end.0.epoch end.0.number r.epoch r.number past down)))
 
     own : (r : RecordData) → Contains (seen m) r → IsBetween page start last r → Contains (records_in xs) r
-    own r h k = inside r h k.0 (over r k.1) (λ p. k.2 (subst (λ (y : ℕ). KeyBefore (key_at y last.number) (key_of r)) end.3.0 (subst (λ (y : ℕ). KeyBefore (key_at end.0.epoch y) (key_of r)) end.3.1 p)))
+    own r h k = inside r h k.0 (over r k.1) (λ p. k.2 (subst (λ (y : ℕ). KeyBefore (key_in y last.number) (key_of r)) end.3.0 (subst (λ (y : ℕ). KeyBefore (key_in end.0.epoch y) (key_of r)) end.3.1 p)))
 
 pub rowed_all : (b : BookData) (m : Map) (page : ℕ) (above to : Key) (xs : List Entry) (start : Key) (keys : List (Key × ℕ)) (backs : List Place) → Walk m page above to xs [] → Rowed b (seen m) above xs start None keys backs → UnlistsRow b (seen m) page above to keys backs None
 rowed_all b m page above to xs start keys backs w is = (

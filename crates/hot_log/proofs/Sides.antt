@@ -35,7 +35,7 @@ pub record Passes (all : List RecordData) (x : RecordData) (next : Option Record
   pub among : (r : RecordData) → Contains (cons_option next rest) r → Contains all r
   pub before : (r : RecordData) → Contains all r → Contains (cons_option next rest) r ⊎ PlaceBefore r x
 
-not_itself : (r : RecordData) → PlaceBefore r r → ⊥
+pub not_itself : (r : RecordData) → PlaceBefore r r → ⊥
 not_itself r h = grind (arith, nat_tests)
 
 place_before : (x y z : RecordData) → PlaceBefore x y → PlaceBefore y z → PlaceBefore x z

@@ -1,7 +1,7 @@
 -- Which of the held records are alive in a book's view, and which numbers they link.
 use Rattle.std.specs.Prelude.{◌≡◌, ℕ, ◌+◌, ◌<◌, ◌≤◌, ◌⊎◌, ◌↔◌, List, Option, Some, None}
 use Rattle.redo_core.specs.Order.{PairBefore}
-use Rattle.redo_core.specs.Keys.{key_at, key_of, KeyBefore}
+use Rattle.redo_core.specs.Keys.{key_in, key_of, KeyBefore}
 use Rattle.redo_core.specs.declared.keys.Key.{Key}
 use Rattle.std.specs.List.{Contains}
 use Rattle.redo_core.specs.Data.{RecordData, CutData}
@@ -50,7 +50,7 @@ PartsAt book number epoch =
 
 -- a key parts the alive records at a number: those with a higher number are those with a higher key
 abbrev pub PartsAtKey : BookData → ℕ → Key → Type 0
-PartsAtKey book number key = (e n : ℕ) → IsAlive book.cuts book.complete e n → (number < n) ↔ KeyBefore key (key_at e n)
+PartsAtKey book number key = (e n : ℕ) → IsAlive book.cuts book.complete e n → (number < n) ↔ KeyBefore key (key_in e n)
 
 -- each truncation of an epoch above one and up to the complete one has its lo at or above a number
 abbrev pub SparesAbove : BookData → ℕ → ℕ → Type 0

@@ -2,27 +2,27 @@
 use Rattle.std.specs.Prelude.{◌≡◌, ℕ, ◌⊎◌, ◌↔◌, List, Option, Some, None}
 use Rattle.std.specs.List.{Contains}
 use Rattle.redo_core.specs.Data.{RecordData}
-use Rattle.redo_core.specs.Keys.{key_at, key_of, KeyBefore}
+use Rattle.redo_core.specs.Keys.{key_in, key_of, KeyBefore}
 use Rattle.redo_core.specs.declared.keys.Key.{Key}
 use Rattle.hot_log.specs.Held.{IsHeld, HasKey}
 
 -- a group has a key
 abbrev pub InGroup : List (ℕ × Key) → ℕ → ℕ → ℕ → Type 0
-InGroup keys group epoch number = Contains keys (group, key_at epoch number)
+InGroup keys group epoch number = Contains keys (group, key_in epoch number)
 
 -- the least key of a group above the one given, or none where no key of the group is above it
 abbrev pub IsNextKey : List (ℕ × Key) → ℕ → Key → Option Key → Type 0
-IsNextKey keys group after None = (e n : ℕ) → InGroup keys group e n → KeyBefore after (key_at e n) → ⊥
+IsNextKey keys group after None = (e n : ℕ) → InGroup keys group e n → KeyBefore after (key_in e n) → ⊥
 IsNextKey keys group after (Some key) =
     InGroup keys group key.epoch key.number × KeyBefore after key
-    × ((e n : ℕ) → InGroup keys group e n → KeyBefore after (key_at e n) → ((e ≡ key.epoch) × (n ≡ key.number)) ⊎ KeyBefore key (key_at e n))
+    × ((e n : ℕ) → InGroup keys group e n → KeyBefore after (key_in e n) → ((e ≡ key.epoch) × (n ≡ key.number)) ⊎ KeyBefore key (key_in e n))
 
 -- the greatest key of a group at or below the one given, or none where each key of the group is above it
 abbrev pub IsLastKey : List (ℕ × Key) → ℕ → Key → Option Key → Type 0
-IsLastKey keys group to None = (e n : ℕ) → InGroup keys group e n → KeyBefore to (key_at e n)
+IsLastKey keys group to None = (e n : ℕ) → InGroup keys group e n → KeyBefore to (key_in e n)
 IsLastKey keys group to (Some key) =
     InGroup keys group key.epoch key.number × (KeyBefore to key → ⊥)
-    × ((e n : ℕ) → InGroup keys group e n → (KeyBefore to (key_at e n) → ⊥) → ((e ≡ key.epoch) × (n ≡ key.number)) ⊎ KeyBefore (key_at e n) key)
+    × ((e n : ℕ) → InGroup keys group e n → (KeyBefore to (key_in e n) → ⊥) → ((e ≡ key.epoch) × (n ≡ key.number)) ⊎ KeyBefore (key_in e n) key)
 
 -- the key joins its group
 abbrev pub GainsKey : List (ℕ × Key) → ℕ → Key → List (ℕ × Key) → Type 0
@@ -35,7 +35,7 @@ LosesKey old group key new = (p : ℕ × Key) → Contains new p ↔ (Contains o
 -- the keys are those of the held records, each in the group that a number of its record names
 pub record IsIndexBy (group : RecordData → ℕ) (held : List RecordData) (keys : List (ℕ × Key)) : Type 0 where
   pub listed : (r : RecordData) → Contains held r → InGroup keys (group r) r.epoch r.number
-  pub backed : (g e n : ℕ) → InGroup keys g e n → (r : RecordData) × Contains held r × (group r ≡ g) × HasKey (key_at e n) r
+  pub backed : (g e n : ℕ) → InGroup keys g e n → (r : RecordData) × Contains held r × (group r ≡ g) × HasKey (key_in e n) r
 
 -- a key has joined those that have pages
 abbrev pub GainsPage : List (Key × ℕ) → Key → ℕ → List (Key × ℕ) → Type 0
@@ -58,33 +58,33 @@ AddsPage old key page new (Some was) = IsPageOf old key (Some was) × (new ≡ o
 -- the key (e, n) is above the one given; with none given each is
 abbrev pub IsAboveKey : Option Key → ℕ → ℕ → Type 0
 IsAboveKey None e n = Unit {0}
-IsAboveKey (Some key) e n = KeyBefore key (key_at e n)
+IsAboveKey (Some key) e n = KeyBefore key (key_in e n)
 
 -- the least key with a page above the one given, or none where no key is above it
 abbrev pub IsLeastKey : List (Key × ℕ) → Option Key → Option Key → Type 0
-IsLeastKey keys after None = (e n page : ℕ) → Contains keys (key_at e n, page) → IsAboveKey after e n → ⊥
+IsLeastKey keys after None = (e n page : ℕ) → Contains keys (key_in e n, page) → IsAboveKey after e n → ⊥
 IsLeastKey keys after (Some key) =
     ((page : ℕ) × Contains keys (key, page) × IsAboveKey after key.epoch key.number)
-    × ((e n page : ℕ) → Contains keys (key_at e n, page) → IsAboveKey after e n → ((e ≡ key.epoch) × (n ≡ key.number)) ⊎ KeyBefore key (key_at e n))
+    × ((e n page : ℕ) → Contains keys (key_in e n, page) → IsAboveKey after e n → ((e ≡ key.epoch) × (n ≡ key.number)) ⊎ KeyBefore key (key_in e n))
 
 -- the greatest key with a page at or below the one given, or none where each key is above it
 abbrev pub IsGreatestKey : List (Key × ℕ) → Key → Option Key → Type 0
-IsGreatestKey keys to None = (e n page : ℕ) → Contains keys (key_at e n, page) → KeyBefore to (key_at e n)
+IsGreatestKey keys to None = (e n page : ℕ) → Contains keys (key_in e n, page) → KeyBefore to (key_in e n)
 IsGreatestKey keys to (Some key) =
     ((page : ℕ) × Contains keys (key, page) × (KeyBefore to key → ⊥))
-    × ((e n page : ℕ) → Contains keys (key_at e n, page) → (KeyBefore to (key_at e n) → ⊥) → ((e ≡ key.epoch) × (n ≡ key.number)) ⊎ KeyBefore (key_at e n) key)
+    × ((e n page : ℕ) → Contains keys (key_in e n, page) → (KeyBefore to (key_in e n) → ⊥) → ((e ≡ key.epoch) × (n ≡ key.number)) ⊎ KeyBefore (key_in e n) key)
 
 -- the greatest key with a page, or none where no key has one
 abbrev pub IsGreatestOf : List (Key × ℕ) → Option Key → Type 0
-IsGreatestOf keys None = (e n page : ℕ) → Contains keys (key_at e n, page) → ⊥
+IsGreatestOf keys None = (e n page : ℕ) → Contains keys (key_in e n, page) → ⊥
 IsGreatestOf keys (Some key) =
     ((page : ℕ) × Contains keys (key, page))
-    × ((e n page : ℕ) → Contains keys (key_at e n, page) → ((e ≡ key.epoch) × (n ≡ key.number)) ⊎ KeyBefore (key_at e n) key)
+    × ((e n page : ℕ) → Contains keys (key_in e n, page) → ((e ≡ key.epoch) × (n ≡ key.number)) ⊎ KeyBefore (key_in e n) key)
 
 -- the keys are those of the held records, each with the page of its record
 pub record IsKeyPages (held : List RecordData) (keys : List (Key × ℕ)) : Type 0 where
   pub listed : (r : RecordData) → Contains held r → Contains keys (key_of r, r.page)
-  pub backed : (e n page : ℕ) → Contains keys (key_at e n, page) → (r : RecordData) × Contains held r × HasKey (key_at e n) r × (r.page ≡ page)
+  pub backed : (e n page : ℕ) → Contains keys (key_in e n, page) → (r : RecordData) × Contains held r × HasKey (key_in e n) r × (r.page ≡ page)
 
 -- held records with the page of each key and the index by segment backlink
 pub record IsIndexed (held : List RecordData) (keys : List (Key × ℕ)) (backs : List (ℕ × Key)) : Type 0 where

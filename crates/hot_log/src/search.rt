@@ -2,7 +2,7 @@
 ghost use Rattle.std.specs.Prelude.{◌≡◌, ℕ, ◌<◌, ◌≤◌, ◌⊎◌, ◌↔◌, map, IsTrue, IfOk, length, Some};
 ghost use Rattle.std.specs.Option.{option_copied};
 ghost use Rattle.redo_core.specs.Data.{RecordData};
-ghost use Rattle.redo_core.specs.Keys.{key_at, KeyBefore};
+ghost use Rattle.redo_core.specs.Keys.{key_in, KeyBefore};
 ghost use Rattle.redo_core.specs.Order.{Lists, BeforeByNumber};
 ghost use Rattle.redo_core.specs.Standing.{IsAlive};
 ghost use Rattle.epoch_book.specs.Book.{IsBook};
@@ -74,7 +74,7 @@ fn last_key_to(book: &EpochBook, number: u64) -> Key
 fn key_down(book: &EpochBook, key: Key) -> Key
     requires { 0 < key.number }
     ensures below { KeyBefore result key }
-    ensures spares { (e n : ℕ) → IsAlive book.now.cuts book.now.complete e n → KeyBefore (key_at e n) key → KeyBefore result (key_at e n) → ⊥ }
+    ensures spares { (e n : ℕ) → IsAlive book.now.cuts book.now.complete e n → KeyBefore (key_in e n) key → KeyBefore result (key_in e n) → ⊥ }
 {
     match book.least_lo(key.epoch) {
         Some(lo) if lo < key.number => last_key_to(book, lo),

@@ -10,7 +10,7 @@ use Rattle.redo_core.proofs.ByPlace.{contains_at}
 use Rattle.messages.specs.Pieces.{PieceData, max_batch}
 use Rattle.messages.specs.declared.pieces.PieceContent.{PieceContent}
 use Rattle.messages.specs.declared.pieces.PieceContent.TheVariants.{Head, Page, Records}
-use Rattle.segment_state.specs.State.{State}
+use Rattle.state_laws.specs.State.{State}
 use Rattle.hydration.specs.Snapshots.{SnapshotData, IsPieceCount, IsContentAt}
 use Rattle.hydration.specs.Stagings.{StagingData, piece_at, IsStaging}
 use Rattle.hydration.specs.Placing.{IsComplete}

@@ -7,9 +7,9 @@ use Rattle.redo_core.specs.Order.{Lists, RecordBefore}
 use Rattle.redo_core.specs.Roster.{least}
 use Rattle.redo_core.specs.Writing.{zeros}
 use Rattle.redo_core.proofs.Members.{all_of, lists_unique}
-use Rattle.segment_state.specs.State.{State, min_of}
-use Rattle.segment_state.specs.Shows.{Shows}
-use Rattle.segment_state.specs.HasMeaning.{HasAnchor, IsKeptBy}
+use Rattle.state_laws.specs.State.{State, min_of}
+use Rattle.state_laws.specs.Shows.{Shows}
+use Rattle.state_laws.specs.HasMeaning.{HasAnchor, IsKeptBy}
 use Rattle.segment_core.proofs.OneView.{one_anchor, anchor_low}
 use Rattle.hydration.specs.Snapshots.{SnapshotData, snapshot_of, IsSnapshot, Freezes, IsPieceCount}
 

@@ -9,13 +9,13 @@ use Rattle.redo_laws.proofs.Log.{IsLog}
 use Rattle.redo_laws.proofs.Views.{anchor_is}
 use Rattle.redo_laws.proofs.Meanings.{page_exists, list_eq}
 use Rattle.messages.specs.declared.pieces.PieceContent.TheVariants.{Head}
-use Rattle.segment_state.specs.State.{State, image_of}
-use Rattle.segment_state.specs.Shows.{Shows}
-use Rattle.segment_state.specs.Means.{MeansAt}
-use Rattle.segment_state.specs.HasMeaning.{HasAnchor, IsKeptBy}
-use Rattle.segment_state.specs.Restoring.{Restores}
-use Rattle.segment_state.proofs.Reading.{pages_law}
-use Rattle.segment_state.proofs.Same.{anchor_as}
+use Rattle.state_laws.specs.State.{State, image_of}
+use Rattle.state_laws.specs.Shows.{Shows}
+use Rattle.state_laws.specs.Means.{MeansAt}
+use Rattle.state_laws.specs.HasMeaning.{HasAnchor, IsKeptBy}
+use Rattle.state_laws.specs.Restoring.{Restores}
+use Rattle.state_laws.proofs.Reading.{pages_law}
+use Rattle.state_laws.proofs.Same.{anchor_as}
 use Rattle.hydration.specs.Snapshots.{SnapshotData, IsContentAt}
 use Rattle.hydration.specs.Stagings.{StagingData}
 use Rattle.hydration.specs.Hydrating.{Hydrates, IsBrought, BringsPage, IsOfState}

@@ -10,7 +10,7 @@ use Rattle.redo_core.proofs.Members.{here}
 use Rattle.messages.specs.Pieces.{IsContent}
 use Rattle.messages.specs.declared.pieces.PieceContent.TheVariants.{Head}
 use Rattle.page_base.specs.Adopting.{first_given}
-use Rattle.segment_state.specs.State.{State}
+use Rattle.state_laws.specs.State.{State}
 use Rattle.segment_core.specs.Restoring.{IsMadeOf}
 use Rattle.hydration.specs.Stagings.{StagingData, IsStaging}
 use Rattle.hydration.specs.Placing.{HasHead, IsInOrder}

@@ -23,13 +23,13 @@ use Rattle.epoch_book.specs.Contradicted.{IsContradicted}
 use Rattle.messages.specs.Pieces.{max_batch}
 use Rattle.messages.specs.declared.pieces.PieceContent.{PieceContent}
 use Rattle.messages.specs.declared.pieces.PieceContent.TheVariants.{Head, Page, Records}
-use Rattle.segment_state.specs.State.{State}
-use Rattle.segment_state.specs.Shows.{Shows}
-use Rattle.segment_state.specs.Means.{MeansAt, Means}
-use Rattle.segment_state.proofs.Knowing.{no_conflict}
-use Rattle.segment_state.proofs.Reading.{pages_law}
-use Rattle.segment_state.proofs.Replying.{dry}
-use Rattle.segment_state.proofs.Same.{anchor_as}
+use Rattle.state_laws.specs.State.{State}
+use Rattle.state_laws.specs.Shows.{Shows}
+use Rattle.state_laws.specs.Means.{MeansAt, Means}
+use Rattle.state_laws.proofs.Knowing.{no_conflict}
+use Rattle.state_laws.proofs.Reading.{pages_law}
+use Rattle.state_laws.proofs.Replying.{dry}
+use Rattle.state_laws.proofs.Same.{anchor_as}
 use Rattle.hydration.specs.Snapshots.{SnapshotData, IsContentAt}
 use Rattle.hydration.specs.Stagings.{StagingData, IsStaging}
 use Rattle.hydration.specs.Placing.{IsKeptFor, PageFollows, RecordsFollow, CanFollow, HasHead, CanStand, IsMisplaced, IsComplete}

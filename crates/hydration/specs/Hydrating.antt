@@ -7,8 +7,8 @@ use Rattle.redo_core.specs.Writing.{zeros}
 use Rattle.messages.specs.Pieces.{PieceData}
 use Rattle.messages.specs.declared.pieces.PieceContent.{PieceContent}
 use Rattle.messages.specs.declared.pieces.PieceContent.TheVariants.{Head, Page, Records}
-use Rattle.segment_state.specs.State.{State, version_of, image_of}
-use Rattle.segment_state.specs.Promises.{KeepsMeaning}
+use Rattle.state_laws.specs.State.{State, version_of, image_of}
+use Rattle.state_laws.specs.Promises.{KeepsMeaning}
 use Rattle.segment_core.specs.Forgetting.{IsSoundState}
 use Rattle.hydration.specs.Snapshots.{SnapshotData, Freezes, IsPieceOf}
 use Rattle.hydration.specs.Stagings.{StagingData, piece_at}

@@ -10,9 +10,9 @@ use Rattle.redo_core.specs.Writing.{zeros}
 use Rattle.messages.specs.Pieces.{PieceData, max_batch}
 use Rattle.messages.specs.declared.pieces.PieceContent.{PieceContent}
 use Rattle.messages.specs.declared.pieces.PieceContent.TheVariants.{Head, Page, Records}
-use Rattle.segment_state.specs.State.{State}
-use Rattle.segment_state.specs.Shows.{Shows}
-use Rattle.segment_state.specs.HasMeaning.{HasAnchor, IsKeptBy}
+use Rattle.state_laws.specs.State.{State}
+use Rattle.state_laws.specs.Shows.{Shows}
+use Rattle.state_laws.specs.HasMeaning.{HasAnchor, IsKeptBy}
 
 -- a name, how many pieces there are, and what they bring together: the book, the anchor, pages and records
 pub record SnapshotData : Type 0 where

@@ -14,7 +14,7 @@ use epoch_book::EpochBook;
 use messages::{Book, Piece, PieceContent};
 use redo_core::{ReadPoints, Record, SharedPage};
 use segment_core::Segment;
-use segment_state::restore_keeps;
+use state_laws::restore_keeps;
 use std::alloc::{AllocError, Global};
 use thiserror::Error;
 

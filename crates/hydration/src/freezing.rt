@@ -1,6 +1,6 @@
 ghost use Rattle.std.specs.Prelude.{◌≡◌, ℕ, ◌<◌, ◌≤◌, map, IfOk, IfErr, IfSome, IsNone};
 ghost use Rattle.redo_core.specs.Order.{Lists, RecordBefore};
-ghost use Rattle.segment_state.specs.HasMeaning.{HasAnchor, IsKeptBy};
+ghost use Rattle.state_laws.specs.HasMeaning.{HasAnchor, IsKeptBy};
 ghost use Rattle.hydration.specs.Snapshots.{SnapshotData as AnySnapshot, Freezes, IsPieceCount, max_total};
 ghost use Rattle.hydration.specs.declared.freezing.FreezeFault.TheVariants.{TooMany as TooManyOf, Memory as MemoryOf};
 

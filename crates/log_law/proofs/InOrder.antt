@@ -6,6 +6,8 @@ use Rattle.std.proofs.lemmas.Bool.{cases_lt}
 use Rattle.std.proofs.lemmas.Option.{same_Some, slice_get_within}
 use Rattle.std.proofs.lemmas.List.{get_or_default}
 use Rattle.redo_core.specs.Data.{RecordData, CutData}
+use Rattle.redo_core.specs.Keys.{key_of}
+use Rattle.redo_core.specs.declared.keys.Key.{Key}
 use Rattle.redo_core.specs.Order.{RecordBefore}
 use Rattle.redo_core.specs.Sound.{Law1}
 use Rattle.redo_core.specs.declared.facts.Fact.{Fact}
@@ -65,7 +67,7 @@ abbrev pub IsAboveTo : List Fact → ℕ → RecordData → Type 0
 IsAboveTo log p s = (i : ℕ) (r : RecordData) → i < p → slice_get log i ≡ Some (Record r) → RecordBefore r s
 
 -- the greatest key in the first places, if they have a record
-abbrev pub IsLastKey : List Fact → ℕ → Option (ℕ × ℕ) → Type 0
+abbrev pub IsLastKey : List Fact → ℕ → Option Key → Type 0
 IsLastKey log p last = (s : RecordData) → HasKeyAbove s last ↔ IsAboveTo log p s
 
 pub no_last : (log : List Fact) → IsLastKey log 0 None
@@ -94,7 +96,7 @@ rising_past log p f at not' rising i j q s l m e g =
     (cases_lt j p)
 
 pub last_more : (log : List Fact) (p : ℕ) (r : RecordData) → slice_get log p ≡ Some (Record r) → IsAboveTo log p r
-    → IsLastKey log (p + 1) (Some (r.epoch, r.number))
+    → IsLastKey log (p + 1) (Some (key_of r))
 last_more log p r at above s = (
   λ b i q l e. ⊎_elim
       (λ (k : i < p). record_trans q r s (above i q k e) b)
@@ -103,7 +105,7 @@ last_more log p r at above s = (
   λ h. h p r (omega arith) at,
 )
 
-pub last_past : (log : List Fact) (p : ℕ) (f : Fact) (last : Option (ℕ × ℕ)) → slice_get log p ≡ Some f → ((r : RecordData) → f ≡ Record r → ⊥)
+pub last_past : (log : List Fact) (p : ℕ) (f : Fact) (last : Option Key) → slice_get log p ≡ Some f → ((r : RecordData) → f ≡ Record r → ⊥)
     → IsLastKey log p last → IsLastKey log (p + 1) last
 last_past log p f last at not' h s = (
   λ b i q l e. ⊎_elim

@@ -8,6 +8,8 @@ use Rattle.std.proofs.lemmas.List.{take_more, take-append-drop}
 use Rattle.std.proofs.Math.Seq.{drop-cons}
 use Rattle.std.proofs.lemmas.List.Elements.{Contains-append_cases}
 use Rattle.redo_core.specs.Data.{RecordData, CutData, AdvanceData}
+use Rattle.redo_core.specs.Keys.{key_in, key_of}
+use Rattle.redo_core.specs.declared.keys.Key.{Key}
 use Rattle.redo_core.specs.Sets.{cuts}
 use Rattle.redo_core.specs.Sound.{Law1}
 use Rattle.redo_core.specs.declared.facts.Fact.{Fact}
@@ -17,7 +19,7 @@ use Rattle.redo_core.proofs.FactParts.{cut_in}
 use Rattle.log_law.specs.Counted.{first_at, first_cut, or_first}
 use Rattle.std.specs.Prelude.{MatchBool, not}
 use Rattle.std.specs.HashMap.{get}
-use Rattle.log_law.specs.Keys.{KeepLaw1To, IsFirstKeyConflict, IsSeenAt, IsSeen, Seen, same_pair}
+use Rattle.log_law.specs.Keys.{KeepLaw1To, IsFirstKeyConflict, IsSeenAt, IsSeen, Seen, is_same_key}
 use Rattle.log_law.proofs.FirstCuts.{first_cut-append, first_at_epoch, first_among}
 use Rattle.log_law.proofs.Least.{same_redo}
 
@@ -102,25 +104,25 @@ seen_other log p f e n (Some i) at apart h = (
 
 -- what is kept of every key, after the record's place went in at its own
 pub seen_more : (log : List Fact) (p : ℕ) (r : RecordData) (e n : ℕ) (old new : Option ℕ) → slice_get log p ≡ Some (Record r) → Law1 (take p log) (Record r)
-    → (same_pair (r.epoch, r.number) (e, n) ≡ true → new ≡ Some p) → (same_pair (r.epoch, r.number) (e, n) ≡ false → new ≡ old) → IsSeenAt log p e n old
+    → (is_same_key (key_of r) (key_in e n) ≡ true → new ≡ Some p) → (is_same_key (key_of r) (key_in e n) ≡ false → new ≡ old) → IsSeenAt log p e n old
     → IsSeenAt log (p + 1) e n new
 seen_more log p r e n old new at law hit miss h =
     ⊎_elim
-    (λ (t : same_pair (r.epoch, r.number) (e, n) ≡ true).
+    (λ (t : is_same_key (key_of r) (key_in e n) ≡ true).
     let parts = and_parts (r.epoch == e) (r.number == n) t in
     let qe : r.epoch ≡ e = eqb-true r.epoch e parts.0 in
     let qn : r.number ≡ n = eqb-true r.number n parts.1 in
     subst (IsSeenAt log (p + 1) e n) (sym (hit t))
     (subst (λ k. IsSeenAt log (p + 1) e k (Some p)) qn (subst (λ k. IsSeenAt log (p + 1) k r.number (Some p)) qe (seen_here log p r at law))))
-    (λ (t : same_pair (r.epoch, r.number) (e, n) ≡ false).
+    (λ (t : is_same_key (key_of r) (key_in e n) ≡ false).
     subst (IsSeenAt log (p + 1) e n) (sym (miss t))
     (seen_other log p (Record r) e n old at
     (λ s q i j.
     let same : r ≡ s = same_redo r s q in
-    let yes' : same_pair (r.epoch, r.number) (e, n) ≡ true = and_from (r.epoch == e) (r.number == n) (eq-eqb r.epoch e (ap (λ x. x.epoch) same ∙ i))
+    let yes' : is_same_key (key_of r) (key_in e n) ≡ true = and_from (r.epoch == e) (r.number == n) (eq-eqb r.epoch e (ap (λ x. x.epoch) same ∙ i))
     (eq-eqb r.number n (ap (λ x. x.number) same ∙ j)) in
     let clash : true ≡ false = sym yes' ∙ t in cc) h))
-    (cases_Bool (same_pair (r.epoch, r.number) (e, n)))
+    (cases_Bool (is_same_key (key_of r) (key_in e n)))
 
 -- truncations that are the first of their epoch in the whole log
 abbrev pub AreFirstTo : List Fact → ℕ → Type 0
@@ -165,20 +167,20 @@ law1_later log p c at differ law = go (first_cut (take p log) c.epoch) refl
         differ (whole ∙ ap (λ o. or_first o (Some c)) q ∙ ap Some same)
 
 -- what the code reads and writes of a key
-pub seen_at_key : (log : List Fact) (p : ℕ) (seen : Seen) (r : RecordData) (e n : ℕ) (o : Option ℕ) → e ≡ r.epoch → n ≡ r.number → o ≡ get same_pair seen (e, n)
+pub seen_at_key : (log : List Fact) (p : ℕ) (seen : Seen) (r : RecordData) (e n : ℕ) (o : Option ℕ) → e ≡ r.epoch → n ≡ r.number → o ≡ get is_same_key seen (key_in e n)
     → IsSeen log p seen → IsSeenAt log p r.epoch r.number o
 seen_at_key log p seen r e n o qe qn q h =
     subst (λ k. IsSeenAt log p r.epoch k o) qn (subst (λ k. IsSeenAt log p k n o) qe (subst (IsSeenAt log p e n) (sym q) (h e n)))
 
 pub seen_after : (log : List Fact) (p : ℕ) (r : RecordData) (old new : Seen) (e' n' : ℕ) → e' ≡ r.epoch → n' ≡ r.number
-    → ((q : ℕ × ℕ) → get same_pair new q ≡ cond (same_pair (e', n') q) (Some p) (get same_pair old q)) → slice_get log p ≡ Some (Record r)
+    → ((q : Key) → get is_same_key new q ≡ cond (is_same_key (key_in e' n') q) (Some p) (get is_same_key old q)) → slice_get log p ≡ Some (Record r)
     → Law1 (take p log) (Record r) → IsSeen log p old → IsSeen log (p + 1) new
 seen_after log p r old new e' n' qe qn up at law h e n =
-    let key : (b : Bool) → same_pair (r.epoch, r.number) (e, n) ≡ b → same_pair (e', n') (e, n) ≡ b = λ b t. ap (λ x. (x == e) && (n' == n)) qe ∙ ap
+    let key : (b : Bool) → is_same_key (key_of r) (key_in e n) ≡ b → is_same_key (key_in e' n') (key_in e n) ≡ b = λ b t. ap (λ x. (x == e) && (n' == n)) qe ∙ ap
     (λ x. (r.epoch == e) && (x == n)) qn ∙ t in
-    seen_more log p r e n (get same_pair old (e, n)) (get same_pair new (e, n)) at law
-    (λ t. up (e, n) ∙ ap (λ b. cond b (Some p) (get same_pair old (e, n))) (key true t))
-    (λ t. up (e, n) ∙ ap (λ b. cond b (Some p) (get same_pair old (e, n))) (key false t))
+    seen_more log p r e n (get is_same_key old (key_in e n)) (get is_same_key new (key_in e n)) at law
+    (λ t. up (key_in e n) ∙ ap (λ b. cond b (Some p) (get is_same_key old (key_in e n))) (key true t))
+    (λ t. up (key_in e n) ∙ ap (λ b. cond b (Some p) (get is_same_key old (key_in e n))) (key false t))
     (h e n)
 
 pub match_not : (P Q : Type 0) (b : Bool) → (b ≡ true → Q) → (b ≡ false → P) → MatchBool (not b) P Q
@@ -187,7 +189,7 @@ match_not P Q false f g = g refl
 
 pub seen_past : (log : List Fact) (p : ℕ) (f : Fact) (seen : Seen) → slice_get log p ≡ Some f → ((r : RecordData) → f ≡ Record r → ⊥) → IsSeen log p seen
     → IsSeen log (p + 1) seen
-seen_past log p f seen at apart h e n = seen_other log p f e n (get same_pair seen (e, n)) at (λ r q i j. apart r q) (h e n)
+seen_past log p f seen at apart h e n = seen_other log p f e n (get is_same_key seen (key_in e n)) at (λ r q i j. apart r q) (h e n)
 
 pub law1_advance : (earlier : List Fact) (a : AdvanceData) → Law1 earlier (Advance a)
 law1_advance earlier a (Record s) m k = absurd k

@@ -5,7 +5,9 @@ use Rattle.std.specs.HashMap.{get, HashMap}
 use Rattle.std.specs.declared.hash.FoldHasher.{FoldHasher}
 use Rattle.std.specs.declared.hash.BuildHasherDefault.{BuildHasherDefault}
 use Rattle.redo_core.specs.Data.{RecordData}
-use Rattle.redo_core.specs.Order.{PairBefore, RecordBefore}
+use Rattle.redo_core.specs.Keys.{key_in, key_of, KeyBefore}
+use Rattle.redo_core.specs.declared.keys.Key.{Key}
+use Rattle.redo_core.specs.Order.{RecordBefore}
 use Rattle.redo_core.specs.Sound.{Law1}
 use Rattle.redo_core.specs.declared.facts.Fact.{Fact}
 use Rattle.redo_core.specs.declared.facts.Fact.TheVariants.{Record}
@@ -27,15 +29,16 @@ abbrev pub HasRisingKeys : List Fact → Type 0
 HasRisingKeys log = HasRisingKeysTo log (length log)
 
 -- the record's key is above this one, if there is one
-abbrev pub HasKeyAbove : RecordData → Option (ℕ × ℕ) → Type 0
+abbrev pub HasKeyAbove : RecordData → Option Key → Type 0
 HasKeyAbove r None = ⊤
-HasKeyAbove r (Some key) = PairBefore key.0 key.1 r.epoch r.number
+HasKeyAbove r (Some key) = KeyBefore key (key_of r)
 
-abbrev pub same_pair : (ℕ × ℕ) → (ℕ × ℕ) → Bool
-same_pair x y = (x.0 == y.0) && (x.1 == y.1)
+-- two keys are one
+abbrev pub is_same_key : Key → Key → Bool
+is_same_key x y = (x.epoch == y.epoch) && (x.number == y.number)
 
 abbrev pub Seen : Type 0
-Seen = HashMap (ℕ × ℕ) ℕ (BuildHasherDefault FoldHasher)
+Seen = HashMap Key ℕ (BuildHasherDefault FoldHasher)
 
 -- what is kept of a key: nothing where no record before the place has it, else where such a record stands, and all are that one
 abbrev pub IsSeenAt : List Fact → ℕ → ℕ → ℕ → Option ℕ → Type 0
@@ -45,4 +48,4 @@ IsSeenAt log place e n (Some p) =
     × ((s : RecordData) → Contains (take place log) (Record s) → s.epoch ≡ e → s.number ≡ n → s ≡ r)
 
 abbrev pub IsSeen : List Fact → ℕ → Seen → Type 0
-IsSeen log place seen = (e n : ℕ) → IsSeenAt log place e n (get same_pair seen (e, n))
+IsSeen log place seen = (e n : ℕ) → IsSeenAt log place e n (get is_same_key seen (key_in e n))

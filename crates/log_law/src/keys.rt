@@ -4,12 +4,12 @@ ghost use Rattle.log_law.specs.Counted.{Describes};
 ghost use Rattle.log_law.specs.Keys.{IsFirstKeyConflict, IsSeen, HasRisingKeys, HasKeyAbove};
 
 use crate::counted::CountedCuts;
-use redo_core::{Fact, Record};
+use redo_core::{Fact, Key, Record};
 use std::alloc::{AllocError, Global};
 use std::collections::HashMap;
 
 /// Where the first record of each key stands.
-type Places = HashMap<(u16, u64), usize>;
+type Places = HashMap<Key, usize>;
 
 /// The least place (from 0) that breaks law 1, or the number of facts. Its only error is want of memory.
 pub(crate) fn first_key_conflict(
@@ -53,19 +53,19 @@ fn has_rising_keys(facts: &[Fact]) -> bool
             if !is_above(redo, last) {
                 return false;
             }
-            last = Some((redo.epoch(), redo.number()));
+            last = Some(redo.key());
         }
     }
     true
 }
 
 /// Whether a record's key is above the last one before it, if there is one.
-fn is_above(redo: &Record, last: Option<(u16, u64)>) -> bool
+fn is_above(redo: &Record, last: Option<Key>) -> bool
     ensures { IsTrue result ↔ HasKeyAbove redo.now last }
 {
     match last {
-        Some((epoch, number)) => {
-            epoch < redo.epoch() || (epoch == redo.epoch() && number < redo.number())
+        Some(key) => {
+            key.epoch < redo.epoch() || (key.epoch == redo.epoch() && key.number < redo.number())
         }
         None => true,
     }
@@ -98,7 +98,7 @@ fn is_other(
     ensures law { IfOk result (λ b. MatchBool b (Law1 (take place facts.now) (Fact.Record redo.now) → ⊥) (Law1 (take place facts.now) (Fact.Record redo.now))) }
     ensures seen { IfOk result (λ b. MatchBool b ⊤ (IsSeen facts.now (place + 1) seen.new)) }
 {
-    match seen.insert((redo.epoch(), redo.number()), place)? {
+    match seen.insert(redo.key(), place)? {
         Some(earlier) => Ok(!facts[earlier].is_same(&facts[place])),
         None => Ok(false),
     }

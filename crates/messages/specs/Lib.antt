@@ -1,5 +1,4 @@
 pub mod Books
-pub mod Keys
 pub mod Summaries
 pub mod Images
 pub mod Deltas

@@ -3,9 +3,9 @@ use Rattle.std.specs.Prelude.{ℕ, ◌≤◌, List}
 use Rattle.std.specs.List.{AllByRecursion}
 use Rattle.redo_core.specs.Book.{BookData, IsBook}
 use Rattle.redo_core.specs.Order.{IsRising}
-use Rattle.messages.specs.declared.keys.Key.{Key}
+use Rattle.redo_core.specs.declared.keys.Key.{Key}
 use Rattle.messages.specs.Books.{book_min}
-use Rattle.messages.specs.Keys.{IsKey, KeyBefore}
+use Rattle.redo_core.specs.Keys.{IsKey, KeyBefore}
 
 -- the book, the anchor and the keys of the records that a segment keeps
 pub record SummaryData : Type 0 where

@@ -1,9 +1,8 @@
-ghost use Rattle.std.specs.Prelude.{◌≡◌, ◌<◌, length, IfOk};
+ghost use Rattle.std.specs.Prelude.{◌≡◌, IfOk};
 ghost use Rattle.redo_core.specs.Book.{book_of, IsBook};
-ghost use Rattle.redo_core.specs.Roster.{least};
 ghost use Rattle.messages.specs.Books.{book_min, has_many};
 
-use redo_core::{Advance, Cut};
+use redo_core::{Advance, Cut, ReadPoints};
 use std::alloc::AllocError;
 use std::marker::Model;
 
@@ -13,7 +12,7 @@ use std::marker::Model;
 pub struct Book {
     cuts: Vec<Cut>,
     complete: u16,
-    points: Vec<u64>,
+    points: ReadPoints,
     waits: Vec<Advance>,
 }
 
@@ -22,9 +21,9 @@ impl Model for Book {
 
     ghost Value = { BookData };
 
-    ghost view = { λ b. book_of b.cuts.items b.complete b.points.items b.waits.items };
+    ghost view = { λ b. book_of b.cuts.items b.complete b.points b.waits.items };
 
-    ghost invariant = { λ b. IsBook (book_of b.cuts.items b.complete b.points.items b.waits.items) };
+    ghost invariant = { λ b. IsBook (book_of b.cuts.items b.complete b.points b.waits.items) };
 }
 
 impl Book {
@@ -36,7 +35,7 @@ impl Book {
         Book {
             cuts,
             complete,
-            points,
+            points: ReadPoints::from_vec(points),
             waits,
         }
     }
@@ -61,7 +60,7 @@ impl Book {
         ensures points { result.now ≡ self.now.points }
         ensures shape { IsBook self.now }
     {
-        &self.points
+        self.points.as_slice()
     }
 
     /// The minimum read point, the least reader's point, up to 2^48 - 1.
@@ -69,7 +68,7 @@ impl Book {
         ensures min { result ≡ book_min self.now }
         ensures shape { IsBook self.now }
     {
-        least_of(&self.points)
+        self.points.least()
     }
 
     pub fn waits(&self) -> &[Advance]
@@ -86,7 +85,7 @@ impl Book {
         Ok(Book {
             cuts: self.cuts.clone()?,
             complete: self.complete,
-            points: self.points.clone()?,
+            points: self.points.copy()?,
             waits: self.waits.clone()?,
         })
     }
@@ -95,18 +94,6 @@ impl Book {
     pub fn has_many(&self) -> bool
         ensures { result ≡ has_many self.now }
     {
-        self.points.len() > 1
+        self.points.readers() > 1
     }
-}
-
-/// The least of the points.
-fn least_of(points: &[u64]) -> u64
-    requires { 0 < length points.now }
-    ensures { result ≡ least points.now }
-{
-    let mut low = points[0];
-    for p in points {
-        low = low.min(*p);
-    }
-    low
 }

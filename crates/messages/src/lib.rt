@@ -8,13 +8,11 @@ mod books;
 mod deltas;
 mod fixed;
 mod images;
-mod keys;
 mod pieces;
 mod summaries;
 
 pub use books::Book;
 pub use deltas::Delta;
 pub use images::PageImage;
-pub use keys::Key;
 pub use pieces::{MAX_BATCH, Piece, PieceContent, RecordBatch};
 pub use summaries::Summary;

@@ -2,7 +2,7 @@ ghost use Rattle.std.specs.Prelude.{◌≡◌, IfOk};
 ghost use Rattle.messages.specs.Summaries.{summary_of, IsSummary};
 
 use crate::books::Book;
-use crate::keys::Key;
+use redo_core::Key;
 use std::alloc::AllocError;
 use std::marker::Model;
 

@@ -7,8 +7,8 @@ use Rattle.redo_laws.specs.WellFormed.{OneMeaning}
 use Rattle.redo_laws.proofs.Union.{left, right}
 use Rattle.messages.specs.Summaries.{SummaryData}
 use Rattle.messages.specs.Deltas.{DeltaData}
-use Rattle.segment_state.specs.State.{State}
-use Rattle.segment_state.specs.Means.{Means}
+use Rattle.state_laws.specs.State.{State}
+use Rattle.state_laws.specs.Means.{Means}
 use Rattle.segment_core.specs.Reading.{IsFrontAt}
 use Rattle.segment_core.specs.declared.answers.Front.{Front}
 use Rattle.front_board.specs.FrontWord.{FrontData}

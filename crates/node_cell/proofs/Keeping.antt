@@ -15,10 +15,10 @@ use Rattle.redo_laws.proofs.Log.{log_of_sound}
 use Rattle.redo_laws.proofs.OfWholeLog.{front_law, page_law}
 use Rattle.redo_laws.proofs.Union.{left, right}
 use Rattle.named_log.specs.Places.{fact_at}
-use Rattle.segment_state.specs.State.{State}
-use Rattle.segment_state.specs.Means.{Means, MeansAt}
-use Rattle.segment_state.specs.Promises.{IsFinalPage}
-use Rattle.segment_state.proofs.Own.{anchor_law}
+use Rattle.state_laws.specs.State.{State}
+use Rattle.state_laws.specs.Means.{Means, MeansAt}
+use Rattle.state_laws.specs.Promises.{IsFinalPage}
+use Rattle.state_laws.proofs.Own.{anchor_law}
 use Rattle.segment_core.specs.Folding.{IsFoldOf, RefusesCommit}
 use Rattle.segment_core.specs.Reading.{IsFrontAt}
 use Rattle.segment_core.specs.declared.answers.Front.{Front}

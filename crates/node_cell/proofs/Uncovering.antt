@@ -5,10 +5,10 @@ use Rattle.redo_core.specs.Sound.{IsSound}
 use Rattle.redo_core.specs.declared.facts.Fact.{Fact}
 use Rattle.redo_laws.proofs.Log.{log_of_sound}
 use Rattle.messages.specs.Summaries.{SummaryData}
-use Rattle.segment_state.specs.State.{State}
-use Rattle.segment_state.specs.Means.{MeansAt}
-use Rattle.segment_state.specs.HasMeaning.{HasAnchor}
-use Rattle.segment_state.proofs.Own.{anchor_law}
+use Rattle.state_laws.specs.State.{State}
+use Rattle.state_laws.specs.Means.{MeansAt}
+use Rattle.state_laws.specs.HasMeaning.{HasAnchor}
+use Rattle.state_laws.proofs.Own.{anchor_law}
 use Rattle.gossip_core.specs.Answering.{IsUncovered}
 use Rattle.gossip_core.specs.declared.answering.Shown.{Shown}
 use Rattle.gossip_core.specs.declared.answering.Shown.TheVariants.{Anchor as OfAnchor, Key as OfKey}

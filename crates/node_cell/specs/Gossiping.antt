@@ -2,18 +2,18 @@
 use Rattle.std.specs.Prelude.{◌≡◌, ℕ, ◌<◌, ◌≤◌, List}
 use Rattle.std.specs.List.{Contains}
 use Rattle.redo_core.specs.Sets.{IsPart}
+use Rattle.redo_core.specs.Keys.{KeyBefore}
+use Rattle.redo_core.specs.declared.keys.Key.{Key}
 use Rattle.redo_core.specs.Order.{IsFirst}
 use Rattle.redo_core.specs.Position.{Position, IsPosition}
 use Rattle.redo_core.specs.Meaning.{Meaning, IsMeaning}
 use Rattle.redo_core.specs.declared.facts.Fact.{Fact}
-use Rattle.messages.specs.declared.keys.Key.{Key}
 use Rattle.messages.specs.Summaries.{SummaryData}
-use Rattle.messages.specs.Keys.{KeyBefore}
 use Rattle.messages.specs.Deltas.{DeltaData}
-use Rattle.segment_state.specs.Gossip.{Fills, IsAccounted}
+use Rattle.state_laws.specs.Gossip.{Fills, IsAccounted}
 use Rattle.front_board.specs.FrontWord.{FrontData}
 use Rattle.gossip_core.specs.Summarizing.{IsSummaryOf}
-use Rattle.gossip_core.specs.Answering.{listed_key, listing_of}
+use Rattle.gossip_core.specs.Answering.{listing_of}
 use Rattle.gossip_core.specs.Absorbing.{filling_of}
 use Rattle.gossip_core.specs.declared.absorbing.AbsorbRefusal.{AbsorbRefusal}
 use Rattle.gossip_core.specs.declared.absorbing.AbsorbRefusal.TheVariants as refusal
@@ -63,7 +63,7 @@ pub record IsFrontWithMail (roster : ℕ) (log : List Fact) (mail : MailData) (f
 
 -- the summary lists a key that facts which stand at p do not account for
 abbrev pub LacksKey : List Fact → Position → SummaryData → Key → Type 0
-LacksKey facts p summary key = Contains summary.keys key × (IsAccounted facts p (listed_key key) → ⊥)
+LacksKey facts p summary key = Contains summary.keys key × (IsAccounted facts p key → ⊥)
 
 -- what of a summary they do not answer for: its anchor where that is above theirs, else the least such key
 abbrev pub LeavesUncovered : List Fact → Position → SummaryData → Shown → Type 0

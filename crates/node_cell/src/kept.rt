@@ -1,5 +1,5 @@
 ghost use Rattle.std.specs.Prelude.{◌≡◌, ◌≢◌, ◌≤◌, ◌<◌, ◌⊎◌, ◌↔◌, ◌+◌, ◌++◌, ◌∷◌, [], length, IfOk, IfErr, OnErr, OnOk, Some, None};
-ghost use Rattle.segment_state.specs.Means.{Means};
+ghost use Rattle.state_laws.specs.Means.{Means};
 ghost use Rattle.segment_core.specs.Folding.{Commits};
 ghost use Rattle.segment_core.specs.Forgetting.{DiscardsJust};
 ghost use Rattle.node_cell.specs.Kept.{MeansTrail, KeepsParts};

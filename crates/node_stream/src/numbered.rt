@@ -8,7 +8,7 @@ ghost use Rattle.node_stream.specs.Reading.{piece_form, stage_form, next_form, n
 
 use crate::asked::{Asked, Window};
 use redo_core::{MAX_NUMBER, MAX_READERS, Roster};
-use redo_wire::Key;
+use redo_core::Key;
 use replica::Request;
 use script_text::read_numbers;
 

@@ -5,13 +5,13 @@ use Rattle.redo_core.specs.Sound.{IsSound}
 use Rattle.redo_core.specs.declared.facts.Fact.{Fact}
 use Rattle.redo_laws.proofs.Log.{log_of_sound}
 use Rattle.redo_laws.proofs.Views.{anchor_is}
-use Rattle.segment_state.specs.State.{State, min_of}
-use Rattle.segment_state.specs.HasMeaning.{HasComplete}
-use Rattle.segment_state.specs.Means.{MeansAt}
-use Rattle.segment_state.specs.Shows.{Shows}
-use Rattle.segment_state.proofs.Own.{complete_of}
-use Rattle.segment_state.proofs.Reading.{pages_law}
-use Rattle.segment_state.proofs.Same.{same_min}
+use Rattle.state_laws.specs.State.{State, min_of}
+use Rattle.state_laws.specs.HasMeaning.{HasComplete}
+use Rattle.state_laws.specs.Means.{MeansAt}
+use Rattle.state_laws.specs.Shows.{Shows}
+use Rattle.state_laws.proofs.Own.{complete_of}
+use Rattle.state_laws.proofs.Reading.{pages_law}
+use Rattle.state_laws.proofs.Same.{same_min}
 use Rattle.segment_core.specs.Reading.{IsReadResult, IsReadFault, TellsOutside}
 use Rattle.segment_core.specs.declared.answers.ReadFault.{ReadFault}
 use Rattle.segment_core.specs.declared.answers.ReadFault.TheVariants.{Below, Above, BrokenBlockChain, Memory}

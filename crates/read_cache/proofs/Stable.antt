@@ -8,9 +8,9 @@ use Rattle.redo_core.specs.Linked.{Linked}
 use Rattle.redo_core.specs.Linked.Linked.{start, next}
 use Rattle.redo_core.specs.Writing.{after_records}
 use Rattle.redo_laws.proofs.Meanings.{lists_as}
-use Rattle.segment_state.specs.State.{State, version_of, image_of}
-use Rattle.segment_state.specs.HasMeaning.{IsLinkedIn}
-use Rattle.segment_state.specs.Shows.{Shows, IsApplied}
+use Rattle.state_laws.specs.State.{State, version_of, image_of}
+use Rattle.state_laws.specs.HasMeaning.{IsLinkedIn}
+use Rattle.state_laws.specs.Shows.{Shows, IsApplied}
 
 -- the two states have one view: which records are alive
 pub record SameView (s t : State) : Type 0 where

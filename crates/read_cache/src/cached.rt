@@ -1,6 +1,7 @@
 ghost use Rattle.std.specs.Prelude.{◌≡◌, ℕ, ◌≤◌, List, [], true, false, Ok, IfOk, IfSome, OnOk, OnErr, IfErr, IsTrue, ◌↔◌, length, map};
 ghost use Rattle.std.specs.Borrow.{Lends, sem};
 ghost use Rattle.redo_core.specs.Data.{CutData};
+ghost use Rattle.redo_core.specs.Keys.{key_of};
 ghost use Rattle.redo_core.specs.Position.{Position};
 ghost use Rattle.redo_core.specs.Roster.{least};
 ghost use Rattle.redo_core.specs.Sound.{IsSound};
@@ -8,15 +9,14 @@ ghost use Rattle.redo_core.specs.Linked.{IsLinked};
 ghost use Rattle.redo_core.specs.Order.{IsRising, RecordBefore};
 ghost use Rattle.redo_core.specs.declared.facts.Fact.{Fact as AnyFact};
 ghost use Rattle.redo_core.specs.declared.facts.Fact.TheVariants.{Cut as OfCut};
-ghost use Rattle.segment_state.specs.Means.{MeansAt};
-ghost use Rattle.segment_state.specs.Shows.{Shows};
-ghost use Rattle.segment_state.specs.Promises.{KeepsMeaning, KeepsMeaningWith};
+ghost use Rattle.state_laws.specs.Means.{MeansAt};
+ghost use Rattle.state_laws.specs.Shows.{Shows};
+ghost use Rattle.state_laws.specs.Promises.{KeepsMeaning, KeepsMeaningWith};
 ghost use Rattle.segment_core.specs.BlockChain.{TellsBreak};
 ghost use Rattle.segment_core.specs.Exactly.{TakesExactly};
-ghost use Rattle.segment_state.specs.HasMeaning.{HasAnchor};
+ghost use Rattle.state_laws.specs.HasMeaning.{HasAnchor};
 ghost use Rattle.segment_core.specs.Folding.{IsPlanResult, PlansFold, Commits, RefusesCommit, RefusesAhead};
 ghost use Rattle.segment_core.specs.Forgetting.{DiscardsJust, Tidies, HoldsJustKept, IsSoundState, TellsFirstBreak, RefusesTidy};
-ghost use Rattle.segment_core.specs.Keys.{key_of};
 ghost use Rattle.segment_core.specs.Reading.{IsFrontAt, IsFrontOf, IsReadResult, TellsOutside};
 ghost use Rattle.segment_core.specs.Refusing.{FitsSoundLog};
 ghost use Rattle.segment_core.specs.Taking.{TellsChange};
@@ -119,7 +119,7 @@ impl CachedSegment {
     }
 
     /// The keys (epoch and number) of the records held, rising. Its only error is want of memory.
-    pub fn stored(&self) -> Result<Vec<(u16, u64)>, AllocError>
+    pub fn stored(&self) -> Result<Vec<Key>, AllocError>
         ensures keys { IfOk result (λ v. v.items ≡ map key_of self.now.segment.held) }
         ensures rising { IsRising RecordBefore self.now.segment.held }
     {

@@ -7,11 +7,11 @@ use Rattle.redo_core.specs.Shape.{max_number}
 use Rattle.redo_core.specs.Order.{PairBefore}
 use Rattle.redo_core.specs.declared.keys.Key.{Key}
 
-abbrev pub key_at : ℕ → ℕ → Key
-key_at epoch number = record { epoch = epoch; number = number }
+abbrev pub key_in : ℕ → ℕ → Key
+key_in epoch number = record { epoch = epoch; number = number }
 
 abbrev pub key_of : RecordData → Key
-key_of r = key_at r.epoch r.number
+key_of r = key_in r.epoch r.number
 
 -- a number that a record may have
 abbrev pub IsKey : Key → Type 0

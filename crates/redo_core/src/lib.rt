@@ -34,8 +34,6 @@ pub use read_points::ReadPoints;
 pub use records::Record;
 pub use refusal::Refused;
 pub use rosters::Roster;
-pub use shapes::{
-    EPOCH_COUNT, MAX_BYTES, MAX_NUMBER, MAX_PATCHES, MAX_READERS, PAGE_LEN, ShapeFault,
-};
+pub use shapes::{MAX_BYTES, MAX_NUMBER, MAX_PATCHES, MAX_READERS, PAGE_LEN, ShapeFault};
 pub use shared_page::SharedPage;
 pub use writes::Write;

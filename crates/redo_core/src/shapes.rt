@@ -6,9 +6,6 @@ pub const MAX_NUMBER: u64 = 281474976710655;
 /// The most readers that a roster has.
 pub const MAX_READERS: u8 = 15;
 
-/// How many epochs there are: 0 to 65,535.
-pub const EPOCH_COUNT: usize = 65536;
-
 /// The length of every page, in bytes.
 pub const PAGE_LEN: usize = 4096;
 

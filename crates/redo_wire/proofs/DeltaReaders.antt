@@ -5,6 +5,8 @@ use Rattle.std.specs.List.{AllByRecursion, flat_map}
 use Rattle.std.proofs.lemmas.Bool.{ltb-true, leb-true, lt-ltb, le-leb, eqb-true, eq-eqb, or_cases, or_left, or_right, or_parts, not-false, cases_Bool, cases_lt}
 use Rattle.std.proofs.lemmas.List.{nil_from_length}
 use Rattle.redo_core.specs.Book.{BookData}
+use Rattle.redo_core.specs.Keys.{key_in, key_of}
+use Rattle.redo_core.specs.declared.keys.Key.{Key}
 use Rattle.redo_core.specs.Data.{RecordData}
 use Rattle.redo_core.specs.Order.{IsRising, RecordBefore}
 use Rattle.redo_core.specs.Writing.{zeros}
@@ -12,7 +14,7 @@ use Rattle.redo_core.specs.Meaning.{ImageData, ImageBefore}
 use Rattle.redo_wire.specs.Reading.{shaped}
 use Rattle.redo_wire.specs.Fields.{bytes_at, u16_at, u32_at, u48_at, u16, u32, u48}
 use Rattle.redo_wire.specs.Lists.{each_at}
-use Rattle.redo_wire.specs.Places.{Place, is_above}
+use Rattle.redo_wire.specs.Places.{is_above}
 use Rattle.redo_wire.specs.Records.{IsWireRecord, record_bytes}
 use Rattle.redo_wire.specs.RecordReading.{record_at}
 use Rattle.messages.specs.Books.{book_min, has_many}
@@ -27,7 +29,7 @@ use Rattle.redo_wire.proofs.FieldReaders.{u16_reads, u32_reads, u48_reads, bytes
 use Rattle.redo_wire.proofs.FormReaders.{form_then}
 use Rattle.redo_wire.proofs.ListReaders.{EachFrom, each_takes, each_again}
 use Rattle.redo_wire.proofs.RecordReaders.{record_reads, number_above_zero}
-use Rattle.redo_wire.proofs.Orders.{All-weaker, All-both, IsNext, rising_from_each, each_from_rising, image_tests, place_tests, above_zero}
+use Rattle.redo_wire.proofs.Orders.{All-weaker, All-both, IsNext, rising_from_each, each_from_rising, image_tests, key_tests, above_zero}
 use Rattle.messages.proofs.BookMins.{min_small}
 use Rattle.redo_wire.proofs.BookReaders.{book_reads}
 
@@ -96,11 +98,11 @@ next_image_reads least = ordered_reads (λ p. leb least p.page) image_at image_b
 
 -- ---- records in their places
 
-abbrev pub IsNextRecord : Place → RecordData → Type 0
-IsNextRecord last r = IsNext (λ last r. is_above last (r.epoch, r.number)) IsWireRecord last r
+abbrev pub IsNextRecord : Key → RecordData → Type 0
+IsNextRecord last r = IsNext (λ last r. is_above last (key_of r)) IsWireRecord last r
 
-pub next_record_reads : (last : Place) → Reads (next_record_at last) record_bytes (IsNextRecord last)
-next_record_reads last = ordered_reads (λ r. is_above last (r.epoch, r.number)) record_at record_bytes IsWireRecord record_reads
+pub next_record_reads : (last : Key) → Reads (next_record_at last) record_bytes (IsNextRecord last)
+next_record_reads last = ordered_reads (λ r. is_above last (key_of r)) record_at record_bytes IsWireRecord record_reads
 
 -- ---- deltas
 
@@ -122,7 +124,7 @@ pub delta_steps : (many : Bool) (bytes : List ℕ) (b : BookData × List ℕ) (b
     (record_count : ℕ × List ℕ) (records : List RecordData × List ℕ) → IsBytes bytes
     → book_at many bytes ≡ Ok b → u48_at b.1 ≡ Ok base → base.0 ≤ book_min b.0 → u32_at base.1 ≡ Ok page_count → may_have base.0 page_count.0 ≡ true
     → each_at next_image_at page_after page_count.0 0 page_count.1 ≡ Ok pages → u32_at pages.1 ≡ Ok record_count
-    → each_at next_record_at record_place record_count.0 (0, 0) record_count.1 ≡ Ok records
+    → each_at next_record_at record_place record_count.0 (key_in 0 0) record_count.1 ≡ Ok records
     → let d = delta_of b.0 base.0 pages.0 records.0 in Takes bytes (delta_part_bytes many d) records.1 × (IsWireDelta d × (has_many b.0 ≡ many))
 delta_steps many bytes b base page_count pages record_count records fits e0 e1 low e2 first e3 e4 e5 =
     let t0 = (book_reads many).takes bytes b fits e0 in
@@ -130,7 +132,7 @@ delta_steps many bytes b base page_count pages record_count records fits e0 e1 l
     let t2 = u32_reads.takes base.1 page_count t1.0.rest_fits e2 in
     let t3 = each_takes next_image_at page_after image_bytes IsNextImage next_image_reads page_count.0 0 page_count.1 pages t2.0.rest_fits e3 in
     let t4 = u32_reads.takes pages.1 record_count t3.0.rest_fits e4 in
-    let t5 = each_takes next_record_at record_place record_bytes IsNextRecord next_record_reads record_count.0 (0, 0) record_count.1 records t4.0.rest_fits
+    let t5 = each_takes next_record_at record_place record_bytes IsNextRecord next_record_reads record_count.0 (key_in 0 0) record_count.1 records t4.0.rest_fits
     e5 in
     let p1 = Takes-then bytes (book_bytes many b.0) b.1 (u48 base.0) base.1 t0.0 t1.0 in
     let p2 = Takes-then bytes (book_bytes many b.0 ++ u48 base.0) base.1 (u32 page_count.0) page_count.1 p1 t2.0 in
@@ -142,8 +144,8 @@ delta_steps many bytes b base page_count pages record_count records fits e0 e1 l
     let page_len : length pages.0 ≡ page_count.0 = t3.1 in
     let record_len : length records.0 ≡ record_count.0 = t5.1 in
     let pages_rise = rising_from_each (λ least p. leb least p.page) (λ p. page_after 0 p) ImageBefore IsReadImage image_tests 0 pages.0 t3.2 in
-    let records_rise = rising_from_each (λ last r. is_above last (r.epoch, r.number)) (λ (r : RecordData). (r.epoch, r.number)) RecordBefore IsWireRecord
-    (place_tests (λ (r : RecordData). r.epoch) (λ r. r.number)) (0, 0) records.0 t5.2 in
+    let records_rise = rising_from_each (λ last r. is_above last (key_of r)) key_of RecordBefore IsWireRecord
+    (key_tests key_of) (key_in 0 0) records.0 t5.2 in
     let written = All-weaker IsReadImage (λ p. p.bytes ≢ zeros) (λ p i. written_page p.bytes i.1) pages.0 pages_rise.2 in
     let shape : IsDelta (delta_of b.0 base.0 pages.0 records.0) = record {
       book = t0.1.0.shape;
@@ -174,7 +176,7 @@ delta_part_takes many bytes x fits e =
     let s2 = shaped_ok (λ n. may_have a1.0.0 n) (u32_at a1.0.1) a2.0 a2.1 in
     let a3 = bind_ok (each_at next_image_at page_after a2.0.0 0 a2.0.1) _ x a2.2 in
     let a4 = bind_ok (u32_at a3.0.1) _ x a3.2 in
-    let a5 = bind_ok (each_at next_record_at record_place a4.0.0 (0, 0) a4.0.1) _ x a4.2 in
+    let a5 = bind_ok (each_at next_record_at record_place a4.0.0 (key_in 0 0) a4.0.1) _ x a4.2 in
     let made : DeltaData × List ℕ = (delta_of a0.0.0 a1.0.0 a3.0.0 a5.0.0, a5.0.1) in
     subst (λ (y : DeltaData × List ℕ). Takes bytes (delta_part_bytes many y.0) y.1 × (IsWireDelta y.0 × (has_many y.0.book ≡ many))) (ok_is made x a5.2)
     (delta_steps many bytes a0.0 a1.0 a2.0 a3.0 a4.0 a5.0 fits a0.1 s1.0 (leb-true _ _ s1.1) s2.0 s2.1 a3.1 a4.1 a5.1)
@@ -189,12 +191,12 @@ each_image d wire =
     let first = All-weaker IsWireImage (λ p. leb 0 p.page ≡ true) (λ p w. le-leb 0 p.page (omega arith)) d.pages wire.each_page in
     each_from_rising (λ least p. leb least p.page) (λ p. page_after 0 p) ImageBefore IsReadImage image_tests 0 d.pages first wire.shape.pages all
 
-pub each_record : (rs : List RecordData) → IsRising RecordBefore rs → AllByRecursion IsWireRecord rs → EachFrom IsNextRecord record_place (0, 0) rs
+pub each_record : (rs : List RecordData) → IsRising RecordBefore rs → AllByRecursion IsWireRecord rs → EachFrom IsNextRecord record_place (key_in 0 0) rs
 each_record rs rising all =
-    let first = All-weaker IsWireRecord (λ r. is_above (0, 0) (r.epoch, r.number) ≡ true) (λ r w. above_zero r.epoch r.number (number_above_zero r w))
+    let first = All-weaker IsWireRecord (λ r. is_above (key_in 0 0) (key_of r) ≡ true) (λ r w. above_zero (key_of r) (number_above_zero r w))
     rs all in
-    each_from_rising (λ last r. is_above last (r.epoch, r.number)) (λ (r : RecordData). (r.epoch, r.number)) RecordBefore IsWireRecord
-    (place_tests (λ (r : RecordData). r.epoch) (λ r. r.number)) (0, 0) rs first rising all
+    each_from_rising (λ last r. is_above last (key_of r)) key_of RecordBefore IsWireRecord
+    (key_tests key_of) (key_in 0 0) rs first rising all
 
 delta_part_again : (many : Bool) (d : DeltaData) (rest : List ℕ) → IsWireDelta d × (has_many d.book ≡ many)
     → delta_part_at many (delta_part_bytes many d ++ rest) ≡ Ok (d, rest)
@@ -220,7 +222,7 @@ delta_part_again many d rest fits =
       each_again next_image_at page_after image_bytes IsNextImage next_image_reads d.pages 0 z3 (each_image d wire),
       u32_reads.again (length d.records) z4 wire.record_count,
       each_again next_record_at record_place record_bytes IsNextRecord next_record_reads d.records
-          (0, 0) rest (each_record d.records wire.shape.records wire.each_record),
+          (key_in 0 0) rest (each_record d.records wire.shape.records wire.each_record),
     ) refl
 
 delta_part_reads : (many : Bool) → Reads (delta_part_at many) (delta_part_bytes many) (λ d. IsWireDelta d × (has_many d.book ≡ many))

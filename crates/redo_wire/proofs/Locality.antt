@@ -5,13 +5,15 @@ use Rattle.std.specs.Int.{Width, w64, byte_len, from_be_bytes}
 use Rattle.std.proofs.lemmas.List.{take-append-le, drop-append-le, length-append}
 use Rattle.std.proofs.lemmas.Bool.Decides.{nat_tests}
 use Rattle.redo_core.specs.declared.patches.Patch.{Patch}
+use Rattle.redo_core.specs.Keys.{key_in, key_of}
+use Rattle.redo_core.specs.declared.keys.Key.{Key}
 use Rattle.redo_wire.specs.declared.faults.WireFault.{WireFault}
 use Rattle.redo_wire.specs.declared.faults.WireFault.TheVariants.{Short, UnknownTag, Shape, Order, Rest, TooLong}
 use Rattle.redo_wire.specs.Reading.{◌>>=◌, Read, shaped, known, ordered, mapped, whole}
 use Rattle.redo_wire.specs.Fields.{byte_at, bytes_at, number_at, u48_at}
 use Rattle.redo_wire.specs.Lists.{each_at}
 use Rattle.redo_wire.specs.Laws.{FaultsStay, BeginningsAreShort, RestIsBehind}
-use Rattle.redo_wire.specs.Places.{Place, is_above, WaitPlace, is_wait_above}
+use Rattle.redo_wire.specs.Places.{is_above, WaitPlace, is_wait_above}
 use Rattle.redo_wire.specs.Forms.{form_at, within_at}
 use Rattle.redo_wire.specs.RecordReading.{write_at, fill_at, kind_at, patch_at, left_after, head_at, record_part_at, record_at}
 use Rattle.redo_wire.specs.FactReading.{cut_at, advance_at, tagged_advance_at, fact_at, decoded_fact}
@@ -253,8 +255,8 @@ key_ext y bytes =
     bind_ext y _ _ _ (number_ext y _ bytes) (λ epoch b1.
     bind_ext y _ _ _ (shaped_ext y _ _ _ (u48_ext y b1)) (λ number b2. done y _ _))
 
-next_key_ext : (y : List ℕ) (last : Place) (bytes : List ℕ) → Follows y (next_key_at last bytes) (next_key_at last (bytes ++ y))
-next_key_ext y last bytes = ordered_ext y (λ k. is_above last (k.epoch, k.number)) _ _ (key_ext y bytes)
+next_key_ext : (y : List ℕ) (last : Key) (bytes : List ℕ) → Follows y (next_key_at last bytes) (next_key_at last (bytes ++ y))
+next_key_ext y last bytes = ordered_ext y (λ k. is_above last k) _ _ (key_ext y bytes)
 
 summary_part_ext : (y : List ℕ) (many : Bool) (bytes : List ℕ) → Follows y (summary_part_at many bytes) (summary_part_at many (bytes ++ y))
 unfolding summary_part_at
@@ -262,7 +264,7 @@ summary_part_ext y many bytes =
     bind_ext y _ _ _ (book_ext y many bytes) (λ book b1.
     bind_ext y _ _ _ (shaped_ext y _ _ _ (u48_ext y b1)) (λ anchor b2.
     bind_ext y _ _ _ (number_ext y _ b2) (λ key_count b3.
-    bind_ext y _ _ _ (each_ext y next_key_at key_place (next_key_ext y) key_count (0, 0) b3) (λ keys b4. done y _ _))))
+    bind_ext y _ _ _ (each_ext y next_key_at key_place (next_key_ext y) key_count (key_in 0 0) b3) (λ keys b4. done y _ _))))
 
 summary_ext : (y bytes : List ℕ) → Follows y (summary_at bytes) (summary_at (bytes ++ y))
 unfolding summary_at
@@ -277,8 +279,8 @@ image_ext y bytes =
 next_image_ext : (y : List ℕ) (least : ℕ) (bytes : List ℕ) → Follows y (next_image_at least bytes) (next_image_at least (bytes ++ y))
 next_image_ext y least bytes = ordered_ext y (λ p. leb least p.page) _ _ (image_ext y bytes)
 
-next_record_ext : (y : List ℕ) (last : Place) (bytes : List ℕ) → Follows y (next_record_at last bytes) (next_record_at last (bytes ++ y))
-next_record_ext y last bytes = ordered_ext y (λ r. is_above last (r.epoch, r.number)) _ _ (record_ext y bytes)
+next_record_ext : (y : List ℕ) (last : Key) (bytes : List ℕ) → Follows y (next_record_at last bytes) (next_record_at last (bytes ++ y))
+next_record_ext y last bytes = ordered_ext y (λ r. is_above last (key_of r)) _ _ (record_ext y bytes)
 
 delta_part_ext : (y : List ℕ) (many : Bool) (bytes : List ℕ) → Follows y (delta_part_at many bytes) (delta_part_at many (bytes ++ y))
 unfolding delta_part_at
@@ -288,7 +290,7 @@ delta_part_ext y many bytes =
     bind_ext y _ _ _ (shaped_ext y _ _ _ (number_ext y _ b2)) (λ page_count b3.
     bind_ext y _ _ _ (each_ext y next_image_at page_after (next_image_ext y) page_count 0 b3) (λ pages b4.
     bind_ext y _ _ _ (number_ext y _ b4) (λ record_count b5.
-    bind_ext y _ _ _ (each_ext y next_record_at record_place (next_record_ext y) record_count (0, 0) b5) (λ records b6. done y _ _))))))
+    bind_ext y _ _ _ (each_ext y next_record_at record_place (next_record_ext y) record_count (key_in 0 0) b5) (λ records b6. done y _ _))))))
 
 delta_ext : (y bytes : List ℕ) → Follows y (delta_at bytes) (delta_at (bytes ++ y))
 unfolding delta_at
@@ -304,7 +306,7 @@ records_content_ext : (y bytes : List ℕ) → Follows y (records_content_at byt
 unfolding records_content_at
 records_content_ext y bytes =
     bind_ext y _ _ _ (shaped_ext y _ _ _ (byte_ext y bytes)) (λ count b1.
-    bind_ext y _ _ _ (each_ext y next_record_at record_place (next_record_ext y) count (0, 0) b1) (λ records b2. done y _ _))
+    bind_ext y _ _ _ (each_ext y next_record_at record_place (next_record_ext y) count (key_in 0 0) b1) (λ records b2. done y _ _))
 
 content_ext : (y : List ℕ) (many : Bool) (kind : ℕ) (bytes : List ℕ) → Follows y (content_at many kind bytes) (content_at many kind (bytes ++ y))
 unfolding content_at

@@ -3,10 +3,12 @@ use Rattle.std.proofs.Common.{◌≡◌, ℕ, ◌+◌, ◌<◌, ◌≤◌, ◌�
 use Rattle.std.specs.List.{AllByRecursion}
 use Rattle.std.proofs.lemmas.Bool.{ltb-true, leb-true, eqb-true, lt-ltb, le-leb, eq-eqb, and_parts, and_from, or_cases, or_left, or_right, cases_lt}
 use Rattle.redo_core.specs.Data.{AdvanceData}
+use Rattle.redo_core.specs.Keys.{key_in, KeyBefore}
+use Rattle.redo_core.specs.declared.keys.Key.{Key}
 use Rattle.redo_core.specs.Order.{IsRising, PairBefore, CutBefore, AdvanceBefore}
 use Rattle.redo_core.specs.Meaning.{ImageBefore}
 use Rattle.redo_core.proofs.Pairs.{pair_trans}
-use Rattle.redo_wire.specs.Places.{Place, is_above, WaitPlace, is_wait_above}
+use Rattle.redo_wire.specs.Places.{is_pair_above, is_above, WaitPlace, is_wait_above}
 use Rattle.redo_wire.proofs.ListReaders.{EachFrom}
 
 pub All-weaker : {X : Type 0} (P Q : X → Type 0) → ((x : X) → P x → Q x) → (xs : List X) → AllByRecursion P xs → AllByRecursion Q xs
@@ -61,32 +63,32 @@ image_tests = record {
   through = λ s x y e lt. let least : s ≤ x.page = leb-true _ _ e in le-leb _ _ (omega arith);
 }
 
-pub pair_from_above : (p q : Place) → is_above p q ≡ true → PairBefore p.0 p.1 q.0 q.1
-pair_from_above p q e =
-    elim (or_cases (ltb p.0 q.0) _ e) [
+pub pair_from_above : (a b c d : ℕ) → is_pair_above a b c d ≡ true → PairBefore a b c d
+pair_from_above a b c d e =
+    elim (or_cases (ltb a c) _ e) [
       | inl lt ↦ inl (ltb-true _ _ lt)
-      | inr both ↦ let parts = and_parts (eqb p.0 q.0) (ltb p.1 q.1) both in inr (eqb-true _ _ parts.0, ltb-true _ _ parts.1)
+      | inr both ↦ let parts = and_parts (eqb a c) (ltb b d) both in inr (eqb-true _ _ parts.0, ltb-true _ _ parts.1)
     ]
 
-pub above_from_pair : (p q : Place) → PairBefore p.0 p.1 q.0 q.1 → is_above p q ≡ true
-above_from_pair p q h =
+pub above_from_pair : (a b c d : ℕ) → PairBefore a b c d → is_pair_above a b c d ≡ true
+above_from_pair a b c d h =
     elim h [
-      | inl lt ↦ or_left _ _ (lt-ltb p.0 q.0 lt)
-      | inr both ↦ or_right _ _ (and_from _ _ (eq-eqb p.0 q.0 both.0) (lt-ltb p.1 q.1 both.1))
+      | inl lt ↦ or_left _ _ (lt-ltb a c lt)
+      | inr both ↦ or_right _ _ (and_from _ _ (eq-eqb a c both.0) (lt-ltb b d both.1))
     ]
 
-pub place_tests : {A : Type 0} (epoch number : A → ℕ)
-    → Tests (λ last x. is_above last (epoch x, number x)) (λ x. (epoch x, number x)) (λ x y. PairBefore (epoch x) (number x) (epoch y) (number y))
-place_tests epoch number = record {
-  before = λ x y e. pair_from_above (epoch x, number x) (epoch y, number y) e;
-  passes = λ x y h. above_from_pair (epoch x, number x) (epoch y, number y) h;
-  through = λ s x y e h. above_from_pair s (epoch y, number y)
-      (pair_trans s.0 s.1 (epoch x) (number x) (epoch y) (number y) (pair_from_above s (epoch x, number x) e) h);
+pub key_tests : {A : Type 0} (key : A → Key) → Tests (λ last x. is_above last (key x)) key (λ x y. KeyBefore (key x) (key y))
+key_tests key = record {
+  before = λ x y e. pair_from_above (key x).epoch (key x).number (key y).epoch (key y).number e;
+  passes = λ x y h. above_from_pair (key x).epoch (key x).number (key y).epoch (key y).number h;
+  through = λ s x y e h. above_from_pair s.epoch s.number (key y).epoch (key y).number
+      (pair_trans s.epoch s.number (key x).epoch (key x).number (key y).epoch (key y).number
+      (pair_from_above s.epoch s.number (key x).epoch (key x).number e) h);
 }
 
--- (0, 0) is below each place with a number
-pub above_zero : (epoch number : ℕ) → 0 < number → is_above (0, 0) (epoch, number) ≡ true
-above_zero epoch number pos = above_from_pair (0, 0) (epoch, number) (elim (cases_lt 0 epoch) [ inl lt ↦ inl lt | inr le ↦ inr (omega (arith, le), pos) ])
+-- (0, 0) is below each key with a number
+pub above_zero : (k : Key) → 0 < k.number → is_above (key_in 0 0) k ≡ true
+above_zero k pos = above_from_pair 0 0 k.epoch k.number (elim (cases_lt 0 k.epoch) [ inl lt ↦ inl lt | inr le ↦ inr (omega (arith, le), pos) ])
 
 -- ---- the order of waiting advances
 
@@ -97,15 +99,15 @@ before_from_above : (p q : WaitPlace) → is_wait_above p q ≡ true → BeforeI
 before_from_above p q e =
     elim (or_cases (ltb p.0 q.0) _ e) [
       | inl lt ↦ inl (ltb-true _ _ lt)
-      | inr both ↦ let parts = and_parts (eqb p.0 q.0) (is_above (p.1, p.2) (q.1, q.2)) both in inr
-          (eqb-true _ _ parts.0, pair_from_above (p.1, p.2) (q.1, q.2) parts.1)
+      | inr both ↦ let parts = and_parts (eqb p.0 q.0) (is_pair_above p.1 p.2 q.1 q.2) both in inr
+          (eqb-true _ _ parts.0, pair_from_above p.1 p.2 q.1 q.2 parts.1)
     ]
 
 above_from_before : (p q : WaitPlace) → BeforeIn p q → is_wait_above p q ≡ true
 above_from_before p q h =
     elim h [
       | inl lt ↦ or_left _ _ (lt-ltb p.0 q.0 lt)
-      | inr both ↦ or_right _ _ (and_from _ _ (eq-eqb p.0 q.0 both.0) (above_from_pair (p.1, p.2) (q.1, q.2) both.1))
+      | inr both ↦ or_right _ _ (and_from _ _ (eq-eqb p.0 q.0 both.0) (above_from_pair p.1 p.2 q.1 q.2 both.1))
     ]
 
 abbrev pub place_of : AdvanceData → WaitPlace

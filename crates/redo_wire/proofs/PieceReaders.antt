@@ -4,6 +4,7 @@ use Rattle.std.specs.Prelude.{not, ◌&&◌}
 use Rattle.std.specs.List.{flat_map}
 use Rattle.std.proofs.lemmas.Bool.{ltb-true, leb-true, lt-ltb, le-leb, and_parts}
 use Rattle.redo_core.specs.Book.{BookData}
+use Rattle.redo_core.specs.Keys.{key_in, key_of}
 use Rattle.redo_core.specs.Data.{RecordData}
 use Rattle.redo_core.specs.Order.{RecordBefore}
 use Rattle.redo_core.specs.Meaning.{ImageData}
@@ -27,7 +28,7 @@ use Rattle.redo_wire.proofs.Readers.{IsBytes, bind_ok, ok_is, guard_true, shaped
 use Rattle.redo_wire.proofs.FieldReaders.{byte_reads, u32_reads, u48_reads, u64_reads}
 use Rattle.redo_wire.proofs.FormReaders.{form_then}
 use Rattle.redo_wire.proofs.ListReaders.{each_takes, each_again}
-use Rattle.redo_wire.proofs.Orders.{rising_from_each, place_tests}
+use Rattle.redo_wire.proofs.Orders.{rising_from_each, key_tests}
 use Rattle.messages.proofs.BookMins.{min_small}
 use Rattle.redo_wire.proofs.BookReaders.{book_reads}
 use Rattle.redo_wire.proofs.DeltaReaders.{IsNextRecord, next_record_reads, each_record, image_reads, read_image, written_page}
@@ -77,15 +78,15 @@ head_again many b anchor rest fits =
     ) refl
 
 records_steps : (bytes : List ℕ) (count : ℕ × List ℕ) (records : List RecordData × List ℕ) → IsBytes bytes → byte_at bytes ≡ Ok count
-    → (0 < count.0) × (count.0 ≤ 64) → each_at next_record_at record_place count.0 (0, 0) count.1 ≡ Ok records
+    → (0 < count.0) × (count.0 ≤ 64) → each_at next_record_at record_place count.0 (key_in 0 0) count.1 ≡ Ok records
     → let c = Records records.0 in Takes bytes (content_bytes false c) records.1 × IsRead false 2 c
 records_steps bytes count records fits e0 few e1 =
     let t0 = byte_reads.takes bytes count fits e0 in
-    let t1 = each_takes next_record_at record_place record_bytes IsNextRecord next_record_reads count.0 (0, 0) count.1 records t0.0.rest_fits e1 in
+    let t1 = each_takes next_record_at record_place record_bytes IsNextRecord next_record_reads count.0 (key_in 0 0) count.1 records t0.0.rest_fits e1 in
     let both = Takes-then bytes (count.0 ∷ []) count.1 (flat_map record_bytes records.0) records.1 t0.0 t1.0 in
     let len : length records.0 ≡ count.0 = t1.1 in
-    let rise = rising_from_each (λ last r. is_above last (r.epoch, r.number)) (λ (r : RecordData). (r.epoch, r.number)) RecordBefore IsWireRecord
-    (place_tests (λ (r : RecordData). r.epoch) (λ r. r.number)) (0, 0) records.0 t1.2 in
+    let rise = rising_from_each (λ last r. is_above last (key_of r)) key_of RecordBefore IsWireRecord
+    (key_tests key_of) (key_in 0 0) records.0 t1.2 in
     let some : 0 < length records.0 = rw len few.0 in
     let most : length records.0 ≤ 64 = rw len few.1 in
     (rw len both, record { kind_is = refl; many_is = refl; shape = (some, most, rise.1); wire = rise.2 })
@@ -96,7 +97,7 @@ unfolding records_content_at
 records_takes bytes x fits e =
     let a0 = bind_ok (shaped (λ n. ltb 0 n && leb n 64) (byte_at bytes)) _ x e in
     let s0 = shaped_ok (λ n. ltb 0 n && leb n 64) (byte_at bytes) a0.0 a0.1 in
-    let a1 = bind_ok (each_at next_record_at record_place a0.0.0 (0, 0) a0.0.1) _ x a0.2 in
+    let a1 = bind_ok (each_at next_record_at record_place a0.0.0 (key_in 0 0) a0.0.1) _ x a0.2 in
     let rules = and_parts _ _ s0.1 in
     let made : PieceContent × List ℕ = (Records a1.0.0, a1.0.1) in
     subst (λ (y : PieceContent × List ℕ). Takes bytes (content_bytes false y.0) y.1 × IsRead false 2 y.0) (ok_is made x a1.2)
@@ -113,7 +114,7 @@ records_again rs rest fits =
     ∙ rw (
       lt-ltb 0 (length rs) some,
       le-leb (length rs) 64 most,
-      each_again next_record_at record_place record_bytes IsNextRecord next_record_reads rs (0, 0) rest (each_record rs fits.shape.2 fits.wire),
+      each_again next_record_at record_place record_bytes IsNextRecord next_record_reads rs (key_in 0 0) rest (each_record rs fits.shape.2 fits.wire),
     ) refl
 
 page_takes : (bytes : List ℕ) (x : PieceContent × List ℕ) → IsBytes bytes → mapped Page (image_at bytes) ≡ Ok x

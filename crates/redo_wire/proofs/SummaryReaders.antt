@@ -2,24 +2,24 @@
 use Rattle.std.proofs.Common.{◌≡◌, ℕ, ◌^◌, ◌<◌, ◌≤◌, Bool, ltb, leb, true, List, ◌++◌, length, Ok, refl, ap, subst, ◌∙◌, append_assoc, arith}
 use Rattle.std.specs.List.{flat_map}
 use Rattle.std.proofs.lemmas.Bool.{ltb-true, leb-true, lt-ltb, le-leb}
-use Rattle.messages.specs.declared.keys.Key.{Key}
 use Rattle.redo_wire.specs.Reading.{shaped}
 use Rattle.redo_wire.specs.Fields.{u16_at, u32_at, u48_at, u16, u32, u48}
 use Rattle.redo_wire.specs.Lists.{each_at}
-use Rattle.redo_wire.specs.Places.{Place, is_above}
+use Rattle.redo_wire.specs.Places.{is_above}
 use Rattle.redo_core.specs.Book.{BookData}
+use Rattle.redo_core.specs.Keys.{key_in, KeyBefore, IsKey}
+use Rattle.redo_core.specs.declared.keys.Key.{Key}
 use Rattle.messages.specs.Books.{book_min, has_many}
 use Rattle.redo_wire.specs.Books.{book_bytes}
 use Rattle.redo_wire.specs.BookReading.{book_at}
 use Rattle.messages.specs.Summaries.{SummaryData, summary_of, IsSummary}
-use Rattle.messages.specs.Keys.{KeyBefore, IsKey}
 use Rattle.redo_wire.specs.Summaries.{IsWireSummary, key_bytes, summary_part_bytes, summary_bytes}
 use Rattle.redo_wire.specs.SummaryReading.{key_at, key_place, next_key_at, summary_part_at, summary_at}
 use Rattle.redo_wire.proofs.Readers.{IsBytes, bind_ok, ok_is, shaped_ok, Takes, Takes-then, Reads, ordered_reads}
 use Rattle.redo_wire.proofs.FieldReaders.{u16_reads, u32_reads, u48_reads}
 use Rattle.redo_wire.proofs.FormReaders.{form_then}
 use Rattle.redo_wire.proofs.ListReaders.{EachFrom, each_takes, each_again}
-use Rattle.redo_wire.proofs.Orders.{All-weaker, All-both, IsNext, rising_from_each, each_from_rising, place_tests, above_zero}
+use Rattle.redo_wire.proofs.Orders.{All-weaker, All-both, IsNext, rising_from_each, each_from_rising, key_tests, above_zero}
 use Rattle.messages.proofs.BookMins.{min_small}
 use Rattle.redo_wire.proofs.BookReaders.{book_reads}
 
@@ -28,8 +28,8 @@ use Rattle.redo_wire.proofs.BookReaders.{book_reads}
 abbrev pub IsWireKey : Key → Type 0
 IsWireKey k = IsKey k × (k.epoch < 2 ^ 16)
 
-abbrev pub IsNextKey : Place → Key → Type 0
-IsNextKey last k = IsNext (λ last k. is_above last (k.epoch, k.number)) IsWireKey last k
+abbrev pub IsNextKey : Key → Key → Type 0
+IsNextKey last k = IsNext (λ last k. is_above last k) IsWireKey last k
 
 key_takes : (bytes : List ℕ) (x : Key × List ℕ) → IsBytes bytes → key_at bytes ≡ Ok x → Takes bytes (key_bytes x.0) x.1 × IsWireKey x.0
 unfolding key_at
@@ -52,26 +52,26 @@ key_again k rest fits =
     ap key_at regrouped
     ∙ rw (u16_reads.again k.epoch (u48 k.number ++ rest) fits.1, u48_reads.again k.number rest (omega (arith, small)), lt-ltb 0 k.number fits.0.0) refl
 
-next_key_reads : (last : Place) → Reads (next_key_at last) key_bytes (IsNextKey last)
-next_key_reads last = ordered_reads (λ k. is_above last (k.epoch, k.number)) key_at key_bytes IsWireKey (record { takes = key_takes; again = key_again })
+next_key_reads : (last : Key) → Reads (next_key_at last) key_bytes (IsNextKey last)
+next_key_reads last = ordered_reads (λ k. is_above last k) key_at key_bytes IsWireKey (record { takes = key_takes; again = key_again })
 
 -- ---- summaries
 
 pub summary_steps : (many : Bool) (bytes : List ℕ) (b : BookData × List ℕ) (anchor key_count : ℕ × List ℕ) (keys : List Key × List ℕ) → IsBytes bytes
     → book_at many bytes ≡ Ok b → u48_at b.1 ≡ Ok anchor → anchor.0 ≤ book_min b.0 → u32_at anchor.1 ≡ Ok key_count
-    → each_at next_key_at key_place key_count.0 (0, 0) key_count.1 ≡ Ok keys
+    → each_at next_key_at key_place key_count.0 (key_in 0 0) key_count.1 ≡ Ok keys
     → let s = summary_of b.0 anchor.0 keys.0 in Takes bytes (summary_part_bytes many s) keys.1 × (IsWireSummary s × (has_many b.0 ≡ many))
 summary_steps many bytes b anchor key_count keys fits e0 e1 low e2 e3 =
     let t0 = (book_reads many).takes bytes b fits e0 in
     let t1 = u48_reads.takes b.1 anchor t0.0.rest_fits e1 in
     let t2 = u32_reads.takes anchor.1 key_count t1.0.rest_fits e2 in
-    let t3 = each_takes next_key_at key_place key_bytes IsNextKey next_key_reads key_count.0 (0, 0) key_count.1 keys t2.0.rest_fits e3 in
+    let t3 = each_takes next_key_at key_place key_bytes IsNextKey next_key_reads key_count.0 (key_in 0 0) key_count.1 keys t2.0.rest_fits e3 in
     let p1 = Takes-then bytes (book_bytes many b.0) b.1 (u48 anchor.0) anchor.1 t0.0 t1.0 in
     let p2 = Takes-then bytes (book_bytes many b.0 ++ u48 anchor.0) anchor.1 (u32 key_count.0) key_count.1 p1 t2.0 in
     let p3 = Takes-then bytes (book_bytes many b.0 ++ u48 anchor.0 ++ u32 key_count.0) key_count.1 (flat_map key_bytes keys.0) keys.1 p2 t3.0 in
     let key_len : length keys.0 ≡ key_count.0 = t3.1 in
-    let rising = rising_from_each (λ last k. is_above last (k.epoch, k.number)) (λ (k : Key). (k.epoch, k.number)) KeyBefore IsWireKey
-    (place_tests (λ (k : Key). k.epoch) (λ k. k.number)) (0, 0) keys.0 t3.2 in
+    let rising = rising_from_each (λ last k. is_above last k) (λ (k : Key). k) KeyBefore IsWireKey
+    (key_tests (λ (k : Key). k)) (key_in 0 0) keys.0 t3.2 in
     let shape : IsSummary (summary_of b.0 anchor.0 keys.0) = record
     { book = t0.1.0.shape; anchor = low; keys = rising.1; each_key = All-weaker IsWireKey IsKey (λ k w. w.0) keys.0 rising.2 } in (
       rw key_len p3,
@@ -94,17 +94,17 @@ summary_part_takes many bytes x fits e =
     let a1 = bind_ok (shaped (λ a. leb a (book_min a0.0.0)) (u48_at a0.0.1)) _ x a0.2 in
     let s1 = shaped_ok (λ a. leb a (book_min a0.0.0)) (u48_at a0.0.1) a1.0 a1.1 in
     let a2 = bind_ok (u32_at a1.0.1) _ x a1.2 in
-    let a3 = bind_ok (each_at next_key_at key_place a2.0.0 (0, 0) a2.0.1) _ x a2.2 in
+    let a3 = bind_ok (each_at next_key_at key_place a2.0.0 (key_in 0 0) a2.0.1) _ x a2.2 in
     let made : SummaryData × List ℕ = (summary_of a0.0.0 a1.0.0 a3.0.0, a3.0.1) in
     subst (λ (y : SummaryData × List ℕ). Takes bytes (summary_part_bytes many y.0) y.1 × (IsWireSummary y.0 × (has_many y.0.book ≡ many)))
     (ok_is made x a3.2) (summary_steps many bytes a0.0 a1.0 a2.0 a3.0 fits a0.1 s1.0 (leb-true _ _ s1.1) a2.1 a3.1)
 
-each_key : (s : SummaryData) → IsWireSummary s → EachFrom IsNextKey key_place (0, 0) s.keys
+each_key : (s : SummaryData) → IsWireSummary s → EachFrom IsNextKey key_place (key_in 0 0) s.keys
 each_key s wire =
     let all = All-both IsKey (λ k. k.epoch < 2 ^ 16) s.keys wire.shape.each_key wire.each_key in
-    let first = All-weaker IsKey (λ k. is_above (0, 0) (k.epoch, k.number) ≡ true) (λ k i. above_zero k.epoch k.number i.0) s.keys wire.shape.each_key in
-    each_from_rising (λ last k. is_above last (k.epoch, k.number)) (λ (k : Key). (k.epoch, k.number)) KeyBefore IsWireKey
-    (place_tests (λ (k : Key). k.epoch) (λ k. k.number)) (0, 0) s.keys first wire.shape.keys all
+    let first = All-weaker IsKey (λ k. is_above (key_in 0 0) k ≡ true) (λ k i. above_zero k i.0) s.keys wire.shape.each_key in
+    each_from_rising (λ last k. is_above last k) (λ (k : Key). k) KeyBefore IsWireKey
+    (key_tests (λ (k : Key). k)) (key_in 0 0) s.keys first wire.shape.keys all
 
 summary_part_again : (many : Bool) (s : SummaryData) (rest : List ℕ) → IsWireSummary s × (has_many s.book ≡ many)
     → summary_part_at many (summary_part_bytes many s ++ rest) ≡ Ok (s, rest)
@@ -126,7 +126,7 @@ summary_part_again many s rest fits =
           (book_min s.book) low,
       u32_reads.again (length s.keys) z2 wire.key_count,
       each_again next_key_at key_place key_bytes IsNextKey next_key_reads s.keys
-          (0, 0) rest (each_key s wire),
+          (key_in 0 0) rest (each_key s wire),
     ) refl
 
 summary_part_reads : (many : Bool) → Reads (summary_part_at many) (summary_part_bytes many) (λ s. IsWireSummary s × (has_many s.book ≡ many))

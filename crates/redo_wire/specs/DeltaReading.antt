@@ -2,6 +2,8 @@
 use Rattle.std.specs.Prelude.{ℕ, ◌+◌, Bool, not, List, Result, Ok, nat_lt, nat_le, ◌==◌, ◌||◌}
 use Rattle.std.specs.List.{list_any}
 use Rattle.redo_core.specs.Data.{RecordData}
+use Rattle.redo_core.specs.Keys.{key_in, key_of}
+use Rattle.redo_core.specs.declared.keys.Key.{Key}
 use Rattle.redo_core.specs.Meaning.{ImageData}
 use Rattle.redo_wire.specs.declared.faults.WireFault.{WireFault}
 use Rattle.redo_wire.specs.Reading.{◌>>=◌, Read, shaped, ordered, whole}
@@ -10,7 +12,7 @@ use Rattle.redo_wire.specs.Lists.{each_at}
 use Rattle.redo_core.specs.Shape.{page_len}
 use Rattle.redo_wire.specs.Tags.{delta_tag, roster_delta_tag}
 use Rattle.redo_wire.specs.Forms.{form_at}
-use Rattle.redo_wire.specs.Places.{Place, is_above}
+use Rattle.redo_wire.specs.Places.{is_above}
 use Rattle.redo_wire.specs.RecordReading.{record_at}
 use Rattle.messages.specs.Books.{book_min}
 use Rattle.redo_wire.specs.BookReading.{book_at}
@@ -37,11 +39,11 @@ page_after least p = p.page + 1
 abbrev pub next_image_at : ℕ → List ℕ → Read ImageData
 next_image_at least bytes = ordered (λ p. nat_le least p.page) (image_at bytes)
 
-abbrev pub record_place : Place → RecordData → Place
-record_place last r = (r.epoch, r.number)
+abbrev pub record_place : Key → RecordData → Key
+record_place last r = key_of r
 
-abbrev pub next_record_at : Place → List ℕ → Read RecordData
-next_record_at last bytes = ordered (λ r. is_above last (r.epoch, r.number)) (record_at bytes)
+abbrev pub next_record_at : Key → List ℕ → Read RecordData
+next_record_at last bytes = ordered (λ r. is_above last (key_of r)) (record_at bytes)
 
 -- a delta behind its tag, in the form for one reader or for several
 unfoldable pub delta_part_at : Bool → List ℕ → Read DeltaData
@@ -51,7 +53,7 @@ delta_part_at many bytes = do
   page_count ← shaped (λ n. may_have base.0 n) (u32_at base.1)
   pages ← each_at next_image_at page_after page_count.0 0 page_count.1
   record_count ← u32_at pages.1
-  records ← each_at next_record_at record_place record_count.0 (0, 0) record_count.1
+  records ← each_at next_record_at record_place record_count.0 (key_in 0 0) record_count.1
   Ok (delta_of book.0 base.0 pages.0 records.0, records.1)
 
 unfoldable pub delta_at : List ℕ → Read DeltaData

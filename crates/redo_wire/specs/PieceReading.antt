@@ -12,6 +12,7 @@ use Rattle.redo_wire.specs.Forms.{form_at}
 use Rattle.messages.specs.Books.{book_min}
 use Rattle.redo_wire.specs.BookReading.{book_at}
 use Rattle.redo_wire.specs.DeltaReading.{image_at, next_record_at, record_place}
+use Rattle.redo_core.specs.Keys.{key_in}
 
 -- the last of the kinds, which are numbered from the head on; for several readers there are heads alone
 abbrev pub last_kind : Bool → ℕ
@@ -31,7 +32,7 @@ head_content_at many bytes = do
 unfoldable pub records_content_at : List ℕ → Read PieceContent
 records_content_at bytes = do
   count ← shaped (λ n. nat_lt 0 n && nat_le n max_batch) (byte_at bytes)
-  records ← each_at next_record_at record_place count.0 (0, 0) count.1
+  records ← each_at next_record_at record_place count.0 (key_in 0 0) count.1
   Ok (Records records.0, records.1)
 
 -- what a piece of a kind brings

@@ -1,7 +1,6 @@
 -- Summaries: which have bytes, and the one spelling of each.
 use Rattle.std.specs.Prelude.{◌≡◌, ℕ, ◌<◌, ◌^◌, Bool, List, ◌++◌, length, nat_le, ◌||◌}
 use Rattle.std.specs.List.{AllByRecursion, flat_map}
-use Rattle.messages.specs.declared.keys.Key.{Key}
 use Rattle.messages.specs.Books.{has_many}
 use Rattle.messages.specs.Summaries.{SummaryData, IsSummary}
 use Rattle.redo_wire.specs.Fields.{u16, u32, u48}
@@ -9,6 +8,7 @@ use Rattle.redo_wire.specs.Limits.{count32_end}
 use Rattle.redo_wire.specs.Tags.{summary_tag, roster_summary_tag}
 use Rattle.redo_wire.specs.Forms.{form_bytes}
 use Rattle.redo_wire.specs.Books.{IsWireBook, is_long_book, book_bytes}
+use Rattle.redo_core.specs.declared.keys.Key.{Key}
 
 -- Its elements have the fields that their types hold, and its lists are no longer than their count fields hold.
 pub record IsWireSummary (s : SummaryData) : Type 0 where

@@ -10,7 +10,7 @@ use crate::fields::{put_u16, put_u48, read_u16, read_u48};
 use crate::lists::{ListReader, ListWriter};
 use crate::places::is_above;
 use bytes::BytesMut;
-use messages::Key;
+use redo_core::Key;
 use std::alloc::{AllocError, Global};
 
 /// Keys by epoch and number.
@@ -22,8 +22,8 @@ impl ListReader for KeyList {
 
     type Item = Key;
 
-    /// The epoch and number of the key before.
-    type State = (u16, u64);
+    /// The key before.
+    type State = Key;
 
     ghost step = { λ _. next_key_at };
 
@@ -31,15 +31,15 @@ impl ListReader for KeyList {
 
     fn read_next(
         self,
-        last: (u16, u64),
+        last: Key,
         _alloc: Global,
         bytes: &[u8],
     ) -> Result<(Key, &[u8]), WireError> {
         read_next_key(last, bytes)
     }
 
-    fn state_after(self, _last: (u16, u64), key: &Key) -> (u16, u64) {
-        (key.epoch, key.number)
+    fn state_after(self, _last: Key, key: &Key) -> Key {
+        *key
     }
 }
 
@@ -72,11 +72,11 @@ fn read_key(bytes: &[u8]) -> Result<(Key, &[u8]), WireError>
     Ok((Key { epoch, number }, rest))
 }
 
-fn read_next_key(last: (u16, u64), bytes: &[u8]) -> Result<(Key, &[u8]), WireError>
+fn read_next_key(last: Key, bytes: &[u8]) -> Result<(Key, &[u8]), WireError>
     ensures { Gives (λ x. (x.0, x.1.now)) result (next_key_at last bytes.now) }
 {
     let (key, rest) = read_key(bytes)?;
-    if !is_above(last, (key.epoch, key.number)) {
+    if !is_above(last, key) {
         return Err(WireError::Fault(WireFault::Order));
     }
     Ok((key, rest))

@@ -36,7 +36,7 @@ mod values;
 pub use deltas::{decode_delta, encode_delta};
 pub use facts::{decode_fact, encode_fact};
 pub use faults::{WireError, WireFault};
-pub use messages::{Book, Delta, Key, PageImage, Piece, PieceContent, RecordBatch, Summary};
+pub use messages::{Book, Delta, PageImage, Piece, PieceContent, RecordBatch, Summary};
 pub use pieces::{decode_piece, encode_piece};
 pub use summaries::{decode_summary, encode_summary};
 pub use values::{WireValue, decode_value};

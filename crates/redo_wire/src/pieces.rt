@@ -24,7 +24,7 @@ use crate::record_lists::{RECORD_SIZE, RecordList};
 use crate::tags;
 use bytes::{BufMut, BytesMut};
 use messages::{Book, MAX_BATCH, Piece, PieceContent, RecordBatch};
-use redo_core::Record;
+use redo_core::{Key, Record};
 use std::alloc::{AllocError, Global};
 
 /// The piece that the bytes spell, all of them.
@@ -96,7 +96,7 @@ fn read_records_content(alloc: Global, bytes: &[u8]) -> Result<(PieceContent, &[
     if !is_batch_size(count) {
         return Err(WireError::Fault(WireFault::Shape));
     }
-    let (records, rest) = read_list(RecordList, (0, 0), RECORD_SIZE, count, alloc, rest)?;
+    let (records, rest) = read_list(RecordList, Key { epoch: 0, number: 0 }, RECORD_SIZE, count, alloc, rest)?;
     Ok((PieceContent::Records(RecordBatch::new(records)), rest))
 }
 

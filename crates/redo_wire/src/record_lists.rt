@@ -8,7 +8,7 @@ use crate::lists::{ListReader, ListWriter};
 use crate::places::is_above;
 use crate::records::{put_record, read_record};
 use bytes::BytesMut;
-use redo_core::Record;
+use redo_core::{Key, Record};
 use std::alloc::{AllocError, Global};
 use std::mem::size_of;
 
@@ -24,8 +24,8 @@ impl ListReader for RecordList {
 
     type Item = Record;
 
-    /// The epoch and number of the record before.
-    type State = (u16, u64);
+    /// The key of the record before.
+    type State = Key;
 
     ghost step = { λ _. next_record_at };
 
@@ -33,15 +33,15 @@ impl ListReader for RecordList {
 
     fn read_next(
         self,
-        last: (u16, u64),
+        last: Key,
         alloc: Global,
         bytes: &[u8],
     ) -> Result<(Record, &[u8]), WireError> {
         read_next_record(alloc, last, bytes)
     }
 
-    fn state_after(self, _last: (u16, u64), redo: &Record) -> (u16, u64) {
-        (redo.epoch(), redo.number())
+    fn state_after(self, _last: Key, redo: &Record) -> Key {
+        redo.key()
     }
 }
 
@@ -61,13 +61,13 @@ impl ListWriter for RecordList {
 
 fn read_next_record(
     alloc: Global,
-    last: (u16, u64),
+    last: Key,
     bytes: &[u8],
 ) -> Result<(Record, &[u8]), WireError>
     ensures { Gives (λ x. (x.0, x.1.now)) result (next_record_at last bytes.now) }
 {
     let (record, rest) = read_record(alloc, bytes)?;
-    if !is_above(last, (record.epoch(), record.number())) {
+    if !is_above(last, record.key()) {
         return Err(WireError::Fault(WireFault::Order));
     }
     Ok((record, rest))

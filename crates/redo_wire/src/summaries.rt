@@ -17,7 +17,8 @@ use crate::limits::COUNT32_END;
 use crate::lists::{put_list, read_list};
 use crate::tags;
 use bytes::BytesMut;
-use messages::{Key, Summary};
+use messages::Summary;
+use redo_core::Key;
 use std::alloc::{AllocError, Global};
 use std::mem::size_of;
 
@@ -74,7 +75,7 @@ fn read_summary_part(
         return Err(WireError::Fault(WireFault::Shape));
     }
     let (count, rest) = read_u32(rest)?;
-    let (keys, rest) = read_list(KeyList, (0, 0), KEY_SIZE, count as usize, alloc, rest)?;
+    let (keys, rest) = read_list(KeyList, Key { epoch: 0, number: 0 }, KEY_SIZE, count as usize, alloc, rest)?;
     Ok((Summary::new(book, anchor, keys), rest))
 }
 

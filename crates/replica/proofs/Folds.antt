@@ -4,9 +4,9 @@ use Rattle.redo_core.specs.PageAt.{IsPageAt}
 use Rattle.redo_core.specs.Position.{Position}
 use Rattle.redo_core.specs.Sound.{IsSound}
 use Rattle.redo_core.specs.declared.facts.Fact.{Fact}
-use Rattle.segment_state.specs.State.{State}
-use Rattle.segment_state.specs.Means.{Means, MeansAt}
-use Rattle.segment_state.specs.Promises.{KeepsMeaning, KeepsMeaningWith, IsFinalPage}
+use Rattle.state_laws.specs.State.{State}
+use Rattle.state_laws.specs.Means.{Means, MeansAt}
+use Rattle.state_laws.specs.Promises.{KeepsMeaning, KeepsMeaningWith, IsFinalPage}
 use Rattle.segment_core.specs.Folding.{IsFoldOf}
 use Rattle.segment_core.specs.declared.fold_plan.Folded.{Folded}
 use Rattle.segment_core.proofs.Finality.{fold_is_final}

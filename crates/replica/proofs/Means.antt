@@ -6,10 +6,10 @@ use Rattle.redo_core.specs.declared.facts.Fact.{Fact}
 use Rattle.redo_core.specs.declared.refusal.Refused.{Refused}
 use Rattle.messages.specs.Summaries.{SummaryData}
 use Rattle.messages.specs.Deltas.{DeltaData}
-use Rattle.segment_state.specs.State.{State, empty_state}
-use Rattle.segment_state.specs.Means.{Means}
-use Rattle.segment_state.specs.Promises.{TakesFact, KeepsMeaning}
-use Rattle.segment_state.proofs.Bare.{empty_means}
+use Rattle.state_laws.specs.State.{State, empty_state}
+use Rattle.state_laws.specs.Means.{Means}
+use Rattle.state_laws.specs.Promises.{TakesFact, KeepsMeaning}
+use Rattle.state_laws.proofs.Bare.{empty_means}
 use Rattle.segment_core.specs.declared.answers.ReadFault.{ReadFault}
 use Rattle.segment_core.specs.declared.answers.Refusal.{Refusal}
 use Rattle.segment_core.specs.declared.answers.Refusal.TheVariants as refusal

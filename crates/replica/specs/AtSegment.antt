@@ -1,20 +1,19 @@
 -- What the requests to a segment do, over any facts: each reply, and each new state, is that of the call below.
 use Rattle.std.specs.Prelude.{◌≡◌, ℕ, ◌<◌, ◌⊎◌, List, [], length, Option, Some, Result, Ok, Err, IfOk, IfErr, OnOk, OnErr, MatchOption}
-use Rattle.std.specs.Option.{option_map}
 use Rattle.redo_core.specs.Data.{CutData, RecordData}
+use Rattle.redo_core.specs.declared.keys.Key.{Key}
 use Rattle.redo_core.specs.Position.{Position}
 use Rattle.redo_core.specs.Sound.{IsSound}
 use Rattle.redo_core.specs.declared.facts.Fact.{Fact}
 use Rattle.redo_core.specs.declared.facts.Fact.TheVariants.{Cut}
 use Rattle.redo_core.specs.declared.refusal.Refused.{Refused}
-use Rattle.messages.specs.declared.keys.Key.{Key}
 use Rattle.hot_log.specs.Held.{IsKeyAfter, IsRecordAt}
 use Rattle.hot_log.specs.Kept.{ListsKeysOf}
-use Rattle.segment_state.specs.State.{State, version_of, empty_state, min_of}
-use Rattle.segment_state.specs.Means.{MeansAt}
-use Rattle.segment_state.specs.HasMeaning.{HasComplete, HasAnchor, IsKeptBy}
-use Rattle.segment_state.specs.Shows.{Shows}
-use Rattle.segment_state.specs.Promises.{KeepsMeaning}
+use Rattle.state_laws.specs.State.{State, version_of, empty_state, min_of}
+use Rattle.state_laws.specs.Means.{MeansAt}
+use Rattle.state_laws.specs.HasMeaning.{HasComplete, HasAnchor, IsKeptBy}
+use Rattle.state_laws.specs.Shows.{Shows}
+use Rattle.state_laws.specs.Promises.{KeepsMeaning}
 use Rattle.segment_core.specs.Exactly.{TakesExactly}
 use Rattle.segment_core.specs.Folding.{PlansFold, Commits}
 use Rattle.segment_core.specs.Forgetting.{DiscardsJust, Tidies, HoldsJustKept, IsSoundState, TellsFirstBreak, RefusesTidy}
@@ -80,7 +79,7 @@ pub record IsStatusOf (s : State) (status : Status) : Type 0 where
   pub anchor : HasAnchor s status.anchor
   pub base : status.base ≡ s.base
   pub held : status.held ≡ length s.held
-  pub kept : (keys : List (ℕ × ℕ)) × ListsKeysOf (IsKeptBy s status.anchor) keys × (status.kept ≡ length keys)
+  pub kept : (keys : List Key) × ListsKeysOf (IsKeptBy s status.anchor) keys × (status.kept ≡ length keys)
   pub images : status.images ≡ length s.store.images
   pub truncations : status.truncations ≡ length s.book.cuts
   pub waiting : status.waiting ≡ length s.book.waits
@@ -135,16 +134,12 @@ pub record TidiesUp (old : Cached) (told : Reply) (new : Cached) : Type 0 where
   pub pages : new.pages ≡ old.pages
   pub is : told ≡ tidied_reply answer
 
--- the epoch and number of a key
-abbrev pub pair_of : Key → ℕ × ℕ
-pair_of key = (key.epoch, key.number)
-
 -- the record is told, or there was no memory for a copy
-abbrev pub TellsRecord : State → ℕ × ℕ → Reply → Type 0
-TellsRecord s key told = (r : RecordData) × IsRecordAt s.held key.0 key.1 (Some r) × ((told ≡ reply.Next r) ⊎ (told ≡ reply.Memory))
+abbrev pub TellsRecord : State → Key → Reply → Type 0
+TellsRecord s key told = (r : RecordData) × IsRecordAt s.held key (Some r) × ((told ≡ reply.Next r) ⊎ (told ≡ reply.Memory))
 
 -- the held record of the least key above the one given
 pub record TellsNext (s : State) (after : Option Key) (told : Reply) : Type 0 where
-  pub key : Option (ℕ × ℕ)
-  pub least : IsKeyAfter s.held (option_map pair_of after) key
+  pub key : Option Key
+  pub least : IsKeyAfter s.held after key
   pub is : MatchOption key (told ≡ reply.NoNext) (λ k. TellsRecord s k told)

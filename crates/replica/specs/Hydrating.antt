@@ -2,7 +2,7 @@
 use Rattle.std.specs.Prelude.{◌≡◌, ℕ, ◌<◌, ◌≤◌, ◌⊎◌, ◌↔◌, [], Option, Some, None, Result, Ok, Err, IfOk, IfErr}
 use Rattle.messages.specs.Pieces.{PieceData}
 use Rattle.hot_log.specs.Found.{IsLeast}
-use Rattle.segment_state.specs.State.{State}
+use Rattle.state_laws.specs.State.{State}
 use Rattle.read_cache.specs.Cached.{Cached, cached}
 use Rattle.hydration.specs.Snapshots.{SnapshotData, Freezes, IsPieceOf, max_total}
 use Rattle.hydration.specs.Stagings.{StagingData, staging_of, Adds, RefusesPiece, IsMissingPiece, IsStaging}

@@ -7,9 +7,9 @@ use Rattle.redo_core.specs.Sound.{IsSound}
 use Rattle.redo_core.specs.declared.facts.Fact.{Fact}
 use Rattle.messages.specs.Summaries.{SummaryData}
 use Rattle.messages.specs.Deltas.{DeltaData}
-use Rattle.segment_state.specs.State.{State}
-use Rattle.segment_state.specs.Means.{Means}
-use Rattle.segment_state.specs.Gossip.{Fills}
+use Rattle.state_laws.specs.State.{State}
+use Rattle.state_laws.specs.Means.{Means}
+use Rattle.state_laws.specs.Gossip.{Fills}
 use Rattle.gossip_core.specs.Answering.{listing_of}
 use Rattle.gossip_core.specs.Absorbing.{filling_of}
 use Rattle.hydration.specs.Snapshots.{SnapshotData}

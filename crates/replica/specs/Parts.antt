@@ -1,6 +1,6 @@
 -- What a replica has.
 use Rattle.std.specs.Prelude.{◌≡◌, ℕ, [], Option, None}
-use Rattle.segment_state.specs.State.{empty_state}
+use Rattle.state_laws.specs.State.{empty_state}
 use Rattle.read_cache.specs.Cached.{Cached, cached}
 use Rattle.hydration.specs.Snapshots.{SnapshotData}
 use Rattle.hydration.specs.Stagings.{StagingData}

@@ -2,16 +2,14 @@
 ghost use Rattle.std.specs.Prelude.{◌≡◌, [], IfOk};
 ghost use Rattle.read_cache.specs.Cached.{cached as cached_of};
 ghost use Rattle.replica.specs.Refused.{IsRefusal};
-ghost use Rattle.std.specs.Option.{option_map};
 ghost use Rattle.hot_log.specs.Held.{HoldsKey};
 ghost use Rattle.replica.specs.AtSegment.{Opens, Takes, Fronts, TellsGap, IsStatusOf, TellsStatus, Reads, Folds, Discards, TidiesUp};
-ghost use Rattle.replica.specs.AtSegment.{pair_of as pair_of_key, TellsRecord, TellsNext};
+ghost use Rattle.replica.specs.AtSegment.{TellsRecord, TellsNext};
 
 use crate::replies::{Reply, Status};
 use crate::replying::{fault_reply, gap_reply, read_reply, taken_reply, tidied_reply};
-use messages::Key;
 use read_cache::CachedSegment;
-use redo_core::{Fact, Roster};
+use redo_core::{Fact, Key, Roster};
 use segment_core::{CommitFault, Segment};
 use std::alloc::AllocError;
 
@@ -137,27 +135,18 @@ pub fn tidy(cached: &mut CachedSegment) -> Reply
 pub fn next(segment: &Segment, after: Option<Key>) -> Reply
     ensures tells { TellsNext segment.now after result }
 {
-    match segment.key_after(pair_of(after)) {
+    match segment.key_after(after) {
         Some(key) => tell(segment, key),
         None => Reply::NoNext,
     }
 }
 
-fn pair_of(key: Option<Key>) -> Option<(u16, u64)>
-    ensures { result ≡ option_map pair_of_key key }
-{
-    match key {
-        Some(key) => Some((key.epoch, key.number)),
-        None => None,
-    }
-}
-
 /// Tells the held record of a key.
-fn tell(segment: &Segment, key: (u16, u64)) -> Reply
-    requires { HoldsKey segment.now.held key.0 key.1 }
+fn tell(segment: &Segment, key: Key) -> Reply
+    requires { HoldsKey segment.now.held key }
     ensures { TellsRecord segment.now key result }
 {
-    let Some(redo) = segment.get(key.0, key.1) else {
+    let Some(redo) = segment.get(key) else {
         unreachable!();
     };
     match redo.copy() {

@@ -1,5 +1,5 @@
-use messages::{Delta, Key, Piece, Summary};
-use redo_core::{Fact, Roster};
+use messages::{Delta, Piece, Summary};
+use redo_core::{Fact, Key, Roster};
 
 /// What a replica is asked.
 #[derive(Debug, Drop)]

@@ -1,7 +1,7 @@
 use crate::keeping::Kept;
 use crate::row::Row;
-use redo_core::Roster;
-use redo_wire::{Key, decode_piece};
+use redo_core::{Key, Roster};
+use redo_wire::decode_piece;
 use replica::Request;
 use row_words::{byte, long, nth, short};
 use script_text::read_facts;

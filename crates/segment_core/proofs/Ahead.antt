@@ -25,12 +25,12 @@ use Rattle.hot_log.proofs.Chain.{Link, link_cases}
 use Rattle.hot_log.proofs.Forks.{link_trans}
 use Rattle.hot_log.proofs.Hanging.{hangs_one}
 use Rattle.hot_log.proofs.Views.{view_of, one_number}
-use Rattle.segment_state.specs.State.{State}
-use Rattle.segment_state.specs.Means.{MeansAt, IsInImage}
-use Rattle.segment_state.specs.HasMeaning.{IsLinkedIn, HasComplete}
-use Rattle.segment_state.proofs.Chains.{alive_on}
-use Rattle.segment_state.proofs.Own.{complete_of}
-use Rattle.segment_state.proofs.Reading.{alive_in_facts}
+use Rattle.state_laws.specs.State.{State}
+use Rattle.state_laws.specs.Means.{MeansAt, IsInImage}
+use Rattle.state_laws.specs.HasMeaning.{IsLinkedIn, HasComplete}
+use Rattle.state_laws.proofs.Chains.{alive_on}
+use Rattle.state_laws.proofs.Own.{complete_of}
+use Rattle.state_laws.proofs.Reading.{alive_in_facts}
 use Rattle.segment_core.specs.Form.{IsSegment}
 use Rattle.segment_core.specs.Gaps.{IsAhead, IsGapOf, IsAliveOf, AllLinked, LacksRecord, LacksTruncation, IsGapAt}
 use Rattle.segment_core.specs.declared.answers.Gap.{Gap}

@@ -17,9 +17,9 @@ use Rattle.hot_log.specs.Anew.{ListsAnew}
 use Rattle.hot_log.specs.Alive.{IsHeldAlive}
 use Rattle.hot_log.specs.Held.{IsHeld}
 use Rattle.hot_log.proofs.Views.{view_of, one_number}
-use Rattle.segment_state.specs.State.{State, version_of, image_of}
-use Rattle.segment_state.specs.Shows.{IsApplied, Shows}
-use Rattle.segment_state.proofs.Anew.{write_anew}
+use Rattle.state_laws.specs.State.{State, version_of, image_of}
+use Rattle.state_laws.specs.Shows.{IsApplied, Shows}
+use Rattle.state_laws.proofs.Anew.{write_anew}
 
 -- records from one with `init` on do not look at the page
 from_anew : (r : RecordData) (P : RecordData → Type 0) (xs : List RecordData) (i j : List ℕ) → P r → r.init ≡ true

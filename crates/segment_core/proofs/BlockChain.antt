@@ -19,12 +19,12 @@ use Rattle.redo_core.specs.Linked.Linked.{start as first, next}
 use Rattle.hot_log.specs.Held.{IsHeld}
 use Rattle.hot_log.specs.Alive.{IsHeldOf, IsLinkedHeld}
 use Rattle.hot_log.specs.Found.{IsLeastRecord, IsGreatestRecord, IsOnlyRecord}
-use Rattle.segment_state.specs.State.{State, state_of, Store, min_of, version_of}
-use Rattle.segment_state.specs.Means.{MeansAt}
-use Rattle.segment_state.specs.Shows.{IsApplied}
-use Rattle.segment_state.specs.HasMeaning.{IsLinkedIn}
-use Rattle.segment_state.proofs.Chains.{whole_block_chains}
-use Rattle.segment_state.proofs.Reading.{held_of, links_law}
+use Rattle.state_laws.specs.State.{State, state_of, Store, min_of, version_of}
+use Rattle.state_laws.specs.Means.{MeansAt}
+use Rattle.state_laws.specs.Shows.{IsApplied}
+use Rattle.state_laws.specs.HasMeaning.{IsLinkedIn}
+use Rattle.state_laws.proofs.Chains.{whole_block_chains}
+use Rattle.state_laws.proofs.Reading.{held_of, links_law}
 use Rattle.segment_core.specs.Reading.{IsFrontAt, IsFrontOf}
 use Rattle.segment_core.specs.declared.answers.Front.{Front}
 use Rattle.segment_core.specs.declared.answers.ReadFault.{ReadFault}

@@ -13,11 +13,11 @@ use Rattle.redo_core.specs.declared.facts.Fact.{Fact}
 use Rattle.redo_laws.proofs.Log.{log_of_sound}
 use Rattle.epoch_book.specs.Book.{BookData, IsBook}
 use Rattle.hot_log.specs.Held.{IsHeld}
-use Rattle.segment_state.specs.State.{State, state_of, Store}
-use Rattle.segment_state.specs.Means.{MeansAt}
-use Rattle.segment_state.specs.HasMeaning.{HasAnchor, IsSettled}
-use Rattle.segment_state.proofs.Own.{complete_as}
-use Rattle.segment_state.proofs.Same.{anchor_as, same_min}
+use Rattle.state_laws.specs.State.{State, state_of, Store}
+use Rattle.state_laws.specs.Means.{MeansAt}
+use Rattle.state_laws.specs.HasMeaning.{HasAnchor, IsSettled}
+use Rattle.state_laws.proofs.Own.{complete_as}
+use Rattle.state_laws.proofs.Same.{anchor_as, same_min}
 use Rattle.redo_core.specs.Standing.{IsAlive, IsDead, IsWaiting}
 use Rattle.segment_core.specs.Refusing.{IsDeadOrSettled}
 use Rattle.segment_core.specs.Reading.{IsFrontAt, IsFrontOf}

@@ -2,12 +2,12 @@
 use Rattle.std.proofs.Common.{◌≡◌, ℕ, ◌<◌, ◌≤◌, ◌⊎◌, ⊎_elim, List, refl, sym, ap, subst, arith, Result, Ok, Err, OnOk, OnErr, IfErr}
 use Rattle.redo_core.specs.declared.refusal.Refused.{Refused}
 use Rattle.page_base.specs.Raising.{SetsImage, Raises}
-use Rattle.segment_state.specs.State.{State, Store, version_of}
-use Rattle.segment_state.specs.Means.{Means}
-use Rattle.segment_state.specs.HasMeaning.{HasAnchor}
-use Rattle.segment_state.specs.Promises.{KeepsMeaningWith}
-use Rattle.segment_state.specs.Shedding.{CommitsImage}
-use Rattle.segment_state.proofs.Shed.{commit_keeps}
+use Rattle.state_laws.specs.State.{State, Store, version_of}
+use Rattle.state_laws.specs.Means.{Means}
+use Rattle.state_laws.specs.HasMeaning.{HasAnchor}
+use Rattle.state_laws.specs.Promises.{KeepsMeaningWith}
+use Rattle.state_laws.specs.Shedding.{CommitsImage}
+use Rattle.state_laws.proofs.Shed.{commit_keeps}
 use Rattle.segment_core.specs.Folding.{Commits, RefusesCommit, RefusesAhead}
 use Rattle.segment_core.specs.Forgetting.{with_store}
 use Rattle.segment_core.specs.declared.fold_plan.Folded.{Folded}

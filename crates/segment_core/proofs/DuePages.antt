@@ -23,7 +23,7 @@ use Rattle.hot_log.specs.declared.log.PutFault.{PutFault}
 use Rattle.hot_log.proofs.Views.{view_of}
 use Rattle.page_base.specs.Stored.{IsStored, store_of}
 use Rattle.page_base.specs.Raising.{Raises, SetsImage}
-use Rattle.segment_state.specs.State.{Store, StoredImage, version_of}
+use Rattle.state_laws.specs.State.{Store, StoredImage, version_of}
 use Rattle.segment_core.specs.Points.{IsLaterBook}
 use Rattle.segment_core.specs.Due.{DueData, HasDue, IsMoreDue, LooksAt, RemovesInPages, all_due}
 use Rattle.segment_core.proofs.Opening.{alive_before}

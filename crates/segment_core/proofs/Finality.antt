@@ -2,9 +2,9 @@
 use Rattle.std.proofs.Common.{ℕ, List, sym, subst, arith}
 use Rattle.redo_core.specs.PageAt.{IsPageAt}
 use Rattle.redo_core.specs.declared.facts.Fact.{Fact}
-use Rattle.segment_state.specs.State.{State}
-use Rattle.segment_state.specs.Means.{Means}
-use Rattle.segment_state.specs.Promises.{IsFinalPage}
+use Rattle.state_laws.specs.State.{State}
+use Rattle.state_laws.specs.Means.{Means}
+use Rattle.state_laws.specs.Promises.{IsFinalPage}
 use Rattle.segment_core.specs.Folding.{IsFoldOf}
 use Rattle.segment_core.specs.declared.fold_plan.Folded.{Folded}
 

@@ -6,11 +6,11 @@ use Rattle.redo_laws.proofs.Deciding.{Settled, settled_le, settled_and, settled_
 use Rattle.redo_laws.proofs.Fronts.{settled_alive}
 use Rattle.epoch_book.specs.Book.{BookData}
 use Rattle.hot_log.specs.Removing.{IsFolded, Removes}
-use Rattle.segment_state.specs.State.{State, state_of, Store, version_of}
-use Rattle.segment_state.specs.HasMeaning.{HasAnchor}
-use Rattle.segment_state.specs.Promises.{KeepsMeaning}
-use Rattle.segment_state.specs.Shedding.{RemovesFolded}
-use Rattle.segment_state.proofs.Shed.{discard_keeps}
+use Rattle.state_laws.specs.State.{State, state_of, Store, version_of}
+use Rattle.state_laws.specs.HasMeaning.{HasAnchor}
+use Rattle.state_laws.specs.Promises.{KeepsMeaning}
+use Rattle.state_laws.specs.Shedding.{RemovesFolded}
+use Rattle.state_laws.proofs.Shed.{discard_keeps}
 use Rattle.segment_core.specs.Forgetting.{IsFoldedBelow, DiscardsJust}
 
 -- a record of the page that its image has, at or below a point

@@ -4,7 +4,7 @@ use Rattle.std.specs.List.{Contains}
 use Rattle.std.proofs.lemmas.List.{take_more, take_all}
 use Rattle.std.proofs.lemmas.List.Elements.{Contains-append_left, Contains-append_right, Contains-append_cases}
 use Rattle.redo_core.specs.Data.{RecordData}
-use Rattle.redo_core.specs.Keys.{key_at, key_of}
+use Rattle.redo_core.specs.Keys.{key_in, key_of}
 use Rattle.redo_core.specs.declared.keys.Key.{Key}
 use Rattle.redo_core.specs.Standing.{IsAlive}
 use Rattle.redo_core.proofs.Members.{here, which, none_in}
@@ -15,7 +15,7 @@ use Rattle.hot_log.specs.Held.{IsHeld, HasKey}
 use Rattle.hot_log.specs.Removing.{IsFolded, Removes}
 use Rattle.hot_log.proofs.Climb.{positive}
 use Rattle.page_base.specs.Stored.{IsStored}
-use Rattle.segment_state.specs.State.{Store, StoredImage, version_of}
+use Rattle.state_laws.specs.State.{Store, StoredImage, version_of}
 
 -- of the records just those that one of the things hits are gone
 abbrev pub GoneBy : {X : Type 0} → (X → RecordData → Type 0) → List X → List RecordData → List RecordData → Type 0
@@ -57,7 +57,7 @@ of_keys keys old new gone r = (
 )
   where
     key_is : (key : Key) → HasKey key r → key_of r ≡ key
-    key_is key same = ap (λ e. key_at e r.number) same.0 ∙ ap (λ n. key_at key.epoch n) same.1
+    key_is key same = ap (λ e. key_in e r.number) same.0 ∙ ap (λ n. key_in key.epoch n) same.1
 
 -- ---- by images, where a page that has none is at version 0
 pub of_images : (book : BookData) (store : Store) (point : ℕ) (old new : List RecordData) → IsStored store → store.floor ≡ 0 → IsHeld old

@@ -9,8 +9,8 @@ use Rattle.hot_log.specs.Putting.{Puts, RefusesPut}
 use Rattle.hot_log.specs.declared.log.Put.{Put}
 use Rattle.hot_log.specs.declared.log.Put.TheVariants as put
 use Rattle.hot_log.specs.declared.log.PutFault.TheVariants as fault
-use Rattle.segment_state.specs.State.{Store}
-use Rattle.segment_state.specs.State.{state_of}
+use Rattle.state_laws.specs.State.{Store}
+use Rattle.state_laws.specs.State.{state_of}
 use Rattle.segment_core.specs.Uniting.{HoldsRecord}
 
 same_holds : (b : BookData) (hs : List RecordData) (base : ℕ) (store : Store) (r : RecordData)

@@ -5,7 +5,7 @@ use Rattle.std.proofs.lemmas.List.{append_assoc, map-append, length-map, append-
 use Rattle.std.proofs.lemmas.List.Elements.{Contains-append_right, Contains-append_cases}
 use Rattle.std.specs.List.{Contains}
 use Rattle.redo_core.specs.Data.{RecordData}
-use Rattle.redo_core.specs.Keys.{key_at, key_of, KeyBefore}
+use Rattle.redo_core.specs.Keys.{key_in, key_of, KeyBefore}
 use Rattle.redo_core.specs.declared.keys.Key.{Key}
 use Rattle.redo_core.specs.Order.{IsRising, RecordBefore, PairBefore}
 use Rattle.redo_core.proofs.Members.{here, there, which, each, none_in}
@@ -92,8 +92,8 @@ first_of held (r ∷ rs) after (Some key) rising inside above is =
     ⊎_elim
     (λ (same : HasKey key r). sym (key_is r key same))
     (λ (later : KeyBefore key (key_of r)).
-    let behind : KeyBefore (key_of x) (key_of r) = subst (λ n. KeyBefore (key_at x.epoch n) (key_of r)) (sym own.1)
-    (subst (λ e. KeyBefore (key_at e key.number) (key_of r)) (sym own.0) later) in
+    let behind : KeyBefore (key_of x) (key_of r) = subst (λ n. KeyBefore (key_in x.epoch n) (key_of r)) (sym own.1)
+    (subst (λ e. KeyBefore (key_in e key.number) (key_of r)) (sym own.0) later) in
     ⊎_elim
     (λ (e : r ≡ x). absurd (pair_self r.epoch r.number (subst (λ (y : RecordData). KeyBefore (key_of y) (key_of r)) (sym e) behind)))
     (λ (q : Contains rs x). absurd (pair_apart x.epoch x.number r.epoch r.number behind (each (RecordBefore r) rs x rising.0 q)))
@@ -101,7 +101,7 @@ first_of held (r ∷ rs) after (Some key) rising inside above is =
     (is.1 r h.0 h.1)
   where
     key_is : (y : RecordData) (k : Key) → HasKey k y → Some (key_of y) ≡ Some k
-    key_is y k own = ap (λ z. Some z) (ap (λ e. key_at e y.number) own.0 ∙ ap (λ n. key_at k.epoch n) own.1)
+    key_is y k own = ap (λ z. Some z) (ap (λ e. key_in e y.number) own.0 ∙ ap (λ n. key_in k.epoch n) own.1)
 
 pub keys_none : (held : List RecordData) (keys : List Key) (next : Option Key) → IsHeld held → keys ≡ [] → IsKeyAfter held None next
     → KeysTo held keys next

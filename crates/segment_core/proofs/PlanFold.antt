@@ -5,11 +5,11 @@ use Rattle.redo_core.specs.Sound.{IsSound}
 use Rattle.redo_core.specs.declared.facts.Fact.{Fact}
 use Rattle.redo_laws.proofs.Log.{log_of_sound}
 use Rattle.redo_laws.proofs.Views.{anchor_is}
-use Rattle.segment_state.specs.State.{State}
-use Rattle.segment_state.specs.Means.{MeansAt}
-use Rattle.segment_state.specs.Shows.{Shows}
-use Rattle.segment_state.specs.HasMeaning.{HasAnchor}
-use Rattle.segment_state.proofs.Reading.{pages_law}
+use Rattle.state_laws.specs.State.{State}
+use Rattle.state_laws.specs.Means.{MeansAt}
+use Rattle.state_laws.specs.Shows.{Shows}
+use Rattle.state_laws.specs.HasMeaning.{HasAnchor}
+use Rattle.state_laws.proofs.Reading.{pages_law}
 use Rattle.segment_core.specs.BlockChain.{BreaksAt}
 use Rattle.segment_core.specs.Folding.{IsFoldOf, FoldsPage, BreaksBelowAnchor}
 use Rattle.segment_core.specs.declared.fold_plan.Folded.{Folded}

@@ -8,10 +8,10 @@ use Rattle.redo_core.specs.PageAt.{IsPageAt}
 use Rattle.redo_core.specs.declared.facts.Fact.{Fact}
 use Rattle.redo_laws.proofs.Log.{log_of_sound}
 use Rattle.redo_laws.proofs.Views.{anchor_is}
-use Rattle.segment_state.specs.State.{State, image_of}
-use Rattle.segment_state.specs.Means.{MeansAt}
-use Rattle.segment_state.specs.Shows.{IsApplied, Shows}
-use Rattle.segment_state.proofs.Reading.{pages_law}
+use Rattle.state_laws.specs.State.{State, image_of}
+use Rattle.state_laws.specs.Means.{MeansAt}
+use Rattle.state_laws.specs.Shows.{IsApplied, Shows}
+use Rattle.state_laws.proofs.Reading.{pages_law}
 use Rattle.epoch_book.specs.Book.{IsBook}
 use Rattle.hot_log.specs.Anew.{ListsAnew}
 use Rattle.hot_log.specs.Held.{IsHeld}

@@ -9,7 +9,7 @@ use Rattle.hot_log.specs.Putting.{Puts}
 use Rattle.hot_log.specs.declared.log.Put.{Put}
 use Rattle.hot_log.specs.declared.log.Put.TheVariants.{New, Known}
 use Rattle.page_base.specs.Adopting.{first_given}
-use Rattle.segment_state.specs.State.{State, state_of, version_of, image_of}
+use Rattle.state_laws.specs.State.{State, state_of, version_of, image_of}
 use Rattle.segment_core.specs.Adopting.{AdoptsBase}
 use Rattle.segment_core.specs.Restoring.{no_images, IsMadeOf, Gains, GainsEach}
 

@@ -12,8 +12,8 @@ use Rattle.redo_core.specs.declared.refusal.Refused.{Refused}
 use Rattle.redo_core.proofs.Members.{here, which, none_in, lists_unique}
 use Rattle.redo_core.proofs.Pairs.{pair_apart}
 use Rattle.hot_log.specs.Held.{IsHeld, HasKey}
-use Rattle.segment_state.specs.State.{State, SameBase, state_of}
-use Rattle.segment_state.specs.Known.{IsKnown}
+use Rattle.state_laws.specs.State.{State, SameBase, state_of}
+use Rattle.state_laws.specs.Known.{IsKnown}
 use Rattle.segment_core.specs.Savepoint.{SavepointData, RollsBackTo, RollsBackAs, NotesKey, TakesNoted}
 use Rattle.segment_core.specs.Taking.{Stores}
 use Rattle.segment_core.specs.Answering.{FaultAlone}

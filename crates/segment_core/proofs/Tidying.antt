@@ -7,12 +7,12 @@ use Rattle.redo_laws.proofs.Log.{log_of_sound}
 use Rattle.redo_laws.proofs.Fronts.{settled_alive}
 use Rattle.epoch_book.specs.Book.{BookData}
 use Rattle.hot_log.specs.Removing.{Removes}
-use Rattle.segment_state.specs.State.{State, state_of, Store, SameBase, version_of}
-use Rattle.segment_state.specs.HasMeaning.{HasAnchor, IsKeptBy}
-use Rattle.segment_state.specs.Promises.{KeepsMeaning}
-use Rattle.segment_state.specs.Shedding.{RemovesDead}
-use Rattle.segment_state.proofs.Same.{anchor_as, kept_as}
-use Rattle.segment_state.proofs.Shed.{removal_keeps}
+use Rattle.state_laws.specs.State.{State, state_of, Store, SameBase, version_of}
+use Rattle.state_laws.specs.HasMeaning.{HasAnchor, IsKeptBy}
+use Rattle.state_laws.specs.Promises.{KeepsMeaning}
+use Rattle.state_laws.specs.Shedding.{RemovesDead}
+use Rattle.state_laws.proofs.Same.{anchor_as, kept_as}
+use Rattle.state_laws.proofs.Shed.{removal_keeps}
 use Rattle.segment_core.specs.Forgetting.{with_store, IsFoldedBelow, DiscardsJust, FoldsImages, FoldsAll, Tidies, HoldsJustKept}
 
 -- just the dead records are gone

@@ -5,7 +5,7 @@ use Rattle.redo_core.specs.Data.{RecordData}
 use Rattle.epoch_book.specs.Book.{BookData}
 use Rattle.hot_log.specs.Alive.{IsHeldAlive}
 use Rattle.hot_log.specs.Removing.{IsFolded}
-use Rattle.segment_state.specs.State.{Store, version_of}
+use Rattle.state_laws.specs.State.{Store, version_of}
 
 -- the pages that are listed, whether each page is due, and a number that no page's version is above
 pub record DueData : Type 0 where

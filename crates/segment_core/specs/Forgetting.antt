@@ -9,12 +9,12 @@ use Rattle.redo_core.specs.Meaning.{IsKept}
 use Rattle.redo_core.specs.declared.facts.Fact.{Fact}
 use Rattle.epoch_book.specs.Book.{BookData}
 use Rattle.hot_log.specs.Removing.{IsFolded}
-use Rattle.segment_state.specs.State.{State, Store, StoredImage, state_of, version_of, image_of}
-use Rattle.segment_state.specs.Shows.{Shows}
+use Rattle.state_laws.specs.State.{State, Store, StoredImage, state_of, version_of, image_of}
+use Rattle.state_laws.specs.Shows.{Shows}
 use Rattle.page_base.specs.Raising.{SamePage}
-use Rattle.segment_state.specs.Means.{MeansAt, Means}
-use Rattle.segment_state.specs.HasMeaning.{HasAnchor, IsKeptBy}
-use Rattle.segment_state.specs.Promises.{KeepsMeaning}
+use Rattle.state_laws.specs.Means.{MeansAt, Means}
+use Rattle.state_laws.specs.HasMeaning.{HasAnchor, IsKeptBy}
+use Rattle.state_laws.specs.Promises.{KeepsMeaning}
 use Rattle.segment_core.specs.Folding.{BreaksBelowAnchor}
 use Rattle.segment_core.specs.declared.answers.ReadFault.{ReadFault}
 use Rattle.segment_core.specs.declared.answers.ReadFault.TheVariants.{BrokenBlockChain, Memory}

@@ -8,9 +8,9 @@ use Rattle.redo_core.specs.declared.facts.Fact.{Fact}
 use Rattle.redo_core.specs.declared.facts.Fact.TheVariants.{Record, Cut, Advance}
 use Rattle.epoch_book.specs.Refusing.{RefusesCut, RefusesAdvance}
 use Rattle.epoch_book.specs.declared.refusals.BookRefusal.TheVariants as book
-use Rattle.segment_state.specs.State.{State}
-use Rattle.segment_state.specs.Means.{Means}
-use Rattle.segment_state.specs.HasMeaning.{IsSettled}
+use Rattle.state_laws.specs.State.{State}
+use Rattle.state_laws.specs.Means.{Means}
+use Rattle.state_laws.specs.HasMeaning.{IsSettled}
 use Rattle.segment_core.specs.declared.answers.Refusal.{Refusal}
 use Rattle.segment_core.specs.declared.answers.Refusal.TheVariants.{OtherRoster, OtherCut, Contradiction, OtherRecord}
 

@@ -6,7 +6,7 @@ use Rattle.redo_core.specs.Keys.{key_of}
 use Rattle.redo_core.specs.declared.keys.Key.{Key}
 use Rattle.redo_core.specs.Data.{RecordData}
 use Rattle.redo_core.specs.declared.facts.Fact.{Fact}
-use Rattle.segment_state.specs.State.{State, SameBase}
+use Rattle.state_laws.specs.State.{State, SameBase}
 use Rattle.segment_core.specs.Due.{DueData, HasDue}
 use Rattle.segment_core.specs.Form.{IsSegment}
 use Rattle.segment_core.specs.Points.{HasPoints}

@@ -1,6 +1,6 @@
 ghost use Rattle.std.specs.Prelude.{ℕ, IfOk, IfSome};
-ghost use Rattle.segment_state.specs.HasMeaning.{HasAnchor};
-ghost use Rattle.segment_state.specs.Shows.{Shows};
+ghost use Rattle.state_laws.specs.HasMeaning.{HasAnchor};
+ghost use Rattle.state_laws.specs.Shows.{Shows};
 
 use crate::segment::Segment;
 use redo_core::SharedPage;

@@ -1,6 +1,6 @@
 ghost use Rattle.std.specs.Prelude.{◌≡◌, ℕ, ◌↔◌, IsTrue, IfOk};
-ghost use Rattle.segment_state.specs.State.{image_of};
-ghost use Rattle.segment_state.specs.Shows.{Shows};
+ghost use Rattle.state_laws.specs.State.{image_of};
+ghost use Rattle.state_laws.specs.Shows.{Shows};
 ghost use Rattle.segment_core.specs.Comparing.{TellsSamePage};
 
 use crate::segment::Segment;

@@ -5,7 +5,7 @@ ghost use Rattle.redo_core.specs.Standing.{IsAlive};
 ghost use Rattle.epoch_book.specs.Book.{BookData};
 ghost use Rattle.hot_log.specs.Held.{IsHeld};
 ghost use Rattle.hot_log.specs.Removing.{Removes};
-ghost use Rattle.segment_state.specs.State.{Store, StoredImage, version_of};
+ghost use Rattle.state_laws.specs.State.{Store, StoredImage, version_of};
 ghost use Rattle.segment_core.specs.Due.{HasDue, IsMoreDue, LooksAt, RemovesInPages, all_due};
 
 use crate::shedding::remove_all_folded;

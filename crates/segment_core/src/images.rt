@@ -1,5 +1,5 @@
 ghost use Rattle.std.specs.Prelude.{◌≡◌, ◌≤◌, OnOk, OnErr, IfErr};
-ghost use Rattle.segment_state.specs.State.{min_of};
+ghost use Rattle.state_laws.specs.State.{min_of};
 ghost use Rattle.segment_core.specs.Adopting.{AdoptsBase};
 ghost use Rattle.segment_core.specs.Uniting.{Unites, RaisesBase};
 

@@ -20,6 +20,7 @@ mod images;
 mod known;
 pub mod laws;
 mod points;
+mod putting;
 mod restoring;
 mod savepoint;
 mod segment;

@@ -5,12 +5,11 @@ ghost use Rattle.redo_core.specs.Shape.{max_number};
 ghost use Rattle.epoch_book.specs.Book.{IsBook};
 ghost use Rattle.hot_log.specs.Alive.{HasNoneAbove, IsStraightEnd};
 ghost use Rattle.hot_log.specs.Held.{IsHeld};
-ghost use Rattle.hot_log.specs.Putting.{Puts, RefusesPut};
 ghost use Rattle.segment_core.specs.Points.{AnchorsOn, HasPoints, HasLowAnchor, IsTopTo, IsUntouched, JoinsOnTop, MayLink, MoveOn, WerePoints, points_at};
 
 use epoch_book::{EpochBook, Standing};
-use hot_log::{HotLog, Put, PutFault};
-use redo_core::{MAX_NUMBER, Record, Refused};
+use hot_log::HotLog;
+use redo_core::{MAX_NUMBER, Record};
 
 /// The complete point and the anchor of a segment, and whether the chain of its alive records is known to be straight from the
 /// base point to the complete point: without a fork and without a stray, as it is over a sound log.
@@ -136,41 +135,8 @@ impl Points {
         }
     }
 
-    /// Holds one more record, and brings the points to where it links them. Each error hands the record back and leaves all as it was.
-    pub(crate) fn put(
-        &mut self,
-        hot: &mut HotLog,
-        book: &EpochBook,
-        base: u64,
-        redo: Record,
-    ) -> Result<Put, Refused<Record, PutFault>>
-        requires { HasPoints book.now hot.old base self.old }
-        ensures put { IfOk result (Puts hot.old redo hot.new) }
-        ensures refused { IfErr result (λ e. (e.value ≡ redo) × RefusesPut hot.old redo e.fault) }
-        ensures unchanged { OnErr result (hot.new ≡ hot.old) }
-        ensures form { IsHeld hot.new }
-        ensures points { HasPoints book.now hot.new base self.new }
-    {
-        let (number, back) = (redo.number(), redo.back());
-        let may_link = self.may_link(book, base, &redo);
-        let at_end = self.is_at_end(hot, book, may_link, back);
-        match hot.put(redo)? {
-            Put::Known => Ok(Put::Known),
-            Put::New => {
-                if may_link {
-                    *self = if self.straight && back == self.complete {
-                        self.joined(hot, book, number, at_end)
-                    } else {
-                        Points::anew(hot, book, base)
-                    };
-                }
-                Ok(Put::New)
-            }
-        }
-    }
-
     /// Whether no alive record is above the complete point. It is asked only for a record that may link there.
-    fn is_at_end(self, hot: &HotLog, book: &EpochBook, may_link: bool, back: u64) -> bool
+    pub(crate) fn is_at_end(self, hot: &HotLog, book: &EpochBook, may_link: bool, back: u64) -> bool
         ensures { IsTrue result → HasNoneAbove book.now hot.now self.complete }
     {
         may_link && back == self.complete && hot.has_none_above(book, self.complete)
@@ -178,7 +144,7 @@ impl Points {
 
     /// The points after a record of this number has joined at the top of a straight chain. Where no alive record was above that, the
     /// chain ends at the record.
-    fn joined(self, hot: &HotLog, book: &EpochBook, number: u64, at_end: bool) -> Points
+    pub(crate) fn joined(self, hot: &HotLog, book: &EpochBook, number: u64, at_end: bool) -> Points
         requires small { self.complete ≤ max_number }
         requires anchor { self.anchor ≤ least book.now.points }
         ensures { (base : ℕ) → (j : JoinsOnTop book.now hot.now base number self) → (IsTrue at_end → HasNoneAbove book.now j.earlier self.complete) → HasPoints book.now hot.now base result }
@@ -243,7 +209,7 @@ impl Points {
     }
 
     /// Whether a record that joins the held ones may link a number: it is alive above the base point, and behind no gap.
-    fn may_link(self, book: &EpochBook, base: u64, redo: &Record) -> bool
+    pub(crate) fn may_link(self, book: &EpochBook, base: u64, redo: &Record) -> bool
         ensures { IsTrue result ↔ MayLink book.now base self redo.now }
     {
         base < redo.number()

@@ -6,7 +6,7 @@ ghost use Rattle.redo_core.specs.Keys.{key_of};
 ghost use Rattle.redo_core.specs.declared.keys.Key.{Key};
 ghost use Rattle.redo_core.specs.declared.facts.Fact.TheVariants.{Record as OfRecord};
 ghost use Rattle.hot_log.specs.Held.{IsHeld};
-ghost use Rattle.segment_state.specs.State.{State};
+ghost use Rattle.state_laws.specs.State.{State};
 ghost use Rattle.segment_core.specs.Answering.{FaultAlone};
 ghost use Rattle.segment_core.specs.Savepoint.{SavepointData, RollsBackTo, RollsBackAs, NotesKey, TakesNoted};
 ghost use Rattle.segment_core.specs.Uniting.{HoldsRecord};
@@ -14,6 +14,7 @@ ghost use Rattle.segment_core.specs.Uniting.{HoldsRecord};
 use crate::answers::{Refusal, Taken};
 use crate::due::Due;
 use crate::points::Points;
+use crate::putting::put_record;
 use crate::segment::Segment;
 use epoch_book::EpochBook;
 use hot_log::{HotLog, Put, PutFault};
@@ -121,7 +122,7 @@ impl Segment {
             return Err(failed);
         }
         self.due.add_held(&redo);
-        match self.points.put(&mut self.hot, &self.book, self.base, redo) {
+        match put_record(&mut self.points, &mut self.hot, &self.book, self.base, redo) {
             Ok(Put::New) => Ok(()),
             Ok(Put::Known) => {
                 saved.forget_last();

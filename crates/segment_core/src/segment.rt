@@ -4,12 +4,12 @@ ghost use Rattle.redo_core.specs.Position.{Position};
 ghost use Rattle.redo_core.specs.Sound.{IsSound};
 ghost use Rattle.redo_core.specs.declared.facts.Fact.{Fact as AnyFact};
 ghost use Rattle.redo_core.specs.declared.facts.Fact.TheVariants.{Record as OfRecord, Cut as OfCut, Advance as OfAdvance};
-ghost use Rattle.segment_state.specs.State.{State, empty_state, image_of};
-ghost use Rattle.segment_state.specs.Means.{MeansAt, Means};
-ghost use Rattle.segment_state.specs.HasMeaning.{HasAnchor, IsSettled};
+ghost use Rattle.state_laws.specs.State.{State, empty_state, image_of};
+ghost use Rattle.state_laws.specs.Means.{MeansAt, Means};
+ghost use Rattle.state_laws.specs.HasMeaning.{HasAnchor, IsSettled};
 ghost use Rattle.redo_core.specs.Writing.{after_records};
-ghost use Rattle.segment_state.specs.Shows.{Shows};
-ghost use Rattle.segment_state.specs.Promises.{TakesFact};
+ghost use Rattle.state_laws.specs.Shows.{Shows};
+ghost use Rattle.state_laws.specs.Promises.{TakesFact};
 ghost use Rattle.segment_core.specs.Taking.{TellsChange, TellsKnown, Stores, IsNew};
 ghost use Rattle.redo_core.specs.Linked.{IsLinked};
 ghost use Rattle.segment_core.specs.Form.{IsSegment};
@@ -30,6 +30,7 @@ ghost use Rattle.segment_core.specs.declared.answers.Taken.TheVariants.{Changed 
 use crate::answers::{Front, ReadFault, Refusal, Taken};
 use crate::due::Due;
 use crate::points::Points;
+use crate::putting::put_record;
 use epoch_book::{BookRefusal, EpochBook, Learnt, Standing};
 use hot_log::{HotLog, Put, PutFault, is_kept};
 use page_base::BaseStore;
@@ -56,7 +57,7 @@ pub struct Segment {
 }
 
 impl Model for Segment {
-    ghost use Rattle.segment_state.specs.State.{State, state_of};
+    ghost use Rattle.state_laws.specs.State.{State, state_of};
     ghost use Rattle.epoch_book.specs.Book.{IsBook};
     ghost use Rattle.std.specs.Prelude.{◌≤◌};
     ghost use Rattle.hot_log.specs.Held.{IsHeld};
@@ -305,7 +306,8 @@ impl Segment {
             return Ok(Taken::Unchanged);
         }
         self.due.add_held(&redo);
-        put_answer(self.points.put(&mut self.hot, &self.book, self.base, redo))
+        let (points, hot) = (&mut self.points, &mut self.hot);
+        put_answer(put_record(points, hot, &self.book, self.base, redo))
     }
 }
 

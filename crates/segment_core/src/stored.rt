@@ -9,8 +9,8 @@ ghost use Rattle.hot_log.specs.Missing.{IsMissing};
 ghost use Rattle.hot_log.specs.Paged.{PlaceBefore};
 ghost use Rattle.hot_log.specs.Kept.{ListsKeysOf};
 ghost use Rattle.page_base.specs.Stored.{IsStored};
-ghost use Rattle.segment_state.specs.HasMeaning.{IsKeptBy};
-ghost use Rattle.segment_state.specs.State.{version_of, image_of};
+ghost use Rattle.state_laws.specs.HasMeaning.{IsKeptBy};
+ghost use Rattle.state_laws.specs.State.{version_of, image_of};
 
 use crate::segment::Segment;
 use page_base::BaseImage;

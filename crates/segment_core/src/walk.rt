@@ -5,8 +5,8 @@ ghost use Rattle.redo_core.specs.Sound.{IsSound};
 ghost use Rattle.redo_core.specs.declared.facts.Fact.{Fact as AnyFact};
 ghost use Rattle.hot_log.specs.Anew.{ListsAnew};
 ghost use Rattle.hot_log.specs.Found.{IsGreatestRecord, IsOnlyRecord};
-ghost use Rattle.segment_state.specs.Means.{MeansAt};
-ghost use Rattle.segment_state.specs.Shows.{IsApplied};
+ghost use Rattle.state_laws.specs.Means.{MeansAt};
+ghost use Rattle.state_laws.specs.Shows.{IsApplied};
 ghost use Rattle.segment_core.specs.Form.{IsSegment};
 ghost use Rattle.segment_core.specs.BlockChain.{BreaksAt, IsLinkedOf, IsLinkedUpTo, IsChained};
 

@@ -13,10 +13,10 @@ use Rattle.redo_core.proofs.Pairs.{pair_apart, advance_apart}
 use Rattle.redo_core.proofs.CompleteEpochs.{one_complete_epoch}
 use Rattle.redo_laws.specs.OrderOfMeanings.{Covers, CoversAt}
 use Rattle.redo_laws.proofs.Meanings.{list_eq, record_of_meaning}
-use Rattle.segment_state.specs.State.{State}
-use Rattle.segment_state.specs.Shows.{Shows}
-use Rattle.segment_state.specs.HasMeaning.{HasAnchor, HasMeaning}
-use Rattle.segment_state.specs.Laws.{SameMeaning}
+use Rattle.state_laws.specs.State.{State}
+use Rattle.state_laws.specs.Shows.{Shows}
+use Rattle.state_laws.specs.HasMeaning.{HasAnchor, HasMeaning}
+use Rattle.state_laws.specs.Laws.{SameMeaning}
 use Rattle.segment_core.specs.Form.{IsSegment}
 use Rattle.segment_join.specs.Sameness.{ShowOne, TellsPages, TellsSame, SameByParts}
 use Rattle.segment_told.proofs.StoredCuts.{same_cuts}

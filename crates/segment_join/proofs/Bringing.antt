@@ -8,9 +8,9 @@ use Rattle.redo_core.specs.Book.{BookData}
 use Rattle.redo_core.specs.declared.facts.Fact.{Fact}
 use Rattle.redo_core.specs.declared.facts.Fact.TheVariants.{Record}
 use Rattle.redo_core.proofs.Members.{none_in, here, there}
-use Rattle.segment_state.specs.State.{State}
-use Rattle.segment_state.specs.Known.{IsKnown}
-use Rattle.segment_state.specs.Learning.{PutsRecord}
+use Rattle.state_laws.specs.State.{State}
+use Rattle.state_laws.specs.Known.{IsKnown}
+use Rattle.state_laws.specs.Learning.{PutsRecord}
 use Rattle.segment_told.specs.Told.{book_facts, facts_told}
 use Rattle.segment_told.specs.InOrder.{TakesOne, TakesEach}
 use Rattle.segment_told.proofs.TakingAll.{IsLate, leaves_all}

@@ -8,9 +8,9 @@ use Rattle.redo_core.specs.Standing.{IsDead}
 use Rattle.redo_core.specs.Meaning.{Meaning}
 use Rattle.redo_laws.specs.OrderOfMeanings.{Covers, CoversAt, OrderByParts}
 use Rattle.redo_core.proofs.CompleteEpochs.{one_complete_epoch}
-use Rattle.segment_state.specs.State.{State}
-use Rattle.segment_state.specs.HasMeaning.{HasAnchor, IsKeptBy, HasMeaning}
-use Rattle.segment_state.specs.Laws.{SameMeaning}
+use Rattle.state_laws.specs.State.{State}
+use Rattle.state_laws.specs.HasMeaning.{HasAnchor, IsKeptBy, HasMeaning}
+use Rattle.state_laws.specs.Laws.{SameMeaning}
 use Rattle.segment_core.specs.Form.{IsSegment}
 use Rattle.segment_join.specs.Covering.{CoversState, CoversByParts}
 use Rattle.segment_told.proofs.StoredCuts.{same_cuts}

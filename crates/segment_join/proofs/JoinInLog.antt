@@ -5,10 +5,10 @@ use Rattle.redo_core.specs.Book.{roster_of}
 use Rattle.redo_core.specs.declared.facts.Fact.{Fact}
 use Rattle.redo_core.proofs.FactParts.{record_in, cut_in, advance_in}
 use Rattle.redo_laws.proofs.Log.{log_of_sound}
-use Rattle.segment_state.specs.State.{State}
-use Rattle.segment_state.specs.Means.{MeansAt, Means}
-use Rattle.segment_state.proofs.Joining.{join_law}
-use Rattle.segment_state.proofs.Booked.{points_as, epoch_of}
+use Rattle.state_laws.specs.State.{State}
+use Rattle.state_laws.specs.Means.{MeansAt, Means}
+use Rattle.state_laws.proofs.Joining.{join_law}
+use Rattle.state_laws.proofs.Booked.{points_as, epoch_of}
 use Rattle.segment_core.specs.declared.answers.Refusal.{Refusal}
 use Rattle.segment_core.specs.declared.answers.Refusal.TheVariants.{OtherRoster}
 use Rattle.segment_told.specs.Told.{AreTold}

@@ -12,10 +12,10 @@ use Rattle.redo_laws.proofs.Deciding.{settled_lt, settled_eq, some_or_none}
 use Rattle.redo_laws.proofs.Storing.{stored_images}
 use Rattle.page_base.specs.Raising.{SamePage}
 use Rattle.page_base.specs.Merging.{IsTaken, IsFloored, Merges}
-use Rattle.segment_state.specs.State.{State, StoredImage, min_of, version_of, image_of}
-use Rattle.segment_state.specs.Means.{Matters, IsInImage}
-use Rattle.segment_state.specs.HasMeaning.{IsKeptBy}
-use Rattle.segment_state.specs.Joining.{JoinsBooks, Joins}
+use Rattle.state_laws.specs.State.{State, StoredImage, min_of, version_of, image_of}
+use Rattle.state_laws.specs.Means.{Matters, IsInImage}
+use Rattle.state_laws.specs.HasMeaning.{IsKeptBy}
+use Rattle.state_laws.specs.Joining.{JoinsBooks, Joins}
 use Rattle.segment_core.specs.Form.{IsSegment}
 use Rattle.segment_core.specs.Refusing.{HoldsOther}
 use Rattle.segment_core.specs.Uniting.{Unites}

@@ -2,6 +2,8 @@
 use Rattle.std.proofs.Common.{◌≡◌, ℕ, ◌<◌, ◌≤◌, ◌⊎◌, ◌↔◌, inl, inr, ⊎_elim, Bool, IsTrue, List, Some, refl, sym, ap, subst, arith, ◌∙◌}
 use Rattle.std.specs.List.{All, Contains}
 use Rattle.redo_core.specs.Data.{RecordData}
+use Rattle.redo_core.specs.Keys.{key_in, key_of}
+use Rattle.redo_core.specs.declared.keys.Key.{Key}
 use Rattle.redo_core.specs.Standing.{IsAlive, IsDead, IsWaiting}
 use Rattle.redo_core.specs.Order.{IsRising, RecordBefore}
 use Rattle.redo_core.proofs.Members.{all_members}
@@ -10,9 +12,8 @@ use Rattle.redo_laws.proofs.Fronts.{settled_alive}
 use Rattle.redo_laws.proofs.Meanings.{in_map, from_map}
 use Rattle.hot_log.specs.Held.{HasKey, IsRecordAt}
 use Rattle.hot_log.specs.Kept.{KeepsKey, ListsKeysOf}
-use Rattle.segment_state.specs.State.{State}
-use Rattle.segment_state.specs.HasMeaning.{IsKeptBy}
-use Rattle.segment_core.specs.Keys.{key_of}
+use Rattle.state_laws.specs.State.{State}
+use Rattle.state_laws.specs.HasMeaning.{IsKeptBy}
 use Rattle.segment_core.proofs.Keys.{one_of_key}
 use Rattle.segment_join.specs.Covering.{HasRecord, HasAllKept, HasAt, IsHeldAt}
 use Rattle.segment_told.proofs.Scanning.{of_member}
@@ -47,15 +48,15 @@ needless_has s anchor r needless =
     (settled_lt s.book.complete r.epoch)
 
 -- what is so of a key is so of a record of the key
-pub of_key : (s : State) (anchor : ℕ) (key : ℕ × ℕ) (r : RecordData) → HasKey key.0 key.1 r → KeepsKey s.book anchor key ↔ KeepsKey s.book anchor (key_of r)
+pub of_key : (s : State) (anchor : ℕ) (key : Key) (r : RecordData) → HasKey key r → KeepsKey s.book anchor key ↔ KeepsKey s.book anchor (key_of r)
 of_key s anchor key r is = (
-  λ h. subst (λ e. KeepsKey s.book anchor (e, r.number)) (sym is.0) (subst (λ n. KeepsKey s.book anchor (key.0, n)) (sym is.1) h),
-  λ h. subst (λ e. KeepsKey s.book anchor (e, key.1)) is.0 (subst (λ n. KeepsKey s.book anchor (r.epoch, n)) is.1 h),
+  λ h. subst (λ e. KeepsKey s.book anchor (key_in e r.number)) (sym is.0) (subst (λ n. KeepsKey s.book anchor (key_in key.epoch n)) (sym is.1) h),
+  λ h. subst (λ e. KeepsKey s.book anchor (key_in e key.number)) is.0 (subst (λ n. KeepsKey s.book anchor (key_in r.epoch n)) is.1 h),
 )
 
 -- where a segment holds a record under a key, another one has that where it holds the same there
-pub same_at : (s t : State) (key : ℕ × ℕ) (r x : RecordData) (same : Bool) → IsRising RecordBefore s.held → IsRising RecordBefore t.held
-    → IsRecordAt t.held key.0 key.1 (Some r) → IsRecordAt s.held key.0 key.1 (Some x) → IsTrue same ↔ (x ≡ r) → IsTrue same ↔ IsHeldAt s t key
+pub same_at : (s t : State) (key : Key) (r x : RecordData) (same : Bool) → IsRising RecordBefore s.held → IsRising RecordBefore t.held
+    → IsRecordAt t.held key (Some r) → IsRecordAt s.held key (Some x) → IsTrue same ↔ (x ≡ r) → IsTrue same ↔ IsHeldAt s t key
 same_at s t key r x same rising other_rising at held tells = (
   λ h y has is. let e = one_of_key t.held r y other_rising at.0 has (at.1.0 ∙ sym is.0) (at.1.1 ∙ sym is.1) in
       subst (Contains s.held) (tells.0 h ∙ e) held.0,
@@ -75,15 +76,15 @@ own_record s anchor r has =
         (settled_and _ _ (settled_alive s.book.cuts s.book.complete r.epoch r.number) (λ _. settled_lt anchor r.number))
 
 -- the records of just the kept keys are there exactly where each kept record is
-pub at_all_keys : (s : State) (anchor : ℕ) (t : State) (base : ℕ) (keys : List (ℕ × ℕ)) → IsRising RecordBefore t.held → ListsKeysOf (IsKeptBy t base) keys
+pub at_all_keys : (s : State) (anchor : ℕ) (t : State) (base : ℕ) (keys : List Key) → IsRising RecordBefore t.held → ListsKeysOf (IsKeptBy t base) keys
     → All (HasAt s anchor t) keys ↔ HasAllKept s anchor t base
 at_all_keys s anchor t base keys rising all = (
   λ each r kept. of_member (HasAt s anchor t) keys each (key_of r)
-      (subst (λ (ks : List (ℕ × ℕ)). Contains ks (key_of r)) (sym all.keys_are) (in_map key_of all.kept r ((all.lists.members r).1 kept))) r kept.0 (refl, refl),
+      (subst (λ (ks : List Key). Contains ks (key_of r)) (sym all.keys_are) (in_map key_of all.kept r ((all.lists.members r).1 kept))) r kept.0 (refl, refl),
   λ has. all_members (HasAt s anchor t) keys (λ key h.
-      let x = from_map key_of all.kept key (subst (λ (ks : List (ℕ × ℕ)). Contains ks key) all.keys_are h) in
+      let x = from_map key_of all.kept key (subst (λ (ks : List Key). Contains ks key) all.keys_are h) in
       let kept = (all.lists.members x.0).0 x.1 in
       λ r held is.
-      let e : x.0 ≡ r = one_of_key t.held x.0 r rising kept.0 held (ap (λ (y : ℕ × ℕ). y.0) x.2 ∙ sym is.0) (ap (λ (y : ℕ × ℕ). y.1) x.2 ∙ sym is.1) in
+      let e : x.0 ≡ r = one_of_key t.held x.0 r rising kept.0 held (ap (λ (y : Key). y.epoch) x.2 ∙ sym is.0) (ap (λ (y : Key). y.number) x.2 ∙ sym is.1) in
       subst (HasRecord s anchor) e (has x.0 kept)),
 )

@@ -11,10 +11,10 @@ use Rattle.redo_core.proofs.Pairs.{pair_apart, pair_trans, pair_order}
 use Rattle.redo_laws.proofs.Deciding.{Settled, settled_lt, settled_and, settled_or, some_or_none, in_order}
 use Rattle.redo_laws.proofs.Fronts.{settled_alive}
 use Rattle.hot_log.specs.Held.{IsHeld}
-use Rattle.segment_state.specs.State.{State}
-use Rattle.segment_state.specs.HasMeaning.{HasAnchor, IsKeptBy}
-use Rattle.segment_state.specs.Known.{IsKnown}
-use Rattle.segment_state.specs.Learning.{PutsRecord}
+use Rattle.state_laws.specs.State.{State}
+use Rattle.state_laws.specs.HasMeaning.{HasAnchor, IsKeptBy}
+use Rattle.state_laws.specs.Known.{IsKnown}
+use Rattle.state_laws.specs.Learning.{PutsRecord}
 use Rattle.segment_core.specs.Taking.{Stores}
 use Rattle.segment_core.specs.Refusing.{Refuses, IsDeadOrSettled}
 use Rattle.segment_core.specs.declared.answers.Refusal.{Refusal}

@@ -1,3 +1,4 @@
+pub mod Sorting
 pub mod Keeping
 pub mod Comparing
 pub mod Alike

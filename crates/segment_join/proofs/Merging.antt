@@ -5,9 +5,9 @@ use Rattle.redo_core.specs.Meaning.{Meaning, IsMeaning}
 use Rattle.redo_core.specs.declared.facts.Fact.{Fact}
 use Rattle.redo_laws.specs.OrderOfMeanings.{Congruence, OrderByParts, LeastUpperBound, Associativity, Commutativity, Idempotence}
 use Rattle.redo_laws.specs.Overlap.{Overlap, chosen_count}
-use Rattle.segment_state.specs.State.{State}
-use Rattle.segment_state.specs.Means.{Means}
-use Rattle.segment_state.specs.Laws.{SameMeaning}
+use Rattle.state_laws.specs.State.{State}
+use Rattle.state_laws.specs.Means.{Means}
+use Rattle.state_laws.specs.Laws.{SameMeaning}
 use Rattle.segment_join.specs.Laws.{MeanTheSame, JoinsAreLeast, JoinsCommute, JoinsAssociate, JoinWithItself, JoinsAgree, WriteFourReadThree}
 
 -- states that mean sets of facts of one meaning mean the same

@@ -3,8 +3,8 @@ use Rattle.std.proofs.Common.{◌≡◌, ℕ, ◌⊎◌, inl, inr, ⊎_elim, Lis
 use Rattle.std.specs.List.{Contains, All}
 use Rattle.redo_core.specs.Data.{RecordData}
 use Rattle.redo_laws.proofs.Deciding.{settled_eq, some_or_none}
-use Rattle.segment_state.specs.State.{State, StoredImage}
-use Rattle.segment_state.specs.Shows.{Shows}
+use Rattle.state_laws.specs.State.{State, StoredImage}
+use Rattle.state_laws.specs.Shows.{Shows}
 use Rattle.segment_core.specs.Form.{IsSegment}
 use Rattle.segment_core.specs.Comparing.{TellsSamePage}
 use Rattle.segment_join.specs.Sameness.{ShowOne, TellsPages, IsUnwritten}

@@ -4,15 +4,16 @@ use Rattle.std.specs.List.{Contains}
 use Rattle.std.proofs.lemmas.List.{take_more, take_all}
 use Rattle.std.proofs.lemmas.List.Elements.{Contains-append_left, Contains-append_right, Contains-append_cases}
 use Rattle.redo_core.specs.Data.{RecordData}
+use Rattle.redo_core.specs.Keys.{key_of}
+use Rattle.redo_core.specs.declared.keys.Key.{Key}
 use Rattle.redo_core.specs.Order.{IsRising, RecordBefore}
 use Rattle.redo_core.specs.Standing.{IsDead}
 use Rattle.redo_core.proofs.Members.{none_in, here, which}
 use Rattle.hot_log.specs.Held.{HasKey, IsRecordAt}
-use Rattle.segment_state.specs.State.{State, Store, SameBase, version_of}
-use Rattle.segment_state.specs.Means.{IsInImage}
+use Rattle.state_laws.specs.State.{State, Store, SameBase, version_of}
+use Rattle.state_laws.specs.Means.{IsInImage}
 use Rattle.segment_core.specs.Uniting.{HoldsRecord}
 use Rattle.segment_core.specs.Refusing.{HoldsOther}
-use Rattle.segment_core.specs.Keys.{key_of}
 use Rattle.segment_join.specs.Holding.{InOtherImage, IsNeedless, IsSpared, HoldsRest}
 use Rattle.segment_join.specs.Knowing.{HoldsAt}
 use Rattle.segment_core.proofs.Keys.{one_of_key}
@@ -28,7 +29,7 @@ last_or xs i x r lt is has =
     (Contains-append_cases (take i xs) (get_or xs i x ∷ []) r (subst (λ ys. Contains ys r) (take_more xs i x lt) has))
 
 -- ---- one key
-pub holds_none : (s other : State) (key : ℕ × ℕ) → IsRecordAt other.held key.0 key.1 None → HoldsAt s other key s
+pub holds_none : (s other : State) (key : Key) → IsRecordAt other.held key None → HoldsAt s other key s
 holds_none s other key none = record {
   book = refl;
   rest = record { base = refl; store = refl };
@@ -37,7 +38,7 @@ holds_none s other key none = record {
   each = λ r has is. absurd (none r has is);
 }
 
-pub holds_spared : (s other : State) (key : ℕ × ℕ) (redo : RecordData) → IsRising RecordBefore other.held → IsRecordAt other.held key.0 key.1 (Some redo)
+pub holds_spared : (s other : State) (key : Key) (redo : RecordData) → IsRising RecordBefore other.held → IsRecordAt other.held key (Some redo)
     → IsNeedless s other redo → HoldsAt s other key s
 holds_spared s other key redo rising at spared = record {
   book = refl;
@@ -49,7 +50,7 @@ holds_spared s other key redo rising at spared = record {
       inr (inr (subst (IsNeedless s other) same spared));
 }
 
-pub holds_copy : (s other : State) (key : ℕ × ℕ) (redo : RecordData) (t : State) → IsRising RecordBefore other.held → IsRecordAt other.held key.0 key.1 (Some redo)
+pub holds_copy : (s other : State) (key : Key) (redo : RecordData) (t : State) → IsRising RecordBefore other.held → IsRecordAt other.held key (Some redo)
     → (IsNeedless s other redo → ⊥) → HoldsRecord s redo t → HoldsAt s other key t
 holds_copy s other key redo t rising at needed holds = record {
   book = holds.book;
@@ -191,7 +192,7 @@ pub picks_all : {X : Type 0} (P : X → Type 0) (xs picked : List X) (i : ℕ) �
 picks_all P xs picked i end picks y = subst (λ ys. Contains picked y ↔ (Contains ys y × P y)) (take_all i xs end) (picks y)
 
 -- under a held key nothing comes in: it is the same record, or another one that spares it
-pub holds_known : (s other : State) (key : ℕ × ℕ) (own : RecordData) → Contains s.held own × HasKey key.0 key.1 own → HoldsAt s other key s
+pub holds_known : (s other : State) (key : Key) (own : RecordData) → Contains s.held own × HasKey key own → HoldsAt s other key s
 holds_known s other key own at = record {
   book = refl;
   rest = record { base = refl; store = refl };

@@ -2,8 +2,8 @@
 use Rattle.std.proofs.Common.{ℕ, List, refl}
 use Rattle.redo_core.specs.Data.{RecordData}
 use Rattle.redo_core.specs.Order.{Lists, RecordBefore}
-use Rattle.segment_state.specs.State.{State}
-use Rattle.segment_state.specs.HasMeaning.{HasAnchor, IsKeptBy}
+use Rattle.state_laws.specs.State.{State}
+use Rattle.state_laws.specs.HasMeaning.{HasAnchor, IsKeptBy}
 use Rattle.segment_core.specs.declared.answers.Refusal.{Refusal}
 use Rattle.segment_told.specs.Told.{AreTold, facts_told}
 use Rattle.segment_told.specs.InOrder.{TakesEach, RefusesOne}

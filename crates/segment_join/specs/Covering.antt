@@ -2,6 +2,7 @@
 use Rattle.std.specs.Prelude.{ℕ, ◌≤◌, ◌⊎◌, ◌↔◌, List, Bool, IsTrue}
 use Rattle.std.specs.List.{Contains, AllZip}
 use Rattle.redo_core.specs.Data.{RecordData, CutData, AdvanceData}
+use Rattle.redo_core.specs.declared.keys.Key.{Key}
 use Rattle.redo_core.specs.Standing.{IsDead}
 use Rattle.redo_core.specs.Sound.{IsSound}
 use Rattle.redo_core.specs.Meaning.{Meaning, IsMeaning}
@@ -9,10 +10,10 @@ use Rattle.redo_core.specs.AtMost.{IsAtMost}
 use Rattle.redo_core.specs.declared.facts.Fact.{Fact}
 use Rattle.redo_core.specs.declared.facts.Fact.TheVariants.{Advance}
 use Rattle.hot_log.specs.Held.{HasKey}
-use Rattle.segment_state.specs.Means.{Means}
-use Rattle.segment_state.specs.State.{State}
-use Rattle.segment_state.specs.Known.{IsKnown}
-use Rattle.segment_state.specs.HasMeaning.{IsKeptBy}
+use Rattle.state_laws.specs.Means.{Means}
+use Rattle.state_laws.specs.State.{State}
+use Rattle.state_laws.specs.Known.{IsKnown}
+use Rattle.state_laws.specs.HasMeaning.{IsKeptBy}
 
 -- a record that is kept, or needed no more: it is dead, or at or below the anchor and not waiting
 abbrev pub HasRecord : State → ℕ → RecordData → Type 0
@@ -26,12 +27,12 @@ abbrev pub HasAllKept : State → ℕ → State → ℕ → Type 0
 HasAllKept upper anchor lower base = (r : RecordData) → HasKept upper anchor lower base r
 
 -- so of the record that the lower segment holds under a key
-abbrev pub HasAt : State → ℕ → State → ℕ × ℕ → Type 0
-HasAt upper anchor lower key = (r : RecordData) → Contains lower.held r → HasKey key.0 key.1 r → HasRecord upper anchor r
+abbrev pub HasAt : State → ℕ → State → Key → Type 0
+HasAt upper anchor lower key = (r : RecordData) → Contains lower.held r → HasKey key r → HasRecord upper anchor r
 
 -- that record is held in the upper segment
-abbrev pub IsHeldAt : State → State → ℕ × ℕ → Type 0
-IsHeldAt upper lower key = (r : RecordData) → Contains lower.held r → HasKey key.0 key.1 r → Contains upper.held r
+abbrev pub IsHeldAt : State → State → Key → Type 0
+IsHeldAt upper lower key = (r : RecordData) → Contains lower.held r → HasKey key r → Contains upper.held r
 
 -- each truncation, reader's point and waiting advance of the lower segment is known in the upper one
 pub record CoversBook (upper lower : State) : Type 0 where

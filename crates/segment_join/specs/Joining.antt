@@ -7,10 +7,10 @@ use Rattle.redo_core.specs.Standing.{IsDead}
 use Rattle.redo_core.specs.declared.facts.Fact.{Fact}
 use Rattle.redo_core.specs.Book.{roster_of}
 use Rattle.page_base.specs.Raising.{SamePage}
-use Rattle.segment_state.specs.State.{State, version_of}
-use Rattle.segment_state.specs.Means.{Means, Matters, IsInImage}
-use Rattle.segment_state.specs.HasMeaning.{HasAnchor, IsKeptBy}
-use Rattle.segment_state.specs.Joining.{JoinsBooks}
+use Rattle.state_laws.specs.State.{State, version_of}
+use Rattle.state_laws.specs.Means.{Means, Matters, IsInImage}
+use Rattle.state_laws.specs.HasMeaning.{HasAnchor, IsKeptBy}
+use Rattle.state_laws.specs.Joining.{JoinsBooks}
 use Rattle.segment_core.specs.Refusing.{HoldsOther}
 use Rattle.segment_core.specs.declared.answers.Refusal.{Refusal}
 use Rattle.segment_core.specs.declared.answers.Refusal.TheVariants.{OtherRoster}

@@ -2,9 +2,10 @@
 use Rattle.std.specs.Prelude.{◌≡◌, ℕ, ◌⊎◌, List}
 use Rattle.std.specs.List.{Contains}
 use Rattle.redo_core.specs.Data.{RecordData}
+use Rattle.redo_core.specs.declared.keys.Key.{Key}
 use Rattle.redo_core.specs.declared.facts.Fact.{Fact}
 use Rattle.hot_log.specs.Held.{HasKey}
-use Rattle.segment_state.specs.State.{State, SameBase}
+use Rattle.state_laws.specs.State.{State, SameBase}
 use Rattle.segment_core.specs.declared.answers.Refusal.{Refusal}
 use Rattle.segment_told.specs.Told.{AreTold}
 use Rattle.segment_told.specs.InOrder.{TakesEach, RefusesOne}
@@ -21,12 +22,12 @@ abbrev pub RefusesAll : State → State → Refusal → Type 0
 RefusesAll old other why = (facts : List Fact) × AreTold other facts × RefusesOne old facts why
 
 -- the other's held record of the key is held, unless it is spared; none that is needless is
-pub record HoldsAt (old other : State) (key : ℕ × ℕ) (new : State) : Type 0 where
+pub record HoldsAt (old other : State) (key : Key) (new : State) : Type 0 where
   pub book : new.book ≡ old.book
   pub rest : SameBase old new
   pub before : (r : RecordData) → Contains old.held r → Contains new.held r
   pub more : (r : RecordData) → Contains new.held r → Contains old.held r ⊎ (Contains other.held r × (IsNeedless old other r → ⊥))
-  pub each : (r : RecordData) → Contains other.held r → HasKey key.0 key.1 r → Contains new.held r ⊎ IsSpared old other r
+  pub each : (r : RecordData) → Contains other.held r → HasKey key r → Contains new.held r ⊎ IsSpared old other r
 
 -- the segment has taken what the other tells, and holds the rest of what it holds
 pub record IsJoined (own other new : State) : Type 0 where

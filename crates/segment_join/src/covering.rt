@@ -7,17 +7,17 @@ ghost use Rattle.redo_core.specs.Sound.{IsSound};
 ghost use Rattle.redo_core.specs.declared.facts.Fact.{Fact as AnyFact};
 ghost use Rattle.redo_core.specs.declared.facts.Fact.TheVariants.{Advance as OfAdvance};
 ghost use Rattle.redo_laws.specs.OrderOfMeanings.{Covers};
-ghost use Rattle.segment_state.specs.Means.{Means};
-ghost use Rattle.segment_state.specs.HasMeaning.{HasAnchor, HasMeaning};
-ghost use Rattle.segment_state.specs.Known.{IsKnown};
+ghost use Rattle.state_laws.specs.Means.{Means};
+ghost use Rattle.state_laws.specs.HasMeaning.{HasAnchor, HasMeaning};
+ghost use Rattle.state_laws.specs.Known.{IsKnown};
 ghost use Rattle.hot_log.specs.Missing.{IsMissing};
 ghost use Rattle.segment_join.specs.Covering.{HasRecord, HasKept, HasAllKept, HasAt, IsHeldAt, CoversBook, CoversState, CoversByParts};
 
-use crate::missing::{keeps, keeps_key};
-use redo_core::{Advance, Cut, Record};
+use crate::missing::keeps;
+use redo_core::{Advance, Cut, Key, Record};
 use redo_laws::order_by_parts;
 use segment_core::Segment;
-use segment_state::same_meaning;
+use state_laws::same_meaning;
 use segment_told::are_few;
 use std::alloc::AllocError;
 
@@ -33,7 +33,7 @@ pub fn covers(upper: &Segment, lower: &Segment) -> Result<bool, AllocError>
     // By what is stored, over any facts.
     ensures own { IfOk result (λ answer. (anchor base : ℕ) → HasAnchor upper.now anchor → HasAnchor lower.now base → IsTrue answer ↔ CoversState anchor upper.now base lower.now) }
 {
-    let _base = upper.base_point();
+    upper.opens_form();
     order_by_parts();
     same_meaning();
     covers_state(upper, lower)
@@ -73,7 +73,7 @@ fn has_missing(upper: &Segment, anchor: u64, lower: &Segment, base: u64) -> Resu
 }
 
 /// Whether an upper segment keeps the record that a lower one holds under each of these keys, or needs it no more.
-fn has_keys(upper: &Segment, anchor: u64, lower: &Segment, keys: &[(u16, u64)]) -> bool
+fn has_keys(upper: &Segment, anchor: u64, lower: &Segment, keys: &[Key]) -> bool
     ensures { IsTrue result ↔ All (HasAt upper.now anchor lower.now) keys.now }
 {
     for key in keys {
@@ -84,27 +84,27 @@ fn has_keys(upper: &Segment, anchor: u64, lower: &Segment, keys: &[(u16, u64)]) 
     true
 }
 
-fn has_at(upper: &Segment, anchor: u64, lower: &Segment, key: (u16, u64)) -> bool
+fn has_at(upper: &Segment, anchor: u64, lower: &Segment, key: Key) -> bool
     ensures { IsTrue result ↔ HasAt upper.now anchor lower.now key }
 {
     // What is needed no more is looked up in neither segment.
-    if !keeps_key(upper, anchor, key) {
+    if !upper.keeps(key, anchor) {
         return true;
     }
     holds_at(upper, lower, key)
 }
 
 /// Whether the record that a lower segment holds under a key, if any, is held in an upper one.
-fn holds_at(upper: &Segment, lower: &Segment, key: (u16, u64)) -> bool
+fn holds_at(upper: &Segment, lower: &Segment, key: Key) -> bool
     ensures { IsTrue result ↔ IsHeldAt upper.now lower.now key }
 {
-    // They open the segments' forms: at most one record stands under a key.
-    let _upper = upper.base_point();
-    let _lower = lower.base_point();
-    let Some(redo) = lower.get(key.0, key.1) else {
+    // At most one record stands under a key.
+    upper.opens_form();
+    lower.opens_form();
+    let Some(redo) = lower.get(key) else {
         return true;
     };
-    match upper.get(key.0, key.1) {
+    match upper.get(key) {
         Some(held) => held.is_same(redo),
         None => false,
     }
@@ -163,7 +163,7 @@ fn has_record(segment: &Segment, anchor: u64, redo: &Record) -> bool
     requires { Contains segment.now.held redo.now → ⊥ }
     ensures { IsTrue result ↔ HasRecord segment.now anchor redo.now }
 {
-    !keeps_key(segment, anchor, (redo.epoch(), redo.number()))
+    !segment.keeps(redo.key(), anchor)
 }
 
 /// Whether that is so of a record which a lower segment holds, or the lower one keeps it not.

@@ -1,8 +1,8 @@
 ghost use Rattle.std.specs.Prelude.{◌↔◌, ◌⊎◌, ◌≤◌, map, IfOk, OnOk, IsTrue};
 ghost use Rattle.std.specs.List.{Contains};
 ghost use Rattle.redo_core.specs.Data.{RecordData};
-ghost use Rattle.segment_state.specs.State.{version_of};
-ghost use Rattle.segment_core.specs.Keys.{key_of};
+ghost use Rattle.redo_core.specs.Keys.{key_of};
+ghost use Rattle.state_laws.specs.State.{version_of};
 ghost use Rattle.segment_core.specs.Savepoint.{RollsBackAs};
 ghost use Rattle.segment_join.specs.Holding.{IsNeedless, HoldsRest};
 ghost use Rattle.segment_join.specs.Knowing.{HoldsAt};
@@ -25,8 +25,8 @@ pub(crate) fn hold_rest(
     ensures holds { OnOk result (HoldsRest segment.old other.now segment.new) }
     ensures rolls_back { RollsBackAs saved.old segment.old saved.new segment.new }
 {
-    // It opens the segment's form: at most one record stands under a key.
-    let _base = other.base_point();
+    // At most one record stands under a key.
+    other.opens_form();
     for redo in missing {
         hold_one(segment, saved, other, redo)?;
     }
@@ -44,13 +44,13 @@ fn hold_one(
     ensures holds { OnOk result (HoldsAt segment.old other.now (key_of redo.now) segment.new) }
     ensures rolls_back { RollsBackAs saved.old segment.old saved.new segment.new }
 {
-    // It opens the segment's form: at most one record stands under a key.
-    let _base = other.base_point();
+    // At most one record stands under a key.
+    other.opens_form();
     // Much of what is missing was folded in the segment, and no look-up is spent on it.
     if is_needless(segment, other, redo) {
         return Ok(());
     }
-    if segment.holds_key(redo.epoch(), redo.number()) {
+    if segment.holds_key(redo.key()) {
         return Ok(());
     }
     segment.hold_noted(saved, redo.copy()?)

@@ -62,8 +62,7 @@ fn bring_in(segment: &mut Segment, saved: &mut Savepoint, other: &Segment) -> Re
     ensures refused { IfErr result (λ e. (e ≡ MemoryOf) ⊎ RefusesAll segment.old other.now e) }
     ensures rolls_back { OnErr result (RollsBackAs saved.old segment.old saved.new segment.new) }
 {
-    // It is called for what it ensures: the segment has its form.
-    let _own = segment.base_point();
+    segment.opens_form();
     let Ok(images) = newer_images(segment, other) else {
         return Err(Refusal::Memory);
     };
@@ -86,8 +85,7 @@ fn know_and_hold(
     ensures refused { IfErr result (λ e. (e ≡ MemoryOf) ⊎ RefusesAll segment.old other.now e) }
     ensures rolls_back { RollsBackAs saved.old segment.old saved.new segment.new }
 {
-    // It is called for what it ensures: the segment has its form.
-    let _own = segment.base_point();
+    segment.opens_form();
     let Ok(missing) = segment.missing_by_page(other) else {
         return Err(Refusal::Memory);
     };
@@ -112,9 +110,8 @@ fn take_all(
     ensures refused { IfErr result (λ e. (e ≡ MemoryOf) ⊎ RefusesAll segment.old other.now e) }
     ensures rolls_back { RollsBackAs saved.old segment.old saved.new segment.new }
 {
-    // They are called for what they ensure: the segments have their form.
-    let _own = segment.base_point();
-    let _others = other.base_point();
+    segment.opens_form();
+    other.opens_form();
     let Ok(kept) = kept_among(other, missing) else {
         return Err(Refusal::Memory);
     };

@@ -18,7 +18,7 @@ pub use redo_laws::{
     answers, associativity, commutativity, congruence, idempotence, least_upper_bound,
     order_by_parts, overlap,
 };
-pub use segment_state::{join_means_union, same_meaning};
+pub use state_laws::{join_means_union, same_meaning};
 
 /// Two meanings of one log that cover each other are one.
 pub fn antisymmetry()

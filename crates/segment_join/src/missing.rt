@@ -2,12 +2,11 @@ ghost use Rattle.std.specs.Prelude.{◌≡◌, ℕ, ◌↔◌, map, IsTrue, IfOk
 ghost use Rattle.std.specs.List.{Contains};
 ghost use Rattle.redo_core.specs.Data.{RecordData};
 ghost use Rattle.redo_core.specs.Order.{IsRising, Lists, RecordBefore};
-ghost use Rattle.hot_log.specs.Kept.{KeepsKey};
 ghost use Rattle.hot_log.specs.Paged.{PlaceBefore};
-ghost use Rattle.segment_state.specs.HasMeaning.{HasAnchor, IsKeptBy};
+ghost use Rattle.state_laws.specs.HasMeaning.{HasAnchor, IsKeptBy};
 
 use redo_core::Record;
-use segment_core::{Segment, Standing};
+use segment_core::Segment;
 use std::alloc::AllocError;
 
 /// Those of a segment's held records that its meaning keeps, of a list by page and key; they rise by key. Its only error is want of
@@ -20,12 +19,12 @@ pub(crate) fn kept_among<'a>(
     requires held { (r : RecordData) → Contains (map (λ x. x.now) records.now) r → Contains segment.now.held r }
     ensures { (anchor : ℕ) → HasAnchor segment.now anchor → IfOk result (λ v. Lists RecordBefore (λ r. Contains (map (λ x. x.now) records.now) r × IsKeptBy segment.now anchor r) (map (λ x. x.now) v.items)) }
 {
-    // It opens the segment's form: at most one record stands under a key.
-    let _base = segment.base_point();
+    // At most one record stands under a key.
+    segment.opens_form();
     let anchor = segment.anchor();
     let mut kept = kept_by_page(segment, anchor, records)?;
     // Often few of the records are kept, and no sort is spent on the others.
-    kept.sort_unstable_by_key(|redo| (redo.epoch(), redo.number()));
+    kept.sort_unstable_by_key(|redo| redo.key());
     Ok(kept)
 }
 
@@ -52,16 +51,5 @@ fn kept_by_page<'a>(
 pub(crate) fn keeps(segment: &Segment, point: u64, redo: &Record) -> bool
     ensures { Contains segment.now.held redo.now → IsTrue result ↔ IsKeptBy segment.now point redo.now }
 {
-    keeps_key(segment, point, (redo.epoch(), redo.number()))
-}
-
-/// Whether a record of a key waits, or is alive above a point.
-pub(crate) fn keeps_key(segment: &Segment, point: u64, key: (u16, u64)) -> bool
-    ensures { IsTrue result ↔ KeepsKey segment.now.book point key }
-{
-    match segment.stands(key.0, key.1) {
-        Standing::Dead => false,
-        Standing::Waiting => true,
-        Standing::Alive => point < key.1,
-    }
+    segment.keeps(redo.key(), point)
 }

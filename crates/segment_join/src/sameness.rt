@@ -2,13 +2,13 @@ ghost use Rattle.std.specs.Prelude.{◌≡◌, ℕ, ◌++◌, false, IsTrue, IfO
 ghost use Rattle.std.specs.List.{All, Contains};
 ghost use Rattle.redo_core.specs.Data.{RecordData};
 ghost use Rattle.hot_log.specs.Found.{IsPageAfter};
-ghost use Rattle.segment_state.specs.HasMeaning.{HasAnchor};
+ghost use Rattle.state_laws.specs.HasMeaning.{HasAnchor};
 ghost use Rattle.segment_core.specs.declared.answers.ReadFault.TheVariants.{Memory as MemoryOf};
 ghost use Rattle.segment_join.specs.Sameness.{TellsSame, SameByParts, TellsPages, IsUnwritten};
 
 use crate::covering::covers;
 use segment_core::{BaseImage, ReadFault, Segment};
-use segment_state::same_meaning;
+use state_laws::same_meaning;
 use std::alloc::AllocError;
 
 /// Whether two segments mean the same, whatever each has folded and thrown away. The two rosters may differ.
@@ -32,9 +32,8 @@ pub fn same(one: &Segment, other: &Segment) -> Result<bool, ReadFault>
 fn has_same_meaning(one: &Segment, other: &Segment) -> Result<bool, AllocError>
     ensures { IfOk result (TellsSame one.now other.now) }
 {
-    // They open the segments' forms.
-    let _base = one.base_point();
-    let _other_base = other.base_point();
+    one.opens_form();
+    other.opens_form();
     if !covers(one, other)? {
         return Ok(false);
     }
@@ -53,9 +52,8 @@ fn has_same_pages(
 ) -> Result<bool, AllocError>
     ensures { IfOk result (TellsPages one.now point other.now other_point (λ P. (page : ℕ) → P page)) }
 {
-    // They open the segments' forms.
-    let _base = one.base_point();
-    let _other_base = other.base_point();
+    one.opens_form();
+    other.opens_form();
     if !has_same_written(one, point, other, other_point)? {
         return Ok(false);
     }
@@ -150,8 +148,7 @@ fn has_same_page(
 ) -> Result<bool, AllocError>
     ensures { IfOk result (TellsPages one.now point other.now other_point (λ P. P page)) }
 {
-    // They open the segments' forms.
-    let _base = one.base_point();
-    let _other_base = other.base_point();
+    one.opens_form();
+    other.opens_form();
     one.is_same_page(page, point, other, other_point)
 }

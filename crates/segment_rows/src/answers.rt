@@ -1,5 +1,5 @@
 use crate::row::Row;
-use redo_core::{Fact, Page, Refused};
+use redo_core::{Fact, Key, Page, Refused};
 use segment_core::{CommitFault, Folded, Front, ReadFault, Refusal, Segment, Taken};
 use std::alloc::AllocError;
 use std::io;
@@ -11,7 +11,7 @@ pub struct Shown {
     pub front: Front,
     pub base: u64,
     pub held: usize,
-    pub least: Option<(u16, u64)>,
+    pub least: Option<Key>,
     pub images: usize,
     pub versions: (u64, u64),
 }

@@ -33,7 +33,7 @@ fn joined(segment: &mut Segment, other: &Segment, row: Row) -> io::Result<()> {
 fn kept(segment: &Segment, row: Row) -> io::Result<()> {
     let mut keys = Vec::new(row.alloc());
     for redo in kept_of(segment)? {
-        keys.push((redo.epoch(), redo.number()))?;
+        keys.push(redo.key())?;
     }
     row.one("Keys", &keys)
 }

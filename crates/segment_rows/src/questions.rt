@@ -1,5 +1,6 @@
 use crate::answers::{page, show};
 use crate::row::Row;
+use redo_core::Key;
 use segment_core::Segment;
 use std::alloc::AllocError;
 use std::io;
@@ -12,7 +13,15 @@ fn numbers_of(segment: &Segment, row: Row) -> io::Result<()> {
     row.one("Numbers", &numbers)
 }
 
-fn keys(row: Row, found: Result<Vec<(u16, u64)>, AllocError>) -> io::Result<()> {
+/// The key that a row names first.
+fn key(row: Row) -> Key {
+    Key {
+        epoch: row.short(0),
+        number: row.number(1),
+    }
+}
+
+fn keys(row: Row, found: Result<Vec<Key>, AllocError>) -> io::Result<()> {
     row.one("Keys", &found?)
 }
 
@@ -28,15 +37,12 @@ fn plan(segment: &Segment, row: Row) -> io::Result<()> {
 }
 
 fn backlink(segment: &Segment, row: Row) -> io::Result<()> {
-    let found = segment.get(row.short(0), row.number(1));
+    let found = segment.get(key(row));
     row.one("BlockBack", &found.map(|redo| redo.block_back()))
 }
 
 fn key_after(segment: &Segment, row: Row) -> io::Result<()> {
-    row.one(
-        "Key",
-        &segment.key_after(Some((row.short(0), row.number(1)))),
-    )
+    row.one("Key", &segment.key_after(Some(key(row))))
 }
 
 /// Prints one number of the segment, or another answer.
@@ -57,7 +63,7 @@ pub fn answer(segment: &Segment, row: Row) -> io::Result<()> {
 fn find(segment: &Segment, row: Row) -> io::Result<()> {
     match row.name {
         "stands" => row.one("Stands", &segment.stands(row.short(0), row.number(1))),
-        "holds_key" => row.one("Flag", &segment.holds_key(row.short(0), row.number(1))),
+        "holds_key" => row.one("Flag", &segment.holds_key(key(row))),
         "get" => backlink(segment, row),
         "first_key" => row.one("Key", &segment.key_after(None)),
         "key_after" => key_after(segment, row),

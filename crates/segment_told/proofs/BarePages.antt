@@ -7,8 +7,8 @@ use Rattle.redo_core.specs.Writing.{zeros, after_records}
 use Rattle.redo_core.proofs.Members.{here}
 use Rattle.redo_laws.proofs.Deciding.{settled_eq, some_or_none}
 use Rattle.redo_laws.proofs.Storing.{stored_images}
-use Rattle.segment_state.specs.State.{State, StoredImage, image_of}
-use Rattle.segment_state.specs.Shows.{IsApplied, Shows}
+use Rattle.state_laws.specs.State.{State, StoredImage, image_of}
+use Rattle.state_laws.specs.Shows.{IsApplied, Shows}
 use Rattle.segment_core.proofs.Anew.{applied_in_order}
 use Rattle.segment_core.specs.Form.{IsSegment}
 

@@ -11,8 +11,8 @@ use Rattle.redo_core.specs.declared.facts.Fact.{Fact}
 use Rattle.redo_core.specs.declared.facts.Fact.TheVariants.{Cut, Advance}
 use Rattle.redo_core.proofs.Points.{least_mono}
 use Rattle.redo_laws.proofs.Deciding.{settled_lt}
-use Rattle.segment_state.specs.State.{State, min_of}
-use Rattle.segment_state.specs.Joining.{JoinedPoint, JoinsBooks}
+use Rattle.state_laws.specs.State.{State, min_of}
+use Rattle.state_laws.specs.Joining.{JoinedPoint, JoinsBooks}
 use Rattle.segment_core.specs.Form.{IsSegment}
 use Rattle.segment_told.specs.InOrder.{TakesEach}
 use Rattle.segment_told.proofs.TakingAll.{IsLate, IsToldAdvance, ToldPoint, LeavesAll, leaves_all}

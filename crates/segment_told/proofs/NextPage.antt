@@ -11,7 +11,7 @@ use Rattle.redo_core.specs.Store.{PageBefore, StoredImage}
 use Rattle.redo_core.proofs.Scans.{whole}
 use Rattle.epoch_book.proofs.Rising.{first_place}
 use Rattle.hot_log.specs.Found.{IsLeast, IsPageAbove, IsPageAfter}
-use Rattle.segment_state.specs.State.{State}
+use Rattle.state_laws.specs.State.{State}
 use Rattle.segment_told.proofs.Scanning.{of_member}
 use Rattle.segment_told.specs.StoredPages.{IsImageOf, IsStoredPage, BeginsAbove}
 

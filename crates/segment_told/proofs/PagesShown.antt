@@ -6,8 +6,8 @@ use Rattle.redo_core.specs.Meaning.{ImageData, ImageBefore}
 use Rattle.redo_core.proofs.Members.{none_in}
 use Rattle.redo_core.proofs.Listing.{lists_push, lists_as}
 use Rattle.hot_log.specs.Found.{IsLeast, IsPageAbove}
-use Rattle.segment_state.specs.State.{State}
-use Rattle.segment_state.specs.Shows.{Shows}
+use Rattle.state_laws.specs.State.{State}
+use Rattle.state_laws.specs.Shows.{Shows}
 use Rattle.segment_core.specs.Form.{IsSegment}
 use Rattle.segment_core.proofs.Pages.{IsPassed}
 use Rattle.segment_told.proofs.BarePages.{IsBare, bare_is_zeros}

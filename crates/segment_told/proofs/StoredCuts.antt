@@ -4,8 +4,8 @@ use Rattle.std.specs.List.{Contains}
 use Rattle.redo_core.specs.Order.{IsRising, CutBefore}
 use Rattle.redo_core.specs.Meaning.{Meaning}
 use Rattle.redo_core.proofs.Members.{lists_unique}
-use Rattle.segment_state.specs.State.{State}
-use Rattle.segment_state.specs.HasMeaning.{HasMeaning}
+use Rattle.state_laws.specs.State.{State}
+use Rattle.state_laws.specs.HasMeaning.{HasMeaning}
 
 -- a meaning's truncations are those that the state stores
 pub same_cuts : (s : State) (m : Meaning) → IsRising CutBefore s.book.cuts → HasMeaning s m → m.cuts ≡ s.book.cuts

@@ -12,9 +12,9 @@ use Rattle.redo_core.specs.declared.facts.Fact.{Fact}
 use Rattle.redo_core.specs.declared.facts.Fact.TheVariants.{Record, Cut, Advance}
 use Rattle.redo_core.proofs.Members.{none_in, here, which, only}
 use Rattle.redo_laws.proofs.Deciding.{settled_lt}
-use Rattle.segment_state.specs.State.{State}
-use Rattle.segment_state.specs.Known.{IsKnown}
-use Rattle.segment_state.specs.Learning.{StoresCut, StoresAdvance, PutsRecord}
+use Rattle.state_laws.specs.State.{State}
+use Rattle.state_laws.specs.Known.{IsKnown}
+use Rattle.state_laws.specs.Learning.{StoresCut, StoresAdvance, PutsRecord}
 use Rattle.segment_core.specs.Taking.{Stores}
 use Rattle.segment_told.specs.InOrder.{TakesOne, TakesEach}
 use Rattle.epoch_book.proofs.Books.{epoch_grows}

@@ -10,8 +10,8 @@ use Rattle.redo_core.specs.declared.facts.Fact.{Fact}
 use Rattle.redo_core.specs.declared.facts.Fact.TheVariants.{Record, Cut, Advance}
 use Rattle.redo_core.proofs.Members.{none_in, here, there, which}
 use Rattle.redo_laws.proofs.Meanings.{in_map, from_map}
-use Rattle.segment_state.specs.State.{State}
-use Rattle.segment_state.specs.HasMeaning.{IsKeptBy}
+use Rattle.state_laws.specs.State.{State}
+use Rattle.state_laws.specs.HasMeaning.{IsKeptBy}
 use Rattle.segment_told.specs.Told.{point_facts, facts_told, AreTold}
 
 -- the advance is a reader's point in the epoch

@@ -19,14 +19,14 @@ use Rattle.redo_core.specs.declared.facts.Fact.TheVariants.{Record, Cut, Advance
 use Rattle.redo_core.proofs.FactParts.{record_in, advance_in}
 use Rattle.redo_core.proofs.Members.{none_in, here, there, which}
 use Rattle.redo_laws.proofs.Meanings.{in_map, from_map}
-use Rattle.segment_state.specs.State.{State}
-use Rattle.segment_state.specs.Means.{Means, Matters, IsInImage}
-use Rattle.segment_state.specs.Known.{IsKnown, Conflicts}
-use Rattle.segment_state.specs.Learning.{StoresAdvance}
-use Rattle.segment_state.proofs.Knowing.{takes_known, no_conflict}
-use Rattle.segment_state.proofs.Learnt.{takes_record, takes_cut, takes_advance}
-use Rattle.segment_state.proofs.Booked.{epoch_of}
-use Rattle.segment_state.proofs.Reading.{alive_in_facts}
+use Rattle.state_laws.specs.State.{State}
+use Rattle.state_laws.specs.Means.{Means, Matters, IsInImage}
+use Rattle.state_laws.specs.Known.{IsKnown, Conflicts}
+use Rattle.state_laws.specs.Learning.{StoresAdvance}
+use Rattle.state_laws.proofs.Knowing.{takes_known, no_conflict}
+use Rattle.state_laws.proofs.Learnt.{takes_record, takes_cut, takes_advance}
+use Rattle.state_laws.proofs.Booked.{epoch_of}
+use Rattle.state_laws.proofs.Reading.{alive_in_facts}
 use Rattle.segment_core.specs.Taking.{Stores}
 use Rattle.segment_core.specs.Refusing.{Refuses}
 use Rattle.segment_core.specs.declared.answers.Refusal.{Refusal}

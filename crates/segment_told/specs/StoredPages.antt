@@ -6,9 +6,9 @@ use Rattle.redo_core.specs.Order.{Lists}
 use Rattle.redo_core.specs.Writing.{zeros}
 use Rattle.redo_core.specs.Meaning.{ImageData, ImageBefore}
 use Rattle.hot_log.specs.Found.{IsPageAbove}
-use Rattle.segment_state.specs.State.{State, StoredImage}
-use Rattle.segment_state.specs.Shows.{Shows}
-use Rattle.segment_state.specs.HasMeaning.{HasAnchor}
+use Rattle.state_laws.specs.State.{State, StoredImage}
+use Rattle.state_laws.specs.Shows.{Shows}
+use Rattle.state_laws.specs.HasMeaning.{HasAnchor}
 
 -- an image of the page is stored
 abbrev pub IsImageOf : List StoredImage → ℕ → Type 0

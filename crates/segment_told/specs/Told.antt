@@ -5,8 +5,8 @@ use Rattle.redo_core.specs.Order.{Lists, RecordBefore}
 use Rattle.redo_core.specs.Book.{BookData}
 use Rattle.redo_core.specs.declared.facts.Fact.{Fact}
 use Rattle.redo_core.specs.declared.facts.Fact.TheVariants.{Record, Cut, Advance}
-use Rattle.segment_state.specs.State.{State}
-use Rattle.segment_state.specs.HasMeaning.{HasAnchor, IsKeptBy}
+use Rattle.state_laws.specs.State.{State}
+use Rattle.state_laws.specs.HasMeaning.{HasAnchor, IsKeptBy}
 
 -- each reader's point as an advance in an epoch, from a reader on; a reader at point 0 has none
 abbrev pub point_facts : ℕ → ℕ → List ℕ → List Fact

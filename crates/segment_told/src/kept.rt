@@ -1,6 +1,6 @@
 ghost use Rattle.std.specs.Prelude.{◌≡◌, ℕ, map, IfOk};
 ghost use Rattle.redo_core.specs.Order.{Lists, RecordBefore};
-ghost use Rattle.segment_state.specs.HasMeaning.{HasAnchor, IsKeptBy};
+ghost use Rattle.state_laws.specs.HasMeaning.{HasAnchor, IsKeptBy};
 
 use redo_core::Record;
 use segment_core::Segment;
@@ -14,7 +14,7 @@ pub fn kept_of(segment: &Segment) -> Result<Vec<&Record>, AllocError>
     let keys = segment.kept_keys(anchor)?;
     let mut kept = Vec::with_capacity(segment.allocator(), keys.len())?;
     for key in &keys {
-        if let Some(redo) = segment.get(key.0, key.1) {
+        if let Some(redo) = segment.get(*key) {
             kept.push(redo)?;
         }
     }

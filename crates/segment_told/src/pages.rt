@@ -13,8 +13,8 @@ use std::alloc::AllocError;
 pub fn pages_at_anchor(segment: &Segment) -> Result<Vec<PageImage>, AllocError>
     ensures { IfOk result (λ v. AreShown segment.now v.items) }
 {
-    // It opens the segment's form: the images rise by page.
-    let _base = segment.base_point();
+    // The images rise by page.
+    segment.opens_form();
     let mut pages = Vec::new(segment.allocator());
     let mut next = stored_page_after(segment, None);
     while let Some(page) = next {

@@ -68,8 +68,8 @@ fn take_one(segment: &mut Segment, saved: &mut Savepoint, fact: Fact) -> Result<
     ensures refused { IfErr result (λ e. (e ≡ MemoryOf) ⊎ RefusesOne segment.old (fact ∷ []) e) }
     ensures rolls_back { RollsBackAs saved.old segment.old saved.new segment.new }
 {
-    // It opens the segment's form: there is a complete epoch.
-    let _base = segment.base_point();
+    // There is a complete epoch.
+    segment.opens_form();
     match segment.take_noted(saved, fact) {
         Ok(_) => Ok(()),
         Err(why) => Err(why),

@@ -1,6 +1,6 @@
 use epoch_book::{BookRefusal, Learnt, Standing};
 use hot_log::{Put, PutFault};
-use redo_core::Record;
+use redo_core::{Key, Record};
 use std::alloc::{AllocError, Global};
 
 /// A record as it is shown: epoch, number, segment backlink and page.
@@ -19,8 +19,8 @@ pub enum Answer {
     Found(Option<u64>),
     Record(Option<Row>),
     Page(Option<u16>),
-    Key(Option<(u16, u64)>),
-    Keys(Vec<(u16, u64)>),
+    Key(Option<Key>),
+    Keys(Vec<Key>),
     Put(Put),
     /// A put that was refused: the backlink of the record that came back, and why.
     PutRefused(u64, PutFault),

@@ -3,6 +3,7 @@ use crate::bench::Bench;
 use crate::words::Call;
 use epoch_book::EpochBook;
 use hot_log::{HotLog, Steps};
+use redo_core::Key;
 use row_words::short;
 use std::alloc::{AllocError, Global};
 
@@ -14,16 +15,20 @@ fn linked(log: &HotLog, book: &EpochBook, from: u64, limit: u64) -> Answer {
 
 // What is held, whatever stands.
 fn held(log: &HotLog, call: Call) -> Option<Answer> {
-    let (epoch, number) = (short(call.numbers[0]), call.numbers[1]);
+    let (first, number) = (short(call.numbers[0]), call.numbers[1]);
+    let key = Key {
+        epoch: first,
+        number,
+    };
     Some(match call.name {
         "len" => Answer::Number(log.len() as u64),
         "is_empty" => Answer::Flag(log.is_empty()),
-        "get" => row(log.get(epoch, number)),
-        "holds_key" => Answer::Flag(log.holds_key(epoch, number)),
+        "get" => row(log.get(key)),
+        "holds_key" => Answer::Flag(log.holds_key(key)),
         "first_key" => Answer::Key(log.key_after(None)),
-        "key_after" => Answer::Key(log.key_after(Some((epoch, number)))),
+        "key_after" => Answer::Key(log.key_after(Some(key))),
         "first_page" => Answer::Page(log.page_after(None)),
-        "page_after" => Answer::Page(log.page_after(Some(epoch))),
+        "page_after" => Answer::Page(log.page_after(Some(first))),
         _ => return None,
     })
 }

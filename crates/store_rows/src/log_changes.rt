@@ -3,7 +3,7 @@ use crate::bench::Bench;
 use crate::words::Call;
 use epoch_book::EpochBook;
 use hot_log::{HotLog, PutFault};
-use redo_core::Record;
+use redo_core::{Key, Record};
 use row_words::short;
 use std::alloc::{AllocError, Global};
 
@@ -40,7 +40,10 @@ fn copy_log(log: &mut HotLog) -> Result<Answer, AllocError> {
 fn removes(log: &mut HotLog, book: &EpochBook, call: Call) -> Option<Answer> {
     let [first, second, third, _] = call.numbers;
     match call.name {
-        "remove" => log.remove(short(first), second),
+        "remove" => log.remove(Key {
+            epoch: short(first),
+            number: second,
+        }),
         "remove_dead" => log.remove_dead(book),
         "remove_folded" => log.remove_folded(book, short(first), second, third),
         _ => return None,

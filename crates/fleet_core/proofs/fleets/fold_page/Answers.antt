@@ -1,4 +1,4 @@
-use Rattle.segment_state.specs.Promises.{KeepsMeaningWith}
+use Rattle.state_laws.specs.Promises.{KeepsMeaningWith}
 use Rattle.segment_core.specs.Folding.{RefusesCommit}
 use Rattle.segment_core.specs.declared.fold_plan.CommitFault.TheVariants.{Ahead}
 use Rattle.fleet_core.proofs.Following.{follows_fold, follows_no_plan, never_ahead}

@@ -1,8 +1,8 @@
 use Rattle.std.proofs.Common.{◌≡◌, get_or, true, false, sym, ◌∙◌}
 use Rattle.redo_core.proofs.Scans.{whole}
+use Rattle.redo_core.specs.Keys.{KeyBefore}
+use Rattle.redo_core.specs.declared.keys.Key.{Key}
 use Rattle.segment_told.proofs.Scanning.{next_passes}
-use Rattle.messages.specs.declared.keys.Key.{Key}
-use Rattle.messages.specs.Keys.{KeyBefore}
 use Rattle.gossip_core.specs.Answering.{IsCovered}
 use Rattle.gossip_core.proofs.Accounting.{first_fails, any_default}
 use Rattle.gossip_core.proofs.answering.first_uncovered.Goals as goal

@@ -1,7 +1,7 @@
 use Rattle.std.proofs.Common.{◌≤◌, List, subst, arith}
 use Rattle.redo_core.specs.Order.{IsFirst}
+use Rattle.redo_core.specs.Keys.{KeyBefore}
 use Rattle.messages.specs.declared.keys.Key as wire
-use Rattle.messages.specs.Keys.{KeyBefore}
 use Rattle.gossip_core.specs.Answering.{IsUncoveredKey}
 use Rattle.gossip_core.proofs.answering.uncovered_above.Goals as goal
 

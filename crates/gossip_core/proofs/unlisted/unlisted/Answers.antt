@@ -2,12 +2,14 @@ use Rattle.std.proofs.Common.{◌≡◌, ℕ, ◌+◌, ◌<◌, ◌≤◌, List,
 use Rattle.std.specs.List.{Contains}
 use Rattle.std.specs.Option.{option_copied}
 use Rattle.redo_core.specs.Data.{RecordData}
+use Rattle.redo_core.specs.Keys.{key_in}
+use Rattle.redo_core.specs.declared.keys.Key.{Key}
 use Rattle.redo_core.specs.Order.{Lists, RecordBefore}
 use Rattle.redo_core.proofs.Rising.{across, item_drop}
 use Rattle.redo_core.proofs.Members.{item}
 use Rattle.redo_core.proofs.Listing.{lists_more, lists_left, lists_whole, lists_as}
 use Rattle.hot_log.specs.Kept.{ListsKeysOf}
-use Rattle.segment_state.specs.HasMeaning.{IsKeptBy}
+use Rattle.state_laws.specs.HasMeaning.{IsKeptBy}
 use Rattle.segment_told.proofs.KeptKeys.{item_at, key_at, same_length}
 use Rattle.gossip_core.specs.Replying.{IsSent, IsUnlistedAt}
 use Rattle.gossip_core.proofs.Sending.{sent_at_key, not_sent_at_key, none_sent}
@@ -27,7 +29,7 @@ loop-key-preserved c =
     let lt : i < length kept = omega (arith, c.loop-key-test.true, same_length kept c.deref-key-items.result.now all.keys_are) in
     let x = item_at kept i lt in
     let is_kept : IsKeptBy s point x.0 = (all.lists.members x.0).0 (item kept i x.0 lt x.1) in
-    let key = key_at kept c.deref-key-items.result.now i x.0 (0, 0) all.keys_are lt x.1 in
+    let key = key_at kept c.deref-key-items.result.now i x.0 (key_in 0 0) all.keys_are lt x.1 in
     let P : RecordData → Type 0 = IsSent s point keys in
     let T : List RecordData → Type 0 = Lists RecordBefore (λ r. Contains (take (i + 1) kept) r × P r) in
     let ys : List RecordData = c.loop-key.sent.items in
@@ -43,7 +45,7 @@ loop-key-preserved c =
             lists = subst T (sym is) (subst (λ (r : RecordData). T (ys ++ r ∷ [])) (sym (w.in_ok-copy.ensures ∙ found.0)) more);
           }
       | in_default w ↦
-          let at_i : ℕ × ℕ = get_or c.deref-key-items.result.now i (0, 0) in
+          let at_i : Key = get_or c.deref-key-items.result.now i (key_in 0 0) in
           let none = subst (λ found. IsUnlistedAt s.held keys at_i (option_copied found)) w.in_default.is c.unlisted_at.ensures in
           let left : T ys = lists_left RecordBefore P kept ys i x.0 lt x.1 (not_sent_at_key s point keys at_i x.0 is_kept key none) c.loop-key.invariant.lists in
           record { all = all; lists = subst (λ sent. T sent.items) (sym w.sent-is) left }

@@ -2,11 +2,11 @@ use Rattle.std.proofs.Common.{◌≡◌, ◌+◌, ◌<◌, ◌≤◌, le_refl, s
 use Rattle.hot_log.proofs.Forks.{Search, alone_at_base, alone_below, search_start, search_end, search_counts, skip, down, looks, climbs_to, falls_by_one, has_record}
 use Rattle.hot_log.proofs.links.linked_counted.Goals as goal
 use Rattle.hot_log.proofs.Keys.{same_epoch, same_number}
-use Rattle.redo_core.specs.Keys.{key_at}
+use Rattle.redo_core.specs.Keys.{key_in}
 
 pub loop-key-init : goal.loop-key-init
 loop-key-init c = record {
-  search = λ is. subst (Search c.args.book.now c.args.log.now c.args.from c.args.limit c.args.from (key_at 0 0) c.args.from) (sym c.requires.fresh) (search_start c.args.book.now c.args.log.now c.args.from c.args.limit is c.requires.ordered);
+  search = λ is. subst (Search c.args.book.now c.args.log.now c.args.from c.args.limit c.args.from (key_in 0 0) c.args.from) (sym c.requires.fresh) (search_start c.args.book.now c.args.log.now c.args.from c.args.limit is c.requires.ordered);
   alone = λ is no. alone_at_base c.args.book.now c.args.log.now c.args.from c.args.from (le_refl c.args.from);
 }
 

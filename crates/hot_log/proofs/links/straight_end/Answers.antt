@@ -1,7 +1,7 @@
 use Rattle.std.proofs.Common.{◌≡◌, ℕ, ◌<◌, List, Option, Some, None, true, false, IsTrue, refl, sym, ◌∙◌, subst, arith}
 use Rattle.std.specs.Option.{is_some}
 use Rattle.redo_core.specs.Data.{RecordData}
-use Rattle.redo_core.specs.Keys.{key_at, key_of, KeyBefore}
+use Rattle.redo_core.specs.Keys.{key_in, key_of, KeyBefore}
 use Rattle.redo_core.specs.declared.keys.Key.{Key}
 use Rattle.redo_core.specs.Order.{RecordBefore}
 use Rattle.redo_core.specs.Shape.{record_fault}
@@ -27,7 +27,7 @@ some_second : (b : BookData) (held : List RecordData) (from top n : ℕ) (key : 
 some_second b held from top n key x None book form c s k none more end = absurd (cc)
 some_second b held from top n key x (Some next) book form c s k found more end =
     let y = found.0.0 in
-    let before : RecordBefore x y = subst (λ (e : ℕ). KeyBefore (key_at e x.number) (key_of y)) (sym k.0) (subst (λ (m : ℕ). KeyBefore (key_at key.epoch m) (key_of y)) (sym k.1) found.0.4) in
+    let before : RecordBefore x y = subst (λ (e : ℕ). KeyBefore (key_in e x.number) (key_of y)) (sym k.0) (subst (λ (m : ℕ). KeyBefore (key_in key.epoch m) (key_of y)) (sym k.1) found.0.4) in
     not_over_fork b held from top n x y book form c s found.0.1 found.0.2 (number_before b.cuts b.complete (view_of b book) x y s.alive.1 found.0.1.1 before) end
 
 pub loop-key-init : goal.loop-key-init

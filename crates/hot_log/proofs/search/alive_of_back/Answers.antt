@@ -1,6 +1,6 @@
 use Rattle.std.proofs.Common.{◌≡◌, ℕ, ◌<◌, ◌≤◌, List, ⊎_elim, refl, sym, subst, arith}
 use Rattle.redo_core.specs.Data.{RecordData}
-use Rattle.redo_core.specs.Keys.{key_at, key_of, KeyBefore}
+use Rattle.redo_core.specs.Keys.{key_in, key_of, KeyBefore}
 use Rattle.redo_core.specs.declared.keys.Key.{Key}
 use Rattle.redo_core.specs.Order.{PairBefore}
 use Rattle.redo_core.specs.Standing.{IsAlive}
@@ -14,18 +14,18 @@ use Rattle.hot_log.proofs.search.alive_of_back.Goals as goal
 use Rattle.hot_log.proofs.search.alive_of_back.Goals.{then-is_up_to, else-is_up_to}
 
 -- each alive record with the backlink is above the key that parts the alive records there
-over_low : (b : BookData) (held : List RecordData) (back epoch : ℕ) (at : Key) → PartsAt b back epoch → at ≡ (key_at epoch back) → IsHeld held → (r : RecordData) → IsHeldAlive b held r → r.back ≡ back → KeyBefore at (key_of r)
+over_low : (b : BookData) (held : List RecordData) (back epoch : ℕ) (at : Key) → PartsAt b back epoch → at ≡ (key_in epoch back) → IsHeld held → (r : RecordData) → IsHeldAlive b held r → r.back ≡ back → KeyBefore at (key_of r)
 over_low b held back epoch at parts is form r h e =
     let up : r.back < r.number = back_below r (form.shaped r h.0) in
     let lt : back < r.number = omega arith in
     subst (λ (p : Key). KeyBefore p (key_of r)) (sym is) ((parts.0 r.epoch r.number h.1).0 lt)
 
-over_after : (after at : Key) (epoch back e n : ℕ) → at ≡ (key_at epoch back) → (KeyBefore (key_at epoch back) after → ⊥) → KeyBefore at (key_at e n) → KeyBefore after (key_at e n)
+over_after : (after at : Key) (epoch back e n : ℕ) → at ≡ (key_in epoch back) → (KeyBefore (key_in epoch back) after → ⊥) → KeyBefore at (key_in e n) → KeyBefore after (key_in e n)
 over_after after at epoch back e n is not p =
-    let q : PairBefore epoch back e n = subst (λ (p : Key). KeyBefore p (key_at e n)) is p in
+    let q : PairBefore epoch back e n = subst (λ (p : Key). KeyBefore p (key_in e n)) is p in
     grind arith
 
-waits : (b : BookData) (key : Key) (e n : ℕ) → b.complete < key.epoch → IsAlive b.cuts b.complete e n → (key.epoch ≡ e → ⊥) × (KeyBefore key (key_at e n) → ⊥)
+waits : (b : BookData) (key : Key) (e n : ℕ) → b.complete < key.epoch → IsAlive b.cuts b.complete e n → (key.epoch ≡ e → ⊥) × (KeyBefore key (key_in e n) → ⊥)
 waits b key e n over a = let known : e ≤ b.complete = a.known in (λ p. omega arith, λ p. grind arith)
 
 pub loop-key-init : goal.loop-key-init
@@ -36,7 +36,7 @@ loop-key-init c = elim c.if-is_up_to.branch [
   }
   | else-is_up_to w ↦ record {
     above = λ form r h e p. subst (λ (k : Key). KeyBefore k (key_of r)) (sym w.at-is) p;
-    later = λ e n p. subst (λ (k : Key). KeyBefore k (key_at e n)) w.at-is p;
+    later = λ e n p. subst (λ (k : Key). KeyBefore k (key_in e n)) w.at-is p;
   }
 ]
 
@@ -67,7 +67,7 @@ loop-key-preserved c =
     let key = c.in-Some.key in
     let at = c.loop-key.at in
     let t = c.in-Some.ensures.next.0 in
-    let up : KeyBefore at key = subst (λ (e : ℕ). KeyBefore at (key_at e key.number)) t.3.0 (subst (λ (n : ℕ). KeyBefore at (key_at t.0.epoch n)) t.3.1 t.4) in
+    let up : KeyBefore at key = subst (λ (e : ℕ). KeyBefore at (key_in e key.number)) t.3.0 (subst (λ (n : ℕ). KeyBefore at (key_in t.0.epoch n)) t.3.1 t.4) in
     record {
       above = λ form r h e p. ⊎_elim
           (λ (k : HasKey key r). absurd (let yes = c.if-is_alive.ensures.alive.1 (key_alive c.args.book.now r key k h.1) in cc))

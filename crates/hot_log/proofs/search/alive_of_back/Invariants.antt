@@ -1,6 +1,6 @@
 use Rattle.std.proofs.Common.{◌≡◌, ℕ}
 use Rattle.redo_core.specs.Data.{RecordData}
-use Rattle.redo_core.specs.Keys.{key_at, key_of, KeyBefore}
+use Rattle.redo_core.specs.Keys.{key_in, key_of, KeyBefore}
 use Rattle.redo_core.specs.Order.{PairBefore}
 use Rattle.hot_log.specs.Held.{IsHeld}
 use Rattle.hot_log.specs.Alive.{IsHeldAlive}
@@ -11,7 +11,7 @@ use Rattle.hot_log.proofs.search.alive_of_back.Given as goal
 abbrev pub invariant-loop-key : goal.invariant-loop-key
 invariant-loop-key l = record {
   above : IsHeld l.log → (r : RecordData) → IsHeldAlive l.book l.log r → r.back ≡ l.back → KeyBefore l.fn.after (key_of r) → KeyBefore l.at (key_of r);
-  later : (e n : ℕ) → KeyBefore l.at (key_at e n) → KeyBefore l.fn.after (key_at e n);
+  later : (e n : ℕ) → KeyBefore l.at (key_in e n) → KeyBefore l.fn.after (key_in e n);
 }
 
 abbrev pub decreases-loop-key : goal.decreases-loop-key

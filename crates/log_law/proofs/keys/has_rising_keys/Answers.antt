@@ -2,6 +2,7 @@ use Rattle.std.proofs.Common.{◌≡◌, ◌+◌, ◌∙◌, sym, ap, subst, ref
 use Rattle.std.specs.Prelude.{slice_get}
 use Rattle.std.proofs.lemmas.Option.{slice_get_read}
 use Rattle.redo_core.specs.declared.facts.Fact.TheVariants.{Record}
+use Rattle.redo_core.specs.declared.keys.Key.{Key}
 use Rattle.log_law.proofs.InOrder.{IsAboveTo, IsLastKey, no_last, rising_more, rising_past, last_more, last_past}
 use Rattle.log_law.proofs.keys.has_rising_keys.Goals as goal
 use Rattle.log_law.proofs.keys.has_rising_keys.Goals.{in-Record+else-not-is_above, in_default}
@@ -33,8 +34,7 @@ loop-fact-preserved c =
           record {
             rising = rising_more log p redo here above c.loop-fact.invariant.rising;
             last = subst (IsLastKey log (p + 1)) (sym w.last-is)
-                (subst (λ e. IsLastKey log (p + 1) (Some (e, w.number.result))) (sym w.epoch.ensures)
-                (subst (λ n. IsLastKey log (p + 1) (Some (redo.epoch, n))) (sym w.number.ensures.value) (last_more log p redo here above)));
+                (subst (λ (k : Key). IsLastKey log (p + 1) (Some k)) (sym w.key.ensures.value) (last_more log p redo here above));
           })
       | in_default w ↦
           record {

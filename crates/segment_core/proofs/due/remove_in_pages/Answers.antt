@@ -1,6 +1,6 @@
 use Rattle.std.proofs.Common.{ℕ, get_or, subst}
 use Rattle.hot_log.specs.Removing.{IsFolded, Removes}
-use Rattle.segment_state.specs.State.{version_of}
+use Rattle.state_laws.specs.State.{version_of}
 use Rattle.segment_core.proofs.Gone.{gone_by_more, gone_by_all}
 use Rattle.segment_core.proofs.due.remove_in_pages.Goals as goal
 

@@ -1,7 +1,7 @@
 use Rattle.std.proofs.Common.{ℕ, take}
 use Rattle.hot_log.specs.Held.{IsHeld}
 use Rattle.hot_log.specs.Removing.{IsFolded}
-use Rattle.segment_state.specs.State.{version_of}
+use Rattle.state_laws.specs.State.{version_of}
 use Rattle.segment_core.proofs.Gone.{GoneBy}
 use Rattle.segment_core.proofs.due.remove_in_pages.Given as goal
 

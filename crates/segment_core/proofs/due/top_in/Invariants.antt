@@ -1,6 +1,6 @@
 use Rattle.std.proofs.Common.{◌≤◌, take}
 use Rattle.std.specs.List.{All}
-use Rattle.segment_state.specs.State.{StoredImage}
+use Rattle.state_laws.specs.State.{StoredImage}
 use Rattle.segment_core.proofs.due.top_in.Given as goal
 
 -- no version so far is above the top

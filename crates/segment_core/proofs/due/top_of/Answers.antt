@@ -1,6 +1,6 @@
 use Rattle.std.proofs.Common.{◌≤◌, List, subst, arith}
 use Rattle.std.specs.List.{All}
-use Rattle.segment_state.specs.State.{StoredImage}
+use Rattle.state_laws.specs.State.{StoredImage}
 use Rattle.segment_core.proofs.DuePages.{top_is}
 use Rattle.segment_core.proofs.due.top_of.Goals as goal
 

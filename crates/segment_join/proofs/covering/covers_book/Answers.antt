@@ -1,7 +1,7 @@
 use Rattle.std.proofs.Common.{◌≡◌, ◌≤◌, true, false, sym, subst, ◌∙◌}
 use Rattle.std.specs.List.{AllZip, Contains}
 use Rattle.redo_core.specs.declared.facts.Fact.TheVariants.{Advance}
-use Rattle.segment_state.specs.Known.{IsKnown}
+use Rattle.state_laws.specs.Known.{IsKnown}
 use Rattle.segment_told.proofs.Scanning.{of_member}
 use Rattle.redo_core.proofs.Members.{all_members}
 use Rattle.segment_join.proofs.covering.covers_book.Goals as goal

@@ -3,11 +3,12 @@ use Rattle.std.specs.List.{All}
 use Rattle.segment_join.specs.Covering.{HasAt}
 use Rattle.segment_join.proofs.Keeping.{at_all_keys}
 use Rattle.segment_join.proofs.covering.has_all.Goals as goal
+use Rattle.redo_core.specs.declared.keys.Key.{Key}
 
 pub returns-then-are_few : goal.returns-then-are_few
 returns-then-are_few c =
     let s = c.args.upper.now in let t = c.args.lower.now in let keys = c.in_ok-keys.keys.items in
     let all = at_all_keys s c.args.anchor t c.args.base keys c.in_ok-keys.ensures.rising c.in_ok-keys.ensures.keys in
     let tells : IsTrue c.has_keys.result ↔ All (HasAt s c.args.anchor t) keys =
-    subst (λ (ks : List (ℕ × ℕ)). IsTrue c.has_keys.result ↔ All (HasAt s c.args.anchor t) ks) c.deref.ensures.value c.has_keys.ensures in
+    subst (λ (ks : List Key). IsTrue c.has_keys.result ↔ All (HasAt s c.args.anchor t) ks) c.deref.ensures.value c.has_keys.ensures in
     (λ h. all.0 (tells.0 h), λ each. tells.1 (all.1 each))

@@ -1,6 +1,6 @@
 use Rattle.redo_core.specs.Data.{AdvanceData}
 use Rattle.redo_core.specs.declared.facts.Fact.TheVariants.{Advance}
-use Rattle.segment_state.specs.Known.{IsKnown}
+use Rattle.state_laws.specs.Known.{IsKnown}
 use Rattle.segment_told.proofs.Scanning.{one_fails, all_pass, next_passes}
 use Rattle.segment_join.proofs.covering.has_waits.Goals as goal
 

@@ -7,15 +7,15 @@ use Rattle.segment_join.proofs.covering.holds_at.Goals as goal
 pub returns-in_default : goal.returns-in_default
 returns-in_default c =
     let key = c.args.key in
-    let none = subst (λ found. IsRecordAt c.args.lower.now.held key.0 key.1 (option_copied found)) c.in_default.is c.get.ensures in (
+    let none = subst (λ found. IsRecordAt c.args.lower.now.held key (option_copied found)) c.in_default.is c.get.ensures in (
       λ h r has is. absurd (none r has is),
       λ each. refl,
     )
 
 pub returns-in-Some-get : goal.returns-in-Some-get
 returns-in-Some-get c =
-    same_at c.args.upper.now c.args.lower.now c.args.key c.in-Some.redo.now c.in-Some-get.held.now c.is_same.result c.base_point-upper.ensures.form.held.rising
-    c.base_point-lower.ensures.form.held.rising c.in-Some.ensures c.in-Some-get.ensures c.is_same.ensures
+    same_at c.args.upper.now c.args.lower.now c.args.key c.in-Some.redo.now c.in-Some-get.held.now c.is_same.result c.opens_form.ensures.form.held.rising
+    c.opens_form-2.ensures.form.held.rising c.in-Some.ensures c.in-Some-get.ensures c.is_same.ensures
 
 pub returns-in-None : goal.returns-in-None
 returns-in-None c = (

@@ -1,14 +1,14 @@
 use Rattle.std.proofs.Common.{IsTrue, refl, ◌∙◌, subst, arith}
 use Rattle.std.proofs.lemmas.Result.{on_ok_weaker}
 use Rattle.redo_core.specs.Data.{RecordData}
-use Rattle.segment_core.specs.Keys.{key_of}
+use Rattle.redo_core.specs.Keys.{key_of}
 use Rattle.segment_core.specs.Uniting.{HoldsRecord}
 use Rattle.segment_join.proofs.Sparing.{holds_known, holds_spared, holds_copy}
 use Rattle.segment_join.proofs.holding.hold_one.Goals as goal
 
 pub returns-then-is_needless-clause-holds : goal.returns-then-is_needless-clause-holds
 returns-then-is_needless-clause-holds c =
-    holds_spared c.args.segment.now c.args.other.now (key_of c.args.redo.now) c.args.redo.now c.base_point-base.ensures.form.held.rising (c.requires, (refl, refl))
+    holds_spared c.args.segment.now c.args.other.now (key_of c.args.redo.now) c.args.redo.now c.opens_form.ensures.form.held.rising (c.requires, (refl, refl))
     (c.is_needless.ensures.0 c.if-is_needless.true)
 
 pub returns-then-holds_key-clause-holds : goal.returns-then-holds_key-clause-holds
@@ -20,7 +20,7 @@ pub returns-clause-holds : goal.returns-clause-holds
 returns-clause-holds c =
     on_ok_weaker c.hold_noted.result
     (λ (holds : HoldsRecord c.args.segment.now c.in_ok-copy.field-0 c.hold_noted.new.self).
-    holds_copy c.args.segment.now c.args.other.now (key_of c.args.redo.now) c.args.redo.now c.hold_noted.new.self c.base_point-base.ensures.form.held.rising (c.requires, (refl, refl))
+    holds_copy c.args.segment.now c.args.other.now (key_of c.args.redo.now) c.args.redo.now c.hold_noted.new.self c.opens_form.ensures.form.held.rising (c.requires, (refl, refl))
     (λ no. let yes : IsTrue c.is_needless.result = c.is_needless.ensures.1 no in absurd (grind (arith, yes, c.if-is_needless.false)))
     (subst (λ (r : RecordData). HoldsRecord c.args.segment.now r c.hold_noted.new.self) c.in_ok-copy.ensures holds))
     c.hold_noted.ensures.holds

@@ -1,6 +1,6 @@
 use Rattle.std.proofs.Common.{◌≡◌, subst, arith}
 use Rattle.redo_core.specs.Book.{roster_of}
-use Rattle.segment_state.specs.State.{State}
+use Rattle.state_laws.specs.State.{State}
 use Rattle.segment_core.specs.Form.{IsSegment}
 use Rattle.segment_core.specs.Uniting.{Unites}
 use Rattle.segment_join.specs.Knowing.{IsJoined}
@@ -21,7 +21,7 @@ told own other new form shown same joined = record {
 pub unite-requires : goal.unite-requires
 unite-requires c =
     let own = c.args.segment.now in let other = c.args.other.now in let joined = c.in_default-know_and_hold.ensures.joined in let new = c.know_and_hold.new.segment in
-    let taken = told own other new c.base_point-own.ensures.form c.base_point.ensures.form c.requires joined in
+    let taken = told own other new c.opens_form.ensures.form c.base_point.ensures.form c.requires joined in
     omega (arith, c.base_point.ensures.own, base_fits_joined own other joined.taken joined.takes.facts taken new joined.holds)
 
 pub returns-in-Ok-unite-clause-joins : goal.returns-in-Ok-unite-clause-joins
@@ -33,7 +33,7 @@ returns-in-Ok-unite-clause-joins c =
     (subst (λ floor. Unites held c.base_point.result floor images new) c.floor.ensures c.in-Ok-unite.ensures.unites) in
     joins_both own other joined.taken held new joined.takes.facts images
     (record {
-      first = told own other held c.base_point-own.ensures.form c.base_point.ensures.form c.requires joined;
+      first = told own other held c.opens_form.ensures.form c.base_point.ensures.form c.requires joined;
       holds = joined.holds;
       newer = c.in-Ok.ensures;
       unites = unites;

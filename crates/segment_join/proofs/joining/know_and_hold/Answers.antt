@@ -10,7 +10,7 @@ pub hold_rest-requires-clause-known : goal.hold_rest-requires-clause-known
 hold_rest-requires-clause-known c = λ r has.
     let s = c.args.segment.now in
     let taken = c.in_default-take_all.ensures.takes in
-    let after = leaves_all s taken.facts c.take_all.new.segment (late_of s c.base_point-own.ensures.form) taken.takes in
+    let after = leaves_all s taken.facts c.take_all.new.segment (late_of s c.opens_form.ensures.form) taken.takes in
     ⊎_elim
     (λ (own : Contains s.held r). inl (after.before r own))
     (λ (no : Contains s.held r → ⊥). inr (subst (λ (rs : List (Bor RecordData)). Contains (map (λ x. x.now) rs) r) (sym c.deref-2.ensures.value)

@@ -5,7 +5,7 @@ use Rattle.redo_core.specs.Data.{RecordData}
 use Rattle.redo_core.specs.Book.{BookData, book_of}
 use Rattle.redo_core.specs.Order.{Lists, RecordBefore}
 use Rattle.redo_core.proofs.Listing.{lists_as}
-use Rattle.segment_state.specs.HasMeaning.{IsKeptBy}
+use Rattle.state_laws.specs.HasMeaning.{IsKeptBy}
 use Rattle.segment_core.specs.declared.answers.Refusal.{Refusal}
 use Rattle.segment_core.specs.declared.answers.Refusal.TheVariants.{Memory}
 use Rattle.segment_told.specs.Told.{facts_told}
@@ -34,7 +34,7 @@ returns-clause-takes c =
     let t = c.take_told.new.segment in
     on_ok_weaker c.take_told.result
     (λ (h : TakesEach s (facts_told given (map (λ r. r.now) c.deref.result.now)) t).
-    takes_left_out s other anchor kept c.base_point-own.ensures.form.held c.base_point-others.ensures.form.held above lists t
+    takes_left_out s other anchor kept c.opens_form.ensures.form.held c.opens_form-2.ensures.form.held above lists t
     (subst (λ (b : BookData). TakesEach s (facts_told b kept) t) is
     (subst (λ (rs : List (Bor RecordData)). TakesEach s (facts_told given (map (λ r. r.now) rs)) t) c.deref.ensures.value h)))
     c.take_told.ensures.takes
@@ -56,7 +56,7 @@ returns-clause-refused c =
     (λ (e : Refusal).
     memory_or e (RefusesOne s (facts_told given (map (λ r. r.now) c.deref.result.now)) e) _
     (λ h.
-    refuses_left_out s other anchor kept c.base_point-own.ensures.form.held c.base_point-others.ensures.form.held above lists e
+    refuses_left_out s other anchor kept c.opens_form.ensures.form.held c.opens_form-2.ensures.form.held above lists e
     (subst (λ (b : BookData). RefusesOne s (facts_told b kept) e) is
     (subst (λ (rs : List (Bor RecordData)). RefusesOne s (facts_told given (map (λ r. r.now) rs)) e) c.deref.ensures.value h))))
     c.take_told.ensures.refused

@@ -1,5 +1,5 @@
 use Rattle.std.proofs.Common.{◌↔◌, ℕ, IsTrue, subst}
-use Rattle.segment_state.specs.State.{StoredImage}
+use Rattle.state_laws.specs.State.{StoredImage}
 use Rattle.segment_join.specs.Sameness.{ShowOne, IsUnwritten}
 use Rattle.segment_told.proofs.Scanning.{one_fails, all_pass, next_passes}
 use Rattle.segment_join.proofs.sameness.has_same_images.Goals as goal

@@ -5,6 +5,6 @@ use Rattle.segment_join.proofs.sameness.has_same_page.Goals as goal
 pub returns : goal.returns
 returns c =
     IfOk-weaker c.is_same_page.result _ _ (λ same tells.
-    tells_page c.args.one.now c.args.point c.args.other.now c.args.other_point c.args.page same c.base_point-base.ensures.form
-    c.base_point-other_base.ensures.form tells)
+    tells_page c.args.one.now c.args.point c.args.other.now c.args.other_point c.args.page same c.opens_form.ensures.form
+    c.opens_form-2.ensures.form tells)
     c.is_same_page.ensures

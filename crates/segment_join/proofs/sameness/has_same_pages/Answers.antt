@@ -2,7 +2,7 @@ use Rattle.std.proofs.Common.{ℕ, List, ◌++◌, subst}
 use Rattle.std.specs.List.{All, Contains}
 use Rattle.std.proofs.lemmas.List.Elements.{Contains-append_left, Contains-append_right}
 use Rattle.redo_core.specs.Data.{RecordData}
-use Rattle.segment_state.specs.State.{StoredImage}
+use Rattle.state_laws.specs.State.{StoredImage}
 use Rattle.segment_join.specs.Sameness.{ShowOne, IsUnwritten}
 use Rattle.segment_told.proofs.Scanning.{part_fails}
 use Rattle.std.proofs.lemmas.Result.{IfOk-weaker}
@@ -30,7 +30,7 @@ returns c =
     let Shown : ℕ → Type 0 = ShowOne s c.args.point t c.args.other_point in
     let Stored : List StoredImage → Type 0 = All (λ (i : StoredImage). Shown i.page) in
     let written : (r : RecordData) → Contains (s.held ++ t.held) r → Shown r.page = c.in_ok-has_same_written.ensures.0 c.if-not-branch.false in (
-      λ h. all_pages s c.args.point t c.args.other_point c.base_point-base.ensures.form c.base_point-other_base.ensures.form
+      λ h. all_pages s c.args.point t c.args.other_point c.opens_form.ensures.form c.opens_form-2.ensures.form
           (record {
             images = subst Stored c.pages.ensures.value
                 (stored_of_both s t Shown c.pages.result.now (c.in_ok-has_same_images.ensures.0 c.if-not-branch-2.false) written);

@@ -2,12 +2,14 @@ use Rattle.std.proofs.Common.{◌≡◌, ℕ, ◌+◌, ◌<◌, ◌≤◌, List,
 use Rattle.std.proofs.lemmas.List.{map-append, take_more}
 use Rattle.std.specs.Option.{option_copied}
 use Rattle.redo_core.specs.Data.{RecordData}
+use Rattle.redo_core.specs.Keys.{key_in}
+use Rattle.redo_core.specs.declared.keys.Key.{Key}
 use Rattle.redo_core.specs.Order.{Lists, RecordBefore}
 use Rattle.redo_core.proofs.Members.{item}
 use Rattle.hot_log.specs.Held.{IsRecordAt}
 use Rattle.redo_core.proofs.Numbers.{greatest_unique}
-use Rattle.segment_state.specs.State.{min_of}
-use Rattle.segment_state.specs.HasMeaning.{IsLinkedIn, IsKeptBy}
+use Rattle.state_laws.specs.State.{min_of}
+use Rattle.state_laws.specs.HasMeaning.{IsLinkedIn, IsKeptBy}
 use Rattle.segment_told.proofs.KeptKeys.{at_key, not_at_key, item_at, key_at, same_length}
 use Rattle.segment_told.proofs.kept.kept_of.Goals as goal
 use Rattle.segment_told.proofs.kept.kept_of.Goals.{in-Some+in_ok-push, in_default}
@@ -19,7 +21,7 @@ loop-key-preserved c =
     let lt : i < length kept = omega (arith, c.loop-key-test.true, same_length kept c.deref-key-items.result.now all.keys_are) in
     let x = item_at kept i lt in
     let held = ((all.lists.members x.0).0 (item kept i x.0 lt x.1)).0 in
-    let key = key_at kept c.deref-key-items.result.now i x.0 (0, 0) all.keys_are lt x.1 in
+    let key = key_at kept c.deref-key-items.result.now i x.0 (key_in 0 0) all.keys_are lt x.1 in
     let next : take (i + 1) kept ≡ take i kept ++ x.0 ∷ [] = take_more kept i x.0 lt ∙ ap (λ (r : RecordData). take i kept ++ r ∷ []) (sym x.1) in
     elim c.match-get.branch [
       | in-Some+in_ok-push w ↦
@@ -31,8 +33,8 @@ loop-key-preserved c =
                 ∙ ap (λ (l : List RecordData). l ++ x.0 ∷ []) c.loop-key.invariant.so_far ∙ sym next;
           }
       | in_default w ↦
-          let at_i : ℕ × ℕ = get_or c.deref-key-items.result.now i (0, 0) in
-          absurd (not_at_key s.held at_i x.0 held key (subst (λ found. IsRecordAt s.held at_i.0 at_i.1 (option_copied found)) w.in_default.is c.get.ensures))
+          let at_i : Key = get_or c.deref-key-items.result.now i (key_in 0 0) in
+          absurd (not_at_key s.held at_i x.0 held key (subst (λ found. IsRecordAt s.held at_i (option_copied found)) w.in_default.is c.get.ensures))
     ]
 
 pub returns : goal.returns

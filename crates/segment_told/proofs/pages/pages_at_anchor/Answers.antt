@@ -1,6 +1,6 @@
 use Rattle.std.proofs.Common.{◌≡◌, [], ◌∷◌, ◌++◌, List, Some, None, sym, subst}
 use Rattle.redo_core.specs.Meaning.{ImageData}
-use Rattle.segment_state.specs.Shows.{Shows}
+use Rattle.state_laws.specs.Shows.{Shows}
 use Rattle.segment_told.specs.StoredPages.{IsImageAtAnchor}
 use Rattle.segment_told.proofs.PagesShown.{IsShown, ListsPassed, passed_none, passed_zeros, passed_more, passed_all}
 use Rattle.segment_told.proofs.pages.pages_at_anchor.Goals as goal
@@ -9,12 +9,12 @@ use Rattle.segment_told.proofs.pages.pages_at_anchor.Goals.{in-Some-2+in_ok-push
 pub loop-next-init : goal.loop-next-init
 loop-next-init c = λ anchor has.
     let s = c.args.segment.now in let next = c.stored_page_after-next.result in
-    subst (ListsPassed s anchor next) (sym c.new-pages.ensures.items) (passed_none s anchor next c.base_point-base.ensures.form c.stored_page_after-next.ensures)
+    subst (ListsPassed s anchor next) (sym c.new-pages.ensures.items) (passed_none s anchor next c.opens_form.ensures.form c.stored_page_after-next.ensures)
 
 pub loop-next-preserved : goal.loop-next-preserved
 loop-next-preserved c = λ anchor has.
     let s = c.args.segment.now in let page = c.in-Some.page in let next = c.stored_page_after-next-in-Some.result in
-    let form = c.base_point-base.ensures.form in let is = c.stored_page_after-next-in-Some.ensures in
+    let form = c.opens_form.ensures.form in let is = c.stored_page_after-next-in-Some.ensures in
     let ys : List ImageData = c.loop-next.pages.items in
     let before : ListsPassed s anchor (Some page) ys = subst (λ n. ListsPassed s anchor n ys) c.in-Some.is (c.loop-next.invariant anchor has) in
     elim c.match-branch-2.branch [

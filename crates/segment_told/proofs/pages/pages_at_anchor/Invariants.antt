@@ -1,5 +1,5 @@
 use Rattle.std.proofs.Common.{ℕ}
-use Rattle.segment_state.specs.HasMeaning.{HasAnchor}
+use Rattle.state_laws.specs.HasMeaning.{HasAnchor}
 use Rattle.segment_core.proofs.Pages.{pages_left}
 use Rattle.segment_told.proofs.PagesShown.{ListsPassed}
 use Rattle.segment_told.proofs.pages.pages_at_anchor.Given as goal

@@ -1,7 +1,7 @@
 use Rattle.std.proofs.Common.{◌≡◌, ◌⊎◌, inl, inr, refl}
 use Rattle.redo_core.specs.declared.facts.Fact.{Fact}
-use Rattle.segment_state.specs.State.{State}
-use Rattle.segment_state.specs.Known.{IsKnown}
+use Rattle.state_laws.specs.State.{State}
+use Rattle.state_laws.specs.Known.{IsKnown}
 use Rattle.segment_core.specs.Taking.{TellsKnown, Stores}
 use Rattle.segment_core.specs.declared.answers.Taken.{Taken}
 use Rattle.segment_core.specs.declared.answers.Taken.TheVariants.{Changed, Unchanged}

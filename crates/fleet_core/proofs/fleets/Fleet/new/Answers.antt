@@ -1,8 +1,8 @@
 use Rattle.std.proofs.Common.{◌≡◌, List, [], replicate, refl, sym, subst, rules, arith, ap, ◌∙◌}
 use Rattle.std.specs.List.{AllZip}
-use Rattle.segment_state.specs.State.{State, empty_state}
-use Rattle.segment_state.specs.Means.{Means}
-use Rattle.segment_state.proofs.Bare.{empty_means}
+use Rattle.state_laws.specs.State.{State, empty_state}
+use Rattle.state_laws.specs.Means.{Means}
+use Rattle.state_laws.proofs.Bare.{empty_means}
 use Rattle.fleet_core.specs.declared.making.Made.{Made}
 use Rattle.fleet_core.specs.Messages.{AreMade}
 use Rattle.fleet_core.proofs.Nodes.{none_mean}

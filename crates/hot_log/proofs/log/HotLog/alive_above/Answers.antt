@@ -1,6 +1,6 @@
 use Rattle.std.proofs.Common.{◌≡◌, ℕ, ◌<◌, refl, sym, subst, Some}
 use Rattle.redo_core.specs.Data.{RecordData}
-use Rattle.redo_core.specs.Keys.{key_at, key_of, KeyBefore}
+use Rattle.redo_core.specs.Keys.{key_in, key_of, KeyBefore}
 use Rattle.redo_core.specs.declared.keys.Key.{Key}
 use Rattle.redo_core.specs.Standing.{IsAlive}
 use Rattle.hot_log.specs.Held.{HasKey}
@@ -27,7 +27,7 @@ loop-redo-smaller c =
     (above_falls c.loop-redo.at (key_of x) c.args.self.now t.0 t.1 t.3 t.4)
 
 above_record : (at : Key) (x r : RecordData) → HasKey (key_of x) r → KeyBefore at (key_of r) → KeyBefore at (key_of x)
-above_record at x r k p = subst (λ (e : ℕ). KeyBefore at (key_at e x.number)) k.0 (subst (λ (n : ℕ). KeyBefore at (key_at r.epoch n)) k.1 p)
+above_record at x r k p = subst (λ (e : ℕ). KeyBefore at (key_in e x.number)) k.0 (subst (λ (n : ℕ). KeyBefore at (key_in r.epoch n)) k.1 p)
 
 pub loop-redo-preserved : goal.loop-redo-preserved
 loop-redo-preserved c =

@@ -1,6 +1,6 @@
 use Rattle.std.proofs.Common.{ℕ, ◌<◌, inl, inr, ⊎_elim, refl, sym, subst}
 use Rattle.redo_core.specs.Data.{RecordData}
-use Rattle.redo_core.specs.Keys.{key_at, key_of, KeyBefore}
+use Rattle.redo_core.specs.Keys.{key_in, key_of, KeyBefore}
 use Rattle.redo_core.specs.Order.{PairBefore}
 use Rattle.redo_core.specs.Standing.{IsAlive}
 use Rattle.hot_log.specs.Held.{HasKey}
@@ -20,7 +20,7 @@ returns-then-is_alive-clause-found c =
           (λ (k : HasKey key r). inl k)
           (λ (p : KeyBefore key (key_of r)).
           let up : t.0.number < r.number = number_before b.cuts b.complete (view_of b c.if-is_alive.ensures.book) t.0 r a h.1
-          (subst (λ (e : ℕ). KeyBefore (key_at e t.0.number) (key_of r)) (sym t.2.0) (subst (λ (n : ℕ). KeyBefore (key_at key.epoch n) (key_of r)) (sym t.2.1) p)) in
+          (subst (λ (e : ℕ). KeyBefore (key_in e t.0.number) (key_of r)) (sym t.2.0) (subst (λ (n : ℕ). KeyBefore (key_in key.epoch n) (key_of r)) (sym t.2.1) p)) in
           inr (subst (λ (n : ℕ). n < r.number) t.2.1 up))
           (c.in-Some.ensures.next.1 r h.0 (c.loop-key.invariant.above r h.0 h.1 tt lt)),
     )
@@ -33,7 +33,7 @@ pub loop-key-preserved : goal.loop-key-preserved
 loop-key-preserved c =
     let b = c.args.book.now in let held = c.args.self.now in let key = c.in-Some.key in let t = c.in-Some.ensures.next.0 in
     let dead : IsAlive b.cuts b.complete key.epoch key.number → ⊥ = λ a. let yes = c.if-is_alive.ensures.alive.1 a in absurd (cc) in
-    let up : KeyBefore c.loop-key.at key = subst (λ (e : ℕ). KeyBefore c.loop-key.at (key_at e key.number)) t.2.0 (subst (λ (n : ℕ). KeyBefore c.loop-key.at (key_at t.0.epoch n)) t.2.1 t.3) in
+    let up : KeyBefore c.loop-key.at key = subst (λ (e : ℕ). KeyBefore c.loop-key.at (key_in e key.number)) t.2.0 (subst (λ (n : ℕ). KeyBefore c.loop-key.at (key_in t.0.epoch n)) t.2.1 t.3) in
     rest_step b held (λ (r : RecordData). Unit {0}) c.args.number c.loop-key.at key c.loop-key.invariant (λ r h q p. c.in-Some.ensures.next.1 r h p) up dead
 
 pub returns-clause-found : goal.returns-clause-found

@@ -1,6 +1,6 @@
 use Rattle.std.proofs.Common.{◌≡◌, ℕ, ◌<◌, ◌≤◌, refl, sym, ◌∙◌, subst, List, Some}
 use Rattle.redo_core.specs.Data.{RecordData}
-use Rattle.redo_core.specs.Keys.{key_at, key_of}
+use Rattle.redo_core.specs.Keys.{key_in, key_of}
 use Rattle.redo_core.specs.declared.keys.Key.{Key}
 use Rattle.redo_core.specs.Standing.{IsAlive}
 use Rattle.hot_log.specs.Held.{HasKey}
@@ -31,7 +31,7 @@ key_down-at-requires c =
     subst (λ (n : ℕ). 0 < n) (sym (same_number c.key-key.ensures.value)) (positive x (c.in-Some.ensures.form.shaped x c.in-Some.ensures.last.0))
 
 -- the key that was read off the record
-read : (e n epoch number : ℕ) (r : RecordData) → epoch ≡ e → number ≡ n → HasKey (key_at e n) r → HasKey (key_at epoch number) r
+read : (e n epoch number : ℕ) (r : RecordData) → epoch ≡ e → number ≡ n → HasKey (key_in e n) r → HasKey (key_in epoch number) r
 read e n epoch number r p q k = (k.0 ∙ sym p, k.1 ∙ sym q)
 
 pub loop-redo-smaller : goal.loop-redo-smaller

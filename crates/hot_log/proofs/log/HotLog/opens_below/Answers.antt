@@ -1,6 +1,6 @@
 use Rattle.std.proofs.Common.{◌≡◌, ℕ, ◌<◌, ◌≤◌, inl, ⊎_elim, IsTrue, false, refl, sym, ◌∙◌, subst, arith, None}
 use Rattle.redo_core.specs.Data.{RecordData}
-use Rattle.redo_core.specs.Keys.{key_at, key_of, KeyBefore}
+use Rattle.redo_core.specs.Keys.{key_in, key_of, KeyBefore}
 use Rattle.redo_core.specs.Order.{PairBefore}
 use Rattle.redo_core.specs.Shape.{record_fault}
 use Rattle.redo_core.proofs.Pairs.{pair_trans}
@@ -25,7 +25,7 @@ pub loop-key-preserved : goal.loop-key-preserved
 loop-key-preserved c =
     let key = c.in-Some.key in
     let t = c.in-Some.ensures.next.0 in
-    let up : KeyBefore c.loop-key.at key = subst (λ (e : ℕ). KeyBefore c.loop-key.at (key_at e key.number)) t.2.0 (subst (λ (n : ℕ). KeyBefore c.loop-key.at (key_at t.0.epoch n)) t.2.1 t.3) in
+    let up : KeyBefore c.loop-key.at key = subst (λ (e : ℕ). KeyBefore c.loop-key.at (key_in e key.number)) t.2.0 (subst (λ (n : ℕ). KeyBefore c.loop-key.at (key_in t.0.epoch n)) t.2.1 t.3) in
     record {
       above = λ r h. ⊎_elim
           (λ (k : HasKey key r). absurd (let yes : IsTrue false = c.if-is_below.ensures.1 (r, h.0, k, h.2) in cc))

@@ -1,6 +1,6 @@
 use Rattle.std.proofs.Common.{ℕ, ◌<◌, ◌≤◌}
 use Rattle.redo_core.specs.Data.{RecordData}
-use Rattle.redo_core.specs.Keys.{key_at, key_of, KeyBefore}
+use Rattle.redo_core.specs.Keys.{key_in, key_of, KeyBefore}
 use Rattle.redo_core.specs.Order.{PairBefore}
 use Rattle.hot_log.specs.Alive.{IsOpenedBelow}
 use Rattle.hot_log.proofs.Climb.{above}
@@ -10,7 +10,7 @@ use Rattle.hot_log.proofs.log.HotLog.opens_below.Given as goal
 abbrev pub invariant-loop-key : goal.invariant-loop-key
 invariant-loop-key l = record {
   above : (r : RecordData) → IsOpenedBelow l.book l.self l.epoch l.number r → KeyBefore l.at (key_of r);
-  later : (e n : ℕ) → KeyBefore l.at (key_at e n) → n ≤ 18446744073709551615 → l.epoch < e;
+  later : (e n : ℕ) → KeyBefore l.at (key_in e n) → n ≤ 18446744073709551615 → l.epoch < e;
 }
 
 abbrev pub decreases-loop-key : goal.decreases-loop-key

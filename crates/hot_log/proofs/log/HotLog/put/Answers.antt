@@ -1,7 +1,7 @@
 use Rattle.std.proofs.Common.{◌≡◌, ◌⊎◌, ◌↔◌, refl, sym, ◌∙◌, subst, List, None, IsTrue, false}
 use Rattle.std.specs.List.{Contains}
 use Rattle.redo_core.specs.Data.{RecordData}
-use Rattle.redo_core.specs.Keys.{key_at, key_of}
+use Rattle.redo_core.specs.Keys.{key_in, key_of}
 use Rattle.hot_log.specs.Held.{IsRecordAt}
 use Rattle.hot_log.specs.Indexing.{IsKeyPages}
 use Rattle.hot_log.specs.Putting.{RefusesPut}
@@ -20,7 +20,7 @@ pub returns-then-is_some-clause-refused : goal.returns-then-is_some-clause-refus
 returns-then-is_some-clause-refused c =
     let held = c.self.inside.records in let keys = c.self.inside.by_key in let redo = c.args.redo in
     let e = c.key-key.result.epoch in let n = c.key-key.result.number in
-    let had = had_page c.in-Ok.page c.is_some.result keys c.add.new.self (key_at e n) c.page.result c.is_some.ensures c.if-is_some.true c.in-Ok.ensures.adds in
+    let had = had_page c.in-Ok.page c.is_some.result keys c.add.new.self (key_in e n) c.page.result c.is_some.ensures c.if-is_some.true c.in-Ok.ensures.adds in
     let t = c.self.invariant.by_key.backed e n had.0 had.1 in (
       refl,
       (
@@ -35,7 +35,7 @@ pub hold-requires-clause-free : goal.hold-requires-clause-free
 hold-requires-clause-free c =
     let held = c.self.inside.records in let keys = c.self.inside.by_key in let redo = c.args.redo in
     let e = c.key-key.result.epoch in let n = c.key-key.result.number in
-    let none = had_none c.in-Ok.page c.is_some.result keys c.add.new.self (key_at e n) c.page.result c.is_some.ensures c.if-is_some.false c.in-Ok.ensures.adds in
+    let none = had_none c.in-Ok.page c.is_some.result keys c.add.new.self (key_in e n) c.page.result c.is_some.ensures c.if-is_some.false c.in-Ok.ensures.adds in
     let free : IsRecordAt held (key_of redo) None = none_for held e n redo.epoch redo.number (same_epoch c.key-key.ensures.value) (same_number c.key-key.ensures.value) (unpaged held keys e n c.self.invariant.by_key none.0) in
     free
 
@@ -43,7 +43,7 @@ pub invariant_of-self-in-Ok-hold : goal.invariant_of-self-in-Ok-hold
 invariant_of-self-in-Ok-hold c =
     let held = c.self.inside.records in let keys = c.self.inside.by_key in let redo = c.args.redo in
     let e = c.key-key.result.epoch in let n = c.key-key.result.number in
-    let none = had_none c.in-Ok.page c.is_some.result keys c.add.new.self (key_at e n) c.page.result c.is_some.ensures c.if-is_some.false c.in-Ok.ensures.adds in
+    let none = had_none c.in-Ok.page c.is_some.result keys c.add.new.self (key_in e n) c.page.result c.is_some.ensures c.if-is_some.false c.in-Ok.ensures.adds in
     record {
       form = c.in-Ok-hold.ensures.form;
       by_key = pages_grow held c.hold.new.records keys c.add.new.self redo e n c.page.result c.self.invariant.by_key c.in-Ok-hold.ensures.gains (same_epoch c.key-key.ensures.value) (same_number c.key-key.ensures.value) c.page.ensures none.1;
@@ -54,7 +54,7 @@ pub invariant_of-self-in-Err : goal.invariant_of-self-in-Err
 invariant_of-self-in-Err c =
     let held = c.self.inside.records in let keys = c.self.inside.by_key in let redo = c.args.redo in
     let e = c.key-key.result.epoch in let n = c.key-key.result.number in
-    let none = had_none c.in-Ok.page c.is_some.result keys c.add.new.self (key_at e n) c.page.result c.is_some.ensures c.if-is_some.false c.in-Ok.ensures.adds in
+    let none = had_none c.in-Ok.page c.is_some.result keys c.add.new.self (key_in e n) c.page.result c.is_some.ensures c.if-is_some.false c.in-Ok.ensures.adds in
     let free : IsRecordAt held (key_of redo) None = none_for held e n redo.epoch redo.number (same_epoch c.key-key.ensures.value) (same_number c.key-key.ensures.value) (unpaged held keys e n c.self.invariant.by_key none.0) in
     let same : c.hold.new.records ≡ held = c.in-Err.ensures.unchanged in
     record {
@@ -67,7 +67,7 @@ pub returns-in-Ok-hold-clause-put : goal.returns-in-Ok-hold-clause-put
 returns-in-Ok-hold-clause-put c =
     let held = c.self.inside.records in let keys = c.self.inside.by_key in let redo = c.args.redo in
     let e = c.key-key.result.epoch in let n = c.key-key.result.number in
-    let none = had_none c.in-Ok.page c.is_some.result keys c.add.new.self (key_at e n) c.page.result c.is_some.ensures c.if-is_some.false c.in-Ok.ensures.adds in
+    let none = had_none c.in-Ok.page c.is_some.result keys c.add.new.self (key_in e n) c.page.result c.is_some.ensures c.if-is_some.false c.in-Ok.ensures.adds in
     let free : IsRecordAt held (key_of redo) None = none_for held e n redo.epoch redo.number (same_epoch c.key-key.ensures.value) (same_number c.key-key.ensures.value) (unpaged held keys e n c.self.invariant.by_key none.0) in (
       subst (λ (l : List RecordData). IsRecordAt l (key_of redo) None) c.self.view_is free,
       λ r. subst (λ (l : List RecordData). Contains c.hold.new.records r ↔ (Contains l r ⊎ (r ≡ redo))) c.self.view_is (c.in-Ok-hold.ensures.gains r),
@@ -77,7 +77,7 @@ pub returns-in-Err-clause-refused : goal.returns-in-Err-clause-refused
 returns-in-Err-clause-refused c =
     let held = c.self.inside.records in let keys = c.self.inside.by_key in let redo = c.args.redo in
     let e = c.key-key.result.epoch in let n = c.key-key.result.number in
-    let none = had_none c.in-Ok.page c.is_some.result keys c.add.new.self (key_at e n) c.page.result c.is_some.ensures c.if-is_some.false c.in-Ok.ensures.adds in
+    let none = had_none c.in-Ok.page c.is_some.result keys c.add.new.self (key_in e n) c.page.result c.is_some.ensures c.if-is_some.false c.in-Ok.ensures.adds in
     let free : IsRecordAt held (key_of redo) None = none_for held e n redo.epoch redo.number (same_epoch c.key-key.ensures.value) (same_number c.key-key.ensures.value) (unpaged held keys e n c.self.invariant.by_key none.0) in
     let refused = c.in-Err.ensures.refused in (
       refused.0,

@@ -1,6 +1,6 @@
 use Rattle.std.proofs.Common.{◌<◌, ◌≤◌, inl, ⊎_elim, ap, subst, arith, List, map, Bor}
 use Rattle.redo_core.specs.Data.{RecordData}
-use Rattle.redo_core.specs.Keys.{key_at}
+use Rattle.redo_core.specs.Keys.{key_in}
 use Rattle.hot_log.specs.Alive.{IsHeldOf, IsAliveBetween}
 use Rattle.hot_log.specs.Anew.{ListsAnew}
 use Rattle.hot_log.proofs.Pages.{if_ok, number_is, none_between}
@@ -22,6 +22,6 @@ returns c =
     let b = c.args.book.now in let held = c.self.inside.records in
     if_ok c.alive_anew.result _ _
     (λ v h. subst (λ (l : List RecordData). ListsAnew (IsHeldOf b l c.args.page c.args.from c.args.to) (map (λ x. x.now) v.items)) c.self.view_is
-    (anew_as (IsAliveBetween b held c.args.page (key_at c.epoch_above.result c.args.from) (key_at c.epoch_above-2.result c.args.to)) (IsHeldOf b held c.args.page c.args.from c.args.to) (map (λ x. x.now) v.items)
+    (anew_as (IsAliveBetween b held c.args.page (key_in c.epoch_above.result c.args.from) (key_in c.epoch_above-2.result c.args.to)) (IsHeldOf b held c.args.page c.args.from c.args.to) (map (λ x. x.now) v.items)
     (number_is b held c.args.page c.args.from c.args.to c.epoch_above.result c.epoch_above-2.result c.epoch_above.ensures.parts c.epoch_above-2.ensures.parts) h))
     c.alive_anew.ensures

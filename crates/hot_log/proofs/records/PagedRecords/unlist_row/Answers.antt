@@ -3,7 +3,7 @@ use Rattle.std.specs.Map.Iter.{deref_pair}
 use Rattle.std.proofs.lemmas.Map.Iter.{rest_so_far}
 use Rattle.std.proofs.lemmas.List.{map-append}
 use Rattle.redo_core.specs.Data.{RecordData}
-use Rattle.redo_core.specs.Keys.{key_at}
+use Rattle.redo_core.specs.Keys.{key_in}
 use Rattle.redo_core.specs.declared.keys.Key.{Key}
 use Rattle.redo_core.specs.Standing.{IsAlive}
 use Rattle.hot_log.specs.Removing.{UnlistsRow}
@@ -30,8 +30,8 @@ loop-redo-preserved-then-is_alive c =
     let so_far : Rowed b (seen m) c.args.above xs c.loop-redo.start c.loop-redo.last c.loop-redo.by_key c.loop-redo.by_back =
     subst (λ (l : List RecordData). Rowed b l c.args.above xs c.loop-redo.start c.loop-redo.last c.loop-redo.by_key c.loop-redo.by_back) (sym c.self.view_is) c.loop-redo.invariant in
     let joined : map deref_pair (c.loop-redo.yielded ++ (c.in-Some.field-0-0, c.in-Some.redo) ∷ []) ≡ xs ++ x ∷ [] = rw map-append in
-    subst (λ (l : List Entry). Rowed b c.args.self.now c.args.above l c.loop-redo.start (Some (key_at e n)) c.remove.new.self c.remove-then-is_alive.new.self) (sym joined)
-    (subst (λ (l : List RecordData). Rowed b l c.args.above (xs ++ x ∷ []) c.loop-redo.start (Some (key_at e n)) c.remove.new.self c.remove-then-is_alive.new.self) c.self.view_is
+    subst (λ (l : List Entry). Rowed b c.args.self.now c.args.above l c.loop-redo.start (Some (key_in e n)) c.remove.new.self c.remove-then-is_alive.new.self) (sym joined)
+    (subst (λ (l : List RecordData). Rowed b l c.args.above (xs ++ x ∷ []) c.loop-redo.start (Some (key_in e n)) c.remove.new.self c.remove-then-is_alive.new.self) c.self.view_is
     (rowed_alive b m c.args.page c.args.above c.args.to xs c.next.new.self x c.loop-redo.start c.loop-redo.last c.loop-redo.by_key c.remove.new.self c.loop-redo.by_back c.remove-then-is_alive.new.self
     c.back.result e n walk so_far (alive_as b e n x.1.epoch x.1.number (same_epoch c.key-key.ensures.value) (same_number c.key-key.ensures.value) (c.if-is_alive.ensures.alive.0 refl))
     c.back.ensures.value (same_epoch c.key-key.ensures.value) (same_number c.key-key.ensures.value) c.remove.ensures.loses c.remove-then-is_alive.ensures))
@@ -53,9 +53,9 @@ loop-redo-preserved c =
     let dead = λ (a : IsAlive b.cuts b.complete x.1.epoch x.1.number).
     let is = c.if-is_alive.ensures.alive.1 (alive_as b x.1.epoch x.1.number e n (sym (same_epoch c.key-key.ensures.value)) (sym (same_number c.key-key.ensures.value)) a) in absurd (cc) in
     let joined : map deref_pair (c.loop-redo.yielded ++ (c.in-Some.field-0-0, c.in-Some.redo) ∷ []) ≡ xs ++ x ∷ [] = rw map-append in
-    subst (λ (o : Option Key). Rowed b c.args.self.now c.args.above (map deref_pair (c.loop-redo.yielded ++ (c.in-Some.field-0-0, c.in-Some.redo) ∷ [])) (key_at e n) o c.loop-redo.by_key c.loop-redo.by_back) (sym c.in_default.is)
-    (subst (λ (l : List Entry). Rowed b c.args.self.now c.args.above l (key_at e n) None c.loop-redo.by_key c.loop-redo.by_back) (sym joined)
-    (subst (λ (l : List RecordData). Rowed b l c.args.above (xs ++ x ∷ []) (key_at e n) None c.loop-redo.by_key c.loop-redo.by_back) c.self.view_is
+    subst (λ (o : Option Key). Rowed b c.args.self.now c.args.above (map deref_pair (c.loop-redo.yielded ++ (c.in-Some.field-0-0, c.in-Some.redo) ∷ [])) (key_in e n) o c.loop-redo.by_key c.loop-redo.by_back) (sym c.in_default.is)
+    (subst (λ (l : List Entry). Rowed b c.args.self.now c.args.above l (key_in e n) None c.loop-redo.by_key c.loop-redo.by_back) (sym joined)
+    (subst (λ (l : List RecordData). Rowed b l c.args.above (xs ++ x ∷ []) (key_in e n) None c.loop-redo.by_key c.loop-redo.by_back) c.self.view_is
     (rowed_dead b m c.args.page c.args.above c.args.to xs c.next.new.self x c.loop-redo.start c.loop-redo.by_key c.loop-redo.by_back e n walk none dead (same_epoch c.key-key.ensures.value) (same_number c.key-key.ensures.value))))
 
 pub returns-in-Some-last : goal.returns-in-Some-last

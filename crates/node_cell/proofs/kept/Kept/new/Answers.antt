@@ -1,5 +1,5 @@
 use Rattle.std.proofs.Common.{subst, sym, ◌≡◌, []}
-use Rattle.segment_state.specs.Means.{Means}
+use Rattle.state_laws.specs.Means.{Means}
 use Rattle.node_cell.specs.Kept.{MeansTrail}
 use Rattle.node_cell.proofs.Keeping.{none_kept}
 use Rattle.node_cell.proofs.kept.Kept.new.Goals as goal

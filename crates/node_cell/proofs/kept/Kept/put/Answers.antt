@@ -1,6 +1,6 @@
 use Rattle.std.proofs.Common.{rules, arith, ◌≡◌, ◌∙◌, ◌<◌, ◌++◌, ◌∷◌, [], length, refl, subst, sym, ap}
 use Rattle.std.specs.Prelude.{vec_len}
-use Rattle.segment_state.specs.Means.{MeansAt}
+use Rattle.state_laws.specs.Means.{MeansAt}
 use Rattle.node_cell.specs.Kept.{MeansTrail}
 use Rattle.node_cell.specs.Delivering.{IsFrontWith}
 use Rattle.node_cell.proofs.Places.{in_log}

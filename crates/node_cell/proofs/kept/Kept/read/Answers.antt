@@ -1,6 +1,6 @@
 use Rattle.std.proofs.Common.{sym, refl, ap, subst, Result, Ok, ◌∙◌}
 use Rattle.segment_core.specs.declared.answers.ReadFault.{ReadFault}
-use Rattle.segment_state.specs.Means.{MeansAt}
+use Rattle.state_laws.specs.Means.{MeansAt}
 use Rattle.node_cell.specs.View.{ViewData}
 use Rattle.node_cell.specs.Reading.{IsViewResult, TellsRead}
 use Rattle.node_cell.proofs.Keeping.{log_page, tells}

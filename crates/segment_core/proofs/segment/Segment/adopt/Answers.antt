@@ -1,7 +1,7 @@
 use Rattle.std.proofs.Common.{sym, ◌∙◌, ap, subst, max}
 use Rattle.redo_core.specs.Store.{Store}
 use Rattle.page_base.specs.Adopting.{Adopts, StoresJust}
-use Rattle.segment_state.specs.State.{State}
+use Rattle.state_laws.specs.State.{State}
 use Rattle.segment_core.proofs.segment.Segment.adopt.Goals as goal
 
 pub returns-in-Ok-clause-adopts : goal.returns-in-Ok-clause-adopts

@@ -1,6 +1,6 @@
 use Rattle.std.proofs.Common.{subst}
-use Rattle.segment_state.specs.State.{State}
-use Rattle.segment_state.specs.HasMeaning.{HasAnchor}
+use Rattle.state_laws.specs.State.{State}
+use Rattle.state_laws.specs.HasMeaning.{HasAnchor}
 use Rattle.segment_core.proofs.Chain.{own_anchor, true_anchor}
 use Rattle.segment_core.proofs.segment.Segment.anchor.Goals as goal
 

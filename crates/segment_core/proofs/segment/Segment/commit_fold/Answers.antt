@@ -1,7 +1,7 @@
 use Rattle.std.proofs.Common.{◌≡◌, OnOk, OnErr, IfErr, sym, subst}
-use Rattle.segment_state.specs.State.{State, state_of}
-use Rattle.segment_state.specs.HasMeaning.{HasAnchor}
-use Rattle.segment_state.specs.Promises.{KeepsMeaningWith}
+use Rattle.state_laws.specs.State.{State, state_of}
+use Rattle.state_laws.specs.HasMeaning.{HasAnchor}
+use Rattle.state_laws.specs.Promises.{KeepsMeaningWith}
 use Rattle.segment_core.specs.Folding.{Commits, RefusesCommit}
 use Rattle.segment_core.proofs.Committing.{ahead_at, not_ahead, raised, raise_keeps, raise_refused, raise_back, raise_unchanged}
 use Rattle.segment_core.proofs.DuePages.{raise_due}

@@ -1,4 +1,4 @@
-use Rattle.segment_state.specs.State.{image_of}
+use Rattle.state_laws.specs.State.{image_of}
 use Rattle.segment_core.proofs.SamePages.{tells_same}
 use Rattle.segment_core.proofs.segment.Segment.is_same_page.Goals as goal
 

@@ -1,5 +1,5 @@
 use Rattle.std.proofs.Common.{◌↔◌, true, false, IsTrue, subst}
-use Rattle.segment_state.specs.State.{State}
+use Rattle.state_laws.specs.State.{State}
 use Rattle.segment_core.specs.Refusing.{IsDeadOrSettled}
 use Rattle.redo_core.specs.Standing.{IsAlive}
 use Rattle.segment_core.proofs.Chain.{dead_is_not, waiting_is, alive_is}

@@ -1,7 +1,7 @@
 use Rattle.std.proofs.Common.{subst}
 use Rattle.hot_log.specs.Kept.{ListsKeysOf}
-use Rattle.segment_state.specs.State.{State}
-use Rattle.segment_state.specs.HasMeaning.{IsKeptBy}
+use Rattle.state_laws.specs.State.{State}
+use Rattle.state_laws.specs.HasMeaning.{IsKeptBy}
 use Rattle.hot_log.proofs.Pages.{if_ok}
 use Rattle.segment_core.proofs.segment.Segment.kept_keys.Goals as goal
 

@@ -1,7 +1,7 @@
 use Rattle.std.proofs.Common.{◌↔◌, IsTrue, subst}
 use Rattle.redo_core.specs.declared.facts.Fact.TheVariants.{Advance}
-use Rattle.segment_state.specs.State.{State}
-use Rattle.segment_state.specs.Known.{IsKnown}
+use Rattle.state_laws.specs.State.{State}
+use Rattle.state_laws.specs.Known.{IsKnown}
 use Rattle.segment_core.proofs.segment.Segment.knows_advance.Goals as goal
 
 pub returns : goal.returns

@@ -1,7 +1,7 @@
 use Rattle.std.proofs.Common.{Some, subst, arith}
 use Rattle.std.specs.Option.{option_copied}
 use Rattle.hot_log.specs.Found.{IsGreatestRecord}
-use Rattle.segment_state.specs.State.{State}
+use Rattle.state_laws.specs.State.{State}
 use Rattle.segment_core.specs.BlockChain.{IsLinkedOf, IsLinkedUpTo}
 use Rattle.segment_core.proofs.BlockChain.{last_sure, last_linked, last_unlinked}
 use Rattle.segment_core.proofs.segment.Segment.last_linked_of.Goals as goal

@@ -3,7 +3,7 @@ use Rattle.std.specs.Option.{option_copied}
 use Rattle.redo_core.specs.Data.{RecordData}
 use Rattle.redo_core.specs.declared.records.Record.{Record}
 use Rattle.hot_log.specs.Found.{IsOnlyRecord}
-use Rattle.segment_state.specs.State.{State, state_of}
+use Rattle.state_laws.specs.State.{State, state_of}
 use Rattle.segment_core.specs.BlockChain.{IsLinkedUpTo}
 use Rattle.segment_core.proofs.BlockChain.{IsLinkedAt, only_low, none_high, only_high, other_page}
 use Rattle.segment_core.proofs.segment.Segment.linked_of.Goals as goal

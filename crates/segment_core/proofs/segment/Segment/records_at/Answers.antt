@@ -1,8 +1,8 @@
 use Rattle.std.proofs.Common.{map, IfOk, subst}
 use Rattle.hot_log.specs.Alive.{IsHeldOf}
 use Rattle.hot_log.specs.Anew.{ListsAnew}
-use Rattle.segment_state.specs.State.{State}
-use Rattle.segment_state.specs.Shows.{IsApplied}
+use Rattle.state_laws.specs.State.{State}
+use Rattle.state_laws.specs.Shows.{IsApplied}
 use Rattle.segment_core.proofs.segment.Segment.records_at.Goals as goal
 
 pub returns-clause-anew : goal.returns-clause-anew

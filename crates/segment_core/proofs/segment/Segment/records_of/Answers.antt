@@ -1,7 +1,7 @@
 use Rattle.std.proofs.Common.{map, subst, IfOk}
 use Rattle.redo_core.specs.Order.{Lists, BeforeByNumber}
 use Rattle.hot_log.specs.Alive.{IsHeldOf}
-use Rattle.segment_state.specs.State.{State}
+use Rattle.state_laws.specs.State.{State}
 use Rattle.segment_core.proofs.segment.Segment.records_of.Goals as goal
 
 pub returns : goal.returns

@@ -1,6 +1,6 @@
 use Rattle.std.proofs.Common.{subst, [], List, rules}
 use Rattle.redo_core.specs.Data.{RecordData}
-use Rattle.segment_state.specs.State.{Store, state_of}
+use Rattle.state_laws.specs.State.{Store, state_of}
 use Rattle.segment_core.specs.Adopting.{AdoptsBase}
 use Rattle.segment_core.specs.Restoring.{GainsEach}
 use Rattle.segment_core.proofs.Restored.{made_of}

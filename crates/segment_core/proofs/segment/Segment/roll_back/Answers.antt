@@ -5,7 +5,7 @@ use Rattle.redo_core.specs.Keys.{key_of}
 use Rattle.redo_core.specs.declared.keys.Key.{Key}
 use Rattle.redo_core.specs.Roster.{least}
 use Rattle.epoch_book.specs.Book.{BookData, IsBook}
-use Rattle.segment_state.specs.State.{State, Store, state_of}
+use Rattle.state_laws.specs.State.{State, Store, state_of}
 use Rattle.segment_core.specs.Due.{HasDue}
 use Rattle.segment_core.specs.Points.{HasPoints}
 use Rattle.segment_core.specs.Savepoint.{SavepointData, RollsBackTo}

@@ -1,5 +1,5 @@
 use Rattle.std.proofs.Common.{subst}
-use Rattle.segment_state.specs.State.{State}
+use Rattle.state_laws.specs.State.{State}
 use Rattle.segment_core.specs.Standing.{StandsAt}
 use Rattle.segment_core.proofs.Chain.{stands_at}
 use Rattle.segment_core.proofs.segment.Segment.stands.Goals as goal

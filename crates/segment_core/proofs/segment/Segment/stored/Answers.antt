@@ -1,6 +1,6 @@
 use Rattle.std.proofs.Common.{◌≡◌, ◌+◌, ◌<◌, ◌∙◌, [], ◌∷◌, length, length-append, None, Some, ap, sym, subst, arith}
 use Rattle.hot_log.specs.Held.{IsHeld, IsKeyAfter}
-use Rattle.segment_state.specs.State.{State}
+use Rattle.state_laws.specs.State.{State}
 use Rattle.segment_core.proofs.Keys.{KeysTo, keys_none, keys_more, keys_fewer, keys_all}
 use Rattle.segment_core.proofs.segment.Segment.stored.Goals as goal
 

@@ -1,5 +1,5 @@
 use Rattle.std.proofs.Common.{◌≤◌, subst}
-use Rattle.segment_state.specs.State.{State}
+use Rattle.state_laws.specs.State.{State}
 use Rattle.segment_core.specs.BlockChain.{IsLinkedUpTo}
 use Rattle.segment_core.proofs.Chained.{sure_complete, base_complete}
 use Rattle.segment_core.proofs.segment.Segment.sure_point.Goals as goal

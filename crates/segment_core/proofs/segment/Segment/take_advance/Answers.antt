@@ -1,7 +1,7 @@
-use Rattle.segment_state.specs.State.{state_of}
+use Rattle.state_laws.specs.State.{state_of}
 use Rattle.std.proofs.Common.{subst}
 use Rattle.redo_core.specs.declared.facts.Fact.TheVariants.{Advance}
-use Rattle.segment_state.proofs.Learnt.{takes_advance}
+use Rattle.state_laws.proofs.Learnt.{takes_advance}
 use Rattle.segment_core.specs.Exactly.{TakesExactly}
 use Rattle.segment_core.proofs.Taking.{advance_exact, advance_bound}
 use Rattle.segment_core.proofs.Following.{advance_lags}

@@ -1,8 +1,8 @@
-use Rattle.segment_state.specs.State.{state_of}
+use Rattle.state_laws.specs.State.{state_of}
 use Rattle.std.proofs.Common.{◌≡◌, ◌∙◌, sym, subst}
 use Rattle.redo_core.specs.declared.facts.Fact.TheVariants.{Cut}
-use Rattle.segment_state.proofs.Learnt.{takes_cut}
-use Rattle.segment_state.proofs.Knowing.{takes_known}
+use Rattle.state_laws.proofs.Learnt.{takes_cut}
+use Rattle.state_laws.proofs.Knowing.{takes_known}
 use Rattle.segment_core.specs.Exactly.{TakesExactly}
 use Rattle.segment_core.proofs.Taking.{cut_exact, cut_bound}
 use Rattle.segment_core.proofs.Following.{cut_keeps_points, cut_had_points, cut_is_later}

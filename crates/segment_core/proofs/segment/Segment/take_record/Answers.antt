@@ -1,9 +1,9 @@
 use Rattle.std.proofs.Common.{◌≡◌, true, false, sym, subst}
-use Rattle.segment_state.specs.State.{State, state_of}
+use Rattle.state_laws.specs.State.{State, state_of}
 use Rattle.segment_core.specs.Refusing.{IsDeadOrSettled}
 use Rattle.redo_core.specs.declared.facts.Fact.TheVariants.{Record}
-use Rattle.segment_state.proofs.Learnt.{takes_record}
-use Rattle.segment_state.proofs.Knowing.{takes_known}
+use Rattle.state_laws.proofs.Learnt.{takes_record}
+use Rattle.state_laws.proofs.Knowing.{takes_known}
 use Rattle.segment_core.specs.Exactly.{TakesExactly}
 use Rattle.segment_core.proofs.Taking.{settled_exact, put_exact}
 use Rattle.segment_core.proofs.DuePages.{put_due}
@@ -20,18 +20,18 @@ returns c =
     let compared = subst (λ (s : State). IsDeadOrSettled s c.args.redo → ⊥) (sym c.self.view_is)
     (λ h. let t : c.is_settled.result ≡ true = c.is_settled.ensures.1 h in let f : c.is_settled.result ≡ false =
     c.if-is_settled.false in absurd (cc)) in
-    subst (λ s. TakesExactly s (Record c.args.redo) c.put_answer.result (state_of book c.put.new.hot c.self.inside.base c.self.inside.store)) c.self.view_is
-    (put_exact takes_record takes_known book held c.put.new.hot c.self.inside.base c.self.inside.store c.args.redo c.put.result c.put_answer.result
-    c.put.ensures.form compared c.put.ensures.put c.put.ensures.refused c.put.ensures.unchanged c.put_answer.ensures)
+    subst (λ s. TakesExactly s (Record c.args.redo) c.put_answer.result (state_of book c.put_record.new.hot c.self.inside.base c.self.inside.store)) c.self.view_is
+    (put_exact takes_record takes_known book held c.put_record.new.hot c.self.inside.base c.self.inside.store c.args.redo c.put_record.result c.put_answer.result
+    c.put_record.ensures.form compared c.put_record.ensures.put c.put_record.ensures.refused c.put_record.ensures.unchanged c.put_answer.ensures)
 
 pub invariant_of-self : goal.invariant_of-self
 invariant_of-self c =
     let i = c.self.inside in (
       c.self.invariant.0,
-      c.put.ensures.form,
+      c.put_record.ensures.form,
       c.self.invariant.2,
       c.self.invariant.3,
-      c.put.ensures.points,
-      put_due i.book i.hot c.put.new.hot i.store i.due c.add_held.new.self c.args.redo c.put.result c.self.invariant.5 c.add_held.ensures.more
-          c.add_held.ensures.looks c.put.ensures.put c.put.ensures.unchanged,
+      c.put_record.ensures.points,
+      put_due i.book i.hot c.put_record.new.hot i.store i.due c.add_held.new.self c.args.redo c.put_record.result c.self.invariant.5 c.add_held.ensures.more
+          c.add_held.ensures.looks c.put_record.ensures.put c.put_record.ensures.unchanged,
     )

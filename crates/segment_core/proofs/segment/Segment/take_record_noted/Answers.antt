@@ -1,7 +1,7 @@
 use Rattle.std.proofs.Common.{◌≡◌, subst}
 use Rattle.redo_core.specs.declared.facts.Fact.TheVariants.{Record}
 use Rattle.redo_core.specs.declared.keys.Key.{Key}
-use Rattle.segment_state.specs.Known.{IsKnown}
+use Rattle.state_laws.specs.Known.{IsKnown}
 use Rattle.segment_core.specs.Savepoint.{NotesKey}
 use Rattle.segment_core.specs.declared.answers.Taken.TheVariants.{Changed, Unchanged}
 use Rattle.segment_core.proofs.Savepoints.{record_rolls_back}

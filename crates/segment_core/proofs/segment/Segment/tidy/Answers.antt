@@ -1,7 +1,7 @@
 use Rattle.std.proofs.Common.{◌≡◌, ℕ, Ok, Err, sym, subst}
 use Rattle.redo_core.specs.Standing.{IsDead}
-use Rattle.segment_state.specs.State.{State, state_of}
-use Rattle.segment_state.specs.Promises.{KeepsMeaning}
+use Rattle.state_laws.specs.State.{State, state_of}
+use Rattle.state_laws.specs.Promises.{KeepsMeaning}
 use Rattle.segment_core.specs.Forgetting.{with_store, DiscardsJust, FoldsAll, Tidies, IsFirstBreak}
 use Rattle.segment_core.specs.declared.answers.ReadFault.TheVariants.{BrokenBlockChain, Memory}
 use Rattle.segment_core.proofs.Following.{removal_keeps_points}

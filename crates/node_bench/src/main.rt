@@ -1,0 +1,102 @@
+//! Threads at a node or at its lock, or at a mutex in place of either: what `deliveries.py` and `waiting.py` measure.
+#![tactic(auto)]
+
+ghost use Rattle.std.specs.Prelude.{◌<◌, ◌≤◌};
+
+mod dealing;
+mod mutex;
+mod node;
+mod turns;
+
+use anyhow::Error;
+use dealing::deal;
+use drill_log::Drill;
+use node_lock::MAX_PASSES;
+use std::alloc::{AllocError, Global};
+use std::sync::Wait;
+use std::thread::Threads;
+use turns::{Task, take_turns};
+
+// The log whose facts are delivered, the largest drill that there is.
+type Log = Drill<1048576>;
+
+const LOG_LEN: usize = 2097154;
+
+// The facts are made and dealt whatever takes them, so a run with no taker tells what that costs.
+fn accepted<R: Threads + Wait + Sync>(
+    rt: &R,
+    alloc: Global,
+    taker: &str,
+    threads: usize,
+    facts: usize,
+) -> Result<u64, AllocError>
+    requires { (0 < threads) × (threads ≤ MAX_PASSES) }
+{
+    let dealt = deal::<Log>(alloc, threads, facts)?;
+    let counts = match taker {
+        "cell" => node::deliver(rt, alloc, dealt, facts as u64)?,
+        "mutex" => mutex::deliver(rt, alloc, dealt)?,
+        _ => Vec::new(alloc),
+    };
+    let sum = counts
+        .iter()
+        .fold(0u64, |sum, count| sum.saturating_add(*count));
+    Ok(sum)
+}
+
+// What a line asks for: who takes, with how many threads, and how many facts or turns.
+#[derive(Clone, Copy)]
+struct Asked<'a> {
+    taker: &'a str,
+    has_holder: bool,
+    threads: u64,
+    count: u64,
+    rounds: u64,
+}
+
+fn deliver(rt: &HostRuntime, asked: Asked) -> Result<(), Error> {
+    if asked.threads == 0 || asked.threads > MAX_PASSES {
+        println!(rt; "1 to {MAX_PASSES} threads")?;
+        return Ok(());
+    }
+    let facts = (asked.count as usize).min(LOG_LEN);
+    let accepted = accepted(rt, rt.alloc(), asked.taker, asked.threads as usize, facts)?;
+    println!(rt; "{accepted} accepted")?;
+    Ok(())
+}
+
+fn turn(rt: &HostRuntime, asked: Asked) -> Result<(), Error> {
+    let task = Task {
+        threads: asked.threads as usize,
+        turns: asked.count,
+        rounds: asked.rounds,
+        has_holder: asked.has_holder,
+    };
+    match take_turns(rt, rt.alloc(), asked.taker, &task)? {
+        Some(ended) => println!(rt; "{ended} threads")?,
+        None => println!(rt; "no memory")?,
+    }
+    Ok(())
+}
+
+// A line is: deliver or turns, who takes, all or holder, the threads, the facts or turns of each, and the rounds of work in a turn.
+fn main(rt: HostRuntime) -> Result<(), Error> {
+    let mut line = String::new(rt.alloc());
+    rt.read_line(&mut line)?;
+    let mut words = line.split_whitespace();
+    let task = words.next().unwrap_or("");
+    let taker = words.next().unwrap_or("");
+    let has_holder = words.next() == Some("holder");
+    let mut numbers = words.map(|it| it.parse::<u64>().unwrap_or(1));
+    let asked = Asked {
+        taker,
+        has_holder,
+        threads: numbers.next().unwrap_or(1),
+        count: numbers.next().unwrap_or(LOG_LEN as u64),
+        rounds: numbers.next().unwrap_or(0),
+    };
+    match task {
+        "turns" => turn(&rt, asked),
+        _ => deliver(&rt, asked),
+    }
+}

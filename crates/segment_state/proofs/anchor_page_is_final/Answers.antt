@@ -1,5 +1,0 @@
-use Rattle.segment_state.proofs.Shed.{anchor_page_is_final}
-use Rattle.segment_state.proofs.anchor_page_is_final.Goals as goal
-
-pub returns : goal.returns
-returns c = λ roster log facts. anchor_page_is_final log facts

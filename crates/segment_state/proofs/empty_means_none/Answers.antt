@@ -1,5 +1,0 @@
-use Rattle.segment_state.proofs.Bare.{empty_means}
-use Rattle.segment_state.proofs.empty_means_none.Goals as goal
-
-pub returns : goal.returns
-returns c = empty_means

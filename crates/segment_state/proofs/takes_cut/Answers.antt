@@ -1,5 +1,0 @@
-use Rattle.segment_state.proofs.Learnt.{takes_cut}
-use Rattle.segment_state.proofs.takes_cut.Goals as goal
-
-pub returns : goal.returns
-returns c = takes_cut
