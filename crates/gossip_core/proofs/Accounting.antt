@@ -51,16 +51,16 @@ any_default [] i x y lt = absurd (omega (arith, lt))
 any_default (z ∷ zs) zero x y lt = refl
 any_default (z ∷ zs) (suc i) x y lt = any_default zs i x y (omega (arith, lt))
 
--- two keys that are told to be equal are: what lists the one lists the other
+-- two keys that are told to be equal are one
 both : (p q : Bool) → (p && q) ≡ true → (p ≡ true) × (q ≡ true)
 both true true h = (refl, refl)
 both true false h = absurd (cc)
 both false q h = absurd (cc)
 
-pub same_key : (keys : List Key) (key other : Key) → (eqb key.epoch other.epoch && eqb key.number other.number) ≡ true → Contains keys other → Contains keys key
-same_key keys key other same has =
-    let parts = both (eqb key.epoch other.epoch) (eqb key.number other.number) same in
-    subst (Contains keys) (one_key other key (sym (eqb-true key.epoch other.epoch parts.0)) (sym (eqb-true key.number other.number parts.1))) has
+pub are_one : (k l : Key) → (eqb k.epoch l.epoch && eqb k.number l.number) ≡ true → k ≡ l
+are_one k l same =
+    let parts = both (eqb k.epoch l.epoch) (eqb k.number l.number) same in
+    one_key k l (eqb-true k.epoch l.epoch parts.0) (eqb-true k.number l.number parts.1)
 
 -- a kept key is accounted for
 pub kept_is_covered : (s : State) (anchor : ℕ) (keys : List Key) → ListsKeysOf (IsKeptBy s anchor) keys → (key : Key) → Contains keys key

@@ -1,12 +1,19 @@
-use Rattle.std.proofs.Common.{◌↔◌, IsTrue, rules, sym, subst}
+use Rattle.std.proofs.Common.{◌≡◌, ◌↔◌, IsTrue, get_or, refl, sym, ◌∙◌, subst}
 use Rattle.std.specs.List.{Contains}
-use Rattle.std.proofs.lemmas.List.Sorted.{answers_always}
+use Rattle.redo_core.specs.Keys.{key_in}
+use Rattle.redo_core.specs.declared.keys.Key.{Key}
+use Rattle.gossip_core.proofs.Accounting.{any_default, are_one}
 use Rattle.gossip_core.proofs.KeySearch.{key_found}
 use Rattle.gossip_core.proofs.unlisted.is_listed.Goals as goal
 
+pub returns-then-eq : goal.returns-then-eq
+returns-then-eq c =
+    let keys = c.args.keys.now in let i = c.args.place in let lt = c.if-place-keys.true in
+    let found : Key = get_or keys i (key_in 0 0) in
+    let is : found ≡ c.args.key = are_one found c.args.key (sym c.eq.ensures ∙ c.if-eq.true) in
+    (λ h. (i, lt, any_default keys i c.args.key (key_in 0 0) lt ∙ is), λ h. refl)
+
 pub returns : goal.returns
 returns c =
-    let x = c.args.key in
-    subst (λ b. IsTrue b ↔ Contains c.args.keys.now x) (sym c.is_ok.ensures.value)
-    (key_found c.args.keys.now x c.binary_search_by_key.result c.requires c.binary_search_by_key.ensures.bound
-    (c.binary_search_by_key.ensures.position (λ k. (k.epoch, k.number)) (answers_always _ _ _ (λ f a r g called. search rules))))
+    subst (λ b. IsTrue b ↔ Contains c.args.keys.now c.args.key) (sym c.is_ok.ensures.value)
+    (key_found c.args.keys.now c.args.key c.binary_search.result c.requires c.binary_search.ensures.bound c.binary_search.ensures.position)

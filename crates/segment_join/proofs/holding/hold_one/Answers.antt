@@ -1,7 +1,8 @@
-use Rattle.std.proofs.Common.{IsTrue, refl, ◌∙◌, subst, arith}
+use Rattle.std.proofs.Common.{IsTrue, refl, ◌∙◌, ap, subst, arith}
 use Rattle.std.proofs.lemmas.Result.{on_ok_weaker}
 use Rattle.redo_core.specs.Data.{RecordData}
 use Rattle.redo_core.specs.Keys.{key_of}
+use Rattle.redo_core.specs.declared.keys.Key.{Key}
 use Rattle.segment_core.specs.Uniting.{HoldsRecord}
 use Rattle.segment_join.proofs.Sparing.{holds_known, holds_spared, holds_copy}
 use Rattle.segment_join.proofs.holding.hold_one.Goals as goal
@@ -14,7 +15,7 @@ returns-then-is_needless-clause-holds c =
 pub returns-then-holds_key-clause-holds : goal.returns-then-holds_key-clause-holds
 returns-then-holds_key-clause-holds c =
     let at = c.holds_key.ensures.0 c.if-holds_key.true in
-    holds_known c.args.segment.now c.args.other.now (key_of c.args.redo.now) at.0 (at.1, (at.2.0 ∙ c.epoch.ensures, at.2.1 ∙ c.number.ensures.value))
+    holds_known c.args.segment.now c.args.other.now (key_of c.args.redo.now) at.0 (at.1, (at.2.0 ∙ ap (λ (k : Key). k.epoch) c.key.ensures.value, at.2.1 ∙ ap (λ (k : Key). k.number) c.key.ensures.value))
 
 pub returns-clause-holds : goal.returns-clause-holds
 returns-clause-holds c =
