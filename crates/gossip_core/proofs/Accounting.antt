@@ -1,18 +1,14 @@
 -- The first element of a list that fails a test, and how the standing of a key tells whether it is accounted for.
-use Rattle.std.proofs.Common.{◌≡◌, ◌↔◌, ℕ, ◌<◌, ◌≤◌, ◌⊎◌, inl, inr, ⊎_elim, List, [], ◌∷◌, zero, suc, length, get_or, take, Bool, true, false, IsTrue, eqb, ◌&&◌, refl, sym, ap, subst, ◌∙◌, arith}
+use Rattle.std.proofs.Common.{◌≡◌, ℕ, ◌<◌, inl, inr, ⊎_elim, List, [], ◌∷◌, zero, suc, length, get_or, take, Bool, true, false, eqb, ◌&&◌, refl, sym, ap, subst, ◌∙◌, arith}
 use Rattle.std.proofs.lemmas.Bool.{eqb-true}
 use Rattle.std.specs.List.{All, AllByRecursion, Contains}
 use Rattle.redo_core.specs.Order.{IsRising, IsFirst}
 use Rattle.redo_core.specs.Keys.{key_of}
 use Rattle.redo_core.specs.declared.keys.Key.{Key}
-use Rattle.redo_core.specs.Standing.{IsAlive, IsDead, IsWaiting}
 use Rattle.redo_core.proofs.Members.{none_in, here, there, which}
-use Rattle.epoch_book.specs.declared.standing.Standing.TheVariants.{Alive, Dead}
 use Rattle.state_laws.specs.State.{State}
 use Rattle.state_laws.specs.HasMeaning.{IsKeptBy}
-use Rattle.segment_core.specs.Standing.{StandsAt}
 use Rattle.gossip_core.specs.Answering.{IsCovered}
-use Rattle.hot_log.specs.Held.{HoldsKey}
 use Rattle.hot_log.specs.Kept.{ListsKeysOf}
 use Rattle.redo_laws.proofs.Meanings.{from_map}
 use Rattle.gossip_core.proofs.Parts.{one_key}

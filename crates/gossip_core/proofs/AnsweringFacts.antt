@@ -13,7 +13,6 @@ use Rattle.redo_laws.proofs.Alike.{alive_by}
 use Rattle.redo_laws.proofs.Deciding.{settled_lt}
 use Rattle.redo_laws.proofs.Fronts.{settled_alive, same_sym}
 use Rattle.redo_laws.proofs.Log.{log_of_sound}
-use Rattle.redo_laws.proofs.Meanings.{in_map, from_map}
 use Rattle.messages.specs.Summaries.{SummaryData}
 use Rattle.state_laws.specs.State.{State}
 use Rattle.state_laws.specs.Means.{MeansAt, Matters, IsInImage}

@@ -1,5 +1,5 @@
 -- A reply, as the law of replies has it.
-use Rattle.std.proofs.Common.{◌≡◌, ◌≢◌, ℕ, ◌<◌, ◌≤◌, ◌⊎◌, inl, inr, ⊎_elim, min, List, [], ◌∷◌, map, refl, sym, ap, subst, arith}
+use Rattle.std.proofs.Common.{◌≡◌, ◌≢◌, ℕ, ◌<◌, ◌≤◌, ◌⊎◌, inl, inr, ⊎_elim, min, List, refl, sym, ap, subst, arith}
 use Rattle.std.specs.List.{Contains}
 use Rattle.std.proofs.Math.Nat.{min-le_right}
 use Rattle.redo_core.specs.Data.{RecordData}
@@ -9,7 +9,6 @@ use Rattle.redo_core.specs.Order.{Lists, RecordBefore}
 use Rattle.redo_core.specs.Standing.{IsAlive, IsWaiting}
 use Rattle.redo_core.specs.Writing.{zeros}
 use Rattle.redo_core.specs.Meaning.{ImageBefore}
-use Rattle.redo_core.proofs.Members.{none_in, here, there, which}
 use Rattle.redo_laws.proofs.Deciding.{settled_eq, settled_and, some_or_none}
 use Rattle.messages.specs.Summaries.{SummaryData}
 use Rattle.messages.specs.Deltas.{DeltaData}

@@ -1,12 +1,10 @@
 -- Books and keys that are equal part by part, and where an anchor stands.
-use Rattle.std.proofs.Common.{◌≡◌, ℕ, ◌≤◌, ⊎_elim, List, ap, ◌∙◌, arith}
-use Rattle.redo_core.specs.Data.{CutData, AdvanceData}
+use Rattle.std.proofs.Common.{◌≡◌, ℕ, ◌≤◌, ap, ◌∙◌}
 use Rattle.redo_core.specs.Keys.{key_in}
 use Rattle.redo_core.specs.declared.keys.Key.{Key}
-use Rattle.redo_core.specs.Book.{BookData, book_of}
 use Rattle.redo_core.specs.Linked.Linked.{start}
-use Rattle.state_laws.specs.State.{State, min_of}
-use Rattle.state_laws.specs.HasMeaning.{IsLinkedIn, HasAnchor}
+use Rattle.state_laws.specs.State.{State}
+use Rattle.state_laws.specs.HasMeaning.{HasAnchor}
 use Rattle.segment_core.specs.Form.{IsSegment}
 
 pub one_key : (k l : Key) → k.epoch ≡ l.epoch → k.number ≡ l.number → k ≡ l

@@ -1,5 +1,5 @@
 -- Which held records are sent.
-use Rattle.std.proofs.Common.{◌≡◌, ℕ, inr, ⊎_elim, List, [], ◌∷◌, map, take, Option, Some, None, refl, sym, ap, subst}
+use Rattle.std.proofs.Common.{◌≡◌, ℕ, inr, ⊎_elim, List, [], take, Option, Some, None, sym, subst}
 use Rattle.std.specs.List.{Contains}
 use Rattle.redo_core.specs.Data.{RecordData}
 use Rattle.redo_core.specs.Keys.{key_of}

@@ -7,8 +7,8 @@ ghost use Rattle.gossip_core.specs.Replying.{SendsRecords, SendsPages, AnswersSu
 use crate::unlisted::unlisted;
 use messages::{Delta, PageImage, Summary};
 use segment_core::{ReadFault, Segment};
-use state_laws::{reply_fills, same_anchor};
 use segment_told::{book_of, pages_at_anchor};
+use state_laws::{reply_fills, same_anchor};
 use std::alloc::AllocError;
 
 /// What a segment has beyond a summary, whichever segment told it and when: its book, and records that the summary does not list.

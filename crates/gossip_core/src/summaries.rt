@@ -9,8 +9,8 @@ ghost use Rattle.gossip_core.specs.Summarizing.{Summarizes, IsSummaryOf};
 
 use messages::Summary;
 use segment_core::Segment;
-use state_laws::same_meaning;
 use segment_told::book_of;
+use state_laws::same_meaning;
 use std::alloc::AllocError;
 
 /// What a segment tells of itself: its book, its anchor and the keys of the records that its meaning keeps, rising.

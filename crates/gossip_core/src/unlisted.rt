@@ -41,12 +41,7 @@ fn reach(keys: &[Key], from: usize, key: Key) -> usize {
 }
 
 /// The held record of a key that is not listed; if it is, it likely stands at the place given.
-fn unlisted_at<'a>(
-    segment: &'a Segment,
-    keys: &[Key],
-    place: usize,
-    key: Key,
-) -> Option<&'a Record>
+fn unlisted_at<'a>(segment: &'a Segment, keys: &[Key], place: usize, key: Key) -> Option<&'a Record>
     requires { IsRising KeyBefore keys.now }
     ensures { IsUnlistedAt segment.now.held keys.now key (option_copied result) }
 {

@@ -7,8 +7,7 @@ ghost use Rattle.node_stream.specs.Reading.{lone_word, open_form, read_form, fol
 ghost use Rattle.node_stream.specs.Reading.{piece_form, stage_form, next_form, numbers_line};
 
 use crate::asked::{Asked, Window};
-use redo_core::{MAX_NUMBER, MAX_READERS, Roster};
-use redo_core::Key;
+use redo_core::{Key, MAX_NUMBER, MAX_READERS, Roster};
 use replica::Request;
 use script_text::read_numbers;
 

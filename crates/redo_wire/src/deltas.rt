@@ -84,7 +84,17 @@ fn read_delta_part(alloc: Global, has_many: bool, bytes: &[u8]) -> Result<(Delta
     let (pages, rest) = read_list(ImageList, 0, IMAGE_SIZE, page_count as usize, alloc, rest)?;
     let (record_count, rest) = read_u32(rest)?;
     let count = record_count as usize;
-    let (records, rest) = read_list(RecordList, Key { epoch: 0, number: 0 }, RECORD_SIZE, count, alloc, rest)?;
+    let (records, rest) = read_list(
+        RecordList,
+        Key {
+            epoch: 0,
+            number: 0,
+        },
+        RECORD_SIZE,
+        count,
+        alloc,
+        rest,
+    )?;
     Ok((Delta::new(book, base, pages, records), rest))
 }
 

@@ -29,12 +29,7 @@ impl ListReader for KeyList {
 
     ghost next = { key_place };
 
-    fn read_next(
-        self,
-        last: Key,
-        _alloc: Global,
-        bytes: &[u8],
-    ) -> Result<(Key, &[u8]), WireError> {
+    fn read_next(self, last: Key, _alloc: Global, bytes: &[u8]) -> Result<(Key, &[u8]), WireError> {
         read_next_key(last, bytes)
     }
 

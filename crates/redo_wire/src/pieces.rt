@@ -96,7 +96,17 @@ fn read_records_content(alloc: Global, bytes: &[u8]) -> Result<(PieceContent, &[
     if !is_batch_size(count) {
         return Err(WireError::Fault(WireFault::Shape));
     }
-    let (records, rest) = read_list(RecordList, Key { epoch: 0, number: 0 }, RECORD_SIZE, count, alloc, rest)?;
+    let (records, rest) = read_list(
+        RecordList,
+        Key {
+            epoch: 0,
+            number: 0,
+        },
+        RECORD_SIZE,
+        count,
+        alloc,
+        rest,
+    )?;
     Ok((PieceContent::Records(RecordBatch::new(records)), rest))
 }
 

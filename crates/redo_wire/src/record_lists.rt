@@ -59,11 +59,7 @@ impl ListWriter for RecordList {
     }
 }
 
-fn read_next_record(
-    alloc: Global,
-    last: Key,
-    bytes: &[u8],
-) -> Result<(Record, &[u8]), WireError>
+fn read_next_record(alloc: Global, last: Key, bytes: &[u8]) -> Result<(Record, &[u8]), WireError>
     ensures { Gives (λ x. (x.0, x.1.now)) result (next_record_at last bytes.now) }
 {
     let (record, rest) = read_record(alloc, bytes)?;

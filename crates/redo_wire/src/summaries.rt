@@ -75,7 +75,17 @@ fn read_summary_part(
         return Err(WireError::Fault(WireFault::Shape));
     }
     let (count, rest) = read_u32(rest)?;
-    let (keys, rest) = read_list(KeyList, Key { epoch: 0, number: 0 }, KEY_SIZE, count as usize, alloc, rest)?;
+    let (keys, rest) = read_list(
+        KeyList,
+        Key {
+            epoch: 0,
+            number: 0,
+        },
+        KEY_SIZE,
+        count as usize,
+        alloc,
+        rest,
+    )?;
     Ok((Summary::new(book, anchor, keys), rest))
 }
 

@@ -1,11 +1,11 @@
 -- What the complete point waits for, over any facts and over a sound log.
-use Rattle.std.proofs.Common.{◌≡◌, ℕ, ◌+◌, ◌<◌, ◌≤◌, ◌⊎◌, ◌↔◌, inl, inr, ⊎_elim, List, Option, Some, None, refl, sym, ◌∙◌, ap, subst, arith}
+use Rattle.std.proofs.Common.{◌≡◌, ℕ, ◌+◌, ◌<◌, ◌≤◌, ◌↔◌, inl, inr, ⊎_elim, List, Option, Some, None, refl, sym, ◌∙◌, ap, subst, arith}
 use Rattle.std.specs.List.{Contains}
 use Rattle.std.proofs.lemmas.Bool.{cases_lt}
-use Rattle.redo_core.specs.Data.{RecordData, CutData}
+use Rattle.redo_core.specs.Data.{RecordData}
 use Rattle.redo_core.specs.Sets.{records, cuts}
 use Rattle.redo_core.specs.Order.{IsFirst, BeforeByNumber}
-use Rattle.redo_core.specs.CompleteEpoch.{HasCutsTo, LacksCut}
+use Rattle.redo_core.specs.CompleteEpoch.{HasCutsTo}
 use Rattle.redo_core.specs.Standing.{IsAlive, IsWaiting}
 use Rattle.redo_core.specs.Linked.{Linked, IsLinked}
 use Rattle.redo_core.specs.Linked.Linked.{start, next}
@@ -13,7 +13,7 @@ use Rattle.redo_core.specs.Position.{Position}
 use Rattle.redo_core.specs.Sound.{IsSound, KeepsLaws, IsAliveBelow, counted}
 use Rattle.redo_core.specs.declared.facts.Fact.{Fact}
 use Rattle.redo_core.specs.declared.facts.Fact.TheVariants as fact
-use Rattle.redo_core.proofs.FactParts.{record_in, part_cuts, part_records}
+use Rattle.redo_core.proofs.FactParts.{record_in, part_records}
 use Rattle.redo_core.proofs.SoundFacts.{kept, counted_in}
 use Rattle.redo_laws.proofs.Log.{IsLog, log_of_sound, alive_within}
 use Rattle.redo_core.proofs.Numbers.{at_greatest}

@@ -1,7 +1,7 @@
 -- Where the block chain of a page is broken, by a walk down it.
 use Rattle.std.proofs.Common.{◌≡◌, ℕ, false, ◌<◌, ◌-◌, min, ◌≤◌, ◌⊎◌, ◌↔◌, inl, inr, ⊎_elim, List, Option, Some, None, Result, Ok, Err, refl, sym, ap, ◌∙◌, subst, arith, rules}
 use Rattle.std.specs.List.{Contains}
-use Rattle.redo_core.specs.Data.{RecordData, CutData}
+use Rattle.redo_core.specs.Data.{RecordData}
 use Rattle.redo_core.specs.Order.{BeforeByNumber}
 use Rattle.redo_core.specs.Sets.{records}
 use Rattle.redo_core.specs.Shape.{record_fault}
@@ -15,7 +15,7 @@ use Rattle.redo_core.proofs.SoundFacts.{kept}
 use Rattle.redo_laws.proofs.Log.{log_of_sound}
 use Rattle.epoch_book.specs.Book.{BookData}
 use Rattle.redo_core.specs.Linked.{Linked, IsLinked}
-use Rattle.redo_core.specs.Linked.Linked.{start as first, next}
+use Rattle.redo_core.specs.Linked.Linked.{start as first}
 use Rattle.hot_log.specs.Held.{IsHeld}
 use Rattle.hot_log.specs.Alive.{IsHeldOf, IsLinkedHeld}
 use Rattle.hot_log.specs.Found.{IsLeastRecord, IsGreatestRecord, IsOnlyRecord}

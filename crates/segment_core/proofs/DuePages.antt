@@ -1,5 +1,5 @@
 -- Which pages are due as the parts of a segment change.
-use Rattle.std.proofs.Common.{◌≡◌, ℕ, ◌<◌, ◌≤◌, ◌⊎◌, inl, inr, ⊎_elim, List, [], refl, sym, ap, subst, arith, ◌+◌, take, length, get_or, true, false, Option, Some, None, Result, Ok, Err, OnOk, OnErr, IfOk}
+use Rattle.std.proofs.Common.{◌≡◌, ℕ, ◌<◌, ◌≤◌, ◌⊎◌, inl, ⊎_elim, List, [], refl, sym, ap, subst, arith, ◌+◌, take, length, get_or, true, false, Option, Some, None, Result, Ok, Err, OnOk, OnErr, IfOk}
 use Rattle.std.specs.List.{Contains, All}
 use Rattle.std.proofs.lemmas.Bool.{cases_lt}
 use Rattle.std.proofs.lemmas.List.{take_more}
@@ -14,8 +14,7 @@ use Rattle.epoch_book.specs.Scanning.{IsLeastLo}
 use Rattle.epoch_book.specs.Learning.{LearnsAdvance}
 use Rattle.epoch_book.specs.declared.refusals.Learnt.{Learnt}
 use Rattle.epoch_book.specs.declared.refusals.BookRefusal.{BookRefusal}
-use Rattle.hot_log.specs.Alive.{IsHeldAlive}
-use Rattle.hot_log.specs.Removing.{IsFolded, Removes}
+use Rattle.hot_log.specs.Removing.{Removes}
 use Rattle.hot_log.specs.Putting.{Puts}
 use Rattle.hot_log.specs.declared.log.Put.{Put}
 use Rattle.hot_log.specs.declared.log.Put.TheVariants as put

@@ -1,8 +1,7 @@
 -- Going over the keys of held records, from the least on.
-use Rattle.std.proofs.Common.{◌≡◌, ℕ, ◌+◌, ◌<◌, ◌⊎◌, inl, ⊎_elim, List, [], ◌∷◌, ◌++◌, length, map, Option, Some, None, refl, sym, ap, ◌∙◌, subst, arith}
+use Rattle.std.proofs.Common.{◌≡◌, ℕ, ◌+◌, ◌<◌, ◌⊎◌, ⊎_elim, List, [], ◌∷◌, ◌++◌, length, map, Option, Some, None, refl, sym, ap, ◌∙◌, subst, arith}
 use Rattle.std.proofs.Common.{length-append}
 use Rattle.std.proofs.lemmas.List.{append_assoc, map-append, length-map, append-nil}
-use Rattle.std.proofs.lemmas.List.Elements.{Contains-append_right, Contains-append_cases}
 use Rattle.std.specs.List.{Contains}
 use Rattle.redo_core.specs.Data.{RecordData}
 use Rattle.redo_core.specs.Keys.{key_in, key_of, KeyBefore}
@@ -12,7 +11,6 @@ use Rattle.redo_core.proofs.Members.{here, there, which, each, none_in}
 use Rattle.redo_core.proofs.Rising.{rising_members}
 use Rattle.hot_log.specs.Held.{IsHeld, IsAbove, IsKeyAfter, HasKey}
 use Rattle.hot_log.proofs.Keys.{pair_not_same}
-use Rattle.hot_log.proofs.Places.{pair_or_not}
 use Rattle.redo_core.proofs.Pairs.{pair_apart}
 
 -- the key is that of the first of the records, or there is none

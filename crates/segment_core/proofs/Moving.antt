@@ -1,5 +1,5 @@
 -- How the kept points move with what is held and known.
-use Rattle.std.proofs.Common.{◌≡◌, ℕ, ◌<◌, ◌≤◌, ◌⊎◌, ◌↔◌, inl, inr, ⊎_elim, List, refl, sym, subst, arith, IsTrue, None}
+use Rattle.std.proofs.Common.{◌≡◌, ℕ, ◌<◌, ◌≤◌, ◌⊎◌, ◌↔◌, inl, inr, ⊎_elim, List, refl, sym, subst, arith, IsTrue}
 use Rattle.std.specs.List.{Contains}
 use Rattle.std.proofs.lemmas.Bool.{cases_lt}
 use Rattle.redo_core.specs.Data.{RecordData}
@@ -15,7 +15,7 @@ use Rattle.hot_log.proofs.Growth.{Joins, Top, still_linked, newly_linked, top_of
 use Rattle.hot_log.specs.Putting.{Puts}
 use Rattle.hot_log.specs.declared.log.Put.TheVariants.{New}
 use Rattle.redo_laws.proofs.Fronts.{settled_alive}
-use Rattle.redo_core.specs.Shape.{max_number, record_fault}
+use Rattle.redo_core.specs.Shape.{max_number}
 use Rattle.segment_core.specs.Points.{IsTop, MoveOn, HasPoints, HasLowAnchor, MayLink}
 use Rattle.segment_core.specs.declared.points.Points.{Points}
 use Rattle.segment_core.proofs.Chain.{linked_small, small_number}

@@ -1,5 +1,5 @@
 -- A store that takes nothing in stays as it is.
-use Rattle.std.proofs.Common.{◌≡◌, ℕ, ◌≤◌, inl, refl, arith, max, []}
+use Rattle.std.proofs.Common.{ℕ, ◌≤◌, inl, refl, arith, []}
 use Rattle.redo_core.specs.Store.{Store}
 use Rattle.redo_core.proofs.Members.{none_in}
 use Rattle.page_base.specs.Merging.{Merges}

@@ -1,5 +1,5 @@
 -- What a segment can be brought back to, while it takes facts that may yet be refused.
-use Rattle.std.specs.Prelude.{◌≡◌, ℕ, ◌⊎◌, ◌↔◌, List, [], ◌∷◌, ◌++◌, Result, OnOk, OnErr, IfOk, IfErr}
+use Rattle.std.specs.Prelude.{◌≡◌, ◌⊎◌, ◌↔◌, List, [], ◌∷◌, ◌++◌, Result, OnOk, OnErr, IfOk, IfErr}
 use Rattle.std.specs.List.{Contains}
 use Rattle.redo_core.specs.Book.{BookData}
 use Rattle.redo_core.specs.Keys.{key_of}

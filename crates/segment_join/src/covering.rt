@@ -17,8 +17,8 @@ use crate::missing::keeps;
 use redo_core::{Advance, Cut, Key, Record};
 use redo_laws::order_by_parts;
 use segment_core::Segment;
-use state_laws::same_meaning;
 use segment_told::are_few;
+use state_laws::same_meaning;
 use std::alloc::AllocError;
 
 /// Whether one segment's meaning is at or above another's: each truncation, reader's point and waiting advance of the lower one is

@@ -1,4 +1,4 @@
-use Rattle.std.proofs.Common.{ℕ, List, get_or, subst}
+use Rattle.std.proofs.Common.{List, get_or, subst}
 use Rattle.std.specs.List.{Contains}
 use Rattle.gossip_core.proofs.Accounting.{kept_is_covered}
 use Rattle.gossip_core.proofs.answering.keeps_all.Goals as goal

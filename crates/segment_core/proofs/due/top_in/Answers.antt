@@ -1,6 +1,6 @@
-use Rattle.std.proofs.Common.{ℕ, ◌+◌, ◌<◌, ◌≤◌, List, [], ◌∷◌, ◌++◌, take, length, get_or, sym, subst, ap, arith}
+use Rattle.std.proofs.Common.{◌≤◌, subst, arith}
 use Rattle.std.specs.List.{All}
-use Rattle.std.proofs.lemmas.List.{take_more, take_all}
+use Rattle.std.proofs.lemmas.List.{take_all}
 use Rattle.state_laws.specs.State.{StoredImage}
 use Rattle.segment_core.proofs.DuePages.{under_more}
 use Rattle.segment_core.proofs.due.top_in.Goals as goal

@@ -1,4 +1,3 @@
-use Rattle.std.proofs.Common.{ℕ}
 use Rattle.hot_log.specs.Held.{HasKey}
 use Rattle.segment_core.proofs.Gone.{gone_by_none, gone_by_more, gone_by_all, of_keys}
 use Rattle.segment_core.proofs.savepoint.take_out.Goals as goal

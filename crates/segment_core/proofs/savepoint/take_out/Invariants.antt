@@ -1,4 +1,4 @@
-use Rattle.std.proofs.Common.{ℕ, take}
+use Rattle.std.proofs.Common.{take}
 use Rattle.hot_log.specs.Held.{HasKey}
 use Rattle.segment_core.proofs.Gone.{GoneBy}
 use Rattle.segment_core.proofs.savepoint.take_out.Given as goal

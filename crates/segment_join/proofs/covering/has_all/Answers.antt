@@ -1,4 +1,4 @@
-use Rattle.std.proofs.Common.{◌↔◌, ℕ, List, IsTrue, subst}
+use Rattle.std.proofs.Common.{◌↔◌, List, IsTrue, subst}
 use Rattle.std.specs.List.{All}
 use Rattle.segment_join.specs.Covering.{HasAt}
 use Rattle.segment_join.proofs.Keeping.{at_all_keys}

@@ -1,4 +1,4 @@
-use Rattle.std.proofs.Common.{◌≡◌, ℕ, get_or}
+use Rattle.std.proofs.Common.{◌≡◌, get_or}
 use Rattle.std.proofs.lemmas.List.{get_or_default}
 use Rattle.segment_join.specs.Covering.{HasAt}
 use Rattle.segment_told.proofs.Scanning.{one_fails, all_pass, next_passes}

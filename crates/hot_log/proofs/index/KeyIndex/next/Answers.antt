@@ -1,4 +1,4 @@
-use Rattle.std.proofs.Common.{ℕ, sym, ◌∙◌, subst, List, [], Bool, Option, Some, None}
+use Rattle.std.proofs.Common.{sym, ◌∙◌, subst, List, [], Bool, Option, Some, None}
 use Rattle.std.specs.Map.{keys_of}
 use Rattle.std.specs.BTreeMap.Range.{range_contains}
 use Rattle.std.specs.declared.ops.Bound.TheVariants.{Excluded, Unbounded}

@@ -1,4 +1,4 @@
-use Rattle.std.proofs.Common.{ℕ, sym, ◌∙◌, subst, List, Option, Some, None}
+use Rattle.std.proofs.Common.{sym, ◌∙◌, subst, List, Option, Some, None}
 use Rattle.hot_log.specs.Indexing.{IsLeastKey}
 use Rattle.hot_log.proofs.Keyed.{Entry, first_of, no_first}
 use Rattle.hot_log.proofs.key_pages.KeyPages.first_key.Goals as goal

@@ -1,4 +1,4 @@
-use Rattle.std.proofs.Common.{ℕ, sym, ◌∙◌, subst, List, Option, Some, None}
+use Rattle.std.proofs.Common.{sym, ◌∙◌, subst, List, Option, Some, None}
 use Rattle.hot_log.specs.Indexing.{IsGreatestOf}
 use Rattle.hot_log.proofs.Keyed.{Entry, no_greatest, greatest_of}
 use Rattle.hot_log.proofs.key_pages.KeyPages.greatest_key.Goals as goal

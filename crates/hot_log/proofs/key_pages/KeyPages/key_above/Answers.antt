@@ -1,4 +1,4 @@
-use Rattle.std.proofs.Common.{ℕ, sym, ◌∙◌, subst, List, Option, Some, None}
+use Rattle.std.proofs.Common.{sym, ◌∙◌, subst, List, Option, Some, None}
 use Rattle.hot_log.specs.Indexing.{IsLeastKey}
 use Rattle.hot_log.proofs.Keyed.{Entry, none_above, next_above}
 use Rattle.hot_log.proofs.key_pages.KeyPages.key_above.Goals as goal

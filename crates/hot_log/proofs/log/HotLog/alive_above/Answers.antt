@@ -5,7 +5,7 @@ use Rattle.redo_core.specs.declared.keys.Key.{Key}
 use Rattle.redo_core.specs.Standing.{IsAlive}
 use Rattle.hot_log.specs.Held.{HasKey}
 use Rattle.hot_log.specs.Alive.{IsPageAlive}
-use Rattle.hot_log.proofs.Climb.{Rest, above, rest_start, rest_step, rest_found, above_falls, key_is, alive_as}
+use Rattle.hot_log.proofs.Climb.{Rest, above, rest_start, rest_step, rest_found, above_falls, alive_as}
 use Rattle.hot_log.proofs.Keys.{same_epoch, same_number}
 use Rattle.hot_log.proofs.log.HotLog.alive_above.Goals as goal
 

@@ -1,7 +1,6 @@
 use Rattle.std.proofs.Common.{ℕ, ◌<◌, inl, inr, ⊎_elim, refl, sym, subst}
 use Rattle.redo_core.specs.Data.{RecordData}
 use Rattle.redo_core.specs.Keys.{key_in, key_of, KeyBefore}
-use Rattle.redo_core.specs.Order.{PairBefore}
 use Rattle.redo_core.specs.Standing.{IsAlive}
 use Rattle.hot_log.specs.Held.{HasKey}
 use Rattle.hot_log.proofs.Climb.{rest_start, rest_step, above_falls, alive_key}

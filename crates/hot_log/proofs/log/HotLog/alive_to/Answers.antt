@@ -6,7 +6,7 @@ use Rattle.redo_core.specs.Standing.{IsAlive}
 use Rattle.hot_log.specs.Held.{HasKey}
 use Rattle.hot_log.specs.Alive.{IsPageAlive}
 use Rattle.hot_log.specs.Indexing.{IsLastHeld}
-use Rattle.hot_log.proofs.Climb.{positive, key_is, alive_as}
+use Rattle.hot_log.proofs.Climb.{positive, alive_as}
 use Rattle.hot_log.proofs.Descent.{LastUnder, under_start, under_step, under_found, up_to_falls}
 use Rattle.hot_log.proofs.Keys.{same_epoch, same_number}
 use Rattle.hot_log.proofs.log.HotLog.alive_to.Goals as goal

@@ -1,7 +1,6 @@
 use Rattle.std.proofs.Common.{◌≡◌, ℕ, ◌<◌, ◌≤◌, inl, ⊎_elim, IsTrue, false, refl, sym, ◌∙◌, subst, arith, None}
 use Rattle.redo_core.specs.Data.{RecordData}
 use Rattle.redo_core.specs.Keys.{key_in, key_of, KeyBefore}
-use Rattle.redo_core.specs.Order.{PairBefore}
 use Rattle.redo_core.specs.Shape.{record_fault}
 use Rattle.redo_core.proofs.Pairs.{pair_trans}
 use Rattle.hot_log.specs.Held.{HasKey}

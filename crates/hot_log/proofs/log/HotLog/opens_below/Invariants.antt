@@ -1,7 +1,6 @@
 use Rattle.std.proofs.Common.{ℕ, ◌<◌, ◌≤◌}
 use Rattle.redo_core.specs.Data.{RecordData}
 use Rattle.redo_core.specs.Keys.{key_in, key_of, KeyBefore}
-use Rattle.redo_core.specs.Order.{PairBefore}
 use Rattle.hot_log.specs.Alive.{IsOpenedBelow}
 use Rattle.hot_log.proofs.Climb.{above}
 use Rattle.hot_log.proofs.log.HotLog.opens_below.Given as goal

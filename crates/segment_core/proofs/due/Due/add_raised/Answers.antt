@@ -1,4 +1,4 @@
-use Rattle.std.proofs.Common.{◌≤◌, sym, subst, arith}
+use Rattle.std.proofs.Common.{sym, subst, arith}
 use Rattle.segment_core.specs.Due.{IsMoreDue}
 use Rattle.segment_core.proofs.DuePages.{raised_top}
 use Rattle.segment_core.proofs.due.Due.add_raised.Goals as goal

@@ -1,4 +1,4 @@
-use Rattle.std.proofs.Common.{◌≡◌, List, ℕ, subst, sym}
+use Rattle.std.proofs.Common.{List, ℕ, subst, sym}
 use Rattle.segment_core.specs.Due.{DueData, HasDue, RemovesInPages}
 use Rattle.segment_core.proofs.DuePages.{of_pages}
 use Rattle.segment_core.proofs.due.Due.remove.Goals as goal
