@@ -27,7 +27,7 @@ use Rattle.gossip_core.proofs.Uncovering.{accounted, not_accounted}
 same_summary : (m : Meaning) (x : SummaryData) → IsSummaryOf m x → listing_of x ≡ summary_of_meaning m
 same_summary m x of =
     ap (λ a. let l : Listing = record { anchor = a; keys = x.keys } in l) of.anchor
-    ∙ ap (λ (keys : List Key). let l : Listing = record { anchor = m.anchor; keys = map keys } in l) of.keys
+    ∙ ap (λ (keys : List Key). let l : Listing = record { anchor = m.anchor; keys = keys } in l) of.keys
 
 module _ (roster : ℕ) (log F : List Fact) (f : Position) (s : State) (sound : IsSound roster log) (means : MeansAt roster log F f s) (anchor : ℕ)
     (has : HasAnchor s anchor) where
