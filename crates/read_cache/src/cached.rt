@@ -30,7 +30,7 @@ ghost use Rattle.read_cache.specs.Reading.{TellsUnkeptBreak, IsHit};
 ghost use Rattle.read_cache.specs.UpToDate.{Touches};
 
 use crate::images::Images;
-use redo_core::{Fact, Page, Refused};
+use redo_core::{Fact, Key, Page, Refused};
 use segment_core::{CommitFault, FoldPlan, Folded, Front, ReadFault, Refusal, Segment, Taken};
 use std::alloc::AllocError;
 use std::marker::Model;
