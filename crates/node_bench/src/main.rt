@@ -47,6 +47,7 @@ fn accepted<R: Threads + Wait + Sync>(
 // What a line asks for: who takes, with how many threads, and how many facts or turns.
 #[derive(Clone, Copy)]
 struct Asked<'a> {
+    is_turns: bool,
     taker: &'a str,
     has_holder: bool,
     threads: u64,
@@ -54,49 +55,66 @@ struct Asked<'a> {
     rounds: u64,
 }
 
-fn deliver(rt: &HostRuntime, asked: Asked) -> Result<(), Error> {
+// How many facts were accepted; None for a number of threads that no node has passes for.
+fn deliver<R: Threads + Wait + Sync>(
+    rt: &R,
+    alloc: Global,
+    asked: Asked,
+) -> Result<Option<u64>, AllocError> {
     if asked.threads == 0 || asked.threads > MAX_PASSES {
-        println!(rt; "1 to {MAX_PASSES} threads")?;
-        return Ok(());
+        return Ok(None);
     }
     let facts = (asked.count as usize).min(LOG_LEN);
-    let accepted = accepted(rt, rt.alloc(), asked.taker, asked.threads as usize, facts)?;
-    println!(rt; "{accepted} accepted")?;
-    Ok(())
+    let sum = accepted(rt, alloc, asked.taker, asked.threads as usize, facts)?;
+    Ok(Some(sum))
 }
 
-fn turn(rt: &HostRuntime, asked: Asked) -> Result<(), Error> {
+fn turn<R: Threads + Wait + Sync>(
+    rt: &R,
+    alloc: Global,
+    asked: Asked,
+) -> Result<Option<usize>, Error> {
     let task = Task {
         threads: asked.threads as usize,
         turns: asked.count,
         rounds: asked.rounds,
         has_holder: asked.has_holder,
     };
-    match take_turns(rt, rt.alloc(), asked.taker, &task)? {
-        Some(ended) => println!(rt; "{ended} threads")?,
-        None => println!(rt; "no memory")?,
-    }
-    Ok(())
+    take_turns(rt, alloc, asked.taker, &task)
 }
 
-// A line is: deliver or turns, who takes, all or holder, the threads, the facts or turns of each, and the rounds of work in a turn.
-fn main(rt: HostRuntime) -> Result<(), Error> {
-    let mut line = String::new(rt.alloc());
-    rt.read_line(&mut line)?;
+// A line's words: deliver or turns, who takes, all or holder, the threads, the facts or turns of each, and the rounds of work in a turn.
+fn read_task(line: &str) -> Asked<'_> {
     let mut words = line.split_whitespace();
-    let task = words.next().unwrap_or("");
+    let is_turns = words.next() == Some("turns");
     let taker = words.next().unwrap_or("");
     let has_holder = words.next() == Some("holder");
     let mut numbers = words.map(|it| it.parse::<u64>().unwrap_or(1));
-    let asked = Asked {
+    Asked {
+        is_turns,
         taker,
         has_holder,
         threads: numbers.next().unwrap_or(1),
         count: numbers.next().unwrap_or(LOG_LEN as u64),
         rounds: numbers.next().unwrap_or(0),
-    };
-    match task {
-        "turns" => turn(&rt, asked),
-        _ => deliver(&rt, asked),
     }
+}
+
+fn main(rt: HostRuntime) -> Result<(), Error> {
+    for line in rt.lines(rt.alloc()) {
+        let line = line?;
+        let asked = read_task(line.as_str());
+        if asked.is_turns {
+            match turn(&rt, rt.alloc(), asked)? {
+                Some(ended) => println!(rt; "{ended} threads")?,
+                None => println!(rt; "no memory")?,
+            }
+        } else {
+            match deliver(&rt, rt.alloc(), asked)? {
+                Some(accepted) => println!(rt; "{accepted} accepted")?,
+                None => println!(rt; "1 to {MAX_PASSES} threads")?,
+            }
+        }
+    }
+    Ok(())
 }
