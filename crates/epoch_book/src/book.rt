@@ -248,6 +248,13 @@ impl EpochBook {
         self.complete
     }
 
+    /// It does nothing. It is called for what it ensures: a book has the form of one.
+    pub fn opens_form(&self)
+        ensures form { IsBook self.now }
+    {
+        let _complete = self.complete;
+    }
+
     /// The minimum read point: the least of the readers' points.
     pub fn min_point(&self) -> u64
         ensures value { result ≡ least self.now.points }

@@ -3,7 +3,7 @@ use Rattle.std.proofs.Common.{◌≡◌, ◌∙◌, ℕ, zero, suc, List, [], �
 use Rattle.std.proofs.lemmas.List.{map-append}
 use Rattle.redo_core.specs.declared.refusal.Refused.{Refused}
 use Rattle.named_log.specs.Places.{PlacedFact}
-use Rattle.node_workers.specs.Work.{receipts_in}
+use Rattle.node_threads.specs.Work.{receipts_in}
 use Rattle.std.specs.Prelude.{slice_get}
 use Rattle.std.specs.List.{AllByRecursion}
 use Rattle.node_lock.specs.Trail.{Entry, Receipt, HasReceipts}

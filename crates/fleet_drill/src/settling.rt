@@ -1,7 +1,7 @@
 ghost use Rattle.std.specs.Prelude.{◌≡◌, Some, is_some, true, length, map, OnOk, IfOk};
 ghost use Rattle.node_cell.specs.Node.{IsPassOf};
 ghost use Rattle.node_threads.specs.Refusals.{AllStarted};
-ghost use Rattle.node_workers.specs.Work.{receipts_in};
+ghost use Rattle.node_threads.specs.Work.{receipts_in};
 
 use crate::working::Worked;
 use named_log::LogName;

@@ -3,7 +3,7 @@ ghost use Rattle.front_board.specs.Seat.{IsNode};
 ghost use Rattle.node_cell.specs.Node.{IsPassOf};
 ghost use Rattle.node_threads.specs.Each.{Each};
 ghost use Rattle.node_threads.specs.Refusals.{AllStarted};
-ghost use Rattle.node_workers.specs.Work.{receipts_in};
+ghost use Rattle.node_threads.specs.Work.{receipts_in};
 
 use crate::floor::Floor;
 use front_board::Board;

@@ -44,11 +44,11 @@ pub fn absorb(segment: &mut Segment, summary: &Summary, delta: &Delta) -> Result
     ensures roster { TellsRoster segment.old delta.now result }
     ensures unchanged { OnErr result (segment.new ≡ segment.old) }
 {
-    // They are called for what they ensure: a delta has its shape, and a segment an anchor.
-    let _base = delta.base();
+    delta.opens_form();
+    // It is called for what it ensures: a segment has an anchor.
     let _anchor = segment.anchor();
-    let own = segment.points().len() as u8;
-    let shown = delta.book().points().len() as u8;
+    let own = segment.readers();
+    let shown = delta.book().readers();
     if own != shown {
         return Err(AbsorbRefusal::Refused(Refusal::OtherRoster { own, shown }));
     }
@@ -110,16 +110,7 @@ fn take_facts(segment: &mut Segment, saved: &mut Savepoint, delta: &Delta) -> Re
     let Ok(records) = each_of(segment.allocator(), delta.records()) else {
         return Err(Refusal::Memory);
     };
-    let book = delta.book();
-    take_told(
-        segment,
-        saved,
-        book.cuts(),
-        book.complete(),
-        book.points(),
-        book.waits(),
-        &records,
-    )
+    take_told(segment, saved, &delta.book().lend(), &records)
 }
 
 /// References to each of the records.

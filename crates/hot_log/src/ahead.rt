@@ -63,7 +63,7 @@ impl<'a> Ahead<'a> {
     }
 }
 
-// The record of the next entry.
+/// The record of the next entry.
 fn next_of<'a>(rest: &mut Entries<'a, (u16, Key), Record>) -> Option<&'a Record>
     ensures { TakesFirst deref (records_in rest.old) result (records_in rest.new) }
 {
@@ -71,7 +71,7 @@ fn next_of<'a>(rest: &mut Entries<'a, (u16, Key), Record>) -> Option<&'a Record>
     Some(redo)
 }
 
-// Whether the one record is of a lower page than the other, or of a lower key of the same page.
+/// Whether the one record is of a lower page than the other, or of a lower key of the same page.
 fn is_before(redo: &Record, other: &Record) -> bool
     ensures { IsTrue result ↔ PlaceBefore redo.now other.now }
 {

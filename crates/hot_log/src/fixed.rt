@@ -37,9 +37,8 @@ fn key_after_has_one_answer(log: &HotLog, after: Option<Key>) -> (Option<Key>, O
 fn gap_has_one_answer(log: &HotLog, book: &EpochBook, number: u64) -> (Option<u64>, Option<u64>)
     ensures { result.0 ≡ result.1 }
 {
-    // They are called for what they ensure: the two have the form of a log and of a book.
-    let _held = log.len();
-    let _complete = book.complete_epoch();
+    log.opens_form();
+    book.opens_form();
     (log.gap_above(book, number), log.gap_above(book, number))
 }
 

@@ -1,4 +1,4 @@
-// The numbers that held records link, from a base on.
+//! The numbers that held records link, from a base on.
 ghost use Rattle.std.specs.Prelude.{◌≡◌, ℕ, ◌<◌, ◌≤◌, ◌↔◌, List, length, IsTrue, IfSome, IsNone, None, false};
 ghost use Rattle.std.specs.Option.{option_copied};
 ghost use Rattle.redo_core.specs.Data.{RecordData};
@@ -14,10 +14,10 @@ use crate::steps::Steps;
 use epoch_book::EpochBook;
 use redo_core::{Key, Record};
 
-// The greatest number up to a limit that is linked. The search goes down each chain in turn, and where one ends it climbs back
-// to the last fork, if there was one: so each alive record whose backlink is linked is looked at once, and no memory is taken.
-// What is dead or waits links nothing, and is no fork: where many such records share a backlink, none of them is walked.
-pub fn linked_counted(
+/// The greatest number up to a limit that is linked. The search goes down each chain in turn, and where one ends it climbs back
+/// to the last fork, if there was one: so each alive record whose backlink is linked is looked at once, and no memory is taken.
+/// What is dead or waits links nothing, and is no fork: where many such records share a backlink, none of them is walked.
+pub(crate) fn linked_counted(
     log: &HotLog,
     book: &EpochBook,
     from: u64,
@@ -74,15 +74,15 @@ pub fn linked_counted(
     }
 }
 
-// Whether a fork was passed: one was before, or an alive record with this backlink has a key above the one given.
+/// Whether a fork was passed: one was before, or an alive record with this backlink has a key above the one given.
 fn passes_fork(log: &HotLog, book: &EpochBook, back: u64, key: Key, forked: bool) -> bool
     ensures { result ≡ false → (forked ≡ false) × IsAliveOfBack book.now log.now back key None }
 {
     forked || alive_of_back(log, book, back, key).is_some()
 }
 
-// Whether a number is linked, by a walk down the backlinks.
-pub fn is_linked(log: &HotLog, book: &EpochBook, from: u64, number: u64) -> bool
+/// Whether a number is linked, by a walk down the backlinks.
+pub(crate) fn is_linked(log: &HotLog, book: &EpochBook, from: u64, number: u64) -> bool
     ensures { IsTrue result ↔ IsLinkedFrom book.now log.now from number }
 {
     let mut at = number;
@@ -95,8 +95,8 @@ pub fn is_linked(log: &HotLog, book: &EpochBook, from: u64, number: u64) -> bool
     at == from
 }
 
-// The last linked record of a page with a number up to a limit.
-pub fn greatest_linked_of<'a>(
+/// The last linked record of a page with a number up to a limit.
+pub(crate) fn greatest_linked_of<'a>(
     log: &'a HotLog,
     book: &EpochBook,
     page: u16,
@@ -115,11 +115,11 @@ pub fn greatest_linked_of<'a>(
     None
 }
 
-// Whether the chain is straight from one number to another.
-pub fn is_straight(log: &HotLog, book: &EpochBook, from: u64, to: u64) -> bool
+/// Whether the chain is straight from one number to another.
+pub(crate) fn is_straight(log: &HotLog, book: &EpochBook, from: u64, to: u64) -> bool
     ensures { IsTrue result ↔ IsStraight book.now log.now from to }
 {
-    let _complete = book.complete_epoch();
+    book.opens_form();
     let mut top = from;
     while top < to {
         let Some(redo) = log.alive_after(book, top) else {
@@ -136,8 +136,8 @@ pub fn is_straight(log: &HotLog, book: &EpochBook, from: u64, to: u64) -> bool
     true
 }
 
-// The end of the chain from a number on, where it has no fork and no stray.
-pub fn straight_end(log: &HotLog, book: &EpochBook, from: u64) -> Option<u64>
+/// The end of the chain from a number on, where it has no fork and no stray.
+pub(crate) fn straight_end(log: &HotLog, book: &EpochBook, from: u64) -> Option<u64>
     ensures some { IfSome result (IsStraightEnd book.now log.now from) }
     ensures none { IsNone result → (n : ℕ) → IsStraightEnd book.now log.now from n → ⊥ }
 {
@@ -162,12 +162,12 @@ pub fn straight_end(log: &HotLog, book: &EpochBook, from: u64) -> Option<u64>
     Some(top)
 }
 
-// The number on which the first alive record above a number hangs, by a walk down the backlinks. Over a sound log the record's own
-// backlink is that number, so the walk ends at once.
-pub fn gap_above(log: &HotLog, book: &EpochBook, number: u64) -> Option<u64>
+/// The number on which the first alive record above a number hangs, by a walk down the backlinks. Over a sound log the record's own
+/// backlink is that number, so the walk ends at once.
+pub(crate) fn gap_above(log: &HotLog, book: &EpochBook, number: u64) -> Option<u64>
     ensures { IsGapAbove book.now log.now number result }
 {
-    let _held = log.len();
+    log.opens_form();
     let mut redo = log.alive_after(book, number)?;
     while let Some(below) = log.alive_of(book, redo.back()) {
         redo = below;

@@ -99,6 +99,13 @@ impl HotLog {
         self.records.len()
     }
 
+    /// It does nothing. It is called for what it ensures: a log has its records in order.
+    pub fn opens_form(&self)
+        ensures form { IsHeld self.now }
+    {
+        self.records.opens_form();
+    }
+
     pub fn is_empty(&self) -> bool
         ensures value { IsTrue result ↔ (self.now ≡ []) }
         ensures form { IsHeld self.now }
@@ -138,7 +145,7 @@ impl HotLog {
         ensures unchanged { OnErr result (self.new ≡ self.old) }
         ensures form { IsHeld self.new }
     {
-        let _held = self.len();
+        self.opens_form();
         let key = redo.key();
         let Ok(page) = self.by_key.add(key, redo.page()) else {
             return Err(Refused {
@@ -487,7 +494,7 @@ fn hold(
     ensures still_listed { IsIndexBy (λ r. r.back) records.new by_back.new }
     ensures form { IsHeld records.new }
 {
-    let _held = records.len();
+    records.opens_form();
     let key = redo.key();
     let back = redo.back();
     if by_back.insert(back, key).is_err() {

@@ -67,6 +67,13 @@ impl PagedRecords {
         self.map.len()
     }
 
+    /// It does nothing. It is called for what it ensures: the records are in order.
+    pub fn opens_form(&self)
+        ensures form { IsHeld self.now }
+    {
+        let _map = &self.map;
+    }
+
     /// The record of a page and a key, or None where there is none.
     pub fn get(&self, page: u16, key: Key) -> Option<&Record>
         ensures { IsRecordOf self.now page key (option_copied result) }
@@ -78,7 +85,7 @@ impl PagedRecords {
     pub fn has(&self, redo: &Record) -> bool
         ensures { IsTrue result ↔ Contains self.now redo.now }
     {
-        let _held = self.len();
+        self.opens_form();
         match self.get(redo.page(), redo.key()) {
             Some(held) => held.is_same(redo),
             None => false,

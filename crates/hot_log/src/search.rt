@@ -1,4 +1,4 @@
-// Searches of held records in a book's view.
+//! Searches of held records in a book's view.
 ghost use Rattle.std.specs.Prelude.{◌≡◌, ℕ, ◌<◌, ◌≤◌, ◌⊎◌, ◌↔◌, map, IsTrue, IfOk, length, Some};
 ghost use Rattle.std.specs.Option.{option_copied};
 ghost use Rattle.redo_core.specs.Data.{RecordData};
@@ -18,8 +18,8 @@ use epoch_book::{EpochBook, Standing};
 use redo_core::{Key, Record};
 use std::alloc::{AllocError, Global};
 
-// Whether a record is alive; one that waits is not looked up.
-pub fn is_alive(book: &EpochBook, epoch: u16, number: u64) -> bool
+/// Whether a record is alive; one that waits is not looked up.
+pub(crate) fn is_alive(book: &EpochBook, epoch: u16, number: u64) -> bool
     ensures alive { IsTrue result ↔ IsAlive book.now.cuts book.now.complete epoch number }
     ensures book { IsBook book.now }
 {
@@ -34,8 +34,8 @@ pub fn is_kept(book: &EpochBook, key: Key, point: u64) -> bool
         || (point < key.number && is_alive(book, key.epoch, key.number))
 }
 
-// The epoch that parts the alive records at a number: those above the number are those above this epoch and number by key.
-pub fn epoch_above(book: &EpochBook, number: u64) -> u16
+/// The epoch that parts the alive records at a number: those above the number are those above this epoch and number by key.
+pub(crate) fn epoch_above(book: &EpochBook, number: u64) -> u16
     ensures parts { PartsAt book.now number result }
     ensures known { result ≤ book.now.complete }
     ensures cut { (result ≡ 0) ⊎ CutsAt book.now number result }
@@ -44,10 +44,10 @@ pub fn epoch_above(book: &EpochBook, number: u64) -> u16
     book.last_cut_at(number)
 }
 
-// A key that each alive record of a number up to this one is at or below, and no other alive record.
-//
-// Its epoch is the one in which the number itself can be alive. The epoch that parts the alive records at the number is a later one
-// where truncations have it as their `lo`, and from there a search would meet every dead record between the two.
+/// A key that each alive record of a number up to this one is at or below, and no other alive record.
+///
+/// Its epoch is the one in which the number itself can be alive. The epoch that parts the alive records at the number is a later one
+/// where truncations have it as their `lo`, and from there a search would meet every dead record between the two.
 fn last_key_to(book: &EpochBook, number: u64) -> Key
     ensures parts { PartsAtKey book.now number result }
     ensures low { (epoch : ℕ) → SparesAbove book.now epoch number → result.epoch ≤ epoch }
@@ -55,7 +55,7 @@ fn last_key_to(book: &EpochBook, number: u64) -> Key
     ensures book { IsBook book.now }
 {
     if number == 0 {
-        let _complete = book.complete_epoch();
+        book.opens_form();
         return Key {
             epoch: 0,
             number: 0,
@@ -67,10 +67,10 @@ fn last_key_to(book: &EpochBook, number: u64) -> Key
     }
 }
 
-// Below a dead key, a key that each alive record of a lower key is at or below.
-//
-// What is above the least `lo` of the later truncations is dead in each epoch up to this one, so a search passes over all of it in one
-// step, and not record by record.
+/// Below a dead key, a key that each alive record of a lower key is at or below.
+///
+/// What is above the least `lo` of the later truncations is dead in each epoch up to this one, so a search passes over all of it in one
+/// step, and not record by record.
 fn key_down(book: &EpochBook, key: Key) -> Key
     requires { 0 < key.number }
     ensures below { KeyBefore result key }
@@ -86,7 +86,7 @@ fn key_down(book: &EpochBook, key: Key) -> Key
     }
 }
 
-// Whether a key is at or below another one.
+/// Whether a key is at or below another one.
 fn is_up_to(key: Key, to: Key) -> bool
     ensures { IsTrue result ↔ (KeyBefore to key → ⊥) }
 {
@@ -94,11 +94,11 @@ fn is_up_to(key: Key, to: Key) -> bool
 }
 
 impl HotLog {
-    // The alive record with this number.
+    /// The alive record with this number.
     pub(crate) fn alive_of(&self, book: &EpochBook, number: u64) -> Option<&Record>
         ensures { IsOnlyRecord (λ r. IsHeldAlive book.now self.now r × (r.number ≡ number)) (option_copied result) }
     {
-        let _held = self.len();
+        self.opens_form();
         if number == 0 {
             return None;
         }
@@ -110,7 +110,7 @@ impl HotLog {
         }
     }
 
-    // The first alive record of a page above a number.
+    /// The first alive record of a page above a number.
     pub(crate) fn alive_above(&self, book: &EpochBook, page: u16, number: u64) -> Option<&Record>
         ensures found { IsLeastRecord (λ r. IsPageAlive book.now self.now page r × (number < r.number)) (option_copied result) }
         ensures form { IsHeld self.now }
@@ -128,7 +128,7 @@ impl HotLog {
         None
     }
 
-    // The last alive record of a page up to a number.
+    /// The last alive record of a page up to a number.
     pub(crate) fn alive_to(&self, book: &EpochBook, page: u16, number: u64) -> Option<&Record>
         ensures found { IsGreatestRecord (λ r. IsPageAlive book.now self.now page r × (r.number ≤ number)) (option_copied result) }
         ensures form { IsHeld self.now }
@@ -144,7 +144,7 @@ impl HotLog {
         None
     }
 
-    // The first alive record above a number.
+    /// The first alive record above a number.
     pub(crate) fn alive_after(&self, book: &EpochBook, number: u64) -> Option<&Record>
         ensures found { IsLeastRecord (λ r. IsHeldAlive book.now self.now r × (number < r.number)) (option_copied result) }
         ensures form { IsHeld self.now }
@@ -153,7 +153,7 @@ impl HotLog {
         self.get(key)
     }
 
-    // The key of the first alive record above a number.
+    /// The key of the first alive record above a number.
     fn alive_key(&self, book: &EpochBook, number: u64) -> Option<Key>
         ensures found { IsAliveKey book.now self.now number result }
         ensures book { IsBook book.now }
@@ -201,10 +201,10 @@ impl HotLog {
     }
 }
 
-// The least key above the one given of the alive records with this segment backlink. An alive number is above its backlink, so its
-// key is above the one that parts the alive records there: dead records of earlier epochs are passed unseen. What waits has a key
-// above all that is alive, so the search ends there.
-pub fn alive_of_back(log: &HotLog, book: &EpochBook, back: u64, after: Key) -> Option<Key>
+/// The least key above the one given of the alive records with this segment backlink. An alive number is above its backlink, so its
+/// key is above the one that parts the alive records there: dead records of earlier epochs are passed unseen. What waits has a key
+/// above all that is alive, so the search ends there.
+pub(crate) fn alive_of_back(log: &HotLog, book: &EpochBook, back: u64, after: Key) -> Option<Key>
     ensures found { IsAliveOfBack book.now log.now back after result }
     ensures book { IsBook book.now }
     ensures form { IsHeld log.now }
@@ -227,8 +227,8 @@ pub fn alive_of_back(log: &HotLog, book: &EpochBook, back: u64, after: Key) -> O
     None
 }
 
-// The least alive number with this segment backlink.
-pub fn next_after(log: &HotLog, book: &EpochBook, back: u64) -> Option<u64>
+/// The least alive number with this segment backlink.
+pub(crate) fn next_after(log: &HotLog, book: &EpochBook, back: u64) -> Option<u64>
     ensures { IsLeast (λ n. (r : RecordData) × IsHeldAlive book.now log.now r × (r.back ≡ back) × (r.number ≡ n)) result }
 {
     let key = alive_of_back(
@@ -243,11 +243,11 @@ pub fn next_after(log: &HotLog, book: &EpochBook, back: u64) -> Option<u64>
     Some(key.number)
 }
 
-// Whether the record of a key is alive, and its segment backlink below a number.
+/// Whether the record of a key is alive, and its segment backlink below a number.
 fn is_below(log: &HotLog, book: &EpochBook, key: Key, number: u64) -> bool
     ensures { IsTrue result ↔ ((r : RecordData) × IsHeldAlive book.now log.now r × HasKey key r × (r.back < number)) }
 {
-    let _held = log.len();
+    log.opens_form();
     if !is_alive(book, key.epoch, key.number) {
         return false;
     }

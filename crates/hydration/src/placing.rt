@@ -84,9 +84,9 @@ impl Staging {
         let Some(here) = self.get(index) else {
             return false;
         };
-        // It is called for its shape: records are in order.
-        let _index = before.index();
-        let _here = here.index();
+        // Records are in order.
+        before.opens_form();
+        here.opens_form();
         can_follow(book, anchor, before.content(), here.content())
     }
 }

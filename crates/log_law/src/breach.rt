@@ -78,12 +78,29 @@ fn breach_at(
         return Ok(None);
     };
     let cuts = CountedCuts::new(alloc, facts, roster)?;
+    breach_among(alloc, facts, roster, &cuts, place, fact, law)
+}
+
+/// The same of a fact at its place (from 0), over the truncations that count.
+fn breach_among(
+    alloc: Global,
+    facts: &[Fact],
+    roster: Roster,
+    cuts: &CountedCuts,
+    place: usize,
+    fact: &Fact,
+    law: Law,
+) -> Result<Option<Breach>, AllocError>
+    requires at { slice_get facts.now place ≡ Some fact.now }
+    requires cuts { Describes facts.now cuts.now }
+    ensures { IfOk result (λ found. MatchOption found (KeepsLaw roster facts.now place fact.now law) (TellsOf roster facts.now (place + 1) fact.now law)) }
+{
     match law {
         Law::OneFactPerKey => Ok(key_breach(facts, place, fact)),
-        Law::EpochBegun => Ok(begun_breach(facts, &cuts, fact)),
-        Law::SegmentBacklink => segment_breach(alloc, facts, &cuts, fact),
-        Law::BlockBacklink => block_breach(alloc, facts, &cuts, fact),
-        Law::AdvanceKept => advance_breach(alloc, facts, roster, &cuts, fact),
+        Law::EpochBegun => Ok(begun_breach(facts, cuts, fact)),
+        Law::SegmentBacklink => segment_breach(alloc, facts, cuts, fact),
+        Law::BlockBacklink => block_breach(alloc, facts, cuts, fact),
+        Law::AdvanceKept => advance_breach(alloc, facts, roster, cuts, fact),
     }
 }
 

@@ -70,15 +70,20 @@ impl Delta {
         &self.records
     }
 
+    /// It does nothing. It is called for what it ensures: a delta has the form of one.
+    pub fn opens_form(&self)
+        ensures form { IsDelta self.now }
+    {
+        let _base = self.base;
+    }
+
     /// An equal delta, which shares the pages. Its only error is want of memory.
     pub fn copy(&self) -> Result<Self, AllocError>
         ensures { IfOk result (λ d. d ≡ self.now) }
     {
-        Ok(Delta {
-            book: self.book.copy()?,
-            base: self.base,
-            pages: self.pages.clone()?,
-            records: self.records.clone()?,
-        })
+        let book = self.book.copy()?;
+        let pages = self.pages.clone()?;
+        let records = self.records.clone()?;
+        Ok(Delta::new(book, self.base, pages, records))
     }
 }

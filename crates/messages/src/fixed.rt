@@ -88,22 +88,26 @@ fn batch_is_told_one_way(batch: &RecordBatch) -> (&[Record], &[Record])
     (batch.records(), batch.records())
 }
 
-fn copies_are_the_same(
-    book: &Book,
-    summary: &Summary,
-    delta: &Delta,
-    image: &PageImage,
-) -> Result<
-    (
-        (Book, Summary, Delta, PageImage),
-        (Book, Summary, Delta, PageImage),
-    ),
-    AllocError,
->
+fn book_copies_are_one(book: &Book) -> Result<(Book, Book), AllocError>
     ensures { IfOk result (λ both. both.0 ≡ both.1) }
 {
-    Ok((
-        (book.copy()?, summary.copy()?, delta.copy()?, image.copy()?),
-        (book.copy()?, summary.copy()?, delta.copy()?, image.copy()?),
-    ))
+    Ok((book.copy()?, book.copy()?))
+}
+
+fn summary_copies_are_one(summary: &Summary) -> Result<(Summary, Summary), AllocError>
+    ensures { IfOk result (λ both. both.0 ≡ both.1) }
+{
+    Ok((summary.copy()?, summary.copy()?))
+}
+
+fn delta_copies_are_one(delta: &Delta) -> Result<(Delta, Delta), AllocError>
+    ensures { IfOk result (λ both. both.0 ≡ both.1) }
+{
+    Ok((delta.copy()?, delta.copy()?))
+}
+
+fn image_copies_are_one(image: &PageImage) -> Result<(PageImage, PageImage), AllocError>
+    ensures { IfOk result (λ both. both.0 ≡ both.1) }
+{
+    Ok((image.copy()?, image.copy()?))
 }

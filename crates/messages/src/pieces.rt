@@ -118,6 +118,13 @@ impl Piece {
         &self.content
     }
 
+    /// It does nothing. It is called for what it ensures: a piece has the form of one.
+    pub fn opens_form(&self)
+        ensures form { IsPiece self.now }
+    {
+        let _index = self.index;
+    }
+
     /// The content, without taking memory.
     pub fn into_content(self) -> PieceContent
         ensures content { result ≡ self.content }

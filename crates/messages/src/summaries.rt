@@ -60,10 +60,8 @@ impl Summary {
     pub fn copy(&self) -> Result<Self, AllocError>
         ensures { IfOk result (λ s. s ≡ self.now) }
     {
-        Ok(Summary {
-            book: self.book.copy()?,
-            anchor: self.anchor,
-            keys: self.keys.clone()?,
-        })
+        let book = self.book.copy()?;
+        let keys = self.keys.to_vec(*self.keys.allocator())?;
+        Ok(Summary::new(book, self.anchor, keys))
     }
 }

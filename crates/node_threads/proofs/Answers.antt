@@ -5,7 +5,7 @@ use Rattle.redo_core.specs.declared.refusal.Refused.{Refused}
 use Rattle.node_cell.specs.Receipt.{ReceiptData}
 use Rattle.node_lock.specs.Passes.{PassData}
 use Rattle.intake_queue.specs.Ends.{TakerData}
-use Rattle.node_workers.specs.Work.{Answered}
+use Rattle.node_threads.specs.Work.{Answered}
 
 pub answered_same : {F : Type 0} (old old' new new' : TakerData) (was was' is is' : PassData) (answers answers' : List (Result ReceiptData (Refused PlacedFact F)))
     → Answered old new was is answers → old ≡ old' → new' ≡ new → was ≡ was' → is' ≡ is → answers' ≡ answers → Answered old' new' was' is' answers'

@@ -1,3 +1,3 @@
 pub mod Each
 pub mod Refusals
-pub use Rattle.node_workers.specs.Work
+pub mod Work

@@ -1,7 +1,11 @@
+use crate::gate::Gate;
+use crate::list::push_waiting;
+use crate::refusal::Refusal;
+use crate::rounds::{run_folder, run_gossiper};
 use crate::run::Plan;
+use crate::stop::Stop;
 use named_log::LogName;
 use node_cell::Node;
-use node_workers::{Gate, Refusal, Stop, push_waiting, run_folder, run_gossiper};
 use std::alloc::Global;
 use std::sync::Wait;
 use std::thread::{JoinHandle, Scope, Threads};

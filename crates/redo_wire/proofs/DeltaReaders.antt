@@ -165,7 +165,7 @@ delta_steps many bytes b base page_count pages record_count records fits e0 e1 l
     } in
     (rw (page_len, record_len) p5, (wire, t0.1.1))
 
-delta_part_takes : (many : Bool) (bytes : List ℕ) (x : DeltaData × List ℕ) → IsBytes bytes → delta_part_at many bytes ≡ Ok x
+pub delta_part_takes : (many : Bool) (bytes : List ℕ) (x : DeltaData × List ℕ) → IsBytes bytes → delta_part_at many bytes ≡ Ok x
     → Takes bytes (delta_part_bytes many x.0) x.1 × (IsWireDelta x.0 × (has_many x.0.book ≡ many))
 unfolding delta_part_at
 delta_part_takes many bytes x fits e =

@@ -86,7 +86,7 @@ summary_steps many bytes b anchor key_count keys fits e0 e1 low e2 e3 =
       ),
     )
 
-summary_part_takes : (many : Bool) (bytes : List ℕ) (x : SummaryData × List ℕ) → IsBytes bytes → summary_part_at many bytes ≡ Ok x
+pub summary_part_takes : (many : Bool) (bytes : List ℕ) (x : SummaryData × List ℕ) → IsBytes bytes → summary_part_at many bytes ≡ Ok x
     → Takes bytes (summary_part_bytes many x.0) x.1 × (IsWireSummary x.0 × (has_many x.0.book ≡ many))
 unfolding summary_part_at
 summary_part_takes many bytes x fits e =

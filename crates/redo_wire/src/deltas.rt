@@ -1,10 +1,11 @@
 //! Deltas, both ways.
 
-ghost use Rattle.std.specs.Prelude.{◌≡◌, ◌↔◌, ◌⊎◌, ◌++◌, true, false, IfOk, IfErr, OnOk, OnErr, Ok, IsErrOf};
+ghost use Rattle.std.specs.Prelude.{◌≡◌, ◌↔◌, ◌⊎◌, ◌++◌, Bool, ℕ, List, true, false, IfOk, IfErr, OnOk, OnErr, Ok, IsErrOf};
 ghost use Rattle.redo_wire.specs.declared.faults.WireError.{WireError};
 ghost use Rattle.redo_wire.specs.declared.faults.WireFault.TheVariants.{TooLong};
 ghost use Rattle.redo_wire.specs.Outcomes.{Gives, GivesRead};
-ghost use Rattle.messages.specs.Deltas.{DeltaData};
+ghost use Rattle.messages.specs.Deltas.{DeltaData, delta_of};
+ghost use Rattle.redo_wire.specs.BookReading.{book_at};
 ghost use Rattle.redo_wire.specs.Deltas.{IsWireDelta, is_long_delta, delta_bytes, SpellsDelta};
 ghost use Rattle.redo_wire.specs.DeltaReading.{may_have, delta_part_at, delta_at, decoded_delta};
 
@@ -18,8 +19,8 @@ use crate::lists::{put_list, read_list};
 use crate::record_lists::{RECORD_SIZE, RecordList};
 use crate::tags;
 use bytes::BytesMut;
-use messages::{Delta, PageImage};
-use redo_core::Key;
+use messages::{Book, Delta, PageImage};
+use redo_core::{Key, Record};
 use std::alloc::{AllocError, Global};
 use std::mem::size_of;
 
@@ -73,7 +74,21 @@ fn read_delta_part(alloc: Global, has_many: bool, bytes: &[u8]) -> Result<(Delta
     ensures { Gives (λ x. (x.0, x.1.now)) result (delta_part_at has_many bytes.now) }
 {
     let (book, rest) = read_book(alloc, has_many, bytes)?;
-    let (base, rest) = read_u48(rest)?;
+    let ((base, pages, records), rest) = read_delta_lists(alloc, &book, rest)?;
+    Ok((Delta::new(book, base, pages, records), rest))
+}
+
+// The base, the pages and the records of a delta, behind its book.
+#[tactic(auto, unfolding(crate::specs::DeltaReading::delta_part_at))]
+fn read_delta_lists<'a>(
+    alloc: Global,
+    book: &Book,
+    bytes: &'a [u8],
+) -> Result<((u64, Vec<PageImage>, Vec<Record>), &'a [u8]), WireError>
+    ensures { (many : Bool) (whole : List ℕ) → book_at many whole ≡ Ok (book.now, bytes.now)
+        → Gives (λ x. (delta_of book.now x.0.0 x.0.1.items x.0.2.items, x.1.now)) result (delta_part_at many whole) }
+{
+    let (base, rest) = read_u48(bytes)?;
     if base > book.min() {
         return Err(WireError::Fault(WireFault::Shape));
     }
@@ -95,7 +110,7 @@ fn read_delta_part(alloc: Global, has_many: bool, bytes: &[u8]) -> Result<(Delta
         alloc,
         rest,
     )?;
-    Ok((Delta::new(book, base, pages, records), rest))
+    Ok(((base, pages, records), rest))
 }
 
 #[tactic(auto, unfolding(crate::specs::DeltaReading::delta_at))]

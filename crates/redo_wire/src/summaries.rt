@@ -1,10 +1,11 @@
 //! Summaries, both ways.
 
-ghost use Rattle.std.specs.Prelude.{◌≡◌, ◌↔◌, ◌⊎◌, ◌++◌, true, false, IfOk, IfErr, OnOk, OnErr, Ok, IsErrOf};
+ghost use Rattle.std.specs.Prelude.{◌≡◌, ◌↔◌, ◌⊎◌, ◌++◌, Bool, ℕ, List, true, false, IfOk, IfErr, OnOk, OnErr, Ok, IsErrOf};
 ghost use Rattle.redo_wire.specs.declared.faults.WireError.{WireError};
 ghost use Rattle.redo_wire.specs.declared.faults.WireFault.TheVariants.{TooLong};
 ghost use Rattle.redo_wire.specs.Outcomes.{Gives, GivesRead};
-ghost use Rattle.messages.specs.Summaries.{SummaryData};
+ghost use Rattle.messages.specs.Summaries.{SummaryData, summary_of};
+ghost use Rattle.redo_wire.specs.BookReading.{book_at};
 ghost use Rattle.redo_wire.specs.Summaries.{IsWireSummary, is_long_summary, summary_bytes, SpellsSummary};
 ghost use Rattle.redo_wire.specs.SummaryReading.{summary_part_at, summary_at, decoded_summary};
 
@@ -17,7 +18,7 @@ use crate::limits::COUNT32_END;
 use crate::lists::{put_list, read_list};
 use crate::tags;
 use bytes::BytesMut;
-use messages::Summary;
+use messages::{Book, Summary};
 use redo_core::Key;
 use std::alloc::{AllocError, Global};
 use std::mem::size_of;
@@ -70,7 +71,21 @@ fn read_summary_part(
     ensures { Gives (λ x. (x.0, x.1.now)) result (summary_part_at has_many bytes.now) }
 {
     let (book, rest) = read_book(alloc, has_many, bytes)?;
-    let (anchor, rest) = read_u48(rest)?;
+    let ((anchor, keys), rest) = read_summary_keys(alloc, &book, rest)?;
+    Ok((Summary::new(book, anchor, keys), rest))
+}
+
+// The anchor and the keys of a summary, behind its book.
+#[tactic(auto, unfolding(crate::specs::SummaryReading::summary_part_at))]
+fn read_summary_keys<'a>(
+    alloc: Global,
+    book: &Book,
+    bytes: &'a [u8],
+) -> Result<((u64, Vec<Key>), &'a [u8]), WireError>
+    ensures { (many : Bool) (whole : List ℕ) → book_at many whole ≡ Ok (book.now, bytes.now)
+        → Gives (λ x. (summary_of book.now x.0.0 x.0.1.items, x.1.now)) result (summary_part_at many whole) }
+{
+    let (anchor, rest) = read_u48(bytes)?;
     if anchor > book.min() {
         return Err(WireError::Fault(WireFault::Shape));
     }
@@ -86,7 +101,7 @@ fn read_summary_part(
         alloc,
         rest,
     )?;
-    Ok((Summary::new(book, anchor, keys), rest))
+    Ok(((anchor, keys), rest))
 }
 
 #[tactic(auto, unfolding(crate::specs::SummaryReading::summary_at))]

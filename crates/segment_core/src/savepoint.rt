@@ -168,5 +168,5 @@ fn take_out(hot: &mut HotLog, keys: &[Key])
     for key in keys {
         hot.remove(*key);
     }
-    let _held = hot.len();
+    hot.opens_form();
 }

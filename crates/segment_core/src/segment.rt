@@ -1,5 +1,6 @@
 ghost use Rattle.std.specs.Prelude.{◌≡◌, ℕ, ◌≤◌, ◌⊎◌, ◌++◌, ◌∷◌, ◌↔◌, [], List, None, Some, IfOk, OnOk, OnErr, IfErr, IsOkAnd, IsErrAnd, IsTrue, map};
 ghost use Rattle.std.specs.Option.{option_copied};
+ghost use Rattle.redo_core.specs.Book.{roster_of};
 ghost use Rattle.redo_core.specs.Position.{Position};
 ghost use Rattle.redo_core.specs.Sound.{IsSound};
 ghost use Rattle.redo_core.specs.declared.facts.Fact.{Fact as AnyFact};
@@ -99,12 +100,12 @@ impl Segment {
     {
         Ok(Segment {
             alloc: self.alloc,
-            book: self.book.copy()?,
-            hot: self.hot.copy()?,
-            base: self.base,
-            store: self.store.copy()?,
-            points: self.points,
             due: self.due.copy()?,
+            book: self.book.copy()?,
+            store: self.store.copy()?,
+            base: self.base,
+            points: self.points,
+            hot: self.hot.copy()?,
         })
     }
 
@@ -151,6 +152,13 @@ impl Segment {
         ensures form { IsSegment self.now }
     {
         self.book.points()
+    }
+
+    /// How many readers the log has, 1 to 15.
+    pub fn readers(&self) -> u8
+        ensures { result ≡ roster_of self.now.book }
+    {
+        self.points().len() as u8
     }
 
     /// The greatest linked number that is not above the minimum read point.

@@ -3,7 +3,6 @@ ghost use Rattle.redo_core.specs.Order.{Lists};
 ghost use Rattle.redo_core.specs.Book.{roster_of};
 ghost use Rattle.hot_log.specs.Missing.{IsMissing};
 ghost use Rattle.hot_log.specs.Paged.{PlaceBefore};
-ghost use Rattle.segment_core.specs.Form.{IsSegment};
 ghost use Rattle.segment_core.specs.Savepoint.{RollsBackAs};
 ghost use Rattle.segment_core.specs.declared.answers.Refusal.TheVariants.{OtherRoster as OtherRosterOf, Memory as MemoryOf};
 ghost use Rattle.segment_join.specs.Joining.{MeansUnion, AreOfOneLog, JoinsInto, TakesTold, RefusesJoin};
@@ -13,7 +12,7 @@ use crate::holding::{hold_rest, newer_images};
 use crate::missing::kept_among;
 use redo_core::Record;
 use segment_core::{Refusal, Savepoint, Segment};
-use segment_told::take_told;
+use segment_told::{lent_book, take_told};
 
 /// Brings what another segment means into a segment, whatever each has folded and thrown away.
 ///
@@ -30,7 +29,7 @@ pub fn join(segment: &mut Segment, other: &Segment) -> Result<(), Refusal>
     ensures roster { IfErr result (λ e. roster_of segment.old.book ≢ roster_of other.now.book → e ≡ OtherRosterOf (roster_of segment.old.book) (roster_of other.now.book)) }
     ensures unchanged { OnErr result (segment.new ≡ segment.old) }
 {
-    let (own, shown) = (readers(segment), readers(other));
+    let (own, shown) = (segment.readers(), other.readers());
     if own != shown {
         return Err(Refusal::OtherRoster { own, shown });
     }
@@ -44,14 +43,6 @@ pub fn join(segment: &mut Segment, other: &Segment) -> Result<(), Refusal>
             Err(why)
         }
     }
-}
-
-/// How many readers a segment's roster has.
-fn readers(segment: &Segment) -> u8
-    ensures size { result ≡ roster_of segment.now.book }
-    ensures form { IsSegment segment.now }
-{
-    segment.points().len() as u8
 }
 
 /// Takes what another segment of the same roster tells, holds the rest of what it holds, and takes its newer images.
@@ -117,14 +108,5 @@ fn take_all(
     };
     // It is called for what it ensures: the kept records are those above the anchor.
     let _anchor = other.anchor();
-    let complete = other.front().epoch;
-    take_told(
-        segment,
-        saved,
-        other.cuts(),
-        complete,
-        other.points(),
-        other.waits(),
-        &kept,
-    )
+    take_told(segment, saved, &lent_book(other), &kept)
 }

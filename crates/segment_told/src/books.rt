@@ -2,20 +2,23 @@
 ghost use Rattle.std.specs.Prelude.{◌≡◌, IfOk};
 ghost use Rattle.segment_core.specs.Form.{IsSegment};
 
-use messages::Book;
+use messages::{Book, LentBook};
 use segment_core::Segment;
 use std::alloc::AllocError;
-use std::vec::Vec;
 
-/// The book of a segment: its truncations, complete epoch, readers' points and waiting advances. Its only error is want of memory.
+/// The book of a segment, lent: its truncations, complete epoch, readers' points and waiting advances.
+pub fn lent_book(segment: &Segment) -> LentBook<'_>
+    ensures book { result ≡ segment.now.book }
+    ensures form { IsSegment segment.now }
+{
+    let complete = segment.front().epoch;
+    LentBook::new(segment.cuts(), complete, segment.points(), segment.waits())
+}
+
+/// The book of a segment, with memory of its own. Its only error is want of memory.
 pub fn book_of(segment: &Segment) -> Result<Book, AllocError>
     ensures book { IfOk result (λ b. b ≡ segment.now.book) }
     ensures form { IsSegment segment.now }
 {
-    let alloc = segment.allocator();
-    let complete = segment.front().epoch;
-    let cuts = Vec::from_slice(alloc, segment.cuts())?;
-    let points = Vec::from_slice(alloc, segment.points())?;
-    let waits = Vec::from_slice(alloc, segment.waits())?;
-    Ok(Book::new(cuts, complete, points, waits))
+    lent_book(segment).to_book(segment.allocator())
 }

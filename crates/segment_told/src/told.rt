@@ -1,7 +1,6 @@
 ghost use Rattle.std.specs.Prelude.{◌≡◌, ◌≤◌, ◌⊎◌, [], ◌∷◌, length, map, OnOk, IfErr};
 ghost use Rattle.std.specs.List.{All};
 ghost use Rattle.redo_core.specs.Shape.{max_readers, max_number};
-ghost use Rattle.redo_core.specs.Book.{book_of};
 ghost use Rattle.redo_core.specs.Roster.{IsReader};
 ghost use Rattle.redo_core.specs.declared.facts.Fact.TheVariants.{Record as OfRecord, Cut as OfCut, Advance as OfAdvance};
 ghost use Rattle.segment_core.specs.Savepoint.{RollsBackAs};
@@ -9,30 +8,26 @@ ghost use Rattle.segment_core.specs.declared.answers.Refusal.TheVariants.{Memory
 ghost use Rattle.segment_told.specs.Told.{point_facts, book_facts, facts_told};
 ghost use Rattle.segment_told.specs.InOrder.{TakesOne, TakesEach, RefusesOne};
 
+use messages::LentBook;
 use redo_core::{Advance, Cut, Fact, Record};
 use segment_core::{Refusal, Savepoint, Segment};
 
-/// Takes what is told into a segment: truncations, each reader's point as an advance in the complete epoch, waiting advances, and
-/// records, in that order. The points are at most 15, by reader.
+/// Takes what is told into a segment: of a book its truncations, each reader's point as an advance in its complete epoch, its waiting
+/// advances, and then records, in that order.
 ///
 /// Errors: as of the first of these facts that `take` refuses; `Memory`. The segment is then to be rolled back: it can be to where it
 /// could be before.
 pub fn take_told(
     segment: &mut Segment,
     saved: &mut Savepoint,
-    cuts: &[Cut],
-    complete: u16,
-    points: &[u64],
-    waits: &[Advance],
+    book: &LentBook<'_>,
     records: &[&Record],
 ) -> Result<(), Refusal>
-    requires roster { length points.now ≤ max_readers }
-    requires shaped { All (λ p. p ≤ max_number) points.now }
-    ensures takes { OnOk result (TakesEach segment.old (facts_told (book_of cuts.now complete points.now waits.now) (map (λ r. r.now) records.now)) segment.new) }
-    ensures refused { IfErr result (λ e. (e ≡ MemoryOf) ⊎ RefusesOne segment.old (facts_told (book_of cuts.now complete points.now waits.now) (map (λ r. r.now) records.now)) e) }
+    ensures takes { OnOk result (TakesEach segment.old (facts_told book.now (map (λ r. r.now) records.now)) segment.new) }
+    ensures refused { IfErr result (λ e. (e ≡ MemoryOf) ⊎ RefusesOne segment.old (facts_told book.now (map (λ r. r.now) records.now)) e) }
     ensures rolls_back { RollsBackAs saved.old segment.old saved.new segment.new }
 {
-    if let Err(why) = take_book(segment, saved, cuts, complete, points, waits) {
+    if let Err(why) = take_book(segment, saved, book) {
         return Err(why);
     }
     take_records(segment, saved, records)
@@ -42,17 +37,16 @@ pub fn take_told(
 fn take_book(
     segment: &mut Segment,
     saved: &mut Savepoint,
-    cuts: &[Cut],
-    complete: u16,
-    points: &[u64],
-    waits: &[Advance],
+    book: &LentBook<'_>,
 ) -> Result<(), Refusal>
-    requires roster { length points.now ≤ max_readers }
-    requires shaped { All (λ p. p ≤ max_number) points.now }
-    ensures takes { OnOk result (TakesEach segment.old (book_facts (book_of cuts.now complete points.now waits.now)) segment.new) }
-    ensures refused { IfErr result (λ e. (e ≡ MemoryOf) ⊎ RefusesOne segment.old (book_facts (book_of cuts.now complete points.now waits.now)) e) }
+    ensures takes { OnOk result (TakesEach segment.old (book_facts book.now) segment.new) }
+    ensures refused { IfErr result (λ e. (e ≡ MemoryOf) ⊎ RefusesOne segment.old (book_facts book.now) e) }
     ensures rolls_back { RollsBackAs saved.old segment.old saved.new segment.new }
 {
+    let cuts = book.cuts();
+    let complete = book.complete();
+    let points = book.points();
+    let waits = book.waits();
     if let Err(why) = take_cuts(segment, saved, cuts) {
         return Err(why);
     }

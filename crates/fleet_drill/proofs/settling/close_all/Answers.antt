@@ -2,7 +2,7 @@ use Rattle.std.proofs.Common.{◌≡◌, ◌+◌, ◌∙◌, ◌++◌, ap, subst
 use Rattle.std.specs.Prelude.{slice_get}
 use Rattle.node_cell.specs.Node.{IsPassOf}
 use Rattle.node_threads.specs.Refusals.{AllStarted}
-use Rattle.node_workers.specs.Work.{receipts_in}
+use Rattle.node_threads.specs.Work.{receipts_in}
 use Rattle.fleet_drill.proofs.Lists.{each_less, before_more, last_at, slice_as}
 use Rattle.fleet_drill.proofs.settling.close_all.Goals as goal
 

@@ -2,7 +2,7 @@ use Rattle.std.proofs.Common.{◌≡◌, ◌+◌, length, Some, is_some, true}
 use Rattle.std.specs.Prelude.{slice_get}
 use Rattle.node_cell.specs.Node.{IsPassOf}
 use Rattle.node_threads.specs.Each.{Each}
-use Rattle.node_workers.specs.Work.{receipts_in}
+use Rattle.node_threads.specs.Work.{receipts_in}
 use Rattle.fleet_drill.proofs.settling.close_all.Given as goal
 
 abbrev pub decreases-loop-node : goal.decreases-loop-node

@@ -1,6 +1,6 @@
 use Rattle.std.proofs.Common.{subst}
 use Rattle.node_lock.specs.Passes.{AreTrue}
-use Rattle.node_workers.specs.Work.{receipts_in}
+use Rattle.node_threads.specs.Work.{receipts_in}
 use Rattle.fleet_drill.proofs.Receipts.{none_strange}
 use Rattle.fleet_drill.proofs.settling.close_one.Goals as goal
 

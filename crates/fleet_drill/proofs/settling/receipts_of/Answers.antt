@@ -1,5 +1,5 @@
 use Rattle.std.proofs.Common.{◌∙◌, ◌∷◌, ap, arith, length}
-use Rattle.node_workers.specs.Work.{receipts_in}
+use Rattle.node_threads.specs.Work.{receipts_in}
 use Rattle.fleet_drill.proofs.Receipts.{one_receipt, one_refusal, all_receipts}
 use Rattle.fleet_drill.proofs.settling.receipts_of.Goals as goal
 

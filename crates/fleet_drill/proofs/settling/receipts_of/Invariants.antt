@@ -1,5 +1,5 @@
 use Rattle.std.proofs.Common.{◌≡◌, ◌++◌, map, length}
-use Rattle.node_workers.specs.Work.{receipts_in}
+use Rattle.node_threads.specs.Work.{receipts_in}
 use Rattle.fleet_drill.proofs.settling.receipts_of.Given as goal
 
 abbrev pub invariant-loop-answer : goal.invariant-loop-answer

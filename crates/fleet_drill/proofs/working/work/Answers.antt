@@ -1,6 +1,6 @@
 use Rattle.std.proofs.Common.{◌≡◌, ◌∙◌, ap, sym, subst, Some, ◌++◌, is_some, ◌-◌}
 use Rattle.std.specs.Prelude.{slice_get}
-use Rattle.node_workers.specs.Work.{receipts_in}
+use Rattle.node_threads.specs.Work.{receipts_in}
 use Rattle.node_threads.proofs.Places.{also_at}
 use Rattle.fleet_drill.proofs.Lists.{named_same, some_same}
 use Rattle.fleet_drill.proofs.working.work.Goals as goal

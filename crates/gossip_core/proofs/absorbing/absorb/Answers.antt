@@ -1,5 +1,5 @@
-use Rattle.std.proofs.Common.{◌≡◌, ◌∙◌, inl, inr, ap, arith, length}
-use Rattle.redo_core.specs.Book.{BookData, roster_of}
+use Rattle.std.proofs.Common.{◌≡◌, ◌∙◌, inl, inr, ap, arith}
+use Rattle.redo_core.specs.Book.{roster_of}
 use Rattle.segment_core.specs.declared.answers.Refusal.{Refusal}
 use Rattle.gossip_core.specs.declared.absorbing.AbsorbRefusal.TheVariants.{Refused}
 use Rattle.gossip_core.specs.Absorbing.{Answers, IsOfOneLog}
@@ -9,10 +9,8 @@ use Rattle.gossip_core.proofs.absorbing.absorb.Goals as goal
 -- the two are of one roster
 pub take_delta-requires : goal.take_delta-requires
 take_delta-requires c =
-    let own : length c.points.result.now ≡ roster_of c.args.segment.now.book = ap length c.points.ensures.own in
-    let shown : length c.points-2.result.now ≡ roster_of c.args.delta.now.book =
-    ap length (c.points-2.ensures.points ∙ ap (λ (b : BookData). b.points) c.book.ensures.book) in
-    omega (arith, own, shown, c.if-own-shown.false)
+    let shown : c.readers-shown.result ≡ roster_of c.args.delta.now.book = c.readers-shown.ensures.readers ∙ ap roster_of c.book.ensures.book in
+    omega (arith, c.readers-own.ensures, shown, c.if-own-shown.false)
 
 pub returns-in-Ok-clause-answers : goal.returns-in-Ok-clause-answers
 returns-in-Ok-clause-answers c =
@@ -21,10 +19,8 @@ returns-in-Ok-clause-answers c =
 pub returns-in-Err-clause-refused : goal.returns-in-Err-clause-refused
 returns-in-Err-clause-refused c =
     let anchor = c.anchor-anchor.result in let above = c.anchor-anchor.ensures.own in
-    let own : length c.points.result.now ≡ roster_of c.args.segment.now.book = ap length c.points.ensures.own in
-    let shown : length c.points-2.result.now ≡ roster_of c.args.delta.now.book =
-    ap length (c.points-2.ensures.points ∙ ap (λ (b : BookData). b.points) c.book.ensures.book) in
-    let same : roster_of c.args.segment.now.book ≡ roster_of c.args.delta.now.book = omega (arith, own, shown, c.if-own-shown.false) in
+    let shown : c.readers-shown.result ≡ roster_of c.args.delta.now.book = c.readers-shown.ensures.readers ∙ ap roster_of c.book.ensures.book in
+    let same : roster_of c.args.segment.now.book ≡ roster_of c.args.delta.now.book = omega (arith, c.readers-own.ensures, shown, c.if-own-shown.false) in
     inr (same, (anchor, above, c.in_default.ensures.own anchor above), c.in-Err.ensures.refused)
 
 pub returns-in-Ok-clause-means : goal.returns-in-Ok-clause-means
@@ -32,9 +28,9 @@ returns-in-Ok-clause-means c =
     let s = c.args.segment.now in let summary = c.args.summary.now in let d = c.args.delta.now in
     let anchor = c.anchor-anchor.result in let above = c.anchor-anchor.ensures.own in
     let answers : Answers s summary = (anchor, above, c.in_default.ensures.own anchor above) in
-    both s summary d c.take_delta.new.segment c.base-base.ensures.shape answers c.in-Ok.ensures.absorbs
+    both s summary d c.take_delta.new.segment c.opens_form.ensures.form answers c.in-Ok.ensures.absorbs
 
 pub returns-in-Err-clause-sound : goal.returns-in-Err-clause-sound
 returns-in-Err-clause-sound c = λ (one : IsOfOneLog c.args.segment.now c.args.summary.now c.args.delta.now).
     inl (ap (λ (why : Refusal). Refused why)
-    (only_memory c.args.segment.now c.args.summary.now c.args.delta.now c.in-Err.why c.base-base.ensures.shape c.in-Err.ensures.refused one))
+    (only_memory c.args.segment.now c.args.summary.now c.args.delta.now c.in-Err.why c.opens_form.ensures.form c.in-Err.ensures.refused one))

@@ -9,7 +9,7 @@ loop-below-init c = hanging_first c.args.book.now c.args.log.now c.args.number c
 pub loop-below-preserved : goal.loop-below-preserved
 loop-below-preserved c =
     let found = c.in-Some.ensures in
-    hanging_down c.args.book.now c.args.log.now c.args.number c.loop-below.redo.now c.in-Some.below.now c.len-held.ensures.form found.0.0
+    hanging_down c.args.book.now c.args.log.now c.args.number c.loop-below.redo.now c.in-Some.below.now c.opens_form.ensures.form found.0.0
     (found.0.1 ∙ c.back.ensures.value) c.loop-below.invariant
 
 pub returns : goal.returns

@@ -26,7 +26,7 @@ returns-then-back-top c =
     let below : x.back < x.number = omega (arith, c.back.ensures.below) in
     let other : x.back ≡ c.loop-top.top → ⊥ = λ e. c.if-back-top.true (c.back.ensures.value ∙ e) in (
       λ t. absurd (cc),
-      λ s. absurd (not_straight c.args.book.now c.args.log.now c.args.from c.loop-top.top c.args.to x c.complete_epoch-complete.ensures.book c.in-Some.ensures.form c.loop-top.invariant c.in-Some.ensures.found below le other s),
+      λ s. absurd (not_straight c.args.book.now c.args.log.now c.args.from c.loop-top.top c.args.to x c.opens_form.ensures.form c.in-Some.ensures.form c.loop-top.invariant c.in-Some.ensures.found below le other s),
     )
 
 pub loop-top-smaller : goal.loop-top-smaller

@@ -26,7 +26,7 @@ returns-in-Some c =
     let alive : IsAlive b.cuts b.complete key.epoch key.number = c.if-not-is_alive.ensures.alive.0 refl in (
       λ (h : IsTrue (nat_lt c.back.result c.args.number)). (x, (at.0, alive_key b x key at.1 alive), at.1, lower c.back.result x.back c.args.number c.back.ensures.value h),
       λ h.
-          let same : h.0 ≡ x = one_key c.args.log.now c.len-held.ensures.form.rising h.0 x h.1.0 at.0 (h.2.0 ∙ sym at.1.0) (h.2.1 ∙ sym at.1.1) in
+          let same : h.0 ≡ x = one_key c.args.log.now c.opens_form.ensures.form.rising h.0 x h.1.0 at.0 (h.2.0 ∙ sym at.1.0) (h.2.1 ∙ sym at.1.1) in
           let below : x.back < c.args.number = subst (λ (r : RecordData). r.back < c.args.number) same h.3 in
           lower_of c.back.result x.back c.args.number c.back.ensures.value below,
     )

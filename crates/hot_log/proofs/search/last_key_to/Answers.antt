@@ -42,7 +42,7 @@ parts_below b number epoch some parts e n a = (
 )
 
 pub returns-then-number-eq0-clause-parts : goal.returns-then-number-eq0-clause-parts
-returns-then-number-eq0-clause-parts c = parts_at_none c.args.book.now c.args.number c.complete_epoch-complete.ensures.book c.if-number-eq0.true
+returns-then-number-eq0-clause-parts c = parts_at_none c.args.book.now c.args.number c.opens_form.ensures.form c.if-number-eq0.true
 
 pub returns-clause-parts : goal.returns-clause-parts
 returns-clause-parts c = parts_below c.args.book.now c.args.number c.epoch_above.result c.if-number-eq0.false c.epoch_above.ensures.parts

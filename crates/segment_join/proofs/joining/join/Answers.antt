@@ -19,7 +19,7 @@ only_memory own other why refused one =
     ⊎_elim (λ (h : why ≡ Memory). h) (λ (h : RefusesJoin own other why). absurd (sound_join own other why h one)) refused
 
 pub bring_in-requires : goal.bring_in-requires
-bring_in-requires c = omega (arith, c.readers-own.ensures.size, c.readers-shown.ensures.size, c.if-own-shown.false)
+bring_in-requires c = omega (arith, c.readers-own.ensures, c.readers-shown.ensures, c.if-own-shown.false)
 
 -- the state that the segment is brought back to is the one that it had
 pub roll_back-requires : goal.roll_back-requires
@@ -31,13 +31,13 @@ returns-in-Err-clause-unchanged c = c.roll_back.ensures c.args.segment.now (c.in
 pub returns-in-Err-clause-refused : goal.returns-in-Err-clause-refused
 returns-in-Err-clause-refused c =
     let own = c.args.segment.now in let other = c.args.other.now in let why = c.in-Err.why in
-    let same : roster_of own.book ≡ roster_of other.book = omega (arith, c.readers-own.ensures.size, c.readers-shown.ensures.size, c.if-own-shown.false) in
+    let same : roster_of own.book ≡ roster_of other.book = omega (arith, c.readers-own.ensures, c.readers-shown.ensures, c.if-own-shown.false) in
     memory_or why (RefusesAll own other why) _ (refused_told own other why same) c.in-Err.ensures.refused
 
 pub returns-in-Err-clause-sound : goal.returns-in-Err-clause-sound
 returns-in-Err-clause-sound c =
     let own = c.args.segment.now in let other = c.args.other.now in let why = c.in-Err.why in
-    let same : roster_of own.book ≡ roster_of other.book = omega (arith, c.readers-own.ensures.size, c.readers-shown.ensures.size, c.if-own-shown.false) in
+    let same : roster_of own.book ≡ roster_of other.book = omega (arith, c.readers-own.ensures, c.readers-shown.ensures, c.if-own-shown.false) in
     only_memory own other why (memory_or why (RefusesAll own other why) _ (refused_told own other why same) c.in-Err.ensures.refused)
 
 pub returns-in-Ok-bring_in-clause-means : goal.returns-in-Ok-bring_in-clause-means
@@ -46,4 +46,4 @@ returns-in-Ok-bring_in-clause-means c = means_union c.args.segment.now c.args.ot
 -- of one roster, nothing is said of two
 pub returns-in-Err-clause-roster : goal.returns-in-Err-clause-roster
 returns-in-Err-clause-roster c = λ (differ : roster_of c.args.segment.now.book ≢ roster_of c.args.other.now.book).
-    absurd (differ (omega (arith, c.readers-own.ensures.size, c.readers-shown.ensures.size, c.if-own-shown.false)))
+    absurd (differ (omega (arith, c.readers-own.ensures, c.readers-shown.ensures, c.if-own-shown.false)))

@@ -2,7 +2,7 @@ use Rattle.std.proofs.Common.{◌≡◌, ◌⊎◌, List, map, Bor, subst}
 use Rattle.std.specs.List.{Contains}
 use Rattle.std.proofs.lemmas.Result.{on_ok_weaker, IfErr-weaker}
 use Rattle.redo_core.specs.Data.{RecordData}
-use Rattle.redo_core.specs.Book.{BookData, book_of}
+use Rattle.redo_core.specs.Book.{BookData}
 use Rattle.redo_core.specs.Order.{Lists, RecordBefore}
 use Rattle.redo_core.proofs.Listing.{lists_as}
 use Rattle.state_laws.specs.HasMeaning.{IsKeptBy}
@@ -13,7 +13,6 @@ use Rattle.segment_told.specs.InOrder.{TakesEach, RefusesOne}
 use Rattle.segment_join.specs.Knowing.{RefusesAll}
 use Rattle.segment_join.proofs.LeavingOut.{takes_left_out, refuses_left_out}
 use Rattle.segment_told.proofs.Ordered.{memory_or}
-use Rattle.segment_told.proofs.TellingAll.{same_book}
 use Rattle.segment_join.proofs.joining.take_all.Goals as goal
 
 pub kept_among-requires-clause-held : goal.kept_among-requires-clause-held
@@ -28,9 +27,8 @@ returns-clause-takes c =
     lists_as RecordBefore (λ r. Contains missing r × IsKeptBy other anchor r) (λ r. IsKeptBy other anchor r × (Contains s.held r → ⊥)) kept
     (λ r. (λ h. (h.1, ((c.requires.members r).0 h.0).1), λ h. ((c.requires.members r).1 (h.0.0, h.1), h.0)))
     (c.in-Ok.ensures anchor above) in
-    let given = book_of c.cuts.result.now c.front-complete.result.epoch c.points.result.now c.waits.result.now in
-    let is : given ≡ other.book = same_book other.book c.cuts.result.now c.front-complete.result.epoch c.points.result.now c.waits.result.now
-    c.cuts.ensures.value c.front-complete.ensures.own.epoch c.points.ensures.own c.waits.ensures.value in
+    let given = c.lent_book.result in
+    let is : given ≡ other.book = c.lent_book.ensures.book in
     let t = c.take_told.new.segment in
     on_ok_weaker c.take_told.result
     (λ (h : TakesEach s (facts_told given (map (λ r. r.now) c.deref.result.now)) t).
@@ -48,9 +46,8 @@ returns-clause-refused c =
     lists_as RecordBefore (λ r. Contains missing r × IsKeptBy other anchor r) (λ r. IsKeptBy other anchor r × (Contains s.held r → ⊥)) kept
     (λ r. (λ h. (h.1, ((c.requires.members r).0 h.0).1), λ h. ((c.requires.members r).1 (h.0.0, h.1), h.0)))
     (c.in-Ok.ensures anchor above) in
-    let given = book_of c.cuts.result.now c.front-complete.result.epoch c.points.result.now c.waits.result.now in
-    let is : given ≡ other.book = same_book other.book c.cuts.result.now c.front-complete.result.epoch c.points.result.now c.waits.result.now
-    c.cuts.ensures.value c.front-complete.ensures.own.epoch c.points.ensures.own c.waits.ensures.value in
+    let given = c.lent_book.result in
+    let is : given ≡ other.book = c.lent_book.ensures.book in
     IfErr-weaker c.take_told.result
     (λ e. (e ≡ Memory) ⊎ RefusesOne s (facts_told given (map (λ r. r.now) c.deref.result.now)) e) (λ e. (e ≡ Memory) ⊎ RefusesAll s other e)
     (λ (e : Refusal).

@@ -1,7 +1,6 @@
 use Rattle.std.proofs.Common.{◌≡◌, ◌⊎◌, List, map, Bor, subst}
 use Rattle.std.proofs.lemmas.Result.{on_ok_weaker, IfErr-weaker}
 use Rattle.redo_core.specs.Data.{RecordData}
-use Rattle.redo_core.specs.Book.{book_of}
 use Rattle.redo_core.specs.declared.facts.Fact.{Fact}
 use Rattle.redo_core.specs.declared.facts.Fact.TheVariants.{Record}
 use Rattle.segment_core.specs.declared.answers.Refusal.{Refusal}
@@ -14,14 +13,14 @@ use Rattle.segment_told.proofs.told.take_told.Goals as goal
 
 pub returns-in-Err-clause-refused : goal.returns-in-Err-clause-refused
 returns-in-Err-clause-refused c =
-    let b = book_of c.args.cuts.now c.args.complete c.args.points.now c.args.waits.now in
+    let b = c.args.book.now in
     let records : List RecordData = map (λ r. r.now) c.args.records.now in
     let s = c.args.segment.now in let why = c.in-Err.why in
     memory_or why (RefusesOne s (book_facts b) why) _ (refuses_book s b records why) c.in-Err.ensures.refused
 
 pub returns-clause-takes : goal.returns-clause-takes
 returns-clause-takes c =
-    let b = book_of c.args.cuts.now c.args.complete c.args.points.now c.args.waits.now in
+    let b = c.args.book.now in
     let records : List RecordData = map (λ r. r.now) c.args.records.now in
     let s = c.args.segment.now in let t = c.take_book.new.segment in let u = c.take_records.new.segment in
     on_ok_weaker c.take_records.result
@@ -32,7 +31,7 @@ returns-clause-takes c =
 
 pub returns-clause-refused : goal.returns-clause-refused
 returns-clause-refused c =
-    let b = book_of c.args.cuts.now c.args.complete c.args.points.now c.args.waits.now in
+    let b = c.args.book.now in
     let records : List RecordData = map (λ r. r.now) c.args.records.now in
     let s = c.args.segment.now in let t = c.take_book.new.segment in
     let all = facts_told b records in

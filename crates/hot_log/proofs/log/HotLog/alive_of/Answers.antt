@@ -6,7 +6,7 @@ use Rattle.hot_log.proofs.log.HotLog.alive_of.Goals as goal
 
 pub returns-then-number-eq0 : goal.returns-then-number-eq0
 returns-then-number-eq0 c r h =
-    let up : 0 < r.number = positive r (c.len-held.ensures.form.shaped r h.0.0) in
+    let up : 0 < r.number = positive r (c.opens_form.ensures.form.shaped r h.0.0) in
     let zero : r.number ≡ 0 = h.1 ∙ c.if-number-eq0.true in
     omega arith
 
@@ -14,7 +14,7 @@ pub returns-then-is_alive : goal.returns-then-is_alive
 returns-then-is_alive c =
     let b = c.args.book.now in
     let next : c.args.number - 1 + 1 ≡ c.args.number = omega (arith, c.if-number-eq0.false) in
-    only_there b c.args.self.now c.args.number c.epoch_above-epoch.result (option_copied c.get.result) c.if-is_alive.ensures.book c.len-held.ensures.form
+    only_there b c.args.self.now c.args.number c.epoch_above-epoch.result (option_copied c.get.result) c.if-is_alive.ensures.book c.opens_form.ensures.form
     (λ e a. c.epoch_above-epoch.ensures.parts.1 e (subst (λ (n : ℕ). IsAlive b.cuts b.complete e n) (sym next) a)) (c.if-is_alive.ensures.alive.0 refl) c.get.ensures
 
 pub returns-else-is_alive : goal.returns-else-is_alive

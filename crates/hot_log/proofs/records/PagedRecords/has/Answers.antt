@@ -8,7 +8,7 @@ pub returns-in-Some : goal.returns-in-Some
 returns-in-Some c =
     let held = c.in-Some.held.now in let redo = c.args.redo.now in let found = c.in-Some.ensures in (
       λ h. subst (Contains c.args.self.now) (c.is_same.ensures.0 h) found.0,
-      λ h. c.is_same.ensures.1 (one_key c.args.self.now c.len-held.ensures.form.rising held redo found.0 h (found.2.0 ∙ (same_epoch c.key.ensures.value)) (found.2.1 ∙ (same_number c.key.ensures.value))),
+      λ h. c.is_same.ensures.1 (one_key c.args.self.now c.opens_form.ensures.form.rising held redo found.0 h (found.2.0 ∙ (same_epoch c.key.ensures.value)) (found.2.1 ∙ (same_number c.key.ensures.value))),
     )
 
 pub returns-in-None : goal.returns-in-None

@@ -1,0 +1,64 @@
+use crate::fact_calls::{bodies, drills, model, shapes, step_rows, wire, writing};
+use log_law::Writer;
+use redo_core::{Fact, Roster};
+use row_words::first;
+use script_text::{ScriptError, read_facts};
+use std::alloc::{AllocError, Global};
+
+/// What the lines so far have left: facts, and a writer.
+#[derive(Drop)]
+pub struct Bench {
+    facts: Vec<Fact>,
+    writer: Writer,
+}
+
+// The facts of a fact line; none of any other.
+fn facts_of(alloc: Global, line: &str) -> Result<Vec<Fact>, AllocError> {
+    let text = format!(in alloc; "{line}\n")?;
+    match read_facts(alloc, text.as_bytes()) {
+        Ok(log) => Ok(log.facts),
+        Err(ScriptError::BadLine(_)) => Ok(Vec::new(alloc)),
+        Err(ScriptError::Memory) => Err(AllocError),
+    }
+}
+
+impl Bench {
+    pub fn new(alloc: Global, roster: Roster) -> Result<Bench, AllocError> {
+        Ok(Bench {
+            facts: Vec::new(alloc),
+            writer: Writer::new(alloc, roster)?,
+        })
+    }
+
+    // Keeps the facts of a line, and says how many there are then.
+    fn keep(&mut self, alloc: Global, line: &str) -> Result<String, AllocError> {
+        let mut facts = facts_of(alloc, line)?;
+        match facts.pop() {
+            Some(fact) => {
+                self.facts.push(fact)?;
+                let count = self.facts.len();
+                format!(in alloc; "fact {count}")
+            }
+            None => String::from_str(alloc, "?"),
+        }
+    }
+
+    /// What a line answers.
+    pub fn answer(&mut self, alloc: Global, line: &str) -> Result<String, AllocError> {
+        let (name, rest) = first(line);
+        match name {
+            "clear" => {
+                self.facts.clear();
+                String::from_str(alloc, "cleared")
+            }
+            "make" => shapes::answer(alloc, rest),
+            "write" => writing::answer(alloc, &mut self.writer, rest),
+            "wire" => wire::answer(alloc, rest),
+            "kept" => bodies::answer(alloc, &self.facts, rest),
+            "model" => model::answer(alloc, &self.facts, rest),
+            "drill" => drills::answer(alloc, rest),
+            "step" => step_rows::answer(alloc, rest),
+            _ => self.keep(alloc, line),
+        }
+    }
+}

@@ -1,0 +1,112 @@
+use crate::message_calls::answers::{Answer, MEMORY, UNKNOWN, fault, refusal, uncovered};
+use crate::message_calls::pieces::told_piece;
+use bytes::BytesMut;
+use gossip_core::{AbsorbRefusal, absorb, reply, summary};
+use redo_wire::{Delta, decode_delta, decode_piece, decode_summary, encode_delta, encode_summary};
+use segment_core::Segment;
+use std::alloc::{AllocError, Global};
+
+/// Keeps the bytes, and tells their number.
+pub fn keep(messages: &mut Vec<BytesMut>, bytes: BytesMut) -> Result<Answer, AllocError> {
+    messages.push(bytes)?;
+    Ok(Answer::One("message", messages.len() as u64))
+}
+
+pub fn ask(
+    alloc: Global,
+    segment: &Segment,
+    messages: &mut Vec<BytesMut>,
+) -> Result<Answer, AllocError> {
+    let told = summary(segment)?;
+    let mut bytes = BytesMut::new(alloc);
+    match encode_summary(&mut bytes, &told) {
+        Ok(()) => keep(messages, bytes),
+        Err(_) => Ok(MEMORY),
+    }
+}
+
+/// Answers the question of these bytes.
+pub fn answer(
+    alloc: Global,
+    segment: &Segment,
+    asked: &[u8],
+    out: &mut BytesMut,
+) -> Option<Answer> {
+    let Ok(asked) = decode_summary(alloc, asked) else {
+        return Some(UNKNOWN);
+    };
+    match reply(segment, &asked) {
+        Ok(delta) => match encode_delta(out, &delta) {
+            Ok(()) => None,
+            Err(_) => Some(MEMORY),
+        },
+        Err(why) => Some(fault(why)),
+    }
+}
+
+/// Brings what an answer's bytes tell, beyond the question of other bytes, into a segment.
+pub fn absorb_bytes(alloc: Global, segment: &mut Segment, asked: &[u8], answered: &[u8]) -> Answer {
+    let Ok(asked) = decode_summary(alloc, asked) else {
+        return UNKNOWN;
+    };
+    let Ok(delta) = decode_delta(alloc, answered) else {
+        return UNKNOWN;
+    };
+    match absorb(segment, &asked, &delta) {
+        Ok(()) => Answer::Word("absorbed"),
+        Err(AbsorbRefusal::Uncovered { shown }) => uncovered(shown),
+        Err(AbsorbRefusal::Refused(why)) => refusal(why),
+    }
+}
+
+/// Appends what a word spells: hexadecimal digits, as many times as the number before a star says. False where it spells nothing.
+fn put_word(alloc: Global, out: &mut BytesMut, word: &str) -> Result<bool, AllocError> {
+    let (count, digits) = word.split_once('*').unwrap_or(("1", word));
+    let Ok(bytes) = hex::decode(alloc, digits) else {
+        return Ok(false);
+    };
+    for _ in 0..count.parse::<u16>().unwrap_or(0) {
+        out.extend_from_slice(&bytes)?;
+    }
+    Ok(true)
+}
+
+/// The bytes that words spell.
+pub fn bytes_of(alloc: Global, words: &str) -> Result<Option<BytesMut>, AllocError> {
+    let mut bytes = BytesMut::new(alloc);
+    for word in words.split(' ') {
+        if !put_word(alloc, &mut bytes, word)? {
+            return Ok(None);
+        }
+    }
+    Ok(Some(bytes))
+}
+
+/// The hexadecimal digits of bytes.
+pub fn spelled(alloc: Global, bytes: &[u8]) -> Result<Answer, AllocError> {
+    Ok(Answer::Text(hex::encode(alloc, bytes)?))
+}
+
+/// How many truncations, which minimum read point, how many waiting advances, which base, how many pages and records there are.
+fn told_delta(delta: &Delta) -> Answer {
+    let book = delta.book();
+    Answer::Delta([
+        book.cuts().len() as u64,
+        book.min(),
+        book.waits().len() as u64,
+        delta.base(),
+        delta.pages().len() as u64,
+        delta.records().len() as u64,
+    ])
+}
+
+/// What the bytes of a delta or of a piece tell.
+pub fn told(alloc: Global, bytes: &[u8]) -> Answer {
+    if let Ok(delta) = decode_delta(alloc, bytes) {
+        return told_delta(&delta);
+    }
+    match decode_piece(alloc, bytes) {
+        Ok(piece) => told_piece(&piece),
+        Err(_) => UNKNOWN,
+    }
+}

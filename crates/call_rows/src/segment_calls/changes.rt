@@ -1,0 +1,114 @@
+use crate::segment_calls::answers::{committed, show, taken, tidied};
+use crate::segment_calls::bench::Bench;
+use crate::segment_calls::row::Row;
+use crate::segment_calls::{facts, pairs};
+use redo_core::Fact;
+use segment_core::Segment;
+use std::alloc::AllocError;
+use std::io;
+
+fn fold(segment: &mut Segment, row: Row) -> io::Result<()> {
+    match segment.plan_fold(row.short(0)) {
+        Ok(plan) => committed(row, segment.commit_fold(plan.fold())),
+        Err(fault) => row.one("Unread", &fault),
+    }
+}
+
+fn discard(segment: &mut Segment, row: Row) -> io::Result<()> {
+    segment.discard();
+    row.word("Done")
+}
+
+fn commit(segment: &mut Segment, row: Row) -> io::Result<()> {
+    let folded = facts::folded(row)?;
+    committed(row, segment.commit_fold(folded))
+}
+
+fn adopt(segment: &mut Segment, row: Row, given: &[(u16, u64, u8)]) -> io::Result<()> {
+    let base = row.number(0);
+    let pages = facts::pages(row.alloc(), given)?;
+    if segment.front().min < base {
+        return row.word("Unfit");
+    }
+    match segment.adopt(base, pages) {
+        Ok(()) => row.word("Done"),
+        Err(_) => row.done(Err(AllocError)),
+    }
+}
+
+fn unite(segment: &mut Segment, row: Row, given: &[(u16, u64, u8)]) -> io::Result<()> {
+    let base = row.number(0);
+    let images = facts::images(row.alloc(), given)?;
+    if segment.front().min < base {
+        return row.word("Unfit");
+    }
+    row.done(segment.unite(base, row.number(1), images))
+}
+
+fn give(given: &mut Vec<(u16, u64, u8)>, row: Row) -> io::Result<()> {
+    given.push((row.short(0), row.number(1), row.byte(2)))?;
+    row.word("Done")
+}
+
+/// Takes three facts with a savepoint, and then rolls the segment back: what shows before that, and after it.
+fn rolled_back(
+    segment: &mut Segment,
+    row: Row,
+    first: Fact,
+    second: Fact,
+    third: Fact,
+) -> io::Result<()> {
+    let mut saved = segment.savepoint()?;
+    let _first = segment.take_noted(&mut saved, first);
+    let _second = segment.take_noted(&mut saved, second);
+    let _third = segment.take_noted(&mut saved, third);
+    let after = show(segment)?;
+    segment.roll_back(saved);
+    row.parts("RolledBack", &(after, show(segment)?))
+}
+
+fn roll_back(bench: &mut Bench, row: Row) -> io::Result<()> {
+    let (third, second, first) = (bench.noted.pop(), bench.noted.pop(), bench.noted.pop());
+    match (first, second, third) {
+        (Some(first), Some(second), Some(third)) => {
+            rolled_back(&mut bench.segment, row, first, second, third)
+        }
+        _ => row.word("Unfit"),
+    }
+}
+
+fn take(segment: &mut Segment, row: Row) -> io::Result<()> {
+    match facts::of(row, row.name)? {
+        Some(fact) => taken(row, segment.take(fact)),
+        None => row.word("?"),
+    }
+}
+
+fn note(noted: &mut Vec<Fact>, row: Row, name: &str) -> io::Result<()> {
+    match facts::of(row, name)? {
+        Some(fact) => {
+            noted.push(fact)?;
+            row.word("Done")
+        }
+        None => row.word("Unfit"),
+    }
+}
+
+/// Prints what a change of the segment answers, or another call.
+pub fn answer(bench: &mut Bench, row: Row) -> io::Result<()> {
+    match row.name {
+        "record" | "record_init" | "cut" | "advance" => take(&mut bench.segment, row),
+        "fold" => fold(&mut bench.segment, row),
+        "discard" => discard(&mut bench.segment, row),
+        "tidy" => tidied(row, bench.segment.tidy()),
+        "commit" => commit(&mut bench.segment, row),
+        "give" => give(&mut bench.given, row),
+        "adopt" => adopt(&mut bench.segment, row, &bench.given),
+        "unite" => unite(&mut bench.segment, row, &bench.given),
+        "roll_back" => roll_back(bench, row),
+        _ => match row.name.strip_prefix("noted_") {
+            Some(name) => note(&mut bench.noted, row, name),
+            None => pairs::answer(bench, row),
+        },
+    }
+}

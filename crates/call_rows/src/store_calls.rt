@@ -1,0 +1,45 @@
+//! What a segment stores, call by call: a line names a call of a `HotLog`, an `EpochBook` or a `BaseStore` with its numbers, and is
+//! printed with what that call answers.
+//!
+//! A line that begins with '#' names a group of rows and is printed as it is. `fresh N` begins anew, with a book of N readers.
+//! A line that names no call answers '?'.
+
+mod answers;
+mod bench;
+mod book_calls;
+mod image_calls;
+mod log_answers;
+mod log_changes;
+mod words;
+
+use crate::store_calls::bench::Bench;
+use redo_core::Roster;
+use std::io;
+
+fn print_row(rt: &HostRuntime, bench: &mut Bench, line: &str) -> io::Result<()> {
+    if line.starts_with('#') {
+        return println!(rt; "{line}");
+    }
+    match bench.answer(rt.alloc(), words::of(line))? {
+        Some(answer) => println!(rt; "{line}: {answer:?}"),
+        None => println!(rt; "{line}: ?"),
+    }
+}
+
+fn print_rows(rt: &HostRuntime, bench: &mut Bench) -> io::Result<()> {
+    for line in rt.lines(rt.alloc()) {
+        let line = line?;
+        if line.as_str().starts_with("==") {
+            return println!(rt; "{line}");
+        }
+        print_row(rt, bench, line.as_str())?;
+    }
+    Ok(())
+}
+
+pub fn print_section(rt: &HostRuntime) -> io::Result<()> {
+    match Roster::new(1) {
+        Ok(roster) => print_rows(rt, &mut Bench::new(rt.alloc(), roster)?),
+        Err(_) => Ok(()),
+    }
+}

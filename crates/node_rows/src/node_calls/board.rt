@@ -1,0 +1,163 @@
+//! A board of six nodes with two seats, over the log of a small drill.
+ghost use Rattle.std.specs.Prelude.{◌≡◌, ◌≤◌};
+ghost use Rattle.front_board.specs.Seat.{IsNode};
+
+use crate::node_calls::answers::print_front;
+use crate::node_calls::host::boxed;
+use crate::node_calls::row::Row;
+use drill_log::Drill;
+use front_board::{Board, LogFront, Seat};
+use std::alloc::{AllocError, Global};
+use std::thread::Threads;
+use std::{io, thread};
+
+pub type Small = Drill<2>;
+
+// A front of epoch 0.
+fn early(number: u64) -> LogFront<Small>
+    requires { number ≤ 2 }
+{
+    LogFront::new(0, number)
+}
+
+// A front of epoch 1, of a number that the truncation left alive.
+fn late(number: u64) -> LogFront<Small>
+    requires { number ≤ 1 }
+{
+    LogFront::new(1, number)
+}
+
+// The front of the first record of epoch 1.
+fn last() -> LogFront<Small> {
+    LogFront::new(1, 11)
+}
+
+// The front of an epoch and a number, where it is one of those that the rows speak of.
+fn front_of(epoch: u64, number: u64) -> Option<LogFront<Small>> {
+    match epoch {
+        0 if number <= 2 => Some(early(number)),
+        1 if number <= 1 => Some(late(number)),
+        1 if number == 11 => Some(last()),
+        _ => None,
+    }
+}
+
+#[derive(Clone, Copy, Debug)]
+struct Order {
+    less: bool,
+    same: bool,
+}
+
+// How two fronts compare.
+fn compare(row: Row) -> io::Result<()> {
+    match (
+        front_of(row.number(0), row.number(1)),
+        front_of(row.number(2), row.number(3)),
+    ) {
+        (Some(one), Some(other)) => row.told(&Order {
+            less: one < other,
+            same: one == other,
+        }),
+        _ => row.word("Unknown"),
+    }
+}
+
+/// A board of six nodes, and two seats.
+#[derive(Drop)]
+pub struct Six {
+    board: Board<Small>,
+    one: Seat<Small>,
+    other: Seat<Small>,
+    ghost fits: { (one.board ≡ board) × (other.board ≡ board) × (board.words ≡ 6) },
+}
+
+fn opened(alloc: Global) -> Result<Six, AllocError> {
+    let (board, mut seats) = Board::<Small>::open(alloc, 6, 2)?;
+    let (Some(other), Some(one)) = (seats.pop(), seats.pop()) else {
+        return Err(AllocError);
+    };
+    Ok(Six { board, one, other })
+}
+
+pub fn open_six(alloc: Global) -> Result<Box<Six>, AllocError> {
+    boxed(alloc, opened(alloc)?)
+}
+
+// Publishes a front at a node by the first seat. Another node, or no such front, is unknown.
+fn publish(six: &mut Six, row: Row) -> io::Result<()> {
+    let node = row.index(0);
+    match front_of(row.number(1), row.number(2)) {
+        Some(front) if 0 < node && node <= 6 => {
+            six.board.publish(&mut six.one, node, front);
+            row.word("Done")
+        }
+        _ => row.word("Unknown"),
+    }
+}
+
+// The front of a node, by the second seat.
+fn look(six: &mut Six, row: Row) -> io::Result<()> {
+    let node = row.index(0);
+    if node == 0 || node > 6 {
+        return row.word("Unknown");
+    }
+    print_front(row, six.board.front(&mut six.other, node))
+}
+
+// What so many nodes have reached, by the second seat.
+fn quorum(six: &mut Six, row: Row) -> io::Result<()> {
+    let need = row.index(0);
+    if need == 0 || need > 6 {
+        return row.word("Unknown");
+    }
+    print_front(row, six.board.quorum(&mut six.other, need))
+}
+
+/// Prints what a call of the board answers.
+pub fn answer(six: &mut Six, row: Row) -> io::Result<()> {
+    match row.name {
+        "publish" => publish(six, row),
+        "look" => look(six, row),
+        "quorum" => quorum(six, row),
+        _ => compare(row),
+    }
+}
+
+/// A board at which each seat published in a thread of its own: the first at node 1, the second at node 6.
+pub fn publish_in_two_threads<R: Threads + Sync>(
+    rt: &R,
+    alloc: Global,
+) -> Result<Box<Six>, AllocError> {
+    boxed(alloc, with_two_threads(rt, opened(alloc)?))
+}
+
+fn with_two_threads<R: Threads + Sync>(rt: &R, six: Six) -> Six {
+    let Six { board, one, other } = six;
+    let shared = &board;
+    let (one, other) = thread::join(
+        rt,
+        move || -> Seat<Small>
+            requires { (one.board ≡ shared.now) × (shared.now.words ≡ 6) }
+            ensures { result.board ≡ shared.entry.now }
+        { published(shared, one, 1, late(1)) },
+        move || -> Seat<Small>
+            requires { (other.board ≡ shared.now) × (shared.now.words ≡ 6) }
+            ensures { result.board ≡ shared.entry.now }
+        { published(shared, other, 6, last()) },
+    );
+    Six { board, one, other }
+}
+
+fn published(
+    board: &Board<Small>,
+    mut seat: Seat<Small>,
+    node: usize,
+    front: LogFront<Small>,
+) -> Seat<Small>
+    requires own { seat.board ≡ board.now }
+    requires node { IsNode board.now.words node }
+    ensures { result.board ≡ seat.board }
+{
+    board.publish(&mut seat, node, front);
+    seat
+}

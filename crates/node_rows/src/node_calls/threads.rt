@@ -1,0 +1,154 @@
+//! A node to which two threads deliver.
+ghost use Rattle.std.specs.Prelude.{◌≡◌, ◌≤◌, IfOk};
+ghost use Rattle.front_board.specs.Seat.{IsNode};
+ghost use Rattle.node_cell.specs.Node.{IsPassOf};
+
+use crate::node_calls::host::{Log, boxed, open_board, open_node};
+use front_board::{Board, Seat};
+use named_log::LogFact;
+use node_cell::{Closed, Node, Pass, Receipt};
+use std::alloc::{AllocError, Global};
+use std::sync::Wait;
+use std::thread;
+use std::thread::Threads;
+
+// What a thread has: a pass and a seat, and in the end the receipts of its deliveries, in order.
+#[derive(Drop)]
+struct Hand {
+    pass: Box<Pass<Log>>,
+    seat: Box<Seat<Log>>,
+    receipts: Vec<Receipt<Log>>,
+}
+
+// Delivers the facts at 32 places, every other one from `first` on.
+fn deliver_half<R: Wait>(
+    rt: &R,
+    alloc: Global,
+    node: &Node<Log>,
+    board: &Board<Log>,
+    mut hand: Hand,
+    first: u64,
+) -> Result<Hand, AllocError>
+    requires pass { IsPassOf node.now hand.pass.value }
+    requires seat { (hand.seat.value.board ≡ board.now) × IsNode board.now.words node.now.number }
+    requires first { first ≤ 2 }
+    ensures { IfOk result (λ done. IsPassOf node.now done.pass.value) }
+{
+    for step in 0..32u64 {
+        let Some(fact) = LogFact::at(alloc, first + 2 * step)? else {
+            return Err(AllocError);
+        };
+        let Ok(ack) = node.deliver(rt, &mut hand.pass, board, &mut hand.seat, fact) else {
+            return Err(AllocError);
+        };
+        hand.receipts.push(ack.receipt)?;
+    }
+    Ok(hand)
+}
+
+// A node with two passes, and a board with two seats.
+#[derive(Drop)]
+struct Two {
+    node: Box<Node<Log>>,
+    board: Box<Board<Log>>,
+    one: Hand,
+    other: Hand,
+    ghost passes: { IsPassOf node.value one.pass.value × IsPassOf node.value other.pass.value },
+    ghost seats: { (one.seat.value.board ≡ board.value) × (other.seat.value.board ≡ board.value) },
+    ghost number: { IsNode board.value.words node.value.number },
+}
+
+fn open_two(alloc: Global) -> Result<Two, AllocError> {
+    let (node, one_pass, other_pass) = open_node(alloc, 64)?;
+    let (board, one_seat, other_seat) = open_board(alloc)?;
+    Ok(Two {
+        node,
+        board,
+        one: Hand {
+            pass: one_pass,
+            seat: one_seat,
+            receipts: Vec::new(alloc),
+        },
+        other: Hand {
+            pass: other_pass,
+            seat: other_seat,
+            receipts: Vec::new(alloc),
+        },
+    })
+}
+
+type Handed = Result<Hand, AllocError>;
+
+// Each delivers its half in a thread of its own.
+fn deliver_halves<R: Threads + Wait + Sync>(
+    rt: &R,
+    alloc: Global,
+    node: &Node<Log>,
+    board: &Board<Log>,
+    one: Hand,
+    other: Hand,
+) -> (Handed, Handed)
+    requires one { IsPassOf node.now one.pass.value × (one.seat.value.board ≡ board.now) }
+    requires other { IsPassOf node.now other.pass.value × (other.seat.value.board ≡ board.now) }
+    requires number { IsNode board.now.words node.now.number }
+    ensures one { IfOk result.0 (λ done. IsPassOf node.now done.pass.value) }
+    ensures other { IfOk result.1 (λ done. IsPassOf node.now done.pass.value) }
+{
+    thread::join(
+        rt,
+        move || -> Handed
+            requires { IsPassOf node.now one.pass.value × (one.seat.value.board ≡ board.now) × IsNode board.now.words node.now.number }
+            ensures { IfOk result (λ done. IsPassOf node.entry.now done.pass.value) }
+        { deliver_half(rt, alloc, node, board, one, 1) },
+        move || -> Handed
+            requires { IsPassOf node.now other.pass.value × (other.seat.value.board ≡ board.now) × IsNode board.now.words node.now.number }
+            ensures { IfOk result (λ done. IsPassOf node.entry.now done.pass.value) }
+        { deliver_half(rt, alloc, node, board, other, 2) },
+    )
+}
+
+// The pass of a thread that has ended. Its receipts join the others.
+fn handed(receipts: &mut Vec<Receipt<Log>>, hand: Hand) -> Result<Box<Pass<Log>>, AllocError>
+    ensures { IfOk result (λ pass. pass.value ≡ hand.pass.value) }
+{
+    let Hand {
+        pass,
+        seat: _,
+        receipts: mut own,
+    } = hand;
+    receipts.append(&mut own)?;
+    Ok(pass)
+}
+
+fn closed_with<R: Wait>(
+    rt: &R,
+    alloc: Global,
+    node: Box<Node<Log>>,
+    one: Box<Pass<Log>>,
+    other: Box<Pass<Log>>,
+) -> Result<Box<Closed<Log>>, AllocError>
+    requires one { IsPassOf node.value one.value }
+    requires other { IsPassOf node.value other.value }
+{
+    let passes = Vec::from_array(alloc, [Box::into_inner(one), Box::into_inner(other)])?;
+    boxed(alloc, Box::into_inner(node).close(rt, passes))
+}
+
+/// The node closed after two threads have delivered the facts of epoch 0. The receipts of both join the others, those of the first
+/// thread first.
+pub fn closed_after_two<R: Threads + Wait + Sync>(
+    rt: &R,
+    alloc: Global,
+    receipts: &mut Vec<Receipt<Log>>,
+) -> Result<Box<Closed<Log>>, AllocError> {
+    let Two {
+        node,
+        board,
+        one,
+        other,
+    } = open_two(alloc)?;
+    let (one, other) = deliver_halves(rt, alloc, &node, &board, one, other);
+    let one = handed(receipts, one?)?;
+    let other = handed(receipts, other?)?;
+    closed_with(rt, alloc, node, one, other)
+}

@@ -1,0 +1,11 @@
+use Rattle.std.proofs.Common.{◌-◌}
+use Rattle.front_board.specs.Seat.{IsNode}
+use Rattle.node_threads.proofs.Work.{answered_none}
+use Rattle.node_threads.proofs.Lists.{all_at}
+use Rattle.node_threads.proofs.drain.run_drainer.Goals as goal
+
+pub returns-in_default-clause-answered : goal.returns-in_default-clause-answered
+returns-in_default-clause-answered g c = answered_none _ _ _ c.requires.none
+
+pub drain_all-halt-requires-clause-node : goal.drain_all-halt-requires-clause-node
+drain_all-halt-requires-clause-node g c = all_at c.args.nodes.now (c.args.hold.node - 1) c.in-Some.node.now (λ n. IsNode c.args.board.now.words n.number) c.requires.nodes c.in-Some.ensures.1

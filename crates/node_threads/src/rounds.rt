@@ -1,0 +1,202 @@
+use crate::folding::fold_many;
+use crate::gate::{Gate, Job, Kind};
+use crate::list::{numbered, push_waiting};
+use crate::refusal::Refusal;
+use named_log::LogName;
+use node_cell::{FoldPlan, Folded, Node};
+use std::alloc::Global;
+use std::sync::Wait;
+use std::thread::Threads;
+
+/// Runs fold rounds of (node, page) in order, neighbouring ones of one node as one batch, and lists what was refused.
+pub fn run_folder<L: LogName + Send, G: Gate, R: Threads + Wait + Sync>(
+    rt: &R,
+    alloc: Global,
+    nodes: &[Node<L>],
+    gate: &G,
+    worker: u64,
+    rounds: &[(u16, u16)],
+    mut refusals: Vec<Refusal>,
+) -> Vec<Refusal> {
+    let mut turn = 1u64;
+    for batch in rounds.chunk_by(|one: &(u16, u16), next: &(u16, u16)| one.0 == next.0) {
+        let job = Job {
+            worker,
+            kind: Kind::Fold,
+            turn,
+        };
+        run_batch(rt, alloc, nodes, gate, job, batch, &mut refusals);
+        turn = turn.saturating_add(batch.len() as u64);
+    }
+    refusals
+}
+
+// Runs the rounds of a batch, all of one node.
+fn run_batch<L: LogName + Send, G: Gate, R: Threads + Wait + Sync>(
+    rt: &R,
+    alloc: Global,
+    nodes: &[Node<L>],
+    gate: &G,
+    job: Job,
+    batch: &[(u16, u16)],
+    refusals: &mut Vec<Refusal>,
+) {
+    let Some((number, _)) = batch.first() else {
+        return;
+    };
+    let node = *number as usize;
+    match numbered(nodes, node) {
+        Some(node) => {
+            gate.before(job);
+            fold_batch(rt, alloc, node, gate, job, batch, refusals);
+            gate.after(job);
+        }
+        None => {
+            for _ in batch {
+                let worker = job.worker;
+                push_waiting(rt, refusals, Refusal::NoSuchNode { worker, node });
+            }
+        }
+    }
+}
+
+// Plans all folds, folds outside the lock, commits in order, and discards.
+fn fold_batch<L: LogName + Send, G: Gate, R: Threads + Wait + Sync>(
+    rt: &R,
+    alloc: Global,
+    node: &Node<L>,
+    gate: &G,
+    job: Job,
+    batch: &[(u16, u16)],
+    refusals: &mut Vec<Refusal>,
+) {
+    let worker = job.worker;
+    let plans = plan_all(rt, alloc, node, worker, batch, refusals);
+    let folds = match fold_many(rt, alloc, plans) {
+        Ok(folds) => folds,
+        Err(_) => {
+            push_waiting(rt, refusals, Refusal::Memory { worker });
+            Vec::new(alloc)
+        }
+    };
+    gate.between(job);
+    commit_all(rt, node, worker, folds, refusals);
+    node.discard(rt);
+}
+
+// The plans of the rounds' pages, in order.
+fn plan_all<L: LogName, R: Wait>(
+    rt: &R,
+    alloc: Global,
+    node: &Node<L>,
+    worker: u64,
+    batch: &[(u16, u16)],
+    refusals: &mut Vec<Refusal>,
+) -> Vec<FoldPlan<L>> {
+    let mut plans = Vec::new(alloc);
+    for (_, page) in batch {
+        match node.fold_plan(rt, *page) {
+            Ok(plan) => push_waiting(rt, &mut plans, plan),
+            Err(_) => push_waiting(rt, refusals, Refusal::Memory { worker }),
+        }
+    }
+    plans
+}
+
+fn commit_all<L: LogName, R: Wait>(
+    rt: &R,
+    node: &Node<L>,
+    worker: u64,
+    folds: Vec<Folded<L>>,
+    refusals: &mut Vec<Refusal>,
+) {
+    for folded in folds {
+        if let Err(refused) = node.fold_commit(rt, folded) {
+            let fault = refused.fault;
+            push_waiting(rt, refusals, Refusal::Commit { worker, fault });
+        }
+    }
+}
+
+/// Runs gossip rounds of (asker, answerer) in order, and lists what was refused.
+pub fn run_gossiper<L: LogName, G: Gate, R: Wait>(
+    rt: &R,
+    nodes: &[Node<L>],
+    gate: &G,
+    worker: u64,
+    rounds: &[(u16, u16)],
+    mut refusals: Vec<Refusal>,
+) -> Vec<Refusal> {
+    let mut turn = 0u64;
+    for (asker, answerer) in rounds {
+        turn = turn.saturating_add(1);
+        let job = Job {
+            worker,
+            kind: Kind::Gossip,
+            turn,
+        };
+        if let Err(refusal) = run_exchange(
+            rt,
+            nodes,
+            gate,
+            job,
+            *asker as usize,
+            *answerer as usize,
+        ) {
+            push_waiting(rt, &mut refusals, refusal);
+        }
+    }
+    refusals
+}
+
+fn run_exchange<L: LogName, G: Gate, R: Wait>(
+    rt: &R,
+    nodes: &[Node<L>],
+    gate: &G,
+    job: Job,
+    asker: usize,
+    answerer: usize,
+) -> Result<(), Refusal> {
+    let worker = job.worker;
+    let Some(one) = numbered(nodes, asker) else {
+        return Err(Refusal::NoSuchNode {
+            worker,
+            node: asker,
+        });
+    };
+    let Some(other) = numbered(nodes, answerer) else {
+        return Err(Refusal::NoSuchNode {
+            worker,
+            node: answerer,
+        });
+    };
+    gate.before(job);
+    let answer = exchange(rt, one, other, gate, job);
+    gate.after(job);
+    answer
+}
+
+// The asker absorbs what the answerer has beyond its summary.
+fn exchange<L: LogName, G: Gate, R: Wait>(
+    rt: &R,
+    asker: &Node<L>,
+    answerer: &Node<L>,
+    gate: &G,
+    job: Job,
+) -> Result<(), Refusal> {
+    let worker = job.worker;
+    let Ok(summary) = asker.summary(rt) else {
+        return Err(Refusal::Memory { worker });
+    };
+    let Ok(mail) = answerer.reply(rt, summary) else {
+        return Err(Refusal::Memory { worker });
+    };
+    gate.between(job);
+    match asker.absorb(rt, mail) {
+        Ok(_) => Ok(()),
+        Err(refused) => Err(Refusal::Absorb {
+            worker,
+            fault: refused.fault,
+        }),
+    }
+}

@@ -1,2 +1,0 @@
-mod Work
-mod Lists

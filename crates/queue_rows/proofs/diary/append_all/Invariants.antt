@@ -1,6 +1,0 @@
-use Rattle.std.proofs.Common.{◌≡◌}
-use Rattle.node_lock.specs.Passes.{IsIdlePass}
-use Rattle.queue_rows.proofs.diary.append_all.Given as goal
-
-abbrev pub invariant-loop-step : goal.invariant-loop-step
-invariant-loop-step g l = IsIdlePass l.lock.id l.pass
