@@ -1,8 +1,9 @@
 #!/usr/bin/env python3
 """Measures how threads wait at a node's lock, beside a mutex round the same work.
 
-The program is the crate `node_bench`, proved and built over this tree's `node_lock`. Each task is run a few times at each
-number of threads, with the lock and with the mutex, and the medians of the wall and processor seconds are printed.
+The program is the crate `node_rows`, proved and built over this tree's `node_lock`, of whose input the last section is used. Each task
+is run a few times at each number of threads, with the lock and with the mutex, and the medians of the wall and processor seconds are
+printed.
 """
 
 import argparse
@@ -24,9 +25,9 @@ TASKS = [
 
 def built():
     """The program, over the libraries that are built already."""
-    crate = ROOT / "crates/node_bench"
+    crate = ROOT / "crates/node_rows"
     subprocess.run(["rt", "run"], cwd=crate, stdin=subprocess.DEVNULL, stdout=sys.stderr, check=True)
-    return crate / "out/node_bench"
+    return crate / "out/node_rows"
 
 
 def measured(program, line):
@@ -52,7 +53,7 @@ def main(words):
     print("| task | threads | the lock, wall / processor seconds | a mutex |\n|---|---|---|---|")
     for name, kind, turns, rounds in TASKS:
         for threads in given.threads:
-            told = [median(program, given.runs, f"turns {lock} {kind} {threads} {turns} {rounds}\n") for lock in ("lock", "mutex")]
+            told = [median(program, given.runs, f"==\n==\nturns {lock} {kind} {threads} {turns} {rounds}\n") for lock in ("lock", "mutex")]
             print(f"| {name} | {threads} | {told[0]} | {told[1]} |", flush=True)
 
 

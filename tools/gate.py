@@ -8,6 +8,7 @@ With --record the sums of the crates whose edits were all refused are written in
 """
 
 import argparse
+import os
 import pathlib
 import re
 import shutil
@@ -24,6 +25,7 @@ import node_outside
 import outside
 import refused_rows
 import waiting_model
+import wrong_bodies
 import wrong_bodies_tests
 
 sys.path.insert(0, str(outside.ROOT / "bench"))
@@ -31,6 +33,8 @@ import hostile
 
 BY_RATTLE = outside.PROGRAM.with_name("fleet.by-rattle")
 ASIDE = "edits-aside"
+# the most that a check has been seen to hold, in bytes
+CHECK_MEMORY = 5_000_000_000
 
 
 def copied(room):
@@ -46,10 +50,17 @@ def copied(room):
         edits.rename(edits.with_name(ASIDE))
 
 
-def counted(words, folder):
+def lanes():
+    """How many checks `rt ci` has at a time, each with one job: a check with two jobs takes a fifth more of the processors, one with four
+    half as much again."""
+    kit = wrong_bodies.RT
+    return max(1, min(kit.processors(), kit.free() // CHECK_MEMORY))
+
+
+def counted(words, folder, **more):
     """Runs a command, passes its lines on, and answers whether it ended well, and what its last line counts, where it does."""
     last = b""
-    with subprocess.Popen(words, cwd=folder, stdout=subprocess.PIPE) as command:
+    with subprocess.Popen(words, cwd=folder, stdout=subprocess.PIPE, env={**os.environ, **more}) as command:
         for line in command.stdout:
             sys.stdout.buffer.write(line)
             sys.stdout.flush()
@@ -81,7 +92,7 @@ def built():
 def judged(room, given):
     """Whether the copy is proved and its edits are refused, and what that counts; what was built is brought here."""
     copied(room)
-    is_well, (passed, failed) = counted(["rt", "ci"], room)
+    is_well, (passed, failed) = counted(["rt", "ci"], room, RT_JOBS=str(lanes()))
     if not is_well:
         return False, (passed, max(failed, 1))
     build_archive(room)

@@ -1,5 +1,6 @@
 #!/usr/bin/env python3
-"""Tries must-fail edits many at a time: one edit of each function in a check, over the libraries below the crate.
+"""Tries must-fail edits many at a time, over the libraries below the crate: in a check each function has one edit, and a twin beside it,
+with its contract and its proof, for each further one.
 
 A check says of each function whether it is proved, what of it is not, or only that it calls one that is not. So an edit counts as
 refused where the function that it edits is refused for a goal of its own, and a function that no edit touches must not be. (`rt
@@ -12,6 +13,7 @@ With --record it writes the sums of the crates whose edits were all refused into
 """
 
 import argparse
+import copy
 import hashlib
 import importlib.machinery
 import importlib.util
@@ -55,6 +57,27 @@ OWNER = re.compile(r"(?m)^(?:impl|trait|pub trait)\b[^\n]*")
 OWNER_NAME = re.compile(r"(?:pub )?(?:impl|trait)(?:<[^{]*?>)? (?:(\w+)(?:<[^{]*>)? for )?(\w+)")
 
 
+def parts_at(file, text, at):
+    """The path of the function that a place of a file stands in, from the crate's root: modules, the type or the trait's impl, its name.
+    None where it stands in none, and whether the function is of its own alone, and of no trait."""
+    heads = [it for it in HEAD.finditer(text) if it.start() <= at]
+    owners = [it for it in OWNER.finditer(text) if it.start() <= at]
+    if not heads or re.search(r"(?m)^}", text[heads[-1].end() : at]):
+        return None, False
+    named = heads[-1][0].startswith(" ") and owners and OWNER_NAME.match(owners[-1][0])
+    modules = [it for it in file[4:-3].split("/") if it not in ("lib", "main")]
+    is_own = not named or owners[-1][0].startswith("impl") and not named[1]
+    return [*modules, *([f"{named[2]}{named[1] or ''}"] if named else []), heads[-1][1]], is_own
+
+
+def item_at(text, at):
+    """The first and last place of the function whose head stands at a place: its docstring and attributes, its contract and body."""
+    indent = re.match(" *", text[at:])[0]
+    end = re.compile(rf"(?m)^{indent}}}\n").search(text, at)
+    above = re.compile(rf"(?:^{indent}(?://|#\[)[^\n]*\n)+\Z", re.M).search(text[:at])
+    return above.start() if above else at, end.end() if end else at
+
+
 class Edit:
     """A must-fail edit: its pairs of texts, and the function that the last of them stands in (the others make its text stand once,
     or add what it calls)."""
@@ -68,26 +91,27 @@ class Edit:
                 old = line[5:]
             elif line.startswith("new:"):
                 self.pairs.append((file, old, line[4:].removeprefix(" ")))
+        self.parts, self.is_own = None, False
         self.fault = None if self.pairs else "it has no 'old:' and 'new:' pair"
         self.fault = self.fault or self.applied(crate, {})[1]
-        self.function = None if self.fault else self.function_in(crate)
-        self.fault = self.fault or (None if self.function else "its last pair stands in no function of src/")
+        if not self.fault:
+            self.parts, self.is_own = self.parts_in(crate)
+            self.fault = None if self.parts else "its last pair stands in no function of src/"
 
-    def function_in(self, crate):
-        """The end of the name that a check gives the function, as 'HotLog::put', or None where the edit is of no function."""
+    def parts_in(self, crate):
+        """The path of the function, or None where the edit is of no function."""
         file, old, new = self.pairs[-1]
+        if {it[0] for it in self.pairs} != {file} or not file.startswith("src/"):
+            return None, False
         text = pathlib.Path(crate.folder, file).read_text()
         for _, earlier, later in self.pairs[:-1]:
             text = text.replace(earlier, later)
-        at = text.find(old) + len(os.path.commonprefix([old, new]))
-        heads = [it for it in HEAD.finditer(text) if it.start() <= at]
-        owners = [it for it in OWNER.finditer(text) if it.start() <= at]
-        is_outside = not heads or re.search(r"(?m)^}", text[heads[-1].end() : at])
-        if is_outside or {it[0] for it in self.pairs} != {file} or not file.startswith("src/"):
-            return None
-        named = heads[-1][0].startswith(" ") and owners and OWNER_NAME.match(owners[-1][0])
-        owner = f"{named[2]}{named[1] or ''}" if named else file[4:-3].rpartition("/")[2]
-        return heads[-1][1] if owner in ("lib", "main") else f"{owner}::{heads[-1][1]}"
+        return parts_at(file, text, text.find(old) + len(os.path.commonprefix([old, new])))
+
+    @property
+    def function(self):
+        """The end of the name that a check gives the function, as 'HotLog::put'."""
+        return "::".join(self.parts[-2:])
 
     def applied(self, crate, texts):
         """The texts with the edit made, or why it cannot be."""
@@ -104,21 +128,61 @@ class Edit:
             made[file] = text.replace(old, new)
         return made, None
 
+    def head_in(self, text):
+        """Where the function's head stands in a text of its file."""
+        return next(it.start() for it in HEAD.finditer(text) if parts_at(self.pairs[-1][0], text, it.end())[0] == self.parts)
+
+    def twinned(self, crate, texts, name):
+        """The texts with a twin of the function, of this name and with the edit made in it, behind the function; None where the edit
+        goes beyond the function, or the function is a trait's or calls itself."""
+        file, own = self.pairs[-1][0], self.parts[-1]
+        text = pathlib.Path(crate.folder, file).read_text()
+        start, end = item_at(text, self.head_in(text))
+        twin = text[start:end]
+        if not self.is_own or len(re.findall(rf"\b{own}\(", twin)) > 1 or any(twin.count(old) != 1 for _, old, _ in self.pairs):
+            return None
+        for _, old, new in self.pairs:
+            twin = twin.replace(old, new)
+        twin = re.sub(rf"\bfn {own}\b", f"fn {name}", twin, count=1)
+        made = dict(texts)
+        text = made.get(file, text)
+        _, end = item_at(text, self.head_in(text))
+        made[file] = f"{text[:end]}\n{twin}{text[end:]}"
+        folder, path = pathlib.Path(crate.folder, "proofs", *self.parts), ".".join(self.parts[:-1] + [""])
+        for proof in folder.rglob("*.antt"):
+            to = pathlib.Path("proofs", *self.parts[:-1], name, proof.relative_to(folder))
+            made[str(to)] = proof.read_text().replace(f".proofs.{path}{own}.", f".proofs.{path}{name}.")
+        return made
+
+
+class Round:
+    """The edits of one check: each with the end of the name of the function that it changes, and the texts with all of them made."""
+
+    def __init__(self):
+        self.functions, self.texts = {}, {}
+
+    def takes(self, crate, edit):
+        """Takes an edit, in a twin of its function where another edit has changed the function or the edit's text. Answers whether it
+        could."""
+        function, texts = edit.function, None
+        if function not in self.functions.values():
+            texts = edit.applied(crate, self.texts)[0]
+        if not texts:
+            name = f"{edit.parts[-1]}_twin{len(self.functions)}"
+            function, texts = "::".join([*edit.parts[-2:-1], name]), edit.twinned(crate, self.texts, name)
+        if texts:
+            self.functions[edit], self.texts = function, texts
+        return bool(texts)
+
 
 def rounds(crate, edits):
-    """At most one edit of a function in each, and none whose text another one changes."""
+    """As few checks as there can be."""
     made = []
     for it in edits:
-        for batch, texts in made:
-            is_free = all(other.function != it.function for other in batch)
-            together = is_free and it.applied(crate, texts)[0]
-            if together:
-                batch.append(it)
-                texts.update(together)
-                break
-        else:
-            made.append(([it], it.applied(crate, {})[0]))
-    return [batch for batch, _ in made]
+        if not any(batch.takes(crate, it) for batch in made):
+            made.append(Round())
+            made[-1].takes(crate, it)
+    return made
 
 
 # What a check says
@@ -175,23 +239,36 @@ def is_of(path, function):
     return f"::{path}".endswith(f"::{function}")
 
 
-def tried(crate, edits, kept):
-    """Checks the crate with these edits: those that are refused, the functions that are refused with no edit of theirs, and
+def copied(crate, texts, room):
+    """The crate with these texts, in a folder of its own: some stand in folders that the crate lacks."""
+    for part in RT.rtlib.PARTS:
+        if os.path.isdir(f"{crate.folder}/{part}"):
+            shutil.copytree(f"{crate.folder}/{part}", f"{room}/{part}")
+    for path, text in texts.items():
+        file = pathlib.Path(room, path)
+        file.parent.mkdir(parents=True, exist_ok=True)
+        file.write_text(text)
+    made = copy.copy(crate)
+    made.folder = room
+    return made
+
+
+def tried(crate, batch, kept):
+    """Checks the crate with the edits of a round: those that are refused, the functions that are refused with no edit of theirs, and
     what went wrong beside."""
-    texts = {}
-    for it in edits:
-        texts = it.applied(crate, texts)[0]
     # The edited functions and those that they call; where two functions have such a name, the whole crate.
-    only = [word for it in edits for word in ("--only", it.function)]
-    ran = RT.checked(crate, texts, ["--jobs", "1", *only], kept)
-    if ran.returncode == 2:
-        ran = RT.checked(crate, texts, ["--jobs", "1"], kept)
-    unread = [it for it in ran.stdout.split("\n") if RT.unread(it, texts)]
-    if unread or ran.returncode != 1:
-        return set(), [], unread[:1] or [f"the check ended with {ran.returncode}"]
-    own = Report(crate, ran.stdout).refused()
-    refused = {it for it in edits if any(is_of(path, it.function) for path in own)}
-    return refused, [path for path in own if not any(is_of(path, it.function) for it in edits)], []
+    only = [word for it in batch.functions.values() for word in ("--only", it)]
+    with tempfile.TemporaryDirectory(prefix="edited-") as room:
+        changed = copied(crate, batch.texts, room)
+        ran = RT.checked(changed, {}, ["--jobs", "1", *only], kept)
+        if ran.returncode == 2:
+            ran = RT.checked(changed, {}, ["--jobs", "1"], kept)
+        unread = [it for it in ran.stdout.split("\n") if RT.unread(it, batch.texts)]
+        if unread or ran.returncode != 1:
+            return set(), [], unread[:1] or [f"the check ended with {ran.returncode}"]
+        own = Report(changed, ran.stdout).refused()
+    refused = {it for it, function in batch.functions.items() if any(is_of(path, function) for path in own)}
+    return refused, [path for path in own if not any(is_of(path, it) for it in batch.functions.values())], []
 
 
 PRINTING = threading.Lock()
@@ -211,13 +288,13 @@ def try_crate(crate, kept):
     left = []
     for number, batch in enumerate(rounds(crate, [it for it in edits if not it.fault])):
         refused, astray, beside = tried(crate, batch, kept)
-        say(f"{crate.name}: check {number + 1}: {len(refused)} of {len(batch)} edits refused", *astray, *beside)
-        left += batch if astray else [it for it in batch if it not in refused]
+        say(f"{crate.name}: check {number + 1}: {len(refused)} of {len(batch.functions)} edits refused", *astray, *beside)
+        left += [it for it in batch.functions if astray or it not in refused]
     failed = len(bad)
     for it in edits:
         refused, astray, beside = (set(), [], [it.fault]) if it.fault else (set(edits), [], [])
         if it in left:
-            refused, astray, beside = tried(crate, [it], kept)
+            refused, astray, beside = tried(crate, rounds(crate, [it])[0], kept)
         if it not in refused or astray:
             say(f"{crate.name}/{it.name}: NOT REFUSED", *(f"{path} is, and the edit is not of it" for path in astray), *beside)
             failed += 1

@@ -42,6 +42,7 @@ WEAK = """pub fn most(x: u32, y: u32) -> u32
 # crate, edit, the line's old text and its new one
 EDITS = [
     ("firm", "next_is_two_above", "u64::from(x) + 1", "u64::from(x) + 2"),
+    ("firm", "next_is_three_above", "u64::from(x) + 1", "u64::from(x) + 3"),
     ("firm", "after_next_is_next", "next(x) + 1", "next(x) + 0"),
     ("weak", "most_is_below_the_first", "if x < y { y } else { x }", "if x < y { x } else { y }"),
     ("weak", "most_is_the_first", "if x < y { y } else { x }", "let _other = y; x"),
@@ -49,10 +50,10 @@ EDITS = [
 ]
 
 SAID = [
-    "firm: check 1: 2 of 2 edits refused",
+    "firm: check 1: 3 of 3 edits refused",
     "weak/most_is_the_first.edit: NOT REFUSED; the check ended with 0",
     "weak/stands_twice.edit: NOT REFUSED; an 'old:' text is in src/lib.rt",
-    "3 passed, 2 failed",
+    "4 passed, 2 failed",
 ]
 
 

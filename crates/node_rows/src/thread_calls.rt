@@ -1,6 +1,5 @@
-//! Threads at a node or at its lock, or at a mutex in place of either: what `deliveries.py` and `waiting.py` measure.
-#![tactic(auto)]
-
+//! Rows of threads that deliver the facts of a log to a node or take turns at its lock, or at a mutex in place of either: a line names
+//! a task and its words, and is printed with what comes of it. With large numbers they are what `deliveries.py` and `waiting.py` measure.
 ghost use Rattle.std.specs.Prelude.{◌<◌, ◌≤◌};
 
 mod dealing;
@@ -8,14 +7,14 @@ mod mutex;
 mod node;
 mod turns;
 
-use anyhow::Error;
-use dealing::deal;
+use crate::thread_calls::dealing::deal;
+use crate::thread_calls::turns::{Task, take_turns};
 use drill_log::Drill;
 use node_lock::MAX_PASSES;
 use std::alloc::{AllocError, Global};
+use std::io;
 use std::sync::Wait;
 use std::thread::Threads;
-use turns::{Task, take_turns};
 
 // The log whose facts are delivered, the largest drill that there is.
 type Log = Drill<1048576>;
@@ -73,7 +72,7 @@ fn turn<R: Threads + Wait + Sync>(
     rt: &R,
     alloc: Global,
     asked: Asked,
-) -> Result<Option<usize>, Error> {
+) -> Result<Option<usize>, AllocError> {
     let task = Task {
         threads: asked.threads as usize,
         turns: asked.count,
@@ -100,21 +99,28 @@ fn read_task(line: &str) -> Asked<'_> {
     }
 }
 
-fn main(rt: HostRuntime) -> Result<(), Error> {
-    for line in rt.lines(rt.alloc()) {
-        let line = line?;
-        let asked = read_task(line.as_str());
-        if asked.is_turns {
-            match turn(&rt, rt.alloc(), asked)? {
-                Some(ended) => println!(rt; "{ended} threads")?,
-                None => println!(rt; "no memory")?,
-            }
-        } else {
-            match deliver(&rt, rt.alloc(), asked)? {
-                Some(accepted) => println!(rt; "{accepted} accepted")?,
-                None => println!(rt; "1 to {MAX_PASSES} threads")?,
-            }
+fn print_row<R: Threads + Wait + Sync>(rt: &R, host: &HostRuntime, line: &str) -> io::Result<()> {
+    let asked = read_task(line);
+    if asked.is_turns {
+        match turn(rt, host.alloc(), asked)? {
+            Some(ended) => println!(host; "{line}: {ended} threads"),
+            None => println!(host; "{line}: no memory"),
         }
+    } else {
+        match deliver(rt, host.alloc(), asked)? {
+            Some(accepted) => println!(host; "{line}: {accepted} accepted"),
+            None => println!(host; "{line}: 1 to {MAX_PASSES} threads"),
+        }
+    }
+}
+
+pub fn print_section<R: Threads + Wait + Sync>(rt: &R, host: &HostRuntime) -> io::Result<()> {
+    for line in host.lines(host.alloc()) {
+        let line = line?;
+        if line.as_str().starts_with("==") {
+            return println!(host; "{line}");
+        }
+        print_row(rt, host, line.as_str())?;
     }
     Ok(())
 }

@@ -1,7 +1,7 @@
 use Rattle.std.proofs.Common.{◌≡◌, subst}
 use Rattle.std.proofs.lemmas.List.Elements.{All-pop}
 use Rattle.node_lock.specs.Passes.{AreIdle}
-use Rattle.node_bench.proofs.node.hands.Goals as goal
+use Rattle.node_rows.proofs.thread_calls.node.hands.Goals as goal
 
 pub loop-pass-preserved : goal.loop-pass-preserved
 loop-pass-preserved g c = (

@@ -1,8 +1,7 @@
 ghost use Rattle.std.specs.Prelude.{◌≡◌};
 
-use anyhow::Error;
 use node_lock::{Lock, Trailed};
-use std::alloc::Global;
+use std::alloc::{AllocError, Global};
 use std::hint::black_box;
 use std::sync::atomic::{AtomicU64, Ordering};
 use std::sync::{Mutex, Wait};
@@ -92,7 +91,7 @@ fn run<R: Threads + Wait + Sync>(
     alloc: Global,
     shared: &Shared,
     task: &Task,
-) -> Result<usize, Error> {
+) -> Result<usize, AllocError> {
     let done = AtomicU64::new(0);
     let ended = thread::map_indices(
         rt,
@@ -131,7 +130,7 @@ pub fn take_turns<R: Threads + Wait + Sync>(
     alloc: Global,
     name: &str,
     task: &Task,
-) -> Result<Option<usize>, Error> {
+) -> Result<Option<usize>, AllocError> {
     match opened(alloc, name) {
         Some(shared) => Ok(Some(run(rt, alloc, &shared, task)?)),
         None => Ok(None),
