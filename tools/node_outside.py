@@ -1,7 +1,8 @@
 #!/usr/bin/env python3
-"""Tests the built program `fleet-node` from outside: that each line or frame is answered before the next one is sent, frames of any
-form, what its statuses and its words on standard error are, what it answers where memory is refused, random scripts of nodes against the
-oracle, and the cluster of `examples/cluster.py`. Prints a line for each test, and ends in 'N passed, M failed'.
+"""Tests the built program `fleet-node` from outside: that each line or frame is answered before the next one is sent, rows of each
+request, frames of any form, what its statuses and its words on standard error are, what it answers where memory is refused, random
+scripts of nodes against the oracle, and the cluster of `examples/cluster.py`. Prints a line for each test, and ends in 'N passed, M
+failed'.
 """
 
 import argparse
@@ -13,6 +14,7 @@ import sys
 import tempfile
 
 import compare_nodes
+import oracle
 from compare_nodes import as_frame, as_line, frame
 from outside import SECONDS, Failed, answer, expect, passes, unread_pipe
 
@@ -23,6 +25,7 @@ import sweep
 PROGRAM = compare_nodes.PROGRAM
 TEXT = (ROOT / "examples/node.requests").read_bytes()
 ANSWERS = (ROOT / "examples/node.answers").read_bytes()
+ROWS = ROOT / "rows/replica.rows"
 MOST = 300  # how many allocations of a run are refused, spread evenly over it
 CLUSTERS = (1, 2)  # the runs of the cluster, by their seeds
 FRAMES = ["--frames"]
@@ -46,6 +49,46 @@ def ends_of_input(program):
     for text, wanted in ((b"", b""), (b"front", b""), (b"front\nfront", b"front 0 0 0\n"), (b"\n", b"bad line\n"), (b"front\r\n", b"bad line\n")):
         expect(f"the answer to {text!r}", answer(program, [], input=text), (0, wanted, b""))
     return "5 texts"
+
+
+# Rows
+
+MESSAGES = {"answer": ("summary",), "add": ("piece",), "absorb": ("summary", "delta")}
+
+
+def request_of(row, came):
+    """The request line of a row: its fact as bytes, or the messages that it names by their numbers."""
+    word, _, rest = row.partition(" ")
+    if word == "take":
+        return f"take {compare_nodes.fact_bytes(oracle.fact_of(rest)).hex()}"
+    if word in MESSAGES:
+        return " ".join([word, *(came[kind][int(number) - 1] for kind, number in zip(MESSAGES[word], rest.split(" "), strict=True))])
+    return row
+
+
+def row_of(told, came):
+    """An answer as a row has it: a message is kept, and named by its number, and a record's bytes are its words."""
+    word, _, rest = told.partition(" ")
+    if word not in came or not set(rest) <= DIGITS:
+        return told.replace("bad request", "bad line")
+    came[word].append(rest)
+    return f"{word} {len(came[word])}"
+
+
+def wanted_of(row):
+    word, _, rest = row.partition(" ")
+    return f"record {compare_nodes.fact_bytes(oracle.fact_of(rest)).hex()}" if word == "record" else row
+
+
+def rows_of_a_replica(program):
+    """Each request, with the messages that came before, by lines and by frames."""
+    rows = [line.split(" -> ") for line in ROWS.read_text().splitlines() if not line.startswith("#")]
+    for form in (compare_nodes.Node, compare_nodes.FramedNode):
+        node, came = form(program), {"summary": [], "delta": [], "piece": []}
+        for asked, told in rows:
+            expect(f"the answer to {asked}", row_of(node.ask(request_of(asked, came)), came), wanted_of(told))
+        expect("its end", node.close(), (0, b""))
+    return f"{len(rows)} rows, twice"
 
 
 # Frames
@@ -344,6 +387,7 @@ def tests(program=PROGRAM, rounds=100, seed=1):
     """How many tests passed, and how many failed."""
     listed = {
         "the example": example,
+        "rows of a replica": rows_of_a_replica,
         "ends of its input": ends_of_input,
         "long lines": long_lines,
         "the example by frames": example_by_frames,

@@ -5,7 +5,6 @@
 
 mod fact_calls;
 mod message_calls;
-mod replica_calls;
 mod segment_calls;
 mod store_calls;
 
@@ -15,6 +14,5 @@ fn main(rt: HostRuntime) -> io::Result<()> {
     fact_calls::print_section(&rt)?;
     store_calls::print_section(&rt)?;
     segment_calls::print_section(&rt)?;
-    message_calls::print_section(&rt)?;
-    replica_calls::print_section(&rt)
+    message_calls::print_section(&rt)
 }
