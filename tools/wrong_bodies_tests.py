@@ -30,6 +30,24 @@ pub fn after_next(x: u32) -> u64
 {
     next(x) + 1
 }
+
+pub fn counted(to: u64) -> u64
+    ensures { result ≡ to }
+{
+    let mut count = 0u64;
+    for place in 0..to {
+        count = place + 1;
+    }
+    count
+}
+"""
+
+# The proof file of `counted`, which its twin has too.
+INVARIANTS = """use Rattle.std.proofs.Common.{◌≡◌}
+use Rattle.firm.proofs.counted.Given as goal
+
+abbrev pub invariant-loop-place : goal.invariant-loop-place
+invariant-loop-place l = l.count ≡ l.place
 """
 
 WEAK = """pub fn most(x: u32, y: u32) -> u32
@@ -44,16 +62,18 @@ EDITS = [
     ("firm", "next_is_two_above", "u64::from(x) + 1", "u64::from(x) + 2"),
     ("firm", "next_is_three_above", "u64::from(x) + 1", "u64::from(x) + 3"),
     ("firm", "after_next_is_next", "next(x) + 1", "next(x) + 0"),
+    ("firm", "counted_is_one_short", "count = place + 1;", "count = place;"),
+    ("firm", "counted_is_nothing", "count = place + 1;", "count = place * 0;"),
     ("weak", "most_is_below_the_first", "if x < y { y } else { x }", "if x < y { x } else { y }"),
     ("weak", "most_is_the_first", "if x < y { y } else { x }", "let _other = y; x"),
     ("weak", "stands_twice", "x", "y"),
 ]
 
 SAID = [
-    "firm: check 1: 3 of 3 edits refused",
+    "firm: check 1: 5 of 5 edits refused",
     "weak/most_is_the_first.edit: NOT REFUSED; the check ended with 0",
     "weak/stands_twice.edit: NOT REFUSED; an 'old:' text is in src/lib.rt",
-    "4 passed, 2 failed",
+    "6 passed, 2 failed",
 ]
 
 
@@ -72,6 +92,8 @@ def make(top):
         (top / f"crates/{name}/src").mkdir(parents=True)
         (top / f"crates/{name}/must-fail").mkdir()
         (top / f"crates/{name}/src/lib.rt").write_text(HEAD + code)
+    (top / "crates/firm/proofs/counted").mkdir(parents=True)
+    (top / "crates/firm/proofs/counted/Invariants.antt").write_text(INVARIANTS)
     for crate, name, old, new in EDITS:
         (top / f"crates/{crate}/must-fail/{name}.edit").write_text(f"file: src/lib.rt\nold: {old}\nnew: {new}\n")
 
