@@ -50,11 +50,12 @@ def copied(room):
         edits.rename(edits.with_name(ASIDE))
 
 
-def lanes():
-    """How many checks `rt ci` has at a time, each with one job: a check with two jobs takes a fifth more of the processors, one with four
-    half as much again."""
-    kit = wrong_bodies.RT
-    return max(1, min(kit.processors(), kit.free() // CHECK_MEMORY))
+def one_job_each():
+    """What has `rt ci` make each check with one job, as many at a time as processors and memory allow: two jobs take a fifth more of the
+    processors, and four half as much again. Where memory is so short that half of them would be idle, `rt ci` plans by itself."""
+    processors = wrong_bodies.RT.processors()
+    lanes = min(processors, wrong_bodies.RT.free() // CHECK_MEMORY)
+    return {"RT_JOBS": str(lanes)} if 2 * lanes >= processors else {}
 
 
 def counted(words, folder, **more):
@@ -92,7 +93,7 @@ def built():
 def judged(room, given):
     """Whether the copy is proved and its edits are refused, and what that counts; what was built is brought here."""
     copied(room)
-    is_well, (passed, failed) = counted(["rt", "ci"], room, RT_JOBS=str(lanes()))
+    is_well, (passed, failed) = counted(["rt", "ci"], room, **one_job_each())
     if not is_well:
         return False, (passed, max(failed, 1))
     build_archive(room)
