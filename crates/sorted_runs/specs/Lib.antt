@@ -2,3 +2,4 @@ pub mod Rows
 pub mod Places
 pub mod Edits
 pub mod Copies
+pub mod Stretches

@@ -1,11 +1,12 @@
-//! An ordered map whose entries stand in runs of bounded length, in the order of their keys.
+//! An ordered map whose entries stand in runs of bounded length, in the order of their keys, and the runs in stretches.
 //!
-//! A key is looked for among the first keys of the runs, and then in its run. So a key behind all others is a push, and so is mostly
-//! the next of a row of rising keys that comes between others; a walk goes over memory from end to end. A full run is split and an
-//! empty one goes; the runs behind it then move by a place, which begins to weigh where a million keys come in no order. Reading takes
-//! no memory; `insert` and `copy` alone can want some.
+//! A key is looked for among the first keys of the stretches, then among those of the runs of one, and then in its run. So a key behind
+//! all others is a push, and so is mostly the next of a row of rising keys that comes between others; a walk goes over memory from end
+//! to end. What is full is split and what is empty goes; what stands behind it, in the same stretch, then moves by a place. Reading
+//! takes no memory; `insert` and `copy` alone can want some.
 //!
-//! `search` finds places, `edits` changes runs, `ranges` cuts many entries out, `entries` walks over them, and `copies` copies them.
+//! `stretch` is one stretch: `search` finds places in it, `edits` changes its runs, `ranges` cuts many entries out, `entries` walks over
+//! them, and `copies` copies them. `joints` changes stretches where their list changes, and `walks` goes over several.
 #![tactic(auto)]
 
 ghost use Rattle.std.specs.Prelude.{◌≡◌, [], length, not, IfOk, IfErr, OnOk, OnErr};
@@ -20,38 +21,41 @@ ghost use Rattle.sorted_runs.specs.Copies.{IsEntryCopy};
 mod copies;
 mod edits;
 mod entries;
+mod joints;
 mod ranges;
 mod search;
+mod stretch;
+mod walks;
 
-use copies::{copy_keys, copy_runs};
-use edits::{add, open, take_out, write};
-pub use entries::Entries;
-use ranges::cut_out;
-use search::{end_of, run_for, slot, start_of};
+use copies::{copy_keys, copy_stretches};
+use joints::{begin, cut_stretches, ease, put, take_out};
+use search::{run_for, stretch_from, stretch_to};
 use std::alloc::{AllocError, AllocFailed, Global};
 use std::marker::Model;
 use std::ops::Bound;
+use stretch::Stretch;
+pub use walks::Entries;
 
 /// Entries in the order of their keys.
 #[derive(Debug, Drop)]
 pub struct SortedRuns<K: Ord + Copy, V> {
     alloc: Global,
     firsts: Vec<K>,
-    runs: Vec<Vec<(K, V)>>,
+    stretches: Vec<Stretch<K, V>>,
     len: usize,
-    // Where an entry came or went last: rows of keys come and are asked for near each other, so this run is tried first.
+    // Where an entry came or went last: rows of keys come and are asked for near each other, so this stretch is tried first.
     near: usize,
 }
 
 impl<K: Ord + Copy, V> Model for SortedRuns<K, V> {
     ghost use Rattle.std.specs.Prelude.{List};
-    ghost use Rattle.sorted_runs.specs.Rows.{entries, IsRuns};
+    ghost use Rattle.sorted_runs.specs.Stretches.{joined, IsStretches};
 
     ghost Value = { List (K × V) };
 
-    ghost view = { λ s. entries s.runs.items };
+    ghost view = { λ s. joined s.stretches.items };
 
-    ghost invariant = { λ s. IsRuns K.cmp s.firsts.items s.runs.items s.len };
+    ghost invariant = { λ s. IsStretches K.cmp s.firsts.items s.stretches.items s.len };
 }
 
 impl<K: Ord + Copy, V> SortedRuns<K, V> {
@@ -62,7 +66,7 @@ impl<K: Ord + Copy, V> SortedRuns<K, V> {
         SortedRuns {
             alloc,
             firsts: Vec::new(alloc),
-            runs: Vec::new(alloc),
+            stretches: Vec::new(alloc),
             len: 0,
             near: 0,
         }
@@ -85,11 +89,8 @@ impl<K: Ord + Copy, V> SortedRuns<K, V> {
             return None;
         }
         let r = run_for(&self.firsts, self.near, key);
-        let run = &self.runs[r];
-        match slot(run, key) {
-            Ok(at) => Some(&run[at].1),
-            Err(_) => None,
-        }
+        let stretch = &self.stretches[r];
+        stretch.get(key)
     }
 
     /// All entries, rising.
@@ -97,7 +98,7 @@ impl<K: Ord + Copy, V> SortedRuns<K, V> {
         ensures rest { result ≡ self.now }
         ensures ordered { IsStrictlySortedBy K.cmp (keys_of self.now) }
     {
-        Entries::all(&self.runs)
+        Entries::all(&self.stretches)
     }
 
     /// The entries with keys between two bounds, rising; none where the bounds cross.
@@ -106,11 +107,11 @@ impl<K: Ord + Copy, V> SortedRuns<K, V> {
         ensures ordered { IsStrictlySortedBy K.cmp (keys_of self.now) }
     {
         if self.firsts.is_empty() {
-            return Entries::all(&self.runs);
+            return Entries::all(&self.stretches);
         }
-        let begin = start_of(&self.firsts, &self.runs, self.near, &from);
-        let end = end_of(&self.firsts, &self.runs, self.near, &to);
-        Entries::between(&self.runs, begin, end)
+        let begin = stretch_from(&self.firsts, self.near, &from);
+        let end = stretch_to(&self.firsts, begin, &to);
+        Entries::between(&self.stretches, begin, end, from, to)
     }
 }
 
@@ -127,33 +128,50 @@ impl<K: Ord + Copy + Drop, V: Drop> SortedRuns<K, V> {
         ensures ordered { IsStrictlySortedBy K.cmp (keys_of self.new) }
     {
         if self.firsts.is_empty() {
-            open(self.alloc, &mut self.firsts, &mut self.runs, 0, key, value)?;
+            begin(
+                self.alloc,
+                &mut self.firsts,
+                &mut self.stretches,
+                key,
+                value,
+            )?;
             self.len = 1;
             return Ok(None);
         }
+        let Some(len) = self.len.checked_add(1) else {
+            return self.replace(key, value);
+        };
         let r = run_for(&self.firsts, self.near, &key);
         self.near = r;
-        match slot(&self.runs[r], &key) {
-            Ok(at) => Ok(Some(write(&mut self.runs[r], at, value))),
-            Err(at) => {
-                let Some(len) = self.len.checked_add(1) else {
-                    return Err(AllocFailed {
-                        value: (key, value),
-                    });
-                };
-                add(
-                    self.alloc,
-                    &mut self.firsts,
-                    &mut self.runs,
-                    r,
-                    at,
-                    key,
-                    value,
-                )?;
+        match put(&mut self.firsts, &mut self.stretches, r, key, value) {
+            Ok(None) => {
                 self.len = len;
+                ease(&mut self.firsts, &mut self.stretches, r);
                 Ok(None)
             }
+            Ok(Some(had)) => Ok(Some(had)),
+            Err(refused) => Err(refused),
         }
+    }
+
+    // The same where no further entry can be counted.
+    #[inline(never)]
+    fn replace(&mut self, key: K, value: V) -> Result<Option<V>, AllocFailed<(K, V)>>
+        ensures had { IfOk result (λ had. had ≡ lookup (is_at (K.cmp key)) self.old) }
+        ensures gains { OnOk result (self.new ≡ insert_entry K.cmp self.old key value) }
+        ensures returned { IfErr result (λ e. e.value ≡ (key, value)) }
+        ensures absent { OnErr result (lookup (is_at (K.cmp key)) self.old ≡ None) }
+        ensures unchanged { OnErr result (self.new ≡ self.old) }
+        ensures ordered { IsStrictlySortedBy K.cmp (keys_of self.new) }
+    {
+        if self.get(&key).is_none() {
+            return Err(AllocFailed {
+                value: (key, value),
+            });
+        }
+        let r = run_for(&self.firsts, self.near, &key);
+        let had = put(&mut self.firsts, &mut self.stretches, r, key, value)?;
+        Ok(had)
     }
 
     /// Takes a key out, and tells the value that it had, or None where it had none.
@@ -168,14 +186,9 @@ impl<K: Ord + Copy + Drop, V: Drop> SortedRuns<K, V> {
         }
         let r = run_for(&self.firsts, self.near, key);
         self.near = r;
-        match slot(&self.runs[r], key) {
-            Ok(at) => {
-                let value = take_out(&mut self.firsts, &mut self.runs, r, at);
-                self.len -= 1;
-                Some(value)
-            }
-            Err(_) => None,
-        }
+        let value = take_out(&mut self.firsts, &mut self.stretches, r, key)?;
+        self.len -= 1;
+        Some(value)
     }
 
     /// Takes out the entries with keys between two bounds; none where the bounds cross. It takes no memory.
@@ -187,9 +200,17 @@ impl<K: Ord + Copy + Drop, V: Drop> SortedRuns<K, V> {
         if self.firsts.is_empty() {
             return;
         }
-        let begin = start_of(&self.firsts, &self.runs, self.near, &from);
-        let end = end_of(&self.firsts, &self.runs, self.near, &to);
-        self.len = cut_out(&mut self.firsts, &mut self.runs, self.len, begin, end);
+        let begin = stretch_from(&self.firsts, self.near, &from);
+        let end = stretch_to(&self.firsts, begin, &to);
+        self.len = cut_stretches(
+            &mut self.firsts,
+            &mut self.stretches,
+            self.len,
+            begin,
+            end,
+            from,
+            to,
+        );
     }
 }
 
@@ -201,7 +222,7 @@ impl<K: Ord + Copy + Drop, V: Clone + Drop> SortedRuns<K, V> {
         Ok(SortedRuns {
             alloc: self.alloc,
             firsts: copy_keys(self.alloc, &self.firsts)?,
-            runs: copy_runs(self.alloc, &self.runs)?,
+            stretches: copy_stretches(self.alloc, &self.stretches)?,
             len: self.len,
             near: self.near,
         })
