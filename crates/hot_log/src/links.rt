@@ -26,7 +26,8 @@ impl<'a> View<'a> {
         self.linked_counted(from, limit, &mut steps)
     }
 
-    /// The same; `steps`, handed in at 0, counts the records that it looks at: each alive one whose backlink is linked and at most `limit`, once.
+    /// The same; `steps`, handed in at 0, counts the records that it looks at: each alive one whose backlink is linked and at most
+    /// `limit`, once.
     ///
     /// The search goes down each chain in turn, and where one ends it climbs back to the last fork, if there was one; no memory is taken.
     /// What is dead or waits links nothing, and is no fork: where many such records share a backlink, none of them is walked.

@@ -17,7 +17,7 @@ use std::alloc::{AllocError, Global};
 
 /// Held records in the view of a book of truncations and advances, which tells which of them are dead, wait or are alive.
 ///
-/// It lends both for questions, and is handed on by value; what changes the log takes the log and the book themselves.
+/// It lends both for questions. What changes the log takes the log and the book themselves.
 #[derive(Clone, Copy)]
 pub struct View<'a> {
     pub book: &'a EpochBook,
