@@ -9,3 +9,4 @@ pub mod Anew
 pub mod Missing
 pub mod Kept
 pub mod Gaps
+pub mod Seen

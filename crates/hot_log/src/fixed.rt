@@ -5,27 +5,23 @@ ghost use Rattle.std.specs.Prelude.{◌≡◌, ◌≤◌};
 
 use crate::log::HotLog;
 use crate::steps::Steps;
-use epoch_book::EpochBook;
+use crate::view::View;
 use redo_core::Key;
 
-fn linked_number_has_one_answer(log: &HotLog, book: &EpochBook, from: u64, limit: u64) -> (u64, u64)
+fn linked_number_has_one_answer(view: &View, from: u64, limit: u64) -> (u64, u64)
     requires { from ≤ limit }
     ensures { result.0 ≡ result.1 }
 {
     (
-        log.linked_counted(book, from, limit, &mut Steps::new()),
-        log.linked_to(book, from, limit),
+        view.linked_counted(from, limit, &mut Steps::new()),
+        view.linked_to(from, limit),
     )
 }
 
-fn straight_end_has_one_answer(
-    log: &HotLog,
-    book: &EpochBook,
-    from: u64,
-) -> (Option<u64>, Option<u64>)
+fn straight_end_has_one_answer(view: &View, from: u64) -> (Option<u64>, Option<u64>)
     ensures { result.0 ≡ result.1 }
 {
-    (log.straight_end(book, from), log.straight_end(book, from))
+    (view.straight_end(from), view.straight_end(from))
 }
 
 fn key_after_has_one_answer(log: &HotLog, after: Option<Key>) -> (Option<Key>, Option<Key>)
@@ -34,16 +30,16 @@ fn key_after_has_one_answer(log: &HotLog, after: Option<Key>) -> (Option<Key>, O
     (log.key_after(after), log.key_after(after))
 }
 
-fn gap_has_one_answer(log: &HotLog, book: &EpochBook, number: u64) -> (Option<u64>, Option<u64>)
+fn gap_has_one_answer(view: &View, number: u64) -> (Option<u64>, Option<u64>)
     ensures { result.0 ≡ result.1 }
 {
-    log.opens_form();
-    book.opens_form();
-    (log.gap_above(book, number), log.gap_above(book, number))
+    view.held.opens_form();
+    view.book.opens_form();
+    (view.gap_above(number), view.gap_above(number))
 }
 
-fn awaited_epoch_has_one_answer(log: &HotLog, book: &EpochBook) -> (Option<u16>, Option<u16>)
+fn awaited_epoch_has_one_answer(view: &View) -> (Option<u16>, Option<u16>)
     ensures { result.0 ≡ result.1 }
 {
-    (log.awaited(book), log.awaited(book))
+    (view.awaited(), view.awaited())
 }

@@ -5,172 +5,186 @@ ghost use Rattle.redo_core.specs.Data.{RecordData};
 ghost use Rattle.redo_core.specs.Order.{Lists, RecordBefore};
 ghost use Rattle.hot_log.specs.Held.{IsHeld};
 ghost use Rattle.hot_log.specs.Alive.{IsAliveOfBack, IsLinkedFrom, IsLinkedHeld, IsReached, IsStraight, IsStraightEnd};
-ghost use Rattle.hot_log.specs.Found.{IsGreatestRecord};
+ghost use Rattle.hot_log.specs.Found.{IsGreatestRecord, IsOnlyRecord};
 ghost use Rattle.hot_log.specs.Gaps.{IsGapAbove};
+ghost use Rattle.hot_log.specs.Seen.{seen_in};
 
-use crate::log::HotLog;
-use crate::search::alive_of_back;
 use crate::steps::Steps;
-use epoch_book::EpochBook;
+use crate::view::View;
 use redo_core::{Key, Record};
 
-/// The greatest number up to a limit that is linked. The search goes down each chain in turn, and where one ends it climbs back
-/// to the last fork, if there was one: so each alive record whose backlink is linked is looked at once, and no memory is taken.
-/// What is dead or waits links nothing, and is no fork: where many such records share a backlink, none of them is walked.
-pub(crate) fn linked_counted(
-    log: &HotLog,
-    book: &EpochBook,
-    from: u64,
-    limit: u64,
-    steps: &mut Steps,
-) -> u64
-    requires ordered { from ≤ limit }
-    requires fresh { steps.old.count ≡ 0 }
-    ensures linked { IsLinkedFrom book.now log.now from result }
-    ensures bound { result ≤ limit }
-    ensures greatest { (n : ℕ) → IsLinkedFrom book.now log.now from n → n ≤ limit → n ≤ result }
-    ensures counted { (xs : List RecordData) → Lists RecordBefore (IsReached book.now log.now from limit) xs → steps.new.count ≡ length xs }
-    ensures form { IsHeld log.now }
-{
-    // No more records are looked at than are held, so the count fits.
-    let _held = log.len();
-    let mut top = from;
-    let mut back = from;
-    let mut at = Key {
-        epoch: 0,
-        number: 0,
-    };
-    let mut forked = false;
-    loop {
-        match alive_of_back(log, book, back, at) {
-            Some(key) => {
-                steps.step();
-                if key.number <= limit {
-                    top = top.max(key.number);
-                    forked = passes_fork(log, book, back, key, forked);
-                    back = key.number;
-                    at = Key {
-                        epoch: 0,
-                        number: 0,
-                    };
-                } else {
-                    at = key;
-                }
-            }
-            None => {
-                if !forked {
-                    return top;
-                }
-                if back <= from {
-                    return top;
-                }
-                let Some(redo) = log.alive_of(book, back) else {
-                    return top;
-                };
-                back = redo.back();
-                at = redo.key();
-            }
-        }
+impl<'a> View<'a> {
+    /// The greatest number up to a limit that is linked from a base.
+    pub fn linked_to(&self, from: u64, limit: u64) -> u64
+        requires { from ≤ limit }
+        ensures linked { seen_in self.now IsLinkedFrom from result }
+        ensures bound { result ≤ limit }
+        ensures greatest { (n : ℕ) → seen_in self.now IsLinkedFrom from n → n ≤ limit → n ≤ result }
+        ensures form { IsHeld self.now.held.now }
+    {
+        let mut steps = Steps::new();
+        self.linked_counted(from, limit, &mut steps)
     }
-}
 
-/// Whether a fork was passed: one was before, or an alive record with this backlink has a key above the one given.
-fn passes_fork(log: &HotLog, book: &EpochBook, back: u64, key: Key, forked: bool) -> bool
-    ensures { result ≡ false → (forked ≡ false) × IsAliveOfBack book.now log.now back key None }
-{
-    forked || alive_of_back(log, book, back, key).is_some()
-}
-
-/// Whether a number is linked, by a walk down the backlinks.
-pub(crate) fn is_linked(log: &HotLog, book: &EpochBook, from: u64, number: u64) -> bool
-    ensures { IsTrue result ↔ IsLinkedFrom book.now log.now from number }
-{
-    let mut at = number;
-    while at > from {
-        match log.alive_of(book, at) {
-            Some(redo) => at = redo.back(),
-            None => return false,
-        }
-    }
-    at == from
-}
-
-/// The last linked record of a page with a number up to a limit.
-pub(crate) fn greatest_linked_of<'a>(
-    log: &'a HotLog,
-    book: &EpochBook,
-    page: u16,
-    from: u64,
-    limit: u64,
-) -> Option<&'a Record>
-    ensures { IsGreatestRecord (λ r. IsLinkedHeld book.now log.now from r × (r.page ≡ page) × (r.number ≤ limit)) (option_copied result) }
-{
-    let mut to = limit;
-    while let Some(redo) = log.alive_to(book, page, to) {
-        if is_linked(log, book, from, redo.number()) {
-            return Some(redo);
-        }
-        to = redo.number() - 1;
-    }
-    None
-}
-
-/// Whether the chain is straight from one number to another.
-pub(crate) fn is_straight(log: &HotLog, book: &EpochBook, from: u64, to: u64) -> bool
-    ensures { IsTrue result ↔ IsStraight book.now log.now from to }
-{
-    book.opens_form();
-    let mut top = from;
-    while top < to {
-        let Some(redo) = log.alive_after(book, top) else {
-            return true;
-        };
-        if redo.number() > to {
-            return true;
-        }
-        if redo.back() != top {
-            return false;
-        }
-        top = redo.number();
-    }
-    true
-}
-
-/// The end of the chain from a number on, where it has no fork and no stray.
-pub(crate) fn straight_end(log: &HotLog, book: &EpochBook, from: u64) -> Option<u64>
-    ensures some { IfSome result (IsStraightEnd book.now log.now from) }
-    ensures none { IsNone result → (n : ℕ) → IsStraightEnd book.now log.now from n → ⊥ }
-{
-    let mut top = from;
-    while let Some(key) = alive_of_back(
-        log,
-        book,
-        top,
-        Key {
+    /// The same; `steps`, handed in at 0, counts the records that it looks at: each alive one whose backlink is linked and at most
+    /// `limit`, once.
+    ///
+    /// The search goes down each chain in turn, and where one ends it climbs back to the last fork, if there was one; no memory is taken.
+    /// What is dead or waits links nothing, and is no fork: where many such records share a backlink, none of them is walked.
+    pub fn linked_counted(&self, from: u64, limit: u64, steps: &mut Steps) -> u64
+        requires ordered { from ≤ limit }
+        requires fresh { steps.old.count ≡ 0 }
+        ensures linked { seen_in self.now IsLinkedFrom from result }
+        ensures bound { result ≤ limit }
+        ensures greatest { (n : ℕ) → seen_in self.now IsLinkedFrom from n → n ≤ limit → n ≤ result }
+        ensures counted { (xs : List RecordData) → Lists RecordBefore (seen_in self.now IsReached from limit) xs → steps.new.count ≡ length xs }
+        ensures form { IsHeld self.now.held.now }
+    {
+        // No more records are looked at than are held, so the count fits.
+        let _held = self.held.len();
+        let mut top = from;
+        let mut back = from;
+        let mut at = Key {
             epoch: 0,
             number: 0,
-        },
-    ) {
-        if log.has_between(book, top, key.number) {
-            return None;
+        };
+        let mut forked = false;
+        loop {
+            match self.alive_of_back(back, at) {
+                Some(key) => {
+                    steps.step();
+                    if key.number <= limit {
+                        top = top.max(key.number);
+                        forked = self.passes_fork(back, key, forked);
+                        back = key.number;
+                        at = Key {
+                            epoch: 0,
+                            number: 0,
+                        };
+                    } else {
+                        at = key;
+                    }
+                }
+                None => {
+                    if !forked {
+                        return top;
+                    }
+                    if back <= from {
+                        return top;
+                    }
+                    let Some(redo) = self.alive_of(back) else {
+                        return top;
+                    };
+                    back = redo.back();
+                    at = redo.key();
+                }
+            }
         }
-        if alive_of_back(log, book, top, key).is_some() {
-            return None;
-        }
-        top = key.number;
     }
-    Some(top)
-}
 
-/// The number on which the first alive record above a number hangs, by a walk down the backlinks. Over a sound log the record's own
-/// backlink is that number, so the walk ends at once.
-pub(crate) fn gap_above(log: &HotLog, book: &EpochBook, number: u64) -> Option<u64>
-    ensures { IsGapAbove book.now log.now number result }
-{
-    log.opens_form();
-    let mut redo = log.alive_after(book, number)?;
-    while let Some(below) = log.alive_of(book, redo.back()) {
-        redo = below;
+    /// Whether a fork was passed: one was before, or an alive record with this backlink has a key above the one given.
+    fn passes_fork(&self, back: u64, key: Key, forked: bool) -> bool
+        ensures { result ≡ false → (forked ≡ false) × seen_in self.now IsAliveOfBack back key None }
+    {
+        forked || self.alive_of_back(back, key).is_some()
     }
-    Some(redo.back())
+
+    /// Whether a number is linked, by a walk down the backlinks.
+    fn is_linked(&self, from: u64, number: u64) -> bool
+        ensures { IsTrue result ↔ seen_in self.now IsLinkedFrom from number }
+    {
+        let mut at = number;
+        while at > from {
+            match self.alive_of(at) {
+                Some(redo) => at = redo.back(),
+                None => return false,
+            }
+        }
+        at == from
+    }
+
+    /// The last alive record of a page whose number is linked from a base and at most `limit`, or None where there is none.
+    pub fn greatest_linked_of(&self, page: u16, from: u64, limit: u64) -> Option<&'a Record>
+        ensures { IsGreatestRecord (λ r. seen_in self.now IsLinkedHeld from r × (r.page ≡ page) × (r.number ≤ limit)) (option_copied result) }
+    {
+        let mut to = limit;
+        while let Some(redo) = self.alive_to(page, to) {
+            if self.is_linked(from, redo.number()) {
+                return Some(redo);
+            }
+            to = redo.number() - 1;
+        }
+        None
+    }
+
+    /// Whether the chain is straight from a number to another: each alive record between them is linked, and there is no fork.
+    pub fn is_straight(&self, from: u64, to: u64) -> bool
+        ensures { IsTrue result ↔ seen_in self.now IsStraight from to }
+    {
+        self.book.opens_form();
+        let mut top = from;
+        while top < to {
+            let Some(redo) = self.alive_after(top) else {
+                return true;
+            };
+            if redo.number() > to {
+                return true;
+            }
+            if redo.back() != top {
+                return false;
+            }
+            top = redo.number();
+        }
+        true
+    }
+
+    /// The end of the chain from a number on: the greatest number linked from there. None where the chain has a fork or a stray.
+    pub fn straight_end(&self, from: u64) -> Option<u64>
+        ensures some { IfSome result (seen_in self.now IsStraightEnd from) }
+        ensures none { IsNone result → (n : ℕ) → seen_in self.now IsStraightEnd from n → ⊥ }
+    {
+        let mut top = from;
+        while let Some(key) = self.alive_of_back(
+            top,
+            Key {
+                epoch: 0,
+                number: 0,
+            },
+        ) {
+            if self.has_between(top, key.number) {
+                return None;
+            }
+            if self.alive_of_back(top, key).is_some() {
+                return None;
+            }
+            top = key.number;
+        }
+        Some(top)
+    }
+
+    /// The number on which the first alive record above a number hangs: that record names it as its segment backlink, or names a held one
+    /// that does, and so on down, and no alive record that is held has it. None where no alive record is above the number.
+    ///
+    /// Over a sound log the record's own backlink is that number, so the walk down the backlinks ends at once.
+    pub fn gap_above(&self, number: u64) -> Option<u64>
+        ensures { seen_in self.now IsGapAbove number result }
+    {
+        self.held.opens_form();
+        let mut redo = self.alive_after(number)?;
+        while let Some(below) = self.alive_of(redo.back()) {
+            redo = below;
+        }
+        Some(redo.back())
+    }
+
+    /// The alive record with this number, where the number is linked from a base; else None.
+    pub fn linked_record(&self, from: u64, number: u64) -> Option<&'a Record>
+        ensures { IsOnlyRecord (λ r. seen_in self.now IsLinkedHeld from r × (r.number ≡ number)) (option_copied result) }
+    {
+        if self.is_linked(from, number) {
+            self.alive_of(number)
+        } else {
+            None
+        }
+    }
 }

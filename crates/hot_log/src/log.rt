@@ -1,15 +1,11 @@
-ghost use Rattle.std.specs.Prelude.{◌≡◌, ℕ, Some, ◌<◌, ◌≤◌, ◌⊎◌, ◌↔◌, [], None, List, length, map, IsTrue, IfOk, IfErr, OnErr, IfSome, IsNone, OnOk};
+ghost use Rattle.std.specs.Prelude.{◌≡◌, Some, ◌<◌, ◌⊎◌, ◌↔◌, [], None, List, length, map, IsTrue, IfOk, IfErr, OnErr, OnOk};
 ghost use Rattle.std.specs.Option.{option_copied};
 ghost use Rattle.redo_core.specs.Data.{RecordData};
 ghost use Rattle.redo_core.specs.Keys.{key_of};
-ghost use Rattle.redo_core.specs.Order.{Lists, BeforeByNumber, RecordBefore};
+ghost use Rattle.redo_core.specs.Order.{Lists};
 ghost use Rattle.redo_core.specs.Standing.{IsDead};
 ghost use Rattle.hot_log.specs.Held.{IsHeld, IsRecordAt, IsKeyAfter, IsKeyTo, IsGreatestHeld, HasKey, HoldsKey};
-ghost use Rattle.hot_log.specs.Alive.{IsHeldAlive, IsHeldOf, IsLinkedFrom, IsLinkedHeld, IsReached, IsStraight, IsStraightEnd};
-ghost use Rattle.hot_log.specs.Anew.{ListsAnew};
-ghost use Rattle.hot_log.specs.Gaps.{IsGapAbove, IsAwaited};
-ghost use Rattle.hot_log.specs.Found.{IsLeast, IsLeastRecord, IsGreatestRecord, IsOnlyRecord, IsPageAfter};
-ghost use Rattle.hot_log.specs.Kept.{IsKeptAbove, ListsKeysOf};
+ghost use Rattle.hot_log.specs.Found.{IsPageAfter};
 ghost use Rattle.hot_log.specs.Indexing.{IsIndexBy, IsNextHeld, IsNextRecord, IsLastRecord};
 ghost use Rattle.hot_log.specs.Missing.{IsMissing};
 ghost use Rattle.hot_log.specs.Paged.{PlaceBefore};
@@ -21,9 +17,7 @@ ghost use Rattle.std.specs.List.{Contains};
 use crate::index::KeyIndex;
 use crate::key_pages::KeyPages;
 use crate::records::PagedRecords;
-use crate::search::epoch_above;
-use crate::steps::Steps;
-use crate::{links, removal, search};
+use crate::removal;
 use epoch_book::EpochBook;
 use redo_core::{Key, Record, Refused};
 use std::alloc::{AllocError, Global};
@@ -35,8 +29,8 @@ use thiserror::Error;
 /// Beside them stand the page of each key, and the keys by segment backlink: those of the held records and no others.
 #[derive(Debug, Drop)]
 pub struct HotLog {
-    records: PagedRecords,
-    by_key: KeyPages,
+    pub(crate) records: PagedRecords,
+    pub(crate) by_key: KeyPages,
     by_back: KeyIndex,
 }
 
@@ -235,149 +229,11 @@ impl HotLog {
         self.by_back.next(back, after)
     }
 
-    /// The least alive number with this segment backlink, or None where there is none.
-    pub fn next_after(&self, book: &EpochBook, back: u64) -> Option<u64>
-        ensures { IsLeast (λ n. (r : RecordData) × IsHeldAlive book.now self.now r × (r.back ≡ back) × (r.number ≡ n)) result }
-    {
-        search::next_after(self, book, back)
-    }
-
-    /// The greatest number up to a limit that is linked from a base.
-    pub fn linked_to(&self, book: &EpochBook, from: u64, limit: u64) -> u64
-        requires { from ≤ limit }
-        ensures linked { IsLinkedFrom book.now self.now from result }
-        ensures bound { result ≤ limit }
-        ensures greatest { (n : ℕ) → IsLinkedFrom book.now self.now from n → n ≤ limit → n ≤ result }
-        ensures form { IsHeld self.now }
-    {
-        let mut steps = Steps::new();
-        self.linked_counted(book, from, limit, &mut steps)
-    }
-
-    /// The same; `steps`, handed in at 0, counts the records that it looks at: each alive one whose backlink is linked and at most `limit`, once.
-    pub fn linked_counted(&self, book: &EpochBook, from: u64, limit: u64, steps: &mut Steps) -> u64
-        requires ordered { from ≤ limit }
-        requires fresh { steps.old.count ≡ 0 }
-        ensures linked { IsLinkedFrom book.now self.now from result }
-        ensures bound { result ≤ limit }
-        ensures greatest { (n : ℕ) → IsLinkedFrom book.now self.now from n → n ≤ limit → n ≤ result }
-        ensures counted { (xs : List RecordData) → Lists RecordBefore (IsReached book.now self.now from limit) xs → steps.new.count ≡ length xs }
-        ensures form { IsHeld self.now }
-    {
-        links::linked_counted(self, book, from, limit, steps)
-    }
-
-    /// Whether the chain is straight from a number to another: each alive record between them is linked, and there is no fork.
-    pub fn is_straight(&self, book: &EpochBook, from: u64, to: u64) -> bool
-        ensures { IsTrue result ↔ IsStraight book.now self.now from to }
-    {
-        links::is_straight(self, book, from, to)
-    }
-
-    /// The alive record with this number, where the number is linked from a base; else None.
-    pub fn linked_record(&self, book: &EpochBook, from: u64, number: u64) -> Option<&Record>
-        ensures { IsOnlyRecord (λ r. IsLinkedHeld book.now self.now from r × (r.number ≡ number)) (option_copied result) }
-    {
-        if links::is_linked(self, book, from, number) {
-            self.alive_of(book, number)
-        } else {
-            None
-        }
-    }
-
-    /// The last alive record of a page whose number is linked from a base and at most `limit`, or None where there is none.
-    pub fn greatest_linked_of(
-        &self,
-        book: &EpochBook,
-        page: u16,
-        from: u64,
-        limit: u64,
-    ) -> Option<&Record>
-        ensures { IsGreatestRecord (λ r. IsLinkedHeld book.now self.now from r × (r.page ≡ page) × (r.number ≤ limit)) (option_copied result) }
-    {
-        links::greatest_linked_of(self, book, page, from, limit)
-    }
-
-    /// The first alive record of a page with a number above `from` and up to `to`, or None where there is none.
-    pub fn next_of(&self, book: &EpochBook, page: u16, from: u64, to: u64) -> Option<&Record>
-        ensures { IsLeastRecord (IsHeldOf book.now self.now page from to) (option_copied result) }
-    {
-        let redo = self.alive_above(book, page, from)?;
-        if redo.number() <= to {
-            Some(redo)
-        } else {
-            None
-        }
-    }
-
-    /// The last alive record of a page with a number above `from` and up to `to`, or None where there is none.
-    pub fn last_of(&self, book: &EpochBook, page: u16, from: u64, to: u64) -> Option<&Record>
-        ensures { IsGreatestRecord (IsHeldOf book.now self.now page from to) (option_copied result) }
-    {
-        let redo = self.alive_to(book, page, to)?;
-        if from < redo.number() {
-            Some(redo)
-        } else {
-            None
-        }
-    }
-
     /// The least page above the one given that a held record writes, whatever its standing; the least of all for None.
     pub fn page_after(&self, after: Option<u16>) -> Option<u16>
         ensures { IsPageAfter self.now after result }
     {
         self.records.page_after(after)
-    }
-
-    /// The alive records of a page with numbers above `from` and up to `to`, rising. Its only error is want of memory.
-    pub fn records_of(
-        &self,
-        alloc: Global,
-        book: &EpochBook,
-        page: u16,
-        from: u64,
-        to: u64,
-    ) -> Result<Vec<&Record>, AllocError>
-        ensures { IfOk result (λ v. Lists BeforeByNumber (IsHeldOf book.now self.now page from to) (map (λ x. x.now) v.items)) }
-    {
-        let above = Key {
-            epoch: epoch_above(book, from),
-            number: from,
-        };
-        let to = Key {
-            epoch: epoch_above(book, to),
-            number: to,
-        };
-        if above.epoch > to.epoch || from >= to.number {
-            return Ok(Vec::new(alloc));
-        }
-        self.records.alive_between(alloc, book, page, above, to)
-    }
-
-    /// The same from the last of them on that begins the page anew, where one does: what comes before that one does not show in the
-    /// page, and is not looked at. Its only error is want of memory.
-    pub fn records_anew(
-        &self,
-        alloc: Global,
-        book: &EpochBook,
-        page: u16,
-        from: u64,
-        to: u64,
-    ) -> Result<Vec<&Record>, AllocError>
-        ensures { IfOk result (λ v. ListsAnew (IsHeldOf book.now self.now page from to) (map (λ x. x.now) v.items)) }
-    {
-        let above = Key {
-            epoch: epoch_above(book, from),
-            number: from,
-        };
-        let to = Key {
-            epoch: epoch_above(book, to),
-            number: to,
-        };
-        if above.epoch > to.epoch || from >= to.number {
-            return Ok(Vec::new(alloc));
-        }
-        self.records.alive_anew(alloc, book, page, above, to)
     }
 
     /// The records of another log that this one does not hold, by page, and within a page by key. Both are gone over side by side, so
@@ -390,23 +246,6 @@ impl HotLog {
         ensures { IfOk result (λ v. Lists PlaceBefore (IsMissing self.now other.now) (map (λ x. x.now) v.items)) }
     {
         self.records.missing_by_page(alloc, &other.records)
-    }
-
-    /// The keys of the records that wait, or are alive above a number, rising. Its only error is want of memory.
-    pub fn kept_keys(
-        &self,
-        alloc: Global,
-        book: &EpochBook,
-        point: u64,
-    ) -> Result<Vec<Key>, AllocError>
-        ensures { IfOk result (λ v. ListsKeysOf (IsKeptAbove book.now self.now point) v.items) }
-    {
-        // A record that waits, or is alive above the number, has a key above this one.
-        let above = Key {
-            epoch: epoch_above(book, point),
-            number: point,
-        };
-        self.by_key.kept_keys(alloc, book, above, point)
     }
 
     /// Removes the alive records of a page with numbers at most the version of its image and at most a point.
@@ -439,35 +278,6 @@ impl HotLog {
         ensures form { IsHeld self.now }
     {
         self.by_key.key_to(to)
-    }
-
-    /// The end of the chain from a number on: the greatest number linked from there. None where the chain has a fork or a stray.
-    pub fn straight_end(&self, book: &EpochBook, from: u64) -> Option<u64>
-        ensures some { IfSome result (IsStraightEnd book.now self.now from) }
-        ensures none { IsNone result → (n : ℕ) → IsStraightEnd book.now self.now from n → ⊥ }
-    {
-        links::straight_end(self, book, from)
-    }
-
-    /// The number on which the first alive record above a number hangs: that record names it as its segment backlink, or names a held one
-    /// that does, and so on down, and no alive record that is held has it. None where no alive record is above the number.
-    pub fn gap_above(&self, book: &EpochBook, number: u64) -> Option<u64>
-        ensures { IsGapAbove book.now self.now number result }
-    {
-        links::gap_above(self, book, number)
-    }
-
-    /// The epoch after the complete one, where a held record waits; else None.
-    pub fn awaited(&self, book: &EpochBook) -> Option<u16>
-        ensures { IsAwaited book.now self.now result }
-    {
-        let complete = book.complete_epoch();
-        let key = self.greatest_key()?;
-        if complete < key.epoch {
-            Some(complete + 1)
-        } else {
-            None
-        }
     }
 }
 

@@ -1,22 +1,20 @@
 //! Searches of held records in a book's view.
-ghost use Rattle.std.specs.Prelude.{◌≡◌, ℕ, ◌<◌, ◌≤◌, ◌⊎◌, ◌↔◌, map, IsTrue, IfOk, length, Some};
+ghost use Rattle.std.specs.Prelude.{◌≡◌, ℕ, ◌<◌, ◌≤◌, ◌⊎◌, ◌↔◌, IsTrue, Some};
 ghost use Rattle.std.specs.Option.{option_copied};
 ghost use Rattle.redo_core.specs.Data.{RecordData};
 ghost use Rattle.redo_core.specs.Keys.{key_in, KeyBefore};
-ghost use Rattle.redo_core.specs.Order.{Lists, BeforeByNumber};
 ghost use Rattle.redo_core.specs.Standing.{IsAlive};
 ghost use Rattle.epoch_book.specs.Book.{IsBook};
 ghost use Rattle.epoch_book.specs.Lows.{CutsAt};
-ghost use Rattle.hot_log.specs.Held.{IsHeld, IsKeyAfter, IsKeyTo, HasKey};
-ghost use Rattle.hot_log.specs.Indexing.{IsNextHeld, IsLastHeld};
-ghost use Rattle.hot_log.specs.Alive.{HasNoneAbove, IsAliveKey, IsAliveOfBack, IsHeldAlive, IsHeldOf, IsOpenedBelow, IsPageAlive, PartsAt, PartsAtKey, SparesAbove};
+ghost use Rattle.hot_log.specs.Held.{IsHeld, HasKey};
+ghost use Rattle.hot_log.specs.Alive.{HasNoneAbove, IsAliveKey, IsAliveOfBack, IsHeldAlive, IsOpenedBelow, IsPageAlive, PartsAt, PartsAtKey, SparesAbove};
 ghost use Rattle.hot_log.specs.Found.{IsLeast, IsLeastRecord, IsGreatestRecord, IsOnlyRecord};
 ghost use Rattle.hot_log.specs.Kept.{KeepsKey};
+ghost use Rattle.hot_log.specs.Seen.{seen_in};
 
-use crate::log::HotLog;
+use crate::view::View;
 use epoch_book::{EpochBook, Standing};
 use redo_core::{Key, Record};
-use std::alloc::{AllocError, Global};
 
 /// Whether a record is alive; one that waits is not looked up.
 pub(crate) fn is_alive(book: &EpochBook, epoch: u16, number: u64) -> bool
@@ -93,35 +91,35 @@ fn is_up_to(key: Key, to: Key) -> bool
     key.epoch < to.epoch || (key.epoch == to.epoch && key.number <= to.number)
 }
 
-impl HotLog {
+impl<'a> View<'a> {
     /// The alive record with this number.
-    pub(crate) fn alive_of(&self, book: &EpochBook, number: u64) -> Option<&Record>
-        ensures { IsOnlyRecord (λ r. IsHeldAlive book.now self.now r × (r.number ≡ number)) (option_copied result) }
+    pub(crate) fn alive_of(&self, number: u64) -> Option<&'a Record>
+        ensures { IsOnlyRecord (λ r. seen_in self.now IsHeldAlive r × (r.number ≡ number)) (option_copied result) }
     {
-        self.opens_form();
+        self.held.opens_form();
         if number == 0 {
             return None;
         }
-        let epoch = epoch_above(book, number - 1);
-        if is_alive(book, epoch, number) {
-            self.get(Key { epoch, number })
+        let epoch = epoch_above(self.book, number - 1);
+        if is_alive(self.book, epoch, number) {
+            self.held.get(Key { epoch, number })
         } else {
             None
         }
     }
 
     /// The first alive record of a page above a number.
-    pub(crate) fn alive_above(&self, book: &EpochBook, page: u16, number: u64) -> Option<&Record>
-        ensures found { IsLeastRecord (λ r. IsPageAlive book.now self.now page r × (number < r.number)) (option_copied result) }
-        ensures form { IsHeld self.now }
+    pub(crate) fn alive_above(&self, page: u16, number: u64) -> Option<&'a Record>
+        ensures found { IsLeastRecord (λ r. seen_in self.now IsPageAlive page r × (number < r.number)) (option_copied result) }
+        ensures form { IsHeld self.now.held.now }
     {
         let mut at = Key {
-            epoch: epoch_above(book, number),
+            epoch: epoch_above(self.book, number),
             number,
         };
-        while let Some(redo) = self.next_of_page(page, at) {
+        while let Some(redo) = self.held.next_of_page(page, at) {
             at = redo.key();
-            if is_alive(book, at.epoch, at.number) {
+            if is_alive(self.book, at.epoch, at.number) {
                 return Some(redo);
             }
         }
@@ -129,42 +127,42 @@ impl HotLog {
     }
 
     /// The last alive record of a page up to a number.
-    pub(crate) fn alive_to(&self, book: &EpochBook, page: u16, number: u64) -> Option<&Record>
-        ensures found { IsGreatestRecord (λ r. IsPageAlive book.now self.now page r × (r.number ≤ number)) (option_copied result) }
-        ensures form { IsHeld self.now }
+    pub(crate) fn alive_to(&self, page: u16, number: u64) -> Option<&'a Record>
+        ensures found { IsGreatestRecord (λ r. seen_in self.now IsPageAlive page r × (r.number ≤ number)) (option_copied result) }
+        ensures form { IsHeld self.now.held.now }
     {
-        let mut at = last_key_to(book, number);
-        while let Some(redo) = self.last_of_page(page, at) {
+        let mut at = last_key_to(self.book, number);
+        while let Some(redo) = self.held.last_of_page(page, at) {
             let key = redo.key();
-            if is_alive(book, key.epoch, key.number) {
+            if is_alive(self.book, key.epoch, key.number) {
                 return Some(redo);
             }
-            at = key_down(book, key);
+            at = key_down(self.book, key);
         }
         None
     }
 
     /// The first alive record above a number.
-    pub(crate) fn alive_after(&self, book: &EpochBook, number: u64) -> Option<&Record>
-        ensures found { IsLeastRecord (λ r. IsHeldAlive book.now self.now r × (number < r.number)) (option_copied result) }
-        ensures form { IsHeld self.now }
+    pub(crate) fn alive_after(&self, number: u64) -> Option<&'a Record>
+        ensures found { IsLeastRecord (λ r. seen_in self.now IsHeldAlive r × (number < r.number)) (option_copied result) }
+        ensures form { IsHeld self.now.held.now }
     {
-        let key = self.alive_key(book, number)?;
-        self.get(key)
+        let key = self.alive_key(number)?;
+        self.held.get(key)
     }
 
     /// The key of the first alive record above a number.
-    fn alive_key(&self, book: &EpochBook, number: u64) -> Option<Key>
-        ensures found { IsAliveKey book.now self.now number result }
-        ensures book { IsBook book.now }
-        ensures form { IsHeld self.now }
+    fn alive_key(&self, number: u64) -> Option<Key>
+        ensures found { seen_in self.now IsAliveKey number result }
+        ensures book { IsBook self.now.book.now }
+        ensures form { IsHeld self.now.held.now }
     {
         let mut at = Key {
-            epoch: epoch_above(book, number),
+            epoch: epoch_above(self.book, number),
             number,
         };
-        while let Some(key) = self.next_key(at) {
-            if is_alive(book, key.epoch, key.number) {
+        while let Some(key) = self.held.next_key(at) {
+            if is_alive(self.book, key.epoch, key.number) {
                 return Some(key);
             }
             at = key;
@@ -173,11 +171,11 @@ impl HotLog {
     }
 
     /// Whether an alive record has a number between two.
-    pub fn has_between(&self, book: &EpochBook, above: u64, below: u64) -> bool
-        ensures found { IsTrue result ↔ ((r : RecordData) × IsHeldAlive book.now self.now r × (above < r.number) × (r.number < below)) }
-        ensures form { IsHeld self.now }
+    pub fn has_between(&self, above: u64, below: u64) -> bool
+        ensures found { IsTrue result ↔ ((r : RecordData) × seen_in self.now IsHeldAlive r × (above < r.number) × (r.number < below)) }
+        ensures form { IsHeld self.now.held.now }
     {
-        match self.alive_key(book, above) {
+        match self.alive_key(above) {
             Some(key) => key.number < below,
             None => false,
         }
@@ -185,13 +183,13 @@ impl HotLog {
 
     /// Whether no alive record is above a number, as one look at the greatest key tells. Where what is above is not alive, it may be
     /// false too.
-    pub fn has_none_above(&self, book: &EpochBook, number: u64) -> bool
-        ensures { IsTrue result → HasNoneAbove book.now self.now number }
+    pub fn has_none_above(&self, number: u64) -> bool
+        ensures { IsTrue result → seen_in self.now HasNoneAbove number }
     {
-        match self.greatest_key() {
+        match self.held.greatest_key() {
             Some(key) => {
                 let to = Key {
-                    epoch: epoch_above(book, number),
+                    epoch: epoch_above(self.book, number),
                     number,
                 };
                 is_up_to(key, to)
@@ -199,94 +197,90 @@ impl HotLog {
             None => true,
         }
     }
-}
 
-/// The least key above the one given of the alive records with this segment backlink. An alive number is above its backlink, so its
-/// key is above the one that parts the alive records there: dead records of earlier epochs are passed unseen. What waits has a key
-/// above all that is alive, so the search ends there.
-pub(crate) fn alive_of_back(log: &HotLog, book: &EpochBook, back: u64, after: Key) -> Option<Key>
-    ensures found { IsAliveOfBack book.now log.now back after result }
-    ensures book { IsBook book.now }
-    ensures form { IsHeld log.now }
-{
-    let complete = book.complete_epoch();
-    let low = Key {
-        epoch: epoch_above(book, back),
-        number: back,
-    };
-    let mut at = if is_up_to(after, low) { low } else { after };
-    while let Some(key) = log.next_of_back(back, at) {
-        if key.epoch > complete {
-            return None;
-        }
-        if is_alive(book, key.epoch, key.number) {
-            return Some(key);
-        }
-        at = key;
-    }
-    None
-}
-
-/// The least alive number with this segment backlink.
-pub(crate) fn next_after(log: &HotLog, book: &EpochBook, back: u64) -> Option<u64>
-    ensures { IsLeast (λ n. (r : RecordData) × IsHeldAlive book.now log.now r × (r.back ≡ back) × (r.number ≡ n)) result }
-{
-    let key = alive_of_back(
-        log,
-        book,
-        back,
-        Key {
-            epoch: 0,
-            number: 0,
-        },
-    )?;
-    Some(key.number)
-}
-
-/// Whether the record of a key is alive, and its segment backlink below a number.
-fn is_below(log: &HotLog, book: &EpochBook, key: Key, number: u64) -> bool
-    ensures { IsTrue result ↔ ((r : RecordData) × IsHeldAlive book.now log.now r × HasKey key r × (r.back < number)) }
-{
-    log.opens_form();
-    if !is_alive(book, key.epoch, key.number) {
-        return false;
-    }
-    match log.get(key) {
-        Some(redo) => redo.back() < number,
-        None => false,
-    }
-}
-
-impl HotLog {
-    /// The last alive record up to a number, whatever its page, or None where there is none.
-    pub fn last_alive(&self, book: &EpochBook, to: u64) -> Option<&Record>
-        ensures found { IsGreatestRecord (λ r. IsHeldAlive book.now self.now r × (r.number ≤ to)) (option_copied result) }
-        ensures form { IsHeld self.now }
+    /// The least key above the one given of the alive records with this segment backlink. An alive number is above its backlink, so its
+    /// key is above the one that parts the alive records there: dead records of earlier epochs are passed unseen. What waits has a key
+    /// above all that is alive, so the search ends there.
+    pub(crate) fn alive_of_back(&self, back: u64, after: Key) -> Option<Key>
+        ensures found { seen_in self.now IsAliveOfBack back after result }
+        ensures book { IsBook self.now.book.now }
+        ensures form { IsHeld self.now.held.now }
     {
-        let mut at = last_key_to(book, to);
-        while let Some(key) = self.last_key(at) {
-            if is_alive(book, key.epoch, key.number) {
-                return self.get(key);
+        let complete = self.book.complete_epoch();
+        let low = Key {
+            epoch: epoch_above(self.book, back),
+            number: back,
+        };
+        let mut at = if is_up_to(after, low) { low } else { after };
+        while let Some(key) = self.held.next_of_back(back, at) {
+            if key.epoch > complete {
+                return None;
             }
-            at = key_down(book, key);
+            if is_alive(self.book, key.epoch, key.number) {
+                return Some(key);
+            }
+            at = key;
+        }
+        None
+    }
+
+    /// The least alive number with this segment backlink, or None where there is none.
+    pub fn next_after(&self, back: u64) -> Option<u64>
+        ensures { IsLeast (λ n. (r : RecordData) × seen_in self.now IsHeldAlive r × (r.back ≡ back) × (r.number ≡ n)) result }
+    {
+        let key = self.alive_of_back(
+            back,
+            Key {
+                epoch: 0,
+                number: 0,
+            },
+        )?;
+        Some(key.number)
+    }
+
+    /// Whether the record of a key is alive, and its segment backlink below a number.
+    fn is_below(&self, key: Key, number: u64) -> bool
+        ensures { IsTrue result ↔ ((r : RecordData) × seen_in self.now IsHeldAlive r × HasKey key r × (r.back < number)) }
+    {
+        self.held.opens_form();
+        if !is_alive(self.book, key.epoch, key.number) {
+            return false;
+        }
+        match self.held.get(key) {
+            Some(redo) => redo.back() < number,
+            None => false,
+        }
+    }
+
+    /// The last alive record up to a number, whatever its page, or None where there is none.
+    pub fn last_alive(&self, to: u64) -> Option<&'a Record>
+        ensures found { IsGreatestRecord (λ r. seen_in self.now IsHeldAlive r × (r.number ≤ to)) (option_copied result) }
+        ensures form { IsHeld self.now.held.now }
+    {
+        let mut at = last_key_to(self.book, to);
+        while let Some(key) = self.held.last_key(at) {
+            if is_alive(self.book, key.epoch, key.number) {
+                return self.held.get(key);
+            }
+            at = key_down(self.book, key);
         }
         None
     }
 
     /// Whether an alive record of an epoch above the one given has a segment backlink below a number.
-    pub fn opens_below(&self, book: &EpochBook, epoch: u16, number: u64) -> bool
-        ensures { IsTrue result ↔ ((r : RecordData) × IsOpenedBelow book.now self.now epoch number r) }
+    pub fn opens_below(&self, epoch: u16, number: u64) -> bool
+        ensures { IsTrue result ↔ ((r : RecordData) × seen_in self.now IsOpenedBelow epoch number r) }
     {
-        let complete = book.complete_epoch();
+        let complete = self.book.complete_epoch();
         let mut at = Key {
             epoch,
             number: u64::MAX,
         };
-        while let Some(key) = self.next_key(at) {
+        while let Some(key) = self.held.next_key(at) {
             if key.epoch > complete {
                 return false;
             }
-            if is_below(self, book, key, number) {
+            if self.is_below(key, number) {
                 return true;
             }
             at = key;

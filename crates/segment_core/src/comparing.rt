@@ -4,6 +4,7 @@ ghost use Rattle.state_laws.specs.Shows.{Shows};
 ghost use Rattle.segment_core.specs.Comparing.{TellsSamePage};
 
 use crate::segment::Segment;
+use hot_log::View;
 use redo_core::Page;
 use std::alloc::AllocError;
 
@@ -31,10 +32,9 @@ impl Segment {
     pub(crate) fn shows_its_image(&self, page: u16, point: u64) -> bool
         ensures { IsTrue result → Shows self.now page point (image_of self.now.store page) }
     {
-        match self
-            .hot
-            .next_of(&self.book, page, self.store.version(page), point)
-        {
+        let (book, held) = (&self.book, &self.hot);
+        let view = View { book, held };
+        match view.next_of(page, self.store.version(page), point) {
             Some(_) => false,
             None => true,
         }

@@ -8,6 +8,7 @@ ghost use Rattle.segment_core.specs.Form.{IsSegment};
 
 use crate::answers::Gap;
 use crate::segment::Segment;
+use hot_log::View;
 
 impl Segment {
     /// What the complete point waits for: the record on which the first alive record above it hangs, or else the truncation of the next
@@ -19,10 +20,12 @@ impl Segment {
         ensures form { IsSegment self.now }
     {
         let front = self.front();
-        match self.hot.gap_above(&self.book, front.complete) {
+        let (book, held) = (&self.book, &self.hot);
+        let view = View { book, held };
+        match view.gap_above(front.complete) {
             Some(number) => Some(Gap::Record { number }),
             None => {
-                let epoch = self.hot.awaited(&self.book)?;
+                let epoch = view.awaited()?;
                 Some(Gap::Truncation { epoch })
             }
         }

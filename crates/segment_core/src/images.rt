@@ -4,6 +4,7 @@ ghost use Rattle.segment_core.specs.Adopting.{AdoptsBase};
 ghost use Rattle.segment_core.specs.Uniting.{Unites, RaisesBase};
 
 use crate::segment::Segment;
+use hot_log::View;
 use page_base::BaseImage;
 use redo_core::{Refused, SharedPage};
 use std::alloc::AllocError;
@@ -63,7 +64,9 @@ impl Segment {
         ensures { RaisesBase self.old base self.new }
     {
         let raised = self.base.max(base);
-        self.points = self.points.over(&self.hot, &self.book, self.base, raised);
+        let (book, held) = (&self.book, &self.hot);
+        let view = View { book, held };
+        self.points = self.points.over(&view, self.base, raised);
         self.base = raised;
     }
 }

@@ -5,10 +5,11 @@ ghost use Rattle.redo_core.specs.Shape.{max_number};
 ghost use Rattle.epoch_book.specs.Book.{IsBook};
 ghost use Rattle.hot_log.specs.Alive.{HasNoneAbove, IsStraightEnd};
 ghost use Rattle.hot_log.specs.Held.{IsHeld};
+ghost use Rattle.hot_log.specs.Seen.{seen_in};
 ghost use Rattle.segment_core.specs.Points.{AnchorsOn, HasPoints, HasLowAnchor, IsTopTo, IsUntouched, JoinsOnTop, MayLink, MoveOn, WerePoints, points_at};
 
 use epoch_book::{EpochBook, Standing};
-use hot_log::HotLog;
+use hot_log::View;
 use redo_core::{MAX_NUMBER, Record};
 
 /// The complete point and the anchor of a segment, and whether the chain of its alive records is known to be straight from the
@@ -24,63 +25,63 @@ pub(crate) struct Points {
 
 impl Points {
     /// The points over a base point.
-    pub(crate) fn anew(hot: &HotLog, book: &EpochBook, base: u64) -> Points
-        requires { base ≤ least book.now.points }
-        ensures { HasPoints book.now hot.now base result }
+    pub(crate) fn anew(view: &View, base: u64) -> Points
+        requires { base ≤ least view.now.book.now.points }
+        ensures { seen_in view.now HasPoints base result }
     {
-        let _minimum = book.min_point();
+        let _minimum = view.book.min_point();
         let start = Points {
             complete: base,
             anchor: base,
             straight: true,
         };
-        start.onward(hot, book)
+        start.onward(view)
     }
 
     /// The points from where they stand on.
-    fn onward(self, hot: &HotLog, book: &EpochBook) -> Points
+    fn onward(self, view: &View) -> Points
         requires complete { self.complete ≤ max_number }
-        requires anchor { self.anchor ≤ least book.now.points }
-        ensures { MoveOn book.now hot.now self result }
+        requires anchor { self.anchor ≤ least view.now.book.now.points }
+        ensures { seen_in view.now MoveOn self result }
     {
-        let complete = hot.linked_to(book, self.complete, MAX_NUMBER);
+        let complete = view.linked_to(self.complete, MAX_NUMBER);
         Points {
             complete,
-            anchor: hot.linked_to(book, self.anchor, book.min_point()),
-            straight: hot.is_straight(book, self.complete, complete),
+            anchor: view.linked_to(self.anchor, view.book.min_point()),
+            straight: view.is_straight(self.complete, complete),
         }
     }
 
     /// The points where the minimum read point may have risen.
-    pub(crate) fn with_anchor(self, hot: &HotLog, book: &EpochBook, base: u64) -> Points
-        requires { HasLowAnchor book.now hot.now base self }
-        ensures { HasPoints book.now hot.now base result }
+    pub(crate) fn with_anchor(self, view: &View, base: u64) -> Points
+        requires { seen_in view.now HasLowAnchor base self }
+        ensures { seen_in view.now HasPoints base result }
     {
         let anchor = if self.straight {
-            self.anchor_of_last(hot, book)
+            self.anchor_of_last(view)
         } else {
-            hot.linked_to(book, base, book.min_point())
+            view.linked_to(base, view.book.min_point())
         };
         Points { anchor, ..self }
     }
 
     /// The greatest linked number up to the minimum read point over a straight chain. Each alive record up to the complete point is
     /// linked there, so it is the number of the last one; the chain is not walked.
-    fn anchor_of_last(self, hot: &HotLog, book: &EpochBook) -> u64
-        ensures { (base : ℕ) → HasLowAnchor book.now hot.now base self → IsTrue self.straight → IsTopTo book.now hot.now base (least book.now.points) result }
+    fn anchor_of_last(self, view: &View) -> u64
+        ensures { (base : ℕ) → seen_in view.now HasLowAnchor base self → IsTrue self.straight → seen_in view.now IsTopTo base (least view.now.book.now.points) result }
     {
-        let to = book.min_point().min(self.complete);
-        match hot.last_alive(book, to) {
+        let to = view.book.min_point().min(self.complete);
+        match view.last_alive(to) {
             Some(redo) => redo.number().max(self.anchor),
             None => self.anchor,
         }
     }
 
     /// The points over a base point that is raised: where they stood, if that is the anchor of a straight chain, and else anew.
-    pub(crate) fn over(self, hot: &HotLog, book: &EpochBook, base: u64, raised: u64) -> Points
-        requires points { HasPoints book.now hot.now base self }
-        requires bound { raised ≤ least book.now.points }
-        ensures { HasPoints book.now hot.now raised result }
+    pub(crate) fn over(self, view: &View, base: u64, raised: u64) -> Points
+        requires points { seen_in view.now HasPoints base self }
+        requires bound { raised ≤ least view.now.book.now.points }
+        ensures { seen_in view.now HasPoints raised result }
     {
         if raised == base {
             return self;
@@ -88,47 +89,41 @@ impl Points {
         if self.straight && raised == self.anchor {
             return self;
         }
-        Points::anew(hot, book, raised)
+        Points::anew(view, raised)
     }
 
     /// The points where a truncation has opened the epochs above one: over a straight chain they go on from the last number to which
     /// those have done nothing.
-    pub(crate) fn after_opening(
-        self,
-        hot: &HotLog,
-        book: &EpochBook,
-        base: u64,
-        epoch: u16,
-    ) -> Points
-        requires { WerePoints book.now hot.now base epoch self }
-        ensures { HasPoints book.now hot.now base result }
+    pub(crate) fn after_opening(self, view: &View, base: u64, epoch: u16) -> Points
+        requires { seen_in view.now WerePoints base epoch self }
+        ensures { seen_in view.now HasPoints base result }
     {
         if !self.straight {
-            return Points::anew(hot, book, base);
+            return Points::anew(view, base);
         }
-        let Some(from) = self.untouched(hot, book, base, epoch) else {
-            return Points::anew(hot, book, base);
+        let Some(from) = self.untouched(view, base, epoch) else {
+            return Points::anew(view, base);
         };
         let start = Points {
             complete: from,
             anchor: self.anchor.min(from),
             straight: true,
         };
-        start.onward(hot, book)
+        start.onward(view)
     }
 
     /// The last number above the base point to which the epochs above one have done nothing.
-    fn untouched(self, hot: &HotLog, book: &EpochBook, base: u64, epoch: u16) -> Option<u64>
-        ensures untouched { IfSome result (IsUntouched book.now hot.now base epoch self.complete) }
-        ensures form { IsHeld hot.now }
-        ensures book { IsBook book.now }
+    fn untouched(self, view: &View, base: u64, epoch: u16) -> Option<u64>
+        ensures untouched { IfSome result (seen_in view.now IsUntouched base epoch self.complete) }
+        ensures form { IsHeld view.now.held.now }
+        ensures book { IsBook view.now.book.now }
     {
-        let to = match book.least_lo(epoch) {
+        let to = match view.book.least_lo(epoch) {
             Some(lo) => lo.min(self.complete),
             None => self.complete,
         };
-        let from = hot.last_alive(book, to)?.number();
-        if base < from && !hot.opens_below(book, epoch, from) {
+        let from = view.last_alive(to)?.number();
+        if base < from && !view.opens_below(epoch, from) {
             Some(from)
         } else {
             None
@@ -136,23 +131,23 @@ impl Points {
     }
 
     /// Whether no alive record is above the complete point. It is asked only for a record that may link there.
-    pub(crate) fn is_at_end(self, hot: &HotLog, book: &EpochBook, may_link: bool, back: u64) -> bool
-        ensures { IsTrue result → HasNoneAbove book.now hot.now self.complete }
+    pub(crate) fn is_at_end(self, view: &View, may_link: bool, back: u64) -> bool
+        ensures { IsTrue result → seen_in view.now HasNoneAbove self.complete }
     {
-        may_link && back == self.complete && hot.has_none_above(book, self.complete)
+        may_link && back == self.complete && view.has_none_above(self.complete)
     }
 
     /// The points after a record of this number has joined at the top of a straight chain. Where no alive record was above that, the
     /// chain ends at the record.
-    pub(crate) fn joined(self, hot: &HotLog, book: &EpochBook, number: u64, at_end: bool) -> Points
+    pub(crate) fn joined(self, view: &View, number: u64, at_end: bool) -> Points
         requires small { self.complete ≤ max_number }
-        requires anchor { self.anchor ≤ least book.now.points }
-        ensures { (base : ℕ) → (j : JoinsOnTop book.now hot.now base number self) → (IsTrue at_end → HasNoneAbove book.now j.earlier self.complete) → HasPoints book.now hot.now base result }
+        requires anchor { self.anchor ≤ least view.now.book.now.points }
+        ensures { (base : ℕ) → (j : seen_in view.now JoinsOnTop base number self) → (IsTrue at_end → HasNoneAbove view.now.book.now j.earlier self.complete) → seen_in view.now HasPoints base result }
     {
         if at_end {
-            self.on_end(book, number)
+            self.on_end(view.book, number)
         } else {
-            self.on_top(hot, book, number)
+            self.on_top(view, number)
         }
     }
 
@@ -174,18 +169,18 @@ impl Points {
     }
 
     /// The points after a record of this number has joined at the top of a straight chain. The chain is walked from the record on.
-    fn on_top(self, hot: &HotLog, book: &EpochBook, number: u64) -> Points
+    fn on_top(self, view: &View, number: u64) -> Points
         requires small { self.complete ≤ max_number }
-        requires anchor { self.anchor ≤ least book.now.points }
-        ensures { (base : ℕ) → JoinsOnTop book.now hot.now base number self → HasPoints book.now hot.now base result }
+        requires anchor { self.anchor ≤ least view.now.book.now.points }
+        ensures { (base : ℕ) → seen_in view.now JoinsOnTop base number self → seen_in view.now HasPoints base result }
     {
-        if hot.has_between(book, self.complete, number) {
-            return self.onward(hot, book);
+        if view.has_between(self.complete, number) {
+            return self.onward(view);
         }
-        let Some(complete) = hot.straight_end(book, number) else {
-            return self.onward(hot, book);
+        let Some(complete) = view.straight_end(number) else {
+            return self.onward(view);
         };
-        let anchor = self.anchor_on(hot, book, number, complete);
+        let anchor = self.anchor_on(view, number, complete);
         Points {
             complete,
             anchor,
@@ -194,18 +189,18 @@ impl Points {
     }
 
     /// The anchor where the chain goes on from a number to its end.
-    fn anchor_on(self, hot: &HotLog, book: &EpochBook, from: u64, end: u64) -> u64
-        requires { IsStraightEnd book.now hot.now from end }
-        ensures { AnchorsOn book.now hot.now from self.anchor result }
+    fn anchor_on(self, view: &View, from: u64, end: u64) -> u64
+        requires { seen_in view.now IsStraightEnd from end }
+        ensures { seen_in view.now AnchorsOn from self.anchor result }
     {
-        let min = book.min_point();
+        let min = view.book.min_point();
         if min < from {
             return self.anchor;
         }
         if end <= min {
             return end;
         }
-        hot.linked_to(book, from, min)
+        view.linked_to(from, min)
     }
 
     /// Whether a record that joins the held ones may link a number: it is alive above the base point, and behind no gap.

@@ -6,7 +6,7 @@ ghost use Rattle.segment_core.specs.Points.{HasPoints};
 
 use crate::points::Points;
 use epoch_book::EpochBook;
-use hot_log::{HotLog, Put, PutFault};
+use hot_log::{HotLog, Put, PutFault, View};
 use redo_core::{Record, Refused};
 
 /// Holds one more record, and brings the points to where it links them. Each error hands the record back and leaves all as it was.
@@ -26,15 +26,16 @@ pub(crate) fn put_record(
 {
     let (number, back) = (redo.number(), redo.back());
     let may_link = points.may_link(book, base, &redo);
-    let at_end = points.is_at_end(hot, book, may_link, back);
+    let at_end = points.is_at_end(&View { book, held: hot }, may_link, back);
     match hot.put(redo)? {
         Put::Known => Ok(Put::Known),
         Put::New => {
             if may_link {
+                let view = View { book, held: hot };
                 *points = if points.straight && back == points.complete {
-                    points.joined(hot, book, number, at_end)
+                    points.joined(&view, number, at_end)
                 } else {
-                    Points::anew(hot, book, base)
+                    Points::anew(&view, base)
                 };
             }
             Ok(Put::New)

@@ -7,7 +7,7 @@ use crate::due::Due;
 use crate::points::Points;
 use crate::segment::Segment;
 use epoch_book::EpochBook;
-use hot_log::HotLog;
+use hot_log::{HotLog, View};
 use page_base::BaseStore;
 use redo_core::{Record, SharedPage};
 use std::alloc::{AllocError, Global};
@@ -31,7 +31,11 @@ impl Segment {
     {
         let mut hot = HotLog::new(alloc);
         hold_all(&mut hot, records)?;
-        let points = Points::anew(&hot, &book, 0);
+        let view = View {
+            book: &book,
+            held: &hot,
+        };
+        let points = Points::anew(&view, 0);
         let mut segment = Segment {
             alloc,
             book,

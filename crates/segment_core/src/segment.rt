@@ -33,7 +33,7 @@ use crate::due::Due;
 use crate::points::Points;
 use crate::putting::put_record;
 use epoch_book::{BookRefusal, EpochBook, Learnt, Standing};
-use hot_log::{HotLog, Put, PutFault, is_kept};
+use hot_log::{HotLog, Put, PutFault, View, is_kept};
 use page_base::BaseStore;
 use redo_core::{Advance, Cut, Fact, Key, Page, Record, Refused, Roster, apply};
 use std::alloc::{AllocError, Global};
@@ -82,7 +82,11 @@ impl Segment {
     {
         let book = EpochBook::new(alloc, roster)?;
         let hot = HotLog::new(alloc);
-        let points = Points::anew(&hot, &book, 0);
+        let view = View {
+            book: &book,
+            held: &hot,
+        };
+        let points = Points::anew(&view, 0);
         Ok(Segment {
             alloc,
             book,
@@ -291,9 +295,9 @@ impl Segment {
         let epoch = self.book.complete_epoch();
         let learnt = self.book.learn_cut(cut);
         if self.book.complete_epoch() != epoch {
-            self.points = self
-                .points
-                .after_opening(&self.hot, &self.book, self.base, epoch);
+            let (book, held) = (&self.book, &self.hot);
+            let view = View { book, held };
+            self.points = self.points.after_opening(&view, self.base, epoch);
             self.due.add_opened(&self.book, epoch);
         }
         book_answer(Fact::Cut(cut), learnt)
@@ -303,7 +307,9 @@ impl Segment {
         ensures { TakesExactly self.old (OfAdvance advance) result self.new }
     {
         let learnt = self.book.learn_advance(advance);
-        self.points = self.points.with_anchor(&self.hot, &self.book, self.base);
+        let (book, held) = (&self.book, &self.hot);
+        let view = View { book, held };
+        self.points = self.points.with_anchor(&view, self.base);
         book_answer(Fact::Advance(advance), learnt)
     }
 

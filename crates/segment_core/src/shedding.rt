@@ -21,7 +21,7 @@ use crate::answers::ReadFault;
 use crate::fold_plan::{CommitFault, FoldPlan, Folded};
 use crate::segment::Segment;
 use epoch_book::EpochBook;
-use hot_log::HotLog;
+use hot_log::{HotLog, View};
 use page_base::{BaseImage, BaseStore};
 use redo_core::{Record, Refused};
 use std::alloc::{AllocError, Global};
@@ -108,7 +108,9 @@ impl Segment {
         ensures discards { DiscardsJust self.old self.new }
     {
         let anchor = self.points.anchor;
-        self.points = self.points.over(&self.hot, &self.book, self.base, anchor);
+        let (book, held) = (&self.book, &self.hot);
+        let view = View { book, held };
+        self.points = self.points.over(&view, self.base, anchor);
         self.base = anchor;
         self.due
             .discard(&mut self.hot, &self.book, &self.store, anchor);

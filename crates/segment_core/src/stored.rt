@@ -13,6 +13,7 @@ ghost use Rattle.state_laws.specs.HasMeaning.{IsKeptBy};
 ghost use Rattle.state_laws.specs.State.{version_of, image_of};
 
 use crate::segment::Segment;
+use hot_log::View;
 use page_base::BaseImage;
 use redo_core::{Advance, Cut, Key, Page, Record};
 use std::alloc::{AllocError, Global};
@@ -42,7 +43,8 @@ impl Segment {
         ensures keys { IfOk result (λ v. ListsKeysOf (IsKeptBy self.now point) v.items) }
         ensures rising { IsRising RecordBefore self.now.held }
     {
-        self.hot.kept_keys(self.alloc, &self.book, point)
+        let (book, held) = (&self.book, &self.hot);
+        View { book, held }.kept_keys(self.alloc, point)
     }
 
     /// The truncations known, rising by epoch.
@@ -137,6 +139,7 @@ impl Segment {
     pub fn records_of(&self, page: u16, from: u64, to: u64) -> Result<Vec<&Record>, AllocError>
         ensures { IfOk result (λ v. Lists BeforeByNumber (IsHeldOf self.now.book self.now.held page from to) (map (λ x. x.now) v.items)) }
     {
-        self.hot.records_of(self.alloc, &self.book, page, from, to)
+        let (book, held) = (&self.book, &self.hot);
+        View { book, held }.records_of(self.alloc, page, from, to)
     }
 }

@@ -11,6 +11,7 @@ ghost use Rattle.segment_core.specs.Form.{IsSegment};
 ghost use Rattle.segment_core.specs.BlockChain.{BreaksAt, IsLinkedOf, IsLinkedUpTo, IsChained};
 
 use crate::segment::Segment;
+use hot_log::View;
 use redo_core::Record;
 use std::alloc::AllocError;
 
@@ -22,8 +23,8 @@ impl Segment {
         ensures form { IsSegment self.now }
     {
         let version = self.store.version(page);
-        self.hot
-            .records_anew(self.alloc, &self.book, page, version, point)
+        let (book, held) = (&self.book, &self.hot);
+        View { book, held }.records_anew(self.alloc, page, version, point)
     }
 
     /// The number of the record at which the walk down the page's block chain breaks, where these records are applied up to the point.
@@ -86,15 +87,14 @@ impl Segment {
     fn last_linked_of(&self, page: u16, point: u64) -> Option<&Record>
         ensures { IsGreatestRecord (IsLinkedOf self.now page point) (option_copied result) }
     {
+        let (book, held) = (&self.book, &self.hot);
+        let view = View { book, held };
         if point <= self.sure_point() {
-            return self.hot.last_of(&self.book, page, 0, point);
+            return view.last_of(page, 0, point);
         }
-        match self
-            .hot
-            .greatest_linked_of(&self.book, page, self.base, point)
-        {
+        match view.greatest_linked_of(page, self.base, point) {
             Some(redo) => Some(redo),
-            None => self.hot.last_of(&self.book, page, 0, self.base.min(point)),
+            None => view.last_of(page, 0, self.base.min(point)),
         }
     }
 
@@ -102,12 +102,12 @@ impl Segment {
     fn linked_of(&self, page: u16, number: u64) -> Option<&Record>
         ensures { IsOnlyRecord (λ r. IsLinkedOf self.now page number r × (r.number ≡ number)) (option_copied result) }
     {
+        let (book, held) = (&self.book, &self.hot);
+        let view = View { book, held };
         if number <= self.sure_point() {
-            return self
-                .hot
-                .next_of(&self.book, page, number.saturating_sub(1), number);
+            return view.next_of(page, number.saturating_sub(1), number);
         }
-        let redo = self.hot.linked_record(&self.book, self.base, number)?;
+        let redo = view.linked_record(self.base, number)?;
         if redo.page() == page {
             Some(redo)
         } else {

@@ -3,18 +3,18 @@ use Rattle.segment_core.proofs.Opening.{opening, opened, base_bound, start_small
 use Rattle.segment_core.proofs.points.Points.after_opening.Goals as goal
 
 pub anew-requires : goal.anew-requires
-anew-requires c = base_bound c.args.book.now c.args.hot.now c.args.base c.args.epoch c.args.self c.requires
+anew-requires c = base_bound c.args.view.now.book.now c.args.view.now.held.now c.args.base c.args.epoch c.args.self c.requires
 
 pub anew-requires-in_default : goal.anew-requires-in_default
-anew-requires-in_default c = base_bound c.args.book.now c.args.hot.now c.args.base c.args.epoch c.args.self c.requires
+anew-requires-in_default c = base_bound c.args.view.now.book.now c.args.view.now.held.now c.args.base c.args.epoch c.args.self c.requires
 
 pub onward-requires-clause-complete : goal.onward-requires-clause-complete
 onward-requires-clause-complete c =
-    start_small c.args.book.now c.args.hot.now c.args.base c.args.epoch c.args.self.complete c.in-Some.from c.in-Some.ensures.form c.in-Some.ensures.untouched
+    start_small c.args.view.now.book.now c.args.view.now.held.now c.args.base c.args.epoch c.args.self.complete c.in-Some.from c.in-Some.ensures.form c.in-Some.ensures.untouched
 
 pub onward-requires-clause-anchor : goal.onward-requires-clause-anchor
 onward-requires-clause-anchor c =
-    start_bound c.args.book.now c.args.hot.now c.args.base c.args.epoch c.min.result c.in-Some.from c.args.self c.requires c.min.ensures
+    start_bound c.args.view.now.book.now c.args.view.now.held.now c.args.base c.args.epoch c.min.result c.in-Some.from c.args.self c.requires c.min.ensures
 
 flag : (b : Bool) → not b ≡ false → b ≡ true
 flag true h = refl
@@ -22,10 +22,10 @@ flag false h = cc
 
 pub returns : goal.returns
 returns c =
-    let held = c.args.hot.now in
+    let held = c.args.view.now.held.now in
     let n = c.in-Some.from in
     let p = c.args.self in
-    opened c.requires.earlier c.args.book.now held c.args.base n c.min.result p c.onward.result
-    (opening c.args.book.now held c.args.base c.args.epoch n p c.in-Some.ensures.form c.in-Some.ensures.book c.requires (flag p.straight c.if-not-self.false)
+    opened c.requires.earlier c.args.view.now.book.now held c.args.base n c.min.result p c.onward.result
+    (opening c.args.view.now.book.now held c.args.base c.args.epoch n p c.in-Some.ensures.form c.in-Some.ensures.book c.requires (flag p.straight c.if-not-self.false)
     c.in-Some.ensures.untouched)
     c.min.ensures c.onward.ensures

@@ -4,8 +4,8 @@ use Rattle.segment_core.proofs.points.Points.onward.Goals as goal
 
 pub returns : goal.returns
 returns c =
-    let book = c.args.book.now in
-    let held = c.args.hot.now in
+    let book = c.args.view.now.book.now in
+    let held = c.args.view.now.held.now in
     let top = c.linked_to-complete.ensures in
     let to = c.linked_to.ensures in record {
       complete = top_of book held c.args.self.complete c.linked_to-complete.result top.form c.requires.complete top.linked top.greatest;

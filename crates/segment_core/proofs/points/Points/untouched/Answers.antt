@@ -13,7 +13,7 @@ bound_of to at lo complete e is = grind arith
 
 pub returns-then-not-opens_below-clause-untouched : goal.returns-then-not-opens_below-clause-untouched
 returns-then-not-opens_below-clause-untouched c =
-    let b = c.args.book.now in
+    let b = c.args.view.now.book.now in
     let top = c.args.self.complete in
     let to = c.match-least_lo.to in
     let n = c.number-from.result in

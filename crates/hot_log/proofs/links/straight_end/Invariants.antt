@@ -1,9 +1,0 @@
-use Rattle.std.proofs.Common.{◌-◌}
-use Rattle.hot_log.proofs.Ends.{Climbed}
-use Rattle.hot_log.proofs.links.straight_end.Given as goal
-
-abbrev pub invariant-loop-key : goal.invariant-loop-key
-invariant-loop-key l = Climbed l.book l.log l.from l.top
-
-abbrev pub decreases-loop-key : goal.decreases-loop-key
-decreases-loop-key l = 281474976710656 - l.top

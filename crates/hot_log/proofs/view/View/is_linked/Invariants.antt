@@ -1,0 +1,10 @@
+use Rattle.std.proofs.Common.{◌↔◌}
+use Rattle.hot_log.specs.Alive.{IsLinkedFrom}
+use Rattle.hot_log.proofs.view.View.is_linked.Given as goal
+
+-- the number is linked where the one that the walk has come to is
+abbrev pub invariant-loop-at : goal.invariant-loop-at
+invariant-loop-at l = IsLinkedFrom l.self.book.now l.self.held.now l.from l.number ↔ IsLinkedFrom l.self.book.now l.self.held.now l.from l.at
+
+abbrev pub decreases-loop-at : goal.decreases-loop-at
+decreases-loop-at l = l.at

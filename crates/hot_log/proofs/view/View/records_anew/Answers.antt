@@ -1,0 +1,27 @@
+use Rattle.std.proofs.Common.{◌<◌, ◌≤◌, inl, ⊎_elim, ap, subst, arith, List, map, Bor}
+use Rattle.redo_core.specs.Data.{RecordData}
+use Rattle.redo_core.specs.Keys.{key_in}
+use Rattle.hot_log.specs.Alive.{IsHeldOf, IsAliveBetween}
+use Rattle.hot_log.specs.Anew.{ListsAnew}
+use Rattle.hot_log.proofs.Pages.{if_ok, number_is, none_between}
+use Rattle.hot_log.proofs.Descending.{anew_as}
+use Rattle.hot_log.proofs.view.View.records_anew.Goals as goal
+
+pub returns-then-above-to : goal.returns-then-above-to
+returns-then-above-to c =
+    inl (none_between c.args.self.now.book.now c.args.self.now.held.now c.args.page c.args.from c.args.to c.epoch_above.result c.epoch_above-2.result (map (λ x. x.now) c.new.result.items)
+    c.epoch_above.ensures.parts c.epoch_above-2.ensures.parts
+    (λ le lt. ⊎_elim
+    (λ (u : c.epoch_above-2.result < c.epoch_above.result). omega arith)
+    (λ (u : (c.epoch_above.result ≤ c.epoch_above-2.result) × (c.args.to ≤ c.args.from)). omega (arith, u.1))
+    c.then-above-to.either)
+    (ap (λ (l : List (Bor RecordData)). map (λ x. x.now) l) c.new.ensures.items))
+
+pub returns : goal.returns
+returns c =
+    let b = c.args.self.now.book.now in let held = c.held.inside.records in
+    if_ok c.alive_anew.result _ _
+    (λ v h. subst (λ (l : List RecordData). ListsAnew (IsHeldOf b l c.args.page c.args.from c.args.to) (map (λ x. x.now) v.items)) c.held.view_is
+    (anew_as (IsAliveBetween b held c.args.page (key_in c.epoch_above.result c.args.from) (key_in c.epoch_above-2.result c.args.to)) (IsHeldOf b held c.args.page c.args.from c.args.to) (map (λ x. x.now) v.items)
+    (number_is b held c.args.page c.args.from c.args.to c.epoch_above.result c.epoch_above-2.result c.epoch_above.ensures.parts c.epoch_above-2.ensures.parts) h))
+    c.alive_anew.ensures

@@ -1,0 +1,23 @@
+use Rattle.std.proofs.Common.{◌<◌, ◌≤◌, ⊎_elim, ap, subst, arith, List, map, Bor}
+use Rattle.redo_core.specs.Data.{RecordData}
+use Rattle.redo_core.specs.Order.{Lists, BeforeByNumber}
+use Rattle.hot_log.specs.Alive.{IsHeldOf}
+use Rattle.hot_log.proofs.Pages.{if_ok, by_number, none_between}
+use Rattle.hot_log.proofs.view.View.records_of.Goals as goal
+
+pub returns-then-above-to : goal.returns-then-above-to
+returns-then-above-to c =
+    none_between c.args.self.now.book.now c.args.self.now.held.now c.args.page c.args.from c.args.to c.epoch_above.result c.epoch_above-2.result (map (λ x. x.now) c.new.result.items)
+    c.epoch_above.ensures.parts c.epoch_above-2.ensures.parts
+    (λ le lt. ⊎_elim
+    (λ (u : c.epoch_above-2.result < c.epoch_above.result). omega arith)
+    (λ (u : (c.epoch_above.result ≤ c.epoch_above-2.result) × (c.args.to ≤ c.args.from)). omega (arith, u.1))
+    c.then-above-to.either)
+    (ap (λ (l : List (Bor RecordData)). map (λ x. x.now) l) c.new.ensures.items)
+
+pub returns : goal.returns
+returns c =
+    if_ok c.alive_between.result _ _
+    (λ v h. subst (λ (l : List RecordData). Lists BeforeByNumber (IsHeldOf c.args.self.now.book.now l c.args.page c.args.from c.args.to) (map (λ x. x.now) v.items)) c.held.view_is
+    (by_number c.args.self.now.book.now c.held.inside.records c.args.page c.args.from c.args.to c.epoch_above.result c.epoch_above-2.result (map (λ x. x.now) v.items) c.epoch_above.ensures.parts c.epoch_above-2.ensures.parts h))
+    c.alive_between.ensures
