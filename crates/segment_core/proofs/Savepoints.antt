@@ -1,9 +1,8 @@
 -- What a savepoint brings a state back to after a step.
-use Rattle.std.proofs.Common.{◌≡◌, ◌⊎◌, ◌↔◌, inl, inr, ⊎_elim, List, [], ◌∷◌, ◌++◌, refl, sym, ap, ◌∙◌, subst, Bool, true, false, not, ◌&&◌, eqb}
+use Rattle.std.proofs.Common.{◌≡◌, ◌⊎◌, ◌↔◌, inl, inr, ⊎_elim, List, [], ◌∷◌, ◌++◌, refl, sym, ap, ◌∙◌, subst, Bool, true, not, arith}
 use Rattle.std.specs.Borrow.{GName}
 use Rattle.std.specs.List.{Contains, filter}
-use Rattle.std.proofs.lemmas.Bool.{eq-eqb}
-use Rattle.std.proofs.lemmas.Bool.Decides.{eqb_tells}
+use Rattle.std.proofs.lemmas.Bool.Decides.{nat_tests}
 use Rattle.std.proofs.lemmas.List.Elements.{Contains-append_left, Contains-append_right, Contains-append_cases}
 use Rattle.redo_core.specs.Data.{RecordData}
 use Rattle.redo_core.specs.Keys.{key_of, key_in}
@@ -23,20 +22,14 @@ use Rattle.segment_core.proofs.Keys.{one_of_key}
 -- ---- the records that have none of some keys
 spared_by : (key : Key) (r : RecordData) → not (has_key key r) ≡ true → key ≡ key_of r → ⊥
 spared_by key r spared same =
-    let e : eqb key.epoch r.epoch ≡ true = eq-eqb key.epoch r.epoch (ap (λ (k : Key). k.epoch) same) in
-    let n : eqb key.number r.number ≡ true = eq-eqb key.number r.number (ap (λ (k : Key). k.number) same) in
-    absurd (let no : not (true && true) ≡ true = subst (λ b. not (true && b) ≡ true) n (subst (λ b. not (b && eqb key.number r.number) ≡ true) e spared) in cc)
+    let epoch : key.epoch ≡ r.epoch = ap (λ (k : Key). k.epoch) same in let number : key.number ≡ r.number = ap (λ (k : Key). k.number) same in
+    grind (arith, nat_tests)
 
 is_spared : (key : Key) (r : RecordData) → (key ≡ key_of r → ⊥) → not (has_key key r) ≡ true
 is_spared key r other =
-    ⊎_elim
-    (λ (e : (eqb key.epoch r.epoch ≡ true) × (key.epoch ≡ r.epoch)). ⊎_elim
-    (λ (n : (eqb key.number r.number ≡ true) × (key.number ≡ r.number)).
-    absurd (other (ap (λ m. key_in m key.number) e.1 ∙ ap (λ m. key_in r.epoch m) n.1)))
-    (λ n. ap (λ b. not (eqb key.epoch r.epoch && b)) n.0 ∙ ap (λ b. not (b && false)) e.0)
-    (eqb_tells key.number r.number))
-    (λ e. ap (λ b. not (b && eqb key.number r.number)) e.0)
-    (eqb_tells key.epoch r.epoch)
+    let apart : key.epoch ≡ r.epoch → key.number ≡ r.number → ⊥
+    = λ e n. other (ap (λ m. key_in m key.number) e ∙ ap (λ m. key_in r.epoch m) n) in
+    grind (arith, nat_tests)
 
 without_rising : (keys : List Key) (held : List RecordData) → IsRising RecordBefore held → IsRising RecordBefore (without keys held)
 unfolding without
@@ -52,7 +45,7 @@ without_members (key ∷ keys) held r =
     let test : RecordData → Bool = λ x. not (has_key key x) in let rest = without_members keys (filter test held) r in (
       λ h. let left = rest.0 h in let was = filtered test held r left.0 in (
         was.0,
-        λ has. ⊎_elim (λ (e : key ≡ key_of r). spared_by key r was.1 e) (λ (z : Contains keys (key_of r)). left.1 z) (which key keys (key_of r) has),
+        λ has. ⊎_elim (spared_by key r was.1) left.1 (which key keys (key_of r) has),
       ),
       λ h. rest.1 (
         passed test held r (is_spared key r (λ e. h.1 (subst (λ k. Contains (k ∷ keys) (key_of r)) (sym e) (here (key_of r) keys)))) h.0,

@@ -1,12 +1,7 @@
 -- How a segment takes in images, and holds a record that is not compared.
-use Rattle.std.specs.Prelude.{◌≡◌, ℕ, ◌⊎◌, List, max, Bool, true, false, Result, Ok, Err, IsErr}
+use Rattle.std.specs.Prelude.{◌≡◌, ℕ, ◌⊎◌, List, max}
 use Rattle.std.specs.List.{Contains}
 use Rattle.redo_core.specs.Data.{RecordData}
-use Rattle.redo_core.specs.declared.refusal.Refused.{Refused}
-use Rattle.hot_log.specs.declared.log.Put.{Put}
-use Rattle.hot_log.specs.declared.log.Put.TheVariants as put
-use Rattle.hot_log.specs.declared.log.PutFault.{PutFault}
-use Rattle.hot_log.specs.declared.log.PutFault.TheVariants as fault
 use Rattle.page_base.specs.Merging.{Merges}
 use Rattle.state_laws.specs.State.{State, StoredImage, SameBase}
 use Rattle.segment_core.specs.Refusing.{HoldsOther}
@@ -18,17 +13,6 @@ pub record HoldsRecord (old : State) (r : RecordData) (new : State) : Type 0 whe
   pub before : (x : RecordData) → Contains old.held x → Contains new.held x
   pub more : (x : RecordData) → Contains new.held x → Contains old.held x ⊎ (x ≡ r)
   pub held : Contains new.held r ⊎ HoldsOther old r
-
--- another record under the key leaves one out, and nothing else but want of memory does
-abbrev pub IsLeftOut : {E : Type 0} → PutFault → Result Bool E → Type 0
-IsLeftOut fault.OtherRecord result = result ≡ Ok false
-IsLeftOut fault.Memory result = IsErr result
-
--- whether the record that was put came in
-abbrev pub CameIn : {E : Type 0} → Result Put (Refused RecordData PutFault) → Result Bool E → Type 0
-CameIn (Ok put.New) result = result ≡ Ok true
-CameIn (Ok put.Known) result = result ≡ Ok false
-CameIn (Err e) result = IsLeftOut e.fault result
 
 -- the base point is raised to the base, and all else stays
 pub record RaisesBase (old : State) (base : ℕ) (new : State) : Type 0 where

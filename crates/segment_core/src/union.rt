@@ -1,16 +1,13 @@
 //! A segment that is brought into a union: facts are taken and records held in place, and a refusal takes them all back.
-ghost use Rattle.std.specs.Prelude.{◌≡◌, ◌≤◌, false, true, IfOk, OnOk, OnErr};
+ghost use Rattle.std.specs.Prelude.{◌≡◌, ◌≤◌, OnOk, OnErr};
 ghost use Rattle.redo_core.specs.declared.facts.Fact.TheVariants.{Record as OfRecord};
-ghost use Rattle.hot_log.specs.Putting.{Puts};
-ghost use Rattle.hot_log.specs.declared.log.Put.TheVariants.{New as NewOf};
 ghost use Rattle.state_laws.specs.State.{min_of};
 ghost use Rattle.segment_core.specs.Answering.{FaultAlone};
 ghost use Rattle.segment_core.specs.Exactly.{TakesNoted};
 ghost use Rattle.segment_core.specs.Savepoint.{CanRollBack, IsSavepointOf};
-ghost use Rattle.segment_core.specs.Uniting.{HoldsRecord, CameIn, Unites};
+ghost use Rattle.segment_core.specs.Uniting.{HoldsRecord, Unites};
 
 use crate::answers::{Refusal, Taken};
-use crate::putting::put_record;
 use crate::savepoint::Savepoint;
 use crate::segment::Segment;
 use hot_log::{Put, PutFault};
@@ -92,17 +89,18 @@ impl<'a> Union<'a> {
     {
         self.segment.opens_form();
         self.saved.note(redo.key())?;
-        let came = self.segment.hold(redo);
-        self.segment.opens_form();
-        match came {
-            Ok(true) => Ok(()),
-            Ok(false) => {
+        match self.segment.put(redo) {
+            Ok(Put::New) => Ok(()),
+            Ok(Put::Known) => {
                 self.saved.forget_last();
                 Ok(())
             }
-            Err(failed) => {
+            Err(refused) => {
                 self.saved.forget_last();
-                Err(failed)
+                match refused.fault {
+                    PutFault::OtherRecord => Ok(()),
+                    PutFault::Memory => Err(AllocError),
+                }
             }
         }
     }
@@ -136,34 +134,6 @@ impl Drop for Union<'_> {
     {
         let Union { segment, saved } = self;
         segment.roll_back(saved);
-    }
-}
-
-impl Segment {
-    /// Holds a record where none is held under its key, and says whether it came in. Its only error is want of memory.
-    fn hold(&mut self, redo: Record) -> Result<bool, AllocError>
-        ensures holds { OnOk result (HoldsRecord self.old redo self.new) }
-        ensures came { IfOk result (λ came. came ≡ true → Puts self.old.held redo self.new.held NewOf) }
-        ensures stays { IfOk result (λ came. came ≡ false → self.new ≡ self.old) }
-        ensures unchanged { OnErr result (self.new ≡ self.old) }
-    {
-        self.due.add_held(&redo);
-        let (points, hot) = (&mut self.points, &mut self.hot);
-        came_in(put_record(points, hot, &self.book, self.base, redo))
-    }
-}
-
-/// Whether a record came in; another record that stands under its key leaves it out.
-fn came_in(answer: Result<Put, Refused<Record, PutFault>>) -> Result<bool, AllocError>
-    ensures { CameIn answer result }
-{
-    match answer {
-        Ok(Put::New) => Ok(true),
-        Ok(Put::Known) => Ok(false),
-        Err(refused) => match refused.fault {
-            PutFault::OtherRecord => Ok(false),
-            PutFault::Memory => Err(AllocError),
-        },
     }
 }
 

@@ -11,5 +11,6 @@ returns-in-Cut-clause-takes c =
 
 pub returns-in-Advance-clause-takes : goal.returns-in-Advance-clause-takes
 returns-in-Advance-clause-takes c =
-    subst (λ (f : Fact). TakesNoted (reached c.args.self.now) f c.taken_or_fault-in-Advance.result c.take_advance.new.self) (sym c.in-Advance.is)
-    (inr (c.take_advance.result, c.take_advance.ensures, c.taken_or_fault-in-Advance.ensures))
+    let told = c.taken_or_fault-in-Advance in
+    subst (λ (f : Fact). TakesNoted (reached c.args.self.now) f told.result c.take_advance.new.self) (sym c.in-Advance.is)
+    (inr (c.take_advance.result, c.take_advance.ensures, told.ensures))
