@@ -1,6 +1,6 @@
 ghost use Rattle.std.specs.Prelude.{◌≡◌, ◌⊎◌, map, IfOk, OnOk, IfErr, OnErr};
 ghost use Rattle.redo_core.specs.Book.{roster_of};
-ghost use Rattle.segment_core.specs.Savepoint.{RollsBackAs};
+ghost use Rattle.segment_core.specs.Union.{began, reached};
 ghost use Rattle.segment_core.specs.declared.answers.Refusal.TheVariants.{Memory as MemoryOf};
 ghost use Rattle.segment_told.specs.Told.{facts_told};
 ghost use Rattle.segment_told.specs.InOrder.{TakesEach, RefusesOne};
@@ -12,7 +12,7 @@ use crate::answering::{Shown, uncovered};
 use messages::{Delta, PageImage, Summary};
 use page_base::BaseImage;
 use redo_core::Record;
-use segment_core::{Refusal, Savepoint, Segment};
+use segment_core::{Refusal, Segment, Union};
 use segment_told::take_told;
 use std::alloc::{AllocError, Global};
 use thiserror::Error;
@@ -61,56 +61,34 @@ pub fn absorb(segment: &mut Segment, summary: &Summary, delta: &Delta) -> Result
     }
 }
 
-/// Takes what a delta of the same roster tells and its pages, whatever summary it was made for.
+/// Takes what a delta of the same roster tells and its pages, whatever summary it was made for. A refusal leaves the segment as it was:
+/// it drops the union, which rolls it back.
 fn take_delta(segment: &mut Segment, delta: &Delta) -> Result<(), Refusal>
     requires { roster_of segment.old.book ≡ roster_of delta.now.book }
     ensures absorbs { OnOk result (AbsorbsInto segment.old delta.now segment.new) }
     ensures refused { IfErr result (λ e. (e ≡ MemoryOf) ⊎ RefusesOne segment.old (facts_told delta.now.book delta.now.records) e) }
     ensures unchanged { OnErr result (segment.new ≡ segment.old) }
 {
-    let Ok(mut saved) = segment.savepoint() else {
-        return Err(Refusal::Memory);
-    };
-    match take_in(segment, &mut saved, delta) {
-        Ok(()) => Ok(()),
-        Err(why) => {
-            segment.roll_back(saved);
-            Err(why)
-        }
-    }
-}
-
-/// Takes each fact that a delta of the same roster tells, and its pages.
-fn take_in(segment: &mut Segment, saved: &mut Savepoint, delta: &Delta) -> Result<(), Refusal>
-    requires { roster_of segment.old.book ≡ roster_of delta.now.book }
-    ensures absorbs { OnOk result (AbsorbsInto segment.old delta.now segment.new) }
-    ensures refused { IfErr result (λ e. (e ≡ MemoryOf) ⊎ RefusesOne segment.old (facts_told delta.now.book delta.now.records) e) }
-    ensures rolls_back { OnErr result (RollsBackAs saved.old segment.old saved.new segment.new) }
-{
     segment.opens_form();
     let base = delta.base();
-    let Ok(images) = images_at(segment.allocator(), base, delta.pages()) else {
-        return Err(Refusal::Memory);
-    };
-    if let Err(why) = take_facts(segment, saved, delta) {
+    let images = images_at(segment.allocator(), base, delta.pages())?;
+    let mut saved = segment.savepoint()?;
+    let mut union = Union::begin(segment, &mut saved);
+    if let Err(why) = take_facts(&mut union, delta) {
         return Err(why);
     }
-    match segment.unite(base, base, images) {
-        Ok(()) => Ok(()),
-        Err(_) => Err(Refusal::Memory),
-    }
+    union.unite(base, base, images)?;
+    Ok(())
 }
 
 /// Takes each fact that a delta tells.
-fn take_facts(segment: &mut Segment, saved: &mut Savepoint, delta: &Delta) -> Result<(), Refusal>
-    ensures takes { OnOk result (TakesEach segment.old (facts_told delta.now.book delta.now.records) segment.new) }
-    ensures refused { IfErr result (λ e. (e ≡ MemoryOf) ⊎ RefusesOne segment.old (facts_told delta.now.book delta.now.records) e) }
-    ensures rolls_back { RollsBackAs saved.old segment.old saved.new segment.new }
+fn take_facts(union: &mut Union<'_>, delta: &Delta) -> Result<(), Refusal>
+    ensures takes { OnOk result (TakesEach (reached union.old) (facts_told delta.now.book delta.now.records) (reached union.new)) }
+    ensures refused { IfErr result (λ e. (e ≡ MemoryOf) ⊎ RefusesOne (reached union.old) (facts_told delta.now.book delta.now.records) e) }
+    ensures began { began union.new ≡ began union.old }
 {
-    let Ok(records) = each_of(segment.allocator(), delta.records()) else {
-        return Err(Refusal::Memory);
-    };
-    take_told(segment, saved, &delta.book().lend(), &records)
+    let records = each_of(union.segment().allocator(), delta.records())?;
+    take_told(union, &delta.book().lend(), &records)
 }
 
 /// References to each of the records.

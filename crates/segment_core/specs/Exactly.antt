@@ -1,9 +1,10 @@
 -- All that a take does, over any facts and for the facts that the segment means.
-use Rattle.std.specs.Prelude.{◌≡◌, ◌⊎◌, Result, OnOk, OnErr, IfOk, IfErr, IsErrAnd}
+use Rattle.std.specs.Prelude.{◌≡◌, ◌⊎◌, Result, Err, OnOk, OnErr, IfOk, IfErr, IsErrAnd}
 use Rattle.redo_core.specs.declared.facts.Fact.{Fact}
 use Rattle.redo_core.specs.declared.refusal.Refused.{Refused}
 use Rattle.state_laws.specs.State.{State}
 use Rattle.state_laws.specs.Promises.{TakesFact}
+use Rattle.segment_core.specs.Answering.{FaultAlone}
 use Rattle.segment_core.specs.Taking.{TellsKnown, Stores, IsNew}
 use Rattle.segment_core.specs.Refusing.{Refuses}
 use Rattle.segment_core.specs.declared.answers.Taken.{Taken}
@@ -21,3 +22,9 @@ pub record TakesExactly (old : State) (fact : Fact) (result : Result Taken (Refu
   pub memory : IfErr result (λ e. e.fault ≡ Memory → IsNew old fact)
   pub back : IfErr result (λ e. e.value ≡ fact)
   pub unchanged : OnErr result (new ≡ old)
+
+-- What a take in a union does: a take, of which the fact is dropped, or nothing, where memory is wanting for the note.
+abbrev pub TakesNoted : State → Fact → Result Taken Refusal → State → Type 0
+TakesNoted old fact result new =
+    ((result ≡ Err Memory) × (new ≡ old))
+    ⊎ ((answer : Result Taken (Refused Fact Refusal)) × TakesExactly old fact answer new × FaultAlone answer result)

@@ -1,22 +1,15 @@
--- What a segment can be brought back to, while it takes facts that may yet be refused.
-use Rattle.std.specs.Prelude.{◌≡◌, ◌⊎◌, ◌↔◌, List, [], ◌∷◌, ◌++◌, Result, OnOk, OnErr, IfOk, IfErr}
-use Rattle.std.specs.List.{Contains}
+-- What a segment is brought back to, while it takes facts that may yet be refused.
+use Rattle.std.specs.Prelude.{◌≡◌, List, [], ◌∷◌, ◌++◌, Bool, not, ◌&&◌, eqb}
+use Rattle.std.specs.Borrow.{GName}
+use Rattle.std.specs.List.{filter}
 use Rattle.redo_core.specs.Book.{BookData}
-use Rattle.redo_core.specs.Keys.{key_of}
 use Rattle.redo_core.specs.declared.keys.Key.{Key}
 use Rattle.redo_core.specs.Data.{RecordData}
-use Rattle.redo_core.specs.declared.facts.Fact.{Fact}
-use Rattle.state_laws.specs.State.{State, SameBase}
+use Rattle.state_laws.specs.State.{State, state_of}
 use Rattle.segment_core.specs.Due.{DueData, HasDue}
 use Rattle.segment_core.specs.Form.{IsSegment}
 use Rattle.segment_core.specs.Points.{HasPoints}
-use Rattle.segment_core.specs.Refusing.{Refuses}
-use Rattle.segment_core.specs.Taking.{TellsKnown, Stores}
 use Rattle.segment_core.specs.declared.points.Points.{Points}
-use Rattle.segment_core.specs.declared.answers.Taken.{Taken}
-use Rattle.segment_core.specs.declared.answers.Taken.TheVariants.{Changed, Unchanged}
-use Rattle.segment_core.specs.declared.answers.Refusal.{Refusal}
-use Rattle.segment_core.specs.declared.answers.Refusal.TheVariants.{Memory}
 
 -- the book, the points and the pages that were due as they were, and the keys of the records that have come in since
 pub record SavepointData : Type 0 where
@@ -25,28 +18,44 @@ pub record SavepointData : Type 0 where
   pub due : DueData
   pub came : List Key
 
--- Rolled back to the savepoint, a state is the old one: its book is the saved one, and its records are those that were there before.
-pub record RollsBackTo (saved : SavepointData) (s old : State) : Type 0 where
-  pub form : IsSegment old
-  pub book : old.book ≡ saved.book
-  pub held : (r : RecordData) → Contains old.held r ↔ (Contains s.held r × (Contains saved.came (key_of r) → ⊥))
-  pub rest : SameBase s old
-  pub points : HasPoints old.book old.held old.base saved.points
-  pub due : HasDue old.book old.held old.store saved.due
-
--- what the one state can be rolled back to, the other can with its savepoint
-abbrev pub RollsBackAs : SavepointData → State → SavepointData → State → Type 0
-RollsBackAs saved s noted t = (old : State) → RollsBackTo saved s old → RollsBackTo noted t old
-
 -- one key more is noted
 abbrev pub NotesKey : SavepointData → Key → SavepointData → Type 0
 NotesKey saved key noted = noted ≡ record { book = saved.book; points = saved.points; due = saved.due; came = saved.came ++ key ∷ [] }
 
--- What a noted take answers and leaves, over any facts: what a take does, but that memory may be wanting for a fact that is known or refused.
-pub record TakesNoted (old : State) (fact : Fact) (result : Result Taken Refusal) (new : State) : Type 0 where
-  pub known : IfOk result (TellsKnown old fact)
-  pub stores : IfOk result (λ taken. taken ≡ Changed → Stores old fact new)
-  pub idle : IfOk result (λ taken. taken ≡ Unchanged → new ≡ old)
-  pub free : OnOk result ((why : Refusal) → Refuses old fact why → ⊥)
-  pub refused : IfErr result (λ e. (e ≡ Memory) ⊎ Refuses old fact e)
-  pub unchanged : OnErr result (new ≡ old)
+-- whether a record has a key
+abbrev pub has_key : Key → RecordData → Bool
+has_key key r = eqb key.epoch r.epoch && eqb key.number r.number
+
+-- the records that have none of these keys
+unfoldable pub without : List Key → List RecordData → List RecordData
+without [] held = held
+without (key ∷ keys) held = without keys (filter (λ r. not (has_key key r)) held)
+
+-- what a savepoint brings a state back to: the saved book, and the records that were there before
+abbrev pub brought_back : SavepointData → State → State
+brought_back saved s = state_of saved.book (without saved.came s.held) s.base s.store
+
+-- What a union began with: which segment it lends, its state, and the points and the due pages of that.
+pub record Began : Type 0 where
+  pub lent : GName
+  pub state : State
+  pub points : Points
+  pub due : DueData
+
+abbrev pub began_by : GName → SavepointData → State → Began
+began_by lent saved s = record { lent = lent; state = brought_back saved s; points = saved.points; due = saved.due }
+
+-- the state has the form of a segment's, and these are its points and its due pages
+pub record IsWhole (s : State) (points : Points) (due : DueData) : Type 0 where
+  pub form : IsSegment s
+  pub points_are : HasPoints s.book s.held s.base points
+  pub due_are : HasDue s.book s.held s.store due
+
+abbrev pub CanRollBack : Began → Type 0
+CanRollBack b = IsWhole b.state b.points b.due
+
+-- it was taken of the state as it is, and nothing has come in since
+pub record IsSavepointOf (s : State) (saved : SavepointData) : Type 0 where
+  pub book : saved.book ≡ s.book
+  pub came : saved.came ≡ []
+  pub whole : IsWhole s saved.points saved.due

@@ -5,8 +5,8 @@
 //! for the part, whatever order its facts came in. A fold (`plan_fold`, `FoldPlan::fold`, `commit_fold`) brings a page's image to
 //! the anchor, a `discard` forgets the records that images have, a `tidy` leaves just the kept ones: all keep what the segment
 //! means. Over any facts a take says what it stored, each refusal but want of memory comes exactly where its definition says, and so
-//! do a broken block chain and a gap. Facts that are taken with a savepoint can be rolled back, and `unite` takes images in: so a union
-//! is taken whole or not at all, and the held records are not copied for it.
+//! do a broken block chain and a gap. A `Union` takes facts, holds records and takes images in, and rolls the segment back where it
+//! is dropped before its end: so what another segment tells is taken whole or not at all, and the held records are not copied for it.
 #![tactic(auto)]
 
 mod answers;
@@ -26,6 +26,7 @@ mod savepoint;
 mod segment;
 mod shedding;
 mod stored;
+mod union;
 mod walk;
 
 pub use answers::{Front, Gap, ReadFault, Refusal, Taken};
@@ -34,3 +35,4 @@ pub use fold_plan::{CommitFault, FoldPlan, Folded};
 pub use page_base::BaseImage;
 pub use savepoint::Savepoint;
 pub use segment::Segment;
+pub use union::Union;

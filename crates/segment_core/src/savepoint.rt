@@ -1,26 +1,21 @@
-//! What a segment can be brought back to: facts are taken and records held in place, and a refusal takes them back.
-ghost use Rattle.std.specs.Prelude.{◌≡◌, ℕ, ◌↔◌, IfOk, OnOk, OnErr};
+//! What a segment is brought back to, where facts are taken and records held in place and one of them is refused.
+ghost use Rattle.std.specs.Prelude.{◌≡◌, ◌↔◌, IfOk, OnOk, OnErr};
 ghost use Rattle.std.specs.List.{Contains};
 ghost use Rattle.redo_core.specs.Data.{RecordData};
 ghost use Rattle.redo_core.specs.Keys.{key_of};
 ghost use Rattle.redo_core.specs.declared.keys.Key.{Key};
-ghost use Rattle.redo_core.specs.declared.facts.Fact.TheVariants.{Record as OfRecord};
 ghost use Rattle.hot_log.specs.Held.{IsHeld};
-ghost use Rattle.state_laws.specs.State.{State};
-ghost use Rattle.segment_core.specs.Answering.{FaultAlone};
-ghost use Rattle.segment_core.specs.Savepoint.{SavepointData, RollsBackTo, RollsBackAs, NotesKey, TakesNoted};
-ghost use Rattle.segment_core.specs.Uniting.{HoldsRecord};
+ghost use Rattle.segment_core.specs.Savepoint.{SavepointData, IsWhole, IsSavepointOf, NotesKey, brought_back};
 
-use crate::answers::{Refusal, Taken};
 use crate::due::Due;
 use crate::points::Points;
-use crate::putting::put_record;
 use crate::segment::Segment;
 use epoch_book::EpochBook;
-use hot_log::{HotLog, Put, PutFault};
-use redo_core::{Fact, Key, Record, Refused};
+use hot_log::HotLog;
+use redo_core::Key;
 use std::alloc::AllocError;
 use std::marker::Model;
+use std::mem;
 
 /// The book and the points of a segment and the pages that were due, as they were, and the keys of the records that have come in since.
 #[derive(Drop)]
@@ -41,7 +36,7 @@ impl Model for Savepoint {
 
 impl Savepoint {
     /// Notes a key. Its only error is want of memory; what is noted is then as it was.
-    fn note(&mut self, key: Key) -> Result<(), AllocError>
+    pub(crate) fn note(&mut self, key: Key) -> Result<(), AllocError>
         ensures notes { OnOk result (NotesKey self.old key self.new) }
         ensures unchanged { OnErr result (self.new ≡ self.old) }
     {
@@ -52,7 +47,7 @@ impl Savepoint {
     }
 
     /// Takes the note of the last key back.
-    fn forget_last(&mut self)
+    pub(crate) fn forget_last(&mut self)
         ensures { (before : SavepointData) (key : Key) → NotesKey before key self.old → self.new ≡ before }
     {
         let _ = self.came.pop();
@@ -60,9 +55,9 @@ impl Savepoint {
 }
 
 impl Segment {
-    /// What the segment is brought back to by `roll_back`. Its only error is want of memory.
+    /// What a union of the segment as it is can be begun with. Its only error is want of memory.
     pub fn savepoint(&self) -> Result<Savepoint, AllocError>
-        ensures { IfOk result (λ saved. RollsBackTo saved self.now self.now) }
+        ensures { IfOk result (IsSavepointOf self.now) }
     {
         Ok(Savepoint {
             book: self.book.copy()?,
@@ -72,91 +67,15 @@ impl Segment {
         })
     }
 
-    /// Takes one fact into the segment so that it can be rolled back to where it could be before.
-    ///
-    /// Errors: as of `take`, and want of memory for the note; the segment is then as it was, and the fact is gone.
-    pub fn take_noted(&mut self, saved: &mut Savepoint, fact: Fact) -> Result<Taken, Refusal>
-        ensures takes { TakesNoted self.old fact result self.new }
-        ensures rolls_back { RollsBackAs saved.old self.old saved.new self.new }
-    {
-        match fact {
-            Fact::Record(redo) => self.take_record_noted(saved, redo),
-            Fact::Cut(cut) => taken_or_fault(self.take_cut(cut)),
-            Fact::Advance(advance) => taken_or_fault(self.take_advance(advance)),
-        }
-    }
-
-    /// Takes a record, and notes its key where it comes in.
-    fn take_record_noted(&mut self, saved: &mut Savepoint, redo: Record) -> Result<Taken, Refusal>
-        ensures takes { TakesNoted self.old (OfRecord redo) result self.new }
-        ensures rolls_back { RollsBackAs saved.old self.old saved.new self.new }
-    {
-        if let Err(_) = saved.note(redo.key()) {
-            return Err(Refusal::Memory);
-        }
-        match self.take_record(redo) {
-            Ok(Taken::Changed) => {
-                // It opens the segment's form: one record stands under a key.
-                self.opens_form();
-                Ok(Taken::Changed)
-            }
-            Ok(Taken::Unchanged) => {
-                saved.forget_last();
-                Ok(Taken::Unchanged)
-            }
-            Err(refused) => {
-                saved.forget_last();
-                Err(refused.fault)
-            }
-        }
-    }
-
-    /// Holds a record, whether or not it is settled here, where no record is held under its key; another record that is stays. The
-    /// segment can be rolled back to where it could be before. Its only error is want of memory: the segment is then as it was.
-    pub fn hold_noted(&mut self, saved: &mut Savepoint, redo: Record) -> Result<(), AllocError>
-        ensures holds { OnOk result (HoldsRecord self.old redo self.new) }
-        ensures unchanged { OnErr result (self.new ≡ self.old) }
-        ensures rolls_back { RollsBackAs saved.old self.old saved.new self.new }
-    {
-        if let Err(failed) = saved.note(redo.key()) {
-            return Err(failed);
-        }
-        self.due.add_held(&redo);
-        match put_record(&mut self.points, &mut self.hot, &self.book, self.base, redo) {
-            Ok(Put::New) => Ok(()),
-            Ok(Put::Known) => {
-                saved.forget_last();
-                Ok(())
-            }
-            Err(refused) => {
-                saved.forget_last();
-                match refused.fault {
-                    PutFault::OtherRecord => Ok(()),
-                    PutFault::Memory => Err(AllocError),
-                }
-            }
-        }
-    }
-
-    /// Brings the segment back to the savepoint.
-    pub fn roll_back(&mut self, saved: Savepoint)
-        requires { (old : State) × RollsBackTo saved self.old old }
-        ensures { (old : State) → RollsBackTo saved self.old old → self.new ≡ old }
+    /// Brings the segment back. The savepoint is of no use afterwards.
+    pub(crate) fn roll_back(&mut self, saved: &mut Savepoint)
+        requires { IsWhole (brought_back saved.old self.old) saved.old.points saved.old.due }
+        ensures { self.new ≡ brought_back saved.old self.old }
     {
         take_out(&mut self.hot, &saved.came);
-        self.book = saved.book;
-        self.points = saved.points;
-        self.due = saved.due;
-    }
-}
-
-/// What was taken, or why not, without the fact.
-fn taken_or_fault(answer: Result<Taken, Refused<Fact, Refusal>>) -> Result<Taken, Refusal>
-    ensures { FaultAlone answer result }
-{
-    match answer {
-        Ok(taken) => Ok(taken),
-        Err(refused) => Err(refused.fault),
+        mem::swap(&mut self.book, &mut saved.book);
+        mem::swap(&mut self.points, &mut saved.points);
+        mem::swap(&mut self.due, &mut saved.due);
     }
 }
 

@@ -5,7 +5,7 @@ ghost use Rattle.redo_core.specs.Position.{Position};
 ghost use Rattle.redo_core.specs.Sound.{IsSound};
 ghost use Rattle.redo_core.specs.declared.facts.Fact.{Fact as AnyFact};
 ghost use Rattle.redo_core.specs.declared.facts.Fact.TheVariants.{Record as OfRecord, Cut as OfCut, Advance as OfAdvance};
-ghost use Rattle.state_laws.specs.State.{State, empty_state, image_of};
+ghost use Rattle.state_laws.specs.State.{State, SameBase, empty_state, image_of};
 ghost use Rattle.state_laws.specs.Means.{MeansAt, Means};
 ghost use Rattle.state_laws.specs.HasMeaning.{HasAnchor, IsSettled};
 ghost use Rattle.redo_core.specs.Writing.{after_records};
@@ -20,6 +20,7 @@ ghost use Rattle.hot_log.specs.Held.{IsHeld};
 ghost use Rattle.hot_log.specs.Alive.{IsLinkedHeld};
 ghost use Rattle.hot_log.specs.Found.{IsOnlyRecord};
 ghost use Rattle.hot_log.specs.Kept.{KeepsKey};
+ghost use Rattle.hot_log.specs.Putting.{Puts, RefusesPut};
 ghost use Rattle.segment_core.specs.BlockChain.{BreaksAt, TellsBreak};
 ghost use Rattle.segment_core.specs.Answering.{AnswersBook, AnswersPut, refusal_of, put_refusal_of};
 ghost use Rattle.segment_core.specs.Exactly.{TakesExactly};
@@ -319,9 +320,22 @@ impl Segment {
         if self.is_settled(&redo) {
             return Ok(Taken::Unchanged);
         }
+        put_answer(self.put(redo))
+    }
+
+    /// Holds a record, whether or not it is settled here, and says whether it came in. Each error hands it back and leaves the segment
+    /// as it was.
+    pub(crate) fn put(&mut self, redo: Record) -> Result<Put, Refused<Record, PutFault>>
+        ensures put { IfOk result (Puts self.old.held redo self.new.held) }
+        ensures refused { IfErr result (λ e. (e.value ≡ redo) × RefusesPut self.old.held redo e.fault) }
+        ensures unchanged { OnErr result (self.new ≡ self.old) }
+        ensures form { IsHeld self.new.held }
+        ensures book { self.new.book ≡ self.old.book }
+        ensures rest { SameBase self.old self.new }
+    {
         self.due.add_held(&redo);
         let (points, hot) = (&mut self.points, &mut self.hot);
-        put_answer(put_record(points, hot, &self.book, self.base, redo))
+        put_record(points, hot, &self.book, self.base, redo)
     }
 }
 

@@ -1,59 +1,53 @@
-ghost use Rattle.std.specs.Prelude.{◌↔◌, ◌⊎◌, ◌≤◌, map, IfOk, OnOk, IsTrue};
+ghost use Rattle.std.specs.Prelude.{◌≡◌, ◌↔◌, ◌⊎◌, ◌≤◌, map, IfOk, OnOk, IsTrue};
 ghost use Rattle.std.specs.List.{Contains};
 ghost use Rattle.redo_core.specs.Data.{RecordData};
 ghost use Rattle.redo_core.specs.Keys.{key_of};
 ghost use Rattle.state_laws.specs.State.{version_of};
-ghost use Rattle.segment_core.specs.Savepoint.{RollsBackAs};
+ghost use Rattle.segment_core.specs.Union.{began, reached};
 ghost use Rattle.segment_join.specs.Holding.{IsNeedless, HoldsRest};
 ghost use Rattle.segment_join.specs.Knowing.{HoldsAt};
 ghost use Rattle.segment_join.specs.Newer.{AreNewer};
 
 use redo_core::Record;
-use segment_core::{BaseImage, Savepoint, Segment, Standing};
+use segment_core::{BaseImage, Segment, Standing, Union};
 use std::alloc::AllocError;
 
 /// Holds in a segment what another one holds, but for what is dead in the segment's view or folded in one of the two. What the
 /// segment did not hold of it is given.
 pub(crate) fn hold_rest(
-    segment: &mut Segment,
-    saved: &mut Savepoint,
+    union: &mut Union<'_>,
     other: &Segment,
     missing: &[&Record],
 ) -> Result<(), AllocError>
-    requires known { (r : RecordData) → Contains other.now.held r → Contains segment.old.held r ⊎ Contains (map (λ x. x.now) missing.now) r }
+    requires known { (r : RecordData) → Contains other.now.held r → Contains (reached union.old).held r ⊎ Contains (map (λ x. x.now) missing.now) r }
     requires held { (r : RecordData) → Contains (map (λ x. x.now) missing.now) r → Contains other.now.held r }
-    ensures holds { OnOk result (HoldsRest segment.old other.now segment.new) }
-    ensures rolls_back { RollsBackAs saved.old segment.old saved.new segment.new }
+    ensures holds { OnOk result (HoldsRest (reached union.old) other.now (reached union.new)) }
+    ensures began { began union.new ≡ began union.old }
 {
     // At most one record stands under a key.
     other.opens_form();
     for redo in missing {
-        hold_one(segment, saved, other, redo)?;
+        hold_one(union, other, redo)?;
     }
     Ok(())
 }
 
 /// Holds the other segment's record, where the segment holds none under its key.
-fn hold_one(
-    segment: &mut Segment,
-    saved: &mut Savepoint,
-    other: &Segment,
-    redo: &Record,
-) -> Result<(), AllocError>
+fn hold_one(union: &mut Union<'_>, other: &Segment, redo: &Record) -> Result<(), AllocError>
     requires { Contains other.now.held redo.now }
-    ensures holds { OnOk result (HoldsAt segment.old other.now (key_of redo.now) segment.new) }
-    ensures rolls_back { RollsBackAs saved.old segment.old saved.new segment.new }
+    ensures holds { OnOk result (HoldsAt (reached union.old) other.now (key_of redo.now) (reached union.new)) }
+    ensures began { began union.new ≡ began union.old }
 {
     // At most one record stands under a key.
     other.opens_form();
     // Much of what is missing was folded in the segment, and no look-up is spent on it.
-    if is_needless(segment, other, redo) {
+    if is_needless(union.segment(), other, redo) {
         return Ok(());
     }
-    if segment.holds_key(redo.key()) {
+    if union.segment().holds_key(redo.key()) {
         return Ok(());
     }
-    segment.hold_noted(saved, redo.copy()?)
+    union.hold(redo.copy()?)
 }
 
 /// Whether a segment needs no copy of another one's record: it is dead in the segment's view, or does not wait in it and is folded in

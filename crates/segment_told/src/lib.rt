@@ -2,7 +2,7 @@
 //!
 //! `book_of` tells a segment's book and `lent_book` lends it, `kept_of` the records that its meaning keeps, and `pages_at_anchor` the pages at its anchor that
 //! are not zeros; `stored_page_after` goes from one page that anything is stored of to the next. `take_told` takes a told book and
-//! records, whoever tells them, and the segment can be rolled back. `are_few` tells whether so many records are better looked up one
+//! records into a union, whoever tells them. `are_few` tells whether so many records are better looked up one
 //! by one than met on a walk over all that a segment holds. Joins, gossip and snapshots stand on these, and not on one another.
 #![tactic(auto)]
 

@@ -1,9 +1,9 @@
-use crate::segment_calls::answers::{committed, show, taken, tidied};
+use crate::segment_calls::answers::{Shown, committed, show, taken, tidied};
 use crate::segment_calls::bench::Bench;
 use crate::segment_calls::row::Row;
 use crate::segment_calls::{facts, pairs};
 use redo_core::Fact;
-use segment_core::Segment;
+use segment_core::{Segment, Union};
 use std::alloc::AllocError;
 use std::io;
 
@@ -50,7 +50,22 @@ fn give(given: &mut Vec<(u16, u64, u8)>, row: Row) -> io::Result<()> {
     row.word("Done")
 }
 
-/// Takes three facts with a savepoint, and then rolls the segment back: what shows before that, and after it.
+/// Takes three facts in a union, and what the segment then shows. The union is dropped, which rolls the segment back.
+fn shown_in_union(
+    segment: &mut Segment,
+    first: Fact,
+    second: Fact,
+    third: Fact,
+) -> Result<Shown, AllocError> {
+    let mut saved = segment.savepoint()?;
+    let mut union = Union::begin(segment, &mut saved);
+    let _first = union.take(first);
+    let _second = union.take(second);
+    let _third = union.take(third);
+    show(union.segment())
+}
+
+/// Takes three facts in a union, and drops it: what shows before that, and after it.
 fn rolled_back(
     segment: &mut Segment,
     row: Row,
@@ -58,12 +73,7 @@ fn rolled_back(
     second: Fact,
     third: Fact,
 ) -> io::Result<()> {
-    let mut saved = segment.savepoint()?;
-    let _first = segment.take_noted(&mut saved, first);
-    let _second = segment.take_noted(&mut saved, second);
-    let _third = segment.take_noted(&mut saved, third);
-    let after = show(segment)?;
-    segment.roll_back(saved);
+    let after = shown_in_union(segment, first, second, third)?;
     row.parts("RolledBack", &(after, show(segment)?))
 }
 

@@ -11,13 +11,13 @@ loop-redo-preserved c =
     let now : Bor RecordData → RecordData = λ r. r.now in let rs = c.args.missing.now in let i = c.loop-redo.redo-index in let x = c.redo-item.result in
     let is : x.now ≡ get_or (map now rs) i x.now = ap now c.redo-item.is ∙ sym (get_or-map now rs i x) in
     let lt : i < length (map now rs) = omega (arith, c.loop-redo-test.true, length-map rs now) in (
-      first_next (map now rs) i c.args.segment.now c.args.other.now c.loop-redo.segment c.hold_one.new.segment x.now c.opens_form.ensures.form.held.rising lt is
+      first_next (map now rs) i _ c.args.other.now _ _ x.now c.opens_form.ensures.form.held.rising lt is
           (c.requires.held x.now (item (map now rs) i x.now lt is)) c.loop-redo.invariant.0 c.in_ok-hold_one.ensures.holds,
-      λ old h. c.hold_one.ensures.rolls_back old (c.loop-redo.invariant.1 old h),
+      c.hold_one.ensures.began ∙ c.loop-redo.invariant.1,
     )
 
 pub returns-clause-holds : goal.returns-clause-holds
 returns-clause-holds c =
     let now : Bor RecordData → RecordData = λ r. r.now in let rs = c.args.missing.now in
     let end : length (map now rs) ≤ c.loop-redo.redo-index = omega (arith, c.loop-redo-test.false, length-map rs now) in
-    first_all (map now rs) c.loop-redo.redo-index c.args.segment.now c.args.other.now c.loop-redo.segment c.requires.known end c.loop-redo.invariant.0
+    first_all (map now rs) c.loop-redo.redo-index _ c.args.other.now _ c.requires.known end c.loop-redo.invariant.0

@@ -1,8 +1,10 @@
-use Rattle.std.proofs.Common.{map}
-use Rattle.segment_core.specs.Savepoint.{RollsBackAs}
+use Rattle.std.proofs.Common.{◌≡◌, map}
+use Rattle.segment_core.specs.Union.{began, reached}
 use Rattle.segment_join.proofs.Sparing.{HoldsFirst}
 use Rattle.segment_join.proofs.holding.hold_rest.Given as goal
 
--- the missing records so far are held, or spared, and can be rolled back
+-- the missing records so far are held, or spared, and what the union began with stays
 abbrev pub invariant-loop-redo : goal.invariant-loop-redo
-invariant-loop-redo l = HoldsFirst (map (λ x. x.now) l.missing) l.redo-index l.fn.segment l.other l.segment × RollsBackAs l.fn.saved l.fn.segment l.saved l.segment
+invariant-loop-redo l =
+    HoldsFirst (map (λ x. x.now) l.missing) l.redo-index (reached l.fn.union) l.other (reached l.union)
+    × (began l.union ≡ began l.fn.union)

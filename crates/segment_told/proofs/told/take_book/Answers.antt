@@ -1,6 +1,5 @@
 use Rattle.std.proofs.Common.{◌≡◌, ◌⊎◌, ◌≤◌, ℕ, List, map, length, sym, subst}
 use Rattle.std.specs.List.{All}
-use Rattle.std.specs.Prelude.{OnOk, IfErr, Result}
 use Rattle.std.proofs.lemmas.Result.{on_ok_weaker, IfErr-weaker}
 use Rattle.redo_core.specs.Shape.{max_readers, max_number}
 use Rattle.redo_core.specs.Book.{BookData, book_of}
@@ -11,6 +10,7 @@ use Rattle.segment_told.specs.Told.{point_facts, book_facts}
 use Rattle.segment_told.specs.InOrder.{TakesEach, RefusesOne}
 use Rattle.segment_told.proofs.Ordered.{memory_or, takes_append, refuses_sooner, refuses_later}
 use Rattle.segment_told.proofs.TellingAll.{same_book}
+use Rattle.segment_core.specs.Union.{reached}
 use Rattle.segment_told.proofs.told.take_book.Goals as goal
 
 pub take_points-requires-clause-roster : goal.take_points-requires-clause-roster
@@ -23,7 +23,7 @@ take_points-requires-clause-shaped c =
 
 pub returns-in-Err-clause-refused : goal.returns-in-Err-clause-refused
 returns-in-Err-clause-refused c =
-    let s = c.args.segment.now in let why = c.in-Err.why in let b = c.args.book.now in
+    let s = reached c.args.union.now in let why = c.in-Err.why in let b = c.args.book.now in
     let given = book_of c.cuts-cuts.result.now c.complete-complete.result c.points-points.result.now c.waits-waits.result.now in
     let is : given ≡ b = same_book b c.cuts-cuts.result.now c.complete-complete.result c.points-points.result.now c.waits-waits.result.now
     c.cuts-cuts.ensures.cuts c.complete-complete.ensures.complete c.points-points.ensures.points c.waits-waits.ensures.waits in
@@ -33,7 +33,8 @@ returns-in-Err-clause-refused c =
 
 pub returns-in-Err-take_points-clause-refused : goal.returns-in-Err-take_points-clause-refused
 returns-in-Err-take_points-clause-refused c =
-    let s = c.args.segment.now in let t = c.take_cuts.new.segment in let why = c.in-Err-take_points.why in let b = c.args.book.now in
+    let s = reached c.args.union.now in let t = reached c.take_cuts.new.union in let why = c.in-Err-take_points.why in
+    let b = c.args.book.now in
     let given = book_of c.cuts-cuts.result.now c.complete-complete.result c.points-points.result.now c.waits-waits.result.now in
     let is : given ≡ b = same_book b c.cuts-cuts.result.now c.complete-complete.result c.points-points.result.now c.waits-waits.result.now
     c.cuts-cuts.ensures.cuts c.complete-complete.ensures.complete c.points-points.ensures.points c.waits-waits.ensures.waits in
@@ -45,7 +46,8 @@ returns-in-Err-take_points-clause-refused c =
 
 pub returns-clause-takes : goal.returns-clause-takes
 returns-clause-takes c =
-    let s = c.args.segment.now in let t = c.take_cuts.new.segment in let u = c.take_points.new.segment in let v = c.take_waits.new.segment in
+    let s = reached c.args.union.now in let t = reached c.take_cuts.new.union in let u = reached c.take_points.new.union in
+    let v = reached c.take_waits.new.union in
     let b = c.args.book.now in
     let given = book_of c.cuts-cuts.result.now c.complete-complete.result c.points-points.result.now c.waits-waits.result.now in
     let is : given ≡ b = same_book b c.cuts-cuts.result.now c.complete-complete.result c.points-points.result.now c.waits-waits.result.now
@@ -60,7 +62,7 @@ returns-clause-takes c =
 
 pub returns-clause-refused : goal.returns-clause-refused
 returns-clause-refused c =
-    let s = c.args.segment.now in let t = c.take_cuts.new.segment in let u = c.take_points.new.segment in
+    let s = reached c.args.union.now in let t = reached c.take_cuts.new.union in let u = reached c.take_points.new.union in
     let b = c.args.book.now in
     let given = book_of c.cuts-cuts.result.now c.complete-complete.result c.points-points.result.now c.waits-waits.result.now in
     let is : given ≡ b = same_book b c.cuts-cuts.result.now c.complete-complete.result c.points-points.result.now c.waits-waits.result.now
@@ -74,10 +76,3 @@ returns-clause-refused c =
     (λ h. subst (λ (x : BookData). RefusesOne s (book_facts x) e) is
     (refuses_later s cuts t _ e c.in_default.ensures.takes (refuses_later t points u waits e c.in_default-take_points.ensures.takes h))))
     c.take_waits.ensures.refused
-
-pub returns-in-Err-take_points-clause-rolls_back : goal.returns-in-Err-take_points-clause-rolls_back
-returns-in-Err-take_points-clause-rolls_back c = λ old h. c.take_points.ensures.rolls_back old (c.take_cuts.ensures.rolls_back old h)
-
-pub returns-clause-rolls_back : goal.returns-clause-rolls_back
-returns-clause-rolls_back c = λ old h.
-    c.take_waits.ensures.rolls_back old (c.take_points.ensures.rolls_back old (c.take_cuts.ensures.rolls_back old h))

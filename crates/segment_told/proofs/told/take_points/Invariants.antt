@@ -1,9 +1,11 @@
-use Rattle.std.proofs.Common.{take}
+use Rattle.std.proofs.Common.{◌≡◌, take}
 use Rattle.segment_told.specs.Told.{point_facts}
-use Rattle.segment_core.specs.Savepoint.{RollsBackAs}
+use Rattle.segment_core.specs.Union.{began, reached}
 use Rattle.segment_told.specs.InOrder.{TakesEach}
 use Rattle.segment_told.proofs.told.take_points.Given as goal
 
--- those so far are taken, and can be rolled back
+-- those so far are taken, and what the union began with stays
 abbrev pub invariant-loop-place : goal.invariant-loop-place
-invariant-loop-place l = TakesEach l.fn.segment (point_facts l.epoch 1 (take l.place l.points)) l.segment × RollsBackAs l.fn.saved l.fn.segment l.saved l.segment
+invariant-loop-place l =
+    TakesEach (reached l.fn.union) (point_facts l.epoch 1 (take l.place l.points)) (reached l.union)
+    × (began l.union ≡ began l.fn.union)

@@ -1,9 +1,11 @@
-use Rattle.std.proofs.Common.{map, take}
+use Rattle.std.proofs.Common.{◌≡◌, map, take}
 use Rattle.redo_core.specs.declared.facts.Fact.TheVariants.{Advance}
-use Rattle.segment_core.specs.Savepoint.{RollsBackAs}
+use Rattle.segment_core.specs.Union.{began, reached}
 use Rattle.segment_told.specs.InOrder.{TakesEach}
 use Rattle.segment_told.proofs.told.take_waits.Given as goal
 
--- those so far are taken, and can be rolled back
+-- those so far are taken, and what the union began with stays
 abbrev pub invariant-loop-wait : goal.invariant-loop-wait
-invariant-loop-wait l = TakesEach l.fn.segment (map Advance (take l.wait-index l.waits)) l.segment × RollsBackAs l.fn.saved l.fn.segment l.saved l.segment
+invariant-loop-wait l =
+    TakesEach (reached l.fn.union) (map Advance (take l.wait-index l.waits)) (reached l.union)
+    × (began l.union ≡ began l.fn.union)
