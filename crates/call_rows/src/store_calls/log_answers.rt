@@ -1,90 +1,113 @@
-use crate::store_calls::answers::{Answer, numbers, row};
+use crate::row::Row;
 use crate::store_calls::bench::Bench;
-use crate::store_calls::words::Call;
+use crate::store_calls::book_calls;
 use epoch_book::EpochBook;
 use hot_log::{HotLog, Steps};
-use redo_core::Key;
-use row_words::short;
-use std::alloc::{AllocError, Global};
+use redo_core::{Key, Record};
+use std::alloc::AllocError;
+use std::io;
 
-fn linked(log: &HotLog, book: &EpochBook, from: u64, limit: u64) -> Answer {
+// Prints a record: epoch, number, segment backlink and page.
+fn record(row: Row, found: Option<&Record>) -> io::Result<()> {
+    let shown = found.map(|redo| (redo.epoch(), redo.number(), redo.back(), redo.page()));
+    row.one("Record", &shown)
+}
+
+fn numbers(row: Row, found: Result<Vec<&Record>, AllocError>) -> io::Result<()> {
+    let mut numbers = Vec::new(row.alloc());
+    for redo in found? {
+        numbers.push(redo.number())?;
+    }
+    row.one("Numbers", &numbers)
+}
+
+fn keys(row: Row, found: Result<Vec<Key>, AllocError>) -> io::Result<()> {
+    row.one("Keys", &found?)
+}
+
+// The key that a row names first.
+fn key(row: Row) -> Key {
+    Key {
+        epoch: row.short(0),
+        number: row.number(1),
+    }
+}
+
+// Prints the greatest linked number, and how many records the search for it looks at.
+fn linked(log: &HotLog, book: &EpochBook, row: Row) -> io::Result<()> {
+    let (from, limit) = (row.number(0), row.number(1));
     let mut steps = Steps::new();
     let linked = log.linked_counted(book, from, limit.max(from), &mut steps);
-    Answer::Linked(linked, steps.count)
+    row.parts("Linked", &(linked, steps.count))
 }
 
-// What is held, whatever stands.
-fn held(log: &HotLog, call: Call) -> Option<Answer> {
-    let (first, number) = (short(call.numbers[0]), call.numbers[1]);
-    let key = Key {
-        epoch: first,
-        number,
-    };
-    Some(match call.name {
-        "len" => Answer::Number(log.len() as u64),
-        "is_empty" => Answer::Flag(log.is_empty()),
-        "get" => row(log.get(key)),
-        "holds_key" => Answer::Flag(log.holds_key(key)),
-        "first_key" => Answer::Key(log.key_after(None)),
-        "key_after" => Answer::Key(log.key_after(Some(key))),
-        "first_page" => Answer::Page(log.page_after(None)),
-        "page_after" => Answer::Page(log.page_after(Some(first))),
-        _ => return None,
-    })
+fn linked_to(log: &HotLog, book: &EpochBook, row: Row) -> io::Result<()> {
+    let (from, limit) = (row.number(0), row.number(1));
+    row.one("Number", &log.linked_to(book, from, limit.max(from)))
 }
 
-// What is linked from a number on.
-fn chain(log: &HotLog, book: &EpochBook, call: Call) -> Option<Answer> {
-    let [first, second, _, _] = call.numbers;
-    Some(match call.name {
-        "linked" => linked(log, book, first, second),
-        "linked_to" => Answer::Number(log.linked_to(book, first, second.max(first))),
-        "next_after" => Answer::Found(log.next_after(book, first)),
-        "is_straight" => Answer::Flag(log.is_straight(book, first, second)),
-        "straight_end" => Answer::Found(log.straight_end(book, first)),
-        "linked_record" => row(log.linked_record(book, first, second)),
-        "last_alive" => row(log.last_alive(book, first)),
-        "opens_below" => Answer::Flag(log.opens_below(book, short(first), second)),
-        "has_none_above" => Answer::Flag(log.has_none_above(book, first)),
-        _ => return None,
-    })
+/// Prints what is held, whatever stands, or what another call answers.
+pub fn answer(bench: &mut Bench, row: Row) -> io::Result<()> {
+    let log = &bench.log;
+    match row.name {
+        "len" => row.one("Number", &log.len()),
+        "is_empty" => row.one("Flag", &log.is_empty()),
+        "get" => record(row, log.get(key(row))),
+        "holds_key" => row.one("Flag", &log.holds_key(key(row))),
+        "first_key" => row.one("Key", &log.key_after(None)),
+        "key_after" => row.one("Key", &log.key_after(Some(key(row)))),
+        "first_page" => row.one("Page", &log.page_after(None)),
+        "page_after" => row.one("Page", &log.page_after(Some(row.short(0)))),
+        _ => chain(bench, row),
+    }
 }
 
-// The first or the last record of a page.
-fn of_page(log: &HotLog, book: &EpochBook, call: Call) -> Option<Answer> {
-    let [page, from, to, _] = call.numbers;
-    Some(match call.name {
-        "next_of" => row(log.next_of(book, short(page), from, to)),
-        "last_of" => row(log.last_of(book, short(page), from, to)),
-        "greatest_linked_of" => row(log.greatest_linked_of(book, short(page), from, to)),
-        _ => return None,
-    })
+// Prints what is linked from a number on, or another answer.
+fn chain(bench: &mut Bench, row: Row) -> io::Result<()> {
+    let (log, book, first) = (&bench.log, &bench.book, row.number(0));
+    match row.name {
+        "linked" => linked(log, book, row),
+        "linked_to" => linked_to(log, book, row),
+        "next_after" => row.one("Found", &log.next_after(book, first)),
+        "is_straight" => row.one("Flag", &log.is_straight(book, first, row.number(1))),
+        "straight_end" => row.one("Found", &log.straight_end(book, first)),
+        "linked_record" => record(row, log.linked_record(book, first, row.number(1))),
+        _ => ends(bench, row),
+    }
 }
 
-fn lists(bench: &Bench, alloc: Global, call: Call) -> Result<Option<Answer>, AllocError> {
+// Prints what stands last, or another answer.
+fn ends(bench: &mut Bench, row: Row) -> io::Result<()> {
     let (log, book) = (&bench.log, &bench.book);
-    let [first, from, to, _] = call.numbers;
-    let page = short(first);
-    let answer = match call.name {
-        "records_of" => numbers(alloc, log.records_of(alloc, book, page, from, to)),
-        "records_anew" => numbers(alloc, log.records_anew(alloc, book, page, from, to)),
-        "missing" => numbers(alloc, log.missing_by_page(alloc, &bench.other)),
-        "kept_keys" => log.kept_keys(alloc, book, first).map(Answer::Keys),
-        _ => return Ok(None),
-    };
-    answer.map(Some)
+    match row.name {
+        "last_alive" => record(row, log.last_alive(book, row.number(0))),
+        "opens_below" => row.one("Flag", &log.opens_below(book, row.short(0), row.number(1))),
+        "has_none_above" => row.one("Flag", &log.has_none_above(book, row.number(0))),
+        _ => of_page(bench, row),
+    }
 }
 
-/// What a call that reads a log answers, or None for another call.
-pub fn answer(bench: &Bench, alloc: Global, call: Call) -> Result<Option<Answer>, AllocError> {
-    if let Some(answer) = held(&bench.log, call) {
-        return Ok(Some(answer));
+// Prints the first or the last record of a page, or another answer.
+fn of_page(bench: &mut Bench, row: Row) -> io::Result<()> {
+    let (log, book) = (&bench.log, &bench.book);
+    let (page, from, to) = (row.short(0), row.number(1), row.number(2));
+    match row.name {
+        "next_of" => record(row, log.next_of(book, page, from, to)),
+        "last_of" => record(row, log.last_of(book, page, from, to)),
+        "greatest_linked_of" => record(row, log.greatest_linked_of(book, page, from, to)),
+        _ => list(bench, row),
     }
-    if let Some(answer) = chain(&bench.log, &bench.book, call) {
-        return Ok(Some(answer));
+}
+
+// Prints a list that a log gives, or what a call of the book answers.
+fn list(bench: &mut Bench, row: Row) -> io::Result<()> {
+    let (log, book, alloc) = (&bench.log, &bench.book, row.alloc());
+    let (page, from, to) = (row.short(0), row.number(1), row.number(2));
+    match row.name {
+        "records_of" => numbers(row, log.records_of(alloc, book, page, from, to)),
+        "records_anew" => numbers(row, log.records_anew(alloc, book, page, from, to)),
+        "missing" => numbers(row, log.missing_by_page(alloc, &bench.other)),
+        "kept_keys" => keys(row, log.kept_keys(alloc, book, row.number(0))),
+        _ => book_calls::answer(bench, row),
     }
-    if let Some(answer) = of_page(&bench.log, &bench.book, call) {
-        return Ok(Some(answer));
-    }
-    lists(bench, alloc, call)
 }
