@@ -4,8 +4,9 @@ with its contract and its proof, for each further one.
 
 A check says of each function whether it is proved, what of it is not, or only that it calls one that is not. So an edit counts as
 refused where the function that it edits is refused for a goal of its own, and a function that no edit touches must not be. (`rt
-must-fail` is content with any refusal, also where a proof file only names what the edit took away.) What is not refused so in a
-check of many is tried again alone.
+must-fail` is content with any refusal, also where a proof file only names what the edit took away.) In a check of many the functions
+that no edit changes are held: each is taken by its contract, as the proofs of the crate show it, and is not proved once more. What is
+not refused so in a check of many is tried again alone, with nothing held.
 
 With --due it takes the crates whose sum differs from the one in tools/tried.txt, and those whose turn it is by the commit's hash.
 With --record it writes the sums of the crates whose edits were all refused into tools/tried.txt, which is committed. It ends in
@@ -54,10 +55,27 @@ def crates():
 
 HEAD = re.compile(r"(?m)^ *(?:pub(?:\([a-z]+\))? )?(?:const )?fn ([a-z_0-9]+)")
 OWNER = re.compile(r"(?m)^(?:impl|trait|pub trait)\b[^\n]*")
+TYPE = re.compile(r"(?m)^(?:pub(?:\([a-z]+\))? )?(?:struct|enum) (\w+)")
 OWNER_NAME = re.compile(r"(?:pub )?(?:impl|trait)(?:<[^{]*?>)? (?:(\w+)(?:<[^{]*>)? for )?(\w+)")
 
 
-def parts_at(file, text, at):
+def modules_of(file):
+    """The path of a file's module."""
+    return [it for it in file[4:-3].split("/") if it not in ("lib", "main")]
+
+
+def sources(crate):
+    """The text of each file of the crate's sources."""
+    files = sorted(pathlib.Path(crate.folder, "src").rglob("*.rt"))
+    return {str(it.relative_to(crate.folder)): it.read_text() for it in files}
+
+
+def homes(crate):
+    """The path of the module that declares each type: a method's path begins there, wherever its impl stands."""
+    return {it[1]: modules_of(file) for file, text in sources(crate).items() for it in TYPE.finditer(text)}
+
+
+def parts_at(file, text, at, known):
     """The path of the function that a place of a file stands in, from the crate's root: modules, the type or the trait's impl, its name.
     None where it stands in none, and whether the function is of its own alone, and of no trait."""
     heads = [it for it in HEAD.finditer(text) if it.start() <= at]
@@ -65,9 +83,22 @@ def parts_at(file, text, at):
     if not heads or re.search(r"(?m)^}", text[heads[-1].end() : at]):
         return None, False
     named = heads[-1][0].startswith(" ") and owners and OWNER_NAME.match(owners[-1][0])
-    modules = [it for it in file[4:-3].split("/") if it not in ("lib", "main")]
     is_own = not named or owners[-1][0].startswith("impl") and not named[1]
-    return [*modules, *([f"{named[2]}{named[1] or ''}"] if named else []), heads[-1][1]], is_own
+    modules = known.get(named[2]) if named and is_own else None
+    return [*(modules_of(file) if modules is None else modules), *([f"{named[2]}{named[1] or ''}"] if named else []), heads[-1][1]], is_own
+
+
+def body_at(text, head):
+    """Where the body begins of a function, behind its contract; None where it is of one line with its head."""
+    indent = re.match(" *", head[0])[0]
+    opened = re.compile(rf"(?m)^{indent}(?:\S.*)?\{{\n").search(text, head.start())
+    return opened.end() if opened and not HEAD.search(text, head.end(), opened.end()) else None
+
+
+def is_in_body(text, at):
+    """Whether a place that stands in a function is in its body, and not in its head or its contract."""
+    opened = body_at(text, [it for it in HEAD.finditer(text) if it.start() <= at][-1])
+    return opened is not None and opened <= at
 
 
 def item_at(text, at):
@@ -91,22 +122,27 @@ class Edit:
                 old = line[5:]
             elif line.startswith("new:"):
                 self.pairs.append((file, old, line[4:].removeprefix(" ")))
-        self.parts, self.is_own = None, False
+        self.parts, self.is_own, self.changed, self.is_of_bodies = None, False, [], True
         self.fault = None if self.pairs else "it has no 'old:' and 'new:' pair"
         self.fault = self.fault or self.applied(crate, {})[1]
         if not self.fault:
-            self.parts, self.is_own = self.parts_in(crate)
+            self.find_functions(crate)
             self.fault = None if self.parts else "its last pair stands in no function of src/"
 
-    def parts_in(self, crate):
-        """The path of the function, or None where the edit is of no function."""
-        file, old, new = self.pairs[-1]
+    def find_functions(self, crate):
+        """Finds the function that the edit is of, those that its pairs change, and whether each changes no more than a body, or has a
+        function in place of a comment."""
+        file = self.pairs[-1][0]
         if {it[0] for it in self.pairs} != {file} or not file.startswith("src/"):
-            return None, False
-        text = pathlib.Path(crate.folder, file).read_text()
-        for _, earlier, later in self.pairs[:-1]:
-            text = text.replace(earlier, later)
-        return parts_at(file, text, text.find(old) + len(os.path.commonprefix([old, new])))
+            return
+        self.known, text = homes(crate), pathlib.Path(crate.folder, file).read_text()
+        for _, old, new in self.pairs:
+            at = text.find(old) + len(os.path.commonprefix([old, new]))
+            self.parts, self.is_own = parts_at(file, text, at, self.known)
+            self.changed.append(self.parts)
+            is_new = old.startswith("//") and new.startswith("fn ")
+            self.is_of_bodies = self.is_of_bodies and (is_new or bool(self.parts) and is_in_body(text, at))
+            text = text.replace(old, new)
 
     @property
     def function(self):
@@ -130,7 +166,7 @@ class Edit:
 
     def head_in(self, text):
         """Where the function's head stands in a text of its file."""
-        return next(it.start() for it in HEAD.finditer(text) if parts_at(self.pairs[-1][0], text, it.end())[0] == self.parts)
+        return next(it.start() for it in HEAD.finditer(text) if parts_at(self.pairs[-1][0], text, it.end(), self.known)[0] == self.parts)
 
     def twinned(self, crate, texts, name):
         """The texts with a twin of the function, of this name and with the edit made in it, behind the function; None where the edit
@@ -156,20 +192,24 @@ class Edit:
 
 
 class Round:
-    """The edits of one check: each with the end of the name of the function that it changes, and the texts with all of them made."""
+    """The edits of one check: each with the end of the name of the function that it changes, and the texts with all of them made.
+    Those that change no more than bodies share a check, in which the other functions can be held."""
 
-    def __init__(self):
-        self.functions, self.texts = {}, {}
+    def __init__(self, is_of_bodies):
+        self.functions, self.texts, self.twins, self.is_of_bodies = {}, {}, [], is_of_bodies
 
     def takes(self, crate, edit):
         """Takes an edit, in a twin of its function where another edit has changed the function or the edit's text. Answers whether it
         could."""
         function, texts = edit.function, None
+        if edit.is_of_bodies != self.is_of_bodies:
+            return False
         if function not in self.functions.values():
             texts = edit.applied(crate, self.texts)[0]
         if not texts:
             name = f"{edit.parts[-1]}_twin{len(self.functions)}"
             function, texts = "::".join([*edit.parts[-2:-1], name]), edit.twinned(crate, self.texts, name)
+            self.twins.append([*edit.parts[:-1], name])
         if texts:
             self.functions[edit], self.texts = function, texts
         return bool(texts)
@@ -180,14 +220,64 @@ def rounds(crate, edits):
     made = []
     for it in edits:
         if not any(batch.takes(crate, it) for batch in made):
-            made.append(Round())
+            made.append(Round(it.is_of_bodies))
             made[-1].takes(crate, it)
     return made
 
 
+# Functions that are held
+
+HOLE = "TakenAsProved"
+HELD = """use Rattle.{crate}.proofs.{path}.Statement.{{statement}}
+use Rattle.{crate}.proofs.{hole}.{{taken}}
+
+pub {own}_spec : {{M : Type 1}} → statement M
+{own}_spec = absurd taken
+"""
+# What only a test has is not there, and what another's type or a constant is made from is no matter of contracts alone.
+APART = re.compile(r"#\[(?:cycle|cfg|test)\b|\bconst fn\b|-> impl\b")
+
+
+def proofs_of(crate, parts):
+    """The proof files of a function, also of one that calls itself, and of the closures in it."""
+    folder, above = pathlib.Path(crate.folder, "proofs"), parts[: -2 if parts[-2:-1] and parts[-2][0].isupper() else -1]
+    own = [file for it in (parts[-1], f"+{parts[-1]}") for file in folder.joinpath(*parts[:-1], it).glob("*.antt")]
+    return [str(it.relative_to(crate.folder)) for it in [*own, *folder.joinpath(*above, "fn", *parts[len(above) :]).rglob("*.antt")]]
+
+
+def held_in(crate, file, text, changed, known):
+    """The text of a file in which each function has an endless body but those that an edit changes, and the paths of those that have."""
+    paths = []
+    for head in reversed(list(HEAD.finditer(text))):
+        (parts, is_own), (start, end) = parts_at(file, text, head.end(), known), item_at(text, head.start())
+        opened, indent = body_at(text, head), re.match(" *", head[0])[0]
+        if is_own and parts not in changed and opened and not APART.search(text[start:end]):
+            text = f"{text[:opened]}{indent}    loop {{}}\n{indent}}}\n{text[end:]}"
+            paths.append(parts)
+    return text, paths
+
+
+def held(crate, batch):
+    """Files that have each function taken by its contract but those that an edit of the round changes: in place of its body an endless
+    loop, and in place of its proof one hole, in which the check sees no goal that costs it anything."""
+    lib = pathlib.Path(crate.folder, "proofs/Lib.antt")
+    made = {
+        "proofs/Lib.antt": f"{lib.read_text() if lib.exists() else ''}\nmod {HOLE}\n",
+        f"proofs/{HOLE}.antt": "pub taken : ⊥\ntaken = ?\n",
+    }
+    changed, known = [path for it in batch.functions for path in it.changed] + batch.twins, homes(crate)
+    for file, text in sources(crate).items():
+        made[file], paths = held_in(crate, file, batch.texts.get(file, text), changed, known)
+        for parts in paths:
+            made.update(dict.fromkeys(proofs_of(crate, parts)))
+            made[f"proofs/{'/'.join(parts)}/Proof.antt"] = HELD.format(crate=crate.name, path=".".join(parts), hole=HOLE, own=parts[-1])
+    return {**batch.texts, **made}
+
+
 # What a check says
 
-FUNCTION = re.compile(r"fn (\w+)::(\S+): (not proved|no proof|proved)")
+# (a function reads as held where it, or what it calls, is)
+FUNCTION = re.compile(r"fn (\w+)::(\S+): (not proved|no proof|proved|no holes|depends on a hole)")
 # A goal that is left, before the line of its function.
 LEFT = re.compile(r"note: src/\S+:\d+:\d+: it is not proved .*\(`([^`\s]+)`\)")
 PROOF_FAULT = re.compile(r"(?:\./)?(proofs/(\S+)/(?:Answers|Invariants|Proof)\.antt):\d+:\d+: error")
@@ -210,7 +300,7 @@ class Report:
             elif fault:
                 self.faults.setdefault(fault[2].replace("/", "::").replace("::+", "::"), []).append(line)
             elif function:
-                if function[1] == crate.name and function[3] != "proved":
+                if function[1] == crate.name and function[3] in ("not proved", "no proof"):
                     self.left[function[2]] = goals
                 goals = []
 
@@ -240,32 +330,35 @@ def is_of(path, function):
 
 
 def copied(crate, texts, room):
-    """The crate with these texts, in a folder of its own: some stand in folders that the crate lacks."""
+    """The crate with these texts, in a folder of its own: some stand in folders that the crate lacks. A file with none is left out."""
     for part in RT.rtlib.PARTS:
         if os.path.isdir(f"{crate.folder}/{part}"):
             shutil.copytree(f"{crate.folder}/{part}", f"{room}/{part}")
     for path, text in texts.items():
         file = pathlib.Path(room, path)
         file.parent.mkdir(parents=True, exist_ok=True)
-        file.write_text(text)
+        file.unlink(missing_ok=True)
+        if text is not None:
+            file.write_text(text)
     made = copy.copy(crate)
     made.folder = room
     return made
 
 
-def tried(crate, batch, kept):
-    """Checks the crate with the edits of a round: those that are refused, the functions that are refused with no edit of theirs, and
-    what went wrong beside."""
+def tried(crate, batch, holds, kept=None):
+    """Checks the crate with the edits of a round, and with the other functions held where it holds: those that are refused, the functions
+    that are refused with no edit of theirs, and what went wrong beside."""
     # The edited functions and those that they call; where two functions have such a name, the whole crate.
     only = [word for it in batch.functions.values() for word in ("--only", it)]
+    flags = ["--jobs", "1", *(["--allow-holes"] if holds else [])]
     with tempfile.TemporaryDirectory(prefix="edited-") as room:
-        changed = copied(crate, batch.texts, room)
-        ran = RT.checked(changed, {}, ["--jobs", "1", *only], kept)
+        changed = copied(crate, held(crate, batch) if holds else batch.texts, room)
+        ran = RT.checked(changed, {}, [*flags, *only], kept)
         if ran.returncode == 2:
-            ran = RT.checked(changed, {}, ["--jobs", "1"], kept)
+            ran = RT.checked(changed, {}, flags, kept)
         # (what the proof of an edited function lacks is told of the function)
-        sources = [path for path in batch.texts if path.startswith("src/")]
-        unread = [it for it in ran.stdout.split("\n") if RT.unread(it, sources)]
+        edited = [path for path in batch.texts if path.startswith("src/")]
+        unread = [it for it in ran.stdout.split("\n") if RT.unread(it, edited)]
         if unread or ran.returncode != 1:
             return set(), [], unread[:1] or [f"the check ended with {ran.returncode}"]
         own = Report(changed, ran.stdout).refused()
@@ -289,14 +382,14 @@ def try_crate(crate, kept):
         say(f"{crate.name}/{os.path.basename(name)}: NOT TRIED: it is no edit right in must-fail/")
     left = []
     for number, batch in enumerate(rounds(crate, [it for it in edits if not it.fault])):
-        refused, astray, beside = tried(crate, batch, kept)
+        refused, astray, beside = tried(crate, batch, batch.is_of_bodies)
         say(f"{crate.name}: check {number + 1}: {len(refused)} of {len(batch.functions)} edits refused", *astray, *beside)
         left += [it for it in batch.functions if astray or it not in refused]
     failed = len(bad)
     for it in edits:
         refused, astray, beside = (set(), [], [it.fault]) if it.fault else (set(edits), [], [])
         if it in left:
-            refused, astray, beside = tried(crate, rounds(crate, [it])[0], kept)
+            refused, astray, beside = tried(crate, rounds(crate, [it])[0], False, kept)
         if it not in refused or astray:
             say(f"{crate.name}/{it.name}: NOT REFUSED", *(f"{path} is, and the edit is not of it" for path in astray), *beside)
             failed += 1

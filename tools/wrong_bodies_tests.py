@@ -19,18 +19,7 @@ ghost use Rattle.std.specs.Prelude.{◌≡◌, ◌+◌, ◌≤◌};
 
 """
 
-FIRM = """pub fn next(x: u32) -> u64
-    ensures { result ≡ x + 1 }
-{
-    u64::from(x) + 1
-}
-
-pub fn after_next(x: u32) -> u64
-    ensures { result ≡ x + 2 }
-{
-    next(x) + 1
-}
-
+COUNTED = """
 pub fn counted(to: u64) -> u64
     ensures { result ≡ to }
 {
@@ -42,18 +31,43 @@ pub fn counted(to: u64) -> u64
 }
 """
 
-# The proof file of `counted`, which its twin has too.
+FIRM = """pub fn next(x: u32) -> u64
+    ensures { result ≡ x + 1 }
+{
+    u64::from(x) + 1
+}
+
+pub fn after_next(x: u32) -> u64
+    ensures { result ≡ x + 2 }
+{
+    next(x) + 1
+}
+"""
+
+# The proof file of `counted`, which its twin has too; in the other crate `counted` is held.
 INVARIANTS = """use Rattle.std.proofs.Common.{◌≡◌}
-use Rattle.firm.proofs.counted.Given as goal
+use Rattle.%s.proofs.counted.Given as goal
 
 abbrev pub invariant-loop-place : goal.invariant-loop-place
 invariant-loop-place l = l.count ≡ l.place
 """
 
-WEAK = """pub fn most(x: u32, y: u32) -> u32
-    ensures { x ≤ result }
+WEAK = """pub struct Most {
+    most: u32,
+}
+
+impl Most {
+    pub fn of(x: u32, y: u32) -> u32
+        ensures { x ≤ result }
+    {
+        if x < y { y } else { x }
+    }
+}
+
+pub fn counted_and_one(to: u32) -> u64
+    ensures { result ≡ to + 1 }
 {
-    if x < y { y } else { x }
+    counted(u64::from(to)) + 1
 }
 """
 
@@ -66,14 +80,17 @@ EDITS = [
     ("firm", "counted_is_nothing", "count = place + 1;", "count = place * 0;"),
     ("weak", "most_is_below_the_first", "if x < y { y } else { x }", "if x < y { x } else { y }"),
     ("weak", "most_is_the_first", "if x < y { y } else { x }", "let _other = y; x"),
+    ("weak", "counted_and_nothing", "counted(u64::from(to)) + 1", "counted(u64::from(to))"),
     ("weak", "stands_twice", "x", "y"),
 ]
 
+# (where a check could not hold `counted`, it would refuse none)
 SAID = [
     "firm: check 1: 5 of 5 edits refused",
+    "weak: check 1: 2 of 3 edits refused",
     "weak/most_is_the_first.edit: NOT REFUSED; the check ended with 0",
     "weak/stands_twice.edit: NOT REFUSED; an 'old:' text is in src/lib.rt",
-    "6 passed, 2 failed",
+    "7 passed, 2 failed",
 ]
 
 
@@ -91,9 +108,9 @@ def make(top):
     for name, code in (("firm", FIRM), ("weak", WEAK)):
         (top / f"crates/{name}/src").mkdir(parents=True)
         (top / f"crates/{name}/must-fail").mkdir()
-        (top / f"crates/{name}/src/lib.rt").write_text(HEAD + code)
-    (top / "crates/firm/proofs/counted").mkdir(parents=True)
-    (top / "crates/firm/proofs/counted/Invariants.antt").write_text(INVARIANTS)
+        (top / f"crates/{name}/src/lib.rt").write_text(HEAD + code + COUNTED)
+        (top / f"crates/{name}/proofs/counted").mkdir(parents=True)
+        (top / f"crates/{name}/proofs/counted/Invariants.antt").write_text(INVARIANTS % name)
     for crate, name, old, new in EDITS:
         (top / f"crates/{crate}/must-fail/{name}.edit").write_text(f"file: src/lib.rt\nold: {old}\nnew: {new}\n")
 
@@ -186,13 +203,38 @@ def reads_a_long_message_whole(top):
     expect("a missing name, and a broken answer", ran.stdout.split() == ["False", "True"], ran.stdout + ran.stderr)
 
 
+# Whether an edit of a contract, one of a line that stands in no function, and one of a body, are of bodies alone.
+PLACES = """
+import pathlib, sys
+sys.path.insert(0, "tools")
+import wrong_bodies as it
+crate, body = [crate for crate in it.crates() if crate.name == "weak"][0], "counted(u64::from(to)) + "
+for old, new in (("result ≡ to + 1", "result ≡ to"), ("pub struct", "struct"), (body + "1", body + "2")):
+    pathlib.Path("one.edit").write_text(f"file: src/lib.rt\\nold: {old}\\nnew: {new}\\n")
+    print(it.Edit(crate, "one.edit").is_of_bodies)
+"""
+
+
+def tells_what_changes_no_more_than_a_body(top):
+    """Beside an edit of a contract, or of what stands in no function, no function is held."""
+    source = top / "crates/weak/src/lib.rt"
+    ran = subprocess.run([sys.executable, "-c", PLACES], cwd=top, capture_output=True, text=True, timeout=60)
+    expect(f"the places in {source.name}", ran.stdout.split() == ["False", "False", "True"], ran.stdout + ran.stderr)
+
+
+TESTS = (
+    *(tells_what_is_refused, tells_what_is_due, tries_a_forged_sum_at_its_turn),
+    *(reads_a_long_message_whole, tells_what_changes_no_more_than_a_body),
+)
+
+
 def tests():
     """How many tests passed, and how many failed."""
     passed = failed = 0
     with tempfile.TemporaryDirectory() as folder:
         top = pathlib.Path(folder) / "tree"
         make(top)
-        for test in (tells_what_is_refused, tells_what_is_due, tries_a_forged_sum_at_its_turn, reads_a_long_message_whole):
+        for test in TESTS:
             try:
                 test(top)
                 passed += 1

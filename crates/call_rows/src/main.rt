@@ -4,7 +4,9 @@
 #![tactic(auto)]
 
 mod fact_calls;
+mod given;
 mod message_calls;
+mod row;
 mod segment_calls;
 mod store_calls;
 

@@ -15,7 +15,7 @@ mod segments;
 mod summaries;
 
 use crate::message_calls::answers::{Answer, print};
-use crate::message_calls::bench::Bench;
+use crate::message_calls::bench::{Bench, new_bench};
 use crate::message_calls::rows::{Row, row_of};
 use redo_core::Roster;
 use std::alloc::AllocError;
@@ -50,7 +50,7 @@ fn print_rows(rt: &HostRuntime, bench: &mut Bench) -> io::Result<()> {
 
 pub fn print_section(rt: &HostRuntime) -> io::Result<()> {
     match Roster::new(1) {
-        Ok(roster) => print_rows(rt, &mut Bench::new(rt.alloc(), roster)?),
+        Ok(roster) => print_rows(rt, &mut *new_bench(rt.alloc(), roster)?),
         Err(_) => Ok(()),
     }
 }

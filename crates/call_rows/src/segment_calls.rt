@@ -11,10 +11,9 @@ mod changes;
 mod facts;
 mod pairs;
 mod questions;
-mod row;
 
+use crate::row::Row;
 use crate::segment_calls::bench::Bench;
-use crate::segment_calls::row::Row;
 use redo_core::Roster;
 use std::io;
 
@@ -25,20 +24,20 @@ fn print_row(rt: &HostRuntime, bench: &mut Bench, line: &str) -> io::Result<()> 
     bench::answer(bench, Row::of(rt, line))
 }
 
-fn print_rows(rt: &HostRuntime, mut bench: Bench) -> io::Result<()> {
+fn print_rows(rt: &HostRuntime, bench: &mut Bench) -> io::Result<()> {
     for line in rt.lines(rt.alloc()) {
         let line = line?;
         if line.as_str().starts_with("==") {
             return println!(rt; "{line}");
         }
-        print_row(rt, &mut bench, line.as_str())?;
+        print_row(rt, bench, line.as_str())?;
     }
     Ok(())
 }
 
 pub fn print_section(rt: &HostRuntime) -> io::Result<()> {
     match Roster::new(1) {
-        Ok(roster) => print_rows(rt, bench::new_bench(rt.alloc(), roster)?),
+        Ok(roster) => print_rows(rt, &mut *bench::new_bench(rt.alloc(), roster)?),
         Err(_) => Ok(()),
     }
 }

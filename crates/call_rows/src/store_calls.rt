@@ -4,14 +4,13 @@
 //! A line that begins with '#' names a group of rows and is printed as it is. `fresh N` begins anew, with a book of N readers.
 //! A line that names no call answers '?'.
 
-mod answers;
 mod bench;
 mod book_calls;
 mod image_calls;
 mod log_answers;
 mod log_changes;
-mod words;
 
+use crate::row::Row;
 use crate::store_calls::bench::Bench;
 use redo_core::Roster;
 use std::io;
@@ -20,10 +19,7 @@ fn print_row(rt: &HostRuntime, bench: &mut Bench, line: &str) -> io::Result<()> 
     if line.starts_with('#') {
         return println!(rt; "{line}");
     }
-    match bench.answer(rt.alloc(), words::of(line))? {
-        Some(answer) => println!(rt; "{line}: {answer:?}"),
-        None => println!(rt; "{line}: ?"),
-    }
+    bench::answer(bench, Row::of(rt, line))
 }
 
 fn print_rows(rt: &HostRuntime, bench: &mut Bench) -> io::Result<()> {
@@ -39,7 +35,7 @@ fn print_rows(rt: &HostRuntime, bench: &mut Bench) -> io::Result<()> {
 
 pub fn print_section(rt: &HostRuntime) -> io::Result<()> {
     match Roster::new(1) {
-        Ok(roster) => print_rows(rt, &mut Bench::new(rt.alloc(), roster)?),
+        Ok(roster) => print_rows(rt, &mut *bench::new_bench(rt.alloc(), roster)?),
         Err(_) => Ok(()),
     }
 }

@@ -46,16 +46,16 @@ abbrev pub began_by : GName → SavepointData → State → Began
 began_by lent saved s = record { lent = lent; state = brought_back saved s; points = saved.points; due = saved.due }
 
 -- the state has the form of a segment's, and these are its points and its due pages
-pub record IsWhole (s : State) (points : Points) (due : DueData) : Type 0 where
+pub record IsFormOf (s : State) (points : Points) (due : DueData) : Type 0 where
   pub form : IsSegment s
   pub points_are : HasPoints s.book s.held s.base points
   pub due_are : HasDue s.book s.held s.store due
 
 abbrev pub CanRollBack : Began → Type 0
-CanRollBack b = IsWhole b.state b.points b.due
+CanRollBack b = IsFormOf b.state b.points b.due
 
 -- it was taken of the state as it is, and nothing has come in since
 pub record IsSavepointOf (s : State) (saved : SavepointData) : Type 0 where
   pub book : saved.book ≡ s.book
   pub came : saved.came ≡ []
-  pub whole : IsWhole s saved.points saved.due
+  pub whole : IsFormOf s saved.points saved.due

@@ -5,7 +5,7 @@ ghost use Rattle.redo_core.specs.Data.{RecordData};
 ghost use Rattle.redo_core.specs.Keys.{key_of};
 ghost use Rattle.redo_core.specs.declared.keys.Key.{Key};
 ghost use Rattle.hot_log.specs.Held.{IsHeld};
-ghost use Rattle.segment_core.specs.Savepoint.{SavepointData, IsWhole, IsSavepointOf, NotesKey, brought_back};
+ghost use Rattle.segment_core.specs.Savepoint.{SavepointData, IsFormOf, IsSavepointOf, NotesKey, brought_back};
 
 use crate::due::Due;
 use crate::points::Points;
@@ -69,7 +69,7 @@ impl Segment {
 
     /// Brings the segment back. The savepoint is of no use afterwards.
     pub(crate) fn roll_back(&mut self, saved: &mut Savepoint)
-        requires { IsWhole (brought_back saved.old self.old) saved.old.points saved.old.due }
+        requires { IsFormOf (brought_back saved.old self.old) saved.old.points saved.old.due }
         ensures { self.new ≡ brought_back saved.old self.old }
     {
         take_out(&mut self.hot, &saved.came);

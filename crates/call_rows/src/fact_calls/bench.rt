@@ -22,14 +22,15 @@ fn facts_of(alloc: Global, line: &str) -> Result<Vec<Fact>, AllocError> {
     }
 }
 
-impl Bench {
-    pub fn new(alloc: Global, roster: Roster) -> Result<Bench, AllocError> {
-        Ok(Bench {
-            facts: Vec::new(alloc),
-            writer: Writer::new(alloc, roster)?,
-        })
-    }
+pub fn new_bench(alloc: Global, roster: Roster) -> Result<Box<Bench>, AllocError> {
+    let bench = Bench {
+        facts: Vec::new(alloc),
+        writer: Writer::new(alloc, roster)?,
+    };
+    Ok(Box::new(alloc, bench)?)
+}
 
+impl Bench {
     // Keeps the facts of a line, and says how many there are then.
     fn keep(&mut self, alloc: Global, line: &str) -> Result<String, AllocError> {
         let mut facts = facts_of(alloc, line)?;

@@ -21,23 +21,32 @@ pub struct Bench {
     facts: Vec<Fact>,
     segments: Vec<Segment>,
     messages: Vec<BytesMut>,
-    staging: Staging,
-    fleet: Fleet,
+    staging: Box<Staging>,
+    fleet: Box<Fleet>,
+}
+
+fn boxed_fleet(alloc: Global, roster: Roster, nodes: u16) -> Result<Box<Fleet>, AllocError> {
+    Ok(Box::new(alloc, Fleet::new(alloc, roster, nodes)?)?)
+}
+
+fn boxed_staging(alloc: Global, name: u64, total: u32) -> Result<Box<Staging>, AllocError> {
+    Ok(Box::new(alloc, Staging::new(alloc, name, total))?)
+}
+
+pub fn new_bench(alloc: Global, roster: Roster) -> Result<Box<Bench>, AllocError> {
+    let bench = Bench {
+        alloc,
+        roster,
+        facts: Vec::new(alloc),
+        segments: Vec::new(alloc),
+        messages: Vec::new(alloc),
+        staging: boxed_staging(alloc, 0, 0)?,
+        fleet: boxed_fleet(alloc, roster, 0)?,
+    };
+    Ok(Box::new(alloc, bench)?)
 }
 
 impl Bench {
-    pub fn new(alloc: Global, roster: Roster) -> Result<Bench, AllocError> {
-        Ok(Bench {
-            alloc,
-            roster,
-            facts: Vec::new(alloc),
-            segments: Vec::new(alloc),
-            messages: Vec::new(alloc),
-            staging: Staging::new(alloc, 0, 0),
-            fleet: Fleet::new(alloc, roster, 0)?,
-        })
-    }
-
     /// Carries out the call of a line.
     pub fn answer(&mut self, row: Row<'_>) -> Result<Answer, AllocError> {
         match row.word {
@@ -54,7 +63,7 @@ impl Bench {
             "take" | "fold" | "discard" => change(&mut self.segments, &self.facts, row),
             "front" | "base" | "same" => look(&self.segments, row),
             "fleet" => {
-                self.fleet = Fleet::new(self.alloc, self.roster, short(row.numbers[0]))?;
+                self.fleet = boxed_fleet(self.alloc, self.roster, short(row.numbers[0]))?;
                 Ok(Answer::Word("made"))
             }
             "step" => step(&mut self.fleet, &self.facts, row_of(row.rest)),
@@ -67,11 +76,21 @@ impl Bench {
     fn begin(&mut self, row: Row<'_>) -> Result<Answer, AllocError> {
         match Roster::new(byte(row.numbers[0])) {
             Ok(roster) => {
-                *self = Bench::new(self.alloc, roster)?;
+                self.empty(roster)?;
                 Ok(Answer::Word("begun"))
             }
             Err(_) => Ok(UNKNOWN),
         }
+    }
+
+    fn empty(&mut self, roster: Roster) -> Result<(), AllocError> {
+        self.fleet = boxed_fleet(self.alloc, roster, 0)?;
+        self.staging = boxed_staging(self.alloc, 0, 0)?;
+        self.roster = roster;
+        self.facts.clear();
+        self.segments.clear();
+        self.messages.clear();
+        Ok(())
     }
 
     /// Keeps the fact that a line spells, and tells its number.
@@ -106,7 +125,7 @@ impl Bench {
             "answer" => self.reply(row),
             "absorb" => Ok(self.absorb(row)),
             "staging" => {
-                self.staging = Staging::new(self.alloc, row.numbers[0], long(row.numbers[1]));
+                self.staging = boxed_staging(self.alloc, row.numbers[0], long(row.numbers[1]))?;
                 Ok(Answer::Word("empty"))
             }
             "finish" => finish(&self.staging, &mut self.segments),

@@ -5,16 +5,19 @@ use redo_wire::{Piece, PieceContent, decode_piece, encode_piece};
 use segment_core::Segment;
 use std::alloc::{AllocError, Global};
 
+fn spelled_piece(alloc: Global, piece: &Piece) -> Result<BytesMut, AllocError> {
+    let mut bytes = BytesMut::new(alloc);
+    match encode_piece(&mut bytes, piece) {
+        Ok(()) => Ok(bytes),
+        Err(_) => Err(AllocError),
+    }
+}
+
 /// The bytes of each piece of a snapshot.
 fn pieces_of(alloc: Global, snapshot: &Snapshot) -> Result<Vec<BytesMut>, AllocError> {
     let mut pieces = Vec::new(alloc);
     for index in 0..snapshot.pieces() {
-        let piece = snapshot.piece(index)?;
-        let mut bytes = BytesMut::new(alloc);
-        let Ok(()) = encode_piece(&mut bytes, &piece) else {
-            return Err(AllocError);
-        };
-        pieces.push(bytes)?;
+        pieces.push(spelled_piece(alloc, &snapshot.piece(index)?)?)?;
     }
     Ok(pieces)
 }

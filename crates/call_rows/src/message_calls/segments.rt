@@ -1,6 +1,7 @@
+use crate::given::patches_of;
 use crate::message_calls::answers::{Answer, MEMORY, UNKNOWN, fault, refusal, yes};
 use crate::message_calls::rows::Row;
-use redo_core::{Fact, Patch, Record, Roster, Write};
+use redo_core::{Fact, Record, Roster};
 use row_words::{nth, nth_mut, short};
 use segment_core::{Segment, Taken};
 use segment_join::same;
@@ -34,8 +35,7 @@ fn compare(one: &Segment, other: &Segment) -> Answer {
 
 /// A record of one byte at the beginning of its page, which no other record writes.
 fn link(alloc: Global, number: u16) -> Result<Fact, AllocError> {
-    let mut patches = Vec::new(alloc);
-    patches.push(Patch::Bytes(Write::new(0, b"a".to_vec(alloc)?)))?;
+    let patches = patches_of(alloc, 0, b'a', 1)?;
     let back = u64::from(number).saturating_sub(1);
     match Record::with(0, u64::from(number), back, number, 0, false, patches) {
         Ok(redo) => Ok(Fact::Record(redo)),

@@ -2,7 +2,9 @@ use crate::message_calls::answers::{Answer, MEMORY, UNKNOWN, fault, refusal, unc
 use crate::message_calls::pieces::told_piece;
 use bytes::BytesMut;
 use gossip_core::{AbsorbRefusal, absorb, reply, summary};
-use redo_wire::{Delta, decode_delta, decode_piece, decode_summary, encode_delta, encode_summary};
+use redo_wire::{
+    Delta, Summary, decode_delta, decode_piece, decode_summary, encode_delta, encode_summary,
+};
 use segment_core::Segment;
 use std::alloc::{AllocError, Global};
 
@@ -44,31 +46,46 @@ pub fn answer(
     }
 }
 
-/// Brings what an answer's bytes tell, beyond the question of other bytes, into a segment.
-pub fn absorb_bytes(alloc: Global, segment: &mut Segment, asked: &[u8], answered: &[u8]) -> Answer {
-    let Ok(asked) = decode_summary(alloc, asked) else {
-        return UNKNOWN;
-    };
-    let Ok(delta) = decode_delta(alloc, answered) else {
-        return UNKNOWN;
-    };
-    match absorb(segment, &asked, &delta) {
+fn absorb_delta(segment: &mut Segment, asked: &Summary, delta: &Delta) -> Answer {
+    match absorb(segment, asked, delta) {
         Ok(()) => Answer::Word("absorbed"),
         Err(AbsorbRefusal::Uncovered { shown }) => uncovered(shown),
         Err(AbsorbRefusal::Refused(why)) => refusal(why),
     }
 }
 
+fn absorb_answer(alloc: Global, segment: &mut Segment, asked: &Summary, answered: &[u8]) -> Answer {
+    match decode_delta(alloc, answered) {
+        Ok(delta) => absorb_delta(segment, asked, &delta),
+        Err(_) => UNKNOWN,
+    }
+}
+
+/// Brings what an answer's bytes tell, beyond the question of other bytes, into a segment.
+pub fn absorb_bytes(alloc: Global, segment: &mut Segment, asked: &[u8], answered: &[u8]) -> Answer {
+    match decode_summary(alloc, asked) {
+        Ok(asked) => absorb_answer(alloc, segment, &asked, answered),
+        Err(_) => UNKNOWN,
+    }
+}
+
+fn put_times(out: &mut BytesMut, bytes: &[u8], times: u16) -> Result<(), AllocError> {
+    for _ in 0..times {
+        out.extend_from_slice(bytes)?;
+    }
+    Ok(())
+}
+
 /// Appends what a word spells: hexadecimal digits, as many times as the number before a star says. False where it spells nothing.
 fn put_word(alloc: Global, out: &mut BytesMut, word: &str) -> Result<bool, AllocError> {
     let (count, digits) = word.split_once('*').unwrap_or(("1", word));
-    let Ok(bytes) = hex::decode(alloc, digits) else {
-        return Ok(false);
-    };
-    for _ in 0..count.parse::<u16>().unwrap_or(0) {
-        out.extend_from_slice(&bytes)?;
+    match hex::decode(alloc, digits) {
+        Ok(bytes) => {
+            put_times(out, &bytes, count.parse::<u16>().unwrap_or(0))?;
+            Ok(true)
+        }
+        Err(_) => Ok(false),
     }
-    Ok(true)
 }
 
 /// The bytes that words spell.

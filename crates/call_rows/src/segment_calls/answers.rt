@@ -1,4 +1,4 @@
-use crate::segment_calls::row::Row;
+use crate::row::Row;
 use redo_core::{Fact, Key, Page, Refused};
 use segment_core::{CommitFault, Folded, Front, ReadFault, Refusal, Segment, Taken};
 use std::alloc::AllocError;

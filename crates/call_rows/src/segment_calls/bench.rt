@@ -1,4 +1,4 @@
-use crate::segment_calls::row::Row;
+use crate::row::Row;
 use crate::segment_calls::{cache_calls, changes};
 use read_cache::CachedSegment;
 use redo_core::{Fact, Roster};
@@ -33,17 +33,18 @@ fn cached(alloc: Global, copied: &Segment, pages: usize) -> Result<Box<CachedSeg
     }
 }
 
-pub fn new_bench(alloc: Global, roster: Roster) -> Result<Bench, AllocError> {
+pub fn new_bench(alloc: Global, roster: Roster) -> Result<Box<Bench>, AllocError> {
     let segment = boxed(alloc, Segment::new(alloc, roster))?;
     let cached = cached(alloc, &segment, 0)?;
-    Ok(Bench {
+    let bench = Bench {
         segment,
         other: boxed(alloc, Segment::new(alloc, roster))?,
         before: boxed(alloc, Segment::new(alloc, roster))?,
         cached,
         given: Vec::new(alloc),
         noted: Vec::new(alloc),
-    })
+    };
+    Ok(Box::new(alloc, bench)?)
 }
 
 fn begin_anew(bench: &mut Bench, row: Row) -> io::Result<()> {

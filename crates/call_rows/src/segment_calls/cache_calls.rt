@@ -1,6 +1,6 @@
+use crate::row::Row;
 use crate::segment_calls::answers::{committed, page, taken, tidied};
 use crate::segment_calls::facts;
-use crate::segment_calls::row::Row;
 use read_cache::CachedSegment;
 use segment_core::ReadFault;
 use std::io;

@@ -1,6 +1,7 @@
+use crate::given;
+use crate::row::Row;
 use crate::segment_calls::answers::{Shown, committed, show, taken, tidied};
 use crate::segment_calls::bench::Bench;
-use crate::segment_calls::row::Row;
 use crate::segment_calls::{facts, pairs};
 use redo_core::Fact;
 use segment_core::{Segment, Union};
@@ -26,7 +27,7 @@ fn commit(segment: &mut Segment, row: Row) -> io::Result<()> {
 
 fn adopt(segment: &mut Segment, row: Row, given: &[(u16, u64, u8)]) -> io::Result<()> {
     let base = row.number(0);
-    let pages = facts::pages(row.alloc(), given)?;
+    let pages = given::pages(row.alloc(), given)?;
     if segment.front().min < base {
         return row.word("Unfit");
     }
@@ -38,7 +39,7 @@ fn adopt(segment: &mut Segment, row: Row, given: &[(u16, u64, u8)]) -> io::Resul
 
 fn unite(segment: &mut Segment, row: Row, given: &[(u16, u64, u8)]) -> io::Result<()> {
     let base = row.number(0);
-    let images = facts::images(row.alloc(), given)?;
+    let images = given::images(row.alloc(), given)?;
     if segment.front().min < base {
         return row.word("Unfit");
     }

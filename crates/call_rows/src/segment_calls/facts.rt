@@ -1,13 +1,12 @@
-use crate::segment_calls::row::Row;
-use redo_core::{Advance, Cut, Fact, Page, Patch, Record, SharedPage, Write};
-use segment_core::{BaseImage, Folded};
-use std::alloc::{AllocError, Global};
+use crate::given::{page_of, patches_of};
+use crate::row::Row;
+use redo_core::{Advance, Cut, Fact, Record};
+use segment_core::Folded;
+use std::alloc::AllocError;
 
 /// A record of one write: epoch, number, segment backlink, page, block backlink, offset, byte, and how many times the byte stands.
 fn record(row: Row, init: bool) -> Result<Option<Fact>, AllocError> {
-    let bytes = vec![in row.alloc(); row.byte(6); usize::from(row.byte(7))]?;
-    let mut patches = Vec::new(row.alloc());
-    patches.push(Patch::Bytes(Write::new(row.short(5), bytes)))?;
+    let patches = patches_of(row.alloc(), row.short(5), row.byte(6), row.byte(7))?;
     let (epoch, page) = (row.short(0), row.short(3));
     match Record::with(
         epoch,
@@ -48,39 +47,10 @@ pub fn of(row: Row, name: &str) -> Result<Option<Fact>, AllocError> {
     }
 }
 
-fn page_of(alloc: Global, byte: u8) -> Result<Page, AllocError> {
-    Ok(Page::new(vec![in alloc; byte; 4096]?))
-}
-
-fn shared_page_of(alloc: Global, byte: u8) -> Result<SharedPage, AllocError> {
-    Ok(SharedPage::new(alloc, page_of(alloc, byte)?)?)
-}
-
 pub fn folded(row: Row) -> Result<Folded, AllocError> {
     Ok(Folded {
         page: row.short(0),
         version: row.number(1),
         image: page_of(row.alloc(), row.byte(2))?,
     })
-}
-
-/// Pages full of one byte.
-pub fn pages(
-    alloc: Global,
-    given: &[(u16, u64, u8)],
-) -> Result<Vec<(u16, SharedPage)>, AllocError> {
-    let mut pages = Vec::new(alloc);
-    for image in given {
-        pages.push((image.0, shared_page_of(alloc, image.2)?))?;
-    }
-    Ok(pages)
-}
-
-/// Images full of one byte.
-pub fn images(alloc: Global, given: &[(u16, u64, u8)]) -> Result<Vec<BaseImage>, AllocError> {
-    let mut images = Vec::new(alloc);
-    for image in given {
-        images.push(BaseImage::new(image.0, image.1, shared_page_of(alloc, image.2)?))?;
-    }
-    Ok(images)
 }

@@ -1,6 +1,6 @@
+use crate::row::Row;
 use crate::segment_calls::bench::Bench;
 use crate::segment_calls::questions;
-use crate::segment_calls::row::Row;
 use segment_core::Segment;
 use segment_join::{covers, join, kept_of, same};
 use std::alloc::AllocError;

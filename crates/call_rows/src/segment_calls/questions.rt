@@ -1,5 +1,5 @@
+use crate::row::Row;
 use crate::segment_calls::answers::{page, show};
-use crate::segment_calls::row::Row;
 use redo_core::Key;
 use segment_core::Segment;
 use std::alloc::AllocError;

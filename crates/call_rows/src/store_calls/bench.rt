@@ -1,61 +1,81 @@
-use crate::store_calls::answers::Answer;
-use crate::store_calls::words::Call;
-use crate::store_calls::{book_calls, image_calls, log_answers, log_changes};
+use crate::row::Row;
+use crate::store_calls::log_changes;
 use epoch_book::EpochBook;
-use hot_log::HotLog;
+use hot_log::{HotLog, View};
 use page_base::BaseStore;
 use redo_core::Roster;
-use row_words::byte;
 use std::alloc::{AllocError, Global};
+use std::io;
 
-/// What the calls are made on.
+/// What the calls are made on, each in a box, so that few calls carry the whole of one.
 #[derive(Drop)]
 pub struct Bench {
-    pub book: EpochBook,
-    pub log: HotLog,
+    pub book: Box<EpochBook>,
+    pub log: Box<HotLog>,
     /// The log that `log` is compared with.
-    pub other: HotLog,
-    pub store: BaseStore,
+    pub other: Box<HotLog>,
+    pub store: Box<BaseStore>,
     /// The store that `swap_stores` exchanges with `store`.
-    pub spare: BaseStore,
+    pub spare: Box<BaseStore>,
     /// Page, version and byte of the images that `adopt` and `merge` are given.
     pub given: Vec<(u16, u64, u8)>,
 }
 
 impl Bench {
-    pub fn new(alloc: Global, roster: Roster) -> Result<Bench, AllocError> {
-        Ok(Bench {
-            book: EpochBook::new(alloc, roster)?,
-            log: HotLog::new(alloc),
-            other: HotLog::new(alloc),
-            store: BaseStore::new(alloc),
-            spare: BaseStore::new(alloc),
-            given: Vec::new(alloc),
-        })
+    pub fn view(&self) -> View<'_> {
+        View {
+            book: &self.book,
+            held: &self.log,
+        }
     }
+}
 
-    fn begin_anew(&mut self, alloc: Global, readers: u64) -> Result<Answer, AllocError> {
-        let Ok(roster) = Roster::new(byte(readers)) else {
-            return Ok(Answer::Misshapen);
-        };
-        *self = Bench::new(alloc, roster)?;
-        Ok(Answer::Done)
-    }
+fn boxed_log(alloc: Global) -> Result<Box<HotLog>, AllocError> {
+    Ok(Box::new(alloc, HotLog::new(alloc))?)
+}
 
-    /// What a call answers, or None for a name of no call.
-    pub fn answer(&mut self, alloc: Global, call: Call) -> Result<Option<Answer>, AllocError> {
-        if call.name == "fresh" {
-            return Ok(Some(self.begin_anew(alloc, call.numbers[0])?));
-        }
-        if let Some(answer) = log_changes::answer(self, alloc, call)? {
-            return Ok(Some(answer));
-        }
-        if let Some(answer) = log_answers::answer(self, alloc, call)? {
-            return Ok(Some(answer));
-        }
-        if let Some(answer) = book_calls::answer(self, alloc, call)? {
-            return Ok(Some(answer));
-        }
-        image_calls::answer(self, alloc, call)
+fn boxed_store(alloc: Global) -> Result<Box<BaseStore>, AllocError> {
+    Ok(Box::new(alloc, BaseStore::new(alloc))?)
+}
+
+fn boxed_book(alloc: Global, roster: Roster) -> Result<Box<EpochBook>, AllocError> {
+    Ok(Box::new(alloc, EpochBook::new(alloc, roster)?)?)
+}
+
+pub fn new_bench(alloc: Global, roster: Roster) -> Result<Box<Bench>, AllocError> {
+    let bench = Bench {
+        book: boxed_book(alloc, roster)?,
+        log: boxed_log(alloc)?,
+        other: boxed_log(alloc)?,
+        store: boxed_store(alloc)?,
+        spare: boxed_store(alloc)?,
+        given: Vec::new(alloc),
+    };
+    Ok(Box::new(alloc, bench)?)
+}
+
+fn empty(bench: &mut Bench, alloc: Global) -> Result<(), AllocError> {
+    bench.given.clear();
+    bench.log = boxed_log(alloc)?;
+    bench.other = boxed_log(alloc)?;
+    bench.store = boxed_store(alloc)?;
+    bench.spare = boxed_store(alloc)?;
+    Ok(())
+}
+
+fn begin_anew(bench: &mut Bench, row: Row) -> io::Result<()> {
+    let Ok(roster) = Roster::new(row.byte(0)) else {
+        return row.word("Misshapen");
+    };
+    bench.book = boxed_book(row.alloc(), roster)?;
+    empty(bench, row.alloc())?;
+    row.word("Done")
+}
+
+/// Prints what a call answers, or '?' for a name of no call.
+pub fn answer(bench: &mut Bench, row: Row) -> io::Result<()> {
+    match row.name {
+        "fresh" => begin_anew(bench, row),
+        _ => log_changes::answer(bench, row),
     }
 }

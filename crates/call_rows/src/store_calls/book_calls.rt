@@ -1,68 +1,66 @@
-use crate::store_calls::answers::Answer;
+use crate::row::Row;
 use crate::store_calls::bench::Bench;
-use crate::store_calls::words::Call;
+use crate::store_calls::image_calls;
 use epoch_book::{BookRefusal, EpochBook, Learnt};
 use redo_core::{Advance, Cut};
-use row_words::{byte, short};
-use std::alloc::{AllocError, Global};
+use std::alloc::AllocError;
+use std::io;
 
-fn learnt(outcome: Result<Learnt, BookRefusal>) -> Result<Answer, AllocError> {
+fn learnt(row: Row, outcome: Result<Learnt, BookRefusal>) -> io::Result<()> {
     match outcome {
-        Ok(learnt) => Ok(Answer::Learnt(learnt)),
-        Err(BookRefusal::Memory) => Err(AllocError),
-        Err(refusal) => Ok(Answer::BookRefused(refusal)),
+        Ok(learnt) => row.one("Learnt", &learnt),
+        Err(BookRefusal::Memory) => row.done(Err(AllocError)),
+        Err(refusal) => row.one("BookRefused", &refusal),
     }
 }
 
-fn with_cut(book: &mut EpochBook, call: Call) -> Result<Answer, AllocError> {
-    let [epoch, lo, hi, _] = call.numbers;
-    match Cut::new(short(epoch), lo, hi) {
-        Ok(cut) if call.name == "has_cut" => Ok(Answer::Flag(book.has_cut(cut))),
-        Ok(cut) => learnt(book.learn_cut(cut)),
-        Err(_) => Ok(Answer::Misshapen),
+fn with_cut(book: &mut EpochBook, row: Row) -> io::Result<()> {
+    match Cut::new(row.short(0), row.number(1), row.number(2)) {
+        Ok(cut) if row.name == "has_cut" => row.one("Flag", &book.has_cut(cut)),
+        Ok(cut) => learnt(row, book.learn_cut(cut)),
+        Err(_) => row.word("Misshapen"),
     }
 }
 
-fn with_advance(book: &mut EpochBook, call: Call) -> Result<Answer, AllocError> {
-    let [reader, epoch, point, _] = call.numbers;
-    match Advance::of_reader(byte(reader), short(epoch), point) {
-        Ok(advance) if call.name == "has_advance" => Ok(Answer::Flag(book.has_advance(advance))),
-        Ok(advance) => learnt(book.learn_advance(advance)),
-        Err(_) => Ok(Answer::Misshapen),
+fn with_advance(book: &mut EpochBook, row: Row) -> io::Result<()> {
+    match Advance::of_reader(row.byte(0), row.short(1), row.number(2)) {
+        Ok(advance) if row.name == "has_advance" => row.one("Flag", &book.has_advance(advance)),
+        Ok(advance) => learnt(row, book.learn_advance(advance)),
+        Err(_) => row.word("Misshapen"),
     }
 }
 
-fn copy_book(book: &mut EpochBook) -> Result<Answer, AllocError> {
+fn copy_book(book: &mut EpochBook, row: Row) -> io::Result<()> {
     *book = book.copy()?;
-    Ok(Answer::Done)
+    row.word("Done")
 }
 
-fn told(book: &EpochBook) -> Answer {
-    Answer::Told(book.complete_epoch(), book.min_point(), book.waits().len())
+// Prints the complete epoch, the minimum read point, and how many advances wait.
+fn told(book: &EpochBook, row: Row) -> io::Result<()> {
+    let told = (book.complete_epoch(), book.min_point(), book.waits().len());
+    row.parts("Told", &told)
 }
 
-fn shown(book: &EpochBook, call: Call) -> Option<Answer> {
-    let [first, second, _, _] = call.numbers;
-    Some(match call.name {
-        "told" => told(book),
-        "cuts" => Answer::Number(book.cuts().len() as u64),
-        "stands" => Answer::Stands(book.stands(short(first), second)),
-        "least_lo" => Answer::Found(book.least_lo(short(first))),
-        "last_cut_at" => Answer::Number(u64::from(book.last_cut_at(first))),
-        _ => return None,
-    })
+/// Prints what a call of the book answers, or another call.
+pub fn answer(bench: &mut Bench, row: Row) -> io::Result<()> {
+    match row.name {
+        "cut" | "has_cut" => with_cut(&mut bench.book, row),
+        "advance" | "has_advance" => with_advance(&mut bench.book, row),
+        "copy_book" => copy_book(&mut bench.book, row),
+        _ => shown(bench, row),
+    }
 }
 
-/// What a call of a book answers, or None for another call.
-pub fn answer(bench: &mut Bench, alloc: Global, call: Call) -> Result<Option<Answer>, AllocError> {
-    let book = &mut bench.book;
-    match call.name {
-        "cut" => Ok(Some(with_cut(book, call)?)),
-        "has_cut" => Ok(Some(with_cut(book, call)?)),
-        "advance" => Ok(Some(with_advance(book, call)?)),
-        "has_advance" => Ok(Some(with_advance(book, call)?)),
-        "copy_book" => Ok(Some(copy_book(book)?)),
-        "points" => Ok(Some(Answer::Numbers(book.points().to_vec(alloc)?))),
-        _ => Ok(shown(book, call)),
+// Prints what the book tells, or another answer.
+fn shown(bench: &mut Bench, row: Row) -> io::Result<()> {
+    let book = &bench.book;
+    match row.name {
+        "points" => row.one("Numbers", &book.points()),
+        "told" => told(book, row),
+        "cuts" => row.one("Number", &book.cuts().len()),
+        "stands" => row.one("Stands", &book.stands(row.short(0), row.number(1))),
+        "least_lo" => row.one("Found", &book.least_lo(row.short(0))),
+        "last_cut_at" => row.one("Number", &book.last_cut_at(row.number(0))),
+        _ => image_calls::answer(bench, row),
     }
 }

@@ -1,111 +1,101 @@
-use crate::store_calls::answers::Answer;
+use crate::given::{images, page_of, pages};
+use crate::row::Row;
 use crate::store_calls::bench::Bench;
-use crate::store_calls::words::Call;
-use page_base::{BaseImage, BaseStore};
-use redo_core::{Page, SharedPage};
-use row_words::{byte, short};
-use std::alloc::{AllocError, Global};
-use std::mem;
+use page_base::BaseStore;
+use std::alloc::AllocError;
+use std::{io, mem};
 
-// A page whose every byte is the one given.
-fn page_of(alloc: Global, byte: u8) -> Result<Page, AllocError> {
-    Ok(Page::new(vec![in alloc; byte; 4096]?))
-}
-
-fn shared_page_of(alloc: Global, byte: u8) -> Result<SharedPage, AllocError> {
-    Ok(SharedPage::new(alloc, page_of(alloc, byte)?)?)
-}
-
-fn raise(store: &mut BaseStore, alloc: Global, numbers: [u64; 4]) -> Result<Answer, AllocError> {
-    let [page, version, every, _] = numbers;
-    let image = page_of(alloc, byte(every))?;
-    if store.raise(short(page), version, image).is_err() {
-        return Err(AllocError);
+fn raise(store: &mut BaseStore, row: Row) -> io::Result<()> {
+    let image = page_of(row.alloc(), row.byte(2))?;
+    if store.raise(row.short(0), row.number(1), image).is_err() {
+        return row.done(Err(AllocError));
     }
-    Ok(Answer::Done)
+    row.word("Done")
 }
 
-fn give(given: &mut Vec<(u16, u64, u8)>, numbers: [u64; 4]) -> Result<Answer, AllocError> {
-    let [page, version, every, _] = numbers;
-    given.push((short(page), version, byte(every)))?;
-    Ok(Answer::Done)
+fn give(given: &mut Vec<(u16, u64, u8)>, row: Row) -> io::Result<()> {
+    given.push((row.short(0), row.number(1), row.byte(2)))?;
+    row.word("Done")
 }
 
 // Adopts what was given, at one version.
-fn adopt(bench: &mut Bench, alloc: Global, base: u64) -> Result<Answer, AllocError> {
-    let mut pages = Vec::new(alloc);
-    for (page, _, every) in &bench.given {
-        pages.push((*page, shared_page_of(alloc, *every)?))?;
-    }
+fn adopt(bench: &mut Bench, row: Row) -> io::Result<()> {
+    let pages = pages(row.alloc(), &bench.given)?;
     bench.given.clear();
-    if bench.store.adopt(base, pages).is_err() {
-        return Err(AllocError);
+    if bench.store.adopt(row.number(0), pages).is_err() {
+        return row.done(Err(AllocError));
     }
-    Ok(Answer::Done)
+    row.word("Done")
 }
 
 // Merges what was given, over a floor.
-fn merge(bench: &mut Bench, alloc: Global, floor: u64) -> Result<Answer, AllocError> {
-    let mut images = Vec::new(alloc);
-    for (page, version, every) in &bench.given {
-        images.push(BaseImage::new(*page, *version, shared_page_of(alloc, *every)?))?;
-    }
+fn merge(bench: &mut Bench, row: Row) -> io::Result<()> {
+    let images = images(row.alloc(), &bench.given)?;
     bench.given.clear();
-    if bench.store.merge(floor, images).is_err() {
-        return Err(AllocError);
+    if bench.store.merge(row.number(0), images).is_err() {
+        return row.done(Err(AllocError));
     }
-    Ok(Answer::Done)
+    row.word("Done")
 }
 
-fn copy_store(bench: &mut Bench) -> Result<Answer, AllocError> {
-    bench.spare = bench.store.copy()?;
-    Ok(Answer::Done)
+fn copy_store(bench: &mut Bench, row: Row) -> io::Result<()> {
+    *bench.spare = bench.store.copy()?;
+    row.word("Done")
 }
 
-fn swap_stores(bench: &mut Bench) -> Answer {
+fn swap_stores(bench: &mut Bench, row: Row) -> io::Result<()> {
     mem::swap(&mut bench.store, &mut bench.spare);
-    Answer::Done
+    row.word("Done")
 }
 
-fn images(store: &BaseStore, alloc: Global) -> Result<Answer, AllocError> {
-    let mut shown = Vec::new(alloc);
+// Prints the page, the version and the first byte of each stored image.
+fn show_images(store: &BaseStore, row: Row) -> io::Result<()> {
+    let mut shown = Vec::new(row.alloc());
     for image in store.pages() {
-        shown.push((
-            image.page(),
-            image.version(),
-            image.image().page().bytes()[0],
-        ))?;
+        let first = image.image().page().bytes()[0];
+        shown.push((image.page(), image.version(), first))?;
     }
-    Ok(Answer::Images(shown))
+    row.one("Images", &shown)
 }
 
-fn image(store: &BaseStore, page: u16) -> Result<Answer, AllocError> {
+// Prints the version of a page, and the last byte of its image.
+fn show_image(store: &BaseStore, row: Row) -> io::Result<()> {
+    let page = row.short(0);
     let image = store.image(page)?;
-    Ok(Answer::Image(store.version(page), image.bytes()[4095]))
+    row.parts("Image", &(store.version(page), image.bytes()[4095]))
 }
 
-// What a call that reads the store answers.
-fn shown(store: &BaseStore, alloc: Global, call: Call) -> Result<Option<Answer>, AllocError> {
-    let page = short(call.numbers[0]);
-    Ok(Some(match call.name {
-        "images" => images(store, alloc)?,
-        "image" => image(store, page)?,
-        "is_zero" => Answer::Flag(store.image(page)?.is_zero()),
-        "floor" => Answer::Number(store.floor()),
-        "stored_image" => Answer::Found(store.stored_image(page).map(|image| image.version())),
-        _ => return Ok(None),
-    }))
+fn is_zero(store: &BaseStore, row: Row) -> io::Result<()> {
+    let image = store.image(row.short(0))?;
+    row.one("Flag", &image.is_zero())
 }
 
-/// What a call of a store answers, or None for another call.
-pub fn answer(bench: &mut Bench, alloc: Global, call: Call) -> Result<Option<Answer>, AllocError> {
-    match call.name {
-        "raise" => Ok(Some(raise(&mut bench.store, alloc, call.numbers)?)),
-        "give" => Ok(Some(give(&mut bench.given, call.numbers)?)),
-        "adopt" => Ok(Some(adopt(bench, alloc, call.numbers[0])?)),
-        "merge" => Ok(Some(merge(bench, alloc, call.numbers[0])?)),
-        "copy_store" => Ok(Some(copy_store(bench)?)),
-        "swap_stores" => Ok(Some(swap_stores(bench))),
-        _ => shown(&bench.store, alloc, call),
+fn stored_version(store: &BaseStore, row: Row) -> io::Result<()> {
+    let stored = store.stored_image(row.short(0));
+    row.one("Found", &stored.map(|image| image.version()))
+}
+
+/// Prints what a call of a store answers, or another answer.
+pub fn answer(bench: &mut Bench, row: Row) -> io::Result<()> {
+    match row.name {
+        "raise" => raise(&mut bench.store, row),
+        "give" => give(&mut bench.given, row),
+        "adopt" => adopt(bench, row),
+        "merge" => merge(bench, row),
+        "copy_store" => copy_store(bench, row),
+        "swap_stores" => swap_stores(bench, row),
+        _ => shown(&bench.store, row),
+    }
+}
+
+// Prints what the store tells, or '?' for a name of no call.
+fn shown(store: &BaseStore, row: Row) -> io::Result<()> {
+    match row.name {
+        "images" => show_images(store, row),
+        "image" => show_image(store, row),
+        "is_zero" => is_zero(store, row),
+        "floor" => row.one("Number", &store.floor()),
+        "stored_image" => stored_version(store, row),
+        _ => row.word("?"),
     }
 }

@@ -5,7 +5,7 @@ use Rattle.redo_core.specs.Keys.{key_of}
 use Rattle.redo_core.specs.declared.keys.Key.{Key}
 use Rattle.state_laws.specs.State.{State, state_of}
 use Rattle.segment_core.specs.Due.{DueData}
-use Rattle.segment_core.specs.Savepoint.{IsWhole, brought_back, without}
+use Rattle.segment_core.specs.Savepoint.{IsFormOf, brought_back, without}
 use Rattle.segment_core.specs.declared.points.Points.{Points}
 use Rattle.segment_core.proofs.Savepoints.{left_without}
 use Rattle.segment_core.proofs.segment.Segment.roll_back.Goals as goal
@@ -24,12 +24,12 @@ is_back c =
     c.deref.ensures.value c.take_out.ensures.removes) in
     cc
 
-whole : (c : goal.After-swap-3) → IsWhole (left c) c.swap-2.new.x c.swap-3.new.x
+whole : (c : goal.After-swap-3) → IsFormOf (left c) c.swap-2.new.x c.swap-3.new.x
 whole c =
     let points : c.args.saved.now.points ≡ c.swap-2.new.x = cc in let due : c.args.saved.now.due ≡ c.swap-3.new.x = cc in
-    subst (λ (s : State). IsWhole s c.swap-2.new.x c.swap-3.new.x) (sym (is_back c))
-    (subst (λ (p : Points). IsWhole (brought_back c.args.saved.now c.args.self.now) p c.swap-3.new.x) points
-    (subst (λ (d : DueData). IsWhole (brought_back c.args.saved.now c.args.self.now) c.args.saved.now.points d) due c.requires))
+    subst (λ (s : State). IsFormOf s c.swap-2.new.x c.swap-3.new.x) (sym (is_back c))
+    (subst (λ (p : Points). IsFormOf (brought_back c.args.saved.now c.args.self.now) p c.swap-3.new.x) points
+    (subst (λ (d : DueData). IsFormOf (brought_back c.args.saved.now c.args.self.now) c.args.saved.now.points d) due c.requires))
 
 pub invariant_of-self : goal.invariant_of-self
 unfolding left
