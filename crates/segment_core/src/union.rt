@@ -87,6 +87,7 @@ impl<'a> Union<'a> {
         ensures unchanged { OnErr result (reached self.new ≡ reached self.old) }
         ensures began { began self.new ≡ began self.old }
     {
+        // At most one record stands under a key.
         self.segment.opens_form();
         self.saved.note(redo.key())?;
         match self.segment.put(redo) {
