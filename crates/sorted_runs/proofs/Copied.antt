@@ -6,7 +6,6 @@ use Rattle.std.specs.Map.{keys_of}
 use Rattle.std.specs.List.Sorted.{IsStrictlySortedBy}
 use Rattle.std.specs.declared.cmp.Ordering.{Ordering}
 use Rattle.sorted_runs.specs.Rows.{entries, Headed, StartsWith, AllUpTo, IsRuns}
-use Rattle.sorted_runs.specs.Stretches.{joined, Led, IsStretches}
 use Rattle.sorted_runs.specs.Copies.{IsEntryCopy, IsRunCopy}
 use Rattle.sorted_runs.specs.declared.edits.TheConstants.{FULL}
 
@@ -83,27 +82,4 @@ module _ {K V : Type 0} (C : V → V → Type 0) where
         rising = subst (IsStrictlySortedBy R) (sym (keys_copied (entries vs) (entries ws) all)) inv.rising;
         bounded = bounded_copied FULL vs ws h inv.bounded;
         counted = inv.counted ∙ sym (zip_long (IsEntryCopy C) (entries vs) (entries ws) all);
-      }
-
-  pub joined_copied : (ps qs : List (List (K × V))) → AllZip (AllZip (IsEntryCopy C)) ps qs → AllZip (IsEntryCopy C) (joined ps) (joined qs)
-  joined_copied [] [] h = tt
-  joined_copied [] (q ∷ qs) h = absurd h
-  joined_copied (p ∷ ps) [] h = absurd h
-  joined_copied (p ∷ ps) (q ∷ qs) h = zip_join (IsEntryCopy C) p q (joined ps) (joined qs) h.0 (joined_copied ps qs h.1)
-
-  led_copied : (ks : List K) (ps qs : List (List (K × V))) → AllZip (AllZip (IsEntryCopy C)) ps qs → Led ks ps → Led ks qs
-  led_copied [] [] [] h s = tt
-  led_copied ks [] (q ∷ qs) h s = absurd h
-  led_copied ks (p ∷ ps) [] h s = absurd h
-  led_copied [] (p ∷ ps) (q ∷ qs) h s = absurd s
-  led_copied (k ∷ ks) [] [] h s = absurd s
-  led_copied (k ∷ ks) (p ∷ ps) (q ∷ qs) h s = (starts_copied k p q h.0 s.0, led_copied ks ps qs h.1 s.1)
-
-  pub stretches_copied : (R : K → K → Ordering) (ks ks' : List K) (ps qs : List (List (K × V))) (len : ℕ) → IsStretches R ks ps len → ks' ≡ ks → AllZip (AllZip (IsEntryCopy C)) ps qs → IsStretches R ks' qs len
-  stretches_copied R ks ks' ps qs len inv same h =
-      let all = joined_copied ps qs h in
-      record {
-        led = subst (λ l. Led l qs) (sym same) (led_copied ks ps qs h inv.led);
-        rising = subst (IsStrictlySortedBy R) (sym (keys_copied (joined ps) (joined qs) all)) inv.rising;
-        counted = inv.counted ∙ sym (zip_long (IsEntryCopy C) (joined ps) (joined qs) all);
       }

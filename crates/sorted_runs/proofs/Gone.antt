@@ -156,7 +156,7 @@ module _ {X : Type 0} where
   none_dropped zero = refl
   none_dropped (suc n) = refl
 
-  pub drop_on : (xs : List X) (a n m : ℕ) → m ≡ a + n → drop n (drop a xs) ≡ drop m xs
+  drop_on : (xs : List X) (a n m : ℕ) → m ≡ a + n → drop n (drop a xs) ≡ drop m xs
   drop_on xs zero n m e = ap (λ (k : ℕ). drop k xs) (let h : n ≡ m = omega arith in h)
   drop_on [] (suc a) n m e = none_dropped n ∙ sym (none_dropped m)
   drop_on (x ∷ xs) (suc a) n zero e = absurd (omega arith)

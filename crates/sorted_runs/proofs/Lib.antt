@@ -11,7 +11,3 @@ pub mod Gone
 pub mod Outside
 pub mod Copied
 pub mod Strides
-pub mod Joined
-pub mod Parted
-pub mod Stretched
-pub mod Between

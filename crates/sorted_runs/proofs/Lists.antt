@@ -84,7 +84,7 @@ module _ {K V : Type 0} where
   as_many (f ∷ fs) [] h = absurd h
   as_many (f ∷ fs) (v ∷ vs) h = ap suc (as_many fs vs h.1)
 
-  pub first_in : (P : K → Type 0) (f : K) (es : List (K × V)) → StartsWith f es → AllByRecursion (λ e. P e.0) es → P f
+  first_in : (P : K → Type 0) (f : K) (es : List (K × V)) → StartsWith f es → AllByRecursion (λ e. P e.0) es → P f
   first_in P f [] s h = absurd s
   first_in P f (e ∷ es) s h = subst P s h.0
 
@@ -131,7 +131,7 @@ module _ {K V : Type 0} {R : K → K → Ordering} (o : IsTotalOrder R) (k : K) 
       (λ x below. past_by o k x.0 (get_or fs r x.0) (R k x.0) refl (all_at _ fs r x.0 (heads_in (λ y. R x.0 y ≡ Less) fs vs s.1 below) (omega arith)) (not x.0)) (rises_across R v.items (entries vs) h))
       (runs_before fs vs r s.1 (rises_last R v.items (entries vs) h) (omega arith) not)
 
-  pub all_above : (f : K) (es rest : List (K × V)) → StartsWith f es → R k f ≡ Less → Rises R (es ++ rest) → Precedes R k (es ++ rest)
+  all_above : (f : K) (es rest : List (K × V)) → StartsWith f es → R k f ≡ Less → Rises R (es ++ rest) → Precedes R k (es ++ rest)
   all_above f [] rest s lt h = absurd s
   all_above f (e ∷ es) rest s lt h =
       let first : R k e.0 ≡ Less = subst (λ x. R k x ≡ Less) (sym s) lt in

@@ -25,7 +25,7 @@ module _ {K V : Type 0} (f g : K → Bool) where
   goes : (x : K × V) (xs : List (K × V)) → (f x.0 && not (g x.0)) ≡ true → filter outside (x ∷ xs) ≡ filter outside xs
   goes x xs h = ap (λ b. cond (not b) (x ∷ filter outside xs) (filter outside xs)) h
 
-  pub all_stay : (es : List (K × V)) → AllByRecursion (λ (e : K × V). g e.0 ≡ true) es → filter outside es ≡ es
+  all_stay : (es : List (K × V)) → AllByRecursion (λ (e : K × V). g e.0 ≡ true) es → filter outside es ≡ es
   all_stay [] h = refl
   all_stay (x ∷ es) h = stays x es (past_end (f x.0) (g x.0) h.0) ∙ ap (λ l. x ∷ l) (all_stay es h.1)
 
@@ -57,7 +57,7 @@ all_left : {X : Type 0} (P : X → Type 0) (t : X → Bool) (xs : List X) → Al
 all_left P t [] h = tt
 all_left P t (x ∷ xs) h = either (AllByRecursion P) (t x) (x ∷ filter t xs) (filter t xs) (h.0, all_left P t xs h.1) (all_left P t xs h.1)
 
-pub rises_left : {K V : Type 0} (R : K → K → Ordering) (t : K × V → Bool) (es : List (K × V)) → Rises R es → Rises R (filter t es)
+rises_left : {K V : Type 0} (R : K → K → Ordering) (t : K × V → Bool) (es : List (K × V)) → Rises R es → Rises R (filter t es)
 rises_left R t [] h = tt
 rises_left R t (x ∷ es) h = either (Rises R) (t x) (x ∷ filter t es) (filter t es) (all_left (λ y. R x.0 y.0 ≡ Less) t es h.0, rises_left R t es h.1) (rises_left R t es h.1)
 

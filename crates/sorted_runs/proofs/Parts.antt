@@ -42,7 +42,7 @@ module _ {X : Type 0} where
   take_take [] (suc r) (suc s) lt = refl
   take_take (x ∷ xs) (suc r) (suc s) lt = ap (λ l. x ∷ l) (take_take xs r s (omega arith))
 
-  pub at_take : (xs : List X) (r s : ℕ) (d : X) → r < s → get_or (take s xs) r d ≡ get_or xs r d
+  at_take : (xs : List X) (r s : ℕ) (d : X) → r < s → get_or (take s xs) r d ≡ get_or xs r d
   at_take xs r zero d lt = absurd (omega arith)
   at_take [] r (suc s) d lt = refl
   at_take (x ∷ xs) zero (suc s) d lt = refl
@@ -130,7 +130,7 @@ module _ {X : Type 0} where
   whole [] = refl
   whole (x ∷ xs) = ap (λ l. x ∷ l) (whole xs)
 
-  pub rest : (xs : List X) (i : ℕ) → take (length xs - i) (drop i xs) ≡ drop i xs
+  rest : (xs : List X) (i : ℕ) → take (length xs - i) (drop i xs) ≡ drop i xs
   rest xs i = part xs i (length xs) ∙ ap (λ l. drop i l) (whole xs)
 
 module _ {K V : Type 0} (vs : List (Vec (K × V))) (a b : Vec (K × V)) (r i s j : ℕ) (below : s < length vs) (inside : j ≤ length (get_or vs s b).items) (av : a ≡ get_or vs r a) (bv : b ≡ get_or vs s b) (first last : List (K × V)) (fa : first ≡ a.items) (lb : last ≡ b.items) (earlier : r < length vs) where

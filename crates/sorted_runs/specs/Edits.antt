@@ -24,14 +24,6 @@ pub record Splits {K V : Type 0} (old : List (Vec (K × V))) (r n : ℕ) (new : 
   pub place : offset new r 0 ≡ offset old r 0
   pub long : (d : Vec (K × V)) → let run = slice_index_or new r d in length run.items ≡ n
 
--- some runs stay and the rest goes, both with their first keys
-pub record Halves {K V : Type 0} (old : List (Vec (K × V))) (firsts : List K) (runs : List (Vec (K × V))) (rest : List K) (rest_runs : List (Vec (K × V))) : Type 0 where
-  pub shaped : IsShaped firsts runs
-  pub rest_shaped : IsShaped rest rest_runs
-  pub same : entries runs ++ entries rest_runs ≡ entries old
-  pub some : 0 < length firsts
-  pub some_rest : 0 < length rest
-
 -- the entry at the place i of the run r has gone
 abbrev pub LosesAt : {K V : Type 0} → List (Vec (K × V)) → ℕ → ℕ → Vec (K × V) → List (Vec (K × V)) → Type 0
 LosesAt old r i d new = let run = slice_index_or old r d in entries new ≡ entries (take r old) ++ (remove run.items i ++ entries (drop (suc r) old))

@@ -2,4 +2,3 @@ pub mod Rows
 pub mod Places
 pub mod Edits
 pub mod Copies
-pub mod Stretches

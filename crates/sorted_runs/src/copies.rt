@@ -3,7 +3,6 @@ ghost use Rattle.std.specs.Global.{Vec};
 ghost use Rattle.std.specs.List.{AllZip};
 ghost use Rattle.sorted_runs.specs.Copies.{IsEntryCopy, IsRunCopy};
 
-use crate::stretch::Stretch;
 use std::alloc::{AllocError, Global};
 
 // The first keys of the runs in memory of their own.
@@ -23,20 +22,6 @@ pub(crate) fn copy_runs<K: Copy + Drop, V: Clone + Drop>(
     let mut copies = Vec::with_capacity(alloc, runs.len())?;
     for run in runs {
         copies.push(copy_run(alloc, run)?)?;
-    }
-    Ok(copies)
-}
-
-// The stretches in memory of their own.
-pub(crate) fn copy_stretches<K: Ord + Copy + Drop, V: Clone + Drop>(
-    alloc: Global,
-    stretches: &[Stretch<K, V>],
-) -> Result<Vec<Stretch<K, V>>, AllocError>
-    ensures { IfOk result (λ v. AllZip (AllZip (IsEntryCopy V.is_clone)) stretches.now v.items) }
-{
-    let mut copies = Vec::with_capacity(alloc, stretches.len())?;
-    for stretch in stretches {
-        copies.push(stretch.copy()?)?;
     }
     Ok(copies)
 }

@@ -1,9 +1,8 @@
-ghost use Rattle.std.specs.Prelude.{◌≡◌, ◌+◌, ◌<◌, ◌≤◌, length, IfErr, OnOk, OnErr, IfNone, IfSome, slice_index_or, slice_set};
+ghost use Rattle.std.specs.Prelude.{◌≡◌, ◌<◌, ◌≤◌, length, IfErr, OnOk, OnErr, slice_index_or, slice_set};
 ghost use Rattle.std.specs.Global.{Vec};
-ghost use Rattle.sorted_runs.specs.Edits.{IsShaped, GainsAt, LosesAt, Splits, Halves};
+ghost use Rattle.sorted_runs.specs.Edits.{IsShaped, GainsAt, LosesAt, Splits};
 ghost use Rattle.sorted_runs.specs.Rows.{entries};
 
-use crate::copies::copy_keys;
 use std::alloc::{AllocError, AllocFailed, Global};
 use std::mem::replace;
 
@@ -20,18 +19,6 @@ pub(crate) fn write<K, V>(run: &mut Vec<(K, V)>, at: usize, value: V) -> V
 {
     let entry = &mut run[at];
     replace(&mut entry.1, value)
-}
-
-// How many of so many entries are left without those of some runs.
-pub(crate) fn without<K, V>(len: usize, runs: &[Vec<(K, V)>]) -> usize
-    requires { length (entries runs.now) ≤ len }
-    ensures { result + length (entries runs.now) ≡ len }
-{
-    let mut left = len;
-    for run in runs {
-        left -= run.len();
-    }
-    left
 }
 
 // Takes the entry at a place out of its run, which goes where it was the last.
@@ -121,7 +108,6 @@ pub(crate) fn add_into<K: Copy, V>(
 }
 
 // Puts an entry before the run r, or behind all others, into a run of its own.
-#[inline(never)]
 pub(crate) fn open<K: Copy + Drop, V: Drop>(
     alloc: Global,
     firsts: &mut Vec<K>,
@@ -155,7 +141,6 @@ pub(crate) fn open<K: Copy + Drop, V: Drop>(
 }
 
 // Moves the entries of a run from the place cut on into a run of their own behind it.
-#[inline(never)]
 pub(crate) fn split<K: Copy + Drop, V: Drop>(
     firsts: &mut Vec<K>,
     runs: &mut Vec<Vec<(K, V)>>,
@@ -178,29 +163,4 @@ pub(crate) fn split<K: Copy + Drop, V: Drop>(
     let _ = firsts.insert(r + 1, first);
     let _ = runs.insert(r + 1, rest);
     Ok(())
-}
-
-// Takes the second half of the runs out with their first keys, where there are two runs and memory allows.
-pub(crate) fn halve<K: Copy + Drop, V: Drop>(
-    alloc: Global,
-    firsts: &mut Vec<K>,
-    runs: &mut Vec<Vec<(K, V)>>,
-) -> Option<(Vec<K>, Vec<Vec<(K, V)>>)>
-    requires shaped { IsShaped firsts.old.items runs.old.items }
-    ensures firsts_stay { IfNone result (firsts.new.items ≡ firsts.old.items) }
-    ensures runs_stay { IfNone result (runs.new.items ≡ runs.old.items) }
-    ensures halves { IfSome result (λ h. Halves runs.old.items firsts.new.items runs.new.items h.0.items h.1.items) }
-{
-    let half = runs.len() / 2;
-    if half == 0 {
-        return None;
-    }
-    let Ok(rest) = copy_keys(alloc, &firsts[half..]) else {
-        return None;
-    };
-    let Ok(rest_runs) = runs.split_off(half) else {
-        return None;
-    };
-    firsts.truncate(half);
-    Some((rest, rest_runs))
 }

@@ -11,13 +11,13 @@ use std::marker::Model;
 
 /// Entries in the order of their keys, from either end.
 #[derive(Drop)]
-pub(crate) struct StretchEntries<'a, K, V> {
+pub struct Entries<'a, K, V> {
     front: &'a [(K, V)],
     middle: &'a [Vec<(K, V)>],
     back: &'a [(K, V)],
 }
 
-impl<'a, K, V> Model for StretchEntries<'a, K, V> {
+impl<'a, K, V> Model for Entries<'a, K, V> {
     ghost use Rattle.std.specs.Prelude.{List, ◌++◌};
     ghost use Rattle.sorted_runs.specs.Rows.{entries};
 
@@ -26,12 +26,12 @@ impl<'a, K, V> Model for StretchEntries<'a, K, V> {
     ghost view = { λ a. a.front.now ++ (entries a.middle.now ++ a.back.now) };
 }
 
-impl<'a, K, V> StretchEntries<'a, K, V> {
+impl<'a, K, V> Entries<'a, K, V> {
     // The entries of all runs.
-    pub(crate) fn all(runs: &'a [Vec<(K, V)>]) -> StretchEntries<'a, K, V>
+    pub(crate) fn all(runs: &'a [Vec<(K, V)>]) -> Entries<'a, K, V>
         ensures { result ≡ entries runs.now }
     {
-        StretchEntries {
+        Entries {
             front: &[],
             middle: runs,
             back: &[],
@@ -39,11 +39,7 @@ impl<'a, K, V> StretchEntries<'a, K, V> {
     }
 
     // The entries from one place on and up to another.
-    pub(crate) fn between(
-        runs: &'a [Vec<(K, V)>],
-        from: Place,
-        to: Place,
-    ) -> StretchEntries<'a, K, V>
+    pub(crate) fn between(runs: &'a [Vec<(K, V)>], from: Place, to: Place) -> Entries<'a, K, V>
         requires from_within { from.run < length runs.now }
         requires from_place { (d : Vec (K × V)) → let run = slice_index_or runs.now from.run d in from.at ≤ length run.items }
         requires to_within { to.run < length runs.now }
@@ -53,20 +49,20 @@ impl<'a, K, V> StretchEntries<'a, K, V> {
         let first = &runs[from.run];
         let last = &runs[to.run];
         if from.run < to.run {
-            return StretchEntries {
+            return Entries {
                 front: &first[from.at..],
                 middle: &runs[from.run + 1..to.run],
                 back: &last[..to.at],
             };
         }
         if from.run > to.run || from.at > to.at {
-            return StretchEntries {
+            return Entries {
                 front: &[],
                 middle: &[],
                 back: &[],
             };
         }
-        StretchEntries {
+        Entries {
             front: &first[from.at..to.at],
             middle: &[],
             back: &[],
@@ -74,7 +70,7 @@ impl<'a, K, V> StretchEntries<'a, K, V> {
     }
 }
 
-impl<'a, K, V> Iterator for StretchEntries<'a, K, V> {
+impl<'a, K, V> Iterator for Entries<'a, K, V> {
     type Item = (&'a K, &'a V);
 
     ghost next_gives = { TakesFirst deref_pair };
@@ -103,7 +99,7 @@ impl<'a, K, V> Iterator for StretchEntries<'a, K, V> {
     }
 }
 
-impl<'a, K, V> DoubleEndedIterator for StretchEntries<'a, K, V> {
+impl<'a, K, V> DoubleEndedIterator for Entries<'a, K, V> {
     ghost next_back_gives = { TakesLast deref_pair };
 
     #[inline]

@@ -1,12 +1,11 @@
-//! An ordered map whose entries stand in runs of bounded length, in the order of their keys, and the runs in stretches.
+//! An ordered map whose entries stand in runs of bounded length, in the order of their keys.
 //!
-//! A key is looked for among the first keys of the stretches, then among those of the runs of one, and then in its run. So a key behind
-//! all others is a push, and so is mostly the next of a row of rising keys that comes between others; a walk goes over memory from end
-//! to end. What is full is split and what is empty goes; what stands behind it, in the same stretch, then moves by a place. Reading
-//! takes no memory; `insert` and `copy` alone can want some.
+//! A key is looked for among the first keys of the runs, and then in its run. So a key behind all others is a push, and so is mostly
+//! the next of a row of rising keys that comes between others; a walk goes over memory from end to end. A full run is split and an
+//! empty one goes; the runs behind it then move by a place, which begins to weigh where a million keys come in no order. Reading takes
+//! no memory; `insert` and `copy` alone can want some.
 //!
-//! `stretch` is one stretch: `search` finds places in it, `edits` changes its runs, `ranges` cuts many entries out, `entries` walks over
-//! them, and `copies` copies them. `joints` changes stretches where their list changes, and `walks` goes over several.
+//! `search` finds places, `edits` changes runs, `ranges` cuts many entries out, `entries` walks over them, and `copies` copies them.
 #![tactic(auto)]
 
 ghost use Rattle.std.specs.Prelude.{◌≡◌, [], length, not, IfOk, IfErr, OnOk, OnErr};
@@ -21,41 +20,38 @@ ghost use Rattle.sorted_runs.specs.Copies.{IsEntryCopy};
 mod copies;
 mod edits;
 mod entries;
-mod joints;
 mod ranges;
 mod search;
-mod stretch;
-mod walks;
 
-use copies::{copy_keys, copy_stretches};
-use joints::{begin, cut_stretches, ease, put, take_out};
-use search::{run_for, stretch_from, stretch_to};
+use copies::{copy_keys, copy_runs};
+use edits::{add, open, take_out, write};
+pub use entries::Entries;
+use ranges::cut_out;
+use search::{end_of, run_for, slot, start_of};
 use std::alloc::{AllocError, AllocFailed, Global};
 use std::marker::Model;
 use std::ops::Bound;
-use stretch::Stretch;
-pub use walks::Entries;
 
 /// Entries in the order of their keys.
 #[derive(Debug, Drop)]
 pub struct SortedRuns<K: Ord + Copy, V> {
     alloc: Global,
     firsts: Vec<K>,
-    stretches: Vec<Stretch<K, V>>,
+    runs: Vec<Vec<(K, V)>>,
     len: usize,
-    // Where an entry came or went last: rows of keys come and are asked for near each other, so this stretch is tried first.
+    // Where an entry came or went last: rows of keys come and are asked for near each other, so this run is tried first.
     near: usize,
 }
 
 impl<K: Ord + Copy, V> Model for SortedRuns<K, V> {
     ghost use Rattle.std.specs.Prelude.{List};
-    ghost use Rattle.sorted_runs.specs.Stretches.{joined, IsStretches};
+    ghost use Rattle.sorted_runs.specs.Rows.{entries, IsRuns};
 
     ghost Value = { List (K × V) };
 
-    ghost view = { λ s. joined s.stretches.items };
+    ghost view = { λ s. entries s.runs.items };
 
-    ghost invariant = { λ s. IsStretches K.cmp s.firsts.items s.stretches.items s.len };
+    ghost invariant = { λ s. IsRuns K.cmp s.firsts.items s.runs.items s.len };
 }
 
 impl<K: Ord + Copy, V> SortedRuns<K, V> {
@@ -66,7 +62,7 @@ impl<K: Ord + Copy, V> SortedRuns<K, V> {
         SortedRuns {
             alloc,
             firsts: Vec::new(alloc),
-            stretches: Vec::new(alloc),
+            runs: Vec::new(alloc),
             len: 0,
             near: 0,
         }
@@ -89,8 +85,11 @@ impl<K: Ord + Copy, V> SortedRuns<K, V> {
             return None;
         }
         let r = run_for(&self.firsts, self.near, key);
-        let stretch = &self.stretches[r];
-        stretch.get(key)
+        let run = &self.runs[r];
+        match slot(run, key) {
+            Ok(at) => Some(&run[at].1),
+            Err(_) => None,
+        }
     }
 
     /// All entries, rising.
@@ -98,7 +97,7 @@ impl<K: Ord + Copy, V> SortedRuns<K, V> {
         ensures rest { result ≡ self.now }
         ensures ordered { IsStrictlySortedBy K.cmp (keys_of self.now) }
     {
-        Entries::all(&self.stretches)
+        Entries::all(&self.runs)
     }
 
     /// The entries with keys between two bounds, rising; none where the bounds cross.
@@ -107,11 +106,11 @@ impl<K: Ord + Copy, V> SortedRuns<K, V> {
         ensures ordered { IsStrictlySortedBy K.cmp (keys_of self.now) }
     {
         if self.firsts.is_empty() {
-            return Entries::all(&self.stretches);
+            return Entries::all(&self.runs);
         }
-        let begin = stretch_from(&self.firsts, self.near, &from);
-        let end = stretch_to(&self.firsts, begin, &to);
-        Entries::between(&self.stretches, begin, end, from, to)
+        let begin = start_of(&self.firsts, &self.runs, self.near, &from);
+        let end = end_of(&self.firsts, &self.runs, self.near, &to);
+        Entries::between(&self.runs, begin, end)
     }
 }
 
@@ -128,50 +127,33 @@ impl<K: Ord + Copy + Drop, V: Drop> SortedRuns<K, V> {
         ensures ordered { IsStrictlySortedBy K.cmp (keys_of self.new) }
     {
         if self.firsts.is_empty() {
-            begin(
-                self.alloc,
-                &mut self.firsts,
-                &mut self.stretches,
-                key,
-                value,
-            )?;
+            open(self.alloc, &mut self.firsts, &mut self.runs, 0, key, value)?;
             self.len = 1;
             return Ok(None);
         }
-        let Some(len) = self.len.checked_add(1) else {
-            return self.replace(key, value);
-        };
         let r = run_for(&self.firsts, self.near, &key);
         self.near = r;
-        match put(&mut self.firsts, &mut self.stretches, r, key, value) {
-            Ok(None) => {
+        match slot(&self.runs[r], &key) {
+            Ok(at) => Ok(Some(write(&mut self.runs[r], at, value))),
+            Err(at) => {
+                let Some(len) = self.len.checked_add(1) else {
+                    return Err(AllocFailed {
+                        value: (key, value),
+                    });
+                };
+                add(
+                    self.alloc,
+                    &mut self.firsts,
+                    &mut self.runs,
+                    r,
+                    at,
+                    key,
+                    value,
+                )?;
                 self.len = len;
-                ease(&mut self.firsts, &mut self.stretches, r);
                 Ok(None)
             }
-            Ok(Some(had)) => Ok(Some(had)),
-            Err(refused) => Err(refused),
         }
-    }
-
-    // The same where no further entry can be counted.
-    #[inline(never)]
-    fn replace(&mut self, key: K, value: V) -> Result<Option<V>, AllocFailed<(K, V)>>
-        ensures had { IfOk result (λ had. had ≡ lookup (is_at (K.cmp key)) self.old) }
-        ensures gains { OnOk result (self.new ≡ insert_entry K.cmp self.old key value) }
-        ensures returned { IfErr result (λ e. e.value ≡ (key, value)) }
-        ensures absent { OnErr result (lookup (is_at (K.cmp key)) self.old ≡ None) }
-        ensures unchanged { OnErr result (self.new ≡ self.old) }
-        ensures ordered { IsStrictlySortedBy K.cmp (keys_of self.new) }
-    {
-        if self.get(&key).is_none() {
-            return Err(AllocFailed {
-                value: (key, value),
-            });
-        }
-        let r = run_for(&self.firsts, self.near, &key);
-        let had = put(&mut self.firsts, &mut self.stretches, r, key, value)?;
-        Ok(had)
     }
 
     /// Takes a key out, and tells the value that it had, or None where it had none.
@@ -186,9 +168,14 @@ impl<K: Ord + Copy + Drop, V: Drop> SortedRuns<K, V> {
         }
         let r = run_for(&self.firsts, self.near, key);
         self.near = r;
-        let value = take_out(&mut self.firsts, &mut self.stretches, r, key)?;
-        self.len -= 1;
-        Some(value)
+        match slot(&self.runs[r], key) {
+            Ok(at) => {
+                let value = take_out(&mut self.firsts, &mut self.runs, r, at);
+                self.len -= 1;
+                Some(value)
+            }
+            Err(_) => None,
+        }
     }
 
     /// Takes out the entries with keys between two bounds; none where the bounds cross. It takes no memory.
@@ -200,17 +187,9 @@ impl<K: Ord + Copy + Drop, V: Drop> SortedRuns<K, V> {
         if self.firsts.is_empty() {
             return;
         }
-        let begin = stretch_from(&self.firsts, self.near, &from);
-        let end = stretch_to(&self.firsts, begin, &to);
-        self.len = cut_stretches(
-            &mut self.firsts,
-            &mut self.stretches,
-            self.len,
-            begin,
-            end,
-            from,
-            to,
-        );
+        let begin = start_of(&self.firsts, &self.runs, self.near, &from);
+        let end = end_of(&self.firsts, &self.runs, self.near, &to);
+        self.len = cut_out(&mut self.firsts, &mut self.runs, self.len, begin, end);
     }
 }
 
@@ -222,7 +201,7 @@ impl<K: Ord + Copy + Drop, V: Clone + Drop> SortedRuns<K, V> {
         Ok(SortedRuns {
             alloc: self.alloc,
             firsts: copy_keys(self.alloc, &self.firsts)?,
-            stretches: copy_stretches(self.alloc, &self.stretches)?,
+            runs: copy_runs(self.alloc, &self.runs)?,
             len: self.len,
             near: self.near,
         })

@@ -6,7 +6,6 @@ ghost use Rattle.std.specs.List.Sorted.{IsStrictlySortedBy};
 ghost use Rattle.sorted_runs.specs.Edits.{offset};
 ghost use Rattle.sorted_runs.specs.Places.{IsRunFor, IsFoundAt, IsGap, IsCut, Passes, is_after};
 ghost use Rattle.sorted_runs.specs.Rows.{entries, IsRuns};
-ghost use Rattle.sorted_runs.specs.Stretches.{BeginsIn, EndsIn};
 
 use std::cmp::Ordering;
 use std::ops::Bound;
@@ -185,33 +184,5 @@ pub(crate) fn end_of<K: Ord, V>(
                 at: runs[run].len(),
             }
         }
-    }
-}
-
-// The stretch in which the entries within a lower bound begin, or behind which they do.
-pub(crate) fn stretch_from<K: Ord>(firsts: &[K], near: usize, from: &Bound<K>) -> usize
-    requires some { 0 < length firsts.now }
-    requires rising { IsStrictlySortedBy K.cmp firsts.now }
-    ensures within { result < length firsts.now }
-    ensures begins { BeginsIn K.cmp firsts.now from.now result }
-{
-    match from {
-        Bound::Included(key) => run_for(firsts, near, key),
-        Bound::Excluded(key) => run_for(firsts, near, key),
-        Bound::Unbounded => 0,
-    }
-}
-
-// The stretch in which the entries within an upper bound end.
-pub(crate) fn stretch_to<K: Ord>(firsts: &[K], near: usize, to: &Bound<K>) -> usize
-    requires some { 0 < length firsts.now }
-    requires rising { IsStrictlySortedBy K.cmp firsts.now }
-    ensures within { result < length firsts.now }
-    ensures ends { EndsIn K.cmp firsts.now to.now result }
-{
-    match to {
-        Bound::Included(key) => run_for(firsts, near, key),
-        Bound::Excluded(key) => run_for(firsts, near, key),
-        Bound::Unbounded => firsts.len() - 1,
     }
 }

@@ -1,27 +1,29 @@
-use Rattle.std.proofs.Common.{◌<◌, length, ap, ◌∙◌, subst, arith}
-use Rattle.std.specs.Map.{lookup}
-use Rattle.std.specs.BTreeMap.{is_at}
+use Rattle.std.proofs.Common.{◌<◌, length, arith, sym, subst}
 use Rattle.sorted_runs.specs.Places.{IsRunFor}
-use Rattle.sorted_runs.proofs.Joined.{leads_rise, in_stretches}
-use Rattle.sorted_runs.proofs.Stretched.{lookup_there}
+use Rattle.sorted_runs.proofs.Lists.{firsts_rise, in_runs, found, missed, sorted_run}
 use Rattle.sorted_runs.proofs.SortedRuns.get.Goals as goal
 
 pub run_for-r-requires-clause-rising : goal.run_for-r-requires-clause-rising
-run_for-r-requires-clause-rising g c =
-    rw c.deref.ensures.value (leads_rise g.met.K.Ord.total c.self.inside.firsts.items c.self.inside.stretches.items c.self.invariant.led c.self.invariant.rising)
+run_for-r-requires-clause-rising g c = rw c.deref.ensures.value (firsts_rise g.met.K.Ord.total c.args.key.now _ _ _ c.self.invariant)
 
-pub index-stretch-requires : goal.index-stretch-requires
-index-stretch-requires g c =
+pub index-run-requires : goal.index-run-requires
+index-run-requires g c =
     let at = subst (λ l. IsRunFor g.K.Ord.cmp l c.args.key.now c.run_for-r.result) c.deref.ensures.value c.run_for-r.ensures in
-    let lt : c.run_for-r.result < length c.self.inside.stretches.items = in_stretches g.met.K.Ord.total c.args.key.now c.self.inside.firsts.items c.self.inside.stretches.items c.self.invariant.led c.self.invariant.rising c.run_for-r.result at in
-    let e = c.self.inside.stretches.ok in
+    let lt : c.run_for-r.result < length c.self.inside.runs.items = in_runs g.met.K.Ord.total c.args.key.now _ _ _ c.self.invariant c.run_for-r.result at in
+    let e = c.self.inside.runs.ok in
     omega arith
 
-pub returns-clause-value : goal.returns-clause-value
-returns-clause-value g c =
+pub slot-requires : goal.slot-requires
+slot-requires g c =
     let at = subst (λ l. IsRunFor g.K.Ord.cmp l c.args.key.now c.run_for-r.result) c.deref.ensures.value c.run_for-r.ensures in
-    let d = c.index-stretch.result.now in
-    c.get.ensures.value
-    ∙ ap (λ l. lookup (is_at (g.K.Ord.cmp c.args.key.now)) l) c.index-stretch.ensures
-    ∙ lookup_there g.met.K.Ord.total c.args.key.now c.self.inside.firsts.items c.self.inside.stretches.items c.self.invariant.led c.self.invariant.rising c.run_for-r.result at d
-    ∙ ap (λ l. lookup (is_at (g.K.Ord.cmp c.args.key.now)) l) c.self.view_is
+    sorted_run g.met.K.Ord.total c.args.key.now _ _ _ c.self.invariant c.run_for-r.result at c.index-run.result.now c.index-run.ensures c.deref-2.result.now c.deref-2.ensures.value
+
+pub returns-in-Ok-clause-value : goal.returns-in-Ok-clause-value
+returns-in-Ok-clause-value g c =
+    let at = subst (λ l. IsRunFor g.K.Ord.cmp l c.args.key.now c.run_for-r.result) c.deref.ensures.value c.run_for-r.ensures in
+    rw (← c.self.view_is) (sym (found g.met.K.Ord.total c.args.key.now _ _ _ c.self.invariant c.run_for-r.result at c.index-run.result.now c.index-run.ensures c.deref-2.result.now c.deref-2.ensures.value c.in-Ok.at c.index.result.now c.index.ensures c.in-Ok.ensures.hit))
+
+pub returns-in-Err-clause-value : goal.returns-in-Err-clause-value
+returns-in-Err-clause-value g c =
+    let at = subst (λ l. IsRunFor g.K.Ord.cmp l c.args.key.now c.run_for-r.result) c.deref.ensures.value c.run_for-r.ensures in
+    rw (← c.self.view_is) (sym (missed g.met.K.Ord.total c.args.key.now _ _ _ c.self.invariant c.run_for-r.result at c.index-run.result.now c.index-run.ensures c.deref-2.result.now c.deref-2.ensures.value c.in-Err.field-0 c.in-Err.ensures.gap))

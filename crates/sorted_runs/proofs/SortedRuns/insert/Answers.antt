@@ -1,37 +1,112 @@
-use Rattle.std.proofs.Common.{◌<◌, length, ap, ◌∙◌, sym, subst, arith}
-use Rattle.std.specs.Option.{is_some}
+use Rattle.std.proofs.Common.{◌≡◌, ◌<◌, length, arith, sym, ap, ◌∙◌, subst}
+use Rattle.std.proofs.lemmas.Bool.Decides.{nat_tests}
+use Rattle.std.specs.Map.{lookup}
+use Rattle.std.specs.BTreeMap.{is_at, insert_entry}
 use Rattle.sorted_runs.specs.Places.{IsRunFor}
-use Rattle.sorted_runs.specs.Stretches.{joined, IsStretches}
-use Rattle.sorted_runs.proofs.Joined.{leads_rise, in_stretches}
-use Rattle.sorted_runs.proofs.Stretched.{one_is, put_new, put_over}
+use Rattle.sorted_runs.proofs.Lists.{firsts_rise, in_runs, missed, sorted_run}
+use Rattle.sorted_runs.proofs.Shaped.{always_err}
+use Rattle.sorted_runs.proofs.Placed.{wrote_there, had_there, gap_place, gained_there, none_yet, first_ever, same_run}
 use Rattle.sorted_runs.proofs.SortedRuns.insert.Goals as goal
 
 pub invariant_of-self-then-is_empty : goal.invariant_of-self-then-is_empty
-invariant_of-self-then-is_empty g c = rw (c.in_ok-begin.ensures.first, c.in_ok-begin.ensures.entry) (one_is g.K.Ord.cmp c.args.key c.args.value)
-
-pub returns-then-is_empty-clause-ordered : goal.returns-then-is_empty-clause-ordered
-returns-then-is_empty-clause-ordered g c = rw c.in_ok-begin.ensures.entry ((one_is g.K.Ord.cmp c.args.key c.args.value).rising)
+invariant_of-self-then-is_empty g c =
+    let e = c.self.inside.firsts.ok in
+    let z : length c.self.inside.firsts.items ≡ 0 = grind (arith, nat_tests) in
+    first_ever g.K.Ord.cmp c.open.new.firsts.items c.self.inside.runs.items c.open.new.runs.items (c.args.key, c.args.value) c.in_ok-open.ensures.shaped c.in_ok-open.ensures.gains (none_yet c.self.inside.firsts.items c.self.inside.runs.items c.self.invariant.headed z)
 
 pub run_for-r-requires-clause-rising : goal.run_for-r-requires-clause-rising
 run_for-r-requires-clause-rising g c =
-    rw c.deref.ensures.value (leads_rise g.met.K.Ord.total c.self.inside.firsts.items c.self.inside.stretches.items c.self.invariant.led c.self.invariant.rising)
+    rw c.deref.ensures.value (firsts_rise g.met.K.Ord.total c.args.key _ _ _ c.self.invariant)
 
-pub ease-requires-clause-within : goal.ease-requires-clause-within
-ease-requires-clause-within g c =
+pub index-requires : goal.index-requires
+index-requires g c =
     let at = subst (λ l. IsRunFor g.K.Ord.cmp l c.args.key c.run_for-r.result) c.deref.ensures.value c.run_for-r.ensures in
-    let lt : c.run_for-r.result < length c.self.inside.stretches.items = in_stretches g.met.K.Ord.total c.args.key c.self.inside.firsts.items c.self.inside.stretches.items c.self.invariant.led c.self.invariant.rising c.run_for-r.result at in
-    subst (λ n. c.run_for-r.result < n) (sym c.in-Ok-None.ensures.many) lt
+    let lt : c.run_for-r.result < length c.self.inside.runs.items = in_runs g.met.K.Ord.total c.args.key c.self.inside.firsts.items c.self.inside.runs.items c.self.inside.len c.self.invariant c.run_for-r.result at in
+    let e = c.self.inside.runs.ok in
+    omega arith
 
-pub invariant_of-self-in-Ok-None : goal.invariant_of-self-in-Ok-None
-invariant_of-self-in-Ok-None g c =
-    put_new g.met.K.Ord.total c.args.key c.self.inside.firsts.items c.self.inside.stretches.items c.self.inside.len c.self.invariant c.ease.new.firsts.items c.ease.new.stretches.items c.ease.ensures.led c.args.value (c.ease.ensures.same ∙ c.in-Ok-None.ensures.gains) c.in-Some.len (ap is_some (sym c.in-Ok-None.ensures.had ∙ c.in-Ok-None.field-0-is)) (let h = c.in-Some.ensures in omega arith)
+pub slot-requires : goal.slot-requires
+slot-requires g c =
+    let at = subst (λ l. IsRunFor g.K.Ord.cmp l c.args.key c.run_for-r.result) c.deref.ensures.value c.run_for-r.ensures in
+    sorted_run g.met.K.Ord.total c.args.key c.self.inside.firsts.items c.self.inside.runs.items c.self.inside.len c.self.invariant c.run_for-r.result at c.index.result.now c.index.ensures c.deref-2.result.now c.deref-2.ensures.value
 
-pub returns-in-Ok-None-clause-ordered : goal.returns-in-Ok-None-clause-ordered
-returns-in-Ok-None-clause-ordered g c = (invariant_of-self-in-Ok-None g c).rising
+pub index_mut-requires : goal.index_mut-requires
+index_mut-requires g c =
+    let at = subst (λ l. IsRunFor g.K.Ord.cmp l c.args.key c.run_for-r.result) c.deref.ensures.value c.run_for-r.ensures in
+    let lt : c.run_for-r.result < length c.self.inside.runs.items = in_runs g.met.K.Ord.total c.args.key c.self.inside.firsts.items c.self.inside.runs.items c.self.inside.len c.self.invariant c.run_for-r.result at in
+    let e = c.self.inside.runs.ok in
+    omega arith
 
-pub invariant_of-self-in-Ok-Some : goal.invariant_of-self-in-Ok-Some
-invariant_of-self-in-Ok-Some g c =
-    put_over g.met.K.Ord.total c.args.key c.self.inside.firsts.items c.self.inside.stretches.items c.self.inside.len c.self.invariant c.put.new.firsts.items c.put.new.stretches.items c.in-Ok-Some.ensures.led c.args.value c.in-Ok-Some.ensures.gains (ap is_some (sym c.in-Ok-Some.ensures.had ∙ c.in-Ok-Some.field-0-is))
+pub write-requires : goal.write-requires
+write-requires g c =
+    let at = subst (λ l. IsRunFor g.K.Ord.cmp l c.args.key c.run_for-r.result) c.deref.ensures.value c.run_for-r.ensures in
+    let same = ap (λ q. length q) (same_run g.met.K.Ord.total c.args.key c.self.inside.firsts.items c.self.inside.runs.items c.self.inside.len c.self.invariant c.run_for-r.result at c.index.result.now c.index.ensures c.deref-2.result.now c.deref-2.ensures.value c.index_mut.result.now c.index_mut.ensures.value) in
+    let w = c.in-Ok.ensures.hit.within in
+    omega arith
 
-pub returns-in-Ok-Some-clause-ordered : goal.returns-in-Ok-Some-clause-ordered
-returns-in-Ok-Some-clause-ordered g c = (invariant_of-self-in-Ok-Some g c).rising
+pub invariant_of-self-in-Ok : goal.invariant_of-self-in-Ok
+invariant_of-self-in-Ok g c =
+    let at = subst (λ l. IsRunFor g.K.Ord.cmp l c.args.key c.run_for-r.result) c.deref.ensures.value c.run_for-r.ensures in
+    (wrote_there g.met.K.Ord.total c.args.key c.self.inside.firsts.items c.self.inside.runs.items c.self.inside.len c.self.invariant c.run_for-r.result at c.index.result.now c.index.ensures c.deref-2.result.now c.deref-2.ensures.value c.index_mut.result.now c.write.new.run c.in-Ok.at (c.args.key, c.args.value) c.args.value c.index_mut.ensures.value c.in-Ok.ensures.hit (c.write.ensures.written (c.args.key, c.args.value))).1
+
+pub returns-in-Ok-clause-gains : goal.returns-in-Ok-clause-gains
+returns-in-Ok-clause-gains g c =
+    let at = subst (λ l. IsRunFor g.K.Ord.cmp l c.args.key c.run_for-r.result) c.deref.ensures.value c.run_for-r.ensures in
+    (wrote_there g.met.K.Ord.total c.args.key c.self.inside.firsts.items c.self.inside.runs.items c.self.inside.len c.self.invariant c.run_for-r.result at c.index.result.now c.index.ensures c.deref-2.result.now c.deref-2.ensures.value c.index_mut.result.now c.write.new.run c.in-Ok.at (c.args.key, c.args.value) c.args.value c.index_mut.ensures.value c.in-Ok.ensures.hit (c.write.ensures.written (c.args.key, c.args.value))).0 ∙ ap (λ l. insert_entry g.K.Ord.cmp l c.args.key c.args.value) c.self.view_is
+
+pub returns-in-Ok-clause-had : goal.returns-in-Ok-clause-had
+returns-in-Ok-clause-had g c =
+    let at = subst (λ l. IsRunFor g.K.Ord.cmp l c.args.key c.run_for-r.result) c.deref.ensures.value c.run_for-r.ensures in
+    had_there g.met.K.Ord.total c.args.key c.self.inside.firsts.items c.self.inside.runs.items c.self.inside.len c.self.invariant c.run_for-r.result at c.index.result.now c.index.ensures c.deref-2.result.now c.deref-2.ensures.value c.index_mut.result.now c.in-Ok.at (c.args.key, c.args.value) c.write.result c.index_mut.ensures.value c.in-Ok.ensures.hit (c.write.ensures.was (c.args.key, c.args.value)) ∙ ap (λ l. lookup (is_at (g.K.Ord.cmp c.args.key)) l) c.self.view_is
+
+pub add-requires-clause-within : goal.add-requires-clause-within
+add-requires-clause-within g c =
+    let at = subst (λ l. IsRunFor g.K.Ord.cmp l c.args.key c.run_for-r.result) c.deref.ensures.value c.run_for-r.ensures in
+    let lt : c.run_for-r.result < length c.self.inside.runs.items = in_runs g.met.K.Ord.total c.args.key c.self.inside.firsts.items c.self.inside.runs.items c.self.inside.len c.self.invariant c.run_for-r.result at in
+    lt
+
+pub add-requires-clause-place : goal.add-requires-clause-place
+add-requires-clause-place g c =
+    let at = subst (λ l. IsRunFor g.K.Ord.cmp l c.args.key c.run_for-r.result) c.deref.ensures.value c.run_for-r.ensures in
+    λ m. gap_place g.met.K.Ord.total c.args.key c.self.inside.firsts.items c.self.inside.runs.items c.self.inside.len c.self.invariant c.run_for-r.result at c.index.result.now c.index.ensures c.deref-2.result.now c.deref-2.ensures.value c.in-Err.at m c.in-Err.ensures.gap
+
+pub returns-in_default-clause-absent : goal.returns-in_default-clause-absent
+returns-in_default-clause-absent g c =
+    let at = subst (λ l. IsRunFor g.K.Ord.cmp l c.args.key c.run_for-r.result) c.deref.ensures.value c.run_for-r.ensures in
+    sym (ap (λ l. lookup (is_at (g.K.Ord.cmp c.args.key)) l) c.self.view_is) ∙ missed g.met.K.Ord.total c.args.key c.self.inside.firsts.items c.self.inside.runs.items c.self.inside.len c.self.invariant c.run_for-r.result at c.index.result.now c.index.ensures c.deref-2.result.now c.deref-2.ensures.value c.in-Err.at c.in-Err.ensures.gap
+
+pub returns-in_err-add-in-Err-clause-absent : goal.returns-in_err-add-in-Err-clause-absent
+returns-in_err-add-in-Err-clause-absent g c =
+    let at = subst (λ l. IsRunFor g.K.Ord.cmp l c.args.key c.run_for-r.result) c.deref.ensures.value c.run_for-r.ensures in
+    always_err _ (sym (ap (λ l. lookup (is_at (g.K.Ord.cmp c.args.key)) l) c.self.view_is) ∙ missed g.met.K.Ord.total c.args.key c.self.inside.firsts.items c.self.inside.runs.items c.self.inside.len c.self.invariant c.run_for-r.result at c.index.result.now c.index.ensures c.deref-2.result.now c.deref-2.ensures.value c.in-Err.at c.in-Err.ensures.gap)
+
+pub invariant_of-self-in-Err : goal.invariant_of-self-in-Err
+invariant_of-self-in-Err g c =
+    let at = subst (λ l. IsRunFor g.K.Ord.cmp l c.args.key c.run_for-r.result) c.deref.ensures.value c.run_for-r.ensures in
+    (gained_there g.met.K.Ord.total c.args.key c.self.inside.firsts.items c.self.inside.runs.items c.self.inside.len c.self.invariant c.run_for-r.result at c.index.result.now c.index.ensures c.deref-2.result.now c.deref-2.ensures.value c.in-Err.at c.args.value c.add.new.firsts.items c.add.new.runs.items c.in-Some.len c.in-Err.ensures.gap c.in_ok-add-in-Err.ensures.shaped c.in_ok-add-in-Err.ensures.gains (let h = c.in-Some.ensures in omega arith)).1
+
+pub returns-in_ok-add-in-Err-clause-gains : goal.returns-in_ok-add-in-Err-clause-gains
+returns-in_ok-add-in-Err-clause-gains g c =
+    let at = subst (λ l. IsRunFor g.K.Ord.cmp l c.args.key c.run_for-r.result) c.deref.ensures.value c.run_for-r.ensures in
+    (gained_there g.met.K.Ord.total c.args.key c.self.inside.firsts.items c.self.inside.runs.items c.self.inside.len c.self.invariant c.run_for-r.result at c.index.result.now c.index.ensures c.deref-2.result.now c.deref-2.ensures.value c.in-Err.at c.args.value c.add.new.firsts.items c.add.new.runs.items c.in-Some.len c.in-Err.ensures.gap c.in_ok-add-in-Err.ensures.shaped c.in_ok-add-in-Err.ensures.gains (let h = c.in-Some.ensures in omega arith)).0 ∙ ap (λ l. insert_entry g.K.Ord.cmp l c.args.key c.args.value) c.self.view_is
+
+pub returns-in_ok-add-in-Err-clause-had : goal.returns-in_ok-add-in-Err-clause-had
+returns-in_ok-add-in-Err-clause-had g c =
+    let at = subst (λ l. IsRunFor g.K.Ord.cmp l c.args.key c.run_for-r.result) c.deref.ensures.value c.run_for-r.ensures in
+    sym (sym (ap (λ l. lookup (is_at (g.K.Ord.cmp c.args.key)) l) c.self.view_is) ∙ missed g.met.K.Ord.total c.args.key c.self.inside.firsts.items c.self.inside.runs.items c.self.inside.len c.self.invariant c.run_for-r.result at c.index.result.now c.index.ensures c.deref-2.result.now c.deref-2.ensures.value c.in-Err.at c.in-Err.ensures.gap)
+
+pub returns-in-Ok-clause-ordered : goal.returns-in-Ok-clause-ordered
+returns-in-Ok-clause-ordered g c =
+    let at = subst (λ l. IsRunFor g.K.Ord.cmp l c.args.key c.run_for-r.result) c.deref.ensures.value c.run_for-r.ensures in
+    (wrote_there g.met.K.Ord.total c.args.key c.self.inside.firsts.items c.self.inside.runs.items c.self.inside.len c.self.invariant c.run_for-r.result at c.index.result.now c.index.ensures c.deref-2.result.now c.deref-2.ensures.value c.index_mut.result.now c.write.new.run c.in-Ok.at (c.args.key, c.args.value) c.args.value c.index_mut.ensures.value c.in-Ok.ensures.hit (c.write.ensures.written (c.args.key, c.args.value))).1.rising
+
+pub returns-in_ok-add-in-Err-clause-ordered : goal.returns-in_ok-add-in-Err-clause-ordered
+returns-in_ok-add-in-Err-clause-ordered g c =
+    let at = subst (λ l. IsRunFor g.K.Ord.cmp l c.args.key c.run_for-r.result) c.deref.ensures.value c.run_for-r.ensures in
+    (gained_there g.met.K.Ord.total c.args.key c.self.inside.firsts.items c.self.inside.runs.items c.self.inside.len c.self.invariant c.run_for-r.result at c.index.result.now c.index.ensures c.deref-2.result.now c.deref-2.ensures.value c.in-Err.at c.args.value c.add.new.firsts.items c.add.new.runs.items c.in-Some.len c.in-Err.ensures.gap c.in_ok-add-in-Err.ensures.shaped c.in_ok-add-in-Err.ensures.gains (let h = c.in-Some.ensures in omega arith)).1.rising
+
+pub returns-then-is_empty-clause-ordered : goal.returns-then-is_empty-clause-ordered
+returns-then-is_empty-clause-ordered g c =
+    let e = c.self.inside.firsts.ok in
+    let z : length c.self.inside.firsts.items ≡ 0 = grind (arith, nat_tests) in
+    (first_ever g.K.Ord.cmp c.open.new.firsts.items c.self.inside.runs.items c.open.new.runs.items (c.args.key, c.args.value) c.in_ok-open.ensures.shaped c.in_ok-open.ensures.gains (none_yet c.self.inside.firsts.items c.self.inside.runs.items c.self.invariant.headed z)).rising

@@ -1,6 +1,6 @@
 use Rattle.std.proofs.Common.{◌≡◌, ◌++◌, length}
 use Rattle.sorted_runs.specs.Rows.{entries}
-use Rattle.sorted_runs.proofs.entries.StretchEntriesDoubleEndedIterator.next_back.Given as goal
+use Rattle.sorted_runs.proofs.entries.EntriesDoubleEndedIterator.next_back.Given as goal
 
 -- no entry is lost or comes in where a run becomes a part of its own
 abbrev pub invariant-loop-entry : goal.invariant-loop-entry

@@ -1,5 +1,5 @@
 use Rattle.sorted_runs.proofs.Parts.{walked_back}
-use Rattle.sorted_runs.proofs.entries.StretchEntriesDoubleEndedIterator.next_back.Goals as goal
+use Rattle.sorted_runs.proofs.entries.EntriesDoubleEndedIterator.next_back.Goals as goal
 
 pub loop-entry-preserved : goal.loop-entry-preserved
 loop-entry-preserved g c =

@@ -1,7 +1,7 @@
 use Rattle.std.proofs.Common.{inl, inr, arith, sym, refl}
 use Rattle.sorted_runs.proofs.Parts.{read_runs, read_same, between_none}
-use Rattle.sorted_runs.proofs.entries.StretchEntries.between.Goals.{then-from-to-2-via-then-from-to-2, then-from-to-2-via-else-from-to-2+then-from-to-3}
-use Rattle.sorted_runs.proofs.entries.StretchEntries.between.Goals as goal
+use Rattle.sorted_runs.proofs.entries.Entries.between.Goals.{then-from-to-2-via-then-from-to-2, then-from-to-2-via-else-from-to-2+then-from-to-3}
+use Rattle.sorted_runs.proofs.entries.Entries.between.Goals as goal
 
 pub returns-then-from-to : goal.returns-then-from-to
 returns-then-from-to g c =
