@@ -23,6 +23,7 @@ use crate::refusals::{BookRefusal, Held, Learnt};
 use crate::standing::Standing;
 use crate::{advances, cuts, lows, points};
 use redo_core::{Advance, Cut, ReadPoints, Roster};
+use sorted_runs::put_in;
 use std::alloc::{AllocError, Global};
 use std::marker::Model;
 
@@ -141,7 +142,7 @@ impl EpochBook {
         ensures memory { IfErr result (λ e. e ≡ MemoryOf) }
         ensures book { IsBook self.new }
     {
-        self.cuts.insert(place, cut)?;
+        put_in(&mut self.cuts, place, cut)?;
         let complete = cuts::complete_epoch_from(&self.cuts, self.complete);
         let Ok(()) = lows::raise(&mut self.lows, &self.cuts, complete) else {
             let _ = self.cuts.remove(place);
@@ -233,7 +234,7 @@ impl EpochBook {
         match advances::place_of_advance(&self.waits, advance) {
             Ok(_) => Ok(Learnt::Known),
             Err(place) => {
-                self.waits.insert(place, advance)?;
+                put_in(&mut self.waits, place, advance)?;
                 Ok(Learnt::New)
             }
         }

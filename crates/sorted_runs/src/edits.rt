@@ -3,6 +3,7 @@ ghost use Rattle.std.specs.Global.{Vec};
 ghost use Rattle.sorted_runs.specs.Edits.{IsShaped, GainsAt, LosesAt, Splits};
 ghost use Rattle.sorted_runs.specs.Rows.{entries};
 
+use crate::placing::put_in;
 use std::alloc::{AllocError, AllocFailed, Global};
 use std::mem::replace;
 
@@ -100,7 +101,7 @@ pub(crate) fn add_into<K: Copy, V>(
     ensures unchanged { OnErr result (entries runs.new.items ≡ entries runs.old.items) }
 {
     let run = &mut runs[r];
-    run.insert(at, (key, value))?;
+    put_in(run, at, (key, value))?;
     if at == 0 {
         firsts[r] = key;
     }
@@ -135,8 +136,8 @@ pub(crate) fn open<K: Copy + Drop, V: Drop>(
     };
     let mut run = Vec::new(alloc);
     run.push((key, value))?;
-    let _ = firsts.insert(r, key);
-    let _ = runs.insert(r, run);
+    let _ = put_in(firsts, r, key);
+    let _ = put_in(runs, r, run);
     Ok(())
 }
 
@@ -160,7 +161,7 @@ pub(crate) fn split<K: Copy + Drop, V: Drop>(
     let run = &mut runs[r];
     let rest = run.split_off(cut)?;
     let first = rest[0].0;
-    let _ = firsts.insert(r + 1, first);
-    let _ = runs.insert(r + 1, rest);
+    let _ = put_in(firsts, r + 1, first);
+    let _ = put_in(runs, r + 1, rest);
     Ok(())
 }

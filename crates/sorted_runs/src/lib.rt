@@ -5,7 +5,8 @@
 //! empty one goes; the runs behind it then move by a place, which begins to weigh where a million keys come in no order. Reading takes
 //! no memory; `insert` and `copy` alone can want some.
 //!
-//! `search` finds places, `edits` changes runs, `ranges` cuts many entries out, `entries` walks over them, and `copies` copies them.
+//! `search` finds places, `edits` changes runs, `ranges` cuts many entries out, `entries` walks over them, and `copies` copies them;
+//! `placing` puts an element into a list.
 #![tactic(auto)]
 
 ghost use Rattle.std.specs.Prelude.{◌≡◌, [], length, not, IfOk, IfErr, OnOk, OnErr};
@@ -20,12 +21,14 @@ ghost use Rattle.sorted_runs.specs.Copies.{IsEntryCopy};
 mod copies;
 mod edits;
 mod entries;
+mod placing;
 mod ranges;
 mod search;
 
 use copies::{copy_keys, copy_runs};
 use edits::{add, open, take_out, write};
 pub use entries::Entries;
+pub use placing::put_in;
 use ranges::cut_out;
 use search::{end_of, run_for, slot, start_of};
 use std::alloc::{AllocError, AllocFailed, Global};

@@ -4,17 +4,17 @@ use Rattle.sorted_runs.proofs.Shaped.{added_behind, added_first, added_gains, sa
 use Rattle.sorted_runs.proofs.edits.add_into.Goals.{then-at-eq0, else-at-eq0}
 use Rattle.sorted_runs.proofs.edits.add_into.Goals as goal
 
-pub returns-in_err-insert-clause-shape_stays : goal.returns-in_err-insert-clause-shape_stays
-returns-in_err-insert-clause-shape_stays g c =
+pub returns-in_err-put_in-clause-shape_stays : goal.returns-in_err-put_in-clause-shape_stays
+returns-in_err-put_in-clause-shape_stays g c =
     let d = c.index_mut-run.result.now in
-    always_err _ (same_items c.args.firsts.now.items c.args.runs.now.items c.args.r d c.insert.new.self c.requires.shaped c.requires.within (let h = c.requires.room d in omega arith)
-    (kept_there c.args.runs.now.items c.args.r d c.index_mut-run.ensures.value c.insert.new.self c.in_err-insert.ensures.items)).0
+    always_err _ (same_items c.args.firsts.now.items c.args.runs.now.items c.args.r d c.put_in.new.list c.requires.shaped c.requires.within (let h = c.requires.room d in omega arith)
+    (kept_there c.args.runs.now.items c.args.r d c.index_mut-run.ensures.value c.put_in.new.list c.in_err-put_in.ensures.items)).0
 
-pub returns-in_err-insert-clause-unchanged : goal.returns-in_err-insert-clause-unchanged
-returns-in_err-insert-clause-unchanged g c =
+pub returns-in_err-put_in-clause-unchanged : goal.returns-in_err-put_in-clause-unchanged
+returns-in_err-put_in-clause-unchanged g c =
     let d = c.index_mut-run.result.now in
-    always_err _ (same_items c.args.firsts.now.items c.args.runs.now.items c.args.r d c.insert.new.self c.requires.shaped c.requires.within (let h = c.requires.room d in omega arith)
-    (kept_there c.args.runs.now.items c.args.r d c.index_mut-run.ensures.value c.insert.new.self c.in_err-insert.ensures.items)).1
+    always_err _ (same_items c.args.firsts.now.items c.args.runs.now.items c.args.r d c.put_in.new.list c.requires.shaped c.requires.within (let h = c.requires.room d in omega arith)
+    (kept_there c.args.runs.now.items c.args.r d c.index_mut-run.ensures.value c.put_in.new.list c.in_err-put_in.ensures.items)).1
 
 pub index_mut-requires : goal.index_mut-requires
 index_mut-requires g c =
@@ -25,14 +25,14 @@ index_mut-requires g c =
 pub returns-clause-shaped : goal.returns-clause-shaped
 returns-clause-shaped g c =
     let d = c.index_mut-run.result.now in
-    let is = inserted_there c.args.runs.now.items c.args.r d c.index_mut-run.ensures.value c.args.at (c.args.key, c.args.value) c.insert.new.self c.in_ok-insert.ensures.items in
+    let is = inserted_there c.args.runs.now.items c.args.r d c.index_mut-run.ensures.value c.args.at (c.args.key, c.args.value) c.put_in.new.list c.in_ok-put_in.ensures.items in
     elim c.if-at-eq0.branch [
-      | then-at-eq0 w ↦ rw w.firsts-is (added_first c.args.firsts.now.items c.args.runs.now.items c.args.r (c.args.key, c.args.value) d c.insert.new.self c.requires.shaped c.requires.within (c.requires.room d) (rw w.if-at-eq0.true at is))
-      | else-at-eq0 w ↦ rw w.firsts-is (added_behind c.args.firsts.now.items c.args.runs.now.items c.args.r c.args.at (c.args.key, c.args.value) d c.insert.new.self c.requires.shaped c.requires.within (c.requires.place d) (c.requires.room d) is (λ e. let n = w.if-at-eq0.false in absurd (omega arith)))
+      | then-at-eq0 w ↦ rw w.firsts-is (added_first c.args.firsts.now.items c.args.runs.now.items c.args.r (c.args.key, c.args.value) d c.put_in.new.list c.requires.shaped c.requires.within (c.requires.room d) (rw w.if-at-eq0.true at is))
+      | else-at-eq0 w ↦ rw w.firsts-is (added_behind c.args.firsts.now.items c.args.runs.now.items c.args.r c.args.at (c.args.key, c.args.value) d c.put_in.new.list c.requires.shaped c.requires.within (c.requires.place d) (c.requires.room d) is (λ e. let n = w.if-at-eq0.false in absurd (omega arith)))
     ]
 
 pub returns-clause-gains : goal.returns-clause-gains
 returns-clause-gains g c =
     let d = c.index_mut-run.result.now in
-    added_gains c.args.runs.now.items c.args.r c.args.at (c.args.key, c.args.value) d c.insert.new.self c.requires.within (c.requires.place d)
-    (inserted_there c.args.runs.now.items c.args.r d c.index_mut-run.ensures.value c.args.at (c.args.key, c.args.value) c.insert.new.self c.in_ok-insert.ensures.items)
+    added_gains c.args.runs.now.items c.args.r c.args.at (c.args.key, c.args.value) d c.put_in.new.list c.requires.within (c.requires.place d)
+    (inserted_there c.args.runs.now.items c.args.r d c.index_mut-run.ensures.value c.args.at (c.args.key, c.args.value) c.put_in.new.list c.in_ok-put_in.ensures.items)

@@ -16,7 +16,7 @@ use Rattle.epoch_book.proofs.book.EpochBook.add_cut.Goals as goal
 pub complete_epoch_from-complete-requires-clause-rising : goal.complete_epoch_from-complete-requires-clause-rising
 complete_epoch_from-complete-requires-clause-rising c =
     let b = book_of c.self.inside.cuts.items c.self.inside.complete c.self.inside.points c.self.inside.waits.items in
-    subst (IsRising CutBefore) (sym (c.deref.ensures.value ∙ c.in_ok-insert.ensures.items))
+    subst (IsRising CutBefore) (sym (c.deref.ensures.value ∙ c.in_ok-put_in.ensures.items))
     (cuts_rise b c.args.place c.args.cut c.self.invariant.0
     (subst (λ b. c.args.place ≤ length b.cuts) (sym c.self.view_is) c.requires.within)
     (subst (λ b. IsPartitionPoint (λ d. d.epoch < c.args.cut.epoch) (λ d. c.args.cut.epoch < d.epoch) b.cuts c.args.place) (sym c.self.view_is) c.requires.gap))
@@ -24,19 +24,19 @@ complete_epoch_from-complete-requires-clause-rising c =
 pub complete_epoch_from-complete-requires-clause-fits : goal.complete_epoch_from-complete-requires-clause-fits
 complete_epoch_from-complete-requires-clause-fits c =
     let b = book_of c.self.inside.cuts.items c.self.inside.complete c.self.inside.points c.self.inside.waits.items in
-    subst (All (λ d. d.epoch < 65536)) (sym (c.deref.ensures.value ∙ c.in_ok-insert.ensures.items))
+    subst (All (λ d. d.epoch < 65536)) (sym (c.deref.ensures.value ∙ c.in_ok-put_in.ensures.items))
     (epochs_fit b c.args.place c.args.cut c.self.invariant.0 c.requires.fits)
 
 pub complete_epoch_from-complete-requires-clause-known : goal.complete_epoch_from-complete-requires-clause-known
 complete_epoch_from-complete-requires-clause-known c =
     let b = book_of c.self.inside.cuts.items c.self.inside.complete c.self.inside.points c.self.inside.waits.items in
-    subst (λ cs. HasCutsTo cs c.self.inside.complete) (sym (c.deref.ensures.value ∙ c.in_ok-insert.ensures.items))
+    subst (λ cs. HasCutsTo cs c.self.inside.complete) (sym (c.deref.ensures.value ∙ c.in_ok-put_in.ensures.items))
     (still_known b c.args.place c.args.cut c.self.invariant.0)
 
 pub raise-requires-clause-rising : goal.raise-requires-clause-rising
 raise-requires-clause-rising c =
     let b = book_of c.self.inside.cuts.items c.self.inside.complete c.self.inside.points c.self.inside.waits.items in
-    subst (IsRising CutBefore) (sym (c.deref-2.ensures.value ∙ c.in_ok-insert.ensures.items))
+    subst (IsRising CutBefore) (sym (c.deref-2.ensures.value ∙ c.in_ok-put_in.ensures.items))
     (cuts_rise b c.args.place c.args.cut c.self.invariant.0
     (subst (λ b. c.args.place ≤ length b.cuts) (sym c.self.view_is) c.requires.within)
     (subst (λ b. IsPartitionPoint (λ d. d.epoch < c.args.cut.epoch) (λ d. c.args.cut.epoch < d.epoch) b.cuts c.args.place) (sym c.self.view_is) c.requires.gap))
@@ -44,7 +44,7 @@ raise-requires-clause-rising c =
 pub raise-requires-clause-shaped : goal.raise-requires-clause-shaped
 raise-requires-clause-shaped c =
     let b = book_of c.self.inside.cuts.items c.self.inside.complete c.self.inside.points c.self.inside.waits.items in
-    subst (All (λ d. cut_fault d ≡ None)) (sym (c.deref-2.ensures.value ∙ c.in_ok-insert.ensures.items)) (cuts_shaped b c.args.place c.args.cut c.self.invariant.0 c.requires.shaped)
+    subst (All (λ d. cut_fault d ≡ None)) (sym (c.deref-2.ensures.value ∙ c.in_ok-put_in.ensures.items)) (cuts_shaped b c.args.place c.args.cut c.self.invariant.0 c.requires.shaped)
 
 pub raise-requires-clause-known : goal.raise-requires-clause-known
 raise-requires-clause-known c =
@@ -55,7 +55,7 @@ pub raise-requires-clause-before : goal.raise-requires-clause-before
 raise-requires-clause-before c =
     let b = book_of c.self.inside.cuts.items c.self.inside.complete c.self.inside.points c.self.inside.waits.items in
     let lows = c.self.inside.lows.items in
-    subst (λ cs. AreLows cs (length lows) lows) (sym (c.deref-2.ensures.value ∙ c.in_ok-insert.ensures.items))
+    subst (λ cs. AreLows cs (length lows) lows) (sym (c.deref-2.ensures.value ∙ c.in_ok-put_in.ensures.items))
     (subst (λ k. AreLows (insert b.cuts c.args.place c.args.cut) k lows) (sym c.self.invariant.1.count)
     (lows_kept b c.args.place c.args.cut lows c.self.invariant.0
     (subst (λ b. IsPartitionPoint (λ d. d.epoch < c.args.cut.epoch) (λ d. c.args.cut.epoch < d.epoch) b.cuts c.args.place) (sym c.self.view_is) c.requires.gap)
@@ -66,14 +66,14 @@ raise-requires-clause-later c =
     let b = book_of c.self.inside.cuts.items c.self.inside.complete c.self.inside.points c.self.inside.waits.items in
     let k = c.complete_epoch_from-complete.result in
     let complete : IsCompleteEpoch (insert b.cuts c.args.place c.args.cut) k =
-    subst (λ cs. IsCompleteEpoch cs k) (c.deref.ensures.value ∙ c.in_ok-insert.ensures.items) c.complete_epoch_from-complete.ensures in
+    subst (λ cs. IsCompleteEpoch cs k) (c.deref.ensures.value ∙ c.in_ok-put_in.ensures.items) c.complete_epoch_from-complete.ensures in
     let up : c.self.inside.complete ≤ k = complete.1 c.self.inside.complete (still_known b c.args.place c.args.cut c.self.invariant.0) in
     omega (arith, up, c.self.invariant.1.count)
 
 pub invariant_of-self-in_default : goal.invariant_of-self-in_default
 invariant_of-self-in_default c =
     let b = book_of c.self.inside.cuts.items c.self.inside.complete c.self.inside.points c.self.inside.waits.items in
-    let same : c.remove.new.self.items ≡ b.cuts = c.remove.ensures.items ∙ ap (λ (cs : List CutData). remove cs c.args.place) c.in_ok-insert.ensures.items
+    let same : c.remove.new.self.items ≡ b.cuts = c.remove.ensures.items ∙ ap (λ (cs : List CutData). remove cs c.args.place) c.in_ok-put_in.ensures.items
     ∙ remove_insert b.cuts c.args.place c.args.cut (subst (λ b. c.args.place ≤ length b.cuts) (sym c.self.view_is) c.requires.within) in (
       subst (λ cs. IsBook (book_of cs b.complete b.points b.waits)) (sym same) c.self.invariant.0,
       subst (λ cs. AreLows cs b.complete c.raise.new.lows.items) (sym same) (subst (AreLows b.cuts b.complete) (sym c.in_default.ensures.err) c.self.invariant.1),
@@ -82,9 +82,9 @@ invariant_of-self-in_default c =
 pub invariant_of-self-2 : goal.invariant_of-self-2
 invariant_of-self-2 c =
     let b = book_of c.self.inside.cuts.items c.self.inside.complete c.self.inside.points c.self.inside.waits.items in (
-      cut_book_by b c.args.place c.args.cut c.complete_epoch_from-complete.result c.raise_points.new.points c.insert.new.self.items c.deref.result.now
+      cut_book_by b c.args.place c.args.cut c.complete_epoch_from-complete.result c.raise_points.new.points c.put_in.new.list.items c.deref.result.now
           c.deref-3.result.now c.keep_later.new.waits.items
-          c.in_ok-insert.ensures.items c.deref.ensures.value c.deref-3.ensures.value c.self.invariant.0
+          c.in_ok-put_in.ensures.items c.deref.ensures.value c.deref-3.ensures.value c.self.invariant.0
           (subst (λ b. c.args.place ≤ length b.cuts) (sym c.self.view_is) c.requires.within)
           (subst (λ b. IsPartitionPoint (λ d. d.epoch < c.args.cut.epoch) (λ d. c.args.cut.epoch < d.epoch) b.cuts c.args.place) (sym c.self.view_is) c.requires.gap)
           c.requires.shaped c.requires.fits c.complete_epoch_from-complete.ensures c.raise_points.ensures c.keep_later.ensures,
@@ -94,18 +94,18 @@ invariant_of-self-2 c =
 pub returns-clause-ok : goal.returns-clause-ok
 returns-clause-ok c =
     let b = book_of c.self.inside.cuts.items c.self.inside.complete c.self.inside.points c.self.inside.waits.items in
-    subst (λ b. LearnsCut b c.args.cut (book_of c.insert.new.self.items c.complete_epoch_from-complete.result c.raise_points.new.points
+    subst (λ b. LearnsCut b c.args.cut (book_of c.put_in.new.list.items c.complete_epoch_from-complete.result c.raise_points.new.points
     c.keep_later.new.waits.items)) c.self.view_is
-    (cut_learns_by b c.args.place c.args.cut c.complete_epoch_from-complete.result c.raise_points.new.points c.insert.new.self.items c.deref-3.result.now
+    (cut_learns_by b c.args.place c.args.cut c.complete_epoch_from-complete.result c.raise_points.new.points c.put_in.new.list.items c.deref-3.result.now
     c.keep_later.new.waits.items
-    c.in_ok-insert.ensures.items c.deref-3.ensures.value c.raise_points.ensures c.keep_later.ensures)
+    c.in_ok-put_in.ensures.items c.deref-3.ensures.value c.raise_points.ensures c.keep_later.ensures)
 
 pub returns-clause-book : goal.returns-clause-book
 returns-clause-book c =
     let b = book_of c.self.inside.cuts.items c.self.inside.complete c.self.inside.points c.self.inside.waits.items in
-    cut_book_by b c.args.place c.args.cut c.complete_epoch_from-complete.result c.raise_points.new.points c.insert.new.self.items c.deref.result.now
+    cut_book_by b c.args.place c.args.cut c.complete_epoch_from-complete.result c.raise_points.new.points c.put_in.new.list.items c.deref.result.now
     c.deref-3.result.now c.keep_later.new.waits.items
-    c.in_ok-insert.ensures.items c.deref.ensures.value c.deref-3.ensures.value c.self.invariant.0
+    c.in_ok-put_in.ensures.items c.deref.ensures.value c.deref-3.ensures.value c.self.invariant.0
     (subst (λ b. c.args.place ≤ length b.cuts) (sym c.self.view_is) c.requires.within)
     (subst (λ b. IsPartitionPoint (λ d. d.epoch < c.args.cut.epoch) (λ d. c.args.cut.epoch < d.epoch) b.cuts c.args.place) (sym c.self.view_is) c.requires.gap)
     c.requires.shaped c.requires.fits c.complete_epoch_from-complete.ensures c.raise_points.ensures c.keep_later.ensures
