@@ -1,5 +1,5 @@
 -- The pages of keys.
-use Rattle.std.proofs.Common.{◌≡◌, ℕ, ◌⊎◌, ◌↔◌, inl, inr, ⊎_elim, List, [], ◌∷◌, sym, ap, subst, Option, Some, None, ◌++◌, true}
+use Rattle.std.proofs.Common.{◌≡◌, ℕ, ◌⊎◌, ◌↔◌, inl, inr, ⊎_elim, List, [], ◌∷◌, sym, ap, subst, refl, Option, Some, None, is_some, ◌++◌, true}
 use Rattle.std.specs.List.{Contains, filter}
 use Rattle.std.specs.declared.cmp.Ordering.TheVariants.{Less}
 use Rattle.std.specs.declared.ops.Bound.TheVariants.{Excluded, Unbounded, Included}
@@ -33,6 +33,12 @@ joins_page old new key page is gains = (
   λ e. subst (λ (l : List Entry). Contains l e ↔ (Contains old e ⊎ (e ≡ (key, page)))) (sym gains)
       (joins key_cmp old key page (λ y h q. is y.1 (subst (λ (k : Key). Contains old (k, y.1)) ((at_key key_cmp keys_exact key y.0).0 q) h)) e),
 )
+
+-- a key has been given a page where it had none, and else the entries are as they were
+pub told_or_joins : (old new : Map) → IsStrictlySortedBy key_cmp (keys_of old) → (key : Key) (page : ℕ) (had : Option ℕ) → had ≡ lookup (is_at (key_cmp key)) old
+    → (had ≡ None → new ≡ insert_entry key_cmp old key page) → (is_some had ≡ true → new ≡ old) → AddsPage old key page new had
+told_or_joins old new ordered key page None is gains keeps = joins_page old new key page (page_at old ordered key None is) (gains refl)
+told_or_joins old new ordered key page (Some was) is gains keeps = (page_at old ordered key (Some was) is, keeps refl)
 
 pub pages_lose : (old new : Map) (key : Key) → IsStrictlySortedBy key_cmp (keys_of old) → new ≡ remove_entry (is_at (key_cmp key)) old → LosesPage old key new
 pages_lose old new key ordered is e =

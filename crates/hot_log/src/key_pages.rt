@@ -69,11 +69,7 @@ impl KeyPages {
         ensures absent { OnErr result (IsPageOf self.old key None) }
         ensures unchanged { OnErr result (self.new ≡ self.old) }
     {
-        if let Some(had) = self.map.get(&key) {
-            return Ok(Some(*had));
-        }
-        let _ = self.map.insert(key, page)?;
-        Ok(None)
+        Ok(self.map.add(key, page)?)
     }
 
     /// Takes a key out, and tells the page that it had.

@@ -1,4 +1,4 @@
-ghost use Rattle.std.specs.Prelude.{◌≡◌, ◌<◌, ◌≤◌, length, IfErr, OnOk, OnErr, slice_index_or, slice_set};
+ghost use Rattle.std.specs.Prelude.{◌≡◌, ◌+◌, ◌<◌, ◌≤◌, length, IfOk, IfErr, OnOk, OnErr, slice_index_or, slice_set};
 ghost use Rattle.std.specs.Global.{Vec};
 ghost use Rattle.sorted_runs.specs.Edits.{IsShaped, GainsAt, LosesAt, Splits};
 ghost use Rattle.sorted_runs.specs.Rows.{entries};
@@ -79,6 +79,35 @@ pub(crate) fn add<K: Copy + Drop, V: Drop>(
         });
     };
     add_into(firsts, runs, r, at, key, value)
+}
+
+// The same with the number of all entries, of which it tells the next.
+pub(crate) fn add_counted<K: Copy + Drop, V: Drop>(
+    alloc: Global,
+    firsts: &mut Vec<K>,
+    runs: &mut Vec<Vec<(K, V)>>,
+    len: usize,
+    r: usize,
+    at: usize,
+    key: K,
+    value: V,
+) -> Result<usize, AllocFailed<(K, V)>>
+    requires shaped { IsShaped firsts.old.items runs.old.items }
+    requires within { r < length runs.old.items }
+    requires place { (d : Vec (K × V)) → let run = slice_index_or runs.old.items r d in at ≤ length run.items }
+    ensures shaped { IsShaped firsts.new.items runs.new.items }
+    ensures gains { OnOk result (GainsAt runs.old.items r at (key, value) runs.new.items) }
+    ensures counts { IfOk result (λ more. more ≡ len + 1) }
+    ensures returned { IfErr result (λ e. e.value ≡ (key, value)) }
+    ensures unchanged { OnErr result (entries runs.new.items ≡ entries runs.old.items) }
+{
+    let Some(more) = len.checked_add(1) else {
+        return Err(AllocFailed {
+            value: (key, value),
+        });
+    };
+    add(alloc, firsts, runs, r, at, key, value)?;
+    Ok(more)
 }
 
 // Puts an entry into a run that is not full.

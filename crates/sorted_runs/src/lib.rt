@@ -9,8 +9,8 @@
 //! `placing` puts an element into a list.
 #![tactic(auto)]
 
-ghost use Rattle.std.specs.Prelude.{◌≡◌, [], length, not, IfOk, IfErr, OnOk, OnErr};
-ghost use Rattle.std.specs.Option.{option_copied};
+ghost use Rattle.std.specs.Prelude.{◌≡◌, [], None, length, not, IfOk, IfErr, OnOk, OnErr};
+ghost use Rattle.std.specs.Option.{option_copied, IsSome};
 ghost use Rattle.std.specs.List.{filter, AllZip};
 ghost use Rattle.std.specs.Map.{keys_of, lookup, remove_entry};
 ghost use Rattle.std.specs.BTreeMap.{is_at, insert_entry};
@@ -26,11 +26,11 @@ mod ranges;
 mod search;
 
 use copies::{copy_keys, copy_runs};
-use edits::{add, open, take_out, write};
+use edits::{add_counted, open, take_out, write};
 pub use entries::Entries;
 pub use placing::put_in;
 use ranges::cut_out;
-use search::{end_of, run_for, slot, start_of};
+use search::{end_of, run_for, slot, slot_within, start_of};
 use std::alloc::{AllocError, AllocFailed, Global};
 use std::marker::Model;
 use std::ops::Bound;
@@ -89,7 +89,7 @@ impl<K: Ord + Copy, V> SortedRuns<K, V> {
         }
         let r = run_for(&self.firsts, self.near, key);
         let run = &self.runs[r];
-        match slot(run, key) {
+        match slot_within(run, key) {
             Ok(at) => Some(&run[at].1),
             Err(_) => None,
         }
@@ -139,20 +139,8 @@ impl<K: Ord + Copy + Drop, V: Drop> SortedRuns<K, V> {
         match slot(&self.runs[r], &key) {
             Ok(at) => Ok(Some(write(&mut self.runs[r], at, value))),
             Err(at) => {
-                let Some(len) = self.len.checked_add(1) else {
-                    return Err(AllocFailed {
-                        value: (key, value),
-                    });
-                };
-                add(
-                    self.alloc,
-                    &mut self.firsts,
-                    &mut self.runs,
-                    r,
-                    at,
-                    key,
-                    value,
-                )?;
+                let (firsts, runs) = (&mut self.firsts, &mut self.runs);
+                let len = add_counted(self.alloc, firsts, runs, self.len, r, at, key, value)?;
                 self.len = len;
                 Ok(None)
             }
@@ -171,7 +159,7 @@ impl<K: Ord + Copy + Drop, V: Drop> SortedRuns<K, V> {
         }
         let r = run_for(&self.firsts, self.near, key);
         self.near = r;
-        match slot(&self.runs[r], key) {
+        match slot_within(&self.runs[r], key) {
             Ok(at) => {
                 let value = take_out(&mut self.firsts, &mut self.runs, r, at);
                 self.len -= 1;
@@ -193,6 +181,39 @@ impl<K: Ord + Copy + Drop, V: Drop> SortedRuns<K, V> {
         let begin = start_of(&self.firsts, &self.runs, self.near, &from);
         let end = end_of(&self.firsts, &self.runs, self.near, &to);
         self.len = cut_out(&mut self.firsts, &mut self.runs, self.len, begin, end);
+    }
+}
+
+impl<K: Ord + Copy + Drop, V: Copy + Drop> SortedRuns<K, V> {
+    /// Gives a key a value where it has none, and tells the value that it had, which it keeps. Its only error is that of `insert`, and
+    /// leaves the same.
+    pub fn add(&mut self, key: K, value: V) -> Result<Option<V>, AllocFailed<(K, V)>>
+        ensures had { IfOk result (λ had. had ≡ lookup (is_at (K.cmp key)) self.old) }
+        ensures gains { IfOk result (λ had. had ≡ None → self.new ≡ insert_entry K.cmp self.old key value) }
+        ensures keeps { IfOk result (λ had. IsSome had → self.new ≡ self.old) }
+        ensures returned { IfErr result (λ e. e.value ≡ (key, value)) }
+        ensures absent { OnErr result (lookup (is_at (K.cmp key)) self.old ≡ None) }
+        ensures unchanged { OnErr result (self.new ≡ self.old) }
+        ensures was_ordered { IsStrictlySortedBy K.cmp (keys_of self.old) }
+        ensures ordered { IsStrictlySortedBy K.cmp (keys_of self.new) }
+    {
+        if self.firsts.is_empty() {
+            open(self.alloc, &mut self.firsts, &mut self.runs, 0, key, value)?;
+            self.len = 1;
+            return Ok(None);
+        }
+        let r = run_for(&self.firsts, self.near, &key);
+        self.near = r;
+        let run = &self.runs[r];
+        match slot(run, &key) {
+            Ok(at) => Ok(Some(run[at].1)),
+            Err(at) => {
+                let (firsts, runs) = (&mut self.firsts, &mut self.runs);
+                let len = add_counted(self.alloc, firsts, runs, self.len, r, at, key, value)?;
+                self.len = len;
+                Ok(None)
+            }
+        }
     }
 }
 

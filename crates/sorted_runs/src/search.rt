@@ -67,6 +67,15 @@ pub(crate) fn slot<K: Ord, V>(run: &[(K, V)], key: &K) -> Result<usize, usize>
     if is_behind(run, key) {
         return Err(run.len());
     }
+    slot_within(run, key)
+}
+
+// The same where the run is likely to hold the key: its last entry would be one more wait for memory, and tell nothing.
+pub(crate) fn slot_within<K: Ord, V>(run: &[(K, V)], key: &K) -> Result<usize, usize>
+    requires { IsStrictlySortedBy K.cmp (keys_of run.now) }
+    ensures hit { IfOk result (IsFoundAt K.cmp run.now key.now) }
+    ensures gap { IfErr result (IsGap K.cmp run.now key.now) }
+{
     slot_from(run, key, stride_to(run, key))
 }
 

@@ -13,8 +13,8 @@ index-run-requires g c =
     let e = c.self.inside.runs.ok in
     omega arith
 
-pub slot-requires : goal.slot-requires
-slot-requires g c =
+pub slot_within-requires : goal.slot_within-requires
+slot_within-requires g c =
     let at = subst (λ l. IsRunFor g.K.Ord.cmp l c.args.key.now c.run_for-r.result) c.deref.ensures.value c.run_for-r.ensures in
     sorted_run g.met.K.Ord.total c.args.key.now _ _ _ c.self.invariant c.run_for-r.result at c.index-run.result.now c.index-run.ensures c.deref-2.result.now c.deref-2.ensures.value
 

@@ -59,39 +59,34 @@ returns-in-Ok-clause-had g c =
     let at = subst (λ l. IsRunFor g.K.Ord.cmp l c.args.key c.run_for-r.result) c.deref.ensures.value c.run_for-r.ensures in
     had_there g.met.K.Ord.total c.args.key c.self.inside.firsts.items c.self.inside.runs.items c.self.inside.len c.self.invariant c.run_for-r.result at c.index.result.now c.index.ensures c.deref-2.result.now c.deref-2.ensures.value c.index_mut.result.now c.in-Ok.at (c.args.key, c.args.value) c.write.result c.index_mut.ensures.value c.in-Ok.ensures.hit (c.write.ensures.was (c.args.key, c.args.value)) ∙ ap (λ l. lookup (is_at (g.K.Ord.cmp c.args.key)) l) c.self.view_is
 
-pub add-requires-clause-within : goal.add-requires-clause-within
-add-requires-clause-within g c =
+pub add_counted-requires-clause-within : goal.add_counted-requires-clause-within
+add_counted-requires-clause-within g c =
     let at = subst (λ l. IsRunFor g.K.Ord.cmp l c.args.key c.run_for-r.result) c.deref.ensures.value c.run_for-r.ensures in
     let lt : c.run_for-r.result < length c.self.inside.runs.items = in_runs g.met.K.Ord.total c.args.key c.self.inside.firsts.items c.self.inside.runs.items c.self.inside.len c.self.invariant c.run_for-r.result at in
     lt
 
-pub add-requires-clause-place : goal.add-requires-clause-place
-add-requires-clause-place g c =
+pub add_counted-requires-clause-place : goal.add_counted-requires-clause-place
+add_counted-requires-clause-place g c =
     let at = subst (λ l. IsRunFor g.K.Ord.cmp l c.args.key c.run_for-r.result) c.deref.ensures.value c.run_for-r.ensures in
     λ m. gap_place g.met.K.Ord.total c.args.key c.self.inside.firsts.items c.self.inside.runs.items c.self.inside.len c.self.invariant c.run_for-r.result at c.index.result.now c.index.ensures c.deref-2.result.now c.deref-2.ensures.value c.in-Err.at m c.in-Err.ensures.gap
 
-pub returns-in_default-clause-absent : goal.returns-in_default-clause-absent
-returns-in_default-clause-absent g c =
-    let at = subst (λ l. IsRunFor g.K.Ord.cmp l c.args.key c.run_for-r.result) c.deref.ensures.value c.run_for-r.ensures in
-    sym (ap (λ l. lookup (is_at (g.K.Ord.cmp c.args.key)) l) c.self.view_is) ∙ missed g.met.K.Ord.total c.args.key c.self.inside.firsts.items c.self.inside.runs.items c.self.inside.len c.self.invariant c.run_for-r.result at c.index.result.now c.index.ensures c.deref-2.result.now c.deref-2.ensures.value c.in-Err.at c.in-Err.ensures.gap
-
-pub returns-in_err-add-in-Err-clause-absent : goal.returns-in_err-add-in-Err-clause-absent
-returns-in_err-add-in-Err-clause-absent g c =
+pub returns-in_err-len-in-Err-clause-absent : goal.returns-in_err-len-in-Err-clause-absent
+returns-in_err-len-in-Err-clause-absent g c =
     let at = subst (λ l. IsRunFor g.K.Ord.cmp l c.args.key c.run_for-r.result) c.deref.ensures.value c.run_for-r.ensures in
     always_err _ (sym (ap (λ l. lookup (is_at (g.K.Ord.cmp c.args.key)) l) c.self.view_is) ∙ missed g.met.K.Ord.total c.args.key c.self.inside.firsts.items c.self.inside.runs.items c.self.inside.len c.self.invariant c.run_for-r.result at c.index.result.now c.index.ensures c.deref-2.result.now c.deref-2.ensures.value c.in-Err.at c.in-Err.ensures.gap)
 
 pub invariant_of-self-in-Err : goal.invariant_of-self-in-Err
 invariant_of-self-in-Err g c =
     let at = subst (λ l. IsRunFor g.K.Ord.cmp l c.args.key c.run_for-r.result) c.deref.ensures.value c.run_for-r.ensures in
-    (gained_there g.met.K.Ord.total c.args.key c.self.inside.firsts.items c.self.inside.runs.items c.self.inside.len c.self.invariant c.run_for-r.result at c.index.result.now c.index.ensures c.deref-2.result.now c.deref-2.ensures.value c.in-Err.at c.args.value c.add.new.firsts.items c.add.new.runs.items c.in-Some.len c.in-Err.ensures.gap c.in_ok-add-in-Err.ensures.shaped c.in_ok-add-in-Err.ensures.gains (let h = c.in-Some.ensures in omega arith)).1
+    (gained_there g.met.K.Ord.total c.args.key c.self.inside.firsts.items c.self.inside.runs.items c.self.inside.len c.self.invariant c.run_for-r.result at c.index.result.now c.index.ensures c.deref-2.result.now c.deref-2.ensures.value c.in-Err.at c.args.value c.add_counted.new.firsts.items c.add_counted.new.runs.items c.in_ok-len-in-Err.len c.in-Err.ensures.gap c.in_ok-len-in-Err.ensures.shaped c.in_ok-len-in-Err.ensures.gains (let h = c.in_ok-len-in-Err.ensures.counts in omega arith)).1
 
-pub returns-in_ok-add-in-Err-clause-gains : goal.returns-in_ok-add-in-Err-clause-gains
-returns-in_ok-add-in-Err-clause-gains g c =
+pub returns-in_ok-len-in-Err-clause-gains : goal.returns-in_ok-len-in-Err-clause-gains
+returns-in_ok-len-in-Err-clause-gains g c =
     let at = subst (λ l. IsRunFor g.K.Ord.cmp l c.args.key c.run_for-r.result) c.deref.ensures.value c.run_for-r.ensures in
-    (gained_there g.met.K.Ord.total c.args.key c.self.inside.firsts.items c.self.inside.runs.items c.self.inside.len c.self.invariant c.run_for-r.result at c.index.result.now c.index.ensures c.deref-2.result.now c.deref-2.ensures.value c.in-Err.at c.args.value c.add.new.firsts.items c.add.new.runs.items c.in-Some.len c.in-Err.ensures.gap c.in_ok-add-in-Err.ensures.shaped c.in_ok-add-in-Err.ensures.gains (let h = c.in-Some.ensures in omega arith)).0 ∙ ap (λ l. insert_entry g.K.Ord.cmp l c.args.key c.args.value) c.self.view_is
+    (gained_there g.met.K.Ord.total c.args.key c.self.inside.firsts.items c.self.inside.runs.items c.self.inside.len c.self.invariant c.run_for-r.result at c.index.result.now c.index.ensures c.deref-2.result.now c.deref-2.ensures.value c.in-Err.at c.args.value c.add_counted.new.firsts.items c.add_counted.new.runs.items c.in_ok-len-in-Err.len c.in-Err.ensures.gap c.in_ok-len-in-Err.ensures.shaped c.in_ok-len-in-Err.ensures.gains (let h = c.in_ok-len-in-Err.ensures.counts in omega arith)).0 ∙ ap (λ l. insert_entry g.K.Ord.cmp l c.args.key c.args.value) c.self.view_is
 
-pub returns-in_ok-add-in-Err-clause-had : goal.returns-in_ok-add-in-Err-clause-had
-returns-in_ok-add-in-Err-clause-had g c =
+pub returns-in_ok-len-in-Err-clause-had : goal.returns-in_ok-len-in-Err-clause-had
+returns-in_ok-len-in-Err-clause-had g c =
     let at = subst (λ l. IsRunFor g.K.Ord.cmp l c.args.key c.run_for-r.result) c.deref.ensures.value c.run_for-r.ensures in
     sym (sym (ap (λ l. lookup (is_at (g.K.Ord.cmp c.args.key)) l) c.self.view_is) ∙ missed g.met.K.Ord.total c.args.key c.self.inside.firsts.items c.self.inside.runs.items c.self.inside.len c.self.invariant c.run_for-r.result at c.index.result.now c.index.ensures c.deref-2.result.now c.deref-2.ensures.value c.in-Err.at c.in-Err.ensures.gap)
 
@@ -100,10 +95,10 @@ returns-in-Ok-clause-ordered g c =
     let at = subst (λ l. IsRunFor g.K.Ord.cmp l c.args.key c.run_for-r.result) c.deref.ensures.value c.run_for-r.ensures in
     (wrote_there g.met.K.Ord.total c.args.key c.self.inside.firsts.items c.self.inside.runs.items c.self.inside.len c.self.invariant c.run_for-r.result at c.index.result.now c.index.ensures c.deref-2.result.now c.deref-2.ensures.value c.index_mut.result.now c.write.new.run c.in-Ok.at (c.args.key, c.args.value) c.args.value c.index_mut.ensures.value c.in-Ok.ensures.hit (c.write.ensures.written (c.args.key, c.args.value))).1.rising
 
-pub returns-in_ok-add-in-Err-clause-ordered : goal.returns-in_ok-add-in-Err-clause-ordered
-returns-in_ok-add-in-Err-clause-ordered g c =
+pub returns-in_ok-len-in-Err-clause-ordered : goal.returns-in_ok-len-in-Err-clause-ordered
+returns-in_ok-len-in-Err-clause-ordered g c =
     let at = subst (λ l. IsRunFor g.K.Ord.cmp l c.args.key c.run_for-r.result) c.deref.ensures.value c.run_for-r.ensures in
-    (gained_there g.met.K.Ord.total c.args.key c.self.inside.firsts.items c.self.inside.runs.items c.self.inside.len c.self.invariant c.run_for-r.result at c.index.result.now c.index.ensures c.deref-2.result.now c.deref-2.ensures.value c.in-Err.at c.args.value c.add.new.firsts.items c.add.new.runs.items c.in-Some.len c.in-Err.ensures.gap c.in_ok-add-in-Err.ensures.shaped c.in_ok-add-in-Err.ensures.gains (let h = c.in-Some.ensures in omega arith)).1.rising
+    (gained_there g.met.K.Ord.total c.args.key c.self.inside.firsts.items c.self.inside.runs.items c.self.inside.len c.self.invariant c.run_for-r.result at c.index.result.now c.index.ensures c.deref-2.result.now c.deref-2.ensures.value c.in-Err.at c.args.value c.add_counted.new.firsts.items c.add_counted.new.runs.items c.in_ok-len-in-Err.len c.in-Err.ensures.gap c.in_ok-len-in-Err.ensures.shaped c.in_ok-len-in-Err.ensures.gains (let h = c.in_ok-len-in-Err.ensures.counts in omega arith)).1.rising
 
 pub returns-then-is_empty-clause-ordered : goal.returns-then-is_empty-clause-ordered
 returns-then-is_empty-clause-ordered g c =

@@ -1,21 +1,16 @@
-use Rattle.std.proofs.Common.{subst, refl, List, Some, None}
+use Rattle.std.proofs.Common.{sym, subst, List, None}
 use Rattle.sorted_runs.proofs.Shaped.{always_err}
 use Rattle.hot_log.specs.Indexing.{AddsPage, IsPageOf}
-use Rattle.hot_log.proofs.Keyed.{Entry, page_at, joins_page}
+use Rattle.hot_log.proofs.Keyed.{Entry, page_at, told_or_joins}
 use Rattle.hot_log.proofs.key_pages.KeyPages.add.Goals as goal
 
-pub returns-in-Some-clause-adds : goal.returns-in-Some-clause-adds
-returns-in-Some-clause-adds c =
-    let P : List Entry → Type 0 = λ l. IsPageOf l c.args.key (Some c.in-Some.had.now) in
-    (subst P c.self.view_is (page_at c.self.inside.map c.self.invariant c.args.key (Some c.in-Some.had.now) c.in-Some.ensures.value), refl)
-
-pub returns-in_err-insert-clause-absent : goal.returns-in_err-insert-clause-absent
-returns-in_err-insert-clause-absent c =
+pub returns-in_err-add-clause-absent : goal.returns-in_err-add-clause-absent
+returns-in_err-add-clause-absent c =
     let P : List Entry → Type 0 = λ l. IsPageOf l c.args.key None in
-    always_err c.from_residual.result (subst P c.self.view_is (page_at c.self.inside.map c.self.invariant c.args.key None c.in_default.ensures.value))
+    always_err c.from_residual.result (subst P c.self.view_is (page_at c.self.inside.map c.self.invariant c.args.key None (sym c.in_err-add.ensures.absent)))
 
 pub returns-clause-adds : goal.returns-clause-adds
 returns-clause-adds c =
-    let P : List Entry → Type 0 = λ l. AddsPage l c.args.key c.args.page c.insert.new.self None in
-    subst P c.self.view_is (joins_page c.self.inside.map c.insert.new.self c.args.key c.args.page
-    (page_at c.self.inside.map c.self.invariant c.args.key None c.in_default.ensures.value) c.in_ok-insert.ensures.gains)
+    let P : List Entry → Type 0 = λ l. AddsPage l c.args.key c.args.page c.add.new.self c.in_ok-add.field-0 in
+    subst P c.self.view_is (told_or_joins c.self.inside.map c.add.new.self c.self.invariant c.args.key c.args.page c.in_ok-add.field-0
+    c.in_ok-add.ensures.had c.in_ok-add.ensures.gains c.in_ok-add.ensures.keeps)

@@ -1,0 +1,78 @@
+use Rattle.std.proofs.Common.{◌≡◌, ◌<◌, length, arith, sym, ap, ◌∙◌, subst}
+use Rattle.std.proofs.lemmas.Bool.Decides.{nat_tests}
+use Rattle.std.specs.Map.{lookup}
+use Rattle.std.specs.BTreeMap.{is_at, insert_entry}
+use Rattle.sorted_runs.specs.Places.{IsRunFor}
+use Rattle.sorted_runs.proofs.Lists.{firsts_rise, in_runs, found, missed, sorted_run}
+use Rattle.sorted_runs.proofs.Shaped.{always_err}
+use Rattle.sorted_runs.proofs.Placed.{gap_place, gained_there, none_yet, first_ever}
+use Rattle.sorted_runs.proofs.SortedRuns.add.Goals as goal
+
+pub invariant_of-self-then-is_empty : goal.invariant_of-self-then-is_empty
+invariant_of-self-then-is_empty g c =
+    let e = c.self.inside.firsts.ok in
+    let z : length c.self.inside.firsts.items ≡ 0 = grind (arith, nat_tests) in
+    first_ever g.K.Ord.cmp c.open.new.firsts.items c.self.inside.runs.items c.open.new.runs.items (c.args.key, c.args.value) c.in_ok-open.ensures.shaped c.in_ok-open.ensures.gains (none_yet c.self.inside.firsts.items c.self.inside.runs.items c.self.invariant.headed z)
+
+pub run_for-r-requires-clause-rising : goal.run_for-r-requires-clause-rising
+run_for-r-requires-clause-rising g c =
+    rw c.deref.ensures.value (firsts_rise g.met.K.Ord.total c.args.key _ _ _ c.self.invariant)
+
+pub index-run-requires : goal.index-run-requires
+index-run-requires g c =
+    let at = subst (λ l. IsRunFor g.K.Ord.cmp l c.args.key c.run_for-r.result) c.deref.ensures.value c.run_for-r.ensures in
+    let lt : c.run_for-r.result < length c.self.inside.runs.items = in_runs g.met.K.Ord.total c.args.key _ _ _ c.self.invariant c.run_for-r.result at in
+    let e = c.self.inside.runs.ok in
+    omega arith
+
+pub slot-requires : goal.slot-requires
+slot-requires g c =
+    let at = subst (λ l. IsRunFor g.K.Ord.cmp l c.args.key c.run_for-r.result) c.deref.ensures.value c.run_for-r.ensures in
+    sorted_run g.met.K.Ord.total c.args.key c.self.inside.firsts.items c.self.inside.runs.items c.self.inside.len c.self.invariant c.run_for-r.result at c.index-run.result.now c.index-run.ensures c.deref-2.result.now c.deref-2.ensures.value
+
+pub add_counted-requires-clause-within : goal.add_counted-requires-clause-within
+add_counted-requires-clause-within g c =
+    let at = subst (λ l. IsRunFor g.K.Ord.cmp l c.args.key c.run_for-r.result) c.deref.ensures.value c.run_for-r.ensures in
+    let lt : c.run_for-r.result < length c.self.inside.runs.items = in_runs g.met.K.Ord.total c.args.key c.self.inside.firsts.items c.self.inside.runs.items c.self.inside.len c.self.invariant c.run_for-r.result at in
+    lt
+
+pub add_counted-requires-clause-place : goal.add_counted-requires-clause-place
+add_counted-requires-clause-place g c =
+    let at = subst (λ l. IsRunFor g.K.Ord.cmp l c.args.key c.run_for-r.result) c.deref.ensures.value c.run_for-r.ensures in
+    λ m. gap_place g.met.K.Ord.total c.args.key c.self.inside.firsts.items c.self.inside.runs.items c.self.inside.len c.self.invariant c.run_for-r.result at c.index-run.result.now c.index-run.ensures c.deref-2.result.now c.deref-2.ensures.value c.in-Err.at m c.in-Err.ensures.gap
+
+pub returns-in_err-len-in-Err-clause-absent : goal.returns-in_err-len-in-Err-clause-absent
+returns-in_err-len-in-Err-clause-absent g c =
+    let at = subst (λ l. IsRunFor g.K.Ord.cmp l c.args.key c.run_for-r.result) c.deref.ensures.value c.run_for-r.ensures in
+    always_err _ (sym (ap (λ l. lookup (is_at (g.K.Ord.cmp c.args.key)) l) c.self.view_is) ∙ missed g.met.K.Ord.total c.args.key c.self.inside.firsts.items c.self.inside.runs.items c.self.inside.len c.self.invariant c.run_for-r.result at c.index-run.result.now c.index-run.ensures c.deref-2.result.now c.deref-2.ensures.value c.in-Err.at c.in-Err.ensures.gap)
+
+pub invariant_of-self-in-Err : goal.invariant_of-self-in-Err
+invariant_of-self-in-Err g c =
+    let at = subst (λ l. IsRunFor g.K.Ord.cmp l c.args.key c.run_for-r.result) c.deref.ensures.value c.run_for-r.ensures in
+    (gained_there g.met.K.Ord.total c.args.key c.self.inside.firsts.items c.self.inside.runs.items c.self.inside.len c.self.invariant c.run_for-r.result at c.index-run.result.now c.index-run.ensures c.deref-2.result.now c.deref-2.ensures.value c.in-Err.at c.args.value c.add_counted.new.firsts.items c.add_counted.new.runs.items c.in_ok-len-in-Err.len c.in-Err.ensures.gap c.in_ok-len-in-Err.ensures.shaped c.in_ok-len-in-Err.ensures.gains (let h = c.in_ok-len-in-Err.ensures.counts in omega arith)).1
+
+pub returns-in_ok-len-in-Err-clause-gains : goal.returns-in_ok-len-in-Err-clause-gains
+returns-in_ok-len-in-Err-clause-gains g c _ =
+    let at = subst (λ l. IsRunFor g.K.Ord.cmp l c.args.key c.run_for-r.result) c.deref.ensures.value c.run_for-r.ensures in
+    (gained_there g.met.K.Ord.total c.args.key c.self.inside.firsts.items c.self.inside.runs.items c.self.inside.len c.self.invariant c.run_for-r.result at c.index-run.result.now c.index-run.ensures c.deref-2.result.now c.deref-2.ensures.value c.in-Err.at c.args.value c.add_counted.new.firsts.items c.add_counted.new.runs.items c.in_ok-len-in-Err.len c.in-Err.ensures.gap c.in_ok-len-in-Err.ensures.shaped c.in_ok-len-in-Err.ensures.gains (let h = c.in_ok-len-in-Err.ensures.counts in omega arith)).0 ∙ ap (λ l. insert_entry g.K.Ord.cmp l c.args.key c.args.value) c.self.view_is
+
+pub returns-in_ok-len-in-Err-clause-had : goal.returns-in_ok-len-in-Err-clause-had
+returns-in_ok-len-in-Err-clause-had g c =
+    let at = subst (λ l. IsRunFor g.K.Ord.cmp l c.args.key c.run_for-r.result) c.deref.ensures.value c.run_for-r.ensures in
+    sym (sym (ap (λ l. lookup (is_at (g.K.Ord.cmp c.args.key)) l) c.self.view_is) ∙ missed g.met.K.Ord.total c.args.key c.self.inside.firsts.items c.self.inside.runs.items c.self.inside.len c.self.invariant c.run_for-r.result at c.index-run.result.now c.index-run.ensures c.deref-2.result.now c.deref-2.ensures.value c.in-Err.at c.in-Err.ensures.gap)
+
+pub returns-in_ok-len-in-Err-clause-ordered : goal.returns-in_ok-len-in-Err-clause-ordered
+returns-in_ok-len-in-Err-clause-ordered g c =
+    let at = subst (λ l. IsRunFor g.K.Ord.cmp l c.args.key c.run_for-r.result) c.deref.ensures.value c.run_for-r.ensures in
+    (gained_there g.met.K.Ord.total c.args.key c.self.inside.firsts.items c.self.inside.runs.items c.self.inside.len c.self.invariant c.run_for-r.result at c.index-run.result.now c.index-run.ensures c.deref-2.result.now c.deref-2.ensures.value c.in-Err.at c.args.value c.add_counted.new.firsts.items c.add_counted.new.runs.items c.in_ok-len-in-Err.len c.in-Err.ensures.gap c.in_ok-len-in-Err.ensures.shaped c.in_ok-len-in-Err.ensures.gains (let h = c.in_ok-len-in-Err.ensures.counts in omega arith)).1.rising
+
+pub returns-in-Ok-clause-had : goal.returns-in-Ok-clause-had
+returns-in-Ok-clause-had g c =
+    let at = subst (λ l. IsRunFor g.K.Ord.cmp l c.args.key c.run_for-r.result) c.deref.ensures.value c.run_for-r.ensures in
+    rw (← c.self.view_is) (sym (found g.met.K.Ord.total c.args.key _ _ _ c.self.invariant c.run_for-r.result at c.index-run.result.now c.index-run.ensures c.deref-2.result.now c.deref-2.ensures.value c.in-Ok.at c.index.result.now c.index.ensures c.in-Ok.ensures.hit))
+
+pub returns-then-is_empty-clause-ordered : goal.returns-then-is_empty-clause-ordered
+returns-then-is_empty-clause-ordered g c =
+    let e = c.self.inside.firsts.ok in
+    let z : length c.self.inside.firsts.items ≡ 0 = grind (arith, nat_tests) in
+    (first_ever g.K.Ord.cmp c.open.new.firsts.items c.self.inside.runs.items c.open.new.runs.items (c.args.key, c.args.value) c.in_ok-open.ensures.shaped c.in_ok-open.ensures.gains (none_yet c.self.inside.firsts.items c.self.inside.runs.items c.self.invariant.headed z)).rising
