@@ -175,7 +175,8 @@ class Edit:
         text = pathlib.Path(crate.folder, file).read_text()
         start, end = item_at(text, self.head_in(text))
         twin = text[start:end]
-        if not self.is_own or len(re.findall(rf"\b{own}\(", twin)) > 1 or any(twin.count(old) != 1 for _, old, _ in self.pairs):
+        calls = re.findall(rf"(?<![\w.]){own}\(|\bself\.{own}\(", twin)  # the head of the function is the first
+        if not self.is_own or len(calls) > 1 or any(twin.count(old) != 1 for _, old, _ in self.pairs):
             return None
         for _, old, new in self.pairs:
             twin = twin.replace(old, new)
