@@ -1,7 +1,7 @@
 #!/usr/bin/env python3
 """Measures how fast threads deliver the facts of a log to a node, beside a mutex round the same segment.
 
-The program is the crate `node_rows`, proved and built over this tree's `node_cell`, of whose input the last section is used. It makes
+The program is the crate `node_rows`, proved and built over this tree's `node_cell`, of whose input the third section is used. It makes
 the facts of a log, deals them to threads and lets those deliver them, each fact once. A round has a run that delivers to a node, one
 to the mutex, and one that makes and deals the facts and lets them go, whose wall and processor seconds are taken off those of both.
 The medians of the rounds are printed.

@@ -1,7 +1,7 @@
 #!/usr/bin/env python3
 """Measures how threads wait at a node's lock, beside a mutex round the same work.
 
-The program is the crate `node_rows`, proved and built over this tree's `node_lock`, of whose input the last section is used. Each task
+The program is the crate `node_rows`, proved and built over this tree's `node_lock`, of whose input the third section is used. Each task
 is run a few times at each number of threads, with the lock and with the mutex, and the medians of the wall and processor seconds are
 printed.
 """

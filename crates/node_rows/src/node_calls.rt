@@ -4,35 +4,8 @@
 //! ample memory, or ends by an error.
 
 mod answers;
-mod bench;
+pub mod bench;
 mod board;
 mod endings;
 mod host;
-mod row;
 mod threads;
-
-use crate::node_calls::bench::Bench;
-use crate::node_calls::row::Row;
-use std::io;
-use std::sync::Wait;
-use std::thread::Threads;
-
-fn print_rows<R: Threads + Wait + Sync>(
-    rt: &R,
-    host: &HostRuntime,
-    bench: &mut Bench,
-) -> io::Result<()> {
-    for line in host.lines(host.alloc()) {
-        let line = line?;
-        if line.as_str().starts_with("==") {
-            return println!(host; "{line}");
-        }
-        bench::answer(rt, bench, Row::of(host, line.as_str()))?;
-    }
-    Ok(())
-}
-
-pub fn print_section<R: Threads + Wait + Sync>(rt: &R, host: &HostRuntime) -> io::Result<()> {
-    let mut bench = bench::new_bench(host.alloc())?;
-    print_rows(rt, host, &mut bench)
-}

@@ -1,5 +1,7 @@
 //! Rows of threads that deliver the facts of a log to a node or take turns at its lock, or at a mutex in place of either: a line names
 //! a task and its words, and is printed with what comes of it. With large numbers they are what `deliveries.py` and `waiting.py` measure.
+//!
+//! A line's words are deliver or turns, who takes, all or holder, the threads, the facts or turns of each, and the rounds of work in a turn.
 ghost use Rattle.std.specs.Prelude.{◌<◌, ◌≤◌};
 
 mod dealing;
@@ -11,6 +13,7 @@ use crate::thread_calls::dealing::deal;
 use crate::thread_calls::turns::{Task, take_turns};
 use drill_log::Drill;
 use node_lock::MAX_PASSES;
+use row_words::{Row, size};
 use std::alloc::{AllocError, Global};
 use std::io;
 use std::sync::Wait;
@@ -43,84 +46,32 @@ fn accepted<R: Threads + Wait + Sync>(
     Ok(sum)
 }
 
-// What a line asks for: who takes, with how many threads, and how many facts or turns.
-#[derive(Clone, Copy)]
-struct Asked<'a> {
-    is_turns: bool,
-    taker: &'a str,
-    has_holder: bool,
-    threads: u64,
-    count: u64,
-    rounds: u64,
-}
-
-// How many facts were accepted; None for a number of threads that no node has passes for.
-fn deliver<R: Threads + Wait + Sync>(
-    rt: &R,
-    alloc: Global,
-    asked: Asked,
-) -> Result<Option<u64>, AllocError> {
-    if asked.threads == 0 || asked.threads > MAX_PASSES {
-        return Ok(None);
+// Prints how many facts were accepted. No node has passes for more threads than a lock has passes.
+fn deliver<R: Threads + Wait + Sync>(rt: &R, row: Row) -> io::Result<()> {
+    let threads = row.number_or(2, 1);
+    if threads == 0 || threads > MAX_PASSES {
+        return row.said("Unknown");
     }
-    let facts = (asked.count as usize).min(LOG_LEN);
-    let sum = accepted(rt, alloc, asked.taker, asked.threads as usize, facts)?;
-    Ok(Some(sum))
+    let facts = size(row.number_or(3, LOG_LEN as u64)).min(LOG_LEN);
+    let sum = accepted(rt, row.alloc(), row.word(0), threads as usize, facts)?;
+    row.count(sum, "accepted")
 }
 
-fn turn<R: Threads + Wait + Sync>(
-    rt: &R,
-    alloc: Global,
-    asked: Asked,
-) -> Result<Option<usize>, AllocError> {
+// Prints how many threads ended.
+fn turn<R: Threads + Wait + Sync>(rt: &R, row: Row) -> io::Result<()> {
     let task = Task {
-        threads: asked.threads as usize,
-        turns: asked.count,
-        rounds: asked.rounds,
-        has_holder: asked.has_holder,
+        threads: size(row.number_or(2, 1)),
+        turns: row.number_or(3, LOG_LEN as u64),
+        rounds: row.number(4),
+        has_holder: row.word(1) == "holder",
     };
-    take_turns(rt, alloc, asked.taker, &task)
+    let ended = take_turns(rt, row.alloc(), row.word(0), &task)?;
+    row.count(ended as u64, "threads")
 }
 
-// A line's words: deliver or turns, who takes, all or holder, the threads, the facts or turns of each, and the rounds of work in a turn.
-fn read_task(line: &str) -> Asked<'_> {
-    let mut words = line.split_whitespace();
-    let is_turns = words.next() == Some("turns");
-    let taker = words.next().unwrap_or("");
-    let has_holder = words.next() == Some("holder");
-    let mut numbers = words.map(|it| it.parse::<u64>().unwrap_or(1));
-    Asked {
-        is_turns,
-        taker,
-        has_holder,
-        threads: numbers.next().unwrap_or(1),
-        count: numbers.next().unwrap_or(LOG_LEN as u64),
-        rounds: numbers.next().unwrap_or(0),
+pub fn answer<R: Threads + Wait + Sync>(rt: &R, row: Row) -> io::Result<()> {
+    match row.name {
+        "turns" => turn(rt, row),
+        _ => deliver(rt, row),
     }
-}
-
-fn print_row<R: Threads + Wait + Sync>(rt: &R, host: &HostRuntime, line: &str) -> io::Result<()> {
-    let asked = read_task(line);
-    if asked.is_turns {
-        match turn(rt, host.alloc(), asked)? {
-            Some(ended) => println!(host; "{line}: {ended} threads"),
-            None => println!(host; "{line}: no memory"),
-        }
-    } else {
-        match deliver(rt, host.alloc(), asked)? {
-            Some(accepted) => println!(host; "{line}: {accepted} accepted"),
-            None => println!(host; "{line}: 1 to {MAX_PASSES} threads"),
-        }
-    }
-}
-
-pub fn print_section<R: Threads + Wait + Sync>(rt: &R, host: &HostRuntime) -> io::Result<()> {
-    for line in host.lines(host.alloc()) {
-        let line = line?;
-        if line.as_str().starts_with("==") {
-            return println!(host; "{line}");
-        }
-        print_row(rt, host, line.as_str())?;
-    }
-    Ok(())
 }

@@ -1,19 +1,30 @@
-//! The words of a row: a line of the input of a program of rows, which names a call and its numbers.
+//! The rows of a program of rows: a line of its input, which names a call and its words and numbers, and what is printed behind it.
 //!
-//! Nothing here fails: a number that is not there, is none, or is too great for its type, has a number in its place.
+//! No reading fails: a number that is not there, is none, or is too great for its type, has a number in its place.
 #![tactic(auto)]
+
+mod rows;
+
+pub use rows::Row;
+
+/// Whether a line ends a section of the input.
+pub fn ends_section(line: &str) -> bool {
+    line.starts_with("==")
+}
 
 /// A line's first word, and what stands behind the space that ends it.
 pub fn first(line: &str) -> (&str, &str) {
     line.split_once(' ').unwrap_or((line, ""))
 }
 
-/// The number at a place of a list of words, counted from 0; the one that is given where that word is none, or is not there.
+/// The word at a place of a list of words, counted from 0; an empty one where there is none.
+pub fn word(words: &str, place: usize) -> &str {
+    words.split(' ').nth(place).unwrap_or("")
+}
+
+/// The number at a place of a list of words; the one that is given where that word is none, or is not there.
 pub fn number_or(words: &str, place: usize, otherwise: u64) -> u64 {
-    match words.split(' ').nth(place) {
-        Some(word) => word.parse::<u64>().unwrap_or(otherwise),
-        None => otherwise,
-    }
+    word(words, place).parse::<u64>().unwrap_or(otherwise)
 }
 
 /// The number at a place of a list of words, 0 where there is none.

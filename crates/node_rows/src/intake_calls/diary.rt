@@ -2,12 +2,12 @@
 ghost use Rattle.std.specs.Prelude.{◌≡◌, ◌<◌, ◌≤◌, ◌+◌, ◌^◌, ◌++◌, ◌∷◌, [], None, length, OnOk, OnErr, IfOk};
 ghost use Rattle.node_lock.specs.Passes.{IsIdlePass};
 
-use crate::intake_calls::answers::Answer;
 use node_lock::{Lock, MAX_PASSES, Pass, Trailed};
+use row_words::Row;
 use std::alloc::{AllocError, Global};
 use std::sync::Wait;
-use std::thread;
 use std::thread::Threads;
+use std::{io, mem, thread};
 
 /// A trail with its length, and how often it was looked at, which is no part of what it keeps.
 #[derive(Drop)]
@@ -114,74 +114,78 @@ pub struct Diaries {
     ghost idle: { IsIdlePass lock.id one × IsIdlePass lock.id other },
 }
 
-impl Diaries {
-    pub fn open(alloc: Global) -> Result<Diaries, AllocError> {
-        let (lock, mut passes) = match Lock::open(alloc, Diary::new(alloc), 2) {
-            Ok(opened) => opened,
-            Err(refused) => return Err(refused.fault),
-        };
-        let Some(other) = passes.pop() else {
-            return Err(AllocError);
-        };
-        let Some(one) = passes.pop() else {
-            return Err(AllocError);
-        };
-        Ok(Diaries { lock, one, other })
-    }
-
-    /// Appends an entry by a pass, 0 or another.
-    pub fn append<R: Wait>(
-        &mut self,
-        rt: &R,
-        pass: u64,
-        log_place: u64,
-    ) -> Result<Answer, AllocError> {
-        match pass {
-            0 => append(rt, &self.lock, &mut self.one, log_place)?,
-            _ => append(rt, &self.lock, &mut self.other, log_place)?,
-        }
-        Ok(Answer::Done)
-    }
-
-    /// Looks without a pass.
-    pub fn look<R: Wait>(&self, rt: &R) -> Answer {
-        let mut visit = self.lock.visit(rt);
-        let looks = visit.state.look();
-        visit.leave();
-        Answer::Looks(looks)
-    }
-
-    /// Looks by the second pass.
-    pub fn look_by_pass<R: Wait>(&mut self, rt: &R) -> Answer {
-        let mut turn = self.lock.take(rt, &mut self.other);
-        let looks = turn.state.look();
-        turn.give();
-        Answer::Looks(looks)
-    }
-
-    /// Looks in a call, by the first pass.
-    pub fn look_in_a_call<R: Wait>(&mut self, rt: &R) -> Answer {
-        Answer::Looks(self.lock.read(rt, &mut self.one, |diary| diary.look()))
-    }
-
-    /// The trail, closed with the first pass alone.
-    pub fn close<R: Wait>(self, rt: &R, alloc: Global) -> Result<Answer, AllocError> {
-        let Diaries {
-            lock,
-            one,
-            other: _,
-        } = self;
-        let passes = Vec::from_array(alloc, [one])?;
-        Ok(Answer::Trail(lock.close(rt, passes).trail))
-    }
+pub fn open_diaries(alloc: Global) -> Result<Box<Diaries>, AllocError> {
+    Ok(Box::new(alloc, opened(alloc)?)?)
 }
 
-/// Two threads append 1000 entries each, by a pass of their own.
-pub fn append_in_two_threads<R: Threads + Wait + Sync>(
-    rt: &R,
-    alloc: Global,
-) -> Result<Answer, AllocError> {
-    let Diaries { lock, one, other } = Diaries::open(alloc)?;
+fn opened(alloc: Global) -> Result<Diaries, AllocError> {
+    let (lock, mut passes) = match Lock::open(alloc, Diary::new(alloc), 2) {
+        Ok(opened) => opened,
+        Err(refused) => return Err(refused.fault),
+    };
+    let Some(other) = passes.pop() else {
+        return Err(AllocError);
+    };
+    let Some(one) = passes.pop() else {
+        return Err(AllocError);
+    };
+    Ok(Diaries { lock, one, other })
+}
+
+/// Appends an entry by a pass, 0 or another.
+pub fn note<R: Wait>(rt: &R, diaries: &mut Diaries, row: Row) -> io::Result<()> {
+    match row.number(0) {
+        0 => append(rt, &diaries.lock, &mut diaries.one, row.number(1))?,
+        _ => append(rt, &diaries.lock, &mut diaries.other, row.number(1))?,
+    }
+    row.said("Done")
+}
+
+/// Looks without a pass.
+pub fn look<R: Wait>(rt: &R, diaries: &Diaries, row: Row) -> io::Result<()> {
+    let mut visit = diaries.lock.visit(rt);
+    let looks = visit.state.look();
+    visit.leave();
+    row.one("Looks", &looks)
+}
+
+/// Looks by the second pass.
+pub fn look_by_pass<R: Wait>(rt: &R, diaries: &mut Diaries, row: Row) -> io::Result<()> {
+    let mut turn = diaries.lock.take(rt, &mut diaries.other);
+    let looks = turn.state.look();
+    turn.give();
+    row.one("Looks", &looks)
+}
+
+/// Looks in a call, by the first pass.
+pub fn look_in_a_call<R: Wait>(rt: &R, diaries: &mut Diaries, row: Row) -> io::Result<()> {
+    let looks = diaries
+        .lock
+        .read(rt, &mut diaries.one, |diary| diary.look());
+    row.one("Looks", &looks)
+}
+
+/// Closes the lock with the first pass alone, and opens one. The answer is the entries of the trail: the pass and the place in the log
+/// of each.
+pub fn close<R: Wait>(rt: &R, diaries: &mut Box<Diaries>, row: Row) -> io::Result<()> {
+    let closed = mem::replace(diaries, open_diaries(row.alloc())?);
+    let diary = closed_by_one(rt, row.alloc(), Box::into_inner(closed))?;
+    row.one("Trail", &diary.trail)
+}
+
+fn closed_by_one<R: Wait>(rt: &R, alloc: Global, diaries: Diaries) -> Result<Diary, AllocError> {
+    let Diaries {
+        lock,
+        one,
+        other: _,
+    } = diaries;
+    let passes = Vec::from_array(alloc, [one])?;
+    Ok(lock.close(rt, passes))
+}
+
+// Two threads append 1000 entries each, by a pass of their own.
+fn appended_twice<R: Threads + Wait + Sync>(rt: &R, alloc: Global) -> Result<Diary, AllocError> {
+    let Diaries { lock, one, other } = opened(alloc)?;
     let shared = &lock;
     let (one, other) = thread::join(
         rt,
@@ -195,8 +199,20 @@ pub fn append_in_two_threads<R: Threads + Wait + Sync>(
         { append_all(rt, shared, other, 5001, 1000) },
     );
     let passes = Vec::from_array(alloc, [one?, other?])?;
-    let diary = lock.close(rt, passes);
-    Ok(Answer::InOrder {
+    Ok(lock.close(rt, passes))
+}
+
+/// How many entries a trail has, and whether those of each pass are in order.
+#[derive(Debug, Drop)]
+struct InOrder {
+    entries: usize,
+    first: bool,
+    second: bool,
+}
+
+pub fn append_in_two_threads<R: Threads + Wait + Sync>(rt: &R, row: Row) -> io::Result<()> {
+    let diary = appended_twice(rt, row.alloc())?;
+    row.told(&InOrder {
         entries: diary.trail.len(),
         first: diary.is_in_order(0, 1, 1000),
         second: diary.is_in_order(1, 5001, 1000),
@@ -204,11 +220,22 @@ pub fn append_in_two_threads<R: Threads + Wait + Sync>(
 }
 
 /// How many passes a lock has, and the number of the last.
-pub fn opened_with(alloc: Global, passes: u64) -> Result<Answer, AllocError>
-    requires { (0 < passes) × (passes ≤ MAX_PASSES) }
+#[derive(Debug, Drop)]
+struct Passes(usize, Option<u64>);
+
+fn passes_of(alloc: Global, count: u64) -> Result<Passes, AllocError>
+    requires { (0 < count) × (count ≤ MAX_PASSES) }
 {
-    match Lock::open(alloc, Diary::new(alloc), passes) {
-        Ok((_, dealt)) => Ok(Answer::Passes(dealt.len(), dealt.last().map(|pass| pass.number()))),
+    match Lock::open(alloc, Diary::new(alloc), count) {
+        Ok((_, dealt)) => Ok(Passes(dealt.len(), dealt.last().map(|pass| pass.number()))),
         Err(refused) => Err(refused.fault),
     }
+}
+
+pub fn print_passes(row: Row) -> io::Result<()> {
+    let count = row.number(0);
+    if count == 0 || count > MAX_PASSES {
+        return row.said("Unknown");
+    }
+    row.told(&passes_of(row.alloc(), count)?)
 }

@@ -73,6 +73,18 @@ impl<L: LogName> Relay<L> {
         unreachable!()
     }
 
+    // Offers facts, in order.
+    fn put_all<R: Wait>(&mut self, rt: &R, mut facts: Vec<LogFact<L>>) -> Result<(), AllocError>
+        requires { self.old.sender.accepted ≡ [] }
+        ensures { OnOk result (parcel_facts self.new.sender.accepted ≡ facts.items) }
+    {
+        facts.as_mut_slice().reverse();
+        while let Some(fact) = facts.pop() {
+            self.put(rt, fact)?;
+        }
+        Ok(())
+    }
+
     // All that was accepted, in order.
     fn finish<R: Wait>(self, rt: &R, alloc: Global) -> Result<Vec<Parcel<L>>, AllocError>
         ensures { IfOk result (λ all. all.items ≡ self.sender.accepted) }
@@ -100,15 +112,12 @@ pub fn pass_through<L: LogName, R: Wait>(
     rt: &R,
     alloc: Global,
     capacity: usize,
-    mut facts: Vec<LogFact<L>>,
+    facts: Vec<LogFact<L>>,
 ) -> Result<Vec<Parcel<L>>, AllocError>
     requires { (1 ≤ capacity) × (capacity ≤ MAX_CAPACITY) }
     ensures { IfOk result (λ all. parcel_facts all.items ≡ facts.items) }
 {
     let mut relay = Relay::open(alloc, capacity)?;
-    facts.as_mut_slice().reverse();
-    while let Some(fact) = facts.pop() {
-        relay.put(rt, fact)?;
-    }
+    relay.put_all(rt, facts)?;
     relay.finish(rt, alloc)
 }

@@ -2,14 +2,15 @@
 ghost use Rattle.std.specs.Prelude.{◌≡◌};
 ghost use Rattle.std.specs.Thread.{IsSync};
 
-use crate::intake_calls::answers::Answer;
-use crate::intake_calls::lane::Log;
+use crate::Log;
+use crate::intake_calls::lane::left_at_end;
 use intake_queue::{Intake, Parcel, SenderPass, TakerPass};
 use named_log::LogFact;
+use row_words::Row;
 use std::alloc::{AllocError, Global};
 use std::sync::Wait;
-use std::thread;
 use std::thread::Threads;
+use std::{io, thread};
 
 const EACH: u64 = 1000;
 
@@ -54,12 +55,14 @@ fn offer_all<R: Wait>(
     sender
 }
 
-// What the taker found: how many parcels of each sender, and how many that did not follow the one before of their sender.
-#[derive(Clone, Copy)]
+/// What the taker found: how many parcels of each sender, and how many that did not follow the one before of their sender; and how many
+/// were left in the end.
+#[derive(Debug, Drop)]
 struct Tally {
     first: u64,
     second: u64,
     astray: u64,
+    left: usize,
 }
 
 fn note(tally: &mut Tally, parcel: Parcel<Log>) {
@@ -90,6 +93,7 @@ fn take_all<R: Wait>(
         first: 0,
         second: 0,
         astray: 0,
+        left: 0,
     };
     let mut taken = 0u64;
     for _ in rt.forever() {
@@ -106,6 +110,10 @@ fn take_all<R: Wait>(
     }
     (taker, tally)
 }
+
+type Senders = (SenderPass<Log>, SenderPass<Log>);
+
+type Facts = (Vec<LogFact<Log>>, Vec<LogFact<Log>>);
 
 #[derive(Drop)]
 struct Shared {
@@ -136,13 +144,13 @@ fn open(alloc: Global) -> Result<Shared, AllocError> {
 fn offer_both<R: Threads + Wait + Sync>(
     rt: &R,
     intake: &Intake<Log>,
-    first: SenderPass<Log>,
-    second: SenderPass<Log>,
-    facts: (Vec<LogFact<Log>>, Vec<LogFact<Log>>),
-) -> (SenderPass<Log>, SenderPass<Log>)
-    requires { (first.intake ≡ intake.now.id) × (second.intake ≡ intake.now.id) }
+    senders: Senders,
+    facts: Facts,
+) -> Senders
+    requires { (senders.0.intake ≡ intake.now.id) × (senders.1.intake ≡ intake.now.id) }
     ensures { (result.0.intake ≡ intake.now.id) × (result.1.intake ≡ intake.now.id) }
 {
+    let (first, second) = senders;
     let (of_first, of_second) = facts;
     thread::join(
         rt,
@@ -157,38 +165,53 @@ fn offer_both<R: Threads + Wait + Sync>(
     )
 }
 
-/// What the taker found, and how many parcels were left.
-pub fn in_three_threads<R: Threads + Wait + Sync>(
+// The senders offer their facts, and the taker takes them, in a thread each.
+fn offer_and_take<R: Threads + Wait + Sync>(
     rt: &R,
-    alloc: Global,
-) -> Result<Answer, AllocError> {
+    intake: &Intake<Log>,
+    senders: Senders,
+    taker: TakerPass<Log>,
+    facts: Facts,
+) -> (Senders, (TakerPass<Log>, Tally))
+    requires senders { (senders.0.intake ≡ intake.now.id) × (senders.1.intake ≡ intake.now.id) }
+    requires taker { taker.intake ≡ intake.now.id }
+    ensures senders { (result.0.0.intake ≡ intake.now.id) × (result.0.1.intake ≡ intake.now.id) }
+    ensures taker { result.1.0.intake ≡ intake.now.id }
+{
+    thread::join(
+        rt,
+        move || -> Senders
+            requires { IsSync R.row × (senders.0.intake ≡ intake.now.id) × (senders.1.intake ≡ intake.now.id) }
+            ensures { (result.0.intake ≡ intake.entry.now.id) × (result.1.intake ≡ intake.entry.now.id) }
+        { offer_both(rt, intake, senders, facts) },
+        move || -> (TakerPass<Log>, Tally)
+            requires { IsSync R.row × (taker.intake ≡ intake.now.id) }
+            ensures { result.0.intake ≡ intake.entry.now.id }
+        { take_all(rt, intake, taker, 2 * EACH) },
+    )
+}
+
+fn tally_of_three<R: Threads + Wait + Sync>(rt: &R, alloc: Global) -> Result<Tally, AllocError> {
+    let facts = (facts(alloc)?, facts(alloc)?);
     let Shared {
         intake,
         first,
         second,
         taker,
     } = open(alloc)?;
-    let facts = (facts(alloc)?, facts(alloc)?);
-    let shared = &intake;
-    let ((first, second), (taker, tally)) = thread::join(
+    let ((first, second), (taker, mut tally)) = offer_and_take(
         rt,
-        move || -> (SenderPass<Log>, SenderPass<Log>)
-            requires { IsSync R.row × (first.intake ≡ shared.now.id) × (second.intake ≡ shared.now.id) }
-            ensures { (result.0.intake ≡ shared.entry.now.id) × (result.1.intake ≡ shared.entry.now.id) }
-        { offer_both(rt, shared, first, second, facts) },
-        move || -> (TakerPass<Log>, Tally)
-            requires { IsSync R.row × (taker.intake ≡ shared.now.id) }
-            ensures { result.0.intake ≡ shared.entry.now.id }
-        { take_all(rt, shared, taker, 2 * EACH) },
+        &intake,
+        (first, second),
+        taker,
+        facts,
     );
     let senders = Vec::from_array(alloc, [first, second])?;
-    match intake.end(rt, alloc, senders, taker) {
-        Ok(left) => Ok(Answer::Tally {
-            first: tally.first,
-            second: tally.second,
-            astray: tally.astray,
-            left: left.len(),
-        }),
-        Err(refused) => Err(refused.fault),
-    }
+    tally.left = left_at_end(rt, alloc, intake, senders, taker)?.len();
+    Ok(tally)
+}
+
+/// Prints what the taker found.
+pub fn in_three_threads<R: Threads + Wait + Sync>(rt: &R, row: Row) -> io::Result<()> {
+    row.told(&tally_of_three(rt, row.alloc())?)
 }

@@ -1,7 +1,7 @@
-use crate::node_calls::row::Row;
 use front_board::LogFront;
 use named_log::LogName;
 use node_cell::{Ack, View};
+use row_words::Row;
 use std::io;
 
 #[derive(Clone, Copy, Debug)]

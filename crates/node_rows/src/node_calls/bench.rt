@@ -1,11 +1,12 @@
+use crate::Log;
 use crate::node_calls::answers::{delivery_of, print_front, print_view};
 use crate::node_calls::board::{Six, open_six, publish_in_two_threads};
 use crate::node_calls::endings::{print_closed, print_entry, print_settling};
-use crate::node_calls::host::{Host, Log, boxed};
-use crate::node_calls::row::Row;
+use crate::node_calls::host::{Host, boxed};
 use crate::node_calls::threads::closed_after_two;
 use crate::node_calls::{board, host};
-use node_cell::{Closed, Node, Receipt};
+use node_cell::{Closed, Folded, Node, Receipt};
+use row_words::Row;
 use std::alloc::{AllocError, Global};
 use std::io;
 use std::sync::Wait;
@@ -39,12 +40,12 @@ fn begin_anew(bench: &mut Bench, row: Row) -> io::Result<()> {
     bench.receipts.clear();
     bench.closed = None;
     bench.six = open_six(row.alloc())?;
-    row.word("Done")
+    row.said("Done")
 }
 
 fn open(hosts: &mut Vec<Host>, row: Row) -> io::Result<()> {
     hosts.push(host::open_host(row.alloc(), row.number(0))?)?;
-    row.word("Done")
+    row.said("Done")
 }
 
 // Delivers the facts from one place to another, in order, and tells of the last. A fault ends it.
@@ -68,21 +69,21 @@ fn deliver_all<R: Wait>(
     }
     match told {
         Some(delivered) => row.told(&delivered),
-        None => row.word("Unknown"),
+        None => row.said("Unknown"),
     }
 }
 
 fn deliver<R: Wait>(rt: &R, bench: &mut Bench, row: Row) -> io::Result<()> {
     match bench.hosts.get_mut(row.index(0)) {
         Some(host) => deliver_all(rt, host, &mut bench.receipts, row),
-        None => row.word("Unknown"),
+        None => row.said("Unknown"),
     }
 }
 
 fn close<R: Wait>(rt: &R, bench: &mut Bench, row: Row) -> io::Result<()> {
     let place = row.index(0);
     if place >= bench.hosts.len() {
-        return row.word("Unknown");
+        return row.said("Unknown");
     }
     let ended = host::close_host(rt, row.alloc(), bench.hosts.remove(place))?;
     end(&mut bench.closed, ended, row)
@@ -96,14 +97,14 @@ fn two_threads<R: Threads + Wait + Sync>(rt: &R, bench: &mut Bench, row: Row) ->
 }
 
 fn end(closed: &mut Option<Box<Closed<Log>>>, ended: Box<Closed<Log>>, row: Row) -> io::Result<()> {
-    print_closed(row, &ended)?;
+    let told = print_closed(row, &ended);
     *closed = Some(ended);
-    Ok(())
+    told
 }
 
 fn two_seats<R: Threads + Sync>(rt: &R, bench: &mut Bench, row: Row) -> io::Result<()> {
     bench.six = publish_in_two_threads(rt, row.alloc())?;
-    row.word("Done")
+    row.said("Done")
 }
 
 /// Prints what a call answers. The calls here open and close nodes, and deliver to them.
@@ -125,14 +126,17 @@ fn tell<R: Wait>(rt: &R, bench: &mut Bench, row: Row) -> io::Result<()> {
         "publish" | "look" | "quorum" | "order" => board::answer(&mut bench.six, row),
         "settle" | "entry" => of_closed(bench, row),
         "front" | "read" | "fold" | "discard" => of_host(rt, &mut bench.hosts, row),
-        _ => of_nodes(rt, &bench.hosts, &bench.receipts, row),
+        "after" => after(rt, bench, row),
+        "absorb" => absorb(rt, &bench.hosts, row),
+        "commit" => commit(rt, &bench.hosts, row),
+        _ => row.said("Unknown"),
     }
 }
 
 // What a closed node answers.
 fn of_closed(bench: &Bench, row: Row) -> io::Result<()> {
     let Some(ended) = &bench.closed else {
-        return row.word("Unknown");
+        return row.said("Unknown");
     };
     match row.name {
         "settle" => print_settling(row, ended, &bench.receipts),
@@ -143,7 +147,7 @@ fn of_closed(bench: &Bench, row: Row) -> io::Result<()> {
 // What a node alone answers.
 fn of_host<R: Wait>(rt: &R, hosts: &mut [Host], row: Row) -> io::Result<()> {
     let Some(host) = hosts.get_mut(row.index(0)) else {
-        return row.word("Unknown");
+        return row.said("Unknown");
     };
     match row.name {
         "front" => print_front(row, host::reached(host)),
@@ -179,7 +183,7 @@ fn fold_page<R: Wait>(rt: &R, host: &mut Host, row: Row) -> io::Result<()> {
 
 fn discard<R: Wait>(rt: &R, node: &Node<Log>, row: Row) -> io::Result<()> {
     node.discard(rt);
-    row.word("Done")
+    row.said("Done")
 }
 
 fn node_at(hosts: &[Host], place: usize) -> Option<&Node<Log>> {
@@ -189,27 +193,13 @@ fn node_at(hosts: &[Host], place: usize) -> Option<&Node<Log>> {
     }
 }
 
-// What a node answers of others, or of a receipt.
-fn of_nodes<R: Wait>(
-    rt: &R,
-    hosts: &[Host],
-    receipts: &[Receipt<Log>],
-    row: Row,
-) -> io::Result<()> {
-    let Some(node) = node_at(hosts, row.index(0)) else {
-        return row.word("Unknown");
+// What a node shows to who has a receipt.
+fn after<R: Wait>(rt: &R, bench: &Bench, row: Row) -> io::Result<()> {
+    let Some(node) = node_at(&bench.hosts, row.index(0)) else {
+        return row.said("Unknown");
     };
-    match row.name {
-        "after" => after(rt, node, receipts, row),
-        "absorb" => absorb(rt, node, hosts, row),
-        "commit" => commit(rt, node, hosts, row),
-        _ => row.word("Unknown"),
-    }
-}
-
-fn after<R: Wait>(rt: &R, node: &Node<Log>, receipts: &[Receipt<Log>], row: Row) -> io::Result<()> {
-    let Some(receipt) = receipts.get(row.index(1)) else {
-        return row.word("Unknown");
+    let Some(receipt) = bench.receipts.get(row.index(1)) else {
+        return row.said("Unknown");
     };
     match host::read_after(rt, node, receipt) {
         Ok(view) => print_view(row, &view),
@@ -217,12 +207,14 @@ fn after<R: Wait>(rt: &R, node: &Node<Log>, receipts: &[Receipt<Log>], row: Row)
     }
 }
 
-fn absorb<R: Wait>(rt: &R, node: &Node<Log>, hosts: &[Host], row: Row) -> io::Result<()> {
-    let Some(asker) = node_at(hosts, row.index(1)) else {
-        return row.word("Unknown");
-    };
-    let Some(answerer) = node_at(hosts, row.index(2)) else {
-        return row.word("Unknown");
+// A node absorbs what another answers to the summary of a third.
+fn absorb<R: Wait>(rt: &R, hosts: &[Host], row: Row) -> io::Result<()> {
+    let (Some(node), Some(asker), Some(answerer)) = (
+        node_at(hosts, row.index(0)),
+        node_at(hosts, row.index(1)),
+        node_at(hosts, row.index(2)),
+    ) else {
+        return row.said("Unknown");
     };
     match host::absorb(rt, node, asker, answerer) {
         Ok(front) => print_front(row, front),
@@ -230,16 +222,21 @@ fn absorb<R: Wait>(rt: &R, node: &Node<Log>, hosts: &[Host], row: Row) -> io::Re
     }
 }
 
+fn folded_at(hosts: &[Host], place: usize) -> Option<&Folded<Log>> {
+    match &hosts.get(place)?.folded {
+        Some(folded) => Some(folded),
+        None => None,
+    }
+}
+
 // Commits a copy of the last fold of a node.
-fn commit<R: Wait>(rt: &R, node: &Node<Log>, hosts: &[Host], row: Row) -> io::Result<()> {
-    let Some(maker) = hosts.get(row.index(1)) else {
-        return row.word("Unknown");
-    };
-    let Some(folded) = &maker.folded else {
-        return row.word("Unknown");
+fn commit<R: Wait>(rt: &R, hosts: &[Host], row: Row) -> io::Result<()> {
+    let (Some(node), Some(folded)) = (node_at(hosts, row.index(0)), folded_at(hosts, row.index(1)))
+    else {
+        return row.said("Unknown");
     };
     match host::commit(rt, node, folded) {
-        Ok(()) => row.word("Done"),
+        Ok(()) => row.said("Done"),
         Err(fault) => row.one("NotCommitted", &fault),
     }
 }

@@ -4,9 +4,9 @@ ghost use Rattle.front_board.specs.Seat.{IsNode};
 
 use crate::node_calls::answers::print_front;
 use crate::node_calls::host::boxed;
-use crate::node_calls::row::Row;
 use drill_log::Drill;
 use front_board::{Board, LogFront, Seat};
+use row_words::Row;
 use std::alloc::{AllocError, Global};
 use std::thread::Threads;
 use std::{io, thread};
@@ -58,7 +58,7 @@ fn compare(row: Row) -> io::Result<()> {
             less: one < other,
             same: one == other,
         }),
-        _ => row.word("Unknown"),
+        _ => row.said("Unknown"),
     }
 }
 
@@ -89,9 +89,9 @@ fn publish(six: &mut Six, row: Row) -> io::Result<()> {
     match front_of(row.number(1), row.number(2)) {
         Some(front) if 0 < node && node <= 6 => {
             six.board.publish(&mut six.one, node, front);
-            row.word("Done")
+            row.said("Done")
         }
-        _ => row.word("Unknown"),
+        _ => row.said("Unknown"),
     }
 }
 
@@ -99,7 +99,7 @@ fn publish(six: &mut Six, row: Row) -> io::Result<()> {
 fn look(six: &mut Six, row: Row) -> io::Result<()> {
     let node = row.index(0);
     if node == 0 || node > 6 {
-        return row.word("Unknown");
+        return row.said("Unknown");
     }
     print_front(row, six.board.front(&mut six.other, node))
 }
@@ -108,7 +108,7 @@ fn look(six: &mut Six, row: Row) -> io::Result<()> {
 fn quorum(six: &mut Six, row: Row) -> io::Result<()> {
     let need = row.index(0);
     if need == 0 || need > 6 {
-        return row.word("Unknown");
+        return row.said("Unknown");
     }
     print_front(row, six.board.quorum(&mut six.other, need))
 }

@@ -1,7 +1,7 @@
 //! What a closed node answers.
-use crate::node_calls::host::Log;
-use crate::node_calls::row::Row;
+use crate::Log;
 use node_cell::{Receipt, settle};
+use row_words::Row;
 use std::io;
 
 #[derive(Clone, Copy, Debug)]
@@ -35,7 +35,7 @@ pub fn print_entry(row: Row, ended: &node_cell::Closed<Log>) -> io::Result<()> {
             pass: entry.0,
             log: entry.1,
         }),
-        None => row.word("Unknown"),
+        None => row.said("Unknown"),
     }
 }
 
@@ -46,10 +46,10 @@ pub fn print_settling(
     receipts: &[Receipt<Log>],
 ) -> io::Result<()> {
     let Some(receipts) = receipts.get(row.index(0)..row.index(1)) else {
-        return row.word("Unknown");
+        return row.said("Unknown");
     };
     match settle(ended, receipts) {
-        Ok(()) => row.word("Settled"),
+        Ok(()) => row.said("Settled"),
         Err(stranger) => row.one("NotSettled", &stranger),
     }
 }

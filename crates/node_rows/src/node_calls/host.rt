@@ -3,7 +3,7 @@ ghost use Rattle.std.specs.Prelude.{◌≡◌, IfOk};
 ghost use Rattle.front_board.specs.Seat.{IsNode};
 ghost use Rattle.node_cell.specs.Node.{IsPassOf};
 
-use drill_log::Drill;
+use crate::Log;
 use front_board::{Board, LogFront, Seat};
 use named_log::LogFact;
 use node_cell::{
@@ -12,8 +12,6 @@ use node_cell::{
 use segment_core::{CommitFault, ReadFault};
 use std::alloc::{AllocError, Global};
 use std::sync::Wait;
-
-pub type Log = Drill<64>;
 
 /// A node with the first of its two passes, the first seat of a board of its own, and the fold that it made last. What is large stands
 /// in boxes: a function that has it by value proves all that it is made of.
@@ -34,10 +32,10 @@ pub fn boxed<T: Drop>(alloc: Global, value: T) -> Result<Box<T>, AllocError>
     Ok(Box::new(alloc, value)?)
 }
 
-pub type Dealt = (Box<Node<Log>>, Box<Pass<Log>>, Box<Pass<Log>>);
+type Dealt = (Box<Node<Log>>, Box<Pass<Log>>, Box<Pass<Log>>);
 
-/// A node with two passes.
-pub fn open_node(alloc: Global, capacity: u64) -> Result<Dealt, AllocError>
+// A node with two passes.
+fn open_node(alloc: Global, capacity: u64) -> Result<Dealt, AllocError>
     ensures one { IfOk result (λ t. IsPassOf t.0.value t.1.value) }
     ensures other { IfOk result (λ t. IsPassOf t.0.value t.2.value) }
     ensures number { IfOk result (λ t. t.0.value.number ≡ 1) }
@@ -48,10 +46,10 @@ pub fn open_node(alloc: Global, capacity: u64) -> Result<Dealt, AllocError>
     Ok((boxed(alloc, node)?, one, other))
 }
 
-pub type Seated = (Box<Board<Log>>, Box<Seat<Log>>, Box<Seat<Log>>);
+type Seated = (Box<Board<Log>>, Box<Seat<Log>>, Box<Seat<Log>>);
 
-/// A board of one node with two seats.
-pub fn open_board(alloc: Global) -> Result<Seated, AllocError>
+// A board of one node with two seats.
+fn open_board(alloc: Global) -> Result<Seated, AllocError>
     ensures one { IfOk result (λ t. t.1.value.board ≡ t.0.value) }
     ensures other { IfOk result (λ t. t.2.value.board ≡ t.0.value) }
     ensures words { IfOk result (λ t. t.0.value.words ≡ 1) }
@@ -62,9 +60,58 @@ pub fn open_board(alloc: Global) -> Result<Seated, AllocError>
     Ok((boxed(alloc, board)?, one, other))
 }
 
+/// Who delivers to a node: a pass, a seat, and the receipts of its deliveries, in order.
+#[derive(Drop)]
+pub struct Hand {
+    pub pass: Box<Pass<Log>>,
+    pub seat: Box<Seat<Log>>,
+    pub receipts: Vec<Receipt<Log>>,
+}
+
+/// A node with two passes, and a board with two seats.
+#[derive(Drop)]
+pub struct Two {
+    pub node: Box<Node<Log>>,
+    pub board: Box<Board<Log>>,
+    pub one: Hand,
+    pub other: Hand,
+    ghost passes: { IsPassOf node.value one.pass.value × IsPassOf node.value other.pass.value },
+    ghost seats: { (one.seat.value.board ≡ board.value) × (other.seat.value.board ≡ board.value) },
+    ghost number: { IsNode board.value.words node.value.number },
+}
+
+/// A node whose trail has room for `capacity`, with two who may deliver to it.
+pub fn open_two(alloc: Global, capacity: u64) -> Result<Two, AllocError> {
+    let (node, one_pass, other_pass) = open_node(alloc, capacity)?;
+    let (board, one_seat, other_seat) = open_board(alloc)?;
+    Ok(Two {
+        node,
+        board,
+        one: Hand {
+            pass: one_pass,
+            seat: one_seat,
+            receipts: Vec::new(alloc),
+        },
+        other: Hand {
+            pass: other_pass,
+            seat: other_seat,
+            receipts: Vec::new(alloc),
+        },
+    })
+}
+
 pub fn open_host(alloc: Global, capacity: u64) -> Result<Host, AllocError> {
-    let (node, pass, _) = open_node(alloc, capacity)?;
-    let (board, seat, _) = open_board(alloc)?;
+    let Two {
+        node,
+        board,
+        one,
+        other: _,
+    } = open_two(alloc, capacity)?;
+    let Hand {
+        pass,
+        seat,
+        receipts: _,
+    } = one;
     Ok(Host {
         node,
         pass,

@@ -3,7 +3,8 @@ ghost use Rattle.std.specs.Prelude.{◌≡◌, ◌≤◌, IfOk};
 ghost use Rattle.front_board.specs.Seat.{IsNode};
 ghost use Rattle.node_cell.specs.Node.{IsPassOf};
 
-use crate::node_calls::host::{Log, boxed, open_board, open_node};
+use crate::Log;
+use crate::node_calls::host::{Hand, Two, boxed, open_two};
 use front_board::{Board, Seat};
 use named_log::LogFact;
 use node_cell::{Closed, Node, Pass, Receipt};
@@ -11,14 +12,6 @@ use std::alloc::{AllocError, Global};
 use std::sync::Wait;
 use std::thread;
 use std::thread::Threads;
-
-// What a thread has: a pass and a seat, and in the end the receipts of its deliveries, in order.
-#[derive(Drop)]
-struct Hand {
-    pass: Box<Pass<Log>>,
-    seat: Box<Seat<Log>>,
-    receipts: Vec<Receipt<Log>>,
-}
 
 // Delivers the facts at 32 places, every other one from `first` on.
 fn deliver_half<R: Wait>(
@@ -44,37 +37,6 @@ fn deliver_half<R: Wait>(
         hand.receipts.push(ack.receipt)?;
     }
     Ok(hand)
-}
-
-// A node with two passes, and a board with two seats.
-#[derive(Drop)]
-struct Two {
-    node: Box<Node<Log>>,
-    board: Box<Board<Log>>,
-    one: Hand,
-    other: Hand,
-    ghost passes: { IsPassOf node.value one.pass.value × IsPassOf node.value other.pass.value },
-    ghost seats: { (one.seat.value.board ≡ board.value) × (other.seat.value.board ≡ board.value) },
-    ghost number: { IsNode board.value.words node.value.number },
-}
-
-fn open_two(alloc: Global) -> Result<Two, AllocError> {
-    let (node, one_pass, other_pass) = open_node(alloc, 64)?;
-    let (board, one_seat, other_seat) = open_board(alloc)?;
-    Ok(Two {
-        node,
-        board,
-        one: Hand {
-            pass: one_pass,
-            seat: one_seat,
-            receipts: Vec::new(alloc),
-        },
-        other: Hand {
-            pass: other_pass,
-            seat: other_seat,
-            receipts: Vec::new(alloc),
-        },
-    })
 }
 
 type Handed = Result<Hand, AllocError>;
@@ -146,7 +108,7 @@ pub fn closed_after_two<R: Threads + Wait + Sync>(
         board,
         one,
         other,
-    } = open_two(alloc)?;
+    } = open_two(alloc, 64)?;
     let (one, other) = deliver_halves(rt, alloc, &node, &board, one, other);
     let one = handed(receipts, one?)?;
     let other = handed(receipts, other?)?;

@@ -36,8 +36,23 @@ pub fn deliver<L: LogName + Send + Sync, R: Threads + Wait + Sync>(
 {
     let threads = dealt.len();
     let (node, passes) = Node::open(alloc, 1, threads as u64, capacity)?;
-    let (board, seats) = Board::open(alloc, 1, threads)?;
-    let hands = hands(alloc, &node, &board, passes, seats, dealt)?;
+    deliver_to(rt, alloc, &node, passes, dealt)
+}
+
+// Opens a board for a node, and delivers to the node.
+fn deliver_to<L: LogName + Send + Sync, R: Threads + Wait + Sync>(
+    rt: &R,
+    alloc: Global,
+    node: &Node<L>,
+    passes: Vec<Pass<L>>,
+    dealt: Vec<Vec<LogFact<L>>>,
+) -> Result<Vec<u64>, AllocError>
+    requires passes { AreIdle node.now.lock passes.items }
+    requires number { node.now.number ≡ 1 }
+    requires dealt { (0 < length dealt.items) × (length dealt.items ≤ MAX_PASSES) }
+{
+    let (board, seats) = Board::open(alloc, 1, dealt.len())?;
+    let hands = hands(alloc, node, &board, passes, seats, dealt)?;
     thread::map_vec(rt, hands, &|hand| deliver_all(rt, hand))
 }
 

@@ -109,30 +109,26 @@ fn run<R: Threads + Wait + Sync>(
     Ok(ended.len())
 }
 
-fn opened(alloc: Global, name: &str) -> Option<Shared> {
+fn opened(alloc: Global, name: &str) -> Result<Shared, AllocError> {
     if name == "mutex" {
-        return Some(Shared::Plain(Mutex::new(0)));
+        return Ok(Shared::Plain(Mutex::new(0)));
     }
     let start = Count {
         trail: Vec::new(alloc),
         count: 0,
     };
-    let Ok((lock, _)) = Lock::open(alloc, start, 1) else {
-        return None;
-    };
-    Some(Shared::Node(lock))
+    match Lock::open(alloc, start, 1) {
+        Ok((lock, _)) => Ok(Shared::Node(lock)),
+        Err(refused) => Err(refused.fault),
+    }
 }
 
-/// Threads take turns at a node's lock, or at a mutex where that is its name, as the task says. The answer is how many threads ended,
-/// or None where there was no memory for the lock.
+/// Threads take turns at a node's lock, or at a mutex where that is its name, as the task says. The answer is how many threads ended.
 pub fn take_turns<R: Threads + Wait + Sync>(
     rt: &R,
     alloc: Global,
     name: &str,
     task: &Task,
-) -> Result<Option<usize>, AllocError> {
-    match opened(alloc, name) {
-        Some(shared) => Ok(Some(run(rt, alloc, &shared, task)?)),
-        None => Ok(None),
-    }
+) -> Result<usize, AllocError> {
+    run(rt, alloc, &opened(alloc, name)?, task)
 }

@@ -1,6 +1,5 @@
-use crate::calls::Log;
-use crate::rounds::{EARLY, plan_of};
-use fleet_drill::{Floor, Open, open_floor, work};
+use crate::Log;
+use crate::worker_calls::rounds::early_at_the_first;
 use node_cell::{FoldPlan, Folded, Node};
 use node_threads::fold_many;
 use std::alloc::{AllocError, Global};
@@ -23,21 +22,22 @@ fn plans_of<R: Wait>(
 
 /// The pages of a node with the early places, folded by many threads: of each its number, its version, and how it begins.
 pub fn fold_by_many<R: Threads + Wait + Sync>(rt: &R, alloc: Global) -> Result<String, AllocError> {
-    let floor: Floor<Log> = open_floor(alloc, 1, 1, EARLY, EARLY as u64)?;
-    let worked = work(
-        rt,
-        alloc,
-        floor,
-        plan_of(alloc, EARLY as u64, &[], &[])?,
-        &Open,
-    )?;
-    let Some(node) = worked.nodes.first() else {
-        return String::from_str(alloc, "no nodes\n");
-    };
-    let Ok(folds) = fold_many(rt, alloc, plans_of(rt, alloc, node)?) else {
-        return Err(AllocError);
-    };
-    folds_text(alloc, folds.as_slice())
+    let worked = early_at_the_first(rt, alloc, 1)?;
+    match worked.nodes.first() {
+        Some(node) => folds_of(rt, alloc, node),
+        None => String::from_str(alloc, "no nodes\n"),
+    }
+}
+
+fn folds_of<R: Threads + Wait + Sync>(
+    rt: &R,
+    alloc: Global,
+    node: &Node<Log>,
+) -> Result<String, AllocError> {
+    match fold_many(rt, alloc, plans_of(rt, alloc, node)?) {
+        Ok(folds) => folds_text(alloc, folds.as_slice()),
+        Err(_) => Err(AllocError),
+    }
 }
 
 fn folds_text(alloc: Global, folds: &[Folded<Log>]) -> Result<String, AllocError> {

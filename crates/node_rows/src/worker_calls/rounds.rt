@@ -1,4 +1,6 @@
-use crate::calls::Log;
+ghost use Rattle.std.specs.Prelude.{◌<◌, ◌≤◌};
+
+use crate::Log;
 use fleet_drill::{Floor, Open, Worked, close_all, join_all, open_floor, tell, work};
 use node_cell::Closed;
 use node_threads::{Plan, Refusal, serve};
@@ -7,22 +9,31 @@ use std::alloc::{AllocError, Global};
 use std::sync::Wait;
 use std::thread::Threads;
 
-/// The places of the first epoch's records and of the advance.
-pub const EARLY: usize = 65;
+// The places of the first epoch's records and of the advance.
+const EARLY: usize = 65;
 
 type Round = (u16, u16);
 
-/// A plan in which the first inlet takes so many parcels, and there is one folder and one gossiper with these rounds.
-pub fn plan_of(
+// One worker, with these rounds.
+fn one_worker(alloc: Global, rounds: &[Round]) -> Result<Vec<Vec<Round>>, AllocError> {
+    let mut workers = Vec::new(alloc);
+    workers.push(rounds.to_vec(alloc)?)?;
+    Ok(workers)
+}
+
+// A plan in which the first inlet takes so many parcels, and there is one folder and one gossiper with these rounds.
+fn plan_of(
     alloc: Global,
     parcels: u64,
     folds: &[Round],
     gossip: &[Round],
 ) -> Result<Plan, AllocError> {
+    let folds = one_worker(alloc, folds)?;
+    let gossip = one_worker(alloc, gossip)?;
     Ok(Plan {
         parcels: Vec::from_array(alloc, [parcels])?,
-        folds: Vec::from_array(alloc, [folds.to_vec(alloc)?])?,
-        gossip: Vec::from_array(alloc, [gossip.to_vec(alloc)?])?,
+        folds,
+        gossip,
     })
 }
 
@@ -41,13 +52,16 @@ fn work_again<R: Threads + Wait + Sync>(
     }
 }
 
-/// Two nodes, of which the first has the early places.
-fn early_at_the_first<R: Threads + Wait + Sync>(
+/// One node or two, of which the first has the early places.
+pub fn early_at_the_first<R: Threads + Wait + Sync>(
     rt: &R,
     alloc: Global,
-) -> Result<Worked<Log>, AllocError> {
-    let floor: Floor<Log> = open_floor(alloc, 2, 1, EARLY, EARLY as u64)?;
+    nodes: usize,
+) -> Result<Worked<Log>, AllocError>
+    requires { (0 < nodes) × (nodes ≤ 2) }
+{
     let plan = plan_of(alloc, EARLY as u64, &[], &[])?;
+    let floor: Floor<Log> = open_floor(alloc, nodes, 1, EARLY, EARLY as u64)?;
     work(rt, alloc, floor, plan, &Open)
 }
 
@@ -56,23 +70,40 @@ pub fn exchange_and_fold<R: Threads + Wait + Sync>(
     rt: &R,
     alloc: Global,
 ) -> Result<String, AllocError> {
-    let worked = early_at_the_first(rt, alloc)?;
-    let asked = work_again(rt, alloc, &worked, plan_of(alloc, 0, &[], &[(2, 1)])?)?;
-    let folded = work_again(rt, alloc, &worked, plan_of(alloc, 0, &[(1, 0)], &[])?)?;
+    let worked = early_at_the_first(rt, alloc, 2)?;
+    let refused = ask_and_fold(rt, alloc, &worked)?;
     let closed = close_all(rt, alloc, worked)?;
-    nodes_line(alloc, asked.len() + folded.len(), closed.as_slice())
+    nodes_line(alloc, refused, closed.as_slice())
+}
+
+// How many of the two rounds were refused.
+fn ask_and_fold<R: Threads + Wait + Sync>(
+    rt: &R,
+    alloc: Global,
+    worked: &Worked<Log>,
+) -> Result<usize, AllocError> {
+    let asked = work_again(rt, alloc, worked, plan_of(alloc, 0, &[], &[(2, 1)])?)?;
+    let folded = work_again(rt, alloc, worked, plan_of(alloc, 0, &[(1, 0)], &[])?)?;
+    Ok(asked.len() + folded.len())
 }
 
 /// Rounds that name no node: each is refused by name, and the others go on.
 pub fn strangers<R: Threads + Wait + Sync>(rt: &R, alloc: Global) -> Result<String, AllocError> {
-    let worked = early_at_the_first(rt, alloc)?;
+    let worked = early_at_the_first(rt, alloc, 2)?;
+    let refusals = name_strangers(rt, alloc, &worked)?;
+    let closed = close_all(rt, alloc, worked)?;
+    let line = nodes_line(alloc, refusals.len(), closed.as_slice())?;
+    format!(in alloc; "{refusals:?}\n{line}")
+}
+
+fn name_strangers<R: Threads + Wait + Sync>(
+    rt: &R,
+    alloc: Global,
+    worked: &Worked<Log>,
+) -> Result<Vec<Refusal>, AllocError> {
     let folds = [(0, 0), (3, 0), (1, 0)];
     let gossip = [(1, 3), (0, 1), (2, 1)];
-    let refusals = work_again(rt, alloc, &worked, plan_of(alloc, 0, &folds, &gossip)?)?;
-    let mut text = format!(in alloc; "{refusals:?}\n")?;
-    let closed = close_all(rt, alloc, worked)?;
-    text.push_str(&nodes_line(alloc, refusals.len(), closed.as_slice())?)?;
-    Ok(text)
+    work_again(rt, alloc, worked, plan_of(alloc, 0, &folds, &gossip)?)
 }
 
 // How many rounds were refused, the front of each node, and the base point of the first and how many keys it stores.
@@ -96,15 +127,19 @@ fn stored_line(alloc: Global, segment: &Segment) -> Result<String, AllocError> {
 
 /// Two nodes that share two thirds of the early places and never meet: what they tell, each by itself, the second one first.
 pub fn apart<R: Threads + Wait + Sync>(rt: &R, alloc: Global) -> Result<String, AllocError> {
-    let floor: Floor<Log> = open_floor(alloc, 2, 3, EARLY, EARLY as u64)?;
     let plan = Plan {
         parcels: Vec::from_array(alloc, [22, 22])?,
         folds: Vec::new(alloc),
         gossip: Vec::new(alloc),
     };
+    let floor: Floor<Log> = open_floor(alloc, 2, 3, EARLY, EARLY as u64)?;
     let closed = close_all(rt, alloc, work(rt, alloc, floor, plan, &Open)?)?;
+    told_alone(alloc, closed.as_slice())
+}
+
+fn told_alone(alloc: Global, closed: &[Closed<Log>]) -> Result<String, AllocError> {
     let mut alone = Vec::new(alloc);
-    for one in closed.as_slice().chunks(1) {
+    for one in closed.chunks(1) {
         alone.append(&mut join_all(alloc, one)?)?;
     }
     alone.as_mut_slice().reverse();

@@ -1,8 +1,10 @@
 ghost use Rattle.std.specs.Prelude.{◌<◌, ◌≤◌};
 
-use crate::calls::{FACTS, Log};
+use crate::Log;
+use crate::worker_calls::FACTS;
 use fleet_drill::{MAX_NODES, Worked, close_all, join_all, make_plan, open_floor, tell, work};
-use node_threads::{Answer, Gate};
+use node_cell::Closed;
+use node_threads::{Answer, Gate, Plan};
 use std::alloc::{AllocError, Global};
 use std::sync::Wait;
 use std::thread::Threads;
@@ -12,13 +14,14 @@ pub fn plan_lines(alloc: Global, nodes: usize, workers: usize) -> Result<String,
     requires nodes { (0 < nodes) × (nodes ≤ MAX_NODES) }
     requires workers { 0 < workers }
 {
-    let facts = FACTS as usize;
-    let floor = open_floor::<Log>(alloc, nodes, nodes, facts, FACTS)?;
+    let floor = open_floor::<Log>(alloc, nodes, nodes, FACTS as usize, FACTS)?;
     let plan = make_plan(alloc, floor.feeds.as_slice(), nodes as u16, workers)?;
-    let mut text = format!(in alloc; "parcels {:?}\n", plan.parcels)?;
-    text.push_str(&format!(in alloc; "folds {:?}\n", plan.folds)?)?;
-    text.push_str(&format!(in alloc; "gossip {:?}\n", plan.gossip)?)?;
-    Ok(text)
+    plan_text(alloc, &plan)
+}
+
+fn plan_text(alloc: Global, plan: &Plan) -> Result<String, AllocError> {
+    let (parcels, folds, gossip) = (&plan.parcels, &plan.folds, &plan.gossip);
+    format!(in alloc; "parcels {parcels:?}\nfolds {folds:?}\ngossip {gossip:?}\n")
 }
 
 /// A drill under a gate, with trails of at most so many entries: how many parcels of each node were refused, how many rounds, what the
@@ -34,14 +37,22 @@ pub fn ends_under<G: Gate + Sync, R: Threads + Wait + Sync>(
     requires nodes { (0 < nodes) × (nodes ≤ MAX_NODES) }
     requires workers { 0 < workers }
 {
-    let facts = FACTS as usize;
-    let floor = open_floor::<Log>(alloc, nodes, nodes, facts, trail)?;
+    let floor = open_floor::<Log>(alloc, nodes, nodes, FACTS as usize, trail)?;
     let plan = make_plan(alloc, floor.feeds.as_slice(), nodes as u16, workers)?;
     let worked = work(rt, alloc, floor, plan, gate)?;
-    let mut text = refused_line(alloc, &worked)?;
+    let refused = refused_line(alloc, &worked)?;
     let closed = close_all(rt, alloc, worked)?;
-    let joined = join_all(alloc, closed.as_slice())?;
-    text.push_str(&tell(alloc, facts, joined.as_slice())?)?;
+    told_below(alloc, refused, closed.as_slice())
+}
+
+// What all nodes tell, below what stands in a text.
+fn told_below(
+    alloc: Global,
+    mut text: String,
+    closed: &[Closed<Log>],
+) -> Result<String, AllocError> {
+    let joined = join_all(alloc, closed)?;
+    text.push_str(&tell(alloc, FACTS as usize, joined.as_slice())?)?;
     Ok(text)
 }
 
@@ -58,5 +69,11 @@ fn refused_line(alloc: Global, worked: &Worked<Log>) -> Result<String, AllocErro
 }
 
 fn refused_of(answers: &[Answer<Log>]) -> usize {
-    answers.iter().filter(|answer| answer.is_err()).count()
+    let mut refused = 0usize;
+    for answer in answers {
+        if answer.is_err() {
+            refused = refused.saturating_add(1);
+        }
+    }
+    refused
 }
