@@ -1,8 +1,24 @@
-//! Writes, pages and images whose every byte is one. A row gives an image as page, version and byte.
+//! Facts that a line spells, and writes, pages and images whose every byte is one. A row gives an image as page, version and byte.
 
 use page_base::BaseImage;
-use redo_core::{Page, Patch, SharedPage, Write};
+use redo_core::{Fact, Page, Patch, SharedPage, Write};
+use script_text::{ScriptError, read_facts};
 use std::alloc::{AllocError, Global};
+
+/// The fact that a line spells, or None where it spells none.
+pub fn fact_of(alloc: Global, line: &str) -> Result<Option<Fact>, AllocError> {
+    let text = format!(in alloc; "{line}\n")?;
+    match read_facts(alloc, text.as_bytes()) {
+        Ok(log) => Ok(last_of(log.facts)),
+        Err(ScriptError::BadLine(_)) => Ok(None),
+        Err(ScriptError::Memory) => Err(AllocError),
+    }
+}
+
+fn last_of(facts: Vec<Fact>) -> Option<Fact> {
+    let mut facts = facts;
+    facts.pop()
+}
 
 /// A list of one write: a byte from an offset on, so many times.
 pub fn patches_of(

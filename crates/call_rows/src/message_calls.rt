@@ -8,6 +8,7 @@
 
 mod answers;
 mod bench;
+mod exchanges;
 mod fleets;
 mod pieces;
 mod rows;
@@ -15,42 +16,24 @@ mod segments;
 mod summaries;
 
 use crate::message_calls::answers::{Answer, print};
-use crate::message_calls::bench::{Bench, new_bench};
+use crate::message_calls::bench::answer;
+pub use crate::message_calls::bench::{Bench, new_bench};
 use crate::message_calls::rows::{Row, row_of};
-use redo_core::Roster;
 use std::alloc::AllocError;
 use std::io;
 
 fn answered(bench: &mut Bench, row: Row<'_>) -> Result<Answer, AllocError> {
-    match bench.answer(row) {
-        Ok(answer) if !answer.may_want_memory() => Ok(answer),
-        _ => bench.answer(row),
+    match answer(bench, row) {
+        Ok(found) if !found.may_want_memory() => Ok(found),
+        _ => answer(bench, row),
     }
 }
 
-fn print_row(rt: &HostRuntime, bench: &mut Bench, line: &str) -> io::Result<()> {
+pub fn print_row(rt: &HostRuntime, bench: &mut Bench, line: &str) -> io::Result<()> {
     let answer = if line.starts_with('#') {
         Answer::Nothing
     } else {
         answered(bench, row_of(line))?
     };
     print(rt, line, &answer)
-}
-
-fn print_rows(rt: &HostRuntime, bench: &mut Bench) -> io::Result<()> {
-    for line in rt.lines(rt.alloc()) {
-        let line = line?;
-        if line.as_str().starts_with("==") {
-            return println!(rt; "{line}");
-        }
-        print_row(rt, bench, line.as_str())?;
-    }
-    Ok(())
-}
-
-pub fn print_section(rt: &HostRuntime) -> io::Result<()> {
-    match Roster::new(1) {
-        Ok(roster) => print_rows(rt, &mut *new_bench(rt.alloc(), roster)?),
-        Err(_) => Ok(()),
-    }
 }

@@ -1,29 +1,20 @@
+use crate::answer::Answer;
+use redo_core::Key;
 use std::alloc::{AllocError, Global};
 use std::fmt::Debug;
-use std::io;
 
-/// A line of the input: the name of a call and the words of its numbers, and where its answer is printed.
+/// A line of the input: the name of a call and the words of its numbers.
 #[derive(Clone, Copy)]
 pub struct Row<'a> {
-    rt: &'a HostRuntime,
-    line: &'a str,
+    pub alloc: Global,
     pub name: &'a str,
     words: &'a str,
 }
 
 impl<'a> Row<'a> {
-    pub fn of(rt: &'a HostRuntime, line: &'a str) -> Row<'a> {
+    pub fn of(alloc: Global, line: &'a str) -> Row<'a> {
         let (name, words) = row_words::first(line);
-        Row {
-            rt,
-            line,
-            name,
-            words,
-        }
-    }
-
-    pub fn alloc(self) -> Global {
-        self.rt.alloc()
+        Row { alloc, name, words }
     }
 
     /// A number of the call by its place, 0 where there is none.
@@ -41,24 +32,29 @@ impl<'a> Row<'a> {
         row_words::byte(self.number(place))
     }
 
-    /// Prints an answer that is a word.
-    pub fn word(self, answer: &str) -> io::Result<()> {
-        println!(self.rt; "{}: {answer}", self.line)
+    /// The key that the row names first.
+    pub fn key(self) -> Key {
+        Key {
+            epoch: self.short(0),
+            number: self.number(1),
+        }
     }
 
-    /// Prints an answer of one part.
-    pub fn one<T: Debug>(self, kind: &str, part: &T) -> io::Result<()> {
-        println!(self.rt; "{}: {kind}({part:?})", self.line)
+    /// An answer of one part.
+    pub fn one<T: Debug>(self, kind: &str, part: &T) -> Result<Answer, AllocError> {
+        Ok(Answer::Text(format!(in self.alloc; "{kind}({part:?})")?))
     }
 
-    /// Prints an answer whose parts are a tuple.
-    pub fn parts<T: Debug>(self, kind: &str, parts: &T) -> io::Result<()> {
-        println!(self.rt; "{}: {kind}{parts:?}", self.line)
+    /// An answer whose parts are a tuple.
+    pub fn parts<T: Debug>(self, kind: &str, parts: &T) -> Result<Answer, AllocError> {
+        Ok(Answer::Text(format!(in self.alloc; "{kind}{parts:?}")?))
     }
+}
 
-    /// Prints that a call which answers nothing is done, if memory was not wanting.
-    pub fn done(self, outcome: Result<(), AllocError>) -> io::Result<()> {
-        outcome?;
-        self.word("Done")
+/// What a call answers that is done, if memory was not wanting.
+pub fn done<E: Drop>(outcome: Result<(), E>) -> Result<Answer, AllocError> {
+    match outcome {
+        Ok(()) => Ok(Answer::Word("Done")),
+        Err(_) => Err(AllocError),
     }
 }

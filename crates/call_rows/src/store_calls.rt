@@ -10,32 +10,15 @@ mod image_calls;
 mod log_answers;
 mod log_changes;
 
+use crate::answer::print;
 use crate::row::Row;
-use crate::store_calls::bench::Bench;
-use redo_core::Roster;
+pub use crate::store_calls::bench::{Bench, new_bench};
 use std::io;
 
-fn print_row(rt: &HostRuntime, bench: &mut Bench, line: &str) -> io::Result<()> {
+pub fn print_row(rt: &HostRuntime, bench: &mut Bench, line: &str) -> io::Result<()> {
     if line.starts_with('#') {
         return println!(rt; "{line}");
     }
-    bench::answer(bench, Row::of(rt, line))
-}
-
-fn print_rows(rt: &HostRuntime, bench: &mut Bench) -> io::Result<()> {
-    for line in rt.lines(rt.alloc()) {
-        let line = line?;
-        if line.as_str().starts_with("==") {
-            return println!(rt; "{line}");
-        }
-        print_row(rt, bench, line.as_str())?;
-    }
-    Ok(())
-}
-
-pub fn print_section(rt: &HostRuntime) -> io::Result<()> {
-    match Roster::new(1) {
-        Ok(roster) => print_rows(rt, &mut *bench::new_bench(rt.alloc(), roster)?),
-        Err(_) => Ok(()),
-    }
+    let answer = bench::answer(bench, Row::of(rt.alloc(), line))?;
+    print(rt, line, &answer)
 }

@@ -1,8 +1,8 @@
 use crate::fact_calls::{bodies, drills, model, shapes, step_rows, wire, writing};
+use crate::given::fact_of;
 use log_law::Writer;
 use redo_core::{Fact, Roster};
 use row_words::first;
-use script_text::{ScriptError, read_facts};
 use std::alloc::{AllocError, Global};
 
 /// What the lines so far have left: facts, and a writer.
@@ -10,16 +10,6 @@ use std::alloc::{AllocError, Global};
 pub struct Bench {
     facts: Vec<Fact>,
     writer: Writer,
-}
-
-// The facts of a fact line; none of any other.
-fn facts_of(alloc: Global, line: &str) -> Result<Vec<Fact>, AllocError> {
-    let text = format!(in alloc; "{line}\n")?;
-    match read_facts(alloc, text.as_bytes()) {
-        Ok(log) => Ok(log.facts),
-        Err(ScriptError::BadLine(_)) => Ok(Vec::new(alloc)),
-        Err(ScriptError::Memory) => Err(AllocError),
-    }
 }
 
 pub fn new_bench(alloc: Global, roster: Roster) -> Result<Box<Bench>, AllocError> {
@@ -33,8 +23,7 @@ pub fn new_bench(alloc: Global, roster: Roster) -> Result<Box<Bench>, AllocError
 impl Bench {
     // Keeps the facts of a line, and says how many there are then.
     fn keep(&mut self, alloc: Global, line: &str) -> Result<String, AllocError> {
-        let mut facts = facts_of(alloc, line)?;
-        match facts.pop() {
+        match fact_of(alloc, line)? {
             Some(fact) => {
                 self.facts.push(fact)?;
                 let count = self.facts.len();

@@ -1,21 +1,34 @@
 //! Calls over the facts that were kept: what their records do, and which of them are the same.
 
+use crate::given::page_of;
 use redo_core::{Body, Fact, Page, Patch, Record, Write, apply};
 use script_text::fact_text;
 use std::alloc::{AllocError, Global};
 
-// The first four bytes of a page of ones after the records.
-fn applied(alloc: Global, facts: &[Fact]) -> Result<String, AllocError> {
-    let mut page = Page::new(vec![in alloc; 1; 4096]?);
+fn apply_all(facts: &[Fact], page: &mut Page) {
     for fact in facts {
         if let Fact::Record(redo) = fact {
-            apply(redo, &mut page);
+            apply(redo, page);
         }
     }
-    let copied = page.copy()?;
-    let bytes = copied.bytes();
+}
+
+// The first four bytes of a page of ones after the records.
+fn applied(alloc: Global, facts: &[Fact]) -> Result<String, AllocError> {
+    let mut page = page_of(alloc, 1)?;
+    apply_all(facts, &mut page);
+    beginning(alloc, &page.copy()?)
+}
+
+fn beginning(alloc: Global, page: &Page) -> Result<String, AllocError> {
+    let bytes = page.bytes();
     let (a, b, c, d) = (bytes[0], bytes[1], bytes[2], bytes[3]);
     format!(in alloc; "{a:02x} {b:02x} {c:02x} {d:02x}")
+}
+
+fn put_place(alloc: Global, text: &mut String, place: u64) -> Result<(), AllocError> {
+    text.push_str(" ")?;
+    text.push_str(&place.to_string(alloc)?)
 }
 
 // The places of the facts that are the same as a fact.
@@ -23,8 +36,7 @@ fn same_places(alloc: Global, facts: &[Fact], fact: &Fact) -> Result<String, All
     let mut text = String::new(alloc);
     for (place, other) in facts.iter().enumerate() {
         if fact.is_same(other) {
-            let place = place as u64 + 1;
-            text.push_str(&format!(in alloc; " {place}")?)?;
+            put_place(alloc, &mut text, place as u64 + 1)?;
         }
     }
     Ok(text)
@@ -91,13 +103,27 @@ fn are_one(one: &Fact, two: &Fact) -> Result<bool, AllocError> {
     Ok(one.is_same(two) && two.is_same(one) && copied.is_same(two) && two.is_same(&copied))
 }
 
+fn from_writes(alloc: Global, redo: &Record) -> Result<Option<Fact>, AllocError> {
+    Ok(made_of_writes(redo, writes_of(alloc, redo)?))
+}
+
+fn from_patches(alloc: Global, redo: &Record) -> Result<Option<Fact>, AllocError> {
+    let writes = writes_of(alloc, redo)?;
+    Ok(made_of_patches(redo, plain_patches(alloc, &writes)?))
+}
+
 // Whether the record made of its writes and the one made of its patches are one fact, with one line.
 fn has_one_form(alloc: Global, redo: &Record) -> Result<bool, AllocError> {
-    let writes = writes_of(alloc, redo)?;
-    let patches = plain_patches(alloc, &writes)?;
-    match (made_of_writes(redo, writes), made_of_patches(redo, patches)) {
-        (Some(one), Some(two)) => Ok(are_one(&one, &two)? && have_one_line(alloc, &one, &two)?),
-        _ => Ok(false),
+    match from_writes(alloc, redo)? {
+        Some(one) => is_of_patches(alloc, redo, &one),
+        None => Ok(false),
+    }
+}
+
+fn is_of_patches(alloc: Global, redo: &Record, one: &Fact) -> Result<bool, AllocError> {
+    match from_patches(alloc, redo)? {
+        Some(two) => Ok(are_one(one, &two)? && have_one_line(alloc, one, &two)?),
+        None => Ok(false),
     }
 }
 

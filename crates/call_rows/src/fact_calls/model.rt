@@ -59,10 +59,18 @@ fn compared(
 ) -> Result<String, AllocError> {
     let (one, two) = first(rest);
     let left = facts_at(alloc, facts, one)?;
-    let right = facts_at(alloc, facts, two)?;
-    let there = covers(alloc, &left, &right, roster)?;
-    let back = covers(alloc, &right, &left, roster)?;
-    let is_same = same(alloc, &left, &right, roster)?;
+    relation(alloc, &left, &facts_at(alloc, facts, two)?, roster)
+}
+
+fn relation(
+    alloc: Global,
+    left: &[Fact],
+    right: &[Fact],
+    roster: Roster,
+) -> Result<String, AllocError> {
+    let there = covers(alloc, left, right, roster)?;
+    let back = covers(alloc, right, left, roster)?;
+    let is_same = same(alloc, left, right, roster)?;
     format!(in alloc; "{there} {back} {is_same}")
 }
 
@@ -104,8 +112,8 @@ pub fn answer(alloc: Global, facts: &[Fact], rest: &str) -> Result<String, Alloc
         return beginning(alloc, facts, n);
     }
     match (number(facts, name, n), Roster::new(byte(n[0]))) {
-        (Some(number), _) => format!(in alloc; "{number}"),
+        (Some(number), _) => number.to_string(alloc),
         (None, Ok(roster)) => of_roster(alloc, facts, roster, name, rest),
-        (None, Err(fault)) => format!(in alloc; "{fault}"),
+        (None, Err(fault)) => fault.to_string(alloc),
     }
 }

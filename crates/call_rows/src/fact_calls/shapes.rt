@@ -46,9 +46,8 @@ fn fills_fault(alloc: Global, n: [u64; 8]) -> Result<Option<ShapeFault>, AllocEr
     }
 }
 
-// The points of a roster of two after three advances, and the least of them.
-fn points(alloc: Global, roster: Roster, n: [u64; 8]) -> Result<String, AllocError> {
-    let mut points = ReadPoints::new(alloc, roster)?;
+// Raises the points by three advances, where their readers are there.
+fn raise_all(points: &mut ReadPoints, n: [u64; 8]) {
     for place in 0..3 {
         if let Ok(advance) = Advance::of_reader(byte(n[2 * place + 1]), 0, n[2 * place + 2]) {
             if advance.reader() <= points.readers() {
@@ -56,9 +55,18 @@ fn points(alloc: Global, roster: Roster, n: [u64; 8]) -> Result<String, AllocErr
             }
         }
     }
-    let copied = points.copy()?;
-    let (list, readers, least) = (copied.as_slice(), points.readers(), points.least());
-    format!(in alloc; "{list:?} of {readers} least {least}")
+}
+
+// The points of a roster of two after three advances, and the least of them.
+fn points(alloc: Global, roster: Roster, n: [u64; 8]) -> Result<String, AllocError> {
+    let mut points = ReadPoints::new(alloc, roster)?;
+    raise_all(&mut points, n);
+    points_text(alloc, &points, points.copy()?.as_slice())
+}
+
+fn points_text(alloc: Global, points: &ReadPoints, copied: &[u64]) -> Result<String, AllocError> {
+    let (readers, least) = (points.readers(), points.least());
+    format!(in alloc; "{copied:?} of {readers} least {least}")
 }
 
 fn judged(alloc: Global, name: &str, n: [u64; 8]) -> Result<Option<ShapeFault>, AllocError> {
@@ -81,6 +89,6 @@ pub fn answer(alloc: Global, rest: &str) -> Result<String, AllocError> {
     }
     match judged(alloc, name, n)? {
         None => String::from_str(alloc, "made"),
-        Some(fault) => format!(in alloc; "{fault}"),
+        Some(fault) => fault.to_string(alloc),
     }
 }

@@ -25,15 +25,19 @@ fn told(alloc: Global, step: Step<usize>, nodes: u64) -> Result<String, AllocErr
     format!(in alloc; "{step:?} node {node} other {other} missing {missing:?} named {named:?}")
 }
 
+fn of_steps(alloc: Global, steps: &[Step<usize>], nodes: &str) -> Result<String, AllocError> {
+    match steps {
+        [step] => told(alloc, *step, nodes.parse::<u64>().unwrap_or(0)),
+        _ => String::from_str(alloc, "?"),
+    }
+}
+
 /// The first word is how many nodes the fleet has, and the others are the step.
 pub fn answer(alloc: Global, rest: &str) -> Result<String, AllocError> {
     let (nodes, line) = first(rest);
     let text = format!(in alloc; "{OPENING}{line}\n")?;
     match read_script(alloc, text.as_bytes()) {
-        Ok(script) => match script.steps.as_slice() {
-            [step] => told(alloc, *step, nodes.parse::<u64>().unwrap_or(0)),
-            _ => String::from_str(alloc, "?"),
-        },
+        Ok(script) => of_steps(alloc, &script.steps, nodes),
         Err(ScriptError::BadLine(at)) => format!(in alloc; "bad line {at}"),
         Err(ScriptError::Memory) => Err(AllocError),
     }

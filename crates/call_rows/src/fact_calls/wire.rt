@@ -39,23 +39,30 @@ fn put(out: &mut BytesMut, value: &WireValue) -> Result<(), WireError> {
     }
 }
 
-// How the value that the bytes spell is spelled again.
-fn spelled(alloc: Global, bytes: &[u8]) -> Result<BytesMut, WireError> {
+// Appends the value that bytes spell, as it is spelled again.
+fn spell_again(alloc: Global, bytes: &[u8], out: &mut BytesMut) -> Result<(), WireError> {
     let value = decode_value(alloc, bytes)?;
-    let mut out = BytesMut::new(alloc);
-    put(&mut out, &value)?;
-    Ok(out)
+    put(out, &value)
 }
 
 // How long the value is that is spelled again as it was.
 fn again(alloc: Global, bytes: &[u8]) -> Result<String, AllocError> {
-    match spelled(alloc, bytes) {
-        Ok(out) => {
-            let (is_same, len) = (out.as_slice() == bytes, out.as_slice().len());
-            format!(in alloc; "{is_same} {len}")
-        }
-        Err(WireError::Memory) => Err(AllocError),
-        Err(WireError::Fault(fault)) => format!(in alloc; "{fault}"),
+    let mut out = BytesMut::new(alloc);
+    match spell_again(alloc, bytes, &mut out) {
+        Ok(()) => compared(alloc, bytes, out.as_slice()),
+        Err(error) => fault_text(alloc, error),
+    }
+}
+
+fn compared(alloc: Global, bytes: &[u8], again: &[u8]) -> Result<String, AllocError> {
+    let (is_same, len) = (again == bytes, again.len());
+    format!(in alloc; "{is_same} {len}")
+}
+
+fn fault_text(alloc: Global, error: WireError) -> Result<String, AllocError> {
+    match error {
+        WireError::Memory => Err(AllocError),
+        WireError::Fault(fault) => format!(in alloc; "{fault}"),
     }
 }
 
@@ -80,10 +87,12 @@ fn book_text(alloc: Global, book: &Book, anchor: u64) -> Result<String, AllocErr
 }
 
 fn told(alloc: Global, value: &WireValue) -> Result<String, AllocError> {
-    match (value, book_of(value)) {
-        (WireValue::Fact(fact), _) => fact_text(alloc, fact),
-        (_, Some((book, anchor))) => book_text(alloc, book, anchor),
-        _ => String::from_str(alloc, "no book"),
+    if let WireValue::Fact(fact) = value {
+        return fact_text(alloc, fact);
+    }
+    match book_of(value) {
+        Some((book, anchor)) => book_text(alloc, book, anchor),
+        None => String::from_str(alloc, "no book"),
     }
 }
 
@@ -91,8 +100,7 @@ fn told(alloc: Global, value: &WireValue) -> Result<String, AllocError> {
 fn read(alloc: Global, bytes: &[u8]) -> Result<String, AllocError> {
     match decode_value(alloc, bytes) {
         Ok(value) => told(alloc, &value),
-        Err(WireError::Memory) => Err(AllocError),
-        Err(WireError::Fault(fault)) => format!(in alloc; "{fault}"),
+        Err(error) => fault_text(alloc, error),
     }
 }
 
@@ -107,13 +115,16 @@ fn beginnings(alloc: Global, bytes: &[u8]) -> Result<u64, AllocError> {
     Ok(count)
 }
 
+fn of_bytes(alloc: Global, name: &str, bytes: &[u8]) -> Result<String, AllocError> {
+    match name {
+        "again" => again(alloc, bytes),
+        "read" => read(alloc, bytes),
+        "beginnings" => beginnings(alloc, bytes)?.to_string(alloc),
+        _ => judged(alloc, name, bytes)?.to_string(alloc),
+    }
+}
+
 pub fn answer(alloc: Global, rest: &str) -> Result<String, AllocError> {
     let (name, rest) = first(rest);
-    let bytes = words::bytes(alloc, rest)?;
-    match name {
-        "again" => again(alloc, &bytes),
-        "read" => read(alloc, &bytes),
-        "beginnings" => format!(in alloc; "{}", beginnings(alloc, &bytes)?),
-        _ => format!(in alloc; "{}", judged(alloc, name, &bytes)?),
-    }
+    of_bytes(alloc, name, &words::bytes(alloc, rest)?)
 }

@@ -19,13 +19,17 @@ fn put_times(list: &mut Vec<u8>, part: &[u8], times: u16) -> Result<(), AllocErr
     Ok(())
 }
 
+fn put_word(alloc: Global, list: &mut Vec<u8>, word: &str) -> Result<(), AllocError> {
+    let (digits, times) = word.split_once('*').unwrap_or((word, "1"));
+    let part = bytes_of(alloc, digits)?;
+    put_times(list, &part, times.parse::<u16>().unwrap_or(0))
+}
+
 /// The bytes that words of hexadecimal digits spell, one behind the other. A word `HH*N` is N times the byte HH.
 pub fn bytes(alloc: Global, words: &str) -> Result<Vec<u8>, AllocError> {
     let mut list = Vec::new(alloc);
     for word in words.split(' ') {
-        let (digits, times) = word.split_once('*').unwrap_or((word, "1"));
-        let part = bytes_of(alloc, digits)?;
-        put_times(&mut list, &part, times.parse::<u16>().unwrap_or(0))?;
+        put_word(alloc, &mut list, word)?;
     }
     Ok(list)
 }

@@ -58,12 +58,12 @@ pub fn answer(alloc: Global, writer: &mut Writer, rest: &str) -> Result<String, 
     if name == "new" || name == "log" {
         return match Roster::new(byte(n[0])) {
             Ok(roster) => of_roster(alloc, writer, name, roster),
-            Err(fault) => format!(in alloc; "{fault}"),
+            Err(fault) => fault.to_string(alloc),
         };
     }
     match called(alloc, writer, name, n) {
         Ok(fact) => fact_text(alloc, &fact),
         Err(WriterFault::Memory) => Err(AllocError),
-        Err(fault) => format!(in alloc; "{fault}"),
+        Err(fault) => fault.to_string(alloc),
     }
 }

@@ -43,23 +43,62 @@ fn link(alloc: Global, number: u16) -> Result<Fact, AllocError> {
     }
 }
 
-/// A segment that took the records 1 to a last one, each linked to the one before it and of a page of its own.
-pub fn chain(alloc: Global, roster: Roster, last: u16) -> Result<Segment, AllocError> {
-    let mut segment = Segment::new(alloc, roster)?;
+/// Whether a segment took a record.
+fn has_taken(segment: &mut Segment, record: Fact) -> bool {
+    segment.take(record).is_ok()
+}
+
+/// Has a segment take the records 1 to a last one, each linked to the one before it and of a page of its own.
+fn take_chain(alloc: Global, segment: &mut Segment, last: u16) -> Result<(), AllocError> {
     for before in 0..last {
-        if segment
-            .take(link(alloc, before.saturating_add(1))?)
-            .is_err()
-        {
+        if !has_taken(segment, link(alloc, before.saturating_add(1))?) {
             return Err(AllocError);
         }
     }
-    Ok(segment)
+    Ok(())
+}
+
+fn boxed(alloc: Global, roster: Roster) -> Result<Box<Segment>, AllocError> {
+    Ok(Box::new(alloc, Segment::new(alloc, roster)?)?)
+}
+
+fn add(segments: &mut Vec<Box<Segment>>, made: Box<Segment>) -> Result<Answer, AllocError> {
+    segments.push(made)?;
+    Ok(Answer::One("segment", segments.len() as u64))
+}
+
+pub fn add_empty(
+    alloc: Global,
+    segments: &mut Vec<Box<Segment>>,
+    roster: Roster,
+) -> Result<Answer, AllocError> {
+    add(segments, boxed(alloc, roster)?)
+}
+
+/// Adds a segment that took a chain of records.
+pub fn add_chain(
+    alloc: Global,
+    segments: &mut Vec<Box<Segment>>,
+    roster: Roster,
+    row: Row<'_>,
+) -> Result<Answer, AllocError> {
+    let mut made = boxed(alloc, roster)?;
+    take_chain(alloc, &mut made, short(row.numbers[0]))?;
+    add(segments, made)
+}
+
+/// Adds a segment that was put together.
+pub fn add_made(
+    alloc: Global,
+    segments: &mut Vec<Box<Segment>>,
+    made: Segment,
+) -> Result<Answer, AllocError> {
+    add(segments, Box::new(alloc, made)?)
 }
 
 /// What a call changes at the segment of a number.
 pub fn change(
-    segments: &mut [Segment],
+    segments: &mut [Box<Segment>],
     facts: &[Fact],
     row: Row<'_>,
 ) -> Result<Answer, AllocError> {
@@ -81,7 +120,7 @@ pub fn change(
 }
 
 /// What a call tells of the segment of a number.
-pub fn look(segments: &[Segment], row: Row<'_>) -> Result<Answer, AllocError> {
+pub fn look(segments: &[Box<Segment>], row: Row<'_>) -> Result<Answer, AllocError> {
     let Some(segment) = nth(segments, row.numbers[0]) else {
         return Ok(UNKNOWN);
     };

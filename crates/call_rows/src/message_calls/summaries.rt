@@ -19,30 +19,37 @@ pub fn ask(
     segment: &Segment,
     messages: &mut Vec<BytesMut>,
 ) -> Result<Answer, AllocError> {
-    let told = summary(segment)?;
     let mut bytes = BytesMut::new(alloc);
-    match encode_summary(&mut bytes, &told) {
+    match encode_summary(&mut bytes, &summary(segment)?) {
         Ok(()) => keep(messages, bytes),
         Err(_) => Ok(MEMORY),
     }
 }
 
-/// Answers the question of these bytes.
-pub fn answer(
+fn spell_delta(delta: &Delta, out: &mut BytesMut) -> Option<Answer> {
+    match encode_delta(out, delta) {
+        Ok(()) => None,
+        Err(_) => Some(MEMORY),
+    }
+}
+
+fn answer_question(segment: &Segment, asked: &Summary, out: &mut BytesMut) -> Option<Answer> {
+    match reply(segment, asked) {
+        Ok(delta) => spell_delta(&delta, out),
+        Err(why) => Some(fault(why)),
+    }
+}
+
+/// Answers the question of these bytes, or tells why there is no answer.
+pub fn answer_bytes(
     alloc: Global,
     segment: &Segment,
     asked: &[u8],
     out: &mut BytesMut,
 ) -> Option<Answer> {
-    let Ok(asked) = decode_summary(alloc, asked) else {
-        return Some(UNKNOWN);
-    };
-    match reply(segment, &asked) {
-        Ok(delta) => match encode_delta(out, &delta) {
-            Ok(()) => None,
-            Err(_) => Some(MEMORY),
-        },
-        Err(why) => Some(fault(why)),
+    match decode_summary(alloc, asked) {
+        Ok(asked) => answer_question(segment, &asked, out),
+        Err(_) => Some(UNKNOWN),
     }
 }
 

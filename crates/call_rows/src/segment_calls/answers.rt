@@ -1,8 +1,8 @@
+use crate::answer::Answer;
 use crate::row::Row;
 use redo_core::{Fact, Key, Page, Refused};
 use segment_core::{CommitFault, Folded, Front, ReadFault, Refusal, Segment, Taken};
 use std::alloc::AllocError;
-use std::io;
 
 /// What a segment has: its front and base point, how many records it holds and images it stores, the least key of a held record,
 /// and the versions of the pages 7 and 8.
@@ -27,7 +27,10 @@ pub fn show(segment: &Segment) -> Result<Shown, AllocError> {
     })
 }
 
-pub fn taken(row: Row, outcome: Result<Taken, Refused<Fact, Refusal>>) -> io::Result<()> {
+pub fn taken(
+    row: Row,
+    outcome: Result<Taken, Refused<Fact, Refusal>>,
+) -> Result<Answer, AllocError> {
     match outcome {
         Ok(taken) => row.one("Taken", &taken),
         Err(refused) => row.one("Refused", &refused.fault),
@@ -35,7 +38,7 @@ pub fn taken(row: Row, outcome: Result<Taken, Refused<Fact, Refusal>>) -> io::Re
 }
 
 /// The first two bytes of a page, or why it is not read.
-pub fn page(row: Row, read: Result<Page, ReadFault>) -> io::Result<()> {
+pub fn page(row: Row, read: Result<Page, ReadFault>) -> Result<Answer, AllocError> {
     match read {
         Ok(page) => {
             let bytes = page.bytes();
@@ -45,17 +48,20 @@ pub fn page(row: Row, read: Result<Page, ReadFault>) -> io::Result<()> {
     }
 }
 
-pub fn tidied(row: Row, outcome: Result<(), ReadFault>) -> io::Result<()> {
+pub fn tidied(row: Row, outcome: Result<(), ReadFault>) -> Result<Answer, AllocError> {
     match outcome {
-        Ok(()) => row.word("Done"),
+        Ok(()) => Ok(Answer::Word("Done")),
         Err(fault) => row.one("Unread", &fault),
     }
 }
 
-/// Prints the version of a fold that came back, and why.
-pub fn committed(row: Row, outcome: Result<(), Refused<Folded, CommitFault>>) -> io::Result<()> {
+/// The version of a fold that came back, and why.
+pub fn committed(
+    row: Row,
+    outcome: Result<(), Refused<Folded, CommitFault>>,
+) -> Result<Answer, AllocError> {
     match outcome {
-        Ok(()) => row.word("Done"),
+        Ok(()) => Ok(Answer::Word("Done")),
         Err(refused) => row.parts("Uncommitted", &(refused.value.version, refused.fault)),
     }
 }

@@ -1,10 +1,11 @@
+use crate::answer::Answer;
 use crate::row::Row;
 use crate::segment_calls::{cache_calls, changes};
 use read_cache::CachedSegment;
 use redo_core::{Fact, Roster};
 use segment_core::Segment;
 use std::alloc::{AllocError, Global};
-use std::{io, mem};
+use std::mem;
 
 /// What the calls are made on. The segments stand in boxes, so that few calls carry the whole of one.
 #[derive(Drop)]
@@ -27,10 +28,22 @@ fn boxed(alloc: Global, made: Result<Segment, AllocError>) -> Result<Box<Segment
 
 /// A copy of a segment behind a cache of so many pages.
 fn cached(alloc: Global, copied: &Segment, pages: usize) -> Result<Box<CachedSegment>, AllocError> {
-    match CachedSegment::new(copied.copy()?, pages) {
-        Ok(cached) => Ok(Box::new(alloc, cached)?),
+    covered(alloc, copied.copy()?, pages)
+}
+
+fn covered(
+    alloc: Global,
+    segment: Segment,
+    pages: usize,
+) -> Result<Box<CachedSegment>, AllocError> {
+    match CachedSegment::new(segment, pages) {
+        Ok(cached) => boxed_cached(alloc, cached),
         Err(_) => Err(AllocError),
     }
+}
+
+fn boxed_cached(alloc: Global, cached: CachedSegment) -> Result<Box<CachedSegment>, AllocError> {
+    Ok(Box::new(alloc, cached)?)
 }
 
 pub fn new_bench(alloc: Global, roster: Roster) -> Result<Box<Bench>, AllocError> {
@@ -47,54 +60,54 @@ pub fn new_bench(alloc: Global, roster: Roster) -> Result<Box<Bench>, AllocError
     Ok(Box::new(alloc, bench)?)
 }
 
-fn begin_anew(bench: &mut Bench, row: Row) -> io::Result<()> {
+fn begin_anew(bench: &mut Bench, row: Row) -> Result<Answer, AllocError> {
     let Ok(roster) = Roster::new(row.byte(0)) else {
-        return row.word("Unfit");
+        return Ok(Answer::Word("Unfit"));
     };
     bench.given.clear();
     bench.noted.clear();
-    bench.segment = boxed(row.alloc(), Segment::new(row.alloc(), roster))?;
-    row.word("Done")
+    bench.segment = boxed(row.alloc, Segment::new(row.alloc, roster))?;
+    Ok(Answer::Word("Done"))
 }
 
-fn copy(bench: &mut Bench, row: Row) -> io::Result<()> {
-    bench.other = boxed(row.alloc(), bench.segment.copy())?;
-    row.word("Done")
+fn copy(bench: &mut Bench, row: Row) -> Result<Answer, AllocError> {
+    bench.other = boxed(row.alloc, bench.segment.copy())?;
+    Ok(Answer::Word("Done"))
 }
 
-fn remember(bench: &mut Bench, row: Row) -> io::Result<()> {
-    bench.before = boxed(row.alloc(), bench.segment.copy())?;
-    row.word("Done")
+fn remember(bench: &mut Bench, row: Row) -> Result<Answer, AllocError> {
+    bench.before = boxed(row.alloc, bench.segment.copy())?;
+    Ok(Answer::Word("Done"))
 }
 
-fn cover(bench: &mut Bench, row: Row) -> io::Result<()> {
-    bench.cached = cached(row.alloc(), &bench.segment, usize::from(row.byte(0)))?;
-    row.word("Done")
+fn cover(bench: &mut Bench, row: Row) -> Result<Answer, AllocError> {
+    bench.cached = cached(row.alloc, &bench.segment, usize::from(row.byte(0)))?;
+    Ok(Answer::Word("Done"))
 }
 
 /// Takes the segment out of its cache.
-fn uncover(bench: &mut Bench, row: Row) -> io::Result<()> {
-    let emptied = cached(row.alloc(), &bench.other, 0)?;
+fn uncover(bench: &mut Bench, row: Row) -> Result<Answer, AllocError> {
+    let emptied = cached(row.alloc, &bench.other, 0)?;
     let full = mem::replace(&mut bench.cached, emptied);
-    bench.segment = boxed(row.alloc(), Ok(Box::into_inner(full).into_segment()))?;
-    row.word("Done")
+    bench.segment = boxed(row.alloc, Ok(Box::into_inner(full).into_segment()))?;
+    Ok(Answer::Word("Done"))
 }
 
-fn swap(bench: &mut Bench, row: Row) -> io::Result<()> {
+fn swap(bench: &mut Bench) -> Answer {
     mem::swap(&mut bench.segment, &mut bench.other);
-    row.word("Done")
+    Answer::Word("Done")
 }
 
-/// Prints what a call answers, or '?' for a name of no call. The calls here change which segment is which.
-pub fn answer(bench: &mut Bench, row: Row) -> io::Result<()> {
+/// What a call answers. The calls here change which segment is which.
+pub fn answer(bench: &mut Bench, row: Row) -> Result<Answer, AllocError> {
     match row.name {
         "fresh" => begin_anew(bench, row),
-        "swap" => swap(bench, row),
+        "swap" => Ok(swap(bench)),
         "copy" => copy(bench, row),
         "remember" => remember(bench, row),
         "cache" => cover(bench, row),
         "into_segment" => uncover(bench, row),
-        "lent_discard" => cache_calls::discard_lent(&mut bench.cached, row),
+        "lent_discard" => Ok(cache_calls::discard_lent(&mut bench.cached)),
         "read_past" => cache_calls::read_past(&bench.cached, row),
         _ => match row.name.strip_prefix("cached_") {
             Some(name) => cache_calls::answer(&mut bench.cached, row, name),

@@ -1,54 +1,51 @@
+use crate::answer::Answer;
 use crate::given;
-use crate::row::Row;
+use crate::row::{Row, done};
 use crate::segment_calls::answers::{Shown, committed, show, taken, tidied};
 use crate::segment_calls::bench::Bench;
 use crate::segment_calls::{facts, pairs};
 use redo_core::Fact;
 use segment_core::{Segment, Union};
 use std::alloc::AllocError;
-use std::io;
 
-fn fold(segment: &mut Segment, row: Row) -> io::Result<()> {
+fn fold(segment: &mut Segment, row: Row) -> Result<Answer, AllocError> {
     match segment.plan_fold(row.short(0)) {
         Ok(plan) => committed(row, segment.commit_fold(plan.fold())),
         Err(fault) => row.one("Unread", &fault),
     }
 }
 
-fn discard(segment: &mut Segment, row: Row) -> io::Result<()> {
+fn discard(segment: &mut Segment) -> Answer {
     segment.discard();
-    row.word("Done")
+    Answer::Word("Done")
 }
 
-fn commit(segment: &mut Segment, row: Row) -> io::Result<()> {
+fn commit(segment: &mut Segment, row: Row) -> Result<Answer, AllocError> {
     let folded = facts::folded(row)?;
     committed(row, segment.commit_fold(folded))
 }
 
-fn adopt(segment: &mut Segment, row: Row, given: &[(u16, u64, u8)]) -> io::Result<()> {
+fn adopt(segment: &mut Segment, row: Row, given: &[(u16, u64, u8)]) -> Result<Answer, AllocError> {
     let base = row.number(0);
-    let pages = given::pages(row.alloc(), given)?;
+    let pages = given::pages(row.alloc, given)?;
     if segment.front().min < base {
-        return row.word("Unfit");
+        return Ok(Answer::Word("Unfit"));
     }
-    match segment.adopt(base, pages) {
-        Ok(()) => row.word("Done"),
-        Err(_) => row.done(Err(AllocError)),
-    }
+    done(segment.adopt(base, pages))
 }
 
-fn unite(segment: &mut Segment, row: Row, given: &[(u16, u64, u8)]) -> io::Result<()> {
+fn unite(segment: &mut Segment, row: Row, given: &[(u16, u64, u8)]) -> Result<Answer, AllocError> {
     let base = row.number(0);
-    let images = given::images(row.alloc(), given)?;
+    let images = given::images(row.alloc, given)?;
     if segment.front().min < base {
-        return row.word("Unfit");
+        return Ok(Answer::Word("Unfit"));
     }
-    row.done(segment.unite(base, row.number(1), images))
+    done(segment.unite(base, row.number(1), images))
 }
 
-fn give(given: &mut Vec<(u16, u64, u8)>, row: Row) -> io::Result<()> {
+fn give(given: &mut Vec<(u16, u64, u8)>, row: Row) -> Result<Answer, AllocError> {
     given.push((row.short(0), row.number(1), row.byte(2)))?;
-    row.word("Done")
+    Ok(Answer::Word("Done"))
 }
 
 /// Takes three facts in a union, and what the segment then shows. The union is dropped, which rolls the segment back.
@@ -73,44 +70,44 @@ fn rolled_back(
     first: Fact,
     second: Fact,
     third: Fact,
-) -> io::Result<()> {
+) -> Result<Answer, AllocError> {
     let after = shown_in_union(segment, first, second, third)?;
     row.parts("RolledBack", &(after, show(segment)?))
 }
 
-fn roll_back(bench: &mut Bench, row: Row) -> io::Result<()> {
+fn roll_back(bench: &mut Bench, row: Row) -> Result<Answer, AllocError> {
     let (third, second, first) = (bench.noted.pop(), bench.noted.pop(), bench.noted.pop());
     match (first, second, third) {
         (Some(first), Some(second), Some(third)) => {
             rolled_back(&mut bench.segment, row, first, second, third)
         }
-        _ => row.word("Unfit"),
+        _ => Ok(Answer::Word("Unfit")),
     }
 }
 
-fn take(segment: &mut Segment, row: Row) -> io::Result<()> {
+fn take(segment: &mut Segment, row: Row) -> Result<Answer, AllocError> {
     match facts::of(row, row.name)? {
         Some(fact) => taken(row, segment.take(fact)),
-        None => row.word("?"),
+        None => Ok(Answer::Unknown),
     }
 }
 
-fn note(noted: &mut Vec<Fact>, row: Row, name: &str) -> io::Result<()> {
+fn note(noted: &mut Vec<Fact>, row: Row, name: &str) -> Result<Answer, AllocError> {
     match facts::of(row, name)? {
         Some(fact) => {
             noted.push(fact)?;
-            row.word("Done")
+            Ok(Answer::Word("Done"))
         }
-        None => row.word("Unfit"),
+        None => Ok(Answer::Word("Unfit")),
     }
 }
 
-/// Prints what a change of the segment answers, or another call.
-pub fn answer(bench: &mut Bench, row: Row) -> io::Result<()> {
+/// What a change of the segment answers, or another call.
+pub fn answer(bench: &mut Bench, row: Row) -> Result<Answer, AllocError> {
     match row.name {
         "record" | "record_init" | "cut" | "advance" => take(&mut bench.segment, row),
         "fold" => fold(&mut bench.segment, row),
-        "discard" => discard(&mut bench.segment, row),
+        "discard" => Ok(discard(&mut bench.segment)),
         "tidy" => tidied(row, bench.segment.tidy()),
         "commit" => commit(&mut bench.segment, row),
         "give" => give(&mut bench.given, row),

@@ -6,7 +6,7 @@ use std::alloc::AllocError;
 
 /// A record of one write: epoch, number, segment backlink, page, block backlink, offset, byte, and how many times the byte stands.
 fn record(row: Row, init: bool) -> Result<Option<Fact>, AllocError> {
-    let patches = patches_of(row.alloc(), row.short(5), row.byte(6), row.byte(7))?;
+    let patches = patches_of(row.alloc, row.short(5), row.byte(6), row.byte(7))?;
     let (epoch, page) = (row.short(0), row.short(3));
     match Record::with(
         epoch,
@@ -51,6 +51,6 @@ pub fn folded(row: Row) -> Result<Folded, AllocError> {
     Ok(Folded {
         page: row.short(0),
         version: row.number(1),
-        image: page_of(row.alloc(), row.byte(2))?,
+        image: page_of(row.alloc, row.byte(2))?,
     })
 }

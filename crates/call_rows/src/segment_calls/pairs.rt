@@ -1,10 +1,10 @@
+use crate::answer::Answer;
 use crate::row::Row;
 use crate::segment_calls::bench::Bench;
 use crate::segment_calls::questions;
 use segment_core::Segment;
 use segment_join::{covers, join, kept_of, same};
 use std::alloc::AllocError;
-use std::io;
 
 fn is_same(one: &Segment, other: &Segment) -> Result<bool, AllocError> {
     match same(one, other) {
@@ -13,8 +13,8 @@ fn is_same(one: &Segment, other: &Segment) -> Result<bool, AllocError> {
     }
 }
 
-/// Prints whether the one covers the other, the other the one, and whether they mean the same.
-fn compare(one: &Segment, other: &Segment, row: Row) -> io::Result<()> {
+/// Whether the one covers the other, the other the one, and whether they mean the same.
+fn compare(one: &Segment, other: &Segment, row: Row) -> Result<Answer, AllocError> {
     let compared = (
         covers(one, other)?,
         covers(other, one)?,
@@ -23,32 +23,32 @@ fn compare(one: &Segment, other: &Segment, row: Row) -> io::Result<()> {
     row.parts("Compared", &compared)
 }
 
-fn joined(segment: &mut Segment, other: &Segment, row: Row) -> io::Result<()> {
+fn joined(segment: &mut Segment, other: &Segment, row: Row) -> Result<Answer, AllocError> {
     match join(segment, other) {
-        Ok(()) => row.word("Done"),
+        Ok(()) => Ok(Answer::Word("Done")),
         Err(why) => row.one("Refused", &why),
     }
 }
 
-fn kept(segment: &Segment, row: Row) -> io::Result<()> {
-    let mut keys = Vec::new(row.alloc());
+fn kept(segment: &Segment, row: Row) -> Result<Answer, AllocError> {
+    let mut keys = Vec::new(row.alloc);
     for redo in kept_of(segment)? {
         keys.push(redo.key())?;
     }
-    row.one("Keys", &keys)
+    Ok(Answer::Keys(keys))
 }
 
-fn compare_page(one: &Segment, other: &Segment, row: Row) -> io::Result<()> {
+fn compare_page(one: &Segment, other: &Segment, row: Row) -> Result<Answer, AllocError> {
     let same = one.is_same_page(row.short(0), row.number(1), other, row.number(2))?;
-    row.one("Flag", &same)
+    Ok(Answer::Flag(same))
 }
 
-fn compare_before(segment: &Segment, before: &Segment, row: Row) -> io::Result<()> {
-    row.one("Flag", &is_same(segment, before)?)
+fn compare_before(segment: &Segment, before: &Segment, row: Row) -> Result<Answer, AllocError> {
+    Ok(Answer::Flag(is_same(segment, before)?))
 }
 
-/// Prints what a call over the segment and the other one answers, or a question to the segment alone.
-pub fn answer(bench: &mut Bench, row: Row) -> io::Result<()> {
+/// What a call over the segment and the other one answers, or a question to the segment alone.
+pub fn answer(bench: &mut Bench, row: Row) -> Result<Answer, AllocError> {
     match row.name {
         "join" => joined(&mut bench.segment, &bench.other, row),
         "compare" => compare(&bench.segment, &bench.other, row),

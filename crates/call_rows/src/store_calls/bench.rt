@@ -1,3 +1,4 @@
+use crate::answer::Answer;
 use crate::row::Row;
 use crate::store_calls::log_changes;
 use epoch_book::EpochBook;
@@ -5,7 +6,6 @@ use hot_log::{HotLog, View};
 use page_base::BaseStore;
 use redo_core::Roster;
 use std::alloc::{AllocError, Global};
-use std::io;
 
 /// What the calls are made on, each in a box, so that few calls carry the whole of one.
 #[derive(Drop)]
@@ -63,17 +63,17 @@ fn empty(bench: &mut Bench, alloc: Global) -> Result<(), AllocError> {
     Ok(())
 }
 
-fn begin_anew(bench: &mut Bench, row: Row) -> io::Result<()> {
+fn begin_anew(bench: &mut Bench, row: Row) -> Result<Answer, AllocError> {
     let Ok(roster) = Roster::new(row.byte(0)) else {
-        return row.word("Misshapen");
+        return Ok(Answer::Word("Misshapen"));
     };
-    bench.book = boxed_book(row.alloc(), roster)?;
-    empty(bench, row.alloc())?;
-    row.word("Done")
+    bench.book = boxed_book(row.alloc, roster)?;
+    empty(bench, row.alloc)?;
+    Ok(Answer::Word("Done"))
 }
 
-/// Prints what a call answers, or '?' for a name of no call.
-pub fn answer(bench: &mut Bench, row: Row) -> io::Result<()> {
+/// What a call answers.
+pub fn answer(bench: &mut Bench, row: Row) -> Result<Answer, AllocError> {
     match row.name {
         "fresh" => begin_anew(bench, row),
         _ => log_changes::answer(bench, row),

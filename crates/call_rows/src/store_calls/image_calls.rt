@@ -1,56 +1,66 @@
+use crate::answer::Answer;
 use crate::given::{images, page_of, pages};
-use crate::row::Row;
+use crate::row::{Row, done};
 use crate::store_calls::bench::Bench;
+use crate::store_calls::log_answers;
 use page_base::BaseStore;
-use std::alloc::AllocError;
-use std::{io, mem};
+use std::alloc::{AllocError, Global};
+use std::mem;
 
-fn raise(store: &mut BaseStore, row: Row) -> io::Result<()> {
-    let image = page_of(row.alloc(), row.byte(2))?;
-    if store.raise(row.short(0), row.number(1), image).is_err() {
-        return row.done(Err(AllocError));
-    }
-    row.word("Done")
+fn raise(store: &mut BaseStore, row: Row) -> Result<Answer, AllocError> {
+    let image = page_of(row.alloc, row.byte(2))?;
+    done(store.raise(row.short(0), row.number(1), image))
 }
 
-fn give(given: &mut Vec<(u16, u64, u8)>, row: Row) -> io::Result<()> {
+fn give(given: &mut Vec<(u16, u64, u8)>, row: Row) -> Result<Answer, AllocError> {
     given.push((row.short(0), row.number(1), row.byte(2)))?;
-    row.word("Done")
+    Ok(Answer::Word("Done"))
 }
 
 // Adopts what was given, at one version.
-fn adopt(bench: &mut Bench, row: Row) -> io::Result<()> {
-    let pages = pages(row.alloc(), &bench.given)?;
+fn adopt(bench: &mut Bench, row: Row) -> Result<Answer, AllocError> {
+    let pages = pages(row.alloc, &bench.given)?;
     bench.given.clear();
-    if bench.store.adopt(row.number(0), pages).is_err() {
-        return row.done(Err(AllocError));
-    }
-    row.word("Done")
+    done(bench.store.adopt(row.number(0), pages))
 }
 
 // Merges what was given, over a floor.
-fn merge(bench: &mut Bench, row: Row) -> io::Result<()> {
-    let images = images(row.alloc(), &bench.given)?;
+fn merge(bench: &mut Bench, row: Row) -> Result<Answer, AllocError> {
+    let images = images(row.alloc, &bench.given)?;
     bench.given.clear();
-    if bench.store.merge(row.number(0), images).is_err() {
-        return row.done(Err(AllocError));
-    }
-    row.word("Done")
+    done(bench.store.merge(row.number(0), images))
 }
 
-fn copy_store(bench: &mut Bench, row: Row) -> io::Result<()> {
-    *bench.spare = bench.store.copy()?;
-    row.word("Done")
+fn copy_store(
+    alloc: Global,
+    spare: &mut Box<BaseStore>,
+    store: &BaseStore,
+) -> Result<Answer, AllocError> {
+    *spare = Box::new(alloc, store.copy()?)?;
+    Ok(Answer::Word("Done"))
 }
 
-fn swap_stores(bench: &mut Bench, row: Row) -> io::Result<()> {
+fn swap_stores(bench: &mut Bench) -> Answer {
     mem::swap(&mut bench.store, &mut bench.spare);
-    row.word("Done")
+    Answer::Word("Done")
 }
 
-// Prints the page, the version and the first byte of each stored image.
-fn show_images(store: &BaseStore, row: Row) -> io::Result<()> {
-    let mut shown = Vec::new(row.alloc());
+/// What a change of a store answers, or another call.
+pub fn answer(bench: &mut Bench, row: Row) -> Result<Answer, AllocError> {
+    match row.name {
+        "raise" => raise(&mut bench.store, row),
+        "give" => give(&mut bench.given, row),
+        "adopt" => adopt(bench, row),
+        "merge" => merge(bench, row),
+        "copy_store" => copy_store(row.alloc, &mut bench.spare, &bench.store),
+        "swap_stores" => Ok(swap_stores(bench)),
+        _ => shown(bench, row),
+    }
+}
+
+// The page, the version and the first byte of each stored image.
+fn show_images(store: &BaseStore, row: Row) -> Result<Answer, AllocError> {
+    let mut shown = Vec::new(row.alloc);
     for image in store.pages() {
         let first = image.image().page().bytes()[0];
         shown.push((image.page(), image.version(), first))?;
@@ -58,44 +68,29 @@ fn show_images(store: &BaseStore, row: Row) -> io::Result<()> {
     row.one("Images", &shown)
 }
 
-// Prints the version of a page, and the last byte of its image.
-fn show_image(store: &BaseStore, row: Row) -> io::Result<()> {
+// The version of a page, and the last byte of its image.
+fn show_image(store: &BaseStore, row: Row) -> Result<Answer, AllocError> {
     let page = row.short(0);
-    let image = store.image(page)?;
-    row.parts("Image", &(store.version(page), image.bytes()[4095]))
+    let last = store.image(page)?.bytes()[4095];
+    row.parts("Image", &(store.version(page), last))
 }
 
-fn is_zero(store: &BaseStore, row: Row) -> io::Result<()> {
-    let image = store.image(row.short(0))?;
-    row.one("Flag", &image.is_zero())
-}
-
-fn stored_version(store: &BaseStore, row: Row) -> io::Result<()> {
-    let stored = store.stored_image(row.short(0));
-    row.one("Found", &stored.map(|image| image.version()))
-}
-
-/// Prints what a call of a store answers, or another answer.
-pub fn answer(bench: &mut Bench, row: Row) -> io::Result<()> {
-    match row.name {
-        "raise" => raise(&mut bench.store, row),
-        "give" => give(&mut bench.given, row),
-        "adopt" => adopt(bench, row),
-        "merge" => merge(bench, row),
-        "copy_store" => copy_store(bench, row),
-        "swap_stores" => swap_stores(bench, row),
-        _ => shown(&bench.store, row),
+fn stored_version(store: &BaseStore, page: u16) -> Answer {
+    match store.stored_image(page) {
+        Some(image) => Answer::Found(Some(image.version())),
+        None => Answer::Found(None),
     }
 }
 
-// Prints what the store tells, or '?' for a name of no call.
-fn shown(store: &BaseStore, row: Row) -> io::Result<()> {
+// What the store tells, or another answer.
+fn shown(bench: &Bench, row: Row) -> Result<Answer, AllocError> {
+    let store = &bench.store;
     match row.name {
         "images" => show_images(store, row),
         "image" => show_image(store, row),
-        "is_zero" => is_zero(store, row),
-        "floor" => row.one("Number", &store.floor()),
-        "stored_image" => stored_version(store, row),
-        _ => row.word("?"),
+        "is_zero" => Ok(Answer::Flag(store.image(row.short(0))?.is_zero())),
+        "floor" => Ok(Answer::Number(store.floor())),
+        "stored_image" => Ok(stored_version(store, row.short(0))),
+        _ => log_answers::answer(bench, row),
     }
 }

@@ -1,68 +1,67 @@
+use crate::answer::Answer;
 use crate::row::Row;
 use crate::store_calls::bench::Bench;
-use crate::store_calls::log_answers;
+use crate::store_calls::book_calls;
 use epoch_book::EpochBook;
 use hot_log::{HotLog, PutFault};
-use redo_core::{Key, Record};
-use std::alloc::AllocError;
-use std::io;
+use redo_core::{Record, Refused};
+use std::alloc::{AllocError, Global};
 
 // Puts a record that writes nothing: epoch, number, segment backlink and page.
-fn put(log: &mut HotLog, row: Row, init: bool) -> io::Result<()> {
+fn put(log: &mut HotLog, row: Row, init: bool) -> Result<Answer, AllocError> {
     let (epoch, number, back, page) = (row.short(0), row.number(1), row.number(2), row.short(3));
-    let patches = Vec::new(row.alloc());
+    let patches = Vec::new(row.alloc);
     match Record::with(epoch, number, back, page, 0, init, patches) {
         Ok(redo) => put_record(log, row, redo),
-        Err(_) => row.word("Misshapen"),
+        Err(_) => Ok(Answer::Word("Misshapen")),
     }
 }
 
-// Prints of a put that is refused the backlink of the record that came back, and why.
-fn put_record(log: &mut HotLog, row: Row, redo: Record) -> io::Result<()> {
+fn put_record(log: &mut HotLog, row: Row, redo: Record) -> Result<Answer, AllocError> {
     match log.put(redo) {
         Ok(put) => row.one("Put", &put),
-        Err(refused) => match refused.fault {
-            PutFault::OtherRecord => {
-                row.parts("PutRefused", &(refused.value.back(), refused.fault))
-            }
-            PutFault::Memory => row.done(Err(AllocError)),
-        },
+        Err(refused) => unput(row, &refused),
     }
 }
 
-fn copy_log(log: &mut HotLog, row: Row) -> io::Result<()> {
-    *log = log.copy()?;
-    row.word("Done")
+// The backlink of the record that came back, and why.
+fn unput(row: Row, refused: &Refused<Record, PutFault>) -> Result<Answer, AllocError> {
+    match refused.fault {
+        PutFault::OtherRecord => row.parts("PutRefused", &(refused.value.back(), refused.fault)),
+        PutFault::Memory => Err(AllocError),
+    }
 }
 
-fn remove(log: &mut HotLog, row: Row) -> io::Result<()> {
-    log.remove(Key {
-        epoch: row.short(0),
-        number: row.number(1),
-    });
-    row.word("Done")
+fn copy_log(alloc: Global, log: &mut Box<HotLog>) -> Result<Answer, AllocError> {
+    *log = Box::new(alloc, log.copy()?)?;
+    Ok(Answer::Word("Done"))
 }
 
-fn remove_dead(log: &mut HotLog, book: &EpochBook, row: Row) -> io::Result<()> {
+fn remove(log: &mut HotLog, row: Row) -> Answer {
+    log.remove(row.key());
+    Answer::Word("Done")
+}
+
+fn remove_dead(log: &mut HotLog, book: &EpochBook) -> Answer {
     log.remove_dead(book);
-    row.word("Done")
+    Answer::Word("Done")
 }
 
-fn remove_folded(log: &mut HotLog, book: &EpochBook, row: Row) -> io::Result<()> {
+fn remove_folded(log: &mut HotLog, book: &EpochBook, row: Row) -> Answer {
     log.remove_folded(book, row.short(0), row.number(1), row.number(2));
-    row.word("Done")
+    Answer::Word("Done")
 }
 
-/// Prints what a change of a log answers, or another call.
-pub fn answer(bench: &mut Bench, row: Row) -> io::Result<()> {
+/// What a change of a log answers, or another call.
+pub fn answer(bench: &mut Bench, row: Row) -> Result<Answer, AllocError> {
     match row.name {
         "put" => put(&mut bench.log, row, false),
         "put_init" => put(&mut bench.log, row, true),
         "put_other" => put(&mut bench.other, row, false),
-        "copy_log" => copy_log(&mut bench.log, row),
-        "remove" => remove(&mut bench.log, row),
-        "remove_dead" => remove_dead(&mut bench.log, &bench.book, row),
-        "remove_folded" => remove_folded(&mut bench.log, &bench.book, row),
-        _ => log_answers::answer(bench, row),
+        "copy_log" => copy_log(row.alloc, &mut bench.log),
+        "remove" => Ok(remove(&mut bench.log, row)),
+        "remove_dead" => Ok(remove_dead(&mut bench.log, &bench.book)),
+        "remove_folded" => Ok(remove_folded(&mut bench.log, &bench.book, row)),
+        _ => book_calls::answer(bench, row),
     }
 }
