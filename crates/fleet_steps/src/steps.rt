@@ -2,11 +2,9 @@ ghost use Rattle.std.specs.Prelude.{◌≡◌, Ok, Err, IfOk, IfErr};
 ghost use Rattle.fleet_steps.specs.Nodes.{node_of, other_of, nodes_of, first_missing};
 ghost use Rattle.fleet_steps.specs.Naming.{NamedIs, SameBut};
 
-use std::alloc::AllocError;
-
 /// A step of a script. Nodes are counted from 1; a step may name one that its fleet has not.
 /// `F` is what a take names: a fact, or where a fact stands.
-#[derive(Copy, Debug, Drop, PartialEq, Eq)]
+#[derive(Clone, Copy, Debug, Drop, PartialEq, Eq)]
 pub enum Step<F> {
     /// A fact reaches a node.
     Take {
@@ -67,17 +65,6 @@ pub enum Step<F> {
         node: u16,
         message: usize,
     },
-}
-
-// A step is copied whole: derived, a clone would be put together variant by variant.
-impl<F: Copy> Clone for Step<F> {
-    ghost is_clone = { λ step copied. copied ≡ step };
-
-    ghost is_infallible = { λ _. Unit {0} };
-
-    fn clone(&self) -> Result<Self, AllocError> {
-        Ok(*self)
-    }
 }
 
 impl<F> Step<F> {
