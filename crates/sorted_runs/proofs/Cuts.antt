@@ -11,6 +11,7 @@ use Rattle.sorted_runs.specs.Edits.{offset}
 use Rattle.sorted_runs.specs.Places.{IsRunFor, IsFoundAt, IsGap, IsCut, Passes, Precedes, is_after}
 use Rattle.sorted_runs.proofs.Lists.{take_long, all_more, all_join, here_hit, here_gap, after_run, entries_split}
 use Rattle.sorted_runs.proofs.Removed.{entry_there}
+use Rattle.std.proofs.Math.Seq.{take-length}
 
 module _ {X : Type 0} where
   front_of : (a b : List X) (n : ℕ) → n ≡ length a → take n (a ++ b) ≡ a
@@ -177,3 +178,9 @@ module _ {K V : Type 0} (f g : K → Bool) where
 
   pub between_cuts : (es : List (K × V)) (p q : ℕ) → IsCut f es p → IsCut g es q → filter (λ (e : K × V). f e.0 && not (g e.0)) es ≡ drop p (take q es)
   between_cuts es p q from to = between es p q from.before from.behind to.before to.behind
+
+  pub from_cut : (es : List (K × V)) (p : ℕ) → ((k : K) → g k ≡ false) → IsCut f es p → filter (λ (e : K × V). f e.0 && not (g e.0)) es ≡ drop p es
+  from_cut es p never from = between_cuts es p (length es) from (cut_end g never es (length es) refl) ∙ ap (λ l. drop p l) (take-length es)
+
+  pub to_cut : (es : List (K × V)) (q : ℕ) → ((k : K) → f k ≡ true) → IsCut g es q → filter (λ (e : K × V). f e.0 && not (g e.0)) es ≡ take q es
+  to_cut es q always to = between_cuts es 0 q (cut_start f always es) to

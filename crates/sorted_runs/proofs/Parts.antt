@@ -2,6 +2,7 @@
 use Rattle.std.proofs.Common.{◌≡◌, ℕ, zero, suc, ◌+◌, ◌-◌, ◌<◌, ◌≤◌, ◌⊎◌, ⊎_elim, List, [], ◌∷◌, ◌++◌, length, get_or, take, drop, sym, ap, ◌∙◌, refl, arith, append_assoc, length-append}
 use Rattle.std.specs.Global.{Vec}
 use Rattle.std.proofs.Math.Numerals.{add-one}
+use Rattle.std.proofs.Math.Seq.{take-length}
 use Rattle.std.proofs.lemmas.List.{append-nil, get_or_default}
 use Rattle.sorted_runs.specs.Rows.{entries}
 use Rattle.sorted_runs.specs.Edits.{offset}
@@ -72,6 +73,15 @@ module _ {K V : Type 0} (vs : List (Vec (K × V))) (d : Vec (K × V)) where
       ∙ take_past (entries (take s vs)) (run ++ back) (offset vs s j) j refl
       ∙ ap (λ l. entries (take s vs) ++ l) (take_within run back j le)
 
+  -- what is from a place on
+  dropped_from : (r i : ℕ) → r < length vs → i ≤ length (get_or vs r d).items → drop (offset vs r i) (entries vs) ≡ drop i (get_or vs r d).items ++ entries (drop (suc r) vs)
+  dropped_from r i lt le =
+      let run = (get_or vs r d).items in
+      let back = entries (drop (suc r) vs) in
+      ap (λ l. drop (offset vs r i) l) (entries_split vs r d lt)
+      ∙ drop_past (entries (take r vs)) (run ++ back) (offset vs r i) i refl
+      ∙ drop_within run back i le
+
   module _ (r i s j : ℕ) (below : s < length vs) (inside : j ≤ length (get_or vs s d).items) where
     -- a place in an earlier run and one in a later run
     between_runs : r < s → i ≤ length (get_or vs r d).items → drop (offset vs r i) (take (offset vs s j) (entries vs)) ≡ drop i (get_or vs r d).items ++ (entries (drop (suc r) (take s vs)) ++ take j (get_or vs s d).items)
@@ -126,12 +136,8 @@ module _ {X : Type 0} where
   part [] (suc i) (suc j) = of_none (suc j - suc i)
   part (x ∷ xs) (suc i) (suc j) = ap (λ (n : ℕ). take n (drop i xs)) (let h : suc j - suc i ≡ j - i = omega arith in h) ∙ part xs i j
 
-  whole : (xs : List X) → take (length xs) xs ≡ xs
-  whole [] = refl
-  whole (x ∷ xs) = ap (λ l. x ∷ l) (whole xs)
-
   rest : (xs : List X) (i : ℕ) → take (length xs - i) (drop i xs) ≡ drop i xs
-  rest xs i = part xs i (length xs) ∙ ap (λ l. drop i l) (whole xs)
+  rest xs i = part xs i (length xs) ∙ ap (λ l. drop i l) (take-length xs)
 
 module _ {K V : Type 0} (vs : List (Vec (K × V))) (a b : Vec (K × V)) (r i s j : ℕ) (below : s < length vs) (inside : j ≤ length (get_or vs s b).items) (av : a ≡ get_or vs r a) (bv : b ≡ get_or vs s b) (first last : List (K × V)) (fa : first ≡ a.items) (lb : last ≡ b.items) (earlier : r < length vs) where
   first_is : first ≡ (get_or vs r b).items
@@ -153,6 +159,20 @@ module _ {K V : Type 0} (vs : List (Vec (K × V))) (a b : Vec (K × V)) (r i s j
       append-nil (take (j - i) (drop i first)) ∙ part first i j
       ∙ ap (λ l. drop i (take j l)) (first_is ∙ ap (λ (q : ℕ). (get_or vs q b).items) same)
       ∙ sym (between_same vs b r i s j below inside same)
+
+module _ {K V : Type 0} (vs : List (Vec (K × V))) (a : Vec (K × V)) (r i : ℕ) (lt : r < length vs) (le : i ≤ length (get_or vs r a).items) (av : a ≡ get_or vs r a) (run : List (K × V)) (ra : run ≡ a.items) where
+  run_is : run ≡ (get_or vs r a).items
+  run_is = ra ∙ ap (λ (v : Vec (K × V)). v.items) av
+
+  pub read_on : take (length run - i) (drop i run) ++ (entries (take (length vs - (r + 1)) (drop (r + 1) vs)) ++ []) ≡ drop (offset vs r i) (entries vs)
+  read_on =
+      let middle = entries (take (length vs - (r + 1)) (drop (r + 1) vs)) in
+      ap (λ l. l ++ (middle ++ [])) (rest run i ∙ ap (λ l. drop i l) run_is)
+      ∙ ap (λ l. drop i (get_or vs r a).items ++ l) (append-nil middle ∙ ap (λ (l : List (Vec (K × V))). entries l) (rest vs (r + 1) ∙ ap (λ (n : ℕ). drop n vs) (add-one r)))
+      ∙ sym (dropped_from vs a r i lt le)
+
+  pub read_to : entries (take r vs) ++ take i run ≡ take (offset vs r i) (entries vs)
+  read_to = ap (λ l. entries (take r vs) ++ take i l) run_is ∙ sym (taken_to vs a r i lt le)
 
 -- the last run of the middle becomes the back
 pub walked_back : {K V : Type 0} (front : List (K × V)) (middle rest : List (Vec (K × V))) (run : Vec (K × V)) (back new all : List (K × V)) → middle ≡ rest ++ run ∷ [] → length back ≡ 0 → new ≡ run.items → front ++ (entries middle ++ back) ≡ all → front ++ (entries rest ++ new) ≡ all

@@ -70,6 +70,36 @@ impl<'a, K, V> Entries<'a, K, V> {
     }
 }
 
+impl<'a, K, V> Entries<'a, K, V> {
+    // The entries from a place on.
+    pub(crate) fn on_from(runs: &'a [Vec<(K, V)>], from: Place) -> Entries<'a, K, V>
+        requires within { from.run < length runs.now }
+        requires place { (d : Vec (K × V)) → let run = slice_index_or runs.now from.run d in from.at ≤ length run.items }
+        ensures { result ≡ drop (offset runs.now from.run from.at) (entries runs.now) }
+    {
+        let first = &runs[from.run];
+        Entries {
+            front: &first[from.at..],
+            middle: &runs[from.run + 1..],
+            back: &[],
+        }
+    }
+
+    // The entries up to a place.
+    pub(crate) fn up_to(runs: &'a [Vec<(K, V)>], to: Place) -> Entries<'a, K, V>
+        requires within { to.run < length runs.now }
+        requires place { (d : Vec (K × V)) → let run = slice_index_or runs.now to.run d in to.at ≤ length run.items }
+        ensures { result ≡ take (offset runs.now to.run to.at) (entries runs.now) }
+    {
+        let last = &runs[to.run];
+        Entries {
+            front: &[],
+            middle: &runs[..to.run],
+            back: &last[..to.at],
+        }
+    }
+}
+
 impl<'a, K, V> Iterator for Entries<'a, K, V> {
     type Item = (&'a K, &'a V);
 

@@ -15,6 +15,7 @@ ghost use Rattle.std.specs.List.{filter, AllZip};
 ghost use Rattle.std.specs.Map.{keys_of, lookup, remove_entry};
 ghost use Rattle.std.specs.BTreeMap.{is_at, insert_entry};
 ghost use Rattle.std.specs.BTreeMap.Range.{range_contains};
+ghost use Rattle.std.specs.declared.ops.Bound.TheVariants.{Included, Excluded, Unbounded};
 ghost use Rattle.std.specs.List.Sorted.{IsStrictlySortedBy};
 ghost use Rattle.sorted_runs.specs.Copies.{IsEntryCopy};
 
@@ -101,6 +102,32 @@ impl<K: Ord + Copy, V> SortedRuns<K, V> {
         ensures ordered { IsStrictlySortedBy K.cmp (keys_of self.now) }
     {
         Entries::all(&self.runs)
+    }
+
+    /// The entries with keys above one, rising.
+    pub fn above(&self, key: K) -> Entries<'_, K, V>
+        ensures above { filter (λ e. range_contains K.cmp (Excluded key) Unbounded e.0) self.now ≡ result }
+        ensures ordered { IsStrictlySortedBy K.cmp (keys_of self.now) }
+    {
+        if self.firsts.is_empty() {
+            return Entries::all(&self.runs);
+        }
+        let from = Bound::Excluded(key);
+        let begin = start_of(&self.firsts, &self.runs, self.near, &from);
+        Entries::on_from(&self.runs, begin)
+    }
+
+    /// The entries with keys up to one, rising.
+    pub fn up_to(&self, key: K) -> Entries<'_, K, V>
+        ensures up_to { filter (λ e. range_contains K.cmp Unbounded (Included key) e.0) self.now ≡ result }
+        ensures ordered { IsStrictlySortedBy K.cmp (keys_of self.now) }
+    {
+        if self.firsts.is_empty() {
+            return Entries::all(&self.runs);
+        }
+        let to = Bound::Included(key);
+        let end = end_of(&self.firsts, &self.runs, self.near, &to);
+        Entries::up_to(&self.runs, end)
     }
 
     /// The entries with keys between two bounds, rising; none where the bounds cross.
