@@ -1,5 +1,5 @@
 -- The pages of keys.
-use Rattle.std.proofs.Common.{◌≡◌, ℕ, ◌⊎◌, ◌↔◌, inl, inr, ⊎_elim, List, [], ◌∷◌, sym, ap, subst, refl, Option, Some, None, is_some, ◌++◌, true}
+use Rattle.std.proofs.Common.{◌≡◌, ℕ, ◌⊎◌, ◌↔◌, inl, inr, ⊎_elim, List, [], ◌∷◌, sym, ap, subst, refl, Option, Some, None, is_some, ◌++◌, Bool, true}
 use Rattle.std.specs.List.{Contains, filter}
 use Rattle.std.specs.declared.cmp.Ordering.TheVariants.{Less}
 use Rattle.std.specs.declared.ops.Bound.TheVariants.{Excluded, Unbounded, Included}
@@ -10,8 +10,9 @@ use Rattle.std.specs.BTreeMap.Range.{range_contains}
 use Rattle.redo_core.specs.Order.{IsRising}
 use Rattle.redo_core.specs.Keys.{key_in, key_cmp, KeyBefore}
 use Rattle.redo_core.specs.declared.keys.Key.{Key}
-use Rattle.redo_core.proofs.Members.{none_in, here, which, each}
-use Rattle.hot_log.specs.Indexing.{AddsPage, LosesPage, IsPageOf, IsLeastKey, IsGreatestKey, IsGreatestOf}
+use Rattle.redo_core.proofs.Members.{none_in, here, which, each, filtered, passed}
+use Rattle.redo_core.proofs.Rising.{rising_filter}
+use Rattle.hot_log.specs.Indexing.{AddsPage, AreAbove, LosesPage, IsPageOf, IsLeastKey, IsGreatestKey, IsGreatestOf}
 use Rattle.hot_log.proofs.Maps.{rising_entries, held_at, at_key, joins, shrunk, lt_true, lt_of}
 use Rattle.hot_log.proofs.Orders.{keys_exact, key_less, key_less_of, first_kept, none_kept, last_kept, last_of}
 use Rattle.hot_log.proofs.Places.{not_lt_true, not_lt_of, pair_or_not}
@@ -108,3 +109,15 @@ greatest_of m x t ordered is =
           (λ (u : key_cmp (key_in e n) x.0 ≡ Less). inr (key_less (key_in e n) x.0 u))
           (last.1 (key_in e n, page) h),
     )
+
+-- the entries above a key
+pub are_above : (m : Map) (after : Key) (es : List Entry) → IsStrictlySortedBy key_cmp (keys_of m) → filter (λ (e : Entry). range_contains key_cmp (Excluded after) Unbounded e.0) m ≡ es → AreAbove m after es
+are_above m after es ordered is =
+    let test : Entry → Bool = λ e. range_contains key_cmp (Excluded after) Unbounded e.0 in
+    let Below : Entry → Entry → Type 0 = λ x y. key_cmp x.0 y.0 ≡ Less in record {
+      each = λ e. (
+        λ h. let f = filtered test m e (subst (λ (l : List Entry). Contains l e) (sym is) h) in (f.0, key_less after e.0 (lt_true (key_cmp after e.0) f.1)),
+        λ h. subst (λ (l : List Entry). Contains l e) is (passed test m e (lt_of (key_cmp after e.0) (key_less_of after e.0 h.1)) h.0),
+      );
+      rising = subst (IsRising Below) is (rising_filter Below test m (rising_entries key_cmp m ordered));
+    }

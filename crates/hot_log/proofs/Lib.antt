@@ -22,3 +22,5 @@ pub mod Sides
 pub mod Hanging
 pub mod Gone
 pub mod Rows
+pub mod Opening
+pub mod Beside

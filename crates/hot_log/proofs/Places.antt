@@ -1,5 +1,5 @@
 -- What the ends of a range of keys in groups are.
-use Rattle.std.proofs.Common.{◌≡◌, ℕ, ◌<◌, ◌≤◌, ◌⊎◌, inl, inr, ⊎_elim, List, [], ◌∷◌, ◌++◌, refl, sym, ap, subst, arith, Bool, true, false, not, ◌&&◌, Some, None}
+use Rattle.std.proofs.Common.{◌≡◌, ℕ, ◌<◌, ◌≤◌, ◌⊎◌, inl, inr, ⊎_elim, List, [], ◌∷◌, ◌++◌, ◌∙◌, refl, sym, ap, subst, arith, Bool, true, false, not, ◌&&◌, Some, None}
 use Rattle.std.specs.List.{Contains, filter}
 use Rattle.std.specs.Ordering.{is_lt, is_le}
 use Rattle.std.specs.declared.cmp.Ordering.{Ordering}
@@ -9,8 +9,11 @@ use Rattle.std.specs.BTreeMap.Range.{range_contains}
 use Rattle.redo_core.specs.Order.{IsRising, PairBefore}
 use Rattle.redo_core.specs.Keys.{key_in, KeyBefore}
 use Rattle.redo_core.specs.declared.keys.Key.{Key}
-use Rattle.hot_log.specs.Indexing.{IsNextKey, IsLastKey}
+use Rattle.hot_log.specs.Indexing.{InGroup, IsNextKey, IsLastKey}
 use Rattle.hot_log.specs.Paged.{place_cmp}
+use Rattle.redo_core.proofs.Members.{none_in, here, there, which, each, filtered, passed}
+use Rattle.redo_core.proofs.Rising.{rising_filter}
+use Rattle.redo_core.proofs.Pairs.{pair_trans}
 use Rattle.hot_log.proofs.Maps.{lt_true, lt_of}
 use Rattle.hot_log.proofs.Orders.{place_less, place_less_of, first_kept, none_kept, last_kept}
 
@@ -79,6 +82,56 @@ next_other keys g after x t rising is other e n h p =
     (λ (q : x ≡ (g, key_in e n)). other (ap (λ (y : Place). y.0) q))
     (λ (b : Below x (g, key_in e n)). ⊎_elim (λ (l : x.0 < g). omega arith) (λ (q : (x.0 ≡ g) × KeyBefore x.1 (key_in e n)). other q.0) (place_less x (g, key_in e n) b))
     (f.2 (g, key_in e n) h (lt_of (place_cmp (g, after) (g, key_in e n)) (in_group_above g after.epoch after.number e n p)))
+
+-- the keys behind the first of a range
+module _ (keys : List Place) (g : ℕ) (after : Key) (x : Place) (t : List Place) (rising : IsRising Below keys) (is : filter (range_contains place_cmp (Excluded (g, after)) Unbounded) keys ≡ x ∷ t) (same : x.0 ≡ g) where
+  abbrev test : Place → Bool
+  test = range_contains place_cmp (Excluded (g, after)) Unbounded
+
+  in_order : IsRising Below (x ∷ t)
+  in_order = subst (IsRising Below) is (rising_filter Below test keys rising)
+
+  behind : (e n : ℕ) → InGroup keys g e n → KeyBefore x.1 (key_in e n) → Contains t (g, key_in e n)
+  behind e n h p =
+      let f = first_kept Below test keys x t rising is in
+      let above : KeyBefore after x.1 = group_and_key (g, after) x (sym same) (lt_true (place_cmp (g, after) x) f.1) in
+      let up = pair_trans after.epoch after.number x.1.epoch x.1.number e n above p in
+      ⊎_elim
+      (λ (q : x ≡ (g, key_in e n)). absurd (let k = ap (λ (y : Place). y.1.epoch) q in let m = ap (λ (y : Place). y.1.number) q in grind arith))
+      (λ (u : Contains t (g, key_in e n)). u)
+      (which x t (g, key_in e n) (subst (λ (l : List Place). Contains l (g, key_in e n)) is (passed test keys (g, key_in e n) (lt_of (place_cmp (g, after) (g, key_in e n)) (in_group_above g after.epoch after.number e n up)) h)))
+
+  pub second_none : t ≡ [] → IsNextKey keys g x.1 None
+  second_none none e n h p = none_in (g, key_in e n) (subst (λ (l : List Place). Contains l (g, key_in e n)) none (behind e n h p))
+
+  module _ (y : Place) (u : List Place) (next : t ≡ y ∷ u) where
+    below : Below x y
+    below = each (Below x) t y in_order.0 (subst (λ (l : List Place). Contains l y) (sym next) (here y u))
+
+    later : (z : Place) → Contains t z → (y ≡ z) ⊎ Below y z
+    later z h = ⊎_elim
+        (λ (q : y ≡ z). inl q)
+        (λ (k : Contains u z). inr (each (Below y) u z (subst (IsRising Below) next in_order.1).0 k))
+        (which y u z (subst (λ (l : List Place). Contains l z) next h))
+
+    pub second_some : y.0 ≡ g → IsNextKey keys g x.1 (Some y.1)
+    second_some also =
+        let among : Contains keys y = (filtered test keys y (subst (λ (l : List Place). Contains l y) (sym is) (there x t y (subst (λ (l : List Place). Contains l y) (sym next) (here y u))))).0 in (
+          subst (λ (h : ℕ). Contains keys (h, y.1)) also among,
+          group_and_key x y (same ∙ sym also) below,
+          λ e n h p. ⊎_elim
+              (λ (q : y ≡ (g, key_in e n)). inl (ap (λ (z : Place). z.1.epoch) (sym q), ap (λ (z : Place). z.1.number) (sym q)))
+              (λ (b : Below y (g, key_in e n)). inr (group_and_key y (g, key_in e n) also b))
+              (later (g, key_in e n) (behind e n h p)),
+        )
+
+    pub second_other : (y.0 ≡ g → ⊥) → IsNextKey keys g x.1 None
+    second_other other e n h p =
+        let up : g < y.0 = ⊎_elim (λ (l : x.0 < y.0). omega arith) (λ (q : (x.0 ≡ y.0) × KeyBefore x.1 y.1). absurd (other (sym q.0 ∙ same))) (place_less x y below) in
+        ⊎_elim
+        (λ (q : y ≡ (g, key_in e n)). other (ap (λ (z : Place). z.0) q))
+        (λ (b : Below y (g, key_in e n)). ⊎_elim (λ (l : y.0 < g). omega arith) (λ (q : (y.0 ≡ g) × KeyBefore y.1 (key_in e n)). other q.0) (place_less y (g, key_in e n) b))
+        (later (g, key_in e n) (behind e n h p))
 
 -- the range up to a key of a group
 up_to_group : (g e n : ℕ) (to : Key) → (KeyBefore to (key_in e n) → ⊥) → range_contains place_cmp Unbounded (Included (g, to)) (g, key_in e n) ≡ true

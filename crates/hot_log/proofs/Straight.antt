@@ -4,12 +4,10 @@ use Rattle.std.proofs.lemmas.Bool.{cases_lt}
 use Rattle.redo_core.specs.Data.{RecordData}
 use Rattle.redo_core.specs.Linked.{Linked}
 use Rattle.redo_core.specs.Linked.Linked.{start, next}
-use Rattle.epoch_book.specs.Book.{BookData, IsBook}
-use Rattle.hot_log.specs.Held.{IsHeld}
+use Rattle.epoch_book.specs.Book.{BookData}
 use Rattle.hot_log.specs.Alive.{IsHeldAlive, IsLinkedFrom, IsStraight}
 use Rattle.hot_log.specs.Found.{IsLeastRecord}
 use Rattle.hot_log.proofs.Chain.{Link, link_cases, link_at_least}
-use Rattle.hot_log.proofs.Views.{view_of, one_number}
 
 -- a straight chain
 pub record Straight (b : BookData) (held : List RecordData) (from top : ℕ) : Type 0 where
@@ -82,40 +80,3 @@ straight_next b held from top x s found back =
       };
       linked = linked;
     }
-
-pub straight_to : (b : BookData) (held : List RecordData) (from top to : ℕ) → Straight b held from top → ((r : RecordData) → IsHeldAlive b held r × (top < r.number) → to < r.number) → IsStraight b held from to
-straight_to b held from top to s none =
-    let low : from ≤ top = link_at_least b.cuts held b.complete from top s.linked in
-    record {
-      linked = λ r h above le. ⊎_elim
-          (λ (over : top < r.number). absurd (let t : to < r.number = none r (h, over) in omega arith))
-          (λ (l : r.number ≤ top). s.is.linked r h above l)
-          (cases_lt top r.number);
-      onward = λ m n l k le bound. ⊎_elim
-          (λ (over : top < n). absurd (let t = linked_above b held from top low n k over in let same : t.0.number ≡ n = t.2 in let far : to < t.0.number = none t.0 (t.1, let z : top < t.0.number = omega arith in z) in omega arith))
-          (λ (l2 : n ≤ top). s.is.onward m n l k le l2)
-          (cases_lt top n);
-    }
-
--- the chain is not straight where the next alive record has another backlink
-pub not_straight : (b : BookData) (held : List RecordData) (from top to : ℕ) (x : RecordData) → IsBook b → IsHeld held → Straight b held from top → IsLeastRecord (λ r. IsHeldAlive b held r × (top < r.number)) (Some x) → x.back < x.number → x.number ≤ to → (x.back ≡ top → ⊥) → IsStraight b held from to → ⊥
-not_straight b held from top to x book is s found below le other straight =
-    let low : from ≤ top = link_at_least b.cuts held b.complete from top s.linked in
-    let up : top < x.number = found.0.1 in
-    let linked : IsLinkedFrom b held from x.number = straight.linked x found.0.0 (omega arith) le in
-    let onward : IsLinkedFrom b held top x.number = straight.onward top x.number s.linked linked (omega arith) le in
-    ⊎_elim
-    (λ (e : x.number ≡ top). omega arith)
-    (λ (w : Link b.cuts held b.complete top x.number).
-    let same : w.by ≡ x = one_number b.cuts b.complete held (view_of b book) is.rising w.by x w.among found.0.0.0 w.alive found.0.0.1 w.at in
-    let back : IsLinkedFrom b held top x.back = subst (λ (y : RecordData). IsLinkedFrom b held top y.back) same w.back in
-    ⊎_elim
-    (λ (e : x.back ≡ top). other e)
-    (λ (v : Link b.cuts held b.complete top x.back).
-    let at : v.by.number ≡ x.back = v.at in
-    ⊎_elim
-    (λ (e : v.by ≡ x). let number : v.by.number ≡ x.number = ap (λ (y : RecordData). y.number) e in omega arith)
-    (λ (l : x.number < v.by.number). omega arith)
-    (found.1 v.by ((v.among, v.alive), v.above)))
-    (link_cases b.cuts held b.complete top x.back back))
-    (link_cases b.cuts held b.complete top x.number onward)

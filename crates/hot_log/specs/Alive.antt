@@ -1,5 +1,6 @@
 -- Which of the held records are alive in a book's view, and which numbers they link.
-use Rattle.std.specs.Prelude.{◌≡◌, ℕ, ◌+◌, ◌<◌, ◌≤◌, ◌⊎◌, ◌↔◌, List, Option, Some, None}
+use Rattle.std.specs.Prelude.{◌≡◌, ℕ, ◌+◌, ◌<◌, ◌≤◌, ◌⊎◌, ◌↔◌, Bool, List, Option, Some, None}
+use Rattle.std.specs.Option.{is_some}
 use Rattle.redo_core.specs.Order.{PairBefore}
 use Rattle.redo_core.specs.Keys.{key_in, key_of, KeyBefore}
 use Rattle.redo_core.specs.declared.keys.Key.{Key}
@@ -89,3 +90,7 @@ IsAliveOfBack book held back after None = (r : RecordData) → IsHeldAlive book 
 IsAliveOfBack book held back after (Some key) =
     ((r : RecordData) × IsHeldAlive book held r × (r.back ≡ back) × HasKey key r × KeyBefore after (key_of r))
     × ((r : RecordData) → IsHeldAlive book held r → r.back ≡ back → KeyBefore after (key_of r) → HasKey key r ⊎ KeyBefore key (key_of r))
+
+-- whether an alive record with this segment backlink has a key above the one given
+abbrev pub HasSecond : BookData → List RecordData → ℕ → Key → Bool → Type 0
+HasSecond book held back key is = (second : Option Key) × IsAliveOfBack book held back key second × (is ≡ is_some second)

@@ -2,7 +2,9 @@
 use Rattle.std.specs.Prelude.{◌≡◌, ℕ, ◌⊎◌, ◌↔◌, List, Option, Some, None}
 use Rattle.std.specs.List.{Contains}
 use Rattle.redo_core.specs.Data.{RecordData}
-use Rattle.redo_core.specs.Keys.{key_in, key_of, KeyBefore}
+use Rattle.redo_core.specs.Order.{IsRising}
+use Rattle.std.specs.declared.cmp.Ordering.TheVariants.{Less}
+use Rattle.redo_core.specs.Keys.{key_in, key_of, key_cmp, KeyBefore}
 use Rattle.redo_core.specs.declared.keys.Key.{Key}
 use Rattle.hot_log.specs.Held.{IsHeld, HasKey}
 
@@ -81,6 +83,11 @@ IsGreatestOf keys (Some key) =
     ((page : ℕ) × Contains keys (key, page))
     × ((e n page : ℕ) → Contains keys (key_in e n, page) → ((e ≡ key.epoch) × (n ≡ key.number)) ⊎ KeyBefore (key_in e n) key)
 
+-- the keys above one, with their pages, rising
+pub record AreAbove (keys : List (Key × ℕ)) (after : Key) (above : List (Key × ℕ)) : Type 0 where
+  pub each : (e : Key × ℕ) → Contains above e ↔ (Contains keys e × KeyBefore after e.0)
+  pub rising : IsRising (λ x y. key_cmp x.0 y.0 ≡ Less) above
+
 -- the keys are those of the held records, each with the page of its record
 pub record IsKeyPages (held : List RecordData) (keys : List (Key × ℕ)) : Type 0 where
   pub listed : (r : RecordData) → Contains held r → Contains keys (key_of r, r.page)
@@ -120,3 +127,9 @@ IsNextRecord held page after (Some r) = Contains held r × IsNextHeld (λ r. r.p
 abbrev pub IsLastRecord : List RecordData → ℕ → Key → Option RecordData → Type 0
 IsLastRecord held page to None = IsLastHeld (λ r. r.page) held page to None
 IsLastRecord held page to (Some r) = Contains held r × IsLastHeld (λ r. r.page) held page to (Some (key_of r))
+
+-- the keys of the held records above one, with the pages of these, rising
+pub record AreHeldAbove (held : List RecordData) (after : Key) (above : List (Key × ℕ)) : Type 0 where
+  pub listed : (r : RecordData) → Contains held r → KeyBefore after (key_of r) → Contains above (key_of r, r.page)
+  pub backed : (e : Key × ℕ) → Contains above e → (r : RecordData) × Contains held r × HasKey e.0 r × (r.page ≡ e.1) × KeyBefore after (key_of r)
+  pub rising : IsRising (λ x y. key_cmp x.0 y.0 ≡ Less) above

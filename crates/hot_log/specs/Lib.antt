@@ -1,6 +1,7 @@
 pub mod Held
 pub mod Putting
 pub mod Alive
+pub mod Ahead
 pub mod Found
 pub mod Removing
 pub mod Indexing

@@ -1,11 +1,10 @@
-ghost use Rattle.std.specs.Prelude.{◌≡◌, ◌⊎◌, [], IfOk, OnOk, OnErr};
+ghost use Rattle.std.specs.Prelude.{◌≡◌, ◌⊎◌, [], Some, None, IfOk, IfSome, IsNone, OnOk, OnErr};
 ghost use Rattle.hot_log.specs.Indexing.{IsNextKey, GainsKey, LosesKey};
 
 use redo_core::Key;
 use sorted_runs::SortedRuns;
 use std::alloc::{AllocError, Global};
 use std::marker::Model;
-use std::ops::Bound;
 
 /// Keys of records in groups, by their segment backlink.
 #[derive(Debug, Drop)]
@@ -57,12 +56,27 @@ impl KeyIndex {
         let _ = self.keys.remove(&(group, key));
     }
 
+    /// The least key of a group above the one given, and the least of it above that one.
+    pub fn next_two(&self, group: u64, after: Key) -> Option<(Key, Option<Key>)>
+        ensures none { IsNone result → IsNextKey self.now group after None }
+        ensures some { IfSome result (λ t. IsNextKey self.now group after (Some t.0) × IsNextKey self.now group t.0 t.1) }
+    {
+        let mut rest = self.keys.above((group, after));
+        let (place, _) = rest.next()?;
+        if place.0 != group {
+            return None;
+        }
+        match rest.next() {
+            Some((second, _)) if second.0 == group => Some((place.1, Some(second.1))),
+            _ => Some((place.1, None)),
+        }
+    }
+
     /// The least key of a group above the one given.
     pub fn next(&self, group: u64, after: Key) -> Option<Key>
         ensures { IsNextKey self.now group after result }
     {
-        let from = Bound::Excluded((group, after));
-        let (place, _) = self.keys.range(from, Bound::Unbounded).next()?;
+        let (place, _) = self.keys.above((group, after)).next()?;
         if place.0 == group {
             Some(place.1)
         } else {

@@ -3,7 +3,7 @@ ghost use Rattle.std.specs.Option.{IsSome, IsNone};
 ghost use Rattle.std.specs.Map.{keys_of, lookup};
 ghost use Rattle.std.specs.BTreeMap.{is_at, insert_entry};
 ghost use Rattle.std.specs.List.Sorted.{IsStrictlySortedBy};
-ghost use Rattle.hot_log.specs.Indexing.{AddsPage, LosesPage, IsPageOf, IsLeastKey, GainsPage, IsGreatestKey, IsGreatestOf};
+ghost use Rattle.hot_log.specs.Indexing.{AddsPage, AreAbove, LosesPage, IsPageOf, IsLeastKey, GainsPage, IsGreatestKey, IsGreatestOf};
 ghost use Rattle.hot_log.specs.Kept.{IsKeyKept};
 ghost use Rattle.redo_core.specs.Order.{Lists};
 ghost use Rattle.redo_core.specs.Keys.{KeyBefore};
@@ -12,10 +12,9 @@ ghost use Rattle.std.specs.List.{Contains};
 use crate::search::is_kept;
 use epoch_book::EpochBook;
 use redo_core::Key;
-use sorted_runs::SortedRuns;
+use sorted_runs::{Entries, SortedRuns};
 use std::alloc::{AllocError, Global};
 use std::marker::Model;
-use std::ops::Bound;
 
 /// The page of each key.
 #[derive(Debug, Drop)]
@@ -109,17 +108,22 @@ impl KeyPages {
     fn key_above(&self, after: Key) -> Option<Key>
         ensures { IsLeastKey self.now (Some after) result }
     {
-        let from = Bound::Excluded(after);
-        let (key, _) = self.map.range(from, Bound::Unbounded).next()?;
+        let (key, _) = self.map.above(after).next()?;
         Some(*key)
+    }
+
+    /// The keys above the one given with their pages, rising.
+    pub fn above(&self, after: Key) -> Entries<'_, Key, u16>
+        ensures { AreAbove self.now after result }
+    {
+        self.map.above(after)
     }
 
     /// The greatest key at or below the one given.
     pub fn key_to(&self, to: Key) -> Option<Key>
         ensures { IsGreatestKey self.now to result }
     {
-        let end = Bound::Included(to);
-        let (key, _) = self.map.range(Bound::Unbounded, end).next_back()?;
+        let (key, _) = self.map.up_to(to).next_back()?;
         Some(*key)
     }
 
@@ -134,8 +138,7 @@ impl KeyPages {
         ensures { IfOk result (λ v. Lists KeyBefore (IsKeyKept book.now self.now above point) v.items) }
     {
         let mut kept = Vec::new(alloc);
-        let from = Bound::Excluded(above);
-        for (key, _) in self.map.range(from, Bound::Unbounded) {
+        for (key, _) in self.map.above(above) {
             if is_kept(book, *key, point) {
                 kept.push(*key)?;
             }

@@ -1,17 +1,21 @@
 //! The numbers that held records link, from a base on.
-ghost use Rattle.std.specs.Prelude.{◌≡◌, ℕ, ◌<◌, ◌≤◌, ◌↔◌, List, length, IsTrue, IfSome, IsNone, None, false};
+ghost use Rattle.std.specs.Prelude.{◌≡◌, ℕ, ◌<◌, ◌≤◌, ◌↔◌, List, length, IsTrue, IfSome, IsNone, Some, None, false};
 ghost use Rattle.std.specs.Option.{option_copied};
 ghost use Rattle.redo_core.specs.Data.{RecordData};
 ghost use Rattle.redo_core.specs.Order.{Lists, RecordBefore};
 ghost use Rattle.hot_log.specs.Held.{IsHeld};
+ghost use Rattle.hot_log.specs.Ahead.{AreOnward, PassesToAlive};
 ghost use Rattle.hot_log.specs.Alive.{IsAliveOfBack, IsLinkedFrom, IsLinkedHeld, IsReached, IsStraight, IsStraightEnd};
 ghost use Rattle.hot_log.specs.Found.{IsGreatestRecord, IsOnlyRecord};
 ghost use Rattle.hot_log.specs.Gaps.{IsGapAbove};
 ghost use Rattle.hot_log.specs.Seen.{seen_in};
 
+use crate::search::{epoch_above, is_alive};
 use crate::steps::Steps;
 use crate::view::View;
+use epoch_book::EpochBook;
 use redo_core::{Key, Record};
+use sorted_runs::Entries;
 
 impl<'a> View<'a> {
     /// The greatest number up to a limit that is linked from a base.
@@ -117,49 +121,30 @@ impl<'a> View<'a> {
         None
     }
 
-    /// Whether the chain is straight from a number to another: each alive record between them is linked, and there is no fork.
-    pub fn is_straight(&self, from: u64, to: u64) -> bool
-        ensures { IsTrue result ↔ seen_in self.now IsStraight from to }
-    {
-        self.book.opens_form();
-        let mut top = from;
-        while top < to {
-            let Some(redo) = self.alive_after(top) else {
-                return true;
-            };
-            if redo.number() > to {
-                return true;
-            }
-            if redo.back() != top {
-                return false;
-            }
-            top = redo.number();
-        }
-        true
-    }
-
     /// The end of the chain from a number on: the greatest number linked from there. None where the chain has a fork or a stray.
     pub fn straight_end(&self, from: u64) -> Option<u64>
         ensures some { IfSome result (seen_in self.now IsStraightEnd from) }
         ensures none { IsNone result → (n : ℕ) → seen_in self.now IsStraightEnd from n → ⊥ }
     {
         let mut top = from;
-        while let Some(key) = self.alive_of_back(
-            top,
-            Key {
-                epoch: 0,
-                number: 0,
-            },
-        ) {
-            if self.has_between(top, key.number) {
-                return None;
-            }
-            if self.alive_of_back(top, key).is_some() {
+        let mut left = self.keys_on(from);
+        while let Some((key, is_fork)) = self.first_of_back(top) {
+            if is_fork || !is_at(next_alive(self.book, &mut left), key) {
                 return None;
             }
             top = key.number;
         }
         Some(top)
+    }
+
+    /// The held keys from the alive ones above a number on, with the pages of their records, rising.
+    fn keys_on(&self, number: u64) -> Entries<'a, Key, u16>
+        ensures { seen_in self.now AreOnward number result }
+    {
+        self.held.keys_above(Key {
+            epoch: epoch_above(self.book, number),
+            number,
+        })
     }
 
     /// The number on which the first alive record above a number hangs: that record names it as its segment backlink, or names a held one
@@ -186,5 +171,27 @@ impl<'a> View<'a> {
         } else {
             None
         }
+    }
+}
+
+/// The next of some keys that is alive; those before it, and it, are passed.
+fn next_alive(book: &EpochBook, left: &mut Entries<'_, Key, u16>) -> Option<Key>
+    ensures { PassesToAlive book.now left.old result left.new }
+{
+    while let Some((key, _)) = left.next() {
+        if is_alive(book, key.epoch, key.number) {
+            return Some(*key);
+        }
+    }
+    None
+}
+
+/// Whether a walk has come to a key.
+fn is_at(next: Option<Key>, key: Key) -> bool
+    ensures { IsTrue result ↔ (next ≡ Some key) }
+{
+    match next {
+        Some(next) => next.epoch == key.epoch && next.number == key.number,
+        None => false,
     }
 }

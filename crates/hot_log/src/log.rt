@@ -1,4 +1,4 @@
-ghost use Rattle.std.specs.Prelude.{◌≡◌, Some, ◌<◌, ◌⊎◌, ◌↔◌, [], None, List, length, map, IsTrue, IfOk, IfErr, OnErr, OnOk};
+ghost use Rattle.std.specs.Prelude.{◌≡◌, Some, ◌<◌, ◌⊎◌, ◌↔◌, [], None, List, length, map, IsTrue, IfOk, IfErr, IfSome, IsNone, OnErr, OnOk};
 ghost use Rattle.std.specs.Option.{option_copied};
 ghost use Rattle.redo_core.specs.Data.{RecordData};
 ghost use Rattle.redo_core.specs.Keys.{key_of};
@@ -6,7 +6,7 @@ ghost use Rattle.redo_core.specs.Order.{Lists};
 ghost use Rattle.redo_core.specs.Standing.{IsDead};
 ghost use Rattle.hot_log.specs.Held.{IsHeld, IsRecordAt, IsKeyAfter, IsKeyTo, IsGreatestHeld, HasKey, HoldsKey};
 ghost use Rattle.hot_log.specs.Found.{IsPageAfter};
-ghost use Rattle.hot_log.specs.Indexing.{IsIndexBy, IsNextHeld, IsNextRecord, IsLastRecord};
+ghost use Rattle.hot_log.specs.Indexing.{AreHeldAbove, IsIndexBy, IsRecordOf, IsNextHeld, IsNextRecord, IsLastRecord};
 ghost use Rattle.hot_log.specs.Missing.{IsMissing};
 ghost use Rattle.hot_log.specs.Paged.{PlaceBefore};
 ghost use Rattle.hot_log.specs.Putting.{Puts, RefusesPut};
@@ -20,6 +20,7 @@ use crate::records::PagedRecords;
 use crate::removal;
 use epoch_book::EpochBook;
 use redo_core::{Key, Record, Refused};
+use sorted_runs::Entries;
 use std::alloc::{AllocError, Global};
 use std::marker::Model;
 use thiserror::Error;
@@ -221,12 +222,36 @@ impl HotLog {
         self.by_key.key_after(Some(after))
     }
 
+    // The keys above the one given with the pages of their records, rising.
+    pub(crate) fn keys_above(&self, after: Key) -> Entries<'_, Key, u16>
+        ensures above { AreHeldAbove self.now after result }
+        ensures form { IsHeld self.now }
+    {
+        self.by_key.above(after)
+    }
+
+    // The record of a page and a key, or None where there is none.
+    pub(crate) fn record_of(&self, page: u16, key: Key) -> Option<&Record>
+        ensures { IsRecordOf self.now page key (option_copied result) }
+    {
+        self.records.get(page, key)
+    }
+
     // The least key above the one given of the records with a segment backlink.
     pub(crate) fn next_of_back(&self, back: u64, after: Key) -> Option<Key>
         ensures next { IsNextHeld (λ r. r.back) self.now back after result }
         ensures form { IsHeld self.now }
     {
         self.by_back.next(back, after)
+    }
+
+    // The same, and the least key above that one.
+    pub(crate) fn next_two_of_back(&self, back: u64, after: Key) -> Option<(Key, Option<Key>)>
+        ensures none { IsNone result → IsNextHeld (λ r. r.back) self.now back after None }
+        ensures some { IfSome result (λ t. IsNextHeld (λ r. r.back) self.now back after (Some t.0) × IsNextHeld (λ r. r.back) self.now back t.0 t.1) }
+        ensures form { IsHeld self.now }
+    {
+        self.by_back.next_two(back, after)
     }
 
     /// The least page above the one given that a held record writes, whatever its standing; the least of all for None.

@@ -133,8 +133,7 @@ impl PagedRecords {
         ensures next { IsNextRecord self.now page after (option_copied result) }
         ensures form { IsHeld self.now }
     {
-        let from = Bound::Excluded((page, after));
-        let (place, redo) = self.map.range(from, Bound::Unbounded).next()?;
+        let (place, redo) = self.map.above((page, after)).next()?;
         if place.0 == page { Some(redo) } else { None }
     }
 
@@ -143,8 +142,7 @@ impl PagedRecords {
         ensures last { IsLastRecord self.now page to (option_copied result) }
         ensures form { IsHeld self.now }
     {
-        let end = Bound::Included((page, to));
-        let (place, redo) = self.map.range(Bound::Unbounded, end).next_back()?;
+        let (place, redo) = self.map.up_to((page, to)).next_back()?;
         if place.0 == page { Some(redo) } else { None }
     }
 

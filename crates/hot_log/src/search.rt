@@ -1,5 +1,5 @@
 //! Searches of held records in a book's view.
-ghost use Rattle.std.specs.Prelude.{◌≡◌, ℕ, ◌<◌, ◌≤◌, ◌⊎◌, ◌↔◌, IsTrue, Some};
+ghost use Rattle.std.specs.Prelude.{◌≡◌, ℕ, ◌<◌, ◌≤◌, ◌⊎◌, ◌↔◌, IsTrue, IfSome, IsNone, Some, None};
 ghost use Rattle.std.specs.Option.{option_copied};
 ghost use Rattle.redo_core.specs.Data.{RecordData};
 ghost use Rattle.redo_core.specs.Keys.{key_in, KeyBefore};
@@ -7,7 +7,7 @@ ghost use Rattle.redo_core.specs.Standing.{IsAlive};
 ghost use Rattle.epoch_book.specs.Book.{IsBook};
 ghost use Rattle.epoch_book.specs.Lows.{CutsAt};
 ghost use Rattle.hot_log.specs.Held.{IsHeld, HasKey};
-ghost use Rattle.hot_log.specs.Alive.{HasNoneAbove, IsAliveKey, IsAliveOfBack, IsHeldAlive, IsOpenedBelow, IsPageAlive, PartsAt, PartsAtKey, SparesAbove};
+ghost use Rattle.hot_log.specs.Alive.{HasNoneAbove, HasSecond, IsAliveKey, IsAliveOfBack, IsHeldAlive, IsOpenedBelow, IsPageAlive, PartsAt, PartsAtKey, SparesAbove};
 ghost use Rattle.hot_log.specs.Found.{IsLeast, IsLeastRecord, IsGreatestRecord, IsOnlyRecord};
 ghost use Rattle.hot_log.specs.Kept.{KeepsKey};
 ghost use Rattle.hot_log.specs.Seen.{seen_in};
@@ -224,6 +224,28 @@ impl<'a> View<'a> {
         None
     }
 
+    /// The least key of the alive records with this segment backlink, and whether another of them has it.
+    pub(crate) fn first_of_back(&self, back: u64) -> Option<(Key, bool)>
+        ensures none { IsNone result → seen_in self.now IsAliveOfBack back (key_in 0 0) None }
+        ensures some { IfSome result (λ t. seen_in self.now IsAliveOfBack back (key_in 0 0) (Some t.0) × seen_in self.now HasSecond back t.0 t.1) }
+        ensures book { IsBook self.now.book.now }
+        ensures form { IsHeld self.now.held.now }
+    {
+        self.book.opens_form();
+        let zero = Key {
+            epoch: 0,
+            number: 0,
+        };
+        let (first, second) = self.held.next_two_of_back(back, zero)?;
+        // Over a sound log an alive record is mostly the only one with its backlink, and no look at the truncations is wanted.
+        if second.is_none() && is_alive(self.book, first.epoch, first.number) {
+            return Some((first, false));
+        }
+        let first = self.alive_of_back(back, zero)?;
+        let is_second = self.alive_of_back(back, first).is_some();
+        Some((first, is_second))
+    }
+
     /// The least alive number with this segment backlink, or None where there is none.
     pub fn next_after(&self, back: u64) -> Option<u64>
         ensures { IsLeast (λ n. (r : RecordData) × seen_in self.now IsHeldAlive r × (r.back ≡ back) × (r.number ≡ n)) result }
@@ -238,15 +260,15 @@ impl<'a> View<'a> {
         Some(key.number)
     }
 
-    /// Whether the record of a key is alive, and its segment backlink below a number.
-    fn is_below(&self, key: Key, number: u64) -> bool
-        ensures { IsTrue result ↔ ((r : RecordData) × seen_in self.now IsHeldAlive r × HasKey key r × (r.back < number)) }
+    /// Whether the record of a page and a key is alive, and its segment backlink below a number.
+    fn is_below(&self, page: u16, key: Key, number: u64) -> bool
+        ensures { IsTrue result ↔ ((r : RecordData) × seen_in self.now IsHeldAlive r × HasKey key r × (r.page ≡ page) × (r.back < number)) }
     {
         self.held.opens_form();
         if !is_alive(self.book, key.epoch, key.number) {
             return false;
         }
-        match self.held.get(key) {
+        match self.held.record_of(page, key) {
             Some(redo) => redo.back() < number,
             None => false,
         }
@@ -272,18 +294,17 @@ impl<'a> View<'a> {
         ensures { IsTrue result ↔ ((r : RecordData) × seen_in self.now IsOpenedBelow epoch number r) }
     {
         let complete = self.book.complete_epoch();
-        let mut at = Key {
+        let mut left = self.held.keys_above(Key {
             epoch,
             number: u64::MAX,
-        };
-        while let Some(key) = self.held.next_key(at) {
+        });
+        while let Some((key, page)) = left.next() {
             if key.epoch > complete {
                 return false;
             }
-            if self.is_below(key, number) {
+            if self.is_below(*page, *key, number) {
                 return true;
             }
-            at = key;
         }
         false
     }

@@ -1,12 +1,11 @@
 -- What a segment shows, where it knows and holds more or less.
 use Rattle.std.proofs.Common.{◌≡◌, ℕ, ◌<◌, ◌≤◌, ◌↔◌, List, sym, ap, ◌∙◌}
 use Rattle.std.specs.List.{Contains}
-use Rattle.redo_core.specs.Data.{RecordData, CutData}
+use Rattle.redo_core.specs.Data.{RecordData}
 use Rattle.redo_core.specs.Order.{BeforeByNumber}
 use Rattle.redo_core.specs.Standing.{IsAlive}
-use Rattle.redo_core.specs.Linked.{Linked}
-use Rattle.redo_core.specs.Linked.Linked.{start, next}
 use Rattle.redo_core.specs.Writing.{after_records}
+use Rattle.hot_log.proofs.Chain.{linked_more}
 use Rattle.redo_laws.proofs.Meanings.{lists_as}
 use Rattle.state_laws.specs.State.{State, version_of, image_of}
 use Rattle.state_laws.specs.HasMeaning.{IsLinkedIn}
@@ -48,12 +47,6 @@ shows_as s t page q image v i held h = record {
   lists = lists_as BeforeByNumber (IsApplied s page q) (IsApplied t page q) (applied_as s t page q v i held) h.written h.lists;
   result = h.result ∙ ap (λ (own : List ℕ). after_records own h.written) (sym i.image);
 }
-
--- more records link no less
-pub linked_more : (cs : List CutData) (rs more : List RecordData) (k base n : ℕ) → ((r : RecordData) → Contains rs r → Contains more r) → Linked cs rs k base n
-    → Linked cs more k base n
-linked_more cs rs more k base n sub start = start
-linked_more cs rs more k base n sub (next r held alive above back) = next r (sub r held) alive above (linked_more cs rs more k base r.back sub back)
 
 pub linked_in : (s t : State) (n : ℕ) → SameView s t → t.base ≡ s.base → ((r : RecordData) → Contains s.held r → Contains t.held r) → IsLinkedIn s n → IsLinkedIn t n
 linked_in s t n v base sub l = rw (v.cuts, v.complete, base) (linked_more s.book.cuts s.held t.held s.book.complete s.base n sub l)

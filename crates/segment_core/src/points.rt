@@ -44,11 +44,15 @@ impl Points {
         requires anchor { self.anchor ≤ least view.now.book.now.points }
         ensures { seen_in view.now MoveOn self result }
     {
-        let complete = view.linked_to(self.complete, MAX_NUMBER);
+        // Over a sound log the chain is straight, and no fork is looked for.
+        let (complete, straight) = match view.straight_end(self.complete) {
+            Some(end) => (end, true),
+            None => (view.linked_to(self.complete, MAX_NUMBER), false),
+        };
         Points {
             complete,
             anchor: view.linked_to(self.anchor, view.book.min_point()),
-            straight: view.is_straight(self.complete, complete),
+            straight,
         }
     }
 
@@ -200,7 +204,12 @@ impl Points {
         if end <= min {
             return end;
         }
-        view.linked_to(from, min)
+        let walked = Points {
+            complete: end,
+            anchor: from,
+            straight: true,
+        };
+        walked.anchor_of_last(view)
     }
 
     /// Whether a record that joins the held ones may link a number: it is alive above the base point, and behind no gap.

@@ -81,7 +81,6 @@ fn chain(view: View, row: Row) -> Answer {
     match row.name {
         "linked_to" => Answer::Number(view.linked_to(first, second.max(first))),
         "next_after" => Answer::Found(view.next_after(first)),
-        "is_straight" => Answer::Flag(view.is_straight(first, second)),
         "straight_end" => Answer::Found(view.straight_end(first)),
         "linked_record" => record(view.linked_record(first, second)),
         "last_alive" => record(view.last_alive(first)),

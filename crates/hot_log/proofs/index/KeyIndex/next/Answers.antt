@@ -15,18 +15,18 @@ returns-in_err-place c =
     let test : Place → Bool = range_contains place_cmp (Excluded (c.args.group, c.args.after)) Unbounded in
     let P : List Place → Type 0 = λ l. IsNextKey l c.args.group c.args.after c.from_residual.result in
     let Q : Option Key → Type 0 = λ o. IsNextKey (keys_of c.self.inside.keys) c.args.group c.args.after o in
-    subst P c.self.view_is (subst Q (sym c.from_residual.ensures) (next_none (keys_of c.self.inside.keys) c.args.group c.args.after (keys_range test c.self.inside.keys [] (c.range.ensures.between ∙ c.in_err-place.ensures.steps.0))))
+    subst P c.self.view_is (subst Q (sym c.from_residual.ensures) (next_none (keys_of c.self.inside.keys) c.args.group c.args.after (keys_range test c.self.inside.keys [] (c.above.ensures.above ∙ c.in_err-place.ensures.steps.0))))
 
 pub returns-then-place-group : goal.returns-then-place-group
 returns-then-place-group c =
     let test : Place → Bool = range_contains place_cmp (Excluded (c.args.group, c.args.after)) Unbounded in
     let x = c.in_ok-place.place.now in
     let P : List Place → Type 0 = λ l. IsNextKey l c.args.group c.args.after (Some x.1) in
-    subst P c.self.view_is (next_some (keys_of c.self.inside.keys) c.args.group c.args.after x (keys_of c.next.new.self) (rises place_cmp (keys_of c.self.inside.keys) c.range.ensures.ordered) (keys_range test c.self.inside.keys _ (c.range.ensures.between ∙ c.in_ok-place.ensures.steps)) c.if-place-group.true)
+    subst P c.self.view_is (next_some (keys_of c.self.inside.keys) c.args.group c.args.after x (keys_of c.next.new.self) (rises place_cmp (keys_of c.self.inside.keys) c.above.ensures.ordered) (keys_range test c.self.inside.keys _ (c.above.ensures.above ∙ c.in_ok-place.ensures.steps)) c.if-place-group.true)
 
 pub returns-else-place-group : goal.returns-else-place-group
 returns-else-place-group c =
     let test : Place → Bool = range_contains place_cmp (Excluded (c.args.group, c.args.after)) Unbounded in
     let x = c.in_ok-place.place.now in
     let P : List Place → Type 0 = λ l. IsNextKey l c.args.group c.args.after None in
-    subst P c.self.view_is (next_other (keys_of c.self.inside.keys) c.args.group c.args.after x (keys_of c.next.new.self) (rises place_cmp (keys_of c.self.inside.keys) c.range.ensures.ordered) (keys_range test c.self.inside.keys _ (c.range.ensures.between ∙ c.in_ok-place.ensures.steps)) c.if-place-group.false)
+    subst P c.self.view_is (next_other (keys_of c.self.inside.keys) c.args.group c.args.after x (keys_of c.next.new.self) (rises place_cmp (keys_of c.self.inside.keys) c.above.ensures.ordered) (keys_range test c.self.inside.keys _ (c.above.ensures.above ∙ c.in_ok-place.ensures.steps)) c.if-place-group.false)

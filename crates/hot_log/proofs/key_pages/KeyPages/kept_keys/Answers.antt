@@ -15,11 +15,11 @@ loop-key-preserved-in-Continue-1 c =
     let b = c.args.book.now in let m = c.self.inside.map in
     let xs : List Entry = map deref_pair c.loop-key.yielded in
     let x : Entry = (c.in-Some.key.now, c.in-Some.field-0-1.now) in
-    let es = c.range-key-items.result in
+    let es = c.above-key-items.result in
     let start : c.into_iter-key-iterator.result ≡ es = cc in
     let split : es ≡ xs ++ x ∷ c.next.new.self =
     sym start ∙ rest_so_far deref_pair c.loop-key.yielded c.into_iter-key-iterator.result c.loop-key.key-iterator c.loop-key.yielded_by ∙ ap (λ (l : List Entry). xs ++ l) c.in-Some.ensures.steps in
-    let more = kept_more b c.args.point m c.args.above es xs c.next.new.self x c.loop-key.kept.items c.self.invariant (sym c.range-key-items.ensures.between) split c.loop-key.invariant (c.is_kept.ensures.0 c.if-is_kept.true) in
+    let more = kept_more b c.args.point m c.args.above es xs c.next.new.self x c.loop-key.kept.items c.self.invariant (sym c.above-key-items.ensures.above) split c.loop-key.invariant (c.is_kept.ensures.0 c.if-is_kept.true) in
     let joined : map deref_pair (c.loop-key.yielded ++ (c.in-Some.key, c.in-Some.field-0-1) ∷ []) ≡ xs ++ x ∷ [] = rw map-append in
     subst (λ (l : List Entry). ListsKept b c.args.point l c.push.new.self.items) (sym joined)
     (subst (ListsKept b c.args.point (xs ++ x ∷ [])) (sym c.in_ok-push.ensures.items) more)
@@ -38,10 +38,10 @@ returns c =
     let b = c.args.book.now in let m = c.self.inside.map in
     let xs : List Entry = map deref_pair c.loop-key.yielded in
     let keys : List Key = c.loop-key.kept.items in
-    let es = c.range-key-items.result in
+    let es = c.above-key-items.result in
     let start : c.into_iter-key-iterator.result ≡ es = cc in
     let all : es ≡ xs =
     sym start ∙ rest_so_far deref_pair c.loop-key.yielded c.into_iter-key-iterator.result c.loop-key.key-iterator c.loop-key.yielded_by ∙ ap (λ (l : List Entry). xs ++ l) c.in-None.ensures.steps.0 ∙ append-nil xs in
     subst (λ (l : List Entry). Lists KeyBefore (IsKeyKept b l c.args.above c.args.point) keys) c.self.view_is
-    (kept_all b c.args.point m c.args.above es keys (sym c.range-key-items.ensures.between)
+    (kept_all b c.args.point m c.args.above es keys (sym c.above-key-items.ensures.above)
     (subst (λ (l : List Entry). ListsKept b c.args.point l keys) (sym all) c.loop-key.invariant))

@@ -12,7 +12,7 @@ returns-in_err-place c = record {
   next =
       let P : List RecordData → Type 0 = λ l. IsNextRecord l c.args.page c.args.after None in
       subst (λ o. IsNextRecord c.args.self.now c.args.page c.args.after (option_copied o)) (sym c.from_residual.ensures)
-      (subst P c.self.view_is (no_next c.self.inside.map c.args.page c.args.after c.self.invariant (c.range.ensures.between ∙ c.in_err-place.ensures.steps.0)));
+      (subst P c.self.view_is (no_next c.self.inside.map c.args.page c.args.after c.self.invariant (c.above.ensures.above ∙ c.in_err-place.ensures.steps.0)));
   form = subst IsHeld c.self.view_is (held_of c.self.inside.map c.self.invariant);
 }
 
@@ -20,7 +20,7 @@ pub returns-then-place-page-clause-next : goal.returns-then-place-page-clause-ne
 returns-then-place-page-clause-next c =
     let x : Entry = (c.in_ok-place.place.now, c.in_ok-place.redo.now) in
     subst (λ (l : List RecordData). IsNextRecord l c.args.page c.args.after (Some x.1)) c.self.view_is
-    (next_is c.self.inside.map c.args.page c.args.after x c.next.new.self c.self.invariant (c.range.ensures.between ∙ c.in_ok-place.ensures.steps) c.if-place-page.true)
+    (next_is c.self.inside.map c.args.page c.args.after x c.next.new.self c.self.invariant (c.above.ensures.above ∙ c.in_ok-place.ensures.steps) c.if-place-page.true)
 
 pub returns-then-place-page-clause-form : goal.returns-then-place-page-clause-form
 returns-then-place-page-clause-form c = subst IsHeld c.self.view_is (held_of c.self.inside.map c.self.invariant)
@@ -29,7 +29,7 @@ pub returns-else-place-page-clause-next : goal.returns-else-place-page-clause-ne
 returns-else-place-page-clause-next c =
     let x : Entry = (c.in_ok-place.place.now, c.in_ok-place.redo.now) in
     subst (λ (l : List RecordData). IsNextRecord l c.args.page c.args.after None) c.self.view_is
-    (next_elsewhere c.self.inside.map c.args.page c.args.after x c.next.new.self c.self.invariant (c.range.ensures.between ∙ c.in_ok-place.ensures.steps) c.if-place-page.false)
+    (next_elsewhere c.self.inside.map c.args.page c.args.after x c.next.new.self c.self.invariant (c.above.ensures.above ∙ c.in_ok-place.ensures.steps) c.if-place-page.false)
 
 pub returns-else-place-page-clause-form : goal.returns-else-place-page-clause-form
 returns-else-place-page-clause-form c = subst IsHeld c.self.view_is (held_of c.self.inside.map c.self.invariant)

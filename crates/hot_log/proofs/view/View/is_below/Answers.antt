@@ -24,12 +24,12 @@ returns-in-Some c =
     let x = c.in-Some.redo.now in
     let at = c.in-Some.ensures in
     let alive : IsAlive b.cuts b.complete key.epoch key.number = c.if-not-is_alive.ensures.alive.0 refl in (
-      λ (h : IsTrue (nat_lt c.back.result c.args.number)). (x, (at.0, alive_key b x key at.1 alive), at.1, lower c.back.result x.back c.args.number c.back.ensures.value h),
+      λ (h : IsTrue (nat_lt c.back.result c.args.number)). (x, (at.0, alive_key b x key at.2 alive), at.2, at.1, lower c.back.result x.back c.args.number c.back.ensures.value h),
       λ h.
-          let same : h.0 ≡ x = one_key c.args.self.now.held.now c.opens_form.ensures.form.rising h.0 x h.1.0 at.0 (h.2.0 ∙ sym at.1.0) (h.2.1 ∙ sym at.1.1) in
-          let below : x.back < c.args.number = subst (λ (r : RecordData). r.back < c.args.number) same h.3 in
+          let same : h.0 ≡ x = one_key c.args.self.now.held.now c.opens_form.ensures.form.rising h.0 x h.1.0 at.0 (h.2.0 ∙ sym at.2.0) (h.2.1 ∙ sym at.2.1) in
+          let below : x.back < c.args.number = subst (λ (r : RecordData). r.back < c.args.number) same h.4 in
           lower_of c.back.result x.back c.args.number c.back.ensures.value below,
     )
 
 pub returns-in-None : goal.returns-in-None
-returns-in-None c = (λ h. absurd (cc), λ h. absurd (c.in-None.ensures h.0 h.1.0 h.2))
+returns-in-None c = (λ h. absurd (cc), λ h. absurd (c.in-None.ensures h.0 h.1.0 h.3 h.2))

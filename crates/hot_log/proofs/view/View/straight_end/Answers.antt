@@ -8,9 +8,12 @@ use Rattle.redo_core.specs.Shape.{record_fault}
 use Rattle.epoch_book.specs.Book.{BookData, IsBook}
 use Rattle.hot_log.specs.Held.{IsHeld, HasKey}
 use Rattle.hot_log.specs.Alive.{IsHeldAlive, IsAliveOfBack, IsStraightEnd}
+use Rattle.hot_log.specs.Ahead.{AreOnward}
+use Rattle.hot_log.proofs.Beside.{passed_to, stray_before}
 use Rattle.hot_log.proofs.Climb.{from_zero}
 use Rattle.hot_log.proofs.Views.{view_of, number_before}
 use Rattle.hot_log.proofs.Ends.{Climbed, IsStep, step_up, climbed_none, climbed_next, climbed_end, not_over_stray, not_over_fork, step_of, key_after}
+use Rattle.hot_log.proofs.view.View.straight_end.Goals.{then-is_fork-via-then-is_fork, then-is_fork-via-else-is_fork+then-not-is_at}
 use Rattle.hot_log.proofs.view.View.straight_end.Goals as goal
 
 small : (r : RecordData) → record_fault r ≡ None → r.number < 281474976710656
@@ -31,17 +34,21 @@ some_second b held from top n key x (Some next) book form c s k found more end =
     not_over_fork b held from top n x y book form c s found.0.1 found.0.2 (number_before b.cuts b.complete (view_of b book) x y s.alive.1 found.0.1.1 before) end
 
 pub loop-key-init : goal.loop-key-init
-loop-key-init c = climbed_none c.args.self.now.book.now c.args.self.now.held.now c.args.from
+loop-key-init c = record {
+  climbed = climbed_none c.args.self.now.book.now c.args.self.now.held.now c.args.from;
+  ahead = c.keys_on-left.ensures;
+}
 
 pub loop-key-smaller : goal.loop-key-smaller
 loop-key-smaller c =
     let held = c.args.self.now.held.now in
     let top = c.loop-key.top in
     let e = c.in-Some.ensures in
-    let x = e.found.0.0 in
-    let up : top < x.number = step_up c.args.self.now.book.now held top x e.form (step_of c.args.self.now.book.now held top c.in-Some.key e.book e.form e.found) in
-    let fits : x.number < 281474976710656 = small x (e.form.shaped x e.found.0.1.0) in
-    let same : x.number ≡ c.in-Some.key.number = e.found.0.3.1 in
+    let found = e.some.0 in
+    let x = found.0.0 in
+    let up : top < x.number = step_up c.args.self.now.book.now held top x e.form (step_of c.args.self.now.book.now held top c.in-Some.key e.book e.form found) in
+    let fits : x.number < 281474976710656 = small x (e.form.shaped x found.0.1.0) in
+    let same : x.number ≡ c.in-Some.key.number = found.0.3.1 in
     omega arith
 
 pub loop-key-preserved : goal.loop-key-preserved
@@ -51,38 +58,42 @@ loop-key-preserved c =
     let top = c.loop-key.top in
     let key = c.in-Some.key in
     let e = c.in-Some.ensures in
-    let x = e.found.0.0 in
-    let same : x.number ≡ key.number = e.found.0.3.1 in
-    subst (Climbed b held c.args.from) same
-    (climbed_next b held c.args.from top x e.book e.form c.loop-key.invariant (step_of b held top key e.book e.form e.found)
-    (λ h. absurd (let t : IsTrue false = c.if-has_between.ensures.found.1 (h.0, h.1, h.2, subst (λ (n : ℕ). h.0.number < n) same h.3) in cc))
-    (λ r h q lt. none_second b held top key c.alive_of_back-in-Some.result c.alive_of_back-in-Some.ensures.found (sym c.is_some.ensures ∙ c.if-is_some.false)
-    r h q (key_after b held key x r e.book e.form e.found.0.1 e.found.0.3 h lt)))
+    let found = e.some.0 in
+    let second = e.some.1 in
+    let x = found.0.0 in
+    let step = step_of b held top key e.book e.form found in
+    let same : x.number ≡ key.number = found.0.3.1 in
+    let it : c.next_alive.result ≡ Some key = c.if-not-is_at.ensures.0 refl in
+    let next = passed_to b held e.book top c.loop-key.left c.next_alive.new.left key c.next_alive.result x c.loop-key.invariant.ahead c.next_alive.ensures it found.0.1 found.0.3 (step_up b held top x e.form step) in record {
+      climbed = subst (Climbed b held c.args.from) same
+          (climbed_next b held c.args.from top x e.book e.form c.loop-key.invariant.climbed step
+          (λ h. next.1 h.0 h.1 h.2 h.3)
+          (λ r h q lt. none_second b held top key second.0 second.1 (sym second.2 ∙ c.if-is_fork.false)
+          r h q (key_after b held key x r e.book e.form found.0.1 found.0.3 h lt)));
+      ahead = subst (λ (n : ℕ). AreOnward b held n c.next_alive.new.left) same next.0;
+    }
 
-pub returns-then-has_between-clause-none : goal.returns-then-has_between-clause-none
-returns-then-has_between-clause-none c = λ _ n end.
-    let b = c.args.self.now.book.now in
-    let held = c.args.self.now.held.now in
-    let top = c.loop-key.top in
-    let e = c.in-Some.ensures in
-    let x = e.found.0.0 in
-    let same : x.number ≡ c.in-Some.key.number = e.found.0.3.1 in
-    let y = c.if-has_between.ensures.found.0 refl in
-    not_over_stray b held c.args.from top n x y.0 e.form c.loop-key.invariant (step_of b held top c.in-Some.key e.book e.form e.found) y.1 y.2
-    (subst (λ (m : ℕ). y.0.number < m) (sym same) y.3) end
-
-pub returns-then-is_some-clause-none : goal.returns-then-is_some-clause-none
-returns-then-is_some-clause-none c = λ _ n end.
+pub returns-then-is_fork-clause-none : goal.returns-then-is_fork-clause-none
+returns-then-is_fork-clause-none c = λ _ n end.
     let b = c.args.self.now.book.now in
     let held = c.args.self.now.held.now in
     let top = c.loop-key.top in
     let key = c.in-Some.key in
     let e = c.in-Some.ensures in
-    some_second b held c.args.from top n key e.found.0.0 c.alive_of_back-in-Some.result e.book e.form c.loop-key.invariant
-    (step_of b held top key e.book e.form e.found) e.found.0.3 c.alive_of_back-in-Some.ensures.found (sym c.is_some.ensures ∙ c.if-is_some.true) end
+    let found = e.some.0 in
+    let second = e.some.1 in
+    let x = found.0.0 in
+    let step = step_of b held top key e.book e.form found in
+    elim c.then-is_fork.branch [
+      | then-is_fork-via-then-is_fork w ↦ some_second b held c.args.from top n key x second.0 e.book e.form c.loop-key.invariant.climbed step found.0.3 second.1 (sym second.2 ∙ w.if-is_fork.true) end
+      | then-is_fork-via-else-is_fork+then-not-is_at w ↦
+          let other : w.next_alive.result ≡ Some key → ⊥ = λ q. (let t : IsTrue false = w.if-not-is_at.ensures.1 q in cc) in
+          let y = stray_before b held e.book top c.loop-key.left w.next_alive.new.left key w.next_alive.result x c.loop-key.invariant.ahead w.next_alive.ensures other found.0.1 found.0.3 (step_up b held top x e.form step) in
+          not_over_stray b held c.args.from top n x y.0 e.form c.loop-key.invariant.climbed step y.1 y.2 y.3 end
+    ]
 
 pub returns-clause-some : goal.returns-clause-some
 returns-clause-some c =
     let e = c.in_default.ensures in
-    climbed_end c.args.self.now.book.now c.args.self.now.held.now c.args.from c.loop-key.top e.form c.loop-key.invariant
-    (λ r h q. e.found r h q (from_zero c.args.self.now.held.now r e.form h.0))
+    climbed_end c.args.self.now.book.now c.args.self.now.held.now c.args.from c.loop-key.top e.form c.loop-key.invariant.climbed
+    (λ r h q. e.none refl r h q (from_zero c.args.self.now.held.now r e.form h.0))

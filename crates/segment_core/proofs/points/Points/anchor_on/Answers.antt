@@ -1,4 +1,5 @@
-use Rattle.std.proofs.Common.{◌≤◌, refl, sym, subst, arith}
+use Rattle.std.proofs.Common.{refl, arith}
+use Rattle.redo_core.specs.Linked.Linked.{start}
 use Rattle.segment_core.proofs.points.Points.anchor_on.Goals as goal
 
 pub returns-then-min-from : goal.returns-then-min-from
@@ -17,9 +18,10 @@ returns-then-end-min c = (
 pub returns : goal.returns
 returns c = (
   λ h. absurd (omega (arith, h, c.if-min-from.false, c.min_point-min.ensures.value)),
-  λ h. record {
-    linked = c.linked_to.ensures.linked;
-    bound = subst (λ n. c.linked_to.result ≤ n) c.min_point-min.ensures.value c.linked_to.ensures.bound;
-    most = λ m l le. c.linked_to.ensures.greatest m l (subst (λ n. m ≤ n) (sym c.min_point-min.ensures.value) le);
-  },
+  λ h. c.anchor_of_last.ensures c.args.from (record {
+    complete = record { linked = c.requires.linked; most = c.requires.most };
+    anchor = start;
+    bound = h;
+    straight = λ t. c.requires.straight;
+  }) refl,
 )
