@@ -68,7 +68,7 @@ brings_each s (q ∷ rs) t takes =
     }
 
 -- those of a first list are taken, and then the others
-takes_apart : (s u : State) (fs gs : List Fact) → TakesEach s (fs ++ gs) u → (t : State) × TakesEach s fs t × TakesEach t gs u
+pub takes_apart : (s u : State) (fs gs : List Fact) → TakesEach s (fs ++ gs) u → (t : State) × TakesEach s fs t × TakesEach t gs u
 takes_apart s u [] gs takes = (s, refl, takes)
 takes_apart s u (f ∷ fs) gs takes = let rest = takes_apart takes.0 u fs gs takes.2 in (rest.0, (takes.0, takes.1, rest.1), rest.2)
 

@@ -4,6 +4,7 @@ pub mod Comparing
 pub mod Alike
 pub mod Sparing
 pub mod Bringing
+pub mod KeptKnown
 pub mod Telling
 pub mod JoinedStates
 pub mod JoinInLog

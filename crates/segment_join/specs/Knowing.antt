@@ -1,11 +1,14 @@
 -- How one segment comes to know and hold what another one tells.
-use Rattle.std.specs.Prelude.{◌≡◌, ◌⊎◌, List}
+use Rattle.std.specs.Prelude.{◌≡◌, ℕ, ◌⊎◌, List}
 use Rattle.std.specs.List.{Contains}
 use Rattle.redo_core.specs.Data.{RecordData}
 use Rattle.redo_core.specs.declared.keys.Key.{Key}
 use Rattle.redo_core.specs.declared.facts.Fact.{Fact}
+use Rattle.redo_core.specs.declared.facts.Fact.TheVariants.{Record}
 use Rattle.hot_log.specs.Held.{HasKey}
 use Rattle.state_laws.specs.State.{State, SameBase}
+use Rattle.state_laws.specs.Known.{IsKnown}
+use Rattle.state_laws.specs.HasMeaning.{HasAnchor, IsKeptBy}
 use Rattle.segment_core.specs.declared.answers.Refusal.{Refusal}
 use Rattle.segment_told.specs.Told.{AreTold}
 use Rattle.segment_told.specs.InOrder.{TakesEach, RefusesOne}
@@ -20,6 +23,10 @@ pub record TakesAll (old other new : State) : Type 0 where
 -- one of the facts that the other tells is refused
 abbrev pub RefusesAll : State → State → Refusal → Type 0
 RefusesAll old other why = (facts : List Fact) × AreTold other facts × RefusesOne old facts why
+
+-- each record that the other's meaning keeps is known
+abbrev pub KnowsKept : State → State → Type 0
+KnowsKept s other = (anchor : ℕ) (r : RecordData) → HasAnchor other anchor → IsKeptBy other anchor r → IsKnown s (Record r)
 
 -- the other's held record of the key is held, unless it is spared; none that is needless is
 pub record HoldsAt (old other : State) (key : Key) (new : State) : Type 0 where

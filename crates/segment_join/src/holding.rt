@@ -5,15 +5,16 @@ ghost use Rattle.redo_core.specs.Keys.{key_of};
 ghost use Rattle.state_laws.specs.State.{version_of};
 ghost use Rattle.segment_core.specs.Union.{began, reached};
 ghost use Rattle.segment_join.specs.Holding.{IsNeedless, HoldsRest};
-ghost use Rattle.segment_join.specs.Knowing.{HoldsAt};
+ghost use Rattle.segment_join.specs.Knowing.{HoldsAt, KnowsKept};
 ghost use Rattle.segment_join.specs.Newer.{AreNewer};
 
+use crate::missing::keeps;
 use redo_core::Record;
 use segment_core::{BaseImage, Segment, Standing, Union};
 use std::alloc::AllocError;
 
 /// Holds in a segment what another one holds, but for what is dead in the segment's view or folded in one of the two. What the
-/// segment did not hold of it is given.
+/// segment did not hold of it is given, and what the other one keeps of that was taken.
 pub(crate) fn hold_rest(
     union: &mut Union<'_>,
     other: &Segment,
@@ -21,6 +22,7 @@ pub(crate) fn hold_rest(
 ) -> Result<(), AllocError>
     requires known { (r : RecordData) → Contains other.now.held r → Contains (reached union.old).held r ⊎ Contains (map (λ x. x.now) missing.now) r }
     requires held { (r : RecordData) → Contains (map (λ x. x.now) missing.now) r → Contains other.now.held r }
+    requires taken { KnowsKept (reached union.old) other.now }
     ensures holds { OnOk result (HoldsRest (reached union.old) other.now (reached union.new)) }
     ensures began { began union.new ≡ began union.old }
 {
@@ -34,13 +36,17 @@ pub(crate) fn hold_rest(
 
 /// Holds the other segment's record, where the segment holds none under its key.
 fn hold_one(union: &mut Union<'_>, other: &Segment, redo: &Record) -> Result<(), AllocError>
-    requires { Contains other.now.held redo.now }
+    requires held { Contains other.now.held redo.now }
+    requires taken { KnowsKept (reached union.old) other.now }
     ensures holds { OnOk result (HoldsAt (reached union.old) other.now (key_of redo.now) (reached union.new)) }
     ensures began { began union.new ≡ began union.old }
 {
     // At most one record stands under a key.
     other.opens_form();
-    // Much of what is missing was folded in the segment, and no look-up is spent on it.
+    // Much of what is missing was taken just now, or was folded in the segment, and no look-up is spent on it.
+    if is_taken(union.segment(), other, redo) {
+        return Ok(());
+    }
     if is_needless(union.segment(), other, redo) {
         return Ok(());
     }
@@ -48,6 +54,16 @@ fn hold_one(union: &mut Union<'_>, other: &Segment, redo: &Record) -> Result<(),
         return Ok(());
     }
     union.hold(redo.copy()?)
+}
+
+/// Whether both segments keep a record that the other one holds. The segment has taken all that the other one keeps, so it then holds
+/// the record too. That is told by comparing alone.
+fn is_taken(segment: &Segment, other: &Segment, redo: &Record) -> bool
+    requires held { Contains other.now.held redo.now }
+    requires taken { KnowsKept segment.now other.now }
+    ensures { IsTrue result → Contains segment.now.held redo.now }
+{
+    segment.keeps(redo.key(), segment.anchor()) && keeps(other, other.anchor(), redo)
 }
 
 /// Whether a segment needs no copy of another one's record: it is dead in the segment's view, or does not wait in it and is folded in

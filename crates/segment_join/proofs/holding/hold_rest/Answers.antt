@@ -3,7 +3,9 @@ use Rattle.std.proofs.Math.ListN.{get_or-map}
 use Rattle.std.proofs.lemmas.List.{length-map}
 use Rattle.redo_core.specs.Data.{RecordData}
 use Rattle.redo_core.proofs.Members.{item}
+use Rattle.segment_core.specs.Union.{reached}
 use Rattle.segment_join.proofs.Sparing.{first_next, first_all}
+use Rattle.segment_join.proofs.KeptKnown.{knows_more}
 use Rattle.segment_join.proofs.holding.hold_rest.Goals as goal
 
 pub loop-redo-preserved : goal.loop-redo-preserved
@@ -15,6 +17,11 @@ loop-redo-preserved c =
           (c.requires.held x.now (item (map now rs) i x.now lt is)) c.loop-redo.invariant.0 c.in_ok-hold_one.ensures.holds,
       c.hold_one.ensures.began ∙ c.loop-redo.invariant.1,
     )
+
+pub hold_one-requires-clause-taken : goal.hold_one-requires-clause-taken
+hold_one-requires-clause-taken c =
+    let first = c.loop-redo.invariant.0 in
+    knows_more (reached c.args.union.now) _ c.args.other.now (record { book = first.book; rest = first.rest; before = first.before }) c.requires.taken
 
 pub returns-clause-holds : goal.returns-clause-holds
 returns-clause-holds c =

@@ -4,6 +4,7 @@ use Rattle.redo_core.specs.Data.{RecordData}
 use Rattle.state_laws.specs.State.{State}
 use Rattle.segment_told.proofs.BookTaken.{late_of}
 use Rattle.segment_join.proofs.LeavingOut.{settled_held}
+use Rattle.segment_join.proofs.KeptKnown.{knows_taken}
 use Rattle.segment_told.proofs.TakingAll.{leaves_all}
 use Rattle.segment_core.specs.Form.{IsSegment}
 use Rattle.segment_core.specs.Union.{reached}
@@ -24,3 +25,6 @@ hold_rest-requires-clause-known c = λ r has.
 pub hold_rest-requires-clause-held : goal.hold_rest-requires-clause-held
 hold_rest-requires-clause-held c = λ r h.
     ((c.in_ok-missing.ensures.members r).0 (subst (λ (rs : List (Bor RecordData)). Contains (map (λ x. x.now) rs) r) c.deref-2.ensures.value h)).0
+
+pub hold_rest-requires-clause-taken : goal.hold_rest-requires-clause-taken
+hold_rest-requires-clause-taken c = knows_taken (reached c.args.union.now) _ (reached c.take_all.new.union) c.in_default.ensures.takes
