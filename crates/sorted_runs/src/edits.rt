@@ -3,7 +3,7 @@ ghost use Rattle.std.specs.Global.{Vec};
 ghost use Rattle.sorted_runs.specs.Edits.{IsShaped, GainsAt, LosesAt, Splits};
 ghost use Rattle.sorted_runs.specs.Rows.{entries};
 
-use crate::placing::{put_in, take_from};
+use crate::placing::put_in;
 use std::alloc::{AllocError, AllocFailed, Global};
 use std::mem::replace;
 
@@ -37,7 +37,7 @@ pub(crate) fn take_out<K: Copy + Drop, V: Drop>(
     ensures loses { (d : Vec (K × V)) → LosesAt runs.old.items r at d runs.new.items }
 {
     let run = &mut runs[r];
-    let (_, value) = take_from(run, at);
+    let (_, value) = run.remove(at);
     if run.is_empty() {
         let _ = runs.remove(r);
         let _ = firsts.remove(r);

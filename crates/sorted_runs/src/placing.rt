@@ -1,5 +1,5 @@
-ghost use Rattle.std.specs.Prelude.{◌≡◌, ◌<◌, ◌≤◌, [], ◌∷◌, ◌++◌, length, is_ok, if◌then◌else◌, slice_index_or, IfErr, IsOk, vec_len, vec_capacity};
-ghost use Rattle.std.specs.List.{insert, remove};
+ghost use Rattle.std.specs.Prelude.{◌≡◌, ◌<◌, ◌≤◌, length, is_ok, if◌then◌else◌, IfErr, IsOk, vec_len, vec_capacity};
+ghost use Rattle.std.specs.List.{insert};
 
 use std::alloc::AllocFailed;
 
@@ -16,22 +16,4 @@ pub fn put_in<T>(list: &mut Vec<T>, at: usize, element: T) -> Result<(), AllocFa
     list.push(element)?;
     list[at..].rotate_right(1);
     Ok(())
-}
-
-// Takes the element at a place out of a list, by one move of memory as well.
-pub(crate) fn take_from<T>(list: &mut Vec<T>, at: usize) -> T
-    requires { at < length list.old.items }
-    ensures items { list.new.items ≡ remove list.old.items at }
-    ensures element { result ≡ slice_index_or list.old.items at result }
-{
-    put_last(list, at);
-    list.pop().unwrap()
-}
-
-// Moves the element at a place behind all others.
-fn put_last<T>(list: &mut [T], at: usize)
-    requires { at < length list.old }
-    ensures { (d : T) → list.new ≡ remove list.old at ++ slice_index_or list.old at d ∷ [] }
-{
-    list[at..].rotate_left(1);
 }

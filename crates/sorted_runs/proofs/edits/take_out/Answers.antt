@@ -7,21 +7,21 @@ use Rattle.sorted_runs.proofs.edits.take_out.Goals as goal
 
 pub returns-else-at-eq0-clause-loses : goal.returns-else-at-eq0-clause-loses
 returns-else-at-eq0-clause-loses g c =
-    λ d. lost c.args.firsts.now.items c.args.runs.now.items c.args.r c.args.at c.index_mut-run.result.now c.take_from-value.new.list c.requires.shaped c.requires.within c.index_mut-run.ensures.value (c.requires.place c.index_mut-run.result.now) c.take_from-value.ensures.items d
+    λ d. lost c.args.firsts.now.items c.args.runs.now.items c.args.r c.args.at c.index_mut-run.result.now c.remove-value.new.self c.requires.shaped c.requires.within c.index_mut-run.ensures.value (c.requires.place c.index_mut-run.result.now) c.remove-value.ensures.items d
 
 pub returns-then-at-eq0-clause-loses : goal.returns-then-at-eq0-clause-loses
 returns-then-at-eq0-clause-loses g c =
-    λ d. lost c.args.firsts.now.items c.args.runs.now.items c.args.r c.args.at c.index_mut-run.result.now c.take_from-value.new.list c.requires.shaped c.requires.within c.index_mut-run.ensures.value (c.requires.place c.index_mut-run.result.now) c.take_from-value.ensures.items d
+    λ d. lost c.args.firsts.now.items c.args.runs.now.items c.args.r c.args.at c.index_mut-run.result.now c.remove-value.new.self c.requires.shaped c.requires.within c.index_mut-run.ensures.value (c.requires.place c.index_mut-run.result.now) c.remove-value.ensures.items d
 
 pub returns-else-at-eq0-clause-shaped : goal.returns-else-at-eq0-clause-shaped
 returns-else-at-eq0-clause-shaped g c =
-    lost_behind c.args.firsts.now.items c.args.runs.now.items c.args.r c.args.at c.index_mut-run.result.now c.take_from-value.new.list c.requires.shaped c.requires.within c.index_mut-run.ensures.value (c.requires.place c.index_mut-run.result.now) c.take_from-value.ensures.items (λ e. let n = c.if-at-eq0.false in absurd (omega arith))
+    lost_behind c.args.firsts.now.items c.args.runs.now.items c.args.r c.args.at c.index_mut-run.result.now c.remove-value.new.self c.requires.shaped c.requires.within c.index_mut-run.ensures.value (c.requires.place c.index_mut-run.result.now) c.remove-value.ensures.items (λ e. let n = c.if-at-eq0.false in absurd (omega arith))
 
 pub returns-then-at-eq0-clause-shaped : goal.returns-then-at-eq0-clause-shaped
 returns-then-at-eq0-clause-shaped g c =
-    let e = c.take_from-value.new.list.ok in
-    let z : 0 < length c.take_from-value.new.list.items = grind (arith, nat_tests) in
-    lost_first c.args.firsts.now.items c.args.runs.now.items c.args.r c.args.at c.index_mut-run.result.now c.take_from-value.new.list c.requires.shaped c.requires.within c.index_mut-run.ensures.value (c.requires.place c.index_mut-run.result.now) c.take_from-value.ensures.items c.index.result.now z c.index.ensures
+    let e = c.remove-value.new.self.ok in
+    let z : 0 < length c.remove-value.new.self.items = grind (arith, nat_tests) in
+    lost_first c.args.firsts.now.items c.args.runs.now.items c.args.r c.args.at c.index_mut-run.result.now c.remove-value.new.self c.requires.shaped c.requires.within c.index_mut-run.ensures.value (c.requires.place c.index_mut-run.result.now) c.remove-value.ensures.items c.index.result.now z c.index.ensures
 
 pub index_mut-requires : goal.index_mut-requires
 index_mut-requires g c =
@@ -39,12 +39,12 @@ remove-requires-then-is_empty g c =
 
 pub returns-then-is_empty-clause-shaped : goal.returns-then-is_empty-clause-shaped
 returns-then-is_empty-clause-shaped g c =
-    let e = c.take_from-value.new.list.ok in
-    let z : length c.take_from-value.new.list.items ≡ 0 = grind (arith, nat_tests) in
-    rw (c.remove-then-is_empty.ensures.items, c.remove.ensures.items) (lost_run c.args.firsts.now.items c.args.runs.now.items c.args.r c.args.at c.index_mut-run.result.now c.take_from-value.new.list c.requires.shaped c.requires.within c.index_mut-run.ensures.value (c.requires.place c.index_mut-run.result.now) c.take_from-value.ensures.items z)
+    let e = c.remove-value.new.self.ok in
+    let z : length c.remove-value.new.self.items ≡ 0 = grind (arith, nat_tests) in
+    rw (c.remove-then-is_empty.ensures.items, c.remove.ensures.items) (lost_run c.args.firsts.now.items c.args.runs.now.items c.args.r c.args.at c.index_mut-run.result.now c.remove-value.new.self c.requires.shaped c.requires.within c.index_mut-run.ensures.value (c.requires.place c.index_mut-run.result.now) c.remove-value.ensures.items z)
 
 pub returns-then-is_empty-clause-loses : goal.returns-then-is_empty-clause-loses
 returns-then-is_empty-clause-loses g c =
-    let e = c.take_from-value.new.list.ok in
-    let z : length c.take_from-value.new.list.items ≡ 0 = grind (arith, nat_tests) in
-    λ d. ap (λ l. entries l) c.remove.ensures.items ∙ lost_last c.args.firsts.now.items c.args.runs.now.items c.args.r c.args.at c.index_mut-run.result.now c.take_from-value.new.list c.requires.shaped c.requires.within c.index_mut-run.ensures.value (c.requires.place c.index_mut-run.result.now) c.take_from-value.ensures.items z d
+    let e = c.remove-value.new.self.ok in
+    let z : length c.remove-value.new.self.items ≡ 0 = grind (arith, nat_tests) in
+    λ d. ap (λ l. entries l) c.remove.ensures.items ∙ lost_last c.args.firsts.now.items c.args.runs.now.items c.args.r c.args.at c.index_mut-run.result.now c.remove-value.new.self c.requires.shaped c.requires.within c.index_mut-run.ensures.value (c.requires.place c.index_mut-run.result.now) c.remove-value.ensures.items z d
