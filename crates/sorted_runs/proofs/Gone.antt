@@ -34,14 +34,14 @@ module _ {X : Type 0} where
   cut_twice : (xs : List X) (p q r : ℕ) → p ≤ q → q ≤ length xs → remove_range (remove_range xs q r) p q ≡ remove_range xs p r
   cut_twice xs p q r le in_range = ap (λ l. l ++ drop q (remove_range xs q r)) (take_in xs (drop r xs) p q le in_range) ∙ ap (λ l. take p xs ++ l) (drop_in xs (drop r xs) q in_range)
 
-  long_range : (xs : List X) (p q : ℕ) → p ≤ q → q ≤ length xs → length (remove_range xs p q) + (q - p) ≡ length xs
+  pub long_range : (xs : List X) (p q : ℕ) → p ≤ q → q ≤ length xs → length (remove_range xs p q) + (q - p) ≡ length xs
   long_range xs p q le in_range =
       let a = length-append (take p xs) (drop q xs) in
       let b = take_long xs p (omega arith) in
       let c = long_drop xs q in_range in
       omega arith
 
-  none_left : (xs : List X) → length xs ≡ 0 → [] ≡ xs
+  pub none_left : (xs : List X) → length xs ≡ 0 → [] ≡ xs
   none_left [] e = refl
   none_left (x ∷ xs) e = absurd (omega arith)
 

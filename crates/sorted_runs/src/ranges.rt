@@ -1,4 +1,4 @@
-ghost use Rattle.std.specs.Prelude.{◌≡◌, ◌+◌, ◌<◌, ◌≤◌, length, max, take, slice_index_or};
+ghost use Rattle.std.specs.Prelude.{◌≡◌, ◌+◌, ◌-◌, ◌<◌, ◌≤◌, length, max, take, slice_index_or};
 ghost use Rattle.std.specs.Global.{Vec};
 ghost use Rattle.std.specs.List.{remove_range};
 ghost use Rattle.sorted_runs.specs.Edits.{IsShaped, offset, LosesBetween};
@@ -113,11 +113,24 @@ fn cut_run<K: Copy + Drop, V: Drop>(
     len - (to - from)
 }
 
-// Takes elements out of a row.
+// Takes elements out of a row. `Vec::drain` says the same, and turns what is behind them through a room of 4 KB that it fills with zeros.
 fn cut<T: Drop>(row: &mut Vec<T>, from: usize, to: usize)
     requires rising { from ≤ to }
     requires within { to ≤ length row.old.items }
     ensures { row.new.items ≡ remove_range row.old.items from to }
 {
-    row.drain(from..to);
+    let left = row.len() - (to - from);
+    close_up(row, from, to - from);
+    row.truncate(left);
+}
+
+// Brings what stands behind a gap down to where the gap begins; what stood in the gap is then the end of the row.
+fn close_up<T>(row: &mut [T], from: usize, gap: usize)
+    requires { from + gap ≤ length row.old }
+    ensures len { length row.new ≡ length row.old }
+    ensures closed { take (length row.old - gap) row.new ≡ remove_range row.old from (from + gap) }
+{
+    for place in from..row.len() - gap {
+        row.swap(place, place + gap);
+    }
 }
