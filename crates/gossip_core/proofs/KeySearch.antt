@@ -1,6 +1,6 @@
 -- What a binary search finds among rising keys.
-use Rattle.std.proofs.Common.{◌≡◌, ◌↔◌, ℕ, ◌<◌, ◌≤◌, ◌⊎◌, ⊎_elim, List, length, get_or, refl, sym, subst, arith, true, false, IsTrue, Result, Ok, Err}
-use Rattle.std.specs.List.{Contains}
+use Rattle.std.proofs.Common.{◌≡◌, ◌↔◌, ℕ, ◌+◌, ◌-◌, ◌<◌, ◌≤◌, ◌⊎◌, ⊎_elim, List, length, length-take, length-drop, get_or, take, drop, refl, sym, ap, ◌∙◌, subst, arith, true, false, IsTrue, Result, Ok, Err}
+use Rattle.std.specs.List.{All, Contains}
 use Rattle.std.specs.List.Sorted.{IsSearchInRange, IsBinarySearchResult, IsNonDecreasingBy}
 use Rattle.std.specs.Ordering.{nat_cmp, ordering_index, MatchOrdering}
 use Rattle.std.specs.Result.{is_ok}
@@ -9,7 +9,9 @@ use Rattle.redo_core.specs.Order.{IsRising}
 use Rattle.redo_core.specs.Keys.{key_cmp, KeyBefore}
 use Rattle.redo_core.specs.declared.keys.Key.{Key}
 use Rattle.redo_core.proofs.Pairs.{pair_apart, pair_trans}
-use Rattle.redo_core.proofs.Rising.{rising_by}
+use Rattle.std.proofs.lemmas.List.{get_or-take, get_or-drop, get_or_default}
+use Rattle.std.proofs.lemmas.List.Elements.{All-contains}
+use Rattle.redo_core.proofs.Rising.{rising_by, rising_at, side}
 use Rattle.gossip_core.proofs.Parts.{one_key}
 use Rattle.epoch_book.proofs.Places.{rank_le, at_less, at_equal, at_greater, then_at, turned}
 
@@ -54,3 +56,28 @@ key_found ks x (Err i) rise l h =
           (at_greater (key_cmp (get_or ks has.0 x) x) _ _ _ (key_ranked (get_or ks has.0 x) x) (parted.1 has.0 x high has.1))))
           (let t : (has.0 < i) ⊎ (i ≤ has.0) = grind arith in t)),
     )
+
+-- rising keys in front of a place are below what the last of them is below
+pub all_below : (ks : List Key) (i : ℕ) (x e : Key) → IsRising KeyBefore ks → 0 < i → i ≤ length ks → KeyBefore (get_or ks (i - 1) e) x → All (λ k. KeyBefore k x) (take i ks)
+all_below ks i x e rise some le last = λ j d lt.
+    let low : j < i = omega (arith, length-take i ks) in
+    subst (λ k. KeyBefore k x) (sym (get_or-take i ks j d low)) (⊎_elim
+    (λ (q : j < i - 1). pair_trans _ _ _ _ _ _ (rising_at KeyBefore ks j (i - 1) d e rise q (omega arith)) last)
+    (λ (q : j ≡ i - 1). subst (λ k. KeyBefore k x) (sym (ap (λ n. get_or ks n d) q ∙ get_or_default ks (i - 1) d e (omega arith))) last)
+    (let t : (j < i - 1) ⊎ (j ≡ i - 1) = grind arith in t))
+
+-- rising keys from a place on are above what the first of them is above
+pub all_above : (ks : List Key) (i : ℕ) (x e : Key) → IsRising KeyBefore ks → i < length ks → KeyBefore x (get_or ks i e) → All (KeyBefore x) (drop i ks)
+all_above ks i x e rise some first = λ j d lt.
+    let high : i + j < length ks = omega (arith, length-drop i ks) in
+    subst (λ k. KeyBefore x k) (sym (get_or-drop i ks j d)) (⊎_elim
+    (λ (q : 0 < j). pair_trans _ _ _ _ _ _ first (rising_at KeyBefore ks i (i + j) e d rise (omega arith) high))
+    (λ (q : i ≡ i + j). subst (λ k. KeyBefore x k) (get_or_default ks i e d some ∙ ap (λ n. get_or ks n d) q) first)
+    (let t : (0 < j) ⊎ (i ≡ i + j) = grind arith in t))
+
+-- a key between both is none of them
+pub not_among : (ks : List Key) (i : ℕ) (x : Key) → All (λ k. KeyBefore k x) (take i ks) → All (KeyBefore x) (drop i ks) → Contains ks x → ⊥
+not_among ks i x low high has = ⊎_elim
+    (λ u. never x (All-contains (λ k. KeyBefore k x) (take i ks) x low u))
+    (λ u. never x (All-contains (KeyBefore x) (drop i ks) x high u))
+    (side i ks x has)

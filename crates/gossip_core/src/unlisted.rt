@@ -1,6 +1,6 @@
 //! The held records that a summary does not list.
-ghost use Rattle.std.specs.Prelude.{◌↔◌, IsTrue, IfOk};
-ghost use Rattle.std.specs.List.{Contains};
+ghost use Rattle.std.specs.Prelude.{◌↔◌, IsTrue, IfOk, take, drop};
+ghost use Rattle.std.specs.List.{All, Contains};
 ghost use Rattle.std.specs.Option.{option_copied};
 ghost use Rattle.redo_core.specs.Order.{IsRising, Lists, RecordBefore};
 ghost use Rattle.redo_core.specs.Keys.{KeyBefore};
@@ -51,7 +51,7 @@ fn unlisted_at<'a>(segment: &'a Segment, keys: &[Key], place: usize, key: Key) -
     segment.get(key)
 }
 
-/// Whether a key is among keys that rise. It is looked for at a place first.
+/// Whether a key is among keys that rise. It is looked for at a place first, and on both sides of it.
 fn is_listed(keys: &[Key], place: usize, key: Key) -> bool
     requires { IsRising KeyBefore keys.now }
     ensures { IsTrue result ↔ Contains keys.now key }
@@ -59,5 +59,24 @@ fn is_listed(keys: &[Key], place: usize, key: Key) -> bool
     if place < keys.len() && keys[place] == key {
         return true;
     }
+    if are_below(keys, place, key) && are_above(keys, place, key) {
+        return false;
+    }
     keys.binary_search(&key).is_ok()
+}
+
+/// Whether rising keys in front of a place are seen to be below a key: the last of them is.
+fn are_below(keys: &[Key], place: usize, key: Key) -> bool
+    requires { IsRising KeyBefore keys.now }
+    ensures { IsTrue result → All (λ k. KeyBefore k key) (take place keys.now) }
+{
+    place == 0 || (place <= keys.len() && keys[place - 1] < key)
+}
+
+/// Whether rising keys from a place on are above a key: the first of them is.
+fn are_above(keys: &[Key], place: usize, key: Key) -> bool
+    requires { IsRising KeyBefore keys.now }
+    ensures { IsTrue result → All (KeyBefore key) (drop place keys.now) }
+{
+    place >= keys.len() || key < keys[place]
 }

@@ -1,9 +1,9 @@
-use Rattle.std.proofs.Common.{◌≡◌, ◌↔◌, IsTrue, get_or, refl, sym, ◌∙◌, subst}
+use Rattle.std.proofs.Common.{◌≡◌, ◌↔◌, IsTrue, get_or, refl, sym, ◌∙◌, subst, false, true}
 use Rattle.std.specs.List.{Contains}
 use Rattle.redo_core.specs.Keys.{key_in}
 use Rattle.redo_core.specs.declared.keys.Key.{Key}
 use Rattle.gossip_core.proofs.Accounting.{any_default, are_one}
-use Rattle.gossip_core.proofs.KeySearch.{key_found}
+use Rattle.gossip_core.proofs.KeySearch.{key_found, not_among}
 use Rattle.gossip_core.proofs.unlisted.is_listed.Goals as goal
 
 pub returns-then-eq : goal.returns-then-eq
@@ -17,3 +17,8 @@ pub returns : goal.returns
 returns c =
     subst (λ b. IsTrue b ↔ Contains c.args.keys.now c.args.key) (sym c.is_ok.ensures.value)
     (key_found c.args.keys.now c.args.key c.binary_search.result c.requires c.binary_search.ensures.bound c.binary_search.ensures.position)
+
+pub returns-then-are_above : goal.returns-then-are_above
+returns-then-are_above c =
+    let none = not_among c.args.keys.now c.args.place c.args.key (c.are_below.ensures c.if-are_below.true) (c.are_above.ensures c.if-are_above.true) in
+    (λ (h : false ≡ true). absurd (cc), λ h. absurd (none h))
