@@ -1,6 +1,5 @@
 -- The first element of a list that fails a test, and how the standing of a key tells whether it is accounted for.
-use Rattle.std.proofs.Common.{◌≡◌, ℕ, ◌<◌, inl, inr, ⊎_elim, List, [], ◌∷◌, zero, suc, length, get_or, take, Bool, true, false, eqb, ◌&&◌, refl, sym, ap, subst, ◌∙◌, arith}
-use Rattle.std.proofs.lemmas.Bool.{eqb-true}
+use Rattle.std.proofs.Common.{◌≡◌, ℕ, ◌<◌, inl, inr, ⊎_elim, List, [], ◌∷◌, zero, suc, length, get_or, take, sym, ap, subst, ◌∙◌, arith}
 use Rattle.std.specs.List.{All, AllByRecursion, Contains}
 use Rattle.redo_core.specs.Order.{IsRising, IsFirst}
 use Rattle.redo_core.specs.Keys.{key_of}
@@ -11,7 +10,6 @@ use Rattle.state_laws.specs.HasMeaning.{IsKeptBy}
 use Rattle.gossip_core.specs.Answering.{IsCovered}
 use Rattle.hot_log.specs.Kept.{ListsKeysOf}
 use Rattle.redo_laws.proofs.Meanings.{from_map}
-use Rattle.gossip_core.proofs.Parts.{one_key}
 
 each_of : {X : Type 0} (P : X → Type 0) (xs : List X) → AllByRecursion P xs → (x : X) → Contains xs x → P x
 each_of P [] all x h = absurd (none_in x h)
@@ -40,23 +38,6 @@ first_fails Before P (y ∷ ys) (suc i) x rising lt is seen fails =
           (λ (t : Contains ys z). rest.least z (t, h.1))
           (which y ys z h.0);
     }
-
--- within a list the element at a place is the same whatever stands for one beyond it
-pub any_default : {X : Type 0} (xs : List X) (i : ℕ) (x y : X) → i < length xs → get_or xs i x ≡ get_or xs i y
-any_default [] i x y lt = absurd (omega (arith, lt))
-any_default (z ∷ zs) zero x y lt = refl
-any_default (z ∷ zs) (suc i) x y lt = any_default zs i x y (omega (arith, lt))
-
--- two keys that are told to be equal are one
-both : (p q : Bool) → (p && q) ≡ true → (p ≡ true) × (q ≡ true)
-both true true h = (refl, refl)
-both true false h = absurd (cc)
-both false q h = absurd (cc)
-
-pub are_one : (k l : Key) → (eqb k.epoch l.epoch && eqb k.number l.number) ≡ true → k ≡ l
-are_one k l same =
-    let parts = both (eqb k.epoch l.epoch) (eqb k.number l.number) same in
-    one_key k l (eqb-true k.epoch l.epoch parts.0) (eqb-true k.number l.number parts.1)
 
 -- a kept key is accounted for
 pub kept_is_covered : (s : State) (anchor : ℕ) (keys : List Key) → ListsKeysOf (IsKeptBy s anchor) keys → (key : Key) → Contains keys key

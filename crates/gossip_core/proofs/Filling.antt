@@ -20,13 +20,13 @@ use Rattle.state_laws.specs.Gossip.{IsListed, IsDeltaFor, ReplyFills}
 use Rattle.gossip_core.specs.Answering.{listing_of}
 use Rattle.gossip_core.specs.Absorbing.{filling_of}
 use Rattle.gossip_core.specs.Replying.{IsSent, SendsRecords, SendsPages, AnswersSummary, FillsSummary}
-use Rattle.gossip_core.proofs.Parts.{one_key}
+use Rattle.hot_log.proofs.KeySearch.{same_key}
 
 listed_or_not : (keys : List Key) (r : RecordData) → Contains keys (key_of r) ⊎ (Contains keys (key_of r) → ⊥)
 listed_or_not keys r =
     let P : Key → Type 0 = λ k. (k.epoch ≡ r.epoch) × (k.number ≡ r.number) in
     ⊎_elim
-    (λ (t : (k : Key) × Contains keys k × P k). inl (subst (Contains keys) (let p : P t.0 = t.2 in one_key t.0 (key_of r) p.0 p.1) t.1))
+    (λ (t : (k : Key) × Contains keys k × P k). inl (subst (Contains keys) (let p : P t.0 = t.2 in same_key t.0 (key_of r) p.0 p.1) t.1))
     (λ (no : (k : Key) → Contains keys k → P k → ⊥). inr (λ has. no (key_of r) has (refl, refl)))
     (some_or_none P (λ k. settled_and _ _ (settled_eq k.epoch r.epoch) (λ _. settled_eq k.number r.number)) keys)
 

@@ -1,7 +1,5 @@
 pub mod Parts
 pub mod Summed
-pub mod KeySearch
-pub mod Sending
 pub mod Broken
 pub mod Filling
 pub mod Accounting

@@ -15,7 +15,7 @@ use Rattle.gossip_core.specs.declared.absorbing.AbsorbRefusal.{AbsorbRefusal}
 use Rattle.gossip_core.specs.declared.absorbing.AbsorbRefusal.TheVariants.{Uncovered, Refused}
 use Rattle.gossip_core.specs.Answering.{IsCovered, IsUncoveredKey, IsUncovered}
 use Rattle.gossip_core.specs.Absorbing.{Answers, IsOfOther, RefusesTold, RefusesAbsorb}
-use Rattle.gossip_core.proofs.KeySearch.{apart}
+use Rattle.hot_log.proofs.KeySearch.{apart}
 
 one_first : (P : Key → Type 0) (k l : Key) → IsFirst KeyBefore P k → IsFirst KeyBefore P l → k ≡ l
 one_first P k l a b =

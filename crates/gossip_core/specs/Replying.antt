@@ -1,5 +1,5 @@
 -- What a reply to a summary sends.
-use Rattle.std.specs.Prelude.{◌≡◌, ◌≢◌, ℕ, ◌<◌, ◌≤◌, ◌⊎◌, min, List, [], Option, Some, None}
+use Rattle.std.specs.Prelude.{◌≡◌, ◌≢◌, ℕ, ◌<◌, ◌≤◌, min, List, []}
 use Rattle.std.specs.List.{Contains}
 use Rattle.redo_core.specs.Data.{RecordData}
 use Rattle.redo_core.specs.Keys.{key_of}
@@ -12,7 +12,6 @@ use Rattle.redo_core.specs.Sound.{IsSound}
 use Rattle.redo_core.specs.declared.facts.Fact.{Fact}
 use Rattle.messages.specs.Summaries.{SummaryData}
 use Rattle.messages.specs.Deltas.{DeltaData}
-use Rattle.hot_log.specs.Held.{IsRecordAt}
 use Rattle.state_laws.specs.State.{State}
 use Rattle.state_laws.specs.Means.{MeansAt}
 use Rattle.state_laws.specs.Shows.{Shows}
@@ -29,11 +28,6 @@ use Rattle.gossip_core.specs.Absorbing.{filling_of}
 -- a held record is sent where it waits, or is alive above a point, and its key is not listed
 abbrev pub IsSent : State → ℕ → List Key → RecordData → Type 0
 IsSent s point keys r = IsKeptBy s point r × (Contains keys (key_of r) → ⊥)
-
--- the held record of a key that is not listed, or none where the key is listed or no record of it is held
-abbrev pub IsUnlistedAt : List RecordData → List Key → Key → Option RecordData → Type 0
-IsUnlistedAt held keys key None = Contains keys key ⊎ IsRecordAt held key None
-IsUnlistedAt held keys key (Some r) = (Contains keys key → ⊥) × IsRecordAt held key (Some r)
 
 -- ---- the pages
 

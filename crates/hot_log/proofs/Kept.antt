@@ -155,7 +155,7 @@ records_rise (r ∷ rs) rising = (
 )
 
 -- what waits, or is alive above a point, has a key above the one that parts the alive records there
-past_parts : (b : BookData) (point epoch : ℕ) (k : Key) → PartsAt b point epoch → epoch ≤ b.complete → KeepsKey b point k → KeyBefore (key_in epoch point) k
+pub past_parts : (b : BookData) (point epoch : ℕ) (k : Key) → PartsAt b point epoch → epoch ≤ b.complete → KeepsKey b point k → KeyBefore (key_in epoch point) k
 past_parts b point epoch k parts known keeps = ⊎_elim
     (λ (waits : IsWaiting b.complete k.epoch). inl (omega (arith, waits, known)))
     (λ (alive : IsAlive b.cuts b.complete k.epoch k.number × (point < k.number)). (parts.0 k.epoch k.number alive.0).0 alive.1)

@@ -24,3 +24,5 @@ pub mod Gone
 pub mod Rows
 pub mod Opening
 pub mod Beside
+pub mod Walk
+pub mod KeySearch

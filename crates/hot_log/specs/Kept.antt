@@ -16,6 +16,10 @@ KeepsKey b point key = IsWaiting b.complete key.epoch ⊎ (IsAlive b.cuts b.comp
 abbrev pub IsKeptAbove : BookData → List RecordData → ℕ → RecordData → Type 0
 IsKeptAbove b held point r = Contains held r × (IsWaiting b.complete r.epoch ⊎ (IsAlive b.cuts b.complete r.epoch r.number × (point < r.number)))
 
+-- such a record whose key is not listed
+abbrev pub IsKeptUnlisted : BookData → List RecordData → ℕ → List Key → RecordData → Type 0
+IsKeptUnlisted b held point keys r = IsKeptAbove b held point r × (Contains keys (key_of r) → ⊥)
+
 -- the keys of just the records with P, in the order of the keys
 pub record ListsKeysOf (P : RecordData → Type 0) (keys : List Key) : Type 0 where
   pub kept : List RecordData

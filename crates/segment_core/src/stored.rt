@@ -1,7 +1,8 @@
 ghost use Rattle.std.specs.Prelude.{◌≡◌, ◌↔◌, length, map, IsTrue, IfOk};
+ghost use Rattle.std.specs.List.{Contains};
 ghost use Rattle.std.specs.Option.{option_copied};
 ghost use Rattle.redo_core.specs.Order.{IsRising, CutBefore, AdvanceBefore, RecordBefore, Lists, BeforeByNumber};
-ghost use Rattle.redo_core.specs.Keys.{key_of};
+ghost use Rattle.redo_core.specs.Keys.{key_of, KeyBefore};
 ghost use Rattle.hot_log.specs.Held.{IsRecordAt, IsKeyAfter, HoldsKey};
 ghost use Rattle.hot_log.specs.Alive.{IsHeldOf};
 ghost use Rattle.hot_log.specs.Found.{IsPageAfter};
@@ -45,6 +46,16 @@ impl Segment {
     {
         let (book, held) = (&self.book, &self.hot);
         View { book, held }.kept_keys(self.alloc, point)
+    }
+
+    /// The held records that wait, or are alive above a point, and whose keys are not among the ones given, which rise; rising by key.
+    /// Its only error is want of memory.
+    pub fn kept_unlisted(&self, point: u64, keys: &[Key]) -> Result<Vec<&Record>, AllocError>
+        requires { IsRising KeyBefore keys.now }
+        ensures { IfOk result (λ v. Lists RecordBefore (λ r. IsKeptBy self.now point r × (Contains keys.now (key_of r) → ⊥)) (map (λ x. x.now) v.items)) }
+    {
+        let (book, held) = (&self.book, &self.hot);
+        View { book, held }.kept_unlisted(self.alloc, point, keys)
     }
 
     /// The truncations known, rising by epoch.

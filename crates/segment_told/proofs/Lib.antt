@@ -1,5 +1,4 @@
 pub mod Scanning
-pub mod KeptKeys
 pub mod StoredCuts
 pub mod BarePages
 pub mod NextPage

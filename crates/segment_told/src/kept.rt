@@ -11,12 +11,5 @@ pub fn kept_of(segment: &Segment) -> Result<Vec<&Record>, AllocError>
     ensures { (anchor : ℕ) → HasAnchor segment.now anchor → IfOk result (λ v. Lists RecordBefore (IsKeptBy segment.now anchor) (map (λ x. x.now) v.items)) }
 {
     let anchor = segment.anchor();
-    let keys = segment.kept_keys(anchor)?;
-    let mut kept = Vec::with_capacity(segment.allocator(), keys.len())?;
-    for key in &keys {
-        if let Some(redo) = segment.get(*key) {
-            kept.push(redo)?;
-        }
-    }
-    Ok(kept)
+    segment.kept_unlisted(anchor, &[])
 }

@@ -1,7 +1,7 @@
 use Rattle.std.proofs.Common.{get_or, ◌-◌, arith}
 use Rattle.redo_core.specs.Keys.{KeyBefore, key_in}
-use Rattle.gossip_core.proofs.KeySearch.{all_below}
-use Rattle.gossip_core.proofs.unlisted.are_below.Goals as goal
+use Rattle.hot_log.proofs.KeySearch.{all_below}
+use Rattle.hot_log.proofs.unlisted.are_below.Goals as goal
 
 pub returns-then-place-keys : goal.returns-then-place-keys
 returns-then-place-keys c = λ h.

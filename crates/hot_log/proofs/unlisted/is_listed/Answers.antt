@@ -2,16 +2,16 @@ use Rattle.std.proofs.Common.{◌≡◌, ◌↔◌, IsTrue, get_or, refl, sym, �
 use Rattle.std.specs.List.{Contains}
 use Rattle.redo_core.specs.Keys.{key_in}
 use Rattle.redo_core.specs.declared.keys.Key.{Key}
-use Rattle.gossip_core.proofs.Accounting.{any_default, are_one}
-use Rattle.gossip_core.proofs.KeySearch.{key_found, not_among}
-use Rattle.gossip_core.proofs.unlisted.is_listed.Goals as goal
+use Rattle.std.proofs.lemmas.List.{get_or_default}
+use Rattle.hot_log.proofs.KeySearch.{key_found, not_among, are_one}
+use Rattle.hot_log.proofs.unlisted.is_listed.Goals as goal
 
 pub returns-then-eq : goal.returns-then-eq
 returns-then-eq c =
     let keys = c.args.keys.now in let i = c.args.place in let lt = c.if-place-keys.true in
     let found : Key = get_or keys i (key_in 0 0) in
     let is : found ≡ c.args.key = are_one found c.args.key (sym c.eq.ensures ∙ c.if-eq.true) in
-    (λ h. (i, lt, any_default keys i c.args.key (key_in 0 0) lt ∙ is), λ h. refl)
+    (λ h. (i, lt, get_or_default keys i c.args.key (key_in 0 0) lt ∙ is), λ h. refl)
 
 pub returns : goal.returns
 returns c =

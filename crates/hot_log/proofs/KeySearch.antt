@@ -1,26 +1,40 @@
 -- What a binary search finds among rising keys.
-use Rattle.std.proofs.Common.{◌≡◌, ◌↔◌, ℕ, ◌+◌, ◌-◌, ◌<◌, ◌≤◌, ◌⊎◌, ⊎_elim, List, length, length-take, length-drop, get_or, take, drop, refl, sym, ap, ◌∙◌, subst, arith, true, false, IsTrue, Result, Ok, Err}
+use Rattle.std.proofs.Common.{◌≡◌, ◌↔◌, ℕ, ◌+◌, ◌-◌, ◌<◌, ◌≤◌, ◌⊎◌, ⊎_elim, List, length, length-take, length-drop, get_or, take, drop, refl, sym, ap, ◌∙◌, subst, arith, Bool, true, false, eqb, ◌&&◌, IsTrue, Result, Ok, Err}
 use Rattle.std.specs.List.{All, Contains}
 use Rattle.std.specs.List.Sorted.{IsSearchInRange, IsBinarySearchResult, IsNonDecreasingBy}
 use Rattle.std.specs.Ordering.{nat_cmp, ordering_index, MatchOrdering}
 use Rattle.std.specs.Result.{is_ok}
+use Rattle.std.proofs.lemmas.Bool.{eqb-true}
 use Rattle.std.proofs.lemmas.Cmp.{ranked}
 use Rattle.redo_core.specs.Order.{IsRising}
-use Rattle.redo_core.specs.Keys.{key_cmp, KeyBefore}
+use Rattle.redo_core.specs.Keys.{key_in, key_cmp, KeyBefore}
 use Rattle.redo_core.specs.declared.keys.Key.{Key}
 use Rattle.redo_core.proofs.Pairs.{pair_apart, pair_trans}
 use Rattle.std.proofs.lemmas.List.{get_or-take, get_or-drop, get_or_default}
 use Rattle.std.proofs.lemmas.List.Elements.{All-contains}
 use Rattle.redo_core.proofs.Rising.{rising_by, rising_at, side}
-use Rattle.gossip_core.proofs.Parts.{one_key}
 use Rattle.epoch_book.proofs.Places.{rank_le, at_less, at_equal, at_greater, then_at, turned}
+
+pub same_key : (k l : Key) → k.epoch ≡ l.epoch → k.number ≡ l.number → k ≡ l
+same_key k l e n = ap (λ x. key_in x k.number) e ∙ ap (λ x. key_in l.epoch x) n
+
+-- two keys that are told to be equal are one
+both : (p q : Bool) → (p && q) ≡ true → (p ≡ true) × (q ≡ true)
+both true true h = (refl, refl)
+both true false h = absurd (cc)
+both false q h = absurd (cc)
+
+pub are_one : (k l : Key) → (eqb k.epoch l.epoch && eqb k.number l.number) ≡ true → k ≡ l
+are_one k l same =
+    let parts = both (eqb k.epoch l.epoch) (eqb k.number l.number) same in
+    same_key k l (eqb-true k.epoch l.epoch parts.0) (eqb-true k.number l.number parts.1)
 
 above_key : (k l : Key) → (l.epoch < k.epoch) ⊎ ((k.epoch ≡ l.epoch) × (l.number < k.number)) → KeyBefore l k
 above_key k l h = grind arith
 
 key_ranked : (k l : Key) → MatchOrdering (key_cmp k l) (KeyBefore k l) (k ≡ l) (KeyBefore l k)
 key_ranked k l =
-    turned (key_cmp k l) _ _ _ _ _ _ (λ x. x) (λ e. one_key k l e.0 e.1) (above_key k l)
+    turned (key_cmp k l) _ _ _ _ _ _ (λ x. x) (λ e. same_key k l e.0 e.1) (above_key k l)
     (then_at (nat_cmp k.epoch l.epoch) (nat_cmp k.number l.number) (k.epoch < l.epoch) (k.epoch ≡ l.epoch) (l.epoch < k.epoch) (k.number < l.number)
     (k.number ≡ l.number) (l.number < k.number)
     (ranked k.epoch l.epoch (nat_cmp k.epoch l.epoch) refl) (ranked k.number l.number (nat_cmp k.number l.number) refl))

@@ -1,7 +1,7 @@
 use Rattle.std.proofs.Common.{get_or, arith}
 use Rattle.redo_core.specs.Keys.{KeyBefore, key_in}
-use Rattle.gossip_core.proofs.KeySearch.{all_above}
-use Rattle.gossip_core.proofs.unlisted.are_above.Goals as goal
+use Rattle.hot_log.proofs.KeySearch.{all_above}
+use Rattle.hot_log.proofs.unlisted.are_above.Goals as goal
 
 pub returns-else-place-keys : goal.returns-else-place-keys
 returns-else-place-keys c = λ h.

@@ -1,0 +1,102 @@
+//! The kept records whose keys a list does not have.
+ghost use Rattle.std.specs.Prelude.{◌≡◌, ◌↔◌, IsTrue, IfOk, map, take, drop};
+ghost use Rattle.std.specs.List.{All, Contains};
+ghost use Rattle.std.specs.Option.{option_copied};
+ghost use Rattle.redo_core.specs.Order.{IsRising, Lists, RecordBefore};
+ghost use Rattle.redo_core.specs.Keys.{KeyBefore};
+ghost use Rattle.hot_log.specs.Found.{IsOnlyRecord};
+ghost use Rattle.hot_log.specs.Held.{HasKey};
+ghost use Rattle.hot_log.specs.Kept.{IsKeptUnlisted};
+ghost use Rattle.hot_log.specs.Seen.{seen_in};
+
+use crate::search::{epoch_above, is_kept};
+use crate::view::View;
+use redo_core::{Key, Record};
+use std::alloc::{AllocError, Global};
+
+impl<'a> View<'a> {
+    /// The records that wait, or are alive above a number, and whose keys are not among the ones given, which rise; rising by key. Its
+    /// only error is want of memory.
+    pub fn kept_unlisted(
+        &self,
+        alloc: Global,
+        point: u64,
+        keys: &[Key],
+    ) -> Result<Vec<&'a Record>, AllocError>
+        requires { IsRising KeyBefore keys.now }
+        ensures { IfOk result (λ v. Lists RecordBefore (seen_in self.now IsKeptUnlisted point keys.now) (map (λ x. x.now) v.items)) }
+    {
+        let mut found = Vec::new(alloc);
+        let mut place = 0;
+        // A record that waits, or is alive above the number, has a key above this one.
+        let mut left = self.held.keys_above(Key {
+            epoch: epoch_above(self.book, point),
+            number: point,
+        });
+        while let Some((key, page)) = left.next() {
+            place = reach(keys, place, *key);
+            if let Some(redo) = self.unlisted_at(point, keys, place, *page, *key) {
+                found.push(redo)?;
+            }
+        }
+        Ok(found)
+    }
+
+    /// The record of a page and a key, where it is kept and not listed; if it is listed, its key likely stands at the place given.
+    fn unlisted_at(
+        &self,
+        point: u64,
+        keys: &[Key],
+        place: usize,
+        page: u16,
+        key: Key,
+    ) -> Option<&'a Record>
+        requires { IsRising KeyBefore keys.now }
+        ensures { IsOnlyRecord (λ r. seen_in self.now IsKeptUnlisted point keys.now r × (r.page ≡ page) × HasKey key r) (option_copied result) }
+    {
+        self.held.opens_form();
+        if is_listed(keys, place, key) || !is_kept(self.book, key, point) {
+            return None;
+        }
+        self.held.record_of(page, key)
+    }
+}
+
+/// The first place from one on where the listed key is not below a key. Held and listed keys are gone over side by side.
+fn reach(keys: &[Key], from: usize, key: Key) -> usize {
+    let mut place = from;
+    while place < keys.len() && keys[place] < key {
+        place += 1;
+    }
+    place
+}
+
+/// Whether a key is among keys that rise. It is looked for at a place first, and on both sides of it.
+fn is_listed(keys: &[Key], place: usize, key: Key) -> bool
+    requires { IsRising KeyBefore keys.now }
+    ensures { IsTrue result ↔ Contains keys.now key }
+{
+    if place < keys.len() && keys[place] == key {
+        return true;
+    }
+    if are_below(keys, place, key) && are_above(keys, place, key) {
+        return false;
+    }
+    keys.binary_search(&key).is_ok()
+}
+
+/// Whether rising keys in front of a place are seen to be below a key: the last of them is.
+fn are_below(keys: &[Key], place: usize, key: Key) -> bool
+    requires { IsRising KeyBefore keys.now }
+    ensures { IsTrue result → All (λ k. KeyBefore k key) (take place keys.now) }
+{
+    place == 0 || (place <= keys.len() && keys[place - 1] < key)
+}
+
+/// Whether rising keys from a place on are above a key: the first of them is.
+fn are_above(keys: &[Key], place: usize, key: Key) -> bool
+    requires { IsRising KeyBefore keys.now }
+    ensures { IsTrue result → All (KeyBefore key) (drop place keys.now) }
+{
+    place >= keys.len() || key < keys[place]
+}
