@@ -20,8 +20,8 @@ abbrev own : RecordData → Entry
 own r = (key_of r, r.page)
 
 -- one that a walk up to a key has passed
-abbrev pub IsPassed : (RecordData → Type 0) → Key → RecordData → Type 0
-IsPassed P at r = P r × (KeyBefore at (key_of r) → ⊥)
+abbrev pub IsPassedBy : (RecordData → Type 0) → Key → RecordData → Type 0
+IsPassedBy P at r = P r × (KeyBefore at (key_of r) → ⊥)
 
 module _ (held : List RecordData) (at : Key) (x : Entry) (left rest : List Entry) (is : left ≡ x ∷ rest) (a : AreHeldAbove held at left) where
   first_above : KeyBefore at x.0
@@ -47,14 +47,14 @@ module _ (held : List RecordData) (at : Key) (x : Entry) (left rest : List Entry
     rising = (subst (IsRising (λ x y. key_cmp x.0 y.0 ≡ Less)) is a.rising).1;
   }
 
-  module _ (P : RecordData → Type 0) (found : List RecordData) (form : IsHeld held) (has : (r : RecordData) → P r → Contains held r) (lists : Lists RecordBefore (IsPassed P at) found) where
+  module _ (P : RecordData → Type 0) (found : List RecordData) (form : IsHeld held) (has : (r : RecordData) → P r → Contains held r) (lists : Lists RecordBefore (IsPassedBy P at) found) where
     page_of : (r : RecordData) → P r → HasKey x.0 r → r.page ≡ x.1
     page_of r p k =
         let t = a.backed x (subst (λ (m : List Entry). Contains m x) (sym is) (here x rest)) in
         ap (λ (y : RecordData). y.page) (one_key held form.rising r t.0 (has r p) t.1 (k.0 ∙ sym t.2.0) (k.1 ∙ sym t.2.1)) ∙ t.3
 
     -- a record with P that has been passed was before, or has the key that came last
-    passed_before : (r : RecordData) → IsPassed P x.0 r → IsPassed P at r ⊎ HasKey x.0 r
+    passed_before : (r : RecordData) → IsPassedBy P x.0 r → IsPassedBy P at r ⊎ HasKey x.0 r
     passed_before r h = ⊎_elim
         (λ (up : KeyBefore at (key_of r)). ⊎_elim
         (λ (e : x ≡ own r). inr (ap (λ (y : Entry). y.0.epoch) (sym e), ap (λ (y : Entry). y.0.number) (sym e)))
@@ -63,34 +63,34 @@ module _ (held : List RecordData) (at : Key) (x : Entry) (left rest : List Entry
         (λ (not : KeyBefore at (key_of r) → ⊥). inl (h.0, not))
         (pair_or_not at.epoch at.number r.epoch r.number)
 
-    still_passed : (r : RecordData) → IsPassed P at r → IsPassed P x.0 r
+    still_passed : (r : RecordData) → IsPassedBy P at r → IsPassedBy P x.0 r
     still_passed r h = (h.0, λ (up : KeyBefore x.0 (key_of r)). h.1 (let low = first_above in grind arith))
 
-    pub one_more : (y : RecordData) → IsOnlyRecord (λ r. P r × (r.page ≡ x.1) × HasKey x.0 r) (Some y) → Lists RecordBefore (IsPassed P x.0) (found ++ y ∷ [])
+    pub one_more : (y : RecordData) → IsOnlyRecord (λ r. P r × (r.page ≡ x.1) × HasKey x.0 r) (Some y) → Lists RecordBefore (IsPassedBy P x.0) (found ++ y ∷ [])
     one_more y only =
         let key = only.0.2 in let low = first_above in
-        lists_push RecordBefore (IsPassed P at) (IsPassed P x.0) found y lists
+        lists_push RecordBefore (IsPassedBy P at) (IsPassedBy P x.0) found y lists
         (λ r h. let not = h.1 in grind arith)
         (λ r. (
           λ h. ⊎_elim (λ u. inl u) (λ (k : HasKey x.0 r). inr (only.1 r (h.0, page_of r h.0 k, k))) (passed_before r h),
-          λ h. ⊎_elim (still_passed r) (λ (e : r ≡ y). subst (IsPassed P x.0) (sym e) (only.0.0, λ (up : KeyBefore x.0 (key_of y)). grind arith)) h,
+          λ h. ⊎_elim (still_passed r) (λ (e : r ≡ y). subst (IsPassedBy P x.0) (sym e) (only.0.0, λ (up : KeyBefore x.0 (key_of y)). grind arith)) h,
         ))
 
-    pub none_more : IsOnlyRecord (λ r. P r × (r.page ≡ x.1) × HasKey x.0 r) None → Lists RecordBefore (IsPassed P x.0) found
-    none_more none = lists_as RecordBefore (IsPassed P at) (IsPassed P x.0) found (λ r. (
+    pub none_more : IsOnlyRecord (λ r. P r × (r.page ≡ x.1) × HasKey x.0 r) None → Lists RecordBefore (IsPassedBy P x.0) found
+    none_more none = lists_as RecordBefore (IsPassedBy P at) (IsPassedBy P x.0) found (λ r. (
       λ h. still_passed r h,
       λ h. ⊎_elim (λ u. u) (λ (k : HasKey x.0 r). absurd (none r (h.0, page_of r h.0 k, k))) (passed_before r h),
     )) lists
 
-pub none_passed : (P : RecordData → Type 0) (at : Key) (found : List RecordData) → ((r : RecordData) → P r → KeyBefore at (key_of r)) → found ≡ [] → Lists RecordBefore (IsPassed P at) found
-none_passed P at found above is = subst (Lists RecordBefore (IsPassed P at)) (sym is) (record {
+pub none_passed : (P : RecordData → Type 0) (at : Key) (found : List RecordData) → ((r : RecordData) → P r → KeyBefore at (key_of r)) → found ≡ [] → Lists RecordBefore (IsPassedBy P at) found
+none_passed P at found above is = subst (Lists RecordBefore (IsPassedBy P at)) (sym is) (record {
   rising = tt;
   members = λ r. (λ h. absurd (none_in r h), λ h. absurd (h.1 (above r h.0)));
 })
 
 pub all_passed : (P : RecordData → Type 0) (held : List RecordData) (at : Key) (left : List Entry) (found : List RecordData) → AreHeldAbove held at left → left ≡ [] → ((r : RecordData) → P r → Contains held r)
-    → Lists RecordBefore (IsPassed P at) found → Lists RecordBefore P found
-all_passed P held at left found a is has lists = lists_as RecordBefore (IsPassed P at) P found (λ r. (
+    → Lists RecordBefore (IsPassedBy P at) found → Lists RecordBefore P found
+all_passed P held at left found a is has lists = lists_as RecordBefore (IsPassedBy P at) P found (λ r. (
   λ h. h.0,
   λ h. (h, λ up. none_in (own r) (subst (λ (m : List Entry). Contains m (own r)) is (a.listed r (has r h) up))),
 )) lists

@@ -7,7 +7,7 @@ use Rattle.redo_core.specs.Order.{Lists, RecordBefore}
 use Rattle.hot_log.specs.Kept.{IsKeptUnlisted}
 use Rattle.hot_log.proofs.Keyed.{Entry}
 use Rattle.hot_log.proofs.Kept.{past_parts}
-use Rattle.hot_log.proofs.Walk.{IsPassed, on_from, one_more, none_more, none_passed, all_passed}
+use Rattle.hot_log.proofs.Walk.{IsPassedBy, on_from, one_more, none_more, none_passed, all_passed}
 use Rattle.hot_log.proofs.view.View.kept_unlisted.Goals as goal
 
 pub loop-key-init : goal.loop-key-init
@@ -48,6 +48,6 @@ loop-key-preserved-in-Continue-1 c =
     let items : map (λ r. r.now) c.push.new.self.items ≡ map (λ r. r.now) c.loop-key.found.items ++ c.in-Some-unlisted_at.redo.now ∷ [] = rw (c.in_ok-push.ensures.items, map-append) in (
       c.in-Some.key.now,
       on_from held w.0 x c.loop-key.left c.next.new.self c.in-Some.ensures.steps w.1,
-      subst (Lists RecordBefore (IsPassed P x.0)) (sym items)
+      subst (Lists RecordBefore (IsPassedBy P x.0)) (sym items)
           (one_more held w.0 x c.loop-key.left c.next.new.self c.in-Some.ensures.steps w.1 P _ c.keys_above-left.ensures.form (λ r h. h.0.0) w.2 c.in-Some-unlisted_at.redo.now c.in-Some-unlisted_at.ensures),
     )
