@@ -92,16 +92,6 @@ one_advance_refusal b a (Contradiction (Cut d)) (Contradiction (Cut x)) h k = ap
 one_advance_refusal b a (Contradiction (Cut d)) Memory h k = absurd k
 one_advance_refusal b a Memory f h k = absurd h
 
--- what no truncation cuts below is not refused
-pub unrefused : (b : BookData) (a : AdvanceData) → IsReader (roster_of b) a.reader → All (λ c. CutsBelow b.complete b.points b.waits c a → ⊥) b.cuts
-    → (e : BookRefusal) → RefusesAdvance b a e → ⊥
-unrefused b a mine none (OtherRoster own shown) r = r.2 mine
-unrefused b a mine none (OtherCut d) r = r
-unrefused b a mine none (Contradiction (Min m)) r = r
-unrefused b a mine none (Contradiction (Advance w)) r = r
-unrefused b a mine none (Contradiction (Cut d)) r = All-contains (λ c. CutsBelow b.complete b.points b.waits c a → ⊥) b.cuts d none r.1.has.0 r.1.has.1
-unrefused b a mine none Memory r = r
-
 -- what is said of an advance is said of it as what a truncation contradicts
 pub mapped_to_held : (s : Option AdvanceData) (r : Option Held) (P : AdvanceData → Type 0) (Q : Held → Type 0)
     → MatchOption s (r ≡ None) (λ x. IsSomeAnd r (λ h. h ≡ Advance x)) → IfSome s P → ((x : AdvanceData) → P x → Q (Advance x)) → IfSome r Q

@@ -6,10 +6,9 @@ use Rattle.redo_core.specs.Answer.ReadAnswer.{Image as OfImage, Below as OfBelow
 use Rattle.redo_core.specs.declared.facts.Fact.{Fact}
 use Rattle.redo_core.specs.declared.refusal.Refused.{Refused}
 use Rattle.state_laws.specs.State.{State, min_of}
-use Rattle.state_laws.specs.Means.{Means, MeansAt}
+use Rattle.state_laws.specs.Means.{MeansAt}
 use Rattle.state_laws.specs.HasMeaning.{HasAnchor, IsLinkedIn}
-use Rattle.state_laws.specs.Promises.{TakesFact, KeepsMeaning, KeepsMeaningWith, IsFinalPage}
-use Rattle.redo_core.specs.PageAt.{IsPageAt}
+use Rattle.state_laws.specs.Promises.{TakesFact, KeepsMeaningWith}
 use Rattle.redo_core.proofs.Numbers.{greatest_unique}
 use Rattle.segment_core.specs.Folding.{IsFoldOf, PlansFold, RefusesCommit}
 use Rattle.segment_core.specs.declared.fold_plan.Folded.{Folded}
@@ -24,9 +23,9 @@ use Rattle.segment_core.specs.declared.answers.Refusal.{Refusal}
 use Rattle.segment_core.specs.declared.answers.Refusal.TheVariants as refusal
 use Rattle.segment_core.specs.declared.answers.ReadFault.{ReadFault}
 use Rattle.segment_core.specs.declared.answers.ReadFault.TheVariants as fault
-use Rattle.fleet_steps.specs.declared.steps.Step.TheVariants.{Take, Fold, Discard, Front as AskFront, Read}
+use Rattle.fleet_steps.specs.declared.steps.Step.TheVariants.{Take, Fold, Front as AskFront, Read}
 use Rattle.fleet_core.specs.declared.replies.Reply.{Reply}
-use Rattle.fleet_core.specs.declared.replies.Reply.TheVariants.{Folded as FoldedIs, Discarded, Front as FrontIs, Memory}
+use Rattle.fleet_core.specs.declared.replies.Reply.TheVariants.{Folded as FoldedIs, Front as FrontIs, Memory}
 use Rattle.fleet_core.specs.Replying.{refusal_reply, taken_reply, read_reply, fault_reply}
 use Rattle.fleet_core.specs.AtNode.{OwnFollows}
 use Rattle.fleet_core.specs.Calls.{Takes}
@@ -119,10 +118,6 @@ follows_no_plan readers other s node g why reply says is = λ roster log facts o
     let told : reply ≡ Memory = subst (λ w. reply ≡ fault_reply w) e is in
     subst (λ r. OwnFollows readers s other (Fold node g) r s) (sym told)
     (fold_without_memory readers other s node g) roster log facts others messages size sound t means beside
-
-pub follows_discard : (readers : ℕ) (other : Option State) (old new : State) (node : ℕ) → KeepsMeaning old new
-    → OwnFollows readers old other (Discard node) Discarded new
-follows_discard readers other old new node keeps = λ roster log facts others messages size sound t means beside. (refl, keeps roster log facts sound means)
 
 -- the version of a plan is the anchor, so its commit is never ahead of it
 pub never_ahead : (s : State) (g : ℕ) (folded : Folded) (version anchor : ℕ) → PlansFold s g (Ok folded) → RefusesCommit s folded (commit.Ahead version anchor)

@@ -107,18 +107,9 @@ follows_covers readers s other node than answer tells = λ roster log facts othe
       means,
     )
 
-pub same_without_memory : (readers : ℕ) (s : State) (other : Option State) (node than : ℕ) → OwnFollows readers s other (Same node than) Memory s
-same_without_memory readers s other node than = λ roster log facts others messages size sound t means beside. (inl refl, means)
-
-pub covers_without_memory : (readers : ℕ) (s : State) (other : Option State) (node than : ℕ) → OwnFollows readers s other (Covers node than) Memory s
-covers_without_memory readers s other node than = λ roster log facts others messages size sound t means beside. (inl refl, means)
-
 -- ---- wipes
 
 pub follows_wipe : (readers : ℕ) (s : State) (other : Option State) (node : ℕ) → OwnFollows readers s other (Wipe node) Wiped (empty_state readers)
 follows_wipe readers s other node =
     λ roster log facts others messages size sound t means beside.
     (inr refl, subst (λ n. Means roster log [] (empty_state n)) (sym size) (empty_means roster log))
-
-pub wipe_without_memory : (readers : ℕ) (s : State) (other : Option State) (node : ℕ) → OwnFollows readers s other (Wipe node) Memory s
-wipe_without_memory readers s other node = λ roster log facts others messages size sound t means beside. (inl refl, means)

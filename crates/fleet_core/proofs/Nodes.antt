@@ -80,11 +80,6 @@ follows_no_node fleet s i missing = λ roster log m sound takes mean.
       subst (λ n. MeansMachine roster log n fleet) (after_no_node m s i) mean,
     )
 
-pub calls_no_node : (fleet : FleetState) (s : Step Fact) (i : ℕ) → first_missing (length fleet.segments) (nodes_of s) ≡ Some i
-    → StepCalls fleet s (NoNode i) fleet
-calls_no_node fleet s i missing =
-    subst (λ o. MatchOption o (Calls fleet s (NoNode i) fleet) (λ node. (NoNode i ≡ NoNode node) × (fleet ≡ fleet))) (sym missing) (refl, refl)
-
 pub no_message_of_none : (fleet : FleetState) (s : Step Fact) (i : ℕ) → first_missing (length fleet.segments) (nodes_of s) ≡ Some i → (number : ℕ)
     → (NoNode i ≡ NoMessage number) ↔ LacksMessage fleet s number
 no_message_of_none fleet s i missing number = (

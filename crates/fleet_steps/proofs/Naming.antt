@@ -4,36 +4,6 @@ use Rattle.fleet_steps.specs.declared.steps.Step.{Step}
 use Rattle.fleet_steps.specs.declared.steps.Step.TheVariants.{Take, Fold, Discard, Front, Read, Join, Same, Covers, Wipe, Ask, Answer, Absorb}
 use Rattle.fleet_steps.specs.Naming.{NamedIs, SameBut}
 
--- what is named is of a wider kind
-pub named_weaker : {F : Type 0} (P Q : F → Type 0) → ((x : F) → P x → Q x) → (s : Step F) → NamedIs P s → NamedIs Q s
-named_weaker P Q f (Take node fact) h = f fact h
-named_weaker P Q f (Fold node page) h = tt
-named_weaker P Q f (Discard node) h = tt
-named_weaker P Q f (Front node) h = tt
-named_weaker P Q f (Read node page point offset len) h = tt
-named_weaker P Q f (Join node from) h = tt
-named_weaker P Q f (Same node other) h = tt
-named_weaker P Q f (Covers node other) h = tt
-named_weaker P Q f (Wipe node) h = tt
-named_weaker P Q f (Ask node) h = tt
-named_weaker P Q f (Answer node message) h = tt
-named_weaker P Q f (Absorb node message) h = tt
-
--- what is named instead is so by a wider relation
-pub same_weaker : {F G : Type 0} (R S : F → G → Type 0) → ((x : F) (y : G) → R x y → S x y) → (s : Step F) (t : Step G) → SameBut R s t → SameBut S s t
-same_weaker R S f (Take node fact) t h = (h.0, f fact h.0 h.1, h.2)
-same_weaker R S f (Fold node page) t h = h
-same_weaker R S f (Discard node) t h = h
-same_weaker R S f (Front node) t h = h
-same_weaker R S f (Read node page point offset len) t h = h
-same_weaker R S f (Join node from) t h = h
-same_weaker R S f (Same node other) t h = h
-same_weaker R S f (Covers node other) t h = h
-same_weaker R S f (Wipe node) t h = h
-same_weaker R S f (Ask node) t h = h
-same_weaker R S f (Answer node message) t h = h
-same_weaker R S f (Absorb node message) t h = h
-
 -- what is named instead is of a kind
 pub same_named : {F G : Type 0} (R : F → G → Type 0) (P : G → Type 0) → ((x : F) (y : G) → R x y → P y) → (s : Step F) (t : Step G) → SameBut R s t
     → NamedIs P t

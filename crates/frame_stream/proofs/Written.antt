@@ -1,13 +1,9 @@
 -- A frame that is written in two pieces.
-use Rattle.std.proofs.Common.{◌≡◌, ℕ, zero, suc, ◌+◌, List, [], ◌∷◌, ◌++◌, length, take, Option, Result, Ok, Err, refl, sym, ap, ◌∙◌, subst, append_assoc, append-nil}
-use Rattle.std.specs.Prelude.{OnOk, OnErr}
+use Rattle.std.proofs.Common.{◌≡◌, ℕ, zero, suc, ◌+◌, List, [], ◌∷◌, ◌++◌, length, take, Option, Result, Ok, Err, refl, sym, ap, ◌∙◌, subst, append_assoc}
+use Rattle.std.specs.Prelude.{OnErr}
 use Rattle.std.specs.Io.KnownBytes.{Appends}
 use Rattle.std.proofs.KnownBytes.{Appends-trans}
 use Rattle.std.proofs.Math.Seq.{take-append-add}
-
-pub then_ok : {A E : Type 0} (r : Result A E) (P Q : Type 0) → (P → Q) → OnOk r P → OnOk r Q
-then_ok (Ok x) P Q f h = f h
-then_ok (Err e) P Q f h = tt
 
 pub then_err : {A E : Type 0} (r : Result A E) (P Q : Type 0) → (P → Q) → OnErr r P → OnErr r Q
 then_err (Ok x) P Q f h = tt
@@ -26,12 +22,6 @@ module _ (said head front behind bytes : List ℕ) (is : said ≡ head ++ front)
   pub first_part : (a b : Option (List ℕ)) (n : ℕ) → Appends a b (take n said) → (k : ℕ) × Appends a b (take k (head ++ bytes))
   first_part a b n put =
       let p = part_of n said behind in (p.0, subst (Appends a b) (p.1 ∙ ap (take p.0) both) put)
-
-  pub first_whole : (a b : Option (List ℕ)) → behind ≡ [] → Appends a b said → Appends a b (head ++ bytes)
-  first_whole a b none put = subst (Appends a b) (sym (append-nil said) ∙ ap (λ (l : List ℕ). said ++ l) (sym none) ∙ both) put
-
-  pub second_whole : (a b c : Option (List ℕ)) → Appends a b said → Appends b c behind → Appends a c (head ++ bytes)
-  second_whole a b c put more = subst (Appends a c) both (Appends-trans a b c said behind put more)
 
   pub second_part : (a b c : Option (List ℕ)) → Appends a b said → (n : ℕ) × Appends b c (take n behind) → (k : ℕ) × Appends a c (take k (head ++ bytes))
   second_part a b c put more = (

@@ -1,12 +1,9 @@
 -- Words that are loaded one after the other.
-use Rattle.std.proofs.Common.{◌≡◌, ℕ, zero, suc, ◌<◌, ◌≤◌, ◌≢◌, ◌⊎◌, inl, inr, ⊎_elim, List, [], ◌∷◌, length, slice_index, slice_set, refl, sym, subst, ap, ◌∙◌, le_refl, arith}
-use Rattle.std.proofs.lemmas.List.{ext_get_or}
-use Rattle.std.proofs.lemmas.Grind.{get_or_default_zero}
+use Rattle.std.proofs.Common.{◌≡◌, ℕ, zero, suc, ◌<◌, ◌≤◌, ◌≢◌, ◌⊎◌, inl, inr, ⊎_elim, List, [], ◌∷◌, length, slice_index, slice_set, refl, sym, ap, ◌∙◌, le_refl, arith}
 use lib.ListN.{length-set}
 use Rattle.redo_core.specs.declared.facts.Fact.{Fact}
 use Rattle.front_board.specs.FrontWord.{IsFrontWord, AreFronts}
 use Rattle.front_board.specs.Survey.{IsSurveyed}
-use Rattle.front_board.specs.NthGreatest.{IsNthGreatest}
 use Rattle.front_board.proofs.Steps.{fronts_after_set}
 
 entry_after_set : (v : List ℕ) (i x k : ℕ) → i < length v → ((k ≡ i) × (slice_index (slice_set v i x) k ≡ x))
@@ -48,16 +45,3 @@ survey_goes_on log i old seen words x is room up front = record {
   where
     room' : i < length seen
     room' = let e = is.same in omega (arith, e, room)
-
--- after the last word the view has what was found, and the answer is a front
-pub survey_ends : (log : List Fact) (n : ℕ) (old seen words : List ℕ) (need r : ℕ) → IsSurveyed log n old seen words → n ≡ length old
-    → IsNthGreatest need words r → IsNthGreatest need seen r × IsFrontWord log r
-survey_ends log n old seen words need r is long best =
-    let e = is.same in
-    let c = is.kept in
-    let same : seen ≡ words = ext_get_or 0 seen words is.same (λ i l. is.found i (omega (arith, e, c, l, long))) in
-    let at = best.among in
-    let here : slice_index words at.0 ≡ r = sym (get_or_default_zero words at.0 r at.1) ∙ at.2 in (
-      subst (λ (ws : List ℕ). IsNthGreatest need ws r) (sym same) best,
-      subst (IsFrontWord log) (ap (λ (ws : List ℕ). slice_index ws at.0) same ∙ here) (is.fronts.each at.0),
-    )

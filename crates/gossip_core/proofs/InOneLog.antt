@@ -62,10 +62,6 @@ only_memory s summary d why shape refused one =
     absurd (nothing_refused one.0 one.1 one.2 one.3 one.4 one.5 s summary d one.6 shape why x))
     refused
 
--- deltas made inside one sound log are of its roster
-pub of_one_roster : (s : State) (summary : SummaryData) (d : DeltaData) → IsOfOneLog s summary d → roster_of s.book ≡ roster_of d.book
-of_one_roster s summary d one = one_roster one.0 one.1 one.2 one.3 one.4 one.5 s summary d one.6
-
 -- an absorb means the union
 pub both : (s : State) (summary : SummaryData) (d : DeltaData) (new : State) → IsDelta d → Answers s summary → AbsorbsInto s d new
     → MeansBoth s summary d new

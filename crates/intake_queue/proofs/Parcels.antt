@@ -1,5 +1,5 @@
 -- Parcels of one sender, and new senders.
-use Rattle.std.proofs.Common.{◌≡◌, ◌≢◌, ℕ, zero, suc, ◌+◌, List, [], ◌∷◌, ◌++◌, length, ◌⊎◌, inl, inr, ⊎_elim, refl, sym, ap, subst, ◌∙◌, arith, length-append, Some}
+use Rattle.std.proofs.Common.{◌≡◌, ◌≢◌, ℕ, zero, suc, ◌+◌, List, [], ◌∷◌, ◌++◌, length, ◌⊎◌, inl, inr, ⊎_elim, refl, sym, ap, subst, ◌∙◌, Some}
 use Rattle.std.specs.Prelude.{◌==◌, slice_get}
 use Rattle.std.specs.List.{Contains}
 use Rattle.std.proofs.lemmas.Bool.{eq-eqb, ne_eqb}
@@ -7,11 +7,7 @@ use Rattle.std.proofs.lemmas.List.{append-nil}
 use Rattle.std.proofs.lemmas.List.Elements.{filter-append}
 use Rattle.redo_core.proofs.Members.{here, there}
 use Rattle.redo_core.proofs.ByPlace.{at_longer}
-use mathlib.Core.Logic.{dite}
-use native.Mathlib.Decide.{ℕ_discrete}
-use Rattle.atomic_table.specs.Seated.{TableId}
 use Rattle.intake_queue.specs.Parcel.{ParcelData, sent_by, AreNumbered}
-use Rattle.intake_queue.specs.Ends.{SenderData, new_sender, AreNewSenders}
 
 pub sent_by-append : (p : ℕ) (xs ys : List ParcelData) → sent_by p (xs ++ ys) ≡ sent_by p xs ++ sent_by p ys
 sent_by-append p xs ys = filter-append (λ (x : ParcelData). x.sender == p) xs ys
@@ -67,16 +63,3 @@ pub numbered_before : (p : ℕ) (xs ys : List ParcelData) → AreNumbered (sent_
 numbered_before p xs ys all =
     let both : AreNumbered (sent_by p xs ++ sent_by p ys) = subst AreNumbered (sent_by-append p xs ys) all in
     λ k x e. both k x (at_longer (sent_by p xs) (sent_by p ys) k x e)
-
--- one more new sender
-pub one_new : (intake : TableId) (senders count : ℕ) (made more : List SenderData) → AreNewSenders intake senders count made
-    → more ≡ made ++ new_sender intake senders (count + 1) ∷ [] → AreNewSenders intake senders (count + 1) more
-one_new intake senders count made more h is =
-    let last = new_sender intake senders (count + 1) in
-    subst (AreNewSenders intake senders (count + 1)) (sym is) (
-      omega (arith, h.0, length-append made (last ∷ [])),
-      λ before lt. dite (ℕ_discrete before count)
-          (λ e. subst (λ k. slice_get (made ++ last ∷ []) k ≡ Some (new_sender intake senders (before + 1))) (h.0 ∙ sym e)
-          (seam made last [] ∙ ap (λ k. Some (new_sender intake senders (k + 1))) (sym e)))
-          (λ ne. at_longer made (last ∷ []) before _ (h.1 before (omega arith))),
-    )

@@ -32,10 +32,6 @@ each_more log P p f at here each q g l h =
 pub each_member : (log : List Fact) (P : Fact → Type 0) (p : ℕ) (f : Fact) → length log ≤ p → EachBefore log P p → Contains log f → P f
 each_member log P p f l each h = each h.0 f (let m : h.0 < length log = h.1 in omega arith) (place_of log f h.0 h.1 h.2)
 
--- one epoch's bound from the next one's
-pub bound_last : (log : List Fact) (view bound : ℕ) → bound ≡ 281474976710655 → IsBoundTo log view view bound
-bound_last log view bound q n = (λ l. (omega arith, λ c h a b. absurd (omega arith)), λ h. let l : n ≤ 281474976710655 = h.0 in omega arith)
-
 pub bound_step : (log : List Fact) (view e later bound : ℕ) (o : Option CutData) → first_cut log (e + 1) ≡ o → e + 1 ≤ view → IsBoundTo log view (e + 1) later
     → MatchOption o (bound ≡ later) (λ c. bound ≡ min c.lo later) → IsBoundTo log view e bound
 bound_step log view e later bound None q within next h n = (

@@ -9,7 +9,7 @@ use Rattle.std.proofs.lemmas.Option.{none-some, slice_get_within, get_or_from_sl
 use Rattle.std.proofs.lemmas.List.Elements.{Contains-append_left, Contains-append_right, Contains-append_cases, Contains-push}
 use Rattle.redo_core.specs.Writes.{WriteData}
 use Rattle.std.specs.Option.{option_or}
-use Rattle.redo_core.specs.Data.{RecordData, CutData, AdvanceData, record_of, cut_of, plain}
+use Rattle.redo_core.specs.Data.{RecordData, CutData, AdvanceData, record_of, plain}
 use Rattle.redo_core.specs.Shape.{cut_fault, advance_fault, record_fault, patches_fault, max_number}
 use Rattle.redo_core.specs.Sets.{records, cuts, advances}
 use Rattle.redo_core.specs.Roster.{IsRoster, IsReader, least, point_of}
@@ -22,7 +22,7 @@ use Rattle.redo_core.specs.CompleteEpoch.{HasCutsTo, IsCompleteEpoch}
 use Rattle.redo_core.specs.Sound.{counted, HasShape, Law1, Law2, IsSound, IsAliveBelow}
 use Rattle.redo_core.specs.declared.facts.Fact.{Fact}
 use Rattle.redo_core.specs.declared.facts.Fact.TheVariants.{Record, Cut, Advance}
-use Rattle.redo_core.specs.declared.shapes.ShapeFault.TheVariants.{EpochIsZero, NumberIsZero, BackNotBelow, BlockBackAbove, TooLarge}
+use Rattle.redo_core.specs.declared.shapes.ShapeFault.TheVariants.{NumberIsZero, BackNotBelow, BlockBackAbove, TooLarge}
 use Rattle.redo_core.specs.declared.shapes.ShapeFault.{ShapeFault}
 use Rattle.redo_core.proofs.Members.{none_in, here, only}
 use Rattle.redo_core.proofs.FactParts.{record_in, cut_in, advance_in}
@@ -538,10 +538,6 @@ shape_of_plain e n b p bb ws h below le =
     ∙ sym (open_conds (n == 0) (nat_le n 0) (nat_lt 0 0) (Some NumberIsZero) (Some BackNotBelow) (Some BlockBackAbove) (writes_fault n ws)
     (ne_eqb n 0 (λ q. absurd (omega arith))) (lt-leb n 0 (omega arith)) (le-ltb 0 0 (omega arith)))
     ∙ h
-
--- a cut's shape does not depend on its epoch, past 0
-pub cut_shape_of : (e lo hi : ℕ) → 0 < e → cut_fault (cut_of 1 lo hi) ≡ None → cut_fault (cut_of e lo hi) ≡ None
-cut_shape_of e lo hi l h = ap (λ b. cond b (Some EpochIsZero) (cut_fault (cut_of 1 lo hi))) (ne_eqb e 0 (λ q. absurd (omega arith))) ∙ h
 
 -- the same stack, in other memory
 pub written_same : {roster : ℕ} (log : List Fact) (s new : AliveRecords) (last : ℕ) (points : List ℕ) → IsWritten roster log s last points → IsStack new

@@ -43,10 +43,6 @@ pub guard_true : {A : Type 0} (b : Bool) (d : WireFault) (x y : A) → cond b (O
 guard_true true d x y e = (refl, cc)
 guard_true false d x y e = absurd cc
 
-pub guard_at : {A : Type 0} (b : Bool) (d : WireFault) (r : Read A) (y : A × List ℕ) → cond b r (Err d) ≡ Ok y → (b ≡ true) × (r ≡ Ok y)
-guard_at true d r y e = (refl, e)
-guard_at false d r y e = absurd cc
-
 pub shaped_ok : {A : Type 0} (rule : A → Bool) (r : Read A) (y : A × List ℕ) → shaped rule r ≡ Ok y → (r ≡ Ok y) × (rule y.0 ≡ true)
 shaped_ok {A} rule (Ok x) y e = let g = guard_true (rule x.0) Shape x y e in (ap (λ z. Ok z) g.1, subst (λ (z : A × List ℕ). rule z.0 ≡ true) g.1 g.0)
 shaped_ok rule (Err d) y e = absurd cc

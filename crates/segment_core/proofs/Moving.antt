@@ -35,12 +35,6 @@ as_top b held from n t = record { linked = t.linked; most = t.most }
 of_top : (b : BookData) (held : List RecordData) (from n : ℕ) → Top b held from n → IsTop b held from n
 of_top b held from n t = record { linked = t.linked; most = t.most }
 
--- the complete point is small, as each number is
-pub complete_small : (b : BookData) (held : List RecordData) (base : ℕ) (p : Points) → IsHeld held → base ≤ max_number → HasPoints b held base p
-    → p.complete ≤ max_number
-complete_small b held base p is low has = linked_small b.cuts held b.complete base max_number p.complete
-    (λ r among. small_number r (is.shaped r among)) low has.complete.linked
-
 -- ---- over a straight chain the base point can rise to the anchor
 pub to_anchor : (b : BookData) (held : List RecordData) (base : ℕ) (p : Points) → HasPoints b held base p → IsTrue p.straight
     → HasPoints b held p.anchor p

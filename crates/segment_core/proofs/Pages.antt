@@ -15,10 +15,6 @@ abbrev pub pages_left : Option ℕ → ℕ
 pages_left None = 0
 pages_left (Some next) = 65536 - next
 
-pub fewer_left : (held : List RecordData) (page : ℕ) (next : Option ℕ) → page < 65536 → IsPageAfter held (Some page) next → pages_left next < 65536 - page
-fewer_left held page None small after = omega arith
-fewer_left held page (Some next) small after = let above : page < next = after.0.3 in omega arith
-
 -- at first no page of a held record is passed
 pub none_passed : (held : List RecordData) (next : Option ℕ) (r : RecordData) → IsPageAfter held None next → Contains held r → IsPassed next r.page → ⊥
 none_passed held None r after h passed = after r h tt

@@ -51,10 +51,6 @@ module _ (roster : ℕ) (log : List Fact) (sound : IsSound roster log) where
 pub sound_join : (s other : State) (why : Refusal) → RefusesJoin s other why → AreOfOneLog s other → ⊥
 sound_join s other why r one = not_refused one.0 one.1 one.4 s other one.2 one.3 one.5 one.6 why r
 
--- no two records of one key stand in them
-pub of_one_log : (s other : State) → AreOfOneLog s other → HaveOneRecordAKey s other
-of_one_log s other one = one_record_a_key one.0 one.1 one.4 s other one.2 one.3 one.5 one.6
-
 -- and joined they mean the union
 pub means_union : (s other new : State) → JoinsInto s other new → MeansUnion s other new
 means_union s other new joins roster log F G sound a b =

@@ -179,17 +179,11 @@ no_cut_of_record r c h = let e : Record r ≡ Cut c = only (Record r) (Cut c) h 
 no_advance_of_record : (r : RecordData) (a : AdvanceData) → Contains (Record r ∷ []) (Advance a) → ⊥
 no_advance_of_record r a h = let e : Record r ≡ Advance a = only (Record r) (Advance a) h in cc
 
-no_record_of_cut : (c : CutData) (r : RecordData) → Contains (Cut c ∷ []) (Record r) → ⊥
-no_record_of_cut c r h = let e : Cut c ≡ Record r = only (Cut c) (Record r) h in cc
-
 no_advance_of_cut : (c : CutData) (a : AdvanceData) → Contains (Cut c ∷ []) (Advance a) → ⊥
 no_advance_of_cut c a h = let e : Cut c ≡ Advance a = only (Cut c) (Advance a) h in cc
 
 no_cut_of_advance : (a : AdvanceData) (c : CutData) → Contains (Advance a ∷ []) (Cut c) → ⊥
 no_cut_of_advance a c h = let e : Advance a ≡ Cut c = only (Advance a) (Cut c) h in cc
-
-no_record_of_advance : (a : AdvanceData) (r : RecordData) → Contains (Advance a ∷ []) (Record r) → ⊥
-no_record_of_advance a r h = let e : Advance a ≡ Record r = only (Advance a) (Record r) h in cc
 
 one_cut : (c d : CutData) → Contains (Cut c ∷ []) (Cut d) → d ≡ c
 one_cut c d h = let e : Cut c ≡ Cut d = only (Cut c) (Cut d) h in cc

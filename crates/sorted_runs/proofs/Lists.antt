@@ -72,10 +72,6 @@ module _ {K V : Type 0} (R : K → K → Ordering) where
   rises_across [] ys h = tt
   rises_across (x ∷ xs) ys h = (all_last _ xs ys h.0, rises_across xs ys h.1)
 
-  pub rises_join : (xs ys : List (K × V)) → Rises R xs → Rises R ys → AllByRecursion (λ x. AllByRecursion (λ (y : K × V). R x.0 y.0 ≡ Less) ys) xs → Rises R (xs ++ ys)
-  rises_join [] ys h k across = k
-  rises_join (x ∷ xs) ys h k across = (all_join _ xs ys h.0 across.0, rises_join xs ys h.1 k across.1)
-
 -- runs and their first keys
 module _ {K V : Type 0} where
   pub as_many : (fs : List K) (vs : List (Vec (K × V))) → Headed fs vs → length fs ≡ length vs

@@ -81,6 +81,3 @@ module _ {K V : Type 0} {R : K → K → Ordering} (o : IsTotalOrder R) (k : K) 
       before = before;
       after = from_it es n x lt at is (above_it es n x Less lt at is (λ e. cc) (rises_from R es sorted));
     }
-
-  pub gap_end : (es : List (K × V)) (n : ℕ) → n ≤ length es → length es ≤ n → Passes R k (take n es) → IsGap R es k n
-  gap_end es n le ge before = record { within = le; before = before; after = no_more (λ (e : K × V). R k e.0 ≡ Less) es n ge }
