@@ -1,12 +1,11 @@
 -- A book refuses a fact for one reason.
 use Rattle.std.proofs.Common.{◌≡◌, ℕ, ◌<◌, ◌≤◌, ◌⊎◌, ⊎_elim, List, length, get_or, refl, sym, ap, ◌∙◌, subst, arith, Option, Some, None}
-use Rattle.std.specs.List.{Contains, All, HoldsAt}
-use Rattle.std.proofs.lemmas.List.Elements.{All-contains}
+use Rattle.std.specs.List.{Contains, HoldsAt}
 use Rattle.std.specs.Option.{MatchOption, IfSome, IsSomeAnd}
 use Rattle.redo_core.specs.Data.{CutData, AdvanceData, cut_of}
 use Rattle.redo_core.specs.Order.{CutBefore, AdvanceBefore}
-use Rattle.redo_core.specs.Roster.{IsReader, least}
-use Rattle.epoch_book.specs.Book.{BookData, roster_of, IsBook}
+use Rattle.redo_core.specs.Roster.{least}
+use Rattle.epoch_book.specs.Book.{BookData, IsBook}
 use Rattle.epoch_book.specs.Refusing.{Contradict, CutsBelow, RefusesCut, RefusesAdvance}
 use Rattle.epoch_book.specs.declared.refusals.Held.{Held}
 use Rattle.epoch_book.specs.declared.refusals.Held.TheVariants.{Min, Advance, Cut}
