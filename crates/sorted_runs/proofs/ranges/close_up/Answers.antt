@@ -21,9 +21,9 @@ closed (x ∷ xs) row from gap place long le end kept moved =
     let front : length (take from all) ≡ from = take_long all from (omega arith) in
     let cut = long_range all from (from + gap) (omega arith) le in
     ext_get_or x (take left row) (remove_range all from (from + gap)) (omega arith) (λ k lt. get_or-take left row k x (omega arith) ∙ ⊎_elim
-      (λ below. kept k x below ∙ sym (get_or_append_left (take from all) (drop (from + gap) all) x k (omega arith) ∙ get_or-take from all k x below))
-      (λ above. moved k x above (omega arith) ∙ sym (get_or-append_right (take from all) (drop (from + gap) all) from k x front above ∙ get_or-drop (from + gap) all (k - from) x))
-      (cases_lt k from))
+    (λ below. kept k x below ∙ sym (get_or_append_left (take from all) (drop (from + gap) all) x k (omega arith) ∙ get_or-take from all k x below))
+    (λ above. moved k x above (omega arith) ∙ sym (get_or-append_right (take from all) (drop (from + gap) all) from k x front above ∙ get_or-drop (from + gap) all (k - from) x))
+    (cases_lt k from))
 
 pub loop-place-init : goal.loop-place-init
 loop-place-init g c = record { kept = λ k d lt. refl; moved = λ k d ge lt. absurd (omega arith); rest = λ k d ge. refl }
