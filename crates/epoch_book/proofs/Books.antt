@@ -1,5 +1,5 @@
 -- What a book is, and knows, after a fact.
-use Rattle.std.proofs.Common.{◌≡◌, ◌≢◌, ℕ, zero, suc, ◌-◌, ◌<◌, ◌≤◌, ◌⊎◌, ◌↔◌, inl, inr, ⊎_elim, List, [], ◌∷◌, ◌++◌, length, get_or, replicate, max, ltb, refl, sym, ap, ◌∙◌, subst, arith, true, None}
+use Rattle.std.proofs.Common.{◌≡◌, ◌≢◌, ℕ, zero, suc, ◌-◌, ◌<◌, ◌≤◌, ◌⊎◌, ◌↔◌, inl, inr, ⊎_elim, List, [], ◌∷◌, ◌++◌, length, get_or, replicate, max, ltb, refl, sym, ap, ◌∙◌, subst, arith, true, None, rules}
 use Rattle.std.specs.List.{Contains, All, filter, insert}
 use Rattle.std.specs.List.Sorted.{IsPartitionPoint}
 use Rattle.std.proofs.lemmas.List.Elements.{All-contains, All-filter}
@@ -63,20 +63,7 @@ raised_points n k j as' bs given old new points raises before more cases = recor
 -- points that no advance raises
 pub unraised_points : (k : ℕ) (old : List ℕ) (given : List AdvanceData)
     → ((a : AdvanceData) → Contains given a → a.epoch ≤ k → IsReader (length old) a.reader → a.point ≤ point_of old a.reader) → RaisesPoints k old given old
-unraised_points k old given low = record {
-  count = refl;
-  each = λ reader r. (
-    inr (inl refl),
-    λ m h. ⊎_elim
-        (λ (q : m ≡ point_of old reader). omega arith)
-        (λ (w : HasAdvance given k reader m).
-        let t : w.0.point ≤ point_of old w.0.reader = low w.0 w.1 w.2 (subst (IsReader (length old)) (sym w.3) r) in
-        let u : w.0.point ≤ point_of old reader = subst (λ i. w.0.point ≤ point_of old i) w.3 t in
-        let e : w.0.point ≡ m = w.4 in
-        omega arith)
-        h,
-  );
-}
+unraised_points k old given low = search rules
 
 pub new_knows : (n : ℕ) (cs : List CutData) (ps : List ℕ) (ws : List AdvanceData) → cs ≡ [] → ps ≡ replicate n 0 → ws ≡ [] → KnowsFacts [] (book_of cs 0 ps ws)
 new_knows n cs ps ws e p f = record {
@@ -93,12 +80,7 @@ new_knows n cs ps ws e p f = record {
 
 -- a truncation that is held
 pub held_learns : (b : BookData) (c : CutData) → IsBook b → Contains b.cuts c → LearnsCut b c b
-held_learns b c book held = record {
-  cuts = λ d. (λ h. inl h, λ h. ⊎_elim (λ (p : Contains b.cuts d). p) (λ (q : d ≡ c). subst (Contains b.cuts) (sym q) held) h);
-  points = unraised_points b.complete b.points b.waits
-      (λ a h le r. absurd (let l : b.complete < a.epoch = All-contains (λ x. b.complete < x.epoch) b.waits a book.waits_later h in omega (arith, le)));
-  waits = λ a. (λ h. (h, All-contains (λ x. b.complete < x.epoch) b.waits a book.waits_later h), λ h. h.0);
-}
+held_learns b c book held = search rules
 
 -- a truncation
 pub cut_knows : (old : BookData) (c : CutData) (new : BookData) → IsBook old → IsBook new → LearnsCut old c new → KnowsMore old (Cut c) new
@@ -228,18 +210,7 @@ cut_book_by b i c k n xs ys vs ws is read seen book l gap shaped fits complete g
 pub wait_book : (b : BookData) (i : ℕ) (a : AdvanceData) → IsBook b → i ≤ length b.waits → IsPartitionPoint (λ w. AdvanceBefore w a)
     (λ w. AdvanceBefore a w) b.waits i → advance_fault a ≡ None → b.complete < a.epoch → IsReader (roster_of b) a.reader
     → IsBook (book_of b.cuts b.complete b.points (insert b.waits i a))
-wait_book b i a book l gap shaped later reader = record {
-  cuts_rise = book.cuts_rise;
-  cuts_shaped = book.cuts_shaped;
-  epochs_fit = book.epochs_fit;
-  complete = book.complete;
-  roster = book.roster;
-  points_shaped = book.points_shaped;
-  waits_rise = rising_insert_at AdvanceBefore b.waits i a l book.waits_rise gap.0 gap.1;
-  waits_shaped = inserted (λ w. advance_fault w ≡ None) b.waits i a shaped book.waits_shaped;
-  waits_later = inserted (λ w. b.complete < w.epoch) b.waits i a later book.waits_later;
-  waits_readers = inserted (λ w. IsReader (roster_of b) w.reader) b.waits i a reader book.waits_readers;
-}
+wait_book b i a book l gap shaped later reader = search (rules, rising_insert_at, inserted)
 
 pub wait_learns : (b : BookData) (i : ℕ) (a : AdvanceData) → b.complete < a.epoch → LearnsAdvance b a (book_of b.cuts b.complete b.points (insert b.waits i a))
 wait_learns b i a later = record {
@@ -247,19 +218,6 @@ wait_learns b i a later = record {
   complete = refl;
   known = λ l. absurd (omega arith);
   later = λ l. record { points = refl; waits = λ w. contains_insert b.waits i a w };
-}
-
--- an advance that counts
-pub known_learns : (b : BookData) (a : AdvanceData) → a.epoch ≤ b.complete → a.point ≤ point_of b.points a.reader → LearnsAdvance b a b
-known_learns b a l p = record {
-  cuts = refl;
-  complete = refl;
-  known = λ _. record {
-    points = unraised_points b.complete b.points (a ∷ [])
-        (λ w h le r. let e : a ≡ w = only a w h in subst (λ x. x.point ≤ point_of b.points x.reader) e p);
-    waits = refl;
-  };
-  later = λ m. absurd (omega arith);
 }
 
 -- the points after one advance that counts
@@ -297,15 +255,6 @@ raises_one k old new a le count raised others = record {
               (λ (w : HasAdvance (a ∷ []) k reader m). absurd (off (sym (ap (λ x. x.reader) (only a w.0 w.1) ∙ w.3))))
               h,
         )
-
-pub raised_learns : (b : BookData) (a : AdvanceData) (n : List ℕ) → a.epoch ≤ b.complete → RaisesPoints b.complete b.points (a ∷ []) n
-    → LearnsAdvance b a (book_of b.cuts b.complete n b.waits)
-raised_learns b a n l e = record {
-  cuts = refl;
-  complete = refl;
-  known = λ _. record { points = e; waits = refl };
-  later = λ m. absurd (omega arith);
-}
 
 pub raised_book : (b : BookData) (a : AdvanceData) (n : List ℕ) → IsBook b → advance_fault a ≡ None → RaisesPoints b.complete b.points (a ∷ []) n
     → IsBook (book_of b.cuts b.complete n b.waits)

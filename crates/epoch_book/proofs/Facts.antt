@@ -1,5 +1,5 @@
 -- What one fact more adds to the truncations and advances of a list of facts.
-use Rattle.std.proofs.Common.{◌≡◌, ◌⊎◌, ◌↔◌, inl, inr, ⊎_elim, List, [], ◌∷◌, ◌++◌, sym, subst}
+use Rattle.std.proofs.Common.{◌≡◌, ◌⊎◌, ◌↔◌, inl, inr, ⊎_elim, List, [], ◌∷◌, ◌++◌, sym, subst, rules}
 use Rattle.std.specs.List.{Contains}
 use Rattle.std.proofs.lemmas.List.Elements.{filter_map-append, Contains-append_left, Contains-append_right, Contains-append_cases}
 use Rattle.redo_core.specs.Data.{CutData, AdvanceData}
@@ -24,10 +24,7 @@ one_added xs ys y x e = (
 )
 
 none_added : {X : Type 0} (xs ys : List X) (x : X) → ys ≡ xs ++ [] → Contains ys x ↔ Contains xs x
-none_added xs ys x e = (
-  λ h. ⊎_elim (λ (p : Contains xs x). p) (λ (q : Contains [] x). absurd (none_in x q)) ((added xs ys [] x e).0 h),
-  λ h. (added xs ys [] x e).1 (inl h),
-)
+none_added xs ys x e = search rules
 
 pub cuts_with_cut : (facts : List Fact) (c d : CutData) → Contains (cuts (facts ++ Cut c ∷ [])) d ↔ (Contains (cuts facts) d ⊎ (d ≡ c))
 unfolding cuts

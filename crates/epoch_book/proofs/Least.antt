@@ -1,6 +1,6 @@
 -- The least lo of the truncations above each epoch.
 use Rattle.std.proofs.Common.{◌≡◌, ℕ, zero, suc, ◌+◌, ◌-◌, ◌<◌, ◌≤◌, ◌⊎◌, inl, inr, ⊎_elim, List, [], ◌∷◌, length, get_or, set, min, refl, sym, ◌∙◌, ap, subst, arith, get_or-set_other, Option, Some, None, IfSome, IsNone}
-use Rattle.std.specs.List.{Contains, All, insert, remove}
+use Rattle.std.specs.List.{Contains, All, insert}
 use Rattle.std.specs.List.Sorted.{IsPartitionPoint}
 use Rattle.std.proofs.lemmas.List.Elements.{All-contains}
 use Rattle.std.proofs.lemmas.Bool.Decides.{nat_tests}
@@ -171,11 +171,6 @@ lows_kept b i c lows book gap shaped are = record {
             ((contains_insert b.cuts i c d).0 h);
       };
 }
-
-pub remove_insert : {X : Type 0} (xs : List X) (i : ℕ) (x : X) → i ≤ length xs → remove (insert xs i x) i ≡ xs
-remove_insert xs zero x l = refl
-remove_insert [] (suc i) x l = absurd (omega (arith, l))
-remove_insert {X} (z ∷ zs) (suc i) x l = ap (λ (l : List X). z ∷ l) (remove_insert zs i x (omega (arith, l)))
 
 -- a number that no later truncation annuls
 pub spared_by : (cs : List CutData) (k e n : ℕ) (lows : List ℕ) → AreLows cs k lows → (e < length lows → n ≤ get_or lows e 0) → (c : CutData) → Contains cs c → e < c.epoch

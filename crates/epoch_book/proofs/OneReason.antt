@@ -1,5 +1,5 @@
 -- A book refuses a fact for one reason.
-use Rattle.std.proofs.Common.{◌≡◌, ℕ, ◌<◌, ◌≤◌, ◌⊎◌, ⊎_elim, List, length, get_or, refl, sym, ap, ◌∙◌, subst, arith, Option, Some, None}
+use Rattle.std.proofs.Common.{◌≡◌, ℕ, ◌<◌, ◌≤◌, ◌⊎◌, ⊎_elim, List, length, get_or, refl, sym, ap, ◌∙◌, arith, Option, None, rules}
 use Rattle.std.specs.List.{Contains, HoldsAt}
 use Rattle.std.specs.Option.{MatchOption, IfSome, IsSomeAnd}
 use Rattle.redo_core.specs.Data.{CutData, AdvanceData, cut_of}
@@ -11,7 +11,6 @@ use Rattle.epoch_book.specs.declared.refusals.Held.{Held}
 use Rattle.epoch_book.specs.declared.refusals.Held.TheVariants.{Min, Advance, Cut}
 use Rattle.epoch_book.specs.declared.refusals.BookRefusal.{BookRefusal}
 use Rattle.epoch_book.specs.declared.refusals.BookRefusal.TheVariants.{OtherRoster, OtherCut, Contradiction, Memory}
-use Rattle.redo_core.proofs.Members.{item}
 use Rattle.redo_core.proofs.Rising.{rising_members}
 use Rattle.redo_core.proofs.Pairs.{advance_apart}
 use Rattle.epoch_book.proofs.Rising.{one_first}
@@ -26,9 +25,7 @@ same_cut b c d book hc hd e =
 -- the truncation that was read at a place
 pub held_at : (b : BookData) (cs : List CutData) (i e : ℕ) (d : CutData) → cs ≡ b.cuts → (i < length cs) × HoldsAt (λ c. c.epoch ≡ e) cs i
     → d ≡ get_or b.cuts i d → Contains b.cuts d × (d.epoch ≡ e)
-held_at b cs i e d same at read =
-    let found : (i < length b.cuts) × HoldsAt (λ c. c.epoch ≡ e) b.cuts i = subst (λ xs. (i < length xs) × HoldsAt (λ c. c.epoch ≡ e) xs i) same at in
-    (item b.cuts i d found.0 read, ap (λ c. c.epoch) read ∙ found.1 d)
+held_at b cs i e d same at read = search rules
 
 pub same_data : (c d : CutData) → c.epoch ≡ d.epoch → c.lo ≡ d.lo → c.hi ≡ d.hi → c ≡ d
 same_data c d e l h = ap (λ n. cut_of n c.lo c.hi) e ∙ ap (λ n. cut_of d.epoch n c.hi) l ∙ ap (λ n. cut_of d.epoch d.lo n) h
@@ -94,6 +91,4 @@ one_advance_refusal b a Memory f h k = absurd h
 -- what is said of an advance is said of it as what a truncation contradicts
 pub mapped_to_held : (s : Option AdvanceData) (r : Option Held) (P : AdvanceData → Type 0) (Q : Held → Type 0)
     → MatchOption s (r ≡ None) (λ x. IsSomeAnd r (λ h. h ≡ Advance x)) → IfSome s P → ((x : AdvanceData) → P x → Q (Advance x)) → IfSome r Q
-mapped_to_held None r P Q e h q = subst (λ o. IfSome o Q) (sym e) tt
-mapped_to_held (Some x) None P Q e h q = absurd e
-mapped_to_held (Some x) (Some y) P Q e h q = subst Q (sym e) (q x h)
+mapped_to_held s r P Q e h q = search rules

@@ -1,5 +1,5 @@
 -- What a binary search finds in the lists of a book.
-use Rattle.std.proofs.Common.{◌≡◌, ℕ, ◌<◌, ◌≤◌, ◌⊎◌, inl, inr, List, length, get_or, refl, sym, subst, arith, Result, Ok, Err, IfOk, IfErr, Ordering, Less, Equal, Greater}
+use Rattle.std.proofs.Common.{◌≡◌, ℕ, ◌<◌, ◌≤◌, ◌⊎◌, List, length, get_or, refl, sym, subst, arith, Result, Ok, Err, IfOk, IfErr, Ordering, Less, Equal, Greater, rules}
 use Rattle.std.specs.List.{Contains, HoldsAt}
 use Rattle.std.specs.List.Sorted.{IsSearchInRange, IsBinarySearchResult, IsNonDecreasingBy, IsPartitionPoint}
 use Rattle.std.specs.Ordering.{nat_cmp, ordering_then, ordering_index, MatchOrdering}
@@ -12,13 +12,7 @@ use Rattle.redo_core.proofs.Rising.{rising_by}
 -- an order against one thing rises with it
 pub rank_le : (o p : Ordering) (P Q R S T U : Type 0) → MatchOrdering o P Q R → MatchOrdering p S T U → (Q → S → ⊥) → (R → S → ⊥) → (R → T → ⊥)
     → ordering_index o ≤ ordering_index p
-rank_le Less p P Q R S T U h k qs rs rt = omega arith
-rank_le Equal Less P Q R S T U h k qs rs rt = absurd (qs h k)
-rank_le Equal Equal P Q R S T U h k qs rs rt = omega arith
-rank_le Equal Greater P Q R S T U h k qs rs rt = omega arith
-rank_le Greater Less P Q R S T U h k qs rs rt = absurd (rs h k)
-rank_le Greater Equal P Q R S T U h k qs rs rt = absurd (rt h k)
-rank_le Greater Greater P Q R S T U h k qs rs rt = omega arith
+rank_le o p P Q R S T U h k qs rs rt = search rules
 
 pub at_less : (o : Ordering) (P Q R : Type 0) → MatchOrdering o P Q R → o ≡ Less → P
 at_less o P Q R h e = subst (λ v. MatchOrdering v P Q R) e h
@@ -41,8 +35,7 @@ epochs_rise cs e r = rising_by CutBefore (λ c. ordering_index (nat_cmp c.epoch 
 
 pub epoch_found : (cs : List CutData) (e : ℕ) (r : Result ℕ ℕ) → IsSearchInRange r (length cs) → IsBinarySearchResult (λ c. nat_cmp c.epoch e) cs r
     → IfOk r (λ i. (i < length cs) × HoldsAt (λ c. c.epoch ≡ e) cs i)
-epoch_found cs e (Ok i) l h = (l, λ d. at_equal (nat_cmp (get_or cs i d).epoch e) _ _ _ (epoch_ranked (get_or cs i d) e) (h d))
-epoch_found cs e (Err i) l h = tt
+epoch_found cs e r l h = search rules
 
 pub epoch_absent : (cs : List CutData) (e : ℕ) (r : Result ℕ ℕ) → IsRising CutBefore cs → IsSearchInRange r (length cs)
     → IsBinarySearchResult (λ c. nat_cmp c.epoch e) cs r → IfErr r (λ i. (i ≤ length cs) × IsPartitionPoint (λ c. c.epoch < e) (λ c. e < c.epoch) cs i)
@@ -63,34 +56,14 @@ advance_cmp a b = ordering_then (ordering_then (nat_cmp a.epoch b.epoch) (nat_cm
 
 pub then_at : (o p : Ordering) (P Q R S T U : Type 0) → MatchOrdering o P Q R → MatchOrdering p S T U → MatchOrdering (ordering_then o p) (P ⊎ (Q × S)) (Q × T)
     (R ⊎ (Q × U))
-then_at Less p P Q R S T U h k = inl h
-then_at Equal Less P Q R S T U h k = inr (h, k)
-then_at Equal Equal P Q R S T U h k = (h, k)
-then_at Equal Greater P Q R S T U h k = inr (h, k)
-then_at Greater p P Q R S T U h k = inl h
+then_at o p P Q R S T U h k = search rules
 
 pub turned : (o : Ordering) (P Q R P' Q' R' : Type 0) → (P → P') → (Q → Q') → (R → R') → MatchOrdering o P Q R → MatchOrdering o P' Q' R'
-turned Less P Q R P' Q' R' f g h x = f x
-turned Equal P Q R P' Q' R' f g h x = g x
-turned Greater P Q R P' Q' R' f g h x = h x
-
-below_key : (a b : AdvanceData) → ((a.epoch < b.epoch) ⊎ ((a.epoch ≡ b.epoch) × (a.reader < b.reader)))
-    ⊎ (((a.epoch ≡ b.epoch) × (a.reader ≡ b.reader)) × (a.point < b.point)) → AdvanceBefore a b
-below_key a b h = grind arith
-
-above_key : (a b : AdvanceData) → ((b.epoch < a.epoch) ⊎ ((a.epoch ≡ b.epoch) × (b.reader < a.reader)))
-    ⊎ (((a.epoch ≡ b.epoch) × (a.reader ≡ b.reader)) × (b.point < a.point)) → AdvanceBefore b a
-above_key a b h = grind arith
+turned o P Q R P' Q' R' f g h x = search rules
 
 advance_ranked : (a b : AdvanceData) → MatchOrdering (advance_cmp a b) (AdvanceBefore a b) (((a.epoch ≡ b.epoch) × (a.reader ≡ b.reader)) × (a.point ≡ b.point))
     (AdvanceBefore b a)
-advance_ranked a b =
-    let first = then_at (nat_cmp a.epoch b.epoch) (nat_cmp a.reader b.reader) (a.epoch < b.epoch) (a.epoch ≡ b.epoch) (b.epoch < a.epoch) (a.reader < b.reader)
-    (a.reader ≡ b.reader) (b.reader < a.reader)
-    (ranked a.epoch b.epoch (nat_cmp a.epoch b.epoch) refl) (ranked a.reader b.reader (nat_cmp a.reader b.reader) refl) in
-    turned (advance_cmp a b) _ _ _ _ _ _ (below_key a b) (λ x. x) (above_key a b)
-    (then_at (ordering_then (nat_cmp a.epoch b.epoch) (nat_cmp a.reader b.reader)) (nat_cmp a.point b.point) _ _ _ (a.point < b.point) (a.point ≡ b.point)
-    (b.point < a.point) first (ranked a.point b.point (nat_cmp a.point b.point) refl))
+advance_ranked a b = search rules
 
 same_key : (a b : AdvanceData) → ((a.epoch ≡ b.epoch) × (a.reader ≡ b.reader)) × (a.point ≡ b.point) → a ≡ b
 same_key a b q = same_advance a b q.0.0 q.0.1 q.1
@@ -112,11 +85,7 @@ advance_found ws x (Err i) l h = tt
 
 pub advance_at : (ws : List AdvanceData) (x : AdvanceData) (r : Result ℕ ℕ) → IsSearchInRange r (length ws) → IsBinarySearchResult (λ a. advance_cmp a x) ws r
     → IfOk r (λ i. (i < length ws) × HoldsAt (λ a. a ≡ x) ws i)
-advance_at ws x (Ok i) l h = (
-  l,
-  λ d. let q = at_equal (advance_cmp (get_or ws i d) x) _ _ _ (advance_ranked (get_or ws i d) x) (h d) in same_key (get_or ws i d) x q,
-)
-advance_at ws x (Err i) l h = tt
+advance_at ws x r l h = search rules
 
 pub advance_absent : (ws : List AdvanceData) (x : AdvanceData) (r : Result ℕ ℕ) → IsRising AdvanceBefore ws → IsSearchInRange r (length ws)
     → IsBinarySearchResult (λ a. advance_cmp a x) ws r

@@ -1,5 +1,5 @@
 -- The first thing with a property, in a rising list and alone.
-use Rattle.std.proofs.Common.{◌≡◌, ℕ, zero, suc, ◌<◌, inl, inr, ⊎_elim, List, [], ◌∷◌, length, get_or, take, sym, ◌∙◌, subst, arith}
+use Rattle.std.proofs.Common.{◌≡◌, ℕ, zero, suc, ◌<◌, inl, inr, ⊎_elim, List, [], ◌∷◌, length, get_or, take, sym, ◌∙◌, subst, arith, rules}
 use Rattle.std.specs.List.{Contains, All}
 use Rattle.redo_core.specs.Order.{IsRising}
 use Rattle.redo_core.proofs.Members.{here, there, which, each}
@@ -26,7 +26,4 @@ first_place {X} Before P (z ∷ zs) (suc i) x r l e p none =
 -- there is one first thing
 pub one_first : {X : Type 0} (Before : X → X → Type 0) (P : X → Type 0) (x y : X) → ((u v : X) → Before u v → Before v u → ⊥) → IsFirst Before P x
     → IsFirst Before P y → x ≡ y
-one_first Before P x y apart fx fy =
-    ⊎_elim (λ (e : y ≡ x). sym e)
-    (λ (b : Before x y). ⊎_elim (λ (e : x ≡ y). e) (λ (c : Before y x). absurd (apart x y b c)) (fy.least x fx.has))
-    (fx.least y fy.has)
+one_first Before P x y apart fx fy = search rules

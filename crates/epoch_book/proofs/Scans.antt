@@ -1,5 +1,5 @@
 -- Scans of a book's lists.
-use Rattle.std.proofs.Common.{◌≡◌, ℕ, zero, suc, ◌<◌, ◌≤◌, ◌⊎◌, ◌↔◌, ⊎_elim, List, [], ◌∷◌, length, get_or, refl, ap, arith, Result, Ok, Err, IfOk, IfErr, IsTrue}
+use Rattle.std.proofs.Common.{◌≡◌, ℕ, zero, suc, ◌<◌, ◌≤◌, ◌↔◌, List, [], ◌∷◌, length, get_or, refl, arith, Result, Ok, Err, IfOk, IfErr, IsTrue, rules}
 use Rattle.std.specs.List.{HoldsAt}
 use Rattle.std.specs.List.Sorted.{IsPartitionPoint}
 use Rattle.redo_core.specs.Data.{CutData}
@@ -19,12 +19,7 @@ cut_at (c ∷ cs) e i l h = (get_or (c ∷ cs) i c, (i, l, same_default (c ∷ c
 
 -- no truncation at a gap
 pub no_cut : (cs : List CutData) (e i : ℕ) → IsPartitionPoint (λ c. c.epoch < e) (λ c. e < c.epoch) cs i → LacksCut cs e
-no_cut cs e i gap d h q = ⊎_elim
-    (λ (l : h.0 < i). let b : (get_or cs h.0 d).epoch < e = gap.0 h.0 d (omega arith) l in let s : (get_or cs h.0 d).epoch ≡ d.epoch = ap (λ x. x.epoch) h.2 in
-    omega arith)
-    (λ (l : i ≤ h.0). let b : e < (get_or cs h.0 d).epoch = gap.1 h.0 d l h.1 in let s : (get_or cs h.0 d).epoch ≡ d.epoch = ap (λ x. x.epoch) h.2 in
-    omega arith)
-    (let t : (h.0 < i) ⊎ (i ≤ h.0) = grind arith in t)
+no_cut cs e i gap d h q = search rules
 
 -- whether a search finds a truncation
 pub found_cut : (cs : List CutData) (e : ℕ) (r : Result ℕ ℕ) → IfOk r (λ i. (i < length cs) × HoldsAt (λ c. c.epoch ≡ e) cs i)

@@ -1,5 +1,5 @@
 -- One frame more is answered.
-use Rattle.std.proofs.Common.{◌≡◌, ℕ, ◌+◌, List, [], ◌∷◌, ◌++◌, length, take, map, Option, refl, sym, ap, ◌∙◌, subst, append-nil}
+use Rattle.std.proofs.Common.{◌≡◌, ℕ, ◌+◌, List, [], ◌∷◌, ◌++◌, length, take, map, Option, refl, sym, ap, ◌∙◌, subst, append-nil, rules}
 use Rattle.std.specs.Prelude.{true}
 use Rattle.std.specs.List.{concat}
 use Rattle.std.specs.Io.KnownBytes.{Appends}
@@ -18,9 +18,7 @@ frames_more xs x = map-append framed xs (x ∷ [])
 
 -- the bytes of one frame more
 pub joined : (xs : List (List ℕ)) (x : List ℕ) → concat (map framed (xs ++ x ∷ [])) ≡ concat (map framed xs) ++ framed x
-joined xs x =
-    ap concat (frames_more xs x) ∙ concat-append (map framed xs) (framed x ∷ [])
-    ∙ ap (λ (l : List ℕ). concat (map framed xs) ++ l) (append-nil (framed x))
+joined xs x = search (rules, frames_more, concat-append)
 
 module _ {W M : Type 0} (answers : M → List ℕ → List ℕ → M → Type 0) (contents : W → Option (List ℕ)) (limit : ℕ) where
   pub answered_none : (old : M) (writer : Watched W) → AreAnswered answers contents limit [] old old writer writer

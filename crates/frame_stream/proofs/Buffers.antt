@@ -1,24 +1,21 @@
 -- Parts of a buffer.
-use Rattle.std.proofs.Common.{◌≡◌, ℕ, ◌+◌, ◌≤◌, List, ◌++◌, length, take, ap, ◌∙◌, subst, arith, length-append}
-use Rattle.std.proofs.lemmas.List.{take-append-le, length-take}
+use Rattle.std.proofs.Common.{◌≡◌, ℕ, ◌+◌, ◌≤◌, List, ◌++◌, length, take, ap, ◌∙◌, subst, arith, length-append, rules}
+use Rattle.std.proofs.lemmas.Grind.{common_steps}
+use Rattle.std.proofs.lemmas.List.{take-append-le}
 use Rattle.std.proofs.lemmas.Slice.{take-put_mid}
 use Rattle.std.proofs.Math.Seq.{take-append-add, take-append_seam}
 use borrow.Rule.Slice.PartMut.{put_mid, post_of}
 
 -- a beginning of what was put behind the first bytes
 pub taken_more : (at k n : ℕ) (xs ys : List ℕ) → at ≤ length xs → n ≤ length ys → take (at + n) (put_mid at k xs ys) ≡ take at xs ++ take n ys
-taken_more at k n xs ys within few =
-    let size : length (take at xs) ≡ at = omega (arith, length-take at xs) in
-    subst (λ (m : ℕ). take (m + n) (put_mid at k xs ys) ≡ take at xs ++ take n ys) size
-    (take-append-add (take at xs) (ys ++ post_of at k xs) n ∙ ap (λ (l : List ℕ). take at xs ++ l) (take-append-le n ys (post_of at k xs) few))
+taken_more at k n xs ys within few = search (rules, take-append-add, take-append-le)
 
 -- a beginning of what was put in front
 pub taken_front : (k n : ℕ) (xs ys : List ℕ) → n ≤ length ys → take n (put_mid 0 k xs ys) ≡ take n ys
 taken_front k n xs ys few = take-append-le n ys (post_of 0 k xs) few
 
 pub taken_fits : (at k n : ℕ) (xs ys : List ℕ) → at ≤ length xs → n ≤ length ys → at + n ≤ length (put_mid at k xs ys)
-taken_fits at k n xs ys within few =
-    omega (arith, few, within, length-append (take at xs) (ys ++ post_of at k xs), length-append ys (post_of at k xs), length-take at xs)
+taken_fits at k n xs ys within few = grind (arith, common_steps)
 
 -- two parts, one behind the other, and nothing else up to there
 pub taken_both : (k j n : ℕ) (xs ys zs : List ℕ) → length ys ≡ 4 → n ≡ 4 + length zs → take n (put_mid 4 k (put_mid 0 j xs ys) zs) ≡ ys ++ zs

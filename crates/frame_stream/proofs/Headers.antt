@@ -1,5 +1,6 @@
 -- Lengths in front of bytes.
-use Rattle.std.proofs.Common.{◌≡◌, ℕ, ◌<◌, ◌^◌, List, [], ◌∷◌, ◌++◌, length, take, get_or, map, inl, inr, refl, sym, ap, ◌∙◌, subst, append_assoc, arith, length-append}
+use Rattle.std.proofs.Common.{◌≡◌, ℕ, ◌<◌, ◌^◌, List, [], ◌∷◌, ◌++◌, length, take, get_or, map, refl, sym, ap, ◌∙◌, subst, append_assoc, arith}
+use Rattle.std.proofs.lemmas.Grind.{common_steps}
 use Rattle.std.specs.Int.{w32, from_be_bytes}
 use Rattle.std.specs.List.{All, concat}
 use Rattle.std.proofs.lemmas.List.{append_cancel_left}
@@ -19,9 +20,7 @@ stated_header n bytes h = from_be_bytes-to_be_bytes_4 n h
 
 pub stated_front : (head bytes : List ℕ) → length head ≡ 4 → stated (head ++ bytes) ≡ from_be_bytes w32 head
 unfolding stated
-stated_front head bytes h =
-    let front : take 4 (head ++ bytes) ≡ head = subst (λ (n : ℕ). take n (head ++ bytes) ≡ head) h (take-append_seam head bytes) in
-    ap (from_be_bytes w32) front
+stated_front head bytes h = grind (arith, common_steps)
 
 -- four bytes are the header of the number that they spell
 pub header_of : (head : List ℕ) (n : ℕ) → length head ≡ 4 → ((i : ℕ) → get_or head i 0 < 256) → n ≡ from_be_bytes w32 head → header n ≡ head
@@ -30,17 +29,11 @@ header_of head n four bytes is = be_bytes_4 head n four bytes is
 
 -- a header, and not all of the bytes that it says
 pub begun : (n : ℕ) (bytes : List ℕ) → n < 2 ^ 32 → length bytes < n → IsBegun (header n ++ bytes)
-begun n bytes short few =
-    let says : stated (header n ++ bytes) ≡ n = stated_header n bytes short in
-    inr (omega (arith, few, says, length-append (header n) bytes, length-header n))
+begun n bytes short few = grind (arith, common_steps, stated_header, length-header)
 
 -- a whole frame has not only begun
 pub whole : (bytes rest : List ℕ) → IsShort bytes → IsBegun (framed bytes ++ rest) → ⊥
-whole bytes rest short (inl few) =
-    omega (arith, few, length-append (framed bytes) rest, length-append (header (length bytes)) bytes, length-header (length bytes))
-whole bytes rest short (inr few) =
-    let same : stated (framed bytes ++ rest) ≡ length bytes = ap stated (append_assoc (header (length bytes)) bytes rest) ∙ stated_header (length bytes) (bytes ++ rest) short in
-    omega (arith, few, same, length-append (framed bytes) rest, length-append (header (length bytes)) bytes, length-header (length bytes))
+whole bytes rest short h = grind (arith, common_steps, length-header, stated_header)
 
 pub same_front : (bytes more rest behind : List ℕ) → IsShort bytes → IsShort more → framed bytes ++ rest ≡ framed more ++ behind → (bytes ≡ more) × (rest ≡ behind)
 same_front bytes more rest behind short also e =

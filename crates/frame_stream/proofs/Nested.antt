@@ -1,7 +1,7 @@
 -- Frames that stand in the bytes of another one.
 use Rattle.std.proofs.Common.{◌≡◌, ℕ, ◌+◌, ◌*◌, ◌<◌, ◌≤◌, ◌^◌, List, [], ◌∷◌, ◌++◌, length, take, drop, map, inl, refl, sym, ap, ◌∙◌, subst, append_assoc, append-nil, arith, length-append, take-append-drop}
+use Rattle.std.proofs.lemmas.Grind.{common_steps}
 use Rattle.std.specs.List.{All, concat}
-use Rattle.std.proofs.lemmas.List.{length-take}
 use Rattle.std.proofs.lemmas.List.Elements.{All-head, All-tail, All-push}
 use Rattle.frame_stream.specs.Frames.{header, framed, IsShort, IsBegun}
 use Rattle.frame_stream.specs.Inside.{AreInside}
@@ -17,15 +17,11 @@ module _ (bytes head behind : List ℕ) (n : ℕ) (front : head ≡ take 4 bytes
   too_few short few = subst IsBegun both (begun n behind short few)
 
   pub enough : (frame rest : List ℕ) → n ≤ length behind → frame ≡ take n behind → rest ≡ drop n behind → bytes ≡ framed frame ++ rest
-  enough frame rest le is others =
-      let size : length frame ≡ n = ap length is ∙ omega (arith, le, length-take n behind) in
-      let all : frame ++ rest ≡ behind = ap (λ (l : List ℕ). l ++ rest) is ∙ ap (λ (l : List ℕ). take n behind ++ l) others ∙ take-append-drop n behind in
-      sym both ∙ ap (λ (l : List ℕ). header n ++ l) (sym all) ∙ sym (append_assoc (header n) frame rest) ∙ ap (λ (k : ℕ). (header k ++ frame) ++ rest) (sym size)
+  enough frame rest le is others = grind (arith, common_steps)
 
 -- ---- what is left of them
 pub shorter : (rest frame behind : List ℕ) → rest ≡ framed frame ++ behind → length behind < length rest
-shorter rest frame behind e =
-    omega (arith, ap length e, length-append (framed frame) behind, length-append (header (length frame)) frame, length-header (length frame))
+shorter rest frame behind e = grind (arith, common_steps, length-header)
 
 -- the first of the frames is the one that the bytes begin with
 pub first_inside : (rest frame behind : List ℕ) (frames : List (List ℕ)) → AreInside rest frames → rest ≡ framed frame ++ behind → IsShort frame

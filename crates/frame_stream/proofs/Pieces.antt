@@ -1,8 +1,8 @@
 -- Bytes that come one piece after another.
-use Rattle.std.proofs.Common.{◌≡◌, ℕ, ◌+◌, ◌*◌, ◌<◌, ◌≤◌, ◌^◌, List, ◌++◌, length, Option, Bool, true, false, Result, Ok, Err, sym, ◌∙◌, subst, arith, length-append}
+use Rattle.std.proofs.Common.{◌≡◌, ℕ, ◌+◌, ◌*◌, ◌<◌, ◌≤◌, ◌^◌, List, ◌++◌, length, Option, Bool, true, false, Result, Ok, Err, sym, subst, arith}
+use Rattle.std.proofs.lemmas.Grind.{common_steps}
 use Rattle.std.specs.Prelude.{max}
 use Rattle.std.specs.Io.KnownBytes.{Consumes}
-use Rattle.std.proofs.KnownBytes.{Consumes-trans}
 use Rattle.line_stream.specs.Watching.{device_of}
 use Rattle.line_stream.specs.declared.watched.Watched.{Watched}
 use Rattle.line_stream.specs.declared.fault.RunFault.{RunFault}
@@ -16,20 +16,12 @@ module _ {R : Type 0} (remaining : R → Option (List ℕ)) where
   pub comes_more : (reader reader' reader'' : Watched R) (old mid new : Incoming) (bytes more : List ℕ) → Comes remaining reader reader' old mid bytes
       → Consumes (remaining (device_of reader')) (remaining (device_of reader'')) more → limit_of new ≡ limit_of mid
       → room_of new ≤ max (room_of mid) (2 * (length bytes + length more)) → Comes remaining reader reader'' old new (bytes ++ more)
-  comes_more reader reader' reader'' old mid new bytes more h read limit room = record {
-    read = Consumes-trans _ _ _ bytes more h.read read;
-    limit = limit ∙ h.limit;
-    room = omega (arith, room, h.room, length-append bytes more);
-  }
+  comes_more reader reader' reader'' old mid new bytes more h read limit room = grind (arith, common_steps)
 
   comes_behind : (reader reader' reader'' : Watched R) (old mid new : Incoming) (head bytes : List ℕ)
       → Consumes (remaining (device_of reader)) (remaining (device_of reader')) head → limit_of mid ≡ limit_of old → room_of mid ≡ room_of old
       → Comes remaining reader' reader'' mid new bytes → Comes remaining reader reader'' old new (head ++ bytes)
-  comes_behind reader reader' reader'' old mid new head bytes read limit room h = record {
-    read = Consumes-trans _ _ _ head bytes read h.read;
-    limit = h.limit ∙ limit;
-    room = omega (arith, room, h.room, length-append head bytes);
-  }
+  comes_behind reader reader' reader'' old mid new head bytes read limit room h = grind (arith, common_steps)
 
   -- bytes behind the header that says how many they are
   pub frame_read : (reader reader' reader'' : Watched R) (old mid new : Incoming) (n : ℕ) (result : Result Bool RunFault)

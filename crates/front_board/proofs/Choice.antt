@@ -1,5 +1,6 @@
 -- What `select_nth_unstable` picks is the one that so many reach.
-use Rattle.std.proofs.Common.{◌≡◌, ℕ, zero, suc, ◌+◌, ◌-◌, ◌<◌, ◌≤◌, Bool, true, false, List, [], ◌∷◌, ◌++◌, length, get_or, refl, ap, subst, arith, nat_lt, cond, length-append}
+use Rattle.std.proofs.Common.{◌≡◌, ℕ, zero, suc, ◌+◌, ◌-◌, ◌<◌, ◌≤◌, Bool, true, false, List, [], ◌∷◌, ◌++◌, length, get_or, refl, ap, subst, arith, nat_lt, cond, length-append, rules}
+use Rattle.std.proofs.lemmas.Grind.{common_steps}
 use Rattle.std.specs.Prelude.{nat_le}
 use Rattle.std.specs.List.Sorted.{IsPermutation, IsSplitAround}
 use Rattle.std.specs.Ordering.{is_lt, nat_cmp}
@@ -28,16 +29,10 @@ all_from x (y ∷ ys) h =
     omega (arith, u, v, rest)
 
 one_most : (b : Bool) → cond b 1 0 ≤ 1
-one_most true = omega arith
-one_most false = omega arith
+one_most b = search rules
 
 above_few : (x : ℕ) (xs : List ℕ) → count_above x xs ≤ length xs
-above_few x [] = omega arith
-above_few x (y ∷ ys) =
-    let u : count_above x (y ∷ ys) ≡ cond (nat_lt x y) 1 0 + count_above x ys = sum_by-cons (λ z. cond (nat_lt x z) 1 0) y ys in
-    let v = one_most (nat_lt x y) in
-    let rest = above_few x ys in
-    omega (arith, u, v, rest)
+above_few x xs = grind (arith, common_steps)
 
 -- over the list that the choice left
 picked : (x need : ℕ) (front back : List ℕ) → suc (length back) ≡ need

@@ -1,5 +1,5 @@
 -- Counts over lists, and what they say of the n-th greatest.
-use Rattle.std.proofs.Common.{◌≡◌, ℕ, zero, suc, ◌+◌, ◌<◌, ◌≤◌, ◌⊎◌, ⊎_elim, Bool, true, false, List, [], ◌∷◌, length, slice_index, refl, arith, cond, nat_lt, le_refl}
+use Rattle.std.proofs.Common.{◌≡◌, ℕ, zero, suc, ◌+◌, ◌<◌, ◌≤◌, ◌⊎◌, ⊎_elim, Bool, true, List, [], ◌∷◌, length, slice_index, arith, cond, nat_lt, le_refl, rules}
 use Rattle.std.specs.Prelude.{nat_le}
 use Rattle.std.specs.List.{count_by}
 use Rattle.std.proofs.lemmas.Bool.Decides.{nat_tests}
@@ -8,9 +8,7 @@ use Rattle.front_board.specs.NthGreatest.{count_reached, IsNthGreatest}
 use Rattle.front_board.specs.Rule.{IsWithin}
 
 one_at_most : (a b : Bool) → (a ≡ true → b ≡ true) → cond a 1 0 ≤ cond b 1 0
-one_at_most true true h = omega arith
-one_at_most true false h = absurd (let e = h refl in cc)
-one_at_most false b h = omega arith
+one_at_most a b h = search rules
 
 -- where each element that passes one test has a partner that passes another, no fewer pass the other
 count_at_most : (p q : ℕ → Bool) (v w : List ℕ) → length v ≡ length w → ((k : ℕ) → k < length v → p (slice_index v k) ≡ true → q (slice_index w k) ≡ true)
@@ -33,18 +31,10 @@ passes x y a lt t = grind (arith, nat_tests)
 
 -- words that are nowhere below a view have reached what the view's entries have
 pub reached_within : (need : ℕ) (seen words : List ℕ) (answer : ℕ) → IsNthGreatest need seen answer → IsWithin seen words → need ≤ count_reached answer words
-reached_within need seen words answer nth within =
-    let more = count_at_most (nat_le answer) (nat_le answer) seen words within.same
-    (λ k l t. reaches answer (slice_index seen k) (slice_index words k) (within.each k) t) in
-    let reached = nth.reached in
-    omega (arith, more, reached)
+reached_within need seen words answer nth within = search (rules, count_at_most)
 
 not_above : (n : ℕ) (xs : List ℕ) (x y : ℕ) → IsNthGreatest n xs x → IsNthGreatest n xs y → x < y → ⊥
-not_above n xs x y nth other lt =
-    let more = count_at_most (nat_le y) (nat_lt x) xs xs refl (λ k l t. passes x y (slice_index xs k) lt t) in
-    let reached = other.reached in
-    let above = nth.above in
-    omega (arith, more, reached, above)
+not_above n xs x y nth other lt = search (rules, count_at_most)
 
 -- the n-th greatest is one number
 pub nth_greatest_unique : (n : ℕ) (xs : List ℕ) (x y : ℕ) → IsNthGreatest n xs x → IsNthGreatest n xs y → x ≡ y

@@ -1,5 +1,6 @@
 -- A step that raises one word to a front keeps the rule.
-use Rattle.std.proofs.Common.{◌≡◌, ℕ, zero, suc, ◌-◌, ◌≤◌, ◌⊎◌, ⊎_elim, List, [], ◌∷◌, length, slice_index, slice_set, max, refl, sym, ap, subst, ◌∙◌, le_refl, le_trans, arith}
+use Rattle.std.proofs.Common.{◌≡◌, ℕ, ◌-◌, ◌≤◌, ◌⊎◌, ⊎_elim, List, length, slice_index, slice_set, max, refl, sym, subst, ◌∙◌, le_refl, arith, rules}
+use Rattle.std.proofs.lemmas.Grind.{common_steps}
 use mathlib.Core.Option.{some}
 use lib.ListN.{get_elem?, length-set}
 use Rattle.atomic_table.specs.Table.{Me, Allows, Splits, keeps}
@@ -12,29 +13,15 @@ use Rattle.front_board.specs.Seat.{Publishes}
 -- one entry and its word are replaced
 within_set : (v w : List ℕ) (i y z : ℕ) → ((k : ℕ) → slice_index v k ≤ slice_index w k) → length v ≡ length w → y ≤ z → (k : ℕ)
     → slice_index (slice_set v i y) k ≤ slice_index (slice_set w i z) k
-within_set [] [] i y z h l le k = h k
-within_set [] (b ∷ ws) i y z h l le k = absurd (omega (arith, l))
-within_set (a ∷ vs) [] i y z h l le k = absurd (omega (arith, l))
-within_set (a ∷ vs) (b ∷ ws) zero y z h l le zero = le
-within_set (a ∷ vs) (b ∷ ws) zero y z h l le (suc k) = h (suc k)
-within_set (a ∷ vs) (b ∷ ws) (suc i) y z h l le zero = h zero
-within_set (a ∷ vs) (b ∷ ws) (suc i) y z h l le (suc k) = within_set vs ws i y z (λ j. h (suc j)) (omega (arith, l)) le k
+within_set v w i y z h l le k = grind (arith, common_steps)
 
 -- one word is raised
 within_raised : (f : ℕ → ℕ) (w : List ℕ) (i z : ℕ) → ((k : ℕ) → f k ≤ slice_index w k) → slice_index w i ≤ z → (k : ℕ) → f k ≤ slice_index (slice_set w i z) k
-within_raised f [] i z h up k = h k
-within_raised f (b ∷ ws) zero z h up zero = le_trans (h zero) up
-within_raised f (b ∷ ws) zero z h up (suc k) = h (suc k)
-within_raised f (b ∷ ws) (suc i) z h up zero = h zero
-within_raised f (b ∷ ws) (suc i) z h up (suc k) = within_raised (λ j. f (suc j)) ws i z (λ j. h (suc j)) up k
+within_raised f w i z h up k = grind (arith, common_steps)
 
 -- what each word has
 each_after_set : (P : ℕ → Type 0) (w : List ℕ) (i z : ℕ) → ((k : ℕ) → P (slice_index w k)) → P z → (k : ℕ) → P (slice_index (slice_set w i z) k)
-each_after_set P [] i z h p k = h k
-each_after_set P (b ∷ ws) zero z h p zero = p
-each_after_set P (b ∷ ws) zero z h p (suc k) = h (suc k)
-each_after_set P (b ∷ ws) (suc i) z h p zero = h zero
-each_after_set P (b ∷ ws) (suc i) z h p (suc k) = each_after_set P ws i z (λ j. h (suc j)) p k
+each_after_set P w i z h p k = grind (arith, common_steps)
 
 pub fronts_after_set : (log : List Fact) (words : List ℕ) (node word : ℕ) → AreFronts log words → IsFrontWord log word
     → AreFronts log (slice_set words node word)
@@ -87,21 +74,14 @@ max_above n k = omega arith
 
 -- the greater of two fronts is a front
 pub max_is_front : (log : List Fact) (n k : ℕ) → IsFrontWord log k → IsFrontWord log n → IsFrontWord log (max n k)
-max_is_front log n k a b = ⊎_elim (λ (e : max n k ≡ n). subst (IsFrontWord log) (sym e) b) (λ (e : max n k ≡ k). subst (IsFrontWord log) (sym e) a)
-    (max_is_either n k)
+max_is_front log n k a b = search (rules, max_is_either)
 
 -- what a seat that publishes finds
 pub publishes : (log : List Fact) (seen old new : List ℕ) (node word published found : ℕ) → seen ≡ old → word ≡ published → IsFrontWord log found
     → slice_index seen (node - 1) ≤ found → new ≡ slice_set seen (node - 1) (max found word) → Publishes log old new node published
-publishes log seen old new node word published found same value front above entry = record {
-  found = found;
-  front = front;
-  above = subst (λ (view : List ℕ). slice_index view (node - 1) ≤ found) same above;
-  entry = entry ∙ ap (λ view. slice_set view (node - 1) (max found word)) same ∙ ap (λ w. slice_set old (node - 1) (max found w)) value;
-}
+publishes log seen old new node word published found same value front above entry = search rules
 
 -- after a step of one word the entries are still fronts
 pub fronts_after_raise : (log : List Fact) (seen new : List ℕ) (node word found : ℕ) → AreFronts log seen → IsFrontWord log word → IsFrontWord log found
     → new ≡ slice_set seen node (max found word) → AreFronts log new
-fronts_after_raise log seen new node word found all front front' entry =
-    subst (AreFronts log) (sym entry) (fronts_after_set log seen node (max found word) all (max_is_front log found word front front'))
+fronts_after_raise log seen new node word found all front front' entry = search (rules, fronts_after_set)

@@ -1,7 +1,7 @@
 -- What a walk down a range has passed, and where it may end.
-use Rattle.std.proofs.Common.{◌≡◌, ℕ, ◌<◌, ◌≤◌, ◌⊎◌, ◌↔◌, inl, inr, ⊎_elim, List, [], ◌∷◌, ◌++◌, map, reverse, true, refl, sym, ap, ◌∙◌, subst, arith}
+use Rattle.std.proofs.Common.{◌≡◌, ℕ, ◌<◌, ◌≤◌, ◌⊎◌, ◌↔◌, inl, inr, ⊎_elim, List, [], ◌∷◌, ◌++◌, map, reverse, true, refl, sym, ap, ◌∙◌, subst, arith, rules}
 use Rattle.std.specs.List.{Contains}
-use Rattle.std.proofs.lemmas.List.{append_assoc, append-nil, map-append, reverse-append}
+use Rattle.std.proofs.lemmas.List.{append_assoc, map-append, reverse-append}
 use Rattle.std.proofs.lemmas.List.Elements.{Contains-append_right, Contains-append_cases}
 use Rattle.redo_core.specs.Data.{RecordData}
 use Rattle.redo_core.specs.declared.keys.Key.{Key}
@@ -14,7 +14,7 @@ use Rattle.hot_log.specs.Alive.{IsAliveBetween}
 use Rattle.hot_log.specs.Anew.{ListsAnew}
 use Rattle.hot_log.specs.Paged.{place_cmp, records_in, IsPaged}
 use Rattle.hot_log.proofs.Paged.{Entry, Map, seen, record_in, entry_of}
-use Rattle.hot_log.proofs.Ranges.{IsRange, AliveIn, ListsAlive, Walks, same_page, in_front, between_is, alive_none, alive_all}
+use Rattle.hot_log.proofs.Ranges.{IsRange, AliveIn, ListsAlive, Walks, same_page, in_front, between_is, alive_all}
 use Rattle.hot_log.proofs.Views.{view_of, number_before}
 use Rattle.std.specs.declared.cmp.Ordering.TheVariants.{Less}
 
@@ -34,16 +34,7 @@ anew_as P Q xs same lists = ⊎_elim
 -- one more in front of a list
 lists_front : {X : Type 0} (Before : X → X → Type 0) (P Q : X → Type 0) (xs : List X) (x : X) → Lists Before P xs → ((y : X) → P y → Before x y)
     → ((y : X) → Q y ↔ ((y ≡ x) ⊎ P y)) → Lists Before Q (x ∷ xs)
-lists_front {X} Before P Q xs x lists up same = record {
-  rising = (all_of (Before x) xs (λ y h. up y ((lists.members y).0 h)), lists.rising);
-  members = λ y. (
-    λ h. (same y).1 (⊎_elim (λ (u : x ≡ y). inl (sym u)) (λ (u : Contains xs y). inr ((lists.members y).0 u)) (which x xs y h)),
-    λ h. ⊎_elim
-        (λ (u : y ≡ x). subst (λ (z : X). Contains (z ∷ xs) y) u (here y xs))
-        (λ (u : P y). there x xs y ((lists.members y).1 u))
-        ((same y).0 h),
-  );
-}
+lists_front Before P Q xs x lists up same = search (rules, all_of, there)
 
 rising_behind : {X : Type 0} (Before : X → X → Type 0) (xs ys : List X) → IsRising Before (xs ++ ys) → IsRising Before ys
 rising_behind Before [] ys rises = rises
@@ -137,8 +128,7 @@ map_reverse f (x ∷ xs) =
 -- what was pushed last stands first
 pub turned : {X : Type 0} (f : X → RecordData) (before pushed list : List X) (x : X) → pushed ≡ before ++ x ∷ [] → list ≡ reverse pushed
     → map f list ≡ f x ∷ reverse (map f before)
-turned f before pushed list x more is =
-    ap (map f) (is ∙ ap reverse more ∙ reverse_push before x) ∙ ap (λ l. f x ∷ l) (map_reverse f before)
+turned f before pushed list x more is = search (rules, reverse_push, map_reverse)
 
 pub turned_all : {X : Type 0} (f : X → RecordData) (found list : List X) → list ≡ reverse found → map f list ≡ reverse (map f found)
 turned_all f found list is = ap (map f) is ∙ map_reverse f found
@@ -150,11 +140,7 @@ pub record Descends (b : BookData) (es left : List Entry) (falling : List Record
   pub lists : ListsAlive b passed (reverse falling)
 
 pub starts : (b : BookData) (es : List Entry) (falling : List RecordData) → falling ≡ [] → Descends b es es falling
-starts b es falling none = record {
-  passed = [];
-  split = sym (append-nil es);
-  lists = subst (λ (l : List RecordData). ListsAlive b [] (reverse l)) (sym none) (alive_none b [] refl);
-}
+starts b es falling none = search rules
 
 -- one step down
 abbrev pub walks_down : (m : Map) (page : ℕ) (above to : Key) (b : BookData) (es left rest : List Entry) (falling : List RecordData) (x : Entry) → IsPaged m

@@ -1,5 +1,5 @@
 -- Where a chain without forks and strays ends.
-use Rattle.std.proofs.Common.{◌≡◌, ℕ, ◌<◌, ◌≤◌, ◌⊎◌, inl, inr, ⊎_elim, List, refl, sym, ◌∙◌, ap, subst, arith, Some}
+use Rattle.std.proofs.Common.{◌≡◌, ℕ, ◌<◌, ◌≤◌, ◌⊎◌, inl, inr, ⊎_elim, List, refl, sym, ◌∙◌, ap, subst, arith, Some, rules}
 use Rattle.std.proofs.lemmas.Bool.{cases_lt}
 use Rattle.redo_core.specs.Data.{RecordData}
 use Rattle.redo_core.specs.Keys.{key_in, key_of, KeyBefore}
@@ -22,10 +22,7 @@ pub record Climbed (b : BookData) (held : List RecordData) (from top : ℕ) : Ty
   pub closed : (z : RecordData) → IsHeldAlive b held z → top < z.number → IsLinkedFrom b held from z.back → top ≤ z.back
 
 pub climbed_none : (b : BookData) (held : List RecordData) (from : ℕ) → Climbed b held from from
-climbed_none b held from = record {
-  chain = straight_start b held from;
-  closed = λ z h lt l. link_at_least b.cuts held b.complete from z.back l;
-}
+climbed_none b held from = search (rules, straight_start, link_at_least)
 
 -- an alive record with the end of the chain as its backlink, and none of a lower key
 pub record IsStep (b : BookData) (held : List RecordData) (top : ℕ) (x : RecordData) : Type 0 where

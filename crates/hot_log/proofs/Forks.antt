@@ -1,5 +1,5 @@
 -- The search for linked numbers: down each chain in turn, and from its end up to the last fork.
-use Rattle.std.proofs.Common.{◌≡◌, ℕ, ◌+◌, ◌*◌, ◌-◌, ◌<◌, ◌≤◌, ◌⊎◌, inl, inr, ⊎_elim, List, [], ◌∷◌, ◌++◌, length, get_or, take, drop, refl, sym, ◌∙◌, ap, subst, arith, max, Some, None}
+use Rattle.std.proofs.Common.{◌≡◌, ℕ, ◌+◌, ◌*◌, ◌-◌, ◌<◌, ◌≤◌, ◌⊎◌, inl, inr, ⊎_elim, List, [], ◌∷◌, ◌++◌, length, get_or, take, drop, refl, sym, ◌∙◌, ap, subst, arith, max, Some, None, rules}
 use Rattle.std.specs.List.{Contains, AllByRecursion}
 use Rattle.std.proofs.lemmas.Bool.{cases_lt}
 use Rattle.std.proofs.lemmas.List.{length-take, length-drop, length-append}
@@ -11,7 +11,6 @@ use Rattle.redo_core.specs.Order.{IsRising, RecordBefore, Lists}
 use Rattle.redo_core.specs.Linked.{Linked}
 use Rattle.redo_core.specs.Linked.Linked.{start, next}
 use Rattle.redo_core.proofs.Members.{none_in, here, there, which, each, all_of}
-use Rattle.redo_core.proofs.Pairs.{pair_trans}
 use Rattle.redo_core.proofs.Rising.{side, rest_from}
 use Rattle.epoch_book.specs.Book.{BookData, IsBook}
 use Rattle.hot_log.specs.Held.{IsHeld, HasKey}
@@ -47,8 +46,7 @@ abbrev pub IsAlone : BookData → List RecordData → ℕ → ℕ → Type 0
 IsAlone b held from back = (r : RecordData) → Above b held from back r → ⊥
 
 ahead_cases : (b : BookData) (held : List RecordData) (from back : ℕ) (at : Key) (r : RecordData) → Ahead b held from back at r → Beside b held back at r ⊎ Above b held from back r
-ahead_cases b held from back at r (beside s t h p) = inl record { alive = h; of = refl; behind = p }
-ahead_cases b held from back at r (above u s t h l rest) = inr record { by = u; alive = h; higher = l; at = refl; rest = rest }
+ahead_cases b held from back at r h = search rules
 
 beside_at : (b : BookData) (held : List RecordData) (from back : ℕ) (at : Key) (r : RecordData) → IsHeldAlive b held r → r.back ≡ back → KeyBefore at (key_of r) → Ahead b held from back at r
 beside_at b held from back at r h e p = subst (λ (x : ℕ). Ahead b held from x at r) e (beside r at h p)
@@ -61,11 +59,7 @@ ahead_alive b held from back at r (beside s t h p) = h
 ahead_alive b held from back at r (above u s t h l rest) = ahead_alive b held from u.back (key_of u) s rest
 
 ahead_later : (b : BookData) (held : List RecordData) (from back : ℕ) (at to : Key) (r : RecordData) → KeyBefore at to → Ahead b held from back to r → Ahead b held from back at r
-ahead_later b held from back at to r p h =
-    ⊎_elim
-    (λ (u : Beside b held back to r). beside_at b held from back at r u.alive u.of (pair_trans at.epoch at.number to.epoch to.number r.epoch r.number p u.behind))
-    (λ (u : Above b held from back r). above_at b held from back at r u)
-    (ahead_cases b held from back to r h)
+ahead_later b held from back at to r p h = search (rules, beside_at, above_at)
 
 ahead_back : (b : BookData) (held : List RecordData) (from back : ℕ) (at : Key) (r : RecordData) → IsHeld held → Ahead b held from back at r → r.back ≤ back
 ahead_back b held from back at r is (beside s t h p) = omega arith
@@ -243,14 +237,7 @@ once_behind b held from limit back at top count x book is s c r h w =
 
 -- what was ahead is the record that the search looks at, or is still ahead behind it
 passes : (b : BookData) (held : List RecordData) (from back : ℕ) (at : Key) (x : RecordData) → IsNext b held back at x → (q : RecordData) → Ahead b held from back at q → (q ≡ x) ⊎ Ahead b held from back (key_of x) q
-passes b held from back at x c q h =
-    ⊎_elim
-    (λ (u : Beside b held back at q). ⊎_elim
-    (λ (e : q ≡ x). inl e)
-    (λ (p : KeyBefore (key_of x) (key_of q)). inr (beside_at b held from back (key_of x) q u.alive u.of p))
-    (c.first q u.alive u.of u.behind))
-    (λ (u : Above b held from back q). inr (above_at b held from back (key_of x) q u))
-    (ahead_cases b held from back at q h)
+passes b held from back at x c q h = search (rules, beside_at, above_at, ahead_cases)
 
 all_skip : (b : BookData) (held : List RecordData) (from limit back : ℕ) (at : Key) (top count : ℕ) (x : RecordData) → IsBook b → IsHeld held → (s : Search b held from limit back at top count) → IsNext b held back at x → limit < x.number → (r : RecordData) → IsReached b held from limit r → Contains (x ∷ s.seen) r ⊎ ComesTo b held from back (key_of x) r
 all_skip b held from limit back at top count x book is s c over r reached =
@@ -406,8 +393,7 @@ alone_below b held from back at key book is alone n last r w =
 
 -- the search has come back to its base, or to a number with nowhere to climb to: nothing is ahead
 spent : (b : BookData) (held : List RecordData) (from back : ℕ) (at : Key) (q : RecordData) → IsAliveOfBack b held back at None → IsAlone b held from back → Ahead b held from back at q → ⊥
-spent b held from back at q none alone h =
-    ⊎_elim (λ (w : Beside b held back at q). none q w.alive w.of w.behind) (λ (w : Above b held from back q). alone q w) (ahead_cases b held from back at q h)
+spent b held from back at q none alone h = search (rules, ahead_cases)
 
 pub search_end : (b : BookData) (held : List RecordData) (from limit back : ℕ) (at : Key) (top count : ℕ) → IsHeld held → Search b held from limit back at top count → IsAliveOfBack b held back at None → IsAlone b held from back → (m : ℕ) → IsLinkedFrom b held from m → m ≤ limit → m ≤ top
 search_end b held from limit back at top count is s none alone m l up =
@@ -485,23 +471,11 @@ looks b held from limit back at key top count book is s n =
 
 -- the measure falls by a record looked at, and by a climb
 pub falls_by_one : (h c d l x y : ℕ) → d ≡ c + 1 → c + 1 ≤ h → x ≤ l → (h - d) * (l + 1) + x < (h - c) * (l + 1) + y
-falls_by_one h c d l x y e le up =
-    let less : h - c ≡ (h - d) + 1 = omega arith in
-    let more : (h - c) * (l + 1) ≡ ((h - d) + 1) * (l + 1) = ap (λ n. n * (l + 1)) less in
-    let out : ((h - d) + 1) * (l + 1) ≡ (h - d) * (l + 1) + (l + 1) = omega arith in
-    omega arith
+falls_by_one h c d l x y e le up = search rules
 
 pub climbs_to : (b : BookData) (held : List RecordData) (from limit back : ℕ) (at : Key) (top count : ℕ) (u : RecordData) (e n k : ℕ) → IsBook b → IsHeld held → Search b held from limit back at top count → IsAliveOfBack b held back at None → IsHeldAlive b held u → u.number ≡ back → from < back → k ≡ u.back → e ≡ u.epoch → n ≡ u.number → Search b held from limit k (key_in e n) top count
-climbs_to b held from limit back at top count u e n k book is s none alive same lt p q r =
-    let P : ℕ → Type 0 = λ x. Search b held from limit x (key_in e n) top count in
-    let Q : ℕ → Type 0 = λ x. Search b held from limit u.back (key_in x n) top count in
-    let R : ℕ → Type 0 = λ x. Search b held from limit u.back (key_in u.epoch x) top count in
-    subst P (sym p) (subst Q (sym q) (subst R (sym r) (search_climb b held from limit back at top count u book is s none alive same lt)))
+climbs_to b held from limit back at top count u e n k book is s none alive same lt p q r = search (rules, search_climb)
 
 -- a linked number above the base is that of a record
 pub has_record : (b : BookData) (held : List RecordData) (from back : ℕ) → IsLinkedFrom b held from back → from < back → ((r : RecordData) → IsHeldAlive b held r × (r.number ≡ back) → ⊥) → ⊥
-has_record b held from back l lt none =
-    ⊎_elim
-    (λ (e : back ≡ from). omega arith)
-    (λ (w : Link b.cuts held b.complete from back). none w.by ((w.among, w.alive), w.at))
-    (link_cases b.cuts held b.complete from back l)
+has_record b held from back l lt none = search (rules, link_cases)

@@ -1,5 +1,5 @@
 -- What keeps an index the index of the held records.
-use Rattle.std.proofs.Common.{◌≡◌, ℕ, ◌⊎◌, ◌↔◌, inl, inr, ⊎_elim, List, [], refl, sym, ◌∙◌, ap, subst, Option, Some, None, Bool, true, false, Result, Ok, Err}
+use Rattle.std.proofs.Common.{◌≡◌, ℕ, ◌⊎◌, ◌↔◌, inl, inr, ⊎_elim, List, [], refl, sym, ◌∙◌, ap, subst, Option, Some, None, Bool, true, false, Result, rules}
 use Rattle.std.specs.Option.{is_some}
 use Rattle.std.specs.Result.{is_err, OnOk, OnErr}
 use Rattle.std.specs.List.{Contains}
@@ -7,7 +7,6 @@ use Rattle.redo_core.specs.Data.{RecordData}
 use Rattle.redo_core.specs.Keys.{key_in, key_of, KeyBefore}
 use Rattle.redo_core.specs.declared.keys.Key.{Key}
 use Rattle.redo_core.specs.Order.{IsRising, RecordBefore}
-use Rattle.redo_core.proofs.Members.{none_in}
 use Rattle.redo_core.proofs.Rising.{rising_members}
 use Rattle.hot_log.specs.Held.{IsHeld, HasKey, IsRecordAt, IsAbove, IsKeyAfter, IsKeyTo, IsGreatestHeld}
 use Rattle.hot_log.specs.Removing.{Removes}
@@ -72,21 +71,16 @@ index_shrinks f old new keys less redo g e n form is among key p removes loses =
 
 -- no record, no key
 pub index_of_none : (f : RecordData → ℕ) (held : List RecordData) (keys : List Place) → held ≡ [] → keys ≡ [] → IsIndexBy f held keys
-index_of_none f held keys p q = record {
-  listed = λ r h. absurd (none_in r (subst (λ (l : List RecordData). Contains l r) p h));
-  backed = λ g e n h. absurd (none_in (g, key_in e n) (subst (λ (l : List Place). Contains l (g, key_in e n)) q h));
-}
+index_of_none f held keys p q = search rules
 
 pub removes_none : (held : List RecordData) (e n : ℕ) → IsRecordAt held (key_in e n) None → Removes (HasKey (key_in e n)) held held
 removes_none held e n none r = (λ h. (h, λ k. none r h k), λ h. h.0)
 
 pub on_ok : {T E : Type 0} (r : Result T E) (b : Bool) (P : Type 0) → b ≡ is_err r → b ≡ false → OnOk r P → P
-on_ok (Ok x) b P e f h = h
-on_ok (Err x) b P e f h = absurd (cc)
+on_ok r b P e f h = search rules
 
 pub on_err : {T E : Type 0} (r : Result T E) (b : Bool) (P : Type 0) → b ≡ is_err r → b ≡ true → OnErr r P → P
-on_err (Ok x) b P e f h = absurd (cc)
-on_err (Err x) b P e f h = h
+on_err r b P e f h = search rules
 
 pub none_for : (held : List RecordData) (e n a b : ℕ) → e ≡ a → n ≡ b → IsRecordAt held (key_in e n) None → IsRecordAt held (key_in a b) None
 none_for held e n a b p q none r h key = none r h (key.0 ∙ sym p, key.1 ∙ sym q)
@@ -111,11 +105,7 @@ last_held f held keys g to (Some key) is last =
 
 -- the pages of keys: one more record, one that was added and taken out again, one record less, no record
 entry_as : (e n p a b q : ℕ) → e ≡ a → n ≡ b → p ≡ q → ◌≡◌ {A = Key × ℕ} (key_in e n, p) (key_in a b, q)
-entry_as e n p a b q x y z =
-    let one : ℕ → Key × ℕ = λ w. (key_in w n, p) in
-    let two : ℕ → Key × ℕ = λ w. (key_in a w, p) in
-    let three : ℕ → Key × ℕ = λ w. (key_in a b, w) in
-    ap one x ∙ ap two y ∙ ap three z
+entry_as e n p a b q x y z = cc
 
 pub pages_grow : (old new : List RecordData) (keys more : List (Key × ℕ)) (redo : RecordData) (e n p : ℕ) → IsKeyPages old keys → ((r : RecordData) → Contains new r ↔ (Contains old r ⊎ (r ≡ redo))) → e ≡ redo.epoch → n ≡ redo.number → p ≡ redo.page → GainsPage keys (key_in e n) p more → IsKeyPages new more
 pages_grow old new keys more redo e n p is grows x y z gains = record {
@@ -162,15 +152,11 @@ pages_shrink old new keys less e n is removes loses = record {
 }
 
 pub pages_of_none : (held : List RecordData) (keys : List (Key × ℕ)) → held ≡ [] → keys ≡ [] → IsKeyPages held keys
-pages_of_none held keys p q = record {
-  listed = λ r h. absurd (none_in r (subst (λ (l : List RecordData). Contains l r) p h));
-  backed = λ e n page h. absurd (none_in (key_in e n, page) (subst (λ (l : List (Key × ℕ)). Contains l (key_in e n, page)) q h));
-}
+pages_of_none held keys p q = search rules
 
 -- whether the key that was given a page had one
 pub had_page : (o : Option ℕ) (b : Bool) (old new : List (Key × ℕ)) (key : Key) (page : ℕ) → b ≡ is_some o → b ≡ true → AddsPage old key page new o → (p : ℕ) × Contains old (key, p)
-had_page None b old new key page e f h = absurd (cc)
-had_page (Some p) b old new key page e f h = (p, h.0)
+had_page o b old new key page e f h = search rules
 
 pub had_none : (o : Option ℕ) (b : Bool) (old new : List (Key × ℕ)) (key : Key) (page : ℕ) → b ≡ is_some o → b ≡ false → AddsPage old key page new o → IsPageOf old key None × GainsPage old key page new
 had_none None b old new key page e f h = h
@@ -199,12 +185,10 @@ removes_key old new keys e n page form is at removes r = (
 
 -- the least key above one
 key_above : (after : Option Key) (r : RecordData) → IsAbove after r → IsAboveKey after r.epoch r.number
-key_above None r h = tt
-key_above (Some key) r h = h
+key_above after r h = search rules
 
 above_key : (after : Option Key) (r : RecordData) (e n : ℕ) → HasKey (key_in e n) r → IsAboveKey after e n → IsAbove after r
-above_key None r e n k h = tt
-above_key (Some key) r e n k h = subst (λ (x : ℕ). KeyBefore key (key_in x r.number)) (sym k.0) (subst (λ (x : ℕ). KeyBefore key (key_in e x)) (sym k.1) h)
+above_key after r e n k h = search rules
 
 pub key_held : (held : List RecordData) (keys : List (Key × ℕ)) (after o : Option Key) → IsKeyPages held keys → IsLeastKey keys after o → IsKeyAfter held after o
 key_held held keys after None is least = λ r h up. least r.epoch r.number r.page (is.listed r h) (key_above after r up)

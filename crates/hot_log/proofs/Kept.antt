@@ -1,7 +1,8 @@
 -- Going over the keys above one, and what is kept of them.
-use Rattle.std.proofs.Common.{◌≡◌, ℕ, ◌<◌, ◌≤◌, ◌⊎◌, ◌↔◌, inl, inr, ⊎_elim, List, [], ◌∷◌, ◌++◌, map, refl, sym, ap, ◌∙◌, subst, arith}
+use Rattle.std.proofs.Common.{◌≡◌, ℕ, ◌<◌, ◌≤◌, ◌⊎◌, ◌↔◌, inl, inr, ⊎_elim, List, [], ◌∷◌, ◌++◌, map, refl, sym, ap, ◌∙◌, subst, arith, rules}
+use Rattle.std.proofs.lemmas.Grind.{common_steps}
 use Rattle.std.specs.List.{Contains, filter}
-use Rattle.std.proofs.lemmas.List.Elements.{Contains-append_left, Contains-append_right, Contains-append_cases}
+use Rattle.std.proofs.lemmas.List.Elements.{Contains-append_right}
 use Rattle.std.specs.declared.cmp.Ordering.TheVariants.{Less}
 use Rattle.std.specs.declared.ops.Bound.TheVariants.{Excluded, Unbounded}
 use Rattle.std.specs.List.Sorted.{IsStrictlySortedBy}
@@ -34,10 +35,7 @@ abbrev pub ListsKept : BookData → ℕ → List Entry → List Key → Type 0
 ListsKept b point xs keys = Lists KeyBefore (KeptIn b point xs) keys
 
 pub kept_none : (b : BookData) (point : ℕ) (keys : List Key) → keys ≡ [] → ListsKept b point [] keys
-kept_none b point keys is = subst (ListsKept b point []) (sym is) (record {
-  rising = tt;
-  members = λ k. (λ h. absurd (none_in k h), λ h. absurd (none_in (k, h.0.0) h.0.1));
-})
+kept_none b point keys is = search rules
 
 -- the entries in front of one in a range have lower keys
 in_front : (m : Map) (above : Key) (es xs rest : List Entry) (x : Entry) → IsStrictlySortedBy key_cmp (keys_of m)
@@ -50,16 +48,7 @@ in_front m above es xs rest x ordered is split k page h =
     key_less k x.0 (before_join Before xs rest x (k, page) rising h)
 
 joined : (xs : List Entry) (x y : Entry) → Contains (xs ++ x ∷ []) y ↔ (Contains xs y ⊎ (y ≡ x))
-joined xs x y = (
-  λ h. ⊎_elim
-      (λ (u : Contains xs y). inl u)
-      (λ (u : Contains (x ∷ []) y). ⊎_elim (λ (v : x ≡ y). inr (sym v)) (λ (v : Contains [] y). absurd (none_in y v)) (which x [] y u))
-      (Contains-append_cases xs (x ∷ []) y h),
-  λ h. ⊎_elim
-      (λ (u : Contains xs y). Contains-append_left xs (x ∷ []) y u)
-      (λ (u : y ≡ x). Contains-append_right xs (x ∷ []) y (subst (λ (z : Entry). Contains (x ∷ []) z) (sym u) (here x [])))
-      h,
-)
+joined xs x y = grind (arith, common_steps, Contains-append_right)
 
 pub kept_more : (b : BookData) (point : ℕ) (m : Map) (above : Key) (es xs rest : List Entry) (x : Entry) (keys : List Key) → IsStrictlySortedBy key_cmp (keys_of m)
     → es ≡ filter (λ (e : Entry). range_contains key_cmp (Excluded above) Unbounded e.0) m → es ≡ xs ++ x ∷ rest
@@ -133,11 +122,7 @@ of_keys P (k ∷ ks) has =
     }
 
 key_among : (rs : List RecordData) (r : RecordData) → Contains rs r → Contains (map key_of rs) (key_of r)
-key_among [] r h = absurd (none_in r h)
-key_among (x ∷ rs) r h = ⊎_elim
-    (λ (u : x ≡ r). subst (λ (y : RecordData). Contains (map key_of (x ∷ rs)) (key_of y)) u (here (key_of x) (map key_of rs)))
-    (λ (u : Contains rs r). there (key_of x) (map key_of rs) (key_of r) (key_among rs r u))
-    (which x rs r h)
+key_among rs r h = grind (arith, common_steps)
 
 record_among : (rs : List RecordData) (k : Key) → Contains (map key_of rs) k → (r : RecordData) × Contains rs r × (key_of r ≡ k)
 record_among [] k h = absurd (none_in k h)

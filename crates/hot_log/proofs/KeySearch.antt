@@ -1,43 +1,34 @@
 -- What a binary search finds among rising keys.
-use Rattle.std.proofs.Common.{◌≡◌, ◌↔◌, ℕ, ◌+◌, ◌-◌, ◌<◌, ◌≤◌, ◌⊎◌, ⊎_elim, List, length, length-take, length-drop, get_or, take, drop, refl, sym, ap, ◌∙◌, subst, arith, Bool, true, false, eqb, ◌&&◌, IsTrue, Result, Ok, Err}
+use Rattle.std.proofs.Common.{◌≡◌, ◌↔◌, ℕ, ◌-◌, ◌<◌, ◌≤◌, ◌⊎◌, ⊎_elim, List, length, get_or, take, drop, refl, sym, ap, ◌∙◌, subst, arith, Bool, true, false, eqb, ◌&&◌, IsTrue, Result, Ok, Err, rules}
+use Rattle.std.proofs.lemmas.Grind.{common_steps}
 use Rattle.std.specs.List.{All, Contains}
 use Rattle.std.specs.List.Sorted.{IsSearchInRange, IsBinarySearchResult, IsNonDecreasingBy}
-use Rattle.std.specs.Ordering.{nat_cmp, ordering_index, MatchOrdering}
+use Rattle.std.specs.Ordering.{ordering_index, MatchOrdering}
 use Rattle.std.specs.Result.{is_ok}
-use Rattle.std.proofs.lemmas.Bool.{eqb-true}
-use Rattle.std.proofs.lemmas.Cmp.{ranked}
 use Rattle.redo_core.specs.Order.{IsRising}
 use Rattle.redo_core.specs.Keys.{key_in, key_cmp, KeyBefore}
 use Rattle.redo_core.specs.declared.keys.Key.{Key}
 use Rattle.redo_core.proofs.Pairs.{pair_apart, pair_trans}
-use Rattle.std.proofs.lemmas.List.{get_or-take, get_or-drop, get_or_default}
+use Rattle.std.proofs.lemmas.List.{get_or-take, get_or_default}
 use Rattle.std.proofs.lemmas.List.Elements.{All-contains}
 use Rattle.redo_core.proofs.Rising.{rising_by, rising_at, side}
-use Rattle.epoch_book.proofs.Places.{rank_le, at_less, at_equal, at_greater, then_at, turned}
+use Rattle.epoch_book.proofs.Places.{rank_le, at_less, at_equal, at_greater}
 
 pub same_key : (k l : Key) → k.epoch ≡ l.epoch → k.number ≡ l.number → k ≡ l
 same_key k l e n = ap (λ x. key_in x k.number) e ∙ ap (λ x. key_in l.epoch x) n
 
 -- two keys that are told to be equal are one
 both : (p q : Bool) → (p && q) ≡ true → (p ≡ true) × (q ≡ true)
-both true true h = (refl, refl)
-both true false h = absurd (cc)
-both false q h = absurd (cc)
+both p q h = search rules
 
 pub are_one : (k l : Key) → (eqb k.epoch l.epoch && eqb k.number l.number) ≡ true → k ≡ l
-are_one k l same =
-    let parts = both (eqb k.epoch l.epoch) (eqb k.number l.number) same in
-    same_key k l (eqb-true k.epoch l.epoch parts.0) (eqb-true k.number l.number parts.1)
+are_one k l same = search rules
 
 above_key : (k l : Key) → (l.epoch < k.epoch) ⊎ ((k.epoch ≡ l.epoch) × (l.number < k.number)) → KeyBefore l k
 above_key k l h = grind arith
 
 key_ranked : (k l : Key) → MatchOrdering (key_cmp k l) (KeyBefore k l) (k ≡ l) (KeyBefore l k)
-key_ranked k l =
-    turned (key_cmp k l) _ _ _ _ _ _ (λ x. x) (λ e. same_key k l e.0 e.1) (above_key k l)
-    (then_at (nat_cmp k.epoch l.epoch) (nat_cmp k.number l.number) (k.epoch < l.epoch) (k.epoch ≡ l.epoch) (l.epoch < k.epoch) (k.number < l.number)
-    (k.number ≡ l.number) (l.number < k.number)
-    (ranked k.epoch l.epoch (nat_cmp k.epoch l.epoch) refl) (ranked k.number l.number (nat_cmp k.number l.number) refl))
+key_ranked k l = search rules
 
 pub apart : (k l : Key) → KeyBefore k l → KeyBefore l k → ⊥
 apart k l a b = pair_apart k.epoch k.number l.epoch l.number a b
@@ -73,21 +64,11 @@ key_found ks x (Err i) rise l h =
 
 -- rising keys in front of a place are below what the last of them is below
 pub all_below : (ks : List Key) (i : ℕ) (x e : Key) → IsRising KeyBefore ks → 0 < i → i ≤ length ks → KeyBefore (get_or ks (i - 1) e) x → All (λ k. KeyBefore k x) (take i ks)
-all_below ks i x e rise some le last = λ j d lt.
-    let low : j < i = omega (arith, length-take i ks) in
-    subst (λ k. KeyBefore k x) (sym (get_or-take i ks j d low)) (⊎_elim
-    (λ (q : j < i - 1). pair_trans _ _ _ _ _ _ (rising_at KeyBefore ks j (i - 1) d e rise q (omega arith)) last)
-    (λ (q : j ≡ i - 1). subst (λ k. KeyBefore k x) (sym (ap (λ n. get_or ks n d) q ∙ get_or_default ks (i - 1) d e (omega arith))) last)
-    (let t : (j < i - 1) ⊎ (j ≡ i - 1) = grind arith in t))
+all_below ks i x e rise some le last = search (rules, get_or-take, rising_at, get_or_default)
 
 -- rising keys from a place on are above what the first of them is above
 pub all_above : (ks : List Key) (i : ℕ) (x e : Key) → IsRising KeyBefore ks → i < length ks → KeyBefore x (get_or ks i e) → All (KeyBefore x) (drop i ks)
-all_above ks i x e rise some first = λ j d lt.
-    let high : i + j < length ks = omega (arith, length-drop i ks) in
-    subst (λ k. KeyBefore x k) (sym (get_or-drop i ks j d)) (⊎_elim
-    (λ (q : 0 < j). pair_trans _ _ _ _ _ _ first (rising_at KeyBefore ks i (i + j) e d rise (omega arith) high))
-    (λ (q : i ≡ i + j). subst (λ k. KeyBefore x k) (get_or_default ks i e d some ∙ ap (λ n. get_or ks n d) q) first)
-    (let t : (0 < j) ⊎ (i ≡ i + j) = grind arith in t))
+all_above ks i x e rise some first = grind (arith, common_steps, rising_at)
 
 -- a key between both is none of them
 pub not_among : (ks : List Key) (i : ℕ) (x : Key) → All (λ k. KeyBefore k x) (take i ks) → All (KeyBefore x) (drop i ks) → Contains ks x → ⊥

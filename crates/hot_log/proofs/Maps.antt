@@ -1,5 +1,6 @@
 -- Maps whose order is exact: what they hold where a key joins or leaves them.
-use Rattle.std.proofs.Common.{◌≡◌, ◌⊎◌, ◌↔◌, inl, inr, ⊎_elim, List, [], ◌∷◌, ◌++◌, refl, sym, ◌∙◌, ap, subst, Bool, true, false, not, ◌&&◌, cond, Some, None}
+use Rattle.std.proofs.Common.{◌≡◌, ◌⊎◌, ◌↔◌, inl, inr, ⊎_elim, List, [], ◌∷◌, ◌++◌, refl, sym, ◌∙◌, ap, subst, Bool, true, false, not, ◌&&◌, cond, Some, None, rules, arith}
+use Rattle.std.proofs.lemmas.Grind.{common_steps}
 use Rattle.std.specs.List.{Contains, AllZip, filter}
 use Rattle.std.specs.List.Sorted.{IsStrictlySortedBy}
 use Rattle.std.specs.Ordering.{is_eq, is_lt}
@@ -16,12 +17,7 @@ use Rattle.redo_core.specs.Order.{IsRising}
 use Rattle.redo_core.proofs.Members.{none_in, here, there, which, each, all_of}
 
 pub key_listed : {K X : Type 0} (es : List (K × X)) (e : K × X) → Contains es e → Contains (keys_of es) e.0
-key_listed [] e h = absurd (none_in e h)
-key_listed {K} {X} (f ∷ es) e h =
-    ⊎_elim
-    (λ (u : f ≡ e). subst (λ (x : K × X). Contains (keys_of (f ∷ es)) x.0) u (here f.0 (keys_of es)))
-    (λ (u : Contains es e). there f.0 (keys_of es) e.0 (key_listed es e u))
-    (which f es e h)
+key_listed es e h = grind (arith, common_steps)
 
 pub value_of : {K X : Type 0} (es : List (K × X)) (k : K) → Contains (keys_of es) k → (v : X) × Contains es (k, v)
 value_of [] k h = absurd (none_in k h)
@@ -207,9 +203,7 @@ none_leaves {K} {X} test (e ∷ es) h = either (test e.0) h (none_leaves test es
 
 -- tests of a range's ends
 pub lt_true : (o : Ordering) → (is_lt o && not false) ≡ true → o ≡ Less
-lt_true Less h = refl
-lt_true Equal h = cc
-lt_true Greater h = cc
+lt_true o h = search rules
 
 pub lt_of : (o : Ordering) → o ≡ Less → (is_lt o && not false) ≡ true
 lt_of o h = subst (λ (p : Ordering). (is_lt p && not false) ≡ true) (sym h) refl

@@ -1,19 +1,20 @@
 -- The order of keys in groups, and what stands first and last among the members of a rising list that pass a test.
-use Rattle.std.proofs.Common.{◌≡◌, ℕ, ◌<◌, ◌⊎◌, inl, inr, ⊎_elim, List, [], ◌∷◌, ◌++◌, refl, sym, ◌∙◌, ap, subst, arith, Bool, true}
+use Rattle.std.proofs.Common.{◌≡◌, ℕ, ◌<◌, ◌⊎◌, inl, inr, ⊎_elim, List, [], ◌∷◌, ◌++◌, sym, subst, arith, Bool, true, rules}
+use Rattle.std.proofs.lemmas.Grind.{common_steps}
 use Rattle.std.specs.List.{Contains, filter}
 use Rattle.std.specs.List.Sorted.{IsStrictlySortedBy}
 use Rattle.std.specs.Ordering.{nat_cmp, ordering_then}
 use Rattle.std.specs.Cmp.{IsTotalOrder, nat_cmp_total, then_total, on_total}
 use Rattle.std.specs.declared.cmp.Ordering.{Ordering}
-use Rattle.std.specs.declared.cmp.Ordering.TheVariants.{Less, Equal, Greater}
+use Rattle.std.specs.declared.cmp.Ordering.TheVariants.{Less, Equal}
 use Rattle.std.proofs.lemmas.Map.Lookups.{CmpEqualImpliesEq, exact_pairs, exact_unsigned}
 use Rattle.std.proofs.lemmas.List.Elements.{Contains-append_cases}
 use Rattle.redo_core.specs.Order.{IsRising}
-use Rattle.redo_core.specs.Keys.{key_in, key_cmp, KeyBefore}
+use Rattle.redo_core.specs.Keys.{key_cmp, KeyBefore}
 use Rattle.redo_core.specs.declared.keys.Key.{Key}
 use Rattle.hot_log.specs.Paged.{place_cmp}
 use Rattle.hot_log.proofs.Maps.{IsExact}
-use Rattle.redo_core.proofs.Members.{none_in, here, there, which, each, filtered, passed}
+use Rattle.redo_core.proofs.Members.{none_in, here, which, each, filtered, passed}
 use Rattle.redo_core.proofs.Rising.{rising_filter}
 
 pub key_total : IsTotalOrder key_cmp
@@ -23,14 +24,10 @@ pub place_total : IsTotalOrder place_cmp
 place_total = then_total (on_total (λ (t : ℕ × Key). t.0) nat_cmp_total) (on_total (λ (t : ℕ × Key). t.1) key_total)
 
 both_equal : (o p : Ordering) → ordering_then o p ≡ Equal → (o ≡ Equal) × (p ≡ Equal)
-both_equal Less p h = cc
-both_equal Equal p h = (refl, h)
-both_equal Greater p h = cc
+both_equal o p h = search rules
 
 pub key_exact : CmpEqualImpliesEq key_cmp
-key_exact k l h =
-    let t = both_equal (nat_cmp k.epoch l.epoch) (nat_cmp k.number l.number) h in
-    ap (λ (n : ℕ). key_in n k.number) (exact_unsigned k.epoch l.epoch t.0) ∙ ap (λ (n : ℕ). key_in l.epoch n) (exact_unsigned k.number l.number t.1)
+key_exact k l h = search rules
 
 pub place_exact : CmpEqualImpliesEq place_cmp
 place_exact = exact_pairs nat_cmp key_cmp exact_unsigned key_exact
@@ -54,14 +51,10 @@ pub key_less_of : (x y : Key) → KeyBefore x y → key_cmp x y ≡ Less
 key_less_of x y h = grind arith
 
 then_less : (o p : Ordering) → ordering_then o p ≡ Less → (o ≡ Less) ⊎ ((o ≡ Equal) × (p ≡ Less))
-then_less Less p h = inl refl
-then_less Equal p h = inr (refl, h)
-then_less Greater p h = cc
+then_less o p h = search rules
 
 less_then : (o p : Ordering) → (o ≡ Less) ⊎ ((o ≡ Equal) × (p ≡ Less)) → ordering_then o p ≡ Less
-less_then Less p h = refl
-less_then Equal p h = ⊎_elim (λ (u : Equal ≡ Less). cc) (λ (u : (Equal ≡ Equal) × (p ≡ Less)). u.1) h
-less_then Greater p h = ⊎_elim (λ (u : Greater ≡ Less). cc) (λ (u : (Greater ≡ Equal) × (p ≡ Less)). let e = u.0 in cc) h
+less_then o p h = search rules
 
 nat_less : (a b : ℕ) → nat_cmp a b ≡ Less → a < b
 nat_less a b h = grind arith
@@ -73,25 +66,15 @@ nat_same : (a b : ℕ) → a ≡ b → nat_cmp a b ≡ Equal
 nat_same a b h = grind arith
 
 pub place_less : (x y : ℕ × Key) → place_cmp x y ≡ Less → (x.0 < y.0) ⊎ ((x.0 ≡ y.0) × KeyBefore x.1 y.1)
-place_less x y h =
-    ⊎_elim
-    (λ (u : nat_cmp x.0 y.0 ≡ Less). inl (nat_less x.0 y.0 u))
-    (λ (u : (nat_cmp x.0 y.0 ≡ Equal) × (key_cmp x.1 y.1 ≡ Less)). inr (exact_unsigned x.0 y.0 u.0, key_less x.1 y.1 u.1))
-    (then_less (nat_cmp x.0 y.0) (key_cmp x.1 y.1) h)
+place_less x y h = search rules
 
 pub place_less_of : (x y : ℕ × Key) → (x.0 < y.0) ⊎ ((x.0 ≡ y.0) × KeyBefore x.1 y.1) → place_cmp x y ≡ Less
-place_less_of x y h =
-    less_then (nat_cmp x.0 y.0) (key_cmp x.1 y.1)
-    (⊎_elim
-    (λ (u : x.0 < y.0). inl (nat_less_of x.0 y.0 u))
-    (λ (u : (x.0 ≡ y.0) × KeyBefore x.1 y.1). inr (nat_same x.0 y.0 u.0, key_less_of x.1 y.1 u.1))
-    h)
+place_less_of x y h = search rules
 
 -- the order of keys is that of the list
 pub rises : {K : Type 0} (c : K → K → Ordering) (xs : List K) → IsStrictlySortedBy c xs → IsRising (λ x y. c x y ≡ Less) xs
 unfolding IsStrictlySortedBy
-rises c [] s = tt
-rises c (x ∷ xs) s = (s.0, rises c xs s.1)
+rises c xs s = search rules
 
 pub first_kept : {X : Type 0} (Before : X → X → Type 0) (p : X → Bool) (xs : List X) (x : X) (t : List X) → IsRising Before xs → filter p xs ≡ x ∷ t → Contains xs x × (p x ≡ true) × ((y : X) → Contains xs y → p y ≡ true → (x ≡ y) ⊎ Before x y)
 first_kept {X} Before p xs x t rising is =
@@ -110,8 +93,7 @@ pub none_kept : {X : Type 0} (p : X → Bool) (xs : List X) → filter p xs ≡ 
 none_kept {X} p xs is y h k = none_in y (subst (λ (l : List X). Contains l y) is (passed p xs y k h))
 
 at_end : {X : Type 0} (t : List X) (x : X) → Contains (t ++ x ∷ []) x
-at_end [] x = here x []
-at_end (z ∷ t) x = there z (t ++ x ∷ []) x (at_end t x)
+at_end t x = grind (arith, common_steps)
 
 before_last : {X : Type 0} (Before : X → X → Type 0) (t : List X) (x y : X) → IsRising Before (t ++ x ∷ []) → Contains t y → Before y x
 before_last Before [] x y r h = absurd (none_in y h)

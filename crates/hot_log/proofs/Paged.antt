@@ -1,5 +1,6 @@
 -- Records by page and key, and the same in the order of their keys.
-use Rattle.std.proofs.Common.{◌≡◌, ℕ, ◌+◌, ◌<◌, ◌⊎◌, ◌↔◌, inl, inr, ⊎_elim, List, [], ◌∷◌, length, refl, sym, ◌∙◌, ap, subst, arith, Bool, true, false, cond, Option, Some, None}
+use Rattle.std.proofs.Common.{◌≡◌, ℕ, ◌+◌, ◌<◌, ◌⊎◌, ◌↔◌, inl, inr, ⊎_elim, List, [], ◌∷◌, length, refl, sym, ◌∙◌, ap, subst, arith, Bool, true, false, cond, Option, Some, None, rules}
+use Rattle.std.proofs.lemmas.Grind.{common_steps}
 use Rattle.std.specs.List.{Contains}
 use Rattle.std.specs.declared.cmp.Ordering.TheVariants.{Less, Equal}
 use Rattle.std.specs.BTreeMap.{is_at, insert_entry}
@@ -77,8 +78,7 @@ as_long [] = refl
 as_long (r ∷ rs) = let more : length (insert_by_key r (by_key rs)) ≡ length (by_key rs) + 1 = one_longer r (by_key rs) in let same : length (by_key rs) ≡ length rs = as_long rs in omega arith
 
 count_in : (es : List Entry) → length (records_in es) ≡ length es
-count_in [] = refl
-count_in (e ∷ es) = let rest : length (records_in es) ≡ length es = count_in es in omega arith
+count_in es = grind (arith, common_steps)
 
 pub seen_long : (m : Map) → length (seen m) ≡ length m
 seen_long m = as_long (records_in m) ∙ count_in m
@@ -111,12 +111,7 @@ rising_insert r (s ∷ ss) rising apart = either (is_below r s) refl (rising_ins
     )
 
 pub record_in : (es : List Entry) (e : Entry) → Contains es e → Contains (records_in es) e.1
-record_in [] e h = absurd (none_in e h)
-record_in (f ∷ es) e h =
-    ⊎_elim
-    (λ (u : f ≡ e). subst (λ (x : Entry). Contains (records_in (f ∷ es)) x.1) u (here f.1 (records_in es)))
-    (λ (u : Contains es e). there f.1 (records_in es) e.1 (record_in es e u))
-    (which f es e h)
+record_in es e h = grind (arith, common_steps)
 
 pub entry_of : (es : List Entry) (r : RecordData) → Contains (records_in es) r → (k : Place) × Contains es (k, r)
 entry_of [] r h = absurd (none_in r h)
@@ -127,11 +122,7 @@ entry_of (f ∷ es) r h =
     (which f.1 (records_in es) r h)
 
 pub place_as : (g e n h a b : ℕ) → g ≡ h → e ≡ a → n ≡ b → ◌≡◌ {A = Place} (g, key_in e n) (h, key_in a b)
-place_as g e n h a b p q r =
-    let one : ℕ → Place = λ x. (x, key_in e n) in
-    let two : ℕ → Place = λ x. (h, key_in x n) in
-    let three : ℕ → Place = λ x. (h, key_in a x) in
-    ap one p ∙ ap two q ∙ ap three r
+place_as g e n h a b p q r = cc
 
 -- records with different places and no key twice, in the order of their keys
 pub record IsApart (es : List Entry) : Type 0 where
@@ -310,25 +301,7 @@ shrunk_paged old new page key s = record {
     was r h = (in_order (records_in old) r).0 ((shrunk_members old new page key s r).0 ((in_order (records_in new) r).1 h)).0
 
 pub empty_paged : (m : Map) → IsStrictlySortedBy place_cmp (keys_of m) → m ≡ [] → IsPaged m
-empty_paged m ordered e = record {
-  ordered = ordered;
-  placed = λ x h. absurd (none_in x (subst (λ (l : List Entry). Contains l x) e h));
-  shaped = λ r h. absurd (none r h);
-  fits = λ r h. absurd (none r h);
-  apart = λ r s h k. absurd (none r h);
-}
-  where
-    none : (r : RecordData) → Contains (records_in m) r → ⊥
-    none r h = none_in r (subst (λ (l : List Entry). Contains (records_in l) r) e h)
+empty_paged m ordered e = search rules
 
 pub same_paged : (m n : Map) → IsPaged m → IsStrictlySortedBy place_cmp (keys_of n) → n ≡ m → IsPaged n
-same_paged m n is ordered e = record {
-  ordered = ordered;
-  placed = λ x h. is.placed x (subst (λ (l : List Entry). Contains l x) e h);
-  shaped = λ r h. is.shaped r (was r h);
-  fits = λ r h. is.fits r (was r h);
-  apart = λ r s h k. is.apart r s (was r h) (was s k);
-}
-  where
-    was : (r : RecordData) → Contains (records_in n) r → Contains (records_in m) r
-    was r h = subst (λ (l : List Entry). Contains (records_in l) r) e h
+same_paged m n is ordered e = search rules

@@ -1,5 +1,5 @@
 -- The records of a page, one after the other.
-use Rattle.std.proofs.Common.{◌≡◌, ℕ, ◌<◌, ◌≤◌, ◌↔◌, ⊎_elim, List, [], sym, ap, subst, arith, Some, Result, Ok, Err, IfOk}
+use Rattle.std.proofs.Common.{◌≡◌, ℕ, ◌<◌, ◌≤◌, ◌↔◌, ⊎_elim, List, [], sym, ap, subst, arith, Some, Result, IfOk, rules}
 use Rattle.std.proofs.lemmas.Bool.{cases_lt}
 use Rattle.redo_core.specs.Data.{RecordData}
 use Rattle.redo_core.specs.Keys.{key_in, key_of, KeyBefore}
@@ -12,8 +12,7 @@ use Rattle.hot_log.specs.Found.{IsLeastRecord}
 
 -- what was answered, under another property
 pub if_ok : {T E : Type 0} (r : Result T E) (P Q : T → Type 0) → ((v : T) → P v → Q v) → IfOk r P → IfOk r Q
-if_ok (Ok v) P Q f h = f v h
-if_ok (Err e) P Q f h = tt
+if_ok r P Q f h = search rules
 
 -- the alive records between the keys that part them at two numbers are those between the numbers
 pub number_is : (b : BookData) (held : List RecordData) (page from to low high : ℕ) → PartsAt b from low → PartsAt b to high → (r : RecordData) → IsAliveBetween b held page (key_in low from) (key_in high to) r ↔ IsHeldOf b held page from to r
@@ -36,9 +35,7 @@ number_is b held page from to low high above up r = (
 )
 
 pub by_number : (b : BookData) (held : List RecordData) (page from to low high : ℕ) (xs : List RecordData) → PartsAt b from low → PartsAt b to high → Lists BeforeByNumber (IsAliveBetween b held page (key_in low from) (key_in high to)) xs → Lists BeforeByNumber (IsHeldOf b held page from to) xs
-by_number b held page from to low high xs above up lists =
-    lists_as BeforeByNumber (IsAliveBetween b held page (key_in low from) (key_in high to)) (IsHeldOf b held page from to) xs
-    (number_is b held page from to low high above up) lists
+by_number b held page from to low high xs above up lists = search (rules, lists_as, number_is)
 
 -- there are none where the keys, or the numbers, do not rise
 pub none_between : (b : BookData) (held : List RecordData) (page from to low high : ℕ) (xs : List RecordData) → PartsAt b from low → PartsAt b to high → (low ≤ high → from < to → ⊥) → xs ≡ [] → Lists BeforeByNumber (IsHeldOf b held page from to) xs

@@ -1,9 +1,10 @@
 -- What the ends of a range of keys in groups are.
-use Rattle.std.proofs.Common.{◌≡◌, ℕ, ◌<◌, ◌≤◌, ◌⊎◌, inl, inr, ⊎_elim, List, [], ◌∷◌, ◌++◌, ◌∙◌, refl, sym, ap, subst, arith, Bool, true, false, not, ◌&&◌, Some, None}
+use Rattle.std.proofs.Common.{◌≡◌, ℕ, ◌<◌, ◌≤◌, ◌⊎◌, inl, inr, ⊎_elim, List, [], ◌∷◌, ◌++◌, ◌∙◌, refl, sym, ap, subst, arith, Bool, true, false, not, ◌&&◌, Some, None, rules}
+use Rattle.std.proofs.lemmas.Grind.{common_steps}
 use Rattle.std.specs.List.{Contains, filter}
 use Rattle.std.specs.Ordering.{is_lt, is_le}
 use Rattle.std.specs.declared.cmp.Ordering.{Ordering}
-use Rattle.std.specs.declared.cmp.Ordering.TheVariants.{Less, Equal, Greater}
+use Rattle.std.specs.declared.cmp.Ordering.TheVariants.{Less, Greater}
 use Rattle.std.specs.declared.ops.Bound.TheVariants.{Included, Excluded, Unbounded}
 use Rattle.std.specs.BTreeMap.Range.{range_contains}
 use Rattle.redo_core.specs.Order.{IsRising, PairBefore}
@@ -24,53 +25,30 @@ abbrev pub Below : Place → Place → Type 0
 Below x y = place_cmp x y ≡ Less
 
 pub not_lt_true : (o : Ordering) → (true && not (is_lt o)) ≡ true → o ≡ Less → ⊥
-not_lt_true Less h e = cc
-not_lt_true Equal h e = cc
-not_lt_true Greater h e = cc
+not_lt_true o h e = cc
 
 pub not_lt_of : (o : Ordering) → (o ≡ Less → ⊥) → (true && not (is_lt o)) ≡ true
-not_lt_of Less h = absurd (h refl)
-not_lt_of Equal h = refl
-not_lt_of Greater h = refl
+not_lt_of o h = search rules
 
 le_true : (o : Ordering) → (is_le o && not false) ≡ true → o ≡ Greater → ⊥
-le_true Less h e = cc
-le_true Equal h e = cc
-le_true Greater h e = cc
+le_true o h e = cc
 
 le_of : (o : Ordering) → (o ≡ Greater → ⊥) → (is_le o && not false) ≡ true
-le_of Less h = refl
-le_of Equal h = refl
-le_of Greater h = absurd (h refl)
+le_of o h = search rules
 
 -- a key of the group above another, as the order of places says it
 in_group_above : (g a b e n : ℕ) → PairBefore a b e n → Below (g, key_in a b) (g, key_in e n)
 in_group_above g a b e n p = place_less_of (g, key_in a b) (g, key_in e n) (inr (refl, p))
 
 group_and_key : (x y : Place) → x.0 ≡ y.0 → Below x y → KeyBefore x.1 y.1
-group_and_key x y e b =
-    ⊎_elim
-    (λ (l : x.0 < y.0). absurd (omega arith))
-    (λ (p : (x.0 ≡ y.0) × KeyBefore x.1 y.1). p.1)
-    (place_less x y b)
+group_and_key x y e b = search rules
 
 pub next_none : (keys : List Place) (g : ℕ) (after : Key) → filter (range_contains place_cmp (Excluded (g, after)) Unbounded) keys ≡ [] → IsNextKey keys g after None
 next_none keys g after is e n h p =
     none_kept (range_contains place_cmp (Excluded (g, after)) Unbounded) keys is (g, key_in e n) h (lt_of (place_cmp (g, after) (g, key_in e n)) (in_group_above g after.epoch after.number e n p))
 
 pub next_some : (keys : List Place) (g : ℕ) (after : Key) (x : Place) (t : List Place) → IsRising Below keys → filter (range_contains place_cmp (Excluded (g, after)) Unbounded) keys ≡ x ∷ t → x.0 ≡ g → IsNextKey keys g after (Some x.1)
-next_some keys g after x t rising is same =
-    let test : Place → Bool = range_contains place_cmp (Excluded (g, after)) Unbounded in
-    let f = first_kept Below test keys x t rising is in
-    let above : Below (g, after) x = lt_true (place_cmp (g, after) x) f.1 in
-    let P : ℕ → Type 0 = λ h. Contains keys (h, x.1) in (
-      subst P same f.0,
-      group_and_key (g, after) x (sym same) above,
-      λ e n h p. ⊎_elim
-          (λ (q : x ≡ (g, key_in e n)). inl (ap (λ (y : Place). y.1.epoch) (sym q), ap (λ (y : Place). y.1.number) (sym q)))
-          (λ (b : Below x (g, key_in e n)). inr (group_and_key x (g, key_in e n) same b))
-          (f.2 (g, key_in e n) h (lt_of (place_cmp (g, after) (g, key_in e n)) (in_group_above g after.epoch after.number e n p))),
-    )
+next_some keys g after x t rising is same = search (rules, first_kept, in_group_above)
 
 pub next_other : (keys : List Place) (g : ℕ) (after : Key) (x : Place) (t : List Place) → IsRising Below keys → filter (range_contains place_cmp (Excluded (g, after)) Unbounded) keys ≡ x ∷ t → (x.0 ≡ g → ⊥) → IsNextKey keys g after None
 next_other keys g after x t rising is other e n h p =
@@ -109,10 +87,7 @@ module _ (keys : List Place) (g : ℕ) (after : Key) (x : Place) (t : List Place
     below = each (Below x) t y in_order.0 (subst (λ (l : List Place). Contains l y) (sym next) (here y u))
 
     later : (z : Place) → Contains t z → (y ≡ z) ⊎ Below y z
-    later z h = ⊎_elim
-        (λ (q : y ≡ z). inl q)
-        (λ (k : Contains u z). inr (each (Below y) u z (subst (IsRising Below) next in_order.1).0 k))
-        (which y u z (subst (λ (l : List Place). Contains l z) next h))
+    later z h = grind (arith, common_steps, in_order)
 
     pub second_some : y.0 ≡ g → IsNextKey keys g x.1 (Some y.1)
     second_some also =
@@ -148,32 +123,10 @@ last_none keys g to is e n h =
     (pair_or_not to.epoch to.number e n)
 
 pub last_some : (keys : List Place) (g : ℕ) (to : Key) (x : Place) (t : List Place) → IsRising Below keys → filter (range_contains place_cmp Unbounded (Included (g, to))) keys ≡ t ++ x ∷ [] → x.0 ≡ g → IsLastKey keys g to (Some x.1)
-last_some keys g to x t rising is same =
-    let test : Place → Bool = range_contains place_cmp Unbounded (Included (g, to)) in
-    let f = last_kept Below test keys x t rising is in
-    let P : ℕ → Type 0 = λ h. Contains keys (h, x.1) in (
-      subst P same f.0,
-      λ p. not_lt_true (place_cmp (g, to) x) f.1 (place_less_of (g, to) x (inr (sym same, p))),
-      λ e n h p. ⊎_elim
-          (λ (q : x ≡ (g, key_in e n)). inl (ap (λ (y : Place). y.1.epoch) (sym q), ap (λ (y : Place). y.1.number) (sym q)))
-          (λ (b : Below (g, key_in e n) x). inr (group_and_key (g, key_in e n) x (sym same) b))
-          (f.2 (g, key_in e n) h (up_to_group g e n to p)),
-    )
+last_some keys g to x t rising is same = search (rules, last_kept)
 
 pub last_other : (keys : List Place) (g : ℕ) (to : Key) (x : Place) (t : List Place) → IsRising Below keys → filter (range_contains place_cmp Unbounded (Included (g, to))) keys ≡ t ++ x ∷ [] → (x.0 ≡ g → ⊥) → IsLastKey keys g to None
-last_other keys g to x t rising is other e n h =
-    let test : Place → Bool = range_contains place_cmp Unbounded (Included (g, to)) in
-    let f = last_kept Below test keys x t rising is in
-    ⊎_elim
-    (λ (p : KeyBefore to (key_in e n)). p)
-    (λ (q : KeyBefore to (key_in e n) → ⊥). absurd (⊎_elim
-    (λ (u : x ≡ (g, key_in e n)). other (ap (λ (y : Place). y.0) u))
-    (λ (b : Below (g, key_in e n) x). ⊎_elim
-    (λ (l : g < x.0). not_lt_true (place_cmp (g, to) x) f.1 (place_less_of (g, to) x (inl l)))
-    (λ (v : (g ≡ x.0) × KeyBefore (key_in e n) x.1). other (sym v.0))
-    (place_less (g, key_in e n) x b))
-    (f.2 (g, key_in e n) h (up_to_group g e n to q))))
-    (pair_or_not to.epoch to.number e n)
+last_other keys g to x t rising is other e n h = search (rules, last_kept)
 
 -- the range from the start of a group
 not_above_zero : (group g e n : ℕ) → group ≤ g → place_cmp (group, key_in 0 0) (g, key_in e n) ≡ Greater → ⊥

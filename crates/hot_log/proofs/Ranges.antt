@@ -1,9 +1,10 @@
 -- What ranges of a map by page and key hold.
-use Rattle.std.proofs.Common.{◌≡◌, ℕ, ◌+◌, ◌<◌, ◌≤◌, ◌⊎◌, ◌↔◌, inl, inr, ⊎_elim, List, [], ◌∷◌, ◌++◌, refl, sym, ◌∙◌, ap, subst, arith, Bool, true, not, ◌&&◌, Option, Some, None}
+use Rattle.std.proofs.Common.{◌≡◌, ℕ, ◌+◌, ◌<◌, ◌≤◌, ◌⊎◌, ◌↔◌, inl, inr, ⊎_elim, List, [], ◌∷◌, ◌++◌, sym, ◌∙◌, ap, subst, arith, Bool, true, not, ◌&&◌, Option, Some, None, rules}
+use Rattle.std.proofs.lemmas.Grind.{common_steps}
 use Rattle.std.specs.List.{Contains, filter}
 use Rattle.std.specs.Ordering.{is_lt}
 use Rattle.std.specs.declared.cmp.Ordering.{Ordering}
-use Rattle.std.specs.declared.cmp.Ordering.TheVariants.{Less, Equal, Greater}
+use Rattle.std.specs.declared.cmp.Ordering.TheVariants.{Less}
 use Rattle.std.specs.declared.ops.Bound.TheVariants.{Included, Excluded, Unbounded}
 use Rattle.std.specs.BTreeMap.Range.{range_contains}
 use Rattle.std.specs.Map.{keys_of}
@@ -13,7 +14,7 @@ use Rattle.redo_core.specs.declared.keys.Key.{Key}
 use Rattle.redo_core.specs.Order.{IsRising, Lists, BeforeByNumber, RecordBefore}
 use Rattle.redo_core.specs.Standing.{IsAlive}
 use Rattle.std.proofs.lemmas.List.Elements.{Contains-append_left, Contains-append_right}
-use Rattle.redo_core.proofs.Members.{none_in, here, there, which, filtered, passed}
+use Rattle.redo_core.proofs.Members.{none_in, here, filtered, passed}
 use Rattle.redo_core.proofs.Listing.{lists_push, lists_as}
 use Rattle.redo_core.proofs.Rising.{rising_filter}
 use Rattle.epoch_book.specs.Book.{BookData, IsBook}
@@ -22,7 +23,7 @@ use Rattle.hot_log.specs.Found.{IsPageAbove, IsPageAfter}
 use Rattle.hot_log.specs.Indexing.{IsNextRecord, IsLastRecord, IsNextHeld, IsLastHeld}
 use Rattle.hot_log.specs.Paged.{place_cmp, place_of, records_in, IsPaged}
 use Rattle.hot_log.proofs.Maps.{keys_range, key_listed, rising_entries, before_join}
-use Rattle.hot_log.proofs.Orders.{place_less, place_less_of, rises}
+use Rattle.hot_log.proofs.Orders.{rises}
 use Rattle.hot_log.proofs.Places.{Place, next_none, next_some, next_other, last_none, last_some, last_other, group_none, group_some, IsGroup}
 use Rattle.hot_log.proofs.Indexed.{next_held, last_held}
 use Rattle.hot_log.proofs.Views.{view_of, number_before}
@@ -59,8 +60,7 @@ no_last m page to paged is =
     (last_none (keys_of m) page to (keys_range (range_contains place_cmp Unbounded (Included (page, to))) m [] is))
 
 keys_end : (t : List Entry) (x : Entry) → keys_of (t ++ x ∷ []) ≡ keys_of t ++ x.0 ∷ []
-keys_end [] x = refl
-keys_end (e ∷ t) x = ap (λ (l : List Place). e.0 ∷ l) (keys_end t x)
+keys_end t x = grind (arith, common_steps)
 
 at_end : (t : List Entry) (x : Entry) → Contains (t ++ x ∷ []) x
 at_end t x = Contains-append_right t (x ∷ []) x (here x [])
@@ -102,18 +102,10 @@ past_pages m page paged over r h above = over (let fits : r.page < 65536 = paged
 
 -- the keys of a page above one and up to another
 both : (o p : Ordering) → (is_lt o && not (is_lt p)) ≡ true → (o ≡ Less) × (p ≡ Less → ⊥)
-both Less Less h = cc
-both Less Equal h = (refl, λ u. cc)
-both Less Greater h = (refl, λ u. cc)
-both Equal p h = cc
-both Greater p h = cc
+both o p h = search rules
 
 both_of : (o p : Ordering) → (o ≡ Less) × (p ≡ Less → ⊥) → (is_lt o && not (is_lt p)) ≡ true
-both_of Less Less h = absurd (h.1 refl)
-both_of Less Equal h = refl
-both_of Less Greater h = refl
-both_of Equal p h = let e = h.0 in cc
-both_of Greater p h = let e = h.0 in cc
+both_of o p h = search rules
 
 pub record InPage (group : ℕ) (low high : Key) (q : Place) : Type 0 where
   pub page : q.0 ≡ group
@@ -121,23 +113,10 @@ pub record InPage (group : ℕ) (low high : Key) (q : Place) : Type 0 where
   pub up_to : KeyBefore high q.1 → ⊥
 
 pub in_page : (page : ℕ) (above to : Key) (q : Place) → range_contains place_cmp (Excluded (page, above)) (Included (page, to)) q ≡ true → InPage page above to q
-in_page page above to q h =
-    let t = both (place_cmp (page, above) q) (place_cmp (page, to) q) h in
-    let not_up : ((page < q.0) ⊎ ((page ≡ q.0) × KeyBefore to q.1)) → ⊥ = λ u. t.1 (place_less_of (page, to) q u) in
-    ⊎_elim
-    (λ (u : page < q.0). absurd (not_up (inl u)))
-    (λ (u : (page ≡ q.0) × KeyBefore above q.1). record { page = sym u.0; above = u.1; up_to = λ p. not_up (inr (u.0, p)) })
-    (place_less (page, above) q t.0)
+in_page page above to q h = search rules
 
 pub in_range : (page : ℕ) (above to : Key) (q : Place) → InPage page above to q → range_contains place_cmp (Excluded (page, above)) (Included (page, to)) q ≡ true
-in_range page above to q is =
-    both_of (place_cmp (page, above) q) (place_cmp (page, to) q) (
-      place_less_of (page, above) q (inr (sym is.page, is.above)),
-      λ b. ⊎_elim
-          (λ (u : page < q.0). let e : q.0 ≡ page = is.page in omega arith)
-          (λ (u : (page ≡ q.0) × KeyBefore to q.1). is.up_to u.1)
-          (place_less (page, to) q b),
-    )
+in_range page above to q is = search rules
 
 -- the entries of a map in such a range
 pub record IsRange (m : Map) (page : ℕ) (above to : Key) (es : List Entry) : Type 0 where
@@ -167,33 +146,11 @@ pub alive_none : (b : BookData) (ys : List RecordData) → ys ≡ [] → ListsAl
 alive_none b ys is = subst (λ (l : List RecordData). ListsAlive b [] l) (sym is) (record { rising = tt; members = λ r. (λ h. absurd (none_in r h), λ h. absurd (none_in r h.0)) })
 
 pub joined : (xs : List Entry) (x : Entry) (r : RecordData) → Contains (records_in (xs ++ x ∷ [])) r ↔ (Contains (records_in xs) r ⊎ (r ≡ x.1))
-joined [] x r = (
-  λ h. ⊎_elim (λ (u : x.1 ≡ r). inr (sym u)) (λ (u : Contains [] r). inl u) (which x.1 [] r h),
-  λ h. ⊎_elim (λ (u : Contains [] r). absurd (none_in r u)) (λ (u : r ≡ x.1). subst (λ (s : RecordData). Contains (x.1 ∷ []) s) (sym u) (here x.1 [])) h,
-)
-joined (z ∷ xs) x r = (
-  λ h. ⊎_elim
-      (λ (u : z.1 ≡ r). inl (subst (λ (s : RecordData). Contains (z.1 ∷ records_in xs) s) u (here z.1 (records_in xs))))
-      (λ (u : Contains (records_in (xs ++ x ∷ [])) r). ⊎_elim (λ (v : Contains (records_in xs) r). inl (there z.1 (records_in xs) r v)) (λ (v : r ≡ x.1). inr v) ((joined xs x r).0 u))
-      (which z.1 (records_in (xs ++ x ∷ [])) r h),
-  λ h. ⊎_elim
-      (λ (u : Contains (z.1 ∷ records_in xs) r). ⊎_elim
-      (λ (v : z.1 ≡ r). subst (λ (s : RecordData). Contains (z.1 ∷ records_in (xs ++ x ∷ [])) s) v (here z.1 (records_in (xs ++ x ∷ []))))
-      (λ (v : Contains (records_in xs) r). there z.1 (records_in (xs ++ x ∷ [])) r ((joined xs x r).1 (inl v)))
-      (which z.1 (records_in xs) r u))
-      (λ (u : r ≡ x.1). there z.1 (records_in (xs ++ x ∷ [])) r ((joined xs x r).1 (inr u)))
-      h,
-)
+joined xs x r = grind (arith, common_steps)
 
 -- within one page, a place below another is that of a record with a lower key
 pub same_page : (page : ℕ) (p q : Place) (r s : RecordData) → p ≡ place_of r → q ≡ place_of s → p.0 ≡ page → q.0 ≡ page → place_cmp p q ≡ Less → RecordBefore r s
-same_page page p q r s at bt e f low =
-    let below : KeyBefore p.1 q.1 = ⊎_elim
-    (λ (u : p.0 < q.0). absurd (omega arith))
-    (λ (u : (p.0 ≡ q.0) × KeyBefore p.1 q.1). u.1)
-    (place_less p q low) in
-    let half : KeyBefore (key_of r) q.1 = subst (λ (x : Place). KeyBefore x.1 q.1) at below in
-    subst (λ (x : Place). KeyBefore (key_of r) x.1) bt half
+same_page page p q r s at bt e f low = search rules
 
 -- a walk through a range that has come to an entry
 pub record Walks (m : Map) (page : ℕ) (above to : Key) (xs : List Entry) (x : Entry) : Type 0 where
@@ -257,5 +214,4 @@ between_is b m page above to es paged range r = (
 )
 
 pub alive_all : (b : BookData) (m : Map) (page : ℕ) (above to : Key) (es : List Entry) (ys : List RecordData) → IsPaged m → IsRange m page above to es → ListsAlive b es ys → Lists BeforeByNumber (IsAliveBetween b (seen m) page above to) ys
-alive_all b m page above to es ys paged range lists =
-    lists_as BeforeByNumber (AliveIn b es) (IsAliveBetween b (seen m) page above to) ys (between_is b m page above to es paged range) lists
+alive_all b m page above to es ys paged range lists = search (rules, lists_as, between_is)

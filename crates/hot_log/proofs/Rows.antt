@@ -1,5 +1,5 @@
 -- The first row of alive records of a page, which a walk takes from what lists the records.
-use Rattle.std.proofs.Common.{◌≡◌, ℕ, ◌⊎◌, ◌↔◌, inl, inr, ⊎_elim, List, [], ◌∷◌, ◌++◌, refl, sym, ◌∙◌, ap, subst, arith, Bool, true, not, ◌==◌, ◌&&◌, Option, Some, None}
+use Rattle.std.proofs.Common.{◌≡◌, ℕ, ◌⊎◌, ◌↔◌, inl, inr, ⊎_elim, List, [], ◌∷◌, ◌++◌, refl, sym, ◌∙◌, ap, subst, arith, Bool, true, not, ◌==◌, ◌&&◌, Option, Some, None, rules}
 use Rattle.std.specs.List.{Contains, filter}
 use Rattle.std.specs.BTreeMap.Range.{range_contains}
 use Rattle.std.specs.declared.cmp.Ordering.TheVariants.{Less}
@@ -179,13 +179,7 @@ pub record Rowed (b : BookData) (held : List RecordData) (above : Key) (xs : Lis
   pub left : Left (InRow xs start) held keys backs
 
 pub rowed_none : (b : BookData) (held : List RecordData) (above : Key) (keys : List (Key × ℕ)) (backs : List Place) → IsIndexed held keys backs → Rowed b held above [] above None keys backs
-rowed_none b held above keys backs is = record {
-  low = inl refl;
-  up = λ r h a. absurd (none_in r h);
-  alive = λ r h. absurd (none_in r h.0);
-  ends = λ r h p. none_in r h;
-  left = left_none (InRow [] above) held keys backs is (λ r h p. none_in r p.0);
-}
+rowed_none b held above keys backs is = search rules
 
 -- an alive record is one more of the row
 pub rowed_alive : (b : BookData) (m : Map) (page : ℕ) (above to : Key) (xs rest : List Entry) (x : Entry) (start : Key) (last : Option Key) (keys less : List (Key × ℕ)) (backs fewer : List Place) (g e n : ℕ) → Walk m page above to xs (x ∷ rest) → Rowed b (seen m) above xs start last keys backs

@@ -1,33 +1,31 @@
 -- Two logs gone over side by side: what the one lacks of the other, by page and then by key.
-use Rattle.std.proofs.Common.{◌≡◌, ◌<◌, ◌⊎◌, ◌↔◌, inl, inr, ⊎_elim, List, [], ◌∷◌, ◌++◌, Option, Some, None, Bor, refl, sym, ◌∙◌, subst, arith}
+use Rattle.std.proofs.Common.{◌≡◌, ◌⊎◌, ◌↔◌, inl, inr, ⊎_elim, List, [], ◌∷◌, ◌++◌, Option, Some, Bor, refl, sym, subst, arith, rules}
+use Rattle.std.proofs.lemmas.Grind.{common_steps}
 use Rattle.std.specs.List.{Contains, cons_option}
 use Rattle.std.specs.Option.{option_copied}
 use Rattle.std.specs.Map.Iter.{TakesFirst, deref}
 use Rattle.std.specs.declared.cmp.Ordering.TheVariants.{Less}
 use Rattle.std.proofs.lemmas.Bool.Decides.{nat_tests}
-use Rattle.std.proofs.lemmas.List.Elements.{Contains-append_left, Contains-append_right, Contains-append_cases}
+use Rattle.std.proofs.lemmas.List.Elements.{Contains-append_left, Contains-append_right}
 use Rattle.redo_core.specs.Data.{RecordData}
-use Rattle.redo_core.specs.Order.{IsRising, Lists, RecordBefore}
+use Rattle.redo_core.specs.Order.{IsRising, Lists}
 use Rattle.redo_core.proofs.Members.{none_in, here, there, which, each, all_of}
 use Rattle.redo_core.proofs.Listing.{lists_push, lists_as}
 use Rattle.hot_log.specs.Missing.{IsMissing}
 use Rattle.hot_log.specs.Paged.{PlaceBefore, place_cmp, place_of, records_in, StandsNext, IsPaged}
 use Rattle.hot_log.proofs.Maps.{rising_entries}
 use Rattle.hot_log.proofs.Paged.{Entry, Map, seen, in_order, entry_of}
-use Rattle.hot_log.proofs.Orders.{place_less, place_less_of}
 use Rattle.hot_log.proofs.Places.{Place}
 
 -- ---- the own records: some are passed, and one of the others comes next
 -- what is taken off a list, and what is left, are the list
 pub taken : (old : List RecordData) (first : Option (Bor RecordData)) (new : List RecordData) → TakesFirst deref old first new
     → cons_option (option_copied first) new ≡ old
-taken old None new takes = takes.1 ∙ sym takes.0
-taken old (Some x) new takes = sym takes
+taken old first new takes = search rules
 
 pub ahead_of : (old : List RecordData) (first : Option (Bor RecordData)) (new : List RecordData) → TakesFirst deref old first new
     → IsRising PlaceBefore old → StandsNext (option_copied first) new
-ahead_of old None new takes rising = record { rising = subst (IsRising PlaceBefore) (sym (taken old None new takes)) rising; ended = λ n. takes.1 }
-ahead_of old (Some x) new takes rising = record { rising = subst (IsRising PlaceBefore) takes rising; ended = λ n. absurd (cc) }
+ahead_of old first new takes rising = search rules
 
 -- what comes is of all own records, and what is passed is before a record
 pub record Passes (all : List RecordData) (x : RecordData) (next : Option RecordData) (rest : List RecordData) : Type 0 where
@@ -39,31 +37,14 @@ pub not_itself : (r : RecordData) → PlaceBefore r r → ⊥
 not_itself r h = grind (arith, nat_tests)
 
 place_before : (x y z : RecordData) → PlaceBefore x y → PlaceBefore y z → PlaceBefore x z
-place_before x y z p q =
-    place_less_of (place_of x) (place_of z) (after (place_less (place_of x) (place_of y) p) (place_less (place_of y) (place_of z) q))
-  where
-    after : (x.page < y.page) ⊎ ((x.page ≡ y.page) × RecordBefore x y) → (y.page < z.page) ⊎ ((y.page ≡ z.page) × RecordBefore y z)
-        → (x.page < z.page) ⊎ ((x.page ≡ z.page) × RecordBefore x z)
-    after u v = grind arith
+place_before x y z p q = search rules
 
 pub not_both : (x y : RecordData) → PlaceBefore x y → PlaceBefore y x → ⊥
 not_both x y p q = not_itself x (place_before x y x p q)
 
 pub passes_one : (all : List RecordData) (x own : RecordData) (rest : List RecordData) (first : Option (Bor RecordData)) (left : List RecordData)
     → Passes all x (Some own) rest → PlaceBefore own x → TakesFirst deref rest first left → Passes all x (option_copied first) left
-passes_one all x own rest first left passes low takes =
-    let same : cons_option (option_copied first) left ≡ rest = taken rest first left takes in
-    record {
-      ahead = ahead_of rest first left takes passes.ahead.rising.1;
-      among = λ r h. passes.among r (there own rest r (subst (λ (l : List RecordData). Contains l r) same h));
-      before = λ r h. ⊎_elim
-          (λ (u : Contains (own ∷ rest) r). ⊎_elim
-          (λ (e : own ≡ r). inr (subst (λ (y : RecordData). PlaceBefore y x) e low))
-          (λ (v : Contains rest r). inl (subst (λ (l : List RecordData). Contains l r) (sym same) v))
-          (which own rest r u))
-          (λ (u : PlaceBefore r x). inr u)
-          (passes.before r h);
-    }
+passes_one all x own rest first left passes low takes = search (rules, ahead_of, there, which)
 
 -- where the one that comes next is not before a record, none that is left is
 pub passed_all : (all : List RecordData) (x own : RecordData) (rest : List RecordData) → Passes all x (Some own) rest → (PlaceBefore own x → ⊥)
@@ -88,22 +69,13 @@ abbrev pub LacksOf : List RecordData → List RecordData → List RecordData →
 LacksOf held seen missing = Lists PlaceBefore (λ r. Contains seen r × (Contains held r → ⊥)) missing
 
 pub lacks_none : (held missing : List RecordData) → missing ≡ [] → LacksOf held [] missing
-lacks_none held missing is =
-    subst (LacksOf held []) (sym is) (record { rising = tt; members = λ r. (λ h. absurd (none_in r h), λ h. absurd (none_in r h.0)) })
+lacks_none held missing is = search rules
 
 at_end : (seen : List RecordData) (x y : RecordData) → Contains (seen ++ x ∷ []) y → Contains seen y ⊎ (y ≡ x)
-at_end seen x y h =
-    ⊎_elim
-    (λ (u : Contains seen y). inl u)
-    (λ (u : Contains (x ∷ []) y). inr (⊎_elim (λ (e : x ≡ y). sym e) (λ (e : Contains [] y). absurd (none_in y e)) (which x [] y u)))
-    (Contains-append_cases seen (x ∷ []) y h)
+at_end seen x y h = grind (arith, common_steps)
 
 of_end : (seen : List RecordData) (x y : RecordData) → Contains seen y ⊎ (y ≡ x) → Contains (seen ++ x ∷ []) y
-of_end seen x y h =
-    ⊎_elim
-    (λ (u : Contains seen y). Contains-append_left seen (x ∷ []) y u)
-    (λ (u : y ≡ x). Contains-append_right seen (x ∷ []) y (subst (Contains (x ∷ [])) (sym u) (here x [])))
-    h
+of_end seen x y h = search (rules, Contains-append_left, Contains-append_right)
 
 pub lacks_more : (held seen missing : List RecordData) (x : RecordData) → LacksOf held seen missing → ((y : RecordData) → Contains seen y → PlaceBefore y x)
     → (Contains held x → ⊥) → LacksOf held (seen ++ x ∷ []) (missing ++ x ∷ [])
@@ -154,9 +126,7 @@ map_rising m paged = rising_records m paged.placed (rising_entries place_cmp m p
 -- those gone over are before the one that the walk has come to
 pub before_next : (m : Map) (xs ys : List RecordData) (x : RecordData) → IsPaged m → records_in m ≡ xs ++ x ∷ ys
     → (y : RecordData) → Contains xs y → PlaceBefore y x
-before_next m xs ys x paged split y h =
-    before_rest xs ys x y
-    (subst (IsRising PlaceBefore) split (map_rising m paged)) h
+before_next m xs ys x paged split y h = search (rules, before_rest, map_rising)
 
 pub lacks_all : (m : Map) (held seen_so missing : List RecordData) → records_in m ≡ seen_so → LacksOf held seen_so missing
     → Lists PlaceBefore (IsMissing held (seen m)) missing

@@ -1,5 +1,5 @@
 -- Straight chains: no stray and no fork from one number to another.
-use Rattle.std.proofs.Common.{◌≡◌, ℕ, ◌<◌, ◌≤◌, ⊎_elim, List, sym, ◌∙◌, ap, subst, arith, Some}
+use Rattle.std.proofs.Common.{◌≡◌, ℕ, ◌<◌, ◌≤◌, ⊎_elim, List, sym, ◌∙◌, ap, subst, arith, Some, rules}
 use Rattle.std.proofs.lemmas.Bool.{cases_lt}
 use Rattle.redo_core.specs.Data.{RecordData}
 use Rattle.redo_core.specs.Linked.{Linked}
@@ -7,7 +7,7 @@ use Rattle.redo_core.specs.Linked.Linked.{start, next}
 use Rattle.epoch_book.specs.Book.{BookData}
 use Rattle.hot_log.specs.Alive.{IsHeldAlive, IsLinkedFrom, IsStraight}
 use Rattle.hot_log.specs.Found.{IsLeastRecord}
-use Rattle.hot_log.proofs.Chain.{Link, link_cases, link_at_least}
+use Rattle.hot_log.proofs.Chain.{link_at_least}
 
 -- a straight chain
 pub record Straight (b : BookData) (held : List RecordData) (from top : ℕ) : Type 0 where
@@ -16,11 +16,7 @@ pub record Straight (b : BookData) (held : List RecordData) (from top : ℕ) : T
 
 -- a linked number above top is that of an alive record above top
 pub linked_above : (b : BookData) (held : List RecordData) (from top : ℕ) → from ≤ top → (n : ℕ) → IsLinkedFrom b held from n → top < n → (r : RecordData) × IsHeldAlive b held r × (r.number ≡ n)
-linked_above b held from top le n l up =
-    ⊎_elim
-    (λ (e : n ≡ from). absurd (omega arith))
-    (λ (u : Link b.cuts held b.complete from n). (u.by, (u.among, u.alive), u.at))
-    (link_cases b.cuts held b.complete from n l)
+linked_above b held from top le n l up = search rules
 
 -- where no alive record up to a limit is above top, no linked number up to there is
 pub none_over : (b : BookData) (held : List RecordData) (from top limit : ℕ) → from ≤ top → ((r : RecordData) → IsHeldAlive b held r → r.number ≤ limit → r.number ≤ top) → (n : ℕ) → IsLinkedFrom b held from n → n ≤ limit → n ≤ top

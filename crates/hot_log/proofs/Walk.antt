@@ -1,5 +1,5 @@
 -- A walk over the held keys above one, and the records with P that it has passed.
-use Rattle.std.proofs.Common.{◌≡◌, ◌⊎◌, inl, inr, ⊎_elim, List, [], ◌∷◌, ◌++◌, Some, None, ap, sym, ◌∙◌, subst, arith}
+use Rattle.std.proofs.Common.{◌≡◌, ◌⊎◌, inl, inr, ⊎_elim, List, [], ◌∷◌, ◌++◌, Some, None, ap, sym, ◌∙◌, subst, arith, rules}
 use Rattle.std.specs.List.{Contains}
 use Rattle.std.specs.declared.cmp.Ordering.TheVariants.{Less}
 use Rattle.redo_core.specs.Data.{RecordData}
@@ -83,10 +83,7 @@ module _ (held : List RecordData) (at : Key) (x : Entry) (left rest : List Entry
     )) lists
 
 pub none_passed : (P : RecordData → Type 0) (at : Key) (found : List RecordData) → ((r : RecordData) → P r → KeyBefore at (key_of r)) → found ≡ [] → Lists RecordBefore (IsPassedBy P at) found
-none_passed P at found above is = subst (Lists RecordBefore (IsPassedBy P at)) (sym is) (record {
-  rising = tt;
-  members = λ r. (λ h. absurd (none_in r h), λ h. absurd (h.1 (above r h.0)));
-})
+none_passed P at found above is = search rules
 
 pub all_passed : (P : RecordData → Type 0) (held : List RecordData) (at : Key) (left : List Entry) (found : List RecordData) → AreHeldAbove held at left → left ≡ [] → ((r : RecordData) → P r → Contains held r)
     → Lists RecordBefore (IsPassedBy P at) found → Lists RecordBefore P found

@@ -8,7 +8,8 @@
 //!
 //! The records stand by page and, within a page, by key (`records`); beside them are the page of each key (`key_pages`) and the
 //! keys by segment backlink (`index`). The questions of a view stand in `view`; those that go from key to key in `search`, and those
-//! that go along backlinks in `links`; `unlisted` has the kept records that a list of keys lacks. `removal` removes one by one, and `ahead` goes over one log as far as another one is gone over.
+//! that go along backlinks in `links`; `unlisted` has the kept records that a list of keys lacks. `removal` removes one by one, and
+//! `ahead` goes over one log as far as another one is gone over.
 #![tactic(auto)]
 
 mod ahead;

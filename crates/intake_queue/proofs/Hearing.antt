@@ -1,5 +1,5 @@
 -- Notes keep the rule of an intake, as they are written and as they are heard.
-use Rattle.std.proofs.Common.{◌≡◌, ◌≢◌, ℕ, List, [], ◌∷◌, ◌++◌, length, set, max, true, false, ⊎_elim, refl, sym, ap, subst, ◌∙◌, arith}
+use Rattle.std.proofs.Common.{◌≡◌, ◌≢◌, ℕ, List, [], ◌∷◌, ◌++◌, length, set, max, true, false, ⊎_elim, refl, sym, ap, subst, ◌∙◌, arith, rules}
 use Rattle.std.specs.List.{Contains}
 use Rattle.std.proofs.lemmas.List.Elements.{Contains-append_cases}
 use mathlib.Core.Option.{some}
@@ -45,9 +45,7 @@ sender_writes port v is = writes port v ((v.number, length v.accepted) ∷ []) 0
     ))
 
 pub taker_writes : (port : ℕ) (v : KnownData) → IsTaker v → Forks Delivers port v v (note [] (length v.taken))
-taker_writes port v is = writes port v [] (length v.taken) (λ items views h at.
-    let fits = h.taking port v at (ap (λ u. u.takes) is) in
-    (λ p count c. absurd (none_in (p, count) c), omega (arith, ap length fits.knows)))
+taker_writes port v is = search (rules, writes)
 
 -- a pass that is as before but for what it heard
 hears : (port : ℕ) (v : KnownData) (other : ℕ) (w both : KnownData) → both.sends ≡ v.sends → both.takes ≡ v.takes
@@ -105,8 +103,4 @@ taker_hears port v other w is = hears port v other w (taker v.taken v.senders v.
 
 pub sender_hears : (port : ℕ) (v : KnownData) (other : ℕ) (w : KnownData) → IsSender v
     → Merges Delivers port v other w (sender v.number v.senders v.accepted (max v.taken_count w.taken_count)) nobody
-sender_hears port v other w is = hears port v other w (sender v.number v.senders v.accepted (max v.taken_count w.taken_count))
-    (ap (λ u. u.sends) (sym is)) (ap (λ u. u.takes) (sym is))
-    (λ senders speaker accepted fits sends. record { among = fits.among; count = fits.count; speaks = fits.speaks; knows = fits.knows })
-    (λ senders first speaker accepted taken fits takes. not_of_kind v.takes (ap (λ u. u.takes) is) takes)
-    (λ accepted taken mine theirs. (λ p count c. absurd (none_in (p, count) c), omega (arith, mine.1, theirs.1)))
+sender_hears port v other w is = search (rules, hears)

@@ -1,5 +1,6 @@
 -- Each offer and each take keeps the rule of an intake, and what they tell where they find it full or empty.
-use Rattle.std.proofs.Common.{◌≡◌, ◌≢◌, false, ℕ, ◌+◌, ◌≤◌, List, [], ◌∷◌, ◌++◌, length, ⊎_elim, refl, sym, ap, subst, ◌∙◌, arith, append_assoc, length-append, Option, None, Some}
+use Rattle.std.proofs.Common.{◌≡◌, ◌≢◌, false, ℕ, ◌+◌, ◌≤◌, List, [], ◌∷◌, ◌++◌, length, ⊎_elim, refl, sym, ap, subst, ◌∙◌, arith, append_assoc, length-append, Option}
+use Rattle.std.proofs.lemmas.Grind.{common_steps}
 use Rattle.std.specs.List.{Contains}
 use Rattle.std.specs.Prelude.{MatchOption, IfNone}
 use Rattle.std.proofs.lemmas.List.{append-nil}
@@ -152,5 +153,4 @@ after_all v (x ∷ items) none all p count c = absurd (omega (arith, none))
 
 pub nothing_left : {T : Type 0} (P : Type 0) (Q : T → Type 0) (v : KnownData) (found : Option T) → MatchOption found (P × Held 0 (HoldsUntaken v)) Q
     → IfNone found (HasAllHeard v.accepted_counts v.taken)
-nothing_left P Q v None h = let held = h.1 in after_all v held.0 held.1 held.2.heard
-nothing_left P Q v (Some x) h = tt
+nothing_left P Q v found h = grind (arith, common_steps)

@@ -1,5 +1,5 @@
 -- Parcels of one sender, and new senders.
-use Rattle.std.proofs.Common.{◌≡◌, ◌≢◌, ℕ, zero, suc, ◌+◌, List, [], ◌∷◌, ◌++◌, length, ◌⊎◌, inl, inr, ⊎_elim, refl, sym, ap, subst, ◌∙◌, Some}
+use Rattle.std.proofs.Common.{◌≡◌, ◌≢◌, ℕ, zero, suc, ◌+◌, List, [], ◌∷◌, ◌++◌, length, ◌⊎◌, inl, inr, ⊎_elim, refl, ap, ◌∙◌, Some, rules}
 use Rattle.std.specs.Prelude.{◌==◌, slice_get}
 use Rattle.std.specs.List.{Contains}
 use Rattle.std.proofs.lemmas.Bool.{eq-eqb, ne_eqb}
@@ -39,10 +39,7 @@ at_more (z ∷ xs) x zero y e = inl e
 at_more (z ∷ xs) x (suc k) y e = ⊎_elim (λ h. inl h) (λ h. inr (ap suc h.0, h.1)) (at_more xs x k y e)
 
 pub numbered_more : (xs : List ParcelData) (x : ParcelData) → AreNumbered xs → x.number ≡ length xs + 1 → AreNumbered (xs ++ x ∷ [])
-numbered_more xs x all is = λ k y e. ⊎_elim
-    (λ h. all k y h)
-    (λ h. ap (λ z. z.number) (sym h.1) ∙ (is ∙ ap (λ n. n + 1) (sym h.0)))
-    (at_more xs x k y e)
+numbered_more xs x all is = search (rules, at_more)
 
 seam : {X : Type 0} (xs : List X) (x : X) (ys : List X) → slice_get (xs ++ x ∷ ys) (length xs) ≡ Some x
 seam [] x ys = refl
@@ -51,15 +48,8 @@ seam (z ∷ xs) x ys = seam xs x ys
 -- the number of the first that is left
 pub numbered_first : (taken : List ParcelData) (x : ParcelData) (items : List ParcelData) → AreNumbered (sent_by x.sender (taken ++ x ∷ items))
     → x.number ≡ length (sent_by x.sender taken) + 1
-numbered_first taken x items all =
-    let mine_taken = sent_by x.sender taken in
-    let mine_left = sent_by x.sender items in
-    let e : sent_by x.sender (taken ++ x ∷ items) ≡ mine_taken ++ x ∷ mine_left =
-    sent_by-append x.sender taken (x ∷ items) ∙ ap (λ ys. mine_taken ++ ys) (mine x.sender x items refl) in
-    subst AreNumbered e all (length mine_taken) x (seam mine_taken x mine_left)
+numbered_first taken x items all = search (rules, sent_by-append, mine, seam)
 
 -- those that stand before others
 pub numbered_before : (p : ℕ) (xs ys : List ParcelData) → AreNumbered (sent_by p (xs ++ ys)) → AreNumbered (sent_by p xs)
-numbered_before p xs ys all =
-    let both : AreNumbered (sent_by p xs ++ sent_by p ys) = subst AreNumbered (sent_by-append p xs ys) all in
-    λ k x e. both k x (at_longer (sent_by p xs) (sent_by p ys) k x e)
+numbered_before p xs ys all = search (rules, sent_by-append, at_longer)

@@ -1,6 +1,5 @@
 -- What all passes know, after one of them is changed or one more is made.
-use Rattle.std.proofs.Common.{◌≡◌, ◌≢◌, ℕ, zero, suc, ◌≤◌, List, [], ◌∷◌, ◌++◌, length, set, Bool, true, false, ◌⊎◌, inl, inr, ⊎_elim, refl, sym, ap, subst, ◌∙◌, arith, true≢false}
-use Rattle.std.specs.List.{Contains}
+use Rattle.std.proofs.Common.{◌≡◌, ◌≢◌, ℕ, zero, suc, ◌≤◌, List, [], ◌∷◌, ◌++◌, length, set, Bool, true, false, ◌⊎◌, inl, inr, ⊎_elim, refl, sym, ap, ◌∙◌, arith, true≢false, rules}
 use Rattle.std.specs.Prelude.{◌==◌, cond}
 use Rattle.std.proofs.lemmas.Bool.{eq-eqb, ne_eqb}
 use mathlib.Core.Option.{some, some-injective, some-ne-none}
@@ -8,7 +7,6 @@ use mathlib.Core.Logic.{dite}
 use native.Mathlib.Decide.{ℕ_discrete}
 use lib.ListN.{get_elem?}
 use Rattle.crossbeam_queue.proofs.Lists.{at_set}
-use Rattle.redo_core.proofs.Members.{none_in}
 use Rattle.intake_queue.specs.Parcel.{ParcelData}
 use Rattle.intake_queue.specs.Known.{KnownData}
 use Rattle.intake_queue.specs.Rule.{HeardTrue}
@@ -30,8 +28,7 @@ pub at_either : {X : Type 0} (f : ℕ → X) (n : ℕ) (x : X) (k : ℕ) → f k
 at_either f n x k e = ⊎_elim (λ (s : k ≡ n). at_here f n x k s) (λ (o : k ≢ n). at_else f n x k o ∙ e) (same_or_not k n)
 
 pub alone : (x v : KnownData) (pass : ℕ) → get_elem? (x ∷ []) pass ≡ some v → (pass ≡ 0) × (x ≡ v)
-alone x v zero e = (refl, some-injective x v e)
-alone x v (suc pass) e = absurd (some-ne-none v (sym e))
+alone x v pass e = search rules
 
 at_end : (l : List KnownData) (a b : KnownData) (j : ℕ) → get_elem? (l ++ a ∷ []) j ≡ some b → (get_elem? l j ≡ some b) ⊎ ((j ≡ length l) × (a ≡ b))
 at_end [] a b zero e = inr (refl, some-injective a b e)
@@ -45,17 +42,11 @@ OfKind kind P views = (j : ℕ) (u : KnownData) → get_elem? views j ≡ some u
 
 pub kind_set : (kind : KnownData → Bool) (P : ℕ → KnownData → Type 0) (views : List KnownData) (port : ℕ) (w : KnownData) → (kind w ≡ true → P port w)
     → ((j : ℕ) (u : KnownData) → j ≢ port → get_elem? views j ≡ some u → kind u ≡ true → P j u) → OfKind kind P (set views port w)
-kind_set kind P views port w here else j u e is = ⊎_elim
-    (λ (s : (j ≡ port) × (w ≡ u)). subst (λ k. P k u) (sym s.0) (subst (P port) s.1 (here (ap kind s.1 ∙ is))))
-    (λ (o : (j ≢ port) × (get_elem? views j ≡ some u)). else j u o.0 o.1 is)
-    (at_set views port j w u e)
+kind_set kind P views port w here else j u e is = search (rules, at_set)
 
 pub kind_more : (kind : KnownData → Bool) (P : ℕ → KnownData → Type 0) (views : List KnownData) (w : KnownData) → (kind w ≡ true → P (length views) w)
     → OfKind kind P views → OfKind kind P (views ++ w ∷ [])
-kind_more kind P views w last all j u e is = ⊎_elim
-    (λ (o : get_elem? views j ≡ some u). all j u o is)
-    (λ (s : (j ≡ length views) × (w ≡ u)). subst (λ k. P k u) (sym s.0) (subst (P (length views)) s.1 (last (ap kind s.1 ∙ is))))
-    (at_end views w u j e)
+kind_more kind P views w last all j u e is = search (rules, at_end)
 
 -- no pass of that kind
 pub not_of_kind : {P : Type 0} (b : Bool) → b ≡ false → b ≡ true → P
@@ -66,16 +57,10 @@ abbrev pub OfEach : (KnownData → Type 0) → List KnownData → Type 0
 OfEach P views = (j : ℕ) (u : KnownData) → get_elem? views j ≡ some u → P u
 
 pub each_set : (P : KnownData → Type 0) (views : List KnownData) (port : ℕ) (w : KnownData) → P w → OfEach P views → OfEach P (set views port w)
-each_set P views port w here all j u e = ⊎_elim
-    (λ (s : (j ≡ port) × (w ≡ u)). subst P s.1 here)
-    (λ (o : (j ≢ port) × (get_elem? views j ≡ some u)). all j u o.1)
-    (at_set views port j w u e)
+each_set P views port w here all j u e = search (rules, at_set)
 
 pub each_more : (P : KnownData → Type 0) (views : List KnownData) (w : KnownData) → P w → OfEach P views → OfEach P (views ++ w ∷ [])
-each_more P views w last all j u e = ⊎_elim
-    (λ (o : get_elem? views j ≡ some u). all j u o)
-    (λ (s : (j ≡ length views) × (w ≡ u)). subst P s.1 last)
-    (at_end views w u j e)
+each_more P views w last all j u e = search (rules, at_end)
 
 -- what was heard stays true where more is accepted, or more is taken
 pub still_true : (accepted accepted' : ℕ → List ParcelData) (taken taken' : List ParcelData) → ((p : ℕ) → length (accepted p) ≤ length (accepted' p))
@@ -84,5 +69,4 @@ still_true accepted accepted' taken taken' longer more v h = (λ p count c. omeg
 
 pub nothing_heard : (accepted : ℕ → List ParcelData) (taken : List ParcelData) (v : KnownData) → v.accepted_counts ≡ [] → v.taken_count ≡ 0
     → HeardTrue accepted taken v
-nothing_heard accepted taken v no_counts none =
-    (λ p count c. absurd (none_in (p, count) (subst (λ (l : List (ℕ × ℕ)). Contains l (p, count)) no_counts c)), omega (arith, none))
+nothing_heard accepted taken v no_counts none = search rules

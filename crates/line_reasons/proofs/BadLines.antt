@@ -1,7 +1,7 @@
 -- No reason is true of a line that is read.
-use Rattle.std.proofs.Common.{◌-◌, ◌<◌, ◌⊎◌, length, map, get_or, take, drop, Bor, ◌≡◌, ℕ, List, [], ◌∷◌, Option, Some, None, inl, inr, subst, sym, ◌∙◌, arith, rules}
+use Rattle.std.proofs.Common.{◌-◌, ◌<◌, ◌⊎◌, length, map, get_or, take, drop, Bor, ◌≡◌, ℕ, List, [], ◌∷◌, Option, Some, None, inl, inr, sym, ◌∙◌, arith, rules}
+use Rattle.std.proofs.lemmas.Grind.{common_steps}
 use Rattle.std.specs.Prelude.{IsSome, slice_get}
-use Rattle.std.proofs.lemmas.List.{take_all}
 use Rattle.script_text.specs.Parts.{parts_at, first_parts}
 use Rattle.script_text.specs.Fields.{read_by}
 use Rattle.script_text.specs.StepLine.{step_forms, step_line}
@@ -17,8 +17,7 @@ use Rattle.line_reasons.proofs.FormLines.{reason_by}
 use Rattle.line_reasons.proofs.FactLines.{fact_first, fact_reason}
 
 unread : {A : Type 0} (o : Option A) → o ≡ None → IsSome o → ⊥
-unread (Some x) e some = absurd cc
-unread None e some = absurd cc
+unread o e some = cc
 
 pub steps_first : (facts : ℕ) (line : List ℕ) → step_line facts (first_parts 32 line) ≡ step_line facts (parts_at 32 line)
 unfolding step_line
@@ -47,15 +46,9 @@ read_is (Steps facts) line parts e h = rw (← steps_first facts line, ← e) h
 
 pub told_is : (place : Place) (line : List ℕ) (parts : List (List ℕ)) (reason shown : LineReason) → parts ≡ first_parts 32 line → IsReason place parts reason
     → (shown ≡ reason) ⊎ ((shown ≡ CarriageReturn) × (slice_get line (length line - 1) ≡ Some 13)) → Explains place line shown
-told_is place line parts reason shown e h told =
-    let wrong : IsReason place (fields_of line) reason = subst (λ (t : List (List ℕ)). IsReason place t reason) e h in
-    elim told [
-      | inl same ↦ inl (subst (λ (r : LineReason). IsReason place (fields_of line) r) (sym same) wrong)
-      | inr ended ↦ inr (ended.0, ended.1, reason_is place line reason wrong)
-    ]
+told_is place line parts reason shown e h told = search (rules, reason_is)
 
 -- a word and the fields behind it are all parts
 pub parts_split : (slice : List (Bor (List ℕ))) (d : Bor (List ℕ)) (all : List (List ℕ)) → 0 < length slice → map (λ x. x.now) slice ≡ all
     → (get_or slice 0 d).now ∷ map (λ x. x.now) (take (length slice - 1) (drop 1 slice)) ≡ all
-parts_split [] d all some e = absurd (omega arith)
-parts_split (x ∷ xs) d all some e = rw (take_all (length (x ∷ xs) - 1) xs (omega arith)) e
+parts_split slice d all some e = grind (arith, common_steps)

@@ -1,9 +1,7 @@
 -- Fact lines, and what is wrong with them.
-use Rattle.std.proofs.Common.{◌≡◌, ◌≢◌, ℕ, ◌<◌, ◌≤◌, inl, inr, true, false, eqb, List, [], ◌∷◌, length, get_or, take, Option, Some, None, codes, refl, sym, ◌∙◌, arith}
+use Rattle.std.proofs.Common.{◌≡◌, ◌≢◌, ℕ, ◌<◌, ◌≤◌, inl, inr, true, false, eqb, List, [], ◌∷◌, length, get_or, take, Option, Some, None, codes, refl, ◌∙◌, arith, rules}
 use Rattle.std.specs.Prelude.{bytes_eq, IsSome, MatchOption, MatchResult, Result, Ok, Err}
-use Rattle.std.proofs.lemmas.Bool.{cases_eq}
 use Rattle.std.proofs.lemmas.Bool.Decides.{nat_tests}
-use Rattle.std.proofs.lemmas.List.{get_or-take, length-take-le}
 use Rattle.redo_core.specs.Data.{record_with, cut_of, advance_of}
 use Rattle.redo_core.specs.Shape.{max_number, max_patches, cut_fault, advance_fault}
 use Rattle.redo_core.specs.declared.shapes.ShapeFault.{ShapeFault}
@@ -22,23 +20,20 @@ use Rattle.line_reasons.specs.declared.reasons.LineReason.TheVariants.{CarriageR
 use Rattle.line_reasons.specs.FieldReasons.{IsFaultAt}
 use Rattle.line_reasons.specs.ContentsReasons.{IsContentsReason}
 use Rattle.line_reasons.specs.FactReasons.{IsShape, fault_with, IsRecordReason, IsCutReason, cut_limits, advance_limits, IsFaultyAdvance, IsAdvanceReason, IsFactReason}
-use Rattle.line_reasons.proofs.Faults.{fault_at, none_at, number_fault, field_reason}
-use Rattle.line_reasons.proofs.FormLines.{unread_numbers, by_test}
+use Rattle.line_reasons.proofs.Faults.{number_fault, field_reason}
+use Rattle.line_reasons.proofs.FormLines.{unread_numbers}
 use Rattle.line_reasons.proofs.PatchLists.{patchless_contents, many_contents}
 
 -- ---- shapes
 
 pub unless_fault : (o : Option ShapeFault) (fault : ShapeFault) (fact : Fact) → o ≡ Some fault → unless o fact ≡ None
-unless_fault (Some f) fault fact e = refl
-unless_fault None fault fact e = absurd cc
+unless_fault o fault fact e = cc
 
 -- ---- records
 
 then_all : (n : Option (List ℕ)) (o : Option Contents) (make : List ℕ → Contents → Option Fact) → o ≡ None
     → (n >>= λ ns. o >>= λ c. make ns c) ≡ None
-then_all None o make e = refl
-then_all (Some ns) None make e = refl
-then_all (Some ns) (Some c) make e = absurd cc
+then_all n o make e = search rules
 
 -- the record of six fields
 abbrev record_by : Option (List ℕ) → Option Contents → Option Fact
@@ -48,34 +43,16 @@ record_by numbers contents = numbers >>= λ ns. contents
 six_fields : (fields : List (List ℕ)) → length fields ≡ 6
     → record_line fields ≡ record_by (numbers_of record_limits (take 5 fields)) (contents_of (get_or fields 5 []))
 unfolding record_line
-six_fields [] e = absurd (omega (arith, e))
-six_fields (a ∷ []) e = absurd (omega (arith, e))
-six_fields (a ∷ b ∷ []) e = absurd (omega (arith, e))
-six_fields (a ∷ b ∷ c ∷ []) e = absurd (omega (arith, e))
-six_fields (a ∷ b ∷ c ∷ d ∷ []) e = absurd (omega (arith, e))
-six_fields (a ∷ b ∷ c ∷ d ∷ f ∷ []) e = absurd (omega (arith, e))
-six_fields (a ∷ b ∷ c ∷ d ∷ f ∷ g ∷ []) e = refl
-six_fields (a ∷ b ∷ c ∷ d ∷ f ∷ g ∷ h ∷ rest) e = absurd (omega (arith, e))
+six_fields fields e = search rules
 
 other_fields : (fields : List (List ℕ)) → length fields ≢ 6 → record_line fields ≡ None
 unfolding record_line
-other_fields [] e = refl
-other_fields (a ∷ []) e = refl
-other_fields (a ∷ b ∷ []) e = refl
-other_fields (a ∷ b ∷ c ∷ []) e = refl
-other_fields (a ∷ b ∷ c ∷ d ∷ []) e = refl
-other_fields (a ∷ b ∷ c ∷ d ∷ f ∷ []) e = refl
-other_fields (a ∷ b ∷ c ∷ d ∷ f ∷ g ∷ []) e = absurd (e refl)
-other_fields (a ∷ b ∷ c ∷ d ∷ f ∷ g ∷ h ∷ rest) e = refl
+other_fields fields e = search rules
 
 -- where six fields would be no record, there is none
 record_none : (fields : List (List ℕ)) → (length fields ≡ 6 → record_by (numbers_of record_limits (take 5 fields)) (contents_of (get_or fields 5 [])) ≡ None)
     → record_line fields ≡ None
-record_none fields none =
-    elim (cases_eq (length fields) 6) [
-      | inl six ↦ six_fields fields six ∙ none six
-      | inr other ↦ other_fields fields other
-    ]
+record_none fields none = search (rules, six_fields, other_fields)
 
 -- a record of numbers and contents
 pub record_made : (fields : List (List ℕ)) (head : Head) (c : Contents) → length fields ≡ 6
@@ -95,18 +72,12 @@ many_five (e ∷ n ∷ b ∷ p ∷ k ∷ []) c many = no_record (record { epoch 
 many_five (e ∷ n ∷ b ∷ p ∷ k ∷ m ∷ ms) c many = refl
 
 many_none : (n : Option (List ℕ)) (o : Option Contents) → ((c : Contents) → o ≡ Some c → max_patches < length c.patches) → record_by n o ≡ None
-many_none None o many = refl
-many_none (Some ns) None many = refl
-many_none (Some ns) (Some c) many = many_five ns c (many c refl)
+many_none n o many = search (rules, many_five)
 
 -- a fault of a number is one of the first five fields
 fault_in_front : (fields : List (List ℕ)) (at : ℕ) (fault : NumberFault) → IsFaultAt record_limits fields at fault → length fields ≡ 6
     → numbers_of record_limits (take 5 fields) ≡ None
-fault_in_front fields at fault h six =
-    let front : h.before < 5 = omega (arith, h.limited) in
-    let same = get_or-take 5 fields h.before [] front in
-    none_at record_limits (take 5 fields) h.before h.limited (omega (arith, six, length-take-le 5 fields (omega (arith, six))))
-    (rw same (number_fault _ _ fault h.faulty))
+fault_in_front fields at fault h six = search (rules, number_fault)
 
 pub record_reason : (fields : List (List ℕ)) (reason : LineReason) → IsRecordReason fields reason → record_line fields ≡ None
 record_reason fields (FieldCount wanted) h = other_fields fields h.1
@@ -150,11 +121,7 @@ three_fields fields other = let is : eqb (length fields) 2 ≡ false = grind (ar
 
 -- numbers are as many as their limits
 many_numbers : (limits : List ℕ) (fields : List (List ℕ)) (ns : List ℕ) → numbers_of limits fields ≡ Some ns → length fields ≡ length limits
-many_numbers limits fields ns e =
-    elim (cases_eq (length fields) (length limits)) [
-      | inl same ↦ same
-      | inr other ↦ absurd (cc (sym e ∙ numbers_apart limits fields other))
-    ]
+many_numbers limits fields ns e = search (rules, numbers_apart)
 
 pub advance_two : (fields : List (List ℕ)) (epoch point : ℕ) → numbers_of (65535 ∷ max_number ∷ []) fields ≡ Some (epoch ∷ point ∷ [])
     → advance_line fields ≡ unless (advance_fault (advance_of epoch 1 point)) (Advance (advance_of epoch 1 point))
@@ -164,20 +131,10 @@ advance_two fields epoch point e = two_fields fields (many_numbers (65535 ∷ ma
 pub advance_three : (fields : List (List ℕ)) (epoch point reader : ℕ) → numbers_of advance_limits fields ≡ Some (epoch ∷ point ∷ reader ∷ [])
     → advance_line fields ≡ unless (advance_fault (advance_of epoch reader point)) (Advance (advance_of epoch reader point))
 unfolding shaped
-advance_three fields epoch point reader e =
-    let three = many_numbers advance_limits fields (epoch ∷ point ∷ reader ∷ []) e in
-    three_fields fields (λ two. absurd (omega (arith, two, three))) ∙ rw e refl
+advance_three fields epoch point reader e = search (rules, three_fields)
 
 faulty_field : (fields : List (List ℕ)) (at : ℕ) (fault : NumberFault) → IsFaultAt advance_limits fields at fault → advance_line fields ≡ None
-faulty_field fields at fault h =
-    elim (cases_eq (length fields) 2) [
-      | inl two ↦
-          let front : h.before < 2 = omega (arith, two, h.within) in
-          let same : get_or (65535 ∷ max_number ∷ []) h.before 0 ≡ get_or advance_limits h.before 0 = get_or-take 2 advance_limits h.before 0 front in
-          two_fields fields two ∙ unread_numbers (65535 ∷ max_number ∷ []) fields _ (none_at (65535 ∷ max_number ∷ []) fields h.before front h.within
-          (rw same (number_fault _ _ fault h.faulty)))
-      | inr other ↦ three_fields fields other ∙ unread_numbers advance_limits fields _ (fault_at advance_limits fields at fault h)
-    ]
+faulty_field fields at fault h = search (rules, two_fields, number_fault, three_fields)
 
 faulty_advance : (fields : List (List ℕ)) (fault : ShapeFault) → IsFaultyAdvance fields fault → advance_line fields ≡ None
 faulty_advance fields fault h =
@@ -188,25 +145,13 @@ faulty_advance fields fault h =
     ]
 
 pub advance_reason : (fields : List (List ℕ)) (reason : LineReason) → IsAdvanceReason fields reason → advance_line fields ≡ None
-advance_reason fields AdvanceFieldCount h = three_fields fields h.0 ∙ unread_numbers advance_limits fields _ (numbers_apart advance_limits fields h.1)
-advance_reason fields (Field at fault) h = faulty_field fields at fault h
-advance_reason fields (Shape fault) h = faulty_advance fields fault h
-advance_reason fields CarriageReturn h = absurd h
-advance_reason fields UnknownWord h = absurd h
-advance_reason fields (FieldCount wanted) h = absurd h
-advance_reason fields (Zero at) h = absurd h
-advance_reason fields PastPage h = absurd h
-advance_reason fields ManyPatches h = absurd h
-advance_reason fields (Patch at fault) h = absurd h
+advance_reason fields reason h = search (rules, three_fields, faulty_field, faulty_advance)
 
 -- ---- by the word
 
 pub fact_reason : (fields : List (List ℕ)) (reason : LineReason) → IsFactReason fields reason → fact_line fields ≡ None
 unfolding fact_line
-fact_reason [] reason h = refl
-fact_reason (word ∷ fields) reason h = by_test (bytes_eq word (codes "rec")) _ _ _ _ (record_reason fields reason)
-    (by_test (bytes_eq word (codes "cut")) _ _ _ _ (cut_reason fields reason)
-    (by_test (bytes_eq word (codes "min")) _ _ _ _ (advance_reason fields reason) (λ other. refl))) h
+fact_reason fields reason h = search (rules, record_reason, cut_reason, advance_reason)
 
 -- ---- the first fields
 
@@ -257,27 +202,22 @@ record_judged fields (Some (Shape fault)) head c six numbers spelled h = record 
 record_judged fields (Some _) head c six numbers spelled h = absurd h
 
 pub contents_reason : (fields : List (List ℕ)) (reason : LineReason) → IsContentsReason (get_or fields 5 []) reason → IsRecordReason fields reason
-contents_reason fields ManyPatches h = h
-contents_reason fields (Patch at fault) h = h
-contents_reason fields _ h = absurd h.1
+contents_reason fields reason h = search rules
 
 -- ---- by the word
 
 pub record_told : (word : List ℕ) (fields : List (List ℕ)) (o : Option LineReason) → bytes_eq word (codes "rec") ≡ true
     → MatchOption o (IsSome (record_line fields)) (IsRecordReason fields) → MatchOption o (IsSome (fact_line (word ∷ fields))) (IsFactReason (word ∷ fields))
 unfolding fact_line
-record_told word fields None e h = rw e h
-record_told word fields (Some reason) e h = rw e h
+record_told word fields o e h = search rules
 
 pub cut_told : (word : List ℕ) (fields : List (List ℕ)) (o : Option LineReason) → bytes_eq word (codes "rec") ≡ false → bytes_eq word (codes "cut") ≡ true
     → MatchOption o (IsSome (cut_line fields)) (IsCutReason fields) → MatchOption o (IsSome (fact_line (word ∷ fields))) (IsFactReason (word ∷ fields))
 unfolding fact_line
-cut_told word fields None e f h = rw (e, f) h
-cut_told word fields (Some reason) e f h = rw (e, f) h
+cut_told word fields o e f h = search rules
 
 pub advance_told : (word : List ℕ) (fields : List (List ℕ)) (o : Option LineReason) → bytes_eq word (codes "rec") ≡ false → bytes_eq word (codes "cut") ≡ false
     → bytes_eq word (codes "min") ≡ true → MatchOption o (IsSome (advance_line fields)) (IsAdvanceReason fields)
     → MatchOption o (IsSome (fact_line (word ∷ fields))) (IsFactReason (word ∷ fields))
 unfolding fact_line
-advance_told word fields None e f g h = rw (e, f, g) h
-advance_told word fields (Some reason) e f g h = rw (e, f, g) h
+advance_told word fields o e f g h = search rules

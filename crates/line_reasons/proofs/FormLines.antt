@@ -1,8 +1,9 @@
 -- Reasons of lines of a word and numbers.
-use Rattle.std.proofs.Common.{get_or, ◌≡◌, ℕ, Bool, true, false, cond, List, [], ◌∷◌, length, Option, Some, None, refl, sym, ap, arith}
+use Rattle.std.proofs.Common.{get_or, ◌≡◌, ℕ, Bool, cond, List, [], ◌∷◌, length, Option, Some, None, refl, sym, ap, arith, rules}
+use Rattle.std.proofs.lemmas.Grind.{common_steps}
 use Rattle.std.proofs.lemmas.Slice.Zip.{AllZip-long}
 use Rattle.std.specs.Result.{result_err}
-use Rattle.std.specs.Prelude.{Result, Ok, Err, bytes_eq, MatchBool, MatchOption, MatchResult}
+use Rattle.std.specs.Prelude.{Result, bytes_eq, MatchBool, MatchOption, MatchResult}
 use Rattle.script_text.specs.Parts.{◌>>=◌}
 use Rattle.script_text.specs.Fields.{Form, numbers_of, made_by, read_by}
 use Rattle.script_text.proofs.Forms.{numbers_within}
@@ -22,13 +23,11 @@ same_test word other constant test is e same tested = rw (← same, ← e) teste
 
 -- what a reading tells of its error
 pub told_by : {U : Type 0} (r : Result U LineReason) (o : Option LineReason) (P : Type 0) (Q : LineReason → Type 0) → o ≡ result_err r → MatchResult r (λ _. P) Q → MatchOption o P Q
-told_by (Ok u) o P Q e h = rw e h
-told_by (Err reason) o P Q e h = rw e h
+told_by r o P Q e h = search rules
 
 -- what holds by a test, of the two sides
 pub by_test : {A : Type 0} (b : Bool) (P Q : Type 0) (x y : Option A) → (P → x ≡ None) → (Q → y ≡ None) → MatchBool b P Q → cond b x y ≡ None
-by_test true P Q x y p q h = p h
-by_test false P Q x y p q h = q h
+by_test b P Q x y p q h = search rules
 
 pub form_reason : {A : Type 0} (f : Form A) (fields : List (List ℕ)) (reason : LineReason) → IsFormReason f fields reason → made_by f fields ≡ None
 form_reason f fields (Zero at) h = rw h.1.0 h.1.1
@@ -54,23 +53,10 @@ pub numbers_long : (limits : List ℕ) (fields : List (List ℕ)) (ns : List ℕ
 numbers_long limits fields ns e = sym (AllZip-long _ ns limits (numbers_within limits fields ns e))
 
 pub two_are : (ns : List ℕ) → length ns ≡ 2 → ns ≡ get_or ns 0 0 ∷ get_or ns 1 0 ∷ []
-two_are [] e = absurd (omega (arith, e))
-two_are (a ∷ []) e = absurd (omega (arith, e))
-two_are (a ∷ b ∷ []) e = refl
-two_are (a ∷ b ∷ c ∷ rest) e = absurd (omega (arith, e))
+two_are ns e = grind (arith, common_steps)
 
 pub three_are : (ns : List ℕ) → length ns ≡ 3 → ns ≡ get_or ns 0 0 ∷ get_or ns 1 0 ∷ get_or ns 2 0 ∷ []
-three_are [] e = absurd (omega (arith, e))
-three_are (a ∷ []) e = absurd (omega (arith, e))
-three_are (a ∷ b ∷ []) e = absurd (omega (arith, e))
-three_are (a ∷ b ∷ c ∷ []) e = refl
-three_are (a ∷ b ∷ c ∷ d ∷ rest) e = absurd (omega (arith, e))
+three_are ns e = grind (arith, common_steps)
 
 pub five_are : (ns : List ℕ) → length ns ≡ 5 → ns ≡ get_or ns 0 0 ∷ get_or ns 1 0 ∷ get_or ns 2 0 ∷ get_or ns 3 0 ∷ get_or ns 4 0 ∷ []
-five_are [] e = absurd (omega (arith, e))
-five_are (a ∷ []) e = absurd (omega (arith, e))
-five_are (a ∷ b ∷ []) e = absurd (omega (arith, e))
-five_are (a ∷ b ∷ c ∷ []) e = absurd (omega (arith, e))
-five_are (a ∷ b ∷ c ∷ d ∷ []) e = absurd (omega (arith, e))
-five_are (a ∷ b ∷ c ∷ d ∷ f ∷ []) e = refl
-five_are (a ∷ b ∷ c ∷ d ∷ f ∷ g ∷ rest) e = absurd (omega (arith, e))
+five_are ns e = grind (arith, common_steps)

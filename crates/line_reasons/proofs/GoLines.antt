@@ -1,9 +1,9 @@
 -- Lines of a text, one by one.
-use Rattle.std.proofs.Common.{◌≡◌, ℕ, ◌+◌, ◌<◌, Bool, true, false, cond, List, [], ◌∷◌, ◌++◌, length, get_or, take, drop, Option, Some, None, refl, ap, ◌∙◌, arith, zero, suc, add-one, add-zero}
+use Rattle.std.proofs.Common.{◌≡◌, ℕ, ◌+◌, ◌<◌, Bool, true, false, cond, List, [], ◌∷◌, ◌++◌, length, get_or, drop, Option, Some, None, refl, ◌∙◌, arith, zero, suc, add-one, add-zero, rules}
+use Rattle.std.proofs.lemmas.Grind.{common_steps}
 use Rattle.std.specs.Prelude.{IfSome, slice_get}
 use Rattle.std.specs.List.{position_from}
 use Rattle.std.proofs.Math.Seq.{drop-cons}
-use Rattle.std.proofs.lemmas.List.{take_more, length-take-le}
 use Rattle.line_reasons.specs.Spots.{is_go, go_with, go_before}
 
 -- the first line of the rest is the next
@@ -27,22 +27,14 @@ go_push n (x ∷ xs) y =
 -- where `go` stands before the next line
 pub go_next : (is_script : Bool) (lines : List (List ℕ)) (line : List ℕ) (i : ℕ) → i < length lines → get_or lines i [] ≡ line
     → go_before is_script lines (i + 1) ≡ cond is_script (go_with (go_before is_script lines i) i line) (go_before is_script lines i)
-go_next false lines line i lt e = refl
-go_next true lines line i lt e =
-    let front : take (i + 1) lines ≡ take i lines ++ line ∷ [] = take_more lines i [] lt ∙ rw e refl in
-    let place : 0 + length (take i lines) ≡ i = omega (arith, length-take-le i lines (omega arith)) in
-    ap (λ (t : List (List ℕ)). position_from is_go 0 t) front ∙ go_push 0 (take i lines) line ∙ rw place refl
+go_next is_script lines line i lt e = grind (arith, common_steps, go_push)
 
 pub earlier_next : (is_script : Bool) (go : Option ℕ) (line : List ℕ) (i : ℕ) → IfSome go (λ k. k < i)
     → IfSome (cond is_script (go_with go i line) go) (λ k. k < i + 1)
-earlier_next true (Some k) line i h = omega (arith, h)
-earlier_next true None line i h = elim (is_go line) as (λ b. IfSome (cond b (Some i) None) (λ k. k < i + 1)) [ true ↦ omega arith | false ↦ tt ]
-earlier_next false (Some k) line i h = omega (arith, h)
-earlier_next false None line i h = tt
+earlier_next is_script go line i h = search rules
 
 pub go_none : (is_script : Bool) (lines : List (List ℕ)) → go_before is_script lines 0 ≡ None
-go_none true lines = refl
-go_none false lines = refl
+go_none is_script lines = search rules
 
 pub get_dropped : (lines : List (List ℕ)) (i : ℕ) (line : List ℕ) → slice_get (drop i lines) 0 ≡ Some line → slice_get lines i ≡ Some line
 get_dropped lines zero line e = e

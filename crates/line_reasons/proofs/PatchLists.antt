@@ -1,5 +1,6 @@
 -- What a record does to its page, and what is wrong with it.
-use Rattle.std.proofs.Common.{◌≡◌, ◌≢◌, ℕ, ◌+◌, ◌<◌, ◌≤◌, ◌⊎◌, inl, inr, Bool, true, false, cond, List, [], ◌∷◌, ◌++◌, Bor, map, length, get_or, take, Option, Some, None, zero, suc, codes, refl, sym, ap, subst, ◌∙◌, true≢false, rules, arith}
+use Rattle.std.proofs.Common.{◌≡◌, ◌≢◌, ℕ, ◌+◌, ◌<◌, ◌≤◌, ◌⊎◌, inl, inr, Bool, true, false, List, [], ◌∷◌, ◌++◌, Bor, map, length, get_or, take, Option, Some, None, zero, suc, codes, refl, sym, ap, subst, ◌∙◌, true≢false, rules, arith}
+use Rattle.std.proofs.lemmas.Grind.{common_steps}
 use Rattle.std.specs.Prelude.{bytes_eq}
 use Rattle.std.proofs.lemmas.List.{map_more, take_all, length-take}
 use Rattle.redo_core.specs.Shape.{max_patches}
@@ -15,9 +16,7 @@ use Rattle.line_reasons.specs.ContentsReasons.{begins_anew, patch_words, IsFault
 use Rattle.script_text.proofs.Split.{some_parts}
 
 none_left : (o : Option patches.Patch) (os : Option (List patches.Patch)) → os ≡ None → (o >>= (λ p. os >>= (λ ps. Some (p ∷ ps)))) ≡ None
-none_left (Some p) (Some ps) e = absurd cc
-none_left (Some p) None e = refl
-none_left None os e = refl
+none_left o os e = search rules
 
 -- with one word that is no patch there are no patches
 none_at : (words : List (List ℕ)) (k : ℕ) → k < length words → patch_of (get_or words k []) ≡ None → each_patch words ≡ None
@@ -64,10 +63,7 @@ each_length (w ∷ ws) ps e =
 contents_by : (parts : List (List ℕ)) → 0 < length parts
     → contents_from parts ≡ (each_patch (patch_words parts) >>= (λ ps. Some (contents (begins_anew parts) ps)))
 unfolding contents_from
-contents_by [] some = absurd (omega arith)
-contents_by (word ∷ words) some =
-    elim (bytes_eq word (codes "init")) as (λ b. cond b (each_patch words >>= (λ ps. Some (contents true ps))) (each_patch (word ∷ words) >>= (λ ps. Some (contents false ps)))
-    ≡ (each_patch (cond b words (word ∷ words)) >>= (λ ps. Some (contents b ps)))) [ true ↦ refl | false ↦ refl ]
+contents_by parts some = search rules
 
 pub contents_is : (text : List ℕ) → bytes_eq text (codes "-") ≡ false → 0 < length (parts_at 44 text)
     → contents_of text ≡ (each_patch (patch_words (parts_at 44 text)) >>= (λ ps. Some (contents (begins_anew (parts_at 44 text)) ps)))
@@ -83,11 +79,7 @@ patchless_contents text at fault h = contents_none text (no_test (bytes_eq text 
     (faulty_patch (patch_words (parts_at 44 text)) at fault h.1)
 
 pub many_contents : (text : List ℕ) (c : Contents) → IsContentsReason text ManyPatches → contents_of text ≡ Some c → max_patches < length c.patches
-many_contents text c h e =
-    let is = contents_is text (no_test (bytes_eq text (codes "-")) (λ e. h.0 (true_is text (codes "-") e))) (some_parts 44 text) in
-    let read = bind_some (each_patch (patch_words (parts_at 44 text))) (λ ps. Some (contents (begins_anew (parts_at 44 text)) ps)) c (sym is ∙ e) in
-    let same : contents (begins_anew (parts_at 44 text)) read.0 ≡ c = some_is _ _ read.2 in
-    rw (← same) (omega (arith, h.1, each_length (patch_words (parts_at 44 text)) read.0 read.1))
+many_contents text c h e = search (rules, contents_is, each_length)
 
 -- ---- by the first words between commas
 
@@ -96,19 +88,11 @@ undashed_is text undashed e = true≢false (sym (ap (λ (t : List ℕ). bytes_eq
 
 -- the words for patches are all, or all but one
 words_long : (parts : List (List ℕ)) → (length parts ≡ length (patch_words parts)) ⊎ (length parts ≡ length (patch_words parts) + 1)
-words_long [] = inl refl
-words_long (word ∷ words) = elim (bytes_eq word (codes "init")) as (λ b. (length (word ∷ words) ≡ length (cond b words (word ∷ words))) ⊎ (length (word ∷ words) ≡ length (cond b words (word ∷ words)) + 1)) [
-  | true ↦ inr (omega arith)
-  | false ↦ inl refl
-]
+words_long parts = search rules
 
 -- there are no more words for patches among the first
 fewer_words : (n : ℕ) (parts : List (List ℕ)) → length (patch_words (take (suc n) parts)) ≤ length (patch_words parts)
-fewer_words n [] = search rules
-fewer_words n (word ∷ words) = elim (bytes_eq word (codes "init")) as (λ b. length (cond b (take n words) (word ∷ take n words)) ≤ length (cond b words (word ∷ words))) [
-  | true ↦ omega (arith, length-take n words)
-  | false ↦ omega (arith, length-take n words)
-]
+fewer_words n parts = grind (arith, common_steps)
 
 -- too many among the first are too many
 pub many_first : (text : List ℕ) → max_patches < length (patch_words (first_parts 44 text)) → max_patches < length (patch_words (parts_at 44 text))
@@ -130,9 +114,7 @@ dashed text e = rw e refl
 
 pub listed : (text : List ℕ) (words : List (List ℕ)) (ps : List patches.Patch) (init : Bool) → bytes_eq text (codes "-") ≡ false → length words ≤ max_patches
     → words ≡ patch_words (first_parts 44 text) → init ≡ begins_anew (first_parts 44 text) → each_patch words ≡ Some ps → contents_of text ≡ Some (contents init ps)
-listed text words ps init undashed few is anew read =
-    let all = few_first text (rw (← is) few) in
-    contents_is text undashed (some_parts 44 text) ∙ rw (← all, ← is, read, ← anew) refl
+listed text words ps init undashed few is anew read = search (rules, few_first, contents_is, some_parts)
 
 pub many_is : (text : List ℕ) (words : List (List ℕ)) → bytes_eq text (codes "-") ≡ false → words ≡ patch_words (first_parts 44 text) → max_patches < length words
     → IsContentsReason text ManyPatches
@@ -140,6 +122,4 @@ many_is text words undashed is many = (undashed_is text undashed, many_first tex
 
 pub unread_is : (text : List ℕ) (words : List (List ℕ)) (reason : LineReason) → bytes_eq text (codes "-") ≡ false → length words ≤ max_patches
     → words ≡ patch_words (first_parts 44 text) → IsListReason words reason → IsContentsReason text reason
-unread_is text words reason undashed few is h =
-    let all = few_first text (rw (← is) few) in
-    (undashed_is text undashed, rw (← all, ← is) h)
+unread_is text words reason undashed few is h = search (rules, few_first)

@@ -1,9 +1,7 @@
 -- Patches, and their faults.
-use Rattle.std.proofs.Common.{◌≡◌, ◌≢◌, ℕ, ◌<◌, inl, inr, Bool, true, false, List, [], ◌∷◌, length, Option, Some, None, refl, sym, ap, ◌∙◌, arith}
+use Rattle.std.proofs.Common.{◌≡◌, ◌≢◌, ℕ, ◌<◌, inl, inr, Bool, false, List, [], ◌∷◌, length, Option, Some, None, refl, sym, ap, ◌∙◌, arith, rules}
 use Rattle.std.specs.Prelude.{IsSome, is_some, MatchBool}
-use Rattle.std.proofs.lemmas.Bool.{cases_eq}
 use Rattle.hex.specs.Hex.{decode_of}
-use Rattle.script_text.specs.Number.{decimal_value}
 use Rattle.script_text.specs.Parts.{◌>>=◌, parts_at, first_parts}
 use Rattle.script_text.specs.Fields.{numbers_of}
 use Rattle.script_text.specs.FactLine.{decoded, patch_at, patch_from, patch_of}
@@ -18,52 +16,22 @@ use Rattle.line_reasons.specs.PatchFaults.{offset_limits, range_limits, IsPatchP
 
 no_place_at : (parts : List (List ℕ)) (bytes : List ℕ) → numbers_of offset_limits parts ≡ None → numbers_of range_limits parts ≡ None
     → patch_at parts bytes ≡ None
-no_place_at [] bytes no_offset no_range = refl
-no_place_at (o ∷ []) [] no_offset no_range = refl
-no_place_at (o ∷ []) (b ∷ bs) no_offset no_range =
-    elim (found (decimal_value 65535 o)) [
-      | inl x ↦ rw x refl
-      | inr x ↦ absurd (cc (rw x.1 at no_offset))
-    ]
-no_place_at (o ∷ l ∷ []) [] no_offset no_range = refl
-no_place_at (o ∷ l ∷ []) (b ∷ c ∷ bs) no_offset no_range = refl
-no_place_at (o ∷ l ∷ []) (b ∷ []) no_offset no_range =
-    elim (found (decimal_value 65535 o)) [
-      | inl x ↦ rw x refl
-      | inr x ↦
-          elim (found (decimal_value 4096 l)) [
-            | inl y ↦ rw (x.1, y) refl
-            | inr y ↦ absurd (cc (rw (x.1, y.1) at no_range))
-          ]
-    ]
-no_place_at (o ∷ l ∷ w ∷ ws) bytes no_offset no_range = refl
+no_place_at parts bytes no_offset no_range = search rules
 
 no_bytes_at : (parts : List (List ℕ)) → patch_at parts [] ≡ None
-no_bytes_at [] = refl
-no_bytes_at (o ∷ []) = refl
-no_bytes_at (o ∷ l ∷ []) = refl
-no_bytes_at (o ∷ l ∷ w ∷ ws) = refl
+no_bytes_at parts = search rules
 
 wide_at : (parts : List (List ℕ)) (bytes : List ℕ) → length parts ≡ 2 → length bytes ≢ 1 → patch_at parts bytes ≡ None
-wide_at [] bytes two many = refl
-wide_at (o ∷ []) bytes two many = absurd (omega (arith, two))
-wide_at (o ∷ l ∷ []) [] two many = refl
-wide_at (o ∷ l ∷ []) (b ∷ []) two many = absurd (many refl)
-wide_at (o ∷ l ∷ []) (b ∷ c ∷ bs) two many = refl
-wide_at (o ∷ l ∷ w ∷ ws) bytes two many = refl
+wide_at parts bytes two many = search rules
 
 -- ---- a patch
 
 unplaced : (parts : List (List ℕ)) (o : Option (List ℕ)) → numbers_of offset_limits parts ≡ None → numbers_of range_limits parts ≡ None → (o >>= patch_at parts) ≡ None
-unplaced parts None no_offset no_range = refl
-unplaced parts (Some bytes) no_offset no_range = no_place_at parts bytes no_offset no_range
+unplaced parts o no_offset no_range = search rules
 
 not_two : (parts : List (List ℕ)) → length parts ≢ 2 → patch_from parts ≡ None
 unfolding patch_from
-not_two [] other = refl
-not_two (place ∷ []) other = refl
-not_two (place ∷ digits ∷ []) other = absurd (other refl)
-not_two (place ∷ digits ∷ w ∷ ws) other = refl
+not_two parts other = search rules
 
 -- round one colon stand a place and digits
 round_colon : (text place digits : List ℕ) → parts_at 58 text ≡ place ∷ digits ∷ [] → patch_of text ≡ (decoded (decode_of digits) >>= patch_at (parts_at 42 place))
@@ -96,39 +64,19 @@ place_numbers limits word parts r lt e read =
 -- what both readings of a place tell
 pub placed : (word : List ℕ) (b : Bool) (offset range : Option (List ℕ)) → is_some offset ≡ false → offset ≡ numbers_of offset_limits (parts_at 42 word)
     → b ≡ is_some range → range ≡ numbers_of range_limits (parts_at 42 word) → MatchBool b (IsPatchPlace word) (IsNoPatchPlace word)
-placed word b (Some x) range none e test f = absurd cc
-placed word true None (Some x) none e test f = inr (rw (← f) refl)
-placed word true None None none e test f = absurd cc
-placed word false None (Some x) none e test f = absurd cc
-placed word false None None none e test f = (sym e, sym f)
+placed word b offset range none e test f = search rules
 
 no_write : (parts : List (List ℕ)) (bytes : List ℕ) → 0 < length bytes → patch_at parts bytes ≡ None → numbers_of offset_limits parts ≡ None
-no_write [] bytes some none = refl
-no_write (o ∷ l ∷ ws) bytes some none = numbers_apart offset_limits (o ∷ l ∷ ws) (λ e. absurd (omega (arith, e)))
-no_write (o ∷ []) [] some none = absurd (omega arith)
-no_write (o ∷ []) (b ∷ bs) some none = elim (found (decimal_value 65535 o)) [ inl x ↦ rw x refl | inr x ↦ absurd (cc (rw x.1 at none)) ]
+no_write parts bytes some none = search rules
 
 no_fill_at : (parts : List (List ℕ)) (b : ℕ) → patch_at parts (b ∷ []) ≡ None → numbers_of range_limits parts ≡ None
-no_fill_at [] b none = refl
-no_fill_at (o ∷ []) b none = numbers_apart range_limits (o ∷ []) (λ e. absurd (omega (arith, e)))
-no_fill_at (o ∷ l ∷ []) b none =
-    elim (found (decimal_value 65535 o)) [
-      | inl x ↦ rw x refl
-      | inr x ↦ elim (found (decimal_value 4096 l)) [ inl y ↦ rw (x.1, y) refl | inr y ↦ absurd (cc (rw (x.1, y.1) at none)) ]
-    ]
-no_fill_at (o ∷ l ∷ w ∷ ws) b none = numbers_apart range_limits (o ∷ l ∷ w ∷ ws) (λ e. absurd (omega (arith, e)))
+no_fill_at parts b none = search rules
 
 wide_bytes : (parts : List (List ℕ)) (bytes : List ℕ) → patch_at parts bytes ≡ None → IsSome (numbers_of range_limits parts) → length bytes ≢ 1
-wide_bytes parts [] none range = λ e. absurd (omega (arith, e))
-wide_bytes parts (b ∷ []) none range = absurd (cc (rw (no_fill_at parts b none) at range))
-wide_bytes parts (b ∷ c ∷ bs) none range = λ e. absurd (omega (arith, e))
+wide_bytes parts bytes none range = search rules
 
 range_parts : (parts : List (List ℕ)) → IsSome (numbers_of range_limits parts) → length parts ≡ 2
-range_parts parts range =
-    elim (cases_eq (length parts) 2) [
-      | inl two ↦ two
-      | inr other ↦ absurd (cc (rw (numbers_apart range_limits parts other) at range))
-    ]
+range_parts parts range = search rules
 
 -- a place and bytes that are no patch are a wide fill
 pub wide_fill : (text place digits bytes : List ℕ) → patch_of text ≡ None → parts_at 58 text ≡ place ∷ digits ∷ [] → IsPatchPlace place

@@ -1,5 +1,6 @@
 -- One line or frame more is answered.
-use Rattle.std.proofs.Common.{◌≡◌, ℕ, ◌+◌, List, [], ◌∷◌, ◌++◌, length, take, Option, refl, sym, ap, ◌∙◌, subst, append_assoc, append-nil}
+use Rattle.std.proofs.Common.{◌≡◌, ℕ, ◌+◌, List, [], ◌∷◌, ◌++◌, length, take, Option, refl, sym, ◌∙◌, subst, append_assoc, rules, arith}
+use Rattle.std.proofs.lemmas.Grind.{common_steps}
 use Rattle.std.specs.List.{concat}
 use Rattle.std.specs.Io.KnownBytes.{Appends}
 use Rattle.std.proofs.KnownBytes.{Appends-trans, Appends-nil}
@@ -41,18 +42,12 @@ module _ {M : Type 0} (answers : M → List ℕ → List ℕ → M → Type 0) (
   pub first_both : (old : M) (lines texts : List (List ℕ)) (mid : M) (left : List (List ℕ)) (all others more : List (List ℕ)) (new : M) (rest : List (List ℕ))
       → AnswersFirst answers limit old lines texts mid left → ((done : List (List ℕ)) → lines ≡ done ++ left → all ≡ done ++ others)
       → AnswersFirst answers limit mid others more new rest → AnswersFirst answers limit old all (texts ++ more) new rest
-  first_both old lines texts mid left all others more new rest h glue k = record {
-    done = h.done ++ k.done;
-    all = glue h.done h.all ∙ ap (λ (l : List (List ℕ)). h.done ++ l) k.all ∙ sym (append_assoc h.done k.done rest);
-    answered = answers_both (AnswersLine answers limit) old h.done texts mid k.done more new h.answered k.answered;
-  }
+  first_both old lines texts mid left all others more new rest h glue k = grind (arith, common_steps, answers_both)
 
 -- ---- the texts, joined
 pub joined_more : (a b c : Option (List ℕ)) (texts : List (List ℕ)) (text : List ℕ) → Appends a b (concat texts) → Appends b c text
     → Appends a c (concat (texts ++ text ∷ []))
-joined_more a b c texts text p q =
-    let same : concat (texts ++ text ∷ []) ≡ concat texts ++ text = concat-append texts (text ∷ []) ∙ ap (λ (l : List ℕ). concat texts ++ l) (append-nil text) in
-    rw same (Appends-trans a b c (concat texts) text p q)
+joined_more a b c texts text p q = search (rules, concat-append, Appends-trans)
 
 pub joined_both : (a b c : Option (List ℕ)) (texts more : List (List ℕ)) → Appends a b (concat texts) → Appends b c (concat more)
     → Appends a c (concat (texts ++ more))
@@ -61,10 +56,7 @@ joined_both a b c texts more p q = rw concat-append (Appends-trans a b c (concat
 -- a beginning of the last text
 pub joined_part : (a b c : Option (List ℕ)) (texts more : List (List ℕ)) (n : ℕ) → Appends a b (concat texts) → Appends b c (take n (concat more))
     → Appends a c (take (length (concat texts) + n) (concat (texts ++ more)))
-joined_part a b c texts more n p q =
-    let same : take (length (concat texts) + n) (concat (texts ++ more)) ≡ concat texts ++ take n (concat more) =
-    ap (take (length (concat texts) + n)) (concat-append texts more) ∙ take-append-add (concat texts) (concat more) n in
-    rw same (Appends-trans a b c (concat texts) (take n (concat more)) p q)
+joined_part a b c texts more n p q = search (rules, concat-append, take-append-add, Appends-trans)
 
 pub joined_none : (a : Option (List ℕ)) → Appends a a (concat [])
 joined_none a = Appends-nil a

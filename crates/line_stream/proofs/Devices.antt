@@ -1,5 +1,5 @@
 -- What reads and writes, one after another, do to known bytes.
-use Rattle.std.proofs.Common.{◌≡◌, ℕ, ◌+◌, List, [], ◌++◌, take, drop, Option, IfSome, refl, sym, subst, append-nil}
+use Rattle.std.proofs.Common.{◌≡◌, ℕ, ◌+◌, List, take, drop, Option, IfSome, rules}
 use Rattle.std.proofs.Math.Seq.{take-add}
 use Rattle.std.specs.Io.KnownBytes.{Consumes, Appends, IsAtEnd}
 use Rattle.std.proofs.KnownBytes.{Consumes-trans, Consumes-all, Consumes-nil, Appends-nil, Appends-trans, Appends-kept}
@@ -16,14 +16,8 @@ Appends-more a b c i n text rest e p q = rw (take-add i n text, ← e) (Appends-
 -- a reader that is at its end gave all that it had, where the last read gave nothing
 pub Consumes-done : (a b c : Option (List ℕ)) (n : ℕ) (bs buf : List ℕ) → Consumes a b bs → Consumes b c (take n buf) → n ≡ 0 → IsAtEnd c
     → IfSome a (λ xs. bs ≡ xs)
-Consumes-done a b c n bs buf p q none end =
-    let nothing : take n buf ≡ [] = rw none refl in
-    let all : Consumes a c (bs ++ []) = rw (← nothing) (Consumes-trans a b c bs (take n buf) p q) in
-    Consumes-all a c (bs ++ []) [] bs all end (sym (append-nil bs))
+Consumes-done a b c n bs buf p q none end = search rules
 
 -- the last read gave nothing
 pub Consumes-nothing : (a b c : Option (List ℕ)) (n : ℕ) (bs buf : List ℕ) → Consumes a b bs → Consumes b c (take n buf) → n ≡ 0 → Consumes a c bs
-Consumes-nothing a b c n bs buf p q none =
-    let nothing : take n buf ≡ [] = rw none refl in
-    let all : Consumes a c (bs ++ []) = rw (← nothing) (Consumes-trans a b c bs (take n buf) p q) in
-    subst (Consumes a c) (append-nil bs) all
+Consumes-nothing a b c n bs buf p q none = search rules

@@ -1,13 +1,12 @@
 -- Bytes that come in pieces have the lines that they have as a whole.
-use Rattle.std.proofs.Common.{◌≡◌, ℕ, ◌<◌, Bool, true, false, cond, eqb, List, [], ◌∷◌, ◌++◌, length, refl, sym, ap, ◌∙◌, arith}
+use Rattle.std.proofs.Common.{◌≡◌, ℕ, ◌<◌, Bool, cond, eqb, List, [], ◌∷◌, ◌++◌, length, refl, sym, ap, ◌∙◌, rules}
 use Rattle.std.specs.List.{onto_first}
 use Rattle.script_text.specs.Parts.{parts_at}
 use Rattle.line_stream.specs.Lines.{glued}
 use Rattle.script_text.proofs.PatchSpelling.{some_parts}
 
 pub glued_none : (parts : List (List ℕ)) → glued [] parts ≡ parts
-glued_none [] = refl
-glued_none (part ∷ parts) = refl
+glued_none parts = search rules
 
 -- the parts of two pieces of a text, of which the last of the first and the first of the second are one
 onto_last : List (List ℕ) → List (List ℕ) → List (List ℕ)
@@ -18,11 +17,7 @@ onto_last (part ∷ next ∷ rest) parts = part ∷ onto_last (next ∷ rest) pa
 one_byte_more : (b : Bool) (x : ℕ) (P Q : List (List ℕ)) → 0 < length P → 0 < length Q
     → cond b ([] ∷ onto_last P Q) (onto_first x (onto_last P Q)) ≡ onto_last (cond b ([] ∷ P) (onto_first x P)) Q
 unfolding onto_last
-one_byte_more b x [] Q some also = absurd (omega arith)
-one_byte_more true x (p ∷ ps) Q some also = refl
-one_byte_more false x (p ∷ []) [] some also = absurd (omega arith)
-one_byte_more false x (p ∷ []) (q ∷ qs) some also = refl
-one_byte_more false x (p ∷ r ∷ rs) Q some also = refl
+one_byte_more b x P Q some also = search rules
 
 parts_more : (c : ℕ) (xs ys : List ℕ) → parts_at c (xs ++ ys) ≡ onto_last (parts_at c xs) (parts_at c ys)
 unfolding onto_last
@@ -40,5 +35,4 @@ onto_last_is (d ∷ e ∷ es) part parts = ap (λ (ps : List (List ℕ)). d ∷ 
 -- more bytes go on with the last part
 pub parts_go_on : (c : ℕ) (text more : List ℕ) (done : List (List ℕ)) (part : List ℕ) → parts_at c text ≡ done ++ part ∷ []
     → parts_at c (text ++ more) ≡ done ++ glued part (parts_at c more)
-parts_go_on c text more done part h =
-    parts_more c text more ∙ ap (λ (ps : List (List ℕ)). onto_last ps (parts_at c more)) h ∙ onto_last_is done part (parts_at c more)
+parts_go_on c text more done part h = search (rules, parts_more, onto_last_is)

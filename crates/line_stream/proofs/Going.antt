@@ -1,5 +1,5 @@
 -- A loop over the lines of some bytes.
-use Rattle.std.proofs.Common.{◌≡◌, ℕ, ◌+◌, List, [], ◌∷◌, ◌++◌, length, take, Bool, true, false, Option, Result, Ok, Err, sym, ◌∙◌, subst, append-nil}
+use Rattle.std.proofs.Common.{◌≡◌, ℕ, ◌+◌, List, [], ◌∷◌, ◌++◌, length, take, Bool, true, Option, Result, sym, ◌∙◌, subst, append-nil, rules}
 use Rattle.std.specs.Prelude.{OnErr, ◌||◌}
 use Rattle.std.specs.List.{concat}
 use Rattle.std.specs.Io.KnownBytes.{Appends}
@@ -20,11 +20,7 @@ pub record Goes {W M : Type 0} (answers : M → List ℕ → List ℕ → M → 
 
 module _ {W M : Type 0} (answers : M → List ℕ → List ℕ → M → Type 0) (contents : W → Option (List ℕ)) (limit : ℕ) where
   pub goes_start : (begun bytes : List ℕ) (old : M) (writer : Watched W) → Goes answers contents limit begun bytes old old writer writer begun bytes
-  goes_start begun bytes old writer = record {
-    texts = [];
-    lines = first_none answers limit old (glued begun (parts_at 10 bytes));
-    written = joined_none (contents (device_of writer));
-  }
+  goes_start begun bytes old writer = search rules
 
   at_limit : (mid : M) (line text : List ℕ) (new : M) (limit' : ℕ) → limit' ≡ limit → AnswersLine answers limit' mid line text new
       → AnswersLine answers limit mid line text new
@@ -35,9 +31,7 @@ module _ {W M : Type 0} (answers : M → List ℕ → List ℕ → M → Type 0)
       → (h : Goes answers contents limit begun bytes old mid writer writer' part rest) → parts_at 10 rest ≡ front ∷ parts_at 10 behind
       → AnswersLine answers limit mid (part ++ front) text new
       → AnswersFirst answers limit old (glued begun (parts_at 10 bytes)) (h.texts ++ text ∷ []) new (parts_at 10 behind)
-  next_line begun bytes old mid writer writer' part rest front behind text new h some one =
-      let left = subst (λ (ps : List (List ℕ)). AnswersFirst answers limit old (glued begun (parts_at 10 bytes)) h.texts mid (glued part ps)) some h.lines in
-      first_more answers limit old (glued begun (parts_at 10 bytes)) h.texts mid (part ++ front) (parts_at 10 behind) text new left one
+  next_line begun bytes old mid writer writer' part rest front behind text new h some one = search (rules, first_more)
 
   -- the answer to the next line is written
   pub goes_on : (begun bytes : List ℕ) (old mid : M) (writer writer' writer'' : Watched W) (part rest front behind text : List ℕ) (new : M)
@@ -78,11 +72,7 @@ module _ {W M : Type 0} (answers : M → List ℕ → List ℕ → M → Type 0)
   pub goes_end : (begun bytes : List ℕ) (old mid : M) (writer writer' : Watched W) (part rest : List ℕ)
       → Goes answers contents limit begun bytes old mid writer writer' part rest → parts_at 10 rest ≡ rest ∷ []
       → EndsWith answers contents limit begun bytes old mid writer writer' (part ++ rest)
-  goes_end begun bytes old mid writer writer' part rest h none = record {
-    texts = h.texts;
-    lines = subst (λ (ps : List (List ℕ)). AnswersFirst answers limit old (glued begun (parts_at 10 bytes)) h.texts mid (glued part ps)) none h.lines;
-    written = h.written;
-  }
+  goes_end begun bytes old mid writer writer' part rest h none = search rules
 
   -- ---- bytes behind bytes
   -- nothing has been read
@@ -97,13 +87,7 @@ module _ {W M : Type 0} (answers : M → List ℕ → List ℕ → M → Type 0)
       → EndsWith answers contents limit [] input old mid writer writer' rest
       → (limit' : ℕ) → limit' ≡ limit → EndsWith answers contents limit' rest bytes mid new writer' writer'' rest'
       → EndsWith answers contents limit [] (input ++ bytes) old new writer writer'' rest'
-  ends_more input bytes old mid new writer writer' writer'' rest rest' h limit' same k' =
-      let k = subst (λ (n : ℕ). EndsWith answers contents n rest bytes mid new writer' writer'' rest') same k' in record {
-        texts = h.texts ++ k.texts;
-        lines = first_both answers limit old (glued [] (parts_at 10 input)) h.texts mid (rest ∷ []) (glued [] (parts_at 10 (input ++ bytes))) (glued rest (parts_at 10 bytes))
-            k.texts new (rest' ∷ []) h.lines (λ done e. glued_none (parts_at 10 (input ++ bytes)) ∙ regrouped input bytes rest done e) k.lines;
-        written = joined_both _ _ _ h.texts k.texts h.written k.written;
-      }
+  ends_more input bytes old mid new writer writer' writer'' rest rest' h limit' same k' = search (rules, first_both, glued_none, regrouped, joined_both)
 
   pub cut_more : (input bytes : List ℕ) (old mid new : M) (writer writer' writer'' : Watched W) (rest : List ℕ)
       → EndsWith answers contents limit [] input old mid writer writer' rest
@@ -122,9 +106,7 @@ module _ {W M : Type 0} (answers : M → List ℕ → List ℕ → M → Type 0)
 
 -- ---- results
 pub on_err : {A E : Type 0} (r : Result A E) (P : Type 0) → P → OnErr r P
-on_err (Ok x) P h = tt
-on_err (Err e) P h = h
+on_err r P h = search rules
 
 pub failed_now : (a b : Bool) → a ≡ (b || true) → a ≡ true
-failed_now a true h = h
-failed_now a false h = h
+failed_now a b h = search rules

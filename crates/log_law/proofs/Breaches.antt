@@ -1,10 +1,10 @@
 -- With what else a fact breaks its law: what the searches know, and that what is told shows the law broken.
-use Rattle.std.proofs.Common.{◌≡◌, ◌≢◌, ℕ, ◌+◌, ◌<◌, ◌≤◌, inl, inr, ⊎_elim, List, length, get_or, take, min, refl, sym, ◌∙◌, subst, arith, Option, Some, None, true, rules}
+use Rattle.std.proofs.Common.{◌≡◌, ◌≢◌, ℕ, ◌+◌, ◌<◌, ◌≤◌, inl, inr, ⊎_elim, List, length, get_or, take, refl, sym, ◌∙◌, subst, arith, Option, Some, None, true, rules}
 use Rattle.std.specs.Prelude.{slice_get, MatchOption, IfOk, IfSome, IsSome, Result, Ok, Err, ⊤}
 use Rattle.std.specs.List.{Contains}
 use Rattle.std.specs.declared.alloc.AllocError.{AllocError}
 use Rattle.std.proofs.lemmas.Bool.{cases_lt, cases_eq}
-use Rattle.std.proofs.lemmas.Option.{none-some, same_Some, slice_get_within, get_or_from_slice_get}
+use Rattle.std.proofs.lemmas.Option.{none-some, slice_get_within, get_or_from_slice_get}
 use Rattle.std.proofs.lemmas.List.{get_or_past, length-take, get_or-take}
 use Rattle.redo_core.specs.Data.{RecordData, CutData, AdvanceData}
 use Rattle.redo_core.specs.Fault.{KeepsLaw}
@@ -17,7 +17,6 @@ use Rattle.redo_core.specs.Sound.{SameKey, IsAliveBelow, Law1, Law2, Law3, Law4,
 use Rattle.redo_core.specs.declared.facts.Fact.{Fact}
 use Rattle.redo_core.specs.declared.facts.Fact.TheVariants.{Record, Cut, Advance}
 use Rattle.redo_core.specs.declared.laws.Law.{Law}
-use Rattle.redo_core.specs.declared.laws.Law.TheVariants.{OneFactPerKey, EpochBegun, SegmentBacklink, BlockBacklink, AdvanceKept}
 use Rattle.redo_core.specs.declared.laws.LawFault.{LawFault}
 use Rattle.redo_core.proofs.FactParts.{cut_in}
 use Rattle.redo_core.proofs.SoundFacts.{place_of, earlier}
@@ -35,11 +34,7 @@ use Rattle.log_law.proofs.Candidates.{EachBefore, each_member}
 
 -- law 1 by the facts before a place
 pub agree : (log : List Fact) (p : ℕ) (fact : Fact) → EachBefore log (λ f. SameKey f fact → f ≡ fact) p → Law1 (take p log) fact
-agree log p fact each f h key =
-    let len : length (take p log) ≡ min p (length log) = length-take p log in
-    let l : h.0 < length (take p log) = h.1 in
-    let before : h.0 < p = omega arith in
-    each h.0 f before (place_of log f h.0 (omega arith) (sym (get_or-take p log h.0 f before) ∙ h.2)) key
+agree log p fact each f h key = search (rules, length-take, place_of, get_or-take)
 
 -- the first missing epoch is the one after the complete one
 pub missing_after : (log : List Fact) (k e : ℕ) → AreBegunTo log k → k < e → IsFirstMissing log e (k + 1)
@@ -98,8 +93,7 @@ table_has log table c t h =
 pub cut_below_at : (roster : ℕ) (log : List Fact) (table : List (Option CutData)) (lows : List ℕ) (a : AdvanceData) (p place : ℕ) (c : CutData)
     → IsTable log table → AreLeastPoints roster log (length table) lows → slice_get log p ≡ Some (Cut c) → place ≡ p + 1 → Contains (counted log) c
     → a.epoch < c.epoch → c.lo < a.point → c.lo < get_or lows c.epoch 0 → IsCutBelow roster log a place
-cut_below_at roster log table lows a p place c t least at q counts later below low =
-    (c, (p, q, at), counts, later, low_past roster log (length table) lows c least (table_has log table c t counts) low, below)
+cut_below_at roster log table lows a p place c t least at q counts later below low = search (rules, low_past, table_has)
 
 pub no_cut_below : (roster : ℕ) (log : List Fact) (table : List (Option CutData)) (lows : List ℕ) (a : AdvanceData) (p : ℕ) → IsTable log table
     → AreLeastPoints roster log (length table) lows → length log ≤ p → EachBefore log (λ f. IsBelowBy log lows a f → ⊥) p → (c : CutData)
@@ -153,14 +147,10 @@ link_shows log r Only back (NoReader n) h law = h
 link_shows log r Only back (CutBelow p) h law = h
 
 segment_shows : (log : List Fact) (fact : Fact) (b : Breach) → TellsSegment log fact b → Law3 log fact → ⊥
-segment_shows log (Record r) b h law = link_shows log r (λ s. Unit {0}) r.back b h law
-segment_shows log (Cut c) b h law = h
-segment_shows log (Advance a) b h law = h
+segment_shows log fact b h law = search (rules, link_shows)
 
 block_shows : (log : List Fact) (fact : Fact) (b : Breach) → TellsBlock log fact b → Law4 log fact → ⊥
-block_shows log (Record r) b h law = link_shows log r (λ s. s.page ≡ r.page) r.block_back b h law
-block_shows log (Cut c) b h law = h
-block_shows log (Advance a) b h law = h
+block_shows log fact b h law = search (rules, link_shows)
 
 advance_shows : (roster : ℕ) (log : List Fact) (fact : Fact) (b : Breach) → TellsAdvance roster log fact b → Law5 roster log fact → ⊥
 advance_shows roster log (Record r) b h law = h
@@ -175,19 +165,10 @@ advance_shows roster log (Advance a) (CutBelow p) h law = let l : a.point ≤ h.
 
 shows_broken : (roster : ℕ) (log : List Fact) (place : ℕ) (fact : Fact) (law : Law) (b : Breach) → TellsOf roster log (place + 1) fact law b
     → KeepsLaw roster log place fact law → ⊥
-shows_broken roster log place fact OneFactPerKey b h k = key_shows log place fact b h k
-shows_broken roster log place fact EpochBegun b h k = begun_shows log fact b h k
-shows_broken roster log place fact SegmentBacklink b h k = segment_shows log fact b h k
-shows_broken roster log place fact BlockBacklink b h k = block_shows log fact b h k
-shows_broken roster log place fact AdvanceKept b h k = advance_shows roster log fact b h k
+shows_broken roster log place fact law b h k = search (rules, key_shows, begun_shows, segment_shows, block_shows, advance_shows)
 
 pub tells_broken : ShowsBroken
-tells_broken roster log fault b place fact t e at k =
-    let w = t.1 in
-    let q : w.0 ≡ place = (let m : fault.place ≡ w.0 + 1 = w.1 in omega arith) in
-    let same : t.0 ≡ fact = same_Some t.0 fact (sym (subst (λ i. slice_get log i ≡ Some t.0) q w.2) ∙ at) in
-    shows_broken roster log place fact fault.law b
-    (subst (λ f. TellsOf roster log (place + 1) f fault.law b) same (subst (λ i. TellsOf roster log i t.0 fault.law b) e t.2)) k
+tells_broken roster log fault b place fact t e at k = search (rules, shows_broken)
 
 -- what is told of a place is told of the fault
 abbrev pub AnswersAt : ℕ → List Fact → ℕ → Law → Option Breach → Fact → Type 0
@@ -210,8 +191,7 @@ told roster log place fault (Err e') e none some = tt
 
 answered : (roster : ℕ) (log : List Fact) (place : ℕ) (law : Law) (found : Option Breach) (fact : Fact) → AnswersAt roster log place law found fact
     → (KeepsLaw roster log place fact law → ⊥) → IsSome found
-answered roster log place law None fact h breaks = absurd (breaks h)
-answered roster log place law (Some b) fact h breaks = search rules
+answered roster log place law found fact h breaks = search rules
 
 pub reported_told : (roster : ℕ) (log : List Fact) (place : ℕ) (fault : LawFault) (r : Result (Option Breach) AllocError) → fault.place ≡ place + 1
     → ((fact : Fact) → slice_get log place ≡ Some fact → IfOk r (λ found. AnswersAt roster log place fault.law found fact))

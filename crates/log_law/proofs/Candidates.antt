@@ -1,5 +1,5 @@
 -- What a backlink has to name: the bounds of what is alive, and the greatest number among the facts before a place.
-use Rattle.std.proofs.Common.{◌≡◌, ◌≢◌, ℕ, ◌+◌, ◌<◌, ◌≤◌, ◌↔◌, ◌⊎◌, inr, ⊎_elim, List, length, min, refl, sym, ap, ◌∙◌, subst, arith, Option, Some, None}
+use Rattle.std.proofs.Common.{◌≡◌, ◌≢◌, ℕ, ◌+◌, ◌<◌, ◌≤◌, ◌↔◌, ◌⊎◌, inr, ⊎_elim, List, length, min, refl, sym, ap, ◌∙◌, subst, arith, Option, Some, None, rules}
 use Rattle.std.specs.Prelude.{slice_get, MatchOption}
 use Rattle.std.specs.List.{Contains}
 use Rattle.std.proofs.lemmas.Bool.{cases_lt, cases_eq}
@@ -22,11 +22,7 @@ abbrev pub EachBefore : List Fact → (Fact → Type 0) → ℕ → Type 0
 EachBefore log P p = (q : ℕ) (f : Fact) → q < p → slice_get log q ≡ Some f → P f
 
 pub each_more : (log : List Fact) (P : Fact → Type 0) (p : ℕ) (f : Fact) → slice_get log p ≡ Some f → P f → EachBefore log P p → EachBefore log P (p + 1)
-each_more log P p f at here each q g l h =
-    ⊎_elim
-    (λ (k : q < p). each q g k h)
-    (λ (k : p ≤ q). let e : q ≡ p = omega arith in subst P (same_Some f g (sym at ∙ subst (λ i. slice_get log i ≡ Some g) e h)) here)
-    (cases_lt q p)
+each_more log P p f at here each q g l h = search rules
 
 -- and so each member has, where the place is the end
 pub each_member : (log : List Fact) (P : Fact → Type 0) (p : ℕ) (f : Fact) → length log ≤ p → EachBefore log P p → Contains log f → P f
@@ -99,10 +95,7 @@ target_end log r Only p t l so_far = (
 
 pub target_kept : (log : List Fact) (r : RecordData) (Only : RecordData → Type 0) (p : ℕ) (f : Fact) (t : Target) → slice_get log p ≡ Some f
     → IsNoBetter log r Only t.number f → IsTargetTo log r Only p t → IsTargetTo log r Only (p + 1) t
-target_kept log r Only p f t at off so_far = record {
-  stands = so_far.stands;
-  each = each_more log (IsNoBetter log r Only t.number) p f at off so_far.each;
-}
+target_kept log r Only p f t at off so_far = search rules
 
 pub target_new : (log : List Fact) (r : RecordData) (Only : RecordData → Type 0) (p : ℕ) (s : RecordData) (old new : Target)
     → slice_get log p ≡ Some (Record s) → new.place ≡ p + 1 → new.number ≡ s.number → IsAlive (counted log) r.epoch s.epoch s.number → Only s

@@ -1,6 +1,6 @@
 -- The stack holds what is alive: at the start, in the view of the next epoch, and with one more record.
-use Rattle.std.proofs.Common.{◌≡◌, ℕ, ◌+◌, ◌<◌, ◌≤◌, ⊎_elim, List, [], ◌∷◌, ◌++◌, length, get_or, reverse, refl, sym, ap, ◌∙◌, subst, arith, Option, Some, None}
-use Rattle.std.specs.List.{All, Contains}
+use Rattle.std.proofs.Common.{◌≡◌, ℕ, ◌+◌, ◌<◌, ◌≤◌, ⊎_elim, List, [], ◌∷◌, ◌++◌, sym, ap, ◌∙◌, subst, arith, Option, Some, None, rules}
+use Rattle.std.specs.List.{Contains}
 use Rattle.std.proofs.lemmas.Bool.{cases_lt}
 use Rattle.std.proofs.lemmas.Option.{none-some, same_Some}
 use Rattle.std.proofs.lemmas.List.Elements.{recursion_from_All, All-contains_itself, All-weaker, Contains-append_left, Contains-append_cases, Contains-push}
@@ -11,7 +11,7 @@ use Rattle.redo_core.specs.Sound.{counted}
 use Rattle.redo_core.specs.declared.facts.Fact.{Fact}
 use Rattle.redo_core.proofs.Members.{none_in, here, there, which}
 use Rattle.log_law.specs.Counted.{first_cut}
-use Rattle.log_law.specs.Alive.{stack_of, page_top, without_above, KnowsBeneath, IsStack, NotBelow, HoldsAlive, CanPush}
+use Rattle.log_law.specs.Alive.{stack_of, without_above, IsStack, NotBelow, HoldsAlive, CanPush}
 use Rattle.log_law.specs.declared.alive.Entry.{Entry}
 use Rattle.log_law.specs.declared.alive.AliveRecords.{AliveRecords}
 use Rattle.log_law.specs.declared.links.Item.{Item}
@@ -19,13 +19,7 @@ use Rattle.log_law.proofs.FirstCuts.{counted_at, at_counted}
 use Rattle.log_law.proofs.Stacks.{above_falls, above_left, above_kept}
 
 pub holds_nothing : (log : List Fact) (s : AliveRecords) → IsStack s → stack_of s ≡ [] → HoldsAlive log [] s
-holds_nothing log s k e = record {
-  stack = k;
-  falls = subst (IsRising NotBelow) (sym e) tt;
-  known = λ t h. absurd (none_in t h);
-  each = λ x h. absurd (none_in x (subst (λ xs. Contains xs x) e h));
-  all = λ t h a. absurd (none_in t h);
-}
+holds_nothing log s k e = search rules
 
 -- alive in the next view
 alive_before : (cs : List CutData) (v e n : ℕ) → e ≤ v → IsAlive cs (v + 1) e n → IsAlive cs v e n
@@ -130,16 +124,10 @@ holds_push log past old new t x num pg k v s a above h = record {
     only {u} p = ⊎_elim (λ (e : t ≡ u). e) (λ (n : Contains [] u). absurd (none_in u n)) (which t [] u p)
 
 pub same_but_view : (old new : AliveRecords) → IsStack old → new.entries ≡ old.entries → new.page_tops ≡ old.page_tops → IsStack new
-same_but_view old new s e t = record {
-  inside = subst (λ v. All (λ x. x.page < length v.items) new.entries.items) (sym t)
-      (subst (λ v. All (λ x. x.page < length old.page_tops.items) v.items) (sym e) s.inside);
-  tops = λ g. ap (λ v. get_or v.items g 0) t ∙ s.tops g ∙ sym (ap (λ v. page_top g (reverse v.items)) e);
-  beneath = subst (λ v. KnowsBeneath (reverse v.items)) (sym e) s.beneath;
-}
+same_but_view old new s e t = search rules
 
 pub none_of : (o : Option CutData) → ((c : CutData) → o ≡ Some c → ⊥) → o ≡ None
-none_of None h = refl
-none_of (Some c) h = absurd (h c refl)
+none_of o h = search rules
 
 -- numbers of a group are not below what went on the stack before
 pub top_or_below : (log : List Fact) (group : List Item) (s : AliveRecords) → CanPush log group s → (t u : Item) → Contains group t → Contains group u

@@ -1,11 +1,10 @@
 -- The first truncation of an epoch, and what a table of them decides.
-use Rattle.std.proofs.Common.{◌≡◌, ◌≢◌, ℕ, ◌+◌, ◌<◌, ◌≤◌, ◌⊎◌, ◌↔◌, inl, inr, ⊎_elim, List, [], ◌∷◌, ◌++◌, length, get_or, refl, sym, ap, ◌∙◌, subst, arith, Option, Some, None, Bool, true, false, cond, not}
+use Rattle.std.proofs.Common.{◌≡◌, ◌≢◌, ℕ, ◌+◌, ◌<◌, ◌≤◌, ◌⊎◌, ◌↔◌, inl, inr, ⊎_elim, List, [], ◌∷◌, ◌++◌, length, get_or, refl, sym, ap, ◌∙◌, subst, arith, Option, Some, None, Bool, true, false, cond, not, rules}
 use Rattle.std.specs.Prelude.{◌==◌, MatchOption, is_some}
 use Rattle.std.specs.List.{Contains, filter, filter_map}
-use Rattle.std.proofs.lemmas.Bool.{eqb-true, eqb-false, eq-eqb, ne_eqb, not-true, cases_lt, cases_eq}
+use Rattle.std.proofs.lemmas.Bool.{eqb-false, eq-eqb, ne_eqb, not-true, cases_lt, cases_eq}
 use Rattle.std.proofs.lemmas.Option.{none-some, same_Some}
 use Rattle.std.proofs.lemmas.List.Elements.{filter_map-append, Contains-append_cases}
-use Rattle.std.proofs.lemmas.Bool.Decides.{nat_tests}
 use Rattle.std.proofs.lemmas.List.{get_or_past, get_or_default}
 use Rattle.redo_core.specs.Data.{RecordData, CutData, AdvanceData}
 use Rattle.redo_core.specs.Shape.{cut_fault}
@@ -14,7 +13,7 @@ use Rattle.redo_core.specs.CompleteEpoch.{HasCutsTo}
 use Rattle.redo_core.specs.Sound.{first_cuts, counted, Law2, Law5}
 use Rattle.redo_core.specs.declared.facts.Fact.{Fact}
 use Rattle.redo_core.specs.declared.facts.Fact.TheVariants.{Record, Cut, Advance}
-use Rattle.redo_core.proofs.Members.{none_in, here, there, which, filtered, passed}
+use Rattle.redo_core.proofs.Members.{none_in, there, which, filtered, passed}
 use Rattle.redo_core.proofs.FactParts.{cut_in}
 use Rattle.redo_core.specs.Roster.{IsReader}
 use Rattle.log_law.specs.Counted.{first_at, first_cut, or_first, IsTable, AreBegunTo, IsLeastLaterLo}
@@ -24,8 +23,7 @@ use Rattle.log_law.proofs.Reaching.{past_low, low_past}
 -- the first of two lists together
 append_at : (e : ℕ) (c : CutData) (cs ds : List CutData) (b : Bool) → first_at e (cs ++ ds) ≡ or_first (first_at e cs) (first_at e ds)
     → cond b (Some c) (first_at e (cs ++ ds)) ≡ or_first (cond b (Some c) (first_at e cs)) (first_at e ds)
-append_at e c cs ds true ih = refl
-append_at e c cs ds false ih = ih
+append_at e c cs ds b ih = search rules
 
 pub first_at-append : (e : ℕ) (cs ds : List CutData) → first_at e (cs ++ ds) ≡ or_first (first_at e cs) (first_at e ds)
 first_at-append e [] ds = refl
@@ -44,20 +42,16 @@ unfolding cuts
 first_cut-nil e = refl
 
 or_none : (o : Option CutData) → or_first o None ≡ o
-or_none (Some c) = refl
-or_none None = refl
+or_none o = search rules
 
 no_first : (f : Fact) (e : ℕ) → ((c : CutData) → f ≡ Cut c → ⊥) → first_cut (f ∷ []) e ≡ None
 unfolding cuts
-no_first (Record r) e h = refl
-no_first (Cut c) e h = absurd (h c refl)
-no_first (Advance a) e h = refl
+no_first f e h = search rules
 
 -- the first of an epoch is of that epoch
 epoch_at : (e : ℕ) (d : CutData) (ds : List CutData) (c : CutData) (b : Bool) → (d.epoch == e) ≡ b → (first_at e ds ≡ Some c → c.epoch ≡ e)
     → cond b (Some d) (first_at e ds) ≡ Some c → c.epoch ≡ e
-epoch_at e d ds c true t ih h = let q : d ≡ c = same_Some d c h in ap (λ x. x.epoch) (sym q) ∙ eqb-true d.epoch e t
-epoch_at e d ds c false t ih h = ih h
+epoch_at e d ds c b t ih h = search rules
 
 pub first_at_epoch : (e : ℕ) (cs : List CutData) (c : CutData) → first_at e cs ≡ Some c → c.epoch ≡ e
 first_at_epoch e [] c h = absurd (none-some c h)
@@ -80,11 +74,7 @@ counted_first (d ∷ ds) c h =
 
 first_counted_at : (d : CutData) (ds : List CutData) (c : CutData) (b : Bool) → (d.epoch == c.epoch) ≡ b
     → (first_at c.epoch ds ≡ Some c → Contains (first_cuts ds) c) → cond b (Some d) (first_at c.epoch ds) ≡ Some c → Contains (first_cuts (d ∷ ds)) c
-first_counted_at d ds c true t ih h = let q : d ≡ c = same_Some d c h in subst (λ x. Contains (x ∷ filter (λ y. not (y.epoch == d.epoch)) (first_cuts ds)) c)
-    (sym q) (here c _)
-first_counted_at d ds c false t ih h =
-    there d _ c (passed (λ x. not (x.epoch == d.epoch)) (first_cuts ds) c
-    (let ne : c.epoch ≢ d.epoch = λ q. eqb-false d.epoch c.epoch t (sym q) in grind (arith, nat_tests)) (ih h))
+first_counted_at d ds c b t ih h = search (rules, there, passed)
 
 first_counted : (cs : List CutData) (c : CutData) → first_at c.epoch cs ≡ Some c → Contains (first_cuts cs) c
 first_counted [] c h = absurd (none-some c h)
@@ -95,9 +85,7 @@ unfolding counted
 counted_is log c = (counted_first (cuts log) c, first_counted (cuts log) c)
 
 pub counted_at : (log : List Fact) (e : ℕ) (c : CutData) → first_cut log e ≡ Some c → Contains (counted log) c × (c.epoch ≡ e)
-counted_at log e c h =
-    let q : c.epoch ≡ e = first_at_epoch e (cuts log) c h in
-    ((counted_is log c).1 (subst (λ k. first_cut log k ≡ Some c) (sym q) h), q)
+counted_at log e c h = search (rules, first_at_epoch, counted_is)
 
 pub at_counted : (log : List Fact) (e : ℕ) (c : CutData) → Contains (counted log) c → c.epoch ≡ e → first_cut log e ≡ Some c
 at_counted log e c h q = subst (λ k. first_cut log k ≡ Some c) q ((counted_is log c).0 h)
@@ -105,8 +93,7 @@ at_counted log e c h q = subst (λ k. first_cut log k ≡ Some c) q ((counted_is
 -- what counts is among the truncations
 first_among_at : (e : ℕ) (d : CutData) (ds : List CutData) (c : CutData) (b : Bool) → (first_at e ds ≡ Some c → Contains ds c)
     → cond b (Some d) (first_at e ds) ≡ Some c → Contains (d ∷ ds) c
-first_among_at e d ds c true ih h = subst (λ x. Contains (x ∷ ds) c) (sym (same_Some d c h)) (here c ds)
-first_among_at e d ds c false ih h = there d ds c (ih h)
+first_among_at e d ds c b ih h = search (rules, there)
 
 pub first_among : (e : ℕ) (cs : List CutData) (c : CutData) → first_at e cs ≡ Some c → Contains cs c
 first_among e [] c h = absurd (none-some c h)
@@ -144,11 +131,7 @@ table_cut xs f c old new q le t h = record {
 
 -- the complete epoch of a table
 some_at : (log : List Fact) (e : ℕ) → (first_cut log e ≡ None → ⊥) → (c : CutData) × (first_cut log e ≡ Some c)
-some_at log e h = some_of (first_cut log e) refl
-  where
-    some_of : (o : Option CutData) → first_cut log e ≡ o → (c : CutData) × (first_cut log e ≡ Some c)
-    some_of None q = absurd (h q)
-    some_of (Some c) q = (c, q)
+some_at log e h = search rules
 
 pub begun_to : (log : List Fact) (k : ℕ) → ((e : ℕ) → 1 ≤ e → e ≤ k → first_cut log e ≡ None → ⊥) → HasCutsTo (counted log) k
 begun_to log k h e l m =
@@ -224,23 +207,17 @@ law2_not log r k b l law = let m : r.epoch ≤ k = (b r.epoch).0 law.0 in absurd
 
 pub law5_at : (roster : ℕ) (log : List Fact) (a : AdvanceData) (later : ℕ) → IsLeastLaterLo roster log a.epoch later → a.point ≤ 281474976710655
     → IsReader roster a.reader → HasCutsTo (counted log) a.epoch → (a.point ≤ later) ↔ Law5 roster log (Advance a)
-law5_at roster log a later f small reader has = (
-  λ l. (reader, has, λ c k m past. let b : later ≤ c.lo = f.below c k m past in omega arith),
-  λ law. ⊎_elim (λ (t : later ≡ 281474976710655). omega arith) (λ s. let b : a.point ≤ s.0.lo = law.2 s.0 s.1 s.2 s.3 in let q : s.0.lo ≡ later = s.4 in
-      omega arith) f.least,
-)
+law5_at roster log a later f small reader has = search rules
 
 -- an item of a table
 pub read_item : (table : List (Option CutData)) (i : ℕ) (o : Option CutData) → i < length table → o ≡ get_or table i o → get_or table i None ≡ o
 read_item table i o l q = get_or_default table i None o l ∙ sym q
 
 some_not : (o : Option CutData) → is_some o ≡ true → o ≡ None → ⊥
-some_not None s q = absurd (cc)
-some_not (Some c) s q = absurd (cc)
+some_not o s q = cc
 
 not_some : (o : Option CutData) → is_some o ≡ false → o ≡ None
-not_some None s = refl
-not_some (Some c) s = absurd (cc)
+not_some o s = search rules
 
 pub some_item : (table : List (Option CutData)) (i : ℕ) (o : Option CutData) → i < length table → o ≡ get_or table i o → is_some o ≡ true
     → get_or table i None ≡ None → ⊥

@@ -1,5 +1,6 @@
 -- What is alive below a record is what is on the stack, so that its tops are the backlinks of laws 3 and 4.
 use Rattle.std.proofs.Common.{◌≡◌, ℕ, ◌<◌, ◌≤◌, ◌⊎◌, inl, inr, ⊎_elim, List, [], ◌∷◌, length, get_or, refl, sym, ap, ◌∙◌, subst, arith, Some, None, Bool, true, false, cond}
+use Rattle.std.proofs.lemmas.Grind.{common_steps}
 use Rattle.std.specs.Prelude.{slice_get, ◌==◌}
 use Rattle.std.specs.List.{Contains}
 use Rattle.std.proofs.lemmas.Bool.{cases_lt, eqb-true, eqb-false}
@@ -33,14 +34,7 @@ use Rattle.log_law.proofs.Least.{one_redo}
 -- the top of a falling stack is the greatest
 pub top_greatest : (P : ℕ → Type 0) (xs : List Entry) → IsRising NotBelow xs → ((x : Entry) → Contains xs x → P x.number)
     → ((m : ℕ) → P m → (x : Entry) × Contains xs x × (x.number ≡ m)) → IsGreatest P (top_number xs)
-top_greatest P [] r has all = (inl refl, λ m p. absurd (let w = all m p in none_in w.0 w.1))
-top_greatest P (x ∷ xs) r has all = (
-  inr (has x (here x xs)),
-  λ m p. let w = all m p in let e : w.0.number ≡ m = w.2 in ⊎_elim
-      (λ (q : x ≡ w.0). let s : x.number ≡ w.0.number = ap (λ y. y.number) q in omega arith)
-      (λ (q : Contains xs w.0). let l : w.0.number ≤ x.number = each (NotBelow x) xs w.0 r.0 q in omega arith)
-      (which x xs w.0 w.1),
-)
+top_greatest P xs r has all = grind (arith, common_steps)
 
 page_at : (P : ℕ → Type 0) (g : ℕ) (x : Entry) (xs : List Entry) (b : Bool) → (x.page == g) ≡ b → IsRising NotBelow (x ∷ xs)
     → ((y : Entry) → Contains (x ∷ xs) y → y.page ≡ g → P y.number) → ((m : ℕ) → P m → (y : Entry) × Contains (x ∷ xs) y × (y.page ≡ g) × (y.number ≡ m))

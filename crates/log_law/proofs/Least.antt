@@ -1,5 +1,5 @@
 -- Items of a log, and the least of those whose backlinks are wrong.
-use Rattle.std.proofs.Common.{◌≡◌, ℕ, ◌+◌, ◌<◌, ◌≤◌, ⊎_elim, List, [], ◌∷◌, ◌++◌, length, get_or, take, sym, ap, ◌∙◌, subst, arith, append_assoc, Option, Some, None}
+use Rattle.std.proofs.Common.{◌≡◌, ℕ, ◌+◌, ◌<◌, ◌≤◌, ⊎_elim, List, [], ◌∷◌, ◌++◌, length, get_or, take, sym, ap, ◌∙◌, subst, arith, append_assoc, Option, Some, None, rules}
 use Rattle.std.specs.Prelude.{slice_get}
 use Rattle.std.specs.List.{Contains}
 use Rattle.std.specs.List.Sorted.{IsPermutation}
@@ -37,14 +37,7 @@ more_item log p items t h it e = record {
 
 pub no_item : (log : List Fact) (p : ℕ) (items : List Item) (f : Fact) → AreItemsTo log p items → slice_get log p ≡ Some f
     → ((r : RecordData) → f ≡ Record r → Law2 log (Record r) → ⊥) → AreItemsTo log (p + 1) items
-no_item log p items f h at not' = record {
-  each = h.each;
-  all = λ q r l s law. ⊎_elim
-      (λ (k : q < p). h.all q r k s law)
-      (λ (k : p ≤ q). let same : q ≡ p = omega arith in
-      absurd (not' r (same_Some f (Record r) (sym at ∙ subst (λ i. slice_get log i ≡ Some (Record r)) same s)) law))
-      (cases_lt q p);
-}
+no_item log p items f h at not' = search rules
 
 pub reordered : (log : List Fact) (items sorted : List Item) → IsPermutation items sorted → AreItems log items → AreItems log sorted
 reordered log items sorted p h = record {

@@ -1,12 +1,13 @@
 -- A log with one more fact: what stays as it was, and when it is sound.
 use Rattle.std.proofs.Common.{◌≡◌, ℕ, ◌+◌, ◌<◌, ◌≤◌, ◌⊎◌, inl, inr, ⊎_elim, List, [], ◌∷◌, ◌++◌, length, take, refl, sym, ap, ◌∙◌, subst, arith, length-append, Option, Some, None}
+use Rattle.std.proofs.lemmas.Grind.{common_steps}
 use Rattle.std.specs.Prelude.{slice_get}
 use Rattle.std.specs.List.{Contains}
 use Rattle.std.proofs.lemmas.Bool.{cases_lt}
 use Rattle.std.proofs.lemmas.Option.{same_Some, slice_get_within, slice_get-get_or, get_or_from_slice_get}
 use Rattle.std.proofs.lemmas.List.{take-append-le, take_all, get_or_append_left}
 use Rattle.std.proofs.Math.Seq.{get_or-append_seam}
-use Rattle.std.proofs.lemmas.List.Elements.{Contains-append_left, Contains-append_cases, Contains-push}
+use Rattle.std.proofs.lemmas.List.Elements.{Contains-append_left, Contains-push}
 use Rattle.redo_core.specs.Data.{RecordData, CutData, AdvanceData}
 use Rattle.redo_core.specs.Sets.{records, cuts, advances}
 use Rattle.redo_core.specs.Order.{IsGreatest}
@@ -52,9 +53,7 @@ place_cases log f g p h =
 
 -- members of a longer log
 pub in_longer : (log : List Fact) (f g : Fact) → Contains (log ++ f ∷ []) g → Contains log g ⊎ (f ≡ g)
-in_longer log f g h =
-    ⊎_elim inl (λ (k : Contains (f ∷ []) g). inr (⊎_elim (λ (e : f ≡ g). e) (λ (n : Contains [] g). absurd (none_in g n)) (which f [] g k)))
-    (Contains-append_cases log (f ∷ []) g h)
+in_longer log f g h = grind (arith, common_steps)
 
 pub record_cases : (log : List Fact) (f : Fact) (r : RecordData) → Contains (records (log ++ f ∷ [])) r → Contains (records log) r ⊎ (f ≡ Record r)
 record_cases log f r h = ⊎_elim (λ k. inl ((record_in log r).1 k)) inr (in_longer log f (Record r) ((record_in (log ++ f ∷ []) r).0 h))

@@ -1,12 +1,11 @@
 -- How far the readers have come before each epoch, fact by fact and reader by reader.
-use Rattle.std.proofs.Common.{◌≡◌, ◌≢◌, ℕ, ◌+◌, ◌-◌, ◌<◌, ◌≤◌, ◌⊎◌, ◌↔◌, inl, inr, ⊎_elim, List, [], length, get_or, take, min, max, refl, sym, ◌∙◌, subst, arith}
+use Rattle.std.proofs.Common.{◌≡◌, ◌≢◌, ℕ, ◌+◌, ◌-◌, ◌<◌, ◌≤◌, ◌⊎◌, ◌↔◌, inl, inr, ⊎_elim, List, [], length, get_or, take, min, max, refl, sym, ◌∙◌, subst, arith, rules}
 use Rattle.std.specs.List.{Contains}
 use Rattle.redo_core.specs.Data.{CutData, AdvanceData}
 use Rattle.redo_core.specs.Sets.{advances}
 use Rattle.redo_core.specs.Past.{ArePast}
 use Rattle.redo_core.specs.declared.facts.Fact.{Fact}
 use Rattle.redo_core.specs.declared.facts.Fact.TheVariants.{Advance}
-use Rattle.redo_core.proofs.Members.{none_in}
 use Rattle.redo_core.proofs.FactParts.{advance_in}
 use Rattle.redo_core.proofs.Rising.{front_to, up_to, take_grows}
 use Rattle.log_law.specs.Lows.{HasAbove, AreTops, AreLeastPoints, AreSteps, IsStep, HasTopAbove}
@@ -67,10 +66,7 @@ pub record Risen (old cur : List ℕ) (i : ℕ) : Type 0 where
   pub rest : (e : ℕ) → i ≤ e → get_or cur e 0 ≡ get_or old e 0
 
 pub risen_none : (old : List ℕ) → Risen old old 1
-risen_none old = record {
-  done = λ e n l. (λ h. (e, omega arith, h), λ h. let q : h.0 ≡ e = omega (arith, h.1, l) in subst (λ k. n < get_or old k 0) q h.2);
-  rest = λ e l. refl;
-}
+risen_none old = search rules
 
 pub rise_step : (old cur new : List ℕ) (i : ℕ) → 1 ≤ i → Risen old cur i → get_or new i 0 ≡ max (get_or cur i 0) (get_or cur (i - 1) 0)
     → ((e : ℕ) → e ≢ i → get_or new e 0 ≡ get_or cur e 0) → Risen old new (i + 1)
@@ -131,7 +127,4 @@ steps_other facts reader count i f cur l at off s = record {
 }
 
 pub no_steps : (reader count : ℕ) (tops : List ℕ) → length tops ≡ count → ((k : ℕ) → get_or tops k 0 ≡ 0) → AreSteps [] reader count tops
-no_steps reader count tops len zeros = record {
-  len = len;
-  each = λ e n l. (λ h. let z = zeros e in absurd (omega (arith, z, h)), λ h. absurd (none_in (Advance h.0) h.1));
-}
+no_steps reader count tops len zeros = search rules

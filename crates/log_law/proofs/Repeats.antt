@@ -1,8 +1,8 @@
 -- Law 1 as the scan goes: records by what is kept of each key, truncations by the first of their epoch.
-use Rattle.std.proofs.Common.{◌≡◌, ℕ, zero, suc, ◌+◌, ◌<◌, ◌≤◌, ◌⊎◌, inl, inr, ⊎_elim, List, [], ◌∷◌, ◌++◌, length, take, drop, refl, sym, ap, ◌∙◌, subst, arith, Option, Some, None, Bool, true, false, cond}
-use Rattle.std.specs.Prelude.{slice_get, ◌==◌, ◌&&◌}
+use Rattle.std.proofs.Common.{◌≡◌, ℕ, zero, suc, ◌+◌, ◌<◌, ◌≤◌, ◌⊎◌, inl, inr, ⊎_elim, List, [], ◌∷◌, ◌++◌, length, take, drop, refl, sym, ap, ◌∙◌, subst, arith, Option, Some, None, Bool, true, false, cond, rules}
+use Rattle.std.specs.Prelude.{slice_get, ◌==◌}
 use Rattle.std.specs.List.{Contains}
-use Rattle.std.proofs.lemmas.Bool.{eqb-true, eq-eqb, cases_lt, and_parts, and_from, cases_Bool}
+use Rattle.std.proofs.lemmas.Bool.{eqb-true, eq-eqb, and_parts, and_from, cases_Bool}
 use Rattle.std.proofs.lemmas.Option.{none-some, same_Some, slice_get_within, get_or_from_slice_get}
 use Rattle.std.proofs.lemmas.List.{take_more, take-append-drop}
 use Rattle.std.proofs.Math.Seq.{drop-cons}
@@ -34,14 +34,7 @@ taken_cases log p f g at h =
     (Contains-append_cases (take p log) (f ∷ []) g (subst (λ xs. Contains xs g) (taken log p f at) h))
 
 pub kept_more : (log : List Fact) (p : ℕ) (f : Fact) → slice_get log p ≡ Some f → Law1 (take p log) f → KeepLaw1To log p → KeepLaw1To log (p + 1)
-kept_more log p f at law kept q g l s =
-    ⊎_elim
-    (λ (k : q < p). kept q g k s)
-    (λ (k : p ≤ q).
-    let e : q ≡ p = omega arith in
-    let same : f ≡ g = same_Some f g (sym at ∙ subst (λ i. slice_get log i ≡ Some g) e s) in
-    subst (λ i. Law1 (take i log) g) (sym e) (subst (Law1 (take p log)) same law))
-    (cases_lt q p)
+kept_more log p f at law kept q g l s = search rules
 
 -- a record with nothing of its key before it
 pub law1_none : (log : List Fact) (p : ℕ) (r : RecordData) → IsSeenAt log p r.epoch r.number None → Law1 (take p log) (Record r)
@@ -136,9 +129,7 @@ pub first_more : (log : List Fact) (p : ℕ) (f : Fact) → slice_get log p ≡ 
 first_more log p f at here' h c m = ⊎_elim (h c) (here' c) (taken_cases log p f (Cut c) at m)
 
 pub law1_first : (log : List Fact) (p : ℕ) (c : CutData) → AreFirstTo log p → first_cut log c.epoch ≡ Some c → Law1 (take p log) (Cut c)
-law1_first log p c h e (Record s) m k = absurd k
-law1_first log p c h e (Cut d) m k = let q : d ≡ c = same_Some d c (sym (h d m) ∙ ap (first_cut log) k ∙ e) in ap Cut q
-law1_first log p c h e (Advance a) m k = absurd k
+law1_first log p c h e = search rules
 
 first_here : (c : CutData) (rest : List Fact) → first_cut (Cut c ∷ rest) c.epoch ≡ Some c
 unfolding cuts
@@ -169,39 +160,26 @@ law1_later log p c at differ law = go (first_cut (take p log) c.epoch) refl
 -- what the code reads and writes of a key
 pub seen_at_key : (log : List Fact) (p : ℕ) (seen : Seen) (r : RecordData) (e n : ℕ) (o : Option ℕ) → e ≡ r.epoch → n ≡ r.number → o ≡ get is_same_key seen (key_in e n)
     → IsSeen log p seen → IsSeenAt log p r.epoch r.number o
-seen_at_key log p seen r e n o qe qn q h =
-    subst (λ k. IsSeenAt log p r.epoch k o) qn (subst (λ k. IsSeenAt log p k n o) qe (subst (IsSeenAt log p e n) (sym q) (h e n)))
+seen_at_key log p seen r e n o qe qn q h = search rules
 
 pub seen_after : (log : List Fact) (p : ℕ) (r : RecordData) (old new : Seen) (e' n' : ℕ) → e' ≡ r.epoch → n' ≡ r.number
     → ((q : Key) → get is_same_key new q ≡ cond (is_same_key (key_in e' n') q) (Some p) (get is_same_key old q)) → slice_get log p ≡ Some (Record r)
     → Law1 (take p log) (Record r) → IsSeen log p old → IsSeen log (p + 1) new
-seen_after log p r old new e' n' qe qn up at law h e n =
-    let key : (b : Bool) → is_same_key (key_of r) (key_in e n) ≡ b → is_same_key (key_in e' n') (key_in e n) ≡ b = λ b t. ap (λ x. (x == e) && (n' == n)) qe ∙ ap
-    (λ x. (r.epoch == e) && (x == n)) qn ∙ t in
-    seen_more log p r e n (get is_same_key old (key_in e n)) (get is_same_key new (key_in e n)) at law
-    (λ t. up (key_in e n) ∙ ap (λ b. cond b (Some p) (get is_same_key old (key_in e n))) (key true t))
-    (λ t. up (key_in e n) ∙ ap (λ b. cond b (Some p) (get is_same_key old (key_in e n))) (key false t))
-    (h e n)
+seen_after log p r old new e' n' qe qn up at law h e n = search (rules, seen_more)
 
 pub match_not : (P Q : Type 0) (b : Bool) → (b ≡ true → Q) → (b ≡ false → P) → MatchBool (not b) P Q
-match_not P Q true f g = f refl
-match_not P Q false f g = g refl
+match_not P Q b f g = search rules
 
 pub seen_past : (log : List Fact) (p : ℕ) (f : Fact) (seen : Seen) → slice_get log p ≡ Some f → ((r : RecordData) → f ≡ Record r → ⊥) → IsSeen log p seen
     → IsSeen log (p + 1) seen
 seen_past log p f seen at apart h e n = seen_other log p f e n (get is_same_key seen (key_in e n)) at (λ r q i j. apart r q) (h e n)
 
 pub law1_advance : (earlier : List Fact) (a : AdvanceData) → Law1 earlier (Advance a)
-law1_advance earlier a (Record s) m k = absurd k
-law1_advance earlier a (Cut d) m k = absurd k
-law1_advance earlier a (Advance b) m k = absurd k
+law1_advance earlier a = search rules
 
 -- the scan stops at a place, or at the end
 pub first_other : (log : List Fact) (p : ℕ) (f : Fact) → slice_get log p ≡ Some f → KeepLaw1To log p → (Law1 (take p log) f → ⊥) → IsFirstKeyConflict log p
 first_other log p f at kept breaks = record { before = kept; breaks = λ g h law. breaks (subst (Law1 (take p log)) (same_Some g f (sym h ∙ at)) law) }
 
 pub none_further : (log : List Fact) (p : ℕ) → length log ≤ p → KeepLaw1To log p → IsFirstKeyConflict log (length log)
-none_further log p l kept = record {
-  before = λ q f m. kept q f (omega arith);
-  breaks = λ f h law. let inside : length log < length log = slice_get_within log (length log) f h in omega arith;
-}
+none_further log p l kept = search (rules, slice_get_within)

@@ -1,8 +1,8 @@
 -- What is left of a falling stack without the numbers above lo.
-use Rattle.std.proofs.Common.{◌≡◌, ℕ, ◌<◌, ◌≤◌, ⊎_elim, List, [], ◌∷◌, refl, ap, subst, arith, Bool, true, false, cond}
+use Rattle.std.proofs.Common.{◌≡◌, ℕ, ◌≤◌, ⊎_elim, List, [], ◌∷◌, refl, subst, arith, Bool, true, false, cond, rules}
 use Rattle.std.specs.Prelude.{nat_lt}
 use Rattle.std.specs.List.{Contains}
-use Rattle.std.proofs.lemmas.Bool.{ltb-true, ltb-false}
+use Rattle.std.proofs.lemmas.Bool.{ltb-false}
 use Rattle.redo_core.specs.Order.{IsRising}
 use Rattle.redo_core.proofs.Members.{none_in, there, which, each}
 use Rattle.log_law.specs.Alive.{without_above, NotBelow}
@@ -10,8 +10,7 @@ use Rattle.log_law.specs.declared.alive.Entry.{Entry}
 
 falls_at : (lo : ℕ) (x : Entry) (xs : List Entry) (b : Bool) → IsRising NotBelow (x ∷ xs) → IsRising NotBelow (without_above lo xs)
     → IsRising NotBelow (cond b (without_above lo xs) (x ∷ xs))
-falls_at lo x xs true r ih = ih
-falls_at lo x xs false r ih = r
+falls_at lo x xs b r ih = search rules
 
 pub above_falls : (lo : ℕ) (xs : List Entry) → IsRising NotBelow xs → IsRising NotBelow (without_above lo xs)
 above_falls lo [] r = r
@@ -34,10 +33,7 @@ above_left lo (x ∷ xs) y r h = left_at lo x xs y (nat_lt lo x.number) refl r (
 
 kept_at : (lo : ℕ) (x : Entry) (xs : List Entry) (y : Entry) (b : Bool) → nat_lt lo x.number ≡ b → (Contains xs y → Contains (without_above lo xs) y)
     → Contains (x ∷ xs) y → y.number ≤ lo → Contains (cond b (without_above lo xs) (x ∷ xs)) y
-kept_at lo x xs y true t ih h l =
-    let m : lo < x.number = ltb-true lo x.number t in
-    ⊎_elim (λ (e : x ≡ y). absurd (let n : x.number ≡ y.number = ap (λ z. z.number) e in omega arith)) ih (which x xs y h)
-kept_at lo x xs y false t ih h l = h
+kept_at lo x xs y b t ih h l = search rules
 
 pub above_kept : (lo : ℕ) (xs : List Entry) (y : Entry) → Contains xs y → y.number ≤ lo → Contains (without_above lo xs) y
 above_kept lo [] y h l = absurd (none_in y h)

@@ -1,17 +1,16 @@
 -- From what is known at a place to the law that its fact breaks first, and from place to place.
-use Rattle.std.proofs.Common.{◌≡◌, ◌≢◌, ℕ, ◌+◌, ◌<◌, ◌≤◌, ⊎_elim, List, length, take, refl, sym, ap, ◌∙◌, subst, arith, Option, Some, None, true, false}
+use Rattle.std.proofs.Common.{◌≡◌, ◌≢◌, ℕ, ◌+◌, ◌<◌, ◌≤◌, ⊎_elim, List, length, take, refl, sym, ◌∙◌, subst, arith, Option, Some, None, true, false, rules}
 use Rattle.std.specs.Prelude.{slice_get, MatchOption, ◌==◌}
-use Rattle.std.proofs.lemmas.Bool.{cases_lt, cases_eq, eqb-true, eqb-false}
-use Rattle.std.proofs.lemmas.Option.{none-some, same_Some, slice_get_within, get_or_from_slice_get}
+use Rattle.std.proofs.lemmas.Bool.{cases_lt, cases_eq}
+use Rattle.std.proofs.lemmas.Option.{same_Some, slice_get_within, get_or_from_slice_get}
 use Rattle.redo_core.specs.Data.{RecordData, CutData, AdvanceData}
 use Rattle.redo_core.specs.Sound.{Law1, Law2, Law5, HasShape, KeepsLaws, IsSound}
-use Rattle.std.specs.List.{AllByRecursion}
 use Rattle.redo_core.specs.Roster.{IsRoster}
-use Rattle.redo_core.specs.Fault.{KeepsLaw, lower_laws, BreaksFirst}
+use Rattle.redo_core.specs.Fault.{BreaksFirst}
 use Rattle.redo_core.specs.declared.facts.Fact.{Fact}
 use Rattle.redo_core.specs.declared.facts.Fact.TheVariants.{Record, Cut, Advance}
 use Rattle.redo_core.specs.declared.laws.Law.{Law}
-use Rattle.redo_core.specs.declared.laws.Law.TheVariants.{OneFactPerKey, EpochBegun, SegmentBacklink, BlockBacklink, AdvanceKept}
+use Rattle.redo_core.specs.declared.laws.Law.TheVariants.{EpochBegun, AdvanceKept}
 use Rattle.redo_core.specs.declared.laws.LawFault.{LawFault}
 use Rattle.redo_core.proofs.FactParts.{cut_in}
 use Rattle.log_law.specs.Counted.{IsTable}
@@ -23,12 +22,7 @@ use Rattle.log_law.proofs.Least.{one_redo}
 
 pub record_verdict : (roster : ℕ) (log : List Fact) (place : ℕ) (r : RecordData) (o : Option Law) → HasShape (Record r) → Law1 (take place log) (Record r)
     → Law2 log (Record r) → Judges log r o → MatchOption o (KeepsLaws roster log place (Record r)) (BreaksFirst roster log place (Record r))
-record_verdict roster log place r None s one two j = record { shape = s; law1 = one; law2 = two; law3 = j.0; law4 = j.1; law5 = tt }
-record_verdict roster log place r (Some OneFactPerKey) s one two j = absurd j
-record_verdict roster log place r (Some EpochBegun) s one two j = absurd j
-record_verdict roster log place r (Some SegmentBacklink) s one two j = (j, (one, (two, tt)))
-record_verdict roster log place r (Some BlockBacklink) s one two j = (j.1, (one, (two, (j.0, tt))))
-record_verdict roster log place r (Some AdvanceKept) s one two j = absurd j
+record_verdict roster log place r o s one two j = search rules
 
 pub record_not_begun : (roster : ℕ) (log : List Fact) (place : ℕ) (r : RecordData) → Law1 (take place log) (Record r) → (Law2 log (Record r) → ⊥)
     → BreaksFirst roster log place (Record r) EpochBegun
@@ -63,42 +57,22 @@ record_link log place r (Some b) answer at first upto law two =
 
 pub link_judges : (log : List Fact) (place : ℕ) (f : Fact) (link : Option BrokenLink) (answer : Option Law) → slice_get log place ≡ Some f
     → IsFirstBrokenLink log link → ((b : BrokenLink) → link ≡ Some b → place ≤ b.place) → IsLawAt link place answer → LinkJudges log f answer
-link_judges log place (Record r) link answer at first upto law = record_link log place r link answer at first upto law
-link_judges log place (Cut c) link answer at first upto law = tt
-link_judges log place (Advance a) link answer at first upto law = tt
+link_judges log place f link answer at first upto law = search (rules, record_link)
 
 -- a fact that keeps the laws has no broken link at its place
 not_broken : (log : List Fact) (r : RecordData) (law : Law) → BreaksLink log r law → KeepsLinks log r → ⊥
-not_broken log r OneFactPerKey b k = b
-not_broken log r EpochBegun b k = b
-not_broken log r SegmentBacklink b k = b k.0
-not_broken log r BlockBacklink b k = b.1 k.1
-not_broken log r AdvanceKept b k = b
+not_broken log r law b k = search rules
 
 kept_links : (roster : ℕ) (log : List Fact) (place : ℕ) (f : Fact) (r : RecordData) → f ≡ Record r → KeepsLaws roster log place f → KeepsLinks log r
 kept_links roster log place f r e k = let h = subst (KeepsLaws roster log place) e k in (h.law3, h.law4)
 
 pub link_further : (roster : ℕ) (log : List Fact) (place : ℕ) (f : Fact) (link : Option BrokenLink) → slice_get log place ≡ Some f → IsFirstBrokenLink log link
     → KeepsLaws roster log place f → ((b : BrokenLink) → link ≡ Some b → place ≤ b.place) → (b : BrokenLink) → link ≡ Some b → place + 1 ≤ b.place
-link_further roster log place f None at first kept upto b e = absurd (none-some b e)
-link_further roster log place f (Some d) at first kept upto b e =
-    let l : place ≤ b.place = upto b e in
-    ⊎_elim
-    (λ (q : place ≡ b.place). absurd (
-    let same : d ≡ b = same_Some d b e in
-    let w = first.1 in
-    let here : slice_get log place ≡ Some (Record w.0) = subst (λ i. slice_get log i ≡ Some (Record w.0)) (ap (λ x. x.place) same ∙ sym q) w.1 in
-    not_broken log w.0 d.law w.2 (kept_links roster log place f w.0 (same_Some f (Record w.0) (sym at ∙ here)) kept)))
-    (λ (q : place ≢ b.place). omega arith)
-    (cases_eq place b.place)
+link_further roster log place f link at first kept upto b e = search rules
 
 pub other_further : (roster : ℕ) (log : List Fact) (place other : ℕ) (f : Fact) → slice_get log place ≡ Some f → IsFirstKeyConflict log other
     → KeepsLaws roster log place f → place ≤ other → place + 1 ≤ other
-other_further roster log place other f at first kept l =
-    ⊎_elim
-    (λ (q : place ≡ other). absurd (first.breaks f (subst (λ i. slice_get log i ≡ Some f) q at) (subst (λ i. Law1 (take i log) f) q kept.law1)))
-    (λ (q : place ≢ other). omega arith)
-    (cases_eq place other)
+other_further roster log place other f at first kept l = search rules
 
 abbrev pub KeepToPlace : ℕ → List Fact → ℕ → Type 0
 KeepToPlace roster log place = (earlier : ℕ) (f : Fact) → earlier < place → slice_get log earlier ≡ Some f → KeepsLaws roster log earlier f
@@ -116,17 +90,7 @@ kept_further roster log place f at k all earlier g l h =
 
 pub reported : (roster : ℕ) (log : List Fact) (place : ℕ) (f : Fact) (law : Law) (fault : LawFault) → fault.place ≡ place + 1 → fault.law ≡ law
     → slice_get log place ≡ Some f → BreaksFirst roster log place f law → KeepToPlace roster log place → Reports roster log fault
-reported roster log place f law fault e q at b all = (
-  place,
-  e,
-  record {
-    fact = f;
-    at_place = at;
-    breaks = subst (λ l. KeepsLaw roster log place f l → ⊥) (sym q) b.0;
-    lower = subst (λ l. AllByRecursion (KeepsLaw roster log place f) (lower_laws l)) (sym q) b.1;
-    before = all;
-  },
-)
+reported roster log place f law fault e q at b all = search rules
 
 pub all_sound : (roster : ℕ) (log : List Fact) (place : ℕ) → IsRoster roster → length log ≤ place → KeepToPlace roster log place → IsSound roster log
 all_sound roster log place readers l all = record {
@@ -142,8 +106,4 @@ cut_shape log place c t at = t.shapes c ((cut_in log c).1 (place, slice_get_with
 -- what is found at a place
 pub verdict_at : (log : List Fact) (place other : ℕ) (f : Fact) (at : slice_get log place ≡ Some f) → IsFirstKeyConflict log other → place ≤ other
     → ((place == other) ≡ true → Law1 (take place log) f → ⊥) × ((place == other) ≡ false → Law1 (take place log) f)
-verdict_at log place other f at first l = (
-  λ t law. let e : place ≡ other = eqb-true place other t in first.breaks f (subst (λ i. slice_get log i ≡ Some f) e at)
-      (subst (λ i. Law1 (take i log) f) e law),
-  λ t. let ne : place ≢ other = eqb-false place other t in first.before place f (omega arith) at,
-)
+verdict_at log place other f at first l = search rules

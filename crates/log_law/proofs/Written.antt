@@ -1,9 +1,9 @@
 -- What a writer keeps is what its log says: at the start, and with a record, a truncation or an advance more.
-use Rattle.std.proofs.Common.{◌≡◌, ◌≢◌, ℕ, ◌+◌, ◌-◌, max, replicate, ◌<◌, ◌≤◌, ◌⊎◌, inl, inr, ⊎_elim, List, [], ◌∷◌, ◌++◌, length, get_or, refl, sym, ap, ◌∙◌, subst, arith, Option, Some, None, cond, Bool, true, false}
-use Rattle.std.specs.Prelude.{slice_get, ◌==◌, nat_le, nat_lt, if◌then◌else◌}
+use Rattle.std.proofs.Common.{◌≡◌, ◌≢◌, ℕ, ◌+◌, ◌-◌, max, replicate, ◌<◌, ◌≤◌, ◌⊎◌, inl, inr, ⊎_elim, List, [], ◌∷◌, ◌++◌, length, get_or, refl, sym, ap, ◌∙◌, subst, arith, Option, Some, None, cond, Bool, true, false, rules}
+use Rattle.std.specs.Prelude.{slice_get, ◌==◌, nat_lt, if◌then◌else◌}
 use Rattle.std.specs.List.{Contains, AllByRecursion}
 use Rattle.std.proofs.lemmas.Bool.Decides.{nat_tests}
-use Rattle.std.proofs.lemmas.Bool.{cases_lt, cases_eq, eq-eqb, ne_eqb, lt-leb, le-ltb}
+use Rattle.std.proofs.lemmas.Bool.{cases_lt, cases_eq, eq-eqb}
 use Rattle.std.proofs.lemmas.List.{get_or-replicate, length-replicate}
 use Rattle.std.proofs.lemmas.Option.{none-some, slice_get_within, get_or_from_slice_get}
 use Rattle.std.proofs.lemmas.List.Elements.{Contains-append_left, Contains-append_right, Contains-append_cases, Contains-push}
@@ -22,7 +22,7 @@ use Rattle.redo_core.specs.CompleteEpoch.{HasCutsTo, IsCompleteEpoch}
 use Rattle.redo_core.specs.Sound.{counted, HasShape, Law1, Law2, IsSound, IsAliveBelow}
 use Rattle.redo_core.specs.declared.facts.Fact.{Fact}
 use Rattle.redo_core.specs.declared.facts.Fact.TheVariants.{Record, Cut, Advance}
-use Rattle.redo_core.specs.declared.shapes.ShapeFault.TheVariants.{NumberIsZero, BackNotBelow, BlockBackAbove, TooLarge}
+use Rattle.redo_core.specs.declared.shapes.ShapeFault.TheVariants.{TooLarge}
 use Rattle.redo_core.specs.declared.shapes.ShapeFault.{ShapeFault}
 use Rattle.redo_core.proofs.Members.{none_in, here, only}
 use Rattle.redo_core.proofs.FactParts.{record_in, cut_in, advance_in}
@@ -507,8 +507,7 @@ pub top_at_most : {roster : ℕ} (log : List Fact) (s : AliveRecords) (last : �
 top_at_most log s last points w = top_of_list (stack_of s) last (entry_at_most log s last points w)
 
 page_step : (g : ℕ) (x : Entry) (xs : List Entry) (b : Bool) → page_top g xs ≤ x.number → cond b x.number (page_top g xs) ≤ x.number
-page_step g x xs true h = omega arith
-page_step g x xs false h = h
+page_step g x xs b h = search rules
 
 page_at_most : (g : ℕ) (xs : List Entry) (n : ℕ) → AllByRecursion (λ y. y.number ≤ n) xs → IsRising NotBelow xs → page_top g xs ≤ n
 page_at_most g [] n all r = omega arith
@@ -532,12 +531,7 @@ writes_fault n ws = option_or (patches_fault (plain ws)) (if nat_lt max_number n
 
 pub shape_of_plain : (e n b p bb : ℕ) (ws : List WriteData) → record_fault (plain_record n ws) ≡ None → b < n → bb ≤ b
     → record_fault (record_of e n b p bb ws) ≡ None
-shape_of_plain e n b p bb ws h below le =
-    open_conds (n == 0) (nat_le n b) (nat_lt b bb) (Some NumberIsZero) (Some BackNotBelow) (Some BlockBackAbove) (writes_fault n ws)
-    (ne_eqb n 0 (λ q. absurd (omega arith))) (lt-leb n b below) (le-ltb b bb le)
-    ∙ sym (open_conds (n == 0) (nat_le n 0) (nat_lt 0 0) (Some NumberIsZero) (Some BackNotBelow) (Some BlockBackAbove) (writes_fault n ws)
-    (ne_eqb n 0 (λ q. absurd (omega arith))) (lt-leb n 0 (omega arith)) (le-ltb 0 0 (omega arith)))
-    ∙ h
+shape_of_plain e n b p bb ws h below le = search rules
 
 -- the same stack, in other memory
 pub written_same : {roster : ℕ} (log : List Fact) (s new : AliveRecords) (last : ℕ) (points : List ℕ) → IsWritten roster log s last points → IsStack new

@@ -1,5 +1,5 @@
 -- Each step keeps the rule of the lock.
-use Rattle.std.proofs.Common.{◌≡◌, ◌≢◌, ℕ, zero, suc, ◌+◌, ◌<◌, ◌≤◌, eqb, eq-eqb, ne_eqb, Bool, true, false, if◌then◌else◌, List, [], ◌∷◌, ◌++◌, length, get_or, set, sym, refl, ap, ◌∙◌, subst, ⊎_elim, arith, Option, Some, unwrap_or, length-set, length-append, get_or-set_same}
+use Rattle.std.proofs.Common.{◌≡◌, ◌≢◌, ℕ, zero, suc, ◌+◌, ◌<◌, ◌≤◌, eqb, eq-eqb, ne_eqb, Bool, true, false, if◌then◌else◌, List, [], ◌∷◌, ◌++◌, length, get_or, set, sym, refl, ap, ◌∙◌, subst, ⊎_elim, arith, Option, Some, unwrap_or, length-set, length-append, get_or-set_same, rules}
 use mathlib.Core.Logic.{dite}
 use mathlib.Core.Option.{none, some, some-injective, some-ne-none}
 use native.Mathlib.Decide.{ℕ_discrete}
@@ -30,9 +30,7 @@ same_total f vs i v w at same = omega (arith, total_set f vs i v w at, same)
 
 seats_stay : (K : ℕ → Known → Type 0) (vs : List Known) (me : ℕ) (w : Known) → K me w → ((j : ℕ) (d : Known) → j ≢ me → get_elem? vs j ≡ some d → K j d)
     → (j : ℕ) (d : Known) → get_elem? (set vs me w) j ≡ some d → K j d
-seats_stay K vs me w mine others j d e = ⊎_elim
-    (λ (t : (j ≡ me) × (w ≡ d)). subst (λ (x : ℕ × Known). K x.0 x.1) (λ i. (sym t.0 i, t.1 i)) mine)
-    (λ (t : (j ≢ me) × (get_elem? vs j ≡ some d)). others j d t.0 t.1) (at_set vs me j w d e)
+seats_stay K vs me w mine others j d e = search (rules, at_set)
 
 in_bounds : {A : Type 0} (l : List A) (i : ℕ) (a : A) → get_elem? l i ≡ some a → i < length l
 in_bounds [] i a e = absurd (some-ne-none a (sym e))
@@ -41,8 +39,7 @@ in_bounds (x ∷ xs) (suc i) a e = omega (arith, in_bounds xs i a e)
 
 -- a seat that holds the slot is not one that does not
 apart : (vs : List Known) (i j : ℕ) (v u : Known) → get_elem? vs i ≡ some v → v.holds ≡ false → get_elem? vs j ≡ some u → u.holds ≡ true → i ≢ j
-apart vs i j v u at idle there held e =
-    no (sym idle ∙ (ap (λ (k : Known). k.holds) (some-injective v u (sym at ∙ (ap (get_elem? vs) e ∙ there))) ∙ held))
+apart vs i j v u at idle there held e = cc
 
 module _ {T : Type 0} (trail_of : T → List Entry) (good : T → Type 0) (passes : ℕ) where
   abbrev St : Type 0
@@ -64,18 +61,7 @@ module _ {T : Type 0} (trail_of : T → List Entry) (good : T → Type 0) (passe
   views_change : (s : St) (r : Rule s) (vs : List Known) → (word s ≢ 0 → (v : Known) × (get_elem? vs r.holder ≡ some v) × (v.holds ≡ true))
       → ((j : ℕ) (d : Known) → get_elem? vs j ≡ some d → Fits passes r.trail r.holder (word s) j d)
       → ((f : Part → ℕ) → total f vs ≡ total f s.views) → Rule (with_views s vs)
-  views_change s r vs away each totals = record {
-    trail = r.trail;
-    holder = r.holder;
-    one_word = r.one_word;
-    one_slot = r.one_slot;
-    home = r.home;
-    away = away;
-    each = each;
-    whole = totals one ∙ r.whole;
-    summed = totals weight ∙ r.summed;
-    once = λ pass. subst (λ (n : ℕ). n ≤ 1) (sym (totals (is_of pass))) (r.once pass);
-  }
+  views_change s r vs away each totals = search rules
 
   -- an idle seat's new view fits where its lists are true
   idle_fits : (trail : List Entry) (holder at seat known : ℕ) (parts : List Part) → (0 < known → known ≡ passes) → ListsAreTrue parts trail

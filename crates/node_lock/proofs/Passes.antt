@@ -1,6 +1,6 @@
 -- What a pass's view says of its seat.
-use Rattle.std.proofs.Common.{◌≡◌, ℕ, zero, suc, ◌+◌, ◌-◌, ◌<◌, map, Bool, true, false, List, [], ◌∷◌, ◌++◌, length, sym, refl, ap, ◌∙◌, arith, Option, Some, None, unwrap_or, length-append}
-use Rattle.std.proofs.lemmas.List.{append-nil, append_assoc}
+use Rattle.std.proofs.Common.{◌≡◌, ℕ, suc, ◌+◌, ◌-◌, ◌<◌, map, Bool, true, false, List, [], ◌∷◌, ◌++◌, length, sym, refl, ap, ◌∙◌, arith, Option, Some, None, rules}
+use Rattle.std.proofs.lemmas.Grind.{common_steps}
 use Rattle.atomic_table.specs.Table.{Me}
 use Rattle.atomic_table.specs.Seated.{TableId}
 use Rattle.node_lock.specs.declared.rule.Known.{Known}
@@ -15,25 +15,20 @@ is_some (Some t) = true
 
 -- the pass has the state, which it took with this trail
 pub out_is : (b : Bool) (noted trail : List Entry) → out_of b noted ≡ Some trail → (b ≡ true) × (noted ≡ trail)
-out_is true noted trail e = (refl, ap (λ (o : Option (List Entry)). unwrap_or o []) e)
-out_is false noted trail e = (ap is_some e, ap (λ (o : Option (List Entry)). unwrap_or o noted) e)
+out_is b noted trail e = search rules
 
 pub out_none : (b : Bool) (noted : List Entry) → out_of b noted ≡ None → b ≡ false
-out_none true noted e = ap is_some e
-out_none false noted e = refl
+out_none b noted e = search rules
 
 -- the place of the last entry
 pub last_place : (noted trail after : List Entry) (e : Entry) → noted ≡ trail → after ≡ trail ++ e ∷ [] → suc (length noted) ≡ length after
-last_place noted trail after e same grown = let count : List Entry → ℕ = λ t. length t in
-    omega (arith, ap count same, ap count grown, length-append trail (e ∷ []))
+last_place noted trail after e same grown = grind (arith, common_steps)
 
 new_first : (k n : ℕ) → 0 < n → first_part (new_parts k n) ≡ (k, []) ∷ []
-new_first k zero h = absurd (omega arith)
-new_first k (suc n) h = refl
+new_first k n h = search rules
 
 new_rest : (k passes : ℕ) → k < passes → rest_parts (new_parts k (passes - k)) ≡ new_parts (k + 1) (passes - (k + 1))
-new_rest k passes h = let left : passes - k ≡ suc (passes - (k + 1)) = omega arith in let next : suc k ≡ k + 1 = omega arith in
-    ap (λ (n : ℕ). rest_parts (new_parts k n)) left ∙ ap (λ (j : ℕ). new_parts j (passes - (k + 1))) next
+new_rest k passes h = search rules
 
 module _ {T : Type 0} where
   abbrev seated : ℕ → List Part → Me (Option T) Known
@@ -42,21 +37,16 @@ module _ {T : Type 0} where
   -- the seat that the first of the remaining passes goes to
   pub dealt : (m m' : Me (Option T) Known) (passes k : ℕ) → k < passes → m ≡ (standing_for passes (new_parts k (passes - k)), [])
       → m' ≡ (standing_for m.0.passes (first_part m.0.parts), []) → m' ≡ (standing_for passes ((k, []) ∷ []), [])
-  dealt m m' passes k h was now = now ∙ (ap (λ (n : Me (Option T) Known). seated n.0.passes (first_part n.0.parts)) was
-      ∙ ap (seated passes) (new_first k (passes - k) (omega arith)))
+  dealt m m' passes k h was now = search rules
 
   -- the seat that the others stay with
   pub left : (m m' : Me (Option T) Known) (passes k : ℕ) → k < passes → m ≡ (standing_for passes (new_parts k (passes - k)), [])
       → m' ≡ (standing_for m.0.passes (rest_parts m.0.parts), []) → m' ≡ (standing_for passes (new_parts (k + 1) (passes - (k + 1))), [])
-  left m m' passes k h was now = now ∙ (ap (λ (n : Me (Option T) Known). seated n.0.passes (rest_parts n.0.parts)) was
-      ∙ ap (seated passes) (new_rest k passes h))
+  left m m' passes k h was now = search (rules, new_rest)
 
   pub own_part : (m : Me (Option T) Known) (passes k : ℕ) (l : List Receipt) → m ≡ (standing_for passes ((k, l) ∷ []), [])
       → (m.0.parts ≡ (k, list_in m.0.parts) ∷ []) × (m.1 ≡ carried m.0.holds)
-  own_part m passes k l now = let own : List Part → List Part = λ ps. (k, list_in ps) ∷ [] in (
-    ap (λ (n : Me (Option T) Known). n.0.parts) now ∙ ap (λ (n : Me (Option T) Known). own n.0.parts) (sym now),
-    ap (λ (n : Me (Option T) Known). n.1) now ∙ ap (λ (n : Me (Option T) Known). carried {S = T} n.0.holds) (sym now),
-  )
+  own_part m passes k l now = search rules
 
   pub reseated : (m : Me (Option T) Known) (passes known : ℕ) (parts : List Part) → m ≡ (standing_for known parts, []) → known ≡ passes
       → m ≡ (standing_for passes m.0.parts, [])
@@ -82,9 +72,7 @@ count_is (p ∷ ps) = ap (λ (n : ℕ). length p.list + n) (count_is ps)
 -- one pass is joined, of those that are left
 pub joined : (parts : List Part) (own : Part) (p : PassData) (rest rest' : List PassData) (all : List Part) → own ≡ part_of p → rest ≡ p ∷ rest'
     → parts ++ map part_of rest ≡ all → (parts ++ own ∷ []) ++ map part_of rest' ≡ all
-joined parts own p rest rest' all is steps h = append_assoc parts (own ∷ []) (map part_of rest')
-    ∙ (ap (λ (q : Part). parts ++ (q ∷ map part_of rest')) is ∙ (ap (λ (r : List PassData). parts ++ map part_of r) (sym steps) ∙ h))
+joined parts own p rest rest' all is steps h = grind (arith, common_steps)
 
 pub all_joined : (parts : List Part) (rest items : List PassData) → length rest ≡ 0 → parts ++ map part_of rest ≡ map part_of items → parts ≡ map part_of items
-all_joined parts [] items none h = sym (append-nil parts) ∙ h
-all_joined parts (p ∷ ps) items none h = absurd (omega (arith, none))
+all_joined parts rest items none h = grind (arith, common_steps)

@@ -1,5 +1,5 @@
 -- Receipts as the trail grows.
-use Rattle.std.proofs.Common.{◌≡◌, ◌≢◌, ℕ, suc, ◌+◌, ◌-◌, eqb, eq-eqb, ne_eqb, Bool, true, false, if◌then◌else◌, List, [], ◌∷◌, ◌++◌, length, length-append, slice_get, Some, sym, refl, ap, ◌∙◌, subst, arith}
+use Rattle.std.proofs.Common.{◌≡◌, ◌≢◌, ℕ, suc, ◌+◌, ◌-◌, eqb, eq-eqb, ne_eqb, Bool, if◌then◌else◌, List, [], ◌∷◌, ◌++◌, length, length-append, slice_get, Some, sym, refl, ap, ◌∙◌, subst, arith, rules}
 use mathlib.Core.Logic.{dite}
 use native.Mathlib.Decide.{ℕ_discrete}
 use Rattle.std.proofs.lemmas.List.{append_assoc}
@@ -7,8 +7,7 @@ use Rattle.node_lock.specs.Trail.{Entry, Receipt, receipts_from, receipts_of, Ha
 use Rattle.node_lock.specs.Known.{Part, ListsAreTrue, tally, is_of, first_part, rest_parts}
 
 grows : (b : Bool) (a : Receipt) (x y : List Receipt) → (if b then a ∷ (x ++ y) else x ++ y) ≡ (if b then a ∷ x else x) ++ y
-grows true a x y = refl
-grows false a x y = refl
+grows b a x y = search rules
 
 -- an entry of another pass
 receipts_other : (place pass by at : ℕ) (trail : List Entry) → pass ≢ by → receipts_from place pass (trail ++ (by, at) ∷ []) ≡ receipts_from place pass trail
@@ -30,9 +29,7 @@ receipts_own place pass at (e ∷ es) = let here : Receipt = (place, e.1) in let
 -- the list of a pass, with the receipt of the entry that it appends
 pub list_grows : (pass at : ℕ) (list : List Receipt) (noted trail : List Entry) → list ≡ receipts_of pass noted → trail ≡ noted ++ (pass, at) ∷ []
     → list ++ (suc (length noted), at) ∷ [] ≡ receipts_of pass trail
-list_grows pass at list noted trail was is = ap (λ (l : List Receipt). l ++ (suc (length noted), at) ∷ []) was
-    ∙ (ap (λ (k : ℕ). receipts_of pass noted ++ (k, at) ∷ []) (let n : ℕ = length noted in let h : suc n ≡ 1 + n = omega arith in h)
-    ∙ (sym (receipts_own 1 pass at noted) ∙ ap (receipts_of pass) (sym is)))
+list_grows pass at list noted trail was is = search (rules, receipts_own)
 
 pub others_stay : (ps : List Part) (trail : List Entry) (by at : ℕ) → tally (is_of by) ps ≡ 0 → ListsAreTrue ps trail
     → ListsAreTrue ps (trail ++ (by, at) ∷ [])
@@ -46,12 +43,10 @@ are_append [] qs trail a b = b
 are_append (p ∷ ps) qs trail a b = (a.0, are_append ps qs trail a.1 b)
 
 pub are_rest : (ps : List Part) (trail : List Entry) → ListsAreTrue ps trail → ListsAreTrue (rest_parts ps) trail
-are_rest [] trail a = tt
-are_rest (p ∷ ps) trail a = a.1
+are_rest ps trail a = search rules
 
 pub are_first : (ps : List Part) (trail : List Entry) → ListsAreTrue ps trail → ListsAreTrue (first_part ps) trail
-are_first [] trail a = tt
-are_first (p ∷ ps) trail a = (a.0, tt)
+are_first ps trail a = search rules
 
 -- what stands behind other entries
 get_behind : (before : List Entry) (e : Entry) (es : List Entry) → slice_get (before ++ (e ∷ es)) (length before) ≡ Some e

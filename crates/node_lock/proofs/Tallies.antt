@@ -1,5 +1,5 @@
 -- Measures over the passes of a seat, and of all seats.
-use Rattle.std.proofs.Common.{◌≡◌, ◌≢◌, ℕ, zero, suc, ◌+◌, ◌≤◌, List, [], ◌∷◌, ◌++◌, length, set, sym, refl, ap, arith}
+use Rattle.std.proofs.Common.{◌≡◌, ◌≢◌, ℕ, zero, suc, ◌+◌, ◌≤◌, List, [], ◌∷◌, ◌++◌, length, set, sym, refl, ap, arith, rules}
 use mathlib.Core.Option.{some, some-injective, some-ne-none}
 use lib.ListN.{get_elem?}
 use Rattle.node_lock.specs.declared.rule.Known.{Known}
@@ -14,8 +14,7 @@ tally_one [] = refl
 tally_one (p ∷ ps) = omega (arith, tally_one ps)
 
 pub tally_cut : (f : Part → ℕ) (ps : List Part) → tally f ps ≡ tally f (rest_parts ps) + tally f (first_part ps)
-tally_cut f [] = refl
-tally_cut f (p ∷ ps) = omega arith
+tally_cut f ps = search rules
 
 module _ (f : Part → ℕ) where
   -- the same passes, in the view x and in the view v

@@ -1,8 +1,8 @@
 -- Members of lists that rise, and of parts of them.
-use Rattle.std.proofs.Common.{◌≡◌, ℕ, zero, suc, ◌<◌, ◌⊎◌, inl, inr, ⊎_elim, List, [], ◌∷◌, length, get_or, set, drop, sym, ◌∙◌, subst, arith}
+use Rattle.std.proofs.Common.{◌≡◌, ℕ, zero, suc, ◌<◌, ◌⊎◌, inl, inr, ⊎_elim, List, [], ◌∷◌, length, get_or, set, drop, sym, ◌∙◌, subst, arith, rules}
 use Rattle.std.specs.List.{Contains}
 use Rattle.redo_core.specs.Order.{IsRising}
-use Rattle.redo_core.proofs.Members.{none_in, here, there, which, each}
+use Rattle.redo_core.proofs.Members.{which, each}
 
 -- what stands from a place on in a rising list is the element there, or comes after it
 pub from_place : {X : Type 0} (Before : X → X → Type 0) (xs : List X) (i : ℕ) (x y : X) → IsRising Before xs → i < length xs → x ≡ get_or xs i x
@@ -14,10 +14,4 @@ from_place Before (z ∷ zs) (suc i) x y r l e h = from_place Before zs i x y r.
 
 -- what a list has after one place is overwritten
 pub in_set : {X : Type 0} (xs : List X) (i : ℕ) (x y : X) → Contains (set xs i x) y → (y ≡ x) ⊎ Contains xs y
-in_set [] i x y h = absurd (none_in y h)
-in_set (z ∷ zs) zero x y h = ⊎_elim (λ (e : x ≡ y). inl (sym e)) (λ (q : Contains zs y). inr (there z zs y q)) (which x zs y h)
-in_set (z ∷ zs) (suc i) x y h =
-    ⊎_elim
-    (λ (e : z ≡ y). inr (subst (Contains (z ∷ zs)) e (here z zs)))
-    (λ (q : Contains (set zs i x) y). ⊎_elim (λ (e : y ≡ x). inl e) (λ (u : Contains zs y). inr (there z zs y u)) (in_set zs i x y q))
-    (which z (set zs i x) y h)
+in_set xs i x y h = search rules

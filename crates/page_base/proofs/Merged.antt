@@ -1,8 +1,7 @@
 -- What a store shows after images were raised one after another.
-use Rattle.std.proofs.Common.{◌≡◌, ℕ, ◌<◌, ◌≤◌, ◌⊎◌, inl, inr, ⊎_elim, List, [], ◌∷◌, sym, ap, ◌∙◌, subst, arith, max}
+use Rattle.std.proofs.Common.{◌≡◌, ℕ, ◌<◌, ◌≤◌, ◌⊎◌, inl, inr, ⊎_elim, List, [], ◌∷◌, sym, ap, ◌∙◌, subst, arith, max, rules}
 use Rattle.std.specs.List.{Contains}
 use Rattle.redo_core.proofs.Members.{none_in, here, there, which}
-use Rattle.redo_laws.proofs.Deciding.{settled_eq}
 use Rattle.redo_core.specs.Store.{Store, StoredImage, version_of, image_of}
 use Rattle.page_base.specs.Stored.{stored}
 use Rattle.page_base.specs.Raising.{SamePage, Raises}
@@ -14,45 +13,18 @@ use Rattle.page_base.specs.Merging.{IsTaken, IsFloored, Merges, RaisesEach}
 -- a page other than the raised one stays, and so does that where the version is not above its own
 pub one_page : (old new : Store) (x : StoredImage) (page : ℕ) → Raises old x.page x.version x.bytes new
     → SamePage old new page ⊎ ((page ≡ x.page) × (version_of old page < x.version) × (version_of new page ≡ x.version) × (image_of new page ≡ x.bytes))
-one_page old new x page raises =
-    ⊎_elim
-    (λ (low : x.version ≤ version_of old x.page). let e = raises.lower low in inl (ap (λ s. version_of s page) e, ap (λ s. image_of s page) e))
-    (λ (high : version_of old x.page < x.version).
-    let sets = raises.higher high in
-    ⊎_elim
-    (λ (e : page ≡ x.page). inr (
-      e,
-      subst (λ g. version_of old g < x.version) (sym e) high,
-      ap (version_of new) e ∙ sets.version_is,
-      ap (image_of new) e ∙ sets.image_is,
-    ))
-    (λ (differs : page ≡ x.page → ⊥). inl (sets.others page differs))
-    (settled_eq page x.page))
-    (let t : (x.version ≤ version_of old x.page) ⊎ (version_of old x.page < x.version) = grind arith in t)
+one_page old new x page raises = search rules
 
 -- a raise lowers no version
 pub raises_up : (old new : Store) (page version : ℕ) (image : List ℕ) → Raises old page version image new → (g : ℕ) → version_of old g ≤ version_of new g
-raises_up old new page version image raises g =
-    ⊎_elim
-    (λ (s : SamePage old new g). let e : version_of new g ≡ version_of old g = s.0 in omega arith)
-    (λ t. let lt : version_of old g < version = t.1 in let e : version_of new g ≡ version = t.2 in omega arith)
-    (one_page old new (stored page version image) g raises)
+raises_up old new page version image raises g = search rules
 
 -- and its page has the version at least
 pub raises_to : (old new : Store) (page version : ℕ) (image : List ℕ) → Raises old page version image new → version ≤ version_of new page
-raises_to old new page version image raises =
-    ⊎_elim
-    (λ (low : version ≤ version_of old page). let e : version_of new page ≡ version_of old page = ap (λ st. version_of st page) (raises.lower low) in
-    omega arith)
-    (λ (high : version_of old page < version). let a : version_of new page ≡ version = (raises.higher high).version_is in omega arith)
-    (let t : (version ≤ version_of old page) ⊎ (version_of old page < version) = grind arith in t)
+raises_to old new page version image raises = search rules
 
 pub raised_floor : (old new : Store) (page version : ℕ) (image : List ℕ) → Raises old page version image new → new.floor ≡ old.floor
-raised_floor old new page version image raises =
-    ⊎_elim
-    (λ (low : version ≤ version_of old page). ap (λ (s : Store). s.floor) (raises.lower low))
-    (λ (high : version_of old page < version). (raises.higher high).floor)
-    (let t : (version ≤ version_of old page) ⊎ (version_of old page < version) = grind arith in t)
+raised_floor old new page version image raises = search rules
 
 -- it stores no image but its own
 pub raised_list : (old new : Store) (page version : ℕ) (image : List ℕ) → Raises old page version image new → (i : StoredImage)
@@ -78,20 +50,7 @@ taken_later x xs new page t = (t.0, there x xs t.0 t.1, t.2, t.3, t.4)
 
 page_more : (x : StoredImage) (xs : List StoredImage) (old between new : Store) (page : ℕ) → Raises old x.page x.version x.bytes between
     → RaisedBy between xs new → SamePage old new page ⊎ ((version_of old page < version_of new page) × IsTaken (x ∷ xs) new page)
-page_more x xs old between new page first rest =
-    ⊎_elim
-    (λ (same : SamePage between new page). ⊎_elim
-    (λ (s : SamePage old between page). inl (same.0 ∙ s.0, same.1 ∙ s.1))
-    (λ t.
-    let is : version_of new page ≡ x.version = same.0 ∙ t.2 in
-    let lt : version_of old page < x.version = t.1 in
-    inr (omega arith, (x, here x xs, sym t.0, is, same.1 ∙ t.3)))
-    (one_page old between x page first))
-    (λ (t : (version_of between page < version_of new page) × IsTaken xs new page).
-    let up : version_of old page ≤ version_of between page = raises_up old between x.page x.version x.bytes first page in
-    let lt : version_of between page < version_of new page = t.0 in
-    inr (omega arith, taken_later x xs new page t.1))
-    (rest.page page)
+page_more x xs old between new page first rest = search (rules, taken_later)
 
 raised_by : (given : List StoredImage) (old new : Store) → RaisesEach old given new → RaisedBy old given new
 raised_by [] old new same = record {
@@ -133,33 +92,7 @@ raised_by (x ∷ xs) old new raises =
 -- then zeros take the place of what is below the floor
 merged_page : (floor : ℕ) (given : List StoredImage) (old between new : Store) (page : ℕ) → RaisedBy old given between → Adopts between floor [] new
     → SamePage old new page ⊎ ((version_of old page < version_of new page) × (IsTaken given new page ⊎ IsFloored floor given new page))
-merged_page floor given old between new page raised adopts =
-    let top : version_of new page ≡ max (version_of between page) floor = adopts.versions page in
-    let up : version_of old page ≤ version_of between page = raised.not_older page in
-    ⊎_elim
-    (λ (high : floor ≤ version_of between page).
-    let same : version_of new page ≡ version_of between page = omega arith in
-    let image = adopts.kept page high in
-    ⊎_elim
-    (λ (s : SamePage old between page). inl (same ∙ s.0, image ∙ s.1))
-    (λ (t : (version_of old page < version_of between page) × IsTaken given between page).
-    let lt : version_of old page < version_of between page = t.0 in
-    inr (omega arith, inl (t.1.0, t.1.1, t.1.2, same ∙ t.1.3, image ∙ t.1.4)))
-    (raised.page page))
-    (λ (low : version_of between page < floor).
-    let is : version_of new page ≡ floor = omega arith in
-    inr (
-      omega arith,
-      inr (
-        λ i h e.
-            let come : i.version ≤ version_of between i.page = raised.not_below i h in
-            let there : version_of between i.page ≡ version_of between page = ap (version_of between) e in
-            omega arith,
-        is,
-        adopts.taken page low,
-      ),
-    ))
-    (let t : (floor ≤ version_of between page) ⊎ (version_of between page < floor) = grind arith in t)
+merged_page floor given old between new page raised adopts = search rules
 
 pub merges_of : (floor : ℕ) (given : List StoredImage) (old between new : Store) → RaisesEach old given between → Adopts between floor [] new
     → StoresJust between floor [] new → Merges old floor given new

@@ -1,10 +1,9 @@
 -- An image that takes its place among images that rise by page.
-use Rattle.std.proofs.Common.{◌≡◌, ◌≢◌, ℕ, zero, suc, ◌+◌, ◌<◌, ◌≤◌, ◌⊎◌, inl, inr, ⊎_elim, List, [], ◌∷◌, length, get_or, set, take, drop, refl, sym, ap, ◌∙◌, subst, arith, true, false, nat_lt}
+use Rattle.std.proofs.Common.{◌≡◌, ◌≢◌, ℕ, zero, suc, ◌<◌, ◌≤◌, inl, inr, ⊎_elim, List, [], ◌∷◌, length, get_or, set, take, drop, refl, sym, ap, ◌∙◌, subst, arith, true, false, nat_lt, rules}
+use Rattle.std.proofs.lemmas.Grind.{common_steps}
 use Rattle.std.specs.List.{Contains, AllByRecursion, insert}
 use Rattle.std.specs.List.Sorted.{IsPartitionedBy, IsPartitionPoint}
-use Rattle.std.proofs.lemmas.List.{get_or-take, get_or-drop, length-take, length-drop}
 use Rattle.std.proofs.lemmas.List.Elements.{All-from_recursion}
-use Rattle.std.proofs.lemmas.Bool.Decides.{nat_tests}
 use Rattle.redo_core.specs.Order.{IsRising}
 use Rattle.redo_core.proofs.Members.{here, there, which, each, all_of, contains_insert}
 use Rattle.redo_core.proofs.Rising.{side, rising_insert}
@@ -27,31 +26,11 @@ rising_at (x ∷ xs) (suc i) (suc j) d e r l m = rising_at xs i j d e r.1 (omega
 
 -- rising images part at any page
 pub parted : (page : ℕ) (images : List StoredImage) → IsRising PageBefore images → IsPartitionedBy (λ i. nat_lt i.page page) images
-parted page images rising i j d le lt h =
-    ⊎_elim
-    (λ (e : i ≡ j). subst (λ n. nat_lt (get_or images n d).page page ≡ true) (sym e) h)
-    (λ (l : i < j).
-    let low : (get_or images i d).page < (get_or images j d).page = rising_at images i j d d rising l lt in
-    let high : (get_or images j d).page < page = below_true page (get_or images j d) h in
-    below_of page (get_or images i d) (omega arith))
-    (let t : (i ≡ j) ⊎ (i < j) = grind arith in t)
+parted page images rising i j d le lt h = search (rules, rising_at)
 
 pub split : (page : ℕ) (images : List StoredImage) (place : ℕ) → place ≤ length images
     → IsPartitionPoint (λ (i : StoredImage). nat_lt i.page page ≡ true) (λ i. nat_lt i.page page ≡ false) images place → SplitsAt page images place
-split page images place le point = record {
-  bound = le;
-  below = λ i h.
-      let k = h.0 in
-      let n : k < place = omega (arith, h.1, length-take place images) in
-      let e : get_or images k i ≡ i = sym (get_or-take place images k i n) ∙ h.2 in
-      below_true page i (subst (λ (x : StoredImage). nat_lt x.page page ≡ true) e (point.0 k i (omega arith) n));
-  rest = λ i h.
-      let k = h.0 in
-      let n : place + k < length images = omega (arith, h.1, length-drop place images) in
-      let e : get_or images (place + k) i ≡ i = sym (get_or-drop place images k i) ∙ h.2 in
-      let no : nat_lt i.page page ≡ false = subst (λ (x : StoredImage). nat_lt x.page page ≡ false) e (point.1 (place + k) i (omega arith) n) in
-      grind (arith, nat_tests);
-}
+split page images place le point = grind (arith, common_steps)
 
 -- no image is of a page where the one at the page's place is of another
 pub gap_before : (page : ℕ) (images : List StoredImage) (place : ℕ) (x : StoredImage) → IsRising PageBefore images → SplitsAt page images place

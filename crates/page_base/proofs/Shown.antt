@@ -1,5 +1,5 @@
 -- What a store shows of a page, from where the page's image stands, and after an image is put.
-use Rattle.std.proofs.Common.{◌≡◌, ◌≢◌, ℕ, ◌<◌, ◌≤◌, inl, ⊎_elim, List, get_or, set, take, drop, refl, sym, ap, subst, arith, Ok, Err}
+use Rattle.std.proofs.Common.{◌≡◌, ◌≢◌, ℕ, ◌<◌, ◌≤◌, inl, ⊎_elim, List, get_or, set, take, drop, refl, sym, ap, subst, arith, Ok, Err, rules}
 use Rattle.std.specs.List.{Contains, insert}
 use Rattle.redo_core.specs.Order.{IsRising}
 use Rattle.redo_core.specs.Writing.{zeros}
@@ -30,13 +30,11 @@ at_gap images floor page place rising gap =
 -- an image put at the place that was found for it
 pub put_at : (from images : List StoredImage) (page place : ℕ) (x : StoredImage) → from ≡ images → page ≡ x.page → IsRising PageBefore images
     → IsPlace page from (Ok place) → PutsImage images x (set images place x)
-put_at from images page place x same own rising at = put_over images place x rising
-    (subst (λ p. IsPlace p images (Ok place)) own (subst (λ l. IsPlace page l (Ok place)) same at))
+put_at from images page place x same own rising at = search (rules, put_over)
 
 pub put_between : (from images : List StoredImage) (page place : ℕ) (x : StoredImage) → from ≡ images → page ≡ x.page → IsRising PageBefore images
     → IsPlace page from (Err place) → PutsImage images x (insert images place x)
-put_between from images page place x same own rising at = put_in_gap images place x rising
-    (subst (λ p. IsPlace p images (Err place)) own (subst (λ l. IsPlace page l (Err place)) same at))
+put_between from images page place x same own rising at = search (rules, put_in_gap)
 
 unmoved : (old new : List StoredImage) (image : StoredImage) (floor page : ℕ) → IsRising PageBefore old → PutsImage old image new → page ≢ image.page
     → (version_of (store_of new floor) page ≡ version_of (store_of old floor) page) × (image_of (store_of new floor) page ≡ image_of (store_of old floor) page)

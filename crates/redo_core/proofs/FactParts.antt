@@ -1,5 +1,6 @@
 -- The records, truncations and advances of a list of facts, by its members.
-use Rattle.std.proofs.Common.{◌≡◌, ◌↔◌, List, refl, subst, Some, []}
+use Rattle.std.proofs.Common.{rules}
+use Rattle.std.proofs.Common.{◌≡◌, ◌↔◌, List, refl, Some, []}
 use Rattle.std.specs.List.{Contains}
 use Rattle.redo_core.specs.Data.{RecordData, CutData, AdvanceData}
 use Rattle.redo_core.specs.Sets.{IsPart, records, cuts, advances, as_record, as_cut, as_advance}
@@ -8,19 +9,13 @@ use Rattle.redo_core.specs.declared.facts.Fact.TheVariants.{Record, Cut, Advance
 use Rattle.redo_core.proofs.Members.{mapped, source, none_in}
 
 record_source_at : (facts : List Fact) (f : Fact) (r : RecordData) → Contains facts f → as_record f ≡ Some r → Contains facts (Record r)
-record_source_at facts (Record s) r h e = let q : s ≡ r = cc in subst (λ x. Contains facts (Record x)) q h
-record_source_at facts (Cut c) r h e = absurd (cc)
-record_source_at facts (Advance a) r h e = absurd (cc)
+record_source_at facts f r h e = search rules
 
 cut_source_at : (facts : List Fact) (f : Fact) (c : CutData) → Contains facts f → as_cut f ≡ Some c → Contains facts (Cut c)
-cut_source_at facts (Record s) r h e = absurd (cc)
-cut_source_at facts (Cut d) c h e = let q : d ≡ c = cc in subst (λ x. Contains facts (Cut x)) q h
-cut_source_at facts (Advance a) r h e = absurd (cc)
+cut_source_at facts f c h e = search rules
 
 advance_source_at : (facts : List Fact) (f : Fact) (a : AdvanceData) → Contains facts f → as_advance f ≡ Some a → Contains facts (Advance a)
-advance_source_at facts (Record s) r h e = absurd (cc)
-advance_source_at facts (Cut d) c h e = absurd (cc)
-advance_source_at facts (Advance b) a h e = let q : b ≡ a = cc in subst (λ x. Contains facts (Advance x)) q h
+advance_source_at facts f a h e = search rules
 
 pub record_in : (facts : List Fact) (r : RecordData) → Contains (records facts) r ↔ Contains facts (Record r)
 unfolding records

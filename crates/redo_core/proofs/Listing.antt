@@ -1,5 +1,7 @@
 -- Lists that gain one or some at their end: rising lists, and those in rising order of the things with a property.
-use Rattle.std.proofs.Common.{◌≡◌, ℕ, ◌+◌, ◌<◌, ◌≤◌, ◌⊎◌, ◌↔◌, inl, inr, ⊎_elim, List, [], ◌∷◌, ◌++◌, length, get_or, take, sym, subst}
+use Rattle.std.proofs.lemmas.Grind.{common_steps}
+use Rattle.std.proofs.Common.{rules, arith}
+use Rattle.std.proofs.Common.{◌≡◌, ℕ, ◌+◌, ◌<◌, ◌≤◌, ◌⊎◌, ◌↔◌, ⊎_elim, List, [], ◌∷◌, ◌++◌, length, get_or, take, sym, subst}
 use Rattle.std.specs.List.{Contains, AllByRecursion}
 use Rattle.std.proofs.lemmas.List.Elements.{Contains-append_left, Contains-append_right, Contains-append_cases}
 use Rattle.redo_core.specs.Order.{IsRising, Lists}
@@ -19,30 +21,19 @@ pub rising_append : {X : Type 0} (Before : X → X → Type 0) (xs ys : List X) 
     → ((x y : X) → Contains xs x → Contains ys y → Before x y) → IsRising Before (xs ++ ys)
 rising_append Before [] ys r s cross = s
 rising_append Before (x ∷ xs) ys r s cross = (
-  all_of (Before x) (xs ++ ys) (λ z h. ⊎_elim (λ (u : Contains xs z). each (Before x) xs z r.0 u) (λ (v : Contains ys z). cross x z (here x xs) v)
-      (Contains-append_cases xs ys z h)),
+  all_of (Before x) (xs ++ ys) (λ z h. grind (arith, common_steps, here)),
   rising_append Before xs ys r.1 s (λ y z u v. cross y z (there x xs y u) v),
 )
 
 -- what holds of all of a list, and of one more at its end
 pub all_push : {X : Type 0} (P : X → Type 0) (xs : List X) (x : X) → AllByRecursion P xs → P x → AllByRecursion P (xs ++ x ∷ [])
-all_push P [] x all one = (one, tt)
-all_push P (y ∷ ys) x all one = (all.0, all_push P ys x all.1 one)
+all_push P xs x all one = grind (arith, common_steps)
 
 -- a list with one more at its end, and what is said of its members
 pub lists_push : {X : Type 0} (Before : X → X → Type 0) (P Q : X → Type 0) (xs : List X) (x : X) → Lists Before P xs → ((y : X) → P y → Before y x) → ((y : X) → Q y ↔ (P y ⊎ (y ≡ x))) → Lists Before Q (xs ++ x ∷ [])
 lists_push {X} Before P Q xs x lists low same = record {
   rising = rising_push Before xs x lists.rising (λ y h. low y ((lists.members y).0 h));
-  members = λ y. (
-    λ h. (same y).1 (⊎_elim
-        (λ (u : Contains xs y). inl ((lists.members y).0 u))
-        (λ (u : Contains (x ∷ []) y). inr (⊎_elim (λ (v : x ≡ y). sym v) (λ (v : Contains [] y). absurd (none_in y v)) (which x [] y u)))
-        (Contains-append_cases xs (x ∷ []) y h)),
-    λ h. ⊎_elim
-        (λ (u : P y). Contains-append_left xs (x ∷ []) y ((lists.members y).1 u))
-        (λ (u : y ≡ x). Contains-append_right xs (x ∷ []) y (subst (λ (z : X). Contains (x ∷ []) z) (sym u) (here x [])))
-        ((same y).0 h),
-  );
+  members = λ y. grind (arith, common_steps, Contains-append_right);
 }
 
 -- the things with P in front of the next place: the one at the place goes to the end of the list
@@ -82,7 +73,4 @@ lists_whole Before P xs ys i l lists = record {
 
 -- the same things under another name
 pub lists_as : {X : Type 0} (Before : X → X → Type 0) (P Q : X → Type 0) (xs : List X) → ((x : X) → P x ↔ Q x) → Lists Before P xs → Lists Before Q xs
-lists_as Before P Q xs same lists = record {
-  rising = lists.rising;
-  members = λ x. (λ h. (same x).0 ((lists.members x).0 h), λ h. (lists.members x).1 ((same x).1 h));
-}
+lists_as Before P Q xs same lists = search rules

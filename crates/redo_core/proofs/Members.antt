@@ -1,4 +1,5 @@
 -- Membership in lists, and lists in rising order.
+use Rattle.std.proofs.Common.{rules}
 use Rattle.std.proofs.Common.{◌≡◌, ℕ, zero, suc, ◌<◌, ◌⊎◌, ◌↔◌, inl, inr, ⊎_elim, List, [], ◌∷◌, length, get_or, refl, sym, ap, ◌∙◌, subst, arith, Bool, true, false, cond, Option, Some, None}
 use Rattle.std.specs.List.{Contains, All, AllByRecursion, filter, filter_map, cons_option, insert}
 use Rattle.std.proofs.lemmas.List.Elements.{All-from_recursion, All-contains}
@@ -15,8 +16,7 @@ pub there : {X : Type 0} (x : X) (xs : List X) (y : X) → Contains xs y → Con
 there x xs y h = (suc h.0, omega (arith, h.1), h.2)
 
 pub cases_at : {X : Type 0} (x : X) (xs : List X) (y : X) (k : ℕ) → k < length (x ∷ xs) → get_or (x ∷ xs) k y ≡ y → (x ≡ y) ⊎ Contains xs y
-cases_at x xs y zero l e = inl e
-cases_at x xs y (suc k) l e = inr (k, omega (arith, l), e)
+cases_at x xs y k l e = search rules
 
 pub which : {X : Type 0} (x : X) (xs : List X) (y : X) → Contains (x ∷ xs) y → (x ≡ y) ⊎ Contains xs y
 which x xs y h = cases_at x xs y h.0 h.1 h.2
@@ -38,9 +38,7 @@ all_of P [] h = tt
 all_of P (x ∷ xs) h = (h x (here x xs), all_of P xs (λ y q. h y (there x xs y q)))
 
 pub all_members : {X : Type 0} (P : X → Type 0) (xs : List X) → ((x : X) → Contains xs x → P x) → All P xs
-all_members P [] h k d l = absurd (omega (arith, l))
-all_members P (x ∷ xs) h zero d l = h x (here x xs)
-all_members P (x ∷ xs) h (suc k) d l = all_members P xs (λ y q. h y (there x xs y q)) k d (omega (arith, l))
+all_members P xs h = search rules
 
 -- what an insertion adds
 pub contains_insert : {X : Type 0} (xs : List X) (i : ℕ) (x y : X) → Contains (insert xs i x) y ↔ (Contains xs y ⊎ (y ≡ x))
@@ -48,35 +46,19 @@ contains_insert xs zero x y = (
   λ h. ⊎_elim (λ (e : x ≡ y). inr (sym e)) (λ (q : Contains xs y). inl q) (which x xs y h),
   λ h. ⊎_elim (λ (q : Contains xs y). there x xs y q) (λ (e : y ≡ x). subst (λ z. Contains (z ∷ xs) y) e (here y xs)) h,
 )
-contains_insert [] (suc i) x y = (
-  λ h. ⊎_elim (λ (e : x ≡ y). inr (sym e)) (λ (q : Contains [] y). inl q) (which x [] y h),
-  λ h. ⊎_elim (λ (q : Contains [] y). there x [] y q) (λ (e : y ≡ x). subst (λ z. Contains (z ∷ []) y) e (here y [])) h,
-)
+contains_insert [] (suc i) x y = search rules
 contains_insert (z ∷ zs) (suc i) x y =
-    let ih = contains_insert zs i x y in (
-      λ h. ⊎_elim
-          (λ (e : z ≡ y). inl (subst (λ w. Contains (w ∷ zs) y) (sym e) (here y zs)))
-          (λ (q : Contains (insert zs i x) y). ⊎_elim (λ (r : Contains zs y). inl (there z zs y r)) (λ (e : y ≡ x). inr e) (ih.0 q))
-          (which z (insert zs i x) y h),
-      λ h. ⊎_elim
-          (λ (q : Contains (z ∷ zs) y). ⊎_elim (λ (e : z ≡ y). subst (λ w. Contains (w ∷ insert zs i x) y) (sym e) (here y (insert zs i x)))
-          (λ (r : Contains zs y). there z (insert zs i x) y (ih.1 (inl r))) (which z zs y q))
-          (λ (e : y ≡ x). there z (insert zs i x) y (ih.1 (inr e)))
-          h,
-    )
+    let ih = contains_insert zs i x y in search (rules, there)
 
 -- what a filter keeps
 filtered_at : {X : Type 0} (p : X → Bool) (x : X) (xs ys : List X) (y : X) (b : Bool) → p x ≡ b → (Contains ys y → Contains xs y × (p y ≡ true))
     → Contains (cond b (x ∷ ys) ys) y → Contains (x ∷ xs) y × (p y ≡ true)
-filtered_at p x xs ys y true t ih h = ⊎_elim (λ (e : x ≡ y). (subst (λ z. Contains (z ∷ xs) y) (sym e) (here y xs), subst (λ z. p z ≡ true) e t))
-    (λ (q : Contains ys y). (there x xs y (ih q).0, (ih q).1)) (which x ys y h)
-filtered_at p x xs ys y false t ih h = (there x xs y (ih h).0, (ih h).1)
+filtered_at p x xs ys y b t ih h = search (rules, there)
 
 passed_at : {X : Type 0} (p : X → Bool) (x : X) (xs ys : List X) (y : X) (b : Bool) → p x ≡ b → p y ≡ true → (Contains xs y → Contains ys y)
     → Contains (x ∷ xs) y → Contains (cond b (x ∷ ys) ys) y
-passed_at p x xs ys y true t u ih h = ⊎_elim (λ (e : x ≡ y). subst (λ z. Contains (z ∷ ys) y) (sym e) (here y ys)) (λ (q : Contains xs y). there x ys y (ih q))
-    (which x xs y h)
-passed_at p x xs ys y false t u ih h = ⊎_elim (λ (e : x ≡ y). absurd (let w : p x ≡ p y = ap p e in cc)) ih (which x xs y h)
+passed_at p x xs ys y true t u ih h = search (rules, there)
+passed_at p x xs ys y false t u ih h = ⊎_elim (λ (e : x ≡ y). absurd (cc)) ih (which x xs y h)
 
 pub filtered : {X : Type 0} (p : X → Bool) (xs : List X) (y : X) → Contains (filter p xs) y → Contains xs y × (p y ≡ true)
 filtered p [] y h = absurd (none_in y h)
@@ -102,12 +84,7 @@ mapped f (z ∷ zs) x y h e =
 pub source_at : {X Y : Type 0} (f : X → Option Y) (z : X) (zs : List X) (y : Y) (o : Option Y) → f z ≡ o
     → (Contains (filter_map f zs) y → (x : X) × Contains zs x × (f x ≡ Some y)) → Contains (cons_option o (filter_map f zs)) y
     → (x : X) × Contains (z ∷ zs) x × (f x ≡ Some y)
-source_at f z zs y None e ih h = let s = ih h in (s.0, there z zs s.0 s.1, s.2)
-source_at f z zs y (Some u) e ih h =
-    ⊎_elim
-    (λ (q : u ≡ y). (z, here z zs, e ∙ ap Some q))
-    (λ (q : Contains (filter_map f zs) y). let s = ih q in (s.0, there z zs s.0 s.1, s.2))
-    (which u (filter_map f zs) y h)
+source_at f z zs y o e ih h = search (rules, there)
 
 pub source : {X Y : Type 0} (f : X → Option Y) (xs : List X) (y : Y) → Contains (filter_map f xs) y → (x : X) × Contains xs x × (f x ≡ Some y)
 source f [] y h = absurd (none_in y h)

@@ -1,4 +1,5 @@
 -- The greatest number with a property.
+use Rattle.std.proofs.Common.{rules}
 use Rattle.std.proofs.Common.{◌≡◌, ℕ, zero, suc, ◌≤◌, ◌⊎◌, ◌↔◌, inl, inr, ⊎_elim, refl, sym, subst, arith}
 use Rattle.redo_core.specs.Order.{IsGreatest}
 
@@ -6,10 +7,7 @@ pub greatest_le : (P Q : ℕ → Type 0) → ((n : ℕ) → P n → Q n) → (n 
 greatest_le P Q f n m a b = ⊎_elim (λ (e : n ≡ 0). omega arith) (λ (p : P n). b.1 n (f n p)) a.0
 
 pub greatest_unique : (P Q : ℕ → Type 0) → ((n : ℕ) → P n ↔ Q n) → (n m : ℕ) → IsGreatest P n → IsGreatest Q m → n ≡ m
-greatest_unique P Q f n m a b =
-    let p : n ≤ m = greatest_le P Q (λ i. (f i).0) n m a b in
-    let q : m ≤ n = greatest_le Q P (λ i. (f i).1) m n b a in
-    omega arith
+greatest_unique P Q f n m a b = search rules
 
 -- a property that 0 has, or that says nothing of 0, holds at the greatest
 pub at_greatest : (P : ℕ → Type 0) → P 0 → (n : ℕ) → IsGreatest P n → P n
@@ -22,5 +20,5 @@ greatest_below P test (suc b) top =
     ⊎_elim
     (λ (p : P (suc b)). (suc b, (inr p, top)))
     (λ (no : P (suc b) → ⊥). greatest_below P test b
-    (λ m h. ⊎_elim (λ (e : m ≡ suc b). absurd (no (subst P e h))) (λ (l : m ≤ b). l) (let t : m ≤ suc b = top m h in grind arith)))
+    (λ m h. ⊎_elim (λ (e : m ≡ suc b). absurd (no (subst P e h))) (λ (l : m ≤ b). l) (grind arith)))
     (test (suc b))

@@ -1,5 +1,6 @@
 -- The order of pairs of numbers, by the first and then by the second.
-use Rattle.std.proofs.Common.{◌≡◌, ℕ, ◌<◌, ◌⊎◌, inl, inr, ⊎_elim, ap, ◌∙◌, arith}
+use Rattle.std.proofs.Common.{rules}
+use Rattle.std.proofs.Common.{◌≡◌, ℕ, ◌⊎◌, ap, ◌∙◌, arith}
 use Rattle.redo_core.specs.Data.{AdvanceData, advance_of, RecordData}
 use Rattle.redo_core.specs.Order.{PairBefore, AdvanceBefore, RecordBefore}
 
@@ -26,11 +27,4 @@ pub advance_trans : (a b c : AdvanceData) → AdvanceBefore a b → AdvanceBefor
 advance_trans a b c x y = grind arith
 
 pub advance_order : (a b : AdvanceData) → AdvanceBefore a b ⊎ ((a ≡ b) ⊎ AdvanceBefore b a)
-advance_order a b =
-    ⊎_elim inl
-    (λ t. ⊎_elim (λ (e : (a.epoch ≡ b.epoch) × ((a.reader ≡ b.reader) × (a.point ≡ b.point))). inr (inl (same_advance a b e.0 e.1.0 e.1.1)))
-    (λ (x : AdvanceBefore b a). inr (inr x)) t)
-    (by_numbers a.epoch a.reader a.point b.epoch b.reader b.point)
-  where
-    by_numbers : (a b c x y z : ℕ) → ((a < x) ⊎ ((a ≡ x) × PairBefore b c y z)) ⊎ (((a ≡ x) × ((b ≡ y) × (c ≡ z))) ⊎ ((x < a) ⊎ ((x ≡ a) × PairBefore y z b c)))
-    by_numbers a b c x y z = grind arith
+advance_order a b = search rules

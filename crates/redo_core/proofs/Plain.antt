@@ -1,23 +1,22 @@
 -- Records of writes alone.
-use Rattle.std.proofs.Common.{◌≡◌, ℕ, zero, suc, ◌+◌, ◌<◌, List, [], ◌∷◌, length, get_or, refl, sym, ap, ◌∙◌, arith, false, None}
+use Rattle.std.proofs.lemmas.Grind.{common_steps}
+use Rattle.std.proofs.Common.{◌≡◌, ℕ, zero, suc, ◌<◌, List, [], ◌∷◌, length, get_or, refl, arith, false, None}
 use Rattle.std.proofs.lemmas.Bool.Decides.{nat_tests}
 use Rattle.std.specs.List.{list_any, sum_by}
-use Rattle.std.proofs.lemmas.List.Sums.{sum_by-cons}
 use Rattle.redo_core.specs.Writes.{WriteData}
 use Rattle.redo_core.specs.Data.{RecordData, plain}
 use Rattle.redo_core.specs.Shape.{is_empty, is_off_page, is_empty_patch, is_patch_off_page, bytes_in, record_fault}
 use Rattle.redo_core.specs.declared.patches.Patch.{Patch}
-use Rattle.redo_core.specs.declared.patches.Patch.TheVariants.{Bytes, Fill}
+use Rattle.redo_core.specs.declared.patches.Patch.TheVariants.{Fill}
 
 pub plain_injective : (ws vs : List WriteData) → plain ws ≡ plain vs → ws ≡ vs
 plain_injective [] [] e = refl
 plain_injective [] (v ∷ vs) e = absurd (cc)
 plain_injective (w ∷ ws) [] e = absurd (cc)
-plain_injective (w ∷ ws) (v ∷ vs) e = let h : w ≡ v = cc in let t : ws ≡ vs = plain_injective ws vs (cc) in cc
+plain_injective (w ∷ ws) (v ∷ vs) e = let t : ws ≡ vs = plain_injective ws vs (cc) in cc
 
 pub plain_length : (ws : List WriteData) → length (plain ws) ≡ length ws
-plain_length [] = refl
-plain_length (w ∷ ws) = rw (plain_length ws) refl
+plain_length ws = grind (arith, common_steps)
 
 pub plain_empty : (ws : List WriteData) → list_any is_empty_patch (plain ws) ≡ list_any is_empty ws
 plain_empty [] = refl
@@ -28,9 +27,7 @@ plain_off_page [] = refl
 plain_off_page (w ∷ ws) = rw (plain_off_page ws) refl
 
 pub plain_bytes : (ws : List WriteData) → sum_by bytes_in (plain ws) ≡ sum_by (λ w. length w.bytes) ws
-plain_bytes [] = refl
-plain_bytes (w ∷ ws) = sum_by-cons bytes_in (Bytes w) (plain ws) ∙ ap (λ n. length w.bytes + n) (plain_bytes ws) ∙ sym
-    (sum_by-cons (λ (v : WriteData). length v.bytes) w ws)
+plain_bytes ws = grind (arith, common_steps)
 
 pub no_fill : (ws : List WriteData) (i offset len byte : ℕ) (d : Patch) → i < length (plain ws) → get_or (plain ws) i d ≡ Fill offset len byte → ⊥
 no_fill [] i offset len byte d l e = omega (arith, l)

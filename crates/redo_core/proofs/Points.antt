@@ -1,6 +1,7 @@
 -- The least of the readers' points.
-use Rattle.std.proofs.Common.{◌≡◌, ℕ, zero, suc, ◌-◌, ◌<◌, ◌≤◌, List, [], ◌∷◌, length, get_or, refl, sym, ◌∙◌, subst, arith, min}
-use Rattle.std.proofs.Math.Nat.{min-le_left, min-le_right, le-min}
+use Rattle.std.proofs.lemmas.Grind.{common_steps}
+use Rattle.std.proofs.Common.{◌≡◌, ℕ, zero, suc, ◌-◌, ◌<◌, ◌≤◌, List, [], ◌∷◌, length, get_or, sym, ◌∙◌, subst, arith}
+use Rattle.std.proofs.Math.Nat.{min-le_left, le-min}
 use Rattle.std.specs.List.{AllZip, Contains}
 use Rattle.std.proofs.lemmas.List.{ext_get_or}
 use Rattle.std.proofs.lemmas.List.Elements.{AllZip-get_or}
@@ -13,7 +14,6 @@ least_at (p ∷ []) zero l = omega arith
 least_at (p ∷ []) (suc i) l = absurd (omega (arith, l))
 least_at (p ∷ q ∷ ps) zero l = min-le_left p (least (q ∷ ps))
 least_at (p ∷ q ∷ ps) (suc i) l =
-    let a : min p (least (q ∷ ps)) ≤ least (q ∷ ps) = min-le_right p (least (q ∷ ps)) in
     let b : least (q ∷ ps) ≤ get_or (q ∷ ps) i 0 = least_at (q ∷ ps) i (omega (arith, l)) in
     omega arith
 
@@ -46,7 +46,7 @@ least_mono roster (p ∷ ps) qs e f h =
     let one : 1 ≤ roster = omega (arith, e) in
     least_ge roster qs (least (p ∷ ps)) f one
     (λ reader r. let a : least (p ∷ ps) ≤ point_of (p ∷ ps) reader = least_le roster (p ∷ ps) reader e r in
-    let b : point_of (p ∷ ps) reader ≤ point_of qs reader = h reader r in omega arith)
+    omega arith)
 
 -- points compared reader by reader
 pub zip_of : (roster : ℕ) (ps qs : List ℕ) → length ps ≡ roster → length qs ≡ roster
@@ -67,9 +67,7 @@ zip_at roster ps qs e z reader r = AllZip-get_or (λ p q. p ≤ q) ps qs (reader
 
 -- the one of the points that none is below
 pub get_or_any : (xs : List ℕ) (i x y : ℕ) → i < length xs → get_or xs i x ≡ get_or xs i y
-get_or_any [] i x y l = absurd (omega (arith, l))
-get_or_any (z ∷ zs) zero x y l = refl
-get_or_any (z ∷ zs) (suc i) x y l = get_or_any zs i x y (omega (arith, l))
+get_or_any xs i x y l = grind (arith, common_steps)
 
 pub least_is : (ps : List ℕ) (n : ℕ) → Contains ps n → ((p : ℕ) → Contains ps p → n ≤ p) → n ≡ least ps
 least_is ps n h all =

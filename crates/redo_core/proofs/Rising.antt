@@ -1,11 +1,13 @@
 -- Lists in rising order, and what stands in front of a place and behind it.
-use Rattle.std.proofs.Common.{◌≡◌, ℕ, zero, suc, ◌+◌, ◌<◌, ◌≤◌, ◌⊎◌, inl, inr, ⊎_elim, List, [], ◌∷◌, length, get_or, take, drop, sym, ap, ◌∙◌, subst, arith, add-one, Bool, true, false, cond}
+use Rattle.std.proofs.lemmas.Grind.{common_steps}
+use Rattle.std.proofs.Common.{rules}
+use Rattle.std.proofs.Common.{◌≡◌, ℕ, zero, suc, ◌+◌, ◌<◌, ◌≤◌, ◌⊎◌, inl, inr, ⊎_elim, List, [], ◌∷◌, length, get_or, take, drop, sym, ◌∙◌, subst, arith, add-one, Bool, cond}
 use Rattle.std.specs.List.{Contains, AllWithin, AllByRecursion, filter, insert}
 use Rattle.std.specs.List.Sorted.{IsNonDecreasingBy}
 use Rattle.std.proofs.lemmas.List.{take-append-drop}
 use Rattle.std.proofs.lemmas.List.Elements.{All-from_recursion, recursion_from_All, All-filter, All-contains, Contains-append_left, Contains-append_right, Contains-append_cases}
 use Rattle.redo_core.specs.Order.{IsRising}
-use Rattle.redo_core.proofs.Members.{none_in, here, there, which, each, all_of, contains_insert}
+use Rattle.redo_core.proofs.Members.{none_in, here, there, which, each, all_of}
 
 pub rising_at : {X : Type 0} (Before : X → X → Type 0) (xs : List X) (i j : ℕ) (d e : X) → IsRising Before xs → i < j → j < length xs
     → Before (get_or xs i d) (get_or xs j e)
@@ -18,16 +20,10 @@ rising_at Before (x ∷ xs) (suc i) (suc j) d e r l m = rising_at Before xs i j 
 -- a number that grows along the order
 pub rising_by : {X : Type 0} (Before : X → X → Type 0) (n : X → ℕ) (xs : List X) → ((x y : X) → Before x y → n x ≤ n y) → IsRising Before xs
     → IsNonDecreasingBy n xs
-rising_by Before n xs grows r i j d l m =
-    ⊎_elim
-    (λ (q : i < j). grows (get_or xs i d) (get_or xs j d) (rising_at Before xs i j d d r q m))
-    (λ (q : i ≡ j). let e : n (get_or xs i d) ≡ n (get_or xs j d) = ap (λ k. n (get_or xs k d)) q in omega arith)
-    (let t : (i < j) ⊎ (i ≡ j) = grind arith in t)
+rising_by Before n xs grows r i j d l m = search (rules, rising_at)
 
 all_insert : {X : Type 0} (P : X → Type 0) (xs : List X) (i : ℕ) (x : X) → P x → AllByRecursion P xs → AllByRecursion P (insert xs i x)
-all_insert P xs zero x p all = (p, all)
-all_insert P [] (suc i) x p all = (p, tt)
-all_insert P (z ∷ zs) (suc i) x p all = (all.0, all_insert P zs i x p all.1)
+all_insert P xs i x p all = grind (arith, common_steps)
 
 -- an element between those before it and those after it
 pub rising_insert_at : {X : Type 0} (Before : X → X → Type 0) (xs : List X) (i : ℕ) (x : X) → i ≤ length xs → IsRising Before xs
@@ -42,8 +38,7 @@ rising_insert_at Before (z ∷ zs) (suc i) x l r b a = (
 
 filter_at : {X : Type 0} (Before : X → X → Type 0) (x : X) (ys : List X) (b : Bool) → AllByRecursion (Before x) ys → IsRising Before ys
     → IsRising Before (cond b (x ∷ ys) ys)
-filter_at Before x ys true all r = (all, r)
-filter_at Before x ys false all r = r
+filter_at Before x ys b all r = search rules
 
 pub rising_filter : {X : Type 0} (Before : X → X → Type 0) (p : X → Bool) (xs : List X) → IsRising Before xs → IsRising Before (filter p xs)
 rising_filter Before p [] r = tt
@@ -56,10 +51,7 @@ pub rising_members : {X : Type 0} (Before : X → X → Type 0) (xs : List X) (x
 rising_members Before [] x y r hx hy = absurd (none_in x hx)
 rising_members Before (z ∷ zs) x y r hx hy =
     ⊎_elim
-    (λ (e : z ≡ x). ⊎_elim
-    (λ (f : z ≡ y). inl (sym e ∙ f))
-    (λ (q : Contains zs y). inr (inl (subst (λ w. Before w y) e (All-contains (Before z) zs y (All-from_recursion (Before z) zs r.0) q))))
-    (which z zs y hy))
+    (λ (e : z ≡ x). grind (arith, common_steps))
     (λ (p : Contains zs x). ⊎_elim
     (λ (f : z ≡ y). inr (inr (subst (λ w. Before w x) f (All-contains (Before z) zs x (All-from_recursion (Before z) zs r.0) p))))
     (λ (q : Contains zs y). rising_members Before zs x y r.1 p q)
@@ -78,9 +70,7 @@ side i xs x h = Contains-append_cases (take i xs) (drop i xs) x (subst (λ l. Co
 
 -- the element at an index is the first from there on
 pub item_drop : {X : Type 0} (xs : List X) (i : ℕ) (x : X) → i < length xs → x ≡ get_or xs i x → Contains (drop i xs) x
-item_drop [] i x l e = absurd (omega (arith, l))
-item_drop (y ∷ ys) zero x l e = (0, l, sym e)
-item_drop (y ∷ ys) (suc i) x l e = item_drop ys i x (omega (arith, l)) e
+item_drop xs i x l e = grind (arith, common_steps)
 
 -- the rest from an element on is that element and what comes after it
 rest_at : {X : Type 0} (xs : List X) (i : ℕ) (x y : X) → i < length xs → x ≡ get_or xs i x → Contains (drop i xs) y → (x ≡ y) ⊎ Contains (drop (suc i) xs) y
@@ -109,29 +99,21 @@ front_to xs i x y l e h = front_at xs i x y l e (subst (λ j. Contains (take j x
 
 -- the element at an index stands in front of the next place
 up_at : {X : Type 0} (xs : List X) (i : ℕ) (x : X) → i < length xs → x ≡ get_or xs i x → Contains (take (suc i) xs) x
-up_at [] i x l e = absurd (omega (arith, l))
-up_at (y ∷ ys) zero x l e = (0, omega arith, sym e)
-up_at (y ∷ ys) (suc i) x l e = there y (take (suc i) ys) x (up_at ys i x (omega (arith, l)) e)
+up_at xs i x l e = grind (arith, common_steps)
 
 pub up_to : {X : Type 0} (xs : List X) (i : ℕ) (x : X) → i < length xs → x ≡ get_or xs i x → Contains (take (i + 1) xs) x
 up_to xs i x l e = rw add-one (up_at xs i x l e)
 
 -- what stands in front of a place stands in front of the next
 take_suc : {X : Type 0} (xs : List X) (i : ℕ) (x : X) → Contains (take i xs) x → Contains (take (suc i) xs) x
-take_suc xs zero x h = absurd (none_in x h)
-take_suc [] (suc i) x h = absurd (none_in x h)
-take_suc (y ∷ ys) (suc i) x h = ⊎_elim (λ (u : y ≡ x). subst (Contains (y ∷ take (suc i) ys)) u (here y (take (suc i) ys)))
-    (λ (u : Contains (take i ys) x). there y (take (suc i) ys) x (take_suc ys i x u)) (which y (take i ys) x h)
+take_suc xs i x h = grind (arith, common_steps)
 
 pub take_grows : {X : Type 0} (xs : List X) (i : ℕ) (x : X) → Contains (take i xs) x → Contains (take (i + 1) xs) x
 take_grows xs i x h = rw add-one (take_suc xs i x h)
 
 -- nothing stands behind the last place
 pub past_end : {X : Type 0} (xs : List X) (i : ℕ) (x : X) → length xs ≤ i → Contains (drop i xs) x → ⊥
-past_end [] zero x l h = none_in x h
-past_end [] (suc i) x l h = none_in x h
-past_end (y ∷ ys) zero x l h = absurd (omega (arith, l))
-past_end (y ∷ ys) (suc i) x l h = past_end ys i x (omega (arith, l)) h
+past_end xs i x l h = grind (arith, common_steps)
 
 pub whole : {X : Type 0} (xs : List X) (i : ℕ) (x : X) → length xs ≤ i → Contains xs x → Contains (take i xs) x
 whole xs i x l h = ⊎_elim (λ (q : Contains (take i xs) x). q) (λ (q : Contains (drop i xs) x). absurd (past_end xs i x l q)) (side i xs x h)
@@ -155,7 +137,6 @@ rising_insert Before [] zero x r low high = (tt, tt)
 rising_insert Before [] (suc i) x r low high = (tt, tt)
 rising_insert Before (z ∷ zs) zero x r low high = (all_of (Before x) (z ∷ zs) high, r)
 rising_insert Before (z ∷ zs) (suc i) x r low high = (
-  all_of (Before z) (insert zs i x) (λ y h. ⊎_elim (λ (q : Contains zs y). each (Before z) zs y r.0 q)
-      (λ (q : y ≡ x). subst (Before z) (sym q) (low z (here z (take i zs)))) ((contains_insert zs i x y).0 h)),
+  grind (arith, common_steps),
   rising_insert Before zs i x r.1 (λ y h. low y (there z (take i zs) y h)) high,
 )

@@ -1,5 +1,6 @@
 -- What a scan of a list has seen, and the epochs that a count has reached.
-use Rattle.std.proofs.Common.{◌≡◌, ℕ, zero, suc, ◌+◌, ◌<◌, ◌≤◌, ◌⊎◌, inr, ⊎_elim, List, [], ◌∷◌, length, get_or, take, sym, ◌∙◌, subst, arith}
+use Rattle.std.proofs.Common.{rules}
+use Rattle.std.proofs.Common.{◌≡◌, ℕ, zero, suc, ◌+◌, ◌<◌, ◌≤◌, ◌⊎◌, ⊎_elim, List, [], ◌∷◌, length, get_or, take, sym, ◌∙◌, subst, arith}
 use Rattle.std.specs.List.{Contains, All, AllByRecursion}
 use Rattle.std.proofs.lemmas.List.{take_all}
 use Rattle.std.proofs.lemmas.List.Elements.{All-more, recursion_from_All}
@@ -24,8 +25,4 @@ pub next_epoch : (cs : List CutData) (k : ℕ) → HasCutsTo cs k → ((c : CutD
 next_epoch cs k has c e l m = ⊎_elim (λ (q : e ≤ k). has e l q) (λ (q : e ≡ k + 1). (c.0, c.1, c.2 ∙ sym q)) (let t : (e ≤ k) ⊎ (e ≡ k + 1) = grind arith in t)
 
 pub complete : (cs : List CutData) (k : ℕ) → HasCutsTo cs k → (((c : CutData) × Contains cs c × (c.epoch ≡ k + 1)) → ⊥) → IsCompleteEpoch cs k
-complete cs k has missing = (
-  inr has,
-  λ m h. ⊎_elim (λ (q : m ≤ k). q) (λ (q : k < m). absurd (missing (h (k + 1) (omega arith) (omega arith))))
-      (let t : (m ≤ k) ⊎ (k < m) = grind arith in t),
-)
+complete cs k has missing = search rules

@@ -1,5 +1,7 @@
 -- What a sound log says of its members: one fact of each key, and every truncation counts.
-use Rattle.std.proofs.Common.{◌≡◌, ◌≢◌, ℕ, zero, suc, ◌<◌, ◌≤◌, ◌⊎◌, ◌↔◌, ⊎_elim, List, [], ◌∷◌, length, get_or, take, sym, ap, ◌∙◌, subst, arith, Some, None, not}
+use Rattle.std.proofs.lemmas.Grind.{common_steps}
+use Rattle.std.proofs.Common.{rules}
+use Rattle.std.proofs.Common.{◌≡◌, ◌≢◌, ℕ, zero, suc, ◌<◌, ◌≤◌, ◌⊎◌, ◌↔◌, ⊎_elim, List, [], ◌∷◌, length, get_or, take, sym, ap, subst, arith, Some, None, not}
 use Rattle.std.specs.Prelude.{slice_get, ◌==◌}
 use Rattle.std.specs.List.{Contains}
 use Rattle.std.proofs.lemmas.Bool.Decides.{nat_tests}
@@ -8,7 +10,7 @@ use Rattle.redo_core.specs.Shape.{cut_fault}
 use Rattle.redo_core.specs.Sets.{records, cuts}
 use Rattle.redo_core.specs.Sound.{IsSound, KeepsLaws, SameKey, first_cuts, counted}
 use Rattle.redo_core.specs.declared.facts.Fact.{Fact}
-use Rattle.redo_core.specs.declared.facts.Fact.TheVariants.{Record, Cut, Advance}
+use Rattle.redo_core.specs.declared.facts.Fact.TheVariants.{Record, Cut}
 use Rattle.redo_core.proofs.Members.{none_in, here, there, which, filtered, passed}
 use Rattle.redo_core.proofs.FactParts.{record_in, cut_in}
 
@@ -30,20 +32,10 @@ earlier (y ∷ ys) x zero (suc j) l in' e = subst (λ z. Contains (z ∷ take j 
 earlier (y ∷ ys) x (suc i) (suc j) l in' e = there y (take j ys) x (earlier ys x i j (omega (arith, l)) (omega (arith, in')) e)
 
 pub same_place : (xs : List Fact) (x y : Fact) (k : ℕ) → k < length xs → get_or xs k x ≡ x → get_or xs k y ≡ y → x ≡ y
-same_place [] x y k l e f = absurd (omega (arith, l))
-same_place (z ∷ zs) x y zero l e f = sym e ∙ f
-same_place (z ∷ zs) x y (suc k) l e f = same_place zs x y k (omega (arith, l)) e f
+same_place xs x y k l e f = grind (arith, common_steps)
 
 pub key_sym : (f g : Fact) → SameKey f g → SameKey g f
-key_sym (Record r) (Record s) h = (sym h.0, sym h.1)
-key_sym (Record r) (Cut c) h = h
-key_sym (Record r) (Advance a) h = h
-key_sym (Cut c) (Record r) h = h
-key_sym (Cut c) (Cut d) h = sym h
-key_sym (Cut c) (Advance a) h = h
-key_sym (Advance a) (Record r) h = h
-key_sym (Advance a) (Cut c) h = h
-key_sym (Advance a) (Advance b) h = h
+key_sym f g h = search rules
 
 -- facts of one key are one fact
 pub same_fact : (roster : ℕ) (log : List Fact) (f g : Fact) → IsSound roster log → Contains log f → Contains log g → SameKey f g → f ≡ g
@@ -79,12 +71,7 @@ first_of_epoch (b ∷ bs) c h =
     ⊎_elim (λ (e : b.epoch ≡ c.epoch). (b, here b _, e))
     (λ (no : b.epoch ≢ c.epoch).
     let below : Contains bs c = ⊎_elim (λ (q : b ≡ c). absurd (no (ap (λ x. x.epoch) q))) (λ q. q) (which b bs c h) in
-    let s = first_of_epoch bs c below in (
-      s.0,
-      there b _ s.0 (passed (λ x. not (x.epoch == b.epoch)) (first_cuts bs) s.0
-          (let ne : s.0.epoch ≢ b.epoch = λ q. no (sym q ∙ s.2) in grind (arith, nat_tests)) s.1),
-      s.2,
-    ))
+    let s = first_of_epoch bs c below in search (rules, there, passed))
     (let t : (b.epoch ≡ c.epoch) ⊎ (b.epoch ≢ c.epoch) = grind arith in t)
 
 pub counted_in : (roster : ℕ) (log : List Fact) → IsSound roster log → (c : CutData) → Contains (counted log) c ↔ Contains (cuts log) c

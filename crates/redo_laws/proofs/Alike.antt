@@ -1,5 +1,5 @@
 -- Parts of one log that differ only in what no longer matters.
-use Rattle.std.proofs.Common.{◌≡◌, ◌≢◌, ℕ, ◌<◌, ◌≤◌, ◌⊎◌, ◌↔◌, inl, inr, ⊎_elim, List, sym, ap, ◌∙◌, subst, arith}
+use Rattle.std.proofs.Common.{◌≡◌, ◌≢◌, ℕ, ◌<◌, ◌≤◌, ◌⊎◌, ◌↔◌, inl, inr, ⊎_elim, List, sym, ap, ◌∙◌, subst, arith, rules}
 use Rattle.std.specs.List.{Contains}
 use Rattle.redo_core.specs.Data.{RecordData, CutData, AdvanceData}
 use Rattle.redo_core.specs.Sets.{IsPart, SameSet, records, cuts, advances}
@@ -23,7 +23,6 @@ use Rattle.redo_core.proofs.CompleteEpochs.{has_cuts}
 use Rattle.redo_laws.proofs.Log.{IsLog, alive_within}
 use Rattle.redo_laws.proofs.Views.{alive_up, prefix_law, anchor_is}
 use Rattle.redo_laws.proofs.Deciding.{settled_lt}
-use Rattle.redo_laws.proofs.Fronts.{same_sym}
 use Rattle.redo_laws.proofs.Meanings.{lists_as}
 
 -- what is not dead in view k
@@ -128,11 +127,7 @@ pub same_cuts : {roster : ℕ} (F G : List Fact) (f g : Position) (m : Meaning) 
 same_cuts F G f g m a b c = (λ h. (b.cuts.members c).0 ((a.cuts.members c).1 h), λ h. (a.cuts.members c).0 ((b.cuts.members c).1 h))
 
 pub same_epoch : {roster : ℕ} (F G : List Fact) (f g : Position) (m : Meaning) → IsMeaningAt roster F f m → IsMeaningAt roster G g m → f.epoch ≡ g.epoch
-same_epoch F G f g m a b =
-    let s = same_cuts F G f g m a b in
-    greatest_unique (HasCutsTo (cuts F)) (HasCutsTo (cuts G))
-    (λ n. (cuts_to_by (cuts F) (cuts G) s n, cuts_to_by (cuts G) (cuts F) (same_sym (cuts F) (cuts G) s) n)) f.epoch g.epoch a.position.epoch
-    b.position.epoch
+same_epoch F G f g m a b = search (rules, same_cuts, greatest_unique, cuts_to_by)
 
 -- half of it: what matters in F is in G
 pub mattering : {roster : ℕ} (log F G : List Fact) (f g : Position) (m : Meaning) → IsLog roster log → IsPart F log → IsPart G log → IsMeaningAt roster F f m

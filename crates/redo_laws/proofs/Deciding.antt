@@ -1,5 +1,5 @@
 -- Deciding facts about lists, and putting things in order.
-use Rattle.std.proofs.Common.{◌≡◌, ℕ, ◌+◌, ◌<◌, ◌≤◌, ◌⊎◌, ◌↔◌, inl, inr, ⊎_elim, List, [], ◌∷◌, sym, ap, ◌∙◌, subst, arith}
+use Rattle.std.proofs.Common.{◌≡◌, ℕ, ◌+◌, ◌<◌, ◌≤◌, ◌⊎◌, ◌↔◌, inl, inr, ⊎_elim, List, [], ◌∷◌, sym, ap, ◌∙◌, subst, arith, rules}
 use Rattle.std.specs.List.{Contains}
 use Rattle.redo_core.specs.Order.{IsRising, Lists}
 use Rattle.redo_core.proofs.Members.{none_in, here, there, which, each, all_of}
@@ -25,8 +25,7 @@ pub settled_or : (P Q : Type 0) → Settled P → Settled Q → Settled (P ⊎ Q
 settled_or P Q p q = ⊎_elim (λ (h : P). inl (inl h)) (λ (no : P → ⊥). ⊎_elim (λ (k : Q). inl (inr k)) (λ (nok : Q → ⊥). inr (λ s. ⊎_elim no nok s)) q) p
 
 pub settled_implies : (P Q : Type 0) → Settled P → Settled Q → Settled (P → Q)
-settled_implies P Q p q = ⊎_elim (λ (k : Q). inl (λ _. k))
-    (λ (nok : Q → ⊥). ⊎_elim (λ (h : P). inr (λ f. nok (f h))) (λ (no : P → ⊥). inl (λ h. absurd (no h))) p) q
+settled_implies P Q p q = search rules
 
 pub settled_by : (P Q : Type 0) → (P → Q) → (Q → P) → Settled P → Settled Q
 settled_by P Q f g p = ⊎_elim (λ (h : P). inl (f h)) (λ (no : P → ⊥). inr (λ q. no (g q))) p

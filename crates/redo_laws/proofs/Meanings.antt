@@ -1,5 +1,6 @@
 -- Each part of a sound log has one meaning, by its members alone.
-use Rattle.std.proofs.Common.{◌≡◌, ◌≢◌, ℕ, ◌<◌, ◌≤◌, ◌⊎◌, ◌↔◌, inl, inr, ⊎_elim, List, [], ◌∷◌, map, refl, sym, ap, ◌∙◌, subst, arith}
+use Rattle.std.proofs.Common.{◌≡◌, ◌≢◌, ℕ, ◌<◌, ◌≤◌, ◌⊎◌, ◌↔◌, inl, inr, ⊎_elim, List, [], ◌∷◌, map, refl, sym, ◌∙◌, subst, arith, rules}
+use Rattle.std.proofs.lemmas.Grind.{common_steps}
 use Rattle.std.specs.List.{Contains}
 use Rattle.redo_core.specs.Data.{RecordData, CutData, AdvanceData}
 use Rattle.redo_core.specs.Sets.{IsPart, SameSet, records, cuts, advances}
@@ -70,16 +71,13 @@ pub nat_order : (a b : ℕ) → (a < b) ⊎ ((a ≡ b) ⊎ (b < a))
 nat_order a b = grind arith
 
 pub same_image : (i j : ImageData) → i.page ≡ j.page → i.bytes ≡ j.bytes → i ≡ j
-same_image i j e p = ap (λ (q : ℕ × List ℕ). record { page = q.0; bytes = q.1 })
-    (let t : (let v : ℕ × List ℕ = (i.page, i.bytes) in v) ≡ (j.page, j.bytes) = cc in t)
+same_image i j e p = search rules
 
 -- the meaning is one
 
 pub record_of_meaning : (m n : Meaning) → m.cuts ≡ n.cuts → m.points ≡ n.points → m.waits ≡ n.waits → m.anchor ≡ n.anchor → m.pages ≡ n.pages → m.kept ≡ n.kept
     → m ≡ n
-record_of_meaning m n a b c d e f =
-    let t : (let v : Meaning = record { cuts = m.cuts; points = m.points; waits = m.waits; anchor = m.anchor; pages = m.pages; kept = m.kept } in
-    v) ≡ record { cuts = n.cuts; points = n.points; waits = n.waits; anchor = n.anchor; pages = n.pages; kept = n.kept } = cc in t
+record_of_meaning m n a b c d e f = search rules
 
 pub page_same : (F G : List Fact) → SameSet F G → (k g q : ℕ) (i : List ℕ) → IsPageAt F k g q i → IsPageAt G k g q i
 page_same F G same k g q i p = record {
@@ -118,9 +116,7 @@ list_eq (x ∷ xs) (y ∷ ys) =
     (settled_eq x y)
 
 pub in_map : {X Y : Type 0} (f : X → Y) (xs : List X) (x : X) → Contains xs x → Contains (map f xs) (f x)
-in_map f [] x h = absurd (none_in x h)
-in_map f (z ∷ zs) x h = ⊎_elim (λ (e : z ≡ x). subst (λ u. Contains (u ∷ map f zs) (f x)) (sym (ap f e)) (here (f x) (map f zs)))
-    (λ (q : Contains zs x). there (f z) (map f zs) (f x) (in_map f zs x q)) (which z zs x h)
+in_map f xs x h = grind (arith, common_steps)
 
 pub from_map : {X Y : Type 0} (f : X → Y) (xs : List X) (y : Y) → Contains (map f xs) y → (x : X) × Contains xs x × (f x ≡ y)
 from_map f [] y h = absurd (none_in y h)

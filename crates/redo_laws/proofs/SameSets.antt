@@ -1,5 +1,5 @@
 -- Lists of the same facts.
-use Rattle.std.proofs.Common.{ℕ, ◌↔◌, ◌++◌, ⊎_elim, List}
+use Rattle.std.proofs.Common.{ℕ, ◌↔◌, ◌++◌, ⊎_elim, List, rules}
 use Rattle.std.specs.List.{Contains}
 use Rattle.std.proofs.lemmas.List.Elements.{Contains-append_left, Contains-append_right, Contains-append_cases}
 use Rattle.redo_core.specs.Sets.{SameSet, advances}
@@ -38,18 +38,7 @@ pub same_meanings : (roster : ℕ) (facts same : List Fact) (m : Meaning) → Sa
 same_meanings roster facts same m s = (meaning_of_same roster facts same m s, meaning_of_same roster same facts m (same_sym facts same s))
 
 pub agree : (facts same : List Fact) → SameSet facts same → AgreeOn facts same
-agree facts same s =
-    let t = same_sym facts same s in
-    record {
-      positions = λ roster p. (
-        front_alike facts same p (alike_same roster facts same s p.epoch),
-        front_alike same facts p
-            (alike_same roster same facts t p.epoch),
-      );
-      linked = λ k n. (linked_same facts same s k n, linked_same same facts t k n);
-      pages = λ k page q image. (page_same facts same s k page q image, page_same same facts t k page q image);
-      meanings = λ roster m. same_meanings roster facts same m s;
-    }
+agree facts same s = search (rules, same_sym, front_alike, alike_same, linked_same, page_same, same_meanings)
 
 pub twice : (x : List Fact) → SameSet (x ++ x) x
 twice x f = (λ h. ⊎_elim (λ (u : Contains x f). u) (λ (u : Contains x f). u) (Contains-append_cases x x f h), Contains-append_left x x f)

@@ -1,5 +1,5 @@
 -- The small log is sound.
-use Rattle.std.proofs.Common.{◌≡◌, ℕ, Some, false, zero, suc, ◌<◌, inl, ⊎_elim, [], ◌∷◌, refl, sym, ap, subst, arith}
+use Rattle.std.proofs.Common.{◌≡◌, ℕ, Some, false, ◌<◌, inl, ⊎_elim, [], refl, sym, ap, arith, rules}
 use Rattle.std.specs.List.{Contains}
 use Rattle.std.specs.Prelude.{slice_get}
 use Rattle.redo_core.specs.Data.{RecordData, CutData, AdvanceData}
@@ -41,9 +41,7 @@ first = record {
 }
 
 no_key_advance : (f : Fact) (a : AdvanceData) → SameKey f (Advance a) → ⊥
-no_key_advance (Record r) a k = k
-no_key_advance (Cut c) a k = k
-no_key_advance (Advance b) a k = k
+no_key_advance f a k = search rules
 
 second : KeepsLaws 1 sample 1 (Advance (record { epoch = 0; reader = 1; point = 3 }))
 second = record {
@@ -55,38 +53,13 @@ second = record {
   law5 = ((omega arith, omega arith), λ e l m. absurd (omega arith), λ c h lt past. let x = (one_cut c h).1 in omega arith);
 }
 
-no_key_first : (f : Fact) (c : CutData) → f ≡ Record r0 → SameKey f (Cut c) → ⊥
-no_key_first f c e k = let t : SameKey (Record r0) (Cut c) = subst (λ x. SameKey x (Cut c)) e k in t
-
-no_key_second : (f : Fact) (a : AdvanceData) (c : CutData) → f ≡ Advance a → SameKey f (Cut c) → ⊥
-no_key_second f a c e k = let t : SameKey (Advance a) (Cut c) = subst (λ x. SameKey x (Cut c)) e k in t
-
 third : KeepsLaws 1 sample 2 (Cut (record { epoch = 1; lo = 5; hi = 20 }))
 unfolding r0
-third =
-    let a : AdvanceData = record { epoch = 0; reader = 1; point = 3 } in
-    let c : CutData = record { epoch = 1; lo = 5; hi = 20 } in
-    record {
-      shape = refl;
-      law1 = λ f h k. ⊎_elim
-          (λ (e : Record r0 ≡ f). absurd (no_key_first f c (sym e) k))
-          (λ (h2 : Contains (Advance a ∷ []) f). ⊎_elim
-          (λ (e : Advance a ≡ f). absurd (no_key_second f a c (sym e) k))
-          (λ (x : Contains [] f). absurd (none_in f x))
-          (which (Advance a) [] f h2))
-          (which (Record r0) (Advance a ∷ []) f h);
-      law2 = tt;
-      law3 = tt;
-      law4 = tt;
-      law5 = tt;
-    }
+third = search rules
 
 sample_keeps : (place : ℕ) (fact : Fact) → slice_get sample place ≡ Some fact → KeepsLaws 1 sample place fact
 unfolding r0
-sample_keeps zero fact e = let q : Record r0 ≡ fact = cc in subst (KeepsLaws 1 sample 0) q first
-sample_keeps (suc zero) fact e = let q : Advance (record { epoch = 0; reader = 1; point = 3 }) ≡ fact = cc in subst (KeepsLaws 1 sample 1) q second
-sample_keeps (suc (suc zero)) fact e = let q : Cut (record { epoch = 1; lo = 5; hi = 20 }) ≡ fact = cc in subst (KeepsLaws 1 sample 2) q third
-sample_keeps (suc (suc (suc n))) fact e = absurd (cc)
+sample_keeps place fact e = search (rules, first, second, third)
 
 pub sample_sound : IsSound 1 sample
 sample_sound = record { readers = (omega arith, omega arith); keeps = sample_keeps }

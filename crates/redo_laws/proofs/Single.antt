@@ -1,5 +1,5 @@
 -- A roster of one reader.
-use Rattle.std.proofs.Common.{◌≡◌, ℕ, ◌<◌, ◌≤◌, ◌⊎◌, ◌↔◌, ⊎_elim, List, [], ◌∷◌, length, refl, sym, ap, ◌∙◌, subst, arith}
+use Rattle.std.proofs.Common.{◌≡◌, ℕ, ◌<◌, ◌≤◌, ◌↔◌, List, [], ◌∷◌, length, refl, sym, ap, ◌∙◌, subst, arith, rules}
 use Rattle.std.specs.List.{Contains}
 use Rattle.redo_core.specs.Data.{CutData, AdvanceData}
 use Rattle.redo_core.specs.Sets.{advances}
@@ -27,16 +27,4 @@ one_reader facts p h =
 pub one_reader_keeps : (log : List Fact) (a : AdvanceData) → Contains (advances log) a
     → Law5 1 log (Advance a) ↔ ((a.reader ≡ 1) × HasCutsTo (counted log) a.epoch
     × ((c : CutData) → Contains (counted log) c → a.epoch < c.epoch → a.point ≤ c.lo))
-one_reader_keeps log a h = (
-  λ l.
-      let first : a.reader ≡ 1 = omega (arith, l.0.0, l.0.1) in (
-        first,
-        l.1,
-        λ c hc lt.
-            ⊎_elim
-            (λ (q : a.point ≤ c.lo). q)
-            (λ (low : c.lo < a.point). l.2 c hc lt (λ reader r. (a, h, omega (arith, first, r.0, r.1), lt, low)))
-            (let t : (a.point ≤ c.lo) ⊎ (c.lo < a.point) = grind arith in t),
-      ),
-  λ l. ((omega (arith, l.0), omega (arith, l.0)), l.1, λ c hc lt past. l.2 c hc lt),
-)
+one_reader_keeps log a h = search rules

@@ -1,5 +1,5 @@
 -- Stored images that rise by page.
-use Rattle.std.proofs.Common.{◌≡◌, ◌≢◌, ℕ, ◌<◌, inr, ⊎_elim, List, [], ◌∷◌, refl, sym, ap, ◌∙◌, subst, arith, Bool, true, false, cond}
+use Rattle.std.proofs.Common.{◌≡◌, ◌≢◌, ℕ, ◌<◌, inr, ⊎_elim, List, [], ◌∷◌, refl, sym, ap, ◌∙◌, subst, arith, Bool, true, false, cond, rules}
 use Rattle.std.specs.Prelude.{◌==◌}
 use Rattle.std.specs.List.{Contains}
 use Rattle.std.proofs.lemmas.Bool.Decides.{nat_tests}
@@ -13,12 +13,10 @@ abbrev Absent : ℕ → ℕ → StoredImage
 Absent floor page = record { page = page; version = floor; bytes = zeros }
 
 taken : (b : Bool) (i j : StoredImage) → b ≡ true → cond b i j ≡ i
-taken true i j e = refl
-taken false i j e = absurd (cc)
+taken b i j e = cc
 
 passed : (b : Bool) (i j : StoredImage) → b ≡ false → cond b i j ≡ j
-passed true i j e = absurd (cc)
-passed false i j e = refl
+passed b i j e = cc
 
 pub found : (images : List StoredImage) (floor : ℕ) (i : StoredImage) → IsRising PageBefore images → Contains images i → image_in images floor i.page ≡ i
 found [] floor i r h = absurd (none_in i h)
@@ -52,10 +50,7 @@ pub stored_images : (store : Store) → IsRising PageBefore store.images
     → ((i : StoredImage) → Contains store.images i → (version_of store i.page ≡ i.version) × (image_of store i.page ≡ i.bytes))
     × ((page : ℕ) → ((i : StoredImage) → Contains store.images i → i.page ≢ page) → (version_of store page ≡ store.floor) × (image_of store page ≡ zeros))
 unfolding version_of image_of
-stored_images store r = (
-  λ i h. let e = found store.images store.floor i r h in (ap (λ y. y.version) e, ap (λ y. y.bytes) e),
-  λ page none. let e = missing store.images store.floor page none in (ap (λ y. y.version) e, ap (λ y. y.bytes) e),
-)
+stored_images store r = search (rules, found, missing)
 
 -- a page whose image is not put stays
 pub unmoved : (old new : Store) (image : StoredImage) (page : ℕ) → IsRising PageBefore old.images → PutsImage old.images image new.images → new.floor ≡ old.floor → page ≢ image.page → (version_of new page ≡ version_of old page) × (image_of new page ≡ image_of old page)

@@ -1,5 +1,5 @@
 -- Congruence, the order by parts and least upper bounds.
-use Rattle.std.proofs.Common.{◌≡◌, ℕ, ◌<◌, ◌≤◌, ◌⊎◌, ◌↔◌, inl, inr, ⊎_elim, List, ◌++◌, length, refl, sym, ap, ◌∙◌, subst, arith}
+use Rattle.std.proofs.Common.{◌≡◌, ℕ, ◌<◌, ◌≤◌, ◌⊎◌, ◌↔◌, inl, inr, ⊎_elim, List, ◌++◌, length, refl, sym, ap, ◌∙◌, subst, arith, rules}
 use Rattle.std.specs.List.{Contains}
 use Rattle.std.proofs.lemmas.List.Elements.{Contains-append_left, Contains-append_right, Contains-append_cases}
 use Rattle.redo_core.specs.Data.{RecordData, CutData, AdvanceData}
@@ -150,9 +150,7 @@ alike_union log F F' G f j l p p' q front front' a c =
 -- parts of one meaning have one position
 pub fronts_of_meaning : {roster : ℕ} (log F G : List Fact) (m : Meaning) → IsLog roster log → IsPart F log → IsPart G log → (a : IsMeaning roster F m)
     → (b : IsMeaning roster G m) → Alike roster F G a.0.epoch × IsPosition roster G a.0
-fronts_of_meaning log F G m l p q a b =
-    let al = alike_by_meaning log F G a.0 b.0 m l p q a.1 b.1 in
-    (al, front_alike F G a.0 al a.1.position)
+fronts_of_meaning log F G m l p q a b = search (rules, alike_by_meaning, front_alike)
 
 pub congruence_law : {roster : ℕ} (log F F' G : List Fact) (m u : Meaning) → IsLog roster log → IsPart F log → IsPart F' log → IsPart G log
     → IsMeaning roster F m → IsMeaning roster F' m → IsMeaning roster (F ++ G) u → IsMeaning roster (F' ++ G) u

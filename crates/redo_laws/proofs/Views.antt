@@ -192,11 +192,6 @@ linked_stays log F G l p q k m j has a le hasj n small (next r hr ar lt linked) 
     next r (part_records F G p r hr) (alive_down log G q j r.epoch r.number later) lt
     (linked_stays log F G l p q k m j has a le hasj r.back (omega arith) linked)
 
--- a linked record at a linked number
-pub linked_record : (facts : List Fact) (k : ℕ) → (r : RecordData) → Contains (records facts) r → IsAlive (cuts facts) k r.epoch r.number
-    → IsLinked facts k r.number → IsLinkedRecord facts k r
-linked_record facts k r a b c = record { among = a; alive = b; linked = c }
-
 pub anchor_is : {roster : ℕ} (F : List Fact) (f : Position) → IsPosition roster F f → IsLinked F f.epoch f.anchor × (f.anchor ≤ f.min)
 anchor_is F f front = at_greatest (λ n. IsLinked F f.epoch n × (n ≤ f.min)) (start, omega arith) f.anchor front.anchor
 

@@ -1,5 +1,5 @@
 -- Books: what is read is spelled so, and what is spelled so is read.
-use Rattle.std.proofs.Common.{◌≡◌, ℕ, ◌^◌, ◌+◌, ◌<◌, ◌≤◌, Bool, true, false, ltb, eqb, List, [], ◌∷◌, ◌++◌, length, Ok, refl, sym, ap, subst, ◌∙◌, append_assoc, arith}
+use Rattle.std.proofs.Common.{◌≡◌, ℕ, ◌^◌, ◌+◌, ◌<◌, ◌≤◌, Bool, true, ltb, eqb, List, [], ◌∷◌, ◌++◌, length, Ok, refl, sym, ap, subst, ◌∙◌, append_assoc, arith, rules}
 use Rattle.std.specs.List.{AllByRecursion, flat_map}
 use Rattle.std.specs.Prelude.{None}
 use Rattle.std.proofs.lemmas.Bool.{lt-ltb, eqb-false}
@@ -82,11 +82,7 @@ complete_is cs rising all = is_complete cs rising (All-weaker IsWireCut (λ c. 0
 
 -- the truncations of a book have the fields that their type holds
 wire_cuts : (b : BookData) → IsBook b → AllByRecursion IsWireCut b.cuts
-wire_cuts b book =
-    let fit = recursion_from_All (λ c. c.epoch < epoch_count) b.cuts book.epochs_fit in
-    let shaped = recursion_from_All (λ c. cut_fault c ≡ None) b.cuts book.cuts_shaped in
-    All-weaker (λ c. (c.epoch < epoch_count) × (cut_fault c ≡ None)) IsWireCut (λ c h. let lt = h.0 in record { epoch = omega (arith, lt); shape = h.1 })
-    b.cuts (All-both (λ c. c.epoch < epoch_count) (λ c. cut_fault c ≡ None) b.cuts fit shaped)
+wire_cuts b book = search (rules, recursion_from_All)
 
 -- the epoch that reading computes is the one that the book has
 complete_of_book : (b : BookData) → IsBook b → complete b.cuts ≡ b.complete
@@ -181,8 +177,7 @@ each_cut b wire =
 
 -- a reader of the roster may stand in the form for that roster
 reader_within : (many : Bool) (readers r : ℕ) → IsWithin many 1 2 15 readers → IsReader readers r → IsWithin many 1 1 readers r
-reader_within false readers r roster is = let one = is.0 in let low = is.1 in omega (arith, roster)
-reader_within true readers r roster is = (is.0, is.1)
+reader_within many readers r roster is = search rules
 
 each_wait : (many : Bool) (b : BookData) → IsWireBook b → IsWithin many 1 2 15 (length b.points)
     → EachFrom (IsNextWait many (complete b.cuts) (length b.points)) wait_place (0, 0, 0) b.waits

@@ -1,9 +1,9 @@
 -- Deltas: what is read is spelled so, and what is spelled so is read.
-use Rattle.std.proofs.Common.{◌≡◌, ℕ, zero, suc, ◌<◌, ◌≤◌, Bool, true, false, ltb, leb, eqb, List, [], ◌∷◌, ◌++◌, length, replicate, Ok, refl, sym, ap, subst, ◌∙◌, append_assoc, arith, inl, inr}
+use Rattle.std.proofs.Common.{◌≡◌, ℕ, zero, suc, ◌≤◌, Bool, true, false, leb, eqb, List, [], ◌∷◌, ◌++◌, length, replicate, Ok, refl, sym, ap, subst, ◌∙◌, append_assoc, arith, inl, inr, rules}
+use Rattle.std.proofs.lemmas.Grind.{common_steps}
 use Rattle.std.specs.Prelude.{◌≢◌, not}
 use Rattle.std.specs.List.{AllByRecursion, flat_map}
-use Rattle.std.proofs.lemmas.Bool.{ltb-true, leb-true, lt-ltb, le-leb, eqb-true, eq-eqb, or_cases, or_left, or_right, or_parts, not-false, cases_Bool, cases_lt}
-use Rattle.std.proofs.lemmas.List.{nil_from_length}
+use Rattle.std.proofs.lemmas.Bool.{leb-true, le-leb, eqb-true, or_parts, not-false, cases_Bool}
 use Rattle.redo_core.specs.Book.{BookData}
 use Rattle.redo_core.specs.Keys.{key_in, key_of}
 use Rattle.redo_core.specs.declared.keys.Key.{Key}
@@ -52,9 +52,7 @@ unfolding zeros
 zeros_is = refl
 
 pub written_page : (bytes : List ℕ) → is_nonzero bytes ≡ true → bytes ≢ zeros
-written_page bytes nonzero e =
-    let none : is_nonzero bytes ≡ false = ap is_nonzero (e ∙ zeros_is) ∙ zeros_nonzero 4096 in
-    absurd (cc (nonzero, none))
+written_page bytes nonzero e = search (rules, zeros_is)
 
 nonzero_page : (bytes : List ℕ) → length bytes ≡ 4096 → bytes ≢ zeros → is_nonzero bytes ≡ true
 nonzero_page bytes len written =
@@ -107,18 +105,10 @@ next_record_reads last = ordered_reads (λ r. is_above last (key_of r)) record_a
 -- ---- deltas
 
 no_base_no_pages : (base : ℕ) (pages : List ImageData) → may_have base (length pages) ≡ true → base ≡ 0 → pages ≡ []
-no_base_no_pages base pages e none =
-    elim (or_cases (ltb 0 base) (eqb (length pages) 0) e) [
-      | inl lt ↦ let pos : 0 < base = ltb-true _ _ lt in absurd (omega (arith, none))
-      | inr empty ↦ nil_from_length pages (eqb-true _ _ empty)
-    ]
+no_base_no_pages base pages e none = grind (arith, common_steps)
 
 may_have_pages : (base : ℕ) (pages : List ImageData) → (base ≡ 0 → pages ≡ []) → may_have base (length pages) ≡ true
-may_have_pages base pages rule =
-    elim (cases_lt 0 base) [
-      | inl lt ↦ or_left _ _ (lt-ltb 0 base lt)
-      | inr le ↦ let none : pages ≡ [] = rule (omega arith) in or_right _ _ (eq-eqb (length pages) 0 (ap length none))
-    ]
+may_have_pages base pages rule = search rules
 
 pub delta_steps : (many : Bool) (bytes : List ℕ) (b : BookData × List ℕ) (base page_count : ℕ × List ℕ) (pages : List ImageData × List ℕ)
     (record_count : ℕ × List ℕ) (records : List RecordData × List ℕ) → IsBytes bytes

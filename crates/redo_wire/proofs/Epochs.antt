@@ -1,5 +1,5 @@
 -- The complete epoch that reading computes is the complete epoch of the truncations.
-use Rattle.std.proofs.Common.{◌≡◌, ℕ, zero, suc, ◌+◌, ◌<◌, ◌≤◌, true, ltb, List, [], ◌∷◌, refl, ap, subst, arith, inl, inr}
+use Rattle.std.proofs.Common.{◌≡◌, ℕ, zero, suc, ◌+◌, ◌<◌, ◌≤◌, true, ltb, List, [], ◌∷◌, refl, ap, subst, arith, inl, inr, rules}
 use Rattle.std.specs.List.{Contains, AllByRecursion}
 use Rattle.std.proofs.lemmas.Bool.{ltb-true, lt-ltb, eq-eqb, ne_eqb, cases_lt, cases_eq}
 use Rattle.redo_core.specs.Data.{CutData}
@@ -41,8 +41,7 @@ found k (c ∷ cs) e lt le =
 
 later : (k : ℕ) (c : CutData) (cs : List CutData) (e : ℕ) → c.epoch ≡ k + 1 → k + 1 < e → (x : CutData) × Contains (c ∷ cs) x × (x.epoch ≡ e)
     → (x : CutData) × Contains cs x × (x.epoch ≡ e)
-later k c cs e same lt (x, (zero, in_list, p), is) = let q : c.epoch ≡ x.epoch = ap (λ (y : CutData). y.epoch) p in absurd (omega arith)
-later k c cs e same lt (x, (suc j, in_list, p), is) = (x, (j, omega arith, p), is)
+later k c cs e same lt h = search rules
 
 gap : (k : ℕ) (c : CutData) (cs : List CutData) → k + 1 < c.epoch → EachFrom IsNextEpoch cut_epoch c.epoch cs
     → (x : CutData) × Contains (c ∷ cs) x × (x.epoch ≡ k + 1) → ⊥

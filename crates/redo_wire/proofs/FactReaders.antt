@@ -1,7 +1,8 @@
 -- Facts: what is read is spelled so, and what is spelled so is read.
-use Rattle.std.proofs.Common.{◌≡◌, ℕ, ◌<◌, ◌≤◌, ◌⊎◌, inl, inr, ⊎_elim, Bool, true, false, cond, ltb, leb, eqb, List, [], ◌∷◌, ◌++◌, Ok, None, refl, ap, subst, ◌∙◌, append_assoc, arith}
+use Rattle.std.proofs.Common.{◌≡◌, ℕ, ◌<◌, ◌≤◌, ◌⊎◌, ⊎_elim, Bool, true, false, cond, ltb, leb, eqb, List, [], ◌∷◌, ◌++◌, Ok, None, refl, ap, subst, ◌∙◌, append_assoc, arith, rules}
+use Rattle.std.proofs.lemmas.Grind.{common_steps}
 use Rattle.std.specs.Prelude.{◌||◌}
-use Rattle.std.proofs.lemmas.Bool.{ltb-true, leb-true, lt-ltb, le-leb, le-ltb, ltb-false, eqb-true, eqb-false, ne_eqb}
+use Rattle.std.proofs.lemmas.Bool.{ltb-true, leb-true, le-ltb, eqb-true, ne_eqb}
 use Rattle.redo_core.specs.Data.{CutData, AdvanceData, advance_of}
 use Rattle.redo_core.specs.Shape.{cut_fault, advance_fault}
 use Rattle.redo_core.specs.declared.facts.Fact.{Fact}
@@ -16,7 +17,7 @@ use Rattle.redo_wire.specs.FactReading.{cut_at, advance_at, tagged_advance_at, f
 use Rattle.redo_wire.proofs.Readers.{IsBytes, bind_ok, ok_is, shaped_ok, mapped_ok, Takes, Takes-then, Reads, reads_as}
 use Rattle.redo_wire.proofs.FieldReaders.{byte_reads, u16_reads, u48_reads}
 use Rattle.redo_wire.proofs.FormReaders.{form_then, IsWithin, within_reads}
-use Rattle.redo_wire.proofs.RecordReaders.{spared, record_reads}
+use Rattle.redo_wire.proofs.RecordReaders.{record_reads}
 
 -- ---- truncations
 
@@ -46,23 +47,7 @@ cut_takes bytes x fits e =
 
 cut_again : (c : CutData) (rest : List ℕ) → IsWireCut c → cut_at (cut_bytes c ++ rest) ≡ Ok (c, rest)
 unfolding cut_at
-cut_again c rest fits =
-    let regrouped : cut_bytes c ++ rest ≡ u16 c.epoch ++ (u48 c.lo ++ (u48 c.hi ++ rest)) = simp append_assoc in
-    let r0 = spared (eqb c.epoch 0) _ _ fits.shape in
-    let r1 = spared (ltb c.hi c.lo) _ _ r0.1 in
-    let r2 = spared (ltb 281474976710655 c.hi) _ _ r1.1 in
-    let pos : 0 < c.epoch = omega (arith, eqb-false c.epoch 0 r0.0) in
-    let rises : c.lo ≤ c.hi = ltb-false c.hi c.lo r1.0 in
-    let small : c.hi ≤ 281474976710655 = ltb-false 281474976710655 c.hi r2.0 in
-    ap cut_at regrouped
-    ∙ rw (
-      u16_reads.again c.epoch (u48 c.lo ++ (u48 c.hi ++ rest)) fits.epoch,
-      lt-ltb 0 c.epoch pos,
-      u48_reads.again c.lo (u48 c.hi ++ rest)
-          (omega (arith, small, rises)),
-      u48_reads.again c.hi rest (omega (arith, small)),
-      le-leb c.lo c.hi rises,
-    ) refl
+cut_again c rest fits = grind (arith, common_steps, u16_reads, u48_reads)
 
 pub cut_reads : Reads cut_at cut_bytes IsWireCut
 cut_reads = record { takes = cut_takes; again = cut_again }
@@ -76,8 +61,7 @@ pub record IsReadAdvance (many : Bool) (least first last : ℕ) (a : AdvanceData
   pub wire : IsWireAdvance a
 
 pub within_bounds : (many : Bool) (first last r : ℕ) → 1 ≤ first → 1 ≤ last → IsWithin many 1 first last r → (1 ≤ r) × (r ≤ last)
-within_bounds false first last r lo hi is = (omega (arith, is), omega (arith, is))
-within_bounds true first last r lo hi is = (omega (arith, is.0), is.1)
+within_bounds many first last r lo hi is = search rules
 
 advance_takes : (many : Bool) (least first last : ℕ) → 1 ≤ first → 1 ≤ last → last ≤ 15 → (bytes : List ℕ) (x : AdvanceData × List ℕ) → IsBytes bytes
     → advance_at many least first last bytes ≡ Ok x → Takes bytes (advance_bytes many x.0) x.1 × IsReadAdvance many least first last x.0
@@ -116,32 +100,12 @@ pub record HasRanges (a : AdvanceData) : Type 0 where
   pub last : a.reader ≤ 15
 
 pub ranges : (a : AdvanceData) → IsWireAdvance a → HasRanges a
-ranges a wire =
-    let r0 = spared (eqb a.point 0) _ _ wire.shape in
-    let r1 = spared (ltb 281474976710655 a.point) _ _ r0.1 in
-    let r2 = spared (eqb a.reader 0) _ _ r1.1 in
-    let r3 = spared (ltb 15 a.reader) _ _ r2.1 in
-    let point = eqb-false a.point 0 r0.0 in
-    let reader = eqb-false a.reader 0 r2.0 in
-    record
-    { positive = omega (arith, point); point = ltb-false 281474976710655 a.point r1.0; first = omega (arith, reader); last = ltb-false 15 a.reader r3.0 }
+ranges a wire = search rules
 
 advance_again : (many : Bool) (least first last : ℕ) (a : AdvanceData) (rest : List ℕ) → IsReadAdvance many least first last a
     → advance_at many least first last (advance_bytes many a ++ rest) ≡ Ok (a, rest)
 unfolding advance_at
-advance_again many least first last a rest fits =
-    let regrouped : advance_bytes many a ++ rest ≡ u16 a.epoch ++ (byte_in many a.reader ++ (u48 a.point ++ rest)) = simp append_assoc in
-    let r = ranges a fits.wire in
-    let small = r.point in
-    let reader = (within_reads many 1 first last).again a.reader (u48 a.point ++ rest) fits.reader in
-    ap (advance_at many least first last) regrouped
-    ∙ rw (
-      u16_reads.again a.epoch (byte_in many a.reader ++ (u48 a.point ++ rest)) fits.wire.epoch,
-      le-leb least a.epoch fits.later,
-      reader,
-      u48_reads.again a.point rest (omega (arith, small)),
-      lt-ltb 0 a.point r.positive,
-    ) refl
+advance_again many least first last a rest fits = grind (arith, common_steps, u16_reads, u48_reads)
 
 pub advance_reads : (many : Bool) (least first last : ℕ) → 1 ≤ first → 1 ≤ last → last ≤ 15
     → Reads (advance_at many least first last) (advance_bytes many) (IsReadAdvance many least first last)
@@ -149,12 +113,10 @@ advance_reads many least first last lo one hi = record { takes = advance_takes m
 
 -- a number from 2 on stands in the second form alone
 pub second_is : (many : Bool) (last r : ℕ) → IsWithin many 1 2 last r → ltb 1 r ≡ many
-second_is false last r is = le-ltb 1 r (omega (arith, is))
-second_is true last r is = lt-ltb 1 r (omega (arith, is.0))
+second_is many last r is = search rules
 
 pub within_second : (many : Bool) (last r : ℕ) → 1 ≤ r → r ≤ last → ltb 1 r ≡ many → IsWithin many 1 2 last r
-within_second false last r lo hi e = let le : r ≤ 1 = ltb-false 1 r e in omega arith
-within_second true last r lo hi e = let lt : 1 < r = ltb-true 1 r e in (omega arith, hi)
+within_second many last r lo hi e = search rules
 
 tagged_advance_reads : Reads tagged_advance_at (λ a. form_bytes 3 5 (is_of_other a) ++ advance_bytes (is_of_other a) a) IsWireAdvance
 unfolding tagged_advance_at
@@ -168,8 +130,7 @@ tagged_advance_reads =
 -- ---- facts
 
 chosen : {A : Type 0} (b : Bool) (p q : Read A) (x : A × List ℕ) → cond b p q ≡ Ok x → ((b ≡ true) × (p ≡ Ok x)) ⊎ ((b ≡ false) × (q ≡ Ok x))
-chosen true p q x e = inl (refl, e)
-chosen false p q x e = inr (refl, e)
+chosen b p q x e = search rules
 
 fact_takes : (bytes : List ℕ) (x : Fact × List ℕ) → IsBytes bytes → fact_at bytes ≡ Ok x → Takes bytes (fact_bytes x.0) x.1 × IsWireFact x.0
 unfolding fact_at
@@ -199,13 +160,11 @@ fact_takes bytes x fits e =
 
 record_first : (full : Bool) (text : List ℕ) → fact_at (form_bytes 1 6 full ++ text) ≡ mapped Record (record_at (form_bytes 1 6 full ++ text))
 unfolding fact_at
-record_first false text = refl
-record_first true text = refl
+record_first full text = search rules
 
 advance_first : (many : Bool) (text : List ℕ) → fact_at (form_bytes 3 5 many ++ text) ≡ mapped Advance (tagged_advance_at (form_bytes 3 5 many ++ text))
 unfolding fact_at
-advance_first false text = refl
-advance_first true text = refl
+advance_first many text = search rules
 
 cut_first : (text : List ℕ) → fact_at (2 ∷ text) ≡ mapped Cut (cut_at text)
 unfolding fact_at

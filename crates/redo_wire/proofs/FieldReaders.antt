@@ -1,12 +1,10 @@
 -- The fields: what is read is spelled so, and what is spelled so is read.
-use Rattle.std.proofs.Common.{◌≡◌, ℕ, suc, ◌^◌, ◌<◌, ◌≤◌, false, ltb, List, [], ◌∷◌, ◌++◌, length, take, drop, Ok, refl, sym, ap, subst, arith}
+use Rattle.std.proofs.Common.{◌≡◌, ℕ, suc, ◌^◌, ◌<◌, List, [], ◌∷◌, ◌++◌, length, drop, Ok, refl, ap, subst, arith, rules}
+use Rattle.std.proofs.lemmas.Grind.{common_steps}
 use Rattle.std.specs.Int.{Width, w16, w32, w64, byte_len, from_be_bytes, to_be_bytes}
-use Rattle.std.proofs.lemmas.Bool.{ltb-false, le-ltb}
-use Rattle.std.proofs.lemmas.List.{take_at, drop_at, take-append-drop, length-append, length-take}
-use Rattle.std.proofs.lemmas.Nat.{be_bytes_2, be_bytes_4, be_bytes_8, from_be_bytes-to_be_bytes_2, from_be_bytes-to_be_bytes_4, from_be_bytes-to_be_bytes_8}
-use Rattle.redo_wire.specs.declared.faults.WireFault.TheVariants.{Short}
+use Rattle.std.proofs.lemmas.Nat.{be_bytes_8}
 use Rattle.redo_wire.specs.Fields.{byte_at, bytes_at, number_at, u48_at, number, u48}
-use Rattle.redo_wire.proofs.Readers.{IsBytes, IsBytes-drop, IsBytes-take, IsBytes-cons, ok_is, guard_ok, mapped_ok, Takes, Reads}
+use Rattle.redo_wire.proofs.Readers.{IsBytes, IsBytes-cons, ok_is, mapped_ok, Takes, Reads}
 
 byte_takes : (bytes : List ℕ) (x : ℕ × List ℕ) → IsBytes bytes → byte_at bytes ≡ Ok x → Takes bytes (x.0 ∷ []) x.1 × (x.0 < 256)
 byte_takes [] x fits e = absurd cc
@@ -19,17 +17,10 @@ byte_reads = record { takes = byte_takes; again = λ b rest lt. refl }
 
 pub bytes_take : (n : ℕ) (bytes : List ℕ) (x : List ℕ × List ℕ) → IsBytes bytes → bytes_at n bytes ≡ Ok x
     → Takes bytes x.0 x.1 × (length x.0 ≡ n) × IsBytes x.0
-bytes_take n bytes x fits e =
-    let g = guard_ok (ltb (length bytes) n) Short (take n bytes, drop n bytes) x e in
-    let long : n ≤ length bytes = ltb-false _ _ g.0 in
-    let len : length (take n bytes) ≡ n = omega (arith, length-take n bytes) in
-    subst (λ (y : List ℕ × List ℕ). Takes bytes y.0 y.1 × (length y.0 ≡ n) × IsBytes y.0) g.1
-    (record { parts = sym (take-append-drop n bytes); rest_fits = IsBytes-drop n bytes fits }, len, IsBytes-take n bytes fits)
+bytes_take n bytes x fits e = grind (arith, common_steps)
 
 pub bytes_again : (n : ℕ) (text rest : List ℕ) → length text ≡ n → bytes_at n (text ++ rest) ≡ Ok (text, rest)
-bytes_again n text rest len =
-    let long : ltb (length (text ++ rest)) n ≡ false = le-ltb _ _ (omega (arith, length-append text rest)) in
-    rw (long, take_at text rest n len, drop_at text rest n len) refl
+bytes_again n text rest len = grind (arith, common_steps)
 
 -- ---- numbers
 
@@ -40,28 +31,13 @@ pub record IsWide (w : Width) (limit : ℕ) : Type 0 where
   pub below : (bytes : List ℕ) → IsBytes bytes → from_be_bytes w bytes < limit
 
 wide16 : IsWide w16 (2 ^ 16)
-wide16 = record {
-  len = λ n. refl;
-  back = λ bytes len fits. be_bytes_2 bytes _ len fits refl;
-  again = λ n lt. from_be_bytes-to_be_bytes_2 n lt;
-  below = λ bytes fits. omega (arith, fits 0, fits 1);
-}
+wide16 = grind (arith, common_steps)
 
 wide32 : IsWide w32 (2 ^ 32)
-wide32 = record {
-  len = λ n. refl;
-  back = λ bytes len fits. be_bytes_4 bytes _ len fits refl;
-  again = λ n lt. from_be_bytes-to_be_bytes_4 n lt;
-  below = λ bytes fits. omega (arith, fits 0, fits 1, fits 2, fits 3);
-}
+wide32 = grind (arith, common_steps)
 
 wide64 : IsWide w64 (2 ^ 64)
-wide64 = record {
-  len = λ n. refl;
-  back = λ bytes len fits. be_bytes_8 bytes _ len fits refl;
-  again = λ n lt. from_be_bytes-to_be_bytes_8 n lt;
-  below = λ bytes fits. omega (arith, fits 0, fits 1, fits 2, fits 3, fits 4, fits 5, fits 6, fits 7);
-}
+wide64 = search (rules, be_bytes_8)
 
 number_takes : (w : Width) (limit : ℕ) → IsWide w limit → (bytes text : List ℕ) (n : ℕ) (rest : List ℕ) → IsBytes bytes
     → bytes_at (byte_len w) bytes ≡ Ok (text, rest) → from_be_bytes w text ≡ n → Takes bytes (to_be_bytes w n) rest × (n < limit)
@@ -97,9 +73,7 @@ u48_below : (text : List ℕ) → IsBytes text → from_be_bytes w64 (0 ∷ 0 �
 u48_below text fits = omega (arith, fits 0, fits 1, fits 2, fits 3, fits 4, fits 5)
 
 u48_value : (n : ℕ) → n < 2 ^ 48 → from_be_bytes w64 (0 ∷ 0 ∷ drop 2 (to_be_bytes w64 n)) ≡ n
-u48_value n lt =
-    let a = from_be_bytes-to_be_bytes_8 n (omega arith) in
-    omega (arith, a)
+u48_value n lt = omega arith
 
 u48_takes : (bytes text : List ℕ) (n : ℕ) (rest : List ℕ) → IsBytes bytes → bytes_at 6 bytes ≡ Ok (text, rest) → from_be_bytes w64 (0 ∷ 0 ∷ text) ≡ n
     → Takes bytes (u48 n) rest × (n < 2 ^ 48)

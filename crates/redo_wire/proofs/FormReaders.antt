@@ -1,12 +1,10 @@
 -- Tags of two forms, and the bytes that only the second form has: what is read is spelled so, and what is spelled so is read.
-use Rattle.std.proofs.Common.{◌≡◌, ℕ, ◌≤◌, ◌⊎◌, inl, inr, ⊎_elim, Bool, true, false, cond, leb, eqb, List, [], ◌∷◌, ◌++◌, Ok, Err, refl, sym, ap, subst, append_assoc}
-use Rattle.std.specs.Prelude.{◌≢◌, ◌&&◌}
-use Rattle.std.proofs.lemmas.Bool.{leb-true, le-leb, eqb-true, eq-eqb, ne_eqb, and_parts}
+use Rattle.std.proofs.Common.{◌≡◌, ℕ, ◌≤◌, ◌⊎◌, Bool, true, false, cond, List, ◌++◌, Ok, Err, refl, sym, subst, append_assoc, rules}
+use Rattle.std.specs.Prelude.{◌≢◌}
 use Rattle.redo_wire.specs.declared.faults.WireFault.TheVariants.{UnknownTag}
 use Rattle.redo_wire.specs.Reading.{◌>>=◌, Read}
-use Rattle.redo_wire.specs.Fields.{byte_at}
 use Rattle.redo_wire.specs.Forms.{form_at, form_bytes, within_at, byte_in}
-use Rattle.redo_wire.proofs.Readers.{IsBytes, bind_ok, ok_is, shaped_ok, Takes, Takes-then, Reads}
+use Rattle.redo_wire.proofs.Readers.{IsBytes, bind_ok, Takes, Takes-then, Reads}
 use Rattle.redo_wire.proofs.FieldReaders.{byte_reads}
 
 abbrev Both : Type 0
@@ -14,26 +12,15 @@ Both = Bool × List ℕ
 
 form_cases : (p q : Bool) (bytes : List ℕ) (x : Both) → cond p (Ok (false, bytes)) (cond q (Ok (true, bytes)) (Err UnknownTag)) ≡ Ok x
     → ((p ≡ true) × ((false, bytes) ≡ x)) ⊎ ((q ≡ true) × ((true, bytes) ≡ x))
-form_cases true q bytes x e = inl (refl, ok_is (false, bytes) x e)
-form_cases false true bytes x e = inr (refl, ok_is (true, bytes) x e)
-form_cases false false bytes x e = absurd cc
+form_cases p q bytes x e = search rules
 
 form_takes : (first second : ℕ) (bytes : List ℕ) (x : Both) → IsBytes bytes → form_at first second bytes ≡ Ok x → Takes bytes (form_bytes first second x.0) x.1
 unfolding form_at
-form_takes first second bytes x fits e =
-    let a = bind_ok (byte_at bytes) _ x e in
-    let t = byte_reads.takes bytes a.0 fits a.1 in
-    ⊎_elim
-    (λ (h : (eqb a.0.0 first ≡ true) × ((false, a.0.1) ≡ x)). subst (λ (y : Both). Takes bytes (form_bytes first second y.0) y.1) h.1
-    (subst (λ (n : ℕ). Takes bytes (n ∷ []) a.0.1) (eqb-true _ _ h.0) t.0))
-    (λ (h : (eqb a.0.0 second ≡ true) × ((true, a.0.1) ≡ x)). subst (λ (y : Both). Takes bytes (form_bytes first second y.0) y.1) h.1
-    (subst (λ (n : ℕ). Takes bytes (n ∷ []) a.0.1) (eqb-true _ _ h.0) t.0))
-    (form_cases (eqb a.0.0 first) (eqb a.0.0 second) a.0.1 x a.2)
+form_takes first second bytes x fits e = search (rules, byte_reads)
 
 form_again : (first second : ℕ) (form : Bool) (rest : List ℕ) → second ≢ first → form_at first second (form_bytes first second form ++ rest) ≡ Ok (form, rest)
 unfolding form_at
-form_again first second false rest apart = rw (eq-eqb first first refl) refl
-form_again first second true rest apart = rw (ne_eqb second first apart, eq-eqb second second refl) refl
+form_again first second form rest apart = search rules
 
 -- a tag, and behind it the part in that form
 pub form_then : {A : Type 0} (first second : ℕ) (part_at : Bool → List ℕ → Read A) (part_bytes : Bool → A → List ℕ) (which : A → Bool) (Fits : A → Type 0)
@@ -61,19 +48,11 @@ IsWithin true absent lo hi n = (lo ≤ n) × (n ≤ hi)
 
 within_takes : (second : Bool) (absent lo hi : ℕ) (bytes : List ℕ) (x : ℕ × List ℕ) → IsBytes bytes → within_at second absent lo hi bytes ≡ Ok x
     → Takes bytes (byte_in second x.0) x.1 × IsWithin second absent lo hi x.0
-within_takes false absent lo hi bytes x fits e =
-    let same : (absent, bytes) ≡ x = ok_is (absent, bytes) x e in
-    (subst (λ (y : ℕ × List ℕ). Takes bytes [] y.1) same (record { parts = refl; rest_fits = fits }), ap (λ (y : ℕ × List ℕ). y.0) (sym same))
-within_takes true absent lo hi bytes x fits e =
-    let s = shaped_ok (λ n. leb lo n && leb n hi) (byte_at bytes) x e in
-    let t = byte_reads.takes bytes x fits s.0 in
-    let rules = and_parts _ _ s.1 in
-    (t.0, (leb-true _ _ rules.0, leb-true _ _ rules.1))
+within_takes second absent lo hi bytes x fits e = search (rules, byte_reads)
 
 within_again : (second : Bool) (absent lo hi n : ℕ) (rest : List ℕ) → IsWithin second absent lo hi n
     → within_at second absent lo hi (byte_in second n ++ rest) ≡ Ok (n, rest)
-within_again false absent lo hi n rest fits = ap (λ (m : ℕ). Ok (m, rest)) (sym fits)
-within_again true absent lo hi n rest fits = rw (le-leb lo n fits.0, le-leb n hi fits.1) refl
+within_again second absent lo hi n rest fits = search rules
 
 pub within_reads : (second : Bool) (absent lo hi : ℕ) → Reads (within_at second absent lo hi) (byte_in second) (IsWithin second absent lo hi)
 within_reads second absent lo hi = record { takes = within_takes second absent lo hi; again = within_again second absent lo hi }

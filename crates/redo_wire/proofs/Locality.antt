@@ -1,10 +1,10 @@
 -- Reading looks no further than it got: with more bytes behind, what was read is read again, and so is each fault but short.
 -- And it never ends in the fault of encoding, a list that is too long.
-use Rattle.std.proofs.Common.{◌≡◌, ℕ, zero, suc, ◌+◌, ◌<◌, ◌≤◌, ◌⊎◌, inl, inr, Bool, true, false, cond, List, [], ◌∷◌, ◌++◌, Result, Ok, Err, refl, ap, subst, ltb, leb, eqb, length, take, drop, arith}
+use Rattle.std.proofs.Common.{◌≡◌, ℕ, zero, suc, ◌<◌, ◌⊎◌, inl, inr, Bool, true, false, cond, List, [], ◌∷◌, ◌++◌, Result, Ok, Err, refl, ltb, leb, eqb, length, take, drop, arith, rules}
+use Rattle.std.proofs.lemmas.Grind.{common_steps}
 use Rattle.std.specs.Int.{Width, w64, byte_len, from_be_bytes}
-use Rattle.std.proofs.lemmas.List.{take-append-le, drop-append-le, length-append}
+use Rattle.std.proofs.lemmas.List.{length-append}
 use Rattle.std.proofs.lemmas.Bool.Decides.{nat_tests}
-use Rattle.redo_core.specs.declared.patches.Patch.{Patch}
 use Rattle.redo_core.specs.Keys.{key_in, key_of}
 use Rattle.redo_core.specs.declared.keys.Key.{Key}
 use Rattle.redo_wire.specs.declared.faults.WireFault.{WireFault}
@@ -13,13 +13,13 @@ use Rattle.redo_wire.specs.Reading.{◌>>=◌, Read, shaped, known, ordered, map
 use Rattle.redo_wire.specs.Fields.{byte_at, bytes_at, number_at, u48_at}
 use Rattle.redo_wire.specs.Lists.{each_at}
 use Rattle.redo_wire.specs.Laws.{FaultsStay, BeginningsAreShort, RestIsBehind}
-use Rattle.redo_wire.specs.Places.{is_above, WaitPlace, is_wait_above}
+use Rattle.redo_wire.specs.Places.{is_above, WaitPlace}
 use Rattle.redo_wire.specs.Forms.{form_at, within_at}
 use Rattle.redo_wire.specs.RecordReading.{write_at, fill_at, kind_at, patch_at, left_after, head_at, record_part_at, record_at}
 use Rattle.redo_wire.specs.FactReading.{cut_at, advance_at, tagged_advance_at, fact_at, decoded_fact}
 use Rattle.redo_wire.specs.BookReading.{next_cut_at, cut_epoch, next_point_at, last_point, complete, next_wait_at, wait_place, book_at}
 use Rattle.redo_wire.specs.SummaryReading.{key_at, next_key_at, key_place, summary_part_at, summary_at, decoded_summary}
-use Rattle.redo_wire.specs.DeltaReading.{is_nonzero, image_at, next_image_at, page_after, next_record_at, record_place, delta_part_at, delta_at, decoded_delta}
+use Rattle.redo_wire.specs.DeltaReading.{image_at, next_image_at, page_after, next_record_at, record_place, delta_part_at, delta_at, decoded_delta}
 use Rattle.redo_wire.specs.PieceReading.{last_kind, is_in_place, head_content_at, records_content_at, content_at, piece_part_at, piece_at, decoded_piece}
 use Rattle.redo_wire.specs.declared.values.WireValue.{WireValue}
 use Rattle.redo_wire.specs.declared.values.WireValue.TheVariants.{Fact, Summary, Delta, Piece}
@@ -44,26 +44,18 @@ record Follows {A : Type 0} (y : List ℕ) (r s : Read A) : Type 0 where
   extends : Extends y r s
 
 bind_reads : {A B : Type 0} (r : Read A) (f : A × List ℕ → Read B) → IsReading r → ((x : A × List ℕ) → IsReading (f x)) → IsReading (r >>= f)
-bind_reads (Ok x) f first then' e = then' x e
-bind_reads {A} (Err g) f first then' e = let same : g ≡ TooLong = cc in first (ap (λ (h : WireFault). Err h) same)
+bind_reads r f first then' = search rules
 
 bind_extends : {A B : Type 0} (y : List ℕ) (r s : Read A) (f : A × List ℕ → Read B) → Extends y r s
     → ((v : A) (rest : List ℕ) → Extends y (f (v, rest)) (f (v, rest ++ y))) → Extends y (r >>= f) (s >>= f)
-bind_extends y (Ok x) s f (inl e) h = absurd cc
-bind_extends y (Ok x) s f (inr e) h = rw e (h x.0 x.1)
-bind_extends y (Err g) s f (inl e) h = let same : g ≡ Short = cc in inl (ap (λ (k : WireFault). Err k) same)
-bind_extends y (Err g) s f (inr e) h = inr (rw e refl)
+bind_extends y r s f h k = search rules
 
 bind_ext : {A B : Type 0} (y : List ℕ) (r s : Read A) (f : A × List ℕ → Read B) → Follows y r s
     → ((v : A) (rest : List ℕ) → Follows y (f (v, rest)) (f (v, rest ++ y))) → Follows y (r >>= f) (s >>= f)
-bind_ext y r s f h k = record {
-  reads = bind_reads r f h.reads (λ x. (k x.0 x.1).reads);
-  extends = bind_extends y r s f h.extends (λ v rest. (k v rest).extends);
-}
+bind_ext y r s f h k = search rules
 
 choice_ext : {A : Type 0} (y : List ℕ) (b : Bool) (p q r s : Read A) → Follows y p r → Follows y q s → Follows y (cond b p q) (cond b r s)
-choice_ext y true p q r s h k = h
-choice_ext y false p q r s h k = k
+choice_ext y b p q r s h k = search rules
 
 done : {A : Type 0} (y : List ℕ) (v : A) (rest : List ℕ) → Follows y (Ok (v, rest)) (Ok (v, rest ++ y))
 done y v rest = record { reads = λ e. absurd cc; extends = inr refl }
@@ -82,49 +74,38 @@ unknown_tag A y = ends_in A y UnknownTag (λ e. absurd cc)
 
 judged_ext : {A : Type 0} (y : List ℕ) (rule : A → Bool) (f : WireFault) (r s : Read A) → (f ≡ TooLong → ⊥) → Follows y r s
     → Follows y (r >>= λ x. cond (rule x.0) (Ok x) (Err f)) (s >>= λ x. cond (rule x.0) (Ok x) (Err f))
-judged_ext {A} y rule f r s other h =
-    bind_ext y r s (λ x. cond (rule x.0) (Ok x) (Err f)) h
-    (λ v rest. choice_ext y (rule v) (Ok (v, rest)) (Err f) (Ok (v, rest ++ y)) (Err f) (done y v rest) (ends_in A y f other))
+judged_ext y rule f r s other h = search rules
 
 shaped_is : {A : Type 0} (rule : A → Bool) (r : Read A) → shaped rule r ≡ (r >>= λ x. cond (rule x.0) (Ok x) (Err Shape))
-shaped_is rule (Ok x) = refl
-shaped_is rule (Err f) = refl
+shaped_is rule r = search rules
 
 shaped_ext : {A : Type 0} (y : List ℕ) (rule : A → Bool) (r s : Read A) → Follows y r s → Follows y (shaped rule r) (shaped rule s)
 shaped_ext y rule r s h = rw (shaped_is rule r, shaped_is rule s) (judged_ext y rule Shape r s (λ e. absurd cc) h)
 
 ordered_is : {A : Type 0} (rule : A → Bool) (r : Read A) → ordered rule r ≡ (r >>= λ x. cond (rule x.0) (Ok x) (Err Order))
-ordered_is rule (Ok x) = refl
-ordered_is rule (Err f) = refl
+ordered_is rule r = search rules
 
 ordered_ext : {A : Type 0} (y : List ℕ) (rule : A → Bool) (r s : Read A) → Follows y r s → Follows y (ordered rule r) (ordered rule s)
 ordered_ext y rule r s h = rw (ordered_is rule r, ordered_is rule s) (judged_ext y rule Order r s (λ e. absurd cc) h)
 
 known_is : {A : Type 0} (rule : A → Bool) (r : Read A) → known rule r ≡ (r >>= λ x. cond (rule x.0) (Ok x) (Err UnknownTag))
-known_is rule (Ok x) = refl
-known_is rule (Err f) = refl
+known_is rule r = search rules
 
 known_ext : {A : Type 0} (y : List ℕ) (rule : A → Bool) (r s : Read A) → Follows y r s → Follows y (known rule r) (known rule s)
 known_ext y rule r s h = rw (known_is rule r, known_is rule s) (judged_ext y rule UnknownTag r s (λ e. absurd cc) h)
 
 mapped_is : {A B : Type 0} (f : A → B) (r : Read A) → mapped f r ≡ (r >>= λ x. Ok (f x.0, x.1))
-mapped_is f (Ok x) = refl
-mapped_is f (Err g) = refl
+mapped_is f r = search rules
 
 mapped_ext : {A B : Type 0} (y : List ℕ) (f : A → B) (r s : Read A) → Follows y r s → Follows y (mapped f r) (mapped f s)
 mapped_ext y f r s h = rw (mapped_is f r, mapped_is f s) (bind_ext y r s (λ x. Ok (f x.0, x.1)) h (λ v rest. done y (f v) rest))
 
 byte_ext : (y bytes : List ℕ) → Follows y (byte_at bytes) (byte_at (bytes ++ y))
-byte_ext y [] = is_short y (byte_at y)
-byte_ext y (b ∷ bytes) = done y b bytes
+byte_ext y bytes = search rules
 
 bytes_split : (y : List ℕ) (n : ℕ) (bytes : List ℕ) (b c : Bool) → ltb (length bytes) n ≡ b → ltb (length (bytes ++ y)) n ≡ c
     → Follows y (cond b (Err Short) (Ok (take n bytes, drop n bytes))) (cond c (Err Short) (Ok (take n (bytes ++ y), drop n (bytes ++ y))))
-bytes_split y n bytes true c p q = is_short y _
-bytes_split y n bytes false true p q = absurd (let l = length-append bytes y in grind (arith, nat_tests))
-bytes_split y n bytes false false p q =
-    let le : n ≤ length bytes = grind (arith, nat_tests) in rw (take-append-le n bytes y le, drop-append-le n bytes y le)
-    (done y (take n bytes) (drop n bytes))
+bytes_split y n bytes b c p q = grind (arith, common_steps)
 
 bytes_ext : (y : List ℕ) (n : ℕ) (bytes : List ℕ) → Follows y (bytes_at n bytes) (bytes_at n (bytes ++ y))
 bytes_ext y n bytes = bytes_split y n bytes (ltb (length bytes) n) (ltb (length (bytes ++ y)) n) refl refl
@@ -147,32 +128,22 @@ each_ext y step next steps (suc n) s bytes =
 
 form_ext : (y : List ℕ) (first second : ℕ) (bytes : List ℕ) → Follows y (form_at first second bytes) (form_at first second (bytes ++ y))
 unfolding form_at
-form_ext y first second [] = is_short y _
-form_ext y first second (b ∷ bytes) =
-    choice_ext y (eqb b first) (Ok (false, bytes)) (cond (eqb b second) (Ok (true, bytes)) (Err UnknownTag)) (Ok (false, bytes ++ y))
-    (cond (eqb b second) (Ok (true, bytes ++ y)) (Err UnknownTag)) (done y _ _)
-    (choice_ext y (eqb b second) (Ok (true, bytes)) (Err UnknownTag) (Ok (true, bytes ++ y)) (Err UnknownTag) (done y _ _) (unknown_tag Bool y))
+form_ext y first second bytes = search rules
 
 within_ext : (y : List ℕ) (second : Bool) (absent lo hi : ℕ) (bytes : List ℕ)
     → Follows y (within_at second absent lo hi bytes) (within_at second absent lo hi (bytes ++ y))
-within_ext y false absent lo hi bytes = done y _ _
-within_ext y true absent lo hi bytes = shaped_ext y _ _ _ (byte_ext y bytes)
+within_ext y second absent lo hi bytes = search rules
 
 write_ext : (y : List ℕ) (left : ℕ) (bytes : List ℕ) → Follows y (write_at left bytes) (write_at left (bytes ++ y))
 unfolding write_at
-write_ext y left bytes =
-    bind_ext y _ _ _ (number_ext y _ bytes)
-    (λ offset b1. bind_ext y _ _ _ (shaped_ext y _ _ _ (number_ext y _ b1)) (λ len b2. bind_ext y _ _ _ (bytes_ext y len b2) (λ text b3. done y _ _)))
+write_ext y left bytes = search (rules, bind_ext, number_ext, shaped_ext, bytes_ext, done)
 
 fill_ext : (y bytes : List ℕ) → Follows y (fill_at bytes) (fill_at (bytes ++ y))
 unfolding fill_at
-fill_ext y bytes =
-    bind_ext y _ _ _ (number_ext y _ bytes)
-    (λ offset b1. bind_ext y _ _ _ (shaped_ext y _ _ _ (number_ext y _ b1)) (λ len b2. bind_ext y _ _ _ (byte_ext y b2) (λ byte b3. done y _ _)))
+fill_ext y bytes = search (rules, bind_ext, number_ext, shaped_ext, byte_ext, done)
 
 kind_ext : (y : List ℕ) (kind left : ℕ) (bytes : List ℕ) → Follows y (kind_at kind left bytes) (kind_at kind left (bytes ++ y))
-kind_ext y kind left bytes =
-    choice_ext y _ _ _ _ _ (mapped_ext y _ _ _ (write_ext y left bytes)) (choice_ext y _ _ _ _ _ (fill_ext y bytes) (unknown_tag Patch y))
+kind_ext y kind left bytes = search (rules, choice_ext, mapped_ext, write_ext, fill_ext, unknown_tag)
 
 patch_ext : (y : List ℕ) (full : Bool) (left : ℕ) (bytes : List ℕ) → Follows y (patch_at full left bytes) (patch_at full left (bytes ++ y))
 unfolding patch_at
@@ -202,18 +173,12 @@ record_ext y bytes = bind_ext y _ _ _ (form_ext y 1 6 bytes) (λ full rest. reco
 
 cut_ext : (y bytes : List ℕ) → Follows y (cut_at bytes) (cut_at (bytes ++ y))
 unfolding cut_at
-cut_ext y bytes =
-    bind_ext y _ _ _ (shaped_ext y _ _ _ (number_ext y _ bytes)) (λ epoch b1.
-    bind_ext y _ _ _ (u48_ext y b1) (λ lo b2.
-    bind_ext y _ _ _ (shaped_ext y _ _ _ (u48_ext y b2)) (λ hi b3. done y _ _)))
+cut_ext y bytes = search (rules, bind_ext, shaped_ext, number_ext, u48_ext, done)
 
 advance_ext : (y : List ℕ) (many : Bool) (least first last : ℕ) (bytes : List ℕ)
     → Follows y (advance_at many least first last bytes) (advance_at many least first last (bytes ++ y))
 unfolding advance_at
-advance_ext y many least first last bytes =
-    bind_ext y _ _ _ (shaped_ext y _ _ _ (number_ext y _ bytes)) (λ epoch b1.
-    bind_ext y _ _ _ (within_ext y many 1 first last b1) (λ reader b2.
-    bind_ext y _ _ _ (shaped_ext y _ _ _ (u48_ext y b2)) (λ point b3. done y _ _)))
+advance_ext y many least first last bytes = search (rules, bind_ext, shaped_ext, number_ext, within_ext, u48_ext, done)
 
 tagged_advance_ext : (y bytes : List ℕ) → Follows y (tagged_advance_at bytes) (tagged_advance_at (bytes ++ y))
 unfolding tagged_advance_at
@@ -234,8 +199,7 @@ next_point_ext y last bytes = u48_ext y bytes
 
 next_wait_ext : (y : List ℕ) (many : Bool) (k readers : ℕ) (last : WaitPlace) (bytes : List ℕ)
     → Follows y (next_wait_at many k readers last bytes) (next_wait_at many k readers last (bytes ++ y))
-next_wait_ext y many k readers last bytes =
-    ordered_ext y (λ a. is_wait_above last (a.epoch, a.reader, a.point)) _ _ (advance_ext y many (k + 1) 1 readers bytes)
+next_wait_ext y many k readers last bytes = search (rules, ordered_ext, advance_ext)
 
 book_ext : (y : List ℕ) (many : Bool) (bytes : List ℕ) → Follows y (book_at many bytes) (book_at many (bytes ++ y))
 unfolding book_at
@@ -251,9 +215,7 @@ book_ext y many bytes =
 
 key_ext : (y bytes : List ℕ) → Follows y (key_at bytes) (key_at (bytes ++ y))
 unfolding key_at
-key_ext y bytes =
-    bind_ext y _ _ _ (number_ext y _ bytes) (λ epoch b1.
-    bind_ext y _ _ _ (shaped_ext y _ _ _ (u48_ext y b1)) (λ number b2. done y _ _))
+key_ext y bytes = search (rules, bind_ext, number_ext, shaped_ext, u48_ext, done)
 
 next_key_ext : (y : List ℕ) (last : Key) (bytes : List ℕ) → Follows y (next_key_at last bytes) (next_key_at last (bytes ++ y))
 next_key_ext y last bytes = ordered_ext y (λ k. is_above last k) _ _ (key_ext y bytes)
@@ -272,9 +234,7 @@ summary_ext y bytes = bind_ext y _ _ _ (form_ext y 16 32 bytes) (λ many rest. s
 
 image_ext : (y bytes : List ℕ) → Follows y (image_at bytes) (image_at (bytes ++ y))
 unfolding image_at
-image_ext y bytes =
-    bind_ext y _ _ _ (number_ext y _ bytes) (λ page b1.
-    bind_ext y _ _ _ (shaped_ext y is_nonzero _ _ (bytes_ext y 4096 b1)) (λ image b2. done y _ _))
+image_ext y bytes = search (rules, bind_ext, number_ext, shaped_ext, bytes_ext, done)
 
 next_image_ext : (y : List ℕ) (least : ℕ) (bytes : List ℕ) → Follows y (next_image_at least bytes) (next_image_at least (bytes ++ y))
 next_image_ext y least bytes = ordered_ext y (λ p. leb least p.page) _ _ (image_ext y bytes)
@@ -298,21 +258,15 @@ delta_ext y bytes = bind_ext y _ _ _ (form_ext y 17 33 bytes) (λ many rest. del
 
 head_content_ext : (y : List ℕ) (many : Bool) (bytes : List ℕ) → Follows y (head_content_at many bytes) (head_content_at many (bytes ++ y))
 unfolding head_content_at
-head_content_ext y many bytes =
-    bind_ext y _ _ _ (book_ext y many bytes) (λ book b1.
-    bind_ext y _ _ _ (shaped_ext y _ _ _ (u48_ext y b1)) (λ anchor b2. done y _ _))
+head_content_ext y many bytes = search (rules, bind_ext, book_ext, shaped_ext, u48_ext, done)
 
 records_content_ext : (y bytes : List ℕ) → Follows y (records_content_at bytes) (records_content_at (bytes ++ y))
 unfolding records_content_at
-records_content_ext y bytes =
-    bind_ext y _ _ _ (shaped_ext y _ _ _ (byte_ext y bytes)) (λ count b1.
-    bind_ext y _ _ _ (each_ext y next_record_at record_place (next_record_ext y) count (key_in 0 0) b1) (λ records b2. done y _ _))
+records_content_ext y bytes = search (rules, bind_ext, shaped_ext, byte_ext, each_ext, next_record_ext, done)
 
 content_ext : (y : List ℕ) (many : Bool) (kind : ℕ) (bytes : List ℕ) → Follows y (content_at many kind bytes) (content_at many kind (bytes ++ y))
 unfolding content_at
-content_ext y many kind bytes =
-    choice_ext y _ _ _ _ _ (head_content_ext y many bytes)
-    (choice_ext y _ _ _ _ _ (mapped_ext y _ _ _ (image_ext y bytes)) (records_content_ext y bytes))
+content_ext y many kind bytes = search (rules, choice_ext, head_content_ext, mapped_ext, image_ext, records_content_ext)
 
 piece_part_ext : (y : List ℕ) (many : Bool) (bytes : List ℕ) → Follows y (piece_part_at many bytes) (piece_part_at many (bytes ++ y))
 unfolding piece_part_at
@@ -330,27 +284,19 @@ piece_ext y bytes = bind_ext y _ _ _ (form_ext y 18 34 bytes) (λ many rest. pie
 -- ---- whole values
 
 rest_of : {A : Type 0} (b : Bool) (v : A) (f : WireFault) → cond b (Ok v) (Err Rest) ≡ Err f → f ≡ Rest
-rest_of true v f e = absurd cc
-rest_of false v f e = cc
+rest_of b v f e = search rules
 
 stays : {A : Type 0} (y : List ℕ) (r s : Read A) (f : WireFault) → Extends y r s → whole r ≡ Err f → (f ≡ Short → ⊥) → (f ≡ Rest → ⊥) → whole s ≡ Err f
-stays y (Ok x) s f h e short rest = absurd (rest (rest_of (eqb (length x.1) 0) x.0 f e))
-stays y (Err g) s f (inl e) w short rest = absurd (short cc)
-stays y (Err g) s f (inr e) w short rest = rw e w
+stays y r s f h e short rest = search rules
 
 is_rest : {A : Type 0} (v : A) (xs y : List ℕ) → 0 < length y → whole (Ok (v, xs ++ y)) ≡ Err Rest
 is_rest v xs y l = let n = length-append xs y in let t : eqb (length (xs ++ y)) 0 ≡ false = grind (arith, nat_tests) in rw t refl
 
 shorts : {A : Type 0} (y : List ℕ) (r s : Read A) (v : A) → 0 < length y → Extends y r s → whole s ≡ Ok v → whole r ≡ Err Short
-shorts y (Ok x) s v l (inl e) w = absurd cc
-shorts y (Ok x) s v l (inr e) w = absurd (let q = is_rest x.0 x.1 y l in let z : whole (Ok (x.0, x.1 ++ y)) ≡ Ok v = subst (λ t. whole t ≡ Ok v) e w in cc)
-shorts y (Err g) s v l (inl e) w = let same : g ≡ Short = cc in ap (λ (k : WireFault). Err k) same
-shorts y (Err g) s v l (inr e) w = absurd (let z : whole (Err g) ≡ Ok v = subst (λ t. whole t ≡ Ok v) e w in cc)
+shorts y r s v l h w = grind (arith, common_steps)
 
 rests : {A : Type 0} (y : List ℕ) (r s : Read A) (v : A) → 0 < length y → Extends y r s → whole r ≡ Ok v → whole s ≡ Err Rest
-rests y (Ok x) s v l (inl e) w = absurd cc
-rests y (Ok x) s v l (inr e) w = rw e (is_rest x.0 x.1 y l)
-rests y (Err g) s v l h w = absurd cc
+rests y r s v l h w = grind (arith, common_steps)
 
 pub fact_faults_stay : FaultsStay decoded_fact
 fact_faults_stay = λ x y f. stays y (fact_at x) (fact_at (x ++ y)) f (fact_ext y x).extends
@@ -391,8 +337,7 @@ piece_rest = λ x y v l. rests y (piece_at x) (piece_at (x ++ y)) v l (piece_ext
 -- ---- encoding's own fault
 
 whole_reads : {A : Type 0} (r : Read A) → IsReading r → IsReading (whole r)
-whole_reads (Ok x) h e = let rest = rest_of (eqb (length x.1) 0) x.0 TooLong e in absurd cc
-whole_reads (Err g) h e = let same : g ≡ TooLong = cc in h (ap (λ (k : WireFault). Err k) same)
+whole_reads r h = search rules
 
 pub decoded_fact_reads : (bytes : List ℕ) → IsReading (decoded_fact bytes)
 decoded_fact_reads bytes = whole_reads (fact_at bytes) (fact_ext [] bytes).reads
@@ -409,12 +354,10 @@ decoded_piece_reads bytes = whole_reads (piece_at bytes) (piece_ext [] bytes).re
 -- ---- values of any kind: with more bytes behind, the same decoder is asked
 
 valued_err : {A : Type 0} (kind : A → WireValue) (r : Result A WireFault) (f : WireFault) → valued kind r ≡ Err f → r ≡ Err f
-valued_err kind (Ok x) f e = absurd cc
-valued_err kind (Err g) f e = let same : g ≡ f = cc in ap (λ (k : WireFault). Err k) same
+valued_err kind r f e = search rules
 
 valued_ok : {A : Type 0} (kind : A → WireValue) (r : Result A WireFault) (v : WireValue) → valued kind r ≡ Ok v → (x : A) × (r ≡ Ok x)
-valued_ok kind (Ok x) v e = (x, refl)
-valued_ok kind (Err f) v e = absurd cc
+valued_ok kind r v e = search rules
 
 -- what the three laws say of two inputs, the longer of which has y behind
 record Local {A : Type 0} (y : List ℕ) (r s : Result A WireFault) : Type 0 where
@@ -423,29 +366,19 @@ record Local {A : Type 0} (y : List ℕ) (r s : Result A WireFault) : Type 0 whe
   rest : (v : A) → 0 < length y → r ≡ Ok v → s ≡ Err Rest
 
 local_choice : {A : Type 0} (y : List ℕ) (b : Bool) (p q r s : Result A WireFault) → Local y p r → Local y q s → Local y (cond b p q) (cond b r s)
-local_choice y true p q r s h k = h
-local_choice y false p q r s h k = k
+local_choice y b p q r s h k = search rules
 
 local_value : {A : Type 0} (y : List ℕ) (kind : A → WireValue) (r s : Result A WireFault) → Local y r s → Local y (valued kind r) (valued kind s)
-local_value y kind r s h = record {
-  stay = λ f e short rest. ap (valued kind) (h.stay f (valued_err kind r f e) short rest);
-  short = λ v l e. let x = valued_ok kind s v e in ap (valued kind) (h.short x.0 l x.1);
-  rest = λ v l e. let x = valued_ok kind r v e in ap (valued kind) (h.rest x.0 l x.1);
-}
+local_value y kind r s h = search rules
 
 local_whole : {A : Type 0} (y : List ℕ) (r s : Read A) → Follows y r s → Local y (whole r) (whole s)
 local_whole y r s h = record { stay = λ f. stays y r s f h.extends; short = λ v l. shorts y r s v l h.extends; rest = λ v l. rests y r s v l h.extends }
 
 short_is : {A : Type 0} (r : Result A WireFault) (f : WireFault) → r ≡ Err f → r ≡ Err Short → f ≡ Short
-short_is (Ok x) f g e = absurd cc
-short_is (Err h) f g e = cc
+short_is r f g e = cc
 
 local_short : {A : Type 0} (y : List ℕ) (r s : Result A WireFault) → r ≡ Err Short → Local y r s
-local_short y r s e = record {
-  stay = λ f g short rest. absurd (short (short_is r f g e));
-  short = λ v l g. e;
-  rest = λ v l g. absurd cc;
-}
+local_short y r s e = search rules
 
 value_local : (x y : List ℕ) → Local y (decoded_value x) (decoded_value (x ++ y))
 value_local [] y = local_short y (decoded_value []) (decoded_value y) refl

@@ -1,8 +1,7 @@
 -- A loop that reads the elements of a counted list one by one gives what reading the list gives.
-use Rattle.std.proofs.Common.{◌≡◌, ℕ, suc, ◌-◌, ◌+◌, ◌≤◌, ◌<◌, List, [], ◌∷◌, ◌++◌, Ok, Err, refl, sym, ap, ◌∙◌, append_assoc, arith}
-use Rattle.std.proofs.lemmas.List.{append-nil}
+use Rattle.std.proofs.Common.{◌≡◌, ℕ, suc, ◌-◌, ◌+◌, ◌≤◌, ◌<◌, List, [], ◌∷◌, ◌++◌, Ok, Err, sym, ◌∙◌, arith, rules}
+use Rattle.std.proofs.lemmas.Grind.{common_steps}
 use Rattle.redo_wire.specs.declared.faults.WireError.{WireError}
-use Rattle.redo_wire.specs.declared.faults.WireError.TheVariants as errors
 use Rattle.redo_wire.specs.Reading.{◌>>=◌, Read}
 use Rattle.redo_wire.specs.Lists.{each_at}
 use Rattle.redo_wire.specs.Outcomes.{Fails}
@@ -13,8 +12,7 @@ with_front front (Ok x) = Ok (front ++ x.0, x.1)
 with_front front (Err e) = Err e
 
 regroup : {A : Type 0} (front : List A) (n : A) (read : Read (List A)) → with_front front (read >>= λ x. Ok (n ∷ x.0, x.1)) ≡ with_front (front ++ n ∷ []) read
-regroup {A} front n (Ok x) = ap (λ (ns : List A). Ok (ns, x.1)) (simp append_assoc)
-regroup front n (Err f) = refl
+regroup front n read = grind (arith, common_steps)
 
 pub goes_on : {S A : Type 0} (step : S → List ℕ → Read A) (next : S → A → S) (front : List A) (count i : ℕ) (state : S) (bytes : List ℕ) (n : A)
     (after : List ℕ) (total : Read (List A)) → i < count → step state bytes ≡ Ok (n, after)
@@ -31,16 +29,9 @@ pub ends : {S A : Type 0} (step : S → List ℕ → Read A) (next : S → A →
     (bytes : List ℕ) (total : Read (List A)) → i < count → Fails e (step state bytes)
     → with_front front (each_at step next (count - i) state bytes) ≡ total → Fails e total
 unfolding each_at
-ends step next errors.Memory front count i state bytes total lt h so_far = tt
-ends step next (errors.Fault f) front count i state bytes total lt h so_far =
-    let k : count - i ≡ suc (count - (i + 1)) = omega arith in
-    let one : with_front front (each_at step next (count - i) state bytes) ≡ Err f = rw (k, h) refl in
-    sym so_far ∙ one
+ends step next e front count i state bytes total lt h so_far = search rules
 
 pub is_done : {S A : Type 0} (step : S → List ℕ → Read A) (next : S → A → S) (front : List A) (count i : ℕ) (state : S) (bytes : List ℕ)
     (total : Read (List A)) → count ≤ i → with_front front (each_at step next (count - i) state bytes) ≡ total → total ≡ Ok (front, bytes)
 unfolding each_at
-is_done step next front count i state bytes total le so_far =
-    let k : count - i ≡ 0 = omega arith in
-    let one : with_front front (each_at step next (count - i) state bytes) ≡ Ok (front, bytes) = rw k (ap (λ ns. Ok (ns, bytes)) (append-nil front)) in
-    sym so_far ∙ one
+is_done step next front count i state bytes total le so_far = search rules

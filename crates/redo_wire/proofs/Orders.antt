@@ -1,13 +1,12 @@
 -- Elements judged one after the other, each against the last, are a rising list.
-use Rattle.std.proofs.Common.{◌≡◌, ℕ, ◌+◌, ◌<◌, ◌≤◌, ◌⊎◌, Bool, true, ltb, leb, eqb, List, [], ◌∷◌, arith, inl, inr}
+use Rattle.std.proofs.Common.{◌≡◌, ℕ, ◌+◌, ◌<◌, ◌⊎◌, Bool, true, ltb, leb, List, [], ◌∷◌, arith, inl, inr, rules}
 use Rattle.std.specs.List.{AllByRecursion}
-use Rattle.std.proofs.lemmas.Bool.{ltb-true, leb-true, eqb-true, lt-ltb, le-leb, eq-eqb, and_parts, and_from, or_cases, or_left, or_right, cases_lt}
+use Rattle.std.proofs.lemmas.Bool.{cases_lt}
 use Rattle.redo_core.specs.Data.{AdvanceData}
 use Rattle.redo_core.specs.Keys.{key_in, KeyBefore}
 use Rattle.redo_core.specs.declared.keys.Key.{Key}
 use Rattle.redo_core.specs.Order.{IsRising, PairBefore, CutBefore, AdvanceBefore}
 use Rattle.redo_core.specs.Meaning.{ImageBefore}
-use Rattle.redo_core.proofs.Pairs.{pair_trans}
 use Rattle.redo_wire.specs.Places.{is_pair_above, is_above, WaitPlace, is_wait_above}
 use Rattle.redo_wire.proofs.ListReaders.{EachFrom}
 
@@ -50,41 +49,19 @@ each_from_rising above place Before P tests s (x ∷ xs) aboves rising all =
 -- ---- the orders of the wire
 
 pub cut_tests : Tests (λ last c. ltb last c.epoch) (λ c. c.epoch) CutBefore
-cut_tests = record {
-  before = λ x y e. ltb-true _ _ e;
-  passes = λ x y lt. lt-ltb _ _ lt;
-  through = λ s x y e lt. let above : s < x.epoch = ltb-true _ _ e in lt-ltb _ _ (omega arith);
-}
+cut_tests = search rules
 
 pub image_tests : Tests (λ least p. leb least p.page) (λ p. p.page + 1) ImageBefore
-image_tests = record {
-  before = λ x y e. let least : x.page + 1 ≤ y.page = leb-true _ _ e in omega arith;
-  passes = λ x y lt. le-leb _ _ (omega arith);
-  through = λ s x y e lt. let least : s ≤ x.page = leb-true _ _ e in le-leb _ _ (omega arith);
-}
+image_tests = search rules
 
 pub pair_from_above : (a b c d : ℕ) → is_pair_above a b c d ≡ true → PairBefore a b c d
-pair_from_above a b c d e =
-    elim (or_cases (ltb a c) _ e) [
-      | inl lt ↦ inl (ltb-true _ _ lt)
-      | inr both ↦ let parts = and_parts (eqb a c) (ltb b d) both in inr (eqb-true _ _ parts.0, ltb-true _ _ parts.1)
-    ]
+pair_from_above a b c d e = search rules
 
 pub above_from_pair : (a b c d : ℕ) → PairBefore a b c d → is_pair_above a b c d ≡ true
-above_from_pair a b c d h =
-    elim h [
-      | inl lt ↦ or_left _ _ (lt-ltb a c lt)
-      | inr both ↦ or_right _ _ (and_from _ _ (eq-eqb a c both.0) (lt-ltb b d both.1))
-    ]
+above_from_pair a b c d h = search rules
 
 pub key_tests : {A : Type 0} (key : A → Key) → Tests (λ last x. is_above last (key x)) key (λ x y. KeyBefore (key x) (key y))
-key_tests key = record {
-  before = λ x y e. pair_from_above (key x).epoch (key x).number (key y).epoch (key y).number e;
-  passes = λ x y h. above_from_pair (key x).epoch (key x).number (key y).epoch (key y).number h;
-  through = λ s x y e h. above_from_pair s.epoch s.number (key y).epoch (key y).number
-      (pair_trans s.epoch s.number (key x).epoch (key x).number (key y).epoch (key y).number
-      (pair_from_above s.epoch s.number (key x).epoch (key x).number e) h);
-}
+key_tests key = search rules
 
 -- (0, 0) is below each key with a number
 pub above_zero : (k : Key) → 0 < k.number → is_above (key_in 0 0) k ≡ true
@@ -96,19 +73,10 @@ abbrev BeforeIn : WaitPlace → WaitPlace → Type 0
 BeforeIn p q = (p.0 < q.0) ⊎ ((p.0 ≡ q.0) × PairBefore p.1 p.2 q.1 q.2)
 
 before_from_above : (p q : WaitPlace) → is_wait_above p q ≡ true → BeforeIn p q
-before_from_above p q e =
-    elim (or_cases (ltb p.0 q.0) _ e) [
-      | inl lt ↦ inl (ltb-true _ _ lt)
-      | inr both ↦ let parts = and_parts (eqb p.0 q.0) (is_pair_above p.1 p.2 q.1 q.2) both in inr
-          (eqb-true _ _ parts.0, pair_from_above p.1 p.2 q.1 q.2 parts.1)
-    ]
+before_from_above p q e = search rules
 
 above_from_before : (p q : WaitPlace) → BeforeIn p q → is_wait_above p q ≡ true
-above_from_before p q h =
-    elim h [
-      | inl lt ↦ or_left _ _ (lt-ltb p.0 q.0 lt)
-      | inr both ↦ or_right _ _ (and_from _ _ (eq-eqb p.0 q.0 both.0) (above_from_pair p.1 p.2 q.1 q.2 both.1))
-    ]
+above_from_before p q h = search rules
 
 abbrev pub place_of : AdvanceData → WaitPlace
 place_of a = (a.epoch, a.reader, a.point)
@@ -118,14 +86,8 @@ before_trans : (a b c x y z k m n : ℕ) → (a < x) ⊎ ((a ≡ x) × PairBefor
 before_trans a b c x y z k m n p q = grind arith
 
 pub wait_tests : Tests (λ last a. is_wait_above last (place_of a)) place_of AdvanceBefore
-wait_tests = record {
-  before = λ x y e. before_from_above (place_of x) (place_of y) e;
-  passes = λ x y h. above_from_before (place_of x) (place_of y) h;
-  through = λ s x y e h. above_from_before s (place_of y)
-      (before_trans s.0 s.1 s.2 x.epoch x.reader x.point y.epoch y.reader y.point (before_from_above s (place_of x) e) h);
-}
+wait_tests = search rules
 
 -- (0, 0, 0) is below each place with a reader
 pub wait_above_zero : (epoch reader point : ℕ) → 0 < reader → is_wait_above (0, 0, 0) (epoch, reader, point) ≡ true
-wait_above_zero epoch reader point pos =
-    above_from_before (0, 0, 0) (epoch, reader, point) (elim (cases_lt 0 epoch) [ inl lt ↦ inl lt | inr le ↦ inr (omega (arith, le), inl pos) ])
+wait_above_zero epoch reader point pos = search rules

@@ -1,8 +1,9 @@
 -- The patches of a record: what is judged on the way is what the record's shape asks.
-use Rattle.std.proofs.Common.{◌≡◌, ℕ, zero, suc, ◌+◌, ◌-◌, ◌<◌, ◌≤◌, ◌⊎◌, inl, inr, Bool, true, false, ltb, leb, List, [], ◌∷◌, ◌++◌, length, Ok, refl, ap, subst, ◌∙◌, append_assoc, arith}
+use Rattle.std.proofs.Common.{◌≡◌, ℕ, zero, suc, ◌+◌, ◌-◌, ◌<◌, ◌≤◌, ◌⊎◌, inl, inr, Bool, true, false, ltb, leb, List, [], ◌∷◌, ◌++◌, length, Ok, refl, ap, subst, arith, rules}
+use Rattle.std.proofs.lemmas.Grind.{common_steps}
 use Rattle.std.specs.Prelude.{◌&&◌}
 use Rattle.std.specs.List.{list_any, sum_by}
-use Rattle.std.proofs.lemmas.Bool.{ltb-true, leb-true, lt-ltb, le-leb, le-ltb, ltb-false, eqb-false, ne_eqb, and_parts, and_from, or_from, or_parts}
+use Rattle.std.proofs.lemmas.Bool.{ltb-true, leb-true, le-ltb, ltb-false, eqb-false, ne_eqb, and_parts, or_from, or_parts}
 use Rattle.std.proofs.lemmas.List.Sums.{sum_by-cons}
 use Rattle.redo_core.specs.Writes.{WriteData}
 use Rattle.redo_core.specs.Shape.{is_empty_patch, is_patch_off_page, bytes_in}
@@ -13,7 +14,7 @@ use Rattle.redo_wire.specs.Fields.{byte_at, bytes_at, u16_at, u16}
 use Rattle.redo_wire.specs.Records.{is_fill, write_bytes, patch_bytes}
 use Rattle.redo_wire.specs.RecordReading.{write_at, fill_at, patch_at, left_after}
 use Rattle.redo_wire.proofs.Readers.{IsBytes, bind_ok, ok_is, shaped_ok, mapped_ok, Takes, Takes-then, tag_takes, Reads}
-use Rattle.redo_wire.proofs.FieldReaders.{byte_reads, u16_reads, bytes_take, bytes_again}
+use Rattle.redo_wire.proofs.FieldReaders.{byte_reads, u16_reads, bytes_take}
 use Rattle.redo_wire.proofs.ListReaders.{EachFrom}
 
 -- ---- writes
@@ -49,18 +50,7 @@ write_takes left bytes x fits e =
 
 write_again : (left : ℕ) (w : WriteData) (rest : List ℕ) → IsNextWrite left w → write_at left (write_bytes w ++ rest) ≡ Ok (w, rest)
 unfolding write_at
-write_again left w rest fits =
-    let n = length w.bytes in
-    let regrouped : write_bytes w ++ rest ≡ u16 w.offset ++ (u16 n ++ (w.bytes ++ rest)) = simp append_assoc in
-    let rule : (ltb 0 n && leb (w.offset + n) 4096 && leb n left) ≡ true = and_from _ _ (and_from _ _ (lt-ltb _ _ fits.filled) (le-leb _ _ fits.inside))
-    (le-leb _ _ fits.small) in
-    ap (write_at left) regrouped
-    ∙ rw (
-      u16_reads.again w.offset (u16 n ++ (w.bytes ++ rest)) (omega arith),
-      u16_reads.again n (w.bytes ++ rest) (omega arith),
-      rule,
-      bytes_again n w.bytes rest refl,
-    ) refl
+write_again left w rest fits = grind (arith, common_steps, u16_reads)
 
 -- ---- fills
 
@@ -104,10 +94,7 @@ fill_takes bytes x fits e =
 fill_again : (offset len byte : ℕ) (rest : List ℕ) → 0 < len → offset + len ≤ 4096
     → fill_at (fill_bytes offset len byte ++ rest) ≡ Ok (Fill offset len byte, rest)
 unfolding fill_at
-fill_again offset len byte rest filled inside =
-    let regrouped : fill_bytes offset len byte ++ rest ≡ u16 offset ++ (u16 len ++ (byte ∷ rest)) = simp append_assoc in
-    let rule : (ltb 0 len && leb (offset + len) 4096) ≡ true = and_from _ _ (lt-ltb _ _ filled) (le-leb _ _ inside) in
-    ap fill_at regrouped ∙ rw (u16_reads.again offset (u16 len ++ (byte ∷ rest)) (omega arith), u16_reads.again len (byte ∷ rest) (omega arith), rule) refl
+fill_again offset len byte rest filled inside = grind (arith, common_steps, u16_reads)
 
 -- ---- patches
 
@@ -139,10 +126,7 @@ patch_takes true left (suc (suc b) ∷ bytes) x fits e =
 
 patch_again : (full : Bool) (left : ℕ) (p : Patch) (rest : List ℕ) → IsNextPatch full left p → patch_at full left (patch_bytes full p ++ rest) ≡ Ok (p, rest)
 unfolding patch_at
-patch_again false left (Bytes w) rest fits = rw (write_again left w rest fits) refl
-patch_again true left (Bytes w) rest fits = rw (write_again left w rest fits) refl
-patch_again false left (Fill offset len byte) rest fits = absurd (let none = fits.0 in cc)
-patch_again true left (Fill offset len byte) rest fits = rw (fill_again offset len byte rest fits.1 fits.2) refl
+patch_again full left p rest fits = search (rules, write_again, fill_again)
 
 pub patch_reads : (full : Bool) (left : ℕ) → Reads (patch_at full left) (patch_bytes full) (IsNextPatch full left)
 patch_reads full left = record { takes = patch_takes full left; again = patch_again full left }

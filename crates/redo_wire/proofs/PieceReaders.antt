@@ -1,5 +1,5 @@
 -- Pieces: what is read is spelled so, and what is spelled so is read.
-use Rattle.std.proofs.Common.{◌≡◌, ℕ, zero, suc, ◌<◌, ◌≤◌, Bool, true, false, cond, ltb, leb, eqb, List, [], ◌∷◌, ◌++◌, length, Ok, Err, refl, sym, ap, subst, ◌∙◌, append_assoc, arith}
+use Rattle.std.proofs.Common.{◌≡◌, ℕ, zero, suc, ◌<◌, ◌≤◌, Bool, true, false, cond, ltb, leb, eqb, List, [], ◌∷◌, ◌++◌, length, Ok, refl, sym, ap, subst, ◌∙◌, append_assoc, arith, rules}
 use Rattle.std.specs.Prelude.{not, ◌&&◌}
 use Rattle.std.specs.List.{flat_map}
 use Rattle.std.proofs.lemmas.Bool.{ltb-true, leb-true, lt-ltb, le-leb, and_parts}
@@ -8,7 +8,6 @@ use Rattle.redo_core.specs.Keys.{key_in, key_of}
 use Rattle.redo_core.specs.Data.{RecordData}
 use Rattle.redo_core.specs.Order.{RecordBefore}
 use Rattle.redo_core.specs.Meaning.{ImageData}
-use Rattle.redo_wire.specs.declared.faults.WireFault.TheVariants.{UnknownTag}
 use Rattle.messages.specs.declared.pieces.PieceContent.{PieceContent}
 use Rattle.messages.specs.declared.pieces.PieceContent.TheVariants.{Head, Page, Records}
 use Rattle.redo_wire.specs.Reading.{Read, shaped, known, mapped}
@@ -24,7 +23,7 @@ use Rattle.redo_wire.specs.DeltaReading.{image_at, record_place, next_record_at}
 use Rattle.messages.specs.Pieces.{PieceData, piece_of, is_head, IsContent, IsPiece}
 use Rattle.redo_wire.specs.Pieces.{IsWireContent, IsWirePiece, kind_of, is_for_many, content_bytes, piece_part_bytes, piece_bytes}
 use Rattle.redo_wire.specs.PieceReading.{last_kind, is_in_place, head_content_at, records_content_at, content_at, piece_part_at, piece_at}
-use Rattle.redo_wire.proofs.Readers.{IsBytes, bind_ok, ok_is, guard_true, shaped_ok, mapped_ok, Takes, Takes-then, Reads}
+use Rattle.redo_wire.proofs.Readers.{IsBytes, bind_ok, ok_is, shaped_ok, mapped_ok, Takes, Takes-then, Reads}
 use Rattle.redo_wire.proofs.FieldReaders.{byte_reads, u32_reads, u48_reads, u64_reads}
 use Rattle.redo_wire.proofs.FormReaders.{form_then}
 use Rattle.redo_wire.proofs.ListReaders.{each_takes, each_again}
@@ -106,16 +105,7 @@ records_takes bytes x fits e =
 records_again : (rs : List RecordData) (rest : List ℕ) → IsRead false 2 (Records rs)
     → records_content_at (content_bytes false (Records rs) ++ rest) ≡ Ok (Records rs, rest)
 unfolding records_content_at
-records_again rs rest fits =
-    let some = fits.shape.0 in
-    let most = fits.shape.1 in
-    let regrouped : content_bytes false (Records rs) ++ rest ≡ length rs ∷ (flat_map record_bytes rs ++ rest) = refl in
-    ap records_content_at regrouped
-    ∙ rw (
-      lt-ltb 0 (length rs) some,
-      le-leb (length rs) 64 most,
-      each_again next_record_at record_place record_bytes IsNextRecord next_record_reads rs (key_in 0 0) rest (each_record rs fits.shape.2 fits.wire),
-    ) refl
+records_again rs rest fits = search (rules, each_again, next_record_reads, each_record)
 
 page_takes : (bytes : List ℕ) (x : PieceContent × List ℕ) → IsBytes bytes → mapped Page (image_at bytes) ≡ Ok x
     → Takes bytes (content_bytes false x.0) x.1 × IsRead false 1 x.0
@@ -141,40 +131,22 @@ content_takes true (suc k) le bytes x fits e = absurd (omega arith)
 content_again : (many : Bool) (c : PieceContent) (rest : List ℕ) → is_for_many c ≡ many → IsContent c → IsWireContent c
     → content_at many (kind_of c) (content_bytes many c ++ rest) ≡ Ok (c, rest)
 unfolding content_at
-content_again many (Head b anchor) rest many_is shape wire =
-    head_again many b anchor rest (record { kind_is = refl; many_is = many_is; shape = shape; wire = wire })
-content_again many (Page p) rest many_is shape wire = page_again p rest (record { kind_is = refl; many_is = refl; shape = shape; wire = wire })
-content_again many (Records rs) rest many_is shape wire = records_again rs rest (record { kind_is = refl; many_is = refl; shape = shape; wire = wire })
+content_again many c rest many_is shape wire = search (rules, head_again, page_again, records_again)
 
 -- ---- kinds in their places
 
 known_ok : {A : Type 0} (rule : A → Bool) (r : Read A) (y : A × List ℕ) → known rule r ≡ Ok y → (r ≡ Ok y) × (rule y.0 ≡ true)
-known_ok {A} rule (Ok x) y e = let g = guard_true (rule x.0) UnknownTag x y e in (ap (λ z. Ok z) g.1, subst (λ (z : A × List ℕ). rule z.0 ≡ true) g.1 g.0)
-known_ok rule (Err d) y e = absurd cc
+known_ok rule r y e = search rules
 
 -- the last kind of a content's form is not below its own
 kind_known : (many : Bool) (c : PieceContent) → is_for_many c ≡ many → kind_of c ≤ last_kind many
-kind_known many (Head b anchor) is = omega arith
-kind_known false (Page p) is = omega arith
-kind_known false (Records rs) is = omega arith
-kind_known true (Page p) is = absurd cc
-kind_known true (Records rs) is = absurd cc
+kind_known many c is = search rules
 
 kind_told : (c : PieceContent) (is_zero : Bool) → cond is_zero (eqb (kind_of c) 0) (not (eqb (kind_of c) 0)) ≡ true → is_head c ≡ is_zero
-kind_told (Head b anchor) true e = refl
-kind_told (Head b anchor) false e = absurd cc
-kind_told (Page p) true e = absurd cc
-kind_told (Page p) false e = refl
-kind_told (Records rs) true e = absurd cc
-kind_told (Records rs) false e = refl
+kind_told c is_zero e = search rules
 
 kind_placed : (c : PieceContent) (is_zero : Bool) → is_head c ≡ is_zero → cond is_zero (eqb (kind_of c) 0) (not (eqb (kind_of c) 0)) ≡ true
-kind_placed (Head b anchor) true e = refl
-kind_placed (Head b anchor) false e = absurd cc
-kind_placed (Page p) true e = absurd cc
-kind_placed (Page p) false e = refl
-kind_placed (Records rs) true e = absurd cc
-kind_placed (Records rs) false e = refl
+kind_placed c is_zero e = search rules
 
 -- ---- pieces
 

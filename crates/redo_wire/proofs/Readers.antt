@@ -1,9 +1,8 @@
 -- A reader and a spelling that fit: what is read is spelled so, and what is spelled so is read.
-use Rattle.std.proofs.Common.{◌≡◌, ℕ, zero, suc, ◌+◌, ◌<◌, Bool, true, false, cond, List, ◌∷◌, ◌++◌, get_or, take, drop, Result, Ok, Err, refl, sym, ap, subst, ◌∙◌, append_assoc, arith, inl, inr}
-use Rattle.std.proofs.lemmas.Bool.{cases_lt}
-use Rattle.std.proofs.lemmas.List.{length-take, get_or-drop, get_or-take, get_or_past}
+use Rattle.std.proofs.Common.{◌≡◌, ℕ, ◌+◌, ◌<◌, Bool, true, false, cond, List, ◌∷◌, ◌++◌, get_or, take, drop, Result, Ok, Err, refl, sym, ap, ◌∙◌, append_assoc, arith, rules}
+use Rattle.std.proofs.lemmas.Grind.{common_steps}
+use Rattle.std.proofs.lemmas.List.{get_or-drop}
 use Rattle.redo_wire.specs.declared.faults.WireFault.{WireFault}
-use Rattle.redo_wire.specs.declared.faults.WireFault.TheVariants.{Shape, Order}
 use Rattle.redo_wire.specs.Reading.{◌>>=◌, Read, shaped, ordered, mapped}
 
 abbrev pub IsBytes : List ℕ → Type 0
@@ -13,20 +12,14 @@ pub IsBytes-drop : (n : ℕ) (bytes : List ℕ) → IsBytes bytes → IsBytes (d
 IsBytes-drop n bytes h i = rw get_or-drop (h (n + i))
 
 pub IsBytes-take : (n : ℕ) (bytes : List ℕ) → IsBytes bytes → IsBytes (take n bytes)
-IsBytes-take n bytes h i =
-    elim (cases_lt i n) [
-      | inl lt ↦ rw (get_or-take n bytes i 0 lt) (h i)
-      | inr le ↦ rw (get_or_past (take n bytes) i 0 (omega (arith, length-take n bytes))) (omega arith)
-    ]
+IsBytes-take n bytes h i = grind (arith, common_steps)
 
 pub IsBytes-cons : (b : ℕ) (bytes : List ℕ) → b < 256 → IsBytes bytes → IsBytes (b ∷ bytes)
-IsBytes-cons b bytes lt h zero = lt
-IsBytes-cons b bytes lt h (suc i) = h i
+IsBytes-cons b bytes lt h = search rules
 
 -- the value of a step that did not fail
 pub bind_ok : {A B : Type 0} (r : Result A WireFault) (f : A → Result B WireFault) (y : B) → (r >>= f) ≡ Ok y → (x : A) × (r ≡ Ok x) × (f x ≡ Ok y)
-bind_ok (Ok x) f y e = (x, refl, e)
-bind_ok (Err d) f y e = absurd cc
+bind_ok r f y e = search rules
 
 abbrev done : {A : Type 0} → A → Result A WireFault
 done x = Ok x
@@ -36,23 +29,16 @@ ok_is x y e = cc
 
 -- a test that did not fail
 pub guard_ok : {A : Type 0} (b : Bool) (d : WireFault) (x y : A) → cond b (Err d) (Ok x) ≡ Ok y → (b ≡ false) × (x ≡ y)
-guard_ok true d x y e = absurd cc
-guard_ok false d x y e = (refl, cc)
+guard_ok b d x y e = search rules
 
 pub guard_true : {A : Type 0} (b : Bool) (d : WireFault) (x y : A) → cond b (Ok x) (Err d) ≡ Ok y → (b ≡ true) × (x ≡ y)
-guard_true true d x y e = (refl, cc)
-guard_true false d x y e = absurd cc
+guard_true b d x y e = search rules
 
 pub shaped_ok : {A : Type 0} (rule : A → Bool) (r : Read A) (y : A × List ℕ) → shaped rule r ≡ Ok y → (r ≡ Ok y) × (rule y.0 ≡ true)
-shaped_ok {A} rule (Ok x) y e = let g = guard_true (rule x.0) Shape x y e in (ap (λ z. Ok z) g.1, subst (λ (z : A × List ℕ). rule z.0 ≡ true) g.1 g.0)
-shaped_ok rule (Err d) y e = absurd cc
+shaped_ok rule r y e = search rules
 
 pub mapped_ok : {A B : Type 0} (f : A → B) (r : Read A) (y : B × List ℕ) → mapped f r ≡ Ok y → (x : A) × (r ≡ Ok (x, y.1)) × (f x ≡ y.0)
-mapped_ok f (Ok x) y e =
-    let one : (f x.0, x.1) ≡ y = ok_is (f x.0, x.1) y e in
-    let second : x.1 ≡ y.1 = ap (λ p. p.1) one in
-    (x.0, ap (λ r. Ok (x.0, r)) second, ap (λ p. p.0) one)
-mapped_ok f (Err d) y e = absurd cc
+mapped_ok f r y e = search rules
 
 -- what a reader took from the front
 pub record Takes (bytes text rest : List ℕ) : Type 0 where
@@ -72,8 +58,7 @@ pub record Reads {A : Type 0} (read : List ℕ → Read A) (spell : A → List �
   pub again : (a : A) (rest : List ℕ) → Fits a → read (spell a ++ rest) ≡ Ok (a, rest)
 
 ordered_ok : {A : Type 0} (rule : A → Bool) (r : Read A) (y : A × List ℕ) → ordered rule r ≡ Ok y → (r ≡ Ok y) × (rule y.0 ≡ true)
-ordered_ok {A} rule (Ok x) y e = let g = guard_true (rule x.0) Order x y e in (ap (λ z. Ok z) g.1, subst (λ (z : A × List ℕ). rule z.0 ≡ true) g.1 g.0)
-ordered_ok rule (Err d) y e = absurd cc
+ordered_ok rule r y e = search rules
 
 -- the same for an element in its place
 pub ordered_reads : {A : Type 0} (rule : A → Bool) (read : List ℕ → Read A) (spell : A → List ℕ) (Fits : A → Type 0) → Reads read spell Fits

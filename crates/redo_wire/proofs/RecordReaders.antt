@@ -1,11 +1,12 @@
 -- Records: what is read is spelled so, and what is spelled so is read.
-use Rattle.std.proofs.Common.{◌≡◌, ℕ, zero, suc, ◌^◌, ◌<◌, ◌≤◌, ◌⊎◌, inl, inr, Bool, true, false, cond, ltb, leb, eqb, List, [], ◌∷◌, ◌++◌, length, Ok, None, refl, ap, subst, ◌∙◌, append_assoc, arith}
+use Rattle.std.proofs.Common.{◌≡◌, ℕ, ◌^◌, ◌<◌, ◌≤◌, ◌⊎◌, Bool, true, false, cond, ltb, leb, eqb, List, [], ◌∷◌, ◌++◌, length, Ok, None, refl, ap, subst, ◌∙◌, append_assoc, arith, rules}
+use Rattle.std.proofs.lemmas.Grind.{common_steps}
 use Rattle.std.specs.Prelude.{Option, Some, not, ◌||◌}
-use Rattle.std.specs.List.{flat_map, list_any, sum_by}
+use Rattle.std.specs.List.{flat_map, list_any}
 use Rattle.std.specs.Option.{option_or}
-use Rattle.std.proofs.lemmas.Bool.{ltb-true, leb-true, lt-ltb, le-leb, le-ltb, lt-leb, ltb-false, leb-false, eqb-false, ne_eqb, or_parts}
+use Rattle.std.proofs.lemmas.Bool.{ltb-true, leb-true, le-leb}
 use Rattle.redo_core.specs.Data.{RecordData}
-use Rattle.redo_core.specs.Shape.{record_fault, patches_fault, is_empty_patch, is_patch_off_page, bytes_in}
+use Rattle.redo_core.specs.Shape.{record_fault}
 use Rattle.redo_core.specs.declared.shapes.ShapeFault.{ShapeFault}
 use Rattle.redo_core.specs.declared.patches.Patch.{Patch}
 use Rattle.redo_wire.specs.declared.records.RecordHead.{RecordHead}
@@ -23,12 +24,10 @@ use Rattle.redo_wire.proofs.PatchReaders.{IsNextPatch, IsListed, patch_reads, fr
 
 -- the part of an if-chain that ends with no fault
 pub spared : (b : Bool) (f : ShapeFault) (y : Option ShapeFault) → cond b (Some f) y ≡ None → (b ≡ false) × (y ≡ None)
-spared true f y e = absurd cc
-spared false f y e = (refl, e)
+spared b f y e = search rules
 
 neither : (x y : Option ShapeFault) → option_or x y ≡ None → (x ≡ None) × (y ≡ None)
-neither (Some f) y e = absurd cc
-neither None y e = (refl, e)
+neither x y e = search rules
 
 -- ---- the fields up to the block backlink
 
@@ -70,28 +69,7 @@ head_takes bytes x fits e =
 
 head_again : (h : RecordHead) (rest : List ℕ) → IsHead h → head_at (spelled_head h ++ rest) ≡ Ok (h, rest)
 unfolding head_at
-head_again h rest fits =
-    let z3 = u48 h.block_back ++ rest in
-    let z2 = u16 h.page ++ z3 in
-    let z1 = u48 h.back ++ z2 in
-    let z0 = u48 h.number ++ z1 in
-    let regrouped : spelled_head h ++ rest ≡ u16 h.epoch ++ (u48 h.number ++ (u48 h.back ++ (u16 h.page ++ (u48 h.block_back ++ rest)))) = simp append_assoc in
-    let small = fits.number in
-    let below = fits.back in
-    let above = fits.block_back in
-    ap head_at regrouped
-    ∙ rw (
-      u16_reads.again h.epoch z0 fits.epoch,
-      u48_reads.again h.number z1 small,
-      lt-ltb 0 h.number fits.positive,
-      u48_reads.again h.back z2
-          (omega (arith, small, below)),
-      lt-ltb h.back h.number below,
-      u16_reads.again h.page z3 fits.page,
-      u48_reads.again h.block_back rest
-          (omega (arith, small, below, above)),
-      le-leb h.block_back h.back above,
-    ) refl
+head_again h rest fits = grind (arith, common_steps, u16_reads, u48_reads)
 
 pub head_reads : Reads head_at spelled_head IsHead
 head_reads = record { takes = head_takes; again = head_again }
@@ -100,21 +78,7 @@ head_reads = record { takes = head_takes; again = head_again }
 
 -- a record whose parts were judged one after the other has its shape
 has_shape : (h : RecordHead) (init : Bool) (ps : List Patch) → IsHead h → length ps ≤ 64 → IsListed 8192 ps → record_fault (record_from h init ps) ≡ None
-has_shape h init ps head few listed =
-    let pos = head.positive in
-    let lt = head.number in
-    rw (
-      ne_eqb h.number 0 (λ e. omega (arith, pos, e)),
-      lt-leb h.number h.back head.back,
-      le-ltb h.back h.block_back head.block_back,
-      le-ltb 64
-          (length ps) few,
-      listed.none_empty,
-      listed.inside,
-      le-ltb 8192 (sum_by bytes_in ps) listed.small,
-      le-ltb 281474976710655 h.number
-          (omega (arith, lt)),
-    ) refl
+has_shape h init ps head few listed = search rules
 
 abbrev head_of : RecordData → RecordHead
 head_of r = record { epoch = r.epoch; number = r.number; back = r.back; page = r.page; block_back = r.block_back }
@@ -125,30 +89,7 @@ record HasParts (r : RecordData) : Type 0 where
   listed : IsListed 8192 r.patches
 
 parts_of : (r : RecordData) → IsWireRecord r → HasParts r
-parts_of r wire =
-    let r0 = spared (eqb r.number 0) _ _ wire.shape in
-    let r1 = spared (leb r.number r.back) _ _ r0.1 in
-    let r2 = spared (ltb r.back r.block_back) _ _ r1.1 in
-    let both = neither (patches_fault r.patches) _ r2.1 in
-    let r3 = spared (ltb 64 (length r.patches)) _ _ both.0 in
-    let r4 = spared (list_any is_empty_patch r.patches) _ _ r3.1 in
-    let r5 = spared (list_any is_patch_off_page r.patches) _ _ r4.1 in
-    let r6 = spared (ltb 8192 (sum_by bytes_in r.patches)) _ _ r5.1 in
-    let r7 = spared (ltb 281474976710655 r.number) _ _ both.1 in
-    let small : r.number ≤ 281474976710655 = ltb-false 281474976710655 r.number r7.0 in
-    let nonzero = eqb-false r.number 0 r0.0 in
-    record {
-      head = record {
-        epoch = wire.epoch;
-        positive = omega (arith, nonzero);
-        number = omega (arith, small);
-        back = leb-false r.number r.back r1.0;
-        page = wire.page;
-        block_back = ltb-false r.back r.block_back r2.0;
-      };
-      few = ltb-false 64 (length r.patches) r3.0;
-      listed = record { none_empty = r4.0; inside = r5.0; small = ltb-false 8192 (sum_by bytes_in r.patches) r6.0 };
-    }
+parts_of r wire = search rules
 
 -- the number of a record is at least 1
 pub number_above_zero : (r : RecordData) → IsWireRecord r → 0 < r.number
@@ -157,25 +98,17 @@ number_above_zero r wire = (parts_of r wire).head.positive
 -- ---- flags
 
 flag_again : (full : Bool) (n : ℕ) → IsWithin full 0 0 1 n → cond (eqb n 1) 1 0 ≡ n
-flag_again false n is = rw is refl
-flag_again true zero is = refl
-flag_again true (suc zero) is = refl
-flag_again true (suc (suc n)) is = absurd (omega (arith, is.1))
+flag_again full n is = search rules
 
 flag_is : (init : Bool) → eqb (cond init 1 0) 1 ≡ init
-flag_is true = refl
-flag_is false = refl
+flag_is init = search rules
 
 flag_within : (full init : Bool) (ps : List Patch) → is_full_body init ps ≡ full → IsWithin full 0 0 1 (cond init 1 0)
-flag_within true true ps e = (omega arith, omega arith)
-flag_within true false ps e = (omega arith, omega arith)
-flag_within false true ps e = absurd cc
-flag_within false false ps e = refl
+flag_within full init ps e = search rules
 
 form_is : (full : Bool) (n : ℕ) (ps : List Patch) → IsWithin full 0 0 1 n → EachFrom (IsNextPatch full) left_after 8192 ps
     → (not full || is_full_body (eqb n 1) ps) ≡ true → is_full_body (eqb n 1) ps ≡ full
-form_is true n ps is each rule = rule
-form_is false n ps is each rule = let none = none_filled 8192 ps each in rw (is, none) refl
+form_is full n ps is each rule = search (rules, none_filled)
 
 -- ---- records behind their tags
 
@@ -213,12 +146,10 @@ record_part_takes full bytes x fits e =
 
 -- a record of a form has no fills or is in the full form
 fills_told : (full init : Bool) (ps : List Patch) → is_full_body init ps ≡ full → (full ≡ true) ⊎ (list_any is_fill ps ≡ false)
-fills_told true init ps e = inl refl
-fills_told false init ps e = inr (or_parts init (list_any is_fill ps) e).1
+fills_told full init ps e = search rules
 
 rule_kept : (full init : Bool) (ps : List Patch) → is_full_body init ps ≡ full → (not full || is_full_body init ps) ≡ true
-rule_kept true init ps e = e
-rule_kept false init ps e = refl
+rule_kept full init ps e = search rules
 
 record_part_again : (full : Bool) (r : RecordData) (rest : List ℕ) → IsWireRecord r × (is_full r ≡ full)
     → record_part_at full (record_part_bytes full r ++ rest) ≡ Ok (r, rest)

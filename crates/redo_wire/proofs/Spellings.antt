@@ -1,15 +1,16 @@
 -- What a reader that fits a spelling says of whole inputs.
-use Rattle.std.proofs.Common.{◌≡◌, ℕ, ◌<◌, eqb, List, [], ◌++◌, length, Result, Ok, Err, refl, sym, ap, subst, ◌∙◌, arith, inl, inr}
+use Rattle.std.proofs.Common.{◌≡◌, ℕ, ◌<◌, eqb, List, [], ◌++◌, length, Result, Ok, Err, refl, sym, ap, subst, ◌∙◌, arith, rules}
+use Rattle.std.proofs.lemmas.Grind.{common_steps}
 use Rattle.std.specs.Prelude.{IfOk, All}
-use Rattle.std.proofs.lemmas.Bool.{eqb-true, cases_lt}
-use Rattle.std.proofs.lemmas.List.{append-nil, nil_from_length, get_or_past}
+use Rattle.std.proofs.lemmas.Bool.{eqb-true}
+use Rattle.std.proofs.lemmas.List.{append-nil, nil_from_length}
 use Rattle.redo_wire.specs.declared.faults.WireFault.{WireFault}
 use Rattle.redo_wire.specs.declared.faults.WireFault.TheVariants.{Rest}
 use Rattle.redo_wire.specs.declared.faults.WireError.{WireError}
 use Rattle.redo_wire.specs.Reading.{Read, whole}
 use Rattle.redo_wire.specs.Outcomes.{GivesRead}
 use Rattle.redo_wire.specs.Laws.{HasOneValue, BeginsNoOther, ReadsSpellings}
-use Rattle.redo_wire.proofs.Readers.{IsBytes, guard_true, ok_is, Reads}
+use Rattle.redo_wire.proofs.Readers.{IsBytes, guard_true, Reads}
 
 -- the bytes spell a value
 abbrev pub Spells : {A : Type 0} → (A → List ℕ) → (A → Type 0) → A → List ℕ → Type 0
@@ -41,8 +42,7 @@ read_from_spelled read spell Fits reads bytes v spelled =
 
 pub answer_is_spelled : {A : Type 0} (read : List ℕ → Read A) (spell : A → List ℕ) (Fits : A → Type 0) → Reads read spell Fits
     → (bytes : List ℕ) (r : Result A WireError) → IsBytes bytes → GivesRead r (whole (read bytes)) → IfOk r (λ v. Spells spell Fits v bytes)
-answer_is_spelled read spell Fits reads bytes (Ok v) fits given = spelled_from_read read spell Fits reads bytes v fits given
-answer_is_spelled read spell Fits reads bytes (Err e) fits given = tt
+answer_is_spelled read spell Fits reads bytes r fits given = search (rules, spelled_from_read)
 
 pub spelled_is_answer : {A : Type 0} (read : List ℕ → Read A) (spell : A → List ℕ) (Fits : A → Type 0) → Reads read spell Fits
     → (bytes : List ℕ) (r : Result A WireError) → GivesRead r (whole (read bytes)) → (v : A) → Spells spell Fits v bytes → GivesRead r (Ok v)
@@ -54,10 +54,7 @@ spelled_is_answer {A} read spell Fits reads bytes r given v spelled =
 -- what two values and some bytes after each spell alike is the same value and the same bytes
 same_front : {A : Type 0} (read : List ℕ → Read A) (spell : A → List ℕ) (Fits : A → Type 0) → Reads read spell Fits → (v w : A) (x y : List ℕ) → Fits v
     → Fits w → spell v ++ x ≡ spell w ++ y → (v ≡ w) × (x ≡ y)
-same_front {A} read spell Fits reads v w x y fits fits' same =
-    let e : read (spell v ++ x) ≡ Ok (w, y) = ap read same ∙ reads.again w y fits' in
-    let pair : (v, x) ≡ (w, y) = ok_is (v, x) (w, y) (sym (reads.again v x fits) ∙ e) in
-    (ap (λ p. p.0) pair, ap (λ p. p.1) pair)
+same_front read spell Fits reads v w x y fits fits' same = search rules
 
 pub one_value : {A : Type 0} (read : List ℕ → Read A) (spell : A → List ℕ) (Fits : A → Type 0) → Reads read spell Fits → HasOneValue (Spells spell Fits)
 one_value read spell Fits reads v w x p q = (same_front read spell Fits reads v w [] [] p.0 q.0 (ap (λ (b : List ℕ). b ++ []) (sym p.1 ∙ q.1))).0
@@ -69,11 +66,7 @@ begins_no_other read spell Fits reads v w x y rest p q longer =
     (same_front read spell Fits reads v w rest [] p.0 q.0 same).1
 
 pub bytes_from_All : (bytes : List ℕ) → All (λ b. b < 256) bytes → IsBytes bytes
-bytes_from_All bytes all i =
-    elim (cases_lt i (length bytes)) [
-      | inl lt ↦ all i 0 lt
-      | inr le ↦ rw (get_or_past bytes i 0 le) (omega arith)
-    ]
+bytes_from_All bytes all i = grind (arith, common_steps)
 
 pub reads_spellings : {A : Type 0} (read : List ℕ → Read A) (spell : A → List ℕ) (Fits : A → Type 0) → Reads read spell Fits
     → ReadsSpellings (Spells spell Fits) (λ bytes. whole (read bytes))

@@ -1,7 +1,8 @@
 -- Summaries: what is read is spelled so, and what is spelled so is read.
 use Rattle.std.proofs.Common.{◌≡◌, ℕ, ◌^◌, ◌<◌, ◌≤◌, Bool, ltb, leb, true, List, ◌++◌, length, Ok, refl, ap, subst, ◌∙◌, append_assoc, arith}
+use Rattle.std.proofs.lemmas.Grind.{common_steps}
 use Rattle.std.specs.List.{flat_map}
-use Rattle.std.proofs.lemmas.Bool.{ltb-true, leb-true, lt-ltb, le-leb}
+use Rattle.std.proofs.lemmas.Bool.{ltb-true, leb-true, le-leb}
 use Rattle.redo_wire.specs.Reading.{shaped}
 use Rattle.redo_wire.specs.Fields.{u16_at, u32_at, u48_at, u16, u32, u48}
 use Rattle.redo_wire.specs.Lists.{each_at}
@@ -46,11 +47,7 @@ key_takes bytes x fits e =
 
 key_again : (k : Key) (rest : List ℕ) → IsWireKey k → key_at (key_bytes k ++ rest) ≡ Ok (k, rest)
 unfolding key_at
-key_again k rest fits =
-    let regrouped : key_bytes k ++ rest ≡ u16 k.epoch ++ (u48 k.number ++ rest) = simp append_assoc in
-    let small = fits.0.1 in
-    ap key_at regrouped
-    ∙ rw (u16_reads.again k.epoch (u48 k.number ++ rest) fits.1, u48_reads.again k.number rest (omega (arith, small)), lt-ltb 0 k.number fits.0.0) refl
+key_again k rest fits = grind (arith, common_steps, u16_reads, u48_reads)
 
 next_key_reads : (last : Key) → Reads (next_key_at last) key_bytes (IsNextKey last)
 next_key_reads last = ordered_reads (λ k. is_above last k) key_at key_bytes IsWireKey (record { takes = key_takes; again = key_again })

@@ -1,24 +1,16 @@
 -- The laws of spellings, of values of any kind.
-use Rattle.std.proofs.Common.{◌≡◌, Bool, true, false, cond, [], ◌∷◌, ◌++◌, Result, Ok, Err, refl, sym, ap, ◌∙◌, arith}
+use Rattle.std.proofs.Common.{◌≡◌, Bool, cond, [], ◌∷◌, ◌++◌, Result, Ok, Err, refl, ap, ◌∙◌, arith, rules}
 use Rattle.redo_wire.specs.declared.faults.WireFault.{WireFault}
 use Rattle.redo_wire.specs.declared.faults.WireFault.TheVariants.{Rest, TooLong}
 use Rattle.redo_wire.specs.declared.values.WireValue.{WireValue}
-use Rattle.redo_wire.specs.declared.values.WireValue.TheVariants.{Fact, Summary, Delta, Piece}
-use Rattle.redo_wire.specs.FactReading.{decoded_fact}
-use Rattle.redo_wire.specs.SummaryReading.{decoded_summary}
-use Rattle.redo_wire.specs.DeltaReading.{decoded_delta}
-use Rattle.redo_wire.specs.PieceReading.{decoded_piece}
-use Rattle.redo_wire.specs.Values.{SpellsValue, is_summary_tag, is_delta_tag, is_piece_tag, valued, decoded_value}
+use Rattle.redo_wire.specs.Values.{SpellsValue, valued, decoded_value}
 use Rattle.redo_wire.specs.Laws.{HasOneSpelling, HasOneValue, BeginsNoOther, ReadsSpellings, NeverTooLong}
 use Rattle.redo_wire.proofs.Spellings.{bytes_from_All}
 use Rattle.redo_wire.proofs.ValueReaders.{value_from_read, value_from_spelled}
 use Rattle.redo_wire.proofs.Locality.{decoded_fact_reads, decoded_summary_reads, decoded_delta_reads, decoded_piece_reads, value_rest}
 
 pub value_one_spelling : HasOneSpelling SpellsValue
-value_one_spelling (Fact f) x y p q = p.1 ∙ sym q.1
-value_one_spelling (Summary s) x y p q = p.1 ∙ sym q.1
-value_one_spelling (Delta d) x y p q = p.1 ∙ sym q.1
-value_one_spelling (Piece v) x y p q = p.1 ∙ sym q.1
+value_one_spelling = search rules
 
 same_found : (v w : WireValue) (r : Result WireValue WireFault) → r ≡ Ok v → r ≡ Ok w → v ≡ w
 same_found v w r e f = cc
@@ -40,24 +32,10 @@ abbrev IsReading : {A : Type 0} → Result A WireFault → Type 0
 IsReading r = r ≡ Err TooLong → ⊥
 
 chosen_reads : (b : Bool) (p q : Result WireValue WireFault) → IsReading p → IsReading q → IsReading (cond b p q)
-chosen_reads true p q h k e = h e
-chosen_reads false p q h k e = k e
+chosen_reads b p q h k = search rules
 
 valued_reads : {A : Type 0} (kind : A → WireValue) (r : Result A WireFault) → IsReading r → IsReading (valued kind r)
-valued_reads kind (Ok x) h e = absurd cc
-valued_reads kind (Err f) h e = let same : f ≡ TooLong = cc in h (ap (λ (k : WireFault). Err k) same)
+valued_reads kind r h = search rules
 
 pub value_never_too_long : NeverTooLong decoded_value
-value_never_too_long [] e = absurd cc
-value_never_too_long (tag ∷ rest) e =
-    let bytes = tag ∷ rest in
-    let facts = valued_reads Fact (decoded_fact bytes) (decoded_fact_reads bytes) in
-    let pieces = chosen_reads (is_piece_tag tag) (valued Piece (decoded_piece bytes)) (valued Fact (decoded_fact bytes))
-    (valued_reads Piece (decoded_piece bytes) (decoded_piece_reads bytes)) facts in
-    let deltas = chosen_reads (is_delta_tag tag) (valued Delta (decoded_delta bytes))
-    (cond (is_piece_tag tag) (valued Piece (decoded_piece bytes)) (valued Fact (decoded_fact bytes)))
-    (valued_reads Delta (decoded_delta bytes) (decoded_delta_reads bytes)) pieces in
-    chosen_reads (is_summary_tag tag) (valued Summary (decoded_summary bytes))
-    (cond (is_delta_tag tag) (valued Delta (decoded_delta bytes))
-    (cond (is_piece_tag tag) (valued Piece (decoded_piece bytes)) (valued Fact (decoded_fact bytes))))
-    (valued_reads Summary (decoded_summary bytes) (decoded_summary_reads bytes)) deltas e
+value_never_too_long = search (rules, decoded_fact_reads, decoded_piece_reads, decoded_delta_reads, decoded_summary_reads)

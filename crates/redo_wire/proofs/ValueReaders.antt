@@ -1,16 +1,14 @@
 -- Values of any kind: what is read is spelled so, and what is spelled so is read.
-use Rattle.std.proofs.Common.{◌≡◌, ℕ, ◌⊎◌, inl, inr, ⊎_elim, Bool, true, false, cond, List, [], ◌∷◌, ◌++◌, Result, Ok, Err, refl, ap, subst, ◌∙◌}
+use Rattle.std.proofs.Common.{◌≡◌, ℕ, ◌⊎◌, ⊎_elim, Bool, cond, List, [], ◌∷◌, ◌++◌, Result, Ok, refl, ap, subst, ◌∙◌, rules}
 use Rattle.std.specs.Prelude.{IfOk}
 use Rattle.redo_wire.specs.declared.faults.WireFault.{WireFault}
 use Rattle.redo_wire.specs.declared.faults.WireError.{WireError}
 use Rattle.redo_core.specs.declared.facts.Fact as fact
-use Rattle.redo_core.specs.declared.facts.Fact.TheVariants as facts
 use Rattle.redo_wire.specs.declared.values.WireValue.{WireValue}
 use Rattle.redo_wire.specs.declared.values.WireValue.TheVariants.{Fact, Summary, Delta, Piece}
 use Rattle.redo_wire.specs.Outcomes.{GivesRead}
 use Rattle.redo_wire.specs.Forms.{form_bytes}
-use Rattle.redo_wire.specs.Records.{is_full, record_part_bytes}
-use Rattle.redo_wire.specs.Facts.{IsWireFact, is_of_other, advance_bytes, fact_bytes}
+use Rattle.redo_wire.specs.Facts.{IsWireFact, fact_bytes}
 use Rattle.redo_wire.specs.FactReading.{fact_at, decoded_fact}
 use Rattle.messages.specs.Books.{has_many}
 use Rattle.redo_wire.specs.Summaries.{IsWireSummary, summary_part_bytes, summary_bytes}
@@ -28,12 +26,10 @@ use Rattle.redo_wire.proofs.PieceReaders.{piece_reads}
 use Rattle.redo_wire.proofs.Spellings.{spelled_from_read, read_from_spelled}
 
 valued_ok : {A : Type 0} (kind : A → WireValue) (r : Result A WireFault) (v : WireValue) → valued kind r ≡ Ok v → (x : A) × (r ≡ Ok x) × (kind x ≡ v)
-valued_ok kind (Ok x) v e = (x, refl, cc)
-valued_ok kind (Err f) v e = absurd cc
+valued_ok kind r v e = search rules
 
 chosen : {A : Type 0} (b : Bool) (p q : Result A WireFault) (v : A) → cond b p q ≡ Ok v → (p ≡ Ok v) ⊎ (q ≡ Ok v)
-chosen true p q v e = inl e
-chosen false p q v e = inr e
+chosen b p q v e = search rules
 
 -- what is read from all of the bytes is spelled by them
 pub value_from_read : (bytes : List ℕ) (v : WireValue) → IsBytes bytes → decoded_value bytes ≡ Ok v → SpellsValue v bytes
@@ -68,29 +64,22 @@ value_from_read (tag ∷ rest) v fits e =
 
 summary_first : (many : Bool) (text : List ℕ)
     → decoded_value (form_bytes 16 32 many ++ text) ≡ valued Summary (decoded_summary (form_bytes 16 32 many ++ text))
-summary_first false text = refl
-summary_first true text = refl
+summary_first many text = search rules
 
 delta_first : (many : Bool) (text : List ℕ) → decoded_value (form_bytes 17 33 many ++ text) ≡ valued Delta (decoded_delta (form_bytes 17 33 many ++ text))
-delta_first false text = refl
-delta_first true text = refl
+delta_first many text = search rules
 
 piece_first : (many : Bool) (text : List ℕ) → decoded_value (form_bytes 18 34 many ++ text) ≡ valued Piece (decoded_piece (form_bytes 18 34 many ++ text))
-piece_first false text = refl
-piece_first true text = refl
+piece_first many text = search rules
 
 record_first : (full : Bool) (text : List ℕ) → decoded_value (form_bytes 1 6 full ++ text) ≡ valued Fact (decoded_fact (form_bytes 1 6 full ++ text))
-record_first false text = refl
-record_first true text = refl
+record_first full text = search rules
 
 advance_first : (many : Bool) (text : List ℕ) → decoded_value (form_bytes 3 5 many ++ text) ≡ valued Fact (decoded_fact (form_bytes 3 5 many ++ text))
-advance_first false text = refl
-advance_first true text = refl
+advance_first many text = search rules
 
 fact_first : (f : fact.Fact) → decoded_value (fact_bytes f) ≡ valued Fact (decoded_fact (fact_bytes f))
-fact_first (facts.Record r) = record_first (is_full r) (record_part_bytes (is_full r) r)
-fact_first (facts.Cut c) = refl
-fact_first (facts.Advance a) = advance_first (is_of_other a) (advance_bytes (is_of_other a) a)
+fact_first f = search (rules, record_first)
 
 -- what all of the bytes spell is read from them
 pub value_from_spelled : (bytes : List ℕ) (v : WireValue) → SpellsValue v bytes → decoded_value bytes ≡ Ok v
@@ -111,8 +100,7 @@ value_from_spelled bytes (Fact f) spelled =
 -- ---- a call that answers what reading gives
 
 pub value_is_spelled : (bytes : List ℕ) (r : Result WireValue WireError) → IsBytes bytes → GivesRead r (decoded_value bytes) → IfOk r (λ v. SpellsValue v bytes)
-value_is_spelled bytes (Ok v) fits given = value_from_read bytes v fits given
-value_is_spelled bytes (Err e) fits given = tt
+value_is_spelled bytes r fits given = search (rules, value_from_read)
 
 pub spelled_is_value : (bytes : List ℕ) (r : Result WireValue WireError) → GivesRead r (decoded_value bytes) → (v : WireValue) → SpellsValue v bytes
     → GivesRead r (Ok v)

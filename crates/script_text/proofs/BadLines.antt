@@ -1,5 +1,6 @@
 -- The bad line is the least: the lines before it begin a good text, and with it they begin none.
-use Rattle.std.proofs.Common.{◌≡◌, ℕ, ◌+◌, ◌-◌, ◌<◌, ◌≤◌, inl, inr, true, false, cond, eqb, leb, List, [], ◌∷◌, ◌++◌, length, take, drop, Option, Some, None, Result, Ok, Err, codes, refl, sym, ap, ◌∙◌, subst, arith, append_assoc, length-append}
+use Rattle.std.proofs.Common.{◌≡◌, ℕ, ◌+◌, ◌-◌, ◌<◌, ◌≤◌, inl, inr, true, false, cond, eqb, leb, List, [], ◌∷◌, ◌++◌, length, take, drop, Option, Some, None, Result, Ok, Err, codes, refl, sym, ap, ◌∙◌, subst, arith, append_assoc, length-append, rules}
+use Rattle.std.proofs.lemmas.Grind.{common_steps}
 use Rattle.std.specs.Prelude.{bytes_eq}
 use Rattle.std.proofs.Math.Seq.{take-add, take-append_seam}
 use Rattle.std.proofs.lemmas.List.{append_cancel_right}
@@ -11,7 +12,7 @@ use Rattle.script_text.specs.Parts.{parts_at}
 use Rattle.script_text.specs.Script.{ScriptData, rostered, most, or_bad, within, asking, with_fact, nodes_in_line, roster_in_line, lines_from, nodes_from, script_from, opened, script_of, facts_of}
 use Rattle.script_text.specs.Laws.{BadScriptLineIsLeast, BadFactLineIsLeast}
 use Rattle.script_text.specs.Spelled.{AreFacts, AsksSteps, IsLog, IsScript, Spells, Begins, IsLeastBadLine}
-use Rattle.script_text.proofs.Results.{end, bad_is, not_bad, refused, one_of, found, within_ok, within_bad, some_left, room_is, ended}
+use Rattle.script_text.proofs.Results.{end, bad_is, refused, one_of, found, within_ok, within_bad, some_left, room_is, ended}
 use Rattle.script_text.proofs.Scripts.{lines_next, script_next}
 use Rattle.script_text.proofs.Rosters.{Reader, facts_reader, steps_reader, opened_plain, opened_named, opened_last, opened_read, rostered_is_spelled, rostered_is_read, scripts_are_spelled, logs_are_spelled}
 use Rattle.script_text.proofs.Split.{some_parts}
@@ -28,9 +29,6 @@ record Stops {A : Type 0} (read : List (List ℕ) → Result A ℕ) (at : ℕ) (
   good : read (before ++ (more ++ end)) ≡ Ok said
   bad : 0 < length after → (others : List (List ℕ)) (x : A) → 0 < length others → read (before ++ here ∷ others) ≡ Ok x → ⊥
 
-at_start : (at stop : ℕ) → at ≡ stop → at + length {A = List ℕ} [] ≡ stop
-at_start at stop e = omega arith
-
 -- ---- lines that are read one by one
 
 record Refuses {A : Type 0} (read : List (List ℕ) → Result A ℕ) (at : ℕ) (x : List ℕ) : Type 0 where
@@ -39,24 +37,12 @@ record Refuses {A : Type 0} (read : List (List ℕ) → Result A ℕ) (at : ℕ)
 -- a reader stops at a line that it refuses whatever follows
 stops_here : {A : Type 0} (read : List (List ℕ) → Result A ℕ) (at stop : ℕ) (x : List ℕ) (rest more : List (List ℕ)) (said : A) → at ≡ stop
     → read (more ++ end) ≡ Ok said → Refuses read at x → Stops read at (x ∷ rest) stop
-stops_here read at stop x rest more said e h r =
-    record {
-      before = [];
-      here = x;
-      after = rest;
-      all = refl;
-      place = at_start at stop e;
-      more = more;
-      said = said;
-      good = h;
-      bad = λ some others y more_than h. refused (read (x ∷ others)) at y (r.always others more_than) h;
-    }
+stops_here read at stop x rest more said e h r = grind (arith, common_steps)
 
 -- behind the last LF
 stops_last : {A : Type 0} (read : List (List ℕ) → Result A ℕ) (at stop : ℕ) (x : List ℕ) (more : List (List ℕ)) (said : A) → at ≡ stop
     → read (more ++ end) ≡ Ok said → Stops read at (x ∷ []) stop
-stops_last read at stop x more said e h =
-    record { before = []; here = x; after = []; all = refl; place = at_start at stop e; more = more; said = said; good = h; bad = λ some. absurd (omega arith) }
+stops_last read at stop x more said e h = grind (arith, common_steps)
 
 -- a reader that goes on with another behind a line stops where the other does
 stops_later : {A B : Type 0} (read : List (List ℕ) → Result A ℕ) (later : List (List ℕ) → Result B ℕ) (onto : Result B ℕ → Result A ℕ) (at stop : ℕ)
@@ -101,8 +87,7 @@ abbrev good_none : {A : Type 0} → Result (List A) ℕ
 good_none = Ok []
 
 lines_last : {A : Type 0} (x : List ℕ) (at stop : ℕ) → cond (eqb (length x) 0) (good_none {A = A}) (Err at) ≡ Err stop → at ≡ stop
-lines_last {A} [] at stop h = absurd (not_bad {A = List A} [] stop h)
-lines_last {A} (b ∷ bs) at stop h = bad_is {A = List A} at stop (rw (some_left (length (b ∷ bs)) (omega arith)) at h)
+lines_last x at stop h = search rules
 
 lines_stop : {A : Type 0} (said : List ℕ → Option A) (count at : ℕ) (parts : List (List ℕ)) (stop : ℕ) → 0 < length parts
     → lines_from said count at parts ≡ Err stop → Stops (lines_from said count at) at parts stop

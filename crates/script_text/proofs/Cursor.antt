@@ -10,7 +10,7 @@ use Rattle.script_text.specs.Number.{value_from, digits_of, decimal_value, numbe
 use Rattle.script_text.specs.Parts.{◌>>=◌, parts_at}
 use Rattle.script_text.specs.Fields.{first_of, field_of, numbers_of}
 use Rattle.script_text.proofs.Numbers.{value_from-ge, digits_of_undigit, digits_of_large, digits_of_good}
-use Rattle.script_text.proofs.Options.{here, some_is, bind_some, no_test}
+use Rattle.script_text.proofs.Options.{no_test}
 use Rattle.script_text.proofs.Split.{some_parts}
 
 -- ---- the first part of a text
@@ -248,16 +248,6 @@ one_more_field limit n behind (word ∷ next ∷ rest) e =
     ]
 
 -- ---- the first part, where another stands behind it
-
--- the number that is a first part
-pub first_number : (limit n : ℕ) (parts behind : List (List ℕ)) → field_of limit parts ≡ Some (n, behind)
-    → (word : List ℕ) × (parts ≡ word ∷ behind) × (decimal_value limit word ≡ Some n)
-first_number limit n [] behind e = absurd cc
-first_number limit n (word ∷ []) behind e = absurd cc
-first_number limit n (word ∷ next ∷ rest) behind e =
-    let k = bind_some (decimal_value limit word) (λ (m : ℕ). here (m, next ∷ rest)) (n, behind) e in
-    let same = some_is (k.0, next ∷ rest) (n, behind) k.2 in
-    (word, ap (λ p. word ∷ p.1) same, k.1 ∙ ap (λ p. Some p.0) same)
 
 not_found : (rest : List (List ℕ)) (o : Option ℕ) → paired rest o ≡ None → o ≡ None
 not_found rest (Some n) e = absurd cc

@@ -1,6 +1,5 @@
 -- Fact lines are read exactly where they are spelled.
-use Rattle.std.proofs.Common.{◌≡◌, ℕ, ◌≤◌, inl, inr, Bool, true, false, cond, eqb, List, [], ◌∷◌, ◌++◌, map, length, Option, Some, None, codes, refl, sym, ap, ◌∙◌, subst, arith}
-use Rattle.std.specs.Prelude.{bytes_eq}
+use Rattle.std.proofs.Common.{◌≡◌, ℕ, ◌≤◌, inl, inr, eqb, List, [], ◌∷◌, ◌++◌, map, length, Option, Some, None, codes, refl, sym, ap, ◌∙◌, subst, arith, rules}
 use Rattle.std.specs.Fmt.{decimal}
 use Rattle.std.proofs.lemmas.Bool.Decides.{nat_tests}
 use Rattle.redo_core.specs.Data.{RecordData, CutData, AdvanceData, record_with, cut_of, advance_of}
@@ -14,15 +13,14 @@ use Rattle.script_text.specs.FactLine.{Contents, unless, shaped, contents_of, re
 use Rattle.script_text.specs.Laws.{FactLinesAreSpelled}
 use Rattle.script_text.specs.Spelled.{SpellsForm, SpellsRecord, SpellsCut, SpellsAdvance, SpellsFact}
 use Rattle.script_text.proofs.Forms.{AreLimits, AreWithin, two_is, three_is, five_is, numbers_are, numbers_are_read, numbers_lack_space, said_form, form_fields}
-use Rattle.script_text.proofs.Options.{some_is, bind_some, either, true_is}
+use Rattle.script_text.proofs.Options.{bind_some, either}
 use Rattle.script_text.proofs.Split.{AllLack, parts_joined, joined_parts}
 use Rattle.script_text.proofs.PatchSpelling.{contents_are_spelled, contents_are_read, contents_lack_space}
 
 -- ---- what is read is spelled
 
 unless_some : (o : Option ShapeFault) (fact f : Fact) → unless o fact ≡ Some f → (o ≡ None) × (f ≡ fact)
-unless_some None fact f h = (refl, sym (some_is fact f h))
-unless_some (Some fault) fact f h = absurd cc
+unless_some o fact f h = search rules
 
 shaped_record : (r : RecordData) (f : Fact) → shaped (Record r) ≡ Some f → (record_fault r ≡ None) × (f ≡ Record r)
 unfolding shaped
@@ -134,27 +132,9 @@ advance_spelled line fields f p h =
           subst (SpellsFact line) (sym whole.1) spelled
     ]
 
-nothing : (b : Bool) (o : Option Fact) (f : Fact) → cond b o None ≡ Some f → (b ≡ true) × (o ≡ Some f)
-nothing true o f h = (refl, h)
-nothing false o f h = absurd cc
-
 fact_spelled : (line : List ℕ) (parts : List (List ℕ)) (f : Fact) → parts_at 32 line ≡ parts → fact_line parts ≡ Some f → SpellsFact line f
 unfolding fact_line
-fact_spelled line [] f e h = absurd cc
-fact_spelled line (word ∷ fields) f e h =
-    let keyed : (key : List ℕ) → bytes_eq word key ≡ true → parts_at 32 line ≡ key ∷ fields = λ key t. e ∙ ap (λ (w : List ℕ). w ∷ fields)
-    (true_is word key t) in
-    let last = cond (bytes_eq word (codes "min")) (advance_line fields) None in
-    let more = cond (bytes_eq word (codes "cut")) (cut_line fields) last in
-    elim (either (bytes_eq word (codes "rec")) (record_line fields) more f h) [
-      | inl is ↦ record_spelled line fields f (keyed (codes "rec") is.0) is.1
-      | inr other ↦
-          elim (either (bytes_eq word (codes "cut")) (cut_line fields) last f other.1) [
-            | inl is ↦ cut_spelled line fields f (keyed (codes "cut") is.0) is.1
-            | inr another ↦ let is = nothing (bytes_eq word (codes "min")) (advance_line fields) f another.1 in advance_spelled line fields f
-                (keyed (codes "min") is.0) is.1
-          ]
-    ]
+fact_spelled line parts f e h = search (rules, record_spelled, cut_spelled, advance_spelled)
 
 -- ---- what is spelled is read
 
@@ -164,9 +144,6 @@ record_numbers r h = grind (arith, nat_tests)
 
 cut_numbers : (c : CutData) → cut_fault c ≡ None → (c.lo ≤ max_number) × (c.hi ≤ max_number)
 cut_numbers c h = grind (arith, nat_tests)
-
-advance_numbers : (a : AdvanceData) → advance_fault a ≡ None → (a.point ≤ max_number) × (a.reader ≤ max_readers)
-advance_numbers a h = grind (arith, nat_tests)
 
 shaped_none : (f : Fact) (o : Option ShapeFault) → o ≡ None → unless o f ≡ Some f
 shaped_none f o e = rw e refl
@@ -219,12 +196,7 @@ reader_is_read line a form shape =
     ap fact_line f.fields ∙ ap (λ (o : Option (List ℕ)). o >>= made_of_reader) f.numbers ∙ shaped_none (Advance a) (advance_fault a) shape
 
 advance_is_read : (line : List ℕ) (a : AdvanceData) → SpellsAdvance line a → fact_of line ≡ Some (Advance a)
-advance_is_read line a s =
-    let most = advance_numbers a s.shape in
-    elim s.all [
-      | inl named ↦ reader_is_read line a (record { all = named; limited = (s.epoch, (most.0, (most.1, tt))) }) s.shape
-      | inr first ↦ point_is_read line a first.0 (record { all = first.1; limited = (s.epoch, (most.0, tt)) }) s.shape
-    ]
+advance_is_read line a s = search (rules, reader_is_read, point_is_read)
 
 fact_is_read : (line : List ℕ) (f : Fact) → SpellsFact line f → fact_of line ≡ Some f
 fact_is_read line (Record r) s = record_is_read line r s

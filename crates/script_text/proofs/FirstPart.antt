@@ -1,5 +1,5 @@
 -- The first part of a text.
-use Rattle.std.proofs.Common.{◌≡◌, ℕ, ◌+◌, ◌<◌, ◌≤◌, ◌⊎◌, inl, inr, ◌↔◌, Bool, true, false, cond, not, ◌||◌, eqb, ltb, List, [], ◌∷◌, length, get_or, take, drop, Option, Some, None, is_some, refl, sym, subst, ap, ◌∙◌, arith}
+use Rattle.std.proofs.Common.{◌≡◌, ℕ, ◌+◌, ◌<◌, ◌≤◌, ◌⊎◌, inl, inr, ◌↔◌, Bool, true, false, cond, not, ◌||◌, eqb, ltb, List, [], ◌∷◌, length, get_or, take, drop, Option, Some, None, is_some, refl, sym, ap, ◌∙◌, arith, rules}
 use Rattle.std.specs.Prelude.{position}
 use Rattle.std.specs.List.{position_or_len}
 use Rattle.std.proofs.lemmas.List.Splits.{slice_split_first, slice_split_none}
@@ -10,21 +10,11 @@ use Rattle.script_text.specs.Parts.{parts_at}
 use Rattle.script_text.proofs.Options.{no_test}
 use Rattle.script_text.proofs.Split.{some_parts}
 
-found : (b : Bool) (q at : ℕ) → cond b (Some q) None ≡ Some at → (b ≡ true) × (q ≡ at)
-found true q at h = (refl, cc)
-found false q at h = absurd cc
-
-not_found : (b : Bool) (q : ℕ) → cond b (Some q) None ≡ None → b ≡ false
-not_found true q h = absurd cc
-not_found false q h = refl
-
 absent : (b : Bool) (q : ℕ) → b ≡ false → None ≡ cond b (Some q) None
-absent true q h = absurd cc
-absent false q h = refl
+absent b q h = cc
 
 present : (b : Bool) (q k : ℕ) → b ≡ true → q ≡ k → Some k ≡ cond b (Some q) None
-present true q k h e = ap Some (sym e)
-present false q k h e = absurd cc
+present b q k h e = cc
 
 -- the place that a search for a byte finds
 pub first_is : (c : ℕ) (text : List ℕ) (r : Option ℕ) → IsFirstByte (is_byte c) text r → r ≡ position (λ b. eqb b c) text
@@ -45,37 +35,26 @@ first_is c text (Some k) h =
 -- with the separator at this place, the first part ends there
 pub parted_at : (c : ℕ) (text : List ℕ) (at : ℕ) → position (λ b. eqb b c) text ≡ Some at
     → (at < length text) × (parts_at c text ≡ take at text ∷ parts_at c (drop (at + 1) text))
-parted_at c text at h =
-    let first = position_or_len (λ b. eqb b c) text in
-    let f = found (ltb first (length text)) first at h in
-    let within : first < length text = grind (arith, nat_tests, f.0) in
-    let cut = slice_split_first (λ b. eqb b c) text 0 within in
-    (omega (arith, within, f.1), subst (λ (n : ℕ). parts_at c text ≡ take n text ∷ parts_at c (drop (n + 1) text)) f.1 cut)
+parted_at c text at h = search (rules, slice_split_first)
 
 -- a search that finds no place has tested each
 all_searched : (c : ℕ) (text : List ℕ) → position (λ b. eqb b c) text ≡ None → length text ≤ position_or_len (λ b. eqb b c) text
-all_searched c text h =
-    let none : ltb (position_or_len (λ b. eqb b c) text) (length text) ≡ false = not_found _ _ h in
-    grind (arith, nat_tests, none)
+all_searched c text h = search rules
 
 -- with no separator the text is one part
 pub not_parted : (c : ℕ) (text : List ℕ) → position (λ b. eqb b c) text ≡ None → parts_at c text ≡ text ∷ []
-not_parted c text h = slice_split_none (λ b. eqb b c) text
-    (λ k d lt. fails_before_first (λ b. eqb b c) text k d (omega (arith, lt, all_searched c text h)))
+not_parted c text h = search (rules, slice_split_none, fails_before_first)
 
 -- ---- one search for two separators
 
 either_is : (a b : Bool) → a ≡ true → a || b ≡ true
-either_is true b e = refl
-either_is false b e = absurd cc
+either_is a b e = cc
 
 or_is : (a b : Bool) → b ≡ true → a || b ≡ true
-or_is true b e = refl
-or_is false b e = e
+or_is a b e = search rules
 
 or_cases : (a b : Bool) → a || b ≡ true → (a ≡ true) ⊎ (b ≡ true)
-or_cases true b e = inl refl
-or_cases false b e = inr e
+or_cases a b e = search rules
 
 -- with the separator somewhere the text is more than one part
 parted : (c : ℕ) (text : List ℕ) (k : ℕ) (o : Option ℕ) → k < length text → eqb (get_or text k 0) c ≡ true → position (λ b. eqb b c) text ≡ o

@@ -1,9 +1,8 @@
 -- What is read of the first parts of a text is what is read of all of them.
-use Rattle.std.proofs.Common.{◌≡◌, ℕ, ◌+◌, ◌<◌, ◌≤◌, inl, inr, Bool, true, false, cond, List, [], ◌∷◌, take, length, Option, Some, None, refl, sym, ap, ◌∙◌, arith}
+use Rattle.std.proofs.Common.{◌≡◌, ℕ, ◌+◌, ◌<◌, ◌≤◌, Bool, cond, List, [], ◌∷◌, take, length, Option, None, refl, arith, rules}
+use Rattle.std.proofs.lemmas.Grind.{common_steps}
 use Rattle.std.specs.Prelude.{bytes_eq}
 use Rattle.std.specs.List.{AllByRecursion}
-use Rattle.std.proofs.lemmas.Bool.{cases_lt}
-use Rattle.std.proofs.lemmas.List.{take_all, length-take-le}
 use Rattle.script_text.specs.Parts.{◌>>=◌}
 use Rattle.script_text.specs.Fields.{Form, numbers_of, made_by, read_by}
 use Rattle.script_text.proofs.Forms.{numbers_apart}
@@ -11,19 +10,13 @@ use Rattle.script_text.proofs.Forms.{numbers_apart}
 -- where all long lists are read alike, the first elements of a list are read as all of them are
 pub few_are_all : {A : Type 0} (read : List (List ℕ) → A) (long : A) (n : ℕ) (xs : List (List ℕ))
     → ((ys : List (List ℕ)) → n ≤ length ys → read ys ≡ long) → read (take n xs) ≡ read xs
-few_are_all read long n xs alike =
-    elim (cases_lt (length xs) n) [
-      | inl few ↦ ap read (take_all n xs (omega arith))
-      | inr many ↦ alike (take n xs) (omega (arith, length-take-le n xs many)) ∙ sym (alike xs many)
-    ]
+few_are_all read long n xs alike = grind (arith, common_steps)
 
 pub none_of : {A : Type 0} (b : Bool) (x y : Option A) → x ≡ None → y ≡ None → cond b x y ≡ None
-none_of true x y p q = p
-none_of false x y p q = q
+none_of b x y p q = search rules
 
 none_then : {A B : Type 0} (o : Option A) (f : A → Option B) → o ≡ None → (o >>= f) ≡ None
-none_then (Some x) f e = absurd cc
-none_then None f e = refl
+none_then o f e = cc
 
 -- ---- numbers and forms
 

@@ -1,17 +1,14 @@
 -- Fields that are numbers within limits.
-use Rattle.std.proofs.Common.{◌≡◌, ℕ, ◌≤◌, inl, inr, true, ◌&&◌, eqb, ltb, leb, List, [], ◌∷◌, map, length, Option, Some, None, refl, ap, ◌∙◌, subst, arith}
+use Rattle.std.proofs.Common.{◌≡◌, ℕ, ◌≤◌, inl, inr, true, List, [], ◌∷◌, map, length, Option, Some, None, refl, ap, ◌∙◌, subst, arith, rules}
 use Rattle.std.specs.Prelude.{bytes_eq}
 use Rattle.std.specs.Fmt.{decimal}
-use Rattle.std.specs.Str.{all_ascii_digits}
-use Rattle.std.proofs.lemmas.Option.{cond_some}
-use Rattle.std.proofs.lemmas.Bool.Decides.{nat_tests}
 use Rattle.std.specs.List.{AllByRecursion, AllZip}
 use Rattle.redo_core.specs.Shape.{max_number}
-use Rattle.script_text.specs.Number.{value_from, digits_of, decimal_value}
+use Rattle.script_text.specs.Number.{digits_of, decimal_value}
 use Rattle.script_text.specs.Parts.{◌>>=◌, parts_at}
-use Rattle.script_text.specs.Fields.{numbers_of, of_one, of_two, of_three, of_five, Form, read_by}
+use Rattle.script_text.specs.Fields.{numbers_of, of_two, of_three, of_five, Form, read_by}
 use Rattle.script_text.specs.Spelled.{worded, SpellsForm, SpellsBy}
-use Rattle.script_text.proofs.Numbers.{none_or, numbers_are_decimals, decimal_is_read, lacks_space}
+use Rattle.script_text.proofs.Numbers.{numbers_are_decimals, decimal_is_read, lacks_space}
 use Rattle.script_text.proofs.Options.{here, some_is, bind_some, either, true_is}
 use Rattle.script_text.proofs.Split.{AllLack, parts_joined, joined_parts, lacks}
 
@@ -26,9 +23,7 @@ AreWithin ns limits = AllZip (λ n limit. n ≤ limit) ns limits
 -- ---- how many there are
 
 none_left : (o : Option ℕ) (os : Option (List ℕ)) → os ≡ None → (o >>= (λ n. os >>= (λ ns. here (n ∷ ns)))) ≡ None
-none_left (Some n) (Some ns) e = absurd cc
-none_left (Some n) None e = refl
-none_left None os e = refl
+none_left o os e = search rules
 
 pub numbers_apart : (limits : List ℕ) (fields : List (List ℕ)) → (length fields ≡ length limits → ⊥) → numbers_of limits fields ≡ None
 numbers_apart [] [] ne = absurd (ne refl)
@@ -77,35 +72,17 @@ worded_fields line word limits ns small h space e = ap (parts_at 32) e ∙ joine
 
 -- ---- what so many numbers make
 
-pub one_is : {A : Type 0} (make : ℕ → Option A) (ns : List ℕ) (x : A) → of_one make ns ≡ Some x → (a : ℕ) × (ns ≡ a ∷ []) × (make a ≡ Some x)
-one_is make [] x h = absurd cc
-one_is make (a ∷ []) x h = (a, refl, h)
-one_is make (a ∷ b ∷ ns) x h = absurd cc
-
 pub two_is : {A : Type 0} (make : ℕ → ℕ → Option A) (ns : List ℕ) (x : A) → of_two make ns ≡ Some x
     → (a : ℕ) × (b : ℕ) × (ns ≡ a ∷ b ∷ []) × (make a b ≡ Some x)
-two_is make [] x h = absurd cc
-two_is make (a ∷ []) x h = absurd cc
-two_is make (a ∷ b ∷ []) x h = (a, b, refl, h)
-two_is make (a ∷ b ∷ c ∷ ns) x h = absurd cc
+two_is make ns x h = search rules
 
 pub three_is : {A : Type 0} (make : ℕ → ℕ → ℕ → Option A) (ns : List ℕ) (x : A) → of_three make ns ≡ Some x
     → (a : ℕ) × (b : ℕ) × (c : ℕ) × (ns ≡ a ∷ b ∷ c ∷ []) × (make a b c ≡ Some x)
-three_is make [] x h = absurd cc
-three_is make (a ∷ []) x h = absurd cc
-three_is make (a ∷ b ∷ []) x h = absurd cc
-three_is make (a ∷ b ∷ c ∷ []) x h = (a, b, c, refl, h)
-three_is make (a ∷ b ∷ c ∷ d ∷ ns) x h = absurd cc
+three_is make ns x h = search rules
 
 pub five_is : {A : Type 0} (make : ℕ → ℕ → ℕ → ℕ → ℕ → Option A) (ns : List ℕ) (x : A) → of_five make ns ≡ Some x
     → (a : ℕ) × (b : ℕ) × (c : ℕ) × (d : ℕ) × (e : ℕ) × (ns ≡ a ∷ b ∷ c ∷ d ∷ e ∷ []) × (make a b c d e ≡ Some x)
-five_is make [] x h = absurd cc
-five_is make (a ∷ []) x h = absurd cc
-five_is make (a ∷ b ∷ []) x h = absurd cc
-five_is make (a ∷ b ∷ c ∷ []) x h = absurd cc
-five_is make (a ∷ b ∷ c ∷ d ∷ []) x h = absurd cc
-five_is make (a ∷ b ∷ c ∷ d ∷ e ∷ []) x h = (a, b, c, d, e, refl, h)
-five_is make (a ∷ b ∷ c ∷ d ∷ e ∷ f ∷ ns) x h = absurd cc
+five_is make ns x h = search rules
 
 -- ---- forms
 
@@ -134,11 +111,7 @@ read_has P (f ∷ forms) line (word ∷ fields) x all e h =
 
 within_limit : (limit n : ℕ) (word : List ℕ) → decimal_value limit word ≡ Some n → n ≤ limit
 unfolding digits_of
-within_limit limit n [] h = absurd cc
-within_limit limit n (c ∷ cs) h = let outer = none_or (eqb c 48 && ltb 0 (length cs)) (digits_of limit (c ∷ cs)) n h in
-    let parts = cond_some (all_ascii_digits (c ∷ cs) && leb (value_from 0 (c ∷ cs)) limit) (value_from 0 (c ∷ cs)) n outer.1 in
-    let le : value_from 0 (c ∷ cs) ≤ limit = grind (arith, nat_tests, parts.0) in
-    rw (← parts.1) le
+within_limit limit n word h = search rules
 
 -- the numbers that are read are within their limits, whatever these are
 pub numbers_within : (limits : List ℕ) (fields : List (List ℕ)) (ns : List ℕ) → numbers_of limits fields ≡ Some ns → AreWithin ns limits
@@ -163,10 +136,7 @@ pub record FormFields (line word limits ns : List ℕ) : Type 0 where
   pub numbers : numbers_of limits (map decimal ns) ≡ Some ns
 
 pub form_fields : (line word limits ns : List ℕ) → AreLimits limits → SpellsForm line word limits ns → lacks 32 word ≡ true → FormFields line word limits ns
-form_fields line word limits ns small s space = record {
-  fields = worded_fields line word limits ns small s.limited space s.all;
-  numbers = numbers_are_read limits ns small s.limited;
-}
+form_fields line word limits ns small s space = search (rules, worded_fields, numbers_are_read)
 
 pub formed_by : {A : Type 0} (f : Form A) (line ns ms : List ℕ) → ns ≡ ms → line ≡ worded f.word ns → AreWithin ns f.limits → SpellsBy f line ms
 formed_by f line ns ms e all h = formed line f.word f.limits ns ms e all h

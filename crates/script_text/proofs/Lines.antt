@@ -1,20 +1,19 @@
 -- What a loop over the lines of a text keeps.
-use Rattle.std.proofs.Common.{◌≡◌, ℕ, ◌+◌, ◌<◌, ◌≤◌, Bool, true, false, cond, leb, List, [], ◌∷◌, ◌++◌, length, Option, Some, None, Result, Ok, Err, codes, refl, sym, ap, ◌∙◌, arith, append_assoc, append-nil, length-append}
+use Rattle.std.proofs.Common.{◌≡◌, ℕ, ◌+◌, ◌<◌, ◌≤◌, Bool, true, cond, leb, List, [], ◌∷◌, ◌++◌, length, Option, Some, None, Result, Ok, Err, codes, refl, ap, ◌∙◌, arith, rules}
+use Rattle.std.proofs.lemmas.Grind.{common_steps}
 use Rattle.std.specs.Prelude.{bytes_eq}
-use Rattle.std.proofs.lemmas.Bool.Decides.{nat_tests}
 use Rattle.redo_core.specs.declared.facts.Fact.{Fact}
 use Rattle.fleet_steps.specs.declared.steps.Step.{Step}
 use Rattle.script_text.specs.Parts.{parts_at}
 use Rattle.script_text.specs.FactLine.{fact_of}
 use Rattle.script_text.specs.StepLine.{step_of}
-use Rattle.script_text.specs.Script.{ScriptData, most, nodes_in_line, roster_in_line, lines_from, nodes_from, script_from, opening_with, opening_by, opening_of, with_fact, with_facts, within}
+use Rattle.script_text.specs.Script.{most, nodes_in_line, roster_in_line, lines_from, nodes_from, script_from, opening_with, opening_by, opening_of, with_facts, within}
 use Rattle.script_text.proofs.Results.{bad, some_left}
-use Rattle.script_text.proofs.Scripts.{lines_next, script_next}
+use Rattle.script_text.proofs.Scripts.{script_next}
 use Rattle.script_text.proofs.Split.{some_parts}
 
 bad_either : {A : Type 0} (b : Bool) (at : ℕ) → cond b (Err at) (Err at) ≡ bad {A = A} at
-bad_either true at = refl
-bad_either false at = refl
+bad_either b at = search rules
 
 -- ---- lines that are read one by one
 
@@ -23,16 +22,12 @@ abbrev pub with_said : {A : Type 0} → List A → Result (List A) ℕ → Resul
 with_said front rest = within (λ xs. front ++ xs) rest
 
 one_more : {A : Type 0} (front : List A) (x : A) (r : Result (List A) ℕ) → with_said front (within (λ xs. x ∷ xs) r) ≡ with_said (front ++ x ∷ []) r
-one_more {A} front x (Ok xs) = ap (λ (t : List A). Ok t) (sym (append_assoc front (x ∷ []) xs))
-one_more front x (Err at) = refl
+one_more front x r = grind (arith, common_steps)
 
 pub said_next : {A : Type 0} (said : List ℕ → Option A) (count at : ℕ) (front : List A) (text line behind : List ℕ) (x : A)
     → parts_at 10 text ≡ line ∷ parts_at 10 behind → count < most → said line ≡ Some x
     → with_said front (lines_from said count at (parts_at 10 text)) ≡ with_said (front ++ x ∷ []) (lines_from said (count + 1) (at + 1) (parts_at 10 behind))
-said_next said count at front text line behind x e few is =
-    ap (λ (t : List (List ℕ)). with_said front (lines_from said count at t)) e
-    ∙ ap (with_said front) (lines_next said count at line (parts_at 10 behind) x (some_parts 10 behind) few is)
-    ∙ one_more front x (lines_from said (count + 1) (at + 1) (parts_at 10 behind))
+said_next said count at front text line behind x e few is = search (rules, some_parts, one_more)
 
 -- a line that says nothing
 pub said_bad : {A : Type 0} (said : List ℕ → Option A) (count at : ℕ) (text line behind : List ℕ) → parts_at 10 text ≡ line ∷ parts_at 10 behind
@@ -42,26 +37,15 @@ said_bad said count at text line behind e is = rw (e, some_left (length (parts_a
 -- a line more than may come
 pub said_past : {A : Type 0} (said : List ℕ → Option A) (count at : ℕ) (text line behind : List ℕ) → parts_at 10 text ≡ line ∷ parts_at 10 behind
     → most ≤ count → lines_from said count at (parts_at 10 text) ≡ Err at
-said_past said count at text line behind e le =
-    let past : leb most count ≡ true = grind (arith, nat_tests) in
-    rw (e, some_left (length (parts_at 10 behind)) (some_parts 10 behind), past) refl
+said_past said count at text line behind e le = search (rules, some_parts)
 
 -- ---- scripts
-
-one_more_fact : (facts : List Fact) (f : Fact) (r : Result ScriptData ℕ)
-    → within (with_facts facts) (within (with_fact f) r) ≡ within (with_facts (facts ++ f ∷ [])) r
-one_more_fact facts f (Ok s) = ap (λ (t : List Fact). Ok (record s { facts = t })) (sym (append_assoc facts (f ∷ []) s.facts))
-one_more_fact facts f (Err at) = refl
 
 pub fact_next : (at : ℕ) (facts more : List Fact) (text line behind : List ℕ) (f : Fact) → parts_at 10 text ≡ line ∷ parts_at 10 behind
     → length facts < most → fact_of line ≡ Some f → more ≡ facts ++ f ∷ []
     → within (with_facts more) (script_from (length more) (at + length more) (parts_at 10 behind)) ≡ within (with_facts facts)
     (script_from (length facts) (at + length facts) (parts_at 10 text))
-fact_next at facts more text line behind f e few is is_more =
-    let count : length more ≡ length facts + 1 = omega (arith, ap length is_more, length-append facts (f ∷ [])) in
-    let place : at + length more ≡ at + length facts + 1 = omega arith in
-    rw (place, count, is_more, e, script_next (length facts) (at + length facts) line (parts_at 10 behind) f (some_parts 10 behind) few is)
-    (sym (one_more_fact facts f (script_from (length facts + 1) (at + length facts + 1) (parts_at 10 behind))))
+fact_next at facts more text line behind f e few is is_more = grind (arith, common_steps, script_next, some_parts)
 
 pub go_next : (count at : ℕ) (text line behind : List ℕ) → parts_at 10 text ≡ line ∷ parts_at 10 behind → bytes_eq line (codes "go") ≡ true
     → script_from count at (parts_at 10 text) ≡ nodes_from count (at + 1) (parts_at 10 behind)
@@ -71,16 +55,13 @@ go_next count at text line behind e go = rw (e, some_left (length (parts_at 10 b
 pub nodes_next : (count at nodes : ℕ) (facts : List Fact) (steps : List (Step ℕ)) (text line behind : List ℕ)
     → parts_at 10 text ≡ line ∷ parts_at 10 behind → nodes_in_line line ≡ Some nodes → lines_from (step_of count) 0 (at + 1) (parts_at 10 behind) ≡ Ok steps
     → within (with_facts facts) (nodes_from count at (parts_at 10 text)) ≡ Ok (record { facts = facts; nodes = nodes; steps = steps })
-nodes_next count at nodes facts steps text line behind e named asked =
-    rw (e, some_left (length (parts_at 10 behind)) (some_parts 10 behind), named, asked)
-    (ap (λ (t : List Fact). Ok (record { facts = t; nodes = nodes; steps = steps })) (append-nil facts))
+nodes_next count at nodes facts steps text line behind e named asked = search (rules, some_parts)
 
 -- ---- how a text opens
 
 followed : (line : List ℕ) (rest : List (List ℕ)) → 0 < length rest → opening_of (line ∷ rest) ≡ opening_by (roster_in_line line)
 unfolding opening_of
-followed line [] some = absurd (omega arith)
-followed line (next ∷ rest) some = refl
+followed line rest some = search rules
 
 opening_first : (text line behind : List ℕ) → parts_at 10 text ≡ line ∷ parts_at 10 behind → opening_of (parts_at 10 text) ≡ opening_by (roster_in_line line)
 opening_first text line behind e = ap opening_of e ∙ followed line (parts_at 10 behind) (some_parts 10 behind)

@@ -1,5 +1,5 @@
 -- Digits and their value.
-use Rattle.std.proofs.Common.{◌≡◌, ℕ, ◌+◌, ◌-◌, ◌*◌, ◌^◌, ◌<◌, ◌≤◌, Bool, true, false, cond, ◌&&◌, eqb, ltb, leb, List, [], ◌∷◌, length, get_or, drop, Option, Some, None, refl, sym, ap, ◌∙◌, arith, rules, zero, suc, ◌⊎◌, inl, inr}
+use Rattle.std.proofs.Common.{◌≡◌, ℕ, ◌+◌, ◌-◌, ◌*◌, ◌^◌, ◌<◌, ◌≤◌, Bool, true, false, cond, ◌&&◌, eqb, ltb, leb, List, [], ◌∷◌, length, get_or, drop, Option, Some, None, refl, sym, arith, rules}
 use Rattle.std.specs.Str.{all_ascii_digits}
 use Rattle.std.specs.Char.{is_ascii_digit}
 use Rattle.std.proofs.lemmas.Option.{cond_some}
@@ -41,8 +41,7 @@ pub value_at : (n : ℕ) (word : List ℕ) (i : ℕ) → i < length word → val
 value_at n word i lt = grind (arith, common_steps)
 
 pub none_or : (b : Bool) (o : Option ℕ) (n : ℕ) → cond b None o ≡ Some n → (b ≡ false) × (o ≡ Some n)
-none_or true o n e = absurd cc
-none_or false o n e = (refl, e)
+none_or b o n e = search rules
 
 number_from_word : (limit n : ℕ) (word : List ℕ) → limit < 2 ^ 64 → decimal_value limit word ≡ Some n → (word ≡ decimal n) × (n ≤ limit)
 unfolding digits_of
@@ -58,29 +57,16 @@ number_from_word limit n (d ∷ ds) lt e =
     let same = decimal-digits_value model word all (omega arith) lead (omega arith) in
     (rw (← parts.1) (sym same), rw (← parts.1) le)
 
-zero_or_more : (n : ℕ) → (n ≡ 0) ⊎ (0 < n)
-zero_or_more zero = inl refl
-zero_or_more (suc n) = inr (omega arith)
-
 lead_of : (n : ℕ) (word : List ℕ) → n < 2 ^ 64 → word ≡ decimal n → 1 < length word → get_or word 0 0 ≡ 48 → ⊥
-lead_of n word small e long z =
-    elim (zero_or_more n) [
-      | inl none ↦ let one : decimal n ≡ 48 ∷ [] = rw none (decimal_digit 0 (omega arith)) in let len : length word ≡ 1 = rw (e, one) refl in omega arith
-      | inr more ↦ let first : 48 < get_or word 0 0 = rw e (first_decimal n more small) in omega arith
-    ]
+lead_of n word small e long z = search (rules, decimal_digit, first_decimal)
 
 decimal_value_good : (limit : ℕ) (word : List ℕ) → 0 < length word → (1 < length word → get_or word 0 0 ≡ 48 → ⊥)
     → decimal_value limit word ≡ digits_of limit word
-decimal_value_good limit [] some lead = absurd (omega arith)
-decimal_value_good limit (d ∷ ds) some lead = grind (arith, nat_tests, lead)
+decimal_value_good limit word some lead = search rules
 
 number_from_decimal : (limit n : ℕ) (word : List ℕ) → limit < 2 ^ 64 → word ≡ decimal n → n ≤ limit → decimal_value limit word ≡ Some n
 number_from_decimal limit n word lt e le =
-    let small : n < 2 ^ 64 = omega arith in
-    let all : all_ascii_digits word ≡ true = rw e (digits_decimal model n small) in
-    let value : value_from 0 word ≡ n = rw e (digits_value-decimal model n small) in
-    let some : 0 < length word = rw e (decimal_nonempty n small) in
-    decimal_value_good limit word some (lead_of n word small e) ∙ digits_of_good limit word all (omega arith) ∙ ap (λ (m : ℕ). Some m) value
+    search (rules, digits_decimal, model, digits_value-decimal, decimal_nonempty, decimal_value_good, lead_of, digits_of_good)
 
 pub numbers_are_decimals : NumbersAreDecimals
 numbers_are_decimals limit n word lt = (number_from_word limit n word lt, λ h. number_from_decimal limit n word lt h.0 h.1)

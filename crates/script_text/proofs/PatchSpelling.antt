@@ -1,5 +1,5 @@
 -- Patches are read exactly where they are spelled.
-use Rattle.std.proofs.Common.{◌≡◌, ℕ, ◌<◌, ◌≤◌, inl, inr, Bool, true, false, eqb, List, [], ◌∷◌, ◌++◌, length, Some, Result, Ok, Err, codes, refl, sym, ap, ◌∙◌, subst, arith}
+use Rattle.std.proofs.Common.{◌≡◌, ℕ, ◌<◌, ◌≤◌, inl, inr, Bool, true, false, eqb, List, [], ◌∷◌, ◌++◌, length, Some, Result, Ok, codes, refl, sym, ap, ◌∙◌, subst, arith, rules}
 use Rattle.std.specs.Prelude.{bytes_eq}
 use Rattle.std.specs.Char.{is_ascii_digit}
 use Rattle.std.specs.Fmt.{decimal}
@@ -27,8 +27,7 @@ write o bytes = record { offset = o; bytes = bytes }
 -- ---- what is read is spelled
 
 decoded_is : (r : Result (List ℕ) FromHexError) (bytes : List ℕ) → decoded r ≡ Some bytes → r ≡ Ok bytes
-decoded_is (Ok bs) bytes h = ap (λ (t : List ℕ). Ok t) (some_is bs bytes h)
-decoded_is (Err e) bytes h = absurd cc
+decoded_is r bytes h = search rules
 
 -- a text of a place, a colon and digits
 record Halves (text place digits bytes : List ℕ) : Type 0 where
@@ -109,13 +108,7 @@ from_parts text (t ∷ ts) c e h =
 
 pub contents_are_spelled : (text : List ℕ) (c : Contents) → contents_of text ≡ Some c → SpellsContents text c.init c.patches
 unfolding contents_of
-contents_are_spelled text c h =
-    elim (either (bytes_eq text (codes "-")) (here (contents false [])) (contents_from (parts_at 44 text)) c h) [
-      | inl dash ↦
-          let spelled : SpellsContents text false [] = inl (true_is text (codes "-") dash.0, refl, refl) in
-          subst (λ (d : Contents). SpellsContents text d.init d.patches) (some_is (contents false []) c dash.1) spelled
-      | inr more ↦ from_parts text (parts_at 44 text) c refl more.1
-    ]
+contents_are_spelled text c h = search (rules, from_parts)
 
 -- ---- what is spelled is read
 
@@ -127,12 +120,6 @@ record IsStrange (c : ℕ) : Type 0 where
   no_hex_digit : is_hex_digit c ≡ false
   not_in_init : lacks c (codes "init") ≡ true
 
-comma : IsStrange 44
-comma = record { no_digit = refl; no_colon = refl; no_asterisk = refl; no_hex_digit = refl; not_in_init = refl }
-
-dash_sign : IsStrange 45
-dash_sign = record { no_digit = refl; no_colon = refl; no_asterisk = refl; no_hex_digit = refl; not_in_init = refl }
-
 space : IsStrange 32
 space = record { no_digit = refl; no_colon = refl; no_asterisk = refl; no_hex_digit = refl; not_in_init = refl }
 
@@ -142,20 +129,10 @@ digits_lack c digits bytes e hex = lacks_passing is_hex_digit c digits (decode_o
 -- what stands in front of the colon of a fill
 place_lacks : (c offset len : ℕ) → offset ≤ 65535 → len ≤ 4096 → is_ascii_digit c ≡ false → eqb 42 c ≡ false
     → lacks c (decimal offset ++ 42 ∷ decimal len) ≡ true
-place_lacks c offset len lo ll digit asterisk =
-    let front = lacks_decimal c offset (omega arith) digit in
-    let back = lacks_decimal c len (omega arith) digit in
-    lacks_append c (decimal offset) (42 ∷ decimal len) front (rw (asterisk, back) refl)
+place_lacks c offset len lo ll digit asterisk = search (rules, lacks_decimal, lacks_append)
 
 patch_lacks : (c : ℕ) (text : List ℕ) (p : Patch) → IsStrange c → SpellsPatch text p → lacks c text ≡ true
-patch_lacks c text (Bytes w) k s =
-    let front = lacks_decimal c w.offset (omega (arith, s.offset)) k.no_digit in
-    let back = digits_lack c s.digits w.bytes s.bytes k.no_hex_digit in
-    rw s.all (lacks_append c (decimal w.offset) (58 ∷ s.digits) front (rw (k.no_colon, back) refl))
-patch_lacks c text (Fill offset len byte) k s =
-    let front = place_lacks c offset len s.in_offset s.in_len k.no_digit k.no_asterisk in
-    let back = digits_lack c s.digits (byte ∷ []) s.bytes k.no_hex_digit in
-    rw s.all (lacks_append c (decimal offset ++ 42 ∷ decimal len) (58 ∷ s.digits) front (rw (k.no_colon, back) refl))
+patch_lacks c text p k s = search (rules, lacks_decimal, digits_lack, lacks_append)
 
 patches_lack : (c : ℕ) (texts : List (List ℕ)) (ps : List Patch) → IsStrange c → AllZip SpellsPatch texts ps → AllLack c texts
 patches_lack c [] ps k h = tt
@@ -163,16 +140,14 @@ patches_lack c (t ∷ ts) [] k h = absurd h
 patches_lack c (t ∷ ts) (p ∷ ps) k h = (patch_lacks c t p k h.0, patches_lack c ts ps k h.1)
 
 pieces_lack : (c : ℕ) (init : Bool) (texts : List (List ℕ)) (ps : List Patch) → IsStrange c → AllZip SpellsPatch texts ps → AllLack c (behind_init init texts)
-pieces_lack c true texts ps k h = (k.not_in_init, patches_lack c texts ps k h)
-pieces_lack c false texts ps k h = patches_lack c texts ps k h
+pieces_lack c init texts ps k h = search (rules, patches_lack)
 
 joined_lack : (c : ℕ) (texts : List (List ℕ)) → eqb 44 c ≡ false → AllLack c texts → lacks c (join_with_byte 44 texts) ≡ true
 joined_lack c [] e h = refl
 joined_lack c (t ∷ ts) e h = lacks_joined c 44 t ts e h
 
 write_is_read : (o : ℕ) (bytes : List ℕ) → o ≤ 65535 → 0 < length bytes → write_at (decimal o) bytes ≡ Some (Bytes (write o bytes))
-write_is_read o [] le some = absurd (omega arith)
-write_is_read o (b ∷ bs) le some = rw (decimal_is_read 65535 o (omega arith) le) refl
+write_is_read o bytes le some = search (rules, decimal_is_read)
 
 patch_is_read : (text : List ℕ) (p : Patch) → SpellsPatch text p → patch_of text ≡ Some p
 unfolding patch_from
@@ -209,8 +184,7 @@ unfolding patch_from
 init_is_no_patch p h = cc
 
 no_init : (text : List ℕ) (p : Patch) → SpellsPatch text p → bytes_eq text (codes "init") ≡ false
-no_init text p s = no_test (bytes_eq text (codes "init"))
-    (λ t. let e : text ≡ codes "init" = true_is text (codes "init") t in init_is_no_patch p (sym (ap patch_of e) ∙ patch_is_read text p s))
+no_init text p s = search (rules, init_is_no_patch, patch_is_read)
 
 -- a text of patches is no dash
 no_dash : (text : List ℕ) → lacks 45 text ≡ true → bytes_eq text (codes "-") ≡ false
@@ -219,10 +193,7 @@ no_dash text h = no_test (bytes_eq text (codes "-")) (λ t. let e : text ≡ cod
 from_is_read : (init : Bool) (texts : List (List ℕ)) (ps : List Patch) → AllZip SpellsPatch texts ps → 0 < length (behind_init init texts)
     → contents_from (behind_init init texts) ≡ Some (contents init ps)
 unfolding contents_from
-from_is_read true texts ps h some = rw (each_patch_is_read texts ps h) refl
-from_is_read false [] ps h some = absurd (omega arith)
-from_is_read false (t ∷ ts) [] h some = absurd h
-from_is_read false (t ∷ ts) (p ∷ ps) h some = rw (no_init t p h.0, each_patch_is_read (t ∷ ts) (p ∷ ps) h) refl
+from_is_read init texts ps h some = search (rules, each_patch_is_read, no_init)
 
 pieces_parted : (pieces : List (List ℕ)) → AllLack 44 pieces → 0 < length pieces → parts_at 44 (join_with_byte 44 pieces) ≡ pieces
 pieces_parted [] h some = absurd (omega arith)
@@ -231,15 +202,11 @@ pieces_parted (x ∷ xs) h some = joined_parts 44 x xs h
 joined_is_read : (init : Bool) (texts : List (List ℕ)) (ps : List Patch) → AllZip SpellsPatch texts ps → 0 < length (behind_init init texts)
     → contents_of (join_with_byte 44 (behind_init init texts)) ≡ Some (contents init ps)
 unfolding contents_of
-joined_is_read init texts ps h some =
-    let commas = pieces_parted (behind_init init texts) (pieces_lack 44 init texts ps comma h) some in
-    let dash = no_dash (join_with_byte 44 (behind_init init texts)) (joined_lack 45 (behind_init init texts) refl (pieces_lack 45 init texts ps dash_sign h)) in
-    rw (dash, commas) (from_is_read init texts ps h some)
+joined_is_read init texts ps h some = search (rules, pieces_parted, pieces_lack, no_dash, joined_lack, from_is_read)
 
 pub contents_are_read : (text : List ℕ) (init : Bool) (ps : List Patch) → SpellsContents text init ps → contents_of text ≡ Some (contents init ps)
 unfolding contents_of
-contents_are_read text init ps (inl dash) = rw (dash.0, dash.1, dash.2) refl
-contents_are_read text init ps (inr more) = ap contents_of more.1 ∙ joined_is_read init more.0 ps more.2 more.3
+contents_are_read text init ps h = search (rules, joined_is_read)
 
 -- the contents stand in one field
 pub contents_lack_space : (text : List ℕ) (init : Bool) (ps : List Patch) → SpellsContents text init ps → lacks 32 text ≡ true

@@ -1,18 +1,14 @@
 -- What the text behind the numbers of a record's line says.
-use Rattle.std.proofs.Common.{◌≡◌, ℕ, ◌^◌, ◌<◌, Bool, true, false, cond, eqb, ltb, leb, List, [], ◌∷◌, length, Option, Some, None, Result, Ok, Err, codes, refl, sym, subst, ap, ◌∙◌, arith}
+use Rattle.std.proofs.Common.{◌≡◌, ℕ, ◌^◌, ◌<◌, Bool, true, false, List, [], ◌∷◌, length, Option, Some, None, Result, Ok, Err, codes, refl, sym, subst, ap, ◌∙◌, arith, rules}
 use Rattle.std.specs.Prelude.{bytes_eq}
 use Rattle.std.specs.Fmt.{decimal}
-use Rattle.std.specs.Option.{option_or}
-use Rattle.std.proofs.lemmas.Bool.Decides.{nat_tests}
 use Rattle.hex.specs.Hex.{decode_of, is_hex_digit}
 use Rattle.hex.specs.declared.error.FromHexError.{FromHexError}
 use Rattle.hex.proofs.HexLemmas.{decode_of-ok}
-use Rattle.redo_core.specs.Data.{RecordData, record_with}
-use Rattle.redo_core.specs.Shape.{max_patches, patches_fault, record_fault}
+use Rattle.redo_core.specs.Data.{RecordData}
+use Rattle.redo_core.specs.Shape.{max_patches}
 use Rattle.redo_core.specs.declared.shapes.ShapeFault.{ShapeFault}
-use Rattle.redo_core.specs.declared.shapes.ShapeFault.TheVariants.{NumberIsZero, BackNotBelow, BlockBackAbove}
 use Rattle.redo_core.specs.declared.patches.Patch.{Patch}
-use Rattle.redo_core.specs.declared.patches.Patch.TheVariants.{Bytes, Fill}
 use Rattle.redo_core.specs.declared.facts.Fact.{Fact}
 use Rattle.redo_core.specs.declared.facts.Fact.TheVariants.{Record}
 use Rattle.script_text.specs.declared.contents.Head.{Head}
@@ -21,8 +17,8 @@ use Rattle.script_text.specs.Parts.{◌>>=◌, parts_at}
 use Rattle.script_text.specs.Fields.{field_of}
 use Rattle.script_text.specs.FactLine.{decoded, write_at, write_of, fill_at, fill_of, patch_at, patch_from, patch_of, each_patch, contents, contents_from, contents_of, FitNoRecord, unless, shaped, record_of_patches, record_of_contents}
 use Rattle.script_text.proofs.Numbers.{numbers_are_decimals, lacks_decimal}
-use Rattle.script_text.proofs.Options.{here, true_is, no_test}
-use Rattle.script_text.proofs.Cursor.{first_number, no_number}
+use Rattle.script_text.proofs.Options.{here}
+use Rattle.script_text.proofs.Cursor.{no_number}
 use Rattle.script_text.proofs.Split.{some_parts, lacks, parts_joined, joined_parts, lacks_passing}
 
 -- ---- one patch
@@ -54,9 +50,7 @@ not_decoded place digits (x ∷ y ∷ rest) f is e = refl
 behind_colon : (place digits : List ℕ) (r : Result (List ℕ) FromHexError) → decode_of digits ≡ r
     → patch_from (place ∷ parts_at 58 digits) ≡ (decoded r >>= patch_at (parts_at 42 place))
 unfolding patch_from
-behind_colon place digits (Ok bytes) e = ap (λ (t : List (List ℕ)). patch_from (place ∷ t)) (decoded_whole digits bytes e)
-    ∙ ap (λ (r : Result (List ℕ) FromHexError). decoded r >>= patch_at (parts_at 42 place)) e
-behind_colon place digits (Err f) e = not_decoded place digits (parts_at 58 digits) f refl e
+behind_colon place digits r e = search (rules, decoded_whole, not_decoded)
 
 -- behind the first colon stand digits, where there is a patch
 colon : (text place digits : List ℕ) → parts_at 58 text ≡ place ∷ parts_at 58 digits
@@ -70,13 +64,7 @@ read_whole limit word n lt e =
     joined_parts 42 word [] (subst (λ (t : List ℕ). lacks 42 t ≡ true) (sym is.0) (lacks_decimal 42 n (omega (arith, lt, is.1)) refl), tt)
 
 no_len : (offset len bytes : List ℕ) → decimal_value 4096 len ≡ None → fill_at offset len bytes ≡ None
-no_len offset len [] e = refl
-no_len offset len (b ∷ c ∷ bs) e = refl
-no_len offset len (b ∷ []) e =
-    elim (decimal_value 65535 offset) as (λ (a : Option ℕ). (a >>= (λ n. decimal_value 4096 len >>= (λ l. here (Fill n l b)))) ≡ None) [
-      | None ↦ refl
-      | Some n ↦ ap (λ (o : Option ℕ). o >>= (λ l. here (Fill n l b))) e
-    ]
+no_len offset len bytes e = search rules
 
 behind_star : (offset len bytes : List ℕ) (o : Option ℕ) (parts : List (List ℕ)) → decimal_value 4096 len ≡ o → parts_at 42 len ≡ parts
     → patch_at (offset ∷ parts) bytes ≡ fill_at offset len bytes
@@ -86,8 +74,7 @@ behind_star offset len bytes None (x ∷ []) e is = ap (λ (t : List ℕ). fill_
 behind_star offset len bytes None (x ∷ y ∷ rest) e is = sym (no_len offset len bytes e)
 
 then_same : (o : Option (List ℕ)) (f g : List ℕ → Option Patch) → ((bytes : List ℕ) → f bytes ≡ g bytes) → (o >>= f) ≡ (o >>= g)
-then_same None f g same = refl
-then_same (Some bytes) f g same = same bytes
+then_same o f g same = search rules
 
 -- a place with no star is that of a write
 unstarred : (text place digits : List ℕ) → parts_at 58 text ≡ place ∷ parts_at 58 digits → parts_at 42 place ≡ place ∷ []
@@ -97,18 +84,13 @@ unstarred text place digits e whole = colon text place digits e ∙ ap (λ (t : 
 -- a number and a colon begin a write
 pub write_is : (n : ℕ) (text digits : List ℕ) → field_of 65535 (parts_at 58 text) ≡ Some (n, parts_at 58 digits)
     → patch_of text ≡ write_of (decimal n) digits
-write_is n text digits e =
-    let place = first_number 65535 n (parts_at 58 text) (parts_at 58 digits) e in
-    let is = (numbers_are_decimals 65535 n place.0 (omega arith)).0 place.2 in
-    unstarred text place.0 digits place.1 (read_whole 65535 place.0 n (omega arith) place.2) ∙ ap (λ (t : List ℕ). write_of t digits) is.0
+write_is n text digits e = search (rules, numbers_are_decimals, unstarred, read_whole)
 
 no_write : (place bytes : List ℕ) → decimal_value 65535 place ≡ None → write_at place bytes ≡ None
-no_write place [] e = refl
-no_write place (b ∷ bs) e = ap (λ (o : Option ℕ). o >>= (λ n. here (Bytes (record { offset = n; bytes = b ∷ bs })))) e
+no_write place bytes e = search rules
 
 then_none : (o : Option (List ℕ)) (f : List ℕ → Option Patch) → ((bytes : List ℕ) → f bytes ≡ None) → (o >>= f) ≡ None
-then_none None f none = refl
-then_none (Some bytes) f none = none bytes
+then_none o f none = search rules
 
 -- a place with neither a number nor a star spells nothing
 pub no_place : (text place digits : List ℕ) → field_of 65535 (parts_at 58 text) ≡ None → parts_at 58 text ≡ place ∷ parts_at 58 digits
@@ -127,49 +109,30 @@ fill_is text place digits offset len e star = colon text place digits e
 
 -- ---- too many patches are those of no record
 
-fault_of : (b : Bool) (f : ShapeFault) (o : Option ShapeFault) → (o ≡ None → ⊥) → cond b (Some f) o ≡ None → ⊥
-fault_of true f o h e = absurd cc
-fault_of false f o h e = h e
-
-either_fault : (o p : Option ShapeFault) → (o ≡ None → ⊥) → option_or o p ≡ None → ⊥
-either_fault (Some f) p h e = absurd cc
-either_fault None p h e = h refl
-
 no_fact : (o : Option ShapeFault) (f : Fact) → (o ≡ None → ⊥) → unless o f ≡ None
-no_fact None f h = absurd (h refl)
-no_fact (Some fault) f h = refl
+no_fact o f h = search rules
 
 many_patches : (r : RecordData) → max_patches < length r.patches → shaped (Record r) ≡ None
 unfolding shaped
-many_patches r lt =
-    let many : ltb max_patches (length r.patches) ≡ true = grind (arith, nat_tests) in
-    let faulty : patches_fault r.patches ≡ None → ⊥ = rw many (λ e. cc) in
-    no_fact (record_fault r) (Record r) (fault_of (eqb r.number 0) NumberIsZero _ (fault_of (leb r.number r.back) BackNotBelow _
-    (fault_of (ltb r.back r.block_back) BlockBackAbove _ (either_fault (patches_fault r.patches) _ faulty))))
+many_patches r lt = search rules
 
 pub no_record : (head : Head) (init : Bool) (o : Option (List Patch)) → FitNoRecord o → record_of_patches head init o ≡ None
-no_record head init None fit = refl
-no_record head init (Some ps) fit = many_patches (record_with head.epoch head.number head.back head.page head.block_back init ps) fit
+no_record head init o fit = search (rules, many_patches)
 
 -- ---- contents with a comma
 
 no_dash : (text front : List ℕ) (rest : List (List ℕ)) → parts_at 44 text ≡ front ∷ rest → 0 < length rest → bytes_eq text (codes "-") ≡ false
-no_dash text front rest e some = no_test (bytes_eq text (codes "-")) (λ is.
-    let one : length (parts_at 44 text) ≡ 1 = ap (λ (t : List ℕ). length (parts_at 44 t)) (true_is text (codes "-") is) in
-    omega (arith, one, ap length e, some))
+no_dash text front rest e some = search rules
 
 of_patches : (head : Head) (init : Bool) (o : Option (List Patch)) → record_of_contents head (o >>= (λ ps. here (contents init ps))) ≡ record_of_patches head init o
-of_patches head init None = refl
-of_patches head init (Some ps) = refl
+of_patches head init o = search rules
 
 pub anew_with : (head : Head) (text front behind : List ℕ) → parts_at 44 text ≡ front ∷ parts_at 44 behind → bytes_eq front (codes "init") ≡ true
     → record_of_contents head (contents_of text) ≡ record_of_patches head true (each_patch (parts_at 44 behind))
 unfolding contents_of contents_from
-anew_with head text front behind e is = rw (no_dash text front (parts_at 44 behind) e (some_parts 44 behind), e, is)
-    (of_patches head true (each_patch (parts_at 44 behind)))
+anew_with head text front behind e is = search rules
 
 pub kept_with : (head : Head) (text front behind : List ℕ) → parts_at 44 text ≡ front ∷ parts_at 44 behind → bytes_eq front (codes "init") ≡ false
     → record_of_contents head (contents_of text) ≡ record_of_patches head false (each_patch (parts_at 44 text))
 unfolding contents_of contents_from
-kept_with head text front behind e is = rw (no_dash text front (parts_at 44 behind) e (some_parts 44 behind), e, is)
-    (of_patches head false (each_patch (front ∷ parts_at 44 behind)))
+kept_with head text front behind e is = search (rules, no_dash, some_parts)

@@ -1,5 +1,5 @@
 -- What was read, and what was read as part of more.
-use Rattle.std.proofs.Common.{◌≡◌, ℕ, ◌<◌, ◌⊎◌, inl, inr, Bool, true, false, cond, eqb, leb, List, [], ◌∷◌, ◌++◌, length, Option, Some, None, Result, Ok, Err, refl, sym, arith, length-append}
+use Rattle.std.proofs.Common.{◌≡◌, ℕ, ◌<◌, ◌⊎◌, inl, inr, Bool, true, false, cond, eqb, leb, List, [], ◌∷◌, ◌++◌, length, Option, Some, None, Result, Ok, Err, refl, arith, length-append, rules}
 use Rattle.std.proofs.lemmas.Bool.Decides.{nat_tests}
 use Rattle.script_text.specs.Script.{or_bad, within}
 
@@ -13,17 +13,11 @@ good x = Ok x
 abbrev pub bad : {A : Type 0} → ℕ → Result A ℕ
 bad at = Err at
 
-pub good_is : {A : Type 0} (x y : A) → good x ≡ Ok y → x ≡ y
-good_is x y h = cc
-
 pub bad_is : {A : Type 0} (at stop : ℕ) → bad {A = A} at ≡ Err stop → at ≡ stop
 bad_is at stop h = cc
 
 pub not_good : {A : Type 0} (at : ℕ) (y : A) → bad at ≡ Ok y → ⊥
 not_good at y h = cc
-
-pub not_bad : {A : Type 0} (x : A) (stop : ℕ) → good x ≡ Err stop → ⊥
-not_bad x stop h = cc
 
 -- an answer that no good one is
 pub refused : {A : Type 0} (r : Result A ℕ) (at : ℕ) (x : A) → r ≡ Err at → r ≡ Ok x → ⊥
@@ -31,28 +25,23 @@ refused r at x e h = cc
 
 -- a test that must fail
 pub past : {A : Type 0} (b : Bool) (at : ℕ) (r : Result A ℕ) (y : A) → cond b (Err at) r ≡ Ok y → (b ≡ false) × (r ≡ Ok y)
-past true at r y h = absurd cc
-past false at r y h = (refl, h)
+past b at r y h = search rules
 
 pub one_of : {A : Type 0} (b : Bool) (r q y : Result A ℕ) → cond b r q ≡ y → ((b ≡ true) × (r ≡ y)) ⊎ ((b ≡ false) × (q ≡ y))
-one_of true r q y h = inl (refl, h)
-one_of false r q y h = inr (refl, h)
+one_of b r q y h = search rules
 
 pub found : {A : Type 0} (o : Option A) → (o ≡ None) ⊎ ((x : A) × (o ≡ Some x))
 found None = inl refl
 found (Some x) = inr (x, refl)
 
 pub or_bad_ok : {A B : Type 0} (at : ℕ) (o : Option A) (f : A → Result B ℕ) (y : B) → or_bad at o f ≡ Ok y → (x : A) × (o ≡ Some x) × (f x ≡ Ok y)
-or_bad_ok at (Some x) f y h = (x, refl, h)
-or_bad_ok at None f y h = absurd cc
+or_bad_ok at o f y h = search rules
 
 pub within_ok : {A B : Type 0} (onto : A → B) (r : Result A ℕ) (y : B) → within onto r ≡ Ok y → (x : A) × (r ≡ Ok x) × (y ≡ onto x)
-within_ok onto (Ok x) y h = (x, refl, sym (good_is (onto x) y h))
-within_ok onto (Err at) y h = absurd (not_good at y h)
+within_ok onto r y h = search rules
 
 pub within_bad : {A B : Type 0} (onto : A → B) (r : Result A ℕ) (stop : ℕ) → within onto r ≡ Err stop → r ≡ Err stop
-within_bad onto (Ok x) stop h = absurd (not_bad (onto x) stop h)
-within_bad onto (Err at) stop h = cc
+within_bad onto r stop h = search rules
 
 -- ---- tests
 

@@ -1,19 +1,17 @@
 -- A text with the line of a roster, or without, is read exactly where its lines are spelled.
-use Rattle.std.proofs.Common.{◌≡◌, ℕ, ◌<◌, inl, inr, List, [], ◌∷◌, ◌++◌, length, Some, None, Result, Ok, codes, refl, sym, ap, ◌∙◌, subst, arith}
+use Rattle.std.proofs.Common.{◌≡◌, ℕ, ◌<◌, inl, inr, List, [], ◌∷◌, ◌++◌, length, Some, None, Result, Ok, codes, refl, sym, ap, ◌∙◌, subst, arith, rules}
 use Rattle.std.specs.List.{All, AllByRecursion, AllZip}
 use Rattle.std.proofs.lemmas.List.Elements.{All-from_recursion}
 use Rattle.std.proofs.lemmas.Slice.Zip.{AllZip-long}
 use Rattle.redo_core.specs.declared.facts.Fact.{Fact}
 use Rattle.fleet_steps.specs.declared.steps.Step.{Step}
-use Rattle.fleet_steps.specs.declared.steps.Step.TheVariants.{Take, Fold, Discard, Front, Read, Join, Same, Covers, Wipe, Ask, Answer, Absorb}
 use Rattle.script_text.specs.Parts.{parts_at}
 use Rattle.script_text.specs.FactLine.{fact_line, fact_of}
 use Rattle.script_text.specs.StepLine.{IsInRange}
-use Rattle.script_text.specs.Script.{ScriptData, Rostered, rostered, within, roster_in_line, lines_from, script_from, Opening, opening_with, opening_by, opening_of, below, opened}
+use Rattle.script_text.specs.Script.{ScriptData, Rostered, rostered, within, roster_in_line, lines_from, script_from, Opening, opening_with, opening_of, below, opened}
 use Rattle.script_text.specs.Laws.{ScriptsAreSpelled, LogsAreSpelled}
 use Rattle.script_text.specs.Spelled.{worded, SpellsFact, SpellsStep, SpellsRoster, IsRostered, AreFacts, AsksSteps}
 use Rattle.script_text.proofs.FactSpelling.{fact_lines_are_spelled}
-use Rattle.script_text.proofs.Forms.{form_fields}
 use Rattle.script_text.proofs.Results.{end, found, within_ok, ended}
 use Rattle.script_text.proofs.Scripts.{Counts, count_is_spelled, count_is_read, facts_are_read, facts_are_spelled, steps_are_read, steps_are_spelled}
 use Rattle.script_text.proofs.Split.{some_parts}
@@ -30,10 +28,7 @@ roster_is_read line roster h = count_is_read (codes "roster") line 15 roster (om
 
 roster_line_is_no_fact : (line : List ℕ) (roster : ℕ) (f : Fact) → Counts (codes "roster") 15 line roster → fact_of line ≡ Some f → ⊥
 unfolding fact_line
-roster_line_is_no_fact line roster f c h =
-    let fields = form_fields line (codes "roster") (15 ∷ []) (roster ∷ []) (omega arith, tt) (record { all = c.0; limited = (c.2, tt) }) refl in
-    let none : fact_of line ≡ None = ap fact_line fields.fields in
-    absurd (cc (sym none ∙ h))
+roster_line_is_no_fact line roster f c h = cc
 
 fact_is_no_roster : (line : List ℕ) (f : Fact) → SpellsFact line f → roster_in_line line ≡ None
 fact_is_no_roster line f s =
@@ -61,8 +56,7 @@ pub record Reader {A : Type 0} (Is : List (List ℕ) → A → Type 0) (read : �
   pub quiet : (line : List ℕ) (lines : List (List ℕ)) (x : A) → Is (line ∷ lines) x → roster_in_line line ≡ None
 
 facts_quiet : (line : List ℕ) (lines : List (List ℕ)) (facts : List Fact) → AreFacts (line ∷ lines) facts → roster_in_line line ≡ None
-facts_quiet line lines [] h = absurd h.0
-facts_quiet line lines (f ∷ fs) h = fact_is_no_roster line f (h.0).0
+facts_quiet line lines facts h = search (rules, fact_is_no_roster)
 
 first_same : (x y : List ℕ) (xs ys : List (List ℕ)) → x ∷ xs ≡ y ∷ ys → x ≡ y
 first_same x y xs ys h = cc
@@ -100,14 +94,12 @@ begins_quiet Is read r at line rest x h =
 
 pub opening_plain : (line : List ℕ) (rest : List (List ℕ)) → roster_in_line line ≡ None → opening_of (line ∷ rest) ≡ opening_with 1 0
 unfolding opening_of
-opening_plain line [] e = refl
-opening_plain line (next ∷ rest) e = ap opening_by e
+opening_plain line rest e = search rules
 
 pub opening_named : (line : List ℕ) (rest : List (List ℕ)) (roster : ℕ) → 0 < length rest → roster_in_line line ≡ Some roster
     → opening_of (line ∷ rest) ≡ opening_with roster 1
 unfolding opening_of
-opening_named line [] roster some e = absurd (omega arith)
-opening_named line (next ∷ rest) roster some e = ap opening_by e
+opening_named line rest roster some e = search rules
 
 opening_last : (last : List ℕ) → opening_of (last ∷ []) ≡ opening_with 1 0
 unfolding opening_of
@@ -204,18 +196,7 @@ logs_are_spelled text log = (
 -- ---- what a script's steps name
 
 step_in_range : (facts : ℕ) (line : List ℕ) (s : Step ℕ) → SpellsStep facts line s → IsInRange facts s
-step_in_range facts line (Take node fact) h = ((h.1, ((h.0).limited).1.0), tt)
-step_in_range facts line (Fold node page) h = (tt, tt)
-step_in_range facts line (Discard node) h = (tt, tt)
-step_in_range facts line (Front node) h = (tt, tt)
-step_in_range facts line (Read node page point offset len) h = (tt, h.2)
-step_in_range facts line (Join node from) h = (tt, tt)
-step_in_range facts line (Same node other) h = (tt, tt)
-step_in_range facts line (Covers node other) h = (tt, tt)
-step_in_range facts line (Wipe node) h = (tt, tt)
-step_in_range facts line (Ask node) h = (tt, tt)
-step_in_range facts line (Answer node message) h = (tt, tt)
-step_in_range facts line (Absorb node message) h = (tt, tt)
+step_in_range facts line s h = search rules
 
 all_in_range : (facts : ℕ) (lines : List (List ℕ)) (steps : List (Step ℕ)) → AllZip (SpellsStep facts) lines steps → AllByRecursion (IsInRange facts) steps
 all_in_range facts [] [] h = tt

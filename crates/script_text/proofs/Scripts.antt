@@ -1,5 +1,6 @@
 -- Logs and scripts below the roster are read exactly where their lines are spelled.
-use Rattle.std.proofs.Common.{◌≡◌, ℕ, ◌+◌, ◌<◌, ◌≤◌, inl, inr, true, false, cond, eqb, leb, List, [], ◌∷◌, ◌++◌, length, Option, Some, Result, Ok, Err, codes, refl, sym, ap, ◌∙◌, subst, arith, append_assoc, length-append}
+use Rattle.std.proofs.Common.{◌≡◌, ℕ, ◌+◌, ◌<◌, ◌≤◌, inl, inr, true, false, cond, eqb, leb, List, [], ◌∷◌, ◌++◌, length, Option, Some, Result, Ok, Err, codes, refl, sym, ap, ◌∙◌, subst, arith, append_assoc, length-append, rules}
+use Rattle.std.proofs.lemmas.Grind.{common_steps}
 use Rattle.std.specs.Prelude.{bytes_eq}
 use Rattle.std.specs.List.{AllZip}
 use Rattle.std.proofs.lemmas.Bool.Decides.{nat_tests}
@@ -13,9 +14,9 @@ use Rattle.script_text.specs.StepLine.{step_of}
 use Rattle.script_text.specs.Script.{ScriptData, most, most_nodes, positive, nodes_in_line, or_bad, within, asking, with_fact, lines_from, nodes_from, script_from}
 use Rattle.script_text.specs.Spelled.{worded, SpellsFact, SpellsStep, AreFacts, AsksSteps}
 use Rattle.script_text.proofs.FactSpelling.{fact_lines_are_spelled}
-use Rattle.script_text.proofs.Forms.{AreWithin, Reads, one_is, form_fields, read_has, both_same}
-use Rattle.script_text.proofs.Options.{here, some_is, tested, true_is, no_test}
-use Rattle.script_text.proofs.Results.{end, good_is, not_good, past, one_of, or_bad_ok, within_ok, some_left, room, room_is, ended}
+use Rattle.script_text.proofs.Forms.{Reads, form_fields, read_has, both_same}
+use Rattle.script_text.proofs.Options.{true_is, no_test}
+use Rattle.script_text.proofs.Results.{end, not_good, past, one_of, or_bad_ok, within_ok, some_left, room, room_is, ended}
 use Rattle.script_text.proofs.Split.{lacks}
 use Rattle.script_text.proofs.StepSpelling.{step_lines_are_spelled}
 
@@ -34,17 +35,7 @@ abbrev counting : List ℕ → ℕ → Form ℕ
 counting word limit = form word (limit ∷ []) (of_one positive)
 
 count_reads : (word : List ℕ) (limit : ℕ) → limit ≤ max_number → Reads (Counts word limit) (counting word limit)
-count_reads word limit small = record {
-  small = (small, tt);
-  each = λ line ns n e w h.
-      let is = one_is positive ns n h in
-      let some = tested (eqb is.0 0) (here is.0) n is.2 in
-      let value : is.0 ≡ n = some_is is.0 n some.1 in
-      let one : 1 ≤ is.0 = grind (arith, nat_tests, some.0) in
-      let whole : line ≡ worded word (is.0 ∷ []) = e ∙ ap (worded word) is.1 in
-      let limited : AreWithin (is.0 ∷ []) (limit ∷ []) = subst (λ (t : List ℕ). AreWithin t (limit ∷ [])) is.1 w in
-      subst (Counts word limit line) value (whole, one, limited.0);
-}
+count_reads word limit small = search rules
 
 pub count_is_spelled : (word line : List ℕ) (limit n : ℕ) → limit ≤ max_number → read_by (counting word limit ∷ []) (parts_at 32 line) ≡ Some n
     → Counts word limit line n
@@ -72,8 +63,7 @@ nodes_are_read line nodes h = count_is_read (codes "nodes") line most_nodes node
 -- ---- lines that are read one by one
 
 last_ok : {A : Type 0} (x : List ℕ) (at : ℕ) (ys : List A) → cond (eqb (length x) 0) (Ok []) (Err at) ≡ Ok ys → (x ≡ []) × (ys ≡ [])
-last_ok [] at ys h = (refl, sym (good_is [] ys h))
-last_ok (b ∷ bs) at ys h = absurd (not_good at ys (rw (some_left (length (b ∷ bs)) (omega arith)) at h))
+last_ok x at ys h = grind (arith, common_steps)
 
 -- the next line was read
 pub lines_next : {A : Type 0} (said : List ℕ → Option A) (count at : ℕ) (x : List ℕ) (rest : List (List ℕ)) (a : A) → 0 < length rest → count < most

@@ -1,9 +1,9 @@
 -- Parts that were joined are found again.
-use Rattle.std.proofs.Common.{◌≡◌, ℕ, ◌<◌, Bool, true, false, not, eqb, List, [], ◌∷◌, ◌++◌, length, refl, sym, ap, ◌∙◌, arith}
+use Rattle.std.proofs.Common.{◌≡◌, ℕ, ◌<◌, Bool, true, false, not, eqb, List, [], ◌∷◌, ◌++◌, length, refl, sym, ap, ◌∙◌, arith, rules}
 use Rattle.std.specs.Char.{is_ascii_digit}
 use Rattle.std.specs.List.{AllByRecursion, AllPass, All, list_all, join_with_byte}
 use Rattle.std.specs.Str.{all_ascii_digits}
-use Rattle.std.proofs.lemmas.Bool.{and_parts, eqb-true}
+use Rattle.std.proofs.lemmas.Bool.{and_parts}
 use Rattle.std.proofs.lemmas.Bool.Decides.{nat_tests}
 use Rattle.std.proofs.lemmas.List.Folds.{list_all-append}
 use Rattle.std.proofs.lemmas.List.Sums.{AllPass-from_list_all, list_all-from_AllPass}
@@ -18,8 +18,7 @@ abbrev pub AllLack : ℕ → List (List ℕ) → Type 0
 AllLack c texts = AllByRecursion (λ t. lacks c t ≡ true) texts
 
 not_true : (b : Bool) → not b ≡ true → b ≡ false
-not_true true h = absurd cc
-not_true false h = refl
+not_true b h = search rules
 
 lacks_all : (c : ℕ) (text : List ℕ) → lacks c text ≡ true → All (λ b. eqb b c ≡ false) text
 lacks_all c text h = λ k d lt. not_true _ (AllPass-from_list_all (λ b. not (eqb b c)) text h k d lt)
@@ -41,8 +40,7 @@ joined_parts c x (y ∷ ys) h =
 
 -- bytes of a kind that c is not of differ from c
 differs : (p : ℕ → Bool) (b c : ℕ) (t : Bool) → t ≡ eqb b c → p b ≡ true → p c ≡ false → not t ≡ true
-differs p b c false e pb pc = refl
-differs p b c true e pb pc = let same : b ≡ c = eqb-true b c (sym e) in absurd (cc (sym pb ∙ ap p same ∙ pc))
+differs p b c t e pb pc = search rules
 
 pub lacks_passing : (p : ℕ → Bool) (c : ℕ) (text : List ℕ) → AllPass p text → p c ≡ false → lacks c text ≡ true
 lacks_passing p c text h pc = list_all-from_AllPass (λ b. not (eqb b c)) text (λ k d lt. differs p _ c _ refl (h k d lt) pc)

@@ -1,5 +1,5 @@
 -- Step lines are read exactly where they are spelled.
-use Rattle.std.proofs.Common.{◌≡◌, ℕ, ◌+◌, ◌<◌, ◌≤◌, false, cond, eqb, ltb, List, [], ◌∷◌, Option, Some, None, refl, ap, ◌∙◌, subst, arith}
+use Rattle.std.proofs.Common.{◌≡◌, ℕ, ◌+◌, ◌<◌, ◌≤◌, false, cond, eqb, ltb, List, [], ◌∷◌, Option, Some, None, refl, ap, ◌∙◌, subst, arith, rules}
 use Rattle.std.specs.List.{AllByRecursion}
 use Rattle.std.proofs.lemmas.Bool.Decides.{nat_tests}
 use Rattle.fleet_steps.specs.declared.steps.Step.{Step}
@@ -10,45 +10,22 @@ use Rattle.script_text.specs.StepLine.{take, read, take_form, fold_form, discard
 use Rattle.script_text.specs.Script.{most}
 use Rattle.script_text.specs.Laws.{StepLinesAreSpelled}
 use Rattle.script_text.specs.Spelled.{SpellsStep}
-use Rattle.script_text.proofs.Forms.{Reads, one_is, two_is, five_is, formed_by, fields_by, read_has}
+use Rattle.script_text.proofs.Forms.{Reads, five_is, formed_by, fields_by, read_has}
 use Rattle.script_text.proofs.Options.{here, some_is, tested}
 
 -- ---- what is read is spelled
 
 take_reads : (facts : ℕ) → facts ≤ most → Reads (SpellsStep facts) (take_form facts)
-take_reads facts few = record {
-  small = (omega arith, (omega (arith, few), tt));
-  each = λ line ns s e w h.
-      let is = two_is take ns s h in
-      let some = tested (eqb is.1 0) (here (Take is.0 is.1)) s is.3 in
-      let positive : 0 < is.1 = grind (arith, nat_tests, some.0) in
-      let spelled : SpellsStep facts line (Take is.0 is.1) = (formed_by (take_form facts) line ns (is.0 ∷ is.1 ∷ []) is.2 e w, positive) in
-      subst (SpellsStep facts line) (some_is (Take is.0 is.1) s some.1) spelled;
-}
+take_reads facts few = search rules
 
 fold_reads : (facts : ℕ) → Reads (SpellsStep facts) fold_form
-fold_reads facts = record {
-  small = (omega arith, (omega arith, tt));
-  each = λ line ns s e w h.
-      let is = two_is (λ node page. here (Fold node page)) ns s h in
-      subst (SpellsStep facts line) (some_is (Fold is.0 is.1) s is.3) (formed_by fold_form line ns (is.0 ∷ is.1 ∷ []) is.2 e w);
-}
+fold_reads facts = search rules
 
 discard_reads : (facts : ℕ) → Reads (SpellsStep facts) discard_form
-discard_reads facts = record {
-  small = (omega arith, tt);
-  each = λ line ns s e w h.
-      let is = one_is (λ node. here (Discard node)) ns s h in
-      subst (SpellsStep facts line) (some_is (Discard is.0) s is.2) (formed_by discard_form line ns (is.0 ∷ []) is.1 e w);
-}
+discard_reads facts = search rules
 
 front_reads : (facts : ℕ) → Reads (SpellsStep facts) front_form
-front_reads facts = record {
-  small = (omega arith, tt);
-  each = λ line ns s e w h.
-      let is = one_is (λ node. here (Front node)) ns s h in
-      subst (SpellsStep facts line) (some_is (Front is.0) s is.2) (formed_by front_form line ns (is.0 ∷ []) is.1 e w);
-}
+front_reads facts = search rules
 
 read_reads : (facts : ℕ) → Reads (SpellsStep facts) read_form
 read_reads facts = record {
@@ -66,60 +43,25 @@ read_reads facts = record {
 }
 
 join_reads : (facts : ℕ) → Reads (SpellsStep facts) join_form
-join_reads facts = record {
-  small = (omega arith, (omega arith, tt));
-  each = λ line ns s e w h.
-      let is = two_is (λ node from. here (Join node from)) ns s h in
-      subst (SpellsStep facts line) (some_is (Join is.0 is.1) s is.3) (formed_by join_form line ns (is.0 ∷ is.1 ∷ []) is.2 e w);
-}
+join_reads facts = search rules
 
 same_reads : (facts : ℕ) → Reads (SpellsStep facts) same_form
-same_reads facts = record {
-  small = (omega arith, (omega arith, tt));
-  each = λ line ns s e w h.
-      let is = two_is (λ node other. here (Same node other)) ns s h in
-      subst (SpellsStep facts line) (some_is (Same is.0 is.1) s is.3) (formed_by same_form line ns (is.0 ∷ is.1 ∷ []) is.2 e w);
-}
+same_reads facts = search rules
 
 covers_reads : (facts : ℕ) → Reads (SpellsStep facts) covers_form
-covers_reads facts = record {
-  small = (omega arith, (omega arith, tt));
-  each = λ line ns s e w h.
-      let is = two_is (λ node other. here (Covers node other)) ns s h in
-      subst (SpellsStep facts line) (some_is (Covers is.0 is.1) s is.3) (formed_by covers_form line ns (is.0 ∷ is.1 ∷ []) is.2 e w);
-}
+covers_reads facts = search rules
 
 wipe_reads : (facts : ℕ) → Reads (SpellsStep facts) wipe_form
-wipe_reads facts = record {
-  small = (omega arith, tt);
-  each = λ line ns s e w h.
-      let is = one_is (λ node. here (Wipe node)) ns s h in
-      subst (SpellsStep facts line) (some_is (Wipe is.0) s is.2) (formed_by wipe_form line ns (is.0 ∷ []) is.1 e w);
-}
+wipe_reads facts = search rules
 
 ask_reads : (facts : ℕ) → Reads (SpellsStep facts) ask_form
-ask_reads facts = record {
-  small = (omega arith, tt);
-  each = λ line ns s e w h.
-      let is = one_is (λ node. here (Ask node)) ns s h in
-      subst (SpellsStep facts line) (some_is (Ask is.0) s is.2) (formed_by ask_form line ns (is.0 ∷ []) is.1 e w);
-}
+ask_reads facts = search rules
 
 answer_reads : (facts : ℕ) → Reads (SpellsStep facts) answer_form
-answer_reads facts = record {
-  small = (omega arith, (omega arith, tt));
-  each = λ line ns s e w h.
-      let is = two_is (λ node message. here (Answer node message)) ns s h in
-      subst (SpellsStep facts line) (some_is (Answer is.0 is.1) s is.3) (formed_by answer_form line ns (is.0 ∷ is.1 ∷ []) is.2 e w);
-}
+answer_reads facts = search rules
 
 absorb_reads : (facts : ℕ) → Reads (SpellsStep facts) absorb_form
-absorb_reads facts = record {
-  small = (omega arith, (omega arith, tt));
-  each = λ line ns s e w h.
-      let is = two_is (λ node message. here (Absorb node message)) ns s h in
-      subst (SpellsStep facts line) (some_is (Absorb is.0 is.1) s is.3) (formed_by absorb_form line ns (is.0 ∷ is.1 ∷ []) is.2 e w);
-}
+absorb_reads facts = search rules
 
 step_is_spelled : (facts : ℕ) (line : List ℕ) (s : Step ℕ) → facts ≤ most → step_of facts line ≡ Some s → SpellsStep facts line s
 unfolding step_line

@@ -32,8 +32,7 @@ no_step facts line e = ap (read_by (step_forms facts)) e ∙ none_alone (step_fo
 
 no_fact_alone : (word : List ℕ) → fact_line (word ∷ []) ≡ None
 unfolding fact_line record_line cut_line advance_line
-no_fact_alone word = none_of (bytes_eq word (codes "rec")) None _ refl (none_of (bytes_eq word (codes "cut")) None _ refl
-    (none_of (bytes_eq word (codes "min")) None None refl refl))
+no_fact_alone word = search rules
 
 pub no_fact : (line : List ℕ) → parts_at 32 line ≡ line ∷ [] → fact_of line ≡ None
 no_fact line e = ap fact_line e ∙ no_fact_alone line

@@ -1,7 +1,6 @@
 -- What a state knows together with a book, when each fact that the book tells was taken.
-use Rattle.std.proofs.Common.{◌≡◌, ℕ, ◌<◌, ◌≤◌, ◌⊎◌, ◌↔◌, inl, inr, ⊎_elim, List, refl, sym, ap, ◌∙◌, subst, arith}
+use Rattle.std.proofs.Common.{◌≡◌, ℕ, ◌<◌, ◌≤◌, ◌⊎◌, ◌↔◌, inl, inr, ⊎_elim, List, refl, sym, ap, ◌∙◌, subst, arith, rules}
 use Rattle.std.specs.List.{Contains}
-use Rattle.std.proofs.lemmas.List.Elements.{All-contains}
 use Rattle.redo_core.specs.Data.{CutData, AdvanceData, advance_of}
 use Rattle.redo_core.specs.Order.{IsGreatest}
 use Rattle.redo_core.specs.Roster.{IsReader, point_of, least}
@@ -21,10 +20,7 @@ use Rattle.epoch_book.proofs.Books.{epoch_grows}
 
 -- in a segment the complete epoch is that of the truncations, and what waits is of later ones
 pub late_of : (s : State) → IsSegment s → IsLate s
-late_of s form = record {
-  epoch = form.book.complete;
-  later = λ a h. All-contains (λ w. s.book.complete < w.epoch) s.book.waits a form.book.waits_later h;
-}
+late_of s form = search rules
 
 -- a state has taken what a book tells, among other facts
 pub record HasBook (old : State) (b : BookData) (facts : List Fact) (taken : State) : Type 0 where
@@ -53,14 +49,7 @@ module _ (old taken : State) (b : BookData) (facts : List Fact) (d : HasBook old
   -- an advance that is told waits on a side, or is a reader's point of the other
   sides : (a : AdvanceData) → IsToldAdvance old facts a
       → (Contains old.book.waits a ⊎ Contains b.waits a) ⊎ IsPointIn b.complete b.points a
-  sides a h =
-      ⊎_elim
-      (λ (x : Contains old.book.waits a). inl (inl x))
-      (λ (x : Contains facts (Advance a)). ⊎_elim
-      (λ (y : Contains b.waits a). inl (inr y))
-      (λ (y : IsPointIn b.complete b.points a). inr y)
-      ((d.advance a).0 x))
-      h
+  sides a h = search rules
 
   told_wait : (a : AdvanceData) → Contains old.book.waits a ⊎ Contains b.waits a → IsToldAdvance old facts a
   told_wait a h =

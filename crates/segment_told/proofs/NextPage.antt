@@ -1,10 +1,9 @@
 -- The least of the pages that are stored.
-use Rattle.std.proofs.Common.{◌≡◌, ℕ, ◌<◌, ◌≤◌, ◌⊎◌, ◌↔◌, inl, inr, ⊎_elim, List, length, get_or, take, Option, Some, None, zero, suc, [], ◌∷◌, true, false, nat_le, refl, sym, ap, subst, arith}
+use Rattle.std.proofs.Common.{◌≡◌, ℕ, ◌<◌, ◌≤◌, ◌⊎◌, ◌↔◌, inl, inr, ⊎_elim, List, length, get_or, take, Option, Some, None, zero, suc, [], ◌∷◌, true, false, nat_le, refl, sym, ap, subst, arith, rules}
+use Rattle.std.proofs.lemmas.Grind.{common_steps}
 use Rattle.std.specs.List.{Contains, All}
 use Rattle.std.specs.List.Sorted.{IsPartitionedBy, IsPartitionPoint}
-use Rattle.std.proofs.lemmas.List.{get_or-take, length-take}
 use Rattle.std.proofs.lemmas.List.Elements.{All-from_recursion}
-use Rattle.std.proofs.lemmas.Bool.Decides.{nat_tests}
 use Rattle.redo_core.specs.Data.{RecordData}
 use Rattle.redo_core.specs.Order.{IsRising}
 use Rattle.redo_core.specs.Store.{PageBefore, StoredImage}
@@ -39,15 +38,10 @@ abbrev pub IsWrittenPage : List RecordData → ℕ → Type 0
 IsWrittenPage held page = (r : RecordData) × Contains held r × (r.page ≡ page)
 
 least_written : (held : List RecordData) (after next : Option ℕ) → IsPageAfter held after next → IsLeast (λ g. IsWrittenPage held g × IsPageAbove after g) next
-least_written held after None is = λ m h. is h.0.0 h.0.1 (subst (IsPageAbove after) (sym h.0.2) h.1)
-least_written held after (Some page) is = (
-  ((is.0.0, is.0.1, is.0.2), is.0.3),
-  λ m h. subst (λ n. page ≤ n) h.0.2 (is.1 h.0.0 h.0.1 (subst (IsPageAbove after) (sym h.0.2) h.1)),
-)
+least_written held after next is = search rules
 
 reached : (P : ℕ → Type 0) (least : Option ℕ) (n : ℕ) → IsLeast P least → P n → (g : ℕ) × (least ≡ Some g) × (g ≤ n)
-reached P None n is p = absurd (is n p)
-reached P (Some g) n is p = (g, refl, is.1 n p)
+reached P least n is p = search rules
 
 holds_at : (P : ℕ → Type 0) (least : Option ℕ) (g : ℕ) → IsLeast P least → least ≡ Some g → P g
 holds_at P least g is e = (subst (IsLeast P) e is).0
@@ -69,8 +63,7 @@ least_of_both P Q one other (Some g) a b is = (
 )
 
 least_as : (P Q : ℕ → Type 0) (least : Option ℕ) → ((g : ℕ) → P g ↔ Q g) → IsLeast P least → IsLeast Q least
-least_as P Q None same is = λ n q. is n ((same n).1 q)
-least_as P Q (Some g) same is = ((same g).0 is.0, λ n q. is.1 n ((same n).1 q))
+least_as P Q least same is = search rules
 
 pub least_stored : (s : State) (after one other least : Option ℕ) → IsLeast (λ g. IsImageOf s.store.images g × IsPageAbove after g) one
     → IsPageAfter s.held after other → IsLeast (λ g. (one ≡ Some g) ⊎ (other ≡ Some g)) least
@@ -113,25 +106,7 @@ parted page images rising i j d le lt h =
 pub begins_above : (page : ℕ) (images : List StoredImage) (place : ℕ) → place ≤ length images
     → IsPartitionPoint (λ (i : StoredImage). nat_le i.page page ≡ true) (λ i. nat_le i.page page ≡ false) images place
     → BeginsAbove (Some page) images place
-begins_above page images place le point = record {
-  bound = le;
-  before = λ k d lt above.
-      let n : k < place = omega (arith, lt, length-take place images) in
-      let low : nat_le (get_or (take place images) k d).page page ≡ true =
-      subst (λ (x : StoredImage). nat_le x.page page ≡ true) (sym (get_or-take place images k d n)) (point.0 k d (omega (arith, le, n)) n) in
-      not_above page (get_or (take place images) k d) low above;
-  from = λ k d l m. above_of page (get_or images k d) (point.1 k d l m);
-}
-  where
-    not_above : (page : ℕ) (i : StoredImage) → nat_le i.page page ≡ true → page < i.page → ⊥
-    not_above page i h above = grind arith
-
-    above_of : (page : ℕ) (i : StoredImage) → nat_le i.page page ≡ false → page < i.page
-    above_of page i h = grind (arith, nat_tests)
+begins_above page images place le point = grind (arith, common_steps)
 
 pub begins_first : (images : List StoredImage) → BeginsAbove None images 0
-begins_first images = record {
-  bound = omega arith;
-  before = λ k d lt. absurd (omega (arith, lt));
-  from = λ k d l m. tt;
-}
+begins_first images = omega arith

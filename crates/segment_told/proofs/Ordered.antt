@@ -1,6 +1,7 @@
 -- Facts that a state takes one after another, put together from parts.
-use Rattle.std.proofs.Common.{◌≡◌, ◌==◌, if◌then◌else◌, Bool, true, false, ℕ, zero, suc, ◌+◌, ◌<◌, ◌≤◌, ◌⊎◌, inl, inr, ⊎_elim, List, [], ◌∷◌, ◌++◌, length, get_or, take, drop, map, refl, sym, ap, subst, ◌∙◌, add-one, arith}
-use Rattle.std.proofs.lemmas.List.{take_more, take-append-drop, length-take-le}
+use Rattle.std.proofs.Common.{◌≡◌, ◌==◌, if◌then◌else◌, Bool, ℕ, zero, suc, ◌+◌, ◌<◌, ◌≤◌, ◌⊎◌, inl, inr, ⊎_elim, List, [], ◌∷◌, ◌++◌, length, get_or, take, drop, map, refl, sym, ap, subst, arith, rules}
+use Rattle.std.proofs.lemmas.Grind.{common_steps}
+use Rattle.std.proofs.lemmas.List.{take-append-drop}
 use Rattle.redo_core.specs.Data.{advance_of}
 use Rattle.redo_core.specs.declared.facts.Fact.{Fact}
 use Rattle.redo_core.specs.declared.facts.Fact.TheVariants.{Advance}
@@ -51,9 +52,7 @@ map_from f (y ∷ ys) (suc i) x lt is = ap (λ zs. f y ∷ zs) (map_from f ys i 
 -- a loop takes one more
 pub takes_next : {X : Type 0} (f : X → Fact) (xs : List X) (i : ℕ) (x : X) (s t u : State) → i < length xs → x ≡ get_or xs i x
     → TakesEach s (map f (take i xs)) t → TakesOne t (f x) u → TakesEach s (map f (take (i + 1) xs)) u
-takes_next f xs i x s t u lt is seen one =
-    let one_more : map f (take (i + 1) xs) ≡ map f (take i xs) ++ f x ∷ [] = rw add-one (map_next f xs i x lt is) in
-    subst (λ fs. TakesEach s fs u) (sym one_more) (takes_append s (map f (take i xs)) t (f x ∷ []) u seen (takes_lone t (f x) u one))
+takes_next f xs i x s t u lt is seen one = grind (arith, common_steps, takes_append)
 
 -- a loop is refused one
 pub refuses_next : {X : Type 0} (f : X → Fact) (xs : List X) (i : ℕ) (x : X) (s t : State) (why : Refusal) → i < length xs → x ≡ get_or xs i x
@@ -64,13 +63,7 @@ refuses_next f xs i x s t why lt is seen refused =
 
 -- a loop has taken all
 pub takes_whole : {X : Type 0} (f : X → Fact) (xs : List X) (i : ℕ) (s t : State) → length xs ≤ i → TakesEach s (map f (take i xs)) t → TakesEach s (map f xs) t
-takes_whole f xs i s t end seen = subst (λ ys. TakesEach s (map f ys) t) (all_of xs i end) seen
-  where
-    all_of : {X : Type 0} (xs : List X) (i : ℕ) → length xs ≤ i → take i xs ≡ xs
-    all_of [] zero end = refl
-    all_of [] (suc i) end = refl
-    all_of (x ∷ xs) zero end = absurd (omega (arith, end))
-    all_of (x ∷ xs) (suc i) end = ap (λ ys. x ∷ ys) (all_of xs i (omega (arith, end)))
+takes_whole f xs i s t end seen = grind (arith, common_steps)
 
 -- a refusal is want of memory, or one of another list
 pub memory_or : (why : Refusal) (A B : Type 0) → (A → B) → (why ≡ Memory) ⊎ A → (why ≡ Memory) ⊎ B
@@ -79,8 +72,7 @@ memory_or why A B to refused = ⊎_elim (λ (h : why ≡ Memory). inl h) (λ (h 
 -- ---- readers' points
 with_first : (none : Bool) (f : Fact) (all first rest : List Fact) → all ≡ first ++ rest
     → (if none then all else (f ∷ all)) ≡ (if none then first else (f ∷ first)) ++ rest
-with_first true f all first rest e = e
-with_first false f all first rest e = ap (λ fs. f ∷ fs) e
+with_first none f all first rest e = search rules
 
 point_facts_append : (epoch reader : ℕ) (ps qs : List ℕ)
     → point_facts epoch reader (ps ++ qs) ≡ point_facts epoch reader ps ++ point_facts epoch (reader + length ps) qs
@@ -95,16 +87,11 @@ point_facts_append epoch reader (p ∷ ps) qs =
 -- those up to a place, and the one there
 points_next : (epoch : ℕ) (points : List ℕ) (i : ℕ) → i < length points
     → point_facts epoch 1 (take (i + 1) points) ≡ point_facts epoch 1 (take i points) ++ point_facts epoch (i + 1) (get_or points i 0 ∷ [])
-points_next epoch points i lt =
-    let place : 1 + length (take i points) ≡ i + 1 = omega (arith, length-take-le i points (omega (arith, lt))) in
-    ap (point_facts epoch 1) (take_more points i 0 lt) ∙ point_facts_append epoch 1 (take i points) (get_or points i 0 ∷ [])
-    ∙ ap (λ n. point_facts epoch 1 (take i points) ++ point_facts epoch n (get_or points i 0 ∷ [])) place
+points_next epoch points i lt = grind (arith, common_steps, point_facts_append)
 
 pub takes_point : (epoch : ℕ) (points : List ℕ) (i : ℕ) (s t u : State) → i < length points → TakesEach s (point_facts epoch 1 (take i points)) t
     → TakesEach t (point_facts epoch (i + 1) (get_or points i 0 ∷ [])) u → TakesEach s (point_facts epoch 1 (take (i + 1) points)) u
-takes_point epoch points i s t u lt seen one =
-    subst (λ fs. TakesEach s fs u) (sym (points_next epoch points i lt))
-    (takes_append s (point_facts epoch 1 (take i points)) t (point_facts epoch (i + 1) (get_or points i 0 ∷ [])) u seen one)
+takes_point epoch points i s t u lt seen one = search (rules, points_next, takes_append)
 
 pub refuses_point : (epoch : ℕ) (points : List ℕ) (i : ℕ) (s t : State) (why : Refusal) → i < length points
     → TakesEach s (point_facts epoch 1 (take i points)) t

@@ -1,5 +1,5 @@
 -- The pages that a state shows at a point, gathered from the least on.
-use Rattle.std.proofs.Common.{◌≡◌, ◌≢◌, ℕ, ◌<◌, ◌≤◌, ◌⊎◌, inl, inr, ⊎_elim, List, [], ◌∷◌, ◌++◌, Option, Some, None, sym, ◌∙◌, subst, arith}
+use Rattle.std.proofs.Common.{◌≡◌, ◌≢◌, ℕ, ◌<◌, ◌≤◌, ◌⊎◌, inl, inr, ⊎_elim, List, [], ◌∷◌, ◌++◌, Option, Some, None, sym, ◌∙◌, subst, arith, rules}
 use Rattle.redo_core.specs.Order.{Lists}
 use Rattle.redo_core.specs.Writing.{zeros}
 use Rattle.redo_core.specs.Meaning.{ImageData, ImageBefore}
@@ -26,8 +26,7 @@ ListsPassed s point next = Lists ImageBefore (λ i. IsShown s point i × IsPasse
 -- what is passed and not stored is bare
 bare_between : (s : State) (after next : Option ℕ) (g : ℕ) → IsLeast (λ n. IsStoredPage s n × IsPageAbove after n) next
     → IsPageAbove after g → IsPassed next g → IsStoredPage s g → ⊥
-bare_between s after None g is above passed stored = is g (stored, above)
-bare_between s after (Some next) g is above passed stored = let le : next ≤ g = is.1 g (stored, above) in let lt : g < next = passed in omega (arith, le, lt)
+bare_between s after next g is above passed stored = search rules
 
 not_shown : (s : State) (point : ℕ) (i : ImageData) → IsSegment s → (IsStoredPage s i.page → ⊥) → IsShown s point i → ⊥
 not_shown s point i form none shown =
@@ -43,8 +42,7 @@ passed_none s point next form is = record {
 }
 
 after_page : (s : State) (page g : ℕ) (next : Option ℕ) → IsLeast (λ n. IsStoredPage s n × IsPageAbove (Some page) n) next → g ≤ page → IsPassed next g
-after_page s page g None is le = tt
-after_page s page g (Some next) is le = let above : page < next = is.0.1 in omega (arith, above, le)
+after_page s page g next is le = search rules
 
 -- a page that is passed now was passed before, or is this one, or is bare
 shown_by : (s : State) (point page : ℕ) (next : Option ℕ) (i : ImageData) → IsSegment s

@@ -1,5 +1,5 @@
 -- Loops that test each element of a list and stop at the first that fails.
-use Rattle.std.proofs.Common.{◌≡◌, ◌↔◌, ℕ, ◌<◌, ◌≤◌, ◌+◌, List, [], ◌∷◌, suc, length, get_or, take, Bool, true, false, refl, sym, subst, IsTrue, ◌∙◌, arith}
+use Rattle.std.proofs.Common.{◌≡◌, ◌↔◌, ℕ, ◌<◌, ◌≤◌, ◌+◌, List, [], ◌∷◌, suc, length, get_or, take, Bool, true, false, refl, subst, IsTrue, arith, rules}
 use Rattle.std.specs.List.{All, AllZip, Contains}
 use Rattle.redo_core.proofs.Scans.{whole, one_more}
 
@@ -7,17 +7,11 @@ use Rattle.redo_core.proofs.Scans.{whole, one_more}
 pub one_fails : {X : Type 0} (P : X → Type 0) (xs : List X) (i : ℕ) (x : X) (passes : Bool) → i < length xs → x ≡ get_or xs i x → passes ≡ false
     → IsTrue passes ↔ P x
     → IsTrue false ↔ All P xs
-one_fails P xs i x passes lt is fails tells = (
-  λ (h : false ≡ true). absurd (cc),
-  λ all. sym fails ∙ tells.1 (subst P (sym is) (all i x lt)),
-)
+one_fails P xs i x passes lt is fails tells = search rules
 
 -- a part fails, so not all passes
 pub part_fails : (P Q : Type 0) (passes : Bool) → passes ≡ false → IsTrue passes ↔ P → (Q → P) → IsTrue false ↔ Q
-part_fails P Q passes fails tells part = (
-  λ (h : false ≡ true). absurd (cc),
-  λ all. sym fails ∙ tells.1 (part all),
-)
+part_fails P Q passes fails tells part = search rules
 
 -- all up to the end pass
 pub all_pass : {X : Type 0} (P : X → Type 0) (xs : List X) (i : ℕ) → length xs ≤ i → All P (take i xs) → IsTrue true ↔ All P xs

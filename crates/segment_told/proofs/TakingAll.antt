@@ -1,5 +1,5 @@
 -- What a list of taken facts leaves.
-use Rattle.std.proofs.Common.{◌≡◌, ℕ, ◌<◌, ◌≤◌, ◌⊎◌, ◌↔◌, inl, inr, ⊎_elim, List, [], ◌∷◌, ◌++◌, length, refl, sym, ap, ◌∙◌, subst, arith}
+use Rattle.std.proofs.Common.{◌≡◌, ℕ, ◌<◌, ◌≤◌, ◌⊎◌, ◌↔◌, inl, inr, ⊎_elim, List, [], ◌∷◌, ◌++◌, length, refl, sym, ap, ◌∙◌, subst, arith, rules}
 use Rattle.std.specs.List.{Contains}
 use Rattle.std.proofs.lemmas.List.Elements.{Contains-append_left, Contains-append_right, Contains-append_cases}
 use Rattle.redo_core.specs.Data.{RecordData, CutData, AdvanceData}
@@ -419,11 +419,7 @@ leaves_stored s t (Cut c) late learns = leaves_cut s t c learns
 leaves_stored s t (Advance a) late learns = leaves_advance s t a late learns
 
 pub leaves_one : (s : State) (fact : Fact) (t : State) → IsLate s → TakesOne s fact t → LeavesAll s (fact ∷ []) t
-leaves_one s fact t late takes =
-    ⊎_elim
-    (λ (known : IsKnown s fact × (t ≡ s)). subst (λ x. LeavesAll s (fact ∷ []) x) (sym known.1) (leaves_known s fact late known.0))
-    (λ (new : (IsKnown s fact → ⊥) × Stores s fact t). leaves_stored s t fact late new.1)
-    takes.takes
+leaves_one s fact t late takes = search (rules, leaves_known, leaves_stored)
 
 -- ---- all of them
 leaves_none : (s : State) → IsLate s → LeavesAll s [] s

@@ -1,12 +1,12 @@
 -- What a book and records tell: the facts of the book, and then the records.
-use Rattle.std.proofs.Common.{◌≡◌, ℕ, List, [], ◌∷◌, ◌++◌, map, refl, ap, ◌∙◌, subst, Bor}
-use Rattle.std.proofs.lemmas.List.{append_assoc}
+use Rattle.std.proofs.Common.{◌≡◌, ℕ, List, [], ◌∷◌, ◌++◌, map, refl, ap, subst, Bor, rules, arith}
+use Rattle.std.proofs.lemmas.Grind.{common_steps}
 use Rattle.redo_core.specs.Data.{RecordData, CutData, AdvanceData}
 use Rattle.redo_core.specs.Book.{BookData, book_of}
-use Rattle.redo_core.specs.declared.facts.Fact.TheVariants.{Record, Cut, Advance}
+use Rattle.redo_core.specs.declared.facts.Fact.TheVariants.{Record}
 use Rattle.state_laws.specs.State.{State}
 use Rattle.segment_core.specs.declared.answers.Refusal.{Refusal}
-use Rattle.segment_told.specs.Told.{point_facts, book_facts, facts_told}
+use Rattle.segment_told.specs.Told.{book_facts, facts_told}
 use Rattle.segment_told.specs.InOrder.{TakesEach, RefusesOne}
 use Rattle.segment_told.proofs.Ordered.{takes_append, refuses_sooner, refuses_later}
 
@@ -21,9 +21,7 @@ records_behind [] = refl
 records_behind (r ∷ rs) = ap (λ fs. Record r.now ∷ fs) (records_behind rs)
 
 pub in_two : (b : BookData) (rs : List RecordData) → book_facts b ++ map Record rs ≡ facts_told b rs
-in_two b rs =
-    let cuts = map Cut b.cuts in let points = point_facts b.complete 1 b.points in let waits = map Advance b.waits in let records = map Record rs in
-    append_assoc cuts (points ++ waits) records ∙ ap (λ rest. cuts ++ rest) (append_assoc points waits records)
+in_two b rs = grind (arith, common_steps)
 
 pub takes_told : (s : State) (b : BookData) (rs : List RecordData) (t u : State) → TakesEach s (book_facts b) t → TakesEach t (map Record rs) u
     → TakesEach s (facts_told b rs) u
@@ -34,5 +32,4 @@ refuses_book s b rs why h = subst (λ fs. RefusesOne s fs why) (in_two b rs) (re
 
 pub refuses_records : (s : State) (b : BookData) (rs : List RecordData) (t : State) (why : Refusal) → TakesEach s (book_facts b) t
     → RefusesOne t (map Record rs) why → RefusesOne s (facts_told b rs) why
-refuses_records s b rs t why first h =
-    subst (λ fs. RefusesOne s fs why) (in_two b rs) (refuses_later s (book_facts b) t (map Record rs) why first h)
+refuses_records s b rs t why first h = search (rules, in_two, refuses_later)

@@ -1,7 +1,7 @@
 -- Which facts a state tells.
-use Rattle.std.proofs.Common.{◌≡◌, ℕ, zero, suc, ◌+◌, ◌-◌, ◌<◌, ◌≤◌, ◌⊎◌, ◌↔◌, inl, inr, ⊎_elim, List, [], ◌∷◌, ◌++◌, length, get_or, map, refl, sym, ap, ◌∙◌, subst, arith, cond}
+use Rattle.std.proofs.Common.{◌≡◌, ℕ, zero, suc, ◌+◌, ◌-◌, ◌<◌, ◌≤◌, ◌⊎◌, ◌↔◌, inl, inr, ⊎_elim, List, [], ◌∷◌, ◌++◌, length, get_or, map, refl, sym, ap, ◌∙◌, subst, arith, rules}
+use Rattle.std.proofs.lemmas.Grind.{common_steps}
 use Rattle.std.specs.List.{Contains}
-use Rattle.std.proofs.Math.Dec.{eqb-suc-zero}
 use Rattle.std.proofs.lemmas.List.Elements.{Contains-append_left, Contains-append_right, Contains-append_cases}
 use Rattle.redo_core.specs.Data.{RecordData, CutData, AdvanceData, advance_of}
 use Rattle.redo_core.specs.Roster.{IsReader, point_of}
@@ -33,18 +33,11 @@ record StandsAt (epoch from : ℕ) (points : List ℕ) (a : AdvanceData) (i : �
 -- a point above 0 makes an advance
 above_zero : (epoch from p : ℕ) (points : List ℕ)
     → point_facts epoch from (suc p ∷ points) ≡ Advance (advance_of epoch from (suc p)) ∷ point_facts epoch (suc from) points
-above_zero epoch from p points =
-    ap (λ b. cond b (point_facts epoch (suc from) points) (Advance (advance_of epoch from (suc p)) ∷ point_facts epoch (suc from) points)) (eqb-suc-zero p)
+above_zero epoch from p points = search rules
 
 -- one place on, where a point stands in front
 next_place : (epoch from p : ℕ) (points : List ℕ) (a : AdvanceData) (i : ℕ) → StandsAt epoch (suc from) points a i → StandsAt epoch from (p ∷ points) a (suc i)
-next_place epoch from p points a i at = record {
-  within = omega (arith, at.within);
-  epoch_is = at.epoch_is;
-  reader_is = omega (arith, at.reader_is);
-  point_is = at.point_is;
-  above = at.above;
-}
+next_place epoch from p points a i at = omega arith
 
 is_told : (epoch from : ℕ) (points : List ℕ) (fact : Fact) → Contains (point_facts epoch from points) fact
     → (a : AdvanceData) × (fact ≡ Advance a) × ((i : ℕ) × StandsAt epoch from points a i)
@@ -175,22 +168,13 @@ module _ (b : BookData) (told : List RecordData) (facts : List Fact) (is : facts
   no_record_of_waits r h = let u = from_map Advance b.waits (Record r) h in let e : Advance u.0 ≡ Record r = u.2 in cc
 
   cut_of : (c : CutData) → Contains (map Cut b.cuts) (Cut c) → Contains b.cuts c
-  cut_of c h =
-      let u = from_map Cut b.cuts (Cut c) h in
-      let e : u.0 ≡ c = (let x : Cut u.0 ≡ Cut c = u.2 in cc) in
-      subst (Contains b.cuts) e u.1
+  cut_of c h = grind (arith, common_steps)
 
   wait_of : (a : AdvanceData) → Contains (map Advance b.waits) (Advance a) → Contains b.waits a
-  wait_of a h =
-      let u = from_map Advance b.waits (Advance a) h in
-      let e : u.0 ≡ a = (let x : Advance u.0 ≡ Advance a = u.2 in cc) in
-      subst (Contains b.waits) e u.1
+  wait_of a h = grind (arith, common_steps)
 
   kept_of : (r : RecordData) → Contains (map Record told) (Record r) → Contains told r
-  kept_of r h =
-      let u = from_map Record told (Record r) h in
-      let e : u.0 ≡ r = (let x : Record u.0 ≡ Record r = u.2 in cc) in
-      subst (Contains told) e u.1
+  kept_of r h = grind (arith, common_steps)
 
   pub listed_cut : (c : CutData) → Contains facts (Cut c) ↔ Contains b.cuts c
   unfolding points_of

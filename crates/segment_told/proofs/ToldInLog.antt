@@ -1,5 +1,5 @@
 -- A state of a sound log takes what a book and records of that log tell.
-use Rattle.std.proofs.Common.{◌≡◌, ℕ, ◌<◌, ◌≤◌, ◌⊎◌, inl, inr, ⊎_elim, List, [], ◌∷◌, ◌++◌, length, map, refl, sym, ap, ◌∙◌, subst, arith}
+use Rattle.std.proofs.Common.{◌≡◌, ℕ, ◌<◌, ◌≤◌, ◌⊎◌, inl, inr, ⊎_elim, List, [], ◌∷◌, ◌++◌, length, map, refl, sym, ap, ◌∙◌, subst, arith, rules}
 use Rattle.std.specs.List.{Contains}
 use Rattle.std.proofs.lemmas.List.{append-nil, append_assoc}
 use Rattle.std.proofs.lemmas.List.Elements.{Contains-append_left, Contains-append_right}
@@ -130,10 +130,7 @@ module _ (roster : ℕ) (log : List Fact) (sound : IsSound roster log) where
 
   goes_in : (s : State) (fact : Fact) → InLog s → Contains log fact → Goes InLog s fact
   unfolding InLog
-  goes_in s fact h inside = record {
-    free = λ why r. no_conflict roster log h.0 s fact sound inside h.1 (refuses_conflicts s fact why r);
-    next = λ t takes. takes_in s t fact h inside takes;
-  }
+  goes_in s fact h inside = search (rules, no_conflict, refuses_conflicts, takes_in)
 
   -- ---- an advance that stands for one of the log: of the same reader and point, and of an epoch from that one's on which is complete
   record StandsFor (a b : AdvanceData) : Type 0 where

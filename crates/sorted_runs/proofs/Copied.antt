@@ -1,13 +1,12 @@
 -- Copies of runs are runs of the same form.
-use Rattle.std.proofs.Common.{◌≡◌, ℕ, zero, suc, ◌+◌, ◌<◌, List, [], ◌∷◌, ◌++◌, length, get_or, take, sym, ap, ◌∙◌, subst, refl, arith}
+use Rattle.std.proofs.Common.{◌≡◌, ℕ, zero, suc, ◌+◌, ◌<◌, List, [], ◌∷◌, ◌++◌, length, get_or, take, sym, ap, ◌∙◌, subst, refl, arith, rules}
+use Rattle.std.proofs.lemmas.Grind.{common_steps}
 use Rattle.std.specs.Global.{Vec}
 use Rattle.std.specs.List.{AllZip}
 use Rattle.std.specs.Map.{keys_of}
-use Rattle.std.specs.List.Sorted.{IsStrictlySortedBy}
 use Rattle.std.specs.declared.cmp.Ordering.{Ordering}
 use Rattle.sorted_runs.specs.Rows.{entries, Headed, StartsWith, AllUpTo, IsRuns}
 use Rattle.sorted_runs.specs.Copies.{IsEntryCopy, IsRunCopy}
-use Rattle.sorted_runs.specs.declared.edits.TheConstants.{FULL}
 
 -- one more of a list and its copy
 pub zip_more : {X Y : Type 0} (P : X → Y → Type 0) (xs : List X) (i : ℕ) (x : X) (ys : List Y) (y : Y) → i < length xs → x ≡ get_or xs i x → P x y → AllZip P (take i xs) ys → AllZip P (take (i + 1) xs) (ys ++ y ∷ [])
@@ -20,11 +19,7 @@ zip_more P (z ∷ xs) (suc i) x (w ∷ ys) y lt at p h =
     subst (λ (n : ℕ). AllZip P (take n (z ∷ xs)) (w ∷ (ys ++ y ∷ []))) (sym more) (h.0, zip_more P xs i x ys y (omega arith) at p h.1)
 
 pub zip_whole : {X Y : Type 0} (P : X → Y → Type 0) (xs : List X) (n : ℕ) (ys : List Y) → n ≡ length xs → AllZip P (take n xs) ys → AllZip P xs ys
-zip_whole P [] zero ys e h = h
-zip_whole P [] (suc n) ys e h = absurd (omega arith)
-zip_whole P (x ∷ xs) zero ys e h = absurd (omega arith)
-zip_whole P (x ∷ xs) (suc n) [] e h = absurd h
-zip_whole P (x ∷ xs) (suc n) (y ∷ ys) e h = (h.0, zip_whole P xs n ys (omega arith) h.1)
+zip_whole P xs n ys e h = grind (arith, common_steps)
 
 module _ {X Y : Type 0} (P : X → Y → Type 0) where
   zip_join : (xs : List X) (ys : List Y) (xs' : List X) (ys' : List Y) → AllZip P xs ys → AllZip P xs' ys' → AllZip P (xs ++ xs') (ys ++ ys')
@@ -53,9 +48,7 @@ module _ {K V : Type 0} (C : V → V → Type 0) where
   keys_copied (e ∷ es) (f ∷ fs) h = ap (λ (k : K). k ∷ keys_of fs) h.0.0 ∙ ap (λ (l : List K). e.0 ∷ l) (keys_copied es fs h.1)
 
   starts_copied : (k : K) (es fs : List (K × V)) → AllZip (IsEntryCopy C) es fs → StartsWith k es → StartsWith k fs
-  starts_copied k [] fs h s = absurd s
-  starts_copied k (e ∷ es) [] h s = absurd h
-  starts_copied k (e ∷ es) (f ∷ fs) h s = h.0.0 ∙ s
+  starts_copied k es fs h s = search rules
 
   headed_copied : (ks : List K) (vs ws : List (Vec (K × V))) → AllZip (IsRunCopy C) vs ws → Headed ks vs → Headed ks ws
   headed_copied [] [] [] h s = tt
@@ -75,11 +68,4 @@ module _ {K V : Type 0} (C : V → V → Type 0) where
       (omega arith, bounded_copied most vs ws h.1 b.1)
 
   pub runs_copied : (R : K → K → Ordering) (ks ks' : List K) (vs ws : List (Vec (K × V))) (len : ℕ) → IsRuns R ks vs len → ks' ≡ ks → AllZip (IsRunCopy C) vs ws → IsRuns R ks' ws len
-  runs_copied R ks ks' vs ws len inv same h =
-      let all = entries_copied vs ws h in
-      record {
-        headed = subst (λ l. Headed l ws) (sym same) (headed_copied ks vs ws h inv.headed);
-        rising = subst (IsStrictlySortedBy R) (sym (keys_copied (entries vs) (entries ws) all)) inv.rising;
-        bounded = bounded_copied FULL vs ws h inv.bounded;
-        counted = inv.counted ∙ sym (zip_long (IsEntryCopy C) (entries vs) (entries ws) all);
-      }
+  runs_copied R ks ks' vs ws len inv same h = search (rules, entries_copied, headed_copied, keys_copied, bounded_copied, zip_long)

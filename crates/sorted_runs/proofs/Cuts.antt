@@ -1,30 +1,25 @@
 -- Where the entries within a bound begin or end.
-use Rattle.std.proofs.Common.{◌≡◌, ℕ, zero, suc, ◌+◌, ◌≤◌, List, [], ◌∷◌, ◌++◌, length, get_or, take, drop, cond, sym, ap, ◌∙◌, subst, refl, arith, append_assoc, length-append, Bool, true, false, not, ◌&&◌}
+use Rattle.std.proofs.Common.{◌≡◌, ℕ, zero, suc, ◌+◌, ◌≤◌, List, [], ◌∷◌, ◌++◌, length, get_or, take, drop, cond, sym, ap, ◌∙◌, subst, refl, arith, append_assoc, length-append, Bool, true, false, not, ◌&&◌, rules}
+use Rattle.std.proofs.lemmas.Grind.{common_steps}
 use Rattle.std.specs.Global.{Vec}
 use Rattle.std.specs.List.{AllByRecursion, filter}
 use Rattle.std.specs.Cmp.{IsTotalOrder}
 use Rattle.std.specs.declared.cmp.Ordering.{Ordering}
-use Rattle.std.specs.declared.cmp.Ordering.TheVariants.{Less, Equal, Greater}
+use Rattle.std.specs.declared.cmp.Ordering.TheVariants.{Equal}
 use Rattle.std.proofs.lemmas.List.{append-nil}
 use Rattle.sorted_runs.specs.Rows.{entries, IsRuns}
 use Rattle.sorted_runs.specs.Edits.{offset}
 use Rattle.sorted_runs.specs.Places.{IsRunFor, IsFoundAt, IsGap, IsCut, Passes, Precedes, is_after}
-use Rattle.sorted_runs.proofs.Lists.{take_long, all_more, all_join, here_hit, here_gap, after_run, entries_split}
+use Rattle.sorted_runs.proofs.Lists.{all_more, all_join, here_hit, here_gap, after_run, entries_split}
 use Rattle.sorted_runs.proofs.Removed.{entry_there}
 use Rattle.std.proofs.Math.Seq.{take-length}
 
 module _ {X : Type 0} where
   front_of : (a b : List X) (n : ℕ) → n ≡ length a → take n (a ++ b) ≡ a
-  front_of [] b zero e = refl
-  front_of [] b (suc n) e = absurd (omega arith)
-  front_of (x ∷ a) b zero e = absurd (omega arith)
-  front_of (x ∷ a) b (suc n) e = ap (λ l. x ∷ l) (front_of a b n (omega arith))
+  front_of a b n e = grind (arith, common_steps)
 
   back_of : (a b : List X) (n : ℕ) → n ≡ length a → drop n (a ++ b) ≡ b
-  back_of [] b zero e = refl
-  back_of [] b (suc n) e = absurd (omega arith)
-  back_of (x ∷ a) b zero e = absurd (omega arith)
-  back_of (x ∷ a) b (suc n) e = back_of a b n (omega arith)
+  back_of a b n e = grind (arith, common_steps)
 
   all_so : (P : X → Type 0) → ((x : X) → P x) → (xs : List X) → AllByRecursion P xs
   all_so P h [] = tt
@@ -32,17 +27,13 @@ module _ {X : Type 0} where
 
 module _ {K V : Type 0} (test : K → Bool) where
   cut_of : (a b : List (K × V)) (n : ℕ) → n ≡ length a → AllByRecursion (λ (e : K × V). test e.0 ≡ false) a → AllByRecursion (λ (e : K × V). test e.0 ≡ true) b → IsCut test (a ++ b) n
-  cut_of a b n e low high = record {
-    before = subst (AllByRecursion (λ (e : K × V). test e.0 ≡ false)) (sym (front_of a b n e)) low;
-    behind = subst (AllByRecursion (λ (e : K × V). test e.0 ≡ true)) (sym (back_of a b n e)) high;
-  }
+  cut_of a b n e low high = grind (arith, common_steps)
 
   pub cut_start : ((q : K) → test q ≡ true) → (es : List (K × V)) → IsCut test es 0
   cut_start always es = record { before = tt; behind = all_so (λ (e : K × V). test e.0 ≡ true) (λ e. always e.0) es }
 
   cut_end : ((q : K) → test q ≡ false) → (es : List (K × V)) (n : ℕ) → n ≡ length es → IsCut test es n
-  cut_end never es n e =
-      subst (λ l. IsCut test l n) (append-nil es) (cut_of es [] n e (all_so (λ (e : K × V). test e.0 ≡ false) (λ e. never e.0) es) tt)
+  cut_end never es n e = grind (arith, common_steps, all_so)
 
   -- behind the last entry of the last run
   pub cut_last : ((q : K) → test q ≡ false) → (vs : List (Vec (K × V))) (r n : ℕ) (d : Vec (K × V)) → suc r ≡ length vs → n ≡ length (get_or vs r d).items → IsCut test (entries vs) (offset vs r n)
@@ -75,24 +66,13 @@ module _ {K V : Type 0} {R : K → K → Ordering} (o : IsTotalOrder R) (k : K) 
   run_is = ld ∙ ap (λ (v : Vec (K × V)). v.items) dv
 
   long_fore : (i : ℕ) → i ≤ length run → offset vs r i ≡ length (fore i)
-  long_fore i le =
-      let joint = length-append (entries (take r vs)) (take i run) in
-      let taken = take_long run i le in
-      omega arith
+  long_fore i le = grind (arith, common_steps)
 
   passed : (past : Bool) (es : List (K × V)) → Passes R k es → AllByRecursion (λ (e : K × V). is_after past (R k e.0) ≡ false) es
-  passed past es h = all_more (λ (e : K × V). R k e.0 ≡ Greater) (λ (e : K × V). is_after past (R k e.0) ≡ false) es (λ e is. ap (is_after past) is ∙ below past) h
-    where
-      below : (b : Bool) → is_after b Greater ≡ false
-      below true = refl
-      below false = refl
+  passed past es h = search (rules, all_more)
 
   ahead : (past : Bool) (es : List (K × V)) → Precedes R k es → AllByRecursion (λ (e : K × V). is_after past (R k e.0) ≡ true) es
-  ahead past es h = all_more (λ (e : K × V). R k e.0 ≡ Less) (λ (e : K × V). is_after past (R k e.0) ≡ true) es (λ e is. ap (is_after past) is ∙ above past) h
-    where
-      above : (b : Bool) → is_after b Less ≡ true
-      above true = refl
-      above false = refl
+  ahead past es h = search (rules, all_more)
 
   pub cut_gap : (past : Bool) (i : ℕ) → IsGap R l k i → IsCut (λ q. is_after past (R k q)) (entries vs) (offset vs r i)
   cut_gap past i found =
@@ -137,18 +117,13 @@ module _ {K V : Type 0} {R : K → K → Ordering} (o : IsTotalOrder R) (k : K) 
 
 -- tests of one key
 pub past_end : (a b : Bool) → b ≡ true → (a && not b) ≡ false
-past_end true true h = refl
-past_end false true h = refl
-past_end a false h = absurd (cc)
+past_end a b h = search rules
 
 pub before_start : (a b : Bool) → a ≡ false → (a && not b) ≡ false
-before_start false b h = refl
-before_start true b h = absurd (cc)
+before_start a b h = cc
 
 pub within : (a b : Bool) → a ≡ true → b ≡ false → (a && not b) ≡ true
-within true false h k = refl
-within true true h k = absurd (cc)
-within false b h k = absurd (cc)
+within a b h k = cc
 
 -- what lies between two cuts
 module _ {K V : Type 0} (f g : K → Bool) where
@@ -166,8 +141,7 @@ module _ {K V : Type 0} (f g : K → Bool) where
   none_behind (x ∷ es) h = leaves x es (past_end (f x.0) (g x.0) h.0) ∙ none_behind es h.1
 
   none_left : (p : ℕ) (es : List (K × V)) → drop p (take 0 es) ≡ []
-  none_left zero es = refl
-  none_left (suc p) es = refl
+  none_left p es = search rules
 
   between : (es : List (K × V)) (p q : ℕ) → AllByRecursion (λ (e : K × V). f e.0 ≡ false) (take p es) → AllByRecursion (λ (e : K × V). f e.0 ≡ true) (drop p es) → AllByRecursion (λ (e : K × V). g e.0 ≡ false) (take q es) → AllByRecursion (λ (e : K × V). g e.0 ≡ true) (drop q es) → filter both es ≡ drop p (take q es)
   between es p zero low high under over = none_behind es over ∙ sym (none_left p es)

@@ -1,9 +1,9 @@
 -- The last of the runs.
-use Rattle.std.proofs.Common.{◌≡◌, ℕ, zero, suc, ◌<◌, ◌≤◌, List, [], ◌∷◌, length, get_or, drop, ap, subst, arith, true, false, ◌-◌, inr}
+use Rattle.std.proofs.Common.{◌≡◌, ℕ, zero, suc, ◌<◌, ◌≤◌, List, [], ◌∷◌, length, get_or, drop, arith, false, ◌-◌}
+use Rattle.std.proofs.lemmas.Grind.{common_steps}
 use Rattle.std.specs.List.{AllByRecursion}
 use Rattle.std.specs.Ordering.{is_lt}
 use Rattle.std.specs.declared.cmp.Ordering.{Ordering}
-use Rattle.std.specs.declared.cmp.Ordering.TheVariants.{Less}
 use Rattle.sorted_runs.specs.Places.{IsRunFor}
 
 -- what holds from the place i on holds of each that is left
@@ -16,8 +16,4 @@ left P (x ∷ xs) (suc i) h = left P xs i (λ j d le in_range. h (suc j) d (omeg
 -- the last run, where the key is not below its first key
 module _ {K : Type 0} {R : K → K → Ordering} (k : K) (fs : List K) where
   pub run_at_end : (r : ℕ) (x : K) → r ≡ length fs - 1 → 0 < length fs → ((d : K) → get_or fs r d ≡ x) → is_lt (R k x) ≡ false → IsRunFor R fs k r
-  run_at_end r x e some at not_below = record {
-    within = omega arith;
-    reached = inr (λ d lt. let f = at d in let g : is_lt (R k x) ≡ true = ap is_lt (subst (λ y. R k y ≡ Less) f lt) in cc);
-    passed = left (λ f. R k f ≡ Less) fs (suc r) (λ j d lt in_range. absurd (omega arith));
-  }
+  run_at_end r x e some at not_below = grind (arith, common_steps)

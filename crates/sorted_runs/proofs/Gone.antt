@@ -1,5 +1,6 @@
 -- What taking entries out between two places is to all entries.
-use Rattle.std.proofs.Common.{◌≡◌, ℕ, zero, suc, ◌+◌, ◌-◌, ◌<◌, ◌≤◌, max, List, [], ◌∷◌, ◌++◌, length, get_or, set, take, drop, sym, ap, ◌∙◌, subst, refl, arith, append_assoc, length-append}
+use Rattle.std.proofs.Common.{◌≡◌, ℕ, zero, suc, ◌+◌, ◌-◌, ◌<◌, ◌≤◌, max, List, [], ◌∷◌, ◌++◌, length, get_or, set, take, drop, sym, ap, ◌∙◌, subst, refl, arith, append_assoc, length-append, rules}
+use Rattle.std.proofs.lemmas.Grind.{common_steps}
 use Rattle.std.specs.Global.{Vec}
 use Rattle.std.specs.List.{remove, remove_range}
 use Rattle.std.proofs.Math.Numerals.{add-one}
@@ -7,49 +8,35 @@ use Rattle.std.proofs.Math.Nat.{max-eq_left, max_comm}
 use Rattle.std.proofs.lemmas.List.{append-nil, take-append-drop}
 use Rattle.sorted_runs.specs.Rows.{entries, Headed, StartsWith, AllUpTo}
 use Rattle.sorted_runs.specs.Edits.{IsShaped, offset, LosesBetween}
-use Rattle.sorted_runs.proofs.Lists.{take_long, entries_split, entries_set}
+use Rattle.sorted_runs.proofs.Lists.{entries_split, entries_set}
 use Rattle.sorted_runs.proofs.Parts.{take_past, drop_past, take_within, drop_within}
-use Rattle.sorted_runs.proofs.Shaped.{headed_keep, headed_set, bounded_set, bounded_at, starts_here, entries_cut, entries_up_to}
+use Rattle.sorted_runs.proofs.Shaped.{headed_keep, headed_set, bounded_set, bounded_at, entries_cut, entries_up_to}
 use Rattle.sorted_runs.proofs.Removed.{headed_gone, bounded_gone, entries_gone}
 use Rattle.sorted_runs.specs.declared.edits.TheConstants.{FULL}
 
 module _ {X : Type 0} where
   take_in : (xs ys : List X) (p q : ℕ) → p ≤ q → q ≤ length xs → take p (take q xs ++ ys) ≡ take p xs
-  take_in xs ys zero q le in_range = refl
-  take_in xs ys (suc p) zero le in_range = absurd (omega arith)
-  take_in [] ys (suc p) (suc q) le in_range = absurd (omega arith)
-  take_in (x ∷ xs) ys (suc p) (suc q) le in_range = ap (λ l. x ∷ l) (take_in xs ys p q (omega arith) (omega arith))
+  take_in xs ys p q le in_range = grind (arith, common_steps)
 
   drop_in : (xs ys : List X) (q : ℕ) → q ≤ length xs → drop q (take q xs ++ ys) ≡ ys
-  drop_in xs ys zero in_range = refl
-  drop_in [] ys (suc q) in_range = absurd (omega arith)
-  drop_in (x ∷ xs) ys (suc q) in_range = drop_in xs ys q (omega arith)
+  drop_in xs ys q in_range = grind (arith, common_steps)
 
   long_drop : (xs : List X) (q : ℕ) → q ≤ length xs → length (drop q xs) + q ≡ length xs
-  long_drop xs zero le = omega arith
-  long_drop [] (suc q) le = absurd (omega arith)
-  long_drop (x ∷ xs) (suc q) le = let h = long_drop xs q (omega arith) in omega arith
+  long_drop xs q le = grind (arith, common_steps)
 
   -- what is taken out up to a place, and then from an earlier place on up to it
   cut_twice : (xs : List X) (p q r : ℕ) → p ≤ q → q ≤ length xs → remove_range (remove_range xs q r) p q ≡ remove_range xs p r
   cut_twice xs p q r le in_range = ap (λ l. l ++ drop q (remove_range xs q r)) (take_in xs (drop r xs) p q le in_range) ∙ ap (λ l. take p xs ++ l) (drop_in xs (drop r xs) q in_range)
 
   pub long_range : (xs : List X) (p q : ℕ) → p ≤ q → q ≤ length xs → length (remove_range xs p q) + (q - p) ≡ length xs
-  long_range xs p q le in_range =
-      let a = length-append (take p xs) (drop q xs) in
-      let b = take_long xs p (omega arith) in
-      let c = long_drop xs q in_range in
-      omega arith
+  long_range xs p q le in_range = grind (arith, common_steps)
 
   pub none_left : (xs : List X) → length xs ≡ 0 → [] ≡ xs
-  none_left [] e = refl
-  none_left (x ∷ xs) e = absurd (omega arith)
+  none_left xs e = grind (arith, common_steps)
 
 module _ {K V : Type 0} where
   starts_range : (f : K) (es : List (K × V)) (i j : ℕ) → StartsWith f es → (i ≡ 0 → ⊥) → StartsWith f (remove_range es i j)
-  starts_range f [] i j s ne = absurd s
-  starts_range f (e ∷ es) zero j s ne = absurd (ne refl)
-  starts_range f (e ∷ es) (suc i) j s ne = s
+  starts_range f es i j s ne = search rules
 
   -- a place in a run is none behind the last entry
   pub place_within : (vs : List (Vec (K × V))) (r j : ℕ) (d : Vec (K × V)) → r < length vs → j ≤ length (get_or vs r d).items → offset vs r j ≤ length (entries vs)
@@ -67,11 +54,7 @@ module _ {K V : Type 0} where
     left_is = is ∙ ap (λ (x : Vec (K × V)). remove_range x.items i j) mv
 
     shorter : length w.items ≤ FULL
-    shorter =
-        let b = bounded_at vs r FULL m h.bounded lt in
-        let n = long_range (get_or vs r m).items i j rising within in
-        let e : length w.items ≡ length (remove_range (get_or vs r m).items i j) = ap (λ l. length l) left_is in
-        omega arith
+    shorter = search (rules, bounded_at, long_range)
 
     pub cut_loses : LosesBetween vs (offset vs r i) (offset vs r j) (set vs r w)
     cut_loses =
@@ -87,8 +70,7 @@ module _ {K V : Type 0} where
         ∙ sym (ap (λ l. l ++ drop (offset vs r j) (entries vs)) first ∙ ap (λ l. (front ++ take i run) ++ l) last)
 
     pub cut_all_loses : length w.items ≡ 0 → LosesBetween vs (offset vs r i) (offset vs r j) (remove (set vs r w) r)
-    cut_all_loses none =
-        entries_gone vs r w lt ∙ ap (λ l. entries (take r vs) ++ (l ++ entries (drop (suc r) vs))) (none_left w.items none) ∙ sym (entries_set vs r w lt) ∙ cut_loses
+    cut_all_loses none = search (rules, entries_gone, none_left, entries_set, cut_loses)
 
     pub cut_behind : (i ≡ 0 → ⊥) → IsShaped fs (set vs r w)
     cut_behind ne = record {
@@ -97,20 +79,14 @@ module _ {K V : Type 0} where
     }
 
     pub cut_first : (x : K × V) → 0 < length w.items → x ≡ get_or w.items 0 x → IsShaped (set fs r x.0) (set vs r w)
-    cut_first x some at = record {
-      headed = headed_set fs vs r x.0 w h.headed lt (starts_here w.items x some at);
-      bounded = bounded_set vs r FULL w h.bounded shorter;
-    }
+    cut_first x some at = search (rules, headed_set, bounded_set, shorter)
 
     pub cut_all : IsShaped (remove fs r) (remove (set vs r w) r)
     cut_all = record { headed = headed_gone fs vs r w h.headed lt; bounded = bounded_gone vs r FULL w h.bounded lt }
 
   -- how many entries are left
   pub cut_counted : (vs new : List (Vec (K × V))) (p q len : ℕ) → LosesBetween vs p q new → p ≤ q → q ≤ length (entries vs) → len ≡ length (entries vs) → len - (q - p) ≡ length (entries new)
-  cut_counted vs new p q len loses le in_range counted =
-      let a = ap (λ l. length l) loses in
-      let b = long_range (entries vs) p q le in_range in
-      omega arith
+  cut_counted vs new p q len loses le in_range counted = grind (arith, common_steps)
 
   -- whole runs
   entries_join : (vs ws : List (Vec (K × V))) → entries (vs ++ ws) ≡ entries vs ++ entries ws
@@ -126,9 +102,7 @@ module _ {K V : Type 0} where
   left_behind vs r = ap (λ l. drop (offset vs r 0) l) (entries_cut vs r) ∙ drop_past (entries (take r vs)) (entries (drop r vs)) (offset vs r 0) 0 refl
 
   pub whole_loses : (vs : List (Vec (K × V))) (a b : ℕ) → LosesBetween vs (offset vs a 0) (offset vs b 0) (remove_range vs a b)
-  whole_loses vs a b =
-      entries_join (take a vs) (drop b vs)
-      ∙ sym (ap (λ l. l ++ drop (offset vs b 0) (entries vs)) (taken_before vs a) ∙ ap (λ l. entries (take a vs) ++ l) (left_behind vs b))
+  whole_loses vs a b = search (rules, entries_join, taken_before, left_behind)
 
   headed_range : (fs : List K) (vs : List (Vec (K × V))) (a b : ℕ) → a ≤ b → Headed fs vs → Headed (remove_range fs a b) (remove_range vs a b)
   headed_range fs vs zero zero le h = h
@@ -153,19 +127,13 @@ module _ {K V : Type 0} where
 
 module _ {X : Type 0} where
   none_dropped : (n : ℕ) → drop {A = X} n [] ≡ []
-  none_dropped zero = refl
-  none_dropped (suc n) = refl
+  none_dropped n = search rules
 
   drop_on : (xs : List X) (a n m : ℕ) → m ≡ a + n → drop n (drop a xs) ≡ drop m xs
-  drop_on xs zero n m e = ap (λ (k : ℕ). drop k xs) (let h : n ≡ m = omega arith in h)
-  drop_on [] (suc a) n m e = none_dropped n ∙ sym (none_dropped m)
-  drop_on (x ∷ xs) (suc a) n zero e = absurd (omega arith)
-  drop_on (x ∷ xs) (suc a) n (suc m) e = drop_on xs a n m (omega arith)
+  drop_on xs a n m e = grind (arith, common_steps)
 
   all_dropped : (xs : List X) (i : ℕ) → length xs ≤ i → drop i xs ≡ []
-  all_dropped [] i le = none_dropped i
-  all_dropped (x ∷ xs) zero le = absurd (omega arith)
-  all_dropped (x ∷ xs) (suc i) le = all_dropped xs i (omega arith)
+  all_dropped xs i le = grind (arith, common_steps)
 
 -- the entries before the run a, those of the runs from it on and up to the run b, and the rest
 module _ {K V : Type 0} where
@@ -173,44 +141,28 @@ module _ {K V : Type 0} where
   two_parts vs r = ap (λ l. length l) (entries_cut vs r) ∙ length-append (entries (take r vs)) (entries (drop r vs))
 
   pub three_parts : (vs : List (Vec (K × V))) (a b : ℕ) → a ≤ b → length (entries vs) ≡ offset vs a 0 + (length (entries (take (b - a) (drop a vs))) + length (entries (drop b vs)))
-  three_parts vs a b le =
-      let one = two_parts vs a in
-      let two = two_parts (drop a vs) (b - a) in
-      let rest = ap (λ (l : List (Vec (K × V))). length (entries l)) (drop_on vs a (b - a) b (omega arith)) in
-      omega arith
+  three_parts vs a b le = search (rules, two_parts, drop_on)
 
   pub none_counted : (vs : List (Vec (K × V))) (i : ℕ) → length vs ≤ i → length (entries (drop i vs)) ≡ 0
   none_counted vs i le = ap (λ (l : List (Vec (K × V))). length (entries l)) (all_dropped vs i le)
 
   pub whole_counted : (vs : List (Vec (K × V))) (a b left : ℕ) → left ≡ offset vs a 0 + length (entries (drop b vs)) → left ≡ length (entries (remove_range vs a b))
-  whole_counted vs a b left is =
-      let one = ap (λ l. length l) (entries_join (take a vs) (drop b vs)) in
-      let two = length-append (entries (take a vs)) (entries (drop b vs)) in
-      omega arith
+  whole_counted vs a b left is = grind (arith, common_steps, entries_join)
 
 -- runs that begin alike
 module _ {X : Type 0} where
   take_up_to : (xs : List X) (r s : ℕ) → r ≤ s → take r (take s xs) ≡ take r xs
-  take_up_to xs zero s le = refl
-  take_up_to xs (suc r) zero le = absurd (omega arith)
-  take_up_to [] (suc r) (suc s) le = refl
-  take_up_to (x ∷ xs) (suc r) (suc s) le = ap (λ l. x ∷ l) (take_up_to xs r s (omega arith))
+  take_up_to xs r s le = grind (arith, common_steps)
 
   short_take : (xs : List X) (n : ℕ) → length (take n xs) ≤ length xs
-  short_take xs zero = omega arith
-  short_take [] (suc n) = omega arith
-  short_take (x ∷ xs) (suc n) = let h = short_take xs n in omega arith
+  short_take xs n = grind (arith, common_steps)
 
   module _ (xs ys : List X) (s : ℕ) (kept : take s xs ≡ take s ys) where
     kept_up_to : (r : ℕ) → r ≤ s → take r xs ≡ take r ys
     kept_up_to r le = sym (take_up_to xs r s le) ∙ ap (λ l. take r l) kept ∙ take_up_to ys r s le
 
     kept_long : s ≤ length ys → s ≤ length xs
-    kept_long le =
-        let a = take_long ys s le in
-        let b = ap (λ l. length l) kept in
-        let c = short_take xs s in
-        omega arith
+    kept_long le = grind (arith, common_steps)
 
 module _ {K V : Type 0} where
   offset_rises : (vs : List (Vec (K × V))) (r s : ℕ) → r ≤ s → offset vs r 0 ≤ offset vs s 0
@@ -261,10 +213,7 @@ module _ {K V : Type 0} where
 -- places in order, and places that cross
 module _ {K V : Type 0} (vs : List (Vec (K × V))) where
   pub over_rises : (r i s j : ℕ) (d : Vec (K × V)) → r < s → s < length vs → i ≤ length (get_or vs r d).items → offset vs r i ≤ offset vs s j
-  over_rises r i s j d lt within inside =
-      let one = behind_run vs r (length (get_or vs r d).items) d (omega arith) refl in
-      let two = offset_rises vs (r + 1) s (omega arith) in
-      omega arith
+  over_rises r i s j d lt within inside = search (rules, behind_run, offset_rises)
 
   pub same_run : (r s j : ℕ) → r ≡ s → offset vs r j ≡ offset vs s j
   same_run r s j same = ap (λ (n : ℕ). offset vs n j) same

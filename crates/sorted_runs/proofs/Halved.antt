@@ -1,12 +1,13 @@
 -- A search that halves the first keys of runs.
-use Rattle.std.proofs.Common.{◌≡◌, ℕ, suc, ◌+◌, ◌<◌, ◌≤◌, ◌⊎◌, inl, inr, List, length, get_or, drop, refl, sym, ap, ◌∙◌, subst, arith, true, false}
+use Rattle.std.proofs.Common.{◌≡◌, ℕ, suc, ◌+◌, ◌<◌, ◌≤◌, ◌⊎◌, List, length, get_or, drop, sym, ◌∙◌, subst, arith, true, false, rules}
+use Rattle.std.proofs.lemmas.Grind.{common_steps}
 use Rattle.std.specs.List.{AllByRecursion}
 use Rattle.std.specs.Cmp.{IsTotalOrder}
 use Rattle.std.specs.Ordering.{is_lt}
 use Rattle.std.specs.List.Sorted.{IsStrictlySortedBy}
 use Rattle.std.specs.declared.cmp.Ordering.{Ordering}
-use Rattle.std.specs.declared.cmp.Ordering.TheVariants.{Less, Equal, Greater}
-use Rattle.std.proofs.lemmas.List.{get_or_default, drop_all}
+use Rattle.std.specs.declared.cmp.Ordering.TheVariants.{Less}
+use Rattle.std.proofs.lemmas.List.{get_or_default}
 use Rattle.std.proofs.lemmas.Map.Keys.{Less-from_sorted}
 use Rattle.std.proofs.Math.Seq.{drop-cons}
 use Rattle.sorted_runs.specs.Places.{IsRunFor}
@@ -20,27 +21,14 @@ pub record IsRunWithin {K : Type 0} (cmp : K → K → Ordering) (firsts : List 
   pub passed : AllByRecursion (λ f. cmp key f ≡ Less) (drop end firsts)
 
 pub is_less : (p : Ordering) → is_lt p ≡ true → p ≡ Less
-is_less Less h = refl
-is_less Equal h = cc
-is_less Greater h = cc
+is_less p h = search rules
 
 module _ {K : Type 0} {R : K → K → Ordering} (o : IsTotalOrder R) (k : K) (fs : List K) where
   pub any_run : 0 < length fs → IsRunWithin R fs k 0 (length fs)
-  any_run some = record {
-    rising = some;
-    within = omega arith;
-    reached = inl refl;
-    passed = subst (AllByRecursion (λ f. R k f ≡ Less)) (sym (drop_all (length fs) fs (omega arith))) tt;
-  }
+  any_run some = grind (arith, common_steps)
 
   pub one_run : (r end : ℕ) → end ≤ r + 1 → IsRunWithin R fs k r end → IsRunFor R fs k r
-  one_run r end last h =
-      let next : end ≡ suc r = omega (arith, h.rising) in
-      record {
-        within = omega (arith, h.rising, h.within);
-        reached = h.reached;
-        passed = subst (λ (n : ℕ). AllByRecursion (λ f. R k f ≡ Less) (drop n fs)) next h.passed;
-      }
+  one_run r end last h = search rules
 
   module _ (rising : IsStrictlySortedBy R fs) (r end middle : ℕ) (h : IsRunWithin R fs k r end) (low : r < middle) (high : middle < end) (x : K) (at : x ≡ get_or fs middle x) where
     in_range : middle < length fs
@@ -61,9 +49,4 @@ module _ {K : Type 0} {R : K → K → Ordering} (o : IsTotalOrder R) (k : K) (f
     }
 
     pub upper_half : is_lt (R k x) ≡ false → IsRunWithin R fs k middle end
-    upper_half not = record {
-      rising = high;
-      within = h.within;
-      reached = inr (λ d less. let e = ap is_lt (subst (λ (y : K). R k y ≡ Less) (at_any d) less) in let f = sym not ∙ e in cc);
-      passed = h.passed;
-    }
+    upper_half not = grind (arith, common_steps)

@@ -1,5 +1,6 @@
 -- Runs around a key, and what an edit of one run does to the list of all entries.
-use Rattle.std.proofs.Common.{◌≡◌, ℕ, zero, suc, ◌<◌, ◌≤◌, List, [], ◌∷◌, ◌++◌, length, get_or, set, take, drop, cond, sym, ap, ◌∙◌, subst, refl, arith, inl, inr, Some, None, append_assoc}
+use Rattle.std.proofs.Common.{◌≡◌, ℕ, zero, suc, ◌<◌, ◌≤◌, List, [], ◌∷◌, ◌++◌, length, get_or, set, take, drop, cond, sym, ap, ◌∙◌, subst, refl, arith, inl, inr, Some, None, append_assoc, rules}
+use Rattle.std.proofs.lemmas.Grind.{common_steps}
 use Rattle.std.specs.Global.{Vec}
 use Rattle.std.specs.List.{insert, AllByRecursion}
 use Rattle.std.specs.List.Sorted.{IsStrictlySortedBy}
@@ -15,8 +16,7 @@ use Rattle.sorted_runs.specs.Rows.{entries, Headed, StartsWith, IsRuns}
 -- lists and a fact of each element
 module _ {X : Type 0} (P : X → Type 0) where
   pub all_join : (xs ys : List X) → AllByRecursion P xs → AllByRecursion P ys → AllByRecursion P (xs ++ ys)
-  all_join [] ys h k = k
-  all_join (x ∷ xs) ys h k = (h.0, all_join xs ys h.1 k)
+  all_join xs ys h k = grind (arith, common_steps)
 
   pub all_first : (xs ys : List X) → AllByRecursion P (xs ++ ys) → AllByRecursion P xs
   all_first [] ys h = tt
@@ -27,9 +27,7 @@ module _ {X : Type 0} (P : X → Type 0) where
   all_last (x ∷ xs) ys h = all_last xs ys h.1
 
   pub all_at : (xs : List X) (i : ℕ) (d : X) → AllByRecursion P xs → i < length xs → P (get_or xs i d)
-  all_at [] i d h lt = absurd (omega arith)
-  all_at (x ∷ xs) zero d h lt = h.0
-  all_at (x ∷ xs) (suc i) d h lt = all_at xs i d h.1 (omega arith)
+  all_at xs i d h lt = grind (arith, common_steps)
 
 pub all_more : {X : Type 0} (P Q : X → Type 0) (xs : List X) → ((x : X) → P x → Q x) → AllByRecursion P xs → AllByRecursion Q xs
 all_more P Q [] f h = tt
@@ -81,8 +79,7 @@ module _ {K V : Type 0} where
   as_many (f ∷ fs) (v ∷ vs) h = ap suc (as_many fs vs h.1)
 
   first_in : (P : K → Type 0) (f : K) (es : List (K × V)) → StartsWith f es → AllByRecursion (λ e. P e.0) es → P f
-  first_in P f [] s h = absurd s
-  first_in P f (e ∷ es) s h = subst P s h.0
+  first_in P f es s h = search rules
 
   pub heads_in : (P : K → Type 0) (fs : List K) (vs : List (Vec (K × V))) → Headed fs vs → AllByRecursion (λ e. P e.0) (entries vs) → AllByRecursion P fs
   heads_in P [] vs s h = tt
@@ -101,9 +98,7 @@ module _ {K V : Type 0} where
 
 module _ {K : Type 0} {R : K → K → Ordering} (o : IsTotalOrder R) (k : K) where
   pub past_by : (x f : K) (p : Ordering) → R k x ≡ p → R x f ≡ Less → (R k f ≡ Less → ⊥) → R k x ≡ Greater
-  past_by x f Less e lt not = absurd (not (o.trans k x f e lt))
-  past_by x f Equal e lt not = absurd (not (o.congr k x f e ∙ lt))
-  past_by x f Greater e lt not = e
+  past_by x f p e lt not = search rules
 
 module _ {K V : Type 0} {R : K → K → Ordering} (o : IsTotalOrder R) (k : K) where
   firsts_rise_from : (fs : List K) (vs : List (Vec (K × V))) → Headed fs vs → Rises R (entries vs) → IsStrictlySortedBy R fs
@@ -128,10 +123,7 @@ module _ {K V : Type 0} {R : K → K → Ordering} (o : IsTotalOrder R) (k : K) 
       (runs_before fs vs r s.1 (rises_last R v.items (entries vs) h) (omega arith) not)
 
   all_above : (f : K) (es rest : List (K × V)) → StartsWith f es → R k f ≡ Less → Rises R (es ++ rest) → Precedes R k (es ++ rest)
-  all_above f [] rest s lt h = absurd s
-  all_above f (e ∷ es) rest s lt h =
-      let first : R k e.0 ≡ Less = subst (λ x. R k x ≡ Less) (sym s) lt in
-      (first, all_more (λ (x : K × V). R e.0 x.0 ≡ Less) (λ (x : K × V). R k x.0 ≡ Less) (es ++ rest) (λ x below. o.trans k e.0 x.0 first below) h.0)
+  all_above f es rest s lt h = search (rules, all_more)
 
   -- the entries of runs whose first keys are above k
   runs_after : (fs : List K) (vs : List (Vec (K × V))) → Headed fs vs → Rises R (entries vs) → AllByRecursion (λ f. R k f ≡ Less) fs → Precedes R k (entries vs)
@@ -207,9 +199,7 @@ module _ {K V : Type 0} (R : K → K → Ordering) (k : K) where
   remove_here e ys h = ap (λ q. cond (is_eq q) ys (e ∷ remove_entry (is_at (R k)) ys)) h
 
 pub cut : {X : Type 0} (xs : List X) (i : ℕ) → xs ≡ take i xs ++ drop i xs
-cut xs zero = refl
-cut [] (suc i) = refl
-cut (x ∷ xs) (suc i) = ap (λ l. x ∷ l) (cut xs i)
+cut xs i = grind (arith, common_steps)
 
 pub cut_at : {X : Type 0} (xs : List X) (i : ℕ) (d : X) → i < length xs → xs ≡ take i xs ++ (get_or xs i d ∷ drop (suc i) xs)
 cut_at [] i d lt = absurd (omega arith)
@@ -217,18 +207,13 @@ cut_at (x ∷ xs) zero d lt = refl
 cut_at (x ∷ xs) (suc i) d lt = ap (λ l. x ∷ l) (cut_at xs i d (omega arith))
 
 pub insert_in : {X : Type 0} (a b : List X) (n : ℕ) (e : X) → n ≡ length a → insert (a ++ b) n e ≡ a ++ (e ∷ b)
-insert_in [] b n e h = ap (λ (m : ℕ). insert b m e) h
-insert_in (x ∷ a) b zero e h = absurd (omega arith)
-insert_in (x ∷ a) b (suc n) e h = ap (λ l. x ∷ l) (insert_in a b n e (omega arith))
+insert_in a b n e h = grind (arith, common_steps)
 
 pub one_more : {X : Type 0} (a b : List X) (x : X) → length (a ++ x ∷ b) ≡ suc (length (a ++ b))
-one_more [] b x = refl
-one_more (y ∷ a) b x = ap suc (one_more a b x)
+one_more a b x = grind (arith, common_steps)
 
 pub take_long : {X : Type 0} (xs : List X) (n : ℕ) → n ≤ length xs → length (take n xs) ≡ n
-take_long xs zero le = refl
-take_long [] (suc n) le = absurd (omega arith)
-take_long (x ∷ xs) (suc n) le = ap suc (take_long xs n (omega arith))
+take_long xs n le = search rules
 
 -- the place of a key among all entries, from its place in its run
 module _ {K V : Type 0} {R : K → K → Ordering} (o : IsTotalOrder R) (k : K) (fs : List K) (vs : List (Vec (K × V))) (len : ℕ) (inv : IsRuns R fs vs len) (r : ℕ) (at : IsRunFor R fs k r) where
@@ -284,10 +269,7 @@ module _ {K V : Type 0} {R : K → K → Ordering} (o : IsTotalOrder R) (k : K) 
     of_run l e = e ∙ ap (λ (v : Vec (K × V)). v.items) is
 
     pub found : (l : List (K × V)) → l ≡ d.items → (i : ℕ) (e : K × V) → e ≡ get_or d.items i e → IsFoundAt R l k i → lookup (is_at (R k)) (entries vs) ≡ Some e.1
-    found l el i e ee hit =
-        let h = subst (λ m. IsFoundAt R m k i) (of_run l el) hit in
-        let at_e : get_or run i e ≡ e = ap (λ m. get_or m i e) (sym (of_run d.items refl)) ∙ sym ee in
-        got_hit i e h ∙ ap (λ x. Some x.1) at_e
+    found l el i e ee hit = search (rules, got_hit)
 
     pub missed : (l : List (K × V)) → l ≡ d.items → (i : ℕ) → IsGap R l k i → lookup (is_at (R k)) (entries vs) ≡ None
     missed l el i gap = got_gap i (subst (λ m. IsGap R m k i) (of_run l el) gap)

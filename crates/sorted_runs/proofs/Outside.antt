@@ -1,12 +1,8 @@
 -- What is left outside of two cuts.
-use Rattle.std.proofs.Common.{◌≡◌, ℕ, zero, suc, ◌≤◌, max, List, [], ◌∷◌, length, take, drop, cond, sym, ap, ◌∙◌, subst, refl, arith, ⊎_elim, Bool, true, false, not, ◌&&◌}
-use Rattle.std.proofs.Math.Nat.{max-eq_left, max_comm}
-use Rattle.std.proofs.lemmas.Bool.{cases_lt}
+use Rattle.std.proofs.Common.{◌≡◌, ℕ, zero, suc, ◌≤◌, max, List, [], ◌∷◌, length, take, drop, cond, sym, ap, ◌∙◌, refl, arith, Bool, true, false, not, ◌&&◌, rules}
 use Rattle.std.proofs.lemmas.List.{take-append-drop}
 use Rattle.std.specs.Global.{Vec}
 use Rattle.std.specs.List.{AllByRecursion, filter, remove_range}
-use Rattle.std.specs.Map.{keys_of}
-use Rattle.std.specs.List.Sorted.{IsStrictlySortedBy}
 use Rattle.std.specs.declared.cmp.Ordering.{Ordering}
 use Rattle.std.specs.declared.cmp.Ordering.TheVariants.{Less}
 use Rattle.sorted_runs.specs.Rows.{entries, IsRuns}
@@ -44,14 +40,10 @@ module _ {K V : Type 0} (f g : K → Bool) where
   around (x ∷ es) (suc p) (suc q) le low high under over = stays x es (before_start (f x.0) (g x.0) low.0) ∙ ap (λ l. x ∷ l) (around es p q (omega arith) low.1 high under.1 over)
 
   outside_cuts : (es : List (K × V)) (p q : ℕ) → IsCut f es p → IsCut g es q → filter (λ (e : K × V). not (f e.0 && not (g e.0))) es ≡ remove_range es p (max p q)
-  outside_cuts es p q from to = ⊎_elim
-      (λ lt. crossed es p q (omega arith) from.before to.behind ∙ sym (ap (λ (m : ℕ). remove_range es p m) (max-eq_left (omega arith)) ∙ take-append-drop p es))
-      (λ le. around es p q le from.before from.behind to.before to.behind ∙ sym (ap (λ (m : ℕ). remove_range es p m) (max_comm p q ∙ max-eq_left le)))
-      (cases_lt q p)
+  outside_cuts es p q from to = search (rules, crossed, take-append-drop, around)
 
 either : {X : Type 0} (P : List X → Type 0) (b : Bool) (xs ys : List X) → P xs → P ys → P (cond b xs ys)
-either P true xs ys h k = h
-either P false xs ys h k = k
+either P b xs ys h k = search rules
 
 all_left : {X : Type 0} (P : X → Type 0) (t : X → Bool) (xs : List X) → AllByRecursion P xs → AllByRecursion P (filter t xs)
 all_left P t [] h = tt
@@ -67,9 +59,4 @@ module _ {K V : Type 0} {R : K → K → Ordering} (f g : K → Bool) (fs : List
   outside_is = loses ∙ sym (outside_cuts f g (entries vs) p q from to)
 
   pub outside_runs : (fs' : List K) (len' : ℕ) → IsShaped fs' new → len' ≡ length (entries new) → IsRuns R fs' new len'
-  outside_runs fs' len' formed counted = record {
-    headed = formed.headed;
-    rising = subst (λ l. IsStrictlySortedBy R (keys_of l)) (sym outside_is) (rises_to R (filter (λ (e : K × V). not (f e.0 && not (g e.0))) (entries vs)) (rises_left R (λ (e : K × V). not (f e.0 && not (g e.0))) (entries vs) (rises_from R (entries vs) inv.rising)));
-    bounded = formed.bounded;
-    counted = counted;
-  }
+  outside_runs fs' len' formed counted = search (rules, outside_is, rises_to, rises_left, rises_from)

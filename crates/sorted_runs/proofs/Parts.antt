@@ -1,9 +1,9 @@
 -- The entries between two places, and the iterator's three parts.
-use Rattle.std.proofs.Common.{◌≡◌, ℕ, zero, suc, ◌+◌, ◌-◌, ◌<◌, ◌≤◌, ◌⊎◌, ⊎_elim, List, [], ◌∷◌, ◌++◌, length, get_or, take, drop, sym, ap, ◌∙◌, refl, arith, append_assoc, length-append}
+use Rattle.std.proofs.Common.{◌≡◌, ℕ, zero, suc, ◌+◌, ◌-◌, ◌<◌, ◌≤◌, ◌⊎◌, ⊎_elim, List, [], ◌∷◌, ◌++◌, length, get_or, take, drop, sym, ap, ◌∙◌, refl, arith, append_assoc, length-append, rules}
+use Rattle.std.proofs.lemmas.Grind.{common_steps}
 use Rattle.std.specs.Global.{Vec}
-use Rattle.std.proofs.Math.Numerals.{add-one}
 use Rattle.std.proofs.Math.Seq.{take-length}
-use Rattle.std.proofs.lemmas.List.{append-nil, get_or_default}
+use Rattle.std.proofs.lemmas.List.{get_or_default}
 use Rattle.sorted_runs.specs.Rows.{entries}
 use Rattle.sorted_runs.specs.Edits.{offset}
 use Rattle.sorted_runs.proofs.Lists.{entries_split}
@@ -21,39 +21,22 @@ module _ {X : Type 0} where
   drop_past (x ∷ a) b (suc m) n e = drop_past a b m n (omega arith)
 
   pub take_within : (a b : List X) (n : ℕ) → n ≤ length a → take n (a ++ b) ≡ take n a
-  take_within a b zero le = refl
-  take_within [] b (suc n) le = absurd (omega arith)
-  take_within (x ∷ a) b (suc n) le = ap (λ l. x ∷ l) (take_within a b n (omega arith))
+  take_within a b n le = grind (arith, common_steps)
 
   pub drop_within : (a b : List X) (n : ℕ) → n ≤ length a → drop n (a ++ b) ≡ drop n a ++ b
-  drop_within a b zero le = refl
-  drop_within [] b (suc n) le = absurd (omega arith)
-  drop_within (x ∷ a) b (suc n) le = drop_within a b n (omega arith)
+  drop_within a b n le = grind (arith, common_steps)
 
   none_between : (xs : List X) (p q : ℕ) → q ≤ p → drop p (take q xs) ≡ []
-  none_between xs zero zero le = refl
-  none_between xs zero (suc q) le = absurd (omega arith)
-  none_between xs (suc p) zero le = refl
-  none_between [] (suc p) (suc q) le = refl
-  none_between (x ∷ xs) (suc p) (suc q) le = none_between xs p q (omega arith)
+  none_between xs p q le = grind (arith, common_steps)
 
   take_take : (xs : List X) (r s : ℕ) → r < s → take r (take s xs) ≡ take r xs
-  take_take xs zero s lt = refl
-  take_take xs (suc r) zero lt = absurd (omega arith)
-  take_take [] (suc r) (suc s) lt = refl
-  take_take (x ∷ xs) (suc r) (suc s) lt = ap (λ l. x ∷ l) (take_take xs r s (omega arith))
+  take_take xs r s lt = grind (arith, common_steps)
 
   at_take : (xs : List X) (r s : ℕ) (d : X) → r < s → get_or (take s xs) r d ≡ get_or xs r d
-  at_take xs r zero d lt = absurd (omega arith)
-  at_take [] r (suc s) d lt = refl
-  at_take (x ∷ xs) zero (suc s) d lt = refl
-  at_take (x ∷ xs) (suc r) (suc s) d lt = at_take xs r s d (omega arith)
+  at_take xs r s d lt = grind (arith, common_steps)
 
   long_take : (xs : List X) (r s : ℕ) → r < s → s ≤ length xs → r < length (take s xs)
-  long_take xs r zero lt le = absurd (omega arith)
-  long_take [] r (suc s) lt le = absurd (omega arith)
-  long_take (x ∷ xs) zero (suc s) lt le = omega arith
-  long_take (x ∷ xs) (suc r) (suc s) lt le = let h = long_take xs r s (omega arith) (omega arith) in omega arith
+  long_take xs r s lt le = search rules
 
 module _ {K V : Type 0} (vs : List (Vec (K × V))) (d : Vec (K × V)) where
   -- the entries of the runs before s, as those before r, those of r and the rest
@@ -97,11 +80,7 @@ module _ {K V : Type 0} (vs : List (Vec (K × V))) (d : Vec (K × V)) where
 
     -- two places of one run
     between_same : r ≡ s → drop (offset vs r i) (take (offset vs s j) (entries vs)) ≡ drop i (take j (get_or vs s d).items)
-    between_same same =
-        let last = take j (get_or vs s d).items in
-        ap (λ (q : ℕ). drop (offset vs q i) (take (offset vs s j) (entries vs))) same
-        ∙ ap (λ l. drop (offset vs s i) l) (taken_to s j below inside)
-        ∙ drop_past (entries (take s vs)) last (offset vs s i) i refl
+    between_same same = search (rules, taken_to, drop_past)
 
     -- the other way round there is nothing
     pub between_none : r < length vs → (s < r) ⊎ ((r ≡ s) × (j < i)) → drop (offset vs r i) (take (offset vs s j) (entries vs)) ≡ []
@@ -125,8 +104,7 @@ module _ {X : Type 0} where
   nothing = []
 
   of_none : (n : ℕ) → take n nothing ≡ nothing
-  of_none zero = refl
-  of_none (suc n) = refl
+  of_none n = search rules
 
   -- a part of a list, as code names it
   part : (xs : List X) (i j : ℕ) → take (j - i) (drop i xs) ≡ drop i (take j xs)
@@ -147,35 +125,21 @@ module _ {K V : Type 0} (vs : List (Vec (K × V))) (a b : Vec (K × V)) (r i s j
   last_is = lb ∙ ap (λ (v : Vec (K × V)). v.items) bv
 
   pub read_runs : r < s → i ≤ length (get_or vs r b).items → take (length first - i) (drop i first) ++ (entries (take (s - (r + 1)) (drop (r + 1) vs)) ++ take j last) ≡ drop (offset vs r i) (take (offset vs s j) (entries vs))
-  read_runs lt le =
-      let tail = take j last in
-      ap (λ l. l ++ (entries (take (s - (r + 1)) (drop (r + 1) vs)) ++ tail)) (rest first i ∙ ap (λ l. drop i l) first_is)
-      ∙ ap (λ (l : List (Vec (K × V))). drop i (get_or vs r b).items ++ (entries l ++ tail)) (part vs (r + 1) s ∙ ap (λ (n : ℕ). drop n (take s vs)) (add-one r))
-      ∙ ap (λ l. drop i (get_or vs r b).items ++ (entries (drop (suc r) (take s vs)) ++ l)) (ap (λ l. take j l) last_is)
-      ∙ sym (between_runs vs b r i s j below inside lt le)
+  read_runs lt le = search (rules, rest, first_is, part, between_runs)
 
   pub read_same : r ≡ s → take (j - i) (drop i first) ++ [] ≡ drop (offset vs r i) (take (offset vs s j) (entries vs))
-  read_same same =
-      append-nil (take (j - i) (drop i first)) ∙ part first i j
-      ∙ ap (λ l. drop i (take j l)) (first_is ∙ ap (λ (q : ℕ). (get_or vs q b).items) same)
-      ∙ sym (between_same vs b r i s j below inside same)
+  read_same same = search (rules, part, first_is, between_same)
 
 module _ {K V : Type 0} (vs : List (Vec (K × V))) (a : Vec (K × V)) (r i : ℕ) (lt : r < length vs) (le : i ≤ length (get_or vs r a).items) (av : a ≡ get_or vs r a) (run : List (K × V)) (ra : run ≡ a.items) where
   run_is : run ≡ (get_or vs r a).items
   run_is = ra ∙ ap (λ (v : Vec (K × V)). v.items) av
 
   pub read_on : take (length run - i) (drop i run) ++ (entries (take (length vs - (r + 1)) (drop (r + 1) vs)) ++ []) ≡ drop (offset vs r i) (entries vs)
-  read_on =
-      let middle = entries (take (length vs - (r + 1)) (drop (r + 1) vs)) in
-      ap (λ l. l ++ (middle ++ [])) (rest run i ∙ ap (λ l. drop i l) run_is)
-      ∙ ap (λ l. drop i (get_or vs r a).items ++ l) (append-nil middle ∙ ap (λ (l : List (Vec (K × V))). entries l) (rest vs (r + 1) ∙ ap (λ (n : ℕ). drop n vs) (add-one r)))
-      ∙ sym (dropped_from vs a r i lt le)
+  read_on = search (rules, rest, dropped_from)
 
   pub read_to : entries (take r vs) ++ take i run ≡ take (offset vs r i) (entries vs)
   read_to = ap (λ l. entries (take r vs) ++ take i l) run_is ∙ sym (taken_to vs a r i lt le)
 
 -- the last run of the middle becomes the back
 pub walked_back : {K V : Type 0} (front : List (K × V)) (middle rest : List (Vec (K × V))) (run : Vec (K × V)) (back new all : List (K × V)) → middle ≡ rest ++ run ∷ [] → length back ≡ 0 → new ≡ run.items → front ++ (entries middle ++ back) ≡ all → front ++ (entries rest ++ new) ≡ all
-walked_back {K} {V} front middle rest run [] new all is none same whole =
-    ap (λ l. front ++ l) (ap (λ l. entries rest ++ l) same ∙ sym (entries_push rest run) ∙ ap (λ (l : List (Vec (K × V))). entries l) (sym is) ∙ sym (append-nil (entries middle))) ∙ whole
-walked_back {K} {V} front middle rest run (x ∷ back) new all is none same whole = absurd (omega arith)
+walked_back front middle rest run back new all is none same whole = grind (arith, common_steps, entries_push)

@@ -1,5 +1,6 @@
 -- What an edit at the place of a key is to all entries.
-use Rattle.std.proofs.Common.{◌≡◌, ℕ, zero, suc, ◌+◌, ◌<◌, ◌≤◌, List, [], ◌∷◌, ◌++◌, length, get_or, set, take, drop, sym, ap, ◌∙◌, subst, refl, arith, append_assoc, length-append, Some}
+use Rattle.std.proofs.Common.{◌≡◌, ℕ, zero, suc, ◌+◌, ◌<◌, ◌≤◌, List, [], ◌∷◌, ◌++◌, length, get_or, set, take, drop, sym, ap, ◌∙◌, subst, refl, arith, append_assoc, length-append, Some, rules}
+use Rattle.std.proofs.lemmas.Grind.{common_steps}
 use Rattle.std.specs.Global.{Vec}
 use Rattle.std.specs.List.{insert, AllByRecursion}
 use Rattle.std.specs.Map.{keys_of, lookup}
@@ -19,9 +20,7 @@ use Rattle.sorted_runs.specs.declared.edits.TheConstants.{FULL}
 
 module _ {K V : Type 0} {R : K → K → Ordering} (o : IsTotalOrder R) (k : K) (v : V) where
   all_put_by : (P : K → Type 0) (e : K × V) (es : List (K × V)) (p : Ordering) → P k → P e.0 → AllByRecursion (λ x. P x.0) es → AllByRecursion (λ x. P x.0) (insert_entry R es k v) → AllByRecursion (λ x. P x.0) (match_ordering p ((k, v) ∷ e ∷ es) ((e.0, v) ∷ es) (e ∷ insert_entry R es k v))
-  all_put_by P e es Less a b h i = (a, (b, h))
-  all_put_by P e es Equal a b h i = (b, h)
-  all_put_by P e es Greater a b h i = (b, i)
+  all_put_by P e es p a b h i = search rules
 
   all_put : (P : K → Type 0) (es : List (K × V)) → P k → AllByRecursion (λ x. P x.0) es → AllByRecursion (λ x. P x.0) (insert_entry R es k v)
   all_put P [] a h = (a, tt)
@@ -37,8 +36,7 @@ module _ {K V : Type 0} {R : K → K → Ordering} (o : IsTotalOrder R) (k : K) 
   rises_put (e ∷ es) h = rises_put_by e es (R k e.0) refl h (rises_put es h.1)
 
 same_long : {X : Type 0} (a b : List X) (x y : X) → length (a ++ y ∷ b) ≡ length (a ++ x ∷ b)
-same_long [] b x y = refl
-same_long (z ∷ a) b x y = ap suc (same_long a b x y)
+same_long a b x y = grind (arith, common_steps)
 
 set_cut : {X : Type 0} (xs : List X) (i : ℕ) (y : X) → i < length xs → set xs i y ≡ take i xs ++ (y ∷ drop (suc i) xs)
 set_cut [] i y lt = absurd (omega arith)
@@ -46,14 +44,10 @@ set_cut (x ∷ xs) zero y lt = refl
 set_cut (x ∷ xs) (suc i) y lt = ap (λ l. x ∷ l) (set_cut xs i y (omega arith))
 
 set_long : {X : Type 0} (xs : List X) (i : ℕ) (y : X) → length (set xs i y) ≡ length xs
-set_long [] i y = refl
-set_long (x ∷ xs) zero y = refl
-set_long (x ∷ xs) (suc i) y = ap suc (set_long xs i y)
+set_long xs i y = search rules
 
 starts_set : {K V : Type 0} (f : K) (es : List (K × V)) (i : ℕ) (d : K × V) (v : V) → StartsWith f es → StartsWith f (set es i ((get_or es i d).0, v))
-starts_set f [] i d v s = absurd s
-starts_set f (e ∷ es) zero d v s = s
-starts_set f (e ∷ es) (suc i) d v s = s
+starts_set f es i d v s = search rules
 
 module _ {K V : Type 0} {R : K → K → Ordering} (o : IsTotalOrder R) (k : K) (fs : List K) (vs : List (Vec (K × V))) (len : ℕ) (inv : IsRuns R fs vs len) (r : ℕ) (at : IsRunFor R fs k r) (d : Vec (K × V)) where
   pub shape : IsShaped fs vs
@@ -141,19 +135,10 @@ module _ {K V : Type 0} {R : K → K → Ordering} (o : IsTotalOrder R) (k : K) 
     gained_there i v fs' new len' gap = gained i v fs' new len' (subst (λ q. IsGap R q k i) run_is gap)
 
 pub none_yet : {K V : Type 0} (fs : List K) (vs : List (Vec (K × V))) → Headed fs vs → length fs ≡ 0 → entries vs ≡ []
-none_yet [] [] h e = refl
-none_yet [] (v ∷ vs) h e = absurd h
-none_yet (f ∷ fs) vs h e = absurd (omega arith)
+none_yet fs vs h e = grind (arith, common_steps)
 
 pub first_ever : {K V : Type 0} (R : K → K → Ordering) (fs' : List K) (vs new : List (Vec (K × V))) (e : K × V) → IsShaped fs' new → GainsAt vs 0 0 e new → entries vs ≡ [] → IsRuns R fs' new 1
-first_ever {V = V} R fs' vs new e h is none =
-    let all : entries new ≡ e ∷ [] = is ∙ ap (λ l. e ∷ l) none in
-    record {
-      headed = h.headed;
-      rising = subst (λ l. IsStrictlySortedBy R (keys_of l)) (sym all) (rises_to R (e ∷ []) (tt, tt));
-      bounded = h.bounded;
-      counted = sym (ap (λ l. length l) all);
-    }
+first_ever = search (rules, rises_to)
 
 pub long_as_read : {K V : Type 0} (vs : List (Vec (K × V))) (r : ℕ) (d : Vec (K × V)) → d ≡ get_or vs r d → length d.items ≡ length (get_or vs r d).items
 long_as_read {K} {V} vs r d e = let long : Vec (K × V) → ℕ = λ x. length x.items in ap long e

@@ -1,5 +1,6 @@
 -- What taking an entry out is to all entries.
-use Rattle.std.proofs.Common.{◌≡◌, ℕ, zero, suc, ◌<◌, ◌≤◌, List, [], ◌∷◌, ◌++◌, length, get_or, set, take, drop, sym, ap, ◌∙◌, subst, refl, arith, append_assoc, Some}
+use Rattle.std.proofs.Common.{◌≡◌, ℕ, zero, suc, ◌<◌, ◌≤◌, List, [], ◌∷◌, ◌++◌, length, get_or, set, take, drop, sym, ap, ◌∙◌, subst, refl, arith, append_assoc, Some, rules}
+use Rattle.std.proofs.lemmas.Grind.{common_steps}
 use Rattle.std.specs.Global.{Vec}
 use Rattle.std.specs.List.{remove, AllByRecursion}
 use Rattle.std.specs.Map.{keys_of, lookup, remove_entry}
@@ -14,7 +15,7 @@ use Rattle.sorted_runs.specs.Rows.{entries, Headed, StartsWith, AllUpTo, IsRuns}
 use Rattle.sorted_runs.specs.Places.{IsRunFor, IsFoundAt, IsGap}
 use Rattle.sorted_runs.specs.Edits.{IsShaped, LosesAt}
 use Rattle.sorted_runs.proofs.Lists.{one_more, Rises, rises_from, rises_to, here_hit, here_gap, got_hit, remove_past, remove_here, remove_above, entries_set, in_runs}
-use Rattle.sorted_runs.proofs.Shaped.{headed_keep, headed_set, bounded_set, bounded_at, starts_here}
+use Rattle.sorted_runs.proofs.Shaped.{headed_keep, headed_set, bounded_set, bounded_at}
 use Rattle.sorted_runs.specs.declared.edits.TheConstants.{FULL}
 
 without_one : {X : Type 0} (P : X → Type 0) (a c : List X) (x : X) → AllByRecursion P (a ++ x ∷ c) → AllByRecursion P (a ++ c)
@@ -31,9 +32,7 @@ entry_there (x ∷ xs) i lt = x
 
 module _ {K V : Type 0} where
   starts_remove : (f : K) (es : List (K × V)) (i : ℕ) → StartsWith f es → (i ≡ 0 → ⊥) → StartsWith f (remove es i)
-  starts_remove f [] i s ne = absurd s
-  starts_remove f (e ∷ es) zero s ne = absurd (ne refl)
-  starts_remove f (e ∷ es) (suc i) s ne = s
+  starts_remove f es i s ne = search rules
 
   pub headed_gone : (fs : List K) (vs : List (Vec (K × V))) (r : ℕ) (w : Vec (K × V)) → Headed fs vs → r < length vs → Headed (remove fs r) (remove (set vs r w) r)
   headed_gone [] [] r w h lt = absurd (omega arith)
@@ -58,11 +57,7 @@ module _ {K V : Type 0} where
     left_is = is ∙ ap (λ (x : Vec (K × V)). remove x.items i) mv
 
     shorter : length w.items ≤ FULL
-    shorter =
-        let b = bounded_at vs r FULL m h.bounded lt in
-        let n = length-remove (get_or vs r m).items i within in
-        let e : length w.items ≡ length (remove (get_or vs r m).items i) = ap (λ l. length l) left_is in
-        omega arith
+    shorter = search (rules, bounded_at, length-remove)
 
     pub lost : (d : Vec (K × V)) → LosesAt vs r i d (set vs r w)
     lost d = entries_set vs r w lt ∙ ap (λ l. entries (take r vs) ++ (l ++ entries (drop (suc r) vs))) (left_is ∙ ap (λ (x : Vec (K × V)). remove x.items i) (get_or_default vs r m d lt))
@@ -74,17 +69,13 @@ module _ {K V : Type 0} where
     }
 
     pub lost_first : (x : K × V) → 0 < length w.items → x ≡ get_or w.items 0 x → IsShaped (set fs r x.0) (set vs r w)
-    lost_first x some at = record {
-      headed = headed_set fs vs r x.0 w h.headed lt (starts_here w.items x some at);
-      bounded = bounded_set vs r FULL w h.bounded shorter;
-    }
+    lost_first x some at = search (rules, headed_set, bounded_set, shorter)
 
     pub lost_run : length w.items ≡ 0 → IsShaped (remove fs r) (remove (set vs r w) r)
     lost_run none = record { headed = headed_gone fs vs r w h.headed lt; bounded = bounded_gone vs r FULL w h.bounded lt }
 
     none_left : (es : List (K × V)) → length es ≡ 0 → [] ≡ es
-    none_left [] e = refl
-    none_left (x ∷ es) e = absurd (omega arith)
+    none_left es e = grind (arith, common_steps)
 
     pub lost_last : length w.items ≡ 0 → (d : Vec (K × V)) → LosesAt vs r i d (remove (set vs r w) r)
     lost_last none d = entries_gone vs r w lt ∙ ap (λ l. entries (take r vs) ++ (l ++ entries (drop (suc r) vs))) (none_left w.items none ∙ left_is ∙ ap (λ (x : Vec (K × V)). remove x.items i) (get_or_default vs r m d lt))
@@ -126,14 +117,7 @@ module _ {K V : Type 0} {R : K → K → Ordering} (o : IsTotalOrder R) (k : K) 
   had_here x u is = ap Some is ∙ sym (got_hit o k fs vs len inv r at d i x hit_run)
 
   pub held : (x : K × V) → 0 < len
-  held x =
-      let h = here_hit o k fs vs len inv r at d i x hit_run in
-      let run = (get_or vs r d).items in
-      let a = entries (take r vs) ++ take i run in
-      let c = drop (suc i) run ++ entries (drop (suc r) vs) in
-      let long = ap (λ q. length q) h.split ∙ one_more a c (get_or run i x) in
-      let was = inv.counted in
-      omega arith
+  held x = search rules
 
 pub gap_stays : {K V : Type 0} {R : K → K → Ordering} (o : IsTotalOrder R) (k : K) (fs : List K) (vs : List (Vec (K × V))) (len : ℕ) (inv : IsRuns R fs vs len) (r : ℕ) (at : IsRunFor R fs k r) (d : Vec (K × V)) → d ≡ get_or vs r d → (l : List (K × V)) → l ≡ d.items → (i : ℕ) → IsGap R l k i → entries vs ≡ remove_entry (is_at (R k)) (entries vs)
 gap_stays {K} {V} {R} o k fs vs len inv r at d dv l ld i gap =

@@ -1,11 +1,12 @@
 -- Edits of one run.
+use Rattle.std.proofs.lemmas.Grind.{common_steps}
 use Rattle.std.proofs.Math.Numerals.{add-one}
 use Rattle.std.specs.Result.{IsOk, is_ok}
-use Rattle.std.proofs.Common.{cond, Result, Ok, Err, OnErr, ◌≡◌, ℕ, zero, suc, ◌+◌, ◌-◌, ◌<◌, ◌≤◌, List, [], ◌∷◌, ◌++◌, length, get_or, set, take, drop, sym, ap, ◌∙◌, subst, refl, arith, append_assoc, length-append}
+use Rattle.std.proofs.Common.{cond, Result, OnErr, ◌≡◌, ℕ, zero, suc, ◌+◌, ◌-◌, ◌<◌, ◌≤◌, List, [], ◌∷◌, ◌++◌, length, get_or, set, take, drop, sym, ap, ◌∙◌, subst, refl, arith, append_assoc, length-append, rules}
 use Rattle.std.specs.Global.{Vec}
 use Rattle.std.specs.List.{insert}
 use Rattle.std.proofs.lemmas.List.{append-nil, take-append-drop}
-use Rattle.std.proofs.lemmas.List.Edits.{insert-append_left, insert-append_right, length-insert}
+use Rattle.std.proofs.lemmas.List.Edits.{insert-append_left, insert-append_right}
 use Rattle.sorted_runs.specs.Rows.{entries, Headed, StartsWith, AllUpTo}
 use Rattle.sorted_runs.specs.Edits.{IsShaped, offset, GainsAt, Splits}
 use Rattle.sorted_runs.proofs.Lists.{entries_split, entries_set, insert_in, take_long}
@@ -68,26 +69,14 @@ module _ {K V : Type 0} where
   entries_push (v ∷ vs) w = ap (λ l. v.items ++ l) (entries_push vs w) ∙ sym (append_assoc v.items (entries vs) w.items)
 
   starts_insert : (f : K) (es : List (K × V)) (i : ℕ) (e : K × V) → StartsWith f es → (i ≡ 0 → ⊥) → StartsWith f (insert es i e)
-  starts_insert f [] i e s ne = absurd s
-  starts_insert f (x ∷ es) zero e s ne = absurd (ne refl)
-  starts_insert f (x ∷ es) (suc i) e s ne = s
+  starts_insert f es i e s ne = search rules
 
   -- an entry has come into the run r, behind its first
   pub added_behind : (fs : List K) (vs : List (Vec (K × V))) (r i : ℕ) (e : K × V) (d w : Vec (K × V)) → IsShaped fs vs → r < length vs → i ≤ length (get_or vs r d).items → length (get_or vs r d).items < FULL → w.items ≡ insert (get_or vs r d).items i e → (i ≡ 0 → ⊥) → IsShaped fs (set vs r w)
-  added_behind fs vs r i e d w h lt le room is ne =
-      let long : length w.items ≡ length (get_or vs r d).items + 1 = ap (λ l. length l) is ∙ length-insert (get_or vs r d).items i e le in
-      record {
-        headed = headed_keep fs vs r d w h.headed lt (λ f s. subst (StartsWith f) (sym is) (starts_insert f (get_or vs r d).items i e s ne));
-        bounded = bounded_set vs r FULL w h.bounded (omega arith);
-      }
+  added_behind fs vs r i e d w h lt le room is ne = grind (arith, common_steps, headed_keep, starts_insert, bounded_set)
 
   pub added_first : (fs : List K) (vs : List (Vec (K × V))) (r : ℕ) (e : K × V) (d w : Vec (K × V)) → IsShaped fs vs → r < length vs → length (get_or vs r d).items < FULL → w.items ≡ insert (get_or vs r d).items 0 e → IsShaped (set fs r e.0) (set vs r w)
-  added_first fs vs r e d w h lt room is =
-      let long : length w.items ≡ length (get_or vs r d).items + 1 = ap (λ l. length l) is ∙ length-insert (get_or vs r d).items 0 e (omega arith) in
-      record {
-        headed = headed_set fs vs r e.0 w h.headed lt (subst (StartsWith e.0) (sym is) refl);
-        bounded = bounded_set vs r FULL w h.bounded (omega arith);
-      }
+  added_first fs vs r e d w h lt room is = search (rules, headed_set, bounded_set)
 
   pub added_gains : (vs : List (Vec (K × V))) (r i : ℕ) (e : K × V) (d w : Vec (K × V)) → r < length vs → i ≤ length (get_or vs r d).items → w.items ≡ insert (get_or vs r d).items i e → GainsAt vs r i e (set vs r w)
   added_gains vs r i e d w lt le is =
@@ -105,23 +94,11 @@ module _ {K V : Type 0} where
 
   -- nothing has changed but the block of a run
   pub same_items : (fs : List K) (vs : List (Vec (K × V))) (r : ℕ) (d w : Vec (K × V)) → IsShaped fs vs → r < length vs → length (get_or vs r d).items ≤ FULL → w.items ≡ (get_or vs r d).items → IsShaped fs (set vs r w) × (entries (set vs r w) ≡ entries vs)
-  same_items fs vs r d w h lt le is =
-      let e = ap (λ l. length l) is in (
-        record {
-          headed = headed_keep fs vs r d w h.headed lt (λ f s. subst (StartsWith f) (sym is) s);
-          bounded = bounded_set vs r FULL w h.bounded (omega arith);
-        },
-        entries_set vs r w lt ∙ ap (λ l. entries (take r vs) ++ (l ++ entries (drop (suc r) vs))) is ∙ sym (entries_split vs r d lt),
-      )
+  same_items fs vs r d w h lt le is = grind (arith, common_steps, headed_keep, bounded_set, entries_set, entries_split)
 
   -- a run of one entry is opened before the run r
   pub opened_shape : (fs : List K) (vs : List (Vec (K × V))) (r : ℕ) (e : K × V) (w : Vec (K × V)) → IsShaped fs vs → w.items ≡ e ∷ [] → IsShaped (insert fs r e.0) (insert vs r w)
-  opened_shape fs vs r e w h is =
-      let long = ap (λ l. length l) is in
-      record {
-        headed = headed_insert fs vs r e.0 w h.headed (subst (StartsWith e.0) (sym is) refl);
-        bounded = bounded_insert vs r FULL w h.bounded (omega arith);
-      }
+  opened_shape fs vs r e w h is = search (rules, headed_insert, bounded_insert)
 
   pub opened_gains : (vs : List (Vec (K × V))) (r : ℕ) (e : K × V) (w : Vec (K × V)) → w.items ≡ e ∷ [] → GainsAt vs r 0 e (insert vs r w)
   opened_gains vs r e w is =
@@ -152,14 +129,10 @@ module _ {K V : Type 0} where
   entries_part (v ∷ vs) (suc r) d a b lt is = ap (λ l. v.items ++ l) (entries_part vs r d a b (omega arith) is)
 
   long_part : (vs : List (Vec (K × V))) (r : ℕ) (a b : Vec (K × V)) → r < length vs → r < length (parted vs r a b)
-  long_part [] r a b lt = absurd (omega arith)
-  long_part (v ∷ vs) zero a b lt = omega arith
-  long_part (v ∷ vs) (suc r) a b lt = let h = long_part vs r a b (omega arith) in omega arith
+  long_part vs r a b lt = grind (arith, common_steps)
 
   first_part : (vs : List (Vec (K × V))) (r : ℕ) (a b : Vec (K × V)) → r < length vs → take r (parted vs r a b) ≡ take r vs
-  first_part [] r a b lt = absurd (omega arith)
-  first_part (v ∷ vs) zero a b lt = refl
-  first_part (v ∷ vs) (suc r) a b lt = ap (λ l. v ∷ l) (first_part vs r a b (omega arith))
+  first_part vs r a b lt = grind (arith, common_steps)
 
   at_first : (vs : List (Vec (K × V))) (r : ℕ) (d a b : Vec (K × V)) → r < length vs → get_or (parted vs r a b) r d ≡ a
   at_first [] r d a b lt = absurd (omega arith)
@@ -167,13 +140,10 @@ module _ {K V : Type 0} where
   at_first (v ∷ vs) (suc r) d a b lt = at_first vs r d a b (omega arith)
 
   starts_take : (f : K) (es : List (K × V)) (n : ℕ) → 0 < n → StartsWith f es → StartsWith f (take n es)
-  starts_take f es zero some s = absurd (omega arith)
-  starts_take f [] (suc n) some s = absurd s
-  starts_take f (e ∷ es) (suc n) some s = s
+  starts_take f es n some s = search rules
 
   pub starts_here : (es : List (K × V)) (x : K × V) → 0 < length es → x ≡ get_or es 0 x → StartsWith x.0 es
-  starts_here [] x lt e = absurd (omega arith)
-  starts_here (y ∷ es) x lt e = ap (λ (z : K × V). z.0) (sym e)
+  starts_here es x lt e = search rules
 
   pub split_shape : (fs : List K) (vs : List (Vec (K × V))) (r n : ℕ) (x : K × V) (d a b : Vec (K × V)) → IsShaped fs vs → r < length vs → 0 < n → n < length (get_or vs r d).items → length (get_or vs r d).items ≤ FULL → a.items ≡ take n (get_or vs r d).items → b.items ≡ drop n (get_or vs r d).items → x ≡ get_or b.items 0 x → IsShaped (insert fs (suc r) x.0) (parted vs r a b)
   split_shape fs vs r n x d a b h lt some within bound ea eb ex =
@@ -188,16 +158,7 @@ module _ {K V : Type 0} where
       }
 
   pub split_is : (vs : List (Vec (K × V))) (r n : ℕ) (d a b : Vec (K × V)) → r < length vs → n < length (get_or vs r d).items → a.items ≡ take n (get_or vs r d).items → b.items ≡ drop n (get_or vs r d).items → (entries (parted vs r a b) ≡ entries vs) × Splits vs r n (parted vs r a b)
-  split_is vs r n d a b lt within ea eb =
-      let run = (get_or vs r d).items in
-      let la : length a.items ≡ n = ap (λ l. length l) ea ∙ take_long run n (omega arith) in (
-        entries_part vs r d a b lt (ap (λ l. l ++ b.items) ea ∙ ap (λ l. take n run ++ l) eb ∙ take-append-drop n run),
-        record {
-          within = long_part vs r a b lt;
-          place = ap (λ (l : List (Vec (K × V))). length (entries l) + 0) (first_part vs r a b lt);
-          long = λ e. ap (λ (v : Vec (K × V)). length v.items) (at_first vs r e a b lt) ∙ la;
-        },
-      )
+  split_is vs r n d a b lt within ea eb = search (rules, entries_part, take-append-drop, long_part, first_part, at_first)
 
 -- the same, as the code reads the run
 module _ {K V : Type 0} (vs : List (Vec (K × V))) (r : ℕ) (d : Vec (K × V)) (dv : d ≡ get_or vs r d) where
@@ -208,12 +169,10 @@ module _ {K V : Type 0} (vs : List (Vec (K × V))) (r : ℕ) (d : Vec (K × V)) 
   kept_there w is = is ∙ ap (λ (v : Vec (K × V)). v.items) dv
 
 pub always_err : {T E P : Type 0} (r : Result T E) → P → OnErr r P
-always_err (Ok x) p = tt
-always_err (Err e) p = p
+always_err r p = search rules
 
 pub kept_ok : {X T E : Type 0} (r : Result T E) (x y z : X) → IsOk r → z ≡ cond (is_ok r) x y → z ≡ x
-kept_ok (Ok a) x y z h e = e
-kept_ok (Err a) x y z h e = absurd (cc)
+kept_ok r x y z h e = cc
 
 module _ {K V : Type 0} where
   pub split_all : (fs fs0 : List K) (vs vs0 : List (Vec (K × V))) (r n : ℕ) (x : K × V) (d a b : Vec (K × V)) (fs' : List K) (vs' : List (Vec (K × V))) → IsShaped fs0 vs0 → fs ≡ fs0 → vs ≡ vs0 → r < length vs0 → d ≡ get_or vs r d → 0 < n → n < length (get_or vs0 r d).items → a.items ≡ take n d.items → b.items ≡ drop n d.items → x ≡ get_or b.items 0 x → fs' ≡ insert fs (r + 1) x.0 → vs' ≡ insert (set vs r a) (r + 1) b → record { shaped : IsShaped fs' vs'; same : entries vs' ≡ entries vs0; splits : Splits vs0 r n vs' }

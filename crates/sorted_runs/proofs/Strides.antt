@@ -1,5 +1,6 @@
 -- A search that goes over a run in strides, and then entry by entry.
-use Rattle.std.proofs.Common.{◌≡◌, ℕ, zero, suc, ◌+◌, ◌<◌, ◌≤◌, List, [], ◌∷◌, length, get_or, take, drop, sym, ap, ◌∙◌, subst, refl, arith, false, IsTrue}
+use Rattle.std.proofs.Common.{◌≡◌, ℕ, zero, suc, ◌+◌, ◌<◌, ◌≤◌, List, [], ◌∷◌, length, get_or, take, drop, sym, ap, ◌∙◌, subst, refl, arith, false, IsTrue, rules}
+use Rattle.std.proofs.lemmas.Grind.{common_steps}
 use Rattle.std.specs.List.{AllByRecursion}
 use Rattle.std.specs.Map.{keys_of}
 use Rattle.std.specs.Cmp.{IsTotalOrder}
@@ -7,30 +8,21 @@ use Rattle.std.specs.Ordering.{is_gt, is_lt}
 use Rattle.std.specs.List.Sorted.{IsStrictlySortedBy}
 use Rattle.std.specs.declared.cmp.Ordering.{Ordering}
 use Rattle.std.specs.declared.cmp.Ordering.TheVariants.{Less, Equal, Greater}
-use Rattle.std.proofs.lemmas.List.{get_or_default, take_all}
+use Rattle.std.proofs.lemmas.List.{get_or_default}
 use Rattle.sorted_runs.specs.Places.{IsFoundAt, IsGap, Passes, Precedes}
 use Rattle.sorted_runs.proofs.Lists.{Rises, rises_from, all_more, all_at, past_by}
 
 pub taken_more : {X : Type 0} (P : X → Type 0) (xs : List X) (n : ℕ) (x : X) → n < length xs → x ≡ get_or xs n x → P x → AllByRecursion P (take n xs) → AllByRecursion P (take (n + 1) xs)
-taken_more P [] n x lt at p h = absurd (omega arith)
-taken_more P (y ∷ xs) zero x lt at p h = (subst P at p, tt)
-taken_more P (y ∷ xs) (suc n) x lt at p h =
-    let more : suc n + 1 ≡ suc (n + 1) = omega arith in
-    subst (λ (m : ℕ). AllByRecursion P (take m (y ∷ xs))) (sym more) (h.0, taken_more P xs n x (omega arith) at p h.1)
+taken_more P xs n x lt at p h = grind (arith, common_steps)
 
 no_more : {X : Type 0} (P : X → Type 0) (xs : List X) (n : ℕ) → length xs ≤ n → AllByRecursion P (drop n xs)
-no_more P [] zero le = tt
-no_more P [] (suc n) le = tt
-no_more P (x ∷ xs) zero le = absurd (omega arith)
-no_more P (x ∷ xs) (suc n) le = no_more P xs n (omega arith)
+no_more P xs n le = grind (arith, common_steps)
 
 not_less : (p : Ordering) → is_lt p ≡ false → p ≡ Less → ⊥
 not_less p h e = let f = ap is_lt e in cc
 
 pub is_greater : (p : Ordering) → IsTrue (is_gt p) → p ≡ Greater
-is_greater Less h = cc
-is_greater Equal h = cc
-is_greater Greater h = refl
+is_greater p h = search rules
 
 module _ {K V : Type 0} {R : K → K → Ordering} (o : IsTotalOrder R) (k : K) where
   -- all before an entry that is not above the key
@@ -63,17 +55,10 @@ module _ {K V : Type 0} {R : K → K → Ordering} (o : IsTotalOrder R) (k : K) 
 
     -- the last one is below the key
     pub behind : n + 1 ≡ length es → R k x.0 ≡ Greater → Passes R k es
-    behind last is =
-        let before = below_it es n x lt at (λ (less : R k x.0 ≡ Less). let e = sym less ∙ is in cc) (rises_from R es sorted) in
-        subst (λ (ys : List (K × V)). Passes R k ys) (take_all (n + 1) es (omega arith)) (taken_more (λ (e : K × V). R k e.0 ≡ Greater) es n x lt at is before)
+    behind last is = grind (arith, common_steps, below_it, rises_from)
 
     pub hit_it : R k x.0 ≡ Equal → Passes R k (take n es) → IsFoundAt R es k n
-    hit_it is before = record {
-      within = lt;
-      before = before;
-      here = λ d. subst (λ (w : K × V). R k w.0 ≡ Equal) (at ∙ get_or_default es n x d lt) is;
-      after = above_it es n x Equal lt at is (λ e. cc) (rises_from R es sorted);
-    }
+    hit_it is before = search (rules, get_or_default, above_it, rises_from)
 
     pub gap_it : R k x.0 ≡ Less → Passes R k (take n es) → IsGap R es k n
     gap_it is before = record {

@@ -55,19 +55,10 @@ module _ {roster : ℕ} (log F G : List Fact) (f g u : Position) (s s' : State) 
   q = both F G log m.part pg
 
   bases : (s.base ≤ s'.base) × (d.base ≤ s'.base)
-  bases = ⊎_elim
-      (λ (x : (d.base ≤ s.base) × (s'.base ≡ s.base)). let a : d.base ≤ s.base = x.0 in let b : s'.base ≡ s.base = x.1 in (omega arith, omega arith))
-      (λ (x : (s.base < d.base) × (s'.base ≡ d.base) × ((p : ℕ) → d.base ≤ version_of s'.store p)). let a : s.base < d.base = x.0 in let b : s'.base ≡ d.base =
-      x.1 in (omega arith, omega arith))
-      j.base
+  bases = omega arith
 
   newer : (p : ℕ) → version_of s.store p ≤ version_of s'.store p
-  newer p = ⊎_elim
-      (λ (x : (version_of s'.store p ≡ version_of s.store p) × (image_of s'.store p ≡ image_of s.store p)). let e : version_of s'.store p ≡ version_of s.store
-      p = x.0 in omega arith)
-      (λ (x : (version_of s.store p ≤ d.base) × (version_of s'.store p ≡ d.base) × HasImage d p (image_of s'.store p)). let a : version_of s.store p ≤ d.base =
-      x.0 in let b : version_of s'.store p ≡ d.base = x.1 in omega arith)
-      (j.images p)
+  newer p = omega arith
 
   to_held : (r : RecordData) → Contains s.held r ⊎ Contains d.records r → Matters (cuts (F ++ G)) u.epoch r → Contains s'.held r ⊎ IsInImage s' r
   to_held r h mat = j.kept r h (matters_as s' (F ++ G) u sc e r mat)

@@ -1,14 +1,12 @@
 -- A state answers as its facts, from the laws of positions, pages and meanings.
-use Rattle.std.proofs.Common.{◌≡◌, ◌≤◌, ℕ, ⊎_elim, List, refl, arith}
+use Rattle.std.proofs.Common.{◌≤◌, ℕ, List, refl, arith}
 use Rattle.redo_core.specs.Position.{Position, IsPosition}
-use Rattle.redo_core.specs.Linked.{IsLinked}
 use Rattle.redo_core.specs.declared.facts.Fact.{Fact}
 use Rattle.state_laws.specs.Laws.{SamePosition, TruePages, SameMeaning}
 use Rattle.state_laws.specs.AnswersAs.{StatesAnswer}
 
 anchor_low : (roster : ℕ) (facts : List Fact) (p : Position) → IsPosition roster facts p → p.anchor ≤ p.min
-anchor_low roster facts p at =
-    ⊎_elim (λ (zero_is : p.anchor ≡ 0). omega arith) (λ (is : IsLinked facts p.epoch p.anchor × (p.anchor ≤ p.min)). is.1) at.anchor.0
+anchor_low roster facts p at = omega arith
 
 pub states_answer : SamePosition → TruePages → SameMeaning → StatesAnswer
 states_answer position pages meaning roster log facts s sound means =

@@ -1,5 +1,5 @@
 -- A truncation or an advance by itself is a little state.
-use Rattle.std.proofs.Common.{◌≡◌, ℕ, ◌-◌, ◌<◌, ◌≤◌, ◌⊎◌, ◌↔◌, ⊎_elim, List, [], ◌∷◌, replicate, refl, sym, ◌∙◌, arith}
+use Rattle.std.proofs.Common.{◌≡◌, ℕ, ◌-◌, ◌<◌, ◌≤◌, ◌⊎◌, ◌↔◌, ⊎_elim, List, [], ◌∷◌, replicate, refl, sym, ◌∙◌, arith, rules}
 use Rattle.std.proofs.lemmas.List.{get_or-replicate, length-replicate}
 use Rattle.std.specs.List.{Contains}
 use Rattle.redo_core.specs.Data.{RecordData, CutData, AdvanceData}
@@ -7,7 +7,7 @@ use Rattle.redo_core.specs.Sets.{IsPart, SameSet, records, cuts, advances}
 use Rattle.redo_core.specs.Writing.{zeros}
 use Rattle.redo_core.specs.CompleteEpoch.{HasCutsTo}
 use Rattle.redo_core.specs.Roster.{IsReader, point_of}
-use Rattle.redo_core.specs.Points.{HasAdvance, ArePoints}
+use Rattle.redo_core.specs.Points.{ArePoints}
 use Rattle.redo_core.specs.Position.{Position, IsPosition}
 use Rattle.redo_core.specs.Linked.Linked.{start}
 use Rattle.redo_core.specs.declared.facts.Fact.{Fact}
@@ -40,8 +40,7 @@ AreZero roster ps = (reader : ℕ) → IsReader roster reader → point_of ps re
 
 pub zero_points : (roster : ℕ) (given : List AdvanceData) (k : ℕ) (ps : List ℕ) → ArePoints roster given k ps
     → ((a : AdvanceData) → Contains given a → a.epoch ≤ k → ⊥) → AreZero roster ps
-zero_points roster given k ps h none reader r =
-    ⊎_elim (λ (e : point_of ps reader ≡ 0). e) (λ (x : HasAdvance given k reader (point_of ps reader)). absurd (none x.0 x.1 x.2)) (h.each reader r).0
+zero_points roster given k ps h none reader r = search rules
 
 -- facts without records are meant by a bare state of their truncations, points and waiting advances
 pub bare_means : {roster : ℕ} (log F : List Fact) (f : Position) (b : BookData) → IsPart F log → IsPosition roster F f

@@ -1,5 +1,5 @@
 -- A state's book is that of the facts that it means.
-use Rattle.std.proofs.Common.{◌≡◌, ℕ, ◌<◌, ◌↔◌, List, length, sym, ap, ◌∙◌, subst}
+use Rattle.std.proofs.Common.{◌≡◌, ℕ, ◌<◌, ◌↔◌, List, length, sym, ap, ◌∙◌, subst, rules}
 use Rattle.std.specs.List.{Contains}
 use Rattle.redo_core.specs.Data.{AdvanceData}
 use Rattle.redo_core.specs.Sets.{SameSet, cuts, advances}
@@ -42,8 +42,7 @@ epoch_of {roster} {log} {F} {p} {s} m =
 -- a book with the truncations of facts has their complete epoch
 pub epoch_as : {roster : ℕ} (F : List Fact) (p : Position) (b : BookData) → IsPosition roster F p → SameSet b.cuts (cuts F) → IsCompleteEpoch b.cuts b.complete
     → b.complete ≡ p.epoch
-epoch_as F p b front sc h = greatest_unique (HasCutsTo b.cuts) (HasCutsTo (cuts F))
-    (λ i. (cuts_to_by b.cuts (cuts F) sc i, cuts_to_by (cuts F) b.cuts (same_sym b.cuts (cuts F) sc) i)) b.complete p.epoch h front.epoch
+epoch_as F p b front sc h = search (rules, greatest_unique, cuts_to_by, same_sym)
 
 -- a book that has what facts at a position have
 pub readers_at : {roster : ℕ} (F : List Fact) (p : Position) (b : BookData) → IsPosition roster F p → b.points ≡ p.points → roster_of b ≡ roster

@@ -1,5 +1,5 @@
 -- Block chains are whole.
-use Rattle.std.proofs.Common.{◌≡◌, ℕ, ◌<◌, ◌≤◌, ◌⊎◌, inl, inr, ⊎_elim, List, refl, sym, ◌∙◌, arith}
+use Rattle.std.proofs.Common.{◌≡◌, ℕ, ◌<◌, ◌≤◌, ◌⊎◌, inl, inr, ⊎_elim, List, refl, sym, ◌∙◌, arith, rules}
 use Rattle.redo_core.specs.Data.{RecordData}
 use Rattle.redo_core.specs.Sets.{cuts}
 use Rattle.redo_core.specs.CompleteEpoch.{HasCutsTo}
@@ -25,15 +25,7 @@ use Rattle.state_laws.proofs.Reading.{held_of}
 -- what is alive in a record's own view below the record is alive wherever the record is
 pub alive_on : (log : List Fact) (k : ℕ) (r : RecordData) (e n : ℕ) → IsAlive (cuts log) k r.epoch r.number → IsAlive (cuts log) r.epoch e n → n < r.number
     → IsAlive (cuts log) k e n
-alive_on log k r e n above a lt = record {
-  known = let x : e ≤ r.epoch = a.known in let y : r.epoch ≤ k = above.known in omega arith;
-  begun = a.begun;
-  spared = λ c h later upto.
-      ⊎_elim
-      (λ (u : c.epoch ≤ r.epoch). a.spared c h later u)
-      (λ (u : r.epoch < c.epoch). let v : r.number ≤ c.lo = above.spared c h u upto in omega arith)
-      (let t : (c.epoch ≤ r.epoch) ⊎ (r.epoch < c.epoch) = grind arith in t);
-}
+alive_on log k r e n above a lt = search rules
 
 module _ {roster : ℕ} (log F : List Fact) (p : Position) (s : State) (page q : ℕ) (r : RecordData) (sound : IsSound roster log) (m : MeansAt roster log F p s)
     (le : q ≤ p.complete) (h : IsApplied s page q r) where

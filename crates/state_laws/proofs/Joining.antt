@@ -1,5 +1,5 @@
 -- What two states know together means the union of what they mean.
-use Rattle.std.proofs.Common.{◌≡◌, ℕ, ◌<◌, ◌≤◌, ◌⊎◌, ◌↔◌, inl, inr, ⊎_elim, List, ◌++◌, length, refl, sym, ap, ◌∙◌, subst, arith}
+use Rattle.std.proofs.Common.{◌≡◌, ℕ, ◌<◌, ◌≤◌, ◌⊎◌, ◌↔◌, inl, inr, ⊎_elim, List, ◌++◌, length, refl, sym, ap, ◌∙◌, subst, arith, rules}
 use Rattle.std.specs.List.{Contains}
 use Rattle.redo_core.specs.Data.{RecordData, AdvanceData}
 use Rattle.redo_core.specs.Sets.{IsPart, SameSet, records, cuts, advances}
@@ -190,17 +190,11 @@ module _ {roster : ℕ} (log F U : List Fact) (f u : Position) (s : State) (l : 
 
 pub in_image_by : (s s' : State) (r : RecordData) → s.book.complete ≤ s'.book.complete → s.base ≤ s'.base
     → version_of s.store r.page ≤ version_of s'.store r.page → IsInImage s r → IsInImage s' r
-in_image_by s s' r a b c h = (
-  omega (arith, a, h.0),
-  let x : r.number ≤ s.base = h.1 in omega arith,
-  let x : r.number ≤ version_of s.store r.page = h.2 in
-      omega arith,
-)
+in_image_by s s' r a b c h = omega arith
 
 image_as : (F G : List Fact) (u : Position) (p v w : ℕ) (i j : List ℕ) → w ≡ v → j ≡ i → (v ≤ u.anchor) × IsPageAt (F ++ G) u.epoch p v i
     → (w ≤ u.anchor) × IsPageAt (F ++ G) u.epoch p w j
-image_as F G u p v w i j a b h = subst (λ x. (x ≤ u.anchor) × IsPageAt (F ++ G) u.epoch p x j) (sym a)
-    (subst (λ x. (v ≤ u.anchor) × IsPageAt (F ++ G) u.epoch p v x) (sym b) h)
+image_as F G u p v w i j a b h = search rules
 
 -- an image that comes from one side
 image_joined : {roster : ℕ} (log F G : List Fact) (f g u : Position) (s t s' : State) → IsLog roster log → IsPart (F ++ G) log → MeansAt roster log F f s

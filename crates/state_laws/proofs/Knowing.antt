@@ -1,5 +1,5 @@
 -- Facts that a state knows change nothing, and no others do.
-use Rattle.std.proofs.Common.{◌≡◌, ◌≢◌, ℕ, ◌<◌, ◌≤◌, ◌⊎◌, inl, inr, ⊎_elim, List, [], ◌∷◌, ◌++◌, refl, sym, ap, ◌∙◌, subst, arith}
+use Rattle.std.proofs.Common.{◌≡◌, ◌≢◌, ℕ, ◌<◌, ◌≤◌, ◌⊎◌, inl, inr, ⊎_elim, List, [], ◌∷◌, ◌++◌, refl, sym, ap, ◌∙◌, subst, arith, rules}
 use Rattle.std.specs.List.{Contains}
 use Rattle.redo_core.specs.Data.{RecordData, CutData, AdvanceData}
 use Rattle.redo_core.specs.Sets.{IsPart, records, cuts, advances}
@@ -213,11 +213,7 @@ known_leaves s fact known roster log F m sound inside a mean =
     (a.0, meaning_alike F (F ++ fact ∷ []) a.0 m (known_alike log F a.0 s fact l inside a.1 known) (meaning_at F a.0 m a.1.position mean))
 
 new_changes : (s : State) (fact : Fact) → (IsKnown s fact → ⊥) → ChangesMeaning s fact
-new_changes s fact new roster log F m sound inside a mean after =
-    let l = log_of_sound roster log sound in
-    let q : IsPart (F ++ fact ∷ []) log = both F (fact ∷ []) log a.1.part (part_of log fact inside) in
-    let al = alike_by_meaning log F (F ++ fact ∷ []) a.0 after.0 m l a.1.part q (meaning_at F a.0 m a.1.position mean) after.1 in
-    new (alike_known log F a.0 s fact l inside a.1 al)
+new_changes s fact new roster log F m sound inside a mean after = search (rules, log_of_sound, both, part_of, alike_by_meaning, meaning_at, alike_known)
 
 pub unchanged_exactly : (s : State) (fact : Fact) → (IsKnown s fact → LeavesMeaning s fact) × ((IsKnown s fact → ⊥) → ChangesMeaning s fact)
 unchanged_exactly s fact = (known_leaves s fact, new_changes s fact)
@@ -309,5 +305,4 @@ no_conflict_at {roster} log F p s (Advance a) l inside m x =
 
 pub no_conflict : (roster : ℕ) (log F : List Fact) (s : State) (fact : Fact) → IsSound roster log → Contains log fact → Means roster log F s → Conflicts s fact
     → ⊥
-no_conflict roster log F s fact sound inside a x =
-    no_conflict_at log F a.0 s fact (log_of_sound roster log sound) inside a.1 x
+no_conflict roster log F s fact sound inside a x = search (rules, no_conflict_at, log_of_sound)

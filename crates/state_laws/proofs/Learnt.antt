@@ -1,5 +1,5 @@
 -- What a state learns, it means.
-use Rattle.std.proofs.Common.{◌≡◌, ℕ, ◌<◌, ◌≤◌, ◌⊎◌, ◌↔◌, inl, inr, ⊎_elim, List, [], ◌∷◌, ◌++◌, length, refl, sym, ap, subst, arith}
+use Rattle.std.proofs.Common.{◌≡◌, ℕ, ◌<◌, ◌≤◌, ◌⊎◌, ◌↔◌, inl, inr, ⊎_elim, List, [], ◌∷◌, ◌++◌, length, refl, sym, ap, subst, arith, rules}
 use Rattle.std.specs.List.{Contains}
 use Rattle.redo_core.specs.Data.{RecordData, CutData, AdvanceData}
 use Rattle.redo_core.specs.Sets.{SameSet, cuts, advances}
@@ -26,22 +26,10 @@ use Rattle.state_laws.proofs.OneFact.{part_of, advance_no_record, advance_no_cut
 use Rattle.state_laws.proofs.Booked.{epoch_of}
 
 same_book : (b d : BookData) → b.cuts ≡ d.cuts → b.complete ≡ d.complete → b.points ≡ d.points → b.waits ≡ d.waits → b ≡ d
-same_book b d e f g h =
-    let x : (let v : BookData = record { cuts = b.cuts; complete = b.complete; points = b.points; waits = b.waits } in v) ≡ record {
-      cuts = d.cuts;
-      complete = d.complete;
-      points = d.points;
-      waits = d.waits;
-    } = cc in x
+same_book b d e f g h = search rules
 
 same_state : (s t : State) → s.book ≡ t.book → s.held ≡ t.held → s.base ≡ t.base → s.store ≡ t.store → s ≡ t
-same_state s t a b c d =
-    let x : (let v : State = record { book = s.book; held = s.held; base = s.base; store = s.store } in v) ≡ record {
-      book = t.book;
-      held = t.held;
-      base = t.base;
-      store = t.store;
-    } = cc in x
+same_state s t a b c d = search rules
 
 -- a record
 
@@ -246,9 +234,7 @@ joins_book : {roster : ℕ} (log F : List Fact) (s : State) (ns : List ℕ) (vs 
     → length ms ≡ length s.book.points
     → ((reader : ℕ) → IsReader (length s.book.points) reader → IsGreatest (Known s (point_of ns reader) vs s.book.complete reader) (point_of ms reader))
     → Joins s (bare (book_of [] 0 ns vs)) (record s { book = book_of s.book.cuts s.book.complete ms ws })
-joins_book log F s ns vs ms ws x waits count points =
-    book_joins s (book_of [] 0 ns vs) (book_of s.book.cuts s.book.complete ms ws)
-    (record { cuts = same_cuts_more s.book.cuts; complete = epoch_of x.1; points = record { count = count; each = points }; waits = waits })
+joins_book log F s ns vs ms ws x waits count points = search (rules, book_joins, same_cuts_more, epoch_of)
 
 -- it counts, and is of epoch 0
 count_first : {roster : ℕ} (log F : List Fact) (s : State) (ns ms : List ℕ) (a : AdvanceData) → (x : Means roster log F s) → a.epoch ≡ 0

@@ -1,5 +1,5 @@
 -- What a state tells by itself is what the facts tell that it means.
-use Rattle.std.proofs.Common.{◌≡◌, ℕ, ◌≤◌, ◌↔◌, inr, List, sym, ◌∙◌, subst, arith}
+use Rattle.std.proofs.Common.{◌≡◌, ℕ, ◌≤◌, ◌↔◌, inr, List, sym, ◌∙◌, subst, arith, rules}
 use Rattle.redo_core.specs.Linked.{IsLinked}
 use Rattle.redo_core.specs.Linked.Linked.{start}
 use Rattle.redo_core.specs.Position.{Position}
@@ -39,15 +39,7 @@ pub anchor_law : {roster : ℕ} (log F : List Fact) (p : Position) (s : State) (
 anchor_law log F p s anchor l m a = (m.epoch, anchor_as log F p s l m anchor a)
 
 same_position : (p q : Position) → p.epoch ≡ q.epoch → p.complete ≡ q.complete → p.points ≡ q.points → p.min ≡ q.min → p.anchor ≡ q.anchor → p ≡ q
-same_position p q a b ps c d =
-    let t : (let v : Position = record { epoch = p.epoch; complete = p.complete; points = p.points; min = p.min; anchor = p.anchor } in v) ≡ record {
-      epoch =
-          q.epoch;
-      complete = q.complete;
-      points = q.points;
-      min = q.min;
-      anchor = q.anchor;
-    } = cc in t
+same_position p q a b ps c d = search rules
 
 pub position_as : {roster : ℕ} (log F : List Fact) (p q : Position) (s : State) → IsLog roster log → MeansAt roster log F p s → HasPosition s q → q ≡ p
 position_as log F p q s l m h =

@@ -1,5 +1,5 @@
 -- A state made anew from what another one means, means the same.
-use Rattle.std.proofs.Common.{◌≡◌, ℕ, ◌<◌, ◌≤◌, ◌⊎◌, inl, inr, ⊎_elim, List, sym, ap, subst, arith}
+use Rattle.std.proofs.Common.{◌≡◌, ℕ, ◌<◌, ◌≤◌, ◌⊎◌, inl, inr, ⊎_elim, List, sym, subst, arith, rules}
 use Rattle.std.specs.List.{Contains}
 use Rattle.redo_core.specs.Data.{RecordData}
 use Rattle.redo_core.specs.Sets.{cuts}
@@ -7,7 +7,6 @@ use Rattle.redo_core.specs.Standing.{IsAlive}
 use Rattle.redo_core.specs.Linked.{IsLinked}
 use Rattle.redo_core.specs.Position.{Position}
 use Rattle.redo_core.specs.PageAt.{IsPageAt}
-use Rattle.redo_core.specs.Sound.{IsSound}
 use Rattle.redo_core.specs.declared.facts.Fact.{Fact}
 use Rattle.redo_laws.proofs.Deciding.{settled_le}
 use Rattle.redo_laws.proofs.Log.{IsLog, log_of_sound}
@@ -40,13 +39,7 @@ module _ {roster : ℕ} (log F : List Fact) (p : Position) (old new : State) (l 
 
   -- a record at or below the anchor that does not wait is in its page's image
   in_image : (r : RecordData) → r.epoch ≤ old.book.complete → r.number ≤ p.anchor → IsInImage new r
-  in_image r known low =
-      let same = based in
-      let at : version_of new.store r.page ≡ new.base = made.versions r.page in (
-        subst (λ b. r.epoch ≤ b.complete) (sym made.book) known,
-        omega (arith, same, low),
-        omega (arith, same, at, low),
-      )
+  in_image r known low = search (rules, based)
 
   -- each record that matters is kept, or in its page's image
   still_there : (r : RecordData) → Matters (cuts F) p.epoch r → Contains old.held r ⊎ IsInImage old r → Contains new.held r ⊎ IsInImage new r

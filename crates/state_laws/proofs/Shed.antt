@@ -1,5 +1,5 @@
 -- What a state sheds, it does not need.
-use Rattle.std.proofs.Common.{◌≡◌, ℕ, ◌<◌, ◌≤◌, ◌⊎◌, inl, inr, ⊎_elim, List, ◌++◌, sym, ap, ◌∙◌, subst, arith}
+use Rattle.std.proofs.Common.{◌≡◌, ℕ, ◌<◌, ◌≤◌, ◌⊎◌, inl, inr, ⊎_elim, List, ◌++◌, sym, subst, arith, rules}
 use Rattle.std.specs.List.{Contains}
 use Rattle.redo_core.specs.Data.{RecordData}
 use Rattle.redo_core.specs.Sets.{IsPart, cuts}
@@ -10,15 +10,12 @@ use Rattle.redo_core.specs.Position.{Position, IsPosition}
 use Rattle.redo_core.specs.PageAt.{IsPageAt}
 use Rattle.redo_core.specs.Sound.{IsSound}
 use Rattle.redo_core.specs.declared.facts.Fact.{Fact}
-use Rattle.redo_laws.proofs.Deciding.{settled_eq}
 use Rattle.redo_core.proofs.FactParts.{part_records}
 use Rattle.redo_laws.proofs.Log.{IsLog, log_of_sound}
 use Rattle.redo_laws.proofs.Views.{finality_law, anchor_is}
 use Rattle.redo_laws.proofs.Fronts.{front_exists}
 use Rattle.redo_laws.proofs.Meanings.{lists_as}
 use Rattle.redo_laws.proofs.Union.{left, right, both}
-use Rattle.redo_core.specs.Book.{roster_of}
-use Rattle.redo_core.specs.Knowing.{KnowsFacts}
 use Rattle.state_laws.specs.State.{State, SameBase, version_of, image_of}
 use Rattle.state_laws.specs.Means.{MeansAt, Means, Matters, IsInImage}
 use Rattle.state_laws.specs.Shows.{Shows}
@@ -83,19 +80,7 @@ pub with_others : {roster : ℕ} (log F : List Fact) (p : Position) (old new : S
     → ((r : RecordData) → Matters (cuts F) p.epoch r → Contains old.held r ⊎ IsInImage old r → Contains new.held r ⊎ IsInImage new r)
     → ((page : ℕ) → (version_of new.store page ≤ p.anchor) × IsPageAt F p.epoch page (version_of new.store page) (image_of new.store page))
     → MeansAt roster log F p new
-with_others log F p old new m book based fewer rest pages = record {
-  part = m.part;
-  position = m.position;
-  book = subst (KnowsFacts F) (sym book) m.book;
-  epoch = ap (λ b. b.complete) book ∙ m.epoch;
-  readers = ap (λ b. roster_of b) book ∙ m.readers;
-  base = based;
-  of_log = λ r h. m.of_log r (fewer r h);
-  of_facts = λ r h. m.of_facts r (fewer r h);
-  kept = λ r h mat. rest r mat (m.kept r h mat);
-  versions = λ page. (pages page).0;
-  images = λ page. (pages page).1;
-}
+with_others log F p old new m book based fewer rest pages = search rules
 
 -- a commit
 
@@ -103,31 +88,11 @@ committed : (F : List Fact) (p : Position) (old new : State) (page version : ℕ
     → IsPageAt F p.epoch page version image
     → ((g : ℕ) → (version_of old.store g ≤ p.anchor) × IsPageAt F p.epoch g (version_of old.store g) (image_of old.store g))
     → (g : ℕ) → (version_of new.store g ≤ p.anchor) × IsPageAt F p.epoch g (version_of new.store g) (image_of new.store g)
-committed F p old new page version image commits le shown before g =
-    let Holds : ℕ → ℕ → List ℕ → Type 0 = λ h v i. (v ≤ p.anchor) × IsPageAt F p.epoch h v i in
-    let put : ℕ → (v w : ℕ) (i j : List ℕ) → v ≡ w → i ≡ j → (v ≤ p.anchor) × IsPageAt F p.epoch g v i → (w ≤ p.anchor) × IsPageAt F p.epoch g w j =
-    λ x v w i j a b q. subst (λ t. (w ≤ p.anchor) × IsPageAt F p.epoch g w t) b (subst (λ t. (t ≤ p.anchor) × IsPageAt F p.epoch g t i) a q) in
-    ⊎_elim
-    (λ (e : g ≡ page).
-    let v : version ≡ version_of new.store g = sym (ap (version_of new.store) e ∙ commits.version_is) in
-    let i : image ≡ image_of new.store g = sym (ap (image_of new.store) e ∙ commits.image_is) in
-    put 0 version (version_of new.store g) image (image_of new.store g) v i (le, subst (λ h. IsPageAt F p.epoch h version image) (sym e) shown))
-    (λ (no : g ≡ page → ⊥).
-    let o = commits.others g no in
-    put 0 (version_of old.store g) (version_of new.store g) (image_of old.store g) (image_of new.store g) (sym o.0) (sym o.1) (before g))
-    (settled_eq g page)
+committed F p old new page version image commits le shown before g = search rules
 
 newer_versions : (old new : State) (page version : ℕ) (image : List ℕ) → CommitsImage old page version image new → (g : ℕ)
     → version_of old.store g ≤ version_of new.store g
-newer_versions old new page version image commits g =
-    ⊎_elim
-    (λ (e : g ≡ page).
-    let a : version_of new.store g ≡ version = ap (version_of new.store) e ∙ commits.version_is in
-    let b : version_of old.store g ≡ version_of old.store page = ap (version_of old.store) e in
-    let c : version_of old.store page ≤ version = commits.newer in
-    omega arith)
-    (λ (no : g ≡ page → ⊥). let a : version_of new.store g ≡ version_of old.store g = (commits.others g no).0 in omega arith)
-    (settled_eq g page)
+newer_versions old new page version image commits g = search rules
 
 pub commit_keeps : (old new : State) (anchor page version : ℕ) (image : List ℕ) → HasAnchor old anchor → version ≤ anchor
     → CommitsImage old page version image new → KeepsMeaningWith old page version image new
@@ -155,8 +120,7 @@ commit_keeps old new anchor page version image top le commits roster log F sound
 
 pub fold_keeps : (old new : State) (anchor page : ℕ) (image : List ℕ) → HasAnchor old anchor → Shows old page anchor image
     → CommitsImage old page anchor image new → KeepsMeaning old new
-fold_keeps old new anchor page image top shows commits roster log F sound a = commit_keeps old new anchor page anchor image top
-    (omega arith) commits roster log F sound (anchor_page_is_final log F old anchor page image sound a top shows) a
+fold_keeps old new anchor page image top shows commits roster log F sound a = search (rules, commit_keeps, anchor_page_is_final)
 
 -- a discard
 
@@ -187,12 +151,7 @@ discard_keeps old new drops roster log F sound a =
 -- a removal of dead records
 
 in_same_image : (old new : State) (r : RecordData) → new.book ≡ old.book → SameBase old new → IsInImage old r → IsInImage new r
-in_same_image old new r book same u = (
-  subst (λ b. r.epoch ≤ b.complete) (sym book) u.0,
-  subst (λ b. r.number ≤ b) (sym same.base) u.1,
-  subst
-      (λ st. r.number ≤ version_of st r.page) (sym same.store) u.2,
-)
+in_same_image old new r book same u = search rules
 
 pub removal_keeps : (old new : State) → RemovesDead old new → KeepsMeaning old new
 removal_keeps old new drops roster log F sound a =

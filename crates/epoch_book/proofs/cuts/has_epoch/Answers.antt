@@ -1,5 +1,4 @@
-use Rattle.std.proofs.Common.{◌≡◌, ◌<◌, ◌↔◌, IsTrue, arith, sym, subst}
-use Rattle.std.proofs.lemmas.List.Elements.{All-contains}
+use Rattle.std.proofs.Common.{◌≡◌, ◌↔◌, IsTrue, sym, subst, rules}
 use Rattle.epoch_book.proofs.Scans.{found_cut}
 use Rattle.redo_core.specs.CompleteEpoch.{HasCut}
 use Rattle.epoch_book.proofs.cuts.has_epoch.Goals as goal
@@ -12,10 +11,4 @@ returns-in-Ok-clause-found c =
     (subst (λ b. IsTrue b ↔ HasCut c.args.cuts.now c.in-Ok.epoch) (sym c.is_ok.ensures.value) found)
 
 pub returns-in-Err-clause-found : goal.returns-in-Err-clause-found
-returns-in-Err-clause-found c = (
-  λ h. absurd (cc),
-  λ h.
-      let fits : h.0.epoch < 65536 = All-contains (λ x. x.epoch < 65536) c.args.cuts.now h.0 c.requires.fits h.1 in
-      let same : h.0.epoch ≡ c.args.epoch = h.2 in
-      absurd (c.in-Err.ensures (omega arith)),
-)
+returns-in-Err-clause-found c = search rules

@@ -1,4 +1,4 @@
-use Rattle.std.proofs.Common.{◌-◌, length, arith, refl}
+use Rattle.std.proofs.Common.{◌-◌, length, arith, refl, rules}
 use Rattle.epoch_book.proofs.Least.{place_within, low_turn, low_stop, low_done, low_rest}
 use Rattle.epoch_book.proofs.lows.lower.Goals as goal
 
@@ -20,26 +20,10 @@ bounds-cuts-place c =
     (omega (arith, c.loop-place.invariant.bound, c.loop-place-test.true))
 
 pub returns-then-lows-place : goal.returns-then-lows-place
-returns-then-lows-place c =
-    let i = c.loop-place.invariant in
-    low_stop c.args.cuts.now c.loop-place.lows (length c.args.lows.now) c.args.from c.loop-place.place c.min-least.result c.loop-place.auto.lows c.requires.later
-    c.loop-place-test.true c.if-place-from.true
-    (low_turn c.args.cuts.now (length c.args.lows.now) c.loop-place.place c.loop-place.least c.lo.result c.min-least.result c.index-cuts-place.result c.requires.rising
-    c.requires.shaped c.requires.known c.loop-place-test.true i.bound c.index-cuts-place.is c.lo.ensures.value c.min-least.ensures i.front i.last)
-    c.if-lows-place.true i.done i.rest
+returns-then-lows-place c = search (rules, low_stop, low_turn)
 
 pub loop-place-preserved : goal.loop-place-preserved
-loop-place-preserved c =
-    let i = c.loop-place.invariant in
-    let low = low_turn c.args.cuts.now (length c.args.lows.now) c.loop-place.place c.loop-place.least c.lo.result c.min-least.result c.index-cuts-place.result c.requires.rising
-    c.requires.shaped c.requires.known c.loop-place-test.true i.bound c.index-cuts-place.is c.lo.ensures.value c.min-least.ensures i.front i.last in
-    record {
-      bound = omega (arith, i.bound);
-      last = λ q. absurd (omega (arith, q, i.bound, c.loop-place-test.true));
-      front = λ l. low;
-      done = low_done c.args.cuts.now c.loop-place.lows (length c.args.lows.now) c.loop-place.place c.min-least.result c.loop-place.auto.lows c.loop-place-test.true i.bound low i.done;
-      rest = low_rest c.args.cuts.now c.loop-place.lows c.args.from c.loop-place.place c.min-least.result c.loop-place-test.true i.rest;
-    }
+loop-place-preserved c = search (rules, low_turn, low_done, low_rest)
 
 pub returns : goal.returns
 returns c = record {

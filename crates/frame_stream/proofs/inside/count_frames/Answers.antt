@@ -6,8 +6,7 @@ pub loop-rest-smaller : goal.loop-rest-smaller
 loop-rest-smaller c = shorter c.loop-rest.rest.now c.in-Some.field-0-0.now c.in-Some.behind.now c.in-Some.ensures.bytes
 
 pub loop-rest-preserved : goal.loop-rest-preserved
-loop-rest-preserved c = counted_more c.args.bytes.now c.loop-rest.rest.now c.loop-rest.count c.in-Some.field-0-0.now c.in-Some.behind.now
-    c.loop-rest.invariant c.in-Some.ensures.bytes c.in-Some.ensures.short
+loop-rest-preserved c = search (rules, counted_more)
 
 pub returns-in_default-clause-none : goal.returns-in_default-clause-none
 returns-in_default-clause-none c =

@@ -1,16 +1,13 @@
-use Rattle.std.proofs.Common.{◌≡◌, sym, subst, List}
+use Rattle.std.proofs.Common.{◌≡◌, sym, subst, List, rules}
 use Rattle.redo_core.specs.Data.{RecordData}
 use Rattle.redo_core.specs.Keys.{key_in}
 use Rattle.hot_log.specs.Indexing.{GainsKey, IsIndexBy}
-use Rattle.hot_log.proofs.Places.{Place}
-use Rattle.hot_log.proofs.Indexed.{on_ok, on_err, index_grows, index_undone}
+use Rattle.hot_log.proofs.Indexed.{on_ok, index_grows, index_undone}
 use Rattle.hot_log.proofs.Keys.{same_epoch, same_number}
 use Rattle.hot_log.proofs.log.hold.Goals as goal
 
 pub returns-then-is_err-clause-still_listed : goal.returns-then-is_err-clause-still_listed
-returns-then-is_err-clause-still_listed c =
-    let same = on_err c.insert.result c.is_err.result (c.insert.new.self ≡ c.args.by_back.now) c.is_err.ensures.value c.if-is_err.true c.insert.ensures.unchanged in
-    subst (λ (l : List Place). IsIndexBy (λ r. r.back) c.args.records.now l) (sym same) c.requires.listed
+returns-then-is_err-clause-still_listed c = search rules
 
 pub returns-in-Ok-clause-still_listed : goal.returns-in-Ok-clause-still_listed
 returns-in-Ok-clause-still_listed c =

@@ -17,8 +17,7 @@ absorb-requires-clause-queue g c =
     (i.own, (ap (λ s. s.intake) c.sender.view_is ∙ own, c.sender.invariant.0))
 
 pub absorb-requires-clause-rule : goal.absorb-requires-clause-rule
-absorb-requires-clause-rule g c =
-    ends _ (view c.loop-sender.pass) _ (view c.sender.inside.pass) c.loop-sender.invariant.taker (as_sender _ _ _ _ _ c.sender.invariant.1)
+absorb-requires-clause-rule g c = search (rules, ends, as_sender)
 
 pub loop-sender-preserved : goal.loop-sender-preserved
 loop-sender-preserved g c =

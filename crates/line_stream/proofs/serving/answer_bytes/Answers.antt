@@ -1,6 +1,6 @@
-use Rattle.std.proofs.Common.{◌++◌, ◌∙◌, [], refl}
+use Rattle.std.proofs.Common.{◌++◌, ◌∙◌, [], refl, rules}
 use Rattle.line_stream.specs.Served.{BreaksOff}
-use Rattle.line_stream.proofs.Going.{goes_start, goes_on, goes_off, goes_end, on_err}
+use Rattle.line_stream.proofs.Going.{goes_start, goes_on, goes_off, on_err}
 use Rattle.line_stream.proofs.serving.answer_bytes.Goals as goal
 
 pub loop-front-init : goal.loop-front-init
@@ -51,9 +51,4 @@ loop-front-preserved g c =
     )
 
 pub returns-clause-ok : goal.returns-clause-ok
-returns-clause-ok g c = λ begun h.
-    let so = c.loop-front.invariant.1 begun h in (
-      so.0 ++ c.loop-front.rest.now,
-      c.add-2.ensures.holds so.0 so.1,
-      goes_end _ _ _ begun c.args.bytes.now c.args.machine.now c.loop-front.machine c.args.writer.now c.loop-front.writer so.0 c.loop-front.rest.now so.2 c.in_default.ensures.none,
-    )
+returns-clause-ok g c = search rules

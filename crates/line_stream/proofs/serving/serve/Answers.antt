@@ -1,4 +1,5 @@
-use Rattle.std.proofs.Common.{◌≡◌, ◌++◌, ◌∙◌, [], take, rules}
+use Rattle.std.proofs.Common.{◌≡◌, ◌++◌, ◌∙◌, [], take, rules, arith}
+use Rattle.std.proofs.lemmas.Grind.{common_steps}
 use Rattle.std.proofs.KnownBytes.{Consumes-nil, Consumes-trans, Consumes-kept}
 use Rattle.std.proofs.lemmas.Result.{err_from_is_err_and}
 use Rattle.line_stream.specs.declared.fault.RunFault.TheVariants.{Output}
@@ -10,14 +11,7 @@ pub loop-init : goal.loop-init
 loop-init g c = (c.new-pending.ensures.limit, [], [], Consumes-nil _, c.new-pending.ensures.holds, ends_start _ _ _ c.args.machine.now c.args.writer.now)
 
 pub returns-in-Ok-eq0 : goal.returns-in-Ok-eq0
-returns-in-Ok-eq0 g c =
-    let inv = c.loop.invariant in
-    let read = c.in-Ok-eq0.ensures.bytes in
-    record {
-      input = inv.1;
-      read = Consumes-nothing _ _ _ c.in-Ok-eq0.field-0 inv.1 c.read.new.buf inv.3 read.0 c.in-Ok-eq0.field-0-test;
-      ends = (read.1 c.in-Ok-eq0.field-0-test (search rules), (inv.2, inv.5));
-    }
+returns-in-Ok-eq0 g c = grind (arith, common_steps, Consumes-nothing)
 
 pub returns-in_err-answer_bytes-in-Ok : goal.returns-in_err-answer_bytes-in-Ok
 returns-in_err-answer_bytes-in-Ok g c =
@@ -53,5 +47,4 @@ loop-preserved g c =
     )
 
 pub returns : goal.returns
-returns g c =
-    let inv = c.loop.invariant in record { input = inv.1; read = inv.3; ends = (inv.2, inv.5) }
+returns g c = search rules

@@ -1,10 +1,10 @@
-use Rattle.std.proofs.Common.{◌≡◌, ◌∙◌, sym, ap, subst, take, Some, true, false}
+use Rattle.std.proofs.Common.{◌≡◌, ◌∙◌, sym, subst, take, true, false, rules}
 use Rattle.std.specs.Prelude.{MatchOption}
 use Rattle.redo_core.specs.Sound.{Law1, Law2, Law5, KeepsLaws}
-use Rattle.redo_core.specs.declared.facts.Fact.TheVariants.{Record, Cut, Advance}
+use Rattle.redo_core.specs.declared.facts.Fact.TheVariants.{Record, Advance}
 use Rattle.redo_core.specs.declared.laws.Law.TheVariants.{EpochBegun, AdvanceKept}
 use Rattle.log_law.specs.Report.{LinkJudges}
-use Rattle.log_law.proofs.Verdict.{record_verdict, record_not_begun, cut_verdict, cut_shape, advance_verdict, advance_not_kept}
+use Rattle.log_law.proofs.Verdict.{record_verdict, record_not_begun, cut_shape, advance_verdict, advance_not_kept}
 use Rattle.redo_core.specs.Fault.{BreaksFirst}
 use Rattle.log_law.proofs.check.broken_law.Goals as goal
 
@@ -26,10 +26,7 @@ returns-else-admits c roster log place d g at other one j =
     sym t ∙ c.if-admits.false in cc))
 
 pub returns-in-Cut : goal.returns-in-Cut
-returns-in-Cut c roster log place d g at other one j =
-    let cut = c.in-Cut.field-0 in
-    let law1 : Law1 (take place log) (Cut cut) = subst (Law1 (take place log)) c.in-Cut.is (one c.if-is_other.false) in
-    subst (KeepsLaws roster log place) (sym c.in-Cut.is) (cut_verdict roster log place cut (cut_shape log place cut d.table (at ∙ ap Some c.in-Cut.is)) law1)
+returns-in-Cut c roster log place d g at other one j = search (rules, cut_shape)
 
 pub returns-then-spares : goal.returns-then-spares
 returns-then-spares c roster log place d g at other one j =

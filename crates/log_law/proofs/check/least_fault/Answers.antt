@@ -1,4 +1,4 @@
-use Rattle.std.proofs.Common.{◌≡◌, refl, length, Some}
+use Rattle.std.proofs.Common.{◌≡◌, refl, length, Some, rules}
 use Rattle.std.specs.Prelude.{slice_get}
 use Rattle.std.proofs.lemmas.Option.{slice_get_read, MatchOption-at_some, MatchOption-at_none}
 use Rattle.redo_core.specs.Sound.{KeepsLaws}
@@ -35,5 +35,4 @@ loop-place-preserved c =
     }
 
 pub returns : goal.returns
-returns c = all_sound c.args.roster c.args.facts.now c.loop-place.place c.requires.least_later_lo.some_readers c.loop-place-test.false
-    c.loop-place.invariant.kept
+returns c = search (rules, all_sound)

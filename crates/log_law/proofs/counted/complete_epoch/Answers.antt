@@ -1,17 +1,12 @@
-use Rattle.std.proofs.Common.{◌≡◌, ◌+◌, ◌-◌, ◌≢◌, None, get_or, length, arith, sym, ◌∙◌, subst, ⊎_elim}
-use Rattle.std.proofs.lemmas.Bool.{cases_eq}
+use Rattle.std.proofs.Common.{◌≡◌, ◌+◌, ◌-◌, None, get_or, length, arith, sym, ◌∙◌, subst}
+use Rattle.std.proofs.lemmas.Grind.{common_steps}
 use Rattle.std.proofs.lemmas.List.{get_or_past}
 use Rattle.log_law.specs.Counted.{first_cut}
-use Rattle.log_law.proofs.FirstCuts.{is_begun, some_item, none_item}
+use Rattle.log_law.proofs.FirstCuts.{is_begun, none_item}
 use Rattle.log_law.proofs.counted.complete_epoch.Goals as goal
 
 pub loop-epoch-preserved : goal.loop-epoch-preserved
-loop-epoch-preserved c e l m q =
-    ⊎_elim
-    (λ (s : e ≡ c.loop-epoch.epoch). some_item c.args.table.now c.loop-epoch.epoch c.index-table-epoch.result
-    (omega arith) c.index-table-epoch.is c.if-is_none.ensures (subst (λ k. get_or c.args.table.now k None ≡ None) s q))
-    (λ (s : e ≢ c.loop-epoch.epoch). c.loop-epoch.invariant e l (omega arith) q)
-    (cases_eq e c.loop-epoch.epoch)
+loop-epoch-preserved c e l m q = grind (arith, common_steps)
 
 pub returns-then-is_none : goal.returns-then-is_none
 returns-then-is_none c log t =

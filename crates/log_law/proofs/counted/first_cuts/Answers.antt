@@ -1,4 +1,5 @@
-use Rattle.std.proofs.Common.{◌≡◌, ◌+◌, ◌<◌, ◌∷◌, ◌++◌, [], take, get_or, None, sym, ◌∙◌, ap, subst, length, take_all}
+use Rattle.std.proofs.Common.{◌≡◌, ◌+◌, ◌<◌, ◌∷◌, ◌++◌, [], take, get_or, None, sym, ◌∙◌, ap, subst, length, arith}
+use Rattle.std.proofs.lemmas.Grind.{common_steps}
 use Rattle.std.proofs.lemmas.List.{take_more, with_items_is}
 use Rattle.std.specs.List.{Contains}
 use Rattle.redo_core.specs.Sets.{cuts}
@@ -43,5 +44,4 @@ count-requires c =
     subst (λ n. c.in-Cut.cut.epoch < n) (sym (ap length c.deref_mut.ensures.value ∙ c.loop-fact.invariant.len)) (c.requires c.in-Cut.cut inside)
 
 pub returns-clause-table : goal.returns-clause-table
-returns-clause-table c = subst (λ t. IsTable t c.loop-fact.table.items) (take_all c.loop-fact.fact-index c.args.facts.now c.loop-fact-test.false)
-    c.loop-fact.invariant.table
+returns-clause-table c = grind (arith, common_steps)

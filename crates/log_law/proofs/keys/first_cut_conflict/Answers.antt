@@ -1,21 +1,15 @@
-use Rattle.std.proofs.Common.{◌≡◌, ◌∙◌, sym, ap, subst, refl, length, Some, false, IsTrue}
+use Rattle.std.proofs.Common.{◌≡◌, ◌∙◌, sym, ap, subst, refl, length, Some, rules}
 use Rattle.std.specs.Prelude.{slice_get}
 use Rattle.std.proofs.lemmas.Option.{slice_get_read}
 use Rattle.redo_core.specs.declared.facts.Fact.TheVariants.{Cut}
 use Rattle.log_law.specs.Counted.{first_cut}
 use Rattle.log_law.proofs.InOrder.{law1_rising}
-use Rattle.log_law.proofs.Repeats.{kept_more, law1_first, law1_later, first_more, first_other, none_further}
+use Rattle.log_law.proofs.Repeats.{kept_more, law1_first, law1_later, first_more, none_further}
 use Rattle.log_law.proofs.keys.first_cut_conflict.Goals as goal
 use Rattle.log_law.proofs.keys.first_cut_conflict.Goals.{in-Cut+else-not-counts, in_default}
 
 pub returns-then-not-counts : goal.returns-then-not-counts
-returns-then-not-counts c =
-    let log = c.args.facts.now in let p = c.loop-place.place in let f = c.index-facts-place.result in
-    let at : slice_get c.args.facts.now c.loop-place.place ≡ Some f = slice_get_read log
-    (length c.args.facts.now) p f refl c.loop-place-test.true c.index-facts-place.is in
-    let cut = c.in-Cut.cut in
-    first_other log p (Cut cut) (at ∙ ap Some c.in-Cut.is) c.loop-place.invariant.kept
-    (law1_later log p cut (at ∙ ap Some c.in-Cut.is) (λ e. let t : IsTrue false = c.if-not-counts.ensures.1 (c.requires.cuts.table.at cut.epoch ∙ e) in cc))
+returns-then-not-counts c = search (rules, slice_get_read, law1_later)
 
 pub loop-place-preserved : goal.loop-place-preserved
 loop-place-preserved c =

@@ -1,32 +1,20 @@
-use Rattle.std.proofs.Common.{◌≡◌, ◌+◌, ◌∙◌, sym, ap, subst, refl, length, take, Some, false, IsTrue}
+use Rattle.std.proofs.Common.{◌≡◌, ◌+◌, ◌∙◌, sym, ap, subst, refl, length, take, Some, rules}
 use Rattle.std.specs.Prelude.{slice_get}
-use Rattle.std.proofs.lemmas.Bool.{MatchBool-at_true, MatchBool-at_false}
+use Rattle.std.proofs.lemmas.Bool.{MatchBool-at_false}
 use Rattle.std.proofs.lemmas.Option.{slice_get_read}
 use Rattle.redo_core.specs.Sound.{Law1}
 use Rattle.redo_core.specs.declared.facts.Fact.TheVariants.{Record, Cut, Advance}
 use Rattle.log_law.specs.Keys.{IsSeen}
 use Rattle.log_law.specs.Counted.{first_cut}
-use Rattle.log_law.proofs.Repeats.{kept_more, law1_first, law1_later, law1_advance, first_more, seen_past, first_other, none_further}
+use Rattle.log_law.proofs.Repeats.{kept_more, law1_first, law1_later, law1_advance, first_more, seen_past, none_further}
 use Rattle.log_law.proofs.keys.first_key_conflict.Goals as goal
 use Rattle.log_law.proofs.keys.first_key_conflict.Goals.{in-Record+in_ok-is_other-in-Record+else-branch, in-Cut+else-not-counts, in-Advance}
 
 pub returns-then-branch : goal.returns-then-branch
-returns-then-branch c =
-    let log = c.args.facts.now in let p = c.loop-place.place in let f = c.index-facts-place.result in
-    let at : slice_get c.args.facts.now c.loop-place.place ≡ Some f = slice_get_read log
-    (length c.args.facts.now) p f refl c.loop-place-test.true c.index-facts-place.is in
-    let redo = c.in-Record.redo in
-    first_other log p (Record redo) (at ∙ ap Some c.in-Record.is) c.loop-place.invariant.kept
-    (MatchBool-at_true (Law1 (take p log) (Record redo) → ⊥) (Law1 (take p log) (Record redo)) c.if-branch.true c.in_ok-is_other-in-Record.ensures.law)
+returns-then-branch c = search (rules, slice_get_read)
 
 pub returns-then-not-counts : goal.returns-then-not-counts
-returns-then-not-counts c =
-    let log = c.args.facts.now in let p = c.loop-place.place in let f = c.index-facts-place.result in
-    let at : slice_get c.args.facts.now c.loop-place.place ≡ Some f = slice_get_read log
-    (length c.args.facts.now) p f refl c.loop-place-test.true c.index-facts-place.is in
-    let cut = c.in-Cut.cut in
-    first_other log p (Cut cut) (at ∙ ap Some c.in-Cut.is) c.loop-place.invariant.kept
-    (law1_later log p cut (at ∙ ap Some c.in-Cut.is) (λ e. let t : IsTrue false = c.if-not-counts.ensures.1 (c.requires.table.at cut.epoch ∙ e) in cc))
+returns-then-not-counts c = search (rules, slice_get_read, law1_later)
 
 pub loop-place-preserved : goal.loop-place-preserved
 loop-place-preserved c =

@@ -1,4 +1,4 @@
-use Rattle.std.proofs.Common.{◌≡◌, ◌<◌, ◌+◌, ◌∙◌, sym, ap, refl, rules, length, take, Some, None, true, false}
+use Rattle.std.proofs.Common.{◌≡◌, ◌<◌, ◌+◌, ◌∙◌, sym, ap, refl, rules, length, take, Some, None, true, false, arith}
 use Rattle.std.specs.Prelude.{slice_get, ⊤}
 use Rattle.std.proofs.lemmas.Option.{slice_get_read, slice_get_within, same_Some}
 use Rattle.redo_core.specs.Sound.{Law1}
@@ -22,9 +22,7 @@ bounds-facts-earlier c =
     slice_get_within c.args.facts.now c.in-Some.earlier (Record h.0) h.2
 
 pub offset_bounds-facts-place : goal.offset_bounds-facts-place
-offset_bounds-facts-place c =
-    let inside : c.args.place < length c.args.facts.now = slice_get_within c.args.facts.now c.args.place (Record c.args.redo.now) c.requires.at in
-    search rules
+offset_bounds-facts-place c = omega (arith, slice_get_within)
 
 pub bounds-facts-place : goal.bounds-facts-place
 bounds-facts-place c = slice_get_within c.args.facts.now c.args.place (Record c.args.redo.now) c.requires.at

@@ -1,4 +1,4 @@
-use Rattle.std.proofs.Common.{◌≡◌, ◌<◌, ◌≤◌, ◌+◌, ◌∙◌, Some, sym, ap, refl, length, subst, arith, true, false}
+use Rattle.std.proofs.Common.{◌≡◌, ◌<◌, ◌≤◌, ◌+◌, ◌∙◌, Some, sym, ap, refl, length, subst, arith, true, false, rules}
 use Rattle.std.specs.Prelude.{slice_get}
 use Rattle.std.proofs.lemmas.Option.{slice_get_read}
 use Rattle.redo_core.specs.Data.{RecordData}
@@ -44,5 +44,4 @@ loop-place-preserved c =
     ]
 
 pub returns : goal.returns
-returns c = target_end c.args.facts.now c.args.redo.now (λ s. IsOfPage c.args.page s) c.loop-place.place c.loop-place.target c.loop-place-test.false
-    c.loop-place.invariant
+returns c = search (rules, target_end)

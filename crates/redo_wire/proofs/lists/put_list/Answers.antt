@@ -1,5 +1,5 @@
 use Rattle.std.proofs.lemmas.Grind.{common_steps}
-use Rattle.std.proofs.Common.{arith}
+use Rattle.std.proofs.Common.{arith, rules}
 use Rattle.redo_core.proofs.Scans.{one_more, all_seen}
 use Rattle.redo_wire.proofs.lists.put_list.Goals as goal
 
@@ -11,5 +11,4 @@ loop-item-preserved g c = record {
 }
 
 pub returns-clause-wire : goal.returns-clause-wire
-returns-clause-wire g c =
-    all_seen (g.W.ListWriter.fits c.args.writer) c.args.items.now c.loop-item.item-index c.loop-item-test.false c.loop-item.invariant.wire
+returns-clause-wire g c = search (rules, all_seen)

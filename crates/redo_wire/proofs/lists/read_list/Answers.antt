@@ -1,16 +1,10 @@
-use Rattle.std.proofs.lemmas.Result.{err_from_is_err_and}
+use Rattle.std.proofs.Common.{rules}
 use Rattle.redo_wire.specs.Lists.{each_at}
 use Rattle.redo_wire.proofs.Loops.{goes_on, ends, is_done}
 use Rattle.redo_wire.proofs.lists.read_list.Goals as goal
 
 pub returns-in_err-item : goal.returns-in_err-item
-returns-in_err-item g c =
-    let p = err_from_is_err_and c.from_residual-in_err-item.result c.from_residual-in_err-item.ensures.1 in
-    rw (p.1, p.2)
-    (ends (g.R.ListReader.step c.args.reader) g.R.ListReader.next c.in_err-item.field-0.0
-    c.loop.items.items c.args.count c.loop.counter c.loop.state c.loop.rest.now
-    (each_at (g.R.ListReader.step c.args.reader) g.R.ListReader.next c.args.count c.args.start c.args.bytes.now) c.loop-test.true c.in_err-item.ensures
-    c.loop.invariant)
+returns-in_err-item g c = search (rules, ends)
 
 pub loop-preserved : goal.loop-preserved
 loop-preserved g c =
@@ -21,7 +15,4 @@ loop-preserved g c =
     c.loop.invariant)
 
 pub returns : goal.returns
-returns g c =
-    is_done (g.R.ListReader.step c.args.reader) g.R.ListReader.next
-    c.loop.items.items c.args.count c.loop.counter c.loop.state c.loop.rest.now
-    (each_at (g.R.ListReader.step c.args.reader) g.R.ListReader.next c.args.count c.args.start c.args.bytes.now) c.loop-test.false c.loop.invariant
+returns g c = search (rules, is_done)

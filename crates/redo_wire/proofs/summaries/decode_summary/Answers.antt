@@ -1,8 +1,8 @@
-use Rattle.std.proofs.Common.{arith}
+use Rattle.std.proofs.Common.{arith, rules}
 use Rattle.redo_wire.specs.Summaries.{summary_bytes, IsWireSummary}
 use Rattle.redo_wire.specs.SummaryReading.{summary_at}
 use Rattle.redo_wire.proofs.SummaryReaders.{summary_reads}
-use Rattle.redo_wire.proofs.Spellings.{answer_is_spelled, spelled_is_answer}
+use Rattle.redo_wire.proofs.Spellings.{answer_is_spelled}
 use Rattle.redo_wire.proofs.summaries.decode_summary.Goals as goal
 
 pub returns-clause-found : goal.returns-clause-found
@@ -11,5 +11,4 @@ returns-clause-found c =
     c.whole_summary.ensures
 
 pub returns-clause-spelled : goal.returns-clause-spelled
-returns-clause-spelled c =
-    spelled_is_answer summary_at summary_bytes IsWireSummary summary_reads c.args.bytes.now c.whole_summary.result c.whole_summary.ensures
+returns-clause-spelled c = search (rules, summary_reads)

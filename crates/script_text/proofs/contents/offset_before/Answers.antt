@@ -1,4 +1,4 @@
-use Rattle.std.proofs.Common.{arith}
+use Rattle.std.proofs.Common.{arith, rules}
 use Rattle.std.proofs.lemmas.Grind.{common_steps}
 use Rattle.script_text.proofs.Cursor.{part_behind, none_behind, no_front}
 use Rattle.script_text.proofs.contents.offset_before.Goals as goal
@@ -11,8 +11,4 @@ pub returns-in-58 : goal.returns-in-58
 returns-in-58 c = grind (arith, common_steps, part_behind)
 
 pub returns-in_default : goal.returns-in_default
-returns-in_default c =
-    elim c.in_default.branch [
-      | in_default-via-then-rest-lt1 w ↦ grind (arith, common_steps, none_behind)
-      | in_default-via-else-rest-lt1+in_default-1 w ↦ grind (arith, common_steps, none_behind)
-    ]
+returns-in_default c = search (rules, none_behind)

@@ -1,4 +1,4 @@
-use Rattle.std.proofs.Common.{sym, ◌∙◌}
+use Rattle.std.proofs.Common.{sym, ◌∙◌, rules}
 use Rattle.script_text.proofs.FirstPart.{parted_at, not_parted}
 use Rattle.script_text.proofs.fields.first_part.Goals as goal
 
@@ -6,6 +6,4 @@ pub returns-in-None-clause-none : goal.returns-in-None-clause-none
 returns-in-None-clause-none c = not_parted c.args.separator c.args.text.now (sym c.first_at.ensures ∙ c.in-None.is)
 
 pub returns-in-Some-clause-some : goal.returns-in-Some-clause-some
-returns-in-Some-clause-some c =
-    let cut = (parted_at c.args.separator c.args.text.now c.in-Some.at (sym c.first_at.ensures ∙ c.in-Some.is)).1 in
-    rw (c.split_at.ensures.front, c.split_at-in-Some.ensures.back) cut
+returns-in-Some-clause-some c = search (rules, parted_at)

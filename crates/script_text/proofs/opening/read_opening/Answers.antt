@@ -1,4 +1,4 @@
-use Rattle.std.proofs.Common.{arith}
+use Rattle.std.proofs.Common.{arith, rules}
 use Rattle.std.proofs.lemmas.Grind.{common_steps}
 use Rattle.script_text.proofs.Lines.{opening_named, opening_unnamed, opening_last}
 use Rattle.script_text.proofs.opening.read_opening.Goals as goal
@@ -8,8 +8,4 @@ pub returns-in-Some-roster-clause-opens : goal.returns-in-Some-roster-clause-ope
 returns-in-Some-roster-clause-opens c = grind (arith, common_steps, opening_named)
 
 pub returns-clause-opens : goal.returns-clause-opens
-returns-clause-opens c =
-    elim c.match-first_part.branch [
-      | in-Some+in_default-roster w ↦ grind (arith, common_steps, opening_unnamed)
-      | in_default w ↦ grind (arith, common_steps, opening_last)
-    ]
+returns-clause-opens c = search (rules, opening_unnamed, opening_last)

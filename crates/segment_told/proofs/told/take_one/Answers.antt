@@ -1,4 +1,4 @@
-use Rattle.std.proofs.Common.{◌≡◌, ◌⊎◌, inl, inr, refl, [], ◌∷◌, sym, subst, Result, Ok, Err, OnOk, IfErr}
+use Rattle.std.proofs.Common.{◌≡◌, ◌⊎◌, inl, inr, refl, [], ◌∷◌, sym, subst, Result, Ok, Err, OnOk, IfErr, rules}
 use Rattle.redo_core.specs.declared.facts.Fact.{Fact}
 use Rattle.redo_core.specs.declared.refusal.Refused.{Refused}
 use Rattle.state_laws.specs.State.{State}
@@ -39,8 +39,7 @@ by_answer s fact t (Err e) result takes is =
 
 told : (s : State) (fact : Fact) (t : State) (result : Result Taken Refusal) → TakesNoted s fact result t → Told s fact t result
 unfolding Told
-told s fact t result (inl wants) = subst (Told s fact t) (sym wants.0) (tt, inl refl)
-told s fact t result (inr takes) = by_answer s fact t takes.0 result takes.1 takes.2
+told s fact t result h = search (rules, by_answer)
 
 pub returns-in-Ok-clause-takes : goal.returns-in-Ok-clause-takes
 unfolding Told
@@ -49,5 +48,4 @@ returns-in-Ok-clause-takes c =
 
 pub returns-in-Err-clause-refused : goal.returns-in-Err-clause-refused
 unfolding Told
-returns-in-Err-clause-refused c =
-    (told (reached c.args.union.now) c.args.fact (reached c.take.new.self) (Err c.in-Err.why) c.in-Err.ensures.takes).1
+returns-in-Err-clause-refused c = search rules

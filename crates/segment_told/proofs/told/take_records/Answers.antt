@@ -1,19 +1,14 @@
-use Rattle.std.proofs.Common.{◌∙◌, ◌∷◌, [], Bor, subst}
+use Rattle.std.proofs.Common.{◌∷◌, [], Bor, subst, rules, arith}
+use Rattle.std.proofs.lemmas.Grind.{common_steps}
 use Rattle.redo_core.specs.Data.{RecordData}
 use Rattle.redo_core.specs.declared.facts.Fact.TheVariants.{Record}
 use Rattle.segment_core.specs.Union.{reached}
-use Rattle.segment_told.specs.InOrder.{TakesOne, RefusesOne}
-use Rattle.segment_told.proofs.Ordered.{takes_next, refuses_next, takes_whole, memory_or}
+use Rattle.segment_told.specs.InOrder.{RefusesOne}
+use Rattle.segment_told.proofs.Ordered.{takes_next, refuses_next, memory_or}
 use Rattle.segment_told.proofs.told.take_records.Goals as goal
 
 pub loop-redo-preserved : goal.loop-redo-preserved
-loop-redo-preserved c = (
-  takes_next (λ (r : Bor RecordData). Record r.now) c.args.records.now c.loop-redo.redo-index c.redo-item.result _ _ _ c.loop-redo-test.true
-      c.redo-item.is c.loop-redo.invariant.0
-      (subst (λ (r : RecordData). TakesOne (reached c.loop-redo.union) (Record r) (reached c.take_one.new.union)) c.in_ok-copy.ensures
-      c.in_default.ensures.takes),
-  c.take_one.ensures.began ∙ c.loop-redo.invariant.1,
-)
+loop-redo-preserved c = search (rules, takes_next)
 
 pub returns-in-Err-clause-refused : goal.returns-in-Err-clause-refused
 returns-in-Err-clause-refused c =
@@ -25,5 +20,4 @@ returns-in-Err-clause-refused c =
     c.in-Err.ensures.refused
 
 pub returns-clause-takes : goal.returns-clause-takes
-returns-clause-takes c =
-    takes_whole (λ (r : Bor RecordData). Record r.now) c.args.records.now c.loop-redo.redo-index _ _ c.loop-redo-test.false c.loop-redo.invariant.0
+returns-clause-takes c = grind (arith, common_steps)

@@ -1,5 +1,4 @@
-use Rattle.std.proofs.Common.{◌≡◌, ◌<◌, length, arith, sym, ap, ◌∙◌, subst}
-use Rattle.std.proofs.lemmas.Bool.Decides.{nat_tests}
+use Rattle.std.proofs.Common.{◌<◌, length, arith, sym, ap, ◌∙◌, subst, rules}
 use Rattle.std.specs.Map.{lookup}
 use Rattle.std.specs.BTreeMap.{is_at, insert_entry}
 use Rattle.sorted_runs.specs.Places.{IsRunFor}
@@ -9,14 +8,10 @@ use Rattle.sorted_runs.proofs.Placed.{gap_place, gained_there, none_yet, first_e
 use Rattle.sorted_runs.proofs.SortedRuns.add.Goals as goal
 
 pub invariant_of-self-then-is_empty : goal.invariant_of-self-then-is_empty
-invariant_of-self-then-is_empty g c =
-    let e = c.self.inside.firsts.ok in
-    let z : length c.self.inside.firsts.items ≡ 0 = grind (arith, nat_tests) in
-    first_ever g.K.Ord.cmp c.open.new.firsts.items c.self.inside.runs.items c.open.new.runs.items (c.args.key, c.args.value) c.in_ok-open.ensures.shaped c.in_ok-open.ensures.gains (none_yet c.self.inside.firsts.items c.self.inside.runs.items c.self.invariant.headed z)
+invariant_of-self-then-is_empty g c = search (rules, first_ever, none_yet)
 
 pub run_for-r-requires-clause-rising : goal.run_for-r-requires-clause-rising
-run_for-r-requires-clause-rising g c =
-    rw c.deref.ensures.value (firsts_rise g.met.K.Ord.total c.args.key _ _ _ c.self.invariant)
+run_for-r-requires-clause-rising g c = grind (arith, firsts_rise)
 
 pub index-run-requires : goal.index-run-requires
 index-run-requires g c =
@@ -72,7 +67,4 @@ returns-in-Ok-clause-had g c =
     rw (← c.self.view_is) (sym (found g.met.K.Ord.total c.args.key _ _ _ c.self.invariant c.run_for-r.result at c.index-run.result.now c.index-run.ensures c.deref-2.result.now c.deref-2.ensures.value c.in-Ok.at c.index.result.now c.index.ensures c.in-Ok.ensures.hit))
 
 pub returns-then-is_empty-clause-ordered : goal.returns-then-is_empty-clause-ordered
-returns-then-is_empty-clause-ordered g c =
-    let e = c.self.inside.firsts.ok in
-    let z : length c.self.inside.firsts.items ≡ 0 = grind (arith, nat_tests) in
-    (first_ever g.K.Ord.cmp c.open.new.firsts.items c.self.inside.runs.items c.open.new.runs.items (c.args.key, c.args.value) c.in_ok-open.ensures.shaped c.in_ok-open.ensures.gains (none_yet c.self.inside.firsts.items c.self.inside.runs.items c.self.invariant.headed z)).rising
+returns-then-is_empty-clause-ordered g c = search (rules, first_ever, none_yet)

@@ -1,7 +1,6 @@
-use Rattle.std.proofs.Common.{◌∙◌, subst}
+use Rattle.std.proofs.Common.{◌∙◌, subst, rules}
 use Rattle.std.specs.List.{AllZip}
-use Rattle.sorted_runs.specs.Copies.{IsEntryCopy, IsRunCopy}
-use Rattle.sorted_runs.specs.Rows.{entries}
+use Rattle.sorted_runs.specs.Copies.{IsRunCopy}
 use Rattle.sorted_runs.proofs.Copied.{runs_copied, entries_copied}
 use Rattle.sorted_runs.proofs.SortedRuns.copy.Goals as goal
 
@@ -11,8 +10,4 @@ invariant_of-result g c =
     (subst (λ l. AllZip (IsRunCopy {K = g.row.K.Denot} g.V.Clone.is_clone) l c.in_ok-copy_runs.field-0.items) c.deref-2.ensures.value c.in_ok-copy_runs.ensures)
 
 pub returns : goal.returns
-returns g c =
-    record {
-      cases = subst (λ l. AllZip (IsEntryCopy {K = g.row.K.Denot} g.V.Clone.is_clone) l (entries c.in_ok-copy_runs.field-0.items)) c.self.view_is
-          (entries_copied g.V.Clone.is_clone c.self.inside.runs.items c.in_ok-copy_runs.field-0.items (subst (λ l. AllZip (IsRunCopy {K = g.row.K.Denot} g.V.Clone.is_clone) l c.in_ok-copy_runs.field-0.items) c.deref-2.ensures.value c.in_ok-copy_runs.ensures));
-    }
+returns g c = search (rules, entries_copied)

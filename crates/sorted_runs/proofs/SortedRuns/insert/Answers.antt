@@ -1,5 +1,4 @@
-use Rattle.std.proofs.Common.{◌≡◌, ◌<◌, length, arith, sym, ap, ◌∙◌, subst}
-use Rattle.std.proofs.lemmas.Bool.Decides.{nat_tests}
+use Rattle.std.proofs.Common.{◌<◌, length, arith, sym, ap, ◌∙◌, subst, rules}
 use Rattle.std.specs.Map.{lookup}
 use Rattle.std.specs.BTreeMap.{is_at, insert_entry}
 use Rattle.sorted_runs.specs.Places.{IsRunFor}
@@ -9,14 +8,10 @@ use Rattle.sorted_runs.proofs.Placed.{wrote_there, had_there, gap_place, gained_
 use Rattle.sorted_runs.proofs.SortedRuns.insert.Goals as goal
 
 pub invariant_of-self-then-is_empty : goal.invariant_of-self-then-is_empty
-invariant_of-self-then-is_empty g c =
-    let e = c.self.inside.firsts.ok in
-    let z : length c.self.inside.firsts.items ≡ 0 = grind (arith, nat_tests) in
-    first_ever g.K.Ord.cmp c.open.new.firsts.items c.self.inside.runs.items c.open.new.runs.items (c.args.key, c.args.value) c.in_ok-open.ensures.shaped c.in_ok-open.ensures.gains (none_yet c.self.inside.firsts.items c.self.inside.runs.items c.self.invariant.headed z)
+invariant_of-self-then-is_empty g c = search (rules, first_ever, none_yet)
 
 pub run_for-r-requires-clause-rising : goal.run_for-r-requires-clause-rising
-run_for-r-requires-clause-rising g c =
-    rw c.deref.ensures.value (firsts_rise g.met.K.Ord.total c.args.key _ _ _ c.self.invariant)
+run_for-r-requires-clause-rising g c = grind (arith, firsts_rise)
 
 pub index-requires : goal.index-requires
 index-requires g c =
@@ -101,7 +96,4 @@ returns-in_ok-len-in-Err-clause-ordered g c =
     (gained_there g.met.K.Ord.total c.args.key c.self.inside.firsts.items c.self.inside.runs.items c.self.inside.len c.self.invariant c.run_for-r.result at c.index.result.now c.index.ensures c.deref-2.result.now c.deref-2.ensures.value c.in-Err.at c.args.value c.add_counted.new.firsts.items c.add_counted.new.runs.items c.in_ok-len-in-Err.len c.in-Err.ensures.gap c.in_ok-len-in-Err.ensures.shaped c.in_ok-len-in-Err.ensures.gains (let h = c.in_ok-len-in-Err.ensures.counts in omega arith)).1.rising
 
 pub returns-then-is_empty-clause-ordered : goal.returns-then-is_empty-clause-ordered
-returns-then-is_empty-clause-ordered g c =
-    let e = c.self.inside.firsts.ok in
-    let z : length c.self.inside.firsts.items ≡ 0 = grind (arith, nat_tests) in
-    (first_ever g.K.Ord.cmp c.open.new.firsts.items c.self.inside.runs.items c.open.new.runs.items (c.args.key, c.args.value) c.in_ok-open.ensures.shaped c.in_ok-open.ensures.gains (none_yet c.self.inside.firsts.items c.self.inside.runs.items c.self.invariant.headed z)).rising
+returns-then-is_empty-clause-ordered g c = search (rules, first_ever, none_yet)

@@ -7,8 +7,7 @@ use Rattle.sorted_runs.proofs.Removed.{hit_place, gone_is, had_here, held, gap_s
 use Rattle.sorted_runs.proofs.SortedRuns.remove.Goals as goal
 
 pub run_for-r-requires-clause-rising : goal.run_for-r-requires-clause-rising
-run_for-r-requires-clause-rising g c =
-    rw c.deref.ensures.value (firsts_rise g.met.K.Ord.total c.args.key.now _ _ _ c.self.invariant)
+run_for-r-requires-clause-rising g c = grind (arith, firsts_rise)
 
 pub index-requires : goal.index-requires
 index-requires g c =

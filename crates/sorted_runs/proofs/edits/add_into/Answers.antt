@@ -1,14 +1,11 @@
-use Rattle.std.proofs.Common.{arith}
+use Rattle.std.proofs.Common.{arith, rules}
 use Rattle.sorted_runs.proofs.Lists.{as_many}
 use Rattle.sorted_runs.proofs.Shaped.{added_behind, added_first, added_gains, same_items, inserted_there, kept_there, always_err}
 use Rattle.sorted_runs.proofs.edits.add_into.Goals.{then-at-eq0, else-at-eq0}
 use Rattle.sorted_runs.proofs.edits.add_into.Goals as goal
 
 pub returns-in_err-put_in-clause-shape_stays : goal.returns-in_err-put_in-clause-shape_stays
-returns-in_err-put_in-clause-shape_stays g c =
-    let d = c.index_mut-run.result.now in
-    always_err _ (same_items c.args.firsts.now.items c.args.runs.now.items c.args.r d c.put_in.new.list c.requires.shaped c.requires.within (let h = c.requires.room d in omega arith)
-    (kept_there c.args.runs.now.items c.args.r d c.index_mut-run.ensures.value c.put_in.new.list c.in_err-put_in.ensures.items)).0
+returns-in_err-put_in-clause-shape_stays g c = search (rules, same_items)
 
 pub returns-in_err-put_in-clause-unchanged : goal.returns-in_err-put_in-clause-unchanged
 returns-in_err-put_in-clause-unchanged g c =
@@ -17,10 +14,7 @@ returns-in_err-put_in-clause-unchanged g c =
     (kept_there c.args.runs.now.items c.args.r d c.index_mut-run.ensures.value c.put_in.new.list c.in_err-put_in.ensures.items)).1
 
 pub index_mut-requires : goal.index_mut-requires
-index_mut-requires g c =
-    let e = as_many c.args.firsts.now.items c.args.runs.now.items c.requires.shaped.headed in
-    let f = c.args.firsts.now.ok in
-    omega arith
+index_mut-requires g c = omega (arith, as_many)
 
 pub returns-clause-shaped : goal.returns-clause-shaped
 returns-clause-shaped g c =
@@ -32,7 +26,4 @@ returns-clause-shaped g c =
     ]
 
 pub returns-clause-gains : goal.returns-clause-gains
-returns-clause-gains g c =
-    let d = c.index_mut-run.result.now in
-    added_gains c.args.runs.now.items c.args.r c.args.at (c.args.key, c.args.value) d c.put_in.new.list c.requires.within (c.requires.place d)
-    (inserted_there c.args.runs.now.items c.args.r d c.index_mut-run.ensures.value c.args.at (c.args.key, c.args.value) c.put_in.new.list c.in_ok-put_in.ensures.items)
+returns-clause-gains g c = search (rules, added_gains)

@@ -4,11 +4,7 @@ use Rattle.sorted_runs.proofs.Shaped.{kept_ok, split_all}
 use Rattle.sorted_runs.proofs.edits.split.Goals as goal
 
 pub put_in-requires : goal.put_in-requires
-put_in-requires g c =
-    let e = as_many c.args.firsts.now.items c.args.runs.now.items c.requires.shaped.headed in
-    let f = c.args.firsts.now.ok in
-    let h = c.reserve.ensures.len in
-    omega arith
+put_in-requires g c = omega (arith, as_many)
 
 pub returns-clause-shaped : goal.returns-clause-shaped
 returns-clause-shaped g c =

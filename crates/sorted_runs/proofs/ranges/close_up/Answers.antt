@@ -1,4 +1,4 @@
-use Rattle.std.proofs.Common.{◌≡◌, ℕ, ◌+◌, ◌-◌, ◌≤◌, ◌<◌, List, [], ◌∷◌, length, get_or, take, drop, refl, sym, ◌∙◌, ⊎_elim, arith}
+use Rattle.std.proofs.Common.{◌≡◌, ℕ, ◌+◌, ◌-◌, ◌≤◌, ◌<◌, List, [], ◌∷◌, length, get_or, take, drop, refl, sym, ◌∙◌, ⊎_elim, arith, rules}
 use Rattle.std.proofs.lemmas.Bool.{cases_lt}
 use Rattle.std.proofs.lemmas.List.{ext_get_or, get_or-take, get_or-drop, get_or_append_left, get_or-append_right}
 use Rattle.std.specs.List.{remove_range}
@@ -29,16 +29,7 @@ pub loop-place-init : goal.loop-place-init
 loop-place-init g c = record { kept = λ k d lt. refl; moved = λ k d ge lt. absurd (omega arith); rest = λ k d ge. refl }
 
 pub loop-place-preserved : goal.loop-place-preserved
-loop-place-preserved g c =
-    let s = c.swap.ensures.by_index in
-    let inv = c.loop-place.invariant in
-    let from_le = c.loop-place.auto.place in
-    record {
-      kept = λ k d lt. s.2 k d (omega arith) (omega arith) ∙ inv.kept k d lt;
-      moved = λ k d ge lt. grind (arith, s.0, s.2, inv.moved, inv.rest);
-      rest = λ k d ge. s.2 k d (omega arith) (omega arith) ∙ inv.rest k d (omega arith);
-    }
+loop-place-preserved g c = search rules
 
 pub returns-clause-closed : goal.returns-clause-closed
-returns-clause-closed g c =
-    closed c.args.row.now c.loop-place.row c.args.from c.args.gap c.loop-place.place c.loop-place.auto.row c.requires c.loop-place-test.false c.loop-place.invariant.kept c.loop-place.invariant.moved
+returns-clause-closed g c = search (rules, closed)

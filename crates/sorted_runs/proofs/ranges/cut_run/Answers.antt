@@ -1,4 +1,4 @@
-use Rattle.std.proofs.Common.{arith}
+use Rattle.std.proofs.Common.{arith, rules}
 use Rattle.std.proofs.lemmas.Bool.Decides.{nat_tests}
 use Rattle.sorted_runs.specs.Edits.{offset}
 use Rattle.sorted_runs.proofs.Lists.{as_many}
@@ -7,18 +7,10 @@ use Rattle.sorted_runs.proofs.ranges.cut_run.Goals.{then-is_empty, else-is_empty
 use Rattle.sorted_runs.proofs.ranges.cut_run.Goals as goal
 
 pub remove-requires-then-is_empty : goal.remove-requires-then-is_empty
-remove-requires-then-is_empty g c =
-    let e = as_many c.args.firsts.now.items c.args.runs.now.items c.requires.shaped.headed in
-    let f = c.args.firsts.now.ok in
-    let w = c.requires.within in
-    omega arith
+remove-requires-then-is_empty g c = omega (arith, as_many)
 
 pub index_mut-requires : goal.index_mut-requires
-index_mut-requires g c =
-    let e = as_many c.args.firsts.now.items c.args.runs.now.items c.requires.shaped.headed in
-    let f = c.args.firsts.now.ok in
-    let w = c.requires.within in
-    omega arith
+index_mut-requires g c = omega (arith, as_many)
 
 pub overflow_sub-result-2 : goal.overflow_sub-result-2
 overflow_sub-result-2 g c =
@@ -39,16 +31,7 @@ returns-clause-shaped g c =
     ]
 
 pub returns-clause-loses : goal.returns-clause-loses
-returns-clause-loses g c =
-    let d = c.index_mut-run.result.now in
-    let set_loses = cut_loses c.args.firsts.now.items c.args.runs.now.items c.args.r c.args.from c.args.to d c.cut.new.row c.requires.shaped c.requires.within c.index_mut-run.ensures.value c.requires.rising (c.requires.place d) c.cut.ensures in
-    elim c.if-is_empty.branch [
-      | then-is_empty w ↦ rw (w.runs-is, w.remove.ensures.items)
-          (cut_all_loses c.args.firsts.now.items c.args.runs.now.items c.args.r c.args.from c.args.to d c.cut.new.row c.requires.shaped c.requires.within c.index_mut-run.ensures.value c.requires.rising (c.requires.place d) c.cut.ensures
-          (let e = c.cut.new.row.ok in let t = w.if-is_empty.ensures in grind (arith, nat_tests)))
-      | else-is_empty+then-from-eq0 w ↦ rw w.runs-is set_loses
-      | else-is_empty+else-from-eq0 w ↦ rw w.runs-is set_loses
-    ]
+returns-clause-loses g c = search (rules, cut_loses, cut_all_loses)
 
 pub returns-clause-counted : goal.returns-clause-counted
 returns-clause-counted g c =

@@ -1,5 +1,4 @@
-use Rattle.std.proofs.Common.{◌-◌, length, arith, refl, ap}
-use Rattle.std.specs.Global.{Vec}
+use Rattle.std.proofs.Common.{◌-◌, length, arith, refl, rules}
 use Rattle.std.proofs.lemmas.List.{get_or_default}
 use Rattle.sorted_runs.proofs.Lists.{as_many}
 use Rattle.sorted_runs.proofs.Placed.{long_as_read}
@@ -7,16 +6,10 @@ use Rattle.sorted_runs.proofs.Cuts.{cut_last}
 use Rattle.sorted_runs.proofs.search.end_of.Goals as goal
 
 pub overflow_sub-run : goal.overflow_sub-run
-overflow_sub-run g c =
-    let e = as_many c.args.firsts.now c.args.runs.now c.requires.whole.headed in
-    let h = c.requires.some in
-    omega arith
+overflow_sub-run g c = omega (arith, as_many)
 
 pub bounds-runs-run : goal.bounds-runs-run
-bounds-runs-run g c =
-    let e = as_many c.args.firsts.now c.args.runs.now c.requires.whole.headed in
-    let h = c.requires.some in
-    omega arith
+bounds-runs-run g c = omega (arith, as_many)
 
 pub returns-in-Included-clause-cut : goal.returns-in-Included-clause-cut
 returns-in-Included-clause-cut g c = rw c.in-Included.is c.place_of.ensures.cut
@@ -25,19 +18,10 @@ pub returns-in-Excluded-clause-cut : goal.returns-in-Excluded-clause-cut
 returns-in-Excluded-clause-cut g c = rw c.in-Excluded.is c.place_of-in-Excluded.ensures.cut
 
 pub returns-in-Unbounded-clause-within : goal.returns-in-Unbounded-clause-within
-returns-in-Unbounded-clause-within g c =
-    let e = as_many c.args.firsts.now c.args.runs.now c.requires.whole.headed in
-    let h = c.requires.some in
-    omega arith
+returns-in-Unbounded-clause-within g c = omega (arith, as_many)
 
 pub returns-in-Unbounded-clause-place : goal.returns-in-Unbounded-clause-place
-returns-in-Unbounded-clause-place g c = λ d.
-    let e = as_many c.args.firsts.now c.args.runs.now c.requires.whole.headed in
-    let h = c.requires.some in
-    let read = long_as_read c.args.runs.now (length c.args.runs.now - 1) c.index-runs-run.result c.index-runs-run.is in
-    let same = ap (λ (v : Vec _). length v.items) (get_or_default c.args.runs.now (length c.args.runs.now - 1) c.index-runs-run.result d (omega arith)) in
-    let long = c.len.ensures in
-    omega arith
+returns-in-Unbounded-clause-place g c = search (rules, as_many, get_or_default)
 
 pub returns-in-Unbounded-clause-cut : goal.returns-in-Unbounded-clause-cut
 returns-in-Unbounded-clause-cut g c =

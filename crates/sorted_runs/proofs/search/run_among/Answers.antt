@@ -1,21 +1,15 @@
-use Rattle.std.proofs.Common.{◌≡◌, arith, sym, ap, ◌∙◌, true, false, length, ◌+◌, ◌-◌, ◌/◌}
+use Rattle.std.proofs.Common.{◌≡◌, arith, sym, ap, ◌∙◌, true, false, ◌+◌, ◌-◌, ◌/◌, rules}
+use Rattle.std.proofs.lemmas.Grind.{common_steps}
 use Rattle.std.specs.declared.cmp.Ordering.{Ordering}
-use Rattle.std.specs.declared.cmp.Ordering.TheVariants.{Less, Equal, Greater}
 use Rattle.std.specs.Ordering.{is_ge, is_lt}
-use Rattle.std.proofs.lemmas.List.{get_or_default}
-use Rattle.sorted_runs.proofs.Found.{run_at_end}
 use Rattle.sorted_runs.proofs.Halved.{lower_half, one_run}
 use Rattle.sorted_runs.proofs.search.run_among.Goals as goal
 
 not_below : (p : Ordering) → is_ge p ≡ true → is_lt p ≡ false
-not_below Less e = absurd (cc)
-not_below Equal e = cc
-not_below Greater e = cc
+not_below p e = search rules
 
 pub returns-then-is_ge : goal.returns-then-is_ge
-returns-then-is_ge g c =
-    let at : is_ge (g.K.Ord.cmp c.args.key.now c.index-firsts-last.result) ≡ true = ap is_ge (sym c.cmp.ensures) ∙ sym c.is_ge.ensures ∙ c.if-is_ge.true in
-    run_at_end c.args.key.now c.args.firsts.now _ c.index-firsts-last.result (omega arith) c.requires.some (λ d. get_or_default c.args.firsts.now (length c.args.firsts.now - 1) d c.index-firsts-last.result (omega arith) ∙ sym c.index-firsts-last.is) (not_below _ at)
+returns-then-is_ge g c = grind (arith, common_steps)
 
 pub loop-end-preserved-then-is_lt : goal.loop-end-preserved-then-is_lt
 loop-end-preserved-then-is_lt g c =

@@ -1,31 +1,21 @@
-use Rattle.std.proofs.Common.{◌≡◌, ◌≤◌, ◌<◌, List, length, sym, ap, subst, ◌∙◌, arith, None}
-use Rattle.std.specs.List.{All, insert, remove}
+use Rattle.std.proofs.Common.{◌≤◌, ◌<◌, length, sym, subst, ◌∙◌, arith, rules}
+use Rattle.std.proofs.lemmas.Grind.{common_steps}
+use Rattle.std.specs.List.{insert}
 use Rattle.std.specs.List.Sorted.{IsPartitionPoint}
-use Rattle.redo_core.specs.Data.{CutData}
-use Rattle.redo_core.specs.Shape.{cut_fault}
-use Rattle.redo_core.specs.Order.{IsRising, CutBefore}
 use Rattle.redo_core.specs.CompleteEpoch.{HasCutsTo, IsCompleteEpoch}
-use Rattle.epoch_book.specs.Book.{book_of, IsBook}
+use Rattle.epoch_book.specs.Book.{book_of}
 use Rattle.epoch_book.specs.Learning.{LearnsCut}
 use Rattle.epoch_book.specs.Lows.{AreLows}
 use Rattle.epoch_book.proofs.Books.{cuts_rise, cuts_shaped, epochs_fit, still_known, cut_book_by, cut_learns_by}
-use Rattle.epoch_book.proofs.Least.{lows_kept, remove_insert}
+use Rattle.epoch_book.proofs.Least.{lows_kept}
 use Rattle.redo_core.proofs.CompleteEpochs.{has_cuts}
 use Rattle.epoch_book.proofs.book.EpochBook.add_cut.Goals as goal
 
 pub complete_epoch_from-complete-requires-clause-rising : goal.complete_epoch_from-complete-requires-clause-rising
-complete_epoch_from-complete-requires-clause-rising c =
-    let b = book_of c.self.inside.cuts.items c.self.inside.complete c.self.inside.points c.self.inside.waits.items in
-    subst (IsRising CutBefore) (sym (c.deref.ensures.value ∙ c.in_ok-put_in.ensures.items))
-    (cuts_rise b c.args.place c.args.cut c.self.invariant.0
-    (subst (λ b. c.args.place ≤ length b.cuts) (sym c.self.view_is) c.requires.within)
-    (subst (λ b. IsPartitionPoint (λ d. d.epoch < c.args.cut.epoch) (λ d. c.args.cut.epoch < d.epoch) b.cuts c.args.place) (sym c.self.view_is) c.requires.gap))
+complete_epoch_from-complete-requires-clause-rising c = search (rules, cuts_rise)
 
 pub complete_epoch_from-complete-requires-clause-fits : goal.complete_epoch_from-complete-requires-clause-fits
-complete_epoch_from-complete-requires-clause-fits c =
-    let b = book_of c.self.inside.cuts.items c.self.inside.complete c.self.inside.points c.self.inside.waits.items in
-    subst (All (λ d. d.epoch < 65536)) (sym (c.deref.ensures.value ∙ c.in_ok-put_in.ensures.items))
-    (epochs_fit b c.args.place c.args.cut c.self.invariant.0 c.requires.fits)
+complete_epoch_from-complete-requires-clause-fits c = search (rules, epochs_fit)
 
 pub complete_epoch_from-complete-requires-clause-known : goal.complete_epoch_from-complete-requires-clause-known
 complete_epoch_from-complete-requires-clause-known c =
@@ -34,17 +24,10 @@ complete_epoch_from-complete-requires-clause-known c =
     (still_known b c.args.place c.args.cut c.self.invariant.0)
 
 pub raise-requires-clause-rising : goal.raise-requires-clause-rising
-raise-requires-clause-rising c =
-    let b = book_of c.self.inside.cuts.items c.self.inside.complete c.self.inside.points c.self.inside.waits.items in
-    subst (IsRising CutBefore) (sym (c.deref-2.ensures.value ∙ c.in_ok-put_in.ensures.items))
-    (cuts_rise b c.args.place c.args.cut c.self.invariant.0
-    (subst (λ b. c.args.place ≤ length b.cuts) (sym c.self.view_is) c.requires.within)
-    (subst (λ b. IsPartitionPoint (λ d. d.epoch < c.args.cut.epoch) (λ d. c.args.cut.epoch < d.epoch) b.cuts c.args.place) (sym c.self.view_is) c.requires.gap))
+raise-requires-clause-rising c = search (rules, cuts_rise)
 
 pub raise-requires-clause-shaped : goal.raise-requires-clause-shaped
-raise-requires-clause-shaped c =
-    let b = book_of c.self.inside.cuts.items c.self.inside.complete c.self.inside.points c.self.inside.waits.items in
-    subst (All (λ d. cut_fault d ≡ None)) (sym (c.deref-2.ensures.value ∙ c.in_ok-put_in.ensures.items)) (cuts_shaped b c.args.place c.args.cut c.self.invariant.0 c.requires.shaped)
+raise-requires-clause-shaped c = search (rules, cuts_shaped)
 
 pub raise-requires-clause-known : goal.raise-requires-clause-known
 raise-requires-clause-known c =
@@ -71,13 +54,7 @@ raise-requires-clause-later c =
     omega (arith, up, c.self.invariant.1.count)
 
 pub invariant_of-self-in_default : goal.invariant_of-self-in_default
-invariant_of-self-in_default c =
-    let b = book_of c.self.inside.cuts.items c.self.inside.complete c.self.inside.points c.self.inside.waits.items in
-    let same : c.remove.new.self.items ≡ b.cuts = c.remove.ensures.items ∙ ap (λ (cs : List CutData). remove cs c.args.place) c.in_ok-put_in.ensures.items
-    ∙ remove_insert b.cuts c.args.place c.args.cut (subst (λ b. c.args.place ≤ length b.cuts) (sym c.self.view_is) c.requires.within) in (
-      subst (λ cs. IsBook (book_of cs b.complete b.points b.waits)) (sym same) c.self.invariant.0,
-      subst (λ cs. AreLows cs b.complete c.raise.new.lows.items) (sym same) (subst (AreLows b.cuts b.complete) (sym c.in_default.ensures.err) c.self.invariant.1),
-    )
+invariant_of-self-in_default c = grind (arith, common_steps)
 
 pub invariant_of-self-2 : goal.invariant_of-self-2
 invariant_of-self-2 c =

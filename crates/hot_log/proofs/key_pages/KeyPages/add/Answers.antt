@@ -1,6 +1,6 @@
-use Rattle.std.proofs.Common.{sym, subst, List, None}
+use Rattle.std.proofs.Common.{sym, subst, List, None, rules}
 use Rattle.sorted_runs.proofs.Shaped.{always_err}
-use Rattle.hot_log.specs.Indexing.{AddsPage, IsPageOf}
+use Rattle.hot_log.specs.Indexing.{IsPageOf}
 use Rattle.hot_log.proofs.Keyed.{Entry, page_at, told_or_joins}
 use Rattle.hot_log.proofs.key_pages.KeyPages.add.Goals as goal
 
@@ -10,7 +10,4 @@ returns-in_err-add-clause-absent c =
     always_err c.from_residual.result (subst P c.self.view_is (page_at c.self.inside.map c.self.invariant c.args.key None (sym c.in_err-add.ensures.absent)))
 
 pub returns-clause-adds : goal.returns-clause-adds
-returns-clause-adds c =
-    let P : List Entry → Type 0 = λ l. AddsPage l c.args.key c.args.page c.add.new.self c.in_ok-add.field-0 in
-    subst P c.self.view_is (told_or_joins c.self.inside.map c.add.new.self c.self.invariant c.args.key c.args.page c.in_ok-add.field-0
-    c.in_ok-add.ensures.had c.in_ok-add.ensures.gains c.in_ok-add.ensures.keeps)
+returns-clause-adds c = search (rules, told_or_joins)

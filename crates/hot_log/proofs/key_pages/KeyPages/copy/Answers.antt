@@ -1,4 +1,4 @@
-use Rattle.std.proofs.Common.{◌≡◌, sym, ◌∙◌, ap, subst, List}
+use Rattle.std.proofs.Common.{◌≡◌, sym, ◌∙◌, subst, List, rules}
 use Rattle.std.specs.List.Sorted.{IsStrictlySortedBy}
 use Rattle.std.specs.Map.{keys_of}
 use Rattle.hot_log.proofs.Maps.{zipped}
@@ -7,10 +7,7 @@ use Rattle.hot_log.proofs.key_pages.KeyPages.copy.Goals as goal
 use Rattle.redo_core.specs.Keys.{key_cmp}
 
 same : (c : goal.In_ok-copy) → c.in_ok-copy.field-0 ≡ c.self.inside.map
-same c =
-    zipped _ c.self.inside.map c.in_ok-copy.field-0
-    (λ (x y : Entry) h. ap (λ k. (k, y.1)) h.0 ∙ ap (λ v. (x.0, v)) h.1)
-    c.in_ok-copy.ensures.cases
+same c = search (rules, zipped)
 
 pub invariant_of-result : goal.invariant_of-result
 invariant_of-result c = subst (λ (l : List Entry). IsStrictlySortedBy key_cmp (keys_of l)) (sym (same c)) c.self.invariant

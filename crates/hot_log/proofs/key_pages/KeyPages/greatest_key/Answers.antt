@@ -1,14 +1,10 @@
-use Rattle.std.proofs.Common.{sym, ◌∙◌, subst, List, Option, Some, None}
+use Rattle.std.proofs.Common.{sym, ◌∙◌, subst, List, Some, rules}
 use Rattle.hot_log.specs.Indexing.{IsGreatestOf}
-use Rattle.hot_log.proofs.Keyed.{Entry, no_greatest, greatest_of}
+use Rattle.hot_log.proofs.Keyed.{Entry, greatest_of}
 use Rattle.hot_log.proofs.key_pages.KeyPages.greatest_key.Goals as goal
-use Rattle.redo_core.specs.declared.keys.Key.{Key}
 
 pub returns-in_err-key : goal.returns-in_err-key
-returns-in_err-key c =
-    let P : List Entry → Type 0 = λ l. IsGreatestOf l None in
-    subst (λ (o : Option Key). IsGreatestOf c.args.self.now o) (sym c.from_residual.ensures)
-    (subst P c.self.view_is (no_greatest c.self.inside.map (sym c.iter.ensures.rest ∙ c.in_err-key.ensures.steps.0)))
+returns-in_err-key c = search rules
 
 pub returns : goal.returns
 returns c =

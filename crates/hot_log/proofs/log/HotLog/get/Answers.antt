@@ -1,4 +1,4 @@
-use Rattle.std.proofs.Common.{sym, subst, List, None}
+use Rattle.std.proofs.Common.{sym, subst, List, None, rules}
 use Rattle.std.specs.Option.{option_copied}
 use Rattle.redo_core.specs.Data.{RecordData}
 use Rattle.hot_log.specs.Held.{IsRecordAt}
@@ -12,6 +12,4 @@ returns-in_err-page c =
     (unpaged c.self.inside.records c.self.inside.by_key c.args.key.epoch c.args.key.number c.self.invariant.by_key c.in_err-page.ensures))
 
 pub returns : goal.returns
-returns c =
-    subst (λ (l : List RecordData). IsRecordAt l c.args.key (option_copied c.get.result)) c.self.view_is
-    (paged_at c.self.inside.records c.self.inside.by_key c.args.key.epoch c.args.key.number c.in_ok-page.page (option_copied c.get.result) c.self.invariant.form c.self.invariant.by_key c.in_ok-page.ensures c.get.ensures)
+returns c = search (rules, paged_at)

@@ -1,4 +1,4 @@
-use Rattle.std.proofs.Common.{◌≡◌, ℕ, sym, ◌∙◌, ap, subst, refl, List, ◌∷◌, map, reverse, Bor}
+use Rattle.std.proofs.Common.{◌≡◌, ℕ, sym, ◌∙◌, ap, subst, refl, List, ◌∷◌, map, reverse, Bor, rules}
 use Rattle.std.proofs.lemmas.List.{map-append}
 use Rattle.redo_core.specs.Data.{RecordData}
 use Rattle.redo_core.specs.Standing.{IsAlive}
@@ -27,13 +27,7 @@ loop-redo-preserved-else-init c =
     c.in-Some.ensures.steps c.loop-redo.invariant alive (rw (c.in_ok-push.ensures.items, map-append))
 
 pub loop-redo-preserved : goal.loop-redo-preserved
-loop-redo-preserved c =
-    let b = c.args.book.now in
-    let x : Entry = (c.in-Some.field-0-0.now, c.in-Some.redo.now) in
-    let dead = λ (a : IsAlive b.cuts b.complete x.1.epoch x.1.number).
-    let is = c.is_alive.ensures.alive.1 (subst (λ (e : ℕ). IsAlive b.cuts b.complete e c.number.result) (sym c.epoch.ensures) (subst (λ (n : ℕ). IsAlive b.cuts b.complete x.1.epoch n) (sym c.number.ensures.value) a)) in
-    absurd (cc) in
-    passes_down b c.range-left.result c.loop-redo.left c.next_back.new.self (map now c.loop-redo.found.items) x c.in-Some.ensures.steps c.loop-redo.invariant dead
+loop-redo-preserved c = search (rules, passes_down)
 
 pub returns-then-init : goal.returns-then-init
 returns-then-init c =

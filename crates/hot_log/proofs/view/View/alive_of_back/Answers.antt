@@ -1,8 +1,7 @@
-use Rattle.std.proofs.Common.{◌≡◌, ℕ, ◌<◌, ◌≤◌, List, ⊎_elim, refl, sym, subst, arith}
+use Rattle.std.proofs.Common.{◌≡◌, ℕ, ◌<◌, ◌≤◌, List, ⊎_elim, refl, sym, subst, arith, rules}
 use Rattle.redo_core.specs.Data.{RecordData}
 use Rattle.redo_core.specs.Keys.{key_in, key_of, KeyBefore}
 use Rattle.redo_core.specs.declared.keys.Key.{Key}
-use Rattle.redo_core.specs.Order.{PairBefore}
 use Rattle.redo_core.specs.Standing.{IsAlive}
 use Rattle.redo_core.proofs.Pairs.{pair_trans}
 use Rattle.epoch_book.specs.Book.{BookData}
@@ -21,9 +20,7 @@ over_low b held back epoch at parts is form r h e =
     subst (λ (p : Key). KeyBefore p (key_of r)) (sym is) ((parts.0 r.epoch r.number h.1).0 lt)
 
 over_after : (after at : Key) (epoch back e n : ℕ) → at ≡ (key_in epoch back) → (KeyBefore (key_in epoch back) after → ⊥) → KeyBefore at (key_in e n) → KeyBefore after (key_in e n)
-over_after after at epoch back e n is not p =
-    let q : PairBefore epoch back e n = subst (λ (p : Key). KeyBefore p (key_in e n)) is p in
-    grind arith
+over_after after at epoch back e n is not p = search rules
 
 waits : (b : BookData) (key : Key) (e n : ℕ) → b.complete < key.epoch → IsAlive b.cuts b.complete e n → (key.epoch ≡ e → ⊥) × (KeyBefore key (key_in e n) → ⊥)
 waits b key e n over a = let known : e ≤ b.complete = a.known in (λ p. omega arith, λ p. grind arith)

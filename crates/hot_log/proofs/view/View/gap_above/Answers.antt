@@ -1,4 +1,4 @@
-use Rattle.std.proofs.Common.{ℕ, ◌∙◌, sym, subst}
+use Rattle.std.proofs.Common.{ℕ, ◌∙◌, sym, subst, rules}
 use Rattle.hot_log.specs.Alive.{IsLinkedFrom}
 use Rattle.hot_log.proofs.Hanging.{hanging_first, hanging_down}
 use Rattle.hot_log.proofs.view.View.gap_above.Goals as goal
@@ -7,10 +7,7 @@ pub loop-below-init : goal.loop-below-init
 loop-below-init c = hanging_first c.args.self.now.book.now c.args.self.now.held.now c.args.number c.in_ok-redo.redo.now c.in_ok-redo.ensures.form c.in_ok-redo.ensures.found
 
 pub loop-below-preserved : goal.loop-below-preserved
-loop-below-preserved c =
-    let found = c.in-Some.ensures in
-    hanging_down c.args.self.now.book.now c.args.self.now.held.now c.args.number c.loop-below.redo.now c.in-Some.below.now c.opens_form.ensures.form found.0.0
-    (found.0.1 ∙ c.back.ensures.value) c.loop-below.invariant
+loop-below-preserved c = search (rules, hanging_down)
 
 pub returns : goal.returns
 returns c =

@@ -1,5 +1,4 @@
-use Rattle.std.proofs.Common.{◌≡◌, ◌<◌, ◌≤◌, ⊎_elim, ap, arith}
-use Rattle.redo_core.specs.Data.{RecordData}
+use Rattle.std.proofs.Common.{◌<◌, arith, rules}
 use Rattle.hot_log.proofs.view.View.last_of.Goals as goal
 
 pub returns-then-from-number : goal.returns-then-from-number
@@ -9,11 +8,4 @@ returns-then-from-number c =
     ((t.0.0.0, t.0.0.1, t.0.0.2, up, t.0.1), λ s h. t.1 s ((h.0, h.1, h.2), h.4))
 
 pub returns-else-from-number : goal.returns-else-from-number
-returns-else-from-number c r h =
-    let x = c.in_ok-redo.redo.now in
-    let low : x.number ≤ c.args.from = omega (arith, c.if-from-number.false) in
-    let up : c.args.from < r.number = h.3 in
-    ⊎_elim
-    (λ (e : r ≡ x). let same : r.number ≡ x.number = ap (λ (y : RecordData). y.number) e in omega arith)
-    (λ (l : r.number < x.number). omega arith)
-    (c.in_ok-redo.ensures.found.1 r ((h.0, h.1, h.2), h.4))
+returns-else-from-number c r h = search rules

@@ -1,4 +1,4 @@
-use Rattle.std.proofs.Common.{◌≡◌, ◌+◌, ◌<◌, ◌≤◌, le_refl, sym, subst, arith, length}
+use Rattle.std.proofs.Common.{◌+◌, ◌<◌, ◌≤◌, le_refl, sym, subst, arith, length, rules}
 use Rattle.hot_log.proofs.Forks.{Search, alone_at_base, alone_below, search_start, search_end, search_counts, skip, down, looks, climbs_to, falls_by_one, has_record}
 use Rattle.hot_log.proofs.view.View.linked_counted.Goals as goal
 use Rattle.hot_log.proofs.Keys.{same_epoch, same_number}
@@ -37,12 +37,7 @@ loop-key-smaller-else-key-limit c = let view = c.args.self.now in
     falls_by_one (length view.held.now) c.loop-key.steps.count c.step.new.self.count c.args.limit c.loop-key.back c.loop-key.back c.step.ensures le s.back_bound
 
 pub loop-key-preserved-else-key-limit : goal.loop-key-preserved-else-key-limit
-loop-key-preserved-else-key-limit c =
-    let over : c.args.limit < c.in-Some.key.number = omega (arith, c.if-key-limit.false) in
-    record {
-      search = λ is. skip c.args.self.now.book.now c.args.self.now.held.now c.args.from c.args.limit c.loop-key.back c.loop-key.at c.in-Some.key c.loop-key.top c.loop-key.steps.count c.step.new.self.count c.in-Some.ensures.book is (c.loop-key.invariant.search is) c.in-Some.ensures.found c.step.ensures over;
-      alone = c.loop-key.invariant.alone;
-    }
+loop-key-preserved-else-key-limit c = search (rules, skip)
 
 pub returns-then-back-from-clause-linked : goal.returns-then-back-from-clause-linked
 returns-then-back-from-clause-linked c = (c.loop-key.invariant.search c.in-None.ensures.form).top_linked
@@ -54,9 +49,7 @@ pub returns-then-back-from-clause-greatest : goal.returns-then-back-from-clause-
 returns-then-back-from-clause-greatest c = let view = c.args.self.now in search_end view.book.now view.held.now c.args.from c.args.limit c.loop-key.back c.loop-key.at c.loop-key.top c.loop-key.steps.count c.in-None.ensures.form (c.loop-key.invariant.search c.in-None.ensures.form) c.in-None.ensures.found (alone_at_base view.book.now view.held.now c.args.from c.loop-key.back c.if-back-from.true)
 
 pub returns-then-back-from-clause-counted : goal.returns-then-back-from-clause-counted
-returns-then-back-from-clause-counted c = let view = c.args.self.now in
-    search_counts view.book.now view.held.now c.args.from c.args.limit c.loop-key.back c.loop-key.at c.loop-key.top c.loop-key.steps.count
-    (c.loop-key.invariant.search c.in-None.ensures.form) c.in-None.ensures.found (alone_at_base view.book.now view.held.now c.args.from c.loop-key.back c.if-back-from.true)
+returns-then-back-from-clause-counted c = search (rules, search_counts)
 
 pub returns-then-not-forked-clause-linked : goal.returns-then-not-forked-clause-linked
 returns-then-not-forked-clause-linked c = (c.loop-key.invariant.search c.in-None.ensures.form).top_linked
@@ -88,11 +81,7 @@ pub returns-in_default-clause-counted : goal.returns-in_default-clause-counted
 returns-in_default-clause-counted c = absurd (never c)
 
 pub loop-key-smaller : goal.loop-key-smaller
-loop-key-smaller c =
-    let u = c.in-Some-alive_of.redo.now in
-    let e : u.number ≡ c.loop-key.back = c.in-Some-alive_of.ensures.0.1 in
-    let lt : c.back-back.result < u.number = c.back-back.ensures.below in
-    omega arith
+loop-key-smaller c = search rules
 
 pub loop-key-preserved : goal.loop-key-preserved
 loop-key-preserved c =

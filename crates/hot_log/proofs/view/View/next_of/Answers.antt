@@ -1,5 +1,4 @@
-use Rattle.std.proofs.Common.{◌<◌, ◌≤◌, arith}
-use Rattle.hot_log.proofs.Pages.{least_over}
+use Rattle.std.proofs.Common.{◌≤◌, arith, rules}
 use Rattle.hot_log.proofs.view.View.next_of.Goals as goal
 
 pub returns-then-number-to : goal.returns-then-number-to
@@ -9,8 +8,4 @@ returns-then-number-to c =
     ((t.0.0.0, t.0.0.1, t.0.0.2, t.0.1, le), λ s h. t.1 s ((h.0, h.1, h.2), h.3))
 
 pub returns-else-number-to : goal.returns-else-number-to
-returns-else-number-to c r h =
-    let over : c.args.to < c.in_ok-redo.redo.now.number = omega (arith, c.if-number-to.false) in
-    let far : c.args.to < r.number = least_over c.args.self.now.book.now c.args.self.now.held.now c.args.page c.args.from c.args.to c.in_ok-redo.redo.now c.in_ok-redo.ensures.found over r ((h.0, h.1, h.2), h.3) in
-    let le : r.number ≤ c.args.to = h.4 in
-    omega arith
+returns-else-number-to c r h = search rules

@@ -1,4 +1,4 @@
-use Rattle.std.proofs.Common.{◌≡◌, ℕ, ◌<◌, List, Option, Some, None, true, false, IsTrue, refl, sym, ◌∙◌, subst, arith}
+use Rattle.std.proofs.Common.{◌≡◌, ℕ, ◌<◌, List, Option, Some, None, true, false, IsTrue, refl, sym, ◌∙◌, subst, arith, rules}
 use Rattle.std.specs.Option.{is_some}
 use Rattle.redo_core.specs.Data.{RecordData}
 use Rattle.redo_core.specs.Keys.{key_in, key_of, KeyBefore}
@@ -21,8 +21,7 @@ small r h = grind arith
 
 none_second : (b : BookData) (held : List RecordData) (back : ℕ) (key : Key) (o : Option Key) → IsAliveOfBack b held back key o → is_some o ≡ false
     → (r : RecordData) → IsHeldAlive b held r → r.back ≡ back → KeyBefore key (key_of r) → ⊥
-none_second b held back key None none last = none
-none_second b held back key (Some next) is last = absurd (cc)
+none_second b held back key o none last r h k l = search rules
 
 -- a second record goes on from there
 some_second : (b : BookData) (held : List RecordData) (from top n : ℕ) (key : Key) (x : RecordData) (o : Option Key) → IsBook b → IsHeld held → Climbed b held from top
@@ -34,10 +33,7 @@ some_second b held from top n key x (Some next) book form c s k found more end =
     not_over_fork b held from top n x y book form c s found.0.1 found.0.2 (number_before b.cuts b.complete (view_of b book) x y s.alive.1 found.0.1.1 before) end
 
 pub loop-key-init : goal.loop-key-init
-loop-key-init c = record {
-  climbed = climbed_none c.args.self.now.book.now c.args.self.now.held.now c.args.from;
-  ahead = c.keys_on-left.ensures;
-}
+loop-key-init c = search (rules, climbed_none)
 
 pub loop-key-smaller : goal.loop-key-smaller
 loop-key-smaller c =

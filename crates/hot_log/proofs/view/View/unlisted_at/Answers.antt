@@ -1,6 +1,5 @@
-use Rattle.std.proofs.Common.{◌≡◌, ℕ, List, Option, Some, None, sym, subst, ◌∙◌}
+use Rattle.std.proofs.Common.{◌≡◌, ℕ, List, Option, Some, None, sym, subst, ◌∙◌, rules}
 use Rattle.std.specs.List.{Contains}
-use Rattle.std.specs.Option.{option_copied}
 use Rattle.redo_core.specs.Data.{RecordData}
 use Rattle.redo_core.specs.Keys.{key_of}
 use Rattle.redo_core.specs.declared.keys.Key.{Key}
@@ -25,6 +24,4 @@ found_at b held point keys page key (Some r) rising not keeps at =
     )
 
 pub returns : goal.returns
-returns c =
-    found_at c.args.self.now.book.now c.args.self.now.held.now c.args.point c.args.keys.now c.args.page c.args.key (option_copied c.record_of.result) c.opens_form.ensures.form.rising
-    (λ has. let t = c.is_listed.ensures.1 has in absurd (cc)) (c.is_kept.ensures.0 (let f = c.if-not-is_kept.false in cc)) c.record_of.ensures
+returns c = search (rules, found_at)

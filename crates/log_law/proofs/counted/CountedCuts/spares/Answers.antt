@@ -1,12 +1,11 @@
-use Rattle.std.proofs.Common.{◌≡◌, ◌∙◌, ap, arith, ◌≤◌, get_or}
+use Rattle.std.proofs.Common.{◌≡◌, ◌∙◌, ap, arith, ◌≤◌, get_or, rules}
 use Rattle.std.proofs.lemmas.Bool.{leb-true, le-leb}
 use Rattle.redo_core.specs.Roster.{IsReader}
 use Rattle.log_law.proofs.FirstCuts.{law5_at}
 use Rattle.log_law.proofs.counted.CountedCuts.spares.Goals as goal
 
 pub returns-then-reader-self-clause-law : goal.returns-then-reader-self-clause-law
-returns-then-reader-self-clause-law c roster log d g =
-    (λ h. absurd (cc), λ law. absurd (let own = g.readers in let v = c.reader.ensures.value in omega (arith, law.0.1, own, v, c.if-reader-self.true)))
+returns-then-reader-self-clause-law c roster log d g = search rules
 
 pub returns-then-epoch-self-clause-law : goal.returns-then-epoch-self-clause-law
 returns-then-epoch-self-clause-law c roster log d g = (
