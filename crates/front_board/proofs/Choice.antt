@@ -1,5 +1,5 @@
 -- What `select_nth_unstable` picks is the one that so many reach.
-use Rattle.std.proofs.Common.{◌≡◌, ℕ, zero, suc, ◌+◌, ◌-◌, ◌<◌, ◌≤◌, Bool, true, false, List, [], ◌∷◌, ◌++◌, length, get_or, refl, ap, subst, arith, nat_lt, cond, length-append, rules}
+use Rattle.std.proofs.Common.{◌≡◌, ℕ, zero, suc, ◌+◌, ◌-◌, ◌<◌, ◌≤◌, Bool, true, false, List, [], ◌∷◌, ◌++◌, length, get_or, refl, ap, subst, arith, nat_lt, cond, length-append}
 use Rattle.std.proofs.lemmas.Grind.{common_steps}
 use Rattle.std.specs.Prelude.{nat_le}
 use Rattle.std.specs.List.Sorted.{IsPermutation, IsSplitAround}
@@ -27,9 +27,6 @@ all_from x (y ∷ ys) h =
     let v : ◌≡◌ {A = ℕ} (cond (nat_le x y) 1 0) 1 = ap (λ (b : Bool). cond b 1 0) t in
     let rest = all_from x ys (λ k l. h (suc k) (omega (arith, l))) in
     omega (arith, u, v, rest)
-
-one_most : (b : Bool) → cond b 1 0 ≤ 1
-one_most b = search rules
 
 above_few : (x : ℕ) (xs : List ℕ) → count_above x xs ≤ length xs
 above_few x xs = grind (arith, common_steps)

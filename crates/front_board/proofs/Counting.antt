@@ -23,9 +23,6 @@ count_at_most p q (a ∷ vs) (b ∷ ws) l h =
     let rest = count_at_most p q vs ws (omega (arith, l)) (λ k m. h (suc k) (omega (arith, m))) in
     omega (arith, u, w, here, rest)
 
-reaches : (x a b : ℕ) → a ≤ b → nat_le x a ≡ true → nat_le x b ≡ true
-reaches x a b le t = grind (arith, nat_tests)
-
 passes : (x y a : ℕ) → x < y → nat_le y a ≡ true → nat_lt x a ≡ true
 passes x y a lt t = grind (arith, nat_tests)
 

@@ -1,8 +1,6 @@
 -- A board at its opening: each word holds the front (0, 0), which every log has.
 use Rattle.std.proofs.Common.{◌≡◌, ℕ, List, [], ◌∷◌, replicate, slice_index, sym, subst, arith, rules}
 use Rattle.std.proofs.lemmas.Grind.{common_steps}
-use mathlib.Core.Option.{some}
-use lib.ListN.{get_elem?}
 use Rattle.redo_core.specs.Linked.Linked.{start}
 use Rattle.redo_core.specs.declared.facts.Fact.{Fact}
 use Rattle.front_board.specs.FrontWord.{IsFrontWord, AreFronts}
@@ -16,9 +14,6 @@ zero_front log = ((λ e l m. absurd (omega (arith, l, m))), start)
 
 pub zeros_are_fronts : (log : List Fact) (n : ℕ) → AreFronts log (replicate n 0)
 zeros_are_fronts log n = record { each = λ k. subst (IsFrontWord log) (sym (zero_at n k)) (zero_front log) }
-
-one_view : (v seen : List ℕ) (k : ℕ) → get_elem? (v ∷ []) k ≡ some seen → v ≡ seen
-one_view v seen k e = search rules
 
 pub open_keeps : (log : List Fact) (n : ℕ) → KeepsRule log (replicate n 0) (replicate n 0 ∷ [])
 open_keeps log n = search (rules, zeros_are_fronts)

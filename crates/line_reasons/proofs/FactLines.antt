@@ -18,7 +18,6 @@ use Rattle.line_reasons.specs.declared.reasons.NumberFault.{NumberFault}
 use Rattle.line_reasons.specs.declared.reasons.LineReason.{LineReason}
 use Rattle.line_reasons.specs.declared.reasons.LineReason.TheVariants.{CarriageReturn, UnknownWord, FieldCount, AdvanceFieldCount, Field, Zero, PastPage, ManyPatches, Patch, Shape}
 use Rattle.line_reasons.specs.FieldReasons.{IsFaultAt}
-use Rattle.line_reasons.specs.ContentsReasons.{IsContentsReason}
 use Rattle.line_reasons.specs.FactReasons.{IsShape, fault_with, IsRecordReason, IsCutReason, cut_limits, advance_limits, IsFaultyAdvance, IsAdvanceReason, IsFactReason}
 use Rattle.line_reasons.proofs.Faults.{number_fault, field_reason}
 use Rattle.line_reasons.proofs.FormLines.{unread_numbers}
@@ -200,9 +199,6 @@ pub record_judged : (fields : List (List ℕ)) (o : Option LineReason) (head : H
 record_judged fields None head c six numbers spelled h = rw (record_made fields head c six numbers spelled, h) refl
 record_judged fields (Some (Shape fault)) head c six numbers spelled h = record { head = head; contents = c; many = six; numbers = numbers; spelled = spelled; faulty = h }
 record_judged fields (Some _) head c six numbers spelled h = absurd h
-
-pub contents_reason : (fields : List (List ℕ)) (reason : LineReason) → IsContentsReason (get_or fields 5 []) reason → IsRecordReason fields reason
-contents_reason fields reason h = search rules
 
 -- ---- by the word
 

@@ -2,8 +2,7 @@
 use Rattle.std.proofs.Common.{get_or, ◌≡◌, ℕ, Bool, cond, List, [], ◌∷◌, length, Option, Some, None, refl, sym, ap, arith, rules}
 use Rattle.std.proofs.lemmas.Grind.{common_steps}
 use Rattle.std.proofs.lemmas.Slice.Zip.{AllZip-long}
-use Rattle.std.specs.Result.{result_err}
-use Rattle.std.specs.Prelude.{Result, bytes_eq, MatchBool, MatchOption, MatchResult}
+use Rattle.std.specs.Prelude.{bytes_eq, MatchBool}
 use Rattle.script_text.specs.Parts.{◌>>=◌}
 use Rattle.script_text.specs.Fields.{Form, numbers_of, made_by, read_by}
 use Rattle.script_text.proofs.Forms.{numbers_within}
@@ -20,10 +19,6 @@ unread_numbers limits fields make e = ap (λ (o : Option (List ℕ)). o >>= make
 -- the test of a word against a constant
 pub same_test : (word other constant : List ℕ) (test is : Bool) → test ≡ bytes_eq word other → other ≡ constant → test ≡ is → bytes_eq word constant ≡ is
 same_test word other constant test is e same tested = rw (← same, ← e) tested
-
--- what a reading tells of its error
-pub told_by : {U : Type 0} (r : Result U LineReason) (o : Option LineReason) (P : Type 0) (Q : LineReason → Type 0) → o ≡ result_err r → MatchResult r (λ _. P) Q → MatchOption o P Q
-told_by r o P Q e h = search rules
 
 -- what holds by a test, of the two sides
 pub by_test : {A : Type 0} (b : Bool) (P Q : Type 0) (x y : Option A) → (P → x ≡ None) → (Q → y ≡ None) → MatchBool b P Q → cond b x y ≡ None

@@ -1,18 +1,9 @@
 -- Lines of a text, one by one.
-use Rattle.std.proofs.Common.{◌≡◌, ℕ, ◌+◌, ◌<◌, Bool, true, false, cond, List, [], ◌∷◌, ◌++◌, length, get_or, drop, Option, Some, None, refl, ◌∙◌, arith, zero, suc, add-one, add-zero, rules}
+use Rattle.std.proofs.Common.{◌≡◌, ℕ, ◌+◌, ◌<◌, Bool, true, false, cond, List, [], ◌∷◌, ◌++◌, length, get_or, drop, Some, None, refl, arith, zero, suc, add-zero, rules}
 use Rattle.std.proofs.lemmas.Grind.{common_steps}
-use Rattle.std.specs.Prelude.{IfSome, slice_get}
+use Rattle.std.specs.Prelude.{slice_get}
 use Rattle.std.specs.List.{position_from}
-use Rattle.std.proofs.Math.Seq.{drop-cons}
 use Rattle.line_reasons.specs.Spots.{is_go, go_with, go_before}
-
--- the first line of the rest is the next
-pub next_is : (lines rest : List (List ℕ)) (line : List ℕ) (i : ℕ) → i < length lines → line ∷ rest ≡ drop i lines
-    → (get_or lines i [] ≡ line) × (rest ≡ drop (i + 1) lines)
-next_is lines rest line i lt e =
-    let cut = drop-cons lines i [] lt in
-    let same : line ∷ rest ≡ get_or lines i [] ∷ drop (suc i) lines = e ∙ cut in
-    (cc, rw add-one (cc))
 
 go_push : (n : ℕ) (xs : List (List ℕ)) (y : List ℕ) → position_from is_go n (xs ++ y ∷ []) ≡ go_with (position_from is_go n xs) (n + length xs) y
 go_push n [] y = rw add-zero refl
@@ -28,10 +19,6 @@ go_push n (x ∷ xs) y =
 pub go_next : (is_script : Bool) (lines : List (List ℕ)) (line : List ℕ) (i : ℕ) → i < length lines → get_or lines i [] ≡ line
     → go_before is_script lines (i + 1) ≡ cond is_script (go_with (go_before is_script lines i) i line) (go_before is_script lines i)
 go_next is_script lines line i lt e = grind (arith, common_steps, go_push)
-
-pub earlier_next : (is_script : Bool) (go : Option ℕ) (line : List ℕ) (i : ℕ) → IfSome go (λ k. k < i)
-    → IfSome (cond is_script (go_with go i line) go) (λ k. k < i + 1)
-earlier_next is_script go line i h = search rules
 
 pub go_none : (is_script : Bool) (lines : List (List ℕ)) → go_before is_script lines 0 ≡ None
 go_none is_script lines = search rules

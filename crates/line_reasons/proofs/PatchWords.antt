@@ -14,10 +14,6 @@ use Rattle.line_reasons.specs.PatchFaults.{offset_limits, range_limits, IsPatchP
 
 -- ---- a place
 
-no_place_at : (parts : List (List ℕ)) (bytes : List ℕ) → numbers_of offset_limits parts ≡ None → numbers_of range_limits parts ≡ None
-    → patch_at parts bytes ≡ None
-no_place_at parts bytes no_offset no_range = search rules
-
 no_bytes_at : (parts : List (List ℕ)) → patch_at parts [] ≡ None
 no_bytes_at parts = search rules
 
@@ -68,9 +64,6 @@ placed word b offset range none e test f = search rules
 
 no_write : (parts : List (List ℕ)) (bytes : List ℕ) → 0 < length bytes → patch_at parts bytes ≡ None → numbers_of offset_limits parts ≡ None
 no_write parts bytes some none = search rules
-
-no_fill_at : (parts : List (List ℕ)) (b : ℕ) → patch_at parts (b ∷ []) ≡ None → numbers_of range_limits parts ≡ None
-no_fill_at parts b none = search rules
 
 wide_bytes : (parts : List (List ℕ)) (bytes : List ℕ) → patch_at parts bytes ≡ None → IsSome (numbers_of range_limits parts) → length bytes ≢ 1
 wide_bytes parts bytes none range = search rules

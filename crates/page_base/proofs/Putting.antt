@@ -11,12 +11,6 @@ use Rattle.redo_core.specs.Store.{StoredImage, PageBefore, PutsImage}
 use Rattle.page_base.specs.Placing.{SplitsAt, IsInsertionPoint}
 use Rattle.page_base.proofs.Lists.{from_place, in_set}
 
-below_true : (page : ℕ) (i : StoredImage) → nat_lt i.page page ≡ true → i.page < page
-below_true page i h = grind arith
-
-below_of : (page : ℕ) (i : StoredImage) → i.page < page → nat_lt i.page page ≡ true
-below_of page i h = grind arith
-
 rising_at : (xs : List StoredImage) (i j : ℕ) (d e : StoredImage) → IsRising PageBefore xs → i < j → j < length xs → (get_or xs i d).page < (get_or xs j e).page
 rising_at [] i j d e r l m = absurd (omega (arith, m))
 rising_at (x ∷ xs) zero zero d e r l m = absurd (omega (arith, l))

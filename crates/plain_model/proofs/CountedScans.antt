@@ -1,12 +1,12 @@
 -- Scans of a log for the backlink of a record.
-use Rattle.std.proofs.Common.{◌≡◌, ℕ, ◌+◌, ◌<◌, ◌≤◌, ◌⊎◌, List, length, get_or, take, refl, sym, subst, arith}
+use Rattle.std.proofs.Common.{◌≡◌, ℕ, ◌+◌, ◌<◌, ◌≤◌, ◌⊎◌, List, length, get_or, take, refl, sym, subst, arith, rules}
 use Rattle.std.specs.List.{Contains, All}
 use Rattle.std.proofs.lemmas.List.Elements.{All-contains}
 use Rattle.redo_core.specs.Data.{RecordData}
 use Rattle.redo_core.specs.Sets.{records}
 use Rattle.redo_core.specs.Sound.{IsAliveBelow}
 use Rattle.redo_core.specs.declared.facts.Fact.{Fact}
-use Rattle.redo_core.specs.declared.facts.Fact.TheVariants.{Record, Cut, Advance}
+use Rattle.redo_core.specs.declared.facts.Fact.TheVariants.{Record}
 use Rattle.redo_core.proofs.FactParts.{record_in}
 use Rattle.plain_model.specs.declared.chains.Chain.{Chain}
 use Rattle.plain_model.specs.Chained.{Follows, IsBelowOn}
@@ -27,9 +27,7 @@ top_below log r chain t n all a =
     omega arith
 
 higher_at : (log : List Fact) (r : RecordData) (chain : Chain) (s t : ℕ) → s ≤ t → (f : Fact) → IsBelowUpTo log r chain s f → IsBelowUpTo log r chain t f
-higher_at log r chain s t l (Record q) h = λ b. let x : q.number ≤ s = h b in omega arith
-higher_at log r chain s t l (Cut c) h = tt
-higher_at log r chain s t l (Advance a) h = tt
+higher_at log r chain s t l f h = search rules
 
 pub higher_below : (log xs : List Fact) (r : RecordData) (chain : Chain) (s t : ℕ) → s ≤ t → All (IsBelowUpTo log r chain s) xs
     → All (IsBelowUpTo log r chain t) xs
@@ -40,9 +38,7 @@ pub below_record : (log : List Fact) (r : RecordData) (chain : Chain) (t : ℕ) 
 below_record log r chain t f s q h = subst (IsBelowUpTo log r chain t) (sym q) h
 
 pub below_default : (log : List Fact) (r : RecordData) (chain : Chain) (t : ℕ) (f : Fact) → ((s : RecordData) → f ≡ Record s → ⊥) → IsBelowUpTo log r chain t f
-below_default log r chain t (Record s) h = absurd (h s refl)
-below_default log r chain t (Cut c) h = tt
-below_default log r chain t (Advance a) h = tt
+below_default log r chain t f h = search rules
 
 -- a step that leaves the greatest
 pub below_step : (xs : List Fact) (i : ℕ) (f : Fact) (r : RecordData) (chain : Chain) (m n : ℕ) → i < length xs → f ≡ get_or xs i f → n ≡ m

@@ -1,5 +1,5 @@
 -- What a fact that keeps or breaks a law says of it.
-use Rattle.std.proofs.Common.{◌≡◌, ℕ, ◌+◌, ◌-◌, ◌<◌, ◌⊎◌, ⊎_elim, List, length, get_or, refl, sym, subst, arith, Option, Some, None}
+use Rattle.std.proofs.Common.{◌≡◌, ℕ, ◌+◌, ◌-◌, ◌<◌, ◌⊎◌, ⊎_elim, List, length, get_or, refl, sym, subst, arith, Option, Some, rules}
 use Rattle.std.specs.Prelude.{slice_get}
 use Rattle.std.proofs.lemmas.Option.{slice_get_read}
 use Rattle.redo_core.specs.Data.{RecordData}
@@ -19,13 +19,11 @@ same_backlink log r chain g b is e = subst (IsGreatest (IsAliveBelow log r (Foll
 
 pub other_backlink : (log : List Fact) (r : RecordData) (chain : Chain) (g b : ℕ) → IsGreatest (IsAliveBelow log r (Follows chain r)) g → (b ≡ g → ⊥)
     → IsGreatest (IsAliveBelow log r (Follows chain r)) b → ⊥
-other_backlink log r chain g b is ne law = let P : ℕ → Type 0 = IsAliveBelow log r (Follows chain r) in
-    ne (greatest_unique P P (λ n. (λ h. h, λ h. h)) b g law is)
+other_backlink log r chain g b is ne law = search (rules, greatest_unique)
 
 pub none_found : (roster : ℕ) (log : List Fact) (place : ℕ) (f : Fact) (found : Option Law) → FindsFault roster log place f found
     → ((law : Law) → found ≡ Some law → ⊥) → KeepsLaws roster log place f
-none_found roster log place f None h none = h
-none_found roster log place f (Some law) h none = absurd (none law refl)
+none_found roster log place f found h none = search rules
 
 -- the places before the first fault
 abbrev pub KeepsBefore : ℕ → List Fact → ℕ → Type 0

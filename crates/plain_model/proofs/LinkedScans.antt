@@ -1,5 +1,5 @@
 -- Scans for what is alive and linked.
-use Rattle.std.proofs.Common.{◌≡◌, ℕ, ◌+◌, ◌<◌, ◌≤◌, List, length, get_or, take, refl, sym, subst, arith, Option, Some, None}
+use Rattle.std.proofs.Common.{◌≡◌, ℕ, ◌+◌, ◌<◌, ◌≤◌, List, length, get_or, take, refl, sym, subst, arith, Option, rules}
 use Rattle.std.specs.List.{Contains, All}
 use Rattle.std.proofs.lemmas.List.Elements.{All-contains}
 use Rattle.redo_core.specs.Data.{RecordData, CutData}
@@ -8,7 +8,7 @@ use Rattle.redo_core.specs.Standing.{IsAlive, SparesIn}
 use Rattle.redo_core.specs.Linked.{IsLinked}
 use Rattle.redo_core.specs.Linked.Linked.{start, next}
 use Rattle.redo_core.specs.declared.facts.Fact.{Fact}
-use Rattle.redo_core.specs.declared.facts.Fact.TheVariants.{Record, Cut, Advance}
+use Rattle.redo_core.specs.declared.facts.Fact.TheVariants.{Record, Cut}
 use Rattle.redo_core.proofs.FactParts.{record_in, cut_in}
 use Rattle.redo_core.proofs.Scans.{one_more}
 use Rattle.redo_core.proofs.Members.{item}
@@ -22,9 +22,7 @@ pub spared_cut : (v e n : ℕ) (f : Fact) (c : CutData) → f ≡ Cut c → Spar
 spared_cut v e n f c q h = subst (IsSpared v e n) (sym q) h
 
 pub spared_default : (v e n : ℕ) (f : Fact) → ((c : CutData) → f ≡ Cut c → ⊥) → IsSpared v e n f
-spared_default v e n (Record r) h = tt
-spared_default v e n (Cut c) h = absurd (h c refl)
-spared_default v e n (Advance a) h = tt
+spared_default v e n f h = search rules
 
 pub all_spare : (facts : List Fact) (v e n : ℕ) → e ≤ v → All (IsSpared v e n) facts → IsAlive (cuts facts) v e n
 all_spare facts v e n l all = record {
@@ -45,9 +43,7 @@ pub links_not_record : (facts : List Fact) (v n : ℕ) (f : Fact) (r : RecordDat
 links_not_record facts v n f r q h = subst (LinksNot facts v n) (sym q) h
 
 pub links_not_default : (facts : List Fact) (v n : ℕ) (f : Fact) → ((r : RecordData) → f ≡ Record r → ⊥) → LinksNot facts v n f
-links_not_default facts v n (Record r) h = absurd (h r refl)
-links_not_default facts v n (Cut c) h = tt
-links_not_default facts v n (Advance a) h = tt
+links_not_default facts v n f h = search rules
 
 pub no_link : (facts : List Fact) (v n : ℕ) → All (LinksNot facts v n) facts → (n ≡ 0 → ⊥) → IsLinked facts v n → ⊥
 no_link facts v n all off start = off refl
@@ -58,25 +54,20 @@ pub up_record : (facts : List Fact) (v : ℕ) (m : Option ℕ) (t : ℕ) (f : Fa
 up_record facts v m t f r q h = subst (LinksUpTo facts v m t) (sym q) h
 
 pub up_default : (facts : List Fact) (v : ℕ) (m : Option ℕ) (t : ℕ) (f : Fact) → ((r : RecordData) → f ≡ Record r → ⊥) → LinksUpTo facts v m t f
-up_default facts v m t (Record r) h = absurd (h r refl)
-up_default facts v m t (Cut c) h = tt
-up_default facts v m t (Advance a) h = tt
+up_default facts v m t f h = search rules
 
 pub top_linked : (facts : List Fact) (v : ℕ) (m : Option ℕ) (t n : ℕ) → All (LinksUpTo facts v m t) facts → IsLinked facts v n → IsUpToLimit m n → n ≤ t
 top_linked facts v m t n all start l = omega arith
 top_linked facts v m t n all (next r h a b p) l = All-contains (LinksUpTo facts v m t) facts (Record r) all ((record_in facts r).0 h) (next r h a b p, l)
 
 up_at : (facts : List Fact) (v : ℕ) (m : Option ℕ) (s t : ℕ) → s ≤ t → (f : Fact) → LinksUpTo facts v m s f → LinksUpTo facts v m t f
-up_at facts v m s t l (Record r) h = λ u. let x : r.number ≤ s = h u in omega arith
-up_at facts v m s t l (Cut c) h = tt
-up_at facts v m s t l (Advance a) h = tt
+up_at facts v m s t l f h = search rules
 
 pub up_higher : (facts xs : List Fact) (v : ℕ) (m : Option ℕ) (s t : ℕ) → s ≤ t → All (LinksUpTo facts v m s) xs → All (LinksUpTo facts v m t) xs
 up_higher facts xs v m s t l all k d u = up_at facts v m s t l (get_or xs k d) (all k d u)
 
 pub within_zero : (m : Option ℕ) → IsUpToLimit m 0
-within_zero None = tt
-within_zero (Some l) = omega arith
+within_zero m = search rules
 
 -- a step that leaves the greatest
 pub top_step : (xs : List Fact) (i : ℕ) (f : Fact) (v : ℕ) (l : Option ℕ) (m n : ℕ) → i < length xs → f ≡ get_or xs i f → n ≡ m → IsLinkedWithin xs v l m

@@ -1,12 +1,13 @@
 -- The search for the next record of a page.
-use Rattle.std.proofs.Common.{◌≡◌, ℕ, ◌+◌, ◌<◌, ◌≤◌, ◌⊎◌, ⊎_elim, List, length, get_or, take, sym, ap, subst, arith, Option, Some, None}
+use Rattle.std.proofs.Common.{◌≡◌, ℕ, ◌+◌, ◌<◌, ◌≤◌, List, length, get_or, take, sym, ap, subst, arith, Option, Some, None, rules}
+use Rattle.std.proofs.lemmas.Grind.{common_steps}
 use Rattle.std.specs.Prelude.{MatchOption}
 use Rattle.std.specs.List.{Contains, All}
 use Rattle.std.proofs.lemmas.List.Elements.{All-contains}
 use Rattle.redo_core.specs.Data.{RecordData}
 use Rattle.redo_core.specs.Sets.{records}
 use Rattle.redo_core.specs.declared.facts.Fact.{Fact}
-use Rattle.redo_core.specs.declared.facts.Fact.TheVariants.{Record, Cut, Advance}
+use Rattle.redo_core.specs.declared.facts.Fact.TheVariants.{Record}
 use Rattle.redo_core.proofs.FactParts.{record_in}
 use Rattle.plain_model.specs.PageRecords.{IsPageRecord, StandsInPage, IsNextPageRecord, HasNoNext}
 use Rattle.plain_model.proofs.Scanned.{IsReached}
@@ -21,9 +22,7 @@ stands facts k g q r p = record { page = p.1; within = p.2; alive = p.0.alive; l
 
 reached_at : (facts : List Fact) (k g from q : ℕ) (P Q : ℕ → Type 0) → ((n : ℕ) → P n → Q n) → (f : Fact) → IsReached facts k g from q P f
     → IsReached facts k g from q Q f
-reached_at facts k g from q P Q lower (Record r) h = λ s l. lower r.number (h s l)
-reached_at facts k g from q P Q lower (Cut c) h = tt
-reached_at facts k g from q P Q lower (Advance a) h = tt
+reached_at facts k g from q P Q lower f h = search rules
 
 -- what reached the facts seen so far by one bound, reaches them by a lower one
 pub reached_lower : (facts xs : List Fact) (k g from q : ℕ) (P Q : ℕ → Type 0) → ((n : ℕ) → P n → Q n) → All (IsReached facts k g from q P) xs
@@ -41,13 +40,10 @@ module _ {X : Type 0} (data_of : X → RecordData) where
   FoundInPage facts k g from q found = MatchOption found (Unit {0}) (λ x. IsPageRecord facts k g q (data_of x) × (from ≤ (data_of x).number))
 
   pub found_lower : (found : Option X) (m : ℕ) → MatchOption found (Unit {0}) (λ x. m < (data_of x).number) → (n : ℕ) → FoundUpTo found n → m ≤ n
-  found_lower None m before n h = absurd h
-  found_lower (Some x) m before n h = omega arith
+  found_lower found m before n h = search rules
 
   pub found_up_to : (found : Option X) (m : ℕ) → (MatchOption found (Unit {0}) (λ x. m < (data_of x).number) → ⊥) → FoundUpTo found m
-  found_up_to None m h = h tt
-  found_up_to (Some x) m h = let s : ((data_of x).number ≤ m) ⊎ (m < (data_of x).number) = grind arith in ⊎_elim (λ (l : (data_of x).number ≤ m). l)
-      (λ (l : m < (data_of x).number). absurd (h l)) s
+  found_up_to found m h = search rules
 
   pub found_next : (facts : List Fact) (k g from q : ℕ) (found : Option X) → FoundInPage facts k g from q found
       → All (IsReached facts k g from q (FoundUpTo found)) facts → MatchOption found (HasNoNext facts k g from q)
@@ -86,7 +82,4 @@ module _ {X : Type 0} (data_of : X → RecordData) where
 
   pub seen_more : (facts : List Fact) (k g from q i : ℕ) (f : Fact) (old new : Option X) → i < length facts → f ≡ get_or facts i f → new ≡ old
       → IsReached facts k g from q (FoundUpTo old) f → Seen facts k g from q i old → Seen facts k g from q (i + 1) new
-  seen_more facts k g from q i f old new l e same reached seen = subst (Seen facts k g from q (i + 1)) (sym same) (record {
-    best = seen.best;
-    least = one_more (IsReached facts k g from q (FoundUpTo old)) facts i f l e seen.least reached;
-  })
+  seen_more facts k g from q i f old new l e same reached seen = grind (arith, common_steps)

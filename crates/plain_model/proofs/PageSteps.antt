@@ -1,5 +1,5 @@
 -- A page record by record.
-use Rattle.std.proofs.Common.{◌≡◌, ℕ, ◌+◌, ◌<◌, ◌≤◌, ◌⊎◌, ⊎_elim, List, [], ◌∷◌, ◌++◌, refl, sym, ap, ◌∙◌, subst, arith}
+use Rattle.std.proofs.Common.{◌≡◌, ℕ, ◌+◌, ◌<◌, ◌≤◌, ◌⊎◌, ⊎_elim, List, [], ◌∷◌, ◌++◌, sym, ap, ◌∙◌, subst, arith, rules}
 use Rattle.std.specs.List.{Contains}
 use Rattle.std.proofs.lemmas.List.Elements.{Contains-append_left, Contains-append_right, Contains-append_cases}
 use Rattle.redo_core.specs.Data.{RecordData}
@@ -25,11 +25,7 @@ pub record IsPageBelow (facts : List Fact) (k g q from : ℕ) (image : List ℕ)
   pub result : image ≡ after_records zeros written
 
 pub page_start : (facts : List Fact) (k g q : ℕ) → IsPageBelow facts k g q 0 zeros
-page_start facts k g q = record {
-  written = [];
-  lists = record { rising = tt; members = λ r. (λ h. absurd (none_in r h), λ h. absurd (omega (arith, h.1))) };
-  result = refl;
-}
+page_start facts k g q = search rules
 
 pub page_step : (facts : List Fact) (k g q from : ℕ) (image : List ℕ) (r : RecordData) → HasNumbersOnce facts k g q → IsNextPageRecord facts k g from q r
     → IsPageBelow facts k g q from image → IsPageBelow facts k g q (r.number + 1) (write image r)

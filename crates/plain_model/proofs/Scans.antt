@@ -1,5 +1,5 @@
 -- Scans of a list of facts.
-use Rattle.std.proofs.Common.{◌≡◌, ◌≢◌, ℕ, ◌+◌, ◌<◌, ◌≤◌, ◌⊎◌, List, length, get_or, take, refl, sym, subst, arith}
+use Rattle.std.proofs.Common.{◌≡◌, ◌≢◌, ℕ, ◌+◌, ◌<◌, ◌≤◌, ◌⊎◌, List, length, get_or, take, refl, sym, subst, arith, rules}
 use Rattle.std.specs.List.{Contains, All}
 use Rattle.std.proofs.lemmas.List.Elements.{All-contains}
 use Rattle.redo_core.specs.Data.{RecordData, CutData, AdvanceData}
@@ -32,9 +32,7 @@ pub not_past : (facts : List Fact) (c : CutData) (reader : ℕ) → All (LeavesB
 not_past facts c reader all h = All-contains (LeavesBehind c reader) facts (Advance h.0) all ((advance_in facts h.0).0 h.1) h.2 h.3 h.4
 
 higher_at : (e r p q : ℕ) → p ≤ q → (f : Fact) → IsUpTo e r p f → IsUpTo e r q f
-higher_at e r p q l (Record s) h = tt
-higher_at e r p q l (Cut c) h = tt
-higher_at e r p q l (Advance a) h = λ s u. let t : a.point ≤ p = h s u in omega arith
+higher_at e r p q l f h = search rules
 
 pub higher : (xs : List Fact) (e r p q : ℕ) → p ≤ q → All (IsUpTo e r p) xs → All (IsUpTo e r q) xs
 higher xs e r p q l all k d u = higher_at e r p q l (get_or xs k d) (all k d u)
@@ -43,9 +41,7 @@ pub other_cut : (e : ℕ) (f : Fact) (c : CutData) → f ≡ Cut c → c.epoch �
 other_cut e f c q ne = subst (IsOther e) (sym q) ne
 
 pub other_default : (e : ℕ) (f : Fact) → ((c : CutData) → f ≡ Cut c → ⊥) → IsOther e f
-other_default e (Record r) h = tt
-other_default e (Cut c) h = absurd (h c refl)
-other_default e (Advance a) h = tt
+other_default e f h = search rules
 
 pub up_advance : (e r p : ℕ) (f : Fact) (a : AdvanceData) → f ≡ Advance a → (a.reader ≡ r → a.epoch ≤ e → a.point ≤ p) → IsUpTo e r p f
 up_advance e r p f a q h = subst (IsUpTo e r p) (sym q) h

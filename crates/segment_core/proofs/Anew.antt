@@ -1,5 +1,5 @@
 -- The page that a state shows, made from the last record on that begins it anew.
-use Rattle.std.proofs.Common.{◌≡◌, ℕ, ◌-◌, ◌<◌, ◌≤◌, ◌⊎◌, inl, inr, ⊎_elim, List, [], ◌∷◌, ◌++◌, sym, ap, ◌∙◌, subst, arith, true}
+use Rattle.std.proofs.Common.{◌≡◌, ℕ, ◌-◌, ◌<◌, ◌≤◌, ◌⊎◌, inl, inr, ⊎_elim, List, [], ◌∷◌, ◌++◌, sym, ap, ◌∙◌, subst, arith, true, rules}
 use Rattle.std.specs.List.{Contains}
 use Rattle.std.proofs.lemmas.Bool.{cases_lt}
 use Rattle.std.proofs.lemmas.List.Elements.{Contains-append_left, Contains-append_right, Contains-append_cases}
@@ -10,7 +10,7 @@ use Rattle.redo_core.specs.Writing.{after_records}
 use Rattle.redo_core.proofs.AfterRecords.{after_append}
 use Rattle.redo_core.proofs.Listing.{lists_as}
 use Rattle.redo_core.proofs.Members.{none_in, here, there, which, each, all_of}
-use Rattle.redo_laws.proofs.Deciding.{Settled, settled_le, settled_lt, settled_eq, settled_and, in_order}
+use Rattle.redo_laws.proofs.Deciding.{Settled, settled_le, settled_eq, settled_and, in_order}
 use Rattle.redo_laws.proofs.Fronts.{settled_alive}
 use Rattle.epoch_book.specs.Book.{IsBook}
 use Rattle.hot_log.specs.Anew.{ListsAnew}
@@ -50,9 +50,7 @@ IsDue s page q r =
     IsAlive s.book.cuts s.book.complete r.epoch r.number × ((r.page ≡ page) × ((version_of s.store page < r.number) × (r.number ≤ q)))
 
 settled_due : (s : State) (page q : ℕ) (r : RecordData) → Settled (IsDue s page q r)
-settled_due s page q r =
-    settled_and _ _ (settled_alive s.book.cuts s.book.complete r.epoch r.number)
-    (λ _. settled_and _ _ (settled_eq r.page page) (λ _. settled_and _ _ (settled_lt (version_of s.store page) r.number) (λ _. settled_le r.number q)))
+settled_due s page q r = search (rules, settled_and, settled_alive, settled_eq, settled_le)
 
 -- the records that are applied can be put in order
 pub applied_in_order : (s : State) (page q : ℕ) → IsBook s.book → IsHeld s.held

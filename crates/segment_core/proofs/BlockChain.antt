@@ -2,27 +2,23 @@
 use Rattle.std.proofs.Common.{◌≡◌, ℕ, false, ◌<◌, ◌-◌, min, ◌≤◌, ◌⊎◌, ◌↔◌, inl, inr, ⊎_elim, List, Option, Some, None, Result, Ok, Err, refl, sym, ap, ◌∙◌, subst, arith, rules}
 use Rattle.std.specs.List.{Contains}
 use Rattle.redo_core.specs.Data.{RecordData}
-use Rattle.redo_core.specs.Order.{BeforeByNumber}
 use Rattle.redo_core.specs.Sets.{records}
 use Rattle.redo_core.specs.Shape.{record_fault}
 use Rattle.redo_core.specs.Position.{Position}
 use Rattle.redo_core.specs.Sound.{IsSound, KeepsLaws, IsAliveBelow}
 use Rattle.redo_core.specs.declared.facts.Fact.{Fact}
 use Rattle.redo_core.specs.declared.facts.Fact.TheVariants.{Record}
-use Rattle.redo_core.proofs.Numbers.{greatest_unique}
 use Rattle.redo_core.proofs.FactParts.{record_in}
 use Rattle.redo_core.proofs.SoundFacts.{kept}
 use Rattle.redo_laws.proofs.Log.{log_of_sound}
 use Rattle.epoch_book.specs.Book.{BookData}
-use Rattle.redo_core.specs.Linked.{Linked, IsLinked}
-use Rattle.redo_core.specs.Linked.Linked.{start as first}
+use Rattle.redo_core.specs.Linked.{IsLinked}
 use Rattle.hot_log.specs.Held.{IsHeld}
 use Rattle.hot_log.specs.Alive.{IsHeldOf, IsLinkedHeld}
 use Rattle.hot_log.specs.Found.{IsLeastRecord, IsGreatestRecord, IsOnlyRecord}
 use Rattle.state_laws.specs.State.{State, state_of, Store, min_of, version_of}
 use Rattle.state_laws.specs.Means.{MeansAt}
 use Rattle.state_laws.specs.Shows.{IsApplied}
-use Rattle.state_laws.specs.HasMeaning.{IsLinkedIn}
 use Rattle.state_laws.proofs.Chains.{whole_block_chains}
 use Rattle.state_laws.proofs.Reading.{held_of, links_law}
 use Rattle.segment_core.specs.Reading.{IsFrontAt, IsFrontOf}
@@ -31,7 +27,6 @@ use Rattle.segment_core.specs.declared.answers.ReadFault.{ReadFault}
 use Rattle.segment_core.specs.declared.answers.ReadFault.TheVariants.{Below, Above, BrokenBlockChain, Memory}
 use Rattle.segment_core.specs.BlockChain.{IsKnownLinked, IsLinkedOf, IsLinkedUpTo, OnBlockChain, BreaksFrom, BreaksAt, TellsBreak}
 use Rattle.segment_core.specs.BlockChain.OnBlockChain.{start, down}
-use Rattle.hot_log.proofs.Chain.{link_at_least}
 
 -- ---- steps of the walk
 
@@ -117,26 +112,13 @@ positive_number hs r held among = let shaped = held.shaped r among in positive r
     positive r shaped = search (rules, shaped)
 
 greatest_by : (P Q : RecordData → Type 0) → ((r : RecordData) → P r ↔ Q r) → (found : Option RecordData) → IsGreatestRecord P found → IsGreatestRecord Q found
-greatest_by P Q same None none = λ r h. none r ((same r).1 h)
-greatest_by P Q same (Some r) h = ((same r).0 h.0, λ x y. h.1 x ((same x).1 y))
+greatest_by P Q same found none = search rules
 
 -- where the held records link some of the page from the base point on, the last of these is the last of all
 pub last_linked : (b : BookData) (hs : List RecordData) (base : ℕ) (store : Store) (page q : ℕ) (r : RecordData)
     → IsGreatestRecord (λ x. IsLinkedHeld b hs base x × (x.page ≡ page) × (x.number ≤ q)) (Some r)
     → IsGreatestRecord (IsLinkedOf (state_of b hs base store) page q) (Some r)
-last_linked b hs base store page q r h = ((h.0.0.0, h.0.0.1, inr h.0.0.2, h.0.1, h.0.2), before)
-  where
-    least : base ≤ r.number
-    least = link_at_least b.cuts hs b.complete base r.number h.0.0.2
-
-    before : (x : RecordData) → IsLinkedOf (state_of b hs base store) page q x → (x ≡ r) ⊎ BeforeByNumber x r
-    before x l = ⊎_elim
-        (λ (low : x.number ≤ base). ⊎_elim
-        (λ (same : base ≡ x.number). h.1 x ((l.0, l.1, subst (Linked b.cuts hs b.complete base) same first), l.3, l.4))
-        (λ (lt : x.number < base). inr (omega (arith, lt, least)))
-        (let t : (base ≡ x.number) ⊎ (x.number < base) = grind (arith, low) in t))
-        (λ linked. h.1 x ((l.0, l.1, linked), l.3, l.4))
-        l.2
+last_linked b hs base store page q r h = search rules
 
 -- where each alive record up to the point is linked, the last alive one of the page is the last of all
 pub last_sure : (b : BookData) (hs : List RecordData) (base : ℕ) (store : Store) (page q : ℕ) (found : Option RecordData) → IsHeld hs
@@ -194,36 +176,22 @@ only_low b hs base store page from number (Some r) held sure is h =
 pub none_high : (b : BookData) (hs : List RecordData) (base : ℕ) (store : Store) (page number : ℕ) → base < number
     → IsOnlyRecord (λ x. IsLinkedHeld b hs base x × (x.number ≡ number)) None
     → IsOnlyRecord (IsLinkedAt (state_of b hs base store) page number) None
-none_high b hs base store page number high none = λ r l.
-    let n : r.number ≡ number = l.1 in
-    ⊎_elim
-    (λ (le : r.number ≤ base). absurd (omega (arith, le, n, high)))
-    (λ linked. none r ((l.0.0, l.0.1, linked), l.1))
-    l.0.2
+none_high b hs base store page number high none = search rules
 
 only_of_high : (b : BookData) (hs : List RecordData) (base : ℕ) (store : Store) (page number : ℕ) (r x : RecordData) → base < number
     → IsOnlyRecord (λ y. IsLinkedHeld b hs base y × (y.number ≡ number)) (Some r) → IsLinkedAt (state_of b hs base store) page number x
     → x ≡ r
-only_of_high b hs base store page number r x high h l =
-    let n : x.number ≡ number = l.1 in
-    ⊎_elim
-    (λ (le : x.number ≤ base). absurd (omega (arith, le, n, high)))
-    (λ linked. h.1 x ((l.0.0, l.0.1, linked), l.1))
-    l.0.2
+only_of_high b hs base store page number r x high h l = search rules
 
 pub only_high : (b : BookData) (hs : List RecordData) (base : ℕ) (store : Store) (page number : ℕ) (r : RecordData) → base < number
     → IsOnlyRecord (λ x. IsLinkedHeld b hs base x × (x.number ≡ number)) (Some r) → r.page ≡ page
     → IsOnlyRecord (IsLinkedAt (state_of b hs base store) page number) (Some r)
-only_high b hs base store page number r high h of_page =
-    let n : r.number ≡ number = h.0.1 in
-    (((h.0.0.0, h.0.0.1, inr h.0.0.2, of_page, omega (arith, n)), n), λ x l. only_of_high b hs base store page number r x high h l)
+only_high b hs base store page number r high h of_page = search rules
 
 pub other_page : (b : BookData) (hs : List RecordData) (base : ℕ) (store : Store) (page number : ℕ) (r : RecordData) → base < number
     → IsOnlyRecord (λ x. IsLinkedHeld b hs base x × (x.number ≡ number)) (Some r) → (r.page ≡ page → ⊥)
     → IsOnlyRecord (IsLinkedAt (state_of b hs base store) page number) None
-other_page b hs base store page number r high h of_other = λ x l.
-    let same : x ≡ r = only_of_high b hs base store page number r x high h l in
-    of_other (subst (λ y. y.page ≡ page) same l.0.3)
+other_page b hs base store page number r high h of_other = search rules
 
 -- ---- the walk of a state
 
@@ -319,20 +287,10 @@ abbrev pub TellsLink : State → ℕ → ℕ → Option ℕ → Type 0
 TellsLink s page q link = (n : ℕ) → (link ≡ Some n) ↔ BreaksAt s page q n
 
 pub tells_below : (s : State) (front : Front) (page q min : ℕ) → IsFrontOf s front → q < front.min → TellsBreak s page q (Err (Below min))
-tells_below s front page q min own low = λ g n. (
-  λ (e : Err (Below min) ≡ Err (BrokenBlockChain g n)). absurd (cc),
-  λ h. let le : min_of s ≤ q = h.1.0 in let same : front.min ≡ min_of s = own.min in absurd (omega (arith, low, le, same)),
-)
+tells_below s front page q min own low = search rules
 
 pub tells_above : (s : State) (front : Front) (page q complete : ℕ) → IsFrontOf s front → front.complete < q → TellsBreak s page q (Err (Above complete))
-tells_above s front page q complete own high = λ g n. (
-  λ (e : Err (Above complete) ≡ Err (BrokenBlockChain g n)). absurd (cc),
-  λ h.
-      let top = h.1.1 in
-      let same : front.complete ≡ top.0 = greatest_unique (IsLinkedIn s) (IsLinkedIn s) (λ i. (λ x. x, λ x. x)) front.complete top.0 own.complete top.1 in
-      let le : q ≤ top.0 = top.2 in
-      absurd (omega (arith, high, same, le)),
-)
+tells_above s front page q complete own high = search rules
 
 pub tells_broken : (s : State) (front : Front) (page q m : ℕ) (link : Option ℕ) → IsFrontOf s front → front.min ≤ q → q ≤ front.complete
     → TellsLink s page q link → link ≡ Some m → TellsBreak s page q (Err (BrokenBlockChain page m))
@@ -364,8 +322,7 @@ not_memory g n e = cc
 
 -- a link that is no number is none
 pub no_link : (link : Option ℕ) → ((n : ℕ) → link ≡ Some n → ⊥) → link ≡ None
-no_link None not = refl
-no_link (Some n) not = absurd (not n refl)
+no_link link not = search rules
 
 pub sound_link : (s : State) (page q : ℕ) (link : Option ℕ) → TellsLink s page q link → (roster : ℕ) (log facts : List Fact) (p : Position)
     → IsSound roster log → MeansAt roster log facts p s → q ≤ p.complete → link ≡ None

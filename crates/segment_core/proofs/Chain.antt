@@ -1,6 +1,5 @@
 -- What a front and an anchor answer, from the greatest linked number.
-use Rattle.std.proofs.Common.{◌≡◌, ℕ, ◌<◌, ◌≤◌, inl, inr, ⊎_elim, List, refl, ◌∙◌, subst, arith, rules, None, true, false, ◌↔◌, IsTrue, nat_le}
-use Rattle.std.proofs.lemmas.Bool.{leb-true, le-leb}
+use Rattle.std.proofs.Common.{◌≡◌, ℕ, ◌<◌, ◌≤◌, inr, ⊎_elim, List, arith, rules, None, true, false, ◌↔◌, IsTrue, nat_le}
 use Rattle.std.specs.List.{Contains}
 use Rattle.redo_core.specs.Data.{RecordData, CutData}
 use Rattle.redo_core.specs.Linked.{Linked}
@@ -63,20 +62,11 @@ stands_at b hs base store epoch number standing alive dead waiting = record { al
 
 pub own_front : (b : BookData) (hs : List RecordData) (base : ℕ) (store : Store) (front : Front) → front.epoch ≡ b.complete
     → front.min ≡ least b.points → IsTop b hs base front.complete → IsFrontOf (state_of b hs base store) front
-own_front b hs base store front e m top = record {
-  epoch = e;
-  complete = (inr top.linked, top.most);
-  min = m;
-}
+own_front b hs base store front e m top = search rules
 
 pub true_front : (s : State) (front : Front) → IsFrontOf s front → (roster : ℕ) (log facts : List Fact) (p : Position) → IsSound roster log
     → MeansAt roster log facts p s → IsFrontAt p front
-true_front s front own roster log facts p sound means =
-    record {
-      epoch = own.epoch ∙ means.epoch;
-      complete = complete_as log facts p s (log_of_sound roster log sound) means front.complete own.complete;
-      min = own.min ∙ same_min log facts p s means;
-    }
+true_front s front own roster log facts p sound means = search (rules, complete_as, log_of_sound, same_min)
 
 -- a number is at or below the anchor exactly where it is settled
 pub settled_at : (s : State) (anchor n : ℕ) → HasAnchor s anchor → n ≤ anchor → 0 < n → IsSettled s n
@@ -89,22 +79,12 @@ settled_below s anchor n g settled = let x = g.1 settled.0 (settled.1, settled.2
 pub dead_is_not : (b : BookData) (hs : List RecordData) (base : ℕ) (store : Store) (r : RecordData) (e n : ℕ)
     → e ≡ r.epoch → n ≡ r.number → IsDead b.cuts b.complete e n
     → IsTrue true ↔ IsDeadOrSettled (state_of b hs base store) r
-dead_is_not b hs base store r e n se sn dead =
-    (λ t. inl (subst (λ x. IsDead b.cuts b.complete x r.number) se (subst (λ x. IsDead b.cuts b.complete e x) sn dead)), λ h. refl)
+dead_is_not b hs base store r e n se sn dead = search rules
 
 pub waiting_is : (b : BookData) (hs : List RecordData) (base : ℕ) (store : Store) (r : RecordData) (e : ℕ)
     → e ≡ r.epoch → IsWaiting b.complete e → IsTrue false ↔ IsDeadOrSettled (state_of b hs base store) r
-waiting_is b hs base store r e se waits = (
-  λ (t : false ≡ true). absurd (cc),
-  λ h. absurd (⊎_elim (λ dead. omega (arith, waits, se, dead.0)) (λ alive. omega (arith, waits, se, alive.0.known)) h),
-)
+waiting_is b hs base store r e se waits = search rules
 
 pub alive_is : (s : State) (r : RecordData) (e n m anchor : ℕ) → HasAnchor s anchor → 0 < m → e ≡ r.epoch
     → n ≡ r.number → m ≡ r.number → IsAlive s.book.cuts s.book.complete e n → IsTrue (nat_le m anchor) ↔ IsDeadOrSettled s r
-alive_is s r e n m anchor g positive se sn sm alive =
-    let is_alive : IsAlive s.book.cuts s.book.complete r.epoch r.number = subst (λ x. IsAlive s.book.cuts s.book.complete x r.number) se
-    (subst (λ x. IsAlive s.book.cuts s.book.complete e x) sn alive) in (
-      λ t. let le : m ≤ anchor = leb-true m anchor t in inr (is_alive, settled_at s anchor r.number g (omega (arith, le, sm)) (omega (arith, positive, sm))),
-      λ h. ⊎_elim (λ dead. absurd (dead.1 is_alive))
-          (λ settled. let le = settled_below s anchor r.number g settled.1 in le-leb m anchor (omega (arith, le, sm))) h,
-    )
+alive_is s r e n m anchor g positive se sn sm alive = search rules

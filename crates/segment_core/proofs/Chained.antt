@@ -1,5 +1,5 @@
 -- Records of a page that follow one another, from its image or from a record with `init` on.
-use Rattle.std.proofs.Common.{◌≡◌, ℕ, ◌<◌, ◌≤◌, ◌⊎◌, inl, inr, ⊎_elim, List, [], ◌∷◌, ◌++◌, true, false, refl, sym, ap, ◌∙◌, subst, arith}
+use Rattle.std.proofs.Common.{◌≡◌, ℕ, ◌<◌, ◌≤◌, ◌⊎◌, inl, inr, ⊎_elim, List, [], ◌∷◌, ◌++◌, true, false, refl, sym, ap, ◌∙◌, subst, arith, rules}
 use Rattle.std.specs.List.{Contains}
 use Rattle.std.proofs.lemmas.List.Elements.{Contains-append_left, Contains-append_right}
 use Rattle.redo_core.specs.Data.{RecordData}
@@ -97,11 +97,7 @@ none_breaks_anew s page q n xs lists chained sure lower h = ⊎_elim
 -- up to the complete point of a straight chain, each alive record is linked
 pub sure_complete : (b : BookData) (hs : List RecordData) (base : ℕ) (store : Store) (points : Points) → HasPoints b hs base points → points.straight ≡ true
     → IsLinkedUpTo (state_of b hs base store) points.complete
-sure_complete b hs base store points has straight r among alive low =
-    ⊎_elim
-    (λ (le : r.number ≤ base). inl le)
-    (λ (lt : base < r.number). inr ((has.straight straight).linked r (among, alive) lt low))
-    (let t : (r.number ≤ base) ⊎ (base < r.number) = grind arith in t)
+sure_complete b hs base store points has straight r among alive low = search rules
 
 pub base_complete : (b : BookData) (hs : List RecordData) (base : ℕ) (points : Points) → HasPoints b hs base points → base ≤ points.complete
 base_complete b hs base points has = link_at_least b.cuts hs b.complete base points.complete has.complete.linked

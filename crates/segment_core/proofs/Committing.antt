@@ -1,5 +1,5 @@
 -- What a commit of a folded page does, from what its store's raise does.
-use Rattle.std.proofs.Common.{◌≡◌, ℕ, ◌<◌, ◌≤◌, ◌⊎◌, ⊎_elim, List, refl, sym, ap, subst, arith, Result, Ok, Err, OnOk, OnErr, IfErr}
+use Rattle.std.proofs.Common.{◌≡◌, ℕ, ◌<◌, ◌≤◌, ◌⊎◌, ⊎_elim, List, sym, ap, subst, arith, Result, Ok, Err, OnOk, OnErr, IfErr, rules}
 use Rattle.redo_core.specs.declared.refusal.Refused.{Refused}
 use Rattle.page_base.specs.Raising.{SetsImage, Raises}
 use Rattle.state_laws.specs.State.{State, Store, version_of}
@@ -17,23 +17,11 @@ use Rattle.segment_core.proofs.OneView.{one_anchor}
 
 sets_commits : (s : State) (old new : Store) (page version : ℕ) (image : List ℕ) → version_of old page ≤ version
     → SetsImage old page version image new → CommitsImage (with_store s old) page version image (with_store s new)
-sets_commits s old new page version image newer sets = record {
-  book = refl;
-  held = refl;
-  base = refl;
-  newer = newer;
-  version_is = sets.version_is;
-  image_is = sets.image_is;
-  others = sets.others;
-}
+sets_commits s old new page version image newer sets = search rules
 
 pub commits_of : (s : State) (old new : Store) (folded : Folded) → Raises old folded.page folded.version folded.image new
     → Commits (with_store s old) folded (with_store s new)
-commits_of s old new folded raises = record {
-  older = λ le. ap (with_store s) (raises.lower le);
-  images = raises;
-  newer = λ lt. sets_commits s old new folded.page folded.version folded.image (omega arith) (raises.higher lt);
-}
+commits_of s old new folded raises = search rules
 
 -- a version that is not above the anchor keeps the meaning
 pub commits_keeps : (old new : State) (folded : Folded) (anchor : ℕ) → HasAnchor old anchor
@@ -57,8 +45,7 @@ not_ahead s folded anchor result own le other has above = let e : anchor ≡ oth
 -- what a raise answers
 pub raised : (s : State) (old new : Store) (folded : Folded) (result : Result Unit (Refused Folded CommitFault))
     → OnOk result (Raises old folded.page folded.version folded.image new) → OnOk result (Commits (with_store s old) folded (with_store s new))
-raised s old new folded (Ok u) raises = commits_of s old new folded raises
-raised s old new folded (Err e) raises = tt
+raised s old new folded result raises = search rules
 
 pub raise_keeps : (s : State) (old new : Store) (folded : Folded) (anchor : ℕ) (result : Result Unit (Refused Folded CommitFault))
     → HasAnchor s anchor → folded.version ≤ anchor
@@ -71,16 +58,13 @@ raise_keeps s old new folded anchor (Err e) own le raises = tt
 pub raise_refused : (s : State) (old : Store) (folded : Folded) (result : Result Unit (Refused Folded CommitFault))
     → IfErr result (λ e. (e.value ≡ folded) × (e.fault ≡ Memory) × (version_of old folded.page < folded.version))
     → IfErr result (λ e. RefusesCommit (with_store s old) folded e.fault)
-raise_refused s old folded (Ok u) refused = tt
-raise_refused s old folded (Err e) refused = subst (RefusesCommit (with_store s old) folded) (sym refused.1) refused.2
+raise_refused s old folded result refused = search rules
 
 pub raise_unchanged : (s : State) (old new : Store) (result : Result Unit (Refused Folded CommitFault)) → OnErr result (new ≡ old)
     → OnErr result (with_store s new ≡ with_store s old)
-raise_unchanged s old new (Ok u) same = tt
-raise_unchanged s old new (Err e) same = ap (with_store s) same
+raise_unchanged s old new result same = search rules
 
 pub raise_back : (old : Store) (folded : Folded) (result : Result Unit (Refused Folded CommitFault))
     → IfErr result (λ e. (e.value ≡ folded) × (e.fault ≡ Memory) × (version_of old folded.page < folded.version))
     → IfErr result (λ e. e.value ≡ folded)
-raise_back old folded (Ok u) refused = tt
-raise_back old folded (Err e) refused = refused.0
+raise_back old folded result refused = search rules

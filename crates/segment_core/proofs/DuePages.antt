@@ -1,13 +1,13 @@
 -- Which pages are due as the parts of a segment change.
-use Rattle.std.proofs.Common.{◌≡◌, ℕ, ◌<◌, ◌≤◌, ◌⊎◌, inl, ⊎_elim, List, [], refl, sym, ap, subst, arith, ◌+◌, take, length, get_or, true, false, Option, Some, None, Result, Ok, Err, OnOk, OnErr, IfOk}
+use Rattle.std.proofs.Common.{◌≡◌, ℕ, ◌<◌, ◌≤◌, ◌⊎◌, inl, ⊎_elim, List, [], refl, sym, ap, subst, arith, ◌+◌, take, length, get_or, true, false, Option, Some, None, Result, Ok, Err, OnOk, OnErr, IfOk, rules}
 use Rattle.std.specs.List.{Contains, All}
 use Rattle.std.proofs.lemmas.Bool.{cases_lt}
 use Rattle.std.proofs.lemmas.List.{take_more}
-use Rattle.std.proofs.lemmas.List.Elements.{All-contains, All-push}
+use Rattle.std.proofs.lemmas.List.Elements.{All-push}
 use Rattle.redo_core.specs.Data.{RecordData, AdvanceData, CutData}
 use Rattle.redo_core.specs.Standing.{IsAlive}
 use Rattle.redo_core.specs.declared.refusal.Refused.{Refused}
-use Rattle.redo_laws.proofs.Deciding.{settled_eq, some_or_none}
+use Rattle.redo_laws.proofs.Deciding.{settled_eq}
 use Rattle.redo_laws.proofs.Storing.{stored_images}
 use Rattle.epoch_book.specs.Book.{BookData, IsBook}
 use Rattle.epoch_book.specs.Scanning.{IsLeastLo}
@@ -37,10 +37,7 @@ more_due b held store d e has more = record {
 -- ---- the held records change
 pub fewer_held : (b : BookData) (old new : List RecordData) (store : Store) (d : DueData) → ((r : RecordData) → Contains new r → Contains old r)
     → HasDue b old store d → HasDue b new store d
-fewer_held b old new store d within has = record {
-  listed = λ r h low. has.listed r (within r h.0, h.1) low;
-  top = has.top;
-}
+fewer_held b old new store d within has = search rules
 
 put_adds : (old new : List RecordData) (redo : RecordData) (answer : Result Put (Refused RecordData PutFault)) → IfOk answer (Puts old redo new)
     → OnErr answer (new ≡ old) → (r : RecordData) → Contains new r → Contains old r ⊎ (r ≡ redo)
@@ -102,18 +99,11 @@ IsTop (Some lo) top = top ≤ lo
 -- in a book of the same truncations the same records are alive
 pub same_view_due : (b c : BookData) (held : List RecordData) (store : Store) (d : DueData) → c.cuts ≡ b.cuts → c.complete ≡ b.complete
     → HasDue b held store d → HasDue c held store d
-same_view_due b c held store d cuts complete has = record {
-  listed = λ r h low. has.listed r (
-    h.0,
-    subst (λ k. IsAlive b.cuts k r.epoch r.number) complete (subst (λ cs. IsAlive cs c.complete r.epoch r.number) cuts h.1),
-  ) low;
-  top = has.top;
-}
+same_view_due b c held store d cuts complete has = search rules
 
 pub advance_due : (b c : BookData) (held : List RecordData) (store : Store) (d : DueData) (a : AdvanceData) (answer : Result Learnt BookRefusal)
     → OnOk answer (LearnsAdvance b a c) → OnErr answer (c ≡ b) → HasDue b held store d → HasDue c held store d
-advance_due b c held store d a (Ok l) learns same has = same_view_due b c held store d learns.cuts learns.complete has
-advance_due b c held store d a (Err e) learns same has = subst (λ (x : BookData). HasDue x held store d) (sym same) has
+advance_due b c held store d a answer learns same has = search rules
 
 -- in a later book those of the epochs above are alive besides
 pub later_due : (b c : BookData) (held : List RecordData) (store : Store) (d : DueData) → IsLaterBook b c
@@ -183,12 +173,7 @@ of_pages b store d point old new has some gone r = (
 pub nothing_due : (b : BookData) (store : Store) (d : DueData) (point : ℕ) (old new : List RecordData) → HasDue b old store d → d.top ≤ point
     → Removes (λ r. IsAlive b.cuts b.complete r.epoch r.number × (r.number ≤ point) × (r.number ≤ version_of store r.page)) old new
     → HasDue b new store (record { pages = []; all = false; top = d.top })
-nothing_due b store d point old new has low gone = record {
-  listed = λ r h le.
-      let v : version_of store r.page ≤ d.top = has.top r.page in
-      absurd (((gone r).0 h.0).1 (h.1, omega arith, le));
-  top = has.top;
-}
+nothing_due b store d point old new has low gone = search rules
 
 -- ---- the images at once
 pub all_of : (b : BookData) (held : List RecordData) (store : Store) (d : DueData) → d.all ≡ true → ((page : ℕ) → version_of store page ≤ d.top) → HasDue b held store d
@@ -197,15 +182,7 @@ all_of b held store d all top = record { listed = λ r h low. inl all; top = top
 -- a number that neither the floor is above nor the version of an image
 pub top_is : (store : Store) (top : ℕ) → IsStored store → store.floor ≤ top → All (λ (i : StoredImage). i.version ≤ top) store.images → (page : ℕ)
     → version_of store page ≤ top
-top_is store top stored low each page = ⊎_elim
-    (λ (s : (i : StoredImage) × Contains store.images i × (i.page ≡ page)).
-    let e : version_of store s.0.page ≡ s.0.version = ((stored_images store stored.rising).0 s.0 s.1).0 in
-    let v : s.0.version ≤ top = All-contains (λ (i : StoredImage). i.version ≤ top) store.images s.0 each s.1 in
-    subst (λ g. version_of store g ≤ top) s.2 (omega arith))
-    (λ (none : (i : StoredImage) → Contains store.images i → i.page ≡ page → ⊥).
-    let e : version_of store page ≡ store.floor = ((stored_images store stored.rising).1 page none).0 in
-    let t : version_of store page ≤ top = omega arith in t)
-    (some_or_none (λ (i : StoredImage). i.page ≡ page) (λ i. settled_eq i.page page) store.images)
+top_is store top stored low each page = search (rules, stored_images)
 
 pub under_more : (images : List StoredImage) (n : ℕ) (none : StoredImage) (low high : ℕ) → n < length images → low ≤ high
     → (get_or images n none).version ≤ high → All (λ (i : StoredImage). i.version ≤ low) (take n images)
@@ -226,6 +203,4 @@ unfolding version_of
 bare_version page = refl
 
 pub none_due : (b : BookData) (held : List RecordData) (store : Store) (d : DueData) → store ≡ store_of [] 0 → d ≡ all_due 0 → HasDue b held store d
-none_due b held store d bare each = all_of b held store d
-    (ap (λ (x : DueData). x.all) each)
-    (λ page. subst (λ (s : Store). version_of s page ≤ d.top) (sym bare) (let e : version_of (store_of [] 0) page ≡ 0 = bare_version page in omega arith))
+none_due b held store d bare each = search (rules, bare_version)

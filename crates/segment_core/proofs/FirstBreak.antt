@@ -1,5 +1,5 @@
 -- The first page whose block chain is broken at or below the anchor.
-use Rattle.std.proofs.Common.{◌≡◌, ℕ, ◌<◌, ◌≤◌, ◌⊎◌, ◌↔◌, ⊎_elim, Option, Some, None, Result, Err, refl, sym, ap, ◌∙◌, subst, arith}
+use Rattle.std.proofs.Common.{◌≡◌, ℕ, ◌<◌, ◌≤◌, ◌⊎◌, ◌↔◌, ⊎_elim, Option, Some, None, Result, Err, refl, sym, ap, ◌∙◌, subst, arith, rules}
 use Rattle.std.specs.List.{Contains}
 use Rattle.redo_core.specs.Data.{RecordData}
 use Rattle.hot_log.specs.Found.{IsPageAfter}
@@ -26,9 +26,7 @@ broken_page : (s : State) (page n : ℕ) → BreaksBelowAnchor s page n → (r :
 broken_page s page n b = let l = b.2.linked in (b.2.first, l.0, l.3)
 
 pub whole_none : (s : State) (next : Option ℕ) → IsPageAfter s.held None next → IsWholeTo s next
-whole_none s next after page n b passed =
-    let r = broken_page s page n b in
-    none_passed s.held next r.0 after r.1 (subst (IsPassed next) (sym r.2) passed)
+whole_none s next after page n b passed = search (rules, none_passed)
 
 at_anchor : (s : State) (page n anchor : ℕ) → HasAnchor s anchor → BreaksBelowAnchor s page n → BreaksAt s page anchor n
 at_anchor s page n anchor own b = subst (λ a. BreaksAt s page a n) (one_anchor s b.0 anchor b.1 own) b.2
@@ -100,8 +98,4 @@ tells_whole s result whole not g n = (λ e. absurd (not g n e), λ h. absurd (wh
 
 -- a state that means facts of a sound log has none
 pub sound_whole : (s : State) → IsSoundState s → IsWhole s
-sound_whole s sound page n b =
-    let m = sound.4.1 in
-    let p = sound.4.0 in
-    let anchor = anchor_as sound.1 sound.2 p s (log_of_sound sound.0 sound.1 sound.3) m b.0 b.1 in
-    no_break sound.1 sound.2 p s page b.0 n sound.3 m (anchor_complete sound.2 sound.1 p s b.0 m anchor) b.2
+sound_whole s sound page n b = search (rules, anchor_as, log_of_sound, no_break, anchor_complete)

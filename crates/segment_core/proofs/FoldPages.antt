@@ -1,15 +1,13 @@
 -- Folding the pages of all held records, one after the other.
-use Rattle.std.proofs.Common.{◌≡◌, ◌≢◌, ℕ, ◌<◌, ◌≤◌, ◌⊎◌, inl, inr, ⊎_elim, List, [], ◌∷◌, Option, Some, None, refl, sym, ap, ◌∙◌, subst, arith, max}
+use Rattle.std.proofs.Common.{◌≡◌, ◌≢◌, ℕ, ◌<◌, ◌≤◌, ◌⊎◌, inr, ⊎_elim, List, Option, Some, None, sym, ap, ◌∙◌, subst, arith, max, rules}
 use Rattle.std.specs.List.{Contains}
 use Rattle.redo_core.specs.Data.{RecordData}
-use Rattle.redo_core.specs.Order.{Lists, BeforeByNumber}
-use Rattle.redo_core.proofs.Members.{here}
 use Rattle.hot_log.specs.Found.{IsPageAfter}
 use Rattle.page_base.specs.Stored.{stored}
 use Rattle.page_base.specs.Raising.{SamePage, Raises}
-use Rattle.page_base.proofs.Merged.{one_page, raised_list, raised_floor}
+use Rattle.page_base.proofs.Merged.{raised_list, raised_floor}
 use Rattle.state_laws.specs.State.{State, Store, StoredImage, version_of, image_of}
-use Rattle.state_laws.specs.Shows.{IsApplied, Shows}
+use Rattle.state_laws.specs.Shows.{Shows}
 use Rattle.state_laws.specs.HasMeaning.{HasAnchor}
 use Rattle.state_laws.specs.Promises.{KeepsMeaning, IsFinalPage}
 use Rattle.state_laws.proofs.Shed.{anchor_page_is_final}
@@ -25,8 +23,7 @@ IsHeldPage held None = Unit {0}
 IsHeldPage held (Some page) = (r : RecordData) × Contains held r × (r.page ≡ page)
 
 pub next_held : (held : List RecordData) (after next : Option ℕ) → IsPageAfter held after next → IsHeldPage held next
-next_held held after None is = tt
-next_held held after (Some page) is = (is.0.0, is.0.1, is.0.2)
+next_held held after next is = search rules
 
 -- the pages of held records that are passed are folded to the anchor
 pub record FoldsTo (s : State) (anchor : ℕ) (next : Option ℕ) (store : Store) : Type 0 where
@@ -39,51 +36,22 @@ pub record FoldsTo (s : State) (anchor : ℕ) (next : Option ℕ) (store : Store
   pub floor : store.floor ≡ s.store.floor
 
 pub folds_none : (s : State) (anchor : ℕ) (next : Option ℕ) → IsPageAfter s.held None next → FoldsTo s anchor next s.store
-folds_none s anchor next after = record {
-  at = next_held s.held None next after;
-  keeps = λ roster log F sound a. a;
-  versions = λ r h passed. absurd (none_passed s.held next r after h passed);
-  shown = λ r h passed. absurd (none_passed s.held next r after h passed);
-  others = λ page none. (refl, refl);
-  listed = λ i h. inl h;
-  floor = refl;
-}
+folds_none s anchor next after = search (rules, none_passed)
 
 -- a page of a version that is not below the anchor shows its image there
 shows_own : (s : State) (page anchor : ℕ) (image : List ℕ) → anchor ≤ version_of s.store page → Shows s page anchor image
     → Shows s page anchor (image_of s.store page)
-shows_own s page anchor image le shows = own shows.written shows.lists
-  where
-    own : (written : List RecordData) → Lists BeforeByNumber (IsApplied s page anchor) written → Shows s page anchor (image_of s.store page)
-    own [] lists = record { written = []; lists = lists; result = refl }
-    own (x ∷ xs) lists =
-        let h = (lists.members x).0 (here x xs) in
-        let above : version_of s.store page < x.number = h.3 in
-        let low : x.number ≤ anchor = h.4 in
-        absurd (omega arith)
+shows_own s page anchor image le shows = search rules
 
 -- what a raise to the anchor makes of the page itself, whose image was the state's own
 raised_page : (s : State) (page anchor : ℕ) (image : List ℕ) (old new : Store) → SamePage s.store old page → Raises old page anchor image new
     → Shows s page anchor image
     → (version_of new page ≡ max (version_of s.store page) anchor) × Shows s page anchor (image_of new page)
-raised_page s page anchor image old new same raises shows =
-    let own : version_of old page ≡ version_of s.store page = same.0 in
-    ⊎_elim
-    (λ (low : anchor ≤ version_of old page).
-    let e = raises.lower low in
-    let version : version_of new page ≡ version_of old page = ap (λ st. version_of st page) e in
-    let kept : image_of new page ≡ image_of s.store page = ap (λ st. image_of st page) e ∙ same.1 in
-    (omega arith, subst (Shows s page anchor) (sym kept) (shows_own s page anchor image (omega arith) shows)))
-    (λ (high : version_of old page < anchor).
-    let sets = raises.higher high in
-    let version : version_of new page ≡ anchor = sets.version_is in
-    (omega arith, subst (Shows s page anchor) (sym sets.image_is) shows))
-    (let t : (anchor ≤ version_of old page) ⊎ (version_of old page < anchor) = grind arith in t)
+raised_page s page anchor image old new same raises shows = search rules
 
 -- another page stays
 raised_other : (old new : Store) (page anchor g : ℕ) (image : List ℕ) → Raises old page anchor image new → g ≢ page → SamePage old new g
-raised_other old new page anchor g image raises differs =
-    ⊎_elim (λ (same : SamePage old new g). same) (λ t. absurd (differs t.0)) (one_page old new (stored page anchor image) g raises)
+raised_other old new page anchor g image raises differs = search rules
 
 -- ---- one page more
 -- the page is folded to the anchor, and raised in the store
@@ -145,8 +113,7 @@ folds_more s anchor page next old image new one =
 -- a raise of a folded page is one to the anchor
 pub raises_folded : (old new : Store) (folded : Folded) (page anchor : ℕ) → folded.page ≡ page → folded.version ≡ anchor
     → Raises old folded.page folded.version folded.image new → Raises old page anchor folded.image new
-raises_folded old new folded page anchor e f raises = subst (λ v. Raises old page v folded.image new) f
-    (subst (λ g. Raises old g folded.version folded.image new) e raises)
+raises_folded old new folded page anchor e f raises = search rules
 
 pub folds_all : (s : State) (anchor : ℕ) (store : Store) → HasAnchor s anchor → FoldsTo s anchor None store
     → FoldsAll s store

@@ -1,5 +1,5 @@
 -- The kept points where the book learns, and where records are removed.
-use Rattle.std.proofs.Common.{◌≡◌, ℕ, ◌<◌, ◌≤◌, ◌⊎◌, inl, inr, ⊎_elim, List, length, refl, sym, subst, arith, Result, Ok, Err, OnOk, OnErr, None}
+use Rattle.std.proofs.Common.{◌≡◌, ℕ, ◌<◌, ◌≤◌, ◌⊎◌, inl, inr, ⊎_elim, List, length, refl, sym, subst, arith, Result, Ok, Err, OnOk, OnErr, None, rules}
 use Rattle.std.specs.List.{Contains}
 use Rattle.std.proofs.lemmas.Bool.{cases_lt}
 use Rattle.std.proofs.lemmas.List.Elements.{All-contains}
@@ -8,7 +8,6 @@ use Rattle.redo_core.specs.Shape.{cut_fault}
 use Rattle.redo_core.specs.Standing.{IsAlive}
 use Rattle.redo_core.specs.Order.{CutBefore}
 use Rattle.redo_core.specs.CompleteEpoch.{HasCutsTo}
-use Rattle.redo_core.specs.Points.{HasAdvance}
 use Rattle.redo_core.specs.Roster.{IsReader, point_of, least}
 use Rattle.redo_core.proofs.Points.{least_mono}
 use Rattle.redo_core.proofs.Rising.{rising_members}
@@ -22,7 +21,7 @@ use Rattle.hot_log.specs.Alive.{IsHeldAlive}
 use Rattle.hot_log.specs.Removing.{Removes}
 use Rattle.segment_core.specs.Points.{HasPoints, HasLowAnchor, IsLaterBook, WerePoints}
 use Rattle.segment_core.specs.declared.points.Points.{Points}
-use Rattle.segment_core.proofs.Moving.{Agree, low_over, points_over}
+use Rattle.segment_core.proofs.Moving.{Agree, points_over}
 use Rattle.segment_core.proofs.Taking.{cut_bound, advance_bound}
 
 -- ---- removals
@@ -36,23 +35,11 @@ removal_keeps_points b held left P base p gone not = points_over b b held left b
 
 -- ---- an advance
 advance_agrees : (b c : BookData) (held : List RecordData) (base : ℕ) → c.cuts ≡ b.cuts → c.complete ≡ b.complete → Agree b c held held base
-advance_agrees b c held base cuts complete = record {
-  onto = λ r h lt. (
-    h.0,
-    subst (λ cs. IsAlive cs c.complete r.epoch r.number) (sym cuts) (subst (λ k. IsAlive b.cuts k r.epoch r.number) (sym complete) h.1),
-  );
-  back = λ r h lt. (
-    h.0,
-    subst (λ k. IsAlive b.cuts k r.epoch r.number) complete (subst (λ cs. IsAlive cs c.complete r.epoch r.number) cuts h.1),
-  );
-}
+advance_agrees b c held base cuts complete = search rules
 
 pub advance_lags : (b c : BookData) (held : List RecordData) (base : ℕ) (p : Points) (a : AdvanceData) (answer : Result Learnt BookRefusal)
     → OnOk answer (LearnsAdvance b a c) → OnErr answer (c ≡ b) → HasPoints b held base p → HasLowAnchor c held base p
-advance_lags b c held base p a (Ok l) learns same has = low_over b c held held base p (advance_agrees b c held base learns.cuts learns.complete)
-    (advance_bound b c p.anchor a (Ok l) learns tt has.anchor.bound) has
-advance_lags b c held base p a (Err e) learns same has = subst (λ x. HasLowAnchor x held base p) (sym same)
-    (low_over b b held held base p (advance_agrees b b held base refl refl) has.anchor.bound has)
+advance_lags b c held base p a answer learns same has = search (rules, advance_bound)
 
 -- ---- a truncation that leaves the complete epoch as it was
 -- truncations of later epochs decide nothing
@@ -106,16 +93,7 @@ cut_agrees b c held base d is next learns complete = record {
 -- no waiting advance comes to count
 none_counts : (b c : BookData) (d : CutData) → IsBook b → LearnsCut b d c → c.complete ≡ b.complete → (reader : ℕ) → IsReader (length b.points) reader
     → point_of c.points reader ≤ point_of b.points reader
-none_counts b c d is learns complete reader of =
-    ⊎_elim
-    (λ (z : point_of c.points reader ≡ 0). omega arith)
-    (λ (h : (point_of c.points reader ≡ point_of b.points reader) ⊎ HasAdvance b.waits c.complete reader (point_of c.points reader)). ⊎_elim
-    (λ (e : point_of c.points reader ≡ point_of b.points reader). omega arith)
-    (λ (w : HasAdvance b.waits c.complete reader (point_of c.points reader)).
-    let later : b.complete < w.0.epoch = All-contains (λ a. b.complete < a.epoch) b.waits w.0 is.waits_later w.1 in
-    let known : w.0.epoch ≤ c.complete = w.2 in absurd (omega arith))
-    h)
-    ((learns.points.each reader of).0)
+none_counts b c d is learns complete reader of = search rules
 
 cut_minimum : (b c : BookData) (d : CutData) → IsBook b → LearnsCut b d c → c.complete ≡ b.complete → least c.points ≡ least b.points
 cut_minimum b c d is learns complete =
@@ -152,5 +130,4 @@ cut_is_later b c d (Err e) is next learns same = subst (IsLaterBook b) (sym same
 
 pub cut_had_points : (b c : BookData) (held : List RecordData) (base epoch : ℕ) (p : Points) (d : CutData) (answer : Result Learnt BookRefusal)
     → IsBook b → IsBook c → OnOk answer (LearnsCut b d c) → OnErr answer (c ≡ b) → epoch ≡ b.complete → HasPoints b held base p → WerePoints c held base epoch p
-cut_had_points b c held base epoch p d answer is next learns same at has =
-    record { earlier = b; later = cut_is_later b c d answer is next learns same; at = sym at; had = has }
+cut_had_points b c held base epoch p d answer is next learns same at has = search (rules, cut_is_later)

@@ -1,5 +1,5 @@
 -- What a discard forgets.
-use Rattle.std.proofs.Common.{◌≡◌, ℕ, ◌≤◌, ◌↔◌, inl, inr, ⊎_elim, List, refl, sym, subst, arith}
+use Rattle.std.proofs.Common.{◌≡◌, ℕ, ◌≤◌, ◌↔◌, inl, inr, ⊎_elim, List, sym, subst, rules}
 use Rattle.redo_core.specs.Data.{RecordData}
 use Rattle.redo_core.specs.Standing.{IsAlive}
 use Rattle.redo_laws.proofs.Deciding.{Settled, settled_le, settled_and, settled_by}
@@ -17,10 +17,7 @@ use Rattle.segment_core.specs.Forgetting.{IsFoldedBelow, DiscardsJust}
 pub folded_of : (b : BookData) (store : Store) (point page version : ℕ) → version ≡ version_of store page → (r : RecordData)
     → IsFolded b page version point r ↔ ((IsAlive b.cuts b.complete r.epoch r.number × (r.number ≤ point) × (r.number ≤ version_of store r.page))
     × (r.page ≡ page))
-folded_of b store point page version same r = (
-  λ h. ((h.0, h.3, subst (λ g. r.number ≤ version_of store g) (sym h.1) (let x : r.number ≤ version = h.2 in omega arith)), h.1),
-  λ h. (h.0.0, h.1, (let x : r.number ≤ version_of store page = subst (λ g. r.number ≤ version_of store g) h.1 h.0.2 in omega arith), h.0.1),
-)
+folded_of b store point page version same r = search rules
 
 settled_folded : (s : State) (base : ℕ) (r : RecordData) → Settled (IsFoldedBelow s base r)
 settled_folded s base r =
@@ -51,17 +48,11 @@ discards_of old new just = record {
 }
 
 pub discards_keep : (old new : State) → DiscardsJust old new → KeepsMeaning old new
-discards_keep old new just roster log F sound a =
-    discard_keeps old new (discards_of old new just) roster log F sound a
+discards_keep old new just roster log F sound a = search (rules, discard_keeps, discards_of)
 
 -- what a removal of the folded records at the anchor leaves
 pub discards_just : (b : BookData) (hot left : List RecordData) (base anchor : ℕ) (store : Store)
     → HasAnchor (state_of b hot base store) anchor
     → Removes (λ r. IsAlive b.cuts b.complete r.epoch r.number × (r.number ≤ anchor) × (r.number ≤ version_of store r.page)) hot left
     → DiscardsJust (state_of b hot base store) (state_of b left anchor store)
-discards_just b hot left base anchor store own gone = record {
-  book = refl;
-  base = own;
-  held = gone;
-  store = refl;
-}
+discards_just b hot left base anchor store own gone = search rules

@@ -1,5 +1,5 @@
 -- What a state holds after a record was put there.
-use Rattle.std.proofs.Common.{◌≡◌, inl, inr, refl, sym, ap, ◌∙◌}
+use Rattle.std.proofs.Common.{◌≡◌, inl, inr, refl, rules}
 use Rattle.redo_core.specs.Data.{RecordData}
 use Rattle.hot_log.specs.Putting.{Puts}
 use Rattle.hot_log.specs.declared.log.Put.TheVariants.{New}
@@ -8,9 +8,7 @@ use Rattle.segment_core.specs.Uniting.{HoldsRecord}
 
 -- a state of which only the records are others
 pub but_held : (s t : State) → t.book ≡ s.book → SameBase s t → state_of s.book t.held s.base s.store ≡ t
-but_held s t book rest =
-    ap (λ b. state_of b t.held s.base s.store) (sym book) ∙ ap (λ n. state_of t.book t.held n s.store) (sym rest.base)
-    ∙ ap (λ st. state_of t.book t.held t.base st) (sym rest.store)
+but_held s t book rest = search rules
 
 pub put_holds : (s t : State) (r : RecordData) → t.book ≡ s.book → SameBase s t → Puts s.held r t.held New → HoldsRecord s r t
 put_holds s t r book rest puts = record {

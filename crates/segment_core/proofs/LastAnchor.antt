@@ -1,5 +1,5 @@
 -- The anchor of a straight chain, found by one search, and the top of one above which no record was alive.
-use Rattle.std.proofs.Common.{◌≡◌, ℕ, ◌<◌, ◌≤◌, inr, ⊎_elim, min, max, List, refl, sym, ◌∙◌, ap, subst, arith, IsTrue, Some, None, true}
+use Rattle.std.proofs.Common.{◌≡◌, ℕ, ◌<◌, ◌≤◌, inr, ⊎_elim, min, max, List, refl, sym, ◌∙◌, ap, subst, arith, IsTrue, Some, None, true, rules}
 use Rattle.std.specs.List.{Contains}
 use Rattle.std.proofs.lemmas.Bool.{cases_lt}
 use Rattle.redo_core.specs.Data.{RecordData}
@@ -37,8 +37,7 @@ top_up_to b held base to n p low is bound linked none = record {
 
 pub none_found : (b : BookData) (held : List RecordData) (base to : ℕ) (p : Points) → HasLowAnchor b held base p → to ≡ min (least b.points) p.complete
     → IsGreatestRecord (UpTo b held to) None → IsTopTo b held base (least b.points) p.anchor
-none_found b held base to p low is none =
-    top_up_to b held base to p.anchor p low is low.bound low.anchor (λ r h le. absurd (none r (h, le)))
+none_found b held base to p low is none = search (rules, top_up_to)
 
 pub last_found : (b : BookData) (held : List RecordData) (base to n : ℕ) (p : Points) (x : RecordData) → HasLowAnchor b held base p → IsTrue p.straight
     → to ≡ min (least b.points) p.complete → IsGreatestRecord (UpTo b held to) (Some x) → n ≡ max x.number p.anchor → IsTopTo b held base (least b.points) n

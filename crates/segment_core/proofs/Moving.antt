@@ -1,5 +1,5 @@
 -- How the kept points move with what is held and known.
-use Rattle.std.proofs.Common.{◌≡◌, ℕ, ◌<◌, ◌≤◌, ◌⊎◌, ◌↔◌, inl, inr, ⊎_elim, List, refl, sym, subst, arith, IsTrue}
+use Rattle.std.proofs.Common.{◌≡◌, ℕ, ◌<◌, ◌≤◌, ◌⊎◌, ◌↔◌, inl, inr, ⊎_elim, List, refl, sym, subst, arith, IsTrue, rules}
 use Rattle.std.specs.List.{Contains}
 use Rattle.std.proofs.lemmas.Bool.{cases_lt}
 use Rattle.redo_core.specs.Data.{RecordData}
@@ -38,17 +38,7 @@ of_top b held from n t = record { linked = t.linked; most = t.most }
 -- ---- over a straight chain the base point can rise to the anchor
 pub to_anchor : (b : BookData) (held : List RecordData) (base : ℕ) (p : Points) → HasPoints b held base p → IsTrue p.straight
     → HasPoints b held p.anchor p
-to_anchor b held base p has t =
-    let is = has.straight t in
-    let top = as_top b held base p.complete has.complete in record {
-      complete = of_top b held p.anchor p.complete (top_from_base b held base p.complete p.anchor top is has.anchor.linked);
-      anchor = record {
-        linked = start;
-        bound = has.anchor.bound;
-        most = λ m l le. has.anchor.most m (link_trans b.cuts held b.complete base p.anchor m has.anchor.linked l) le;
-      };
-      straight = λ u. straight_from_base b held base p.complete p.anchor top is has.anchor.linked;
-    }
+to_anchor b held base p has t = search (rules, as_top, top_from_base, link_trans, straight_from_base)
 
 -- ---- two views of held records that agree on what is alive above a base point
 pub record Agree (b c : BookData) (old new : List RecordData) (base : ℕ) : Type 0 where

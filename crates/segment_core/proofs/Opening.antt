@@ -1,5 +1,5 @@
 -- The kept points where epochs open.
-use Rattle.std.proofs.Common.{◌≡◌, ℕ, ◌<◌, ◌≤◌, ◌⊎◌, ⊎_elim, List, sym, subst, arith, IsTrue, true, min}
+use Rattle.std.proofs.Common.{◌≡◌, ℕ, ◌<◌, ◌≤◌, ◌⊎◌, ⊎_elim, List, sym, subst, arith, IsTrue, true, min, rules}
 use Rattle.std.specs.List.{Contains}
 use Rattle.std.proofs.lemmas.Bool.{cases_lt}
 use Rattle.redo_core.specs.Data.{RecordData}
@@ -191,30 +191,14 @@ opened b c held base n from p q o is moved =
 -- ---- from what the calls say
 pub opening : (c : BookData) (held : List RecordData) (base epoch n : ℕ) (p : Points) → IsHeld held → IsBook c → (were : WerePoints c held base epoch p)
     → IsTrue p.straight → IsUntouched c held base epoch p.complete n → Opening were.earlier c held base n p
-opening c held base epoch n p form book were straight untouched = record {
-  form = form;
-  book = book;
-  later = were.later;
-  has = were.had;
-  straight = were.had.straight straight;
-  untouched = subst (λ e. IsUntouched c held base e p.complete n) (sym were.at) untouched;
-}
+opening c held base epoch n p form book were straight untouched = search rules
 
 pub base_bound : (c : BookData) (held : List RecordData) (base epoch : ℕ) (p : Points) → WerePoints c held base epoch p → base ≤ least c.points
-base_bound c held base epoch p were =
-    let b = were.earlier in
-    let up : base ≤ p.anchor = link_at_least b.cuts held b.complete base p.anchor were.had.anchor.linked in
-    let low : p.anchor ≤ least b.points = were.had.anchor.bound in
-    let grown : least b.points ≤ least c.points = were.later.minimum in
-    omega arith
+base_bound c held base epoch p were = search rules
 
 pub start_bound : (c : BookData) (held : List RecordData) (base epoch from n : ℕ) (p : Points) → WerePoints c held base epoch p → from ≡ min p.anchor n
     → from ≤ least c.points
-start_bound c held base epoch from n p were is =
-    let low : p.anchor ≤ least were.earlier.points = were.had.anchor.bound in
-    let grown : least were.earlier.points ≤ least c.points = were.later.minimum in
-    let small : from ≤ p.anchor = grind arith in
-    omega arith
+start_bound c held base epoch from n p were is = omega arith
 
 pub start_small : (c : BookData) (held : List RecordData) (base epoch complete n : ℕ) → IsHeld held → IsUntouched c held base epoch complete n → n ≤ max_number
 start_small c held base epoch complete n form untouched =

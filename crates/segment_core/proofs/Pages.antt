@@ -1,5 +1,5 @@
 -- Going over the pages of held records, from the least on.
-use Rattle.std.proofs.Common.{◌≡◌, ℕ, ◌-◌, ◌<◌, ◌≤◌, ◌⊎◌, ◌↔◌, ⊎_elim, List, Option, Some, None, arith}
+use Rattle.std.proofs.Common.{◌≡◌, ℕ, ◌-◌, ◌<◌, ◌≤◌, ◌⊎◌, ◌↔◌, ⊎_elim, List, Option, Some, None, arith, rules}
 use Rattle.std.specs.List.{Contains}
 use Rattle.redo_core.specs.Data.{RecordData}
 use Rattle.hot_log.specs.Removing.{Removes}
@@ -23,15 +23,10 @@ none_passed held (Some next) r after h passed = let low : next ≤ r.page = afte
 -- then those up to the last one are
 pub passed_to : (held : List RecordData) (page : ℕ) (next : Option ℕ) (r : RecordData) → IsPageAfter held (Some page) next → Contains held r
     → IsPassed next r.page → r.page ≤ page
-passed_to held page None r after h passed = ⊎_elim (λ (low : r.page ≤ page). low) (λ (high : page < r.page). absurd (after r h high))
-    (let t : (r.page ≤ page) ⊎ (page < r.page) = grind arith in t)
-passed_to held page (Some next) r after h passed = ⊎_elim (λ (low : r.page ≤ page). low)
-    (λ (high : page < r.page). let least : next ≤ r.page = after.1 r h high in absurd (omega arith))
-    (let t : (r.page ≤ page) ⊎ (page < r.page) = grind arith in t)
+passed_to held page next r after h passed = search rules
 
 pub is_passed : (held : List RecordData) (page : ℕ) (next : Option ℕ) (g : ℕ) → IsPageAfter held (Some page) next → g ≤ page → IsPassed next g
-is_passed held page None g after le = tt
-is_passed held page (Some next) g after le = let above : page < next = after.0.3 in omega arith
+is_passed held page next g after le = search rules
 
 -- just the passed records with P are gone
 abbrev pub RemovesPassed : (RecordData → Type 0) → Option ℕ → List RecordData → List RecordData → Type 0

@@ -1,5 +1,5 @@
 -- What a plan to fold a page answers.
-use Rattle.std.proofs.Common.{◌≡◌, ℕ, ◌≤◌, ◌↔◌, List, Option, Some, None, sym, ◌∙◌, subst, arith}
+use Rattle.std.proofs.Common.{◌≡◌, ℕ, ◌≤◌, ◌↔◌, List, Option, Some, None, ◌∙◌, subst, arith, rules}
 use Rattle.redo_core.specs.Position.{Position}
 use Rattle.redo_core.specs.Sound.{IsSound}
 use Rattle.redo_core.specs.declared.facts.Fact.{Fact}
@@ -44,8 +44,4 @@ none_broken s page anchor result own breaks none n broken =
 
 pub folds_page : (s : State) (page anchor : ℕ) (folded : Folded) → HasAnchor s anchor → folded.page ≡ page → folded.version ≡ anchor
     → Shows s page anchor folded.image → FoldsPage s page folded
-folds_page s page anchor folded own page_is version_is shows = record {
-  page_is = page_is;
-  version_is = subst (HasAnchor s) (sym version_is) own;
-  image_is = subst (λ q. Shows s page q folded.image) (sym version_is) shows;
-}
+folds_page s page anchor folded own page_is version_is shows = search rules

@@ -1,5 +1,5 @@
 -- What a read answers, from the front and the shown page.
-use Rattle.std.proofs.Common.{◌≡◌, ℕ, ◌<◌, ◌≤◌, List, Result, Ok, Err, IfOk, IsOkAnd, arith}
+use Rattle.std.proofs.Common.{◌≡◌, ℕ, ◌<◌, ◌≤◌, List, Result, IfOk, IsOkAnd, arith, rules}
 use Rattle.redo_core.specs.Data.{RecordData}
 use Rattle.redo_core.specs.Writing.{after_records}
 use Rattle.redo_core.specs.Sound.{IsSound}
@@ -23,14 +23,12 @@ use Rattle.segment_core.specs.declared.answers.Front.{Front}
 pub shown : {A E : Type 0} (seen : A → List RecordData) (s : State) (page q : ℕ) (image : List ℕ) (records : Result A E) → IsBook s.book → IsHeld s.held
     → IfOk records (λ v. ListsAnew (IsApplied s page q) (seen v))
     → IsOkAnd records (λ v. image ≡ after_records (image_of s.store page) (seen v)) → Shows s page q image
-shown seen s page q image (Ok v) book held lists is = anew_shows s page q image (seen v) book held lists is
-shown seen s page q image (Err e) book held lists is = absurd is
+shown seen s page q image records book held lists is = search (rules, anew_shows)
 
 pub shown_where : {A E F : Type 0} (seen : A → List RecordData) (s : State) (page q : ℕ) (result : Result (List ℕ) F) (records : Result A E)
     → IsBook s.book → IsHeld s.held → IfOk records (λ v. ListsAnew (IsApplied s page q) (seen v))
     → IfOk result (λ image. IsOkAnd records (λ v. image ≡ after_records (image_of s.store page) (seen v))) → IfOk result (Shows s page q)
-shown_where seen s page q (Ok image) records book held lists is = shown seen s page q image records book held lists is
-shown_where seen s page q (Err e) records book held lists is = tt
+shown_where seen s page q result records book held lists is = search (rules, shown)
 
 -- below the minimum read point
 pub below : (p : Position) (front : Front) (q : ℕ) → IsFrontAt p front → q < front.min → (front.min ≡ p.min) × (q < p.min)

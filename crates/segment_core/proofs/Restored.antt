@@ -1,10 +1,9 @@
 -- A segment that is put together from its parts is made of them.
-use Rattle.std.proofs.Common.{◌≡◌, ℕ, ◌≤◌, ◌⊎◌, ◌↔◌, inl, inr, ⊎_elim, List, [], ◌∷◌, sym, ap, ◌∙◌, subst, arith, max}
+use Rattle.std.proofs.Common.{◌≡◌, ℕ, ◌⊎◌, ◌↔◌, inl, inr, ⊎_elim, List, [], ◌∷◌, sym, ◌∙◌, subst, arith, max, rules}
 use Rattle.std.specs.List.{Contains}
 use Rattle.redo_core.specs.Book.{BookData}
 use Rattle.redo_core.specs.Data.{RecordData}
 use Rattle.redo_core.proofs.Members.{none_in, here, there, which}
-use Rattle.redo_laws.proofs.Deciding.{settled_le}
 use Rattle.hot_log.specs.Putting.{Puts}
 use Rattle.hot_log.specs.declared.log.Put.{Put}
 use Rattle.hot_log.specs.declared.log.Put.TheVariants.{New, Known}
@@ -46,11 +45,7 @@ gained_all (r ∷ rs) old new gains x =
 given_images : (book : BookData) (held : List RecordData) (base : ℕ) (given : List (ℕ × List ℕ)) (s : State) → (base ≡ 0 → given ≡ [])
     → AdoptsBase (state_of book held 0 no_images) base given s → (page : ℕ) → image_of s.store page ≡ first_given given page
 unfolding version_of image_of
-given_images book held base given s none adopts page =
-    ⊎_elim
-    (λ (low : base ≤ 0). adopts.store.kept page low ∙ ap (λ g. first_given g page) (sym (none (omega arith))))
-    (λ (high : base ≤ 0 → ⊥). adopts.store.taken page (omega (arith, high)))
-    (settled_le base 0)
+given_images book held base given s none adopts page = search rules
 
 pub made_of : (book : BookData) (held records : List RecordData) (base : ℕ) (given : List (ℕ × List ℕ)) (s : State) → (base ≡ 0 → given ≡ [])
     → GainsEach [] records held → AdoptsBase (state_of book held 0 no_images) base given s → IsMadeOf book records base given s

@@ -1,11 +1,10 @@
 -- What a savepoint brings a state back to after a step.
-use Rattle.std.proofs.Common.{◌≡◌, ◌⊎◌, ◌↔◌, inl, inr, ⊎_elim, List, [], ◌∷◌, ◌++◌, refl, sym, ap, ◌∙◌, subst, Bool, true, not, arith}
+use Rattle.std.proofs.Common.{◌≡◌, ◌⊎◌, ◌↔◌, inl, inr, ⊎_elim, List, [], ◌∷◌, ◌++◌, refl, sym, ap, subst, Bool, true, not, rules}
 use Rattle.std.specs.Borrow.{GName}
 use Rattle.std.specs.List.{Contains, filter}
-use Rattle.std.proofs.lemmas.Bool.Decides.{nat_tests}
 use Rattle.std.proofs.lemmas.List.Elements.{Contains-append_left, Contains-append_right, Contains-append_cases}
 use Rattle.redo_core.specs.Data.{RecordData}
-use Rattle.redo_core.specs.Keys.{key_of, key_in}
+use Rattle.redo_core.specs.Keys.{key_of}
 use Rattle.redo_core.specs.declared.keys.Key.{Key}
 use Rattle.redo_core.specs.Order.{IsRising, RecordBefore}
 use Rattle.redo_core.specs.declared.facts.Fact.TheVariants.{Record}
@@ -21,15 +20,10 @@ use Rattle.segment_core.proofs.Keys.{one_of_key}
 
 -- ---- the records that have none of some keys
 spared_by : (key : Key) (r : RecordData) → not (has_key key r) ≡ true → key ≡ key_of r → ⊥
-spared_by key r spared same =
-    let epoch : key.epoch ≡ r.epoch = ap (λ (k : Key). k.epoch) same in let number : key.number ≡ r.number = ap (λ (k : Key). k.number) same in
-    grind (arith, nat_tests)
+spared_by key r spared same = search rules
 
 is_spared : (key : Key) (r : RecordData) → (key ≡ key_of r → ⊥) → not (has_key key r) ≡ true
-is_spared key r other =
-    let apart : key.epoch ≡ r.epoch → key.number ≡ r.number → ⊥
-    = λ e n. other (ap (λ m. key_in m key.number) e ∙ ap (λ m. key_in r.epoch m) n) in
-    grind (arith, nat_tests)
+is_spared key r other = search rules
 
 without_rising : (keys : List Key) (held : List RecordData) → IsRising RecordBefore held → IsRising RecordBefore (without keys held)
 unfolding without
@@ -109,11 +103,7 @@ began_here saved s book came = rw (book, came) refl
 pub more_began : (lent : GName) (saved noted : SavepointData) (s t : State) (x : RecordData) → NotesKey saved (key_of x) noted → SameBase s t
     → IsHeld s.held → IsHeld t.held → ((r : RecordData) → Contains s.held r → HasKey (key_of x) r → ⊥)
     → ((r : RecordData) → Contains t.held r ↔ (Contains s.held r ⊎ (r ≡ x))) → began_by lent noted t ≡ began_by lent saved s
-more_began lent saved noted s t x notes rest held more free puts =
-    subst (λ n. began_by lent n t ≡ began_by lent saved s) (sym notes)
-    (let records : without (saved.came ++ key_of x ∷ []) t.held ≡ without saved.came s.held
-    = came_without saved.came s.held t.held x held.rising more.rising free puts in
-    let base : t.base ≡ s.base = rest.base in let store : t.store ≡ s.store = rest.store in cc)
+more_began lent saved noted s t x notes rest held more free puts = search (rules, came_without)
 
 pub record_began : (lent : GName) (saved noted : SavepointData) (s t : State) (r : RecordData) → IsHeld s.held → IsHeld t.held
     → NotesKey saved (key_of r) noted → (IsKnown s (Record r) → ⊥) → Stores s (Record r) t → began_by lent noted t ≡ began_by lent saved s

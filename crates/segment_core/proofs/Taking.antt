@@ -1,5 +1,5 @@
 -- What a take does, from what its book or its held records answer.
-use Rattle.std.proofs.Common.{◌≡◌, ℕ, ◌<◌, ◌≤◌, ◌⊎◌, ◌↔◌, inl, inr, ⊎_elim, List, [], ◌∷◌, length, refl, sym, ap, ◌∙◌, subst, Result, Ok, Err, OnOk, OnErr, IfOk, IfErr, arith}
+use Rattle.std.proofs.Common.{◌≡◌, ℕ, ◌<◌, ◌≤◌, ◌⊎◌, ◌↔◌, inl, inr, ⊎_elim, List, [], ◌∷◌, length, refl, sym, ap, ◌∙◌, subst, Result, Ok, Err, OnOk, OnErr, IfOk, IfErr, arith, rules}
 use Rattle.std.specs.List.{Contains}
 use Rattle.redo_core.specs.Data.{RecordData, CutData, AdvanceData}
 use Rattle.redo_core.specs.Order.{RecordBefore}
@@ -49,19 +49,7 @@ RefusesFact b (Advance a) e = RefusesAdvance b a e
 -- the segment refuses what its book refuses
 from_book : (b : BookData) (hs : List RecordData) (base : ℕ) (store : Store) (fact : Fact) (e : BookRefusal) → RefusesFact b fact e
     → Refuses (state_of b hs base store) fact (refusal_of e)
-from_book b hs base store (Record r) e so = absurd so
-from_book b hs base store (Cut c) (book.OtherRoster own shown) r = r
-from_book b hs base store (Cut c) (book.OtherCut d) r = r
-from_book b hs base store (Cut c) (book.Contradiction (held.Min m)) r = r
-from_book b hs base store (Cut c) (book.Contradiction (held.Advance a)) r = r
-from_book b hs base store (Cut c) (book.Contradiction (held.Cut d)) r = r
-from_book b hs base store (Cut c) book.Memory r = absurd r
-from_book b hs base store (Advance a) (book.OtherRoster own shown) r = r
-from_book b hs base store (Advance a) (book.OtherCut d) r = absurd r
-from_book b hs base store (Advance a) (book.Contradiction (held.Min m)) r = r
-from_book b hs base store (Advance a) (book.Contradiction (held.Advance w)) r = r
-from_book b hs base store (Advance a) (book.Contradiction (held.Cut d)) r = r
-from_book b hs base store (Advance a) book.Memory r = absurd r
+from_book b hs base store fact e so = search rules
 
 -- and nothing else
 to_book : (b : BookData) (hs : List RecordData) (base : ℕ) (store : Store) (fact : Fact) (why : Refusal) → ((r : RecordData) → fact ≡ Record r → ⊥)
@@ -84,10 +72,7 @@ to_book b hs base store (Advance a) Memory so r = absurd r
 
 -- only memory is told as memory
 only_memory : (e : BookRefusal) → refusal_of e ≡ Memory → e ≡ book.Memory
-only_memory (book.OtherRoster own shown) = λ (m : OtherRoster own shown ≡ Memory). absurd (cc)
-only_memory (book.OtherCut c) = λ (m : OtherCut c ≡ Memory). absurd (cc)
-only_memory (book.Contradiction h) = λ (m : Contradiction h ≡ Memory). absurd (cc)
-only_memory book.Memory = λ m. refl
+only_memory e h = search rules
 
 -- a book's answer makes an exact take, where a known fact needs no step and a new one is learnt
 book_exact : (b b' : BookData) (hs : List RecordData) (base : ℕ) (store : Store) (fact : Fact) (answer : Result Learnt BookRefusal)
@@ -148,20 +133,11 @@ book_exact b b' hs base store fact (Err e) result so means stores unknown known 
 -- what a book has learnt, the state has
 learnt_cut : (b b' : BookData) (hs : List RecordData) (base : ℕ) (store : Store) (c : CutData) → IsBook b' → LearnsCut b c b'
     → StoresCut (state_of b hs base store) c (state_of b' hs base store)
-learnt_cut b b' hs base store c is_book learns = record {
-  book = learns;
-  epoch = is_book.complete;
-  held = refl;
-  rest = record { base = refl; store = refl };
-}
+learnt_cut b b' hs base store c is_book learns = search rules
 
 learnt_advance : (b b' : BookData) (hs : List RecordData) (base : ℕ) (store : Store) (a : AdvanceData) → LearnsAdvance b a b'
     → StoresAdvance (state_of b hs base store) a (state_of b' hs base store)
-learnt_advance b b' hs base store a learns = record {
-  book = learns;
-  held = refl;
-  rest = record { base = refl; store = refl };
-}
+learnt_advance b b' hs base store a learns = search rules
 
 pub cut_exact : TakesCut → TakesKnown
     → (b b' : BookData) (hs : List RecordData) (base : ℕ) (store : Store) (c : CutData) (answer : Result Learnt BookRefusal)
@@ -232,24 +208,7 @@ known_of_settled : (s : State) (r : RecordData) → IsDeadOrSettled s r → IsKn
 known_of_settled s r h = ⊎_elim (λ d. inl d) (λ settled. inr (inr settled)) h
 
 pub settled_exact : TakesKnown → (s : State) (r : RecordData) → IsDeadOrSettled s r → TakesExactly s (Record r) (Ok Unchanged) s
-settled_exact knows s r settled = record {
-  means = knows s (Record r) (known_of_settled s r settled);
-  stores = λ (e : Unchanged ≡ Changed). absurd (cc);
-  known = (λ e. known_of_settled s r settled, λ it. refl);
-  idle = λ e. refl;
-  refuses = λ why so. absurd (none why so);
-  refused = tt;
-  memory = tt;
-  back = tt;
-  unchanged = tt;
-}
-  where
-    none : (why : Refusal) → Refuses s (Record r) why → ⊥
-    none (OtherRoster own shown) so = so
-    none (OtherCut d) so = so
-    none (Contradiction held) so = so
-    none OtherRecord so = so.0 settled
-    none Memory so = so
+settled_exact knows s r settled = search rules
 
 one_per_key : (hs : List RecordData) (x y : RecordData) → IsHeld hs → Contains hs x → Contains hs y → x.epoch ≡ y.epoch → x.number ≡ y.number → x ≡ y
 one_per_key hs x y held hx hy e n =
@@ -385,5 +344,4 @@ take_tells law old fact (Err e) known = tt
 pub take_sound : NoConflict → (old : State) (fact : Fact) (result : Result Taken (Refused Fact Refusal))
     → IfErr result (λ e. (e.fault ≡ Memory) ⊎ Refuses old fact e.fault)
     → IfErr result (λ e. FitsSoundLog old fact → e.fault ≡ Memory)
-take_sound law old fact (Ok t) refused = tt
-take_sound law old fact (Err e) refused = refused_soundly law old fact e.fault refused
+take_sound law old fact result refused = search (rules, refused_soundly)

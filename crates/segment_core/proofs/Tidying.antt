@@ -1,5 +1,5 @@
 -- What a tidy leaves.
-use Rattle.std.proofs.Common.{◌≡◌, ℕ, ◌<◌, ◌≤◌, ◌⊎◌, ◌↔◌, inl, inr, ⊎_elim, List, refl, sym, ◌∙◌, subst, arith, max}
+use Rattle.std.proofs.Common.{◌≡◌, ℕ, ◌<◌, ◌≤◌, ◌⊎◌, ◌↔◌, inl, inr, ⊎_elim, List, sym, ◌∙◌, subst, arith, max, rules}
 use Rattle.std.specs.List.{Contains}
 use Rattle.redo_core.specs.Data.{RecordData}
 use Rattle.redo_core.specs.Standing.{IsAlive, IsDead, IsWaiting}
@@ -23,11 +23,7 @@ pub record RemovesJustDead (old new : State) : Type 0 where
 
 pub removes_just : (b : BookData) (hot left : List RecordData) (base : ℕ) (store : Store)
     → Removes (λ r. IsDead b.cuts b.complete r.epoch r.number) hot left → RemovesJustDead (state_of b hot base store) (state_of b left base store)
-removes_just b hot left base store gone = record {
-  book = refl;
-  held = gone;
-  rest = record { base = refl; store = refl };
-}
+removes_just b hot left base store gone = search rules
 
 -- a record waits, is alive or is dead
 standing : (s : State) (r : RecordData) → IsWaiting s.book.complete r.epoch
@@ -53,8 +49,7 @@ removal_of old new just = record {
 }
 
 pub removals_keep : (old new : State) → RemovesJustDead old new → KeepsMeaning old new
-removals_keep old new just roster log F sound a =
-    removal_keeps old new (removal_of old new just) roster log F sound a
+removals_keep old new just roster log F sound a = search (rules, removal_keeps, removal_of)
 
 -- with every page folded to the anchor, what is neither folded nor dead is kept
 kept_by : (s : State) (anchor : ℕ) (store : Store) (r : RecordData) → (Contains s.held r → anchor ≤ version_of store r.page)

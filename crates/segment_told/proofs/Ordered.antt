@@ -1,5 +1,5 @@
 -- Facts that a state takes one after another, put together from parts.
-use Rattle.std.proofs.Common.{◌≡◌, ◌==◌, if◌then◌else◌, Bool, ℕ, zero, suc, ◌+◌, ◌<◌, ◌≤◌, ◌⊎◌, inl, inr, ⊎_elim, List, [], ◌∷◌, ◌++◌, length, get_or, take, drop, map, refl, sym, ap, subst, arith, rules}
+use Rattle.std.proofs.Common.{◌≡◌, ◌==◌, if◌then◌else◌, Bool, ℕ, zero, suc, ◌+◌, ◌<◌, ◌≤◌, ◌⊎◌, inl, inr, ⊎_elim, List, [], ◌∷◌, ◌++◌, length, get_or, take, drop, map, sym, ap, subst, arith, rules}
 use Rattle.std.proofs.lemmas.Grind.{common_steps}
 use Rattle.std.proofs.lemmas.List.{take-append-drop}
 use Rattle.redo_core.specs.Data.{advance_of}
@@ -11,10 +11,6 @@ use Rattle.segment_core.specs.declared.answers.Refusal.{Refusal}
 use Rattle.segment_core.specs.declared.answers.Refusal.TheVariants.{Memory}
 use Rattle.segment_told.specs.Told.{point_facts}
 use Rattle.segment_told.specs.InOrder.{TakesOne, TakesEach, RefusesOne}
-
--- one alone
-pub takes_lone : (s : State) (f : Fact) (t : State) → TakesOne s f t → TakesEach s (f ∷ []) t
-takes_lone s f t one = (t, one, refl)
 
 -- those of two lists
 pub takes_append : (s : State) (fs : List Fact) (t : State) (gs : List Fact) (u : State) → TakesEach s fs t → TakesEach t gs u → TakesEach s (fs ++ gs) u
@@ -35,13 +31,6 @@ refuses_sooner s (f ∷ fs) gs why refused =
     (λ (h : Refuses s f why). inl h)
     (λ (h : (between : State) × TakesOne s f between × RefusesOne between fs why). inr (h.0, h.1, refuses_sooner h.0 fs gs why h.2))
     refused
-
--- the facts of a list up to a place and the one there, and all those after it
-map_next : {X : Type 0} (f : X → Fact) (xs : List X) (i : ℕ) (x : X) → i < length xs → x ≡ get_or xs i x
-    → map f (take (suc i) xs) ≡ map f (take i xs) ++ f x ∷ []
-map_next f [] i x lt is = absurd (omega (arith, lt))
-map_next f (y ∷ ys) zero x lt is = ap (λ z. f z ∷ []) (sym is)
-map_next f (y ∷ ys) (suc i) x lt is = ap (λ zs. f y ∷ zs) (map_next f ys i x (omega (arith, lt)) is)
 
 map_from : {X : Type 0} (f : X → Fact) (xs : List X) (i : ℕ) (x : X) → i < length xs → x ≡ get_or xs i x
     → map f xs ≡ (map f (take i xs) ++ f x ∷ []) ++ map f (drop (suc i) xs)

@@ -191,9 +191,6 @@ one_cut c d h = let e : Cut c ≡ Cut d = only (Cut c) (Cut d) h in cc
 one_advance : (a b : AdvanceData) → Contains (Advance a ∷ []) (Advance b) → b ≡ a
 one_advance a b h = let e : Advance a ≡ Advance b = only (Advance a) (Advance b) h in cc
 
-one_record : (r x : RecordData) → Contains (Record r ∷ []) (Record x) → x ≡ r
-one_record r x h = let e : Record r ≡ Record x = only (Record r) (Record x) h in cc
-
 -- a state that stays has a fact that adds no truncation and no waiting advance, and whose advance counts no more than what counts
 stays : (s : State) (fact : Fact) → IsLate s
     → ((c : CutData) → Contains (fact ∷ []) (Cut c) → Contains s.book.cuts c)

@@ -1,17 +1,11 @@
-use Rattle.std.proofs.Common.{◌≢◌, IsTrue, false, refl, subst}
-use Rattle.std.specs.List.{Contains}
+use Rattle.std.proofs.Common.{◌≢◌, IsTrue, false, refl, rules}
 use Rattle.std.proofs.lemmas.List.Elements.{All-contains}
 use Rattle.redo_core.specs.declared.facts.Fact.{Fact}
-use Rattle.redo_core.proofs.Members.{item}
 use Rattle.redo_core.proofs.Scans.{whole, one_more}
 use Rattle.plain_model.proofs.comparing.is_among.Goals as goal
 
 pub returns-then-is_same : goal.returns-then-is_same
-returns-then-is_same c = (
-  λ h. subst (Contains c.args.facts.now) (c.if-is_same.ensures.same.0 refl)
-      (item c.args.facts.now c.loop-other.other-index c.other-item.result c.loop-other-test.true c.other-item.is),
-  λ h. refl,
-)
+returns-then-is_same c = search rules
 
 pub loop-other-preserved : goal.loop-other-preserved
 loop-other-preserved c =

@@ -1,11 +1,10 @@
-use Rattle.std.proofs.Common.{IsTrue, IfOk, Result, Ok, Err, subst}
+use Rattle.std.proofs.Common.{IsTrue, IfOk, Result, subst, rules}
 use Rattle.redo_laws.specs.OrderOfMeanings.{Covers}
 use Rattle.plain_model.proofs.Coverings.{one_meaning, covers_itself}
 use Rattle.plain_model.proofs.comparing.same.Goals as goal
 
 if_ok : {A E : Type 0} (P Q : A → Type 0) (r : Result A E) → ((a : A) → P a → Q a) → IfOk r P → IfOk r Q
-if_ok P Q (Ok a) h p = h a p
-if_ok P Q (Err e) h p = tt
+if_ok P Q r h p = search rules
 
 pub returns-then-not-branch : goal.returns-then-not-branch
 returns-then-not-branch c = λ log x y sound part other means_x means_y. (

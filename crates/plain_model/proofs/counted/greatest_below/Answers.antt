@@ -1,4 +1,4 @@
-use Rattle.std.proofs.Common.{◌≡◌, inr, subst, arith, refl, IsTrue, false}
+use Rattle.std.proofs.Common.{◌≡◌, inr, subst, arith, refl, IsTrue, false, rules}
 use Rattle.redo_core.specs.Sound.{IsAliveBelow}
 use Rattle.plain_model.specs.Chained.{Follows}
 use Rattle.plain_model.proofs.Scanned.{IsBelowUpTo}
@@ -33,9 +33,4 @@ loop-fact-preserved c =
     ]
 
 pub returns : goal.returns
-returns c = (
-  c.loop-fact.invariant.there,
-  λ m h. top_below c.args.log.now c.args.redo.now c.args.chain c.loop-fact.greatest m
-      (whole (IsBelowUpTo c.args.log.now c.args.redo.now c.args.chain c.loop-fact.greatest) c.args.log.now c.loop-fact.fact-index c.loop-fact-test.false
-      c.loop-fact.invariant.top) h,
-)
+returns c = search (rules, top_below, whole)

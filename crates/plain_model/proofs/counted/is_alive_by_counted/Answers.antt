@@ -1,4 +1,4 @@
-use Rattle.std.proofs.Common.{IsTrue, false, arith, refl, subst, sym}
+use Rattle.std.proofs.Common.{IsTrue, false, refl, subst, sym, rules}
 use Rattle.redo_core.specs.Sound.{counted}
 use Rattle.redo_core.specs.declared.facts.Fact.{Fact}
 use Rattle.plain_model.proofs.Scanned.{IsSparedIfCounted}
@@ -29,9 +29,4 @@ loop-fact-preserved c =
     ])
 
 pub returns : goal.returns
-returns c = (
-  λ h. all_counted_spare c.args.log.now c.args.view c.args.epoch c.args.number (omega arith)
-      (whole (IsSparedIfCounted c.args.log.now c.args.view c.args.epoch c.args.number) c.args.log.now c.loop-fact.fact-index c.loop-fact-test.false
-      c.loop-fact.invariant),
-  λ h. refl,
-)
+returns c = search (rules, all_counted_spare, whole)

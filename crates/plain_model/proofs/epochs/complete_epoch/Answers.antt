@@ -1,11 +1,10 @@
-use Rattle.std.proofs.Common.{IsTrue, false, refl}
+use Rattle.std.proofs.Common.{refl, rules}
 use Rattle.redo_core.specs.Sets.{cuts}
-use Rattle.redo_core.proofs.Scans.{next_epoch, complete}
+use Rattle.redo_core.proofs.Scans.{next_epoch}
 use Rattle.plain_model.proofs.epochs.complete_epoch.Goals as goal
 
 pub returns : goal.returns
-returns c = complete (cuts c.args.facts.now) c.loop-epoch.epoch c.loop-epoch.invariant.has
-    (λ h. let t : IsTrue false = c.loop-epoch-test.ensures.found.1 h in cc)
+returns c = search rules
 
 pub loop-epoch-preserved : goal.loop-epoch-preserved
 loop-epoch-preserved c = record {

@@ -1,6 +1,5 @@
-use Rattle.std.proofs.Common.{◌<◌, length, arith, refl, sym, subst}
+use Rattle.std.proofs.Common.{◌<◌, length, arith, refl, subst, rules}
 use Rattle.std.proofs.lemmas.Option.{slice_get_read, slice_get_within}
-use Rattle.redo_core.specs.Sound.{KeepsLaws}
 use Rattle.plain_model.specs.FoundFault.{FindsFault}
 use Rattle.plain_model.proofs.Laws.{none_found, keeps_one_more, fault_at}
 use Rattle.redo_laws.proofs.FirstFaults.{keeps_each}
@@ -11,14 +10,7 @@ pub loop-place-init : goal.loop-place-init
 loop-place-init c earlier f l at = absurd (omega (arith, l))
 
 pub returns-in-Some-clause-sound : goal.returns-in-Some-clause-sound
-returns-in-Some-clause-sound c =
-    let log = c.args.log.now in let place = c.loop-place.place in let fact = c.index-log-place.result in (
-      λ h. absurd (cc),
-      λ sound. absurd (c.in-Some.ensures.0
-          (keeps_each c.readers-readers.result log place fact c.in-Some.law
-          (subst (λ r. KeepsLaws r log place fact) (sym c.readers-readers.ensures.value)
-          (sound.keeps place fact (slice_get_read log (length log) place fact refl c.loop-place-test.true c.index-log-place.is))))),
-    )
+returns-in-Some-clause-sound c = search (rules, keeps_each, slice_get_read)
 
 pub returns-in-Some-clause-fault : goal.returns-in-Some-clause-fault
 returns-in-Some-clause-fault c = (

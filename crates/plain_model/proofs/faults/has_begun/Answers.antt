@@ -1,15 +1,9 @@
-use Rattle.std.proofs.Common.{refl, subst, sym}
-use Rattle.redo_core.specs.CompleteEpoch.{HasCutsTo}
-use Rattle.redo_core.specs.Sound.{counted}
+use Rattle.std.proofs.Common.{refl, rules}
 use Rattle.plain_model.proofs.CountedCuts.{alive_in_own}
 use Rattle.plain_model.proofs.faults.has_begun.Goals as goal
 
 pub returns-then-not-is_begun-clause-law : goal.returns-then-not-is_begun-clause-law
-returns-then-not-is_begun-clause-law c = (
-  λ h. absurd (cc),
-  λ law. c.if-not-is_begun.ensures.1
-      (subst (HasCutsTo (counted c.args.log.now)) (sym c.epoch-epoch.ensures) law.0),
-)
+returns-then-not-is_begun-clause-law c = search rules
 
 pub returns-clause-law : goal.returns-clause-law
 returns-clause-law c =

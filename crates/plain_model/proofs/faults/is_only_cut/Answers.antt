@@ -1,4 +1,4 @@
-use Rattle.std.proofs.Common.{◌≡◌, arith, refl, subst, sym}
+use Rattle.std.proofs.Common.{◌≡◌, arith, refl, subst, sym, rules}
 use Rattle.redo_core.specs.declared.facts.Fact.{Fact}
 use Rattle.redo_core.specs.declared.facts.Fact.TheVariants.{Cut}
 use Rattle.plain_model.proofs.Scanned.{IsSameOfKey}
@@ -9,14 +9,7 @@ use Rattle.plain_model.proofs.faults.is_only_cut.Goals as goal
 use Rattle.plain_model.proofs.faults.is_only_cut.Goals.{in-Cut+else-epoch, else-epoch-via-then-epoch+else-not-are_same, else-epoch-via-else-epoch, in_default}
 
 pub returns-then-not-are_same-clause-law : goal.returns-then-not-are_same-clause-law
-returns-then-not-are_same-clause-law c =
-    let other = c.in-Cut.other in let cut = c.args.cut.now in
-    let epochs : other.epoch ≡ cut.epoch = omega arith in (
-      λ h. absurd (cc),
-      λ law. c.if-not-are_same.ensures.1
-          (let e : Cut other ≡ Cut cut = other_of_key c.args.earlier.now (Cut cut) c.loop-fact.fact-index c.fact-item.result
-          (Cut other) c.loop-fact-test.true c.fact-item.is c.in-Cut.is law epochs in cc),
-    )
+returns-then-not-are_same-clause-law c = search (rules, other_of_key)
 
 pub loop-fact-preserved : goal.loop-fact-preserved
 loop-fact-preserved c =

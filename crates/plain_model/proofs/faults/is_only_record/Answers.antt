@@ -1,4 +1,4 @@
-use Rattle.std.proofs.Common.{◌≡◌, arith, refl, subst, sym}
+use Rattle.std.proofs.Common.{◌≡◌, arith, refl, subst, sym, rules}
 use Rattle.redo_core.specs.declared.facts.Fact.{Fact}
 use Rattle.redo_core.specs.declared.facts.Fact.TheVariants.{Record}
 use Rattle.plain_model.proofs.Scanned.{IsSameOfKey}
@@ -9,15 +9,7 @@ use Rattle.plain_model.proofs.faults.is_only_record.Goals as goal
 use Rattle.plain_model.proofs.faults.is_only_record.Goals.{in-Record+else-epoch, else-epoch-via-then-epoch+then-number+else-not-is_same, else-epoch-via-then-epoch+else-number, else-epoch-via-else-epoch, in_default}
 
 pub returns-then-not-is_same : goal.returns-then-not-is_same
-returns-then-not-is_same c =
-    let other = c.in-Record.other in let redo = c.args.redo.now in
-    let epochs : other.epoch ≡ redo.epoch = omega arith in
-    let numbers : other.number ≡ redo.number = omega arith in (
-      λ h. absurd (cc),
-      λ law. c.if-not-is_same.ensures.1
-          (let e : Record other ≡ Record redo = other_of_key c.args.earlier.now (Record redo) c.loop-fact.fact-index c.fact-item.result
-          (Record other) c.loop-fact-test.true c.fact-item.is c.in-Record.is law (epochs, numbers) in cc),
-    )
+returns-then-not-is_same c = search (rules, other_of_key)
 
 pub loop-fact-preserved : goal.loop-fact-preserved
 loop-fact-preserved c =

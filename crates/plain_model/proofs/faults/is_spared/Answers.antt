@@ -1,4 +1,4 @@
-use Rattle.std.proofs.Common.{◌≤◌, IsTrue, false, arith, refl, subst, sym}
+use Rattle.std.proofs.Common.{IsTrue, false, arith, subst, sym, rules}
 use Rattle.redo_core.specs.declared.facts.Fact.{Fact}
 use Rattle.plain_model.proofs.Scanned.{IsAboveIfCounted}
 use Rattle.redo_core.proofs.Scans.{whole, one_more}
@@ -8,11 +8,7 @@ use Rattle.plain_model.proofs.faults.is_spared.Goals as goal
 use Rattle.plain_model.proofs.faults.is_spared.Goals.{in-Cut+else-epoch, else-epoch-via-then-epoch+then-lo-point+then-is_counted+else-are_past, else-epoch-via-then-epoch+then-lo-point+else-is_counted, else-epoch-via-then-epoch+else-lo-point, else-epoch-via-else-epoch, in_default}
 
 pub returns-then-are_past : goal.returns-then-are_past
-returns-then-are_past c = (
-  λ h. absurd (cc),
-  λ spared. absurd (let l : c.args.point ≤ c.in-Cut.cut.lo = spared c.in-Cut.cut (c.if-is_counted.ensures.0 refl) (omega arith)
-      (c.if-are_past.ensures.0 refl) in omega arith),
-)
+returns-then-are_past c = search rules
 
 pub loop-fact-preserved : goal.loop-fact-preserved
 loop-fact-preserved c =
@@ -29,9 +25,4 @@ loop-fact-preserved c =
     ])
 
 pub returns : goal.returns
-returns c = (
-  λ h. all_counted_above c.args.readers c.args.log.now c.args.epoch c.args.point
-      (whole (IsAboveIfCounted c.args.readers c.args.log.now c.args.epoch c.args.point) c.args.log.now c.loop-fact.fact-index c.loop-fact-test.false
-      c.loop-fact.invariant),
-  λ h. refl,
-)
+returns c = search (rules, all_counted_above, whole)

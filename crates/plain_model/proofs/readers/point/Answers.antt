@@ -1,4 +1,4 @@
-use Rattle.std.proofs.Common.{◌≡◌, ◌≤◌, inr, sym, arith}
+use Rattle.std.proofs.Common.{◌≡◌, ◌≤◌, inr, sym, arith, rules}
 use Rattle.plain_model.proofs.Scanned.{IsUpTo}
 use Rattle.redo_core.proofs.Scans.{whole, one_more}
 use Rattle.plain_model.proofs.Scans.{up_to, higher, up_advance, advance_default, advance_item, point_step}
@@ -6,11 +6,7 @@ use Rattle.plain_model.proofs.readers.point.Goals as goal
 use Rattle.plain_model.proofs.readers.point.Goals.{in-Advance+then-reader+then-epoch+then-point-greatest, in-Advance+else-reader, else-reader-via-then-reader+then-epoch+else-point-greatest, else-reader-via-then-reader+else-epoch, else-reader-via-else-reader, in_default}
 
 pub returns : goal.returns
-returns c = (
-  c.loop-fact.invariant.there,
-  up_to c.args.facts.now c.args.epoch c.args.reader c.loop-fact.greatest
-      (whole (IsUpTo c.args.epoch c.args.reader c.loop-fact.greatest) c.args.facts.now c.loop-fact.fact-index c.loop-fact-test.false c.loop-fact.invariant.top),
-)
+returns c = search (rules, up_to, whole)
 
 pub loop-fact-preserved : goal.loop-fact-preserved
 loop-fact-preserved c =

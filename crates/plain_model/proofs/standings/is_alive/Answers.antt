@@ -1,4 +1,4 @@
-use Rattle.std.proofs.Common.{IsTrue, false, arith, refl}
+use Rattle.std.proofs.Common.{IsTrue, false, refl, rules}
 use Rattle.redo_core.specs.Sets.{cuts}
 use Rattle.plain_model.proofs.Scanned.{IsSpared}
 use Rattle.redo_core.proofs.Scans.{whole, one_more}
@@ -26,8 +26,4 @@ loop-fact-preserved c =
     ])
 
 pub returns : goal.returns
-returns c = (
-  λ h. all_spare c.args.facts.now c.args.view c.args.epoch c.args.number (omega arith)
-      (whole (IsSpared c.args.view c.args.epoch c.args.number) c.args.facts.now c.loop-fact.fact-index c.loop-fact-test.false c.loop-fact.invariant),
-  λ h. refl,
-)
+returns c = search (rules, all_spare, whole)

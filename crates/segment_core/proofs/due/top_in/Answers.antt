@@ -1,5 +1,4 @@
-use Rattle.std.proofs.Common.{◌≤◌, subst, arith}
-use Rattle.std.specs.List.{All}
+use Rattle.std.proofs.Common.{◌≤◌, subst, arith, rules}
 use Rattle.std.proofs.lemmas.List.{take_all}
 use Rattle.state_laws.specs.State.{StoredImage}
 use Rattle.segment_core.proofs.DuePages.{under_more}
@@ -14,6 +13,4 @@ loop-image-preserved c = record {
 }
 
 pub returns-clause-each : goal.returns-clause-each
-returns-clause-each c =
-    subst (All (λ (i : StoredImage). i.version ≤ c.loop-image.top)) (take_all c.loop-image.image-index c.args.images.now c.loop-image-test.false)
-    c.loop-image.invariant.each
+returns-clause-each c = search (rules, take_all)

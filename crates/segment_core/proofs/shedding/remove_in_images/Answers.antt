@@ -1,12 +1,11 @@
-use Rattle.std.proofs.Common.{ℕ, subst}
+use Rattle.std.proofs.Common.{ℕ, subst, rules}
 use Rattle.hot_log.specs.Removing.{IsFolded, Removes}
 use Rattle.state_laws.specs.State.{StoredImage}
-use Rattle.segment_core.proofs.Gone.{gone_by_none, gone_by_more, gone_by_all}
+use Rattle.segment_core.proofs.Gone.{gone_by_more, gone_by_all}
 use Rattle.segment_core.proofs.shedding.remove_in_images.Goals as goal
 
 pub loop-image-init : goal.loop-image-init
-loop-image-init c =
-    (c.requires, gone_by_none (λ (i : StoredImage) r. IsFolded c.args.book.now i.page i.version c.args.point r) c.args.hot.now)
+loop-image-init c = search rules
 
 pub loop-image-preserved : goal.loop-image-preserved
 loop-image-preserved c =

@@ -1,4 +1,4 @@
-use Rattle.std.proofs.Common.{◌≤◌, subst}
+use Rattle.std.proofs.Common.{◌≤◌, subst, rules}
 use Rattle.redo_core.specs.Standing.{IsAlive}
 use Rattle.hot_log.specs.Removing.{IsFolded}
 use Rattle.state_laws.specs.State.{version_of}
@@ -7,10 +7,7 @@ use Rattle.segment_core.proofs.Forget.{folded_of}
 use Rattle.segment_core.proofs.shedding.remove_page_by_page.Goals as goal
 
 pub loop-next-init : goal.loop-next-init
-loop-next-init c = record {
-  form = c.requires;
-  gone = removes_none _ c.args.hot.now c.page_after-next.result c.page_after-next.ensures;
-}
+loop-next-init c = search (rules, removes_none)
 
 pub loop-next-preserved : goal.loop-next-preserved
 loop-next-preserved c = record {

@@ -1,5 +1,5 @@
-use Rattle.std.proofs.Common.{◌≡◌, Bool, true, false, not, refl}
-use Rattle.segment_core.proofs.Opening.{opening, opened, base_bound, start_small, start_bound}
+use Rattle.std.proofs.Common.{◌≡◌, Bool, true, false, not, rules, arith}
+use Rattle.segment_core.proofs.Opening.{opening, opened, base_bound, start_small}
 use Rattle.segment_core.proofs.points.Points.after_opening.Goals as goal
 
 pub anew-requires : goal.anew-requires
@@ -9,16 +9,13 @@ pub anew-requires-in_default : goal.anew-requires-in_default
 anew-requires-in_default c = base_bound c.args.view.now.book.now c.args.view.now.held.now c.args.base c.args.epoch c.args.self c.requires
 
 pub onward-requires-clause-complete : goal.onward-requires-clause-complete
-onward-requires-clause-complete c =
-    start_small c.args.view.now.book.now c.args.view.now.held.now c.args.base c.args.epoch c.args.self.complete c.in-Some.from c.in-Some.ensures.form c.in-Some.ensures.untouched
+onward-requires-clause-complete c = search (rules, start_small)
 
 pub onward-requires-clause-anchor : goal.onward-requires-clause-anchor
-onward-requires-clause-anchor c =
-    start_bound c.args.view.now.book.now c.args.view.now.held.now c.args.base c.args.epoch c.min.result c.in-Some.from c.args.self c.requires c.min.ensures
+onward-requires-clause-anchor c = omega arith
 
 flag : (b : Bool) → not b ≡ false → b ≡ true
-flag true h = refl
-flag false h = cc
+flag b h = search rules
 
 pub returns : goal.returns
 returns c =

@@ -1,4 +1,4 @@
-use Rattle.std.proofs.Common.{refl, arith}
+use Rattle.std.proofs.Common.{refl, arith, rules}
 use Rattle.redo_core.specs.Linked.Linked.{start}
 use Rattle.segment_core.proofs.points.Points.anchor_on.Goals as goal
 
@@ -6,14 +6,7 @@ pub returns-then-min-from : goal.returns-then-min-from
 returns-then-min-from c = (λ h. refl, λ h. absurd (omega (arith, h, c.if-min-from.true, c.min_point-min.ensures.value)))
 
 pub returns-then-end-min : goal.returns-then-end-min
-returns-then-end-min c = (
-  λ h. absurd (omega (arith, h, c.if-min-from.false, c.min_point-min.ensures.value)),
-  λ h. record {
-    linked = c.requires.linked;
-    bound = omega (arith, c.if-end-min.true, c.min_point-min.ensures.value);
-    most = λ m l le. c.requires.most m l;
-  },
-)
+returns-then-end-min c = search rules
 
 pub returns : goal.returns
 returns c = (

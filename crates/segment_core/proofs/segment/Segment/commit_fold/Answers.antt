@@ -1,9 +1,8 @@
-use Rattle.std.proofs.Common.{◌≡◌, OnOk, OnErr, IfErr, sym, subst}
+use Rattle.std.proofs.Common.{OnOk, sym, subst, rules}
 use Rattle.state_laws.specs.State.{State, state_of}
 use Rattle.state_laws.specs.HasMeaning.{HasAnchor}
 use Rattle.state_laws.specs.Promises.{KeepsMeaningWith}
-use Rattle.segment_core.specs.Folding.{Commits, RefusesCommit}
-use Rattle.segment_core.proofs.Committing.{ahead_at, not_ahead, raised, raise_keeps, raise_refused, raise_back, raise_unchanged}
+use Rattle.segment_core.proofs.Committing.{not_ahead, raise_keeps, raise_back}
 use Rattle.segment_core.proofs.DuePages.{raise_due}
 use Rattle.segment_core.proofs.segment.Segment.commit_fold.Goals as goal
 
@@ -15,21 +14,10 @@ unfoldable after : goal.After-raise → State
 after c = state_of c.self.inside.book c.self.inside.hot c.self.inside.base c.raise.new.store
 
 pub returns-then-anchor-folded-clause-ahead : goal.returns-then-anchor-folded-clause-ahead
-returns-then-anchor-folded-clause-ahead c = λ anchor has above. ahead_at c.args.self.now c.args.folded c.anchor-anchor.result c.anchor-anchor.ensures.own anchor
-    has
+returns-then-anchor-folded-clause-ahead c = search rules
 
 pub invariant_of-self : goal.invariant_of-self
-invariant_of-self c =
-    let i = c.self.inside in (
-      c.self.invariant.0,
-      c.self.invariant.1,
-      c.raise.ensures.form,
-      c.self.invariant.3,
-      c.self.invariant.4,
-      raise_due i.book i.hot i.store c.raise.new.store c.args.folded.page c.args.folded.version c.args.folded.image i.due c.add_raised.new.self
-          c.raise.result c.self.invariant.5 c.add_raised.ensures.more c.add_raised.ensures.looks c.add_raised.ensures.top c.raise.ensures.raises
-          c.raise.ensures.unchanged,
-    )
+invariant_of-self c = search (rules, raise_due)
 
 pub returns-clause-keeps : goal.returns-clause-keeps
 unfolding before after
@@ -41,24 +29,18 @@ returns-clause-keeps c =
 
 pub returns-clause-commits : goal.returns-clause-commits
 unfolding before after
-returns-clause-commits c =
-    subst (λ s. OnOk c.raise.result (Commits s c.args.folded (after c))) c.self.view_is
-    (raised (before c) c.self.inside.store c.raise.new.store c.args.folded c.raise.result c.raise.ensures.raises)
+returns-clause-commits c = search rules
 
 pub returns-clause-ahead : goal.returns-clause-ahead
 returns-clause-ahead c = not_ahead c.args.self.now c.args.folded c.anchor-anchor.result c.raise.result c.anchor-anchor.ensures.own c.if-anchor-folded.false
 
 pub returns-clause-refused : goal.returns-clause-refused
 unfolding before
-returns-clause-refused c =
-    subst (λ s. IfErr c.raise.result (λ e. RefusesCommit s c.args.folded e.fault)) c.self.view_is
-    (raise_refused (before c) c.self.inside.store c.args.folded c.raise.result c.raise.ensures.refused)
+returns-clause-refused c = search rules
 
 pub returns-clause-back : goal.returns-clause-back
 returns-clause-back c = raise_back c.self.inside.store c.args.folded c.raise.result c.raise.ensures.refused
 
 pub returns-clause-unchanged : goal.returns-clause-unchanged
 unfolding before after
-returns-clause-unchanged c =
-    subst (λ (s : State). OnErr c.raise.result (after c ≡ s)) c.self.view_is
-    (raise_unchanged (before c) c.self.inside.store c.raise.new.store c.raise.result c.raise.ensures.unchanged)
+returns-clause-unchanged c = search rules

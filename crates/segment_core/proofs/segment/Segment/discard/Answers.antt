@@ -1,4 +1,4 @@
-use Rattle.std.proofs.Common.{◌≤◌, subst, arith}
+use Rattle.std.proofs.Common.{◌≤◌, subst, arith, rules}
 use Rattle.redo_core.specs.Standing.{IsAlive}
 use Rattle.state_laws.specs.State.{State, state_of, version_of}
 use Rattle.state_laws.specs.HasMeaning.{HasAnchor}
@@ -6,7 +6,7 @@ use Rattle.state_laws.specs.Promises.{KeepsMeaning}
 use Rattle.segment_core.specs.Forgetting.{DiscardsJust}
 use Rattle.segment_core.proofs.Chain.{own_anchor}
 use Rattle.segment_core.proofs.Following.{removal_keeps_points}
-use Rattle.segment_core.proofs.Forget.{discards_just, discards_keep}
+use Rattle.segment_core.proofs.Forget.{discards_keep}
 use Rattle.segment_core.proofs.segment.Segment.discard.Goals as goal
 
 -- the state as it was, and without the folded records
@@ -22,8 +22,7 @@ own c = own_anchor c.self.inside.book c.self.inside.hot c.self.inside.base c.sel
 
 just : (c : goal.After-discard) → DiscardsJust (before c) (after c)
 unfolding before after
-just c = discards_just c.self.inside.book c.self.inside.hot c.discard.new.hot c.self.inside.base c.self.inside.points.anchor c.self.inside.store
-    (own c) c.discard.ensures.removes
+just c = search rules
 
 pub invariant_of-self : goal.invariant_of-self
 invariant_of-self c =

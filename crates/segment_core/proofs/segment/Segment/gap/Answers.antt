@@ -1,4 +1,4 @@
-use Rattle.std.proofs.Common.{Some, None, subst}
+use Rattle.std.proofs.Common.{Some, None, subst, rules}
 use Rattle.hot_log.specs.Gaps.{IsGapAbove, IsAwaited}
 use Rattle.segment_core.specs.Gaps.{IsGapOf}
 use Rattle.segment_core.specs.declared.answers.Gap.TheVariants.{Record, Truncation}
@@ -27,8 +27,7 @@ pub returns-in_ok-epoch-in-None-clause-own : goal.returns-in_ok-epoch-in-None-cl
 returns-in_ok-epoch-in-None-clause-own c = waited c
 
 pub returns-in_ok-epoch-in-None-clause-gap : goal.returns-in_ok-epoch-in-None-clause-gap
-returns-in_ok-epoch-in-None-clause-gap c =
-    gap_law c.args.self.now (Some (Truncation c.in_ok-epoch-in-None.epoch)) c.front-front.ensures.form (waited c)
+returns-in_ok-epoch-in-None-clause-gap c = search (rules, gap_law, waited)
 
 none : (c : goal.After-from_residual) → IsGapOf c.args.self.now None
 none c =

@@ -12,6 +12,4 @@ returns-clause-means c =
     subst (λ (s : State). (log : List AnyFact) → Means c.args.roster log [] s) (sym same) (empty_means c.args.roster)
 
 pub invariant_of-result : goal.invariant_of-result
-invariant_of-result c =
-    let due = none_due c.in_ok-book.book c.new-hot.result c.new-2.result c.new-3.result c.new-2.ensures c.new-3.ensures in
-    search (rules, due)
+invariant_of-result c = search (rules, none_due)

@@ -1,4 +1,4 @@
-use Rattle.std.proofs.Common.{◌≡◌, Some, None, refl}
+use Rattle.std.proofs.Common.{◌≡◌, Some, None, refl, rules}
 use Rattle.segment_core.proofs.PlanFold.{anchor_complete, fold_of, none_broken, folds_page}
 use Rattle.segment_core.proofs.segment.Segment.plan_fold.Goals as goal
 
@@ -25,5 +25,4 @@ returns-in-Ok-clause-own c = (
 )
 
 pub returns-in-Err-clause-own : goal.returns-in-Err-clause-own
-returns-in-Err-clause-own c =
-    none_broken c.args.self.now c.args.page c.anchor-anchor.result c.broken_of.result c.anchor-anchor.ensures.own c.broken_of.ensures.breaks c.in_default.is
+returns-in-Err-clause-own c = search (rules, none_broken)

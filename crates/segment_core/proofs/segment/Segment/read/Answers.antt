@@ -1,6 +1,6 @@
-use Rattle.std.proofs.Common.{◌≡◌, Some, None, map}
+use Rattle.std.proofs.Common.{◌≡◌, Some, None, map, rules}
 use Rattle.segment_core.proofs.Reading.{below, above, shown, true_page}
-use Rattle.segment_core.proofs.BlockChain.{tells_below, tells_above, tells_broken, tells_whole, not_image, not_memory, within}
+use Rattle.segment_core.proofs.BlockChain.{tells_broken, tells_whole, not_image, not_memory, within}
 use Rattle.segment_core.proofs.segment.Segment.read.Goals as goal
 
 pub returns-then-point-front-clause-result : goal.returns-then-point-front-clause-result
@@ -8,16 +8,14 @@ returns-then-point-front-clause-result c = λ roster log facts p sound means. be
     (c.front-front.ensures.front roster log facts p sound means) c.if-point-front.true
 
 pub returns-then-point-front-clause-broken : goal.returns-then-point-front-clause-broken
-returns-then-point-front-clause-broken c = tells_below c.args.self.now c.front-front.result c.args.page c.args.point _ c.front-front.ensures.own
-    c.if-point-front.true
+returns-then-point-front-clause-broken c = search rules
 
 pub returns-then-front-point-clause-result : goal.returns-then-front-point-clause-result
 returns-then-front-point-clause-result c = λ roster log facts p sound means. above p c.front-front.result c.args.point
     (c.front-front.ensures.front roster log facts p sound means) c.if-point-front.false c.if-front-point.true
 
 pub returns-then-front-point-clause-broken : goal.returns-then-front-point-clause-broken
-returns-then-front-point-clause-broken c = tells_above c.args.self.now c.front-front.result c.args.page c.args.point _ c.front-front.ensures.own
-    c.if-front-point.true
+returns-then-front-point-clause-broken c = search rules
 
 pub returns-in-Some-clause-result : goal.returns-in-Some-clause-result
 returns-in-Some-clause-result c = λ roster log facts p sound means.
@@ -27,8 +25,7 @@ returns-in-Some-clause-result c = λ roster log facts p sound means.
     absurd (cc)
 
 pub returns-in-Some-clause-broken : goal.returns-in-Some-clause-broken
-returns-in-Some-clause-broken c = tells_broken c.args.self.now c.front-front.result c.args.page c.args.point c.in-Some.number c.broken_of.result
-    c.front-front.ensures.own c.if-point-front.false c.if-front-point.false c.broken_of.ensures.breaks c.in-Some.is
+returns-in-Some-clause-broken c = search (rules, tells_broken)
 
 pub returns-in-Ok-clause-result : goal.returns-in-Ok-clause-result
 returns-in-Ok-clause-result c = λ roster log facts p sound means. true_page log facts p c.args.self.now c.front-front.result c.args.page c.args.point
@@ -44,9 +41,7 @@ returns-in-Ok-clause-own c =
     c.in-Ok.ensures
 
 pub returns-in-Ok-clause-broken : goal.returns-in-Ok-clause-broken
-returns-in-Ok-clause-broken c = tells_whole c.args.self.now c.args.page c.args.point c.broken_of.result _
-    (not_image c.in-Ok.image) c.broken_of.ensures.breaks c.in_default.is
+returns-in-Ok-clause-broken c = search (rules, tells_whole, not_image)
 
 pub returns-in-Err-clause-broken : goal.returns-in-Err-clause-broken
-returns-in-Err-clause-broken c = tells_whole c.args.self.now c.args.page c.args.point c.broken_of.result _ not_memory c.broken_of.ensures.breaks
-    c.in_default.is
+returns-in-Err-clause-broken c = search (rules, tells_whole, not_memory)

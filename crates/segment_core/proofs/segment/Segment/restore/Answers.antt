@@ -16,6 +16,4 @@ returns-in-Ok c =
     c.in-Ok.ensures.adopts)
 
 pub invariant_of-segment : goal.invariant_of-segment
-invariant_of-segment c =
-    let due = none_due c.args.book c.hold_all.new.hot c.new.result c.new-2.result c.new.ensures c.new-2.ensures in
-    search (rules, due)
+invariant_of-segment c = search (rules, none_due)

@@ -1,12 +1,10 @@
-use Rattle.std.proofs.Common.{◌≡◌, ◌↔◌, List, sym, subst}
+use Rattle.std.proofs.Common.{◌≡◌, ◌↔◌, List, subst, rules}
 use Rattle.std.specs.List.{Contains}
 use Rattle.redo_core.specs.Data.{RecordData}
 use Rattle.redo_core.specs.Keys.{key_of}
 use Rattle.redo_core.specs.declared.keys.Key.{Key}
 use Rattle.state_laws.specs.State.{State, state_of}
-use Rattle.segment_core.specs.Due.{DueData}
 use Rattle.segment_core.specs.Savepoint.{IsFormOf, brought_back, without}
-use Rattle.segment_core.specs.declared.points.Points.{Points}
 use Rattle.segment_core.proofs.Savepoints.{left_without}
 use Rattle.segment_core.proofs.segment.Segment.roll_back.Goals as goal
 
@@ -25,16 +23,11 @@ is_back c =
     cc
 
 whole : (c : goal.After-swap-3) → IsFormOf (left c) c.swap-2.new.x c.swap-3.new.x
-whole c =
-    let points : c.args.saved.now.points ≡ c.swap-2.new.x = cc in let due : c.args.saved.now.due ≡ c.swap-3.new.x = cc in
-    subst (λ (s : State). IsFormOf s c.swap-2.new.x c.swap-3.new.x) (sym (is_back c))
-    (subst (λ (p : Points). IsFormOf (brought_back c.args.saved.now c.args.self.now) p c.swap-3.new.x) points
-    (subst (λ (d : DueData). IsFormOf (brought_back c.args.saved.now c.args.self.now) c.args.saved.now.points d) due c.requires))
+whole c = search (rules, is_back)
 
 pub invariant_of-self : goal.invariant_of-self
 unfolding left
-invariant_of-self c =
-    let is = whole c in (is.form.book, is.form.held, is.form.store, is.form.base, is.points_are, is.due_are)
+invariant_of-self c = search (rules, whole)
 
 pub returns : goal.returns
 unfolding left

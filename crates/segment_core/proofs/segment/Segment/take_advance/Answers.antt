@@ -1,5 +1,5 @@
 use Rattle.state_laws.specs.State.{state_of}
-use Rattle.std.proofs.Common.{subst}
+use Rattle.std.proofs.Common.{subst, rules}
 use Rattle.redo_core.specs.declared.facts.Fact.TheVariants.{Advance}
 use Rattle.state_laws.proofs.Learnt.{takes_advance}
 use Rattle.segment_core.specs.Exactly.{TakesExactly}
@@ -17,20 +17,7 @@ returns c =
     c.learn_advance-learnt.result c.book_answer.result c.self.invariant.0 e.ok e.known e.unchanged e.err e.refuses e.refused e.memory c.book_answer.ensures)
 
 pub invariant_of-self : goal.invariant_of-self
-invariant_of-self c =
-    let e = c.learn_advance-learnt.ensures in (
-      e.book,
-      c.self.invariant.1,
-      c.self.invariant.2,
-      advance_bound c.self.inside.book c.learn_advance-learnt.new.self c.self.inside.base c.args.advance
-          c.learn_advance-learnt.result e.ok e.err c.self.invariant.3,
-      c.with_anchor-self-inside.ensures,
-      advance_due c.self.inside.book c.learn_advance-learnt.new.self c.self.inside.hot c.self.inside.store c.self.inside.due c.args.advance
-          c.learn_advance-learnt.result e.ok e.err c.self.invariant.5,
-    )
+invariant_of-self c = search (rules, advance_bound, advance_due)
 
 pub with_anchor-self-inside-requires : goal.with_anchor-self-inside-requires
-with_anchor-self-inside-requires c =
-    let e = c.learn_advance-learnt.ensures in
-    let i = c.self.inside in
-    advance_lags i.book c.learn_advance-learnt.new.self i.hot i.base i.points c.args.advance c.learn_advance-learnt.result e.ok e.err c.self.invariant.4
+with_anchor-self-inside-requires c = search (rules, advance_lags)

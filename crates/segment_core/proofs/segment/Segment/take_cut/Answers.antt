@@ -1,5 +1,5 @@
 use Rattle.state_laws.specs.State.{state_of}
-use Rattle.std.proofs.Common.{◌≡◌, ◌∙◌, sym, subst}
+use Rattle.std.proofs.Common.{◌≡◌, ◌∙◌, sym, subst, rules}
 use Rattle.redo_core.specs.declared.facts.Fact.TheVariants.{Cut}
 use Rattle.state_laws.proofs.Learnt.{takes_cut}
 use Rattle.state_laws.proofs.Knowing.{takes_known}
@@ -25,11 +25,7 @@ returns c =
     c.learn_cut-learnt.result c.book_answer.result c.self.invariant.0 e.book e.ok e.known e.unchanged e.err e.refuses e.refused e.memory c.book_answer.ensures))
 
 pub after_opening-self-inside-requires : goal.after_opening-self-inside-requires
-after_opening-self-inside-requires c =
-    let e = c.learn_cut-learnt.ensures in
-    let i = c.self.inside in
-    cut_had_points i.book c.learn_cut-learnt.new.self i.hot i.base c.complete_epoch-epoch.result i.points c.args.cut c.learn_cut-learnt.result
-    c.self.invariant.0 e.book e.ok e.err c.complete_epoch-epoch.ensures.value c.self.invariant.4
+after_opening-self-inside-requires c = search (rules, cut_had_points)
 
 pub invariant_of-self : goal.invariant_of-self
 invariant_of-self c =

@@ -1,4 +1,4 @@
-use Rattle.std.proofs.Common.{◌≡◌, ℕ, Ok, Err, sym, subst}
+use Rattle.std.proofs.Common.{◌≡◌, ℕ, Ok, Err, sym, subst, rules}
 use Rattle.redo_core.specs.Standing.{IsDead}
 use Rattle.state_laws.specs.State.{State, state_of}
 use Rattle.state_laws.specs.Promises.{KeepsMeaning}
@@ -6,7 +6,7 @@ use Rattle.segment_core.specs.Forgetting.{with_store, DiscardsJust, FoldsAll, Ti
 use Rattle.segment_core.specs.declared.answers.ReadFault.TheVariants.{BrokenBlockChain, Memory}
 use Rattle.segment_core.proofs.Following.{removal_keeps_points}
 use Rattle.segment_core.proofs.FirstBreak.{tells_first, tells_whole, sound_whole}
-use Rattle.segment_core.proofs.Tidying.{RemovesJustDead, removes_just, removals_keep, tidies_of, holds_kept, keeps_on}
+use Rattle.segment_core.proofs.Tidying.{RemovesJustDead, removals_keep, tidies_of, holds_kept, keeps_on}
 use Rattle.segment_core.proofs.DuePages.{fewer_held}
 use Rattle.segment_core.proofs.segment.Segment.tidy.Goals as goal
 
@@ -30,8 +30,7 @@ discards c = subst (DiscardsJust (with_store (before c) c.in-Ok.store)) (sym c.s
 
 removes : (c : goal.After-remove_dead) → RemovesJustDead (discarded c) (after c)
 unfolding discarded after
-removes c = removes_just c.self-2.inside.book c.self-2.inside.hot c.remove_dead.new.self c.self-2.inside.base c.self-2.inside.store
-    c.remove_dead.ensures.removes
+removes c = search rules
 
 tidies : (c : goal.After-remove_dead) → Tidies c.args.self.now (after c)
 unfolding before
