@@ -1,16 +1,13 @@
 -- Snapshots of states that meant some facts, the pieces of such, and stagings of these.
-use Rattle.std.proofs.Common.{◌≡◌, ◌≢◌, ℕ, ◌+◌, ◌*◌, ◌⊎◌, inl, inr, ⊎_elim, List, length, take, drop, sym, ◌∙◌, subst, arith, Option, Some}
-use Rattle.std.specs.List.{Contains, slice_get}
+use Rattle.std.proofs.Common.{◌≡◌, ◌≢◌, ℕ, ⊎_elim, List, sym, ◌∙◌, subst, Option, Some, rules}
+use Rattle.std.specs.List.{Contains}
 use Rattle.std.proofs.lemmas.Option.{same_Some}
-use Rattle.redo_core.specs.Data.{RecordData}
-use Rattle.redo_core.specs.Meaning.{ImageData}
 use Rattle.redo_core.specs.Sets.{SameSet}
 use Rattle.redo_core.specs.Sound.{IsSound}
 use Rattle.redo_core.specs.declared.facts.Fact.{Fact}
 use Rattle.redo_laws.proofs.Fronts.{same_sym}
-use Rattle.messages.specs.Pieces.{PieceData, max_batch}
+use Rattle.messages.specs.Pieces.{PieceData}
 use Rattle.messages.specs.declared.pieces.PieceContent.{PieceContent}
-use Rattle.messages.specs.declared.pieces.PieceContent.TheVariants.{Head, Page, Records}
 use Rattle.state_laws.specs.State.{State}
 use Rattle.state_laws.specs.Means.{Means}
 use Rattle.hydration.specs.Snapshots.{SnapshotData, Freezes, IsContentAt, IsPieceOf}
@@ -45,21 +42,11 @@ KeepsStaged roster log staged kept =
 -- ---- pieces of two snapshots that bring the same
 content_too : (d e : SnapshotData) (index : ℕ) (content : PieceContent) → e.pages ≡ d.pages → e.records ≡ d.records → index ≢ 0
     → IsContentAt e index content → IsContentAt d index content
-content_too d e index (Head book anchor) pages records later is = absurd (later is.0)
-content_too d e index (Page p) pages records later is = (is.0, is.1, subst (λ (ps : List ImageData). slice_get ps is.0 ≡ Some p) pages is.2)
-content_too d e index (Records rs) pages records later is = (
-  is.0,
-  subst (λ (ps : List ImageData). index ≡ 1 + length ps + is.0) pages is.1,
-  subst (λ (all : List RecordData). rs ≡ take max_batch (drop (max_batch * is.0) all)) records is.2,
-  is.3,
-)
+content_too d e index content pages records later is = search rules
 
 -- what is not a stranger's is of the staging's name and total
 pub own_piece : (st : StagingData) (p : PieceData) → (IsStranger st p → ⊥) → (p.name ≡ st.name) × (p.total ≡ st.total)
-own_piece st p own = (
-  ⊎_elim (λ (e : p.name ≡ st.name). e) (λ (other : p.name ≢ st.name). absurd (own (inl other))) (same_or_not p.name st.name),
-  ⊎_elim (λ (e : p.total ≡ st.total). e) (λ (other : p.total ≢ st.total). absurd (own (inr other))) (same_or_not p.total st.total),
-)
+own_piece st p own = search rules
 
 module _ (roster : ℕ) (log : List Fact) (staged : List (List Fact)) (st : StagingData) (facts : List Fact) (sound : IsSound roster log)
     (form : IsStaging st) (pieces : (index : ℕ) (p : PieceData) → piece_at st index ≡ Some p → IsOfStaged roster log staged p)

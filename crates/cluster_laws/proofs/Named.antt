@@ -1,5 +1,6 @@
 -- The names of the snapshots that nodes keep, and of those whose pieces they stage.
-use Rattle.std.proofs.Common.{◌≡◌, ◌≢◌, ℕ, ⊎_elim, List, [], ◌∷◌, ◌++◌, refl, sym, ap, ◌∙◌, subst, append_assoc, Option, Some, None}
+use Rattle.std.proofs.Common.{◌≡◌, ◌≢◌, ℕ, ⊎_elim, List, [], ◌∷◌, ◌++◌, refl, sym, ap, ◌∙◌, subst, Option, Some, None, rules, arith}
+use Rattle.std.proofs.lemmas.Grind.{common_steps}
 use Rattle.std.specs.List.{Contains}
 use Rattle.std.proofs.lemmas.Option.{same_Some}
 use Rattle.redo_core.specs.declared.facts.Fact.{Fact}
@@ -46,19 +47,7 @@ abbrev Comes : List (ℕ × Turn) → ℕ → Turn → Type 0
 Comes turns node t = ComesTold turns t.asked t.brought
 
 named_before : (turns more : List (ℕ × Turn)) (name : ℕ) (facts : List Fact) → IsNameOf turns name facts → IsNameOf (turns ++ more) name facts
-named_before turns more name facts named =
-    let w = named.1 in (
-      named.0,
-      record {
-        before = w.before;
-        turn = w.turn;
-        after = w.after ++ more;
-        all = ap (λ all. all ++ more) w.all ∙ append_assoc w.before (w.turn ∷ w.after) more;
-        asked_is = w.asked_is;
-        told_is = w.told_is;
-        facts_are = w.facts_are;
-      },
-    )
+named_before turns more name facts named = grind (arith, common_steps)
 
 -- ---- the node of the turn
 module _ (turns : List (ℕ × Turn)) (node : ℕ) (t : Turn) (old new : ReplicaData) (told : TellNamed turns) (had : IsNamed turns node old)
@@ -88,12 +77,7 @@ module _ (turns : List (ℕ × Turn)) (node : ℕ) (t : Turn) (old new : Replica
   as_before : staged_after (staged_at turns node) t.brought t.asked t.told ≡ staged_at turns node
       → ((st : StagingData) → new.staging ≡ Some st → st.name ≡ had.staging.name)
       → StagesNamed (turns ++ (node, t) ∷ []) (staged_after (staged_at turns node) t.brought t.asked t.told) new.staging
-  as_before same own = subst (λ staged. StagesNamed (turns ++ (node, t) ∷ []) staged new.staging) (sym same)
-      (let named : StagesNamed (turns ++ (node, t) ∷ []) (staged_at turns node) new.staging = record {
-        name = had.staging.name;
-        named = staged_before;
-        own = own;
-      } in named)
+  as_before same own = search (rules, staged_before)
 
   with_more : HasMore old.staging new.staging t.asked t.told
       → StagesNamed (turns ++ (node, t) ∷ []) (t.brought ∷ staged_at turns node) new.staging
@@ -176,10 +160,7 @@ named_kept : IsKept IsNamed TellNamed Comes
 named_kept = record { own = own_named; others = other_named; all = told_named }
 
 begun_named : (roster : ℕ) (pages : ℕ → ℕ) (node : ℕ) → IsNamed [] node (empty_replica roster (pages node))
-begun_named roster pages node = record {
-  snapshot = λ d is. absurd (cc);
-  staging = record { name = 0; named = λ facts in_it. absurd (none_in facts in_it); own = λ st is. absurd (cc) };
-}
+begun_named roster pages node = search rules
 
 pub names_suffice : NamesSuffice
 names_suffice roster pages turns nodes runs come differ before after node facts others all one other =

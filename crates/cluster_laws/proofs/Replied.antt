@@ -1,5 +1,5 @@
 -- Each reply is that of the facts that the replica means.
-use Rattle.std.proofs.Common.{◌≡◌, ℕ, ◌<◌, ◌⊎◌, inl, inr, ⊎_elim, List, refl, sym, ap, ◌∙◌, subst, arith, Some, None, Result, Ok, Err, IfOk, IfErr, OnOk}
+use Rattle.std.proofs.Common.{◌≡◌, ℕ, ◌⊎◌, inl, inr, ⊎_elim, List, refl, sym, ap, ◌∙◌, subst, arith, Some, None, Result, Ok, Err, IfOk, IfErr, OnOk, rules}
 use Rattle.std.specs.List.{Contains}
 use Rattle.redo_core.specs.Position.{Position}
 use Rattle.redo_core.specs.Sets.{SameSet}
@@ -10,10 +10,9 @@ use Rattle.redo_laws.proofs.Fronts.{front_unique, page_unique}
 use Rattle.redo_laws.proofs.Log.{log_of_sound}
 use Rattle.messages.specs.Deltas.{DeltaData}
 use Rattle.messages.specs.Summaries.{SummaryData}
-use Rattle.state_laws.specs.State.{State, version_of}
+use Rattle.state_laws.specs.State.{State}
 use Rattle.state_laws.specs.Means.{Means}
 use Rattle.state_laws.proofs.Same.{meaning_law}
-use Rattle.segment_core.specs.Folding.{Commits}
 use Rattle.segment_core.specs.Forgetting.{IsSoundState}
 use Rattle.segment_core.specs.Reading.{IsFrontAt, IsReadResult}
 use Rattle.segment_core.specs.Refusing.{FitsSoundLog}
@@ -39,7 +38,7 @@ use Rattle.replica.specs.declared.replies.Reply.{Reply}
 use Rattle.replica.specs.declared.replies.Reply.TheVariants as reply
 use Rattle.replica.specs.Parts.{ReplicaData}
 use Rattle.replica.specs.Replying.{taken_reply, refusal_reply, fault_reply, read_reply, tidied_reply, delta_reply, absorbed_reply}
-use Rattle.replica.specs.AtSegment.{LacksMemory, CommitsPlan}
+use Rattle.replica.specs.AtSegment.{CommitsPlan}
 use Rattle.replica.specs.Gossiping.{SumsUp}
 use Rattle.replica.specs.Machine.{IsReply}
 use Rattle.replica.specs.Meaning.{BringsDelta, ReplicaMeans}
@@ -123,16 +122,11 @@ module _ (roster : ℕ) (log facts : List Fact) (s : State) (sound : IsSound ros
   -- ---- folds
   folded : (old new : Cached) (told : Reply) (plan : Result Folded ReadFault) → old.segment ≡ s → IfErr plan (λ f. IsSoundState old.segment → f ≡ fault.Memory)
       → CommitsPlan old plan told new → (told ≡ reply.Memory) ⊎ (told ≡ reply.Folded)
-  folded old new told (Ok done) same whole commits = ⊎_elim
-      (λ (did : (told ≡ reply.Folded) × Commits old.segment done new.segment). inr did.0)
-      (λ (lacks : LacksMemory old told new × (version_of old.segment.store done.page < done.version)). inl lacks.0.0)
-      commits
-  folded old new told (Err f) same whole commits = inl (commits.0 ∙ ap fault_reply (whole (subst IsSoundState (sym same) sound_state)))
+  folded old new told plan same whole commits = search rules
 
   tidied : (told : Reply) (answer : Result (Unit {0}) ReadFault) → IfErr answer (λ f. IsSoundState s → f ≡ fault.Memory) → told ≡ tidied_reply answer
       → (told ≡ reply.Memory) ⊎ (told ≡ reply.Tidied)
-  tidied told (Ok done) whole is = inr is
-  tidied told (Err f) whole is = inl (is ∙ ap fault_reply (whole sound_state))
+  tidied told answer whole is = search rules
 
 -- what is absorbed has what some facts of the log have beyond the summary, and what is taken is of the log
 abbrev pub BringsSome : ℕ → List Fact → Request → List Fact → Type 0
@@ -171,13 +165,7 @@ replies_as roster log facts brought old new asked told sound means brings says =
 
 -- ---- one reply
 fronts_alike : (p q : Position) (f g : Front) → p ≡ q → IsFrontAt p f → IsFrontAt q g → f ≡ g
-fronts_alike p q f g same h k =
-    let own : IsFrontAt q f = subst (λ at. IsFrontAt at f) same h in
-    let epoch : f.epoch ≡ g.epoch = own.epoch ∙ sym k.epoch in
-    let complete : f.complete ≡ g.complete = own.complete ∙ sym k.complete in
-    let min : f.min ≡ g.min = own.min ∙ sym k.min in
-    let t : (let v : Front = record { epoch = f.epoch; complete = f.complete; min = f.min } in
-    v) ≡ record { epoch = g.epoch; complete = g.complete; min = g.min } = cc in t
+fronts_alike p q f g same h k = search rules
 
 one_read : (facts others : List Fact) → SameSet facts others → (p : Position) (page q : ℕ) (a b : Result (List ℕ) ReadFault)
     → IsReadResult facts p page q a → IsReadResult others p page q b → (read_reply a ≡ reply.Memory → ⊥) → (read_reply b ≡ reply.Memory → ⊥) → read_reply a ≡ read_reply b

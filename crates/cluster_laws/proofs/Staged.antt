@@ -1,9 +1,8 @@
 -- A node's snapshot and staging after a turn, where they were of snapshots of some facts.
-use Rattle.std.proofs.Common.{◌≡◌, ◌≢◌, ℕ, ⊎_elim, List, [], ◌∷◌, sym, ◌∙◌, subst, Option, Some, None}
+use Rattle.std.proofs.Common.{◌≡◌, ◌≢◌, ℕ, ⊎_elim, List, [], ◌∷◌, sym, ◌∙◌, subst, Option, Some, None, rules}
 use Rattle.std.proofs.lemmas.Option.{same_Some}
 use Rattle.redo_core.specs.declared.facts.Fact.{Fact}
 use Rattle.redo_core.proofs.Members.{here, there}
-use Rattle.messages.specs.Pieces.{PieceData}
 use Rattle.state_laws.specs.Means.{Means}
 use Rattle.hydration.specs.Stagings.{StagingData, staging_of, piece_at}
 use Rattle.replica.specs.declared.requests.Request.{Request}
@@ -12,23 +11,14 @@ use Rattle.replica.specs.declared.replies.Reply.{Reply}
 use Rattle.replica.specs.Parts.{ReplicaData}
 use Rattle.replica.specs.Machine.{IsReply}
 use Rattle.cluster_laws.specs.Turns.{frozen_after, staged_after}
-use Rattle.cluster_laws.proofs.Beside.{SnapshotStays, IsFrozen, snapshot_goes, StagingStays, IsGone, IsBegun, HasMore, staging_goes}
-use Rattle.cluster_laws.proofs.Made.{IsMade, IsTold, KeepsMade, IsOfStaged, KeepsStaged}
+use Rattle.cluster_laws.proofs.Beside.{StagingStays, IsGone, IsBegun, HasMore, staging_goes}
+use Rattle.cluster_laws.proofs.Made.{IsTold, KeepsMade, KeepsStaged}
 use Rattle.replica.proofs.Restarts.{same_or_not}
 
 module _ (roster : ℕ) (log facts frozen : List Fact) (asked : Request) (told : Reply) (old new : ReplicaData) where
   pub snapshot_made : Means roster log facts old.cached.segment → KeepsMade roster log frozen old.snapshot → IsReply old asked told new
       → KeepsMade roster log (frozen_after facts frozen asked told) new.snapshot
-  snapshot_made means had says = ⊎_elim
-      (λ (stays : SnapshotStays old.snapshot new.snapshot asked told).
-      subst (λ fs. KeepsMade roster log fs new.snapshot) (sym (stays.1 facts frozen)) (subst (KeepsMade roster log frozen) (sym stays.0) had))
-      (λ (made : IsFrozen old.cached.segment new.snapshot asked told).
-      let keeps = made.2 in
-      let one : IsMade roster log facts keeps.snapshot = record { state = old.cached.segment; freezes = keeps.freezes; means = means } in
-      subst (λ a. KeepsMade roster log (frozen_after facts frozen a told) new.snapshot) (sym made.1)
-      (subst (λ r. KeepsMade roster log (frozen_after facts frozen (request.Freeze made.0) r) new.snapshot) (sym keeps.is)
-      (λ d is. subst (IsMade roster log facts) (same_Some keeps.snapshot d (sym keeps.kept ∙ is)) one)))
-      (snapshot_goes asked told old new says)
+  snapshot_made means had says = search rules
 
 -- the piece that a turn adds is of the facts that it brings
 abbrev pub AddsTold : ℕ → List Fact → List Fact → Request → Type 0
@@ -36,12 +26,8 @@ AddsTold roster log brought (request.Add piece) = IsTold roster log brought piec
 AddsTold roster log brought asked = Unit {0}
 
 module _ (roster : ℕ) (log brought : List Fact) (staged : List (List Fact)) where
-  no_piece : (name total index : ℕ) (p : PieceData) → piece_at (staging_of name total []) index ≡ Some p → IsOfStaged roster log [] p
-  no_piece name total index p is = absurd (cc)
-
   begun : (name total : ℕ) (new : Option StagingData) → new ≡ Some (staging_of name total []) → KeepsStaged roster log [] new
-  begun name total new is st has index p at =
-      no_piece name total index p (subst (λ (x : StagingData). piece_at x index ≡ Some p) (same_Some st (staging_of name total []) (sym has ∙ is)) at)
+  begun name total new is st has index p at = cc
 
   one_more : (old new : Option StagingData) (asked : Request) (told : Reply) → KeepsStaged roster log staged old → AddsTold roster log brought asked
       → HasMore old new asked told → KeepsStaged roster log (brought ∷ staged) new

@@ -1,5 +1,5 @@
 -- How all nodes stand after some turns of a run, and after one more.
-use Rattle.std.proofs.Common.{◌≡◌, ◌≢◌, ℕ, ◌<◌, ◌≤◌, ◌⊎◌, ⊎_elim, List, [], ◌∷◌, ◌++◌, refl, sym, subst, arith, Option, Some, None, Result, Ok, Err, IfOk}
+use Rattle.std.proofs.Common.{◌≡◌, ◌≢◌, ℕ, ⊎_elim, List, [], ◌∷◌, ◌++◌, refl, sym, subst, Option, Some, None, Result, Ok, Err, IfOk, rules}
 use Rattle.redo_core.specs.Sound.{IsSound}
 use Rattle.redo_core.specs.declared.facts.Fact.{Fact}
 use Rattle.messages.specs.Deltas.{DeltaData}
@@ -9,14 +9,12 @@ use Rattle.state_laws.specs.State.{State}
 use Rattle.state_laws.specs.Means.{Means}
 use Rattle.state_laws.proofs.Bare.{empty_means}
 use Rattle.segment_core.specs.declared.answers.ReadFault.{ReadFault}
-use Rattle.segment_core.specs.declared.answers.ReadFault.TheVariants as fault
 use Rattle.gossip_core.specs.Replying.{FillsSummary}
 use Rattle.read_cache.specs.Cached.{Cached}
 use Rattle.hydration.specs.Snapshots.{SnapshotData, IsPieceOf}
 use Rattle.hydration.specs.Stagings.{StagingData}
 use Rattle.hydration.specs.Hydrating.{Hydrates, MeansFrozen}
 use Rattle.hydration.specs.declared.finishing.FinishFault.{FinishFault}
-use Rattle.hydration.specs.declared.finishing.FinishFault.TheVariants as finish
 use Rattle.replica.specs.declared.requests.Request.{Request}
 use Rattle.replica.specs.declared.requests.Request.TheVariants as request
 use Rattle.replica.specs.declared.replies.Reply.{Reply}
@@ -53,29 +51,15 @@ pub record HaveTold (roster : ℕ) (log : List Fact) (turns : List (ℕ × Turn)
 
 -- ---- what is told
 not_delta : (delta : DeltaData) (why : ReadFault) → reply.Delta delta ≡ fault_reply why → ⊥
-not_delta delta (fault.Below min) e = cc
-not_delta delta (fault.Above complete) e = cc
-not_delta delta (fault.BrokenBlockChain page number) e = cc
-not_delta delta fault.Memory e = cc
+not_delta delta why e = search rules
 
 one_delta : (d e : DeltaData) → reply.Delta d ≡ reply.Delta e → e ≡ d
 one_delta d e h = cc
 
-same_piece : (p q : PieceData) → reply.Piece p ≡ reply.Piece q → q ≡ p
-same_piece p q h = cc
-
 -- a piece that is told is of the snapshot that is kept
 pub piece_told : (kept : Option SnapshotData) (index : ℕ) (p : PieceData) → Pieces kept index (reply.Piece p)
     → (d : SnapshotData) × (kept ≡ Some d) × IsPieceOf d p
-piece_told None index p says = absurd (let e : reply.Piece p ≡ reply.NoSnapshot = says in cc)
-piece_told (Some d) index p says = ⊎_elim
-    (λ (none : d.total ≤ index). absurd (let e : reply.Piece p ≡ reply.NoPiece = says.0 none in cc))
-    (λ (there : index < d.total). ⊎_elim
-    (λ (lacks : reply.Piece p ≡ reply.Memory). absurd (cc))
-    (λ (one : (q : PieceData) × IsPieceOf d q × (q.index ≡ index) × (reply.Piece p ≡ reply.Piece q)).
-    (d, refl, subst (λ (x : PieceData). IsPieceOf d x) (same_piece p one.0 one.3) one.1))
-    (says.1 there))
-    (let t : (d.total ≤ index) ⊎ (index < d.total) = grind arith in t)
+piece_told kept index p says = search rules
 
 module _ (roster : ℕ) (log : List Fact) (sound : IsSound roster log) where
   delta_by : (facts : List Fact) (s : State) (summary : SummaryData) (delta : DeltaData) (answer : Result DeltaData ReadFault) → Means roster log facts s
@@ -109,9 +93,7 @@ module _ (roster : ℕ) (log : List Fact) (sound : IsSound roster log) where
   -- ---- the node of the turn
   not_finished : (facts brought : List Fact) (s : State) (why : FinishFault) → Means roster log facts s
       → Means roster log (facts_after facts brought request.Finish (unfinished_reply why)) s
-  not_finished facts brought s (finish.Missing index) means = means
-  not_finished facts brought s (finish.Malformed index) means = means
-  not_finished facts brought s finish.Memory means = means
+  not_finished facts brought s why means = search rules
 
   finished_by : (facts brought : List Fact) (old new : Cached) (st : StagingData) (staging : Option StagingData) (told : Reply)
       (answer : Result State FinishFault) → Means roster log facts old.segment
@@ -170,11 +152,7 @@ module _ (roster : ℕ) (log : List Fact) (sound : IsSound roster log) where
   -- ---- the other nodes
   other_stands : (turns : List (ℕ × Turn)) (node other : ℕ) (t : Turn) (r : ReplicaData) → node ≢ other → Stands roster log turns other r
       → Stands roster log (turns ++ (node, t) ∷ []) other r
-  other_stands turns node other t r apart stands = record {
-    means = subst (λ facts. ReplicaMeans roster log facts r) (sym (other_facts turns node other t apart)) stands.means;
-    snapshot = subst (λ facts. KeepsMade roster log facts r.snapshot) (sym (other_frozen turns node other t apart)) stands.snapshot;
-    staging = subst (λ staged. KeepsStaged roster log staged r.staging) (sym (other_staged turns node other t apart)) stands.staging;
-  }
+  other_stands turns node other t r apart stands = search (rules, other_facts, other_frozen, other_staged)
 
   -- ---- all
   abbrev pub Comes : List (ℕ × Turn) → ℕ → Turn → Type 0

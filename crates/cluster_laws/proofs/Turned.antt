@@ -1,8 +1,7 @@
 -- Lists of turns, with one turn more.
-use Rattle.std.proofs.Common.{◌≡◌, ◌≢◌, ℕ, ◌⊎◌, inl, inr, List, [], ◌∷◌, ◌++◌, refl, ap, ◌∙◌, subst, arith, Bool, true, false}
+use Rattle.std.proofs.Common.{◌≡◌, ◌≢◌, ℕ, ◌⊎◌, inl, inr, List, [], ◌∷◌, ◌++◌, refl, ap, ◌∙◌, arith, Bool, true, false, rules}
 use Rattle.std.specs.Prelude.{◌==◌, if◌then◌else◌}
 use Rattle.std.proofs.lemmas.Bool.Decides.{nat_tests}
-use Rattle.std.proofs.lemmas.List.{append-nil}
 use Rattle.redo_core.specs.declared.facts.Fact.{Fact}
 use Rattle.replica.specs.declared.requests.Request.{Request}
 use Rattle.replica.specs.declared.replies.Reply.{Reply}
@@ -12,8 +11,7 @@ use Rattle.cluster_laws.specs.Turns.{turns_of, facts_at, frozen_after, frozen_af
 -- ---- one node's turns
 one_more : (b : Bool) (t : Turn) (all own rest : List Turn) → all ≡ own ++ rest
     → (if b then t ∷ all else all) ≡ (if b then t ∷ own else own) ++ rest
-one_more true t all own rest e = ap (λ turns. t ∷ turns) e
-one_more false t all own rest e = e
+one_more b t all own rest e = search rules
 
 turns_more : (node : ℕ) (turns more : List (ℕ × Turn)) → turns_of node (turns ++ more) ≡ turns_of node turns ++ turns_of node more
 turns_more node [] more = refl
@@ -36,9 +34,7 @@ own_last : (turns : List (ℕ × Turn)) (node : ℕ) (t : Turn) → turns_of nod
 own_last turns node t = turns_more node turns ((node, t) ∷ []) ∙ ap (λ own. turns_of node turns ++ own) (own_turn node t [])
 
 other_last : (turns : List (ℕ × Turn)) (node other : ℕ) (t : Turn) → node ≢ other → turns_of other (turns ++ (node, t) ∷ []) ≡ turns_of other turns
-other_last turns node other t apart =
-    turns_more other turns ((node, t) ∷ []) ∙ ap (λ own. turns_of other turns ++ own) (other_turn node other t [] apart)
-    ∙ append-nil (turns_of other turns)
+other_last turns node other t apart = search (rules, turns_more)
 
 -- ---- what they leave of it
 facts_more : (facts : List Fact) (turns more : List Turn) → facts_after_all facts (turns ++ more) ≡ facts_after_all (facts_after_all facts turns) more
@@ -96,19 +92,4 @@ split_last (w ∷ xs) x (z ∷ before) y after e = elim (split_last xs x before 
 pub replied_last : (had : List (ℕ × Turn) → ℕ → List Fact) (turns : List (ℕ × Turn)) (node : ℕ) (t : Turn) (asked : Request) (told : Reply) (facts : List Fact)
     → WasReplied had (turns ++ (node, t) ∷ []) asked told facts
     → WasReplied had turns asked told facts ⊎ ((t.asked ≡ asked) × (t.told ≡ told) × (facts ≡ had turns node))
-replied_last had turns node t asked told facts w = elim (split_last turns (node, t) w.before w.turn w.after w.all) [
-  | inl last ↦ inr (
-    subst (λ (x : ℕ × Turn). x.1.asked ≡ asked) last.1 w.asked_is,
-    subst (λ (x : ℕ × Turn). x.1.told ≡ told) last.1 w.told_is,
-    w.facts_are ∙ ap (λ before. had before w.turn.0) last.0 ∙ ap (λ (x : ℕ × Turn). had turns x.0) last.1,
-  )
-  | inr earlier ↦ inl (record {
-    before = w.before;
-    turn = w.turn;
-    after = earlier.0;
-    all = earlier.1;
-    asked_is = w.asked_is;
-    told_is = w.told_is;
-    facts_are = w.facts_are;
-  })
-]
+replied_last had turns node t asked told facts w = search (rules, split_last)

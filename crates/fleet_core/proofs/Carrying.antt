@@ -1,5 +1,5 @@
 -- A step that was carried out at its node, from what the node's call ensures.
-use Rattle.std.proofs.Common.{◌≡◌, ℕ, ◌+◌, ⊎_elim, ◌↔◌, List, [], ◌∷◌, ◌++◌, length, refl, sym, ap, ◌∙◌, subst, Option, Some, None, Result, Ok, Err, OnErr}
+use Rattle.std.proofs.Common.{◌≡◌, ℕ, ⊎_elim, ◌↔◌, List, refl, sym, subst, Option, Some, None, Result, OnErr, rules}
 use Rattle.std.specs.Prelude.{MatchOption}
 use Rattle.redo_core.specs.declared.facts.Fact.{Fact}
 use Rattle.messages.specs.Summaries.{SummaryData}
@@ -7,23 +7,19 @@ use Rattle.messages.specs.Deltas.{DeltaData}
 use Rattle.state_laws.specs.State.{State}
 use Rattle.redo_core.specs.declared.refusal.Refused.{Refused}
 use Rattle.segment_core.specs.declared.answers.Taken.{Taken}
-use Rattle.segment_core.specs.declared.answers.Taken.TheVariants as taken
 use Rattle.segment_core.specs.declared.answers.ReadFault.{ReadFault}
-use Rattle.segment_core.specs.declared.answers.ReadFault.TheVariants as fault
 use Rattle.segment_core.specs.declared.answers.Refusal.{Refusal}
-use Rattle.segment_core.specs.declared.answers.Refusal.TheVariants as refusal
 use Rattle.gossip_core.specs.declared.absorbing.AbsorbRefusal.{AbsorbRefusal}
-use Rattle.gossip_core.specs.declared.absorbing.AbsorbRefusal.TheVariants as absorb
 use Rattle.fleet_steps.specs.declared.steps.Step.{Step}
 use Rattle.fleet_steps.specs.declared.steps.Step.TheVariants as step
 use Rattle.fleet_core.specs.declared.replies.Reply.{Reply}
-use Rattle.fleet_core.specs.declared.replies.Reply.TheVariants.{Message as MessageIs, NoNode, NoMessage, Memory}
+use Rattle.fleet_core.specs.declared.replies.Reply.TheVariants.{NoNode, NoMessage, Memory}
 use Rattle.fleet_core.specs.declared.making.Made.{Made}
-use Rattle.fleet_core.specs.declared.making.Made.TheVariants.{Question, Answer}
+use Rattle.fleet_core.specs.declared.making.Made.TheVariants.{Question}
 use Rattle.fleet_core.specs.Machine.{Message, messages_after}
 use Rattle.fleet_core.specs.Messages.{question_in, answer_in, lacking, missing_message, AreMade}
 use Rattle.fleet_core.specs.Refused.{IsRefusal}
-use Rattle.fleet_core.specs.Replying.{fault_reply, taken_reply, read_reply, refusal_reply, absorbed_reply}
+use Rattle.fleet_core.specs.Replying.{taken_reply, read_reply, absorbed_reply}
 use Rattle.fleet_core.specs.MessageCalls.{Makes, SumsUp, Asks, MakesAnswer, AnswersQuestion, AnswersNumber, AbsorbsDelta, AbsorbsAnswer, AbsorbsNumber}
 use Rattle.fleet_core.specs.Calls.{Takes, NodeCalls}
 use Rattle.fleet_core.specs.AtNode.{OwnFollows, IsCarriedOut}
@@ -55,29 +51,14 @@ IsOfNode (NoNode node) = ⊥
 IsOfNode (NoMessage number) = ⊥
 IsOfNode reply = Unit {0}
 
-of_fault : (why : ReadFault) → IsOfNode (fault_reply why)
-of_fault (fault.Below min) = tt
-of_fault (fault.Above complete) = tt
-of_fault (fault.BrokenBlockChain page number) = tt
-of_fault fault.Memory = tt
-
 of_read : (answer : Result (List ℕ) ReadFault) → IsOfNode (read_reply answer)
-of_read (Ok image) = tt
-of_read (Err why) = of_fault why
-
-of_refusal : (why : Refusal) → IsOfNode (refusal_reply why)
-of_refusal refusal.Memory = tt
-of_refusal other = tt
+of_read answer = search rules
 
 of_taken : (answer : Result Taken (Refused Fact Refusal)) → IsOfNode (taken_reply answer)
-of_taken (Ok taken.Changed) = tt
-of_taken (Ok taken.Unchanged) = tt
-of_taken (Err refused) = of_refusal refused.fault
+of_taken answer = search rules
 
 of_absorbed : (answer : Result (Unit {0}) AbsorbRefusal) → IsOfNode (absorbed_reply answer)
-of_absorbed (Ok done) = tt
-of_absorbed (Err (absorb.Uncovered shown)) = tt
-of_absorbed (Err (absorb.Refused why)) = of_refusal why
+of_absorbed answer = search rules
 
 not_missing : (reply : Reply) → IsOfNode reply → (node : ℕ) → reply ≡ NoNode node → ⊥
 not_missing reply of node e = subst IsOfNode e of
@@ -98,9 +79,7 @@ of_told reply told e of = subst IsOfNode (sym e) of
 
 -- a fact that the segment refuses leaves it as it was
 left_by_take : (old new : State) (answer : Result Taken (Refused Fact Refusal)) → OnErr answer (new ≡ old) → IsRefusal (taken_reply answer) → new ≡ old
-left_by_take old new (Ok taken.Changed) same is = absurd is
-left_by_take old new (Ok taken.Unchanged) same is = absurd is
-left_by_take old new (Err refused) same is = same
+left_by_take old new answer same is = search rules
 
 pub take_step : (readers : ℕ) (old : State) (other : Option State) (messages : List Made) (node : ℕ) (fact : Fact) (reply : Reply) (new : State)
     → Takes old fact reply new → IsCarriedOut readers old other messages (step.Take node fact) reply new messages
@@ -110,35 +89,24 @@ take_step readers old other messages node fact reply new takes =
     (takes, refl) (not_missing reply of) (not_lacking reply of) (λ is. left_by_take old new takes.0 takes.1.unchanged (subst IsRefusal takes.2 is))
 
 of_made : (messages : List Made) (message : Made) (reply : Reply) (made : List Made) → Makes messages message reply made → IsOfNode reply
-of_made messages message reply made makes =
-    ⊎_elim
-    (λ (none : (reply ≡ Memory) × (made ≡ messages)). of_told reply Memory none.0 tt)
-    (λ (one : (reply ≡ MessageIs (length messages + 1)) × (made ≡ messages ++ message ∷ [])). of_told reply (MessageIs (length messages + 1)) one.0 tt)
-    makes
+of_made messages message reply made makes = search rules
 
 -- no message is made where the step is refused
 none_made : (messages : List Made) (message : Made) (reply : Reply) (made : List Made) → Makes messages message reply made → IsRefusal reply
     → made ≡ messages
-none_made messages message reply made makes is =
-    ⊎_elim
-    (λ (none : (reply ≡ Memory) × (made ≡ messages)). none.1)
-    (λ (one : (reply ≡ MessageIs (length messages + 1)) × (made ≡ messages ++ message ∷ [])). absurd (subst IsRefusal one.0 is))
-    makes
+none_made messages message reply made makes is = search rules
 
 of_answer : (messages : List Made) (number : ℕ) (answer : Result DeltaData ReadFault) (reply : Reply) (made : List Made)
     → MakesAnswer messages number answer reply made → IsOfNode reply
-of_answer messages number (Ok delta) reply made makes = of_made messages (Answer number delta) reply made makes
-of_answer messages number (Err why) reply made makes = of_told reply (fault_reply why) makes.0 (of_fault why)
+of_answer messages number answer reply made makes = search rules
 
 none_answered : (messages : List Made) (number : ℕ) (answer : Result DeltaData ReadFault) (reply : Reply) (made : List Made)
     → MakesAnswer messages number answer reply made → IsRefusal reply → made ≡ messages
-none_answered messages number (Ok delta) reply made makes is = none_made messages (Answer number delta) reply made makes is
-none_answered messages number (Err why) reply made makes is = makes.1
+none_answered messages number answer reply made makes is = search rules
 
 none_absorbed : (old : State) (x : SummaryData × DeltaData) (answer : Result (Unit {0}) AbsorbRefusal) (new : State) → AbsorbsDelta old x.0 x.1 answer new
     → (reply : Reply) → reply ≡ absorbed_reply answer → IsRefusal reply → new ≡ old
-none_absorbed old x (Ok done) new absorbs reply told is = absurd (subst IsRefusal told is)
-none_absorbed old x (Err why) new absorbs reply told is = absorbs.unchanged
+none_absorbed old x answer new absorbs reply told is = search rules
 
 -- ---- steps that do
 
@@ -168,23 +136,12 @@ ask_step readers s other messages node reply made asks =
 -- of two answers the one is that there is nothing of the number
 lacks : {A : Type 0} (o : Option A) (number : ℕ) (reply : Reply) → o ≡ None → reply ≡ NoMessage number → (n : ℕ)
     → (reply ≡ NoMessage n) ↔ (lacking o number ≡ Some n)
-lacks o number reply none told n = (
-  λ e. let same : number ≡ n = (let both : NoMessage number ≡ NoMessage n = sym told ∙ e in
-      cc) in
-      subst (λ x. lacking x number ≡ Some n) (sym none) (ap (λ x. Some x) same),
-  λ e. let same : number ≡ n = (let both : Some number ≡ Some n = subst (λ x. lacking x number ≡ Some n) none e in
-      cc) in
-      told ∙ ap (λ x. NoMessage x) same,
-)
+lacks o number reply none told n = search rules
 
 -- and the other is of the node
 lacks_none : {A : Type 0} (o : Option A) (x : A) (number : ℕ) (reply : Reply) → o ≡ Some x → IsOfNode reply → (n : ℕ)
     → (reply ≡ NoMessage n) ↔ (lacking o number ≡ Some n)
-lacks_none o x number reply some of n = (
-  λ e. absurd (not_lacking reply of n e),
-  λ e. absurd (let never : None ≡ Some n = subst (λ y. lacking y number ≡ Some n) some e in
-      cc),
-)
+lacks_none o x number reply some of n = search rules
 
 answer_by : (readers : ℕ) (s : State) (other : Option State) (messages : List Made) (node number : ℕ) (reply : Reply) (made : List Made)
     → AnswersNumber s messages number reply made → (o : Option SummaryData) → question_in messages number ≡ o

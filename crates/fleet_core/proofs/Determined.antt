@@ -1,6 +1,7 @@
 -- A step that was carried out has one reply, and a script has one list of replies.
-use Rattle.std.proofs.Common.{◌≡◌, ℕ, ◌+◌, ◌-◌, ◌≤◌, ◌⊎◌, ⊎_elim, ◌↔◌, Bool, true, false, IsTrue, List, []}
+use Rattle.std.proofs.Common.{◌≡◌, ℕ, ◌+◌, ◌-◌, ◌≤◌, ◌⊎◌, ⊎_elim, ◌↔◌, Bool, IsTrue, List, [], rules}
 use Rattle.std.proofs.Common.{◌∷◌, ◌++◌, refl, sym, ap, ◌∙◌, subst, arith, Option, Some, None}
+use Rattle.std.proofs.lemmas.Grind.{common_steps}
 use Rattle.std.specs.Prelude.{MatchOption, length}
 use Rattle.std.specs.List.{Contains, AllByRecursion}
 use Rattle.redo_core.specs.Sets.{IsPart}
@@ -13,28 +14,26 @@ use Rattle.redo_core.specs.declared.facts.Fact.{Fact}
 use Rattle.redo_laws.specs.OrderOfMeanings.{Covers}
 use Rattle.redo_laws.proofs.Log.{log_of_sound}
 use Rattle.redo_laws.proofs.Fronts.{front_unique, page_unique}
-use Rattle.redo_laws.proofs.Meanings.{meaning_exists, in_map}
+use Rattle.redo_laws.proofs.Meanings.{meaning_exists}
 use Rattle.redo_core.specs.Meaning.{Meaning}
 use Rattle.redo_core.proofs.Pairs.{pair_apart}
 use Rattle.state_laws.specs.Gossip.{AnswersFor}
 use Rattle.gossip_core.specs.declared.answering.Shown.{Shown}
 use Rattle.gossip_core.specs.declared.answering.Shown.TheVariants.{Anchor as OfAnchor, Key as OfKey}
-use Rattle.redo_core.proofs.Members.{none_in, which}
+use Rattle.redo_core.proofs.Members.{none_in}
 use Rattle.redo_core.proofs.Listing.{all_push}
 use Rattle.redo_laws.proofs.Union.{both}
-use Rattle.segment_core.specs.Reading.{IsFrontAt}
-use Rattle.segment_core.specs.declared.answers.Front.{Front}
 use Rattle.fleet_steps.specs.Nodes.{node_of, other_of, nodes_of, first_missing}
 use Rattle.fleet_steps.specs.declared.steps.Step.{Step}
 use Rattle.fleet_steps.specs.declared.steps.Step.TheVariants as step
 use Rattle.fleet_core.specs.declared.replies.Reply.{Reply}
-use Rattle.fleet_core.specs.declared.replies.Reply.TheVariants.{Changed, Unchanged, Folded, Front as FrontIs, Joined, Answer, Wiped, NoNode, Memory}
+use Rattle.fleet_core.specs.declared.replies.Reply.TheVariants.{Changed, Unchanged, Folded, Joined, Answer, Wiped, NoNode, Memory}
 use Rattle.fleet_core.specs.declared.replies.Reply.TheVariants.{Message as MessageIs, Absorbed, Uncovered, NoMessage}
 use Rattle.fleet_core.specs.Machine.{Message, Machine, node_facts, numbered, asked_by, asked_in, answered_by, answered_in, brought_by, facts_after}
 use Rattle.fleet_core.specs.Machine.{answers_to, messages_after, after}
 use Rattle.fleet_core.specs.Machine.Message.{Asked, Answered}
-use Rattle.fleet_core.specs.Replies.{RepliesTake, RepliesFront, RepliesRead, RepliesSame, RepliesCovers, reply_of, NodeReplies, Replies, HasCome}
-use Rattle.fleet_core.specs.Replies.{keys_of, summary_of_meaning, LeavesUncovered, RepliesAbsorb, RepliesNumber}
+use Rattle.fleet_core.specs.Replies.{RepliesTake, RepliesFront, RepliesRead, RepliesSame, RepliesCovers, NodeReplies, Replies, HasCome}
+use Rattle.fleet_core.specs.Replies.{summary_of_meaning, LeavesUncovered, RepliesAbsorb, RepliesNumber}
 use Rattle.fleet_core.specs.Runs.{TakesFrom, AreReplies}
 use Rattle.fleet_core.specs.Laws.{IsMessageOf, IsMachineOf, OneReply, OneRun}
 use Rattle.fleet_core.proofs.Places.{all_at, all_set}
@@ -44,14 +43,6 @@ use Rattle.fleet_core.proofs.Numbering.{number_has}
 
 lacking : (r : Reply) → r ≡ Memory → HasCome r → ⊥
 lacking r e come = subst HasCome e come
-
-one_front : (p : Position) (f g : Front) → IsFrontAt p f → IsFrontAt p g → f ≡ g
-one_front p f g h k =
-    let a : f.epoch ≡ g.epoch = h.epoch ∙ sym k.epoch in
-    let b : f.complete ≡ g.complete = h.complete ∙ sym k.complete in
-    let c : f.min ≡ g.min = h.min ∙ sym k.min in
-    let t : (let v : Front = record { epoch = f.epoch; complete = f.complete; min = f.min } in
-    v) ≡ record { epoch = g.epoch; complete = g.complete; min = g.min } = cc in t
 
 one_answer : (facts : List Fact) (p : Position) (g q : ℕ) (a b : ReadAnswer) → IsReadAnswer facts p g q a → IsReadAnswer facts p g q b → a ≡ b
 one_answer facts p g q (OfBelow m) (OfBelow n) h k = ap OfBelow (h.0 ∙ sym k.0)
@@ -77,20 +68,13 @@ one_take roster log facts fact r s sound part h k =
     h
 
 one_told_front : (roster : ℕ) (facts : List Fact) (r s : Reply) → RepliesFront roster facts r → RepliesFront roster facts s → r ≡ s
-one_told_front roster facts r s h k =
-    let same : h.p ≡ k.p = one_place facts h.p k.p h.position k.position in
-    h.is ∙ ap FrontIs (one_front k.p h.front k.front (subst (λ p. IsFrontAt p h.front) same h.tells) k.tells) ∙ sym k.is
+one_told_front roster facts r s h k = search (rules, one_place)
 
 one_told_read : (roster : ℕ) (facts : List Fact) (g q : ℕ) (r s : Reply) → RepliesRead roster facts g q r → RepliesRead roster facts g q s → r ≡ s
-one_told_read roster facts g q r s h k =
-    let same : h.p ≡ k.p = one_place facts h.p k.p h.position k.position in
-    h.is ∙ ap reply_of (one_answer facts k.p g q h.answer k.answer (subst (λ p. IsReadAnswer facts p g q h.answer) same h.tells) k.tells) ∙ sym k.is
+one_told_read roster facts g q r s h k = search (rules, one_place, one_answer)
 
 one_bool : (a b : Bool) (P : Type 0) → IsTrue a ↔ P → IsTrue b ↔ P → a ≡ b
-one_bool true true P h k = refl
-one_bool true false P h k = absurd (let e : false ≡ true = k.1 (h.0 refl) in cc)
-one_bool false true P h k = absurd (let e : false ≡ true = h.1 (k.0 refl) in cc)
-one_bool false false P h k = refl
+one_bool a b P h k = search rules
 
 one_same : (roster : ℕ) (log facts others : List Fact) (r s : Reply) → IsSound roster log → IsPart facts log → IsPart others log
     → RepliesSame roster facts others r → RepliesSame roster facts others s → r ≡ s
@@ -154,19 +138,13 @@ one_of_two r s P one h k come came = ⊎_elim (λ e. absurd (lacking r e come)) 
 -- there is no such message, or one reply where there is
 one_if_there : {A : Type 0} (o : Option A) (n : ℕ) (P : A → Reply → Type 0) (r s : Reply) → MatchOption o (r ≡ NoMessage n) (λ a. P a r)
     → MatchOption o (s ≡ NoMessage n) (λ a. P a s) → ((a : A) → o ≡ Some a → P a r → P a s → r ≡ s) → r ≡ s
-one_if_there None n P r s h k one = h ∙ sym k
-one_if_there (Some a) n P r s h k one = one a refl h k
+one_if_there o n P r s h k one = search rules
 
 -- ---- the sets that messages speak of are of the log
 
 answered_part_by : (log : List Fact) (messages : List Message) → AllByRecursion (IsMessageOf log) messages → (n : ℕ) (x : List Fact × List Fact)
     (o : Option Message) → numbered messages n ≡ o → answered_by o ≡ Some x → IsPart x.0 log × IsPart x.1 log
-answered_part_by log messages all n x None is there = absurd (cc)
-answered_part_by log messages all n x (Some (Asked asked)) is there = absurd (cc)
-answered_part_by log messages all n x (Some (Answered asked facts)) is there =
-    let pair : List Fact × List Fact = (asked, facts) in
-    let same : pair ≡ x = cc in
-    subst (λ (y : List Fact × List Fact). IsPart y.0 log × IsPart y.1 log) same (number_has (IsMessageOf log) messages n (Answered asked facts) all is)
+answered_part_by log messages all n x o is there = search (rules, number_has)
 
 answered_part : (log : List Fact) (messages : List Message) → AllByRecursion (IsMessageOf log) messages → (n : ℕ) (x : List Fact × List Fact)
     → answered_in messages n ≡ Some x → IsPart x.0 log × IsPart x.1 log
@@ -174,11 +152,7 @@ answered_part log messages all n x there = answered_part_by log messages all n x
 
 asked_part_by : (log : List Fact) (messages : List Message) → AllByRecursion (IsMessageOf log) messages → (n : ℕ) (x : List Fact) (o : Option Message)
     → numbered messages n ≡ o → asked_by o ≡ Some x → IsPart x log
-asked_part_by log messages all n x None is there = absurd (cc)
-asked_part_by log messages all n x (Some (Asked asked)) is there =
-    let same : asked ≡ x = cc in
-    subst (λ y. IsPart y log) same (number_has (IsMessageOf log) messages n (Asked asked) all is)
-asked_part_by log messages all n x (Some (Answered asked facts)) is there = absurd (cc)
+asked_part_by log messages all n x o is there = search (rules, number_has)
 
 asked_part : (log : List Fact) (messages : List Message) → AllByRecursion (IsMessageOf log) messages → (n : ℕ) (x : List Fact)
     → asked_in messages n ≡ Some x → IsPart x log
@@ -222,8 +196,7 @@ part_of log m node of = all_at (λ facts. IsPart facts log) m.nodes (node - 1) [
 
 one_matched : (o : Option ℕ) (P : Reply → Type 0) (r s : Reply) → MatchOption o (P r) (λ i. r ≡ NoNode i) → MatchOption o (P s) (λ i. s ≡ NoNode i)
     → (P r → P s → r ≡ s) → r ≡ s
-one_matched None P r s h k one = one h k
-one_matched (Some i) P r s h k one = h ∙ sym k
+one_matched o P r s h k one = search rules
 
 pub one_reply : OneReply
 one_reply roster log m x r s sound of h k come came =
@@ -234,13 +207,11 @@ one_reply roster log m x r s sound of h k come came =
 -- ---- scripts
 
 with_one : (log facts : List Fact) (fact : Fact) → IsPart facts log → Contains log fact → IsPart (facts ++ fact ∷ []) log
-with_one log facts fact part among =
-    both facts (fact ∷ []) log part (λ x h. ⊎_elim (λ (e : fact ≡ x). subst (Contains log) e among) (λ none. absurd (none_in x none)) (which fact [] x h))
+with_one log facts fact part among = grind (arith, common_steps)
 
 brought_part : (log : List Fact) (o : Option (List Fact × List Fact)) → ((x : List Fact × List Fact) → o ≡ Some x → IsPart x.0 log × IsPart x.1 log)
     → IsPart (brought_by o) log
-brought_part log None parts = none_of log
-brought_part log (Some x) parts = (parts x refl).1
+brought_part log o parts = search rules
 
 part_after : (log facts others : List Fact) (messages : List Message) (x : Step Fact) (r : Reply) → IsPart facts log → IsPart others log
     → AllByRecursion (IsMessageOf log) messages → TakesFrom log x → IsPart (facts_after facts others messages x r) log
@@ -253,8 +224,7 @@ part_after log facts others messages (step.Absorb i n) Absorbed part its all amo
 part_after log facts others messages x r part its all among = part
 
 none_more : {A : Type 0} (P : A → Type 0) (xs : List A) → AllByRecursion P xs → AllByRecursion P (xs ++ [])
-none_more P [] all = tt
-none_more P (x ∷ xs) all = (all.0, none_more P xs all.1)
+none_more P xs all = search rules
 
 with_answer : (log : List Fact) (messages : List Message) (facts : List Fact) (o : Option (List Fact)) → AllByRecursion (IsMessageOf log) messages
     → IsPart facts log → ((x : List Fact) → o ≡ Some x → IsPart x log) → AllByRecursion (IsMessageOf log) (messages ++ answers_to o facts)
@@ -269,15 +239,7 @@ messages_part log messages facts (step.Answer i k) (MessageIs n) all part =
 messages_part log messages facts x r all part = all
 
 machine_of_after : (log : List Fact) (m : Machine) (x : Step Fact) (r : Reply) → IsMachineOf log m → TakesFrom log x → IsMachineOf log (after m x r)
-machine_of_after log m x r of takes =
-    let facts = node_facts m (node_of x) in
-    let others = node_facts m (other_of x) in
-    let own = part_of log m (node_of x) of in
-    let part = part_after log facts others m.messages x r own (part_of log m (other_of x) of) of.messages takes in
-    record {
-      nodes = all_set (λ xs. IsPart xs log) m.nodes (node_of x - 1) (facts_after facts others m.messages x r) part of.nodes;
-      messages = messages_part log m.messages facts x r of.messages own;
-    }
+machine_of_after log m x r of takes = search (rules, part_of, part_after, all_set, messages_part)
 
 pub one_run : OneRun
 one_run roster log m [] [] [] sound of takes h k come came = refl

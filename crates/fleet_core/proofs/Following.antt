@@ -1,18 +1,15 @@
 -- A segment's answers are those of a node that has the facts which it means.
-use Rattle.std.proofs.Common.{◌≡◌, ℕ, ◌<◌, ◌≤◌, inl, inr, arith, List, refl, sym, subst, Option, Result, Ok, Err, OnOk, OnErr, IfOk, IfErr}
+use Rattle.std.proofs.Common.{◌≡◌, ℕ, inl, inr, List, refl, sym, subst, Option, Result, Ok, Err, OnOk, OnErr, IfOk, IfErr, rules}
 use Rattle.redo_core.specs.Sound.{IsSound}
 use Rattle.redo_core.specs.Position.{Position}
 use Rattle.redo_core.specs.Answer.ReadAnswer.{Image as OfImage, Below as OfBelow, Above as OfAbove}
 use Rattle.redo_core.specs.declared.facts.Fact.{Fact}
 use Rattle.redo_core.specs.declared.refusal.Refused.{Refused}
-use Rattle.state_laws.specs.State.{State, min_of}
+use Rattle.state_laws.specs.State.{State}
 use Rattle.state_laws.specs.Means.{MeansAt}
-use Rattle.state_laws.specs.HasMeaning.{HasAnchor, IsLinkedIn}
 use Rattle.state_laws.specs.Promises.{TakesFact, KeepsMeaningWith}
-use Rattle.redo_core.proofs.Numbers.{greatest_unique}
-use Rattle.segment_core.specs.Folding.{IsFoldOf, PlansFold, RefusesCommit}
+use Rattle.segment_core.specs.Folding.{IsFoldOf}
 use Rattle.segment_core.specs.declared.fold_plan.Folded.{Folded}
-use Rattle.segment_core.specs.declared.fold_plan.CommitFault.TheVariants as commit
 use Rattle.segment_core.specs.Taking.{TellsChange}
 use Rattle.segment_core.specs.Refusing.{FitsSoundLog}
 use Rattle.segment_core.specs.Reading.{IsFrontAt, IsReadResult}
@@ -33,22 +30,13 @@ use Rattle.segment_core.proofs.Finality.{fold_is_final}
 use Rattle.segment_core.proofs.Taking.{take_tells, take_sound}
 use Rattle.state_laws.proofs.Knowing.{unchanged_exactly, no_conflict}
 
--- a step that is replied Memory, and changes nothing
-take_without_memory : (readers : ℕ) (other : Option State) (s : State) (node : ℕ) (fact : Fact) → OwnFollows readers s other (Take node fact) Memory s
-take_without_memory readers other s node fact = λ roster log facts others messages size sound t means beside. (inl refl, means)
-
 fold_without_memory : (readers : ℕ) (other : Option State) (s : State) (node g : ℕ) → OwnFollows readers s other (Fold node g) Memory s
 fold_without_memory readers other s node g = λ roster log facts others messages size sound t means beside. (inl refl, means)
 
 -- a refusal of a fact that fits a sound log is for want of memory
 refused_at : (readers : ℕ) (other : Option State) (old new : State) (node : ℕ) (fact : Fact) (why : Refusal) (reply : Reply)
     → (FitsSoundLog old fact → why ≡ refusal.Memory) → new ≡ old → reply ≡ refusal_reply why → OwnFollows readers old other (Take node fact) reply new
-refused_at readers other old new node fact why reply sound same is = λ roster log facts others messages size s t means beside.
-    let e : why ≡ refusal.Memory = sound (roster, log, facts, s, t, means) in
-    let told : reply ≡ Memory = subst (λ w. reply ≡ refusal_reply w) e is in
-    subst (λ r. OwnFollows readers old other (Take node fact) r new) (sym told)
-    (subst (λ x. OwnFollows readers old other (Take node fact) Memory x) (sym same)
-    (take_without_memory readers other old node fact)) roster log facts others messages size s t means beside
+refused_at readers other old new node fact why reply sound same is = search rules
 
 follows_take : (readers : ℕ) (other : Option State) (old new : State) (node : ℕ) (fact : Fact) (answer : Result Taken (Refused Fact Refusal))
     (reply : Reply) → OnOk answer (TakesFact old fact new) → IfOk answer (TellsChange old fact) → IfErr answer
@@ -118,15 +106,3 @@ follows_no_plan readers other s node g why reply says is = λ roster log facts o
     let told : reply ≡ Memory = subst (λ w. reply ≡ fault_reply w) e is in
     subst (λ r. OwnFollows readers s other (Fold node g) r s) (sym told)
     (fold_without_memory readers other s node g) roster log facts others messages size sound t means beside
-
--- the version of a plan is the anchor, so its commit is never ahead of it
-pub never_ahead : (s : State) (g : ℕ) (folded : Folded) (version anchor : ℕ) → PlansFold s g (Ok folded) → RefusesCommit s folded (commit.Ahead version anchor)
-    → ⊥
-never_ahead s g folded version anchor plans why =
-    let planned : HasAnchor s folded.version = plans.0.version_is in
-    let found : HasAnchor s anchor = why.2 in
-    let one : folded.version ≡ anchor =
-    greatest_unique (λ n. IsLinkedIn s n × (n ≤ min_of s)) (λ n. IsLinkedIn s n × (n ≤ min_of s)) (λ n. (λ h. h, λ h. h)) folded.version anchor planned found in
-    let above : anchor < version = why.1 in
-    let same : version ≡ folded.version = why.0 in
-    omega (arith, one, above, same)

@@ -1,5 +1,5 @@
 -- Runs that go on by a step.
-use Rattle.std.proofs.Common.{◌≡◌, ℕ, List, [], ◌∷◌, ◌++◌, refl, sym, subst}
+use Rattle.std.proofs.Common.{◌≡◌, ℕ, List, [], ◌∷◌, ◌++◌, refl, subst, rules}
 use Rattle.redo_core.specs.declared.facts.Fact.{Fact}
 use Rattle.fleet_steps.specs.declared.steps.Step.{Step}
 use Rattle.fleet_core.specs.declared.replies.Reply.{Reply}
@@ -7,7 +7,7 @@ use Rattle.fleet_core.specs.Machine.{Machine, after}
 use Rattle.fleet_core.specs.Replies.{IsReply}
 use Rattle.fleet_core.specs.FleetState.{FleetState}
 use Rattle.fleet_core.specs.Calls.{StepCalls, RunCalls}
-use Rattle.fleet_core.specs.Runs.{TakesFrom, MeansMachine, FollowsStep, FollowsMachine, AreReplies, after_all}
+use Rattle.fleet_core.specs.Runs.{FollowsStep, FollowsMachine, AreReplies, after_all}
 use Rattle.fleet_core.specs.Laws.{RunsGoOn, CallsGoOn}
 use Rattle.fleet_core.proofs.Places.{all_but_last}
 
@@ -28,13 +28,7 @@ after_more roster m (s ∷ ss) (r ∷ rs) step reply are = after_more roster (af
 
 pub follows_more : (start old new : FleetState) (steps : List (Step Fact)) (replies : List Reply) (step : Step Fact) (reply : Reply)
     → FollowsMachine start steps replies old → FollowsStep old step reply new → FollowsMachine start (steps ++ step ∷ []) (replies ++ reply ∷ []) new
-follows_more start old new steps replies step reply run one = λ roster log m sound takes mean.
-    let parts = all_but_last (TakesFrom log) steps step takes in
-    let so_far = run roster log m sound parts.0 mean in
-    let last = one roster log (after_all m steps replies) sound parts.1 so_far.1 in (
-      replies_more roster m steps replies step reply so_far.0 last.0,
-      subst (λ n. MeansMachine roster log n new) (sym (after_more roster m steps replies step reply so_far.0)) last.1,
-    )
+follows_more start old new steps replies step reply run one = search (rules, all_but_last, replies_more, after_more)
 
 pub calls_more : (start old new : FleetState) (steps : List (Step Fact)) (replies : List Reply) (step : Step Fact) (reply : Reply)
     → RunCalls start steps replies old → StepCalls old step reply new → RunCalls start (steps ++ step ∷ []) (replies ++ reply ∷ []) new

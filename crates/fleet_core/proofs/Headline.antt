@@ -1,10 +1,10 @@
 -- The headline, from the laws of states.
-use Rattle.std.proofs.Common.{ℕ, List, [], ◌∷◌, refl}
+use Rattle.std.proofs.Common.{ℕ, List, [], ◌∷◌, rules}
 use Rattle.std.specs.List.{AllZip}
 use Rattle.redo_core.specs.Sound.{IsSound}
 use Rattle.redo_core.specs.declared.facts.Fact.{Fact}
 use Rattle.redo_laws.specs.OrderOfMeanings.{LeastUpperBound, OrderByParts}
-use Rattle.state_laws.specs.State.{State, empty_state}
+use Rattle.state_laws.specs.State.{State}
 use Rattle.state_laws.specs.Means.{Means}
 use Rattle.state_laws.specs.AnswersAs.{AnswersAs, StatesAnswer}
 use Rattle.state_laws.proofs.Bare.{empty_means}
@@ -26,11 +26,7 @@ each_answers answer roster log sound (facts ∷ nodes) (s ∷ ss) all = (
 )
 
 begins : (roster : ℕ) (log : List Fact) (nodes : ℕ) → MeansMachine roster log (empty_machine nodes) (empty_fleet roster nodes)
-begins roster log nodes = record {
-  roster_is = refl;
-  nodes = none_mean roster log nodes (empty_state roster) (empty_means roster log);
-  messages = tt;
-}
+begins roster log nodes = search (rules, none_mean, empty_means)
 
 pub headline : StatesAnswer → LeastUpperBound → Headline
 headline answer least = record {

@@ -1,6 +1,7 @@
 -- The machine's sets beside the segments, node by node.
-use Rattle.std.proofs.Common.{◌≡◌, ℕ, zero, suc, ◌+◌, ◌-◌, ◌<◌, ◌≤◌, ◌↔◌, List, [], length, get_or, set, replicate, refl, sym, ap, ◌∙◌, subst, arith, Option, Some, None}
-use Rattle.std.specs.Prelude.{MatchOption, slice_get, unwrap_or}
+use Rattle.std.proofs.Common.{◌≡◌, ℕ, zero, suc, ◌+◌, ◌-◌, ◌<◌, ◌≤◌, ◌↔◌, List, [], length, get_or, set, replicate, sym, ap, ◌∙◌, subst, arith, Option, Some, None, rules}
+use Rattle.std.proofs.lemmas.Grind.{common_steps}
+use Rattle.std.specs.Prelude.{MatchOption, unwrap_or}
 use Rattle.std.specs.List.{AllZip}
 use Rattle.std.specs.Vec.{with_items}
 use Rattle.std.specs.declared.vec.Vec.{Vec}
@@ -16,77 +17,23 @@ use Rattle.fleet_core.specs.declared.replies.Reply.{Reply}
 use Rattle.fleet_core.specs.declared.replies.Reply.TheVariants.{NoNode, NoMessage}
 use Rattle.fleet_core.specs.declared.making.Made.{Made}
 use Rattle.fleet_core.specs.Messages.{LacksMessage}
-use Rattle.fleet_core.specs.Machine.{Message, Machine, node_facts, facts_after, messages_after, after}
+use Rattle.fleet_core.specs.Machine.{Machine, node_facts, facts_after, after}
 use Rattle.fleet_core.specs.Replies.{Replies}
 use Rattle.fleet_core.specs.FleetState.{FleetState, other_than}
 use Rattle.fleet_core.specs.Refused.{IsRefusal}
 use Rattle.fleet_core.specs.AtNode.{CarriesOut}
-use Rattle.fleet_core.specs.Calls.{NodeCalls, Calls, StepCalls}
-use Rattle.fleet_core.specs.Runs.{MeansMachine, FollowsStep}
+use Rattle.fleet_core.specs.Calls.{StepCalls}
+use Rattle.fleet_core.specs.Runs.{FollowsStep}
 use Rattle.fleet_core.proofs.Places.{AreThere, none_is_missing, are_there, beside_is, zip_at, zip_set, zip_count}
-use Rattle.segment_core.proofs.BlockChain.{no_link}
 
 -- ---- a named node that is not there
 
--- nothing has changed
-as_left : (m : Machine) (node : ℕ) (facts : List Fact) (messages : List Message) → node_facts m node ≡ facts → m.messages ≡ messages
-    → m ≡ (let n : Machine = record { nodes = set m.nodes (node - 1) facts; messages = messages } in n)
-as_left m node facts messages own kept =
-    ap (λ (nodes : List (List Fact)). let n : Machine = record { nodes = nodes; messages = m.messages } in n)
-    (sym (set-get_or m.nodes (node - 1) []) ∙ ap (set m.nodes (node - 1)) own)
-    ∙ ap (λ (ms : List Message). let n : Machine = record { nodes = set m.nodes (node - 1) facts; messages = ms } in n) kept
-
-as_they_were : (facts others : List Fact) (messages : List Message) (s : Step Fact) (i : ℕ) → facts ≡ facts_after facts others messages s (NoNode i)
-as_they_were facts others messages (step.Take node fact) i = refl
-as_they_were facts others messages (step.Fold node page) i = refl
-as_they_were facts others messages (step.Discard node) i = refl
-as_they_were facts others messages (step.Front node) i = refl
-as_they_were facts others messages (step.Read node page point offset len) i = refl
-as_they_were facts others messages (step.Join node from) i = refl
-as_they_were facts others messages (step.Same node other) i = refl
-as_they_were facts others messages (step.Covers node other) i = refl
-as_they_were facts others messages (step.Wipe node) i = refl
-as_they_were facts others messages (step.Ask node) i = refl
-as_they_were facts others messages (step.Answer node message) i = refl
-as_they_were facts others messages (step.Absorb node message) i = refl
-
-none_made : (messages : List Message) (facts : List Fact) (s : Step Fact) (i : ℕ) → messages ≡ messages_after messages facts s (NoNode i)
-none_made messages facts (step.Take node fact) i = refl
-none_made messages facts (step.Fold node page) i = refl
-none_made messages facts (step.Discard node) i = refl
-none_made messages facts (step.Front node) i = refl
-none_made messages facts (step.Read node page point offset len) i = refl
-none_made messages facts (step.Join node from) i = refl
-none_made messages facts (step.Same node other) i = refl
-none_made messages facts (step.Covers node other) i = refl
-none_made messages facts (step.Wipe node) i = refl
-none_made messages facts (step.Ask node) i = refl
-none_made messages facts (step.Answer node message) i = refl
-none_made messages facts (step.Absorb node message) i = refl
-
 after_no_node : (m : Machine) (s : Step Fact) (i : ℕ) → m ≡ after m s (NoNode i)
-after_no_node m s i =
-    let facts = node_facts m (node_of s) in
-    let others = node_facts m (other_of s) in
-    as_left m (node_of s) (facts_after facts others m.messages s (NoNode i)) (messages_after m.messages facts s (NoNode i))
-    (as_they_were facts others m.messages s i) (none_made m.messages facts s i)
+after_no_node m s i = grind (arith, common_steps)
 
 pub follows_no_node : (fleet : FleetState) (s : Step Fact) (i : ℕ) → first_missing (length fleet.segments) (nodes_of s) ≡ Some i
     → FollowsStep fleet s (NoNode i) fleet
-follows_no_node fleet s i missing = λ roster log m sound takes mean.
-    let count : length m.nodes ≡ length fleet.segments = zip_count (λ facts segment. Means roster log facts segment) m.nodes fleet.segments mean.nodes in
-    let here : first_missing (length m.nodes) (nodes_of s) ≡ Some i = ap (λ n. first_missing n (nodes_of s)) count ∙ missing in (
-      subst (λ o. MatchOption o (Replies roster m s (NoNode i)) (λ node. NoNode i ≡ NoNode node)) (sym here) refl,
-      subst (λ n. MeansMachine roster log n fleet) (after_no_node m s i) mean,
-    )
-
-pub no_message_of_none : (fleet : FleetState) (s : Step Fact) (i : ℕ) → first_missing (length fleet.segments) (nodes_of s) ≡ Some i → (number : ℕ)
-    → (NoNode i ≡ NoMessage number) ↔ LacksMessage fleet s number
-no_message_of_none fleet s i missing number = (
-  λ (e : NoNode i ≡ NoMessage number). absurd (cc),
-  λ lacks. absurd (let there : first_missing (length fleet.segments) (nodes_of s) ≡ None = lacks.0 in
-      cc),
-)
+follows_no_node fleet s i missing = search (rules, zip_count, after_no_node)
 
 -- ---- a step whose nodes are there
 
@@ -138,28 +85,12 @@ follows_at fleet s reply new made place other at out = λ roster log m sound tak
 pub calls_at : (fleet : FleetState) (s : Step Fact) (reply : Reply) (new : List State) (made : List Made) (place other : ℕ)
     → AreAt (length fleet.segments) s place other → CarriesOut fleet.roster fleet.segments place other fleet.messages s reply new made
     → StepCalls fleet s reply (with_all fleet new made)
-calls_at fleet s reply new made place other at out =
-    let low : place ≡ node_of s - 1 = omega (arith, at.node) in
-    let aside : other ≡ other_of s - 1 = omega (arith, at.beside) in
-    let next : FleetState = with_all fleet new made in
-    let Does : Option State → Type 0 = λ o. NodeCalls fleet.roster out.before o fleet.messages s reply out.later made in
-    subst (λ o. MatchOption o (Calls fleet s reply next) (λ node. (reply ≡ NoNode node) × (next ≡ fleet))) (sym at.none)
-    (record {
-      before = out.before;
-      there = subst (λ i. slice_get fleet.segments i ≡ Some out.before) low out.there;
-      later = out.later;
-      does = subst (λ i. Does (other_than fleet.segments (node_of s - 1) i)) aside
-          (subst (λ i. Does (other_than fleet.segments i other)) low out.does.calls);
-      others = ap (λ (segments : List State). with_all fleet segments made) (out.others ∙ ap (λ i. set fleet.segments i out.later) low);
-    })
+calls_at fleet s reply new made place other at out = search rules
 
 -- the nodes that the step names, none of which is missing
 pub named_at : (count : ℕ) (s : Step Fact) (missing : Option ℕ) (node other : ℕ) → missing ≡ first_missing count (nodes_of s)
     → ((x : ℕ) → missing ≡ Some x → ⊥) → node ≡ node_of s → other ≡ other_of s → AreAt count s (node - 1) (other - 1)
-named_at count s missing node other is named own its =
-    let none : first_missing count (nodes_of s) ≡ None = sym is ∙ no_link missing named in
-    let there : AreThere count (node_of s) (other_of s) = are_there count s none in
-    record { none = none; node = omega (arith, there.low, own); beside = omega (arith, there.other_low, its) }
+named_at count s missing node other is named own its = search rules
 
 -- the segments of a fleet, as its list stores them
 pub record StepsIn (old : FleetState) (s : Step Fact) (reply : Reply) (new : FleetState) : Type 0 where

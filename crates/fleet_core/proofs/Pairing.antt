@@ -1,10 +1,10 @@
 -- A step at one of two places of a list that was split between them.
-use Rattle.std.proofs.Common.{◌≡◌, ℕ, ◌-◌, ◌<◌, List, ◌++◌, length, get_or, set, refl, sym, ap}
-use Rattle.std.proofs.Common.{◌∙◌, subst, arith, Bool, true, false, Bor, Option, Some, None, length-append}
+use Rattle.std.proofs.Common.{◌≡◌, ℕ, ◌-◌, ◌<◌, List, ◌++◌, length, get_or, set, refl, sym, ap, rules}
+use Rattle.std.proofs.Common.{◌∙◌, subst, arith, Bool, Bor, Option, Some, None, length-append}
+use Rattle.std.proofs.lemmas.Grind.{common_steps}
 use Rattle.std.specs.Prelude.{◌==◌, if◌then◌else◌, slice_get, unwrap_or}
 use Rattle.std.specs.Option.{option_copied}
-use Rattle.std.proofs.lemmas.Bool.Decides.{nat_tests}
-use Rattle.std.proofs.lemmas.List.{set-append_left, set-append_right, get_or_append_left, get_or-append_right}
+use Rattle.std.proofs.lemmas.List.{set-append_left, set-append_right, get_or-append_right}
 use Rattle.std.proofs.lemmas.Option.{slice_get_read}
 use Rattle.redo_core.specs.declared.facts.Fact.{Fact}
 use Rattle.state_laws.specs.State.{State}
@@ -16,8 +16,7 @@ use Rattle.fleet_core.specs.AtNode.{IsCarriedOut, CarriesOut}
 
 -- the segment behind the reference that was given, or the own one
 pub unwrap_now : {S : Type 0} (other : Option (Bor S)) (own : Bor S) → (unwrap_or other own).now ≡ unwrap_or (option_copied other) own.now
-unwrap_now None own = refl
-unwrap_now (Some other) own = refl
+unwrap_now other own = search rules
 
 -- it stands at a place of the list, and the other one at the other place
 pub record Stands (old : List State) (place other : ℕ) (s : State) (o : Option State) (later : State) (new : List State) : Type 0 where
@@ -28,27 +27,19 @@ pub record Stands (old : List State) (place other : ℕ) (s : State) (o : Option
 pub carried : (readers : ℕ) (old : List State) (place other : ℕ) (s : State) (o : Option State) (messages : List Made) (step : Step Fact) (reply : Reply)
     (later : State) (new : List State) (made : List Made) → Stands old place other s o later new
     → IsCarriedOut readers s o messages step reply later made → CarriesOut readers old place other messages step reply new made
-carried readers old place other s o messages step reply later new made stands out = record {
-  before = s;
-  there = stands.there;
-  later = later;
-  does = subst (λ x. IsCarriedOut readers s x messages step reply later made) stands.beside out;
-  others = stands.others;
-}
+carried readers old place other s o messages step reply later new made stands out = search rules
 
 -- ---- the other place
 
 apart_by : (xs : List State) (place other : ℕ) (t : State) (b : Bool) → b ≡ (place == other) → (place ≡ other → ⊥) → slice_get xs other ≡ Some t
     → Some t ≡ (if b then None else slice_get xs other)
-apart_by xs place other t true e apart there = absurd (apart (grind (arith, nat_tests)))
-apart_by xs place other t false e apart there = sym there
+apart_by xs place other t b e apart there = search rules
 
 apart : (xs : List State) (place other : ℕ) (t : State) → (place ≡ other → ⊥) → slice_get xs other ≡ Some t → Some t ≡ other_than xs place other
 apart xs place other t different there = apart_by xs place other t (place == other) refl different there
 
 own_by : (xs : List State) (place : ℕ) (b : Bool) → b ≡ (place == place) → None ≡ (if b then None else slice_get xs place)
-own_by xs place true e = refl
-own_by xs place false e = absurd (grind (arith, nat_tests))
+own_by xs place b e = search rules
 
 own : (xs : List State) (place other : ℕ) → place ≡ other → None ≡ other_than xs place other
 own xs place other e = subst (λ i. None ≡ other_than xs place i) e (own_by xs place (place == place) refl)
@@ -56,10 +47,7 @@ own xs place other e = subst (λ i. None ≡ other_than xs place i) e (own_by xs
 -- ---- where the two places are
 
 in_front : (xs front back : List State) (i : ℕ) (s : State) → xs ≡ front ++ back → i < length front → s ≡ get_or front i s → slice_get xs i ≡ Some s
-in_front xs front back i s e lt at =
-    subst (λ ys. slice_get ys i ≡ Some s) (sym e)
-    (slice_get_read (front ++ back) (length (front ++ back)) i s refl (omega (arith, length-append front back))
-    (at ∙ sym (get_or_append_left front back s i lt)))
+in_front xs front back i s e lt at = grind (arith, common_steps, slice_get_read)
 
 in_back : (xs front back : List State) (i : ℕ) (s : State) → xs ≡ front ++ back → length front ≡ i → 0 < length back → s ≡ get_or back 0 s
     → slice_get xs i ≡ Some s
@@ -72,11 +60,7 @@ in_back xs front back i s e len lt at =
 -- the place is in the front part, and the other is the first of the back part
 pub place_in_front : (xs front back : List State) (place other : ℕ) (s t later : State) → xs ≡ front ++ back → length front ≡ other → place < other
     → 0 < length back → s ≡ get_or front place s → t ≡ get_or back 0 t → Stands xs place other s (Some t) later (set front place later ++ back)
-place_in_front xs front back place other s t later e len lt some at beside = record {
-  there = in_front xs front back place s e (omega (arith, len, lt)) at;
-  beside = apart xs place other t (λ same. omega (arith, lt, same)) (in_back xs front back other t e len some beside);
-  others = subst (λ ys. set front place later ++ back ≡ set ys place later) (sym e) (sym (set-append_left front back place later (omega (arith, len, lt))));
-}
+place_in_front xs front back place other s t later e len lt some at beside = search (rules, in_front, in_back, set-append_left)
 
 -- the other way round
 pub place_in_back : (xs front back : List State) (place other : ℕ) (s t later : State) → xs ≡ front ++ back → length front ≡ place → other < place
@@ -94,5 +78,4 @@ place_in_back xs front back place other s t later e len lt some at beside =
 -- the two places are one
 pub one_place : (xs : List State) (place other : ℕ) (s later : State) → place < length xs → place ≡ other → s ≡ get_or xs place s
     → Stands xs place other s None later (set xs place later)
-one_place xs place other s later lt same at =
-    record { there = slice_get_read xs (length xs) place s refl lt at; beside = own xs place other same; others = refl }
+one_place xs place other s later lt same at = search (rules, slice_get_read)

@@ -1,5 +1,5 @@
 -- A record that there is no memory to copy is answered as the segment's own take of it would, where it finds none.
-use Rattle.std.proofs.Common.{◌≡◌, ◌≢◌, refl, subst, Option, Some, None, Ok, Err}
+use Rattle.std.proofs.Common.{◌≡◌, ◌≢◌, refl, subst, Some, None, Ok, Err}
 use Rattle.redo_core.specs.Data.{RecordData}
 use Rattle.redo_core.specs.Keys.{key_of}
 use Rattle.redo_core.specs.declared.facts.Fact.TheVariants.{Record}

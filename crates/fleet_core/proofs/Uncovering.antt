@@ -1,33 +1,29 @@
 -- What of a summary a segment does not answer for is what the facts that it means do not answer for.
-use Rattle.std.proofs.Common.{◌≡◌, ℕ, inl, ⊎_elim, List, [], ◌∷◌, map, sym, ap, ◌∙◌, subst, arith, Some, None}
+use Rattle.std.proofs.Common.{◌≡◌, ℕ, List, sym, ◌∙◌, subst, arith, Some, None}
 use Rattle.std.specs.List.{Contains}
-use Rattle.redo_core.specs.Order.{IsFirst}
 use Rattle.redo_core.specs.declared.keys.Key.{Key}
 use Rattle.redo_core.specs.Position.{Position}
 use Rattle.redo_core.specs.Meaning.{Meaning}
 use Rattle.redo_core.specs.Sound.{IsSound}
 use Rattle.redo_core.specs.declared.facts.Fact.{Fact}
-use Rattle.redo_core.proofs.Members.{here, which, none_in, all_members}
 use Rattle.redo_laws.proofs.Log.{log_of_sound}
 use Rattle.messages.specs.Summaries.{SummaryData}
 use Rattle.state_laws.specs.State.{State}
 use Rattle.state_laws.specs.Means.{MeansAt}
 use Rattle.state_laws.specs.HasMeaning.{HasAnchor}
-use Rattle.state_laws.specs.Gossip.{Listing, IsAccounted, AnswersFor}
+use Rattle.state_laws.specs.Gossip.{AnswersFor}
 use Rattle.state_laws.proofs.Own.{anchor_law}
 use Rattle.gossip_core.specs.Summarizing.{IsSummaryOf}
-use Rattle.gossip_core.specs.Answering.{IsCovered, IsUncoveredKey, IsUncovered, listing_of}
+use Rattle.gossip_core.specs.Answering.{IsUncovered, listing_of}
 use Rattle.gossip_core.specs.declared.answering.Shown.{Shown}
 use Rattle.gossip_core.specs.declared.answering.Shown.TheVariants.{Anchor as OfAnchor, Key as OfKey}
-use Rattle.gossip_core.proofs.AnsweringFacts.{answers_for, tells_answer}
+use Rattle.gossip_core.proofs.AnsweringFacts.{answers_for}
 use Rattle.fleet_core.specs.Replies.{keys_of, summary_of_meaning, LeavesUncovered}
 use Rattle.gossip_core.proofs.Uncovering.{accounted, not_accounted}
 
 -- the summary of a meaning, as messages carry it and as the machine speaks of it
 same_summary : (m : Meaning) (x : SummaryData) → IsSummaryOf m x → listing_of x ≡ summary_of_meaning m
-same_summary m x of =
-    ap (λ a. let l : Listing = record { anchor = a; keys = x.keys } in l) of.anchor
-    ∙ ap (λ (keys : List Key). let l : Listing = record { anchor = m.anchor; keys = keys } in l) of.keys
+same_summary m x of = cc
 
 module _ (roster : ℕ) (log F : List Fact) (f : Position) (s : State) (sound : IsSound roster log) (means : MeansAt roster log F f s) (anchor : ℕ)
     (has : HasAnchor s anchor) where

@@ -1,5 +1,5 @@
 -- Meanings that cover each other and have the same pages are one.
-use Rattle.std.proofs.Common.{◌≡◌, ℕ, ◌<◌, ◌≤◌, ◌⊎◌, ◌↔◌, inl, ⊎_elim, List, [], ◌∷◌, Bool, IsTrue, true, false, refl, sym, ap, ◌∙◌, subst, arith}
+use Rattle.std.proofs.Common.{◌≡◌, ℕ, ◌<◌, ◌≤◌, ◌⊎◌, ◌↔◌, inl, ⊎_elim, List, [], ◌∷◌, Bool, IsTrue, false, refl, sym, ap, ◌∙◌, subst, arith, rules}
 use Rattle.std.specs.List.{Contains, AllZip}
 use Rattle.redo_core.specs.Data.{RecordData, AdvanceData}
 use Rattle.redo_core.specs.Order.{CutBefore, AdvanceBefore, RecordBefore}
@@ -175,17 +175,7 @@ tells_same s t point other same form other_form anchor other_anchor both tells y
 -- one does not cover the other, so the two are not the same
 pub not_covered : (s t : State) (covered : Bool) → IsSegment s
     → ((y x : Meaning) → HasMeaning s y → HasMeaning t x → IsTrue covered ↔ Covers y x) → covered ≡ false → TellsSame s t false
-not_covered s t covered form tells fails y x hy hx = (
-  λ (h : false ≡ true). absurd (cc),
-  λ same. sym fails ∙ (tells y x hy hx).1 (subst (Covers y) same (covers_itself s y form hy)),
-)
-
-pub not_covering : (s t : State) (covers : Bool) → IsSegment s
-    → ((x y : Meaning) → HasMeaning t x → HasMeaning s y → IsTrue covers ↔ Covers x y) → covers ≡ false → TellsSame s t false
-not_covering s t covers form tells fails y x hy hx = (
-  λ (h : false ≡ true). absurd (cc),
-  λ same. sym fails ∙ (tells x y hx hy).1 (subst (λ m. Covers m y) same (covers_itself s y form hy)),
-)
+not_covered s t covered form tells fails y x hy hx = search (rules, covers_itself)
 
 -- inside one sound log the meanings that two states tell are those of the parts
 pub by_parts : SameMeaning → (s t : State) (answer : Bool) → TellsSame s t answer → SameByParts s t answer

@@ -1,16 +1,13 @@
 -- Whether two records are one.
-use Rattle.std.proofs.Common.{◌≡◌, ℕ, Bool, true, false, List, [], ◌∷◌, inl, inr, refl, ap, subst}
-use Rattle.redo_core.specs.Data.{RecordData, record_with}
+use Rattle.std.proofs.Common.{◌≡◌, Bool, List, [], ◌∷◌, inl, inr, refl, ap, rules}
+use Rattle.redo_core.specs.Data.{RecordData}
 use Rattle.redo_core.specs.Writes.{WriteData}
 use Rattle.redo_core.specs.declared.patches.Patch.{Patch}
 use Rattle.redo_core.specs.declared.patches.Patch.TheVariants.{Bytes, Fill}
 use Rattle.redo_laws.proofs.Deciding.{Settled, settled_eq, settled_and, settled_by}
 
 settled_bool : (a b : Bool) → Settled (a ≡ b)
-settled_bool true true = inl refl
-settled_bool false false = inl refl
-settled_bool true false = inr (λ e. cc)
-settled_bool false true = inr (λ e. cc)
+settled_bool a b = search rules
 
 settled_list : {X : Type 0} → ((x y : X) → Settled (x ≡ y)) → (xs ys : List X) → Settled (xs ≡ ys)
 settled_list test [] [] = inl refl
@@ -21,8 +18,7 @@ settled_list test (x ∷ xs) (y ∷ ys) =
     (settled_and (x ≡ y) (xs ≡ ys) (test x y) (λ _. settled_list test xs ys))
 
 one_write : (w v : WriteData) → w.offset ≡ v.offset → w.bytes ≡ v.bytes → w ≡ v
-one_write w v e f =
-    subst (λ (b : List ℕ). w ≡ record { offset = v.offset; bytes = b }) f (subst (λ (o : ℕ). w ≡ record { offset = o; bytes = w.bytes }) e refl)
+one_write w v e f = search rules
 
 settled_write : (w v : WriteData) → Settled (w ≡ v)
 settled_write w v =
@@ -45,14 +41,7 @@ HasParts r s =
     × ((r.number ≡ s.number) × ((r.back ≡ s.back) × ((r.page ≡ s.page) × ((r.block_back ≡ s.block_back) × ((r.init ≡ s.init) × (r.patches ≡ s.patches))))))
 
 one_record : (r s : RecordData) → HasParts r s → r ≡ s
-one_record r s h =
-    subst (λ p. r ≡ record_with s.epoch s.number s.back s.page s.block_back s.init p) h.1.1.1.1.1.1
-    (subst (λ i. r ≡ record_with s.epoch s.number s.back s.page s.block_back i r.patches) h.1.1.1.1.1.0
-    (subst (λ n. r ≡ record_with s.epoch s.number s.back s.page n r.init r.patches) h.1.1.1.1.0
-    (subst (λ n. r ≡ record_with s.epoch s.number s.back n r.block_back r.init r.patches) h.1.1.1.0
-    (subst (λ n. r ≡ record_with s.epoch s.number n r.page r.block_back r.init r.patches) h.1.1.0
-    (subst (λ n. r ≡ record_with s.epoch n r.back r.page r.block_back r.init r.patches) h.1.0
-    (subst (λ n. r ≡ record_with n r.number r.back r.page r.block_back r.init r.patches) h.0 refl))))))
+one_record r s h = search rules
 
 pub settled_record : (r s : RecordData) → Settled (r ≡ s)
 settled_record r s =

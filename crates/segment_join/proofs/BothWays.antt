@@ -1,9 +1,9 @@
 -- Meanings of parts of one log that cover each other are one.
-use Rattle.std.proofs.Common.{◌≡◌, ℕ, ◌<◌, ◌≤◌, ◌⊎◌, inl, inr, ⊎_elim, List, sym, ap, ◌∙◌, subst, arith}
+use Rattle.std.proofs.Common.{◌≡◌, ℕ, ◌<◌, ◌≤◌, ◌⊎◌, inl, inr, ⊎_elim, List, sym, ap, ◌∙◌, subst, arith, rules}
 use Rattle.std.specs.List.{Contains}
 use Rattle.redo_core.specs.Data.{RecordData, CutData, AdvanceData}
 use Rattle.redo_core.specs.Sets.{IsPart, SameSet, records, cuts, advances}
-use Rattle.redo_core.specs.CompleteEpoch.{HasCutsTo, IsCompleteEpoch}
+use Rattle.redo_core.specs.CompleteEpoch.{IsCompleteEpoch}
 use Rattle.redo_core.specs.Standing.{IsAlive, IsDead, IsWaiting}
 use Rattle.redo_core.specs.Roster.{IsReader, point_of}
 use Rattle.redo_core.specs.Points.{IsPoint}
@@ -25,8 +25,7 @@ use Rattle.segment_join.proofs.Agreeing.{at_most_both}
 
 -- one complete epoch belongs to one set of truncations
 epoch_of_set : (cs ds : List CutData) (j k : ℕ) → SameSet cs ds → IsCompleteEpoch cs j → IsCompleteEpoch ds k → j ≡ k
-epoch_of_set cs ds j k same a b =
-    greatest_unique (HasCutsTo cs) (HasCutsTo ds) (λ n. (cuts_to_by cs ds same n, cuts_to_by ds cs (same_sym cs ds same) n)) j k a b
+epoch_of_set cs ds j k same a b = search (rules, greatest_unique, cuts_to_by, same_sym)
 
 -- two parts, each where it stands and with its meaning, of which the second covers the first; they have one epoch and one anchor
 record IsCovered (roster : ℕ) (F G : List Fact) (f g : Position) (x y : Meaning) : Type 0 where

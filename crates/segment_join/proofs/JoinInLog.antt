@@ -1,5 +1,5 @@
 -- Two states of one sound log: a join of them is not refused, and joined they mean the union.
-use Rattle.std.proofs.Common.{◌≡◌, ◌≢◌, ℕ, ⊎_elim, List, sym, ◌∙◌, subst}
+use Rattle.std.proofs.Common.{◌≡◌, ◌≢◌, ℕ, ⊎_elim, List, sym, ◌∙◌, subst, rules}
 use Rattle.redo_core.specs.Sound.{IsSound}
 use Rattle.redo_core.specs.Book.{roster_of}
 use Rattle.redo_core.specs.declared.facts.Fact.{Fact}
@@ -53,5 +53,4 @@ sound_join s other why r one = not_refused one.0 one.1 one.4 s other one.2 one.3
 
 -- and joined they mean the union
 pub means_union : (s other new : State) → JoinsInto s other new → MeansUnion s other new
-means_union s other new joins roster log F G sound a b =
-    join_law log F G s other new (log_of_sound roster log sound) a b (joins_whole s other new joins (one_record_a_key roster log sound s other F G a b))
+means_union s other new joins roster log F G sound a b = search (rules, join_law, log_of_sound, joins_whole, one_record_a_key)

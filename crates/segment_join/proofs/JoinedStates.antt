@@ -1,28 +1,26 @@
 -- What a state and another one know together, when each fact that the other tells was taken.
-use Rattle.std.proofs.Common.{◌≡◌, ℕ, ◌<◌, ◌≤◌, ◌⊎◌, ◌↔◌, inl, inr, ⊎_elim, List, max, sym, ap, ◌∙◌, subst, arith}
+use Rattle.std.proofs.Common.{◌≡◌, ℕ, ◌<◌, ◌≤◌, ◌⊎◌, ◌↔◌, inl, inr, ⊎_elim, List, max, sym, ap, ◌∙◌, subst, arith, rules}
 use Rattle.std.specs.List.{Contains}
-use Rattle.std.proofs.Math.Nat.{le-max_left, le-max_right, max-eq_left, max-eq_right}
 use Rattle.redo_core.specs.Data.{RecordData}
-use Rattle.redo_core.specs.Roster.{least}
-use Rattle.redo_core.specs.Standing.{IsAlive, IsDead, IsWaiting}
+use Rattle.redo_core.specs.Standing.{IsDead}
 use Rattle.redo_core.specs.Book.{roster_of}
 use Rattle.redo_core.specs.declared.facts.Fact.{Fact}
 use Rattle.redo_core.specs.declared.facts.Fact.TheVariants.{Record}
-use Rattle.redo_laws.proofs.Deciding.{settled_lt, settled_eq, some_or_none}
+use Rattle.redo_laws.proofs.Deciding.{settled_eq, some_or_none}
 use Rattle.redo_laws.proofs.Storing.{stored_images}
 use Rattle.page_base.specs.Raising.{SamePage}
 use Rattle.page_base.specs.Merging.{IsTaken, IsFloored, Merges}
 use Rattle.state_laws.specs.State.{State, StoredImage, min_of, version_of, image_of}
 use Rattle.state_laws.specs.Means.{Matters, IsInImage}
 use Rattle.state_laws.specs.HasMeaning.{IsKeptBy}
-use Rattle.state_laws.specs.Joining.{JoinsBooks, Joins}
+use Rattle.state_laws.specs.Joining.{Joins}
 use Rattle.segment_core.specs.Form.{IsSegment}
 use Rattle.segment_core.specs.Refusing.{HoldsOther}
 use Rattle.segment_core.specs.Uniting.{Unites}
 use Rattle.segment_told.specs.Told.{AreTold}
 use Rattle.segment_told.specs.InOrder.{TakesEach}
 use Rattle.segment_join.specs.Joining.{IsBroughtIn, JoinsInto}
-use Rattle.segment_join.specs.Holding.{InOtherImage, IsNeedless, IsSpared, HoldsRest}
+use Rattle.segment_join.specs.Holding.{InOtherImage, IsNeedless, HoldsRest}
 use Rattle.segment_join.specs.Newer.{AreNewer}
 use Rattle.segment_core.proofs.Keys.{one_of_key}
 use Rattle.segment_told.proofs.TakingAll.{LeavesAll}
@@ -48,24 +46,14 @@ pub record IsUnion (old other taken joined : State) (facts : List Fact) (images 
 -- what another state tells is its book's
 module _ (old other taken : State) (facts : List Fact) (d : IsTold old other taken facts) where
   pub of_told : HasBook old other.book facts taken
-  of_told = record {
-    own = late_of old d.own;
-    epoch = d.shown.book.complete;
-    one_roster = d.one_roster;
-    cut = told_cut other facts d.told;
-    advance = told_advance other facts d.told;
-    takes = d.takes;
-  }
+  of_told = search (rules, late_of, told_cut, told_advance)
 
   told_all : LeavesAll old facts taken
   told_all = all old taken other.book facts of_told
 
   -- the other's base point is at most the least point of what took the facts and holds the rest
   pub base_fits_joined : (joined : State) → HoldsRest taken other joined → other.base ≤ min_of joined
-  base_fits_joined joined holds =
-      let low : least other.book.points ≤ min_of taken = least_fits old taken other.book facts of_told in
-      let base : other.base ≤ least other.book.points = d.shown.base in
-      subst (λ k. other.base ≤ least k.points) (sym holds.book) (omega (arith, low, base))
+  base_fits_joined joined holds = search (rules, least_fits, of_told)
 
 -- ---- images
 -- an image that is stored is its page's
@@ -81,12 +69,7 @@ module _ (old other taken joined new : State) (facts : List Fact) (images : List
 
   -- an image of the other that a page of a lower version lacks is taken in
   image_up : (i : StoredImage) → Contains other.store.images i → i.version ≤ version_of new.store i.page
-  image_up i h =
-      ⊎_elim
-      (λ (up : version_of old.store i.page < i.version). merges.not_below i ((u.newer i).1 (h, up)))
-      (λ (down : version_of old.store i.page < i.version
-      → ⊥). let x : version_of old.store i.page ≤ version_of new.store i.page = merges.not_older i.page in omega (arith, x, down))
-      (settled_lt (version_of old.store i.page) i.version)
+  image_up i h = search (rules, merges)
 
   newest_of : (g : ℕ) → version_of other.store g ≤ version_of new.store g
   newest_of g =
@@ -120,12 +103,7 @@ module _ (old other taken joined new : State) (facts : List Fact) (images : List
 
   images_joined : (g : ℕ) → SamePage old.store new.store g
       ⊎ ((version_of old.store g < version_of new.store g) × SamePage other.store new.store g)
-  images_joined g =
-      ⊎_elim
-      (λ (x : SamePage old.store new.store g). inl x)
-      (λ (x : (version_of old.store g < version_of new.store g) × (IsTaken images new.store g ⊎ IsFloored other.store.floor images new.store g)).
-      inr (x.0, ⊎_elim (taken_of g) (floored_of g x.0) x.1))
-      (merges.page g)
+  images_joined g = search (rules, taken_of, floored_of, merges)
 
   -- ---- base point and records
   base_is : new.base ≡ max old.base other.base
@@ -133,17 +111,7 @@ module _ (old other taken joined new : State) (facts : List Fact) (images : List
       u.unites.base_is ∙ ap (λ b. max b other.base) (u.holds.rest.base ∙ (told_all old other taken facts u.first).base)
 
   base_joined : ((new.base ≡ old.base) ⊎ (new.base ≡ other.base)) × (old.base ≤ new.base) × (other.base ≤ new.base)
-  base_joined =
-      let e = base_is in
-      let x : old.base ≤ max old.base other.base = le-max_left old.base other.base in
-      let y : other.base ≤ max old.base other.base = le-max_right old.base other.base in (
-        ⊎_elim
-            (λ (up : old.base < other.base). inr (let z : max old.base other.base ≡ other.base = max-eq_right (omega (arith, up)) in e ∙ z))
-            (λ (down : old.base < other.base → ⊥). inl (let z : max old.base other.base ≡ old.base = max-eq_left (omega (arith, down)) in e ∙ z))
-            (settled_lt old.base other.base),
-        omega (arith, e, x),
-        omega (arith, e, y),
-      )
+  base_joined = search (rules, base_is)
 
   held_is : (r : RecordData) → Contains joined.held r ↔ Contains new.held r
   held_is r = (λ h. subst (λ hs. Contains hs r) (sym u.unites.held) h, λ h. subst (λ hs. Contains hs r) u.unites.held h)
@@ -194,62 +162,15 @@ module _ (old other taken joined new : State) (facts : List Fact) (images : List
       inr (x.0, λ dead. x.1 (inl (still_dead r dead)), inr (λ image. x.1 (inr (inr (still_in_image r image))))))
       (u.holds.more r ((held_is r).1 h))
 
-  own_version : (page : ℕ) → version_of old.store page ≤ version_of new.store page
-  own_version page =
-      ⊎_elim
-      (λ (x : SamePage old.store new.store page). let e : version_of new.store page ≡ version_of old.store page = x.0 in omega (arith, e))
-      (λ x. let lt : version_of old.store page < version_of new.store page = x.0 in omega (arith, lt))
-      (images_joined page)
-
   own_joined : (r : RecordData) → Contains old.held r → Contains new.held r
   own_joined r h = (held_is r).0 (u.holds.before r ((told_all old other taken facts u.first).before r h))
 
   others_joined : (r : RecordData) → Contains other.held r → Matters new.book.cuts new.book.complete r
       → Contains new.held r ⊎ (IsInImage new r ⊎ HoldsOther old r)
-  others_joined r h mat =
-      ⊎_elim
-      (λ (y : Contains joined.held r). inl ((held_is r).0 y))
-      (λ (spared : IsSpared taken other r). ⊎_elim
-      (λ (o : HoldsOther taken r). inr (inr (held_before r h o)))
-      (λ rest. ⊎_elim
-      (λ (dead : IsDead taken.book.cuts taken.book.complete r.epoch r.number). absurd (not_dead dead))
-      (λ images. inr (inl (⊎_elim (λ (f : IsInImage taken r). own_image f) (λ (f : InOtherImage taken other r). in_image f) images)))
-      rest)
-      spared)
-      (u.holds.each r h)
-    where
-      not_dead : IsDead taken.book.cuts taken.book.complete r.epoch r.number → ⊥
-      not_dead dead =
-          ⊎_elim
-          (λ (w : IsWaiting taken.book.complete r.epoch). let x : r.epoch ≤ taken.book.complete = dead.0 in omega (arith, w, x))
-          (λ (a : IsAlive taken.book.cuts taken.book.complete r.epoch r.number). dead.1 a)
-          (subst (λ b. Matters b.cuts b.complete r) book_is mat)
-
-      own_image : IsInImage taken r → IsInImage new r
-      own_image f =
-          let before = told_all old other taken facts u.first in
-          let b : old.base ≤ new.base = base_joined.1 in
-          let same : taken.base ≡ old.base = before.base in
-          let version : version_of taken.store r.page ≡ version_of old.store r.page = ap (λ store. version_of store r.page) before.store in
-          let v = own_version r.page in
-          (subst (λ b. r.epoch ≤ b.complete) (sym book_is) f.0, omega (arith, f.1, b, same), omega (arith, f.2, v, version))
-
-      in_image : InOtherImage taken other r → IsInImage new r
-      in_image f =
-          let b : other.base ≤ new.base = base_joined.2 in
-          let v : version_of other.store r.page ≤ version_of new.store r.page = newest_of r.page in
-          (subst (λ b. r.epoch ≤ b.complete) (sym book_is) f.0, omega (arith, f.1, b), omega (arith, f.2, v))
+  others_joined r h mat = search (rules, held_before, newest_of)
 
   pub joins_both : JoinsInto old other new
-  joins_both = record {
-    book = subst (JoinsBooks old.book other.book) (sym book_is) (book_joined old taken other.book facts (of_told old other taken facts u.first));
-    base = base_joined;
-    own = own_joined;
-    others = others_joined;
-    of_both = brought_in;
-    images = images_joined;
-    newest = newest_of;
-  }
+  joins_both = search (rules, book_is, book_joined, of_told, base_joined, own_joined, others_joined, brought_in, images_joined, newest_of)
 
 -- no two different records stand under one key
 abbrev pub HaveOneRecordAKey : State → State → Type 0

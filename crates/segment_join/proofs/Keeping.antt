@@ -1,10 +1,9 @@
 -- Whether the record of a key is there.
-use Rattle.std.proofs.Common.{◌≡◌, ℕ, ◌<◌, ◌≤◌, ◌⊎◌, ◌↔◌, inl, inr, ⊎_elim, Bool, IsTrue, List, Some, refl, sym, ap, subst, arith, ◌∙◌}
+use Rattle.std.proofs.Common.{◌≡◌, ℕ, ◌↔◌, inl, ⊎_elim, Bool, IsTrue, List, Some, refl, sym, ap, subst, ◌∙◌, rules}
 use Rattle.std.specs.List.{All, Contains}
 use Rattle.redo_core.specs.Data.{RecordData}
-use Rattle.redo_core.specs.Keys.{key_in, key_of}
+use Rattle.redo_core.specs.Keys.{key_of}
 use Rattle.redo_core.specs.declared.keys.Key.{Key}
-use Rattle.redo_core.specs.Standing.{IsAlive, IsDead, IsWaiting}
 use Rattle.redo_core.specs.Order.{IsRising, RecordBefore}
 use Rattle.redo_core.proofs.Members.{all_members}
 use Rattle.redo_laws.proofs.Deciding.{Settled, settled_lt, settled_and, settled_or}
@@ -20,39 +19,15 @@ use Rattle.segment_told.proofs.Scanning.{of_member}
 
 -- a record that waits or is alive above the anchor is there exactly where it is held
 pub wanted_is_held : (s : State) (anchor : ℕ) (r : RecordData) → KeepsKey s.book anchor (key_of r) → HasRecord s anchor r → Contains s.held r
-wanted_is_held s anchor r wanted has =
-    ⊎_elim
-    (λ (kept : IsKeptBy s anchor r). kept.0)
-    (λ (gone : IsDead s.book.cuts s.book.complete r.epoch r.number ⊎ ((r.number ≤ anchor) × (r.epoch ≤ s.book.complete))). absurd (⊎_elim
-    (λ (dead : IsDead s.book.cuts s.book.complete r.epoch r.number). ⊎_elim
-    (λ (w : IsWaiting s.book.complete r.epoch). omega (arith, w, dead.0))
-    (λ (a : IsAlive s.book.cuts s.book.complete r.epoch r.number × (anchor < r.number)). dead.1 a.0) wanted)
-    (λ (low : (r.number ≤ anchor) × (r.epoch ≤ s.book.complete)). ⊎_elim
-    (λ (w : IsWaiting s.book.complete r.epoch). omega (arith, w, low.1))
-    (λ (a : IsAlive s.book.cuts s.book.complete r.epoch r.number × (anchor < r.number)). omega (arith, a.1, low.0)) wanted)
-    gone))
-    has
+wanted_is_held s anchor r wanted has = search rules
 
 -- any other one is needed no more
 pub needless_has : (s : State) (anchor : ℕ) (r : RecordData) → (KeepsKey s.book anchor (key_of r) → ⊥) → HasRecord s anchor r
-needless_has s anchor r needless =
-    ⊎_elim
-    (λ (waits : s.book.complete < r.epoch). absurd (needless (inl waits)))
-    (λ (known : s.book.complete < r.epoch → ⊥). ⊎_elim
-    (λ (alive : IsAlive s.book.cuts s.book.complete r.epoch r.number). ⊎_elim
-    (λ (above : anchor < r.number). absurd (needless (inr (alive, above))))
-    (λ (low : anchor < r.number → ⊥). inr (inr (omega (arith, low), omega (arith, known))))
-    (settled_lt anchor r.number))
-    (λ (dead : IsAlive s.book.cuts s.book.complete r.epoch r.number → ⊥). inr (inl (omega (arith, known), dead)))
-    (settled_alive s.book.cuts s.book.complete r.epoch r.number))
-    (settled_lt s.book.complete r.epoch)
+needless_has s anchor r needless = search rules
 
 -- what is so of a key is so of a record of the key
 pub of_key : (s : State) (anchor : ℕ) (key : Key) (r : RecordData) → HasKey key r → KeepsKey s.book anchor key ↔ KeepsKey s.book anchor (key_of r)
-of_key s anchor key r is = (
-  λ h. subst (λ e. KeepsKey s.book anchor (key_in e r.number)) (sym is.0) (subst (λ n. KeepsKey s.book anchor (key_in key.epoch n)) (sym is.1) h),
-  λ h. subst (λ e. KeepsKey s.book anchor (key_in e key.number)) is.0 (subst (λ n. KeepsKey s.book anchor (key_in r.epoch n)) is.1 h),
-)
+of_key s anchor key r is = search rules
 
 -- where a segment holds a record under a key, another one has that where it holds the same there
 pub same_at : (s t : State) (key : Key) (r x : RecordData) (same : Bool) → IsRising RecordBefore s.held → IsRising RecordBefore t.held

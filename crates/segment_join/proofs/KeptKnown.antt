@@ -1,11 +1,9 @@
 -- What the other's meaning keeps is known once it is taken, and stays so while more is held.
-use Rattle.std.proofs.Common.{◌≡◌, ℕ, ◌<◌, ◌≤◌, inl, inr, ⊎_elim, List, [], ◌∷◌, map, refl, sym, ◌∙◌, subst, arith}
+use Rattle.std.proofs.Common.{◌≡◌, ℕ, inl, inr, ⊎_elim, List, [], ◌∷◌, map, refl, sym, ◌∙◌, subst, rules}
 use Rattle.std.specs.List.{Contains}
 use Rattle.redo_core.specs.Data.{RecordData}
 use Rattle.redo_core.specs.Keys.{key_of}
-use Rattle.redo_core.specs.Linked.{Linked}
-use Rattle.redo_core.specs.Roster.{least}
-use Rattle.redo_core.specs.Standing.{IsAlive, IsDead, IsWaiting}
+use Rattle.redo_core.specs.Standing.{IsAlive, IsDead}
 use Rattle.redo_core.specs.declared.facts.Fact.TheVariants.{Record}
 use Rattle.redo_core.proofs.Members.{none_in, which}
 use Rattle.hot_log.specs.Kept.{KeepsKey}
@@ -31,15 +29,7 @@ more_none : (s : State) → HoldsMore s s
 more_none s = record { book = refl; rest = record { base = refl; store = refl }; before = λ r h. h }
 
 settled_more : (s t : State) (n : ℕ) → HoldsMore s t → IsSettled s n → IsSettled t n
-settled_more s t n more low =
-    let linked : Linked s.book.cuts t.held s.book.complete s.base low.0 =
-    linked_more s.book.cuts s.held t.held s.book.complete s.base low.0 more.before low.1 in (
-      low.0,
-      subst (λ b. Linked b.cuts t.held b.complete t.base low.0) (sym more.book)
-          (subst (λ base. Linked s.book.cuts t.held s.book.complete base low.0) (sym more.rest.base) linked),
-      subst (λ b. low.0 ≤ least b.points) (sym more.book) low.2,
-      low.3,
-    )
+settled_more s t n more low = search (rules, linked_more)
 
 known_more : (s t : State) (r : RecordData) → HoldsMore s t → IsKnown s (Record r) → IsKnown t (Record r)
 known_more s t r more known =
@@ -104,20 +94,4 @@ knows_taken own other taken takes anchor r above kept =
 -- what is known and waits, or is alive above the anchor, is held
 pub known_is_held : (s : State) (anchor : ℕ) (r : RecordData) → HasAnchor s anchor → KeepsKey s.book anchor (key_of r) → IsKnown s (Record r)
     → Contains s.held r
-known_is_held s anchor r above keeps known =
-    ⊎_elim
-    (λ (dead : IsDead s.book.cuts s.book.complete r.epoch r.number). absurd (not_gone dead.0 (λ alive low. dead.1 alive)))
-    (λ h. ⊎_elim
-    (λ (has : Contains s.held r). has)
-    (λ (low : IsAlive s.book.cuts s.book.complete r.epoch r.number × IsSettled s r.number).
-    let top : low.1.0 ≤ anchor = above.1 low.1.0 (low.1.1, low.1.2) in
-    absurd (not_gone low.0.known (λ alive over. omega (arith, over, top, low.1.3))))
-    h)
-    known
-  where
-    not_gone : r.epoch ≤ s.book.complete → (IsAlive s.book.cuts s.book.complete r.epoch r.number → anchor < r.number → ⊥) → ⊥
-    not_gone old not =
-        ⊎_elim
-        (λ (waits : IsWaiting s.book.complete r.epoch). omega (arith, waits, old))
-        (λ (alive : IsAlive s.book.cuts s.book.complete r.epoch r.number × (anchor < r.number)). not alive.0 alive.1)
-        keeps
+known_is_held s anchor r above keeps known = search rules

@@ -1,5 +1,5 @@
 -- What the one holds already need not be told: left out, it changes nothing of what is taken or refused.
-use Rattle.std.proofs.Common.{◌≡◌, ℕ, ◌<◌, ◌⊎◌, ◌↔◌, inl, inr, ⊎_elim, List, [], ◌∷◌, ◌++◌, map, refl, sym, ap, ◌∙◌, subst}
+use Rattle.std.proofs.Common.{◌≡◌, ℕ, ◌<◌, ◌⊎◌, ◌↔◌, inl, inr, ⊎_elim, List, [], ◌∷◌, ◌++◌, map, refl, sym, ap, ◌∙◌, subst, rules}
 use Rattle.std.specs.List.{Contains, AllByRecursion}
 use Rattle.redo_core.specs.Data.{RecordData}
 use Rattle.redo_core.specs.Order.{IsRising, Lists, RecordBefore}
@@ -18,7 +18,7 @@ use Rattle.state_laws.specs.Learning.{PutsRecord}
 use Rattle.segment_core.specs.Taking.{Stores}
 use Rattle.segment_core.specs.Refusing.{Refuses, IsDeadOrSettled}
 use Rattle.segment_core.specs.declared.answers.Refusal.{Refusal}
-use Rattle.segment_core.specs.declared.answers.Refusal.TheVariants.{OtherRoster, OtherCut, Contradiction, OtherRecord, Memory}
+use Rattle.segment_core.specs.declared.answers.Refusal.TheVariants.{OtherRecord}
 use Rattle.segment_core.proofs.Keys.{one_of_key}
 use Rattle.segment_told.specs.Told.{book_facts, facts_told}
 use Rattle.segment_told.specs.InOrder.{TakesOne, TakesEach, RefusesOne}
@@ -71,8 +71,7 @@ left_members held (r ∷ rs) x = members_at held r (left_out held rs) rs (settle
 
 rising_at : (held : List RecordData) (r : RecordData) (rest : List RecordData) (known : Settled (Contains held r))
     → AllByRecursion (RecordBefore r) rest → IsRising RecordBefore rest → IsRising RecordBefore (unless_held held r known rest)
-rising_at held r rest (inl has) before rising = rising
-rising_at held r rest (inr lacks) before rising = (before, rising)
+rising_at held r rest known before rising = search rules
 
 left_rising : (held full : List RecordData) → IsRising RecordBefore full → IsRising RecordBefore (left_out held full)
 left_rising held [] rising = tt
@@ -156,14 +155,7 @@ still_one held s t fact still takes =
 
 -- a held record is known, and no other one is under its key, so it is taken and nothing changes
 takes_held : (s : State) (r : RecordData) → OneOfKey s.held → Contains s.held r → TakesOne s (Record r) s
-takes_held s r one has = record { free = none; takes = inl (inr (inl has), refl) }
-  where
-    none : (why : Refusal) → Refuses s (Record r) why → ⊥
-    none (OtherRoster own shown) refused = refused
-    none (OtherCut d) refused = refused
-    none (Contradiction held) refused = refused
-    none OtherRecord refused = refused.1.4 (one refused.1.0 r refused.1.1 has refused.1.2 refused.1.3)
-    none Memory refused = refused
+takes_held s r one has = search rules
 
 -- ---- the records, with those that are held
 takes_at : (held : List RecordData) (r : RecordData) (rest rs : List RecordData) (t : State) (known : Settled (Contains held r))

@@ -1,10 +1,10 @@
 -- The laws of merging, from those of meanings.
-use Rattle.std.proofs.Common.{◌↔◌, ℕ, ◌+◌, ◌<◌, ◌++◌, List, length, arith}
+use Rattle.std.proofs.Common.{◌↔◌, ℕ, ◌++◌, List, rules}
 use Rattle.redo_core.specs.Sound.{IsSound}
 use Rattle.redo_core.specs.Meaning.{Meaning, IsMeaning}
 use Rattle.redo_core.specs.declared.facts.Fact.{Fact}
 use Rattle.redo_laws.specs.OrderOfMeanings.{Congruence, OrderByParts, LeastUpperBound, Associativity, Commutativity, Idempotence}
-use Rattle.redo_laws.specs.Overlap.{Overlap, chosen_count}
+use Rattle.redo_laws.specs.Overlap.{Overlap}
 use Rattle.state_laws.specs.State.{State}
 use Rattle.state_laws.specs.Means.{Means}
 use Rattle.state_laws.specs.Laws.{SameMeaning}
@@ -67,6 +67,4 @@ joins_agree law congruent roster log s t w one other m of hs ht first second =
     ))
 
 pub write_four_read_three : Overlap → WriteFourReadThree
-write_four_read_three overlap roster log parts reached chosen k n sound all at same six four three =
-    let lt : length parts < chosen_count reached + chosen_count chosen = omega (arith, six, four, three) in
-    overlap roster log parts reached chosen k n sound all at same lt
+write_four_read_three overlap roster log parts reached chosen k n sound all at same six four three = search rules

@@ -1,5 +1,5 @@
 -- Whether two states show the same of their pages.
-use Rattle.std.proofs.Common.{◌≡◌, ℕ, ◌⊎◌, inl, inr, ⊎_elim, List, ◌++◌, get_or, Bool, refl, sym, ◌∙◌, subst}
+use Rattle.std.proofs.Common.{◌≡◌, ℕ, ◌⊎◌, ⊎_elim, List, ◌++◌, get_or, Bool, refl, sym, ◌∙◌, subst, rules}
 use Rattle.std.specs.List.{Contains, All}
 use Rattle.redo_core.specs.Data.{RecordData}
 use Rattle.redo_laws.proofs.Deciding.{settled_eq, some_or_none}
@@ -8,7 +8,6 @@ use Rattle.state_laws.specs.Shows.{Shows}
 use Rattle.segment_core.specs.Form.{IsSegment}
 use Rattle.segment_core.specs.Comparing.{TellsSamePage}
 use Rattle.segment_join.specs.Sameness.{ShowOne, TellsPages, IsUnwritten}
-use Rattle.segment_told.proofs.Scanning.{of_member}
 use Rattle.segment_told.proofs.BarePages.{shows_some, IsBare, bare_is_zeros, bare_or_not}
 
 -- a property of pages that holds of those with an image or a held record
@@ -17,15 +16,7 @@ pub record HoldsOfStored (s : State) (P : ℕ → Type 0) : Type 0 where
   pub written : (r : RecordData) → Contains s.held r → P r.page
 
 pub stored_or_bare : (s : State) (P : ℕ → Type 0) (page : ℕ) → HoldsOfStored s P → IsBare s page ⊎ P page
-stored_or_bare s P page holds =
-    ⊎_elim
-    (λ (bare : IsBare s page). inl bare)
-    (λ (t : ((i : StoredImage) × Contains s.store.images i × (i.page ≡ page)) ⊎ ((r : RecordData) × Contains s.held r × (r.page ≡ page))). inr (⊎_elim
-    (λ (image : (i : StoredImage) × Contains s.store.images i × (i.page ≡ page)).
-    subst P image.2 (of_member (λ (i : StoredImage). P i.page) s.store.images holds.images image.0 image.1))
-    (λ (redo : (r : RecordData) × Contains s.held r × (r.page ≡ page)). subst P redo.2 (holds.written redo.0 redo.1))
-    t))
-    (bare_or_not s page)
+stored_or_bare s P page holds = search (rules, bare_or_not)
 
 -- what holds of the pages that are written and of those that are not, holds of each page with an image
 pub stored_of_both : (s t : State) (P : ℕ → Type 0) (images : List StoredImage) → All (λ (i : StoredImage). IsUnwritten s t i.page → P i.page) images

@@ -1,5 +1,6 @@
 -- Records that a sort by key has put in order: no two of them have one key, so they rise.
-use Rattle.std.proofs.Common.{◌≡◌, ℕ, ◌+◌, ◌≤◌, ◌<◌, ◌⊎◌, inl, inr, ⊎_elim, List, [], ◌∷◌, suc, length, get_or, map, Bor, false, cond, ◌==◌, ◌&&◌, refl, sym, ◌∙◌, ap, subst, arith}
+use Rattle.std.proofs.Common.{◌≡◌, ℕ, ◌+◌, ◌≤◌, ◌<◌, ◌⊎◌, inl, inr, ⊎_elim, List, [], ◌∷◌, suc, length, get_or, map, Bor, false, cond, ◌==◌, ◌&&◌, refl, sym, ◌∙◌, subst, arith}
+use Rattle.std.proofs.lemmas.Grind.{common_steps}
 use Rattle.std.specs.List.{Contains, sum_by, fold}
 use Rattle.std.specs.List.Sorted.{IsPermutation, IsSortedByKey}
 use Rattle.std.specs.Ordering.{is_lt}
@@ -10,7 +11,7 @@ use Rattle.redo_core.specs.Data.{RecordData}
 use Rattle.redo_core.specs.Keys.{key_of, key_cmp}
 use Rattle.redo_core.specs.declared.keys.Key.{Key}
 use Rattle.redo_core.specs.Order.{IsRising, Lists, RecordBefore}
-use Rattle.redo_core.proofs.Members.{none_in, here, there, which, each, all_of}
+use Rattle.redo_core.proofs.Members.{here, there, each, all_of}
 use Rattle.hot_log.specs.Paged.{PlaceBefore}
 use Rattle.hot_log.proofs.Orders.{key_total}
 use Rattle.hot_log.proofs.Sides.{not_itself}
@@ -30,8 +31,7 @@ unfolding of_key
 is_of_key e n r p q = grind arith
 
 fold_from : {X : Type 0} (f : X → ℕ) (a : ℕ) (xs : List X) → fold (λ (b : ℕ) (x : X). b + f x) a xs ≡ a + sum_by f xs
-fold_from f a [] = omega arith
-fold_from f a (x ∷ xs) = let p = fold_from f (a + f x) xs in let q = fold_from f (0 + f x) xs in omega (arith, p, q)
+fold_from f a xs = grind (arith, common_steps)
 
 sum_first : {X : Type 0} (f : X → ℕ) (x : X) (xs : List X) → sum_by f (x ∷ xs) ≡ f x + sum_by f xs
 sum_first f x xs = let p = fold_from f (0 + f x) xs in omega (arith, p)
@@ -47,13 +47,7 @@ none_of e n (x ∷ xs) apart =
     (key_or_none e n x)
 
 one_of : (e n : ℕ) (xs : List RecordData) (x : RecordData) → Contains xs x → x.epoch ≡ e → x.number ≡ n → 1 ≤ sum_by (of_key e n) xs
-one_of e n [] x h p q = absurd (none_in x h)
-one_of e n (y ∷ ys) x h p q =
-    let all = sum_first (of_key e n) y ys in
-    ⊎_elim
-    (λ (u : y ≡ x). let one : of_key e n x ≡ 1 = is_of_key e n x p q in let same : of_key e n y ≡ of_key e n x = ap (of_key e n) u in omega (arith, all, one, same))
-    (λ (u : Contains ys x). let rest = one_of e n ys x u p q in omega (arith, all, rest))
-    (which y ys x h)
+one_of e n xs x h p q = grind (arith, common_steps, is_of_key)
 
 -- no two records have one key
 abbrev OneOfKey : List RecordData → Type 0

@@ -1,5 +1,6 @@
 -- What a state holds after a loop over the other state's held records, and which images a loop has picked.
-use Rattle.std.proofs.Common.{◌≡◌, ◌↔◌, ℕ, ◌+◌, ◌<◌, ◌≤◌, ◌⊎◌, inl, inr, ⊎_elim, List, [], ◌∷◌, ◌++◌, length, get_or, take, Some, None, refl, sym, ap, subst, ◌∙◌}
+use Rattle.std.proofs.Common.{◌≡◌, ◌↔◌, ℕ, ◌+◌, ◌<◌, ◌≤◌, ◌⊎◌, inl, inr, ⊎_elim, List, [], ◌∷◌, ◌++◌, length, get_or, take, Some, refl, sym, ap, subst, ◌∙◌, rules, arith}
+use Rattle.std.proofs.lemmas.Grind.{common_steps}
 use Rattle.std.specs.List.{Contains}
 use Rattle.std.proofs.lemmas.List.{take_more, take_all}
 use Rattle.std.proofs.lemmas.List.Elements.{Contains-append_left, Contains-append_right, Contains-append_cases}
@@ -7,14 +8,12 @@ use Rattle.redo_core.specs.Data.{RecordData}
 use Rattle.redo_core.specs.Keys.{key_of}
 use Rattle.redo_core.specs.declared.keys.Key.{Key}
 use Rattle.redo_core.specs.Order.{IsRising, RecordBefore}
-use Rattle.redo_core.specs.Standing.{IsDead}
 use Rattle.redo_core.proofs.Members.{none_in, here, which}
 use Rattle.hot_log.specs.Held.{HasKey, IsRecordAt}
-use Rattle.state_laws.specs.State.{State, Store, SameBase, version_of}
-use Rattle.state_laws.specs.Means.{IsInImage}
+use Rattle.state_laws.specs.State.{State, SameBase}
 use Rattle.segment_core.specs.Uniting.{HoldsRecord}
 use Rattle.segment_core.specs.Refusing.{HoldsOther}
-use Rattle.segment_join.specs.Holding.{InOtherImage, IsNeedless, IsSpared, HoldsRest}
+use Rattle.segment_join.specs.Holding.{IsNeedless, IsSpared, HoldsRest}
 use Rattle.segment_join.specs.Knowing.{HoldsAt}
 use Rattle.segment_core.proofs.Keys.{one_of_key}
 use Rattle.segment_join.proofs.Alike.{settled_record}
@@ -22,21 +21,9 @@ use Rattle.redo_core.proofs.Rising.{up_to}
 
 -- the one there is, or one of those before it
 last_or : {X : Type 0} (xs : List X) (i : ℕ) (x r : X) → i < length xs → x ≡ get_or xs i x → Contains (take (i + 1) xs) r → Contains (take i xs) r ⊎ (r ≡ x)
-last_or xs i x r lt is has =
-    ⊎_elim
-    (λ (h : Contains (take i xs) r). inl h)
-    (λ (h : Contains (get_or xs i x ∷ []) r). inr (⊎_elim (λ (e : get_or xs i x ≡ r). sym (is ∙ e)) (λ (e : Contains [] r). absurd (none_in r e)) (which (get_or xs i x) [] r h)))
-    (Contains-append_cases (take i xs) (get_or xs i x ∷ []) r (subst (λ ys. Contains ys r) (take_more xs i x lt) has))
+last_or xs i x r lt is has = grind (arith, common_steps)
 
 -- ---- one key
-pub holds_none : (s other : State) (key : Key) → IsRecordAt other.held key None → HoldsAt s other key s
-holds_none s other key none = record {
-  book = refl;
-  rest = record { base = refl; store = refl };
-  before = λ r h. h;
-  more = λ r h. inl h;
-  each = λ r has is. absurd (none r has is);
-}
 
 pub holds_spared : (s other : State) (key : Key) (redo : RecordData) → IsRising RecordBefore other.held → IsRecordAt other.held key (Some redo)
     → IsNeedless s other redo → HoldsAt s other key s
@@ -76,32 +63,9 @@ pub record HoldsFirst (missing : List RecordData) (i : ℕ) (old other new : Sta
   pub more : (r : RecordData) → Contains new.held r → Contains old.held r ⊎ (Contains other.held r × (IsNeedless old other r → ⊥))
   pub each : (r : RecordData) → Contains (take i missing) r → Contains new.held r ⊎ IsSpared old other r
 
-pub first_none : (missing : List RecordData) (old other : State) → HoldsFirst missing 0 old other old
-first_none missing old other = record {
-  book = refl;
-  rest = record { base = refl; store = refl };
-  before = λ r h. h;
-  more = λ r h. inl h;
-  each = λ r has. absurd (none_in r has);
-}
-
 -- in another state of the same book and images it is needless too
 needless_by : (s t other : State) (r : RecordData) → t.book ≡ s.book → SameBase s t → IsNeedless s other r → IsNeedless t other r
-needless_by s t other r same rest h =
-    ⊎_elim
-    (λ (x : IsDead s.book.cuts s.book.complete r.epoch r.number). inl (subst (λ b. IsDead b.cuts b.complete r.epoch r.number) (sym same) x))
-    (λ images. ⊎_elim
-    (λ (x : IsInImage s r). inr (inl (
-      known x.0,
-      subst (λ n. r.number ≤ n) (sym rest.base) x.1,
-      subst (λ (store : Store). r.number ≤ version_of store r.page) (sym rest.store) x.2,
-    )))
-    (λ (x : InOtherImage s other r). inr (inr (known x.0, x.1, x.2)))
-    images)
-    h
-  where
-    known : r.epoch ≤ s.book.complete → r.epoch ≤ t.book.complete
-    known x = subst (λ b. r.epoch ≤ b.complete) (sym same) x
+needless_by s t other r same rest h = search rules
 
 -- the same the other way round
 same_back : (s t : State) → SameBase s t → SameBase t s

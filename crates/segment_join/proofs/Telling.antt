@@ -1,5 +1,5 @@
 -- What a segment tells, and what of a state that takes it.
-use Rattle.std.proofs.Common.{ℕ, List, refl}
+use Rattle.std.proofs.Common.{ℕ, List, rules}
 use Rattle.redo_core.specs.Data.{RecordData}
 use Rattle.redo_core.specs.Order.{Lists, RecordBefore}
 use Rattle.state_laws.specs.State.{State}
@@ -11,13 +11,7 @@ use Rattle.segment_join.specs.Knowing.{TakesAll, RefusesAll}
 
 module _ (other : State) (anchor : ℕ) (kept : List RecordData) (above : HasAnchor other anchor) (lists : Lists RecordBefore (IsKeptBy other anchor) kept) where
   told : AreTold other (facts_told other.book kept)
-  told = record {
-    anchor = anchor;
-    kept = kept;
-    anchor_is = above;
-    kept_are = lists;
-    facts_are = refl;
-  }
+  told = search rules
 
   pub takes_all : (s t : State) → TakesEach s (facts_told other.book kept) t → TakesAll s other t
   takes_all s t takes = record { facts = facts_told other.book kept; told = told; takes = takes }

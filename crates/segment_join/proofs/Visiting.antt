@@ -1,11 +1,11 @@
 -- Going over the pages that held records write, from the least on.
-use Rattle.std.proofs.Common.{◌≡◌, ℕ, ◌-◌, ◌<◌, ◌≤◌, ◌⊎◌, ◌↔◌, ⊎_elim, List, ◌++◌, min, Option, Some, None, Bool, IsTrue, true, false, sym, subst, ◌∙◌, refl, arith}
+use Rattle.std.proofs.Common.{◌≡◌, ℕ, ◌-◌, ◌≤◌, ◌⊎◌, ◌↔◌, ⊎_elim, List, ◌++◌, min, Option, Some, None, Bool, IsTrue, false, sym, subst, ◌∙◌, arith, rules}
 use Rattle.std.specs.List.{Contains}
 use Rattle.std.specs.Option.{SomeIff}
 use Rattle.std.proofs.lemmas.List.Elements.{Contains-append_left, Contains-append_right, Contains-append_cases}
 use Rattle.redo_core.specs.Data.{RecordData}
 use Rattle.hot_log.specs.Found.{IsPageAfter, IsPageAbove}
-use Rattle.segment_core.proofs.Pages.{IsPassed, none_passed, passed_to}
+use Rattle.segment_core.proofs.Pages.{IsPassed, none_passed}
 
 -- a held record writes the next page, where there is one
 abbrev pub IsWritten : List RecordData → Option ℕ → Type 0
@@ -17,31 +17,19 @@ abbrev pub HoldsBefore : (ℕ → Type 0) → List RecordData → Option ℕ →
 HoldsBefore P held next = (r : RecordData) → Contains held r → IsPassed next r.page → P r.page
 
 pub written_next : (held : List RecordData) (after next : Option ℕ) → IsPageAfter held after next → IsWritten held next
-written_next held after None is = tt
-written_next held after (Some page) is = (is.0.0, is.0.1, is.0.2)
+written_next held after next is = search rules
 
 pub holds_at_first : (P : ℕ → Type 0) (held : List RecordData) (next : Option ℕ) → IsPageAfter held None next → HoldsBefore P held next
 holds_at_first P held next is r has passed = absurd (none_passed held next r is has passed)
 
 pub holds_of_one_more : (P : ℕ → Type 0) (held : List RecordData) (page : ℕ) (next : Option ℕ) → IsPageAfter held (Some page) next
     → P page → HoldsBefore P held (Some page) → HoldsBefore P held next
-holds_of_one_more P held page next is here before r has passed =
-    let low : r.page ≤ page = passed_to held page next r is has passed in
-    ⊎_elim
-    (λ (lt : r.page < page). before r has lt)
-    (λ (e : r.page ≡ page). subst P (sym e) here)
-    (let t : (r.page < page) ⊎ (r.page ≡ page) = grind arith in t)
-
-pub holds_at_last : (P : ℕ → Type 0) (held : List RecordData) → HoldsBefore P held None → IsTrue true ↔ ((r : RecordData) → Contains held r → P r.page)
-holds_at_last P held all = (λ h r has. all r has tt, λ h. refl)
+holds_of_one_more P held page next is here before r has passed = search rules
 
 -- one page has it not
 pub fails_at : (P : ℕ → Type 0) (held : List RecordData) (page : ℕ) (holds : Bool) → IsWritten held (Some page) → holds ≡ false → IsTrue holds ↔ P page
     → IsTrue false ↔ ((r : RecordData) → Contains held r → P r.page)
-fails_at P held page holds written fails tells = (
-  λ (h : false ≡ true). absurd (cc),
-  λ all. sym fails ∙ tells.1 (subst P written.2 (all written.0 written.1)),
-)
+fails_at P held page holds written fails tells = search rules
 
 -- the least page that either of two lists has above another
 pub page_of_both : (xs ys : List RecordData) (after : Option ℕ) (p q low : ℕ) → IsPageAfter xs after (Some p) → IsPageAfter ys after (Some q)
@@ -79,9 +67,7 @@ page_of_other xs ys after (Some p) none other = (
 -- the pages above the one below a page are those from it on
 pub from_page_on : (page : ℕ) (below : Option ℕ) → SomeIff below (1 ≤ page) (page - 1)
     → IsPageAbove below page × ((p : ℕ) → IsPageAbove below p → page ≤ p)
-from_page_on page None is = (tt, λ p above. let zero_is : page ≤ 0 = grind (arith, is) in omega (arith, zero_is))
-from_page_on page (Some b) is = let low : 1 ≤ page = is.0 in let at : b ≡ page - 1 = is.1 in
-    (omega (arith, low, at), λ p above. let up : b < p = above in omega (arith, low, at, up))
+from_page_on page below is = search rules
 
 -- the least page above the one below a page tells whether that page is written
 pub next_is_written : (held : List RecordData) (page : ℕ) (below : Option ℕ) (next : ℕ) → IsPageAfter held below (Some next) → next ≡ page
@@ -90,11 +76,7 @@ next_is_written held page below next is same none = none is.0.0 is.0.1 (is.0.2 �
 
 pub next_is_above : (held : List RecordData) (page : ℕ) (below : Option ℕ) (next : ℕ) → SomeIff below (1 ≤ page) (page - 1)
     → IsPageAfter held below (Some next) → (next ≡ page → ⊥) → (r : RecordData) → Contains held r → r.page ≡ page → ⊥
-next_is_above held page below next at is other r has same =
-    let from = from_page_on page below at in
-    let low : next ≤ r.page = is.1 r has (subst (IsPageAbove below) (sym same) from.0) in
-    let up : page ≤ next = from.1 next is.0.3 in
-    other (omega (arith, low, up, same))
+next_is_above held page below next at is other r has same = search (rules, from_page_on)
 
 pub none_is_above : (held : List RecordData) (page : ℕ) (below : Option ℕ) → SomeIff below (1 ≤ page) (page - 1) → IsPageAfter held below None
     → (r : RecordData) → Contains held r → r.page ≡ page → ⊥

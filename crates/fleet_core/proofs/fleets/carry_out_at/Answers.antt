@@ -1,4 +1,5 @@
-use Rattle.std.proofs.Common.{◌≡◌, ◌<◌, length, get_or, ap, arith, Some, None}
+use Rattle.std.proofs.Common.{◌≡◌, ◌<◌, length, get_or, ap, arith, Some}
+use Rattle.std.proofs.lemmas.Grind.{common_steps}
 use Rattle.fleet_core.proofs.Pairing.{carried, place_in_front, place_in_back, one_place}
 use Rattle.fleet_core.proofs.fleets.carry_out_at.Goals as goal
 
@@ -35,11 +36,4 @@ returns-then-other-place c =
     c.carry_out-then-other-place.result later _ c.carry_out-then-other-place.new.messages.items stands c.carry_out-then-other-place.ensures
 
 pub returns : goal.returns
-returns c =
-    let same : c.args.place ≡ c.args.other = omega (arith, c.if-place-other.false, c.if-other-place.false) in
-    let own = get_or c.args.segments.now c.args.place c.index-segments-place.result in
-    carried c.args.roster c.args.segments.now c.args.place c.args.other own None c.args.messages.now.items c.args.step.now c.carry_out-2.result
-    c.carry_out-2.new.segment _ c.carry_out-2.new.messages.items
-    (one_place c.args.segments.now c.args.place c.args.other own c.carry_out-2.new.segment c.requires.place same
-    (ap (get_or c.args.segments.now c.args.place) c.index-segments-place.is))
-    c.carry_out-2.ensures
+returns c = grind (arith, common_steps, one_place)

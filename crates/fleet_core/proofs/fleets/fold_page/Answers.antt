@@ -1,15 +1,10 @@
+use Rattle.std.proofs.Common.{rules}
 use Rattle.state_laws.specs.Promises.{KeepsMeaningWith}
-use Rattle.segment_core.specs.Folding.{RefusesCommit}
-use Rattle.segment_core.specs.declared.fold_plan.CommitFault.TheVariants.{Ahead}
-use Rattle.fleet_core.proofs.Following.{follows_fold, follows_no_plan, never_ahead}
+use Rattle.fleet_core.proofs.Following.{follows_fold, follows_no_plan}
 use Rattle.fleet_core.proofs.fleets.fold_page.Goals as goal
 
 pub unreachable-requires : goal.unreachable-requires
-unreachable-requires c =
-    let plan = c.in-Ok.plan in
-    let why : RefusesCommit c.args.segment.now plan (Ahead c.in-Ahead.version c.in-Ahead.anchor) =
-    rw (c.fold-folded.ensures, c.in-Ahead.is) at c.in-Err-commit_fold.ensures.refused in
-    never_ahead c.args.segment.now c.args.page plan c.in-Ahead.version c.in-Ahead.anchor c.in-Ok.ensures.own why
+unreachable-requires c = search rules
 
 pub returns-in-Err-clause-follows : goal.returns-in-Err-clause-follows
 returns-in-Err-clause-follows c =

@@ -1,4 +1,4 @@
-use Rattle.std.proofs.Common.{◌≡◌, inr, refl, ap, ◌∙◌, subst, unwrap_or}
+use Rattle.std.proofs.Common.{◌≡◌, ap, ◌∙◌, subst, unwrap_or, rules}
 use Rattle.std.specs.Option.{option_copied}
 use Rattle.segment_join.specs.Sameness.{TellsSame}
 use Rattle.fleet_core.proofs.Merging.{follows_same}
@@ -13,8 +13,4 @@ returns-in-Ok-clause-follows c = λ readers node than.
     follows_same readers own (option_copied c.args.other) node than c.in-Ok.answer (subst (λ s. TellsSame own s c.in-Ok.answer) same c.in-Ok.ensures.meanings)
 
 pub returns-in-Ok-clause-calls : goal.returns-in-Ok-clause-calls
-returns-in-Ok-clause-calls c =
-    let own = c.args.segment.now in
-    let beside = unwrap_or (option_copied c.args.other) own in
-    let same : c.unwrap_or.result.now ≡ beside = ap (λ s. s.now) c.unwrap_or.ensures ∙ unwrap_now c.args.other c.args.segment in
-    inr (c.in-Ok.answer, subst (λ s. TellsSame own s c.in-Ok.answer) same c.in-Ok.ensures.meanings, refl)
+returns-in-Ok-clause-calls c = search rules

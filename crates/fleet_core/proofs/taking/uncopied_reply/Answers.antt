@@ -1,4 +1,4 @@
-use Rattle.std.proofs.Common.{subst, Some, None}
+use Rattle.std.proofs.Common.{subst, Some, None, rules}
 use Rattle.std.proofs.lemmas.Bool.{iff_false}
 use Rattle.hot_log.specs.Held.{IsRecordAt}
 use Rattle.fleet_core.proofs.Uncopied.{takes_settled, takes_held, refuses_other, lacks_memory}
@@ -6,8 +6,7 @@ use Rattle.fleet_core.proofs.taking.uncopied_reply.Goals as goal
 use Rattle.redo_core.specs.declared.keys.Key.{Key}
 
 pub returns-then-is_settled : goal.returns-then-is_settled
-returns-then-is_settled c =
-    takes_settled c.args.segment.now c.args.redo.now (c.is_settled.ensures.0 c.if-is_settled.true)
+returns-then-is_settled c = search (rules, takes_settled)
 
 pub returns-then-is_same : goal.returns-then-is_same
 returns-then-is_same c =

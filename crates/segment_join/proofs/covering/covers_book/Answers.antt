@@ -1,4 +1,4 @@
-use Rattle.std.proofs.Common.{◌≡◌, ◌≤◌, true, false, sym, subst, ◌∙◌}
+use Rattle.std.proofs.Common.{◌≡◌, ◌≤◌, true, false, sym, subst, ◌∙◌, rules}
 use Rattle.std.specs.List.{AllZip, Contains}
 use Rattle.redo_core.specs.declared.facts.Fact.TheVariants.{Advance}
 use Rattle.state_laws.specs.Known.{IsKnown}
@@ -14,12 +14,7 @@ returns-then-not-has_cuts c = (
 )
 
 pub returns-then-not-are_at_most : goal.returns-then-not-are_at_most
-returns-then-not-are_at_most c = (
-  λ (h : false ≡ true). absurd (cc),
-  λ covers. sym c.if-not-are_at_most.true ∙ c.are_at_most.ensures.1
-      (subst (λ ps. AllZip (λ p q. p ≤ q) ps c.points-2.result.now) (sym c.points.ensures.own)
-      (subst (AllZip (λ p q. p ≤ q) c.args.lower.now.book.points) (sym c.points-2.ensures.own) covers.points)),
-)
+returns-then-not-are_at_most c = search rules
 
 pub returns : goal.returns
 returns c = (

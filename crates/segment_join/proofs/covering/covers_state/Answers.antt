@@ -1,22 +1,14 @@
-use Rattle.std.proofs.Common.{◌≡◌, ◌↔◌, true, false, sym, subst, arith, IsTrue, ◌∙◌}
+use Rattle.std.proofs.Common.{◌≡◌, ◌↔◌, subst, arith, IsTrue, rules}
 use Rattle.std.proofs.lemmas.Result.{IfOk-weaker}
 use Rattle.segment_join.specs.Covering.{HasAllKept}
 use Rattle.segment_core.proofs.OneView.{one_anchor}
 use Rattle.segment_join.proofs.covering.covers_state.Goals as goal
 
 pub returns-then-not-covers_book : goal.returns-then-not-covers_book
-returns-then-not-covers_book c = λ anchor base top low. (
-  λ (h : false ≡ true). absurd (cc),
-  λ covers. sym c.if-not-covers_book.true ∙ c.covers_book.ensures.1 covers.book,
-)
+returns-then-not-covers_book c = search rules
 
 pub returns-then-anchor-base : goal.returns-then-anchor-base
-returns-then-anchor-base c = λ anchor base top low.
-    let a : c.anchor-anchor.result ≡ anchor = one_anchor c.args.upper.now c.anchor-anchor.result anchor c.anchor-anchor.ensures.own top in
-    let b : c.anchor-base.result ≡ base = one_anchor c.args.lower.now c.anchor-base.result base c.anchor-base.ensures.own low in (
-      λ (h : false ≡ true). absurd (cc),
-      λ covers. absurd (omega (arith, a, b, c.if-anchor-base.true, covers.anchors)),
-    )
+returns-then-anchor-base c = search rules
 
 pub returns : goal.returns
 returns c =

@@ -1,15 +1,10 @@
-use Rattle.std.proofs.Common.{◌≡◌, false, true, inl, refl, sym, ◌∙◌}
+use Rattle.std.proofs.Common.{inl, rules}
 use Rattle.hot_log.specs.Kept.{KeepsKey}
-use Rattle.segment_join.proofs.Keeping.{wanted_is_held, needless_has, of_key}
+use Rattle.segment_join.proofs.Keeping.{wanted_is_held, of_key}
 use Rattle.segment_join.proofs.covering.has_at.Goals as goal
 
 pub returns-then-not-keeps : goal.returns-then-not-keeps
-returns-then-not-keeps c =
-    let s = c.args.upper.now in (
-      λ h r has is. needless_has s c.args.anchor r (λ wanted.
-          let kept_is : false ≡ true = sym c.if-not-keeps.true ∙ c.keeps.ensures.1 ((of_key s c.args.anchor c.args.key r is).1 wanted) in absurd (cc)),
-      λ each. refl,
-    )
+returns-then-not-keeps c = search rules
 
 pub returns : goal.returns
 returns c =

@@ -1,4 +1,4 @@
-use Rattle.std.proofs.Common.{◌≡◌, get_or}
+use Rattle.std.proofs.Common.{◌≡◌, get_or, rules}
 use Rattle.std.proofs.lemmas.List.{get_or_default}
 use Rattle.segment_join.specs.Covering.{HasAt}
 use Rattle.segment_told.proofs.Scanning.{one_fails, all_pass, next_passes}
@@ -14,11 +14,7 @@ loop-key-preserved c =
     c.loop-key.invariant
 
 pub returns-then-not-has_at : goal.returns-then-not-has_at
-returns-then-not-has_at c =
-    let keys = c.args.keys.now in let i = c.loop-key.key-index in let key : Key = get_or keys i (key_in 0 0) in
-    let is : key ≡ get_or keys i key = get_or_default keys i (key_in 0 0) key c.loop-key-test.true in
-    one_fails (HasAt c.args.upper.now c.args.anchor c.args.lower.now) keys i key c.has_at.result c.loop-key-test.true is c.if-not-has_at.true c.has_at.ensures
+returns-then-not-has_at c = search (rules, one_fails)
 
 pub returns : goal.returns
-returns c =
-    all_pass (HasAt c.args.upper.now c.args.anchor c.args.lower.now) c.args.keys.now c.loop-key.key-index c.loop-key-test.false c.loop-key.invariant
+returns c = search (rules, all_pass)

@@ -1,4 +1,4 @@
-use Rattle.std.proofs.Common.{◌≡◌, ◌<◌, ◌≤◌, length, get_or, map, sym, ap, ◌∙◌, arith, Bor}
+use Rattle.std.proofs.Common.{◌≡◌, ◌<◌, length, get_or, map, sym, ap, ◌∙◌, arith, Bor, rules}
 use Rattle.std.proofs.Math.ListN.{get_or-map}
 use Rattle.std.proofs.lemmas.List.{length-map}
 use Rattle.redo_core.specs.Data.{RecordData}
@@ -30,7 +30,4 @@ returns-then-not-has_kept c =
     one_fails (HasKept c.args.upper.now c.args.anchor c.args.lower.now c.args.base) (map now rs) i x.now c.has_kept.result lt is c.if-not-has_kept.true c.has_kept.ensures
 
 pub returns : goal.returns
-returns c =
-    let now : Bor RecordData → RecordData = λ r. r.now in let rs = c.args.records.now in
-    let end : length (map now rs) ≤ c.loop-redo.redo-index = omega (arith, c.loop-redo-test.false, length-map rs now) in
-    all_pass (HasKept c.args.upper.now c.args.anchor c.args.lower.now c.args.base) (map now rs) c.loop-redo.redo-index end c.loop-redo.invariant
+returns c = search (rules, length-map, all_pass)

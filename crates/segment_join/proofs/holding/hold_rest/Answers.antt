@@ -1,9 +1,8 @@
-use Rattle.std.proofs.Common.{◌≡◌, ◌<◌, ◌≤◌, length, get_or, map, ◌∙◌, sym, ap, arith, Bor}
+use Rattle.std.proofs.Common.{◌≡◌, ◌<◌, length, get_or, map, ◌∙◌, sym, ap, arith, Bor, rules}
 use Rattle.std.proofs.Math.ListN.{get_or-map}
 use Rattle.std.proofs.lemmas.List.{length-map}
 use Rattle.redo_core.specs.Data.{RecordData}
 use Rattle.redo_core.proofs.Members.{item}
-use Rattle.segment_core.specs.Union.{reached}
 use Rattle.segment_join.proofs.Sparing.{first_next, first_all}
 use Rattle.segment_join.proofs.KeptKnown.{knows_more}
 use Rattle.segment_join.proofs.holding.hold_rest.Goals as goal
@@ -19,12 +18,7 @@ loop-redo-preserved c =
     )
 
 pub hold_one-requires-clause-taken : goal.hold_one-requires-clause-taken
-hold_one-requires-clause-taken c =
-    let first = c.loop-redo.invariant.0 in
-    knows_more (reached c.args.union.now) _ c.args.other.now (record { book = first.book; rest = first.rest; before = first.before }) c.requires.taken
+hold_one-requires-clause-taken c = search (rules, knows_more)
 
 pub returns-clause-holds : goal.returns-clause-holds
-returns-clause-holds c =
-    let now : Bor RecordData → RecordData = λ r. r.now in let rs = c.args.missing.now in
-    let end : length (map now rs) ≤ c.loop-redo.redo-index = omega (arith, c.loop-redo-test.false, length-map rs now) in
-    first_all (map now rs) c.loop-redo.redo-index _ c.args.other.now _ c.requires.known end c.loop-redo.invariant.0
+returns-clause-holds c = search (rules, length-map, first_all)

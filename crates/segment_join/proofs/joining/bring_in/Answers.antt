@@ -1,4 +1,4 @@
-use Rattle.std.proofs.Common.{◌≡◌, subst, arith}
+use Rattle.std.proofs.Common.{◌≡◌, subst, arith, rules}
 use Rattle.redo_core.specs.Book.{roster_of}
 use Rattle.state_laws.specs.State.{State}
 use Rattle.segment_core.specs.Form.{IsSegment}
@@ -12,13 +12,7 @@ use Rattle.segment_join.proofs.joining.bring_in.Goals as goal
 -- what the segment has taken
 told : (own other new : State) → IsSegment own → IsSegment other → roster_of own.book ≡ roster_of other.book → (joined : IsJoined own other new)
     → IsTold own other joined.taken joined.takes.facts
-told own other new form shown same joined = record {
-  own = form;
-  shown = shown;
-  one_roster = same;
-  told = joined.takes.told;
-  takes = joined.takes.takes;
-}
+told own other new form shown same joined = search rules
 
 pub unite-requires-clause-base : goal.unite-requires-clause-base
 unite-requires-clause-base c =

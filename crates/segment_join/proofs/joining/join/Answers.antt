@@ -1,10 +1,10 @@
-use Rattle.std.proofs.Common.{◌≡◌, ◌⊎◌, inr, ⊎_elim, arith}
+use Rattle.std.proofs.Common.{◌≡◌, ◌⊎◌, inr, ⊎_elim, arith, rules}
 use Rattle.std.proofs.lemmas.Result.{on_ok_weaker, IfErr-weaker}
 use Rattle.redo_core.specs.Book.{roster_of}
 use Rattle.state_laws.specs.State.{State}
 use Rattle.segment_core.specs.declared.answers.Refusal.{Refusal}
 use Rattle.segment_core.specs.declared.answers.Refusal.TheVariants.{Memory}
-use Rattle.segment_join.specs.Joining.{AreOfOneLog, JoinsInto, RefusesJoin}
+use Rattle.segment_join.specs.Joining.{AreOfOneLog, RefusesJoin}
 use Rattle.segment_join.specs.Knowing.{RefusesAll}
 use Rattle.segment_told.proofs.Ordered.{memory_or}
 use Rattle.segment_join.proofs.JoinInLog.{sound_join, means_union}
@@ -23,10 +23,7 @@ pub bring_in-requires : goal.bring_in-requires
 bring_in-requires c = omega (arith, c.readers-own.ensures, c.readers-shown.ensures, c.if-own-shown.false)
 
 pub returns-clause-means : goal.returns-clause-means
-returns-clause-means c =
-    let own = c.args.segment.now in let other = c.args.other.now in let new = c.bring_in.new.segment in
-    on_ok_weaker c.bring_in.result (λ (joins : JoinsInto own other new). means_union own other new joins)
-    c.bring_in.ensures.joins
+returns-clause-means c = search (rules, on_ok_weaker, means_union)
 
 pub returns-clause-sound : goal.returns-clause-sound
 returns-clause-sound c =

@@ -1,4 +1,4 @@
-use Rattle.std.proofs.Common.{◌↔◌, ℕ, IsTrue, subst}
+use Rattle.std.proofs.Common.{◌↔◌, ℕ, IsTrue, subst, rules}
 use Rattle.state_laws.specs.State.{StoredImage}
 use Rattle.segment_join.specs.Sameness.{ShowOne, IsUnwritten}
 use Rattle.segment_told.proofs.Scanning.{one_fails, all_pass, next_passes}
@@ -23,8 +23,4 @@ returns-then-not-branch c =
     c.if-not-branch.true tells
 
 pub returns : goal.returns
-returns c =
-    let s = c.args.one.now in let t = c.args.other.now in
-    all_pass (λ (i : StoredImage). IsUnwritten s t i.page → ShowOne s c.args.point t c.args.other_point i.page) c.args.images.now
-    c.loop-image.image-index
-    c.loop-image-test.false c.loop-image.invariant
+returns c = search (rules, all_pass)

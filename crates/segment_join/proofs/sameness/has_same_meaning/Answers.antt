@@ -1,5 +1,6 @@
+use Rattle.std.proofs.Common.{rules}
 use Rattle.std.proofs.lemmas.Result.{IfOk-weaker}
-use Rattle.segment_join.proofs.Agreeing.{tells_same, not_covered, not_covering}
+use Rattle.segment_join.proofs.Agreeing.{tells_same, not_covered}
 use Rattle.segment_join.proofs.sameness.has_same_meaning.Goals as goal
 
 pub returns-then-not-branch : goal.returns-then-not-branch
@@ -7,9 +8,7 @@ returns-then-not-branch c =
     not_covered c.args.one.now c.args.other.now c.in_ok-covers.field-0 c.opens_form.ensures.form c.in_ok-covers.ensures.meanings c.if-not-branch.true
 
 pub returns-then-not-branch-2 : goal.returns-then-not-branch-2
-returns-then-not-branch-2 c =
-    not_covering c.args.one.now c.args.other.now c.in_ok-covers-2.field-0 c.opens_form.ensures.form c.in_ok-covers-2.ensures.meanings
-    c.if-not-branch-2.true
+returns-then-not-branch-2 c = search rules
 
 pub returns : goal.returns
 returns c =

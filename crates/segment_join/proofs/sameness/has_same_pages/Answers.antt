@@ -1,27 +1,18 @@
-use Rattle.std.proofs.Common.{ℕ, List, ◌++◌, subst}
+use Rattle.std.proofs.Common.{ℕ, List, ◌++◌, subst, rules}
 use Rattle.std.specs.List.{All, Contains}
 use Rattle.std.proofs.lemmas.List.Elements.{Contains-append_left, Contains-append_right}
 use Rattle.redo_core.specs.Data.{RecordData}
 use Rattle.state_laws.specs.State.{StoredImage}
-use Rattle.segment_join.specs.Sameness.{ShowOne, IsUnwritten}
-use Rattle.segment_told.proofs.Scanning.{part_fails}
+use Rattle.segment_join.specs.Sameness.{ShowOne}
 use Rattle.std.proofs.lemmas.Result.{IfOk-weaker}
 use Rattle.segment_join.proofs.Showing.{all_pages, stored_of_both}
 use Rattle.segment_join.proofs.sameness.has_same_pages.Goals as goal
 
 pub returns-then-not-branch : goal.returns-then-not-branch
-returns-then-not-branch c =
-    let s = c.args.one.now in let t = c.args.other.now in
-    let Shown : ℕ → Type 0 = ShowOne s c.args.point t c.args.other_point in
-    part_fails ((r : RecordData) → Contains (s.held ++ t.held) r → Shown r.page) ((page : ℕ) → Shown page) c.in_ok-has_same_written.field-0
-    c.if-not-branch.true c.in_ok-has_same_written.ensures (λ all r has. all r.page)
+returns-then-not-branch c = search rules
 
 pub returns-then-not-branch-2 : goal.returns-then-not-branch-2
-returns-then-not-branch-2 c =
-    let s = c.args.one.now in let t = c.args.other.now in
-    let Shown : ℕ → Type 0 = ShowOne s c.args.point t c.args.other_point in
-    part_fails (All (λ (i : StoredImage). IsUnwritten s t i.page → Shown i.page) c.pages.result.now) ((page : ℕ) → Shown page)
-    c.in_ok-has_same_images.field-0 c.if-not-branch-2.true c.in_ok-has_same_images.ensures (λ all i d lt none. all _)
+returns-then-not-branch-2 c = search rules
 
 pub returns : goal.returns
 returns c =

@@ -1,15 +1,10 @@
-use Rattle.std.proofs.Common.{ℕ, ◌++◌, Some, None, subst}
+use Rattle.std.proofs.Common.{ℕ, ◌++◌, Some, subst, rules}
 use Rattle.segment_join.specs.Sameness.{ShowOne}
-use Rattle.segment_join.proofs.Visiting.{IsWritten, HoldsBefore, written_next, holds_at_first, holds_of_one_more, holds_at_last, fails_at}
+use Rattle.segment_join.proofs.Visiting.{IsWritten, HoldsBefore, written_next, holds_at_first, holds_of_one_more, fails_at}
 use Rattle.segment_join.proofs.sameness.has_same_written.Goals as goal
 
 pub loop-next-init : goal.loop-next-init
-loop-next-init c = record {
-  written = written_next (c.args.one.now.held ++ c.args.other.now.held) None c.written_after-next.result c.written_after-next.ensures;
-  same =
-      holds_at_first (ShowOne c.args.one.now c.args.point c.args.other.now c.args.other_point) (c.args.one.now.held ++ c.args.other.now.held) c.written_after-next.result
-      c.written_after-next.ensures;
-}
+loop-next-init c = search (rules, written_next, holds_at_first)
 
 pub loop-next-preserved : goal.loop-next-preserved
 loop-next-preserved c = record {
@@ -27,6 +22,4 @@ returns-then-not-branch c =
     (subst (IsWritten (c.args.one.now.held ++ c.args.other.now.held)) c.in-Some.is c.loop-next.invariant.written) c.if-not-branch.true c.in_ok-has_same_page.ensures
 
 pub returns : goal.returns
-returns c =
-    let Shown : ℕ → Type 0 = ShowOne c.args.one.now c.args.point c.args.other.now c.args.other_point in
-    holds_at_last Shown (c.args.one.now.held ++ c.args.other.now.held) (subst (HoldsBefore Shown (c.args.one.now.held ++ c.args.other.now.held)) c.in_default.is c.loop-next.invariant.same)
+returns c = search rules

@@ -1,5 +1,4 @@
-use Rattle.std.proofs.Common.{subst}
-use Rattle.hot_log.specs.Found.{IsPageAfter}
+use Rattle.std.proofs.Common.{rules}
 use Rattle.segment_join.proofs.Visiting.{page_of_both, page_of_one, page_of_other}
 use Rattle.segment_join.proofs.sameness.written_after.Goals as goal
 
@@ -13,6 +12,4 @@ returns-in-Some-None c =
     page_of_one c.args.one.now.held c.args.other.now.held c.args.after c.in-Some-None.own c.in-Some-None.ensures c.in-Some-None.ensures'
 
 pub returns-in-None-default : goal.returns-in-None-default
-returns-in-None-default c =
-    page_of_other c.args.one.now.held c.args.other.now.held c.args.after c.page_after-2.result
-    (subst (IsPageAfter c.args.one.now.held c.args.after) c.in-None-default.is-0 c.page_after.ensures) c.page_after-2.ensures
+returns-in-None-default c = search (rules, page_of_other)

@@ -6,7 +6,6 @@ use Rattle.fleet_steps.specs.declared.steps.Step.TheVariants.{Take}
 use Rattle.fleet_core.specs.declared.replies.Reply.TheVariants.{NoNode}
 use Rattle.fleet_core.specs.FleetState.{FleetState}
 use Rattle.fleet_core.specs.Runs.{FollowsStep}
-use Rattle.fleet_core.specs.Calls.{StepCalls}
 use Rattle.fleet_core.proofs.Places.{is_missing}
 use Rattle.fleet_core.proofs.Nodes.{follows_no_node, takes_in}
 use Rattle.fleet_core.proofs.fleets.Fleet.take.Goals.{then-node-eq0-via-then-node-eq0, then-node-eq0-via-else-node-eq0+then-from-len}
@@ -37,16 +36,7 @@ returns-clause-follows c =
     (record { roster = c.self.inside.roster; segments = (with_items nodes c.take_at.new.segments).items; messages = kept })) c.self.view_is out.follows
 
 pub returns-clause-calls : goal.returns-clause-calls
-returns-clause-calls c =
-    let nodes = c.self.inside.nodes in
-    let kept = c.self.inside.messages.items in
-    let count : length nodes.items ≡ vec_len nodes = search rules in
-    let out =
-    takes_in c.self.inside.roster nodes kept c.deref_mut.result.now c.take_at.new.segments c.args.node c.args.fact c.take_at.result c.from-2.result
-    c.if-node-eq0.false (omega (arith, c.from.ensures, c.len.ensures, c.if-from-len.false, count)) c.from-2.ensures c.deref_mut.ensures.value
-    (c.take_at.ensures c.self.inside.roster kept) in
-    subst (λ (f : FleetState). StepCalls f (Take c.args.node c.args.fact) c.take_at.result
-    (record { roster = c.self.inside.roster; segments = (with_items nodes c.take_at.new.segments).items; messages = kept })) c.self.view_is out.calls
+returns-clause-calls c = search (rules, takes_in)
 
 pub returns-clause-no_node : goal.returns-clause-no_node
 returns-clause-no_node c =
