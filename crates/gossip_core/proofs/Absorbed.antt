@@ -1,13 +1,10 @@
 -- What a state is after it has taken what a delta tells, with the delta's pages.
-use Rattle.std.proofs.Common.{◌≡◌, ℕ, ◌<◌, ◌≤◌, ◌⊎◌, inl, inr, ⊎_elim, map, max, refl, sym, ap, ◌∙◌, subst, arith}
+use Rattle.std.proofs.Common.{◌≡◌, ℕ, ◌<◌, ◌≤◌, ◌⊎◌, inl, inr, ⊎_elim, map, max, refl, sym, ap, ◌∙◌, subst, arith, rules}
 use Rattle.std.specs.List.{Contains}
-use Rattle.std.proofs.Math.Nat.{le-max_left, max-eq_left, max-eq_right}
 use Rattle.redo_core.specs.Data.{RecordData}
 use Rattle.redo_core.specs.Meaning.{ImageData}
-use Rattle.redo_core.specs.Roster.{least}
 use Rattle.redo_core.specs.Book.{roster_of}
 use Rattle.redo_core.specs.declared.facts.Fact.TheVariants.{Record}
-use Rattle.redo_laws.proofs.Deciding.{settled_lt}
 use Rattle.redo_laws.proofs.Meanings.{in_map, from_map}
 use Rattle.page_base.specs.Raising.{SamePage}
 use Rattle.page_base.specs.Merging.{IsTaken, IsFloored, Merges}
@@ -47,10 +44,7 @@ module _ (s : State) (d : DeltaData) (taken : State) (h : HasDelta s d taken) wh
   left = all s taken d.book (facts_told d.book d.records) has_book
 
   pub base_fits : d.base ≤ min_of taken
-  base_fits =
-      let low : least d.book.points ≤ min_of taken = least_fits s taken d.book (facts_told d.book d.records) has_book in
-      let base : d.base ≤ least d.book.points = h.shape.base in
-      omega (arith, low, base)
+  base_fits = search (rules, least_fits, has_book)
 
 module _ (s : State) (d : DeltaData) (taken new : State) (h : HasDelta s d taken)
     (unites : Unites taken d.base d.base (map (based_image d.base) d.pages) new) where
@@ -80,18 +74,7 @@ module _ (s : State) (d : DeltaData) (taken new : State) (h : HasDelta s d taken
 
   images : (g : ℕ) → ((d.base ≤ version_of s.store g) × SamePage s.store new.store g)
       ⊎ ((version_of s.store g < d.base) × (version_of new.store g ≡ d.base) × HasImage (filling_of d) g (image_of new.store g))
-  images g =
-      ⊎_elim
-      (λ (x : SamePage s.store new.store g).
-      let low : d.base ≤ version_of new.store g = merges.floored g in
-      let same : version_of new.store g ≡ version_of s.store g = x.0 in
-      inl (omega (arith, low, same), x))
-      (λ (x : (version_of s.store g < version_of new.store g)
-      × (IsTaken (map (based_image d.base) d.pages) new.store g ⊎ IsFloored d.base (map (based_image d.base) d.pages) new.store g)).
-      let is : (version_of new.store g ≡ d.base) × HasImage (filling_of d) g (image_of new.store g) = ⊎_elim (taken_of g) (floored_of g) x.1 in
-      let up : version_of s.store g < version_of new.store g = x.0 in
-      inr (omega (arith, up, is.0), is.0, is.1))
-      (merges.page g)
+  images g = search (rules, merges, taken_of, floored_of)
 
   pub absorbs : AbsorbsInto s d new
   absorbs = record {
@@ -114,41 +97,11 @@ module _ (s : State) (d : DeltaData) (new : State) (late : IsLate s) (a : Absorb
   all_left = leaves_all s (facts_told d.book d.records) a.taken late a.takes
 
   base_known : ((d.base ≤ s.base) × (new.base ≡ s.base)) ⊎ ((s.base < d.base) × (new.base ≡ d.base) × ((g : ℕ) → d.base ≤ version_of new.store g))
-  base_known =
-      ⊎_elim
-      (λ (up : s.base < d.base). inr (up, (let z : max s.base d.base ≡ d.base = max-eq_right (omega (arith, up)) in a.base ∙ z), reached))
-      (λ (down : s.base < d.base → ⊥). inl (omega (arith, down), (let z : max s.base d.base ≡ s.base = max-eq_left (omega (arith, down)) in a.base ∙ z)))
-      (settled_lt s.base d.base)
-    where
-      reached : (g : ℕ) → d.base ≤ version_of new.store g
-      reached g =
-          ⊎_elim
-          (λ (x : (d.base ≤ version_of s.store g) × SamePage s.store new.store g).
-          let low : d.base ≤ version_of s.store g = x.0 in
-          let same : version_of new.store g ≡ version_of s.store g = x.1.0 in
-          omega (arith, low, same))
-          (λ (x : (version_of s.store g < d.base) × (version_of new.store g ≡ d.base) × HasImage (filling_of d) g (image_of new.store g)).
-          let is : version_of new.store g ≡ d.base = x.1 in omega (arith, is))
-          (a.images g)
-
-  not_older : (g : ℕ) → version_of s.store g ≤ version_of new.store g
-  not_older g =
-      ⊎_elim
-      (λ (x : (d.base ≤ version_of s.store g) × SamePage s.store new.store g).
-      let same : version_of new.store g ≡ version_of s.store g = x.1.0 in omega (arith, same))
-      (λ (x : (version_of s.store g < d.base) × (version_of new.store g ≡ d.base) × HasImage (filling_of d) g (image_of new.store g)).
-      let low : version_of s.store g < d.base = x.0 in
-      let is : version_of new.store g ≡ d.base = x.1 in omega (arith, low, is))
-      (a.images g)
+  base_known = search rules
 
   images_known : (g : ℕ) → ((version_of new.store g ≡ version_of s.store g) × (image_of new.store g ≡ image_of s.store g))
       ⊎ ((version_of s.store g ≤ d.base) × (version_of new.store g ≡ d.base) × HasImage (filling_of d) g (image_of new.store g))
-  images_known g =
-      ⊎_elim
-      (λ (x : (d.base ≤ version_of s.store g) × SamePage s.store new.store g). inl x.1)
-      (λ (x : (version_of s.store g < d.base) × (version_of new.store g ≡ d.base) × HasImage (filling_of d) g (image_of new.store g)).
-      let low : version_of s.store g < d.base = x.0 in inr (omega (arith, low), x.1, x.2))
-      (a.images g)
+  images_known g = search rules
 
   held_now : (r : RecordData) → Contains a.taken.held r → Contains new.held r
   held_now r x = subst (λ hs. Contains hs r) (sym a.held) x
@@ -161,13 +114,7 @@ module _ (s : State) (d : DeltaData) (new : State) (late : IsLate s) (a : Absorb
       (all_left.more r (subst (λ hs. Contains hs r) a.held x))
 
   in_image : (r : RecordData) → IsInImage a.taken r → IsInImage new r
-  in_image r f =
-      let b : s.base ≤ max s.base d.base = le-max_left s.base d.base in
-      let v : version_of s.store r.page ≤ version_of new.store r.page = not_older r.page in
-      let own : r.number ≤ version_of s.store r.page = subst (λ st. r.number ≤ version_of st r.page) all_left.store f.2 in
-      let low : r.number ≤ s.base = subst (λ n. r.number ≤ n) all_left.base f.1 in
-      let e = a.base in
-      (subst (λ b. r.epoch ≤ b.complete) (sym a.book.0) f.0, omega (arith, low, b, e), omega (arith, own, v))
+  in_image r f = search (rules, all_left)
 
   kept : (r : RecordData) → Contains s.held r ⊎ Contains d.records r → Matters new.book.cuts new.book.complete r → Contains new.held r ⊎ IsInImage new r
   kept r has mat =

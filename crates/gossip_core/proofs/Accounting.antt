@@ -1,10 +1,11 @@
 -- The first element of a list that fails a test, and how the standing of a key tells whether it is accounted for.
 use Rattle.std.proofs.Common.{◌≡◌, ℕ, ◌<◌, inl, inr, ⊎_elim, List, [], ◌∷◌, zero, suc, length, get_or, take, sym, ap, subst, ◌∙◌, arith}
+use Rattle.std.proofs.lemmas.Grind.{common_steps}
 use Rattle.std.specs.List.{All, AllByRecursion, Contains}
 use Rattle.redo_core.specs.Order.{IsRising, IsFirst}
 use Rattle.redo_core.specs.Keys.{key_of}
 use Rattle.redo_core.specs.declared.keys.Key.{Key}
-use Rattle.redo_core.proofs.Members.{none_in, here, there, which}
+use Rattle.redo_core.proofs.Members.{here, there, which}
 use Rattle.state_laws.specs.State.{State}
 use Rattle.state_laws.specs.HasMeaning.{IsKeptBy}
 use Rattle.gossip_core.specs.Answering.{IsCovered}
@@ -12,8 +13,7 @@ use Rattle.hot_log.specs.Kept.{ListsKeysOf}
 use Rattle.redo_laws.proofs.Meanings.{from_map}
 
 each_of : {X : Type 0} (P : X → Type 0) (xs : List X) → AllByRecursion P xs → (x : X) → Contains xs x → P x
-each_of P [] all x h = absurd (none_in x h)
-each_of P (y ∷ ys) all x h = ⊎_elim (λ (e : y ≡ x). subst P e all.0) (λ (t : Contains ys x). each_of P ys all.1 x t) (which y ys x h)
+each_of P xs all x h = grind (arith, common_steps)
 
 tail_of : {X : Type 0} (P : X → Type 0) (y : X) (ys : List X) (i : ℕ) → All P (take (suc i) (y ∷ ys)) → All P (take i ys)
 tail_of P y ys i seen = λ j d lt. seen (suc j) d (omega (arith, lt))

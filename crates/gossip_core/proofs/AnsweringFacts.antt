@@ -1,5 +1,5 @@
 -- Inside one sound log: a state answers for a summary exactly where its facts do.
-use Rattle.std.proofs.Common.{◌≡◌, ℕ, ◌<◌, ◌≤◌, ◌⊎◌, ◌↔◌, inl, inr, ⊎_elim, List, Option, Some, None, refl, sym, subst, arith}
+use Rattle.std.proofs.Common.{◌≡◌, ℕ, ◌<◌, ◌≤◌, ◌⊎◌, ◌↔◌, inl, inr, ⊎_elim, List, Option, Some, None, refl, sym, subst, arith, rules}
 use Rattle.std.specs.List.{Contains}
 use Rattle.redo_core.specs.Data.{RecordData}
 use Rattle.redo_core.specs.declared.keys.Key.{Key}
@@ -32,14 +32,7 @@ module _ (roster : ℕ) (log F : List Fact) (f : Position) (s : State) (sound : 
 
   kept : (key : Key) (r : RecordData) → Contains s.held r → r.epoch ≡ key.epoch → r.number ≡ key.number → IsWanted key → IsAccounted F f key
   unfolding IsWanted
-  kept key r has e n wanted =
-      let own : IsWaiting f.epoch r.epoch ⊎ (IsAlive (cuts F) f.epoch r.epoch r.number × (f.anchor < r.number)) =
-      subst (λ i. IsWaiting f.epoch i ⊎ (IsAlive (cuts F) f.epoch i r.number × (f.anchor < r.number))) (sym e)
-      (subst (λ i. IsWaiting f.epoch key.epoch ⊎ (IsAlive (cuts F) f.epoch key.epoch i × (f.anchor < i))) (sym n) wanted) in
-      let matters : Matters (cuts F) f.epoch r = ⊎_elim
-      (λ (w : IsWaiting f.epoch r.epoch). inl w)
-      (λ (x : IsAlive (cuts F) f.epoch r.epoch r.number × (f.anchor < r.number)). inr x.0) own in
-      inl (r, (m.of_facts r has matters, own), e, n)
+  kept key r has e n wanted = search rules
 
   of_held : (key : Key) → HoldsKey s.held key → IsAccounted F f key
   unfolding IsWanted

@@ -1,5 +1,5 @@
 -- A reply, as the law of replies has it.
-use Rattle.std.proofs.Common.{◌≡◌, ◌≢◌, ℕ, ◌<◌, ◌≤◌, ◌⊎◌, inl, inr, ⊎_elim, min, List, refl, sym, ap, subst, arith}
+use Rattle.std.proofs.Common.{◌≡◌, ◌≢◌, ℕ, ◌<◌, ◌≤◌, ◌⊎◌, inl, inr, ⊎_elim, min, List, refl, sym, ap, subst, arith, rules}
 use Rattle.std.specs.List.{Contains}
 use Rattle.std.proofs.Math.Nat.{min-le_right}
 use Rattle.redo_core.specs.Data.{RecordData}
@@ -44,23 +44,11 @@ sent_or_listed s point summary rs lists r kept =
 
 sent_is_held : (s : State) (point : ℕ) (keys : List Key) (r : RecordData) → IsSent s point keys r
     → Contains s.held r × (IsWaiting s.book.complete r.epoch ⊎ IsAlive s.book.cuts s.book.complete r.epoch r.number)
-sent_is_held s point keys r sent = (
-  sent.0.0,
-  ⊎_elim
-      (λ (w : IsWaiting s.book.complete r.epoch). inl w)
-      (λ (a : IsAlive s.book.cuts s.book.complete r.epoch r.number × (point < r.number)). inr a.0)
-      sent.0.1,
-)
+sent_is_held s point keys r sent = search rules
 
 -- what is kept above a point is kept above each lower one
 kept_above_lower : (s : State) (point anchor : ℕ) (r : RecordData) → point ≤ anchor → IsKeptBy s anchor r → IsKeptBy s point r
-kept_above_lower s point anchor r low kept = (
-  kept.0,
-  ⊎_elim
-      (λ (w : IsWaiting s.book.complete r.epoch). inl w)
-      (λ (a : IsAlive s.book.cuts s.book.complete r.epoch r.number × (anchor < r.number)). inr (a.0, omega (arith, low, a.1)))
-      kept.1,
-)
+kept_above_lower s point anchor r low kept = search rules
 
 of_records : (s : State) (anchor : ℕ) (summary : SummaryData) (d : DeltaData) → s.base ≤ summary.anchor → SendsRecords s summary d
     → IsDeltaFor anchor s (listing_of summary) (filling_of d)

@@ -1,6 +1,5 @@
 -- Inside one sound log: a state refuses nothing that a delta tells, and what it means after an absorb.
-use Rattle.std.proofs.Common.{◌≡◌, ℕ, ⊎_elim, List, ◌++◌, sym, ap, ◌∙◌, length}
-use Rattle.redo_core.specs.Book.{roster_of}
+use Rattle.std.proofs.Common.{◌≡◌, ℕ, ⊎_elim, List, ◌++◌}
 use Rattle.redo_core.specs.Position.{Position}
 use Rattle.redo_core.specs.declared.facts.Fact.{Fact}
 use Rattle.redo_core.proofs.FactParts.{record_in, cut_in, advance_in, part_records}
@@ -45,9 +44,6 @@ module _ (roster : ℕ) (log F G : List Fact) (f g : Position) (s : State) (summ
       (answers_for roster log F f s a.sound a.means summary own.0 own.1 own.2)
       (known_together s d new late absorbs
       (kept_of_part roster log a.sound s absorbs.taken F G g d.book d.records (f, a.means) (tells_part shape) absorbs.takes))
-
-  pub one_roster : roster_of s.book ≡ roster_of d.book
-  one_roster = a.means.readers ∙ sym (ap length a.fills.same_points ∙ a.position.points.count)
 
   pub nothing_refused : IsDelta d → (why : Refusal) → RefusesOne s (facts_told d.book d.records) why → ⊥
   nothing_refused shape why refused = none_of_part roster log a.sound s F G g d.book d.records (f, a.means) (tells_part shape) why refused

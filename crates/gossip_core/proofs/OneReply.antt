@@ -1,5 +1,5 @@
 -- A segment has one summary, and one reply to each.
-use Rattle.std.proofs.Common.{◌≡◌, ◌≢◌, ℕ, ◌<◌, ◌≤◌, ◌⊎◌, ⊎_elim, min, List, map, sym, ap, ◌∙◌, subst, arith}
+use Rattle.std.proofs.Common.{◌≡◌, ◌≢◌, ℕ, ◌<◌, ◌≤◌, ◌⊎◌, ⊎_elim, min, List, map, sym, ap, ◌∙◌, subst, arith, rules}
 use Rattle.redo_core.specs.Data.{RecordData}
 use Rattle.redo_core.specs.Keys.{key_of}
 use Rattle.redo_core.specs.Meaning.{ImageBefore}
@@ -8,7 +8,7 @@ use Rattle.redo_core.specs.Writing.{zeros}
 use Rattle.redo_core.proofs.Members.{lists_unique}
 use Rattle.redo_core.proofs.Pairs.{pair_apart}
 use Rattle.messages.specs.Summaries.{SummaryData, summary_of}
-use Rattle.messages.specs.Deltas.{DeltaData, delta_of}
+use Rattle.messages.specs.Deltas.{DeltaData}
 use Rattle.state_laws.specs.State.{State}
 use Rattle.state_laws.specs.Shows.{Shows}
 use Rattle.state_laws.specs.HasMeaning.{IsKeptBy}
@@ -32,9 +32,7 @@ one_summary s x y a b =
     ∙ ap (summary_of y.book y.anchor) (a.keys ∙ ap (map key_of) kept ∙ sym b.keys)
 
 by_parts : (d e : DeltaData) → d.book ≡ e.book → d.base ≡ e.base → d.pages ≡ e.pages → d.records ≡ e.records → d ≡ e
-by_parts d e book base pages sent =
-    ap (λ z. delta_of z d.base d.pages d.records) book ∙ ap (λ n. delta_of e.book n d.pages d.records) base
-    ∙ ap (λ ps. delta_of e.book e.base ps d.records) pages ∙ ap (delta_of e.book e.base e.pages) sent
+by_parts d e book base pages sent = search rules
 
 short : (s : State) (x : SummaryData) (d e : DeltaData) → SendsRecords s x d → SendsRecords s x e → d ≡ e
 short s x d e a b =

@@ -1,5 +1,5 @@
 -- What a state does not answer for is one thing, and an absorb tells it.
-use Rattle.std.proofs.Common.{◌≡◌, ◌↔◌, ℕ, ⊎_elim, Option, Some, None, Result, Ok, Err, OnOk, IfErr, refl, sym, ap, ◌∙◌, arith}
+use Rattle.std.proofs.Common.{◌≡◌, ◌↔◌, ℕ, ⊎_elim, Option, Some, None, Result, Ok, Err, OnOk, IfErr, refl, sym, ap, ◌∙◌, arith, rules}
 use Rattle.std.proofs.lemmas.List.Elements.{All-contains}
 use Rattle.redo_core.specs.Book.{roster_of}
 use Rattle.redo_core.specs.Keys.{KeyBefore}
@@ -15,14 +15,9 @@ use Rattle.gossip_core.specs.declared.absorbing.AbsorbRefusal.{AbsorbRefusal}
 use Rattle.gossip_core.specs.declared.absorbing.AbsorbRefusal.TheVariants.{Uncovered, Refused}
 use Rattle.gossip_core.specs.Answering.{IsCovered, IsUncoveredKey, IsUncovered}
 use Rattle.gossip_core.specs.Absorbing.{Answers, IsOfOther, RefusesTold, RefusesAbsorb}
-use Rattle.hot_log.proofs.KeySearch.{apart}
 
 one_first : (P : Key → Type 0) (k l : Key) → IsFirst KeyBefore P k → IsFirst KeyBefore P l → k ≡ l
-one_first P k l a b =
-    ⊎_elim
-    (λ (e : l ≡ k). sym e)
-    (λ (x : KeyBefore k l). ⊎_elim (λ (e : k ≡ l). e) (λ (y : KeyBefore l k). absurd (apart k l x y)) (b.least k a.has))
-    (a.least l b.has)
+one_first P k l a b = search rules
 
 -- there is nothing besides
 pub one_uncovered : (s : State) (anchor : ℕ) (summary : SummaryData) (x y : Option Shown) → IsUncovered s anchor summary x → IsUncovered s anchor summary y → x ≡ y

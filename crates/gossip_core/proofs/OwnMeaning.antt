@@ -1,5 +1,5 @@
 -- What a segment stores tells one meaning.
-use Rattle.std.proofs.Common.{◌≡◌, ◌≢◌, ℕ, ◌<◌, ◌≤◌, ◌⊎◌, inl, inr, ⊎_elim, List, ◌++◌, map, refl, sym, ◌∙◌, subst, arith}
+use Rattle.std.proofs.Common.{◌≡◌, ◌≢◌, ℕ, ◌<◌, ◌≤◌, ◌⊎◌, inl, inr, ⊎_elim, List, ◌++◌, map, refl, sym, ◌∙◌, subst, arith, rules}
 use Rattle.std.specs.List.{Contains}
 use Rattle.std.proofs.lemmas.List.Elements.{Contains-append_left, Contains-append_right}
 use Rattle.redo_core.specs.Data.{RecordData}
@@ -140,6 +140,4 @@ only_one s m n form a b =
     (subst (λ k. Lists RecordBefore (IsKeptBy s k) n.kept) anchor b.kept))
 
 pub every_segment_has_one_meaning : EverySegmentHasOneMeaning
-every_segment_has_one_meaning s form =
-    let own = meaning_exists s form in
-    (own.0, own.1, λ n has. only_one s n own.0 form has own.1)
+every_segment_has_one_meaning s form = search (rules, meaning_exists, only_one)

@@ -1,8 +1,8 @@
 -- A staging that has all pieces of one snapshot: what they bring.
-use Rattle.std.proofs.Common.{◌≡◌, ℕ, ◌<◌, ◌≤◌, ◌+◌, ◌-◌, ◌*◌, ◌⊎◌, ◌↔◌, ⊎_elim, List, length, take, drop, get_or, Option, Some, None, zero, suc, refl, sym, ap, ◌∙◌, subst, arith}
+use Rattle.std.proofs.Common.{◌≡◌, ℕ, ◌<◌, ◌≤◌, ◌+◌, ◌-◌, ◌*◌, ◌⊎◌, ◌↔◌, ⊎_elim, List, length, take, drop, get_or, Option, Some, None, zero, suc, refl, sym, ap, ◌∙◌, subst, arith, rules}
 use Rattle.std.specs.List.{slice_get, Contains}
 use Rattle.std.proofs.lemmas.List.{length-take, length-drop, get_or-take, get_or-drop}
-use Rattle.std.proofs.lemmas.Option.{slice_get_within, slice_get_read, same_Some}
+use Rattle.std.proofs.lemmas.Option.{slice_get_within, slice_get_read}
 use Rattle.redo_core.specs.Data.{RecordData}
 use Rattle.redo_core.specs.Meaning.{ImageData}
 use Rattle.redo_core.proofs.Rising.{in_take, in_drop}
@@ -36,25 +36,15 @@ has_all s d st of form whole = record {
 -- what stands in the place of the head, of a page and of a batch
 
 pub head_at : (d : SnapshotData) (index : ℕ) (content : PieceContent) → IsContentAt d index content → index ≡ 0 → content ≡ Head d.book d.anchor
-head_at d index (Head book anchor) at first = ap (λ b. Head b anchor) at.1 ∙ ap (Head d.book) at.2
-head_at d index (Page p) at first = absurd (omega (arith, at.1, first))
-head_at d index (Records rs) at first = absurd (omega (arith, at.1, first))
+head_at d index content at first = search rules
 
 pub page_at : (d : SnapshotData) (index place : ℕ) (content : PieceContent) (i : ImageData) → IsContentAt d index content → index ≡ 1 + place
     → slice_get d.pages place ≡ Some i → content ≡ Page i
-page_at d index place (Head book anchor) i at is e = absurd (omega (arith, at.0, is))
-page_at d index place (Page p) i at is e =
-    let same : at.0 ≡ place = omega (arith, at.1, is) in
-    ap Page (same_Some p i (sym at.2 ∙ ap (slice_get d.pages) same ∙ e))
-page_at d index place (Records rs) i at is e = absurd (let lt : place < length d.pages = slice_get_within d.pages place i e in omega (arith, at.1, is, lt))
+page_at d index place content i at is e = search (rules, slice_get_within)
 
 pub batch_at : (d : SnapshotData) (index place : ℕ) (content : PieceContent) → IsContentAt d index content → index ≡ 1 + length d.pages + place
     → content ≡ Records (take max_batch (drop (max_batch * place) d.records))
-batch_at d index place (Head book anchor) at is = absurd (omega (arith, at.0, is))
-batch_at d index place (Page p) at is = absurd (let lt : at.0 < length d.pages = slice_get_within d.pages at.0 p at.2 in omega (arith, at.1, is, lt))
-batch_at d index place (Records rs) at is =
-    let same : at.0 ≡ place = omega (arith, at.1, is) in
-    ap Records (at.2 ∙ ap (λ n. take max_batch (drop (max_batch * n) d.records)) same)
+batch_at d index place content at is = search (rules, slice_get_within)
 
 -- each member of a list stands in one of its batches
 

@@ -1,18 +1,12 @@
 -- Batches of a list.
-use Rattle.std.proofs.Common.{◌≡◌, ℕ, ◌<◌, ◌-◌, ◌*◌, min, List, [], ◌∷◌, length, take, drop, get_or, Some, sym, zero, suc, refl, ap, ◌∙◌, arith}
+use Rattle.std.proofs.Common.{◌≡◌, ℕ, ◌<◌, ◌-◌, ◌*◌, min, List, [], ◌∷◌, length, take, drop, get_or, Some, sym, zero, suc, ap, ◌∙◌, arith}
+use Rattle.std.proofs.lemmas.Grind.{common_steps}
 use Rattle.std.specs.List.{slice_get}
 use Rattle.std.proofs.lemmas.List.{take_rest, length-take, length-drop}
 
 -- taking no more than there are
 pub take_short : {X : Type 0} (k n : ℕ) (xs : List X) → k ≡ min (length xs) n → take k xs ≡ take n xs
-take_short zero zero [] e = refl
-take_short zero (suc n) [] e = refl
-take_short (suc k) zero [] e = refl
-take_short (suc k) (suc n) [] e = refl
-take_short zero zero (x ∷ xs) e = refl
-take_short zero (suc n) (x ∷ xs) e = absurd (omega (arith, e))
-take_short (suc k) zero (x ∷ xs) e = absurd (omega (arith, e))
-take_short (suc k) (suc n) (x ∷ xs) e = ap (λ ys. x ∷ ys) (take_short k n xs (omega (arith, e)))
+take_short k n xs e = grind (arith, common_steps)
 
 -- a batch of what is left
 pub batch_is : {X : Type 0} (start k n : ℕ) (xs : List X) → k ≡ min (length (take (length xs - start) (drop start xs))) n

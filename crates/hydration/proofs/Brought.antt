@@ -1,5 +1,5 @@
 -- What the pieces below an index bring together.
-use Rattle.std.proofs.Common.{◌≡◌, ℕ, ◌+◌, ◌<◌, ◌≤◌, ◌⊎◌, ◌↔◌, inl, inr, ⊎_elim, List, [], ◌∷◌, ◌++◌, Bool, true, false, Some, ◌==◌, if◌then◌else◌, refl, sym, ap, ◌∙◌, subst, arith}
+use Rattle.std.proofs.Common.{◌≡◌, ℕ, ◌+◌, ◌<◌, ◌≤◌, ◌⊎◌, ◌↔◌, inl, inr, ⊎_elim, List, [], ◌∷◌, ◌++◌, Bool, true, false, Some, ◌==◌, if◌then◌else◌, refl, sym, ap, ◌∙◌, subst, arith, rules}
 use Rattle.std.specs.List.{Contains}
 use Rattle.std.proofs.lemmas.Bool.Decides.{Decides-eqb}
 use Rattle.std.proofs.lemmas.List.Elements.{Contains-append_left, Contains-append_right, Contains-append_cases}
@@ -12,7 +12,7 @@ use Rattle.redo_core.proofs.Listing.{rising_append}
 use Rattle.page_base.specs.Adopting.{first_given}
 use Rattle.messages.specs.Pieces.{PieceData, IsContent}
 use Rattle.messages.specs.declared.pieces.PieceContent.{PieceContent}
-use Rattle.messages.specs.declared.pieces.PieceContent.TheVariants.{Head, Page, Records}
+use Rattle.messages.specs.declared.pieces.PieceContent.TheVariants.{Page, Records}
 use Rattle.hydration.specs.Stagings.{StagingData, piece_at, IsStaging}
 use Rattle.hydration.specs.Placing.{IsInOrder}
 use Rattle.hydration.specs.Hydrating.{records_of, pages_of, BringsRecord, BringsPage, IsBrought}
@@ -46,20 +46,14 @@ below_more {X} of st n xs p is all x = (
 )
 
 batch_rises : (content : PieceContent) → IsContent content → IsRising RecordBefore (records_of content)
-batch_rises (Head book anchor) form = tt
-batch_rises (Page image) form = tt
-batch_rises (Records rs) form = form.2
+batch_rises content form = search rules
 
 of_batch : (content : PieceContent) (r : RecordData) → Contains (records_of content) r → (rs : List RecordData) × (content ≡ Records rs) × Contains rs r
-of_batch (Head book anchor) r h = absurd (none_in r h)
-of_batch (Page image) r h = absurd (none_in r h)
-of_batch (Records rs) r h = (rs, refl, h)
+of_batch content r h = search rules
 
 of_page : (content : PieceContent) (g : ℕ × List ℕ) → Contains (pages_of content) g
     → (image : ImageData) × (content ≡ Page image) × (g ≡ (image.page, image.bytes))
-of_page (Head book anchor) g h = absurd (none_in g h)
-of_page (Page image) g h = (image, refl, ⊎_elim (λ e. sym e) (λ q. absurd (none_in g q)) (which (image.page, image.bytes) [] g h))
-of_page (Records rs) g h = absurd (none_in g h)
+of_page content g h = search rules
 
 -- the records of one piece more
 pub rises_more : (st : StagingData) (n : ℕ) (xs : List RecordData) (p : PieceData) → IsStaging st → IsInOrder st → piece_at st n ≡ Some p

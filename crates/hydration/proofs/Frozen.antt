@@ -1,5 +1,5 @@
 -- What freezes a state is a snapshot, and all snapshots of a state have as many pieces.
-use Rattle.std.proofs.Common.{◌≡◌, ◌≢◌, ℕ, ◌≤◌, ⊎_elim, List, length, sym, ap, ◌∙◌, subst, arith}
+use Rattle.std.proofs.Common.{◌≡◌, ◌≢◌, ℕ, ◌≤◌, List, length, sym, ap, ◌∙◌, subst, arith, rules}
 use Rattle.redo_core.specs.Book.{BookData, IsBook}
 use Rattle.redo_core.specs.Data.{RecordData}
 use Rattle.redo_core.specs.Meaning.{ImageData, ImageBefore}
@@ -7,7 +7,7 @@ use Rattle.redo_core.specs.Order.{Lists, RecordBefore}
 use Rattle.redo_core.specs.Roster.{least}
 use Rattle.redo_core.specs.Writing.{zeros}
 use Rattle.redo_core.proofs.Members.{all_of, lists_unique}
-use Rattle.state_laws.specs.State.{State, min_of}
+use Rattle.state_laws.specs.State.{State}
 use Rattle.state_laws.specs.Shows.{Shows}
 use Rattle.state_laws.specs.HasMeaning.{HasAnchor, IsKeptBy}
 use Rattle.segment_core.proofs.OneView.{one_anchor, anchor_low}
@@ -54,9 +54,7 @@ same_records s d anchor records frozen has lists =
 pub count_as : (s : State) (d : SnapshotData) (anchor : ℕ) (pages : List ImageData) (records : List RecordData) → Freezes s d → HasAnchor s anchor
     → Lists ImageBefore (λ i. Shows s i.page anchor i.bytes × (i.bytes ≢ zeros)) pages → Lists RecordBefore (IsKeptBy s anchor) records
     → IsPieceCount (length pages) (length records) d.total
-count_as s d anchor pages records frozen has shown kept =
-    subst (λ (ps : List ImageData). IsPieceCount (length ps) (length records) d.total) (same_pages s d anchor pages frozen has shown)
-    (subst (λ (rs : List RecordData). IsPieceCount (length d.pages) (length rs) d.total) (same_records s d anchor records frozen has kept) frozen.total)
+count_as s d anchor pages records frozen has shown kept = search (rules, same_pages, same_records)
 
 one_count : (pages records m n : ℕ) → IsPieceCount pages records m → IsPieceCount pages records n → m ≡ n
 one_count pages records m n a b = omega (arith, a.1.0, a.1.1, a.2, b.1.0, b.1.1, b.2)

@@ -1,5 +1,5 @@
 -- Pieces that are in order bring records by rising keys.
-use Rattle.std.proofs.Common.{◌≡◌, ℕ, zero, suc, ◌<◌, ◌≤◌, ◌⊎◌, inl, inr, ⊎_elim, List, [], ◌∷◌, length, Option, Some, None, refl, sym, ap, ◌∙◌, subst, arith}
+use Rattle.std.proofs.Common.{◌≡◌, ℕ, zero, suc, ◌<◌, ◌⊎◌, inl, inr, ⊎_elim, List, [], ◌∷◌, length, Option, Some, refl, sym, ap, ◌∙◌, subst, arith, rules}
 use Rattle.std.specs.List.{Contains}
 use Rattle.std.proofs.lemmas.Bool.{cases_eq}
 use Rattle.redo_core.specs.Book.{BookData}
@@ -25,21 +25,7 @@ stands st i order lt apart = order.1 i (inl lt, apart)
 
 -- an order of keys is known where its contrary is absurd
 known_before : (q r : RecordData) → ((RecordBefore q r → ⊥) → ⊥) → RecordBefore q r
-known_before q r h =
-    ⊎_elim (λ (lt : q.epoch < r.epoch). inl lt)
-    (λ (le : r.epoch ≤ q.epoch). ⊎_elim
-    (λ (both : (q.epoch ≡ r.epoch) × (q.number < r.number)). inr both)
-    (λ (apart : (q.epoch ≡ r.epoch) × (q.number < r.number) → ⊥). absurd (h (λ b. ⊎_elim (λ (lt : q.epoch < r.epoch). omega (arith, lt, le)) apart b)))
-    (keys q.epoch r.epoch q.number r.number))
-    (let t : (q.epoch < r.epoch) ⊎ (r.epoch ≤ q.epoch) = grind arith in t)
-  where
-    keys : (a b c d : ℕ) → ((a ≡ b) × (c < d)) ⊎ ((a ≡ b) × (c < d) → ⊥)
-    keys a b c d =
-        ⊎_elim
-        (λ (e : a ≡ b). ⊎_elim (λ (lt : c < d). inl (e, lt)) (λ (le : d ≤ c). inr (λ both. omega (arith, both.1, le)))
-        (let t : (c < d) ⊎ (d ≤ c) = grind arith in t))
-        (λ (ne : a ≡ b → ⊥). inr (λ both. ne both.0))
-        (cases_eq a b)
+known_before q r h = search rules
 
 -- a piece of an index has these records
 abbrev pub HasRecords : StagingData → ℕ → List RecordData → Type 0
@@ -48,28 +34,21 @@ HasRecords st i rs = (p : PieceData) × (piece_at st i ≡ Some p) × (p.content
 same_content : (st : StagingData) (i : ℕ) (p q : PieceData) → piece_at st i ≡ Some p → piece_at st i ≡ Some q → p.content ≡ q.content
 same_content st i p q is its = let e : p ≡ q = cc in ap (λ (x : PieceData). x.content) e
 
-same_records : (rs qs : List RecordData) → Records rs ≡ Records qs → rs ≡ qs
-same_records rs qs e = cc
-
 no_head : (st : StagingData) (i : ℕ) (p : PieceData) (book : BookData) (anchor : ℕ) → piece_at st (suc i) ≡ Some p → p.content ≡ Head book anchor
     → CanStand st (suc i) → ⊥
-no_head st i p book anchor is e can =
-    subst (CanFollow can.0 can.1 can.2.content) (same_content st (suc i) can.3 p can.6 is ∙ e) can.7
+no_head st i p book anchor is e can = search rules
 
 page_follows : (st : StagingData) (i : ℕ) (p : PieceData) (image : ImageData) → piece_at st (suc i) ≡ Some p → p.content ≡ Page image
     → (can : CanStand st (suc i)) → PageFollows can.2.content image
-page_follows st i p image is e can =
-    (subst (CanFollow can.0 can.1 can.2.content) (same_content st (suc i) can.3 p can.6 is ∙ e) can.7).1
+page_follows st i p image is e can = search rules
 
 records_follow : (st : StagingData) (i : ℕ) (p : PieceData) (rs : List RecordData) → piece_at st (suc i) ≡ Some p → p.content ≡ Records rs
     → (can : CanStand st (suc i)) → RecordsFollow can.2.content rs
-records_follow st i p rs is e can =
-    (subst (CanFollow can.0 can.1 can.2.content) (same_content st (suc i) can.3 p can.6 is ∙ e) can.7).0
+records_follow st i p rs is e can = search rules
 
 -- each piece below the total is there
 there_at : (st : StagingData) (i : ℕ) (o : Option PieceData) → IsInOrder st → i < st.total → piece_at st i ≡ o → (p : PieceData) × (piece_at st i ≡ Some p)
-there_at st i None order lt e = absurd (order.0 i (lt, e))
-there_at st i (Some p) order lt e = (p, e)
+there_at st i o order lt e = search rules
 
 pub there : (st : StagingData) (i : ℕ) → IsInOrder st → i < st.total → (p : PieceData) × (piece_at st i ≡ Some p)
 there st i order lt = there_at st i (piece_at st i) order lt refl

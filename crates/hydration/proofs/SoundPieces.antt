@@ -1,5 +1,5 @@
 -- The pieces of one snapshot of a state of a sound log stand where they are.
-use Rattle.std.proofs.Common.{◌≡◌, ℕ, ◌<◌, ◌≤◌, ◌+◌, ◌*◌, ◌⊎◌, inr, ⊎_elim, List, length, take, drop, get_or, Some, zero, suc, refl, sym, ap, ◌∙◌, subst, arith}
+use Rattle.std.proofs.Common.{◌≡◌, ℕ, ◌<◌, ◌≤◌, ◌+◌, ◌*◌, ◌⊎◌, inr, ⊎_elim, List, length, take, drop, get_or, Some, zero, suc, sym, ap, ◌∙◌, subst, arith, rules}
 use Rattle.std.specs.List.{slice_get, Contains}
 use Rattle.std.proofs.lemmas.List.{length-take, length-drop, drop-drop}
 use Rattle.std.proofs.lemmas.Option.{slice_get_within, get_or_from_slice_get}
@@ -34,7 +34,7 @@ use Rattle.hydration.specs.Snapshots.{SnapshotData, IsContentAt}
 use Rattle.hydration.specs.Stagings.{StagingData, IsStaging}
 use Rattle.hydration.specs.Placing.{IsKeptFor, PageFollows, RecordsFollow, CanFollow, HasHead, CanStand, IsMisplaced, IsComplete}
 use Rattle.hydration.specs.Hydrating.{IsOfState, IsOfSoundState}
-use Rattle.hydration.proofs.AllPieces.{HasAll, has_all, head_at, of_batch}
+use Rattle.hydration.proofs.AllPieces.{HasAll, has_all, of_batch}
 use Rattle.hydration.proofs.Shaped.{rising_drop}
 
 -- an advance of the log that the first reader is known to be past the truncation by
@@ -143,9 +143,7 @@ module _ {roster : ℕ} (log F : List Fact) (s : State) (d : SnapshotData) (st :
   )
 
   has_head : HasHead st d.book d.anchor
-  has_head =
-      let p = all.there 0 (omega (arith, all.count.2)) in
-      (p.0, p.1, head_at d 0 p.0.content (all.content 0 p.0 p.1) refl)
+  has_head = search rules
 
   stands : (index : ℕ) → index < d.total → CanStand st index
   stands zero lt = (d.book, d.anchor, has_head, λ bad. book_stands log F s sound means (subst IsContradicted of.frozen.book bad))

@@ -5,7 +5,7 @@ use Rattle.std.specs.List.{Contains}
 use Rattle.std.specs.declared.alloc.AllocError.{AllocError}
 use Rattle.std.proofs.lemmas.Bool.{cases_lt, cases_eq}
 use Rattle.std.proofs.lemmas.Option.{none-some, slice_get_within, get_or_from_slice_get}
-use Rattle.std.proofs.lemmas.List.{get_or_past, length-take, get_or-take}
+use Rattle.std.proofs.lemmas.List.{get_or_past}
 use Rattle.redo_core.specs.Data.{RecordData, CutData, AdvanceData}
 use Rattle.redo_core.specs.Fault.{KeepsLaw}
 use Rattle.redo_core.specs.Order.{IsGreatest}
@@ -13,13 +13,13 @@ use Rattle.redo_core.specs.Roster.{IsReader}
 use Rattle.redo_core.specs.Past.{ArePast}
 use Rattle.redo_core.specs.Sets.{advances}
 use Rattle.redo_core.specs.CompleteEpoch.{HasCutsTo}
-use Rattle.redo_core.specs.Sound.{SameKey, IsAliveBelow, Law1, Law2, Law3, Law4, Law5, counted}
+use Rattle.redo_core.specs.Sound.{IsAliveBelow, Law1, Law2, Law3, Law4, Law5, counted}
 use Rattle.redo_core.specs.declared.facts.Fact.{Fact}
 use Rattle.redo_core.specs.declared.facts.Fact.TheVariants.{Record, Cut, Advance}
 use Rattle.redo_core.specs.declared.laws.Law.{Law}
 use Rattle.redo_core.specs.declared.laws.LawFault.{LawFault}
 use Rattle.redo_core.proofs.FactParts.{cut_in}
-use Rattle.redo_core.proofs.SoundFacts.{place_of, earlier}
+use Rattle.redo_core.proofs.SoundFacts.{earlier}
 use Rattle.log_law.specs.Counted.{first_cut, IsTable, AreBegunTo}
 use Rattle.log_law.specs.Lows.{AreLeastPoints}
 use Rattle.log_law.specs.Report.{Reports}
@@ -31,10 +31,6 @@ use Rattle.log_law.specs.Targets.{IsPlaced, IsTarget}
 use Rattle.log_law.proofs.FirstCuts.{above_hi, at_counted, counted_among}
 use Rattle.log_law.proofs.Reaching.{past_low, low_past}
 use Rattle.log_law.proofs.Candidates.{EachBefore, each_member}
-
--- law 1 by the facts before a place
-pub agree : (log : List Fact) (p : ℕ) (fact : Fact) → EachBefore log (λ f. SameKey f fact → f ≡ fact) p → Law1 (take p log) fact
-agree log p fact each f h key = search (rules, length-take, place_of, get_or-take)
 
 -- the first missing epoch is the one after the complete one
 pub missing_after : (log : List Fact) (k e : ℕ) → AreBegunTo log k → k < e → IsFirstMissing log e (k + 1)

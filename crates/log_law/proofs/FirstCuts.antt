@@ -37,10 +37,6 @@ pub first_cut-one : (c : CutData) (e : ℕ) → first_cut (Cut c ∷ []) e ≡ f
 unfolding cuts
 first_cut-one c e = refl
 
-pub first_cut-nil : (e : ℕ) → first_cut [] e ≡ None
-unfolding cuts
-first_cut-nil e = refl
-
 or_none : (o : Option CutData) → or_first o None ≡ o
 or_none o = search rules
 
@@ -213,15 +209,8 @@ law5_at roster log a later f small reader has = search rules
 pub read_item : (table : List (Option CutData)) (i : ℕ) (o : Option CutData) → i < length table → o ≡ get_or table i o → get_or table i None ≡ o
 read_item table i o l q = get_or_default table i None o l ∙ sym q
 
-some_not : (o : Option CutData) → is_some o ≡ true → o ≡ None → ⊥
-some_not o s q = cc
-
 not_some : (o : Option CutData) → is_some o ≡ false → o ≡ None
 not_some o s = search rules
-
-pub some_item : (table : List (Option CutData)) (i : ℕ) (o : Option CutData) → i < length table → o ≡ get_or table i o → is_some o ≡ true
-    → get_or table i None ≡ None → ⊥
-some_item table i o l q s n = some_not o s (sym (read_item table i o l q) ∙ n)
 
 pub none_item : (table : List (Option CutData)) (i : ℕ) (o : Option CutData) → i < length table → o ≡ get_or table i o → is_some o ≡ false
     → get_or table i None ≡ None

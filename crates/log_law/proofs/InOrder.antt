@@ -1,8 +1,8 @@
 -- Records and items that stand in the order of their keys.
-use Rattle.std.proofs.Common.{◌≡◌, ℕ, zero, suc, ◌+◌, ◌-◌, ◌<◌, ◌≤◌, ◌↔◌, inr, ⊎_elim, List, [], ◌∷◌, length, get_or, take, refl, sym, ap, ◌∙◌, subst, arith, Option, Some, None, rules}
+use Rattle.std.proofs.Common.{◌≡◌, ℕ, zero, suc, ◌+◌, ◌-◌, ◌<◌, ◌≤◌, ◌↔◌, ⊎_elim, List, [], ◌∷◌, length, get_or, take, refl, ap, arith, Option, Some, None, rules}
 use Rattle.std.specs.Prelude.{slice_get}
 use Rattle.std.specs.List.{Contains}
-use Rattle.std.proofs.lemmas.Option.{same_Some, slice_get_within}
+use Rattle.std.proofs.lemmas.Option.{slice_get_within}
 use Rattle.std.proofs.lemmas.List.{get_or_default}
 use Rattle.redo_core.specs.Data.{RecordData, CutData}
 use Rattle.redo_core.specs.Keys.{key_of}
@@ -17,12 +17,6 @@ use Rattle.log_law.specs.Links.{KeyAtMost}
 use Rattle.log_law.specs.declared.links.Item.{Item}
 use Rattle.log_law.proofs.Least.{zero_item}
 use Rattle.log_law.proofs.Repeats.{law1_none, law1_advance}
-
-key_same : (t : Item) → KeyAtMost t t
-key_same t = inr (refl, omega arith)
-
-key_across : (t u v : Item) → KeyAtMost t u → KeyAtMost u v → KeyAtMost t v
-key_across t u v a b = search rules
 
 -- the items in the first places are in key order
 abbrev pub AreInOrderTo : List Item → ℕ → Type 0
@@ -45,11 +39,6 @@ IsLastKey log p last = (s : RecordData) → HasKeyAbove s last ↔ IsAboveTo log
 
 pub no_last : (log : List Fact) → IsLastKey log 0 None
 no_last log s = (λ t i r l e. absurd (omega (arith, l)), λ h. tt)
-
--- the record at a place is the one that stands there
-here_redo : (log : List Fact) (p i : ℕ) (f : Fact) (r : RecordData) → slice_get log p ≡ Some f → slice_get log i ≡ Some (Record r) → p ≤ i → i < p + 1
-    → f ≡ Record r
-here_redo log p i f r at e l m = let q : i ≡ p = omega arith in same_Some f (Record r) (sym at ∙ subst (λ k. slice_get log k ≡ Some (Record r)) q e)
 
 -- one more record, whose key is above the last, or one more fact that is no record
 pub rising_more : (log : List Fact) (p : ℕ) (r : RecordData) → slice_get log p ≡ Some (Record r) → IsAboveTo log p r → HasRisingKeysTo log p

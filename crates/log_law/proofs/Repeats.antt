@@ -177,9 +177,5 @@ seen_past log p f seen at apart h e n = seen_other log p f e n (get is_same_key 
 pub law1_advance : (earlier : List Fact) (a : AdvanceData) → Law1 earlier (Advance a)
 law1_advance earlier a = search rules
 
--- the scan stops at a place, or at the end
-pub first_other : (log : List Fact) (p : ℕ) (f : Fact) → slice_get log p ≡ Some f → KeepLaw1To log p → (Law1 (take p log) f → ⊥) → IsFirstKeyConflict log p
-first_other log p f at kept breaks = record { before = kept; breaks = λ g h law. breaks (subst (Law1 (take p log)) (same_Some g f (sym h ∙ at)) law) }
-
 pub none_further : (log : List Fact) (p : ℕ) → length log ≤ p → KeepLaw1To log p → IsFirstKeyConflict log (length log)
 none_further log p l kept = search (rules, slice_get_within)

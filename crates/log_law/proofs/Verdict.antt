@@ -15,7 +15,7 @@ use Rattle.redo_core.specs.declared.laws.LawFault.{LawFault}
 use Rattle.redo_core.proofs.FactParts.{cut_in}
 use Rattle.log_law.specs.Counted.{IsTable}
 use Rattle.log_law.specs.Keys.{IsFirstKeyConflict}
-use Rattle.log_law.specs.Links.{KeepsLinks, BreaksLink, Judges, IsFirstBrokenLink}
+use Rattle.log_law.specs.Links.{BreaksLink, Judges, IsFirstBrokenLink}
 use Rattle.log_law.specs.Report.{Reports, LinkJudges, IsLawAt}
 use Rattle.log_law.specs.declared.links.BrokenLink.{BrokenLink}
 use Rattle.log_law.proofs.Least.{one_redo}
@@ -27,10 +27,6 @@ record_verdict roster log place r o s one two j = search rules
 pub record_not_begun : (roster : ℕ) (log : List Fact) (place : ℕ) (r : RecordData) → Law1 (take place log) (Record r) → (Law2 log (Record r) → ⊥)
     → BreaksFirst roster log place (Record r) EpochBegun
 record_not_begun roster log place r one two = (two, (one, tt))
-
-pub cut_verdict : (roster : ℕ) (log : List Fact) (place : ℕ) (c : CutData) → HasShape (Cut c) → Law1 (take place log) (Cut c)
-    → KeepsLaws roster log place (Cut c)
-cut_verdict roster log place c s one = record { shape = s; law1 = one; law2 = tt; law3 = tt; law4 = tt; law5 = tt }
 
 pub advance_verdict : (roster : ℕ) (log : List Fact) (place : ℕ) (a : AdvanceData) → HasShape (Advance a) → Law1 (take place log) (Advance a)
     → Law5 roster log (Advance a) → KeepsLaws roster log place (Advance a)
@@ -58,13 +54,6 @@ record_link log place r (Some b) answer at first upto law two =
 pub link_judges : (log : List Fact) (place : ℕ) (f : Fact) (link : Option BrokenLink) (answer : Option Law) → slice_get log place ≡ Some f
     → IsFirstBrokenLink log link → ((b : BrokenLink) → link ≡ Some b → place ≤ b.place) → IsLawAt link place answer → LinkJudges log f answer
 link_judges log place f link answer at first upto law = search (rules, record_link)
-
--- a fact that keeps the laws has no broken link at its place
-not_broken : (log : List Fact) (r : RecordData) (law : Law) → BreaksLink log r law → KeepsLinks log r → ⊥
-not_broken log r law b k = search rules
-
-kept_links : (roster : ℕ) (log : List Fact) (place : ℕ) (f : Fact) (r : RecordData) → f ≡ Record r → KeepsLaws roster log place f → KeepsLinks log r
-kept_links roster log place f r e k = let h = subst (KeepsLaws roster log place) e k in (h.law3, h.law4)
 
 pub link_further : (roster : ℕ) (log : List Fact) (place : ℕ) (f : Fact) (link : Option BrokenLink) → slice_get log place ≡ Some f → IsFirstBrokenLink log link
     → KeepsLaws roster log place f → ((b : BrokenLink) → link ≡ Some b → place ≤ b.place) → (b : BrokenLink) → link ≡ Some b → place + 1 ≤ b.place

@@ -1,5 +1,5 @@
 -- The walk over the items in key order, group by group.
-use Rattle.std.proofs.Common.{◌≡◌, ℕ, zero, suc, ◌+◌, ◌-◌, ◌<◌, ◌≤◌, ⊎_elim, List, [], ◌∷◌, ◌++◌, length, get_or, take, drop, sym, ap, ◌∙◌, subst, arith, Option, None, rules}
+use Rattle.std.proofs.Common.{◌≡◌, ℕ, zero, suc, ◌-◌, ◌<◌, ◌≤◌, ⊎_elim, List, [], ◌∷◌, ◌++◌, length, get_or, take, drop, sym, ap, ◌∙◌, subst, arith, Option, rules}
 use Rattle.std.proofs.lemmas.Grind.{common_steps}
 use Rattle.std.specs.List.{Contains}
 use Rattle.std.proofs.lemmas.Bool.{cases_lt}
@@ -7,7 +7,6 @@ use Rattle.std.proofs.lemmas.List.{get_or_default}
 use Rattle.redo_core.specs.Data.{CutData}
 use Rattle.redo_core.specs.Sets.{cuts}
 use Rattle.redo_core.specs.declared.facts.Fact.{Fact}
-use Rattle.redo_core.proofs.Members.{here, there}
 use Rattle.log_law.specs.Alive.{HoldsAlive}
 use Rattle.log_law.specs.Links.{AreItems, KeyAtMost, KeyBelow, SameItemKey, IsInKeyOrder, IsLeastBroken}
 use Rattle.log_law.specs.declared.alive.AliveRecords.{AliveRecords}
@@ -15,24 +14,6 @@ use Rattle.log_law.specs.declared.links.Item.{Item}
 use Rattle.log_law.specs.declared.links.BrokenLink.{BrokenLink}
 use Rattle.log_law.proofs.Least.{zero_item}
 use Rattle.log_law.proofs.Judging.{IsGroup}
-
--- the places of an element of a part
-pub in_take : (n : ℕ) (xs : List Item) (x : Item) → Contains (take n xs) x → (k : ℕ) × (k < n) × (k < length xs) × (get_or xs k x ≡ x)
-in_take n xs x h = grind (arith, common_steps)
-
-pub to_take : (n : ℕ) (xs : List Item) (x : Item) (k : ℕ) → k < n → k < length xs → get_or xs k x ≡ x → Contains (take n xs) x
-to_take zero xs x k l m e = absurd (omega (arith, l))
-to_take (suc n) [] x k l m e = absurd (omega (arith, m))
-to_take (suc n) (y ∷ ys) x zero l m e = subst (λ z. Contains (z ∷ take n ys) x) (sym e) (here x (take n ys))
-to_take (suc n) (y ∷ ys) x (suc k) l m e = there y (take n ys) x (to_take n ys x k (omega (arith, l)) (omega (arith, m)) e)
-
-pub in_drop : (n : ℕ) (xs : List Item) (x : Item) (k : ℕ) → k < length (drop n xs) → get_or (drop n xs) k x ≡ x
-    → (n + k < length xs) × (get_or xs (n + k) x ≡ x)
-in_drop n xs x k l e = grind (arith, common_steps)
-
-pub in_part : (start stop : ℕ) (xs : List Item) (x : Item) → Contains (take (stop - start) (drop start xs)) x
-    → (k : ℕ) × (start ≤ k) × (k < stop) × (k < length xs) × (get_or xs k x ≡ x)
-in_part start stop xs x h = grind (arith, common_steps)
 
 take_nothing : (n : ℕ) → [] ≡ take {A = Item} n []
 take_nothing n = search rules
@@ -52,20 +33,11 @@ pub record IsWalked (log : List Fact) (items : List Item) (start : ℕ) (alive :
   pub view : (k : ℕ) (d : Item) → start ≤ k → k < length items → alive.view ≤ (get_or items k d).epoch
   pub apart : (j k : ℕ) (d : Item) → j < start → start ≤ k → k < length items → KeyBelow (get_or items j d) (get_or items k d)
 
-key_not_below : (t u : Item) → KeyAtMost t u → KeyBelow u t → ⊥
-key_not_below t u h k = omega arith
-
 key_below : (t u v : Item) → SameItemKey t v → KeyAtMost v u → (SameItemKey u v → ⊥) → KeyBelow t u
 key_below t u v s h differ = search rules
 
 key_trans : (t u v : Item) → KeyBelow t u → KeyAtMost u v → KeyBelow t v
 key_trans t u v h k = search rules
-
-at_default : (items : List Item) (k : ℕ) (x d : Item) → k < length items → get_or items k x ≡ x → get_or items k d ≡ x
-at_default items k x d l e = get_or_default items k d x l ∙ e
-
-pub walked_nothing : (log : List Fact) (items : List Item) (alive : AliveRecords) → HoldsAlive log [] alive → alive.view ≡ 0 → IsWalked log items 0 alive None
-walked_nothing log items alive h v = search rules
 
 -- the group from start to stop, once the view is its epoch
 pub is_group : (log : List Fact) (items : List Item) (start stop : ℕ) (alive entered : AliveRecords) (least : Option BrokenLink)

@@ -1,6 +1,6 @@
 -- What a writer keeps is what its log says: at the start, and with a record, a truncation or an advance more.
-use Rattle.std.proofs.Common.{◌≡◌, ◌≢◌, ℕ, ◌+◌, ◌-◌, max, replicate, ◌<◌, ◌≤◌, ◌⊎◌, inl, inr, ⊎_elim, List, [], ◌∷◌, ◌++◌, length, get_or, refl, sym, ap, ◌∙◌, subst, arith, Option, Some, None, cond, Bool, true, false, rules}
-use Rattle.std.specs.Prelude.{slice_get, ◌==◌, nat_lt, if◌then◌else◌}
+use Rattle.std.proofs.Common.{◌≡◌, ◌≢◌, ℕ, ◌+◌, ◌-◌, max, replicate, ◌<◌, ◌≤◌, ◌⊎◌, inl, inr, ⊎_elim, List, [], ◌∷◌, ◌++◌, length, get_or, refl, sym, ap, ◌∙◌, subst, arith, Option, Some, None, cond, Bool, true, rules}
+use Rattle.std.specs.Prelude.{slice_get, ◌==◌}
 use Rattle.std.specs.List.{Contains, AllByRecursion}
 use Rattle.std.proofs.lemmas.Bool.Decides.{nat_tests}
 use Rattle.std.proofs.lemmas.Bool.{cases_lt, cases_eq, eq-eqb}
@@ -8,9 +8,8 @@ use Rattle.std.proofs.lemmas.List.{get_or-replicate, length-replicate}
 use Rattle.std.proofs.lemmas.Option.{none-some, slice_get_within, get_or_from_slice_get}
 use Rattle.std.proofs.lemmas.List.Elements.{Contains-append_left, Contains-append_right, Contains-append_cases, Contains-push}
 use Rattle.redo_core.specs.Writes.{WriteData}
-use Rattle.std.specs.Option.{option_or}
-use Rattle.redo_core.specs.Data.{RecordData, CutData, AdvanceData, record_of, plain}
-use Rattle.redo_core.specs.Shape.{cut_fault, advance_fault, record_fault, patches_fault, max_number}
+use Rattle.redo_core.specs.Data.{RecordData, CutData, AdvanceData, record_of}
+use Rattle.redo_core.specs.Shape.{cut_fault, advance_fault, record_fault}
 use Rattle.redo_core.specs.Sets.{records, cuts, advances}
 use Rattle.redo_core.specs.Roster.{IsRoster, IsReader, least, point_of}
 use Rattle.redo_core.specs.Points.{HasAdvance, IsPoint, ArePoints}
@@ -22,8 +21,6 @@ use Rattle.redo_core.specs.CompleteEpoch.{HasCutsTo, IsCompleteEpoch}
 use Rattle.redo_core.specs.Sound.{counted, HasShape, Law1, Law2, IsSound, IsAliveBelow}
 use Rattle.redo_core.specs.declared.facts.Fact.{Fact}
 use Rattle.redo_core.specs.declared.facts.Fact.TheVariants.{Record, Cut, Advance}
-use Rattle.redo_core.specs.declared.shapes.ShapeFault.TheVariants.{TooLarge}
-use Rattle.redo_core.specs.declared.shapes.ShapeFault.{ShapeFault}
 use Rattle.redo_core.proofs.Members.{none_in, here, only}
 use Rattle.redo_core.proofs.FactParts.{record_in, cut_in, advance_in}
 use Rattle.redo_core.proofs.SoundFacts.{kept, cut_facts}
@@ -521,13 +518,6 @@ page_below_top g (x ∷ xs) r = page_step g x xs (x.page == g) (page_at_most g x
 pub page_at_most_top : {roster : ℕ} (log : List Fact) (s : AliveRecords) (last : ℕ) (points : List ℕ) (g : ℕ) → IsWritten roster log s last points
     → page_top g (stack_of s) ≤ top_number (stack_of s)
 page_at_most_top log s last points g w = page_below_top g (stack_of s) w.held.2.falls
-
--- a record's shape, once its backlinks are in order
-open_conds : {X : Type 0} (z y x : Bool) (A B C T : X) → z ≡ false → y ≡ false → x ≡ false → cond z A (cond y B (cond x C T)) ≡ T
-open_conds z y x A B C T ez ey ex = ap (λ b. cond b A (cond y B (cond x C T))) ez ∙ ap (λ b. cond b B (cond x C T)) ey ∙ ap (λ b. cond b C T) ex
-
-abbrev pub writes_fault : ℕ → List WriteData → Option ShapeFault
-writes_fault n ws = option_or (patches_fault (plain ws)) (if nat_lt max_number n then Some TooLarge else None)
 
 pub shape_of_plain : (e n b p bb : ℕ) (ws : List WriteData) → record_fault (plain_record n ws) ≡ None → b < n → bb ≤ b
     → record_fault (record_of e n b p bb ws) ≡ None

@@ -1,5 +1,5 @@
 -- What the lock keeps, through summaries, mail and absorbs.
-use Rattle.std.proofs.Common.{◌≡◌, ℕ, List, ◌++◌, Result, Ok, Err, IfOk, sym, ap, subst, ◌∙◌}
+use Rattle.std.proofs.Common.{◌≡◌, ℕ, List, ◌++◌, Result, Ok, Err, IfOk, sym, subst, rules}
 use Rattle.redo_core.specs.Meaning.{Meaning, IsMeaning}
 use Rattle.redo_core.specs.Sound.{IsSound}
 use Rattle.redo_core.specs.declared.facts.Fact.{Fact}
@@ -38,35 +38,16 @@ module _ (roster : ℕ) (log : List Fact) where
 
   pub keeps_both : (old new : State) (trail : List Entry) (G : List Fact) → (k : MeansTrail roster log old trail) → Means roster log (k.facts ++ G) new
       → MeansTrail roster log new trail
-  keeps_both old new trail G k means =
-      record { facts = k.facts ++ G; means = means; has = wider log k.facts (k.facts ++ G) trail (left k.facts G) k.has }
+  keeps_both old new trail G k means = search (rules, wider, left)
 
   pub front_with_mail : (new : State) (mail : MailData) (F : List Fact) (front : Front) (told : FrontData) → (own : IsMail roster log mail)
       → (m : Means roster log (F ++ own.facts) new) → IsFrontAt m.0 front → told ≡ record { epoch = front.epoch; number = front.complete }
       → IsFrontWithMail roster log mail told
-  front_with_mail new mail F front told own m is same = record {
-    facts = F ++ own.facts;
-    p = m.0;
-    part = m.1.part;
-    position = m.1.position;
-    sender = own.facts;
-    q = own.p;
-    stood = own.position;
-    sent = own.sent;
-    had = right F own.facts;
-    epoch = ap (λ t. t.epoch) same ∙ is.epoch;
-    number = ap (λ t. t.number) same ∙ is.complete;
-  }
+  front_with_mail new mail F front told own m is same = search (rules, right)
 
   pub uncovered_of_log : (s : State) (trail : List Entry) (summary : SummaryData) (d : DeltaData) (shown : Shown) → IsSound roster log
       → MeansTrail roster log s trail → RefusesAbsorb s summary d (Uncovered shown) → IsUncoveredOfLog roster log summary shown
-  uncovered_of_log s trail summary d shown sound k why = record {
-    facts = k.facts;
-    p = k.means.0;
-    part = k.means.1.part;
-    position = k.means.1.position;
-    leaves = leaves_uncovered roster log k.facts k.means.0 s sound k.means.1 why.1.0 why.1.1 summary shown why.1.2;
-  }
+  uncovered_of_log s trail summary d shown sound k why = search (rules, leaves_uncovered)
 
   -- after an absorb the state means the facts that it meant and those that the mail is of
   pub both_meant : (old new : State) (trail : List Entry) (mail : MailData) (x : SummaryData) (d : DeltaData) → IsSound roster log

@@ -1,5 +1,5 @@
 -- What the lock keeps, through the calls on the state.
-use Rattle.std.proofs.Common.{◌≡◌, ℕ, List, [], ◌∷◌, ◌++◌, sym, ap, subst, ◌∙◌, arith, Result, Some}
+use Rattle.std.proofs.Common.{◌≡◌, ℕ, List, [], ◌∷◌, ◌++◌, sym, subst, ◌∙◌, Result, Some, rules}
 use Rattle.redo_core.specs.Sets.{IsPart, cuts}
 use Rattle.redo_core.specs.Position.{Position, IsPosition}
 use Rattle.redo_core.specs.PageAt.{IsPageAt}
@@ -45,40 +45,16 @@ module _ (roster : ℕ) (log : List Fact) where
 
   pub keeps : (old new : State) (trail : List Entry) (pass place : ℕ) (f : Fact) → (k : MeansTrail roster log old trail) → fact_at log place ≡ Some f
       → Means roster log (k.facts ++ f ∷ []) new → MeansTrail roster log new (trail ++ (pass, place) ∷ [])
-  keeps old new trail pass place f k at means =
-      let more = k.facts ++ f ∷ [] in record {
-        facts = more;
-        means = means;
-        has = longer log more trail (pass, place) (wider log k.facts more trail (left k.facts (f ∷ [])) k.has) (f, at, right k.facts (f ∷ []) f (here f []));
-      }
+  keeps old new trail pass place f k at means = search (rules, longer, wider, left, right, here)
 
   pub front_with : (old new : State) (trail : List Entry) (place : ℕ) (f : Fact) (front : Front) (told : FrontData) → (k : MeansTrail roster log old trail)
       → fact_at log place ≡ Some f → (m : Means roster log (k.facts ++ f ∷ []) new) → IsFrontAt m.0 front
       → told ≡ record { epoch = front.epoch; number = front.complete } → IsFrontWith roster log trail place told
-  front_with old new trail place f front told k at m is same =
-      let more = k.facts ++ f ∷ [] in record {
-        facts = more;
-        p = m.0;
-        part = m.1.part;
-        position = m.1.position;
-        has = (f, at, right k.facts (f ∷ []) f (here f []));
-        had = wider log k.facts more trail (left k.facts (f ∷ [])) k.has;
-        epoch = ap (λ t. t.epoch) same ∙ is.epoch;
-        number = ap (λ t. t.number) same ∙ is.complete;
-      }
+  front_with old new trail place f front told k at m is same = search (rules, right, wider, left)
 
   pub front_of_list : (trail : List Entry) (pass : ℕ) (list : List Receipt) (place : ℕ) (front : FrontData) → IsFrontWith roster log trail place front
       → HasReceipts trail pass list → IsFrontWith roster log list place front
-  front_of_list trail pass list place front f has = record {
-    facts = f.facts;
-    p = f.p;
-    part = f.part;
-    position = f.position;
-    has = f.has;
-    had = of_receipts log f.facts trail pass list f.had has;
-    epoch = f.epoch;
-    number = f.number;
-  }
+  front_of_list trail pass list place front f has = search (rules, of_receipts)
 
   -- the front of what a state means is a front of the log
   pub log_front : (facts : List Fact) (s : State) (front : Front) → IsSound roster log → (m : Means roster log facts s) → IsFrontAt m.0 front
@@ -101,36 +77,15 @@ module _ (roster : ℕ) (log : List Fact) where
 
   pub tells : (segment : State) (trail : List Entry) (page q : ℕ) (result : Result ViewData ReadFault) → (k : MeansTrail roster log segment trail)
       → IsViewResult k.facts k.means.0 page q result → TellsRead roster log trail page q result
-  tells segment trail page q result k answer = record {
-    facts = k.facts;
-    p = k.means.0;
-    part = k.means.1.part;
-    position = k.means.1.position;
-    has = k.has;
-    answer = answer;
-  }
+  tells segment trail page q result k answer = search rules
 
   pub tells_of : (trail : List Entry) (pass : ℕ) (list : List Receipt) (page q : ℕ) (result : Result ViewData ReadFault)
       → TellsRead roster log trail page q result → HasReceipts trail pass list → TellsRead roster log list page q result
-  tells_of trail pass list page q result t has = record {
-    facts = t.facts;
-    p = t.p;
-    part = t.part;
-    position = t.position;
-    has = of_receipts log t.facts trail pass list t.has has;
-    answer = t.answer;
-  }
+  tells_of trail pass list page q result t has = search (rules, of_receipts)
 
   pub tells_after : (trail : List Entry) (r : ReceiptData) (page q : ℕ) (result : Result ViewData ReadFault) → TellsRead roster log trail page q result
       → Stands trail r → TellsRead roster log ((r.place, r.log_place) ∷ []) page q result
-  tells_after trail r page q result t there = record {
-    facts = t.facts;
-    p = t.p;
-    part = t.part;
-    position = t.position;
-    has = (found log t.facts trail r.place r.log_place t.has there, tt);
-    answer = t.answer;
-  }
+  tells_after trail r page q result t there = search (rules, found)
 
   -- images of one page at one point in one view are one
   pub one_image : (k j g h q r : ℕ) (image other : List ℕ) → k ≡ j → g ≡ h → q ≡ r → OnePage → IsSound roster log → HasCutsTo (cuts log) k
@@ -144,24 +99,11 @@ module _ (roster : ℕ) (log : List Fact) where
   -- ---- folds
 
   pub final : (folded : Folded) → IsFoldOfLog roster log folded → IsFinalPage roster log folded.page folded.version folded.image
-  final folded f = record {
-    facts = f.facts;
-    part = f.part;
-    p = f.p;
-    position = f.position;
-    settled = let e : folded.version ≡ f.p.anchor = f.fold.version_is in omega arith;
-    shown = subst (λ v. IsPageAt f.facts f.p.epoch folded.page v folded.image) (sym f.fold.version_is) f.fold.image_is;
-  }
+  final folded f = search rules
 
   pub fold_of_log : (facts : List Fact) (p : Position) (page : ℕ) (folded : Folded) → IsPart facts log → IsPosition roster facts p
       → IsFoldOf facts p page folded → IsFoldOfLog roster log folded
-  fold_of_log facts p page folded part at f = record {
-    facts = facts;
-    p = p;
-    part = part;
-    position = at;
-    fold = subst (λ n. IsFoldOf facts p n folded) (sym f.page_is) f;
-  }
+  fold_of_log facts p page folded part at f = search rules
 
   pub keeps_still : (old new : State) (trail : List Entry) → (k : MeansTrail roster log old trail) → Means roster log k.facts new → MeansTrail roster log new trail
   keeps_still old new trail k means = record { facts = k.facts; means = means; has = k.has }

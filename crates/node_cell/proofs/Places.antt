@@ -1,5 +1,5 @@
 -- Facts of the log's places, in larger sets and longer lists.
-use Rattle.std.proofs.Common.{◌≡◌, ℕ, zero, suc, ◌-◌, List, [], ◌∷◌, ◌++◌, sym, subst, Some}
+use Rattle.std.proofs.Common.{◌≡◌, ℕ, zero, suc, ◌-◌, List, [], ◌∷◌, ◌++◌, sym, subst, Some, rules}
 use Rattle.std.specs.Prelude.{slice_get}
 use Rattle.std.specs.List.{Contains}
 use Rattle.redo_core.specs.Sets.{IsPart}
@@ -17,8 +17,7 @@ stands (x ∷ xs) (suc k) f e = there x xs f (stands xs k f e)
 
 -- a fact at a place of the log is one of the log
 pub in_log : (log : List Fact) (place : ℕ) (f : Fact) → fact_at log place ≡ Some f → Contains log f
-in_log log zero f e = absurd cc
-in_log log (suc k) f e = stands log k f e
+in_log log place f e = search (rules, stands)
 
 pub wider : (log F G : List Fact) (es : List (ℕ × ℕ)) → IsPart F G → HasPlaces log F es → HasPlaces log G es
 wider log F G [] p h = tt
@@ -47,5 +46,4 @@ at_place log F (x ∷ xs) (suc k) p h at = at_place log F xs k p h.1 at
 
 -- and that of what is found at a place
 pub found : (log F : List Fact) (trail : List Entry) (place p : ℕ) → HasPlaces log F trail → found_at trail place ≡ Some p → HasPlace log F p
-found log F trail zero p h at = absurd cc
-found log F trail (suc k) p h at = at_place log F trail k p h at
+found log F trail place p h at = search (rules, at_place)

@@ -1,17 +1,13 @@
 -- The receipts of a pass stand in the trail.
-use Rattle.std.proofs.Common.{◌≡◌, ℕ, zero, suc, ◌-◌, ◌<◌, List, [], ◌∷◌, ap, subst, arith, Some}
+use Rattle.std.proofs.Common.{◌≡◌, ℕ, ◌-◌, ◌<◌, List, [], ◌∷◌, Some, rules}
 use Rattle.std.specs.Prelude.{slice_get}
 use Rattle.std.specs.List.{AllByRecursion}
 use Rattle.node_lock.specs.Trail.{Entry, Receipt, HasReceipts}
 use Rattle.node_cell.specs.Laws.{receipt_of}
-use Rattle.node_cell.specs.Settling.{entry_place, found_at, Stands}
-
-at_index : (trail : List Entry) (k pass p : ℕ) → slice_get trail k ≡ Some (pass, p) → entry_place (slice_get trail k) ≡ Some p
-at_index trail k pass p at = ap entry_place at
+use Rattle.node_cell.specs.Settling.{found_at, Stands}
 
 at_place : (trail : List Entry) (place pass p : ℕ) → 0 < place → slice_get trail (place - 1) ≡ Some (pass, p) → found_at trail place ≡ Some p
-at_place trail zero pass p l at = absurd (omega (arith, l))
-at_place trail (suc k) pass p l at = let e : suc k - 1 ≡ k = omega arith in at_index trail k pass p (subst (λ n. slice_get trail n ≡ Some (pass, p)) e at)
+at_place trail place pass p l at = search rules
 
 pub each : (trail : List Entry) (pass : ℕ) (list : List Receipt) → HasReceipts trail pass list → AllByRecursion (λ r. Stands trail (receipt_of r)) list
 each trail pass [] has = tt

@@ -1,4 +1,4 @@
-use Rattle.std.proofs.Common.{◌≡◌, get_or, true, false, sym, ◌∙◌}
+use Rattle.std.proofs.Common.{◌≡◌, get_or, true, false, sym, ◌∙◌, rules}
 use Rattle.redo_core.proofs.Scans.{whole}
 use Rattle.redo_core.specs.Keys.{KeyBefore}
 use Rattle.redo_core.specs.declared.keys.Key.{Key}
@@ -16,10 +16,7 @@ returns-then-not-is_covered c =
     (λ p. let e : true ≡ false = sym (c.is_covered.ensures.1 p) ∙ c.if-not-is_covered.true in cc)
 
 pub loop-key-preserved : goal.loop-key-preserved
-loop-key-preserved c =
-    let keys = c.args.keys.now in let i = c.loop-key.key-index in let none : Key = record { epoch = 0; number = 0 } in
-    next_passes (IsCovered c.args.segment.now c.args.anchor) keys i (get_or keys i none) c.is_covered.result c.loop-key-test.true
-    (get_or_default keys i none (get_or keys i none) c.loop-key-test.true) c.if-not-is_covered.false c.is_covered.ensures c.loop-key.invariant
+loop-key-preserved c = search (rules, next_passes)
 
 pub returns : goal.returns
 returns c = whole (IsCovered c.args.segment.now c.args.anchor) c.args.keys.now c.loop-key.key-index c.loop-key-test.false c.loop-key.invariant

@@ -1,11 +1,10 @@
+use Rattle.std.proofs.Common.{rules}
 use Rattle.std.proofs.lemmas.Result.{IfOk-weaker}
 use Rattle.gossip_core.proofs.Summed.{of_meaning}
 use Rattle.gossip_core.proofs.summaries.summary.Goals as goal
 
 pub returns-clause-meaning : goal.returns-clause-meaning
-returns-clause-meaning c =
-    IfOk-weaker c.own_summary.result _ _ (λ x is m has. of_meaning c.args.segment.now m x c.own_summary.ensures.form is has)
-    c.own_summary.ensures.own
+returns-clause-meaning c = search (rules, IfOk-weaker, of_meaning)
 
 pub returns-clause-part : goal.returns-clause-part
 returns-clause-part c =

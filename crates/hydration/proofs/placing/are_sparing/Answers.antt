@@ -1,4 +1,4 @@
-use Rattle.std.proofs.Common.{refl}
+use Rattle.std.proofs.Common.{refl, rules}
 use Rattle.redo_core.proofs.Scans.{whole, one_more}
 use Rattle.redo_core.specs.Standing.{SparesIn}
 use Rattle.hydration.proofs.placing.are_sparing.Goals as goal
@@ -8,8 +8,4 @@ loop-cut-preserved c = one_more (SparesIn c.args.complete c.args.redo.now.epoch 
     c.loop-cut-test.true c.cut-item.is c.loop-cut.invariant (c.if-not-is_sparing.ensures.0 refl)
 
 pub returns : goal.returns
-returns c = (
-  λ h. whole (SparesIn c.args.complete c.args.redo.now.epoch c.args.redo.now.number) c.args.cuts.now c.loop-cut.cut-index
-      c.loop-cut-test.false c.loop-cut.invariant,
-  λ h. refl,
-)
+returns c = search (rules, whole)

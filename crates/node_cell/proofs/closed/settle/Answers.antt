@@ -1,4 +1,4 @@
-use Rattle.std.proofs.Common.{subst}
+use Rattle.std.proofs.Common.{subst, rules}
 use Rattle.redo_core.proofs.Scans.{one_more, whole}
 use Rattle.node_cell.specs.Settling.{Stands}
 use Rattle.node_cell.proofs.closed.settle.Goals as goal
@@ -11,5 +11,4 @@ loop-receipt-preserved g c =
     (subst (λ k. Stands k.trail item) c.closed.view_is c.in_ok-seek.ensures.ok)
 
 pub returns-clause-ok : goal.returns-clause-ok
-returns-clause-ok g c =
-    whole (Stands c.args.closed.now.trail) c.args.receipts.now c.loop-receipt.receipt-index c.loop-receipt-test.false c.loop-receipt.invariant
+returns-clause-ok g c = search (rules, whole)

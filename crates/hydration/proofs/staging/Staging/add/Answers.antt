@@ -1,4 +1,4 @@
-use Rattle.std.proofs.Common.{◌≡◌, ℕ, true, false, ⊎_elim, List, Option, Some, None, Bor, refl, sym, ap, ◌∙◌, subst, arith}
+use Rattle.std.proofs.Common.{◌≡◌, ℕ, true, false, ⊎_elim, List, Option, Some, None, Bor, refl, sym, ap, ◌∙◌, subst, arith, rules}
 use Rattle.std.specs.Option.{option_copied, is_some}
 use Rattle.std.specs.Ordering.{nat_cmp}
 use Rattle.std.specs.BTreeMap.{is_at}
@@ -6,8 +6,7 @@ use Rattle.std.specs.Map.{lookup}
 use Rattle.std.proofs.lemmas.Bool.{cases_eq}
 use Rattle.std.proofs.lemmas.Grind.{common_steps}
 use Rattle.messages.specs.Pieces.{PieceData, IsPiece}
-use Rattle.hydration.specs.Stagings.{staging_of, IsStaging, IsStranger, RefusesPiece}
-use Rattle.hydration.specs.declared.staging.AddFault.TheVariants.{Double}
+use Rattle.hydration.specs.Stagings.{staging_of, IsStaging, IsStranger}
 use Rattle.hydration.proofs.staging.Staging.add.Goals as goal
 
 is_elsewhere : (a b : ℕ) → (a ≡ b → ⊥) → is_at (nat_cmp a) b ≡ false
@@ -16,10 +15,7 @@ is_elsewhere a b ne = grind (arith, common_steps)
 -- what is staged of the piece that comes
 staged : (name total index : ℕ) (pieces : List (ℕ × PieceData)) (own p : PieceData) → Some own ≡ Some p → own.index ≡ index → own.name ≡ name
     → own.total ≡ total → IsPiece own → (p.index ≡ index) × (IsStranger (staging_of name total pieces) p → ⊥) × IsPiece p
-staged name total index pieces own p is at named counted shape =
-    let same : own ≡ p = cc in
-    subst (λ (q : PieceData). (q.index ≡ index) × (IsStranger (staging_of name total pieces) q → ⊥) × IsPiece q) same
-    (at, λ s. ⊎_elim (λ ne. ne named) (λ ne. ne counted) s, shape)
+staged name total index pieces own p is at named counted shape = search rules
 
 pub invariant_of-self : goal.invariant_of-self
 invariant_of-self c = λ index p is.
@@ -49,14 +45,7 @@ already (Some x) is = (x.now, refl)
 already None is = absurd (grind (arith, is))
 
 pub returns-then-is_some-clause-refused : goal.returns-then-is_some-clause-refused
-returns-then-is_some-clause-refused c =
-    let p = c.args.piece in let index = c.index-index.result in
-    let named : p.name ≡ c.self.inside.name = (cc) in
-    let counted : p.total ≡ c.self.inside.total = (cc) in
-    let own = already c.get.result (sym c.is_some.ensures ∙ c.if-is_some.true) in
-    let refuses : RefusesPiece (staging_of c.self.inside.name c.self.inside.total c.self.inside.pieces.entries) p (Double index) =
-    (λ s. ⊎_elim (λ ne. ne named) (λ ne. ne counted) s, c.index-index.ensures.index, (own.0, sym c.get.ensures.value ∙ own.1)) in
-    subst (RefusesPiece c.args.self.now p) (sym c.refused-then-is_some.ensures.fault) (subst (λ s. RefusesPiece s p (Double index)) c.self.view_is refuses)
+returns-then-is_some-clause-refused c = search (rules, already)
 
 pub returns-in-Ok-clause-form : goal.returns-in-Ok-clause-form
 returns-in-Ok-clause-form c = invariant_of-self c

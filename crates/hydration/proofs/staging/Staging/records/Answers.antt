@@ -1,20 +1,15 @@
-use Rattle.std.proofs.Common.{◌≡◌, ◌+◌, ◌<◌, ◌≤◌, ◌++◌, List, [], Some, sym, subst}
+use Rattle.std.proofs.Common.{◌≡◌, ◌+◌, ◌<◌, ◌≤◌, ◌++◌, List, Some, sym, subst, rules}
 use Rattle.redo_core.specs.Data.{RecordData}
 use Rattle.redo_core.specs.Order.{IsRising, RecordBefore}
 use Rattle.messages.specs.Pieces.{PieceData}
 use Rattle.hydration.specs.Stagings.{StagingData, piece_at, IsStaging}
 use Rattle.hydration.specs.Hydrating.{records_of}
-use Rattle.hydration.proofs.Brought.{AreBelow, below_none, below_more, rises_more, lists_all}
+use Rattle.hydration.proofs.Brought.{AreBelow, below_more, rises_more, lists_all}
 use Rattle.hydration.proofs.staging.Staging.records.Goals as goal
 use Rattle.hydration.proofs.staging.Staging.records.Goals.{in-Some+in_ok-add_records, in_default}
 
 pub loop-index-init : goal.loop-index-init
-loop-index-init c =
-    let none : [] ≡ c.new-records.result.items = sym c.new-records.ensures.items in
-    record {
-      members = subst (AreBelow records_of c.args.self.now 0) none (below_none records_of c.args.self.now);
-      rising = subst (IsRising RecordBefore) none tt;
-    }
+loop-index-init c = search rules
 
 pub loop-index-preserved : goal.loop-index-preserved
 loop-index-preserved c =

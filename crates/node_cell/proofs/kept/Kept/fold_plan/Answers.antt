@@ -1,6 +1,5 @@
-use Rattle.std.proofs.Common.{subst, sym, ap, ◌∙◌}
+use Rattle.std.proofs.Common.{subst, sym, ap, ◌∙◌, rules}
 use Rattle.state_laws.specs.Means.{MeansAt}
-use Rattle.node_cell.specs.Folding.{IsFoldOfLog}
 use Rattle.node_cell.proofs.Keeping.{fold_of_log}
 use Rattle.node_cell.proofs.kept.Kept.fold_plan.Goals as goal
 
@@ -13,16 +12,7 @@ new-requires g c =
     (subst (MeansAt g.L.LogName.roster g.L.LogName.log k.facts k.means.0) (sym (c.segment.ensures ∙ ap (λ x. x.segment) c.deref.ensures)) m))
 
 pub returns-in-Ok-clause-fold : goal.returns-in-Ok-clause-fold
-returns-in-Ok-clause-fold g c =
-    let k = c.self.invariant in
-    let m = k.means.1 in
-    subst (IsFoldOfLog g.L.LogName.roster g.L.LogName.log) (sym c.new.ensures)
-    (fold_of_log g.L.LogName.roster g.L.LogName.log k.facts k.means.0 c.args.page c.in-Ok.plan m.part m.position
-    (c.in-Ok.ensures.result g.L.LogName.roster g.L.LogName.log k.facts k.means.0 g.met.L.LogName.sound
-    (subst (MeansAt g.L.LogName.roster g.L.LogName.log k.facts k.means.0) (sym (c.segment.ensures ∙ ap (λ x. x.segment) c.deref.ensures)) m)))
+returns-in-Ok-clause-fold g c = search rules
 
 pub returns-in-Ok-clause-page : goal.returns-in-Ok-clause-page
-returns-in-Ok-clause-page g c =
-    let k = c.self.invariant in
-    ap (λ f. f.page) c.new.ensures ∙ (c.in-Ok.ensures.result g.L.LogName.roster g.L.LogName.log k.facts k.means.0 g.met.L.LogName.sound
-    (subst (MeansAt g.L.LogName.roster g.L.LogName.log k.facts k.means.0) (sym (c.segment.ensures ∙ ap (λ x. x.segment) c.deref.ensures)) k.means.1)).page_is
+returns-in-Ok-clause-page g c = search rules

@@ -1,6 +1,5 @@
-use Rattle.std.proofs.Common.{subst, sym, ◌≡◌, []}
+use Rattle.std.proofs.Common.{subst, sym, [], rules}
 use Rattle.state_laws.specs.Means.{Means}
-use Rattle.node_cell.specs.Kept.{MeansTrail}
 use Rattle.node_cell.proofs.Keeping.{none_kept}
 use Rattle.node_cell.proofs.kept.Kept.new.Goals as goal
 
@@ -13,12 +12,7 @@ returns-clause-empty g c =
     subst (Means roster log []) (sym c.in_ok-cached.ensures) means
 
 pub invariant_of-result : goal.invariant_of-result
-invariant_of-result g c =
-    let roster = g.L.LogName.roster in
-    let log = g.L.LogName.log in
-    let s = c.in_ok-cached.cached.value.segment in
-    let items : c.new-2.result.items ≡ [] = c.new-2.ensures.items in
-    subst (MeansTrail roster log s) (sym items) (none_kept roster log s (returns-clause-empty g c))
+invariant_of-result g c = search (rules, none_kept, returns-clause-empty)
 
 pub returns-clause-keeps : goal.returns-clause-keeps
 returns-clause-keeps g c = invariant_of-result g c

@@ -1,6 +1,5 @@
-use Rattle.std.proofs.Common.{subst, sym, ap, ◌∙◌}
+use Rattle.std.proofs.Common.{subst, sym, ap, ◌∙◌, rules}
 use Rattle.state_laws.specs.Means.{MeansAt}
-use Rattle.node_cell.specs.Gossiping.{IsMail}
 use Rattle.node_cell.proofs.kept.Kept.reply.Goals as goal
 
 pub new-requires : goal.new-requires
@@ -18,16 +17,4 @@ new-requires g c =
     }
 
 pub returns-in-Ok-clause-mail : goal.returns-in-Ok-clause-mail
-returns-in-Ok-clause-mail g c =
-    let roster = g.L.LogName.roster in
-    let log = g.L.LogName.log in
-    let k = c.self.invariant in
-    let m = k.means.1 in
-    subst (IsMail roster log) (sym c.new.ensures) (record {
-      facts = k.facts;
-      p = k.means.0;
-      part = m.part;
-      position = m.position;
-      sent = c.in-Ok.ensures.fills roster log k.facts k.means.0 g.met.L.LogName.sound
-          (subst (MeansAt roster log k.facts k.means.0) (sym (c.segment.ensures ∙ ap (λ x. x.segment) c.deref.ensures)) m);
-    })
+returns-in-Ok-clause-mail g c = search rules
