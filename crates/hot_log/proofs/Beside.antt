@@ -39,9 +39,6 @@ one_passed b all left rest x p is dead = record {
       (Contains-append_cases p.passed (x ∷ []) e h);
 }
 
-pub to_alive : (b : BookData) (all left rest : List Entry) (x : Entry) → IsPassed b all left → left ≡ x ∷ rest → IsAlive b.cuts b.complete x.0.epoch x.0.number → PassesToAlive b all (Some x.0) rest
-to_alive b all left rest x p is alive = (alive, (p.passed, x.1, p.split ∙ ap (λ (l : List Entry). p.passed ++ l) is, p.none))
-
 pub all_passed : (b : BookData) (all left rest : List Entry) → IsPassed b all left → left ≡ [] → PassesToAlive b all None rest
 all_passed b all left rest p is = subst (NoneAlive b) (sym (p.split ∙ ap (λ (l : List Entry). p.passed ++ l) is ∙ append-nil p.passed)) p.none
 

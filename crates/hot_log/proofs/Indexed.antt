@@ -1,7 +1,7 @@
 -- What keeps an index the index of the held records.
-use Rattle.std.proofs.Common.{◌≡◌, ℕ, ◌⊎◌, ◌↔◌, inl, inr, ⊎_elim, List, [], refl, sym, ◌∙◌, ap, subst, Option, Some, None, Bool, true, false, Result, rules}
+use Rattle.std.proofs.Common.{◌≡◌, ℕ, ◌⊎◌, ◌↔◌, inl, inr, ⊎_elim, List, refl, sym, ◌∙◌, ap, subst, Option, Some, None, Bool, true, false, Result, rules}
 use Rattle.std.specs.Option.{is_some}
-use Rattle.std.specs.Result.{is_err, OnOk, OnErr}
+use Rattle.std.specs.Result.{is_err, OnOk}
 use Rattle.std.specs.List.{Contains}
 use Rattle.redo_core.specs.Data.{RecordData}
 use Rattle.redo_core.specs.Keys.{key_in, key_of, KeyBefore}
@@ -69,18 +69,11 @@ index_shrinks f old new keys less redo g e n form is among key p removes loses =
       (t.0, (removes t.0).1 (t.1, other), t.2, t.3);
 }
 
--- no record, no key
-pub index_of_none : (f : RecordData → ℕ) (held : List RecordData) (keys : List Place) → held ≡ [] → keys ≡ [] → IsIndexBy f held keys
-index_of_none f held keys p q = search rules
-
 pub removes_none : (held : List RecordData) (e n : ℕ) → IsRecordAt held (key_in e n) None → Removes (HasKey (key_in e n)) held held
 removes_none held e n none r = (λ h. (h, λ k. none r h k), λ h. h.0)
 
 pub on_ok : {T E : Type 0} (r : Result T E) (b : Bool) (P : Type 0) → b ≡ is_err r → b ≡ false → OnOk r P → P
 on_ok r b P e f h = search rules
-
-pub on_err : {T E : Type 0} (r : Result T E) (b : Bool) (P : Type 0) → b ≡ is_err r → b ≡ true → OnErr r P → P
-on_err r b P e f h = search rules
 
 pub none_for : (held : List RecordData) (e n a b : ℕ) → e ≡ a → n ≡ b → IsRecordAt held (key_in e n) None → IsRecordAt held (key_in a b) None
 none_for held e n a b p q none r h key = none r h (key.0 ∙ sym p, key.1 ∙ sym q)
@@ -150,9 +143,6 @@ pages_shrink old new keys less e n is removes loses = record {
       let key : key_of t.0 ≡ key_in a b = ap (λ (x : ℕ). key_in x t.0.number) t.2.0 ∙ ap (λ (x : ℕ). key_in a x) t.2.1 in
       (t.0, (removes t.0).1 (t.1, λ k. l.1 (sym key ∙ ap (λ (x : ℕ). key_in x t.0.number) k.0 ∙ ap (λ (x : ℕ). key_in e x) k.1)), t.2, t.3);
 }
-
-pub pages_of_none : (held : List RecordData) (keys : List (Key × ℕ)) → held ≡ [] → keys ≡ [] → IsKeyPages held keys
-pages_of_none held keys p q = search rules
 
 -- whether the key that was given a page had one
 pub had_page : (o : Option ℕ) (b : Bool) (old new : List (Key × ℕ)) (key : Key) (page : ℕ) → b ≡ is_some o → b ≡ true → AddsPage old key page new o → (p : ℕ) × Contains old (key, p)

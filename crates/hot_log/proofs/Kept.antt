@@ -1,5 +1,5 @@
 -- Going over the keys above one, and what is kept of them.
-use Rattle.std.proofs.Common.{◌≡◌, ℕ, ◌<◌, ◌≤◌, ◌⊎◌, ◌↔◌, inl, inr, ⊎_elim, List, [], ◌∷◌, ◌++◌, map, refl, sym, ap, ◌∙◌, subst, arith, rules}
+use Rattle.std.proofs.Common.{◌≡◌, ℕ, ◌<◌, ◌≤◌, ◌⊎◌, ◌↔◌, inl, inr, ⊎_elim, List, [], ◌∷◌, ◌++◌, map, refl, sym, ap, ◌∙◌, subst, arith}
 use Rattle.std.proofs.lemmas.Grind.{common_steps}
 use Rattle.std.specs.List.{Contains, filter}
 use Rattle.std.proofs.lemmas.List.Elements.{Contains-append_right}
@@ -33,9 +33,6 @@ KeptIn b point xs k = ((page : ℕ) × Contains xs (k, page)) × KeepsKey b poin
 
 abbrev pub ListsKept : BookData → ℕ → List Entry → List Key → Type 0
 ListsKept b point xs keys = Lists KeyBefore (KeptIn b point xs) keys
-
-pub kept_none : (b : BookData) (point : ℕ) (keys : List Key) → keys ≡ [] → ListsKept b point [] keys
-kept_none b point keys is = search rules
 
 -- the entries in front of one in a range have lower keys
 in_front : (m : Map) (above : Key) (es xs rest : List Entry) (x : Entry) → IsStrictlySortedBy key_cmp (keys_of m)

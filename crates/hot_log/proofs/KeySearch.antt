@@ -24,9 +24,6 @@ both p q h = search rules
 pub are_one : (k l : Key) → (eqb k.epoch l.epoch && eqb k.number l.number) ≡ true → k ≡ l
 are_one k l same = search rules
 
-above_key : (k l : Key) → (l.epoch < k.epoch) ⊎ ((k.epoch ≡ l.epoch) × (l.number < k.number)) → KeyBefore l k
-above_key k l h = grind arith
-
 key_ranked : (k l : Key) → MatchOrdering (key_cmp k l) (KeyBefore k l) (k ≡ l) (KeyBefore l k)
 key_ranked k l = search rules
 

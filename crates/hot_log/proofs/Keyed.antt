@@ -96,10 +96,6 @@ last_to m to x t ordered is =
           (f.2 (key_in e n, page) h (kept_to to e n not)),
     )
 
--- the greatest key
-pub no_greatest : (m : Map) → m ≡ [] → IsGreatestOf m None
-no_greatest m is e n page h = none_in (key_in e n, page) (subst (λ (l : List Entry). Contains l (key_in e n, page)) is h)
-
 pub greatest_of : (m : Map) (x : Entry) (t : List Entry) → IsStrictlySortedBy key_cmp (keys_of m) → m ≡ t ++ x ∷ [] → IsGreatestOf m (Some x.0)
 greatest_of m x t ordered is =
     let last = last_of (λ (x y : Entry). key_cmp x.0 y.0 ≡ Less) m x t (rising_entries key_cmp m ordered) is in (

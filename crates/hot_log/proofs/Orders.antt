@@ -3,7 +3,7 @@ use Rattle.std.proofs.Common.{◌≡◌, ℕ, ◌<◌, ◌⊎◌, inl, inr, ⊎_
 use Rattle.std.proofs.lemmas.Grind.{common_steps}
 use Rattle.std.specs.List.{Contains, filter}
 use Rattle.std.specs.List.Sorted.{IsStrictlySortedBy}
-use Rattle.std.specs.Ordering.{nat_cmp, ordering_then}
+use Rattle.std.specs.Ordering.{nat_cmp}
 use Rattle.std.specs.Cmp.{IsTotalOrder, nat_cmp_total, then_total, on_total}
 use Rattle.std.specs.declared.cmp.Ordering.{Ordering}
 use Rattle.std.specs.declared.cmp.Ordering.TheVariants.{Less, Equal}
@@ -22,9 +22,6 @@ key_total = then_total (on_total (λ (t : Key). t.epoch) nat_cmp_total) (on_tota
 
 pub place_total : IsTotalOrder place_cmp
 place_total = then_total (on_total (λ (t : ℕ × Key). t.0) nat_cmp_total) (on_total (λ (t : ℕ × Key). t.1) key_total)
-
-both_equal : (o p : Ordering) → ordering_then o p ≡ Equal → (o ≡ Equal) × (p ≡ Equal)
-both_equal o p h = search rules
 
 pub key_exact : CmpEqualImpliesEq key_cmp
 key_exact k l h = search rules
@@ -49,21 +46,6 @@ key_less x y h = grind arith
 
 pub key_less_of : (x y : Key) → KeyBefore x y → key_cmp x y ≡ Less
 key_less_of x y h = grind arith
-
-then_less : (o p : Ordering) → ordering_then o p ≡ Less → (o ≡ Less) ⊎ ((o ≡ Equal) × (p ≡ Less))
-then_less o p h = search rules
-
-less_then : (o p : Ordering) → (o ≡ Less) ⊎ ((o ≡ Equal) × (p ≡ Less)) → ordering_then o p ≡ Less
-less_then o p h = search rules
-
-nat_less : (a b : ℕ) → nat_cmp a b ≡ Less → a < b
-nat_less a b h = grind arith
-
-nat_less_of : (a b : ℕ) → a < b → nat_cmp a b ≡ Less
-nat_less_of a b h = grind arith
-
-nat_same : (a b : ℕ) → a ≡ b → nat_cmp a b ≡ Equal
-nat_same a b h = grind arith
 
 pub place_less : (x y : ℕ × Key) → place_cmp x y ≡ Less → (x.0 < y.0) ⊎ ((x.0 ≡ y.0) × KeyBefore x.1 y.1)
 place_less x y h = search rules

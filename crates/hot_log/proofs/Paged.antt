@@ -300,8 +300,5 @@ shrunk_paged old new page key s = record {
     was : (r : RecordData) → Contains (records_in new) r → Contains (records_in old) r
     was r h = (in_order (records_in old) r).0 ((shrunk_members old new page key s r).0 ((in_order (records_in new) r).1 h)).0
 
-pub empty_paged : (m : Map) → IsStrictlySortedBy place_cmp (keys_of m) → m ≡ [] → IsPaged m
-empty_paged m ordered e = search rules
-
 pub same_paged : (m n : Map) → IsPaged m → IsStrictlySortedBy place_cmp (keys_of n) → n ≡ m → IsPaged n
 same_paged m n is ordered e = search rules

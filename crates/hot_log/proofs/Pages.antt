@@ -1,5 +1,5 @@
 -- The records of a page, one after the other.
-use Rattle.std.proofs.Common.{◌≡◌, ℕ, ◌<◌, ◌≤◌, ◌↔◌, ⊎_elim, List, [], sym, ap, subst, arith, Some, Result, IfOk, rules}
+use Rattle.std.proofs.Common.{◌≡◌, ℕ, ◌<◌, ◌≤◌, ◌↔◌, ⊎_elim, List, [], sym, subst, arith, Result, IfOk, rules}
 use Rattle.std.proofs.lemmas.Bool.{cases_lt}
 use Rattle.redo_core.specs.Data.{RecordData}
 use Rattle.redo_core.specs.Keys.{key_in, key_of, KeyBefore}
@@ -7,8 +7,7 @@ use Rattle.redo_core.specs.Order.{Lists, BeforeByNumber, PairBefore}
 use Rattle.redo_core.proofs.Members.{none_in}
 use Rattle.redo_core.proofs.Listing.{lists_as}
 use Rattle.epoch_book.specs.Book.{BookData}
-use Rattle.hot_log.specs.Alive.{IsHeldOf, IsPageAlive, IsAliveBetween, PartsAt}
-use Rattle.hot_log.specs.Found.{IsLeastRecord}
+use Rattle.hot_log.specs.Alive.{IsHeldOf, IsAliveBetween, PartsAt}
 
 -- what was answered, under another property
 pub if_ok : {T E : Type 0} (r : Result T E) (P Q : T → Type 0) → ((v : T) → P v → Q v) → IfOk r P → IfOk r Q
@@ -56,6 +55,3 @@ none_between b held page from to low high xs above up apart is =
   where
     rise : (a b c d e n : ℕ) → PairBefore a b e n → (PairBefore c d e n → ⊥) → a ≤ c
     rise a b c d e n p q = grind arith
-
-pub least_over : (b : BookData) (held : List RecordData) (page at to : ℕ) (x : RecordData) → IsLeastRecord (λ r. IsPageAlive b held page r × (at < r.number)) (Some x) → to < x.number → (r : RecordData) → IsPageAlive b held page r × (at < r.number) → to < r.number
-least_over b held page at to x found over r h = ⊎_elim (λ (e : r ≡ x). let same : r.number ≡ x.number = ap (λ (y : RecordData). y.number) e in omega arith) (λ (l : x.number < r.number). omega arith) (found.1 r h)

@@ -1,9 +1,7 @@
 -- What ranges of a map by page and key hold.
-use Rattle.std.proofs.Common.{◌≡◌, ℕ, ◌+◌, ◌<◌, ◌≤◌, ◌⊎◌, ◌↔◌, inl, inr, ⊎_elim, List, [], ◌∷◌, ◌++◌, sym, ◌∙◌, ap, subst, arith, Bool, true, not, ◌&&◌, Option, Some, None, rules}
+use Rattle.std.proofs.Common.{◌≡◌, ℕ, ◌+◌, ◌<◌, ◌≤◌, ◌⊎◌, ◌↔◌, inl, inr, ⊎_elim, List, [], ◌∷◌, ◌++◌, sym, ◌∙◌, ap, subst, arith, Bool, true, Option, Some, None, rules}
 use Rattle.std.proofs.lemmas.Grind.{common_steps}
 use Rattle.std.specs.List.{Contains, filter}
-use Rattle.std.specs.Ordering.{is_lt}
-use Rattle.std.specs.declared.cmp.Ordering.{Ordering}
 use Rattle.std.specs.declared.cmp.Ordering.TheVariants.{Less}
 use Rattle.std.specs.declared.ops.Bound.TheVariants.{Included, Excluded, Unbounded}
 use Rattle.std.specs.BTreeMap.Range.{range_contains}
@@ -14,7 +12,7 @@ use Rattle.redo_core.specs.declared.keys.Key.{Key}
 use Rattle.redo_core.specs.Order.{IsRising, Lists, BeforeByNumber, RecordBefore}
 use Rattle.redo_core.specs.Standing.{IsAlive}
 use Rattle.std.proofs.lemmas.List.Elements.{Contains-append_left, Contains-append_right}
-use Rattle.redo_core.proofs.Members.{none_in, here, filtered, passed}
+use Rattle.redo_core.proofs.Members.{here, filtered, passed}
 use Rattle.redo_core.proofs.Listing.{lists_push, lists_as}
 use Rattle.redo_core.proofs.Rising.{rising_filter}
 use Rattle.epoch_book.specs.Book.{BookData, IsBook}
@@ -100,13 +98,6 @@ page_is m after from x t paged up is =
 pub past_pages : (m : Map) (page : ℕ) → IsPaged m → (page + 1 < 65536 → ⊥) → IsPageAfter (seen m) (Some page) None
 past_pages m page paged over r h above = over (let fits : r.page < 65536 = paged.fits r ((in_order (records_in m) r).0 h) in let up : page < r.page = above in omega arith)
 
--- the keys of a page above one and up to another
-both : (o p : Ordering) → (is_lt o && not (is_lt p)) ≡ true → (o ≡ Less) × (p ≡ Less → ⊥)
-both o p h = search rules
-
-both_of : (o p : Ordering) → (o ≡ Less) × (p ≡ Less → ⊥) → (is_lt o && not (is_lt p)) ≡ true
-both_of o p h = search rules
-
 pub record InPage (group : ℕ) (low high : Key) (q : Place) : Type 0 where
   pub page : q.0 ≡ group
   pub above : KeyBefore low q.1
@@ -141,9 +132,6 @@ AliveIn b es r = Contains (records_in es) r × IsAlive b.cuts b.complete r.epoch
 
 abbrev pub ListsAlive : BookData → List Entry → List RecordData → Type 0
 ListsAlive b es ys = Lists BeforeByNumber (AliveIn b es) ys
-
-pub alive_none : (b : BookData) (ys : List RecordData) → ys ≡ [] → ListsAlive b [] ys
-alive_none b ys is = subst (λ (l : List RecordData). ListsAlive b [] l) (sym is) (record { rising = tt; members = λ r. (λ h. absurd (none_in r h), λ h. absurd (none_in r h.0)) })
 
 pub joined : (xs : List Entry) (x : Entry) (r : RecordData) → Contains (records_in (xs ++ x ∷ [])) r ↔ (Contains (records_in xs) r ⊎ (r ≡ x.1))
 joined xs x r = grind (arith, common_steps)

@@ -69,9 +69,6 @@ pub record Left (P : RecordData → Type 0) (held : List RecordData) (keys : Lis
   pub removes : Removes P held left
   pub indexed : IsIndexed left keys backs
 
-left_none : (P : RecordData → Type 0) (held : List RecordData) (keys : List (Key × ℕ)) (backs : List Place) → IsIndexed held keys backs → ((r : RecordData) → Contains held r → P r → ⊥) → Left P held keys backs
-left_none P held keys backs is none = record { left = held; removes = λ r. (λ h. (h, none r h), λ h. h.0); indexed = is }
-
 left_as : (P Q : RecordData → Type 0) (held : List RecordData) (keys : List (Key × ℕ)) (backs : List Place) → ((r : RecordData) → Contains held r → P r ↔ Q r) → Left P held keys backs → Left Q held keys backs
 left_as P Q held keys backs same is = record {
   left = is.left;

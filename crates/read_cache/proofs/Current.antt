@@ -1,8 +1,7 @@
 -- The images that stay current where a segment changes.
-use Rattle.std.proofs.Common.{◌≡◌, ℕ, ◌<◌, ◌≤◌, ◌⊎◌, ◌↔◌, inl, ⊎_elim, Bool, true, false, true≢false, IsTrue, List, [], Result, Ok, Err, IfOk, OnErr, refl, max, sym, ap, ◌∙◌, subst, arith}
+use Rattle.std.proofs.Common.{◌≡◌, ℕ, ◌<◌, ◌≤◌, ◌⊎◌, ◌↔◌, inl, ⊎_elim, Bool, true, false, true≢false, IsTrue, List, [], Result, Ok, IfOk, OnErr, max, sym, ap, ◌∙◌, arith, rules}
 use Rattle.std.specs.List.{Contains}
 use Rattle.lru.specs.LruCache.{lru_cache}
-use Rattle.lru.proofs.Splits.{Contains-nil}
 use Rattle.redo_core.specs.Data.{RecordData}
 use Rattle.redo_core.specs.declared.facts.Fact.{Fact}
 use Rattle.redo_core.specs.declared.facts.Fact.TheVariants.{Record, Cut, Advance}
@@ -25,11 +24,7 @@ use Rattle.read_cache.proofs.Bounds.{at_most_bound}
 use Rattle.read_cache.proofs.Stable.{SameView, shows_as, linked_in}
 
 none_kept : (s : State) → IsUpToDate s 0 []
-none_kept s = record {
-  shown = λ e at. absurd (Contains-nil e at);
-  below = λ e at. absurd (Contains-nil e at);
-  linked = λ bound most. omega arith;
-}
+none_kept s = search rules
 
 pub is_shown : (s : State) (top : ℕ) (images : List (ℕ × KeptImage)) → IsUpToDate s top images → (page : ℕ) (kept : KeptImage) → Contains images (page, kept)
     → IsShown s page kept
@@ -45,12 +40,7 @@ is_shown s top images u page kept at = record {
 pub unless_stale : (s : State) (stale : Bool) (old new : Images) (top low : ℕ)
     → (stale ≡ true → (new ≡ lru_cache [] old.cap) × (low ≡ 0)) → (stale ≡ false → (new ≡ old) × (low ≡ top))
     → (stale ≡ false → IsUpToDate s top old.entries) → IsUpToDate s low new.entries
-unless_stale s true old new top low cleared same current =
-    let c = cleared refl in
-    subst (λ (i : Images). IsUpToDate s low i.entries) (sym c.0) (subst (λ n. IsUpToDate s n []) (sym c.1) (none_kept s))
-unless_stale s false old new top low cleared same current =
-    let c = same refl in
-    subst (λ (i : Images). IsUpToDate s low i.entries) (sym c.0) (subst (λ n. IsUpToDate s n old.entries) (sym c.1) (current refl))
+unless_stale s stale old new top low cleared same current = search (rules, none_kept)
 
 -- a record above each kept point
 after_record : (old new : State) (r : RecordData) (top : ℕ) (images : List (ℕ × KeptImage)) → PutsRecord old r new → top < r.number → IsUpToDate old top images
@@ -98,10 +88,7 @@ pub after_take : (old new : State) (fact : Fact) (top : ℕ) (images : List (ℕ
     → Touches fact top touched → IsTrue stale ↔ (IsTrue touched × (result ≡ Ok Changed))
     → IfOk result (λ taken. taken ≡ Changed → Stores old fact new) → IfOk result (λ taken. taken ≡ Unchanged → new ≡ old) → OnErr result (new ≡ old)
     → stale ≡ false → IsUpToDate old top images → IsUpToDate new top images
-after_take old new fact top images touched stale (Err e) t is stores idle unchanged fresh u = rw unchanged u
-after_take old new fact top images touched stale (Ok Unchanged) t is stores idle unchanged fresh u = rw (idle refl) u
-after_take old new fact top images true stale (Ok Changed) t is stores idle unchanged fresh u = absurd (true≢false (sym (is.1 (refl, refl)) ∙ fresh))
-after_take old new fact top images false stale (Ok Changed) t is stores idle unchanged fresh u = stored old new fact top images false t refl (stores refl) u
+after_take old new fact top images touched stale result t is stores idle unchanged fresh u = search (rules, stored)
 
 -- a page that takes an image, and whose own is let go
 pub after_commit : (old new : State) (folded : Folded) (top : ℕ) (before after : Images) → Commits old folded new → Forgets before folded.page after

@@ -1,5 +1,5 @@
 -- The images of a cache, one by one.
-use Rattle.std.proofs.Common.{◌≡◌, ◌≢◌, ℕ, Bool, true, false, ◌⊎◌, inl, inr, List, [], ◌∷◌, Contains, nat_eq, Some, Result, Ok, Err, OnOk, OnErr, refl, sym, subst}
+use Rattle.std.proofs.Common.{◌≡◌, ◌≢◌, ℕ, Bool, true, false, ◌⊎◌, inl, inr, List, [], ◌∷◌, Contains, nat_eq, Some, Result, Ok, Err, OnOk, OnErr, refl, sym, subst, rules}
 use Rattle.std.specs.List.{IsDistinct, AllByRecursion}
 use Rattle.std.specs.Map.{keys_of, lookup, remove_entry}
 use Rattle.std.proofs.lemmas.Map.Keys.{IsDistinct-head, IsDistinct-tail}
@@ -37,9 +37,7 @@ forgets page es d e at = (Contains-remove_entry (nat_eq page) es e at, λ same. 
 
 -- what is found under a page is kept there
 pub found : (page : ℕ) (es : List (ℕ × KeptImage)) (kept : KeptImage) → lookup (nat_eq page) es ≡ Some kept → Contains es (page, kept)
-found page es kept is =
-    let at = Contains-lookup (nat_eq page) es kept is in
-    subst (λ k. Contains es (k, kept)) (sym (eqb-true page at.0 at.2)) at.1
+found page es kept is = search (rules, Contains-lookup)
 
 pub put_one : (old : Images) (page : ℕ) (kept : KeptImage) (e : ℕ × KeptImage) → Contains (put_entries nat_eq old page kept) e
     → Contains old.entries e ⊎ (e ≡ (page, kept))

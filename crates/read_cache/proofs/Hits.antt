@@ -1,5 +1,5 @@
 -- What a read answers with an image that was kept.
-use Rattle.std.proofs.Common.{◌≡◌, ℕ, ◌<◌, ◌≤◌, ◌⊎◌, ⊎_elim, List, Result, Ok, Err, IfOk, IfErr, Contains, refl, sym, ◌∙◌, subst, arith}
+use Rattle.std.proofs.Common.{◌≡◌, ℕ, ◌<◌, ◌≤◌, ◌⊎◌, ⊎_elim, List, Result, Ok, Err, IfOk, IfErr, Contains, refl, sym, subst, arith, rules}
 use Rattle.redo_core.specs.Position.{Position}
 use Rattle.redo_core.specs.Sound.{IsSound}
 use Rattle.redo_core.specs.declared.facts.Fact.{Fact}
@@ -41,8 +41,7 @@ hit_result c page q (Ok image) h roster log facts p sound means =
 -- no other fault is told than want of memory
 not_told : (c : Cached) (page q : ℕ) (result : Result (List ℕ) ReadFault) → IsHit c page q result → (fault : ReadFault) → (fault ≡ Memory → ⊥)
     → result ≡ Err fault → ⊥
-not_told c page q (Ok image) h fault other e = cc
-not_told c page q (Err told) h fault other e = let m : told ≡ Memory = h.memory in let f : told ≡ fault = cc in other (sym f ∙ m)
+not_told c page q result h fault other e = search rules
 
 pub hit_outside : (c : Cached) (page q : ℕ) (result : Result (List ℕ) ReadFault) → IsHit c page q result → TellsOutside c.segment q result
 hit_outside c page q result h complete n has =
@@ -63,19 +62,7 @@ hit_broken c page q result h = record {
 pub hit_of : (c : Cached) (page q : ℕ) (copied : Result (List ℕ) AllocError) (result : Result (List ℕ) ReadFault) → min_of c.segment ≤ q
     → (found : (kept : KeptImage) × Contains c.images (page, kept) × (kept.point ≡ q) × IfOk copied (λ image. image ≡ kept.image))
     → IsShown c.segment page found.0 → IfOk result (λ image. copied ≡ Ok image) → IfErr result (λ fault. fault ≡ Memory) → IsHit c page q result
-hit_of c page q copied result reached found shown ok err = record {
-  reached = reached;
-  kept = found.0;
-  among = found.1;
-  at = found.2;
-  shown = shown;
-  image = image_of result ok;
-  memory = err;
-}
-  where
-    image_of : (r : Result (List ℕ) ReadFault) → IfOk r (λ image. copied ≡ Ok image) → IfOk r (λ image. image ≡ found.0.image)
-    image_of (Ok image) is = subst (λ (x : Result (List ℕ) AllocError). IfOk x (λ i. i ≡ found.0.image)) is found.3
-    image_of (Err fault) is = tt
+hit_of c page q copied result reached found shown ok err = search rules
 
 -- the point of an image that a read answered is not above the complete point
 pub covered_by : (s : State) (q : ℕ) (image : List ℕ) (result : Result (List ℕ) ReadFault) → result ≡ Ok image → TellsOutside s q result → (complete : ℕ)

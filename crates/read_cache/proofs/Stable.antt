@@ -1,5 +1,5 @@
 -- What a segment shows, where it knows and holds more or less.
-use Rattle.std.proofs.Common.{◌≡◌, ℕ, ◌<◌, ◌≤◌, ◌↔◌, List, sym, ap, ◌∙◌}
+use Rattle.std.proofs.Common.{◌≡◌, ℕ, ◌<◌, ◌≤◌, ◌↔◌, List, sym, ap, ◌∙◌, rules}
 use Rattle.std.specs.List.{Contains}
 use Rattle.redo_core.specs.Data.{RecordData}
 use Rattle.redo_core.specs.Order.{BeforeByNumber}
@@ -26,20 +26,8 @@ abbrev pub SameHeld : State → State → ℕ → ℕ → Type 0
 SameHeld s t page q = (r : RecordData) → IsAlive s.book.cuts s.book.complete r.epoch r.number → r.page ≡ page → version_of s.store page < r.number → r.number ≤ q
     → Contains s.held r ↔ Contains t.held r
 
-alive_as : (s t : State) → SameView s t → (r : RecordData)
-    → IsAlive s.book.cuts s.book.complete r.epoch r.number ↔ IsAlive t.book.cuts t.book.complete r.epoch r.number
-alive_as s t v r = rw (v.cuts, v.complete) (λ a. a, λ a. a)
-
-above_as : (s t : State) (page n : ℕ) → SameImage s t page → (version_of s.store page < n) ↔ (version_of t.store page < n)
-above_as s t page n i = rw i.version (λ a. a, λ a. a)
-
 applied_as : (s t : State) (page q : ℕ) → SameView s t → SameImage s t page → SameHeld s t page q → (r : RecordData) → IsApplied s page q r ↔ IsApplied t page q r
-applied_as s t page q v i held r =
-    let alive = alive_as s t v r in
-    let above = above_as s t page r.number i in (
-      λ h. ((held r h.1 h.2 h.3 h.4).0 h.0, alive.0 h.1, h.2, above.0 h.3, h.4),
-      λ h. ((held r (alive.1 h.1) h.2 (above.1 h.3) h.4).1 h.0, alive.1 h.1, h.2, above.1 h.3, h.4),
-    )
+applied_as s t page q v i held r = search rules
 
 pub shows_as : (s t : State) (page q : ℕ) (image : List ℕ) → SameView s t → SameImage s t page → SameHeld s t page q → Shows s page q image → Shows t page q image
 shows_as s t page q image v i held h = record {

@@ -1,5 +1,5 @@
 -- What the segment means after each request.
-use Rattle.std.proofs.Common.{◌≡◌, ℕ, ⊎_elim, List, [], ◌∷◌, refl, sym, subst, Option, Some, None, Result, Ok, Err, OnOk, OnErr, IfOk}
+use Rattle.std.proofs.Common.{◌≡◌, ℕ, ⊎_elim, List, [], ◌∷◌, sym, subst, Option, Some, None, Result, Ok, Err, OnOk, OnErr, IfOk, rules}
 use Rattle.std.specs.List.{Contains}
 use Rattle.redo_core.specs.Sound.{IsSound}
 use Rattle.redo_core.specs.declared.facts.Fact.{Fact}
@@ -12,17 +12,14 @@ use Rattle.state_laws.specs.Promises.{TakesFact, KeepsMeaning}
 use Rattle.state_laws.proofs.Bare.{empty_means}
 use Rattle.segment_core.specs.declared.answers.ReadFault.{ReadFault}
 use Rattle.segment_core.specs.declared.answers.Refusal.{Refusal}
-use Rattle.segment_core.specs.declared.answers.Refusal.TheVariants as refusal
 use Rattle.segment_core.specs.declared.answers.Taken.{Taken}
 use Rattle.segment_core.specs.declared.answers.Taken.TheVariants as taken
 use Rattle.gossip_core.specs.Absorbing.{MeansBoth}
 use Rattle.gossip_core.specs.declared.absorbing.AbsorbRefusal.{AbsorbRefusal}
-use Rattle.gossip_core.specs.declared.absorbing.AbsorbRefusal.TheVariants as absorb
 use Rattle.read_cache.specs.Cached.{Cached, cached}
 use Rattle.hydration.specs.Stagings.{StagingData}
 use Rattle.hydration.specs.Hydrating.{MeansFrozen}
 use Rattle.hydration.specs.declared.finishing.FinishFault.{FinishFault}
-use Rattle.hydration.specs.declared.finishing.FinishFault.TheVariants as finish
 use Rattle.replica.specs.declared.requests.Request.TheVariants as request
 use Rattle.replica.specs.declared.replies.Reply.{Reply}
 use Rattle.replica.specs.declared.replies.Reply.TheVariants as reply
@@ -55,11 +52,7 @@ opened roster log facts brought old new readers told size opens m =
 
 -- ---- take
 refused_take : (facts brought : List Fact) (fact : Fact) (why : Refusal) → facts_after facts brought (request.Take fact) (refusal_reply why) ≡ facts
-refused_take facts brought fact (refusal.OtherRoster own shown) = refl
-refused_take facts brought fact (refusal.OtherCut cut) = refl
-refused_take facts brought fact (refusal.Contradiction held) = refl
-refused_take facts brought fact refusal.OtherRecord = refl
-refused_take facts brought fact refusal.Memory = refl
+refused_take facts brought fact why = search rules
 
 took : (roster : ℕ) (log facts brought : List Fact) (old new : State) (fact : Fact) (answer : Result Taken (Refused Fact Refusal)) → Stood roster log facts old
     → Contains log fact → OnOk answer (TakesFact old fact new) → OnErr answer (new ≡ old)
@@ -72,12 +65,7 @@ took roster log facts brought old new fact (Err refused) stood among takes same 
 -- ---- absorb
 refused_absorb : (facts brought : List Fact) (summary : SummaryData) (delta : DeltaData) (why : AbsorbRefusal)
     → facts_after facts brought (request.Absorb summary delta) (absorbed_reply (Err why)) ≡ facts
-refused_absorb facts brought summary delta (absorb.Uncovered shown) = refl
-refused_absorb facts brought summary delta (absorb.Refused (refusal.OtherRoster own shown)) = refl
-refused_absorb facts brought summary delta (absorb.Refused (refusal.OtherCut cut)) = refl
-refused_absorb facts brought summary delta (absorb.Refused (refusal.Contradiction held)) = refl
-refused_absorb facts brought summary delta (absorb.Refused refusal.OtherRecord) = refl
-refused_absorb facts brought summary delta (absorb.Refused refusal.Memory) = refl
+refused_absorb facts brought summary delta why = search rules
 
 absorbed : (roster : ℕ) (log facts brought : List Fact) (old new : State) (summary : SummaryData) (delta : DeltaData)
     (answer : Result (Unit {0}) AbsorbRefusal) → Stood roster log facts old → BringsDelta roster log summary delta brought
@@ -92,14 +80,11 @@ absorbed roster log facts brought old new summary delta (Err why) stood brings m
 -- ---- tidy
 tidied : (roster : ℕ) (log facts : List Fact) (old new : Cached) (answer : Result (Unit {0}) ReadFault) → Stood roster log facts old.segment
     → OnOk answer (KeepsMeaning old.segment new.segment) → OnErr answer (new ≡ old) → Means roster log facts new.segment
-tidied roster log facts old new (Ok done) stood keeps same = keeps roster log facts stood.sound stood.means
-tidied roster log facts old new (Err f) stood keeps same = subst (λ c. Means roster log facts c.segment) (sym same) stood.means
+tidied roster log facts old new answer stood keeps same = search rules
 
 -- ---- finish
 unfinished : (facts brought : List Fact) (why : FinishFault) → facts_after facts brought request.Finish (unfinished_reply why) ≡ facts
-unfinished facts brought (finish.Missing index) = refl
-unfinished facts brought (finish.Malformed index) = refl
-unfinished facts brought finish.Memory = refl
+unfinished facts brought why = search rules
 
 finished : (roster : ℕ) (log facts brought : List Fact) (old new : Cached) (st : StagingData) (staging : Option StagingData) (told : Reply)
     (answer : Result State FinishFault) → Stood roster log facts old.segment → BringsStaging roster log (Some st) brought → IfOk answer (MeansFrozen st)

@@ -1,24 +1,19 @@
 -- A replica that is put together again from a snapshot.
-use Rattle.std.proofs.Common.{◌≡◌, ◌≢◌, ℕ, ◌⊎◌, ⊎_elim, List, [], ◌∷◌, refl, sym, ◌∙◌, subst, arith, Option, Some, Result, Ok, Err, IfOk}
+use Rattle.std.proofs.Common.{◌≡◌, ◌≢◌, ℕ, ◌⊎◌, List, [], ◌∷◌, refl, sym, subst, arith, Option, Some, Result, Ok, Err, IfOk, rules}
 use Rattle.std.specs.List.{AllByRecursion}
 use Rattle.redo_core.specs.Sound.{IsSound}
 use Rattle.redo_core.specs.declared.facts.Fact.{Fact}
-use Rattle.messages.specs.Pieces.{PieceData}
 use Rattle.state_laws.specs.State.{State}
 use Rattle.state_laws.specs.Means.{Means}
 use Rattle.read_cache.specs.Cached.{Cached}
-use Rattle.hydration.specs.Snapshots.{SnapshotData, Freezes, IsPieceOf}
-use Rattle.hydration.specs.Stagings.{StagingData, staging_of, piece_at, Adds, RefusesPiece}
+use Rattle.hydration.specs.Snapshots.{SnapshotData, Freezes}
+use Rattle.hydration.specs.Stagings.{StagingData, staging_of}
 use Rattle.hydration.specs.Hydrating.{IsOfState, MeansFrozen}
-use Rattle.hydration.specs.declared.staging.AddFault.{AddFault}
 use Rattle.hydration.specs.declared.finishing.FinishFault.{FinishFault}
-use Rattle.hydration.specs.declared.finishing.FinishFault.TheVariants as finish
-use Rattle.replica.specs.declared.requests.Request.{Request}
-use Rattle.replica.specs.declared.replies.Reply.{Reply}
 use Rattle.replica.specs.declared.replies.Reply.TheVariants as reply
 use Rattle.replica.specs.Parts.{ReplicaData}
-use Rattle.replica.specs.Replying.{unadded_reply, unfinished_reply}
-use Rattle.replica.specs.Hydrating.{AddsTo, TakesPiece, Finishes, StandsFor}
+use Rattle.replica.specs.Replying.{unfinished_reply}
+use Rattle.replica.specs.Hydrating.{Finishes, StandsFor}
 use Rattle.replica.specs.Machine.{IsReply}
 use Rattle.replica.specs.Meaning.{Turn, Runs, ReplicaMeans}
 use Rattle.replica.specs.Restarting.{AddsPieceOf, RestartMeans}
@@ -35,37 +30,9 @@ begun s d frozen = record { frozen = frozen; name = refl; total = refl; pieces =
 pub same_or_not : (a b : ℕ) → (a ≡ b) ⊎ (a ≢ b)
 same_or_not a b = grind arith
 
-one_piece : (p q : PieceData) → ◌≡◌ {A = Option PieceData} (Some p) (Some q) → p ≡ q
-one_piece p q e = cc
-
--- one more of its pieces has come
-one_more : (s : State) (d : SnapshotData) (st later : StagingData) (p : PieceData) → IsPieceOf d p → IsOfState s d st → Adds st p later → IsOfState s d later
-one_more s d st later p piece is adds = record {
-  frozen = is.frozen;
-  name = adds.name ∙ is.name;
-  total = adds.total ∙ is.total;
-  pieces = λ index q h. ⊎_elim
-      (λ (same : index ≡ p.index).
-      let found : piece_at later index ≡ Some p = subst (λ i. piece_at later i ≡ Some p) (sym same) adds.there in
-      subst (λ x. IsPieceOf d x) (one_piece p q (sym found ∙ h)) piece)
-      (λ (other : index ≢ p.index). is.pieces index q (sym (adds.others index other) ∙ h))
-      (same_or_not index p.index);
-}
-
-added : (s : State) (d : SnapshotData) (st : StagingData) (p : PieceData) (told : Reply) (new : Option StagingData) → IsPieceOf d p → IsOfState s d st
-    → TakesPiece st p told new → (later : StagingData) × (new ≡ Some later) × IsOfState s d later
-added s d st p told new piece is takes = ⊎_elim
-    (λ (came : (told ≡ reply.Added) × Adds st p takes.later). (takes.later, takes.new_is, one_more s d st takes.later p piece is came.1))
-    (λ (stayed : (why : AddFault) × RefusesPiece st p why × (takes.later ≡ st) × (told ≡ unadded_reply why)).
-    (takes.later, takes.new_is, subst (λ x. IsOfState s d x) (sym stayed.2) is))
-    takes.does
-
 one_turn : (s : State) (d : SnapshotData) (old : ReplicaData) (t : Turn) (new : ReplicaData) → AddsPieceOf d t → IsReply old t.asked t.told new → Fills s d old
     → Fills s d new
-one_turn s d old t new adds says fills =
-    let does = subst (λ (asked : Request). IsReply old asked t.told new) adds.2 says in
-    let takes = subst (λ (o : Option StagingData). AddsTo o adds.0 t.told new.staging) fills.1 does.0 in
-    added s d fills.0 adds.0 t.told new.staging adds.1 fills.2 takes
+one_turn s d old t new adds says fills = search rules
 
 all_turns : (s : State) (d : SnapshotData) (old : ReplicaData) (turns : List Turn) (new : ReplicaData) → AllByRecursion (AddsPieceOf d) turns
     → Runs old turns new → Fills s d old → Fills s d new
@@ -73,9 +40,7 @@ all_turns s d old [] new adds runs fills = subst (λ r. Fills s d r) (sym runs) 
 all_turns s d old (t ∷ ts) new adds runs fills = all_turns s d runs.0 ts new adds.1 runs.2 (one_turn s d old t runs.0 adds.0 runs.1 fills)
 
 not_restored : (why : FinishFault) → reply.Restored ≡ unfinished_reply why → ⊥
-not_restored (finish.Missing index) e = cc
-not_restored (finish.Malformed index) e = cc
-not_restored finish.Memory e = cc
+not_restored why e = search rules
 
 restored : (roster : ℕ) (log facts : List Fact) (s : State) (d : SnapshotData) (old : Cached) (st : StagingData) (answer : Result State FinishFault)
     (new : Cached) (staging : Option StagingData) → IsSound roster log → Means roster log facts s → IsOfState s d st → IfOk answer (MeansFrozen st)

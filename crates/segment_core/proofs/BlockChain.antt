@@ -24,7 +24,7 @@ use Rattle.state_laws.proofs.Reading.{held_of, links_law}
 use Rattle.segment_core.specs.Reading.{IsFrontAt, IsFrontOf}
 use Rattle.segment_core.specs.declared.answers.Front.{Front}
 use Rattle.segment_core.specs.declared.answers.ReadFault.{ReadFault}
-use Rattle.segment_core.specs.declared.answers.ReadFault.TheVariants.{Below, Above, BrokenBlockChain, Memory}
+use Rattle.segment_core.specs.declared.answers.ReadFault.TheVariants.{BrokenBlockChain, Memory}
 use Rattle.segment_core.specs.BlockChain.{IsKnownLinked, IsLinkedOf, IsLinkedUpTo, OnBlockChain, BreaksFrom, BreaksAt, TellsBreak}
 use Rattle.segment_core.specs.BlockChain.OnBlockChain.{start, down}
 
@@ -172,27 +172,6 @@ only_low b hs base store page from number (Some r) held sure is h =
           (h.1 x (l.0.0, l.0.1, l.0.3, omega (arith, m, positive, is), omega (arith, m))),
     )
 
--- above it the linked record of the number is the only one, if it is of the page
-pub none_high : (b : BookData) (hs : List RecordData) (base : ℕ) (store : Store) (page number : ℕ) → base < number
-    → IsOnlyRecord (λ x. IsLinkedHeld b hs base x × (x.number ≡ number)) None
-    → IsOnlyRecord (IsLinkedAt (state_of b hs base store) page number) None
-none_high b hs base store page number high none = search rules
-
-only_of_high : (b : BookData) (hs : List RecordData) (base : ℕ) (store : Store) (page number : ℕ) (r x : RecordData) → base < number
-    → IsOnlyRecord (λ y. IsLinkedHeld b hs base y × (y.number ≡ number)) (Some r) → IsLinkedAt (state_of b hs base store) page number x
-    → x ≡ r
-only_of_high b hs base store page number r x high h l = search rules
-
-pub only_high : (b : BookData) (hs : List RecordData) (base : ℕ) (store : Store) (page number : ℕ) (r : RecordData) → base < number
-    → IsOnlyRecord (λ x. IsLinkedHeld b hs base x × (x.number ≡ number)) (Some r) → r.page ≡ page
-    → IsOnlyRecord (IsLinkedAt (state_of b hs base store) page number) (Some r)
-only_high b hs base store page number r high h of_page = search rules
-
-pub other_page : (b : BookData) (hs : List RecordData) (base : ℕ) (store : Store) (page number : ℕ) (r : RecordData) → base < number
-    → IsOnlyRecord (λ x. IsLinkedHeld b hs base x × (x.number ≡ number)) (Some r) → (r.page ≡ page → ⊥)
-    → IsOnlyRecord (IsLinkedAt (state_of b hs base store) page number) None
-other_page b hs base store page number r high h of_other = search rules
-
 -- ---- the walk of a state
 
 -- it begins at the last linked record of the page
@@ -285,12 +264,6 @@ answers_none s page q none n = (λ (e : None ≡ Some n). absurd (cc), λ h. abs
 
 abbrev pub TellsLink : State → ℕ → ℕ → Option ℕ → Type 0
 TellsLink s page q link = (n : ℕ) → (link ≡ Some n) ↔ BreaksAt s page q n
-
-pub tells_below : (s : State) (front : Front) (page q min : ℕ) → IsFrontOf s front → q < front.min → TellsBreak s page q (Err (Below min))
-tells_below s front page q min own low = search rules
-
-pub tells_above : (s : State) (front : Front) (page q complete : ℕ) → IsFrontOf s front → front.complete < q → TellsBreak s page q (Err (Above complete))
-tells_above s front page q complete own high = search rules
 
 pub tells_broken : (s : State) (front : Front) (page q m : ℕ) (link : Option ℕ) → IsFrontOf s front → front.min ≤ q → q ≤ front.complete
     → TellsLink s page q link → link ≡ Some m → TellsBreak s page q (Err (BrokenBlockChain page m))

@@ -1,20 +1,16 @@
 -- Records of a page that follow one another, from its image or from a record with `init` on.
-use Rattle.std.proofs.Common.{◌≡◌, ℕ, ◌<◌, ◌≤◌, ◌⊎◌, inl, inr, ⊎_elim, List, [], ◌∷◌, ◌++◌, true, false, refl, sym, ap, ◌∙◌, subst, arith, rules}
+use Rattle.std.proofs.Common.{◌≡◌, ℕ, ◌<◌, ◌≤◌, ◌⊎◌, inl, inr, ⊎_elim, List, [], ◌∷◌, ◌++◌, true, false, refl, sym, ap, ◌∙◌, subst, arith}
 use Rattle.std.specs.List.{Contains}
 use Rattle.std.proofs.lemmas.List.Elements.{Contains-append_left, Contains-append_right}
 use Rattle.redo_core.specs.Data.{RecordData}
 use Rattle.redo_core.specs.Order.{Lists, BeforeByNumber}
 use Rattle.redo_core.proofs.Members.{none_in, here, there, which}
-use Rattle.state_laws.specs.State.{State, state_of, Store, version_of}
+use Rattle.state_laws.specs.State.{State, version_of}
 use Rattle.state_laws.specs.Shows.{IsApplied}
 use Rattle.hot_log.specs.Anew.{ListsAnew}
 use Rattle.segment_core.specs.BlockChain.{IsLinkedOf, IsLinkedUpTo, IsChained, OnBlockChain, BreaksAt}
 use Rattle.segment_core.specs.BlockChain.OnBlockChain.{start, down}
-use Rattle.segment_core.specs.Points.{HasPoints}
-use Rattle.segment_core.specs.declared.points.Points.{Points}
 use Rattle.segment_core.proofs.BlockChain.{on_linked}
-use Rattle.epoch_book.specs.Book.{BookData}
-use Rattle.hot_log.proofs.Chain.{link_at_least}
 
 -- chained records, of which the last has this number
 pub record IsChainedTo (version : ℕ) (xs : List RecordData) (below : ℕ) : Type 0 where
@@ -93,11 +89,3 @@ none_breaks_anew s page q n xs lists chained sure lower h = ⊎_elim
     let is = ((from.3.members t.0).0 t.1).0 in
     h.breaks.nowhere t.0 (is.0, is.1, sure t.0 is.0 is.1 is.4, is.2, is.4) t.2)
     lists
-
--- up to the complete point of a straight chain, each alive record is linked
-pub sure_complete : (b : BookData) (hs : List RecordData) (base : ℕ) (store : Store) (points : Points) → HasPoints b hs base points → points.straight ≡ true
-    → IsLinkedUpTo (state_of b hs base store) points.complete
-sure_complete b hs base store points has straight r among alive low = search rules
-
-pub base_complete : (b : BookData) (hs : List RecordData) (base : ℕ) (points : Points) → HasPoints b hs base points → base ≤ points.complete
-base_complete b hs base points has = link_at_least b.cuts hs b.complete base points.complete has.complete.linked

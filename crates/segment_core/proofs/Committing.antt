@@ -1,23 +1,18 @@
 -- What a commit of a folded page does, from what its store's raise does.
-use Rattle.std.proofs.Common.{◌≡◌, ℕ, ◌<◌, ◌≤◌, ◌⊎◌, ⊎_elim, List, sym, ap, subst, arith, Result, Ok, Err, OnOk, OnErr, IfErr, rules}
+use Rattle.std.proofs.Common.{◌≡◌, ℕ, ◌<◌, ◌≤◌, ◌⊎◌, ⊎_elim, sym, subst, arith, Result, Ok, Err, OnOk, IfErr, rules}
 use Rattle.redo_core.specs.declared.refusal.Refused.{Refused}
-use Rattle.page_base.specs.Raising.{SetsImage, Raises}
+use Rattle.page_base.specs.Raising.{Raises}
 use Rattle.state_laws.specs.State.{State, Store, version_of}
 use Rattle.state_laws.specs.Means.{Means}
 use Rattle.state_laws.specs.HasMeaning.{HasAnchor}
 use Rattle.state_laws.specs.Promises.{KeepsMeaningWith}
-use Rattle.state_laws.specs.Shedding.{CommitsImage}
 use Rattle.state_laws.proofs.Shed.{commit_keeps}
-use Rattle.segment_core.specs.Folding.{Commits, RefusesCommit, RefusesAhead}
+use Rattle.segment_core.specs.Folding.{Commits, RefusesAhead}
 use Rattle.segment_core.specs.Forgetting.{with_store}
 use Rattle.segment_core.specs.declared.fold_plan.Folded.{Folded}
 use Rattle.segment_core.specs.declared.fold_plan.CommitFault.{CommitFault}
-use Rattle.segment_core.specs.declared.fold_plan.CommitFault.TheVariants.{Ahead, Memory}
+use Rattle.segment_core.specs.declared.fold_plan.CommitFault.TheVariants.{Memory}
 use Rattle.segment_core.proofs.OneView.{one_anchor}
-
-sets_commits : (s : State) (old new : Store) (page version : ℕ) (image : List ℕ) → version_of old page ≤ version
-    → SetsImage old page version image new → CommitsImage (with_store s old) page version image (with_store s new)
-sets_commits s old new page version image newer sets = search rules
 
 pub commits_of : (s : State) (old new : Store) (folded : Folded) → Raises old folded.page folded.version folded.image new
     → Commits (with_store s old) folded (with_store s new)
@@ -33,19 +28,9 @@ commits_keeps old new folded anchor own le commits roster log F sound final a =
     (commits.newer high) roster log F sound final a)
     (let t : (folded.version ≤ version_of old.store folded.page) ⊎ (version_of old.store folded.page < folded.version) = grind arith in t)
 
--- what is ahead is above the one anchor
-pub ahead_at : (s : State) (folded : Folded) (anchor : ℕ) → HasAnchor s anchor → (other : ℕ)
-    → HasAnchor s other → (let fault : CommitFault = Ahead folded.version anchor in fault) ≡ Ahead folded.version other
-ahead_at s folded anchor own other has = ap (Ahead folded.version) (one_anchor s anchor other own has)
-
 pub not_ahead : (s : State) (folded : Folded) (anchor : ℕ) (result : Result Unit (Refused Folded CommitFault))
     → HasAnchor s anchor → folded.version ≤ anchor → RefusesAhead s folded result
 not_ahead s folded anchor result own le other has above = let e : anchor ≡ other = one_anchor s anchor other own has in absurd (omega arith)
-
--- what a raise answers
-pub raised : (s : State) (old new : Store) (folded : Folded) (result : Result Unit (Refused Folded CommitFault))
-    → OnOk result (Raises old folded.page folded.version folded.image new) → OnOk result (Commits (with_store s old) folded (with_store s new))
-raised s old new folded result raises = search rules
 
 pub raise_keeps : (s : State) (old new : Store) (folded : Folded) (anchor : ℕ) (result : Result Unit (Refused Folded CommitFault))
     → HasAnchor s anchor → folded.version ≤ anchor
@@ -54,15 +39,6 @@ pub raise_keeps : (s : State) (old new : Store) (folded : Folded) (anchor : ℕ)
 raise_keeps s old new folded anchor (Ok u) own le raises = commits_keeps (with_store s old) (with_store s new) folded anchor own le
     (commits_of s old new folded raises)
 raise_keeps s old new folded anchor (Err e) own le raises = tt
-
-pub raise_refused : (s : State) (old : Store) (folded : Folded) (result : Result Unit (Refused Folded CommitFault))
-    → IfErr result (λ e. (e.value ≡ folded) × (e.fault ≡ Memory) × (version_of old folded.page < folded.version))
-    → IfErr result (λ e. RefusesCommit (with_store s old) folded e.fault)
-raise_refused s old folded result refused = search rules
-
-pub raise_unchanged : (s : State) (old new : Store) (result : Result Unit (Refused Folded CommitFault)) → OnErr result (new ≡ old)
-    → OnErr result (with_store s new ≡ with_store s old)
-raise_unchanged s old new result same = search rules
 
 pub raise_back : (old : Store) (folded : Folded) (result : Result Unit (Refused Folded CommitFault))
     → IfErr result (λ e. (e.value ≡ folded) × (e.fault ≡ Memory) × (version_of old folded.page < folded.version))

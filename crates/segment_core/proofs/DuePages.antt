@@ -96,11 +96,6 @@ abbrev pub IsTop : Option ℕ → ℕ → Type 0
 IsTop None top = Unit {0}
 IsTop (Some lo) top = top ≤ lo
 
--- in a book of the same truncations the same records are alive
-pub same_view_due : (b c : BookData) (held : List RecordData) (store : Store) (d : DueData) → c.cuts ≡ b.cuts → c.complete ≡ b.complete
-    → HasDue b held store d → HasDue c held store d
-same_view_due b c held store d cuts complete has = search rules
-
 pub advance_due : (b c : BookData) (held : List RecordData) (store : Store) (d : DueData) (a : AdvanceData) (answer : Result Learnt BookRefusal)
     → OnOk answer (LearnsAdvance b a c) → OnErr answer (c ≡ b) → HasDue b held store d → HasDue c held store d
 advance_due b c held store d a answer learns same has = search rules
@@ -169,15 +164,7 @@ of_pages b store d point old new has some gone r = (
   λ h. (gone r).1 (h.0, λ page listed folded. h.1 (folded.0, folded.3, subst (λ g. r.number ≤ version_of store g) (sym folded.1) folded.2)),
 )
 
--- once the point has come to the top, nothing is due any more
-pub nothing_due : (b : BookData) (store : Store) (d : DueData) (point : ℕ) (old new : List RecordData) → HasDue b old store d → d.top ≤ point
-    → Removes (λ r. IsAlive b.cuts b.complete r.epoch r.number × (r.number ≤ point) × (r.number ≤ version_of store r.page)) old new
-    → HasDue b new store (record { pages = []; all = false; top = d.top })
-nothing_due b store d point old new has low gone = search rules
-
 -- ---- the images at once
-pub all_of : (b : BookData) (held : List RecordData) (store : Store) (d : DueData) → d.all ≡ true → ((page : ℕ) → version_of store page ≤ d.top) → HasDue b held store d
-all_of b held store d all top = record { listed = λ r h low. inl all; top = top }
 
 -- a number that neither the floor is above nor the version of an image
 pub top_is : (store : Store) (top : ℕ) → IsStored store → store.floor ≤ top → All (λ (i : StoredImage). i.version ≤ top) store.images → (page : ℕ)

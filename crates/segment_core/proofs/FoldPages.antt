@@ -38,11 +38,6 @@ pub record FoldsTo (s : State) (anchor : ℕ) (next : Option ℕ) (store : Store
 pub folds_none : (s : State) (anchor : ℕ) (next : Option ℕ) → IsPageAfter s.held None next → FoldsTo s anchor next s.store
 folds_none s anchor next after = search (rules, none_passed)
 
--- a page of a version that is not below the anchor shows its image there
-shows_own : (s : State) (page anchor : ℕ) (image : List ℕ) → anchor ≤ version_of s.store page → Shows s page anchor image
-    → Shows s page anchor (image_of s.store page)
-shows_own s page anchor image le shows = search rules
-
 -- what a raise to the anchor makes of the page itself, whose image was the state's own
 raised_page : (s : State) (page anchor : ℕ) (image : List ℕ) (old new : Store) → SamePage s.store old page → Raises old page anchor image new
     → Shows s page anchor image

@@ -34,8 +34,6 @@ removal_keeps_points b held left P base p gone not = points_over b b held left b
 }) refl
 
 -- ---- an advance
-advance_agrees : (b c : BookData) (held : List RecordData) (base : ℕ) → c.cuts ≡ b.cuts → c.complete ≡ b.complete → Agree b c held held base
-advance_agrees b c held base cuts complete = search rules
 
 pub advance_lags : (b c : BookData) (held : List RecordData) (base : ℕ) (p : Points) (a : AdvanceData) (answer : Result Learnt BookRefusal)
     → OnOk answer (LearnsAdvance b a c) → OnErr answer (c ≡ b) → HasPoints b held base p → HasLowAnchor c held base p

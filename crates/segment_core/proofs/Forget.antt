@@ -1,13 +1,12 @@
 -- What a discard forgets.
-use Rattle.std.proofs.Common.{◌≡◌, ℕ, ◌≤◌, ◌↔◌, inl, inr, ⊎_elim, List, sym, subst, rules}
+use Rattle.std.proofs.Common.{◌≡◌, ℕ, ◌≤◌, ◌↔◌, inl, inr, ⊎_elim, sym, subst, rules}
 use Rattle.redo_core.specs.Data.{RecordData}
 use Rattle.redo_core.specs.Standing.{IsAlive}
 use Rattle.redo_laws.proofs.Deciding.{Settled, settled_le, settled_and, settled_by}
 use Rattle.redo_laws.proofs.Fronts.{settled_alive}
 use Rattle.epoch_book.specs.Book.{BookData}
-use Rattle.hot_log.specs.Removing.{IsFolded, Removes}
-use Rattle.state_laws.specs.State.{State, state_of, Store, version_of}
-use Rattle.state_laws.specs.HasMeaning.{HasAnchor}
+use Rattle.hot_log.specs.Removing.{IsFolded}
+use Rattle.state_laws.specs.State.{State, Store, version_of}
 use Rattle.state_laws.specs.Promises.{KeepsMeaning}
 use Rattle.state_laws.specs.Shedding.{RemovesFolded}
 use Rattle.state_laws.proofs.Shed.{discard_keeps}
@@ -49,10 +48,3 @@ discards_of old new just = record {
 
 pub discards_keep : (old new : State) → DiscardsJust old new → KeepsMeaning old new
 discards_keep old new just roster log F sound a = search (rules, discard_keeps, discards_of)
-
--- what a removal of the folded records at the anchor leaves
-pub discards_just : (b : BookData) (hot left : List RecordData) (base anchor : ℕ) (store : Store)
-    → HasAnchor (state_of b hot base store) anchor
-    → Removes (λ r. IsAlive b.cuts b.complete r.epoch r.number × (r.number ≤ anchor) × (r.number ≤ version_of store r.page)) hot left
-    → DiscardsJust (state_of b hot base store) (state_of b left anchor store)
-discards_just b hot left base anchor store own gone = search rules

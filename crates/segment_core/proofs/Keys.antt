@@ -1,7 +1,6 @@
 -- Going over the keys of held records, from the least on.
-use Rattle.std.proofs.Common.{◌≡◌, ℕ, ◌+◌, ◌<◌, ◌⊎◌, ⊎_elim, List, [], ◌∷◌, ◌++◌, length, map, Option, Some, None, refl, sym, ap, ◌∙◌, subst, arith}
-use Rattle.std.proofs.Common.{length-append}
-use Rattle.std.proofs.lemmas.List.{append_assoc, map-append, length-map, append-nil}
+use Rattle.std.proofs.Common.{◌≡◌, ℕ, ◌<◌, ◌⊎◌, ⊎_elim, List, [], ◌∷◌, ◌++◌, map, Option, Some, None, refl, sym, ap, ◌∙◌, subst, arith}
+use Rattle.std.proofs.lemmas.List.{append_assoc, map-append, append-nil}
 use Rattle.std.specs.List.{Contains}
 use Rattle.redo_core.specs.Data.{RecordData}
 use Rattle.redo_core.specs.Keys.{key_in, key_of, KeyBefore}
@@ -133,21 +132,6 @@ pub keys_more : (held : List RecordData) (keys : List Key) (before : Option Key)
     → KeysTo held keys before → before ≡ Some key → IsKeyAfter held (Some key) next → KeysTo held (keys ++ key ∷ []) next
 keys_more held keys before key next is_held k e is = keys_step held k.front k.rest keys key next is_held k.parts k.keys_are
     (subst (IsFirstKey k.rest) e k.next_is) is
-
--- fewer records are left
-keys_left : (held front rest : List RecordData) (keys : List Key) (key : Key) → held ≡ front ++ rest → keys ≡ map key_of front
-    → IsFirstKey rest (Some key) → length keys < length held
-keys_left held front [] keys key parts keys_are first = absurd (let e : (let k : Option Key = Some key in k) ≡ None = first in cc)
-keys_left held front (r ∷ rs) keys key parts keys_are first =
-    let a : length held ≡ length (front ++ r ∷ rs) = ap length parts in
-    let b : length (front ++ r ∷ rs) ≡ length front + length (r ∷ rs) = length-append front (r ∷ rs) in
-    let c : length keys ≡ length (map key_of front) = ap length keys_are in
-    let d : length (map key_of front) ≡ length front = length-map front key_of in
-    omega arith
-
-pub keys_fewer : (held : List RecordData) (keys : List Key) (before : Option Key) (key : Key) → KeysTo held keys before → before ≡ Some key
-    → length keys < length held
-keys_fewer held keys before key k e = keys_left held k.front k.rest keys key k.parts k.keys_are (subst (IsFirstKey k.rest) e k.next_is)
 
 keys_end : (held front rest : List RecordData) (keys : List Key) → held ≡ front ++ rest → keys ≡ map key_of front → IsFirstKey rest None
     → keys ≡ map key_of held

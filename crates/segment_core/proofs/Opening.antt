@@ -196,10 +196,6 @@ opening c held base epoch n p form book were straight untouched = search rules
 pub base_bound : (c : BookData) (held : List RecordData) (base epoch : ℕ) (p : Points) → WerePoints c held base epoch p → base ≤ least c.points
 base_bound c held base epoch p were = search rules
 
-pub start_bound : (c : BookData) (held : List RecordData) (base epoch from n : ℕ) (p : Points) → WerePoints c held base epoch p → from ≡ min p.anchor n
-    → from ≤ least c.points
-start_bound c held base epoch from n p were is = omega arith
-
 pub start_small : (c : BookData) (held : List RecordData) (base epoch complete n : ℕ) → IsHeld held → IsUntouched c held base epoch complete n → n ≤ max_number
 start_small c held base epoch complete n form untouched =
     subst (λ m. m ≤ max_number) untouched.number (small_number untouched.by (form.shaped untouched.by untouched.alive.0))

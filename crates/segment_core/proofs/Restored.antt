@@ -4,23 +4,10 @@ use Rattle.std.specs.List.{Contains}
 use Rattle.redo_core.specs.Book.{BookData}
 use Rattle.redo_core.specs.Data.{RecordData}
 use Rattle.redo_core.proofs.Members.{none_in, here, there, which}
-use Rattle.hot_log.specs.Putting.{Puts}
-use Rattle.hot_log.specs.declared.log.Put.{Put}
-use Rattle.hot_log.specs.declared.log.Put.TheVariants.{New, Known}
 use Rattle.page_base.specs.Adopting.{first_given}
 use Rattle.state_laws.specs.State.{State, state_of, version_of, image_of}
 use Rattle.segment_core.specs.Adopting.{AdoptsBase}
-use Rattle.segment_core.specs.Restoring.{no_images, IsMadeOf, Gains, GainsEach}
-
--- a put record is held, with those before
-pub put_gains : (old : List RecordData) (r : RecordData) (new : List RecordData) (put : Put) → Puts old r new put → Gains old r new
-put_gains old r new New h = record { members = h.1 }
-put_gains old r new Known h = record {
-  members = λ x. (
-    λ t. inl (subst (λ l. Contains l x) h.1 t),
-    λ t. subst (λ l. Contains l x) (sym h.1) (⊎_elim (λ (u : Contains old x). u) (λ (u : x ≡ r). subst (Contains old) (sym u) h.0) t),
-  );
-}
+use Rattle.segment_core.specs.Restoring.{no_images, IsMadeOf, GainsEach}
 
 -- what was gained
 pub gained_all : (rs old new : List RecordData) → GainsEach old rs new → (x : RecordData) → Contains new x ↔ (Contains old x ⊎ Contains rs x)

@@ -203,10 +203,6 @@ advance_exact takes b b' hs base store a (Err e) result is_book learns known idl
     book_exact b b' hs base store (Advance a) (Err e) result (λ r (e : Advance a ≡ Record r). absurd (cc)) tt tt
     (λ m known. (lacks (ap Err m)).1 known) tt tt same refuses refused is
 
--- a record that is not compared changes nothing
-known_of_settled : (s : State) (r : RecordData) → IsDeadOrSettled s r → IsKnown s (Record r)
-known_of_settled s r h = ⊎_elim (λ d. inl d) (λ settled. inr (inr settled)) h
-
 pub settled_exact : TakesKnown → (s : State) (r : RecordData) → IsDeadOrSettled s r → TakesExactly s (Record r) (Ok Unchanged) s
 settled_exact knows s r settled = search rules
 

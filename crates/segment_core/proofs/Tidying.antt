@@ -1,13 +1,12 @@
 -- What a tidy leaves.
-use Rattle.std.proofs.Common.{◌≡◌, ℕ, ◌<◌, ◌≤◌, ◌⊎◌, ◌↔◌, inl, inr, ⊎_elim, List, sym, ◌∙◌, subst, arith, max, rules}
+use Rattle.std.proofs.Common.{◌≡◌, ℕ, ◌<◌, ◌≤◌, ◌⊎◌, ◌↔◌, inl, inr, ⊎_elim, sym, ◌∙◌, subst, arith, max, rules}
 use Rattle.std.specs.List.{Contains}
 use Rattle.redo_core.specs.Data.{RecordData}
 use Rattle.redo_core.specs.Standing.{IsAlive, IsDead, IsWaiting}
 use Rattle.redo_laws.proofs.Log.{log_of_sound}
 use Rattle.redo_laws.proofs.Fronts.{settled_alive}
 use Rattle.epoch_book.specs.Book.{BookData}
-use Rattle.hot_log.specs.Removing.{Removes}
-use Rattle.state_laws.specs.State.{State, state_of, Store, SameBase, version_of}
+use Rattle.state_laws.specs.State.{State, Store, SameBase, version_of}
 use Rattle.state_laws.specs.HasMeaning.{HasAnchor, IsKeptBy}
 use Rattle.state_laws.specs.Promises.{KeepsMeaning}
 use Rattle.state_laws.specs.Shedding.{RemovesDead}
@@ -20,10 +19,6 @@ pub record RemovesJustDead (old new : State) : Type 0 where
   pub book : new.book ≡ old.book
   pub held : (r : RecordData) → Contains new.held r ↔ (Contains old.held r × (IsDead old.book.cuts old.book.complete r.epoch r.number → ⊥))
   pub rest : SameBase old new
-
-pub removes_just : (b : BookData) (hot left : List RecordData) (base : ℕ) (store : Store)
-    → Removes (λ r. IsDead b.cuts b.complete r.epoch r.number) hot left → RemovesJustDead (state_of b hot base store) (state_of b left base store)
-removes_just b hot left base store gone = search rules
 
 -- a record waits, is alive or is dead
 standing : (s : State) (r : RecordData) → IsWaiting s.book.complete r.epoch

@@ -1,14 +1,11 @@
-use Rattle.std.proofs.Common.{◌≡◌, sym, Some, nat_eq}
-use Rattle.std.specs.Map.{lookup}
+use Rattle.std.proofs.Common.{nat_eq, rules}
 use Rattle.lru.proofs.CallerLemmas.{Contains-promoted}
 use Rattle.read_cache.proofs.Entries.{found}
 use Rattle.read_cache.proofs.images.copy_at.Goals.{in_default-via-in-Some+else-kept-point, in_default-via-in-None-1}
 use Rattle.read_cache.proofs.images.copy_at.Goals as goal
 
 pub returns-in-Some-clause-found : goal.returns-in-Some-clause-found
-returns-in-Some-clause-found c =
-    let is : lookup (nat_eq c.args.page) c.args.cache.now.entries ≡ Some c.in-Some.kept.now = sym (rw c.in-Some.is at c.get.ensures.value) in
-    (c.in-Some.kept.now, found c.args.page c.args.cache.now.entries c.in-Some.kept.now is, c.if-kept-point.true, c.copy.ensures)
+returns-in-Some-clause-found c = search (rules, found)
 
 pub returns-in-Some-clause-among : goal.returns-in-Some-clause-among
 returns-in-Some-clause-among c = λ e at.

@@ -1,12 +1,8 @@
-use Rattle.std.proofs.Common.{◌≡◌, ℕ, subst, List, Option, None, rules}
-use Rattle.std.specs.Option.{IsNone}
+use Rattle.std.proofs.Common.{subst, List, rules}
 use Rattle.hot_log.proofs.Maps.{none_leaves}
 use Rattle.hot_log.specs.Indexing.{LosesPage}
 use Rattle.hot_log.proofs.Keyed.{Entry, page_at, pages_lose}
 use Rattle.hot_log.proofs.key_pages.KeyPages.remove.Goals as goal
-
-none_is : (o : Option ℕ) → IsNone o → o ≡ None
-none_is o h = search rules
 
 pub returns-clause-had : goal.returns-clause-had
 returns-clause-had c = search (rules, page_at)

@@ -1,11 +1,11 @@
+use Rattle.std.proofs.Common.{rules}
 use Rattle.read_cache.proofs.Current.{after_find, is_shown}
 use Rattle.read_cache.proofs.Hits.{hit_of}
 use Rattle.read_cache.proofs.cached.CachedSegment.find.Goals.{in-Some, in-None}
 use Rattle.read_cache.proofs.cached.CachedSegment.find.Goals as goal
 
 pub invariant_of-self : goal.invariant_of-self
-invariant_of-self c =
-    after_find c.self.inside.segment c.self.inside.top c.self.inside.images c.find.new.self c.find.ensures.among c.self.invariant
+invariant_of-self c = search (rules, after_find)
 
 pub returns-clause-hit : goal.returns-clause-hit
 returns-clause-hit c = elim c.match-find.branch [
