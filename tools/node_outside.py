@@ -62,7 +62,7 @@ def request_of(row, came):
     if word == "take":
         return f"take {compare_nodes.fact_bytes(oracle.fact_of(rest)).hex()}"
     if word in MESSAGES:
-        return " ".join([word, *(came[kind][int(number) - 1] for kind, number in zip(MESSAGES[word], rest.split(" "), strict=True))])
+        return " ".join([word, *(came[kind][int(number) - 1] for kind, number in zip(MESSAGES[word], rest.split(" ")))])
     return row
 
 
