@@ -1,15 +1,15 @@
 -- One frame more is answered.
-use Rattle.std.proofs.Common.{◌≡◌, ℕ, ◌+◌, List, [], ◌∷◌, ◌++◌, length, take, map, Option, refl, sym, ap, ◌∙◌, subst, append-nil, rules}
+use Rattle.std.proofs.Common.{◌≡◌, ℕ, List, [], ◌∷◌, ◌++◌, take, map, Option, refl, sym, subst, rules}
 use Rattle.std.specs.Prelude.{true}
 use Rattle.std.specs.List.{concat}
 use Rattle.std.specs.Io.KnownBytes.{Appends}
-use Rattle.std.proofs.KnownBytes.{Appends-nil}
+use Rattle.std.proofs.KnownBytes.{Appends-nil, Appends-trans}
 use Rattle.std.proofs.lemmas.List.{map-append}
 use Rattle.std.proofs.lemmas.List.Elements.{All-nil, All-push}
 use Rattle.std.proofs.lemmas.List.Folds.{concat-append}
 use Rattle.line_stream.specs.Watching.{device_of, has_failed}
 use Rattle.line_stream.specs.declared.watched.Watched.{Watched}
-use Rattle.line_stream.proofs.Answered.{answers_more, joined_more, joined_part}
+use Rattle.line_stream.proofs.Answered.{answers_more, joined_more}
 use Rattle.frame_stream.specs.Frames.{AnswersFrame, IsShort, framed}
 use Rattle.frame_stream.specs.Served.{AreAnswered, AreCutOff}
 
@@ -43,16 +43,15 @@ module _ {W M : Type 0} (answers : M → List ℕ → List ℕ → M → Type 0)
       → (said : List ℕ) → said ≡ text → IsShort text → Appends (contents (device_of writer')) (contents (device_of writer'')) (take n (framed said))
       → has_failed writer'' ≡ true → AreCutOff answers contents limit (frames ++ frame ∷ []) old new writer writer''
   cut_more frames old mid new writer writer' writer'' frame text n h limit' same one said is short put failed =
-      let last : Appends (contents (device_of writer')) (contents (device_of writer'')) (take n (concat (framed text ∷ []))) =
-      subst (λ (t : List ℕ). Appends (contents (device_of writer')) (contents (device_of writer'')) (take n t))
-      (ap framed is ∙ sym (append-nil (framed text))) put in
+      let last : Appends (contents (device_of writer')) (contents (device_of writer'')) (take n (framed text)) =
+      subst (λ (t : List ℕ). Appends (contents (device_of writer')) (contents (device_of writer'')) (take n (framed t))) is put in
       record {
-        texts = h.texts ++ text ∷ [];
-        count = length (concat (map framed h.texts)) + n;
+        texts = h.texts;
+        text = text;
+        count = n;
         answered = answers_more (AnswersFrame answers limit) old frames h.texts mid frame text new h.answered
             (subst (λ (k : ℕ). AnswersFrame answers k mid frame text new) same one);
         short = All-push IsShort h.texts text h.short short;
-        written = subst (λ (l : List (List ℕ)). Appends (contents (device_of writer)) (contents (device_of writer'')) (take (length (concat (map framed h.texts)) + n) (concat l)))
-            (sym (frames_more h.texts text)) (joined_part _ _ _ (map framed h.texts) (framed text ∷ []) n h.written last);
+        written = Appends-trans _ _ _ (concat (map framed h.texts)) (take n (framed text)) h.written last;
         failed = failed;
       }

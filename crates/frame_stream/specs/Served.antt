@@ -1,5 +1,5 @@
 -- What is read and written while frames are answered.
-use Rattle.std.specs.Prelude.{◌≡◌, ℕ, List, [], Option, Result, Ok, Err, true, take, map}
+use Rattle.std.specs.Prelude.{◌≡◌, ℕ, List, [], ◌∷◌, ◌++◌, Option, Result, Ok, Err, true, take, map}
 use Rattle.std.specs.List.{All, concat}
 use Rattle.std.specs.Io.KnownBytes.{Appends, Consumes, IsAtEnd}
 use Rattle.line_stream.specs.Watching.{device_of, has_failed}
@@ -16,14 +16,15 @@ pub record AreAnswered {W M : Type 0} (answers : M → List ℕ → List ℕ →
   pub short : All IsShort texts
   pub written : Appends (contents (device_of writer)) (contents (device_of writer')) (concat (map framed texts))
 
--- The frames are answered, but of the answers only a beginning was written: the writer failed.
+-- The frames are answered, and the answers are written but for the last, of which a beginning is, if not all of it: the writer failed.
 pub record AreCutOff {W M : Type 0} (answers : M → List ℕ → List ℕ → M → Type 0) (contents : W → Option (List ℕ)) (limit : ℕ)
     (frames : List (List ℕ)) (old new : M) (writer writer' : Watched W) : Type 0 where
   pub texts : List (List ℕ)
+  pub text : List ℕ
   pub count : ℕ
-  pub answered : AnswersFrames answers limit old frames texts new
-  pub short : All IsShort texts
-  pub written : Appends (contents (device_of writer)) (contents (device_of writer')) (take count (concat (map framed texts)))
+  pub answered : AnswersFrames answers limit old frames (texts ++ text ∷ []) new
+  pub short : All IsShort (texts ++ text ∷ [])
+  pub written : Appends (contents (device_of writer)) (contents (device_of writer')) (concat (map framed texts) ++ take count (framed text))
   pub failed : has_failed writer' ≡ true
 
 -- How the call ends. Where the writer failed, nothing behind the frame of that answer has been read.

@@ -1,10 +1,9 @@
 -- One line or frame more is answered.
-use Rattle.std.proofs.Common.{◌≡◌, ℕ, ◌+◌, List, [], ◌∷◌, ◌++◌, length, take, Option, refl, sym, ◌∙◌, subst, append_assoc, rules, arith}
+use Rattle.std.proofs.Common.{◌≡◌, ℕ, List, [], ◌∷◌, ◌++◌, Option, refl, sym, ◌∙◌, subst, append_assoc, rules, arith}
 use Rattle.std.proofs.lemmas.Grind.{common_steps}
 use Rattle.std.specs.List.{concat}
 use Rattle.std.specs.Io.KnownBytes.{Appends}
 use Rattle.std.proofs.KnownBytes.{Appends-trans, Appends-nil}
-use Rattle.std.proofs.Math.Seq.{take-append-add}
 use Rattle.std.proofs.lemmas.List.Folds.{concat-append}
 use Rattle.line_stream.specs.Lines.{AnswersLine, AnswersEach, AnswersFirst}
 
@@ -53,10 +52,10 @@ pub joined_both : (a b c : Option (List ℕ)) (texts more : List (List ℕ)) →
     → Appends a c (concat (texts ++ more))
 joined_both a b c texts more p q = rw concat-append (Appends-trans a b c (concat texts) (concat more) p q)
 
--- a beginning of the last text
-pub joined_part : (a b c : Option (List ℕ)) (texts more : List (List ℕ)) (n : ℕ) → Appends a b (concat texts) → Appends b c (take n (concat more))
-    → Appends a c (take (length (concat texts) + n) (concat (texts ++ more)))
-joined_part a b c texts more n p q = search (rules, concat-append, take-append-add, Appends-trans)
+-- with a beginning of one more
+pub joined_cut : (a b c : Option (List ℕ)) (texts more : List (List ℕ)) (part : List ℕ) → Appends a b (concat texts) → Appends b c (concat more ++ part)
+    → Appends a c (concat (texts ++ more) ++ part)
+joined_cut a b c texts more part p q = search (rules, concat-append, append_assoc, Appends-trans)
 
 pub joined_none : (a : Option (List ℕ)) → Appends a a (concat [])
 joined_none a = Appends-nil a

@@ -1,5 +1,5 @@
 -- A loop over the lines of some bytes.
-use Rattle.std.proofs.Common.{◌≡◌, ℕ, ◌+◌, List, [], ◌∷◌, ◌++◌, length, take, Bool, true, Option, Result, sym, ◌∙◌, subst, append-nil, rules}
+use Rattle.std.proofs.Common.{◌≡◌, ℕ, List, [], ◌∷◌, ◌++◌, take, Bool, true, Option, Result, sym, ◌∙◌, subst, append_assoc, rules}
 use Rattle.std.specs.Prelude.{OnErr, ◌||◌}
 use Rattle.std.specs.List.{concat}
 use Rattle.std.specs.Io.KnownBytes.{Appends}
@@ -8,8 +8,10 @@ use Rattle.line_stream.specs.Watching.{device_of, has_failed}
 use Rattle.line_stream.specs.Lines.{AnswersLine, AnswersFirst, glued}
 use Rattle.line_stream.specs.Served.{EndsWith, IsCutOff}
 use Rattle.line_stream.specs.declared.watched.Watched.{Watched}
-use Rattle.line_stream.proofs.Answered.{first_none, first_more, first_both, joined_none, joined_more, joined_both, joined_part}
+use Rattle.line_stream.proofs.Answered.{first_none, first_more, first_both, joined_none, joined_more, joined_both, joined_cut}
 use Rattle.line_stream.proofs.Gluing.{glued_none, parts_go_on}
+use Rattle.script_text.proofs.PatchSpelling.{some_parts}
+use Rattle.std.proofs.KnownBytes.{Appends-trans}
 
 -- The lines before the rest are answered, and of the next line a part has come.
 pub record Goes {W M : Type 0} (answers : M → List ℕ → List ℕ → M → Type 0) (contents : W → Option (List ℕ)) (limit : ℕ) (begun bytes : List ℕ)
@@ -48,7 +50,7 @@ module _ {W M : Type 0} (answers : M → List ℕ → List ℕ → M → Type 0)
         (subst (Appends (contents (device_of writer')) (contents (device_of writer''))) is put);
   }
 
-  -- the answer to the next line is not written, or not the whole of it
+  -- the answer to the next line is not written, or not the whole of it, or not flushed
   pub goes_off : (begun bytes : List ℕ) (old mid : M) (writer writer' writer'' : Watched W) (part rest front behind text : List ℕ) (new : M) (n : ℕ)
       → Goes answers contents limit begun bytes old mid writer writer' part rest → parts_at 10 rest ≡ front ∷ parts_at 10 behind
       → (limit' : ℕ) → limit' ≡ limit → AnswersLine answers limit' mid (part ++ front) text new
@@ -56,15 +58,16 @@ module _ {W M : Type 0} (answers : M → List ℕ → List ℕ → M → Type 0)
       → has_failed writer'' ≡ true
       → IsCutOff answers contents limit (glued begun (parts_at 10 bytes)) old new writer writer''
   goes_off begun bytes old mid writer writer' writer'' part rest front behind text new n h some limit' same one said is put failed =
-      let whole : said ≡ concat (text ∷ []) = is ∙ sym (append-nil text) in
-      let last : Appends (contents (device_of writer')) (contents (device_of writer'')) (take n (concat (text ∷ []))) =
-      subst (λ (t : List ℕ). Appends (contents (device_of writer')) (contents (device_of writer'')) (take n t)) whole put in
+      let last : Appends (contents (device_of writer')) (contents (device_of writer'')) (take n text) =
+      subst (λ (t : List ℕ). Appends (contents (device_of writer')) (contents (device_of writer'')) (take n t)) is put in
       record {
-        texts = h.texts ++ text ∷ [];
+        texts = h.texts;
+        text = text;
         left = parts_at 10 behind;
-        count = length (concat h.texts) + n;
+        count = n;
         answered = next_line begun bytes old mid writer writer' part rest front behind text new h some (at_limit mid (part ++ front) text new limit' same one);
-        written = joined_part _ _ _ h.texts (text ∷ []) n h.written last;
+        some = some_parts 10 behind;
+        written = Appends-trans _ _ _ (concat h.texts) (take n text) h.written last;
         failed = failed;
       }
 
@@ -96,11 +99,15 @@ module _ {W M : Type 0} (answers : M → List ℕ → List ℕ → M → Type 0)
   cut_more input bytes old mid new writer writer' writer'' rest h limit' same k' =
       let k = subst (λ (n : ℕ). IsCutOff answers contents n (glued rest (parts_at 10 bytes)) mid new writer' writer'') same k' in record {
         texts = h.texts ++ k.texts;
+        text = k.text;
         left = k.left;
-        count = length (concat h.texts) + k.count;
-        answered = first_both answers limit old (glued [] (parts_at 10 input)) h.texts mid (rest ∷ []) (parts_at 10 (input ++ bytes)) (glued rest (parts_at 10 bytes))
-            k.texts new k.left h.lines (regrouped input bytes rest) k.answered;
-        written = joined_part _ _ _ h.texts k.texts k.count h.written k.written;
+        count = k.count;
+        answered = subst (λ (ts : List (List ℕ)). AnswersFirst answers limit old (parts_at 10 (input ++ bytes)) ts new k.left)
+            (sym (append_assoc h.texts k.texts (k.text ∷ [])))
+            (first_both answers limit old (glued [] (parts_at 10 input)) h.texts mid (rest ∷ []) (parts_at 10 (input ++ bytes)) (glued rest (parts_at 10 bytes))
+            (k.texts ++ k.text ∷ []) new k.left h.lines (regrouped input bytes rest) k.answered);
+        some = k.some;
+        written = joined_cut _ _ _ h.texts k.texts (take k.count k.text) h.written k.written;
         failed = k.failed;
       }
 

@@ -1,5 +1,5 @@
 -- What is read and written while lines are answered.
-use Rattle.std.specs.Prelude.{◌≡◌, ℕ, List, [], ◌∷◌, Option, Result, Ok, Err, true, take}
+use Rattle.std.specs.Prelude.{◌≡◌, ℕ, ◌<◌, List, [], ◌∷◌, ◌++◌, length, Option, Result, Ok, Err, true, take}
 use Rattle.std.specs.List.{concat}
 use Rattle.std.specs.Io.KnownBytes.{Appends, Consumes, IsAtEnd}
 use Rattle.script_text.specs.Parts.{parts_at}
@@ -27,15 +27,18 @@ EndsLines answers contents pending pending' bytes old new writer writer' =
     (begun : List ℕ) → Holds pending begun
     → (rest : List ℕ) × Holds pending' rest × EndsWith answers contents (limit_of pending) begun bytes old new writer writer' rest
 
--- Lines are answered up to one whose answer was not written, or not the whole of it.
+-- Lines are answered up to one whose answer was not written, or not the whole of it, or not flushed: those before it are written whole.
+-- What stands behind it is left, the part behind the last LF with it.
 pub record IsCutOff {W M : Type 0} (answers : M → List ℕ → List ℕ → M → Type 0)
     (contents : W → Option (List ℕ)) (limit : ℕ) (lines : List (List ℕ))
     (old new : M) (writer writer' : Watched W) : Type 0 where
   pub texts : List (List ℕ)
+  pub text : List ℕ
   pub left : List (List ℕ)
   pub count : ℕ
-  pub answered : AnswersFirst answers limit old lines texts new left
-  pub written : Appends (contents (device_of writer)) (contents (device_of writer')) (take count (concat texts))
+  pub answered : AnswersFirst answers limit old lines (texts ++ text ∷ []) new left
+  pub some : 0 < length left
+  pub written : Appends (contents (device_of writer)) (contents (device_of writer')) (concat texts ++ take count text)
   pub failed : has_failed writer' ≡ true
 
 abbrev pub BreaksOff : {W M : Type 0} → (M → List ℕ → List ℕ → M → Type 0) → (W → Option (List ℕ)) → Pending → List ℕ → M → M
