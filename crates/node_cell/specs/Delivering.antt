@@ -1,9 +1,12 @@
 -- What a delivery answers.
-use Rattle.std.specs.Prelude.{◌≡◌, ℕ, ◌≤◌, ◌<◌, List}
+use Rattle.std.specs.Prelude.{◌≡◌, ℕ, ◌≤◌, ◌<◌, List, Some}
 use Rattle.redo_core.specs.Sets.{IsPart}
 use Rattle.redo_core.specs.Position.{Position, IsPosition}
 use Rattle.redo_core.specs.declared.facts.Fact.{Fact}
+use Rattle.named_log.specs.Places.{fact_at}
 use Rattle.front_board.specs.FrontWord.{FrontData}
+use Rattle.state_laws.specs.State.{State}
+use Rattle.state_laws.specs.Promises.{TakesFact}
 use Rattle.node_cell.specs.Kept.{HasPlace, HasPlaces}
 use Rattle.node_cell.specs.declared.answers.DeliverFault.{DeliverFault}
 use Rattle.node_cell.specs.declared.answers.DeliverFault.TheVariants.{TrailFull, Memory}
@@ -19,6 +22,10 @@ pub record IsFrontWith (roster : ℕ) (log : List Fact) (earlier : List (ℕ × 
   pub had : HasPlaces log facts earlier
   pub epoch : front.epoch ≡ p.epoch
   pub number : front.number ≡ p.complete
+
+-- the new segment has taken the log's fact of a place
+abbrev pub TakesPlace : List Fact → State → ℕ → State → Type 0
+TakesPlace log old place new = (fact : Fact) × (fact_at log place ≡ Some fact) × TakesFact old fact new
 
 -- why a fact does not come into a trail of so many entries: it is full, or else memory is wanting
 abbrev pub RefusesEntry : ℕ → ℕ → DeliverFault → Type 0

@@ -11,7 +11,7 @@ use Rattle.state_laws.specs.State.{State}
 use Rattle.node_lock.specs.Trail.{Entry}
 use Rattle.node_cell.specs.Kept.{HasPlaces, MeansTrail}
 use Rattle.node_cell.specs.Receipt.{ReceiptData}
-use Rattle.node_cell.specs.Settling.{IsForeignReceipt}
+use Rattle.node_cell.specs.Settling.{IsForeignReceipt, Stands}
 use Rattle.node_cell.specs.declared.answers.ReadAfterFault.{ReadAfterFault}
 use Rattle.node_cell.specs.declared.answers.ReadAfterFault.TheVariants.{Stranger, Read}
 use Rattle.node_cell.specs.View.{ViewData}
@@ -36,6 +36,12 @@ pub record IsStrangerThere (roster : ℕ) (log : List Fact) (r : ReceiptData) (f
   pub trail : List Entry
   pub kept : MeansTrail roster log segment trail
   pub stranger : IsForeignReceipt trail r found
+
+-- the receipt's entry stands in the trail, unless it is told as a stranger, by what stands at its place
+abbrev pub FindsReceipt : List Entry → ReceiptData → Result ViewData ReadAfterFault → Type 0
+FindsReceipt trail r (Ok view) = Stands trail r
+FindsReceipt trail r (Err (Read fault)) = Stands trail r
+FindsReceipt trail r (Err (Stranger s)) = IsForeignReceipt trail r s.found
 
 -- the answer is that of one part of the log, which has the receipt's fact; or the receipt is not of this node
 abbrev pub TellsReadAfter : ℕ → List Fact → ReceiptData → ℕ → ℕ → Result ViewData ReadAfterFault → Type 0

@@ -3,8 +3,8 @@ ghost use Rattle.state_laws.specs.Means.{Means};
 ghost use Rattle.segment_core.specs.Folding.{Commits};
 ghost use Rattle.segment_core.specs.Forgetting.{DiscardsJust};
 ghost use Rattle.node_cell.specs.Kept.{MeansTrail, KeepsParts};
-ghost use Rattle.node_cell.specs.Reading.{TellsRead, TellsReadAfter};
-ghost use Rattle.node_cell.specs.Delivering.{IsFrontWith, RefusesEntry};
+ghost use Rattle.node_cell.specs.Reading.{FindsReceipt, TellsRead, TellsReadAfter};
+ghost use Rattle.node_cell.specs.Delivering.{IsFrontWith, RefusesEntry, TakesPlace};
 ghost use Rattle.node_cell.specs.Folding.{IsFoldOfLog, RefusesFold};
 ghost use Rattle.node_cell.specs.Gossiping.{IsSummaryOfLog, IsMail, IsFrontWithMail, RefusesMail, fault_of};
 ghost use Rattle.gossip_core.specs.Absorbing.{MeansBoth};
@@ -82,6 +82,8 @@ impl<L: LogName> Kept<L> {
         fact: LogFact<L>,
     ) -> Result<(u64, LogFront<L>), Refused<LogFact<L>, DeliverFault>>
         ensures trail { IfOk result (λ t. (self.new.trail ≡ self.old.trail ++ (number, fact.place) ∷ []) × (t.0 ≡ length self.new.trail)) }
+        ensures takes { OnOk result (TakesPlace L.log self.old.segment fact.place self.new.segment) }
+        ensures room { OnOk result (length self.old.trail < capacity) }
         ensures front { IfOk result (λ t. IsFrontWith L.roster L.log self.old.trail fact.place t.1) }
         ensures keeps { MeansTrail L.roster L.log self.new.segment self.new.trail }
         ensures refused { IfErr result (λ e. RefusesEntry capacity (length self.old.trail) e.fault) }
@@ -143,6 +145,7 @@ impl<L: LogName> Kept<L> {
         point: u64,
     ) -> Result<View<L>, ReadAfterFault>
         ensures answer { TellsReadAfter L.roster L.log receipt.now page point result }
+        ensures finds { FindsReceipt self.old.trail receipt.now result }
         ensures keeps { MeansTrail L.roster L.log self.new.segment self.new.trail }
         ensures same { self.new ≡ self.old }
     {

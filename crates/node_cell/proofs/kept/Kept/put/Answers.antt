@@ -68,6 +68,11 @@ unreachable-requires g c =
       k.means,
     ))
 
+pub returns-in-Ok-clause-room : goal.returns-in-Ok-clause-room
+returns-in-Ok-clause-room g c =
+    let count : length c.self.inside.trail.items ≡ vec_len c.self.inside.trail = search rules in
+    subst (λ n. n < c.args.capacity) (ap (λ k. length k.trail) c.self.view_is) (omega (arith, c.len.ensures, c.if-len-capacity.false, count))
+
 pub returns-in-Memory-clause-refused : goal.returns-in-Memory-clause-refused
 returns-in-Memory-clause-refused g c =
     let count : length c.self.inside.trail.items ≡ vec_len c.self.inside.trail = search rules in
