@@ -25,7 +25,8 @@ import drill_oracle
 import oracle
 import scripts
 
-sys.path.insert(0, str(pathlib.Path(__file__).resolve().parent / "fail_alloc"))
+sys.path[:0] = [str(pathlib.Path(__file__).resolve().parent / name) for name in ("fail_alloc", "failing_devices")]
+import failing_devices
 import sweep
 
 ROOT = pathlib.Path(__file__).resolve().parent.parent
@@ -319,6 +320,37 @@ def failing_output(program):
     return f"{len(lost)} texts"
 
 
+CUT = (
+    # words, text, how it is answered
+    (["run"], b"rec 0 3 0 7 0 0:6161\nrec 0 5 3 7 3 1:62\nrec 0 9 5 8 0 0:63\nmin 0 5\ngo\nnodes 1\ntake 1 3\nfront 1\n", b"changed\nfront 0 0 0\n"),
+    (
+        ["run"],
+        b"rec 0 3 0 7 0 0:6161\ngo\nnodes 2\ntake 2 1\nask 1\nanswer 2 1\nabsorb 1 2\nabsorb 1 1\n",
+        b"changed\nmessage 1\nmessage 2\nabsorbed\nno message 1\n",
+    ),
+    (["check"], b"min 0 5\n", b"sound 1\n"),
+    (["inspect"], b"030000000000000005\n\nzz\n020001000000000005000000000014", b"min 0 5\nwire 1\nbad hex\ncut 1 5 20\n"),
+    (["drill", "--nodes", "2"], b"", drill_oracle.text(2, "small").encode()),
+)
+STEPS = (7, 3)  # the most bytes of a read and of a write
+
+
+def failing_calls(program):
+    """Each of many short reads fails in turn, and each of many short writes: nothing is written then, or a beginning of the answer."""
+    told = []
+    with tempfile.TemporaryDirectory() as folder:
+        shim = failing_devices.build_shim(folder)
+        for words, text, wanted in CUT:
+            reads, writes, seen, bad = failing_devices.sweep_calls([program, *words], text, shim, STEPS)
+            expect(f"{words} of {text!r} in short calls", seen, (0, wanted, b""))
+            # (a drill reads nothing; else the last read finds the end)
+            expect(f"calls of {words} of {text!r}", (reads, writes), (-(-len(text) // STEPS[0]) + bool(text), -(-len(wanted) // STEPS[1])))
+            if bad:
+                raise Failed(f"{words} of {text!r}: {bad[:3]}")
+            told.append(f"{reads} and {writes}")
+    return ", ".join(told)
+
+
 def random_scripts(program, rounds, seed, make):
     counts, differs = compare.compare([program], rounds, seed, make)
     if differs:
@@ -442,6 +474,7 @@ def tests(rounds, seed):
         "status 0, of drills": drills,
         "status 4, an input that fails": failing_input,
         "status 4, an output that fails": failing_output,
+        "status 4, each call that fails": failing_calls,
         "status 5, each allocation refused": refused_allocations,
         "status 5, of drills": refused_drills,
         "counts that promise too much": hostile_counts,

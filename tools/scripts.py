@@ -1,5 +1,6 @@
 """Random small logs and scripts: sound and unsound, with truncations, waiting facts, several readers, repeats and spoilt lines, and
-scripts of several nodes that join, each after folds and discards of its own, or that gossip, by late and repeated messages."""
+scripts of several nodes that join, each after folds and discards of its own, or that gossip, by late and repeated messages. In the
+end nodes are asked for all that they can answer."""
 
 from dataclasses import replace
 
@@ -300,7 +301,8 @@ def random_input(choose):
     if task == "run":
         nodes = choose.choice((1, 1, 1, 2, 2, 2, 3, 3, 4, 4, 64))
         named = nodes if choose.random() < 0.97 else choose.choice((0, 1, 64, 65))
-        lines += ["go", f"nodes {named}", *Steps(choose, log, nodes).lines()]
+        steps = Steps(choose, log, nodes)
+        lines += ["go", f"nodes {named}", *steps.lines(), *(steps.looks(10) if nodes <= 4 else [])]
     text = "".join(line + "\n" for line in lines)
     if text and choose.random() < 0.1:
         text = spoilt(choose, text)
