@@ -1,6 +1,6 @@
 """Random small logs and scripts: sound and unsound, with truncations, waiting facts, several readers, repeats and spoilt lines, and
 scripts of several nodes that join, each after folds and discards of its own, or that gossip, by late and repeated messages. In the
-end nodes are asked for all that they can answer."""
+end nodes are asked for their fronts, their pages and how they compare."""
 
 from dataclasses import replace
 
