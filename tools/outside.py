@@ -339,7 +339,7 @@ def failing_calls(program):
     """Each of many short reads fails in turn, and each of many short writes: nothing is written then, or a beginning of the answer."""
     told = []
     with tempfile.TemporaryDirectory() as folder:
-        shim = failing_devices.build_shim(folder)
+        shim = sweep.build_shim(folder, failing_devices.SOURCE)
         for words, text, wanted in CUT:
             reads, writes, seen, bad = failing_devices.sweep_calls([program, *words], text, shim, STEPS)
             expect(f"{words} of {text!r} in short calls", seen, (0, wanted, b""))

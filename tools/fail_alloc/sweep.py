@@ -31,10 +31,10 @@ def compiler():
     return pathlib.Path(rt).resolve().parent.parent / "toolchain/bin/clang"
 
 
-def build_shim(folder):
-    shim = pathlib.Path(folder) / "fail_alloc.so"
+def build_shim(folder, source=SOURCE):
+    shim = pathlib.Path(folder) / f"{source.stem}.so"
     flags = ["-O2", "-Wall", "-Werror", "-shared", "-fPIC", "-nostdlib", "-fuse-ld=lld"]
-    subprocess.run([compiler(), *flags, "-o", shim, SOURCE], check=True)
+    subprocess.run([compiler(), *flags, "-o", shim, source], check=True)
     return shim
 
 

@@ -21,13 +21,6 @@ FAILED = 4
 SECONDS = 60
 
 
-def build_shim(folder):
-    shim = pathlib.Path(folder) / "failing_devices.so"
-    flags = ["-O2", "-Wall", "-Werror", "-shared", "-fPIC", "-nostdlib", "-fuse-ld=lld"]
-    subprocess.run([sweep.compiler(), *flags, "-o", shim, SOURCE], check=True)
-    return shim
-
-
 def run(command, data, shim, steps, reading=0, writing=0):
     """What a run answers whose calls have so many bytes at most, and of which one fails; none is call 0."""
     report = shim.with_name("devices")
@@ -73,7 +66,7 @@ def main():
     data = given.input.read_bytes() if given.input else b""
     try:
         with tempfile.TemporaryDirectory() as folder:
-            reads, writes, _, bad = sweep_calls(given.command, data, build_shim(folder), (given.read, given.write))
+            reads, writes, _, bad = sweep_calls(given.command, data, sweep.build_shim(folder, SOURCE), (given.read, given.write))
     except sweep.Unusable as fault:
         sys.exit(f"failing_devices: {fault}")
     for which, (status, output, said) in bad:
