@@ -32,8 +32,8 @@ fn boxed_staging(alloc: Global, name: u64, total: u32) -> Result<Box<Staging>, A
     Ok(Box::new(alloc, Staging::new(alloc, name, total))?)
 }
 
-pub fn new_bench(alloc: Global, roster: Roster) -> Result<Box<Bench>, AllocError> {
-    let bench = Bench {
+fn made(alloc: Global, roster: Roster) -> Result<Bench, AllocError> {
+    Ok(Bench {
         alloc,
         roster,
         facts: Vec::new(alloc),
@@ -41,8 +41,11 @@ pub fn new_bench(alloc: Global, roster: Roster) -> Result<Box<Bench>, AllocError
         messages: Vec::new(alloc),
         staging: boxed_staging(alloc, 0, 0)?,
         fleet: boxed_fleet(alloc, roster, 0)?,
-    };
-    Ok(Box::new(alloc, bench)?)
+    })
+}
+
+pub fn new_bench(alloc: Global, roster: Roster) -> Result<Box<Bench>, AllocError> {
+    Ok(Box::new(alloc, made(alloc, roster)?)?)
 }
 
 /// Carries out the call of a line.
@@ -71,12 +74,7 @@ fn begin(bench: &mut Bench, row: Row<'_>) -> Result<Answer, AllocError> {
 }
 
 fn empty(bench: &mut Bench, roster: Roster) -> Result<Answer, AllocError> {
-    bench.fleet = boxed_fleet(bench.alloc, roster, 0)?;
-    bench.staging = boxed_staging(bench.alloc, 0, 0)?;
-    bench.roster = roster;
-    bench.facts.clear();
-    bench.segments.clear();
-    bench.messages.clear();
+    *bench = made(bench.alloc, roster)?;
     Ok(Answer::Word("begun"))
 }
 

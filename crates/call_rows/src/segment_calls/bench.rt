@@ -64,8 +64,8 @@ fn begin_anew(bench: &mut Bench, row: Row) -> Result<Answer, AllocError> {
     let Ok(roster) = Roster::new(row.byte(0)) else {
         return Ok(Answer::Word("Unfit"));
     };
-    bench.given.clear();
-    bench.noted.clear();
+    bench.given = Vec::new(row.alloc);
+    bench.noted = Vec::new(row.alloc);
     bench.segment = boxed(row.alloc, Segment::new(row.alloc, roster))?;
     Ok(Answer::Word("Done"))
 }

@@ -42,33 +42,26 @@ fn boxed_book(alloc: Global, roster: Roster) -> Result<Box<EpochBook>, AllocErro
     Ok(Box::new(alloc, EpochBook::new(alloc, roster)?)?)
 }
 
-pub fn new_bench(alloc: Global, roster: Roster) -> Result<Box<Bench>, AllocError> {
-    let bench = Bench {
+fn made(alloc: Global, roster: Roster) -> Result<Bench, AllocError> {
+    Ok(Bench {
         book: boxed_book(alloc, roster)?,
         log: boxed_log(alloc)?,
         other: boxed_log(alloc)?,
         store: boxed_store(alloc)?,
         spare: boxed_store(alloc)?,
         given: Vec::new(alloc),
-    };
-    Ok(Box::new(alloc, bench)?)
+    })
 }
 
-fn empty(bench: &mut Bench, alloc: Global) -> Result<(), AllocError> {
-    bench.given.clear();
-    bench.log = boxed_log(alloc)?;
-    bench.other = boxed_log(alloc)?;
-    bench.store = boxed_store(alloc)?;
-    bench.spare = boxed_store(alloc)?;
-    Ok(())
+pub fn new_bench(alloc: Global, roster: Roster) -> Result<Box<Bench>, AllocError> {
+    Ok(Box::new(alloc, made(alloc, roster)?)?)
 }
 
 fn begin_anew(bench: &mut Bench, row: Row) -> Result<Answer, AllocError> {
     let Ok(roster) = Roster::new(row.byte(0)) else {
         return Ok(Answer::Word("Misshapen"));
     };
-    bench.book = boxed_book(row.alloc, roster)?;
-    empty(bench, row.alloc)?;
+    *bench = made(row.alloc, roster)?;
     Ok(Answer::Word("Done"))
 }
 

@@ -20,14 +20,14 @@ fn give(given: &mut Vec<(u16, u64, u8)>, row: Row) -> Result<Answer, AllocError>
 // Adopts what was given, at one version.
 fn adopt(bench: &mut Bench, row: Row) -> Result<Answer, AllocError> {
     let pages = pages(row.alloc, &bench.given)?;
-    bench.given.clear();
+    bench.given = Vec::new(row.alloc);
     done(bench.store.adopt(row.number(0), pages))
 }
 
 // Merges what was given, over a floor.
 fn merge(bench: &mut Bench, row: Row) -> Result<Answer, AllocError> {
     let images = images(row.alloc, &bench.given)?;
-    bench.given.clear();
+    bench.given = Vec::new(row.alloc);
     done(bench.store.merge(row.number(0), images))
 }
 

@@ -5,7 +5,7 @@ use crate::node_calls::endings::{print_closed, print_entry, print_settling};
 use crate::node_calls::host::{Host, boxed};
 use crate::node_calls::threads::closed_after_two;
 use crate::node_calls::{board, host};
-use node_cell::{Closed, Folded, Node, Receipt};
+use node_cell::{Closed, Node, Receipt};
 use row_words::Row;
 use std::alloc::{AllocError, Global};
 use std::io;
@@ -22,24 +22,22 @@ pub struct Bench {
     six: Box<Six>,
 }
 
-pub fn new_bench(alloc: Global) -> Result<Box<Bench>, AllocError> {
+fn made(alloc: Global) -> Result<Bench, AllocError> {
     let six = open_six(alloc)?;
-    boxed(
-        alloc,
-        Bench {
-            hosts: Vec::new(alloc),
-            receipts: Vec::new(alloc),
-            closed: None,
-            six,
-        },
-    )
+    Ok(Bench {
+        hosts: Vec::new(alloc),
+        receipts: Vec::new(alloc),
+        closed: None,
+        six,
+    })
+}
+
+pub fn new_bench(alloc: Global) -> Result<Box<Bench>, AllocError> {
+    boxed(alloc, made(alloc)?)
 }
 
 fn begin_anew(bench: &mut Bench, row: Row) -> io::Result<()> {
-    bench.hosts.clear();
-    bench.receipts.clear();
-    bench.closed = None;
-    bench.six = open_six(row.alloc())?;
+    *bench = made(row.alloc())?;
     row.said("Done")
 }
 
@@ -91,7 +89,7 @@ fn close<R: Wait>(rt: &R, bench: &mut Bench, row: Row) -> io::Result<()> {
 
 // The first receipts are those of the first thread.
 fn two_threads<R: Threads + Wait + Sync>(rt: &R, bench: &mut Bench, row: Row) -> io::Result<()> {
-    bench.receipts.clear();
+    bench.receipts = Vec::new(row.alloc());
     let ended = closed_after_two(rt, row.alloc(), &mut bench.receipts)?;
     end(&mut bench.closed, ended, row)
 }
@@ -186,22 +184,15 @@ fn discard<R: Wait>(rt: &R, node: &Node<Log>, row: Row) -> io::Result<()> {
     row.said("Done")
 }
 
-fn node_at(hosts: &[Host], place: usize) -> Option<&Node<Log>> {
-    match hosts.get(place) {
-        Some(host) => Some(&host.node),
-        None => None,
-    }
-}
-
 // What a node shows to who has a receipt.
 fn after<R: Wait>(rt: &R, bench: &Bench, row: Row) -> io::Result<()> {
-    let Some(node) = node_at(&bench.hosts, row.index(0)) else {
+    let Some(host) = bench.hosts.get(row.index(0)) else {
         return row.said("Unknown");
     };
     let Some(receipt) = bench.receipts.get(row.index(1)) else {
         return row.said("Unknown");
     };
-    match host::read_after(rt, node, receipt) {
+    match host::read_after(rt, &host.node, receipt) {
         Ok(view) => print_view(row, &view),
         Err(fault) => row.one("NotReadAfter", &fault),
     }
@@ -210,32 +201,27 @@ fn after<R: Wait>(rt: &R, bench: &Bench, row: Row) -> io::Result<()> {
 // A node absorbs what another answers to the summary of a third.
 fn absorb<R: Wait>(rt: &R, hosts: &[Host], row: Row) -> io::Result<()> {
     let (Some(node), Some(asker), Some(answerer)) = (
-        node_at(hosts, row.index(0)),
-        node_at(hosts, row.index(1)),
-        node_at(hosts, row.index(2)),
+        hosts.get(row.index(0)),
+        hosts.get(row.index(1)),
+        hosts.get(row.index(2)),
     ) else {
         return row.said("Unknown");
     };
-    match host::absorb(rt, node, asker, answerer) {
+    match host::absorb(rt, &node.node, &asker.node, &answerer.node) {
         Ok(front) => print_front(row, front),
         Err(fault) => row.one("NotAbsorbed", &fault),
     }
 }
 
-fn folded_at(hosts: &[Host], place: usize) -> Option<&Folded<Log>> {
-    match &hosts.get(place)?.folded {
-        Some(folded) => Some(folded),
-        None => None,
-    }
-}
-
 // Commits a copy of the last fold of a node.
 fn commit<R: Wait>(rt: &R, hosts: &[Host], row: Row) -> io::Result<()> {
-    let (Some(node), Some(folded)) = (node_at(hosts, row.index(0)), folded_at(hosts, row.index(1)))
-    else {
+    let (Some(host), Some(folder)) = (hosts.get(row.index(0)), hosts.get(row.index(1))) else {
         return row.said("Unknown");
     };
-    match host::commit(rt, node, folded) {
+    let Some(folded) = &folder.folded else {
+        return row.said("Unknown");
+    };
+    match host::commit(rt, &host.node, folded) {
         Ok(()) => row.said("Done"),
         Err(fault) => row.one("NotCommitted", &fault),
     }

@@ -1,5 +1,5 @@
 //! A node that one pass delivers to.
-ghost use Rattle.std.specs.Prelude.{◌≡◌, IfOk};
+ghost use Rattle.std.specs.Prelude.{◌≡◌, ◌∷◌, [], length, IfOk};
 ghost use Rattle.front_board.specs.Seat.{IsNode};
 ghost use Rattle.node_cell.specs.Node.{IsPassOf};
 
@@ -32,6 +32,17 @@ pub fn boxed<T: Drop>(alloc: Global, value: T) -> Result<Box<T>, AllocError>
     Ok(Box::new(alloc, value)?)
 }
 
+// The two of a list, each in a box.
+fn both<T: Drop>(alloc: Global, items: Vec<T>) -> Result<(Box<T>, Box<T>), AllocError>
+    requires { length items.items ≡ 2 }
+    ensures { IfOk result (λ t. items.items ≡ t.0.value ∷ t.1.value ∷ []) }
+{
+    let mut items = items;
+    let other = boxed(alloc, items.pop().unwrap())?;
+    let one = boxed(alloc, items.pop().unwrap())?;
+    Ok((one, other))
+}
+
 type Dealt = (Box<Node<Log>>, Box<Pass<Log>>, Box<Pass<Log>>);
 
 // A node with two passes.
@@ -40,10 +51,10 @@ fn open_node(alloc: Global, capacity: u64) -> Result<Dealt, AllocError>
     ensures other { IfOk result (λ t. IsPassOf t.0.value t.2.value) }
     ensures number { IfOk result (λ t. t.0.value.number ≡ 1) }
 {
-    let (node, mut passes) = Node::open(alloc, 1, 2, capacity)?;
-    let other = boxed(alloc, passes.pop().unwrap())?;
-    let one = boxed(alloc, passes.pop().unwrap())?;
-    Ok((boxed(alloc, node)?, one, other))
+    let (node, passes) = Node::open(alloc, 1, 2, capacity)?;
+    let node = boxed(alloc, node)?;
+    let (one, other) = both(alloc, passes)?;
+    Ok((node, one, other))
 }
 
 type Seated = (Box<Board<Log>>, Box<Seat<Log>>, Box<Seat<Log>>);
@@ -54,10 +65,10 @@ fn open_board(alloc: Global) -> Result<Seated, AllocError>
     ensures other { IfOk result (λ t. t.2.value.board ≡ t.0.value) }
     ensures words { IfOk result (λ t. t.0.value.words ≡ 1) }
 {
-    let (board, mut seats) = Board::open(alloc, 1, 2)?;
-    let other = boxed(alloc, seats.pop().unwrap())?;
-    let one = boxed(alloc, seats.pop().unwrap())?;
-    Ok((boxed(alloc, board)?, one, other))
+    let (board, seats) = Board::open(alloc, 1, 2)?;
+    let board = boxed(alloc, board)?;
+    let (one, other) = both(alloc, seats)?;
+    Ok((board, one, other))
 }
 
 /// Who delivers to a node: a pass, a seat, and the receipts of its deliveries, in order.
@@ -121,22 +132,43 @@ pub fn open_host(alloc: Global, capacity: u64) -> Result<Host, AllocError> {
     })
 }
 
+/// Delivers what was found at a place of the log. Where there is no fact, or no memory for it, memory is wanting.
+pub fn deliver_fact<R: Wait>(
+    rt: &R,
+    node: &Node<Log>,
+    pass: &mut Pass<Log>,
+    board: &Board<Log>,
+    seat: &mut Seat<Log>,
+    found: Result<Option<LogFact<Log>>, AllocError>,
+) -> Result<Ack<Log>, DeliverFault>
+    requires pass { IsPassOf node.now pass.old }
+    requires seat { (seat.old.board ≡ board.now) × IsNode board.now.words node.now.number }
+    ensures { IsPassOf node.now pass.new × (seat.new.board ≡ seat.old.board) }
+{
+    let Ok(Some(fact)) = found else {
+        return Err(DeliverFault::Memory);
+    };
+    match node.deliver(rt, pass, board, seat, fact) {
+        Ok(ack) => Ok(ack),
+        Err(refused) => Err(refused.fault),
+    }
+}
+
 fn deliver_once<R: Wait>(
     rt: &R,
     alloc: Global,
     host: &mut Host,
     place: u64,
 ) -> Result<Ack<Log>, DeliverFault> {
-    let Ok(Some(fact)) = LogFact::at(alloc, place) else {
-        return Err(DeliverFault::Memory);
-    };
-    let answer = host
-        .node
-        .deliver(rt, &mut host.pass, &host.board, &mut host.seat, fact);
-    match answer {
-        Ok(ack) => Ok(ack),
-        Err(refused) => Err(refused.fault),
-    }
+    let found = LogFact::at(alloc, place);
+    deliver_fact(
+        rt,
+        &host.node,
+        &mut host.pass,
+        &host.board,
+        &mut host.seat,
+        found,
+    )
 }
 
 pub fn deliver<R: Wait>(

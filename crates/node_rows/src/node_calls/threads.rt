@@ -4,7 +4,7 @@ ghost use Rattle.front_board.specs.Seat.{IsNode};
 ghost use Rattle.node_cell.specs.Node.{IsPassOf};
 
 use crate::Log;
-use crate::node_calls::host::{Hand, Two, boxed, open_two};
+use crate::node_calls::host::{Hand, Two, boxed, deliver_fact, open_two};
 use front_board::{Board, Seat};
 use named_log::LogFact;
 use node_cell::{Closed, Node, Pass, Receipt};
@@ -12,6 +12,26 @@ use std::alloc::{AllocError, Global};
 use std::sync::Wait;
 use std::thread;
 use std::thread::Threads;
+
+// Delivers the fact at a place, and keeps the receipt.
+fn deliver_next<R: Wait>(
+    rt: &R,
+    alloc: Global,
+    node: &Node<Log>,
+    board: &Board<Log>,
+    hand: &mut Hand,
+    place: u64,
+) -> Result<(), AllocError>
+    requires pass { IsPassOf node.now hand.old.pass.value }
+    requires seat { (hand.old.seat.value.board ≡ board.now) × IsNode board.now.words node.now.number }
+    ensures { IsPassOf node.now hand.new.pass.value × (hand.new.seat.value.board ≡ hand.old.seat.value.board) }
+{
+    let found = LogFact::at(alloc, place);
+    match deliver_fact(rt, node, &mut hand.pass, board, &mut hand.seat, found) {
+        Ok(ack) => Ok(hand.receipts.push(ack.receipt)?),
+        Err(_) => Err(AllocError),
+    }
+}
 
 // Delivers the facts at 32 places, every other one from `first` on.
 fn deliver_half<R: Wait>(
@@ -28,13 +48,7 @@ fn deliver_half<R: Wait>(
     ensures { IfOk result (λ done. IsPassOf node.now done.pass.value) }
 {
     for step in 0..32u64 {
-        let Some(fact) = LogFact::at(alloc, first + 2 * step)? else {
-            return Err(AllocError);
-        };
-        let Ok(ack) = node.deliver(rt, &mut hand.pass, board, &mut hand.seat, fact) else {
-            return Err(AllocError);
-        };
-        hand.receipts.push(ack.receipt)?;
+        deliver_next(rt, alloc, node, board, &mut hand, first + 2 * step)?;
     }
     Ok(hand)
 }
