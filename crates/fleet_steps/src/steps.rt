@@ -1,10 +1,12 @@
-ghost use Rattle.std.specs.Prelude.{◌≡◌, Ok, Err, IfOk, IfErr};
+ghost use Rattle.std.specs.Prelude.{◌≡◌, Ok, Err, IfOk, IfErr, ⊤};
 ghost use Rattle.fleet_steps.specs.Nodes.{node_of, other_of, nodes_of, first_missing};
 ghost use Rattle.fleet_steps.specs.Naming.{NamedIs, SameBut};
 
+use std::alloc::AllocError;
+
 /// A step of a script. Nodes are counted from 1; a step may name one that its fleet has not.
 /// `F` is what a take names: a fact, or where a fact stands.
-#[derive(Clone, Copy, Debug, Drop, PartialEq, Eq)]
+#[derive(Copy, Debug, Drop, PartialEq, Eq)]
 pub enum Step<F> {
     /// A fact reaches a node.
     Take {
@@ -65,6 +67,17 @@ pub enum Step<F> {
         node: u16,
         message: usize,
     },
+}
+
+// Written out: derived, it has a case for each form, and is a quarter of what this crate takes to prove.
+impl<F: Copy> Clone for Step<F> {
+    ghost is_clone = { λ step copied. copied ≡ step };
+
+    ghost is_infallible = { λ _. ⊤ };
+
+    fn clone(&self) -> Result<Self, AllocError> {
+        Ok(*self)
+    }
 }
 
 impl<F> Step<F> {

@@ -1,3 +1,4 @@
+pub mod HeldBytes
 pub mod Writes
 pub mod Data
 pub mod Body

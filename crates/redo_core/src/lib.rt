@@ -10,6 +10,7 @@ mod contents;
 mod cuts;
 mod facts;
 mod fixed;
+mod held_bytes;
 mod kept_bodies;
 mod keys;
 mod laws;

@@ -1,18 +1,15 @@
 ghost use Rattle.std.specs.Prelude.{◌≡◌, ◌↔◌, IsTrue, IfOk};
 
-use smallvec::SmallVec;
+use crate::held_bytes::HeldBytes;
 use std::alloc::{AllocError, Global};
+use std::fmt;
 use std::marker::Model;
 
-/// How many bytes stand in the write itself.
-const SHORT: usize = 16;
-
 /// Bytes that a redo record puts into its page, from an offset on.
-#[derive(Debug, Drop)]
+#[derive(Drop)]
 pub struct Write {
     offset: u16,
-    // Most writes are short, and stand in the write itself, with no memory of their own.
-    bytes: SmallVec<u8, SHORT>,
+    bytes: HeldBytes,
 }
 
 impl Model for Write {
@@ -20,7 +17,7 @@ impl Model for Write {
 
     ghost Value = { WriteData };
 
-    ghost view = { λ w. record { offset = w.offset; bytes = w.bytes.items } };
+    ghost view = { λ w. record { offset = w.offset; bytes = w.bytes } };
 }
 
 impl Write {
@@ -30,7 +27,7 @@ impl Write {
     {
         Write {
             offset,
-            bytes: SmallVec::from_vec(bytes),
+            bytes: HeldBytes::of_vec(bytes),
         }
     }
 
@@ -40,7 +37,7 @@ impl Write {
     {
         Ok(Write {
             offset,
-            bytes: SmallVec::from_slice(alloc, bytes)?,
+            bytes: HeldBytes::of_slice(alloc, bytes)?,
         })
     }
 
@@ -59,7 +56,7 @@ impl Write {
 
     /// Whether a copy of it wants no memory.
     pub(crate) fn is_short(&self) -> bool {
-        self.bytes.len() <= SHORT
+        self.bytes.is_short()
     }
 
     /// An equal write with memory of its own. Its only error is want of memory.
@@ -76,13 +73,22 @@ impl Write {
     }
 }
 
+impl fmt::Debug for Write {
+    fn fmt<W: fmt::Write>(&self, f: &mut fmt::Formatter<W>) -> fmt::Result {
+        f.debug_struct("Write")
+            .field("offset", &self.offset)
+            .field("bytes", &self.bytes())
+            .finish()
+    }
+}
+
 impl Clone for Write {
     ghost is_clone = { λ w copied. copied ≡ w };
 
     fn clone(&self) -> Result<Self, AllocError> {
         Ok(Write {
             offset: self.offset,
-            bytes: SmallVec::from_slice(*self.bytes.allocator(), self.bytes())?,
+            bytes: self.bytes.copy()?,
         })
     }
 }

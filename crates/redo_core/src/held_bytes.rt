@@ -1,0 +1,114 @@
+//! The bytes of a write: a few stand in the write itself, and more have memory of their own.
+
+ghost use Rattle.std.specs.Prelude.{◌≡◌, IfOk, IfSome, take};
+
+use std::alloc::{AllocError, Global};
+use std::marker::Model;
+
+/// How many bytes stand in the write itself.
+const SHORT: usize = 16;
+
+#[derive(Drop)]
+enum Holder {
+    // Most writes are short. The bytes behind the first so many say nothing.
+    Short(u8, [u8; SHORT]),
+    Long(Vec<u8>),
+}
+
+/// The bytes of one write.
+#[derive(Drop)]
+pub struct HeldBytes {
+    holder: Holder,
+}
+
+impl Model for HeldBytes {
+    ghost use Rattle.std.specs.Prelude.{List, ℕ};
+    ghost use Rattle.redo_core.specs.HeldBytes.{bytes_held};
+
+    ghost Value = { List ℕ };
+
+    ghost view = { λ b. bytes_held b.holder };
+}
+
+impl HeldBytes {
+    pub fn of_vec(bytes: Vec<u8>) -> Self
+        ensures { result ≡ bytes.items }
+    {
+        match short_of(&bytes) {
+            Some(short) => short,
+            None => HeldBytes {
+                holder: Holder::Long(bytes),
+            },
+        }
+    }
+
+    /// A copy: a short one takes no memory. The only error is want of memory.
+    pub fn of_slice(alloc: Global, bytes: &[u8]) -> Result<Self, AllocError>
+        ensures { IfOk result (λ b. b ≡ bytes.now) }
+    {
+        match short_of(bytes) {
+            Some(short) => Ok(short),
+            None => Ok(HeldBytes {
+                holder: Holder::Long(bytes.to_vec(alloc)?),
+            }),
+        }
+    }
+
+    pub fn as_slice(&self) -> &[u8]
+        ensures { result.now ≡ self.now }
+    {
+        match &self.holder {
+            Holder::Short(len, bytes) => first(bytes, usize::from(*len)),
+            Holder::Long(bytes) => bytes.as_slice(),
+        }
+    }
+
+    /// Whether a copy of it wants no memory.
+    pub fn is_short(&self) -> bool {
+        match &self.holder {
+            Holder::Short(..) => true,
+            Holder::Long(_) => false,
+        }
+    }
+
+    /// Equal bytes. The only error is want of memory.
+    pub fn copy(&self) -> Result<Self, AllocError>
+        ensures { IfOk result (λ b. b ≡ self.now) }
+    {
+        match &self.holder {
+            Holder::Short(len, bytes) => Ok(HeldBytes {
+                holder: Holder::Short(*len, *bytes),
+            }),
+            Holder::Long(bytes) => Ok(HeldBytes {
+                holder: Holder::Long(bytes.clone()?),
+            }),
+        }
+    }
+}
+
+// The first bytes of a list, or all where they are fewer.
+#[tactic(auto, using(std::proofs::lemmas::List::take_all))]
+fn first(bytes: &[u8], len: usize) -> &[u8]
+    ensures { result.now ≡ take len bytes.now }
+{
+    if len < bytes.len() {
+        &bytes[..len]
+    } else {
+        bytes
+    }
+}
+
+// The bytes held in place, where they are few.
+fn short_of(bytes: &[u8]) -> Option<HeldBytes>
+    ensures { IfSome result (λ b. b ≡ bytes.now) }
+{
+    let len = bytes.len();
+    if len > SHORT {
+        return None;
+    }
+    let mut short = [0; SHORT];
+    short[..len].copy_from_slice(bytes);
+    Some(HeldBytes {
+        holder: Holder::Short(len as u8, short),
+    })
+}
