@@ -1,15 +1,22 @@
 """Where the gate's processor time goes: for each crate its proofs, its tests and its edits, in seconds.
 
-The processes below this one are looked at twice a second, so a process that lives less than that may be missed.
+The processes below this one are looked at twice a second, so a process that lives less than that may be missed. How long a walk through
+memory takes is told beside: the prover does little else, and where other machines share the memory its seconds come to twice as many.
 """
 
+import array
 import os
 import pathlib
 import re
+import statistics
 import threading
+import time
 
 TICK = os.sysconf("SC_CLK_TCK")
 KINDS = ("proofs", "tests", "edits")
+WALK = 1 << 22  # the places of a walk, of eight bytes each: more than a core's caches hold
+STEPS = 500_000
+LOOKS_A_WALK = 60
 
 
 def stat_of(process):
@@ -31,6 +38,24 @@ def work_of(process):
     return words[words.index("--crate-name") + 1], kind
 
 
+class Walk:
+    """A walk through memory in which each step waits for the one before."""
+
+    def __init__(self):
+        self.places = array.array("Q", (place * 2654435761 % WALK for place in range(WALK)))
+        self.seconds = []
+
+    def go(self):
+        began, place = time.thread_time(), 0
+        for step in range(STEPS):
+            place = (self.places[place] + step) % WALK
+        self.seconds.append(time.thread_time() - began)
+
+    def line(self):
+        middle, times = statistics.median(self.seconds), len(self.seconds)
+        return f"a walk through memory: {min(self.seconds):.2f} to {max(self.seconds):.2f} s, {middle:.2f} in the middle, {times} times"
+
+
 class GateTime(threading.Thread):
     """Looks at the processes below this one until it is stopped."""
 
@@ -38,13 +63,18 @@ class GateTime(threading.Thread):
         super().__init__(daemon=True)
         self.ended = threading.Event()
         self.seconds = {}
+        self.walk = Walk()
 
     def run(self):
+        looks = 0
         while not self.ended.wait(0.5):
             try:
                 self.look()
             except (OSError, ValueError, IndexError):
                 pass
+            if looks % LOOKS_A_WALK == 0:
+                self.walk.go()
+            looks += 1
 
     def look(self):
         stats = {}
@@ -82,6 +112,10 @@ class GateTime(threading.Thread):
         yield "processor seconds: " + ", ".join(KINDS)
         for crate, by_kind in sorted(totals.items(), key=lambda it: -sum(it[1].values())):
             yield f"  {crate}: " + ", ".join(f"{by_kind[kind]:.0f}" for kind in KINDS)
+        sums = {kind: sum(by_kind[kind] for by_kind in totals.values()) for kind in KINDS}
+        yield f"  all: {', '.join(f'{sums[kind]:.0f}' for kind in KINDS)}, {sum(sums.values()) / 60:.1f} minutes"
+        if self.walk.seconds:
+            yield self.walk.line()
 
     def stop(self):
         self.ended.set()

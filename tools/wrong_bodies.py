@@ -235,6 +235,11 @@ use Rattle.{crate}.proofs.{hole}.{{taken}}
 pub {own}_spec : {{M : Type 1}} → statement M
 {own}_spec = absurd taken
 """
+# An answer to no goal, which stays open.
+OPEN = """
+openAnswer : ⊥
+openAnswer = ?
+"""
 # What only a test has is not there, and what another's type or a constant is made from is no matter of contracts alone.
 APART = re.compile(r"#\[(?:cycle|cfg|test)\b|\bconst fn\b|-> impl\b")
 
@@ -272,13 +277,31 @@ def held(crate, batch):
         for parts in paths:
             made.update(dict.fromkeys(proofs_of(crate, parts)))
             made[f"proofs/{'/'.join(parts)}/Proof.antt"] = HELD.format(crate=crate.name, path=".".join(parts), hole=HOLE, own=parts[-1])
-    return {**batch.texts, **made}
+    return with_open_answers(crate, {**batch.texts, **made}, changed)
+
+
+def with_open_answers(crate, texts, changed):
+    """The texts, with an open answer for each function that an edit changes. The check then names the goals that are left, and does not
+    write out the file that could answer them, which nobody reads and which takes up to a fifth of the check."""
+    made, there = dict(texts), lambda path: made[path] if path in made else read_if_there(crate, path)
+    for parts in filter(None, changed):
+        folders = [f"proofs/{'/'.join([*parts[:-1], name])}" for name in (f"+{parts[-1]}", parts[-1])]
+        is_in_cycle = any(there(f"{folders[0]}/{it}.antt") for it in ("Answers", "Invariants", "Proof"))
+        folder = folders[0 if is_in_cycle else 1]
+        if not there(f"{folder}/Proof.antt"):
+            made[f"{folder}/Answers.antt"] = (there(f"{folder}/Answers.antt") or "") + OPEN
+    return made
+
+
+def read_if_there(crate, path):
+    file = pathlib.Path(crate.folder, path)
+    return file.read_text() if file.is_file() else None
 
 
 # What a check says
 
-# (a function reads as held where it, or what it calls, is)
-FUNCTION = re.compile(r"fn (\w+)::(\S+): (not proved|no proof|proved|no holes|depends on a hole)")
+# (a function that is held reads as not proved, with no goal of its own)
+FUNCTION = re.compile(r"fn (\w+)::(\S+): (not proved|no proof|proved)")
 # A goal that is left, before the line of its function.
 LEFT = re.compile(r"note: src/\S+:\d+:\d+: it is not proved .*\(`([^`\s]+)`\)")
 PROOF_FAULT = re.compile(r"(?:\./)?(proofs/(\S+)/(?:Answers|Invariants|Proof)\.antt):\d+:\d+: error")
@@ -351,7 +374,7 @@ def tried(crate, batch, holds, kept=None):
     that are refused with no edit of theirs, and what went wrong beside."""
     # The edited functions and those that they call; where two functions have such a name, the whole crate.
     only = [word for it in batch.functions.values() for word in ("--only", it)]
-    flags = ["--jobs", "1", *(["--allow-holes"] if holds else [])]
+    flags = ["--jobs", "1"]
     with tempfile.TemporaryDirectory(prefix="edited-") as room:
         changed = copied(crate, held(crate, batch) if holds else batch.texts, room)
         ran = RT.checked(changed, {}, [*flags, *only], kept)
