@@ -6,9 +6,9 @@ ghost use Rattle.node_threads.specs.Each.{Each};
 use crate::dealing::deal;
 use crate::running::MAX_NODES;
 use front_board::{Board, Seat};
-use intake_queue::{Intake, MAX_CAPACITY, SenderPass, TakerPass};
+use intake_queue::{Intake, MAX_CAPACITY};
 use named_log::LogName;
-use node_cell::{Node, Pass};
+use node_cell::Node;
 use node_threads::{Feed, Inlet};
 use std::alloc::{AllocError, Global};
 
@@ -96,39 +96,6 @@ fn open_stands<L: LogName>(
     })
 }
 
-// A node with its one pass.
-fn open_node<L: LogName>(
-    alloc: Global,
-    number: usize,
-    trail: u64,
-) -> Result<(Node<L>, Pass<L>), AllocError>
-    ensures node { IfOk result (λ made. made.0.number ≡ number) }
-    ensures pass { IfOk result (λ made. IsPassOf made.0 made.1 × (made.1.list ≡ [])) }
-{
-    let (node, mut passes) = Node::<L>::open(alloc, number, 1, trail)?;
-    let Some(pass) = passes.pop() else {
-        unreachable!()
-    };
-    Ok((node, pass))
-}
-
-// An intake with its one sender and its taker.
-fn open_intake<L: LogName>(
-    alloc: Global,
-    capacity: usize,
-) -> Result<(Intake<L>, SenderPass<L>, TakerPass<L>), AllocError>
-    requires { (0 < capacity) × (capacity ≤ MAX_CAPACITY) }
-    ensures sender { IfOk result (λ made. made.1.intake ≡ made.0.id) }
-    ensures taker { IfOk result (λ made. made.2.intake ≡ made.0.id) }
-{
-    let (intake, mut senders, taker) = Intake::<L>::open(alloc, 1, capacity)?;
-    let Some(sender) = senders.pop() else {
-        unreachable!()
-    };
-    Ok((intake, sender, taker))
-}
-
-// What is dearest to drop is made last, and so stands at no error.
 fn open_stand<L: LogName>(
     alloc: Global,
     seat: Seat<L>,
@@ -139,13 +106,15 @@ fn open_stand<L: LogName>(
     ensures feed { IfOk result (λ s. (s.feed.inlet ≡ number) × (s.feed.sender.intake ≡ s.inlet.intake.id)) }
     ensures inlet { IfOk result (λ s. (s.inlet.node ≡ number) × (s.inlet.taker.intake ≡ s.inlet.intake.id) × (s.inlet.seat ≡ seat) × IsPassOf s.node s.inlet.pass × (s.inlet.pass.list ≡ [])) }
 {
-    let facts = deal(alloc, number, measure.dealt, measure.facts)?;
-    let (intake, sender, taker) = open_intake(alloc, measure.facts)?;
-    let (node, pass) = open_node(alloc, number, measure.trail)?;
+    let (node, mut passes) = Node::<L>::open(alloc, number, 1, measure.trail)?;
+    let (intake, mut senders, taker) = Intake::<L>::open(alloc, 1, measure.facts)?;
+    let (Some(pass), Some(sender)) = (passes.pop(), senders.pop()) else {
+        unreachable!()
+    };
     let feed = Feed {
         inlet: number,
         sender,
-        facts,
+        facts: deal(alloc, number, measure.dealt, measure.facts)?,
     };
     let inlet = Inlet {
         intake,
