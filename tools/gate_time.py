@@ -1,7 +1,7 @@
 """Where the gate's processor time goes: for each crate its proofs, its tests and its edits, in seconds.
 
 The processes below this one are looked at twice a second, so a process that lives less than that may be missed. How long a walk through
-memory takes is told beside: the prover does little else, and where other machines share the memory its seconds come to twice as many.
+memory takes is told beside, for it has been seen to take five times as long at one hour as at another, and a check twice as long.
 """
 
 import array

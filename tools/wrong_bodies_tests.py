@@ -52,6 +52,14 @@ abbrev pub invariant-loop-place : goal.invariant-loop-place
 invariant-loop-place l = l.count ≡ l.place
 """
 
+# The proof file of `counted_and_one`: an answer by hand, beside which the open one of an edit stands.
+ANSWERS = """use Rattle.std.proofs.Common.{rules}
+use Rattle.weak.proofs.counted_and_one.Goals as goal
+
+pub returns : goal.returns
+returns c = search rules
+"""
+
 WEAK = """pub struct Most {
     most: u32,
 }
@@ -81,16 +89,18 @@ EDITS = [
     ("weak", "most_is_below_the_first", "if x < y { y } else { x }", "if x < y { x } else { y }"),
     ("weak", "most_is_the_first", "if x < y { y } else { x }", "let _other = y; x"),
     ("weak", "counted_and_nothing", "counted(u64::from(to)) + 1", "counted(u64::from(to))"),
+    ("weak", "counted_in_a_block", "counted(u64::from(to)) + 1", "{ counted(u64::from(to)) + 1 }"),
     ("weak", "stands_twice", "x", "y"),
 ]
 
 # (where a check could not hold `counted`, it would refuse none)
 SAID = [
     "firm: check 1: 5 of 5 edits refused",
-    "weak: check 1: 2 of 3 edits refused",
+    "weak: check 1: 2 of 4 edits refused",
     "weak/most_is_the_first.edit: NOT REFUSED; the check ended with 0",
+    "weak/counted_in_a_block.edit: NOT REFUSED; the check ended with 0",
     "weak/stands_twice.edit: NOT REFUSED; an 'old:' text is in src/lib.rt",
-    "7 passed, 2 failed",
+    "7 passed, 3 failed",
 ]
 
 
@@ -111,6 +121,8 @@ def make(top):
         (top / f"crates/{name}/src/lib.rt").write_text(HEAD + code + COUNTED)
         (top / f"crates/{name}/proofs/counted").mkdir(parents=True)
         (top / f"crates/{name}/proofs/counted/Invariants.antt").write_text(INVARIANTS % name)
+    (top / "crates/weak/proofs/counted_and_one").mkdir()
+    (top / "crates/weak/proofs/counted_and_one/Answers.antt").write_text(ANSWERS)
     for crate, name, old, new in EDITS:
         (top / f"crates/{crate}/must-fail/{name}.edit").write_text(f"file: src/lib.rt\nold: {old}\nnew: {new}\n")
 
