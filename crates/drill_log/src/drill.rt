@@ -5,7 +5,7 @@ use std::alloc::{AllocError, Global};
 
 /// The log of N records of epoch 0, an advance, a truncation at N / 2 and N records of epoch 1, for N from 2 to 1,048,576.
 /// For any other N it is empty. Its roster has one reader.
-#[derive(Clone, Copy, Debug)]
+#[derive(Clone, Copy)]
 pub struct Drill<const N: u64>;
 
 impl<const N: u64> LogName for Drill<N> {

@@ -28,7 +28,7 @@ use std::alloc::{AllocError, Global};
 use std::marker::Model;
 
 /// The truncations and the advances that a segment knows, with the complete epoch and each reader's point.
-#[derive(Debug, Drop)]
+#[derive(Drop)]
 pub struct EpochBook {
     pub(crate) cuts: Vec<Cut>,
     // Below the complete epoch, the least `lo` of the truncations above each epoch and up to it.

@@ -5,7 +5,7 @@ ghost use Rattle.fleet_core.specs.Messages.{question_in, answer_in};
 use messages::{Delta, Summary};
 
 /// A message that was made. It stays, whatever becomes of the node that made it, and may be used again.
-#[derive(Debug, Drop)]
+#[derive(Drop)]
 pub enum Made {
     /// What a node told of itself when it was asked.
     Question(Summary),

@@ -3,7 +3,7 @@ use redo_core::Page;
 use segment_core::{Front, Refusal};
 
 /// The reply to a step.
-#[derive(Debug, Drop)]
+#[derive(Drop)]
 pub enum Reply {
     /// The fact changed the node's meaning.
     Changed,

@@ -6,7 +6,7 @@ use std::alloc::AllocError;
 
 /// A step of a script. Nodes are counted from 1; a step may name one that its fleet has not.
 /// `F` is what a take names: a fact, or where a fact stands.
-#[derive(Copy, Debug, Drop, PartialEq, Eq)]
+#[derive(Copy, Debug, Drop)]
 pub enum Step<F> {
     /// A fact reaches a node.
     Take {

@@ -20,7 +20,7 @@ use script_text::{Log, Script, ScriptError, read_facts, read_script};
 use std::alloc::{AllocError, Global};
 
 /// How an answered input ended, beside its text.
-#[derive(Clone, Copy, Debug, PartialEq, Eq)]
+#[derive(Clone, Copy)]
 pub enum Verdict {
     Done,
     /// The text names a bad line.

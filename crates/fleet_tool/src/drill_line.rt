@@ -11,7 +11,7 @@ use fleet_drill::{MAX_NODES, MAX_WORKERS, Size};
 use std::alloc::{AllocError, Global};
 
 /// A drill: how many nodes, how many workers of each kind, and the size of its log.
-#[derive(Clone, Copy, Debug, PartialEq, Eq)]
+#[derive(Clone, Copy)]
 pub struct DrillTask {
     pub nodes: usize,
     pub workers: usize,

@@ -17,7 +17,7 @@ use std::convert::AsStr;
 use thiserror::Error as ErrorTraits;
 
 /// An answer to a script, to a log, or to a capture.
-#[derive(Clone, Copy, Debug, PartialEq, Eq)]
+#[derive(Clone, Copy)]
 pub enum TextTask {
     Run,
     Check,
@@ -25,7 +25,7 @@ pub enum TextTask {
 }
 
 /// An answer to a script or to a log, whose lines may be bad and whose facts may break a law.
-#[derive(Clone, Copy, Debug, PartialEq, Eq)]
+#[derive(Clone, Copy)]
 pub enum LinesTask {
     Run,
     Check,
@@ -44,7 +44,7 @@ impl LinesTask {
 }
 
 /// What the command line asks for: an answer to what stands on standard input, one that standard error explains, or a drill.
-#[derive(Clone, Copy, Debug, PartialEq, Eq)]
+#[derive(Clone, Copy)]
 pub enum Task {
     Text(TextTask),
     Explained(LinesTask),

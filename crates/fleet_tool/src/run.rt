@@ -64,7 +64,7 @@ pub fn check_text<R: Read, W: Write>(
 }
 
 /// How an answered script or log ended, and why where its text names a bad line or a fault.
-#[derive(Clone, Copy, Debug, PartialEq, Eq)]
+#[derive(Clone, Copy)]
 pub struct Explained {
     pub verdict: Verdict,
     pub reason: Option<Reason>,

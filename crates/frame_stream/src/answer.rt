@@ -4,7 +4,7 @@ ghost use Rattle.std.specs.Prelude.{◌≡◌};
 ghost use Rattle.frame_stream.specs.AnswerBytes.{bytes_of};
 
 /// The bytes of an answer frame: fixed ones, which take no memory, or bytes that were made.
-#[derive(Debug, Drop)]
+#[derive(Drop)]
 pub enum FrameAnswer {
     Fixed(&'static [u8]),
     Made(Vec<u8>),

@@ -16,7 +16,7 @@ const SURE: usize = 17;
 const SURE_FRAME: usize = SURE + 4;
 
 /// Answer frames, one behind the other, with room for answers that are not known yet.
-#[derive(Debug, Drop)]
+#[derive(Drop)]
 pub struct AnswerFrames {
     bytes: Vec<u8>,
 }

@@ -10,7 +10,7 @@ use crate::machine::FrameMachine;
 use std::alloc::Global;
 
 /// What is known of a frame.
-#[derive(Clone, Copy, Debug, PartialEq, Eq)]
+#[derive(Clone, Copy)]
 pub enum Keeping {
     /// Its bytes are kept.
     Whole,

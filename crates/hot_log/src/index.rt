@@ -7,7 +7,7 @@ use std::alloc::{AllocError, Global};
 use std::marker::Model;
 
 /// Keys of records in groups, by their segment backlink.
-#[derive(Debug, Drop)]
+#[derive(Drop)]
 pub struct KeyIndex {
     keys: SortedRuns<(u64, Key), ()>,
 }

@@ -17,7 +17,7 @@ use std::alloc::{AllocError, Global};
 use std::marker::Model;
 
 /// The page of each key.
-#[derive(Debug, Drop)]
+#[derive(Drop)]
 pub struct KeyPages {
     map: SortedRuns<Key, u16>,
 }

@@ -28,7 +28,7 @@ use thiserror::Error;
 /// The redo records that a segment holds, by page and key.
 ///
 /// Beside them stand the page of each key, and the keys by segment backlink: those of the held records and no others.
-#[derive(Debug, Drop)]
+#[derive(Drop)]
 pub struct HotLog {
     pub(crate) records: PagedRecords,
     pub(crate) by_key: KeyPages,

@@ -25,7 +25,7 @@ use std::marker::Model;
 use std::ops::Bound;
 
 /// Records by page and, within a page, by key: epoch, then number. No two have one key.
-#[derive(Debug, Drop)]
+#[derive(Drop)]
 pub struct PagedRecords {
     map: SortedRuns<(u16, Key), Record>,
 }

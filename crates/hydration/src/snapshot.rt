@@ -11,7 +11,7 @@ use std::marker::Model;
 pub(crate) const BATCH: usize = 64;
 
 /// A snapshot of a segment under a name, which is told in pieces.
-#[derive(Debug, Drop)]
+#[derive(Drop)]
 pub struct Snapshot {
     name: u64,
     total: u32,

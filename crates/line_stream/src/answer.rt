@@ -4,7 +4,7 @@ ghost use Rattle.std.specs.Prelude.{◌≡◌};
 ghost use Rattle.line_stream.specs.AnswerText.{text_of};
 
 /// An answer line with its LF: a fixed one, which takes no memory, or one that was made.
-#[derive(Debug, Drop)]
+#[derive(Drop)]
 pub enum Answer {
     Fixed(&'static str),
     Made(String),

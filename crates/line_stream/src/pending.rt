@@ -10,7 +10,7 @@ use crate::machine::LineMachine;
 use std::alloc::Global;
 
 /// What is known of a line that has not ended yet.
-#[derive(Clone, Copy, Debug, PartialEq, Eq)]
+#[derive(Clone, Copy)]
 pub enum Keeping {
     /// Its bytes are kept.
     Whole,

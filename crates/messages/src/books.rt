@@ -8,7 +8,7 @@ use std::marker::Model;
 
 /// The part that summaries, deltas and pieces share: the truncations by epoch and their complete epoch, the point of each reader of
 /// the roster, and the waiting advances by epoch, reader and point, each of an epoch above the complete one.
-#[derive(Debug, Drop)]
+#[derive(Drop)]
 pub struct Book {
     cuts: Vec<Cut>,
     complete: u16,

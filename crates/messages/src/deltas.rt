@@ -9,7 +9,7 @@ use std::marker::Model;
 
 /// What one segment sends to another: its book, a base point up to the minimum read point with the pages there, none of
 /// zeros, by number, and records by epoch and number. At base 0 there are no pages.
-#[derive(Debug, Drop)]
+#[derive(Drop)]
 pub struct Delta {
     book: Book,
     base: u64,

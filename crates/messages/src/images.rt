@@ -6,7 +6,7 @@ use std::alloc::AllocError;
 use std::marker::Model;
 
 /// A page's number and its bytes.
-#[derive(Debug, Drop)]
+#[derive(Drop)]
 pub struct PageImage {
     number: u16,
     page: SharedPage,

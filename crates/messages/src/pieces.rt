@@ -10,7 +10,7 @@ use std::marker::Model;
 pub const MAX_BATCH: usize = 64;
 
 /// Records of one piece, by epoch and number.
-#[derive(Debug, Drop)]
+#[derive(Drop)]
 pub struct RecordBatch {
     records: Vec<Record>,
 }
@@ -47,7 +47,7 @@ impl RecordBatch {
 }
 
 /// What a piece brings: the head with the book and the anchor, the image of a page, or records.
-#[derive(Debug, Drop)]
+#[derive(Drop)]
 pub enum PieceContent {
     Head { book: Book, anchor: u64 },
     Page(PageImage),
@@ -56,7 +56,7 @@ pub enum PieceContent {
 
 /// A piece of a snapshot: the name of the snapshot, which piece of how many it is, and what it brings. The head is piece 0, its
 /// anchor up to the minimum read point; a page is not all zeros; records are 1 to 64, by epoch and number.
-#[derive(Debug, Drop)]
+#[derive(Drop)]
 pub struct Piece {
     name: u64,
     index: u32,

@@ -8,7 +8,7 @@ use std::marker::Model;
 
 /// What one segment tells another of itself: its book, its anchor up to the minimum read point, and the keys of the records
 /// that it keeps, by epoch and number, each number from 1 to 2^48 - 1.
-#[derive(Debug, Drop)]
+#[derive(Drop)]
 pub struct Summary {
     book: Book,
     anchor: u64,

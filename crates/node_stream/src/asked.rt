@@ -5,14 +5,14 @@ ghost use Rattle.std.specs.Prelude.{◌≡◌};
 use replica::Request;
 
 /// The bytes of a page that an answer shows: `len` bytes from `offset` on, up to the page's 4,096.
-#[derive(Clone, Copy, Debug, PartialEq, Eq)]
+#[derive(Clone, Copy)]
 pub struct Window {
     pub offset: u16,
     pub len: u16,
 }
 
 /// A request, and which bytes of a page its answer shows.
-#[derive(Debug, Drop)]
+#[derive(Drop)]
 pub struct Asked {
     pub request: Request,
     pub window: Window,

@@ -6,14 +6,14 @@ ghost use Rattle.node_stream.specs.CommandLine.{named as named_of, job_in};
 use std::convert::AsStr;
 
 /// The two forms of the stream.
-#[derive(Clone, Copy, Debug, PartialEq, Eq)]
+#[derive(Clone, Copy)]
 pub enum Form {
     Lines,
     Frames,
 }
 
 /// What the command line asks for: answers to the requests of standard input, the help, or the version.
-#[derive(Clone, Copy, Debug, PartialEq, Eq)]
+#[derive(Clone, Copy)]
 pub enum Job {
     Serve(Form),
     Help,

@@ -6,7 +6,7 @@ use std::alloc::AllocError;
 use std::marker::Model;
 
 /// An image of a page, and the point of the log that it shows.
-#[derive(Debug, Drop)]
+#[derive(Drop)]
 pub struct BaseImage {
     page: u16,
     version: u64,

@@ -13,7 +13,7 @@ use std::alloc::{AllocError, Global};
 use std::marker::Model;
 
 /// The base images of pages, rising by page. A page without one is zeros at the floor, and no image is of a version below that.
-#[derive(Debug, Drop)]
+#[derive(Drop)]
 pub struct BaseStore {
     alloc: Global,
     images: Vec<BaseImage>,

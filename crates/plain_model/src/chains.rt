@@ -1,5 +1,5 @@
 /// The two chains in which a record has a backlink.
-#[derive(Clone, Copy, Debug, PartialEq, Eq)]
+#[derive(Clone, Copy)]
 pub(crate) enum Chain {
     /// All records of the segment.
     Segment,

@@ -10,7 +10,7 @@ pub enum Standing {
 }
 
 /// The numbers of a set of facts.
-#[derive(Debug, PartialEq, Eq, Drop)]
+#[derive(Drop)]
 pub struct Position {
     /// The complete epoch.
     pub epoch: u16,

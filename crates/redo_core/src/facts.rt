@@ -7,7 +7,7 @@ use crate::records::Record;
 use std::alloc::{AllocError, AllocFailed};
 
 /// What a database tells its segments: a redo record, a truncation, or an advance of a reader's point.
-#[derive(Debug, Drop)]
+#[derive(Drop)]
 pub enum Fact {
     Record(Record),
     Cut(Cut),

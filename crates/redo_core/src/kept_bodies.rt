@@ -12,7 +12,7 @@ use std::marker::Model;
 use std::slice;
 use std::sync::Arc;
 
-#[derive(Debug, Drop)]
+#[derive(Drop)]
 enum Holder {
     // Most records have one patch of a few bytes: it wants no memory of its own, and a fold finds it where it finds the record.
     Short(Patch),
@@ -23,7 +23,6 @@ enum Holder {
 }
 
 /// The patches of one record, or of a record and its copies.
-#[derive(Debug)]
 pub struct KeptBody {
     holder: Holder,
 }

@@ -12,7 +12,7 @@ use std::alloc::{AllocError, Global};
 use std::marker::Model;
 
 /// A page of 4,096 bytes.
-#[derive(Debug, Drop)]
+#[derive(Drop)]
 pub struct Page {
     bytes: Vec<u8>,
 }

@@ -8,14 +8,14 @@ use crate::writes::Write;
 use std::alloc::AllocError;
 
 /// What a redo record does at one place of its page: a write of bytes, or one byte over a length.
-#[derive(Debug, Drop)]
+#[derive(Drop)]
 pub enum Patch {
     Bytes(Write),
     Fill { offset: u16, len: u16, byte: u8 },
 }
 
 /// The patches of a redo record, as they are lent: the list of writes that they came in, or the patches.
-#[derive(Clone, Copy, Debug)]
+#[derive(Clone, Copy)]
 pub enum Body<'a> {
     Writes(&'a [Write]),
     Patches(&'a [Patch]),

@@ -7,7 +7,7 @@ use std::alloc::{AllocError, Global};
 use std::marker::Model;
 
 /// How far the readers of a log have come: each reader's point, by reader.
-#[derive(Debug, Drop)]
+#[derive(Drop)]
 pub struct ReadPoints {
     by_reader: Vec<u64>,
 }

@@ -18,7 +18,7 @@ use std::slice;
 
 /// A redo record: patches to one page, with a number, a backlink in the segment's chain and one in the page's.
 /// With `init` its page begins anew, whatever was written to it before.
-#[derive(Debug, Drop)]
+#[derive(Drop)]
 pub struct Record {
     // By falling size, so that nothing is padded: logs hold many records.
     number: u64,

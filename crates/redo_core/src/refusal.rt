@@ -1,5 +1,5 @@
 /// What a refused call hands back: the value that was moved into it, and why it was refused.
-#[derive(Debug, Drop)]
+#[derive(Drop)]
 pub struct Refused<V, F> {
     pub value: V,
     pub fault: F,

@@ -9,7 +9,6 @@ use std::marker::Model;
 use std::sync::Arc;
 
 /// A page of 4,096 bytes that does not change any more, for any number of owners.
-#[derive(Debug)]
 pub struct SharedPage {
     page: Arc<Page>,
     // Told once, so that nobody goes over the bytes again.

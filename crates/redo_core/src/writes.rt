@@ -2,7 +2,6 @@ ghost use Rattle.std.specs.Prelude.{◌≡◌, ◌↔◌, IsTrue, IfOk};
 
 use crate::held_bytes::HeldBytes;
 use std::alloc::{AllocError, Global};
-use std::fmt;
 use std::marker::Model;
 
 /// Bytes that a redo record puts into its page, from an offset on.
@@ -70,15 +69,6 @@ impl Write {
         ensures { IsTrue result ↔ (self.now ≡ other.now) }
     {
         self.offset == other.offset && are_same_bytes(self.bytes(), other.bytes())
-    }
-}
-
-impl fmt::Debug for Write {
-    fn fmt<W: fmt::Write>(&self, f: &mut fmt::Formatter<W>) -> fmt::Result {
-        f.debug_struct("Write")
-            .field("offset", &self.offset)
-            .field("bytes", &self.bytes())
-            .finish()
     }
 }
 

@@ -1,16 +1,15 @@
-//! What the contracts fix, so that no other body meets them: what is written is read again, and bytes are read in one way. Each
-//! function states its law and is called by nobody.
+//! What the contracts fix, so that no other body meets them: what is written is read again. Each function states its law and is called
+//! by nobody.
 
-ghost use Rattle.std.specs.Prelude.{◌≡◌, ◌⊎◌, IfOk, IfErr, IfSome};
+ghost use Rattle.std.specs.Prelude.{◌≡◌, ◌⊎◌, IfOk, IfErr};
 ghost use Rattle.redo_wire.specs.declared.faults.WireError.{WireError};
 ghost use Rattle.redo_wire.specs.declared.faults.WireFault.TheVariants.{TooLong};
 
 use crate::deltas::{decode_delta, encode_delta};
 use crate::facts::{decode_fact, encode_fact};
-use crate::faults::{WireError, WireFault};
+use crate::faults::WireError;
 use crate::pieces::{decode_piece, encode_piece};
 use crate::summaries::{decode_summary, encode_summary};
-use crate::values::{WireValue, decode_value};
 use bytes::BytesMut;
 use messages::{Delta, Piece, Summary};
 use redo_core::Fact;
@@ -50,84 +49,4 @@ fn piece_is_read_again(alloc: Global, piece: &Piece) -> Result<Piece, WireError>
     let mut text = BytesMut::new(alloc);
     encode_piece(&mut text, piece)?;
     decode_piece(alloc, text.as_slice())
-}
-
-fn fact_is_read_one_way(
-    alloc: Global,
-    bytes: &[u8],
-) -> Result<(Fact, Fact), Option<(WireFault, WireFault)>>
-    ensures value { IfOk result (λ both. both.0 ≡ both.1) }
-    ensures fault { IfErr result (λ faults. IfSome faults (λ both. both.0 ≡ both.1)) }
-{
-    match (decode_fact(alloc, bytes), decode_fact(alloc, bytes)) {
-        (Err(WireError::Memory), _) => Err(None),
-        (_, Err(WireError::Memory)) => Err(None),
-        (Ok(one), Ok(other)) => Ok((one, other)),
-        (Err(WireError::Fault(one)), Err(WireError::Fault(other))) => Err(Some((one, other))),
-        _ => unreachable!(),
-    }
-}
-
-fn summary_is_read_one_way(
-    alloc: Global,
-    bytes: &[u8],
-) -> Result<(Summary, Summary), Option<(WireFault, WireFault)>>
-    ensures value { IfOk result (λ both. both.0 ≡ both.1) }
-    ensures fault { IfErr result (λ faults. IfSome faults (λ both. both.0 ≡ both.1)) }
-{
-    match (decode_summary(alloc, bytes), decode_summary(alloc, bytes)) {
-        (Err(WireError::Memory), _) => Err(None),
-        (_, Err(WireError::Memory)) => Err(None),
-        (Ok(one), Ok(other)) => Ok((one, other)),
-        (Err(WireError::Fault(one)), Err(WireError::Fault(other))) => Err(Some((one, other))),
-        _ => unreachable!(),
-    }
-}
-
-fn delta_is_read_one_way(
-    alloc: Global,
-    bytes: &[u8],
-) -> Result<(Delta, Delta), Option<(WireFault, WireFault)>>
-    ensures value { IfOk result (λ both. both.0 ≡ both.1) }
-    ensures fault { IfErr result (λ faults. IfSome faults (λ both. both.0 ≡ both.1)) }
-{
-    match (decode_delta(alloc, bytes), decode_delta(alloc, bytes)) {
-        (Err(WireError::Memory), _) => Err(None),
-        (_, Err(WireError::Memory)) => Err(None),
-        (Ok(one), Ok(other)) => Ok((one, other)),
-        (Err(WireError::Fault(one)), Err(WireError::Fault(other))) => Err(Some((one, other))),
-        _ => unreachable!(),
-    }
-}
-
-fn piece_is_read_one_way(
-    alloc: Global,
-    bytes: &[u8],
-) -> Result<(Piece, Piece), Option<(WireFault, WireFault)>>
-    ensures value { IfOk result (λ both. both.0 ≡ both.1) }
-    ensures fault { IfErr result (λ faults. IfSome faults (λ both. both.0 ≡ both.1)) }
-{
-    match (decode_piece(alloc, bytes), decode_piece(alloc, bytes)) {
-        (Err(WireError::Memory), _) => Err(None),
-        (_, Err(WireError::Memory)) => Err(None),
-        (Ok(one), Ok(other)) => Ok((one, other)),
-        (Err(WireError::Fault(one)), Err(WireError::Fault(other))) => Err(Some((one, other))),
-        _ => unreachable!(),
-    }
-}
-
-fn value_is_read_one_way(
-    alloc: Global,
-    bytes: &[u8],
-) -> Result<(WireValue, WireValue), Option<(WireFault, WireFault)>>
-    ensures value { IfOk result (λ both. both.0 ≡ both.1) }
-    ensures fault { IfErr result (λ faults. IfSome faults (λ both. both.0 ≡ both.1)) }
-{
-    match (decode_value(alloc, bytes), decode_value(alloc, bytes)) {
-        (Err(WireError::Memory), _) => Err(None),
-        (_, Err(WireError::Memory)) => Err(None),
-        (Ok(one), Ok(other)) => Ok((one, other)),
-        (Err(WireError::Fault(one)), Err(WireError::Fault(other))) => Err(Some((one, other))),
-        _ => unreachable!(),
-    }
 }

@@ -16,7 +16,7 @@ use redo_core::Fact;
 use std::alloc::Global;
 
 /// A value of the wire: a fact, a summary, a delta or a piece.
-#[derive(Debug, Drop)]
+#[derive(Drop)]
 pub enum WireValue {
     Fact(Fact),
     Summary(Summary),

@@ -4,7 +4,7 @@ use redo_core::{Page, Record};
 use segment_core::{Front, Gap, Refusal};
 
 /// What a replica replies to a request.
-#[derive(Debug, Drop)]
+#[derive(Drop)]
 pub enum Reply {
     /// The segment is a new one, of the roster asked for.
     Opened,

@@ -2,7 +2,7 @@ use messages::{Delta, Piece, Summary};
 use redo_core::{Fact, Key, Roster};
 
 /// What a replica is asked.
-#[derive(Debug, Drop)]
+#[derive(Drop)]
 pub enum Request {
     /// An empty segment of this roster of readers is to stand in place of the segment.
     Open { roster: Roster },

@@ -19,14 +19,14 @@ use redo_core::{Fact, Roster};
 use std::alloc::{AllocError, AllocFailed, Global};
 
 /// The facts of a log, in the order of their lines, and its roster.
-#[derive(Debug, Drop)]
+#[derive(Drop)]
 pub struct Log {
     pub roster: Roster,
     pub facts: Vec<Fact>,
 }
 
 /// What a script says: a log, the number of nodes, and steps. A take names its fact by the place in the log, from 1.
-#[derive(Debug, Drop)]
+#[derive(Drop)]
 pub struct Script {
     pub roster: Roster,
     pub facts: Vec<Fact>,
@@ -43,7 +43,7 @@ struct Asked {
 }
 
 /// Why a text was not read.
-#[derive(Debug, Drop)]
+#[derive(Drop)]
 pub enum ScriptError {
     Memory,
     /// The number of the least bad line, from 1.

@@ -23,7 +23,7 @@ const MOST: usize = 65_536;
 /// and no version of an image is above `top`, so that a record above it makes no page due.
 ///
 /// A page that cannot be listed for want of memory makes each page due: so no call here has an error but `copy`.
-#[derive(Debug, Drop)]
+#[derive(Drop)]
 pub(crate) struct Due {
     pages: Vec<u16>,
     all: bool,

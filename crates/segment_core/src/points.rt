@@ -16,7 +16,7 @@ use redo_core::{MAX_NUMBER, Record};
 /// base point to the complete point: without a fork and without a stray, as it is over a sound log.
 ///
 /// Over a straight chain the points move forward from where they stand; over any other they are taken anew.
-#[derive(Clone, Copy, Debug)]
+#[derive(Clone, Copy)]
 pub(crate) struct Points {
     pub(crate) complete: u64,
     pub(crate) anchor: u64,

@@ -37,7 +37,7 @@ use std::marker::Model;
 use std::ops::Bound;
 
 /// Entries in the order of their keys.
-#[derive(Debug, Drop)]
+#[derive(Drop)]
 pub struct SortedRuns<K: Ord + Copy, V> {
     alloc: Global,
     firsts: Vec<K>,

@@ -14,7 +14,7 @@ use std::ops::Bound;
 const STRIDE: usize = 8;
 
 // A place in a run, before an entry or behind the last one.
-#[derive(Debug, Clone, Copy)]
+#[derive(Clone, Copy)]
 pub(crate) struct Place {
     pub(crate) run: usize,
     pub(crate) at: usize,
