@@ -1,4 +1,4 @@
-ghost use Rattle.std.specs.Prelude.{◌≡◌, ◌<◌, ◌≤◌, ◌+◌, [], All, length, replicate, IfOk};
+ghost use Rattle.std.specs.Prelude.{◌≡◌, ◌<◌, ◌≤◌, ◌+◌, ◌++◌, ◌∷◌, [], All, length, replicate, IfOk, OnOk};
 ghost use Rattle.front_board.specs.Seat.{IsNode, new_seat};
 ghost use Rattle.node_cell.specs.Node.{IsPassOf};
 ghost use Rattle.node_threads.specs.Each.{Each};
@@ -83,10 +83,7 @@ fn open_stands<L: LogName>(
     for seat in seats {
         let number = nodes.len() + 1;
         let stand = open_stand(alloc, seat, number, measure)?;
-        let Stand { node, feed, inlet } = stand;
-        nodes.push(node)?;
-        feeds.push(feed)?;
-        inlets.push(inlet)?;
+        add(&mut nodes, &mut feeds, &mut inlets, stand)?;
     }
     Ok(Floor {
         board,
@@ -94,6 +91,24 @@ fn open_stands<L: LogName>(
         feeds,
         inlets,
     })
+}
+
+// Puts what makes up a stand behind what is there. The lists are lent, so that no want of memory lets them go here.
+fn add<L: LogName>(
+    nodes: &mut Vec<Node<L>>,
+    feeds: &mut Vec<Feed<L>>,
+    inlets: &mut Vec<Inlet<L>>,
+    stand: Stand<L>,
+) -> Result<(), AllocError>
+    ensures node { OnOk result (nodes.new.items ≡ nodes.old.items ++ stand.node ∷ []) }
+    ensures feed { OnOk result (feeds.new.items ≡ feeds.old.items ++ stand.feed ∷ []) }
+    ensures inlet { OnOk result (inlets.new.items ≡ inlets.old.items ++ stand.inlet ∷ []) }
+{
+    let Stand { node, feed, inlet } = stand;
+    nodes.push(node)?;
+    feeds.push(feed)?;
+    inlets.push(inlet)?;
+    Ok(())
 }
 
 fn open_stand<L: LogName>(
@@ -106,6 +121,8 @@ fn open_stand<L: LogName>(
     ensures feed { IfOk result (λ s. (s.feed.inlet ≡ number) × (s.feed.sender.intake ≡ s.inlet.intake.id)) }
     ensures inlet { IfOk result (λ s. (s.inlet.node ≡ number) × (s.inlet.taker.intake ≡ s.inlet.intake.id) × (s.inlet.seat ≡ seat) × IsPassOf s.node s.inlet.pass × (s.inlet.pass.list ≡ [])) }
 {
+    // What is least to let go where memory is wanting is made first.
+    let facts = deal(alloc, number, measure.dealt, measure.facts)?;
     let (node, mut passes) = Node::<L>::open(alloc, number, 1, measure.trail)?;
     let (intake, mut senders, taker) = Intake::<L>::open(alloc, 1, measure.facts)?;
     let (Some(pass), Some(sender)) = (passes.pop(), senders.pop()) else {
@@ -114,7 +131,7 @@ fn open_stand<L: LogName>(
     let feed = Feed {
         inlet: number,
         sender,
-        facts: deal(alloc, number, measure.dealt, measure.facts)?,
+        facts,
     };
     let inlet = Inlet {
         intake,

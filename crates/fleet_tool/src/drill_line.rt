@@ -2,7 +2,7 @@
 
 ghost use Rattle.std.specs.Prelude.{◌≡◌, ◌<◌, ◌^◌, ◌↔◌, ℕ, IfOk, IfSome, IsTrue, Some, codes, false};
 ghost use Rattle.clap.specs.Words.{shape_of, rule_of, found_of, rows_of, first_of, one_of};
-ghost use Rattle.fleet_tool.specs.DrillLine.{IsDrillTask, SpellsNumber, SpellsDrill, size_name, number_rule, drill_shape};
+ghost use Rattle.fleet_tool.specs.DrillLine.{IsDrillTask, SpellsNumber, SpellsDrill, size_name, number_rule, size_rule, drill_shape};
 
 use crate::help;
 use clap::builder::ValueParser;
@@ -47,23 +47,28 @@ fn number_arg<'a>(
         .default_value(usual)
 }
 
+// The option that takes the size of the log.
+fn size_arg<'a>(alloc: Global) -> Arg<'a>
+    ensures rule { rule_of result ≡ size_rule }
+    ensures own { result.global ≡ false }
+{
+    Arg::new(alloc, "size")
+        .long("size")
+        .value_name("S")
+        .help(help::SIZE)
+        .default_value("small")
+}
+
 /// The subcommand `drill`, with its options.
 pub fn drill_command<'a>(alloc: Global) -> Result<Command<'a>, AllocError>
     ensures { IfOk result (λ c. shape_of c ≡ drill_shape) }
 {
-    let nodes = number_arg(alloc, "nodes", "K", help::NODES, 6, "3");
-    let workers = number_arg(alloc, "workers", "W", help::WORKERS, 16, "4");
-    let size = Arg::new(alloc, "size")
-        .long("size")
-        .value_name("S")
-        .help(help::SIZE)
-        .default_value("small");
     Command::new(alloc, "drill")
         .about(help::DRILL_IN_A_LINE)
         .after_help(help::DRILL)
-        .arg(nodes)?
-        .arg(workers)?
-        .arg(size)
+        .arg(number_arg(alloc, "nodes", "K", help::NODES, 6, "3"))?
+        .arg(number_arg(alloc, "workers", "W", help::WORKERS, 16, "4"))?
+        .arg(size_arg(alloc))
 }
 
 // The size of this name.

@@ -1,6 +1,7 @@
 //! Answer lines.
 
 ghost use Rattle.std.specs.Prelude.{◌≡◌, ◌++◌, IfOk, OnOk, codes, string_bytes};
+ghost use Rattle.std.specs.Fmt.{decimal};
 ghost use Rattle.hex.specs.Hex.{encode_lower};
 ghost use Rattle.fleet_steps.specs.Shown.{ShowsInside};
 ghost use Rattle.fleet_core.specs.Replies.{HasCome};
@@ -46,6 +47,18 @@ fn front_line(alloc: Global, front: &Front) -> Result<String, AllocError>
     format!(in alloc; "front {epoch} {complete} {min}\n")
 }
 
+/// Appends the line of a word and a number.
+fn put_number(
+    alloc: Global,
+    word: &str,
+    number: u64,
+    text: &mut String,
+) -> Result<(), AllocError>
+    ensures { OnOk result (string_bytes text.new ≡ string_bytes text.old ++ (word.now ++ (decimal number ++ codes "\n"))) }
+{
+    text.push_str(&format!(in alloc; "{word}{number}\n")?)
+}
+
 /// What of a summary a node does not answer for.
 fn uncovered_text(alloc: Global, shown: Shown) -> Result<String, AllocError>
     ensures { IfOk result (λ s. string_bytes s ≡ uncovered_text shown) }
@@ -85,17 +98,17 @@ pub fn put_line(
         Reply::Discarded => text.push_str("discarded\n"),
         Reply::Front(front) => text.push_str(&front_line(alloc, front)?),
         Reply::Page(page) => put_page(alloc, shown_bytes(step, page), text),
-        Reply::Below(min) => text.push_str(&format!(in alloc; "below {min}\n")?),
-        Reply::Above(complete) => text.push_str(&format!(in alloc; "above {complete}\n")?),
+        Reply::Below(min) => put_number(alloc, "below ", *min, text),
+        Reply::Above(complete) => put_number(alloc, "above ", *complete, text),
         Reply::Joined => text.push_str("joined\n"),
         Reply::Answer(true) => text.push_str("yes\n"),
         Reply::Answer(false) => text.push_str("no\n"),
         Reply::Wiped => text.push_str("wiped\n"),
-        Reply::Message(number) => text.push_str(&format!(in alloc; "message {number}\n")?),
+        Reply::Message(number) => put_number(alloc, "message ", *number as u64, text),
         Reply::Absorbed => text.push_str("absorbed\n"),
         Reply::Uncovered(shown) => text.push_str(&uncovered_line(alloc, *shown)?),
-        Reply::NoMessage(number) => text.push_str(&format!(in alloc; "no message {number}\n")?),
-        Reply::NoNode(node) => text.push_str(&format!(in alloc; "no node {node}\n")?),
+        Reply::NoMessage(number) => put_number(alloc, "no message ", *number as u64, text),
+        Reply::NoNode(node) => put_number(alloc, "no node ", u64::from(*node), text),
         Reply::Refused(_) => Ok(()),
         Reply::BrokenBlockChain { .. } => Ok(()),
         Reply::Memory => Err(AllocError),

@@ -284,12 +284,16 @@ impl<L: LogName> Kept<L> {
 fn boxed(alloc: Global, segment: Segment) -> Result<Box<CachedSegment>, AllocError>
     ensures { IfOk result (λ b. b.value.segment ≡ segment) }
 {
-    let Ok(cached) = CachedSegment::new(segment, CACHED_IMAGES) else {
-        return Err(AllocError);
-    };
-    match Box::new(alloc, cached) {
-        Ok(boxed) => Ok(boxed),
-        Err(_) => Err(AllocError),
+    Ok(Box::new(alloc, cached(segment)?)?)
+}
+
+// What comes back with a refusal is let go here alone, where nothing else stands beside it.
+fn cached(segment: Segment) -> Result<CachedSegment, AllocError>
+    ensures { IfOk result (λ c. c.segment ≡ segment) }
+{
+    match CachedSegment::new(segment, CACHED_IMAGES) {
+        Ok(cached) => Ok(cached),
+        Err(refused) => Err(refused.fault),
     }
 }
 

@@ -5,9 +5,9 @@ use crate::help::{HELP, VERSION};
 use crate::job::{Form, Job, job_of};
 use crate::node::Node;
 use crate::stream::{serve, serve_frames};
-use line_stream::Watched;
+use line_stream::{RunFault, Watched};
 use redo_core::Roster;
-use std::alloc::AllocError;
+use std::alloc::{AllocError, Global};
 use std::process::ExitCode;
 use std::rt::Env;
 use std::{env, io};
@@ -32,25 +32,43 @@ fn failed(rt: &impl Eprint, why: &str, status: u8) -> ExitCode {
     ExitCode::from(status)
 }
 
-/// Answers standard input on standard output.
-fn answer_input(rt: &(impl Input + Print + Eprint + AllocGlobal), form: Form) -> ExitCode {
-    let Ok(roster) = Roster::new(1) else {
-        return failed(rt, "out of memory", MEMORY);
-    };
-    let Ok(mut node) = Node::new(rt.alloc(), roster, PAGES) else {
-        return failed(rt, "out of memory", MEMORY);
-    };
+/// Serves standard input and output until the input ends.
+fn serve_input(
+    rt: &(impl Input + Print + Eprint + AllocGlobal),
+    form: Form,
+    node: &mut Node,
+) -> Result<(), RunFault> {
     let mut reader = Watched::new(rt.reader());
     let mut writer = Watched::new(io::writer(rt));
-    let ended = match form {
-        Form::Lines => serve(LIMIT, &mut node, &mut reader, &mut writer),
-        Form::Frames => serve_frames(LIMIT, &mut node, &mut reader, &mut writer),
-    };
+    match form {
+        Form::Lines => serve(LIMIT, node, &mut reader, &mut writer),
+        Form::Frames => serve_frames(LIMIT, node, &mut reader, &mut writer),
+    }
+}
+
+/// The status of an ending, of which standard error tells where it is a fault.
+fn ended_by(rt: &impl Eprint, ended: Result<(), RunFault>) -> ExitCode {
     let words = words_of(ended);
     if !words.is_empty() {
         return failed(rt, words, status_of(ended));
     }
     ExitCode::from(status_of(ended))
+}
+
+/// A node of one reader, without facts, in memory of its own. Its only error is want of memory.
+fn open_node(alloc: Global) -> Result<Box<Node>, AllocError> {
+    match Roster::new(1) {
+        Ok(roster) => Ok(Box::new(alloc, Node::new(alloc, roster, PAGES)?)?),
+        Err(_) => Err(AllocError),
+    }
+}
+
+/// Answers standard input on standard output.
+fn answer_input(rt: &(impl Input + Print + Eprint + AllocGlobal), form: Form) -> ExitCode {
+    match open_node(rt.alloc()) {
+        Ok(mut node) => ended_by(rt, serve_input(rt, form, &mut node)),
+        Err(_) => failed(rt, "out of memory", MEMORY),
+    }
 }
 
 fn say(rt: &(impl Print + Eprint), text: &str) -> ExitCode {

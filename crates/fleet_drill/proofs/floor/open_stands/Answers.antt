@@ -13,9 +13,9 @@ loop-seat-preserved g c =
     let s = c.in-Some.ensures.steps in
     let e = c.in_ok-stand.ensures in
     let stand = c.in_ok-stand.stand in
-    let nodes : c.push.new.self.items ≡ c.loop-seat.nodes.items ++ c.in_ok-stand.stand.node ∷ [] = c.in_ok-push.ensures.items in
-    let feeds : c.push-in-loop-seat.new.self.items ≡ c.loop-seat.feeds.items ++ c.in_ok-stand.stand.feed ∷ [] = c.in_ok-push-2.ensures.items in
-    let inlets : c.push-in-loop-seat-2.new.self.items ≡ c.loop-seat.inlets.items ++ c.in_ok-stand.stand.inlet ∷ [] = c.in_ok-push-3.ensures.items in
+    let nodes : c.add.new.nodes.items ≡ c.loop-seat.nodes.items ++ c.in_ok-stand.stand.node ∷ [] = c.in_ok-add.ensures.node in
+    let feeds : c.add.new.feeds.items ≡ c.loop-seat.feeds.items ++ c.in_ok-stand.stand.feed ∷ [] = c.in_ok-add.ensures.feed in
+    let inlets : c.add.new.inlets.items ≡ c.loop-seat.inlets.items ++ c.in_ok-stand.stand.inlet ∷ [] = c.in_ok-add.ensures.inlet in
     let next = next_at (replicate c.args.count (new_seat c.args.board c.args.count)) (length c.loop-seat.nodes.items) c.in-Some.seat c.next.new.self.rest.items (sym s.0 ∙ i.rest) in
     let seat : c.in-Some.seat ≡ new_seat c.args.board c.args.count = copy_at c.args.count (new_seat c.args.board c.args.count) (length c.loop-seat.nodes.items) c.in-Some.seat next.0 in
     let within = slice_get_within (replicate c.args.count (new_seat c.args.board c.args.count)) (length c.loop-seat.nodes.items) c.in-Some.seat next.0 in
@@ -31,11 +31,11 @@ loop-seat-preserved g c =
       within = omega (arith, len, within, size);
       feeds = omega (arith, len, feeds_len, i.feeds);
       inlets = omega (arith, len, inlets_len, i.inlets);
-      numbers = all_more c.loop-seat.nodes.items c.push.new.self.items c.in_ok-stand.stand.node (λ m. IsNode c.args.board.words m.number) i.numbers nodes
+      numbers = all_more c.loop-seat.nodes.items c.add.new.nodes.items c.in_ok-stand.stand.node (λ m. IsNode c.args.board.words m.number) i.numbers nodes
           (omega (arith, e.node, index), omega (arith, e.node, index, within, size, c.requires.words));
-      feeds_fit = each_both c.loop-seat.inlets.items c.push-in-loop-seat-2.new.self.items c.loop-seat.feeds.items c.push-in-loop-seat.new.self.items c.in_ok-stand.stand.inlet c.in_ok-stand.stand.feed
+      feeds_fit = each_both c.loop-seat.inlets.items c.add.new.inlets.items c.loop-seat.feeds.items c.add.new.feeds.items c.in_ok-stand.stand.inlet c.in_ok-stand.stand.feed
           (λ k n d. (d.inlet ≡ k + 1) × (d.sender.intake ≡ n.intake.id)) i.feeds_fit (i.feeds ∙ sym i.inlets) inlets feeds (omega (arith, e.feed.0, index, i.inlets), e.feed.1);
-      inlets_fit = each_both c.loop-seat.nodes.items c.push.new.self.items c.loop-seat.inlets.items c.push-in-loop-seat-2.new.self.items c.in_ok-stand.stand.node c.in_ok-stand.stand.inlet
+      inlets_fit = each_both c.loop-seat.nodes.items c.add.new.nodes.items c.loop-seat.inlets.items c.add.new.inlets.items c.in_ok-stand.stand.node c.in_ok-stand.stand.inlet
           (λ k n d. (d.node ≡ k + 1) × (d.taker.intake ≡ d.intake.id) × (d.seat.board ≡ c.args.board) × IsPassOf n d.pass × (d.pass.list ≡ [])) i.inlets_fit i.inlets nodes inlets
           (omega (arith, e.inlet.0, index), e.inlet.1, ap (λ x. x.board) e.inlet.2 ∙ ap (λ x. x.board) seat, e.inlet.3, e.inlet.4);
     }
