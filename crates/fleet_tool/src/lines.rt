@@ -48,12 +48,7 @@ fn front_line(alloc: Global, front: &Front) -> Result<String, AllocError>
 }
 
 /// Appends the line of a word and a number.
-fn put_number(
-    alloc: Global,
-    word: &str,
-    number: u64,
-    text: &mut String,
-) -> Result<(), AllocError>
+fn put_number(alloc: Global, word: &str, number: u64, text: &mut String) -> Result<(), AllocError>
     ensures { OnOk result (string_bytes text.new ≡ string_bytes text.old ++ (word.now ++ (decimal number ++ codes "\n"))) }
 {
     text.push_str(&format!(in alloc; "{word}{number}\n")?)
