@@ -1,6 +1,7 @@
 //! The reasons, and their words.
 
 use redo_core::ShapeFault;
+use std::fmt;
 use thiserror::Error;
 
 /// Why a word is no number.
@@ -19,16 +20,24 @@ pub enum NumberFault {
 /// Why a word is no patch, OFF:HEX or OFF*LEN:HH.
 #[derive(Clone, Copy, Debug, PartialEq, Eq, Error)]
 pub enum PatchFault {
-    #[error("has no colon, or several")]
     Colon,
-    #[error("has a place that is no OFF up to 65535, and no OFF*LEN with LEN up to 4096")]
     Place,
-    #[error("has digits that are odd in number, or not hexadecimal")]
     Digits,
-    #[error("brings no bytes")]
     NoBytes,
-    #[error("is a fill, and brings more than one byte")]
     FillBytes,
+}
+
+impl fmt::Display for PatchFault {
+    fn fmt<W: fmt::Write>(&self, f: &mut fmt::Formatter<W>) -> fmt::Result {
+        f.write_str(match self {
+            PatchFault::Colon => "has no colon, or several",
+            PatchFault::Place =>
+                "has a place that is no OFF up to 65535, and no OFF*LEN with LEN up to 4096",
+            PatchFault::Digits => "has digits that are odd in number, or not hexadecimal",
+            PatchFault::NoBytes => "brings no bytes",
+            PatchFault::FillBytes => "is a fill, and brings more than one byte",
+        })
+    }
 }
 
 /// Why a line is bad. Fields are numbered from 1, the word that begins the line first, and patches from 1.
@@ -52,7 +61,7 @@ pub enum LineReason {
     ManyPatches,
     #[error("patch {at} of field 7 {fault}")]
     Patch { at: usize, fault: PatchFault },
-    #[error("{0}")]
+    #[error(transparent)]
     Shape(ShapeFault),
 }
 
@@ -69,6 +78,6 @@ pub enum TextReason {
     ManyFacts,
     #[error("there are more than 1,000,000 step lines")]
     ManySteps,
-    #[error("{0}")]
+    #[error(transparent)]
     Line(LineReason),
 }

@@ -13,7 +13,7 @@ use thiserror::Error;
 /// Why a writer refused a record, a truncation or an advance. The log is then as it was.
 #[derive(Clone, Copy, Debug, PartialEq, Eq, Error)]
 pub enum WriterFault {
-    #[error("{0}")]
+    #[error(transparent)]
     Shape(ShapeFault),
     #[error("lo is below the minimum read point {point}")]
     LoBelowAdvance { point: u64 },

@@ -17,7 +17,7 @@ pub enum LineFault {
     #[error("bad hex")]
     Hex,
     /// The digits stand for bytes that are no value of the kind that stands there.
-    #[error("{0}")]
+    #[error(transparent)]
     Wire(WireFault),
 }
 
@@ -26,7 +26,7 @@ pub enum LineFault {
 pub enum LineError {
     #[error("out of memory")]
     Memory,
-    #[error("{0}")]
+    #[error(transparent)]
     Fault(LineFault),
 }
 

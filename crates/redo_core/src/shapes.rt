@@ -1,3 +1,4 @@
+use std::fmt;
 use thiserror::Error;
 
 /// The greatest log sequence number, point and `hi` of a fact: 2^48 - 1.
@@ -18,28 +19,35 @@ pub const MAX_BYTES: usize = 8192;
 /// The first fault of a record, a truncation, an advance or a roster, in the order in which faults are looked for.
 #[derive(Clone, Copy, Debug, PartialEq, Eq, Error)]
 pub enum ShapeFault {
-    #[error("the number or point is zero")]
     NumberIsZero,
-    #[error("the segment backlink is not below the number")]
     BackNotBelow,
-    #[error("the block backlink is above the segment backlink")]
     BlockBackAbove,
-    #[error("more than 64 writes")]
     ManyWrites,
-    #[error("a write without bytes")]
     EmptyWrite,
-    #[error("a write goes past the end of its page")]
     OffPage,
-    #[error("more than 8,192 bytes")]
     ManyBytes,
-    #[error("a truncation of epoch 0")]
     EpochIsZero,
-    #[error("lo is above hi")]
     LoAboveHi,
-    #[error("a number above 2^48 - 1")]
     TooLarge,
-    #[error("a reader outside 1 to 15")]
     NoSuchReader,
-    #[error("a roster of no readers, or of more than 15")]
     RosterSize,
+}
+
+impl fmt::Display for ShapeFault {
+    fn fmt<W: fmt::Write>(&self, f: &mut fmt::Formatter<W>) -> fmt::Result {
+        f.write_str(match self {
+            ShapeFault::NumberIsZero => "the number or point is zero",
+            ShapeFault::BackNotBelow => "the segment backlink is not below the number",
+            ShapeFault::BlockBackAbove => "the block backlink is above the segment backlink",
+            ShapeFault::ManyWrites => "more than 64 writes",
+            ShapeFault::EmptyWrite => "a write without bytes",
+            ShapeFault::OffPage => "a write goes past the end of its page",
+            ShapeFault::ManyBytes => "more than 8,192 bytes",
+            ShapeFault::EpochIsZero => "a truncation of epoch 0",
+            ShapeFault::LoAboveHi => "lo is above hi",
+            ShapeFault::TooLarge => "a number above 2^48 - 1",
+            ShapeFault::NoSuchReader => "a reader outside 1 to 15",
+            ShapeFault::RosterSize => "a roster of no readers, or of more than 15",
+        })
+    }
 }

@@ -3,24 +3,32 @@ ghost use Rattle.redo_wire.specs.Faults.{fault_number};
 ghost use Rattle.redo_wire.specs.declared.faults.WireError.TheVariants.{Memory};
 
 use std::alloc::{AllocError, AllocFailed};
+use std::fmt;
 use thiserror::Error;
 
 /// Why bytes are no value, as the first fault from front to back, or why a value has no bytes.
 #[derive(Clone, Copy, Debug, PartialEq, Eq, Error)]
 pub enum WireFault {
-    #[error("the bytes end inside a field")]
     Short,
-    #[error("a tag that may not stand here")]
     UnknownTag,
-    #[error("a shape rule is broken")]
     Shape,
-    #[error("an element is not above the one before it")]
     Order,
-    #[error("bytes are left after the value")]
     Rest,
     /// Comes from encoding alone.
-    #[error("a list is longer than its count field holds")]
     TooLong,
+}
+
+impl fmt::Display for WireFault {
+    fn fmt<W: fmt::Write>(&self, f: &mut fmt::Formatter<W>) -> fmt::Result {
+        f.write_str(match self {
+            WireFault::Short => "the bytes end inside a field",
+            WireFault::UnknownTag => "a tag that may not stand here",
+            WireFault::Shape => "a shape rule is broken",
+            WireFault::Order => "an element is not above the one before it",
+            WireFault::Rest => "bytes are left after the value",
+            WireFault::TooLong => "a list is longer than its count field holds",
+        })
+    }
 }
 
 impl WireFault {
@@ -46,7 +54,7 @@ impl WireFault {
 pub enum WireError {
     #[error("out of memory")]
     Memory,
-    #[error("{0}")]
+    #[error(transparent)]
     Fault(WireFault),
 }
 
