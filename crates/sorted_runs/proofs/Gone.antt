@@ -9,13 +9,13 @@ use Rattle.std.proofs.lemmas.List.{append-nil, take-append-drop}
 use Rattle.sorted_runs.specs.Rows.{entries, Headed, StartsWith, AllUpTo}
 use Rattle.sorted_runs.specs.Edits.{IsShaped, offset, LosesBetween}
 use Rattle.sorted_runs.proofs.Lists.{entries_split, entries_set}
-use Rattle.sorted_runs.proofs.Parts.{take_past, drop_past, take_within, drop_within}
+use Rattle.sorted_runs.proofs.Parts.{take_past, drop_past, take_within, drop_within, at_take}
 use Rattle.sorted_runs.proofs.Shaped.{headed_keep, headed_set, bounded_set, bounded_at, entries_cut, entries_up_to}
 use Rattle.sorted_runs.proofs.Removed.{headed_gone, bounded_gone, entries_gone}
 use Rattle.sorted_runs.specs.declared.edits.TheConstants.{FULL}
 
 module _ {X : Type 0} where
-  take_in : (xs ys : List X) (p q : ℕ) → p ≤ q → q ≤ length xs → take p (take q xs ++ ys) ≡ take p xs
+  pub take_in : (xs ys : List X) (p q : ℕ) → p ≤ q → q ≤ length xs → take p (take q xs ++ ys) ≡ take p xs
   take_in xs ys p q le in_range = grind (arith, common_steps)
 
   drop_in : (xs ys : List X) (q : ℕ) → q ≤ length xs → drop q (take q xs ++ ys) ≡ ys
@@ -83,6 +83,17 @@ module _ {K V : Type 0} where
 
     pub cut_all : IsShaped (remove fs r) (remove (set vs r w) r)
     cut_all = record { headed = headed_gone fs vs r w h.headed lt; bounded = bounded_gone vs r FULL w h.bounded lt }
+
+  -- the runs before it stay
+  pub set_before : (vs : List (Vec (K × V))) (r : ℕ) (w : Vec (K × V)) → take r (set vs r w) ≡ take r vs
+  set_before vs zero w = refl
+  set_before [] (suc r) w = refl
+  set_before (v ∷ vs) (suc r) w = ap (λ l. v ∷ l) (set_before vs r w)
+
+  pub gone_before : (vs : List (Vec (K × V))) (r : ℕ) (w : Vec (K × V)) → take r (remove (set vs r w) r) ≡ take r vs
+  gone_before vs zero w = refl
+  gone_before [] (suc r) w = refl
+  gone_before (v ∷ vs) (suc r) w = ap (λ l. v ∷ l) (gone_before vs r w)
 
   -- how many entries are left
   pub cut_counted : (vs new : List (Vec (K × V))) (p q len : ℕ) → LosesBetween vs p q new → p ≤ q → q ≤ length (entries vs) → len ≡ length (entries vs) → len - (q - p) ≡ length (entries new)
@@ -164,6 +175,9 @@ module _ {X : Type 0} where
     kept_long : s ≤ length ys → s ≤ length xs
     kept_long le = grind (arith, common_steps)
 
+    kept_at : (r : ℕ) (d : X) → r < s → get_or xs r d ≡ get_or ys r d
+    kept_at r d lt = sym (at_take xs r s d lt) ∙ ap (λ l. get_or l r d) kept ∙ at_take ys r s d lt
+
 module _ {K V : Type 0} where
   offset_rises : (vs : List (Vec (K × V))) (r s : ℕ) → r ≤ s → offset vs r 0 ≤ offset vs s 0
   offset_rises vs r s le =
@@ -183,11 +197,15 @@ module _ {K V : Type 0} where
 
   -- the runs in turn: the last has lost its first entries, then those before it have gone, and then the first has lost its last entries
   module _ (vs one two : List (Vec (K × V))) (a b : ℕ) (below : a < b) (within : b < length vs) (same : take b one ≡ take b vs) (again : take (a + 1) two ≡ take (a + 1) one) where
-    one_long : b ≤ length one
+    pub one_long : b ≤ length one
     one_long = kept_long one vs b same (omega arith)
 
-    two_long : a < length two
+    pub two_long : a < length two
     two_long = let h = one_long in let k = kept_long two one (a + 1) again (omega arith) in omega arith
+
+    -- the run that loses its last entries has lost none yet
+    pub still_there : (d : Vec (K × V)) → get_or two a d ≡ get_or vs a d
+    still_there d = kept_at two one (a + 1) again a d (omega arith) ∙ kept_at one vs b same a d below
 
     pub over_loses : (i j n : ℕ) (d : Vec (K × V)) (new : List (Vec (K × V))) → i ≤ length (get_or vs a d).items → n ≡ length (get_or two a d).items
         → LosesBetween vs (offset vs b 0) (offset vs b j) one → LosesBetween one (offset one (a + 1) 0) (offset one b 0) two → LosesBetween two (offset two a i) (offset two a n) new

@@ -1,9 +1,10 @@
 -- The entries between two places, and the iterator's three parts.
-use Rattle.std.proofs.Common.{◌≡◌, ℕ, zero, suc, ◌+◌, ◌-◌, ◌<◌, ◌≤◌, ◌⊎◌, ⊎_elim, List, [], ◌∷◌, ◌++◌, length, get_or, take, drop, sym, ap, ◌∙◌, refl, arith, append_assoc, length-append, rules}
+use Rattle.std.proofs.Common.{◌≡◌, ℕ, zero, suc, ◌+◌, ◌-◌, ◌<◌, ◌≤◌, ◌⊎◌, ⊎_elim, List, [], ◌∷◌, ◌++◌, length, get_or, take, drop, sym, ap, ◌∙◌, refl, arith, append_assoc, length-append, Option, Some, None, rules}
 use Rattle.std.proofs.lemmas.Grind.{common_steps}
 use Rattle.std.specs.Global.{Vec}
 use Rattle.std.proofs.Math.Seq.{take-length}
-use Rattle.std.proofs.lemmas.List.{get_or_default}
+use Rattle.std.specs.Iterator.{MakesProgress, at_most}
+use Rattle.std.proofs.lemmas.List.{append-nil, get_or_default}
 use Rattle.sorted_runs.specs.Rows.{entries}
 use Rattle.sorted_runs.specs.Edits.{offset}
 use Rattle.sorted_runs.proofs.Lists.{entries_split}
@@ -32,7 +33,7 @@ module _ {X : Type 0} where
   take_take : (xs : List X) (r s : ℕ) → r < s → take r (take s xs) ≡ take r xs
   take_take xs r s lt = grind (arith, common_steps)
 
-  at_take : (xs : List X) (r s : ℕ) (d : X) → r < s → get_or (take s xs) r d ≡ get_or xs r d
+  pub at_take : (xs : List X) (r s : ℕ) (d : X) → r < s → get_or (take s xs) r d ≡ get_or xs r d
   at_take xs r s d lt = grind (arith, common_steps)
 
   long_take : (xs : List X) (r s : ℕ) → r < s → s ≤ length xs → r < length (take s xs)
@@ -140,6 +141,58 @@ module _ {K V : Type 0} (vs : List (Vec (K × V))) (a : Vec (K × V)) (r i : ℕ
   pub read_to : entries (take r vs) ++ take i run ≡ take (offset vs r i) (entries vs)
   read_to = ap (λ l. entries (take r vs) ++ take i l) run_is ∙ sym (taken_to vs a r i lt le)
 
+pub read_long : {K V : Type 0} (vs : List (Vec (K × V))) (a : Vec (K × V)) (r : ℕ) (run : List (K × V)) → a ≡ get_or vs r a → run ≡ a.items → length run ≡ length (get_or vs r a).items
+read_long vs a r run av ra = ap (λ l. length l) ra ∙ ap (λ (v : Vec _). length v.items) av
+
+-- the first run of the middle becomes the front
+pub walked_on : {K V : Type 0} (front : List (K × V)) (middle rest : List (Vec (K × V))) (run : Vec (K × V)) (back new all : List (K × V)) → middle ≡ run ∷ rest → length front ≡ 0 → new ≡ run.items → front ++ (entries middle ++ back) ≡ all → new ++ (entries rest ++ back) ≡ all
+walked_on front middle rest run back new all is none same whole = grind (arith, common_steps)
+
 -- the last run of the middle becomes the back
 pub walked_back : {K V : Type 0} (front : List (K × V)) (middle rest : List (Vec (K × V))) (run : Vec (K × V)) (back new all : List (K × V)) → middle ≡ rest ++ run ∷ [] → length back ≡ 0 → new ≡ run.items → front ++ (entries middle ++ back) ≡ all → front ++ (entries rest ++ new) ≡ all
 walked_back front middle rest run back new all is none same whole = grind (arith, common_steps, entries_push)
+
+-- nothing stands in the middle and behind it
+none_behind : {K V : Type 0} (middle : List (Vec (K × V))) (back : List (K × V)) → length middle ≡ 0 → length back ≡ 0 → entries middle ++ back ≡ []
+none_behind [] [] a b = refl
+none_behind [] (e ∷ es) a b = absurd (omega arith)
+none_behind (v ∷ vs) back a b = absurd (omega arith)
+
+none_before : {K V : Type 0} (front : List (K × V)) (middle : List (Vec (K × V))) → length front ≡ 0 → length middle ≡ 0 → (back : List (K × V)) → front ++ (entries middle ++ back) ≡ back
+none_before [] [] a b back = refl
+none_before [] (v ∷ vs) a b back = absurd (omega arith)
+none_before (e ∷ es) middle a b back = absurd (omega arith)
+
+module _ {K V : Type 0} (front : List (K × V)) (middle : List (Vec (K × V))) (back rest all : List (K × V)) (e : K × V) (whole : front ++ (entries middle ++ back) ≡ all) where
+  -- the last entry comes off the back, or off the front where nothing is behind it
+  pub last_of_back : back ≡ rest ++ e ∷ [] → all ≡ (front ++ (entries middle ++ rest)) ++ e ∷ []
+  last_of_back is =
+      sym whole ∙ ap (λ l. front ++ (entries middle ++ l)) is
+      ∙ ap (λ l. front ++ l) (sym (append_assoc (entries middle) rest (e ∷ [])))
+      ∙ sym (append_assoc front (entries middle ++ rest) (e ∷ []))
+
+  pub last_of_front : length middle ≡ 0 → length back ≡ 0 → front ≡ rest ++ e ∷ [] → all ≡ (rest ++ (entries middle ++ back)) ++ e ∷ []
+  last_of_front a b is =
+      let none = none_behind middle back a b in
+      sym whole ∙ ap (λ l. front ++ l) none ∙ append-nil front ∙ is
+      ∙ ap (λ l. l ++ e ∷ []) (sym (ap (λ l. rest ++ l) none ∙ append-nil rest))
+
+  -- the first entry comes off the front, or off the back where nothing is before it
+  pub first_of_front : front ≡ e ∷ rest → all ≡ e ∷ (rest ++ (entries middle ++ back))
+  first_of_front is = sym whole ∙ ap (λ l. l ++ (entries middle ++ back)) is
+
+  pub first_of_back : length front ≡ 0 → length middle ≡ 0 → back ≡ e ∷ rest → all ≡ e ∷ (front ++ (entries middle ++ rest))
+  first_of_back a b is =
+      let none = none_before front middle a b in
+      sym whole ∙ none back ∙ is ∙ ap (λ l. e ∷ l) (sym (none rest))
+
+-- an entry that comes off leaves one less, and where none comes the walk is over
+module _ {A X : Type 0} where
+  pub none_more : (s t : List X) (r : Option A) → r ≡ None → MakesProgress (λ (l : List X). Unit {0}) (λ (l : List X). at_most (length l)) s r t
+  none_more s t r e = search rules
+
+  pub one_less : (s t : List X) (a : A) → length s ≡ suc (length t) → MakesProgress (λ (l : List X). Unit {0}) (λ (l : List X). at_most (length l)) s (Some a) t
+  one_less s t a e = search rules
+
+pub longer_by_last : {X : Type 0} (s t : List X) (x : X) → s ≡ t ++ x ∷ [] → length s ≡ suc (length t)
+longer_by_last s t x e = grind (arith, common_steps)

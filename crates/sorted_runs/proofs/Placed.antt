@@ -1,9 +1,9 @@
 -- What an edit at the place of a key is to all entries.
-use Rattle.std.proofs.Common.{◌≡◌, ℕ, zero, suc, ◌+◌, ◌<◌, ◌≤◌, List, [], ◌∷◌, ◌++◌, length, get_or, set, take, drop, sym, ap, ◌∙◌, subst, refl, arith, append_assoc, length-append, Some, rules}
+use Rattle.std.proofs.Common.{◌≡◌, ℕ, zero, suc, ◌+◌, ◌<◌, ◌≤◌, List, [], ◌∷◌, ◌++◌, length, get_or, set, take, drop, sym, ap, ◌∙◌, subst, refl, arith, append_assoc, length-append, Some, None, Bool, rules, IsTrue, false}
 use Rattle.std.proofs.lemmas.Grind.{common_steps}
 use Rattle.std.specs.Global.{Vec}
-use Rattle.std.specs.List.{insert, AllByRecursion}
-use Rattle.std.specs.Map.{keys_of, lookup}
+use Rattle.std.specs.List.{insert, filter, AllByRecursion}
+use Rattle.std.specs.Map.{keys_of, lookup, remove_entry}
 use Rattle.std.specs.BTreeMap.{is_at, insert_entry}
 use Rattle.std.specs.Ordering.{ordering_reverse, match_ordering}
 use Rattle.std.specs.Cmp.{IsTotalOrder}
@@ -134,6 +134,13 @@ module _ {K V : Type 0} {R : K → K → Ordering} (o : IsTotalOrder R) (k : K) 
     pub gained_there : (i : ℕ) (v : V) (fs' : List K) (new : List (Vec (K × V))) (len' : ℕ) → IsGap R l k i → IsShaped fs' new → GainsAt vs r i (k, v) new → len' ≡ len + 1 → (entries new ≡ insert_entry R (entries vs) k v) × IsRuns R fs' new len'
     gained_there i v fs' new len' gap = gained i v fs' new len' (subst (λ q. IsGap R q k i) run_is gap)
 
+-- a value had is none that was not there
+pub some_none : {X P : Type 0} (x : X) → Some x ≡ None → P
+some_none x e = cc
+
+pub never : {P : Type 0} → IsTrue false → P
+never h = cc
+
 pub none_yet : {K V : Type 0} (fs : List K) (vs : List (Vec (K × V))) → Headed fs vs → length fs ≡ 0 → entries vs ≡ []
 none_yet fs vs h e = grind (arith, common_steps)
 
@@ -142,3 +149,44 @@ first_ever = search (rules, rises_to)
 
 pub long_as_read : {K V : Type 0} (vs : List (Vec (K × V))) (r : ℕ) (d : Vec (K × V)) → d ≡ get_or vs r d → length d.items ≡ length (get_or vs r d).items
 long_as_read {K} {V} vs r d e = let long : Vec (K × V) → ℕ = λ x. length x.items in ap long e
+
+module _ {K V : Type 0} (R : K → K → Ordering) {fs : List K} {vs : List (Vec (K × V))} {len : ℕ} (inv : IsRuns R fs vs len) where
+  pub formed : IsShaped fs vs
+  formed = record { headed = inv.headed; bounded = inv.bounded }
+
+  pub in_order : (es : List (K × V)) → entries vs ≡ es → IsStrictlySortedBy R (keys_of es)
+  in_order es same = subst (λ l. IsStrictlySortedBy R (keys_of l)) same inv.rising
+
+  -- parts that came out with the entries that they had
+  pub kept_runs : {fs' : List K} {new : List (Vec (K × V))} → IsShaped fs' new → entries new ≡ entries vs → IsRuns R fs' new len
+  kept_runs h same = record {
+    headed = h.headed;
+    rising = in_order _ (sym same);
+    bounded = h.bounded;
+    counted = inv.counted ∙ ap (λ l. length l) (sym same);
+  }
+
+  pub as_read : {fs' : List K} {read : List (Vec (K × V))} → fs' ≡ fs → read ≡ vs → IsRuns R fs' read (length (entries read))
+  as_read same_firsts same_runs = rw (same_firsts, same_runs) record { headed = inv.headed; rising = inv.rising; bounded = inv.bounded; counted = refl }
+
+  -- a map with no entries, as it is read
+  module _ (none : length fs ≡ 0) (es : List (K × V)) (view : entries vs ≡ es) where
+    empty : entries vs ≡ []
+    empty = none_yet fs vs inv.headed none
+
+    pub finds_none : (k : K) → lookup (is_at (R k)) es ≡ None
+    finds_none k = ap (λ l. lookup (is_at (R k)) l) (sym view ∙ empty)
+
+    pub gains_first : (k : K) (v : V) (new : List (Vec (K × V))) → GainsAt vs 0 0 (k, v) new → entries new ≡ insert_entry R es k v
+    gains_first k v new gains =
+        gains ∙ ap (λ l. insert l (offset vs 0 0) (k, v)) empty
+        ∙ sym (ap (λ l. insert_entry R l k v) (sym view ∙ empty))
+
+    pub passes_none : (P : K × V → Bool) (all : List (K × V)) → all ≡ entries vs → filter P es ≡ all
+    passes_none P all is = ap (λ l. filter P l) (sym view ∙ empty) ∙ sym (is ∙ empty)
+
+    pub keeps_none : (P : K × V → Bool) → es ≡ filter P es
+    keeps_none P = sym view ∙ empty ∙ sym (ap (λ l. filter P l) (sym view ∙ empty))
+
+    pub loses_none : (P : K → Bool) → es ≡ remove_entry P es
+    loses_none P = sym view ∙ empty ∙ sym (ap (λ l. remove_entry P l) (sym view ∙ empty))

@@ -188,3 +188,15 @@ module _ {K V : Type 0} where
         same = ap (λ l. entries l) vs_is ∙ is.0;
         splits = subst (λ l. Splits vs0 r n l) (sym vs_is) is.1;
       }
+
+  -- the run that is to be cut, as the code reads it
+  module _ (vs vs0 : List (Vec (K × V))) (r : ℕ) (d : Vec (K × V)) (ev : vs ≡ vs0) (dv : d ≡ get_or vs r d) where
+    run_read : d.items ≡ (get_or vs0 r d).items
+    run_read = ap (λ (v : Vec (K × V)). v.items) dv ∙ ap (λ (l : List (Vec (K × V))). (get_or l r d).items) ev
+
+    pub cut_in : (n : ℕ) → n < length (get_or vs0 r d).items → n < length d.items
+    cut_in n within = let e = ap (λ l. length l) run_read in omega arith
+
+    pub split_failed : (fs fs0 : List K) (w : Vec (K × V)) → IsShaped fs0 vs0 → fs ≡ fs0 → r < length vs0 → w.items ≡ d.items → IsShaped fs (set vs r w) × (entries (set vs r w) ≡ entries vs0)
+    split_failed fs fs0 w h efs lt is =
+        rw (efs, ev) (same_items fs0 vs0 r d w h lt (bounded_at vs0 r FULL d h.bounded lt) (is ∙ run_read))

@@ -1,14 +1,17 @@
-use Rattle.std.proofs.Common.{◌<◌, length, arith, sym, ap, ◌∙◌, subst, rules}
+use Rattle.std.proofs.Common.{◌≡◌, ◌<◌, length, arith, sym, ap, ◌∙◌, subst}
+use Rattle.std.proofs.lemmas.Bool.Decides.{nat_tests}
 use Rattle.std.specs.Map.{lookup}
 use Rattle.std.specs.BTreeMap.{is_at, insert_entry}
 use Rattle.sorted_runs.specs.Places.{IsRunFor}
 use Rattle.sorted_runs.proofs.Lists.{firsts_rise, in_runs, found, missed, sorted_run}
 use Rattle.sorted_runs.proofs.Shaped.{always_err}
-use Rattle.sorted_runs.proofs.Placed.{gap_place, gained_there, none_yet, first_ever}
+use Rattle.sorted_runs.proofs.Placed.{gap_place, gained_there, none_yet, first_ever, formed, in_order, kept_runs, finds_none, gains_first, some_none, never}
 use Rattle.sorted_runs.proofs.SortedRuns.add.Goals as goal
 
 pub invariant_of-self-then-is_empty : goal.invariant_of-self-then-is_empty
-invariant_of-self-then-is_empty g c = search (rules, first_ever, none_yet)
+invariant_of-self-then-is_empty g c =
+    first_ever g.K.Ord.cmp c.open.new.firsts.items c.self.inside.runs.items c.open.new.runs.items (c.args.key, c.args.value) c.in_ok-open.ensures.shaped c.in_ok-open.ensures.gains
+    (none_yet c.self.inside.firsts.items c.self.inside.runs.items c.self.invariant.headed (grind (arith, nat_tests)))
 
 pub run_for-r-requires-clause-rising : goal.run_for-r-requires-clause-rising
 run_for-r-requires-clause-rising g c = grind (arith, firsts_rise)
@@ -67,4 +70,73 @@ returns-in-Ok-clause-had g c =
     rw (← c.self.view_is) (sym (found g.met.K.Ord.total c.args.key _ _ _ c.self.invariant c.run_for-r.result at c.index-run.result.now c.index-run.ensures c.deref-2.result.now c.deref-2.ensures.value c.in-Ok.at c.index.result.now c.index.ensures c.in-Ok.ensures.hit))
 
 pub returns-then-is_empty-clause-ordered : goal.returns-then-is_empty-clause-ordered
-returns-then-is_empty-clause-ordered g c = search (rules, first_ever, none_yet)
+returns-then-is_empty-clause-ordered g c = (invariant_of-self-then-is_empty g c).rising
+
+pub invariant_of-self : goal.invariant_of-self
+invariant_of-self g c = kept_runs g.K.Ord.cmp c.self.invariant c.in_err-open.ensures.shaped c.in_err-open.ensures.unchanged
+
+pub returns-in_err-open-clause-absent : goal.returns-in_err-open-clause-absent
+returns-in_err-open-clause-absent g c =
+    let z : length c.self.inside.firsts.items ≡ 0 = grind (arith, nat_tests) in
+    always_err _ (finds_none g.K.Ord.cmp c.self.invariant z _ c.self.view_is c.args.key)
+
+pub returns-then-is_empty-clause-had : goal.returns-then-is_empty-clause-had
+returns-then-is_empty-clause-had g c =
+    let z : length c.self.inside.firsts.items ≡ 0 = grind (arith, nat_tests) in
+    sym (finds_none g.K.Ord.cmp c.self.invariant z _ c.self.view_is c.args.key)
+
+pub returns-then-is_empty-clause-gains : goal.returns-then-is_empty-clause-gains
+returns-then-is_empty-clause-gains g c = λ _.
+    let z : length c.self.inside.firsts.items ≡ 0 = grind (arith, nat_tests) in
+    gains_first g.K.Ord.cmp c.self.invariant z _ c.self.view_is c.args.key c.args.value c.open.new.runs.items c.in_ok-open.ensures.gains
+
+pub returns-then-is_empty-clause-was_ordered : goal.returns-then-is_empty-clause-was_ordered
+returns-then-is_empty-clause-was_ordered g c = in_order g.K.Ord.cmp c.self.invariant _ c.self.view_is
+
+pub add_counted-requires-clause-shaped : goal.add_counted-requires-clause-shaped
+add_counted-requires-clause-shaped g c = formed g.K.Ord.cmp c.self.invariant
+
+pub invariant_of-self-in_err-len-in-Err : goal.invariant_of-self-in_err-len-in-Err
+invariant_of-self-in_err-len-in-Err g c = kept_runs g.K.Ord.cmp c.self.invariant c.in_err-len-in-Err.ensures.shaped c.in_err-len-in-Err.ensures.unchanged
+
+pub returns-in_err-len-in-Err-clause-unchanged : goal.returns-in_err-len-in-Err-clause-unchanged
+returns-in_err-len-in-Err-clause-unchanged g c = always_err _ (c.in_err-len-in-Err.ensures.unchanged ∙ c.self.view_is)
+
+pub returns-in_err-len-in-Err-clause-was_ordered : goal.returns-in_err-len-in-Err-clause-was_ordered
+returns-in_err-len-in-Err-clause-was_ordered g c = in_order g.K.Ord.cmp c.self.invariant _ c.self.view_is
+
+pub returns-in_err-len-in-Err-clause-ordered : goal.returns-in_err-len-in-Err-clause-ordered
+returns-in_err-len-in-Err-clause-ordered g c = in_order g.K.Ord.cmp c.self.invariant _ (sym c.in_err-len-in-Err.ensures.unchanged)
+
+pub returns-in_ok-len-in-Err-clause-was_ordered : goal.returns-in_ok-len-in-Err-clause-was_ordered
+returns-in_ok-len-in-Err-clause-was_ordered g c = in_order g.K.Ord.cmp c.self.invariant _ c.self.view_is
+
+pub returns-in-Ok-clause-was_ordered : goal.returns-in-Ok-clause-was_ordered
+returns-in-Ok-clause-was_ordered g c = in_order g.K.Ord.cmp c.self.invariant _ c.self.view_is
+
+pub returns-then-is_empty-clause-keeps : goal.returns-then-is_empty-clause-keeps
+returns-then-is_empty-clause-keeps g c = never
+
+pub returns-in_ok-len-in-Err-clause-keeps : goal.returns-in_ok-len-in-Err-clause-keeps
+returns-in_ok-len-in-Err-clause-keeps g c = never
+
+pub returns-in-Ok-clause-gains : goal.returns-in-Ok-clause-gains
+returns-in-Ok-clause-gains g c = some_none _
+
+pub returns-in_err-open-clause-unchanged : goal.returns-in_err-open-clause-unchanged
+returns-in_err-open-clause-unchanged g c = always_err _ (c.in_err-open.ensures.unchanged ∙ c.self.view_is)
+
+pub returns-in_err-open-clause-was_ordered : goal.returns-in_err-open-clause-was_ordered
+returns-in_err-open-clause-was_ordered g c = in_order g.K.Ord.cmp c.self.invariant _ c.self.view_is
+
+pub returns-in_err-open-clause-ordered : goal.returns-in_err-open-clause-ordered
+returns-in_err-open-clause-ordered g c = in_order g.K.Ord.cmp c.self.invariant _ (sym c.in_err-open.ensures.unchanged)
+
+pub returns-in-Ok-clause-keeps : goal.returns-in-Ok-clause-keeps
+returns-in-Ok-clause-keeps g c = λ some. c.self.view_is
+
+pub returns-in-Ok-clause-ordered : goal.returns-in-Ok-clause-ordered
+returns-in-Ok-clause-ordered g c = c.self.invariant.rising
+
+pub invariant_of-self-in-Ok : goal.invariant_of-self-in-Ok
+invariant_of-self-in-Ok g c = c.self.invariant

@@ -1,7 +1,9 @@
-use Rattle.std.proofs.Common.{◌<◌, ◌-◌, length, arith, sym, ap, ◌∙◌, subst}
+use Rattle.std.proofs.Common.{◌<◌, ◌-◌, length, arith, sym, ap, ◌∙◌, subst, ◌≡◌}
 use Rattle.std.specs.Map.{lookup, remove_entry}
 use Rattle.std.specs.BTreeMap.{is_at}
 use Rattle.sorted_runs.specs.Places.{IsRunFor}
+use Rattle.std.proofs.lemmas.Bool.Decides.{nat_tests}
+use Rattle.sorted_runs.proofs.Placed.{in_order, formed, finds_none, loses_none}
 use Rattle.sorted_runs.proofs.Lists.{firsts_rise, in_runs, missed, sorted_run}
 use Rattle.sorted_runs.proofs.Removed.{hit_place, gone_is, had_here, held, gap_stays, entry_there}
 use Rattle.sorted_runs.proofs.SortedRuns.remove.Goals as goal
@@ -61,3 +63,34 @@ pub returns-in-Ok-clause-ordered : goal.returns-in-Ok-clause-ordered
 returns-in-Ok-clause-ordered g c =
     let at = subst (λ l. IsRunFor g.K.Ord.cmp l c.args.key.now c.run_for-r.result) c.deref.ensures.value c.run_for-r.ensures in
     (gone_is g.met.K.Ord.total c.args.key.now c.self.inside.firsts.items c.self.inside.runs.items c.self.inside.len c.self.invariant c.run_for-r.result at c.index.result.now c.index.ensures c.deref-2.result.now c.deref-2.ensures.value c.in-Ok.at c.in-Ok.ensures.hit (entry_there c.deref-2.result.now c.in-Ok.at c.in-Ok.ensures.hit.within) c.take_out-value.new.firsts.items c.take_out-value.new.runs.items (c.self.inside.len - 1) c.take_out-value.ensures.shaped (c.take_out-value.ensures.loses c.index.result.now) (let h = held g.met.K.Ord.total c.args.key.now c.self.inside.firsts.items c.self.inside.runs.items c.self.inside.len c.self.invariant c.run_for-r.result at c.index.result.now c.index.ensures c.deref-2.result.now c.deref-2.ensures.value c.in-Ok.at c.in-Ok.ensures.hit (entry_there c.deref-2.result.now c.in-Ok.at c.in-Ok.ensures.hit.within) in omega arith)).1.rising
+
+pub returns-then-is_empty-clause-had : goal.returns-then-is_empty-clause-had
+returns-then-is_empty-clause-had g c =
+    let z : length c.self.inside.firsts.items ≡ 0 = grind (arith, nat_tests) in
+    sym (finds_none g.K.Ord.cmp c.self.invariant z _ c.self.view_is c.args.key.now)
+
+pub returns-in-Ok-clause-was_ordered : goal.returns-in-Ok-clause-was_ordered
+returns-in-Ok-clause-was_ordered g c = in_order g.K.Ord.cmp c.self.invariant _ c.self.view_is
+
+pub returns-in-Err-clause-was_ordered : goal.returns-in-Err-clause-was_ordered
+returns-in-Err-clause-was_ordered g c = in_order g.K.Ord.cmp c.self.invariant _ c.self.view_is
+
+pub returns-then-is_empty-clause-was_ordered : goal.returns-then-is_empty-clause-was_ordered
+returns-then-is_empty-clause-was_ordered g c = in_order g.K.Ord.cmp c.self.invariant _ c.self.view_is
+
+pub returns-then-is_empty-clause-ordered : goal.returns-then-is_empty-clause-ordered
+returns-then-is_empty-clause-ordered g c = in_order g.K.Ord.cmp c.self.invariant _ c.self.view_is
+
+pub take_out-value-requires-clause-shaped : goal.take_out-value-requires-clause-shaped
+take_out-value-requires-clause-shaped g c = formed g.K.Ord.cmp c.self.invariant
+
+pub returns-then-is_empty-clause-loses : goal.returns-then-is_empty-clause-loses
+returns-then-is_empty-clause-loses g c =
+    let z : length c.self.inside.firsts.items ≡ 0 = grind (arith, nat_tests) in
+    loses_none g.K.Ord.cmp c.self.invariant z _ c.self.view_is (is_at (g.K.Ord.cmp c.args.key.now))
+
+pub overflow_sub-self : goal.overflow_sub-self
+overflow_sub-self g c =
+    let at = subst (λ l. IsRunFor g.K.Ord.cmp l c.args.key.now c.run_for-r.result) c.deref.ensures.value c.run_for-r.ensures in
+    let h = held g.met.K.Ord.total c.args.key.now c.self.inside.firsts.items c.self.inside.runs.items c.self.inside.len c.self.invariant c.run_for-r.result at c.index.result.now c.index.ensures c.deref-2.result.now c.deref-2.ensures.value c.in-Ok.at c.in-Ok.ensures.hit (entry_there c.deref-2.result.now c.in-Ok.at c.in-Ok.ensures.hit.within) in
+    omega arith

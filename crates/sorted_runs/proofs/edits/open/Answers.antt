@@ -1,4 +1,4 @@
-use Rattle.std.proofs.Common.{List, [], ◌∷◌, ◌++◌, arith, ap, ◌∙◌, rules}
+use Rattle.std.proofs.Common.{List, [], ◌∷◌, ◌++◌, arith, ap, ◌∙◌}
 use Rattle.std.specs.Global.{Vec}
 use Rattle.std.specs.List.{insert}
 use Rattle.sorted_runs.proofs.Lists.{as_many}
@@ -16,4 +16,7 @@ returns-clause-shaped g c =
     rw (first_is, runs_is) (opened_shape c.args.firsts.now.items c.args.runs.now.items c.args.r (c.args.key, c.args.value) c.push.new.self c.requires.shaped run_is)
 
 pub returns-clause-gains : goal.returns-clause-gains
-returns-clause-gains g c = search (rules, opened_gains)
+returns-clause-gains g c =
+    let run_is = c.in_ok-push.ensures.items ∙ ap (λ l. l ++ (c.args.key, c.args.value) ∷ []) c.new-run.ensures.items in
+    let runs_is = kept_ok c.put_in-2.result _ _ _ (c.put_in-2.ensures.succeeds (let h = c.in-Ok-reserve.ensures.ok in omega arith)) c.put_in-2.ensures.items ∙ ap (λ (l : List (Vec _)). insert l c.args.r c.push.new.self) c.reserve-2.ensures.items in
+    rw runs_is (opened_gains c.args.runs.now.items c.args.r (c.args.key, c.args.value) c.push.new.self run_is)

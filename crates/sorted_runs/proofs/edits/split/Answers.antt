@@ -1,6 +1,6 @@
-use Rattle.std.proofs.Common.{arith}
+use Rattle.std.proofs.Common.{◌≡◌, length, length-drop, ap, arith, rules}
 use Rattle.sorted_runs.proofs.Lists.{as_many}
-use Rattle.sorted_runs.proofs.Shaped.{kept_ok, split_all}
+use Rattle.sorted_runs.proofs.Shaped.{kept_ok, split_all, cut_in, split_failed}
 use Rattle.sorted_runs.proofs.edits.split.Goals as goal
 
 pub put_in-requires : goal.put_in-requires
@@ -29,3 +29,37 @@ returns-clause-cuts g c =
     let d = c.index_mut-run.result.now in
     let all = split_all c.reserve.new.self.items c.args.firsts.now.items c.reserve-2.new.self.items c.args.runs.now.items c.args.r c.args.cut c.index.result.now d c.split_off.new.self c.in_ok-rest.rest c.put_in.new.list.items c.put_in-2.new.list.items c.requires.shaped c.reserve.ensures.items c.reserve-2.ensures.items c.requires.within c.index_mut-run.ensures.value c.requires.some (c.requires.place d) c.in_ok-rest.ensures.items c.in_ok-rest.ensures.tail c.index.ensures first_is runs_is in
     all.splits
+
+pub overflow_add-r : goal.overflow_add-r
+overflow_add-r g c =
+    let lt = c.requires.within in
+    let fits = c.args.runs.now.ok in
+    omega arith
+
+pub overflow_add-r-2 : goal.overflow_add-r-2
+overflow_add-r-2 g c =
+    let lt = c.requires.within in
+    let fits = c.args.runs.now.ok in
+    omega arith
+
+pub split_off-requires : goal.split_off-requires
+split_off-requires g c =
+    let lt = cut_in c.reserve-2.new.self.items c.args.runs.now.items c.args.r c.index_mut-run.result.now c.reserve-2.ensures.items c.index_mut-run.ensures.value c.args.cut (c.requires.place c.index_mut-run.result.now) in
+    omega arith
+
+pub index-requires : goal.index-requires
+index-requires g c =
+    let lt = cut_in c.reserve-2.new.self.items c.args.runs.now.items c.args.r c.index_mut-run.result.now c.reserve-2.ensures.items c.index_mut-run.ensures.value c.args.cut (c.requires.place c.index_mut-run.result.now) in
+    let rest = ap (λ l. length l) c.in_ok-rest.ensures.tail in
+    let left = length-drop c.args.cut c.index_mut-run.result.now.items in
+    omega arith
+
+pub returns-in_err-rest-clause-shaped : goal.returns-in_err-rest-clause-shaped
+returns-in_err-rest-clause-shaped g c =
+    let kept : c.split_off.new.self.items ≡ c.index_mut-run.result.now.items = search rules in
+    (split_failed c.reserve-2.new.self.items c.args.runs.now.items c.args.r c.index_mut-run.result.now c.reserve-2.ensures.items c.index_mut-run.ensures.value c.reserve.new.self.items c.args.firsts.now.items c.split_off.new.self c.requires.shaped c.reserve.ensures.items c.requires.within kept).0
+
+pub returns-in_err-rest-clause-same : goal.returns-in_err-rest-clause-same
+returns-in_err-rest-clause-same g c =
+    let kept : c.split_off.new.self.items ≡ c.index_mut-run.result.now.items = search rules in
+    (split_failed c.reserve-2.new.self.items c.args.runs.now.items c.args.r c.index_mut-run.result.now c.reserve-2.ensures.items c.index_mut-run.ensures.value c.reserve.new.self.items c.args.firsts.now.items c.split_off.new.self c.requires.shaped c.reserve.ensures.items c.requires.within kept).1

@@ -5,10 +5,10 @@ use Rattle.sorted_runs.proofs.Removed.{lost, lost_behind, lost_first, lost_run, 
 use Rattle.sorted_runs.proofs.edits.take_out.Goals as goal
 
 pub returns-else-at-eq0-clause-loses : goal.returns-else-at-eq0-clause-loses
-returns-else-at-eq0-clause-loses g c = search (rules, lost)
+returns-else-at-eq0-clause-loses g c = lost c.args.firsts.now.items c.args.runs.now.items c.args.r c.args.at c.index_mut-run.result.now c.remove-value.new.self c.requires.shaped c.requires.within c.index_mut-run.ensures.value (c.requires.place c.index_mut-run.result.now) c.remove-value.ensures.items
 
 pub returns-then-at-eq0-clause-loses : goal.returns-then-at-eq0-clause-loses
-returns-then-at-eq0-clause-loses g c = search (rules, lost)
+returns-then-at-eq0-clause-loses g c = lost c.args.firsts.now.items c.args.runs.now.items c.args.r c.args.at c.index_mut-run.result.now c.remove-value.new.self c.requires.shaped c.requires.within c.index_mut-run.ensures.value (c.requires.place c.index_mut-run.result.now) c.remove-value.ensures.items
 
 pub returns-else-at-eq0-clause-shaped : goal.returns-else-at-eq0-clause-shaped
 returns-else-at-eq0-clause-shaped g c =

@@ -1,8 +1,9 @@
-use Rattle.std.proofs.Common.{arith, rules}
+use Rattle.std.proofs.Common.{take, ap, ◌∙◌, arith, rules}
 use Rattle.std.proofs.lemmas.Bool.Decides.{nat_tests}
+use Rattle.std.specs.Global.{Vec}
 use Rattle.sorted_runs.specs.Edits.{offset}
 use Rattle.sorted_runs.proofs.Lists.{as_many}
-use Rattle.sorted_runs.proofs.Gone.{place_within, cut_loses, cut_all_loses, cut_behind, cut_first, cut_all, cut_counted}
+use Rattle.sorted_runs.proofs.Gone.{place_within, cut_loses, cut_all_loses, cut_behind, cut_first, cut_all, cut_counted, set_before, gone_before}
 use Rattle.sorted_runs.proofs.ranges.cut_run.Goals.{then-is_empty, else-is_empty+then-from-eq0, else-is_empty+else-from-eq0}
 use Rattle.sorted_runs.proofs.ranges.cut_run.Goals as goal
 
@@ -38,3 +39,14 @@ returns-clause-counted g c =
     let d = c.index_mut-run.result.now in
     let n = cut_counted c.args.runs.now.items c.if-is_empty.runs.items (offset c.args.runs.now.items c.args.r c.args.from) (offset c.args.runs.now.items c.args.r c.args.to) c.args.len (returns-clause-loses g c) (let h = c.requires.rising in omega arith) (place_within c.args.runs.now.items c.args.r c.args.to d c.requires.within (c.requires.place d)) c.requires.counted in
     omega arith
+
+pub returns-clause-before : goal.returns-clause-before
+returns-clause-before g c =
+    let vs = c.args.runs.now.items in
+    let r = c.args.r in
+    let w' = c.cut.new.row in
+    elim c.if-is_empty.branch [
+      | then-is_empty w ↦ ap (λ (v : Vec _). take r v.items) w.runs-is ∙ ap (λ l. take r l) w.remove.ensures.items ∙ gone_before vs r w'
+      | else-is_empty+then-from-eq0 w ↦ ap (λ (v : Vec _). take r v.items) w.runs-is ∙ set_before vs r w'
+      | else-is_empty+else-from-eq0 w ↦ ap (λ (v : Vec _). take r v.items) w.runs-is ∙ set_before vs r w'
+    ]
