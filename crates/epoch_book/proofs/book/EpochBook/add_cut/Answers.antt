@@ -86,3 +86,6 @@ returns-clause-book c =
     (subst (λ b. c.args.place ≤ length b.cuts) (sym c.self.view_is) c.requires.within)
     (subst (λ b. IsPartitionPoint (λ d. d.epoch < c.args.cut.epoch) (λ d. c.args.cut.epoch < d.epoch) b.cuts c.args.place) (sym c.self.view_is) c.requires.gap)
     c.requires.shaped c.requires.fits c.complete_epoch_from-complete.ensures c.raise_points.ensures c.keep_later.ensures
+
+pub returns-in_default-clause-book : goal.returns-in_default-clause-book
+returns-in_default-clause-book c = (invariant_of-self-in_default c).0

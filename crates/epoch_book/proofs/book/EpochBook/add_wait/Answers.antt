@@ -41,3 +41,12 @@ returns-in_ok-put_in-in-Err-clause-book c =
     c.requires.shaped
     (subst (λ b. b.complete < c.args.advance.epoch) (sym c.self.view_is) c.requires.later)
     (subst (λ b. IsReader (roster_of b) c.args.advance.reader) (sym c.self.view_is) c.requires.of_roster))
+
+pub invariant_of-self : goal.invariant_of-self
+invariant_of-self c = (
+  subst (λ ws. IsBook (book_of c.self.inside.cuts.items c.self.inside.complete c.self.inside.points ws)) (sym c.in_err-put_in-in-Err.ensures.items) c.self.invariant.0,
+  c.self.invariant.1,
+)
+
+pub returns-in-Ok-clause-book : goal.returns-in-Ok-clause-book
+returns-in-Ok-clause-book c = subst IsBook c.self.view_is c.self.invariant.0

@@ -2,6 +2,7 @@ use Rattle.std.proofs.Common.{◌≤◌, ◌≡◌, subst, arith, refl, IfSome}
 use Rattle.std.specs.List.{Contains}
 use Rattle.redo_core.specs.Order.{AdvanceBefore}
 use Rattle.redo_core.specs.Roster.{least}
+use Rattle.epoch_book.specs.Book.{IsBook}
 use Rattle.epoch_book.specs.Refusing.{LacksCut, RefusesCut, Contradict, OthersPast, IsFirst}
 use Rattle.epoch_book.specs.declared.refusals.BookRefusal.TheVariants.{Contradiction}
 use Rattle.epoch_book.proofs.OneReason.{mapped_to_held}
@@ -23,3 +24,9 @@ returns-clause-some c =
       subst (λ xs. IsFirst AdvanceBefore (λ a. Contains xs a × Contradict c.args.cut a) x) c.deref-2.ensures.value
           first,
     )))
+
+pub returns-then-not-others_past-clause-book : goal.returns-then-not-others_past-clause-book
+returns-then-not-others_past-clause-book c = subst IsBook c.self.view_is c.self.invariant.0
+
+pub returns-clause-book : goal.returns-clause-book
+returns-clause-book c = subst IsBook c.self.view_is c.self.invariant.0

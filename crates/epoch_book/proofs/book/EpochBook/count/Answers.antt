@@ -1,5 +1,5 @@
 use Rattle.std.proofs.Common.{◌≤◌, sym, subst}
-use Rattle.epoch_book.specs.Book.{book_of}
+use Rattle.epoch_book.specs.Book.{book_of, IsBook}
 use Rattle.epoch_book.proofs.Books.{raised_book, raises_one}
 use Rattle.epoch_book.proofs.book.EpochBook.count.Goals as goal
 
@@ -20,3 +20,6 @@ returns-clause-book c =
     raised_book b c.args.advance c.raise.new.self c.self.invariant.0 c.point.ensures.shape
     (raises_one c.self.inside.complete c.self.inside.points c.raise.new.self c.args.advance counts c.raise.ensures.count c.raise.ensures.point
     c.raise.ensures.others)
+
+pub returns-then-point-of-clause-book : goal.returns-then-point-of-clause-book
+returns-then-point-of-clause-book c = subst IsBook c.self.view_is c.self.invariant.0

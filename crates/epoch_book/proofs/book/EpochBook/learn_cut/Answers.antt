@@ -2,7 +2,7 @@ use Rattle.std.proofs.Common.{◌≡◌, sym, subst, ap, ◌∙◌, arith, Err, 
 use Rattle.std.specs.List.{Contains}
 use Rattle.redo_core.specs.declared.facts.Fact.TheVariants.{Cut}
 use Rattle.std.proofs.lemmas.Bool.Decides.{nat_tests}
-use Rattle.epoch_book.specs.Book.{book_of}
+use Rattle.epoch_book.specs.Book.{book_of, IsBook}
 use Rattle.epoch_book.specs.Knowing.{KnowsMore}
 use Rattle.epoch_book.specs.Refusing.{RefusesCut, LacksCut}
 use Rattle.epoch_book.specs.declared.refusals.BookRefusal.TheVariants.{Contradiction, OtherCut}
@@ -63,3 +63,6 @@ returns-after-eq-clause-refuses c = λ e h.
           )
           refused)
     ]
+
+pub returns-after-eq-clause-book : goal.returns-after-eq-clause-book
+returns-after-eq-clause-book c = subst IsBook c.self.view_is c.self.invariant.0
