@@ -3,6 +3,7 @@ use Rattle.std.specs.List.{Contains}
 use Rattle.redo_core.specs.Keys.{key_in}
 use Rattle.redo_core.specs.declared.keys.Key.{Key}
 use Rattle.std.proofs.lemmas.List.{get_or_default}
+use Rattle.std.proofs.lemmas.Bool.{false≢true}
 use Rattle.hot_log.proofs.KeySearch.{key_found, not_among, are_one}
 use Rattle.hot_log.proofs.unlisted.is_listed.Goals as goal
 
@@ -21,4 +22,4 @@ returns c =
 pub returns-then-are_above : goal.returns-then-are_above
 returns-then-are_above c =
     let none = not_among c.args.keys.now c.args.place c.args.key (c.are_below.ensures c.if-are_below.true) (c.are_above.ensures c.if-are_above.true) in
-    (λ (h : false ≡ true). absurd (cc), λ h. absurd (none h))
+    (λ (h : false ≡ true). absurd (false≢true h), λ h. absurd (none h))

@@ -1,6 +1,7 @@
-use Rattle.std.proofs.Common.{◌↔◌, sym, subst}
+use Rattle.std.proofs.Common.{◌↔◌, sym, subst, ◌∙◌}
 use Rattle.std.specs.List.{Contains, cons_option}
 use Rattle.std.specs.Option.{option_copied}
+use Rattle.std.proofs.lemmas.Bool.{false≢true}
 use Rattle.hot_log.specs.Paged.{PlaceBefore, records_in}
 use Rattle.hot_log.proofs.Sides.{Passes, passes_one, passed_all}
 use Rattle.hot_log.proofs.ahead.Ahead.pass_to.Goals as goal
@@ -10,7 +11,7 @@ returns-then-not-is_before c r =
     let all = c.args.self.now in let x = c.args.redo.now in let rest = records_in c.loop-self.self-inside.rest in
     subst (λ o. Contains (cons_option (option_copied o) rest) r ↔ (Contains all r × (PlaceBefore r x → ⊥))) (sym c.in-Some.is)
     (passed_all all x c.in-Some.own.now rest (subst (λ o. Passes all x (option_copied o) rest) c.in-Some.is c.loop-self.invariant)
-    (λ before. let yes = c.is_before.ensures.1 before in absurd (cc)) r)
+    (λ before. let yes = c.is_before.ensures.1 before in absurd (false≢true (sym c.if-not-is_before.true ∙ yes))) r)
 
 pub loop-self-preserved : goal.loop-self-preserved
 loop-self-preserved c =

@@ -2,6 +2,7 @@ use Rattle.std.proofs.Common.{◌≡◌, sym, ◌∙◌, ap, subst, List, [], �
 use Rattle.std.specs.Map.Iter.{deref_pair}
 use Rattle.std.proofs.lemmas.Map.Iter.{rest_so_far}
 use Rattle.std.proofs.lemmas.List.{map-append, append-nil}
+use Rattle.std.proofs.lemmas.Bool.{false≢true}
 use Rattle.redo_core.specs.Order.{Lists}
 use Rattle.redo_core.specs.Keys.{KeyBefore}
 use Rattle.redo_core.specs.declared.keys.Key.{Key}
@@ -31,7 +32,7 @@ loop-key-preserved c =
     let x : Entry = (c.in-Some.key.now, c.in-Some.field-0-1.now) in
     let joined : map deref_pair (c.loop-key.yielded ++ (c.in-Some.key, c.in-Some.field-0-1) ∷ []) ≡ xs ++ x ∷ [] = rw map-append in
     subst (λ (l : List Entry). ListsKept b c.args.point l c.loop-key.kept.items) (sym joined)
-    (kept_left b c.args.point xs x c.loop-key.kept.items c.loop-key.invariant (λ (keeps : KeepsKey b c.args.point x.0). let yes = c.is_kept.ensures.1 keeps in absurd (cc)))
+    (kept_left b c.args.point xs x c.loop-key.kept.items c.loop-key.invariant (λ (keeps : KeepsKey b c.args.point x.0). let yes = c.is_kept.ensures.1 keeps in absurd (false≢true (sym c.if-is_kept.false ∙ yes))))
 
 pub returns : goal.returns
 returns c =

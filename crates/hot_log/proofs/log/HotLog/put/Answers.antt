@@ -1,5 +1,6 @@
 use Rattle.std.proofs.Common.{◌≡◌, ◌⊎◌, ◌↔◌, refl, sym, ◌∙◌, subst, List, None, IsTrue, false}
 use Rattle.std.specs.List.{Contains}
+use Rattle.std.proofs.lemmas.Bool.{false≢true}
 use Rattle.redo_core.specs.Data.{RecordData}
 use Rattle.redo_core.specs.Keys.{key_in, key_of}
 use Rattle.hot_log.specs.Held.{IsRecordAt}
@@ -27,7 +28,7 @@ returns-then-is_some-clause-refused c =
         t.0,
         subst (λ (l : List RecordData). Contains l t.0) c.self.view_is t.1,
         (t.2.0 ∙ (same_epoch c.key-key.ensures.value), t.2.1 ∙ (same_number c.key-key.ensures.value)),
-        λ same. let is : IsTrue false = c.if-has.ensures.1 (subst (Contains held) same t.1) in absurd (cc),
+        λ same. let is : IsTrue false = c.if-has.ensures.1 (subst (Contains held) same t.1) in absurd (false≢true is),
       ),
     )
 

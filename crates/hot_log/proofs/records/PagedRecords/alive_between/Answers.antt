@@ -2,6 +2,7 @@ use Rattle.std.proofs.Common.{◌≡◌, ℕ, sym, ◌∙◌, ap, subst, refl, L
 use Rattle.std.specs.Map.Iter.{deref_pair}
 use Rattle.std.proofs.lemmas.Map.Iter.{rest_so_far}
 use Rattle.std.proofs.lemmas.List.{map-append, append-nil}
+use Rattle.std.proofs.lemmas.Bool.{false≢true}
 use Rattle.redo_core.specs.Data.{RecordData}
 use Rattle.redo_core.specs.Order.{Lists, BeforeByNumber}
 use Rattle.redo_core.specs.Standing.{IsAlive}
@@ -43,7 +44,7 @@ loop-redo-preserved c =
     let x : Entry = (c.in-Some.field-0-0.now, c.in-Some.redo.now) in
     let dead = λ (a : IsAlive b.cuts b.complete x.1.epoch x.1.number).
     let is = c.is_alive.ensures.alive.1 (subst (λ (e : ℕ). IsAlive b.cuts b.complete e c.number.result) (sym c.epoch.ensures) (subst (λ (n : ℕ). IsAlive b.cuts b.complete x.1.epoch n) (sym c.number.ensures.value) a)) in
-    absurd (cc) in
+    absurd (false≢true (sym c.if-is_alive.false ∙ is)) in
     let joined : map deref_pair (c.loop-redo.yielded ++ (c.in-Some.field-0-0, c.in-Some.redo) ∷ []) ≡ xs ++ x ∷ [] = rw map-append in
     subst (λ (l : List Entry). ListsAlive b l (map (λ x. x.now) c.loop-redo.found.items)) (sym joined)
     (alive_left b xs x (map (λ x. x.now) c.loop-redo.found.items) c.loop-redo.invariant dead)

@@ -1,5 +1,6 @@
 use Rattle.std.proofs.Common.{sym, ◌∙◌, subst}
 use Rattle.std.specs.List.{Contains}
+use Rattle.std.proofs.lemmas.Bool.{false≢true}
 use Rattle.hot_log.proofs.Indexed.{one_key}
 use Rattle.hot_log.proofs.Keys.{same_epoch, same_number}
 use Rattle.hot_log.proofs.records.PagedRecords.has.Goals as goal
@@ -13,6 +14,6 @@ returns-in-Some c =
 
 pub returns-in-None : goal.returns-in-None
 returns-in-None c = (
-  λ h. absurd (cc),
+  λ h. absurd (false≢true h),
   λ h. absurd (c.in-None.ensures c.args.redo.now h (sym c.page.ensures) (sym (same_epoch c.key.ensures.value), sym (same_number c.key.ensures.value))),
 )

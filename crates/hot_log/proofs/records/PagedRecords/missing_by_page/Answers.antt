@@ -3,6 +3,7 @@ use Rattle.std.specs.List.{Contains}
 use Rattle.std.specs.Map.Iter.{deref_pair}
 use Rattle.std.proofs.lemmas.Map.Iter.{rest_so_far}
 use Rattle.std.proofs.lemmas.List.{map-append, append-nil}
+use Rattle.std.proofs.lemmas.Bool.{false≢true}
 use Rattle.redo_core.specs.Data.{RecordData}
 use Rattle.redo_core.specs.Order.{IsRising, Lists}
 use Rattle.hot_log.specs.Missing.{IsMissing}
@@ -39,7 +40,7 @@ loop-redo-preserved-in-Continue-1 c =
     let before = before_next m (records_in xs) (records_in c.next.new.self) x.1 c.other.invariant (ap records_in split ∙ records_more xs c.next.new.self x) in
     let there = held_left c.args.self.now (records_in xs) c.loop-redo.own c.pass_to.new.self x.1 c.loop-redo.invariant.0 c.pass_to.ensures before in
     let more = lacks_more c.args.self.now (records_in xs) (map now c.loop-redo.missing.items) x.1 c.loop-redo.invariant.1 before
-    (λ h. let yes = c.is_at.ensures.1 (there.0 h) in absurd (cc)) in
+    (λ h. let yes = c.is_at.ensures.1 (there.0 h) in absurd (false≢true (sym c.if-not-is_at.true ∙ yes))) in
     let items : map now c.push.new.self.items ≡ map now c.loop-redo.missing.items ++ x.1 ∷ [] = rw (c.in_ok-push.ensures.items, map-append) in
     let joined : map deref_pair (c.loop-redo.yielded ++ (c.in-Some.field-0-0, c.in-Some.redo) ∷ []) ≡ xs ++ x ∷ [] = rw map-append in
     let ends = sym (ap records_in joined ∙ records_more xs [] x) in (

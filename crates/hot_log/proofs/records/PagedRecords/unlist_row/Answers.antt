@@ -2,6 +2,7 @@ use Rattle.std.proofs.Common.{◌≡◌, sym, ◌∙◌, ap, refl, subst, List, 
 use Rattle.std.specs.Map.Iter.{deref_pair}
 use Rattle.std.proofs.lemmas.Map.Iter.{rest_so_far}
 use Rattle.std.proofs.lemmas.List.{map-append}
+use Rattle.std.proofs.lemmas.Bool.{false≢true}
 use Rattle.redo_core.specs.Data.{RecordData}
 use Rattle.redo_core.specs.Keys.{key_in}
 use Rattle.redo_core.specs.declared.keys.Key.{Key}
@@ -51,7 +52,7 @@ loop-redo-preserved c =
     subst (λ (l : List RecordData). Rowed b l c.args.above xs c.loop-redo.start None c.loop-redo.by_key c.loop-redo.by_back) (sym c.self.view_is)
     (subst (λ (o : Option Key). Rowed b c.args.self.now c.args.above xs c.loop-redo.start o c.loop-redo.by_key c.loop-redo.by_back) c.in_default.is c.loop-redo.invariant) in
     let dead = λ (a : IsAlive b.cuts b.complete x.1.epoch x.1.number).
-    let is = c.if-is_alive.ensures.alive.1 (alive_as b x.1.epoch x.1.number e n (sym (same_epoch c.key-key.ensures.value)) (sym (same_number c.key-key.ensures.value)) a) in absurd (cc) in
+    let is = c.if-is_alive.ensures.alive.1 (alive_as b x.1.epoch x.1.number e n (sym (same_epoch c.key-key.ensures.value)) (sym (same_number c.key-key.ensures.value)) a) in absurd (false≢true is) in
     let joined : map deref_pair (c.loop-redo.yielded ++ (c.in-Some.field-0-0, c.in-Some.redo) ∷ []) ≡ xs ++ x ∷ [] = rw map-append in
     subst (λ (o : Option Key). Rowed b c.args.self.now c.args.above (map deref_pair (c.loop-redo.yielded ++ (c.in-Some.field-0-0, c.in-Some.redo) ∷ [])) (key_in e n) o c.loop-redo.by_key c.loop-redo.by_back) (sym c.in_default.is)
     (subst (λ (l : List Entry). Rowed b c.args.self.now c.args.above l (key_in e n) None c.loop-redo.by_key c.loop-redo.by_back) (sym joined)

@@ -1,4 +1,5 @@
 use Rattle.std.proofs.Common.{◌≡◌, ℕ, ◌<◌, refl, sym, subst, Some}
+use Rattle.std.proofs.lemmas.Bool.{false≢true}
 use Rattle.redo_core.specs.Data.{RecordData}
 use Rattle.redo_core.specs.Keys.{key_in, key_of, KeyBefore}
 use Rattle.redo_core.specs.declared.keys.Key.{Key}
@@ -33,7 +34,7 @@ pub loop-redo-preserved : goal.loop-redo-preserved
 loop-redo-preserved c =
     let b = c.args.self.now.book.now in let held = c.args.self.now.held.now in let x = c.in-Some.redo.now in let t = c.in-Some.ensures.next.1.0 in
     let dead = λ (a : IsAlive b.cuts b.complete x.epoch x.number).
-    let is = c.if-is_alive.ensures.alive.1 (alive_as b x.epoch x.number c.key-at.result.epoch c.key-at.result.number (sym (same_epoch c.key-at.ensures.value)) (sym (same_number c.key-at.ensures.value)) a) in absurd (cc) in
+    let is = c.if-is_alive.ensures.alive.1 (alive_as b x.epoch x.number c.key-at.result.epoch c.key-at.result.number (sym (same_epoch c.key-at.ensures.value)) (sym (same_number c.key-at.ensures.value)) a) in absurd (false≢true is) in
     let up = above_record c.loop-redo.at x t.0 t.3 t.4 in
     subst (Rest b held (λ (r : RecordData). r.page ≡ c.args.page) c.args.number) (sym c.key-at.ensures.value)
     (rest_step b held (λ (r : RecordData). r.page ≡ c.args.page) c.args.number c.loop-redo.at (key_of x) c.loop-redo.invariant c.in-Some.ensures.next.1.1 up dead)

@@ -1,4 +1,5 @@
 use Rattle.std.proofs.Common.{ℕ, ◌<◌, inl, inr, ⊎_elim, refl, sym, subst}
+use Rattle.std.proofs.lemmas.Bool.{false≢true}
 use Rattle.redo_core.specs.Data.{RecordData}
 use Rattle.redo_core.specs.Keys.{key_in, key_of, KeyBefore}
 use Rattle.redo_core.specs.Standing.{IsAlive}
@@ -31,7 +32,7 @@ loop-key-smaller c =
 pub loop-key-preserved : goal.loop-key-preserved
 loop-key-preserved c =
     let b = c.args.self.now.book.now in let held = c.args.self.now.held.now in let key = c.in-Some.key in let t = c.in-Some.ensures.next.0 in
-    let dead : IsAlive b.cuts b.complete key.epoch key.number → ⊥ = λ a. let yes = c.if-is_alive.ensures.alive.1 a in absurd (cc) in
+    let dead : IsAlive b.cuts b.complete key.epoch key.number → ⊥ = λ a. let yes = c.if-is_alive.ensures.alive.1 a in absurd (false≢true yes) in
     let up : KeyBefore c.loop-key.at key = subst (λ (e : ℕ). KeyBefore c.loop-key.at (key_in e key.number)) t.2.0 (subst (λ (n : ℕ). KeyBefore c.loop-key.at (key_in t.0.epoch n)) t.2.1 t.3) in
     rest_step b held (λ (r : RecordData). Unit {0}) c.args.number c.loop-key.at key c.loop-key.invariant (λ r h q p. c.in-Some.ensures.next.1 r h p) up dead
 

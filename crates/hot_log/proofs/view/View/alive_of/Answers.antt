@@ -1,5 +1,6 @@
 use Rattle.std.proofs.Common.{◌≡◌, ℕ, ◌+◌, ◌-◌, ◌<◌, refl, sym, ◌∙◌, subst, arith, true, false}
 use Rattle.std.specs.Option.{option_copied}
+use Rattle.std.proofs.lemmas.Bool.{false≢true}
 use Rattle.redo_core.specs.Standing.{IsAlive}
 use Rattle.hot_log.proofs.Climb.{positive, only_there}
 use Rattle.hot_log.proofs.view.View.alive_of.Goals as goal
@@ -25,4 +26,4 @@ returns-else-is_alive c r h =
     let e : r.epoch ≡ epoch = c.epoch_above-epoch.ensures.parts.1 r.epoch (subst (λ (n : ℕ). IsAlive b.cuts b.complete r.epoch n) (sym next) a) in
     let yes = c.if-is_alive.ensures.alive.1 (subst (λ (x : ℕ). IsAlive b.cuts b.complete x c.args.number) e a) in
     let no : false ≡ true = yes in
-    absurd (cc)
+    absurd (false≢true no)

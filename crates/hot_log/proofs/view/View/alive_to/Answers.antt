@@ -1,4 +1,5 @@
 use Rattle.std.proofs.Common.{◌≡◌, ℕ, ◌≤◌, refl, sym, ◌∙◌, subst, List, Some, rules}
+use Rattle.std.proofs.lemmas.Bool.{false≢true}
 use Rattle.redo_core.specs.Data.{RecordData}
 use Rattle.redo_core.specs.Keys.{key_in, key_of}
 use Rattle.redo_core.specs.declared.keys.Key.{Key}
@@ -43,7 +44,7 @@ loop-redo-preserved c =
     let b = c.args.self.now.book.now in let held = c.args.self.now.held.now in let x = c.in-Some.redo.now in
     let Q : RecordData → Type 0 = λ (r : RecordData). r.page ≡ c.args.page in
     let key : Key = c.key-key.result in
-    let dead : IsAlive b.cuts b.complete key.epoch key.number → ⊥ = λ a. let yes = c.if-is_alive.ensures.alive.1 a in absurd (cc) in
+    let dead : IsAlive b.cuts b.complete key.epoch key.number → ⊥ = λ a. let yes = c.if-is_alive.ensures.alive.1 a in absurd (false≢true yes) in
     let last = subst (LastUnder held Q c.loop-redo.at) (sym c.key-key.ensures.value) (last_of held c.args.page c.loop-redo.at (key_of x) c.in-Some.ensures.last.1) in
     under_step b held Q c.args.number c.loop-redo.at key c.key_down-at.result c.loop-redo.invariant last c.key_down-at.ensures.below c.key_down-at.ensures.spares dead
 

@@ -1,4 +1,5 @@
 use Rattle.std.proofs.Common.{◌≡◌, ℕ, ◌<◌, nat_lt, IsTrue, arith, refl, sym, ◌∙◌, subst, rules}
+use Rattle.std.proofs.lemmas.Bool.{false≢true}
 use Rattle.redo_core.specs.Data.{RecordData}
 use Rattle.redo_core.specs.Standing.{IsAlive}
 use Rattle.hot_log.proofs.Climb.{alive_key}
@@ -29,4 +30,4 @@ returns-in-Some c =
     )
 
 pub returns-in-None : goal.returns-in-None
-returns-in-None c = (λ h. absurd (cc), λ h. absurd (c.in-None.ensures h.0 h.1.0 h.3 h.2))
+returns-in-None c = (λ h. absurd (false≢true h), λ h. absurd (c.in-None.ensures h.0 h.1.0 h.3 h.2))

@@ -1,5 +1,6 @@
 use Rattle.std.proofs.Common.{ℕ, ◌<◌, ◌≤◌, refl, subst, Some, List}
 use Rattle.std.specs.Option.{option_copied}
+use Rattle.std.proofs.lemmas.Bool.{false≢true}
 use Rattle.redo_core.specs.Data.{RecordData}
 use Rattle.redo_core.specs.declared.keys.Key.{Key}
 use Rattle.redo_core.specs.Standing.{IsAlive}
@@ -39,7 +40,7 @@ loop-key-smaller c =
 pub loop-key-preserved : goal.loop-key-preserved
 loop-key-preserved c =
     let b = c.args.self.now.book.now in let held = c.args.self.now.held.now in let key = c.in-Some.key in
-    let dead : IsAlive b.cuts b.complete key.epoch key.number → ⊥ = λ a. let yes = c.if-is_alive.ensures.alive.1 a in absurd (cc) in
+    let dead : IsAlive b.cuts b.complete key.epoch key.number → ⊥ = λ a. let yes = c.if-is_alive.ensures.alive.1 a in absurd (false≢true yes) in
     under_step b held Any c.args.to c.loop-key.at key c.key_down-at.result c.loop-key.invariant (last_of held c.loop-key.at key c.in-Some.ensures.last)
     c.key_down-at.ensures.below c.key_down-at.ensures.spares dead
 

@@ -1,4 +1,5 @@
-use Rattle.std.proofs.Common.{◌+◌, ◌<◌, ◌≤◌, le_refl, sym, subst, arith, length, rules}
+use Rattle.std.proofs.Common.{◌+◌, ◌<◌, ◌≤◌, le_refl, sym, subst, arith, length, rules, ◌∙◌}
+use Rattle.std.proofs.lemmas.Bool.{false≢true}
 use Rattle.hot_log.proofs.Forks.{Search, alone_at_base, alone_below, search_start, search_end, search_counts, skip, down, looks, climbs_to, falls_by_one, has_record}
 use Rattle.hot_log.proofs.view.View.linked_counted.Goals as goal
 use Rattle.hot_log.proofs.Keys.{same_epoch, same_number}
@@ -88,5 +89,5 @@ loop-key-preserved c =
     let u = c.in-Some-alive_of.redo.now in let found = c.in-Some-alive_of.ensures.0 in
     record {
       search = λ is. climbs_to c.args.self.now.book.now c.args.self.now.held.now c.args.from c.args.limit c.loop-key.back c.loop-key.at c.loop-key.top c.loop-key.steps.count u c.key-at.result.epoch c.key-at.result.number c.back-back.result c.in-None.ensures.book is (c.loop-key.invariant.search is) c.in-None.ensures.found found.0 found.1 c.if-back-from.false c.back-back.ensures.value (same_epoch c.key-at.ensures.value) (same_number c.key-at.ensures.value);
-      alone = λ is no. let yes = c.if-not-forked.false in absurd (cc);
+      alone = λ is no. let yes = c.if-not-forked.false in absurd (false≢true (sym no ∙ yes));
     }

@@ -1,4 +1,5 @@
 use Rattle.std.proofs.Common.{length, IsTrue, false, refl, ap, arith}
+use Rattle.std.proofs.lemmas.Bool.{false≢true}
 use Rattle.hot_log.proofs.Opening.{all_left, left_behind, first_is_later, none_behind_waits, none_left}
 use Rattle.hot_log.proofs.view.View.opens_below.Goals as goal
 
@@ -15,7 +16,7 @@ loop-key-preserved c =
 
 pub returns-then-key-complete : goal.returns-then-key-complete
 returns-then-key-complete c = (
-  λ h. absurd (cc),
+  λ h. absurd (false≢true h),
   λ h. absurd (none_behind_waits c.args.self.now.book.now c.args.self.now.held.now c.args.epoch c.args.number (c.in-Some.key.now, c.in-Some.page.now) c.loop-key.left c.next.new.self c.in-Some.ensures.steps c.loop-key.invariant
       (omega (arith, c.if-key-complete.true, c.complete_epoch-complete.ensures.value)) h.0 h.1),
 )
@@ -29,4 +30,4 @@ returns-then-is_below c = (
 )
 
 pub returns : goal.returns
-returns c = (λ h. absurd (cc), λ h. absurd (none_left c.args.self.now.book.now c.args.self.now.held.now c.args.epoch c.args.number c.loop-key.left c.in_default.ensures.steps.0 c.loop-key.invariant h.0 h.1))
+returns c = (λ h. absurd (false≢true h), λ h. absurd (none_left c.args.self.now.book.now c.args.self.now.held.now c.args.epoch c.args.number c.loop-key.left c.in_default.ensures.steps.0 c.loop-key.invariant h.0 h.1))
