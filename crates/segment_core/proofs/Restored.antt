@@ -1,11 +1,11 @@
 -- A segment that is put together from its parts is made of them.
-use Rattle.std.proofs.Common.{◌≡◌, ℕ, ◌⊎◌, ◌↔◌, inl, inr, ⊎_elim, List, [], ◌∷◌, sym, ◌∙◌, subst, arith, max, rules}
+use Rattle.std.proofs.Common.{◌≡◌, ℕ, ◌⊎◌, ◌↔◌, inl, inr, ⊎_elim, List, [], ◌∷◌, refl, sym, ◌∙◌, subst, arith, max, rules}
 use Rattle.std.specs.List.{Contains}
 use Rattle.redo_core.specs.Book.{BookData}
 use Rattle.redo_core.specs.Data.{RecordData}
 use Rattle.redo_core.proofs.Members.{none_in, here, there, which}
-use Rattle.page_base.specs.Adopting.{first_given}
-use Rattle.state_laws.specs.State.{State, state_of, version_of, image_of}
+use Rattle.page_base.specs.Adopting.{first_given, Adopts, StoresJust}
+use Rattle.state_laws.specs.State.{State, Store, state_of, version_of, image_of}
 use Rattle.segment_core.specs.Adopting.{AdoptsBase}
 use Rattle.segment_core.specs.Restoring.{no_images, IsMadeOf, GainsEach}
 
@@ -34,7 +34,7 @@ given_images : (book : BookData) (held : List RecordData) (base : ℕ) (given : 
 unfolding version_of image_of
 given_images book held base given s none adopts page = search rules
 
-pub made_of : (book : BookData) (held records : List RecordData) (base : ℕ) (given : List (ℕ × List ℕ)) (s : State) → (base ≡ 0 → given ≡ [])
+made_of : (book : BookData) (held records : List RecordData) (base : ℕ) (given : List (ℕ × List ℕ)) (s : State) → (base ≡ 0 → given ≡ [])
     → GainsEach [] records held → AdoptsBase (state_of book held 0 no_images) base given s → IsMadeOf book records base given s
 unfolding version_of
 made_of book held records base given s none gains adopts = record {
@@ -51,3 +51,13 @@ made_of book held records base given s none gains adopts = record {
   where
     max_zero : (n : ℕ) → max 0 n ≡ n
     max_zero n = grind arith
+
+-- a state that is made with its images at the base
+pub made_at : (book : BookData) (held records : List RecordData) (base : ℕ) (given : List (ℕ × List ℕ)) (store : Store) → (base ≡ 0 → given ≡ [])
+    → GainsEach [] records held → Adopts no_images base given store → StoresJust no_images base given store → IsMadeOf book records base given (state_of book held base store)
+made_at book held records base given store none gains adopts listed =
+    made_of book held records base given (state_of book held base store) none gains
+    record { book = refl; held = refl; base_is = raised base; store = adopts; listed = listed }
+  where
+    raised : (n : ℕ) → n ≡ max 0 n
+    raised n = grind arith

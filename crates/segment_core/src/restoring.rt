@@ -1,7 +1,9 @@
 ghost use Rattle.std.specs.Prelude.{◌≡◌, ◌≤◌, [], IfOk, OnOk};
 ghost use Rattle.redo_core.specs.Order.{IsRising, RecordBefore};
 ghost use Rattle.redo_core.specs.Roster.{least};
-ghost use Rattle.segment_core.specs.Restoring.{IsMadeOf, Gains, GainsEach};
+ghost use Rattle.page_base.specs.Adopting.{Adopts, StoresJust};
+ghost use Rattle.page_base.specs.Stored.{IsStored};
+ghost use Rattle.segment_core.specs.Restoring.{IsMadeOf, Gains, GainsEach, no_images};
 
 use crate::due::Due;
 use crate::points::Points;
@@ -29,26 +31,42 @@ impl Segment {
         requires rising { IsRising RecordBefore records.items }
         ensures { IfOk result (IsMadeOf book records.items base pages.items) }
     {
+        let store = stored_at(alloc, base, pages)?;
         let mut hot = HotLog::new(alloc);
         hold_all(&mut hot, records)?;
         let view = View {
             book: &book,
             held: &hot,
         };
-        let points = Points::anew(&view, 0);
-        let mut segment = Segment {
+        let points = Points::anew(&view, base);
+        let mut due = Due::new(alloc);
+        due.add_images(&store);
+        Ok(Segment {
             alloc,
             book,
             hot,
-            base: 0,
-            store: BaseStore::new(alloc),
+            base,
+            store,
             points,
-            due: Due::new(alloc),
-        };
-        match segment.adopt(base, pages) {
-            Ok(()) => Ok(segment),
-            Err(_) => Err(AllocError),
-        }
+            due,
+        })
+    }
+}
+
+/// The first image given of each page, or zeros, at a base.
+fn stored_at(
+    alloc: Global,
+    base: u64,
+    pages: Vec<(u16, SharedPage)>,
+) -> Result<BaseStore, AllocError>
+    ensures adopts { IfOk result (Adopts no_images base pages.items) }
+    ensures listed { IfOk result (StoresJust no_images base pages.items) }
+    ensures form { IfOk result IsStored }
+{
+    let mut store = BaseStore::new(alloc);
+    match store.adopt(base, pages) {
+        Ok(()) => Ok(store),
+        Err(_) => Err(AllocError),
     }
 }
 

@@ -1,4 +1,5 @@
 use Rattle.std.proofs.Common.{◌≡◌, true, false, sym, ◌∙◌, subst}
+use Rattle.std.proofs.lemmas.Bool.{false≢true}
 use Rattle.hot_log.specs.Putting.{Puts}
 use Rattle.hot_log.specs.declared.log.Put.TheVariants.{New}
 use Rattle.segment_core.specs.Points.{HasPoints}
@@ -30,6 +31,6 @@ returns-after-may_link-clause-points c =
       | then-may_link+else-points w ↦ subst (HasPoints book new base) (sym w.points-is) w.anew.ensures
       | else-may_link w ↦ subst (HasPoints book new base) (sym w.points-is)
           (links_none book old new base p c.args.redo c.put.ensures.form puts
-          (λ may. let t : c.may_link-may_link.result ≡ true = c.may_link-may_link.ensures.1 may in let f : c.may_link-may_link.result ≡ false = w.if-may_link.false in absurd (cc))
+          (λ may. let t : c.may_link-may_link.result ≡ true = c.may_link-may_link.ensures.1 may in let f : c.may_link-may_link.result ≡ false = w.if-may_link.false in absurd (false≢true (sym f ∙ t)))
           c.requires)
     ]

@@ -1,5 +1,6 @@
 use Rattle.std.proofs.Common.{◌≡◌, ◌+◌, ◌<◌, List, [], ◌∷◌, ◌++◌, map, take, take_all, false, Bor, sym, ap, ◌∙◌, subst}
 use Rattle.std.proofs.lemmas.List.{map-append, take_more}
+use Rattle.std.proofs.lemmas.Bool.{false≢true}
 use Rattle.redo_core.specs.Data.{RecordData}
 use Rattle.redo_core.specs.declared.records.Record.{Record}
 use Rattle.segment_core.specs.BlockChain.{IsChained}
@@ -17,7 +18,7 @@ loop-redo-preserved c =
     let seen : Bor Record → RecordData = λ x. x.now in
     let follows : r.init ≡ false → c.args.version < r.block_back → r.block_back ≡ c.loop-redo.below = λ anew above. elim c.else-leads_on.branch [
       | else-leads_on-via-then-leads_on+else-block_back-below w ↦ sym w.block_back.ensures.value ∙ w.if-block_back-below.false
-      | else-leads_on-via-else-leads_on w ↦ (let t = c.leads_on.ensures.1 (anew, above) in absurd (cc))
+      | else-leads_on-via-else-leads_on w ↦ (let t = c.leads_on.ensures.1 (anew, above) in absurd (false≢true (sym w.if-leads_on.false ∙ t)))
     ] in
     let more : map seen (take (i + 1) c.args.records.now) ≡ map seen (take i c.args.records.now) ++ r ∷ [] =
     ap (map seen) (take_more c.args.records.now i c.redo-item.result c.loop-redo-test.true) ∙ (map-append seen _ _ ∙ ap (λ (x : Bor Record). map seen (take i c.args.records.now) ++ seen x ∷ []) (sym c.redo-item.is)) in

@@ -1,6 +1,7 @@
 use Rattle.std.proofs.Common.{◌≡◌, ℕ, ◌<◌, ◌≤◌, min, ⊎_elim, IsTrue, false, sym, arith}
 use Rattle.std.specs.List.{Contains}
 use Rattle.std.proofs.lemmas.Bool.{cases_lt}
+use Rattle.std.proofs.lemmas.Bool.{false≢true}
 use Rattle.redo_core.specs.Data.{CutData}
 use Rattle.segment_core.proofs.points.Points.untouched.Goals as goal
 use Rattle.segment_core.proofs.points.Points.untouched.Goals.{in-Some, in-None}
@@ -37,7 +38,7 @@ returns-then-not-opens_below-clause-untouched c =
       bound = omega (arith, is, small, bound);
       spared = λ d h lt le. let low : to ≤ d.lo = spared d h lt le in omega (arith, is, small, low);
       behind = λ r h lt. ⊎_elim
-          (λ (below : r.back < n). absurd (let t : IsTrue false = c.if-not-opens_below.ensures.1 (r, (h, lt, below)) in cc))
+          (λ (below : r.back < n). absurd (let t : IsTrue false = c.if-not-opens_below.ensures.1 (r, (h, lt, below)) in false≢true t))
           (λ (le : n ≤ r.back). le)
           (cases_lt r.back n);
     }

@@ -1,4 +1,5 @@
-use Rattle.std.proofs.Common.{◌≡◌, true, false, ◌<◌, ◌≤◌, ◌⊎◌, ⊎_elim, Some, None, subst, arith}
+use Rattle.std.proofs.Common.{◌≡◌, true, false, ◌<◌, ◌≤◌, ◌⊎◌, ⊎_elim, Some, None, subst, arith, sym, ◌∙◌}
+use Rattle.std.proofs.lemmas.Bool.{false≢true}
 use Rattle.hot_log.specs.Held.{IsHeld}
 use Rattle.hot_log.specs.Found.{IsOnlyRecord}
 use Rattle.state_laws.specs.State.{State, version_of}
@@ -71,6 +72,6 @@ returns-clause-breaks c = λ n.
     (λ (high : version_of s.store page < r.block_back).
     let t : c.leads_on.result ≡ true = c.leads_on.ensures.1 (follows, omega (arith, version, high)) in
     let f : c.leads_on.result ≡ false = c.loop-redo-test.false in
-    absurd (cc))
+    absurd (false≢true (sym f ∙ t)))
     (let t : (r.block_back ≤ version_of s.store page) ⊎ (version_of s.store page < r.block_back) = grind arith in t) in
     answers_none s page c.args.point (λ m h. whole_from s page c.args.point r m ends ((c.loop-redo.invariant.same m).0 h)) n

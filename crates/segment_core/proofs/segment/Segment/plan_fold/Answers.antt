@@ -1,4 +1,5 @@
-use Rattle.std.proofs.Common.{◌≡◌, Some, None, refl, rules}
+use Rattle.std.proofs.Common.{◌≡◌, Some, None, refl, rules, sym, ◌∙◌}
+use Rattle.std.proofs.lemmas.Option.{none-some}
 use Rattle.segment_core.proofs.PlanFold.{anchor_complete, fold_of, none_broken, folds_page}
 use Rattle.segment_core.proofs.segment.Segment.plan_fold.Goals as goal
 
@@ -7,7 +8,7 @@ returns-in-Some-clause-result c = λ roster log facts p sound means.
     let none : c.broken_of.result ≡ None = c.broken_of.ensures.sound roster log facts p sound means
     (anchor_complete facts log p c.args.self.now c.anchor-anchor.result means (c.anchor-anchor.ensures.anchor roster log facts p sound means)) in
     let some : c.broken_of.result ≡ Some c.in-Some.number = c.in-Some.is in
-    absurd (cc)
+    absurd (none-some c.in-Some.number (sym none ∙ some))
 
 pub returns-in-Some-clause-own : goal.returns-in-Some-clause-own
 returns-in-Some-clause-own c = (refl, (c.anchor-anchor.result, c.anchor-anchor.ensures.own, (c.broken_of.ensures.breaks c.in-Some.number).0 c.in-Some.is))

@@ -1,4 +1,5 @@
-use Rattle.std.proofs.Common.{◌≡◌, Some, None, map, rules}
+use Rattle.std.proofs.Common.{◌≡◌, Some, None, map, rules, sym, ◌∙◌}
+use Rattle.std.proofs.lemmas.Option.{none-some}
 use Rattle.segment_core.proofs.Reading.{below, above, shown, true_page}
 use Rattle.segment_core.proofs.BlockChain.{tells_broken, tells_whole, not_image, not_memory, within}
 use Rattle.segment_core.proofs.segment.Segment.read.Goals as goal
@@ -22,7 +23,7 @@ returns-in-Some-clause-result c = λ roster log facts p sound means.
     let none : c.broken_of.result ≡ None = c.broken_of.ensures.sound roster log facts p sound means
     (within p c.front-front.result c.args.point (c.front-front.ensures.front roster log facts p sound means) c.if-front-point.false) in
     let some : c.broken_of.result ≡ Some c.in-Some.number = c.in-Some.is in
-    absurd (cc)
+    absurd (none-some c.in-Some.number (sym none ∙ some))
 
 pub returns-in-Some-clause-broken : goal.returns-in-Some-clause-broken
 returns-in-Some-clause-broken c = search (rules, tells_broken)

@@ -1,5 +1,6 @@
-use Rattle.std.proofs.Common.{◌≡◌, true, false, ap, subst}
+use Rattle.std.proofs.Common.{◌≡◌, true, false, ap, subst, sym, ◌∙◌}
 use Rattle.std.proofs.lemmas.Result.{on_err_weaker}
+use Rattle.std.proofs.lemmas.Bool.{false≢true}
 use Rattle.state_laws.specs.State.{State}
 use Rattle.segment_core.specs.Refusing.{IsDeadOrSettled}
 use Rattle.redo_core.specs.declared.facts.Fact.TheVariants.{Record}
@@ -18,7 +19,7 @@ pub returns : goal.returns
 returns c =
     let s = c.args.self.now in let t = c.put.new.self in let p = c.put in
     let compared : IsDeadOrSettled s c.args.redo → ⊥ = λ h. let yes : c.is_settled.result ≡ true = c.is_settled.ensures.1 h in
-    let no : c.is_settled.result ≡ false = c.if-is_settled.false in absurd (cc) in
+    let no : c.is_settled.result ≡ false = c.if-is_settled.false in absurd (false≢true (sym no ∙ yes)) in
     subst (TakesExactly s (Record c.args.redo) c.put_answer.result) (but_held s t p.ensures.book p.ensures.rest)
     (put_exact takes_record takes_known s.book s.held t.held s.base s.store c.args.redo p.result c.put_answer.result p.ensures.form compared
     p.ensures.put p.ensures.refused (on_err_weaker p.result (λ (e : t ≡ s). ap (λ (x : State). x.held) e) p.ensures.unchanged) c.put_answer.ensures)
