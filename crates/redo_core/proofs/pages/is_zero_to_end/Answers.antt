@@ -1,4 +1,5 @@
 use Rattle.std.proofs.Common.{◌≡◌, ◌<◌, take, replicate, get_or, arith, sym, ap, ◌∙◌, refl}
+use Rattle.std.proofs.lemmas.Bool.{false≢true}
 use Rattle.std.proofs.lemmas.List.{get_or-replicate, take_all}
 use Rattle.redo_core.specs.Writing.{zeros}
 use Rattle.redo_core.proofs.pages.is_zero_to_end.Goals as goal
@@ -8,7 +9,7 @@ unfolding zeros
 returns-then-b-ne0 c =
     let i = c.loop-b.b-index in
     let lt : i < 4096 = omega (arith, c.requires) in
-    (λ t. absurd (cc), λ e. absurd (c.if-b-ne0.true (ap (λ xs. get_or xs i 0) e ∙ get_or-replicate 4096 i 0 0 lt)))
+    (λ t. absurd (false≢true t), λ e. absurd (c.if-b-ne0.true (ap (λ xs. get_or xs i 0) e ∙ get_or-replicate 4096 i 0 0 lt)))
 
 pub returns : goal.returns
 unfolding zeros
