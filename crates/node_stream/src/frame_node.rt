@@ -5,15 +5,17 @@ ghost use Rattle.frame_stream.specs.AnswerBytes.{bytes_of};
 ghost use Rattle.frame_stream.specs.Frames.{IsShort};
 ghost use Rattle.node_stream.specs.Answering.{AnswersAsked, AnswersRequest, by_frames};
 ghost use Rattle.node_stream.specs.Asking.{IsInside};
-ghost use Rattle.node_stream.specs.FrameTelling.{fault_frame};
+ghost use Rattle.node_stream.specs.Room.{HasRoom};
+ghost use Rattle.node_stream.specs.Telling.{TakesMemory};
+ghost use Rattle.node_stream.specs.FrameTelling.{fault_frame, frame_of};
 
-use crate::asked::Asked;
+use crate::asked::{Asked, Window};
 use crate::faults::{LineError, LineFault};
 use crate::frame_requests::read_frame;
 use crate::frame_telling::{fault as fault_answer, told};
 use crate::frozen::room;
 use frame_stream::FrameAnswer;
-use replica::Replica;
+use replica::{Replica, Reply};
 use std::alloc::Global;
 
 /// The answer where memory was wanting.
@@ -24,22 +26,31 @@ pub fn memory() -> FrameAnswer
     FrameAnswer::Fixed("memory".as_bytes())
 }
 
+/// The answer frame of a reply, or where there is no memory for it, the one that says so.
+fn answer_reply(alloc: Global, window: Window, reply: &Reply, room: String) -> FrameAnswer
+    requires inside { IsInside window }
+    requires room { HasRoom room }
+    ensures bytes { (bytes_of result ≡ frame_of window reply.now) ⊎ ((bytes_of result ≡ codes "memory") × TakesMemory reply.now) }
+    ensures long { 17 < length (bytes_of result) → TakesMemory reply.now }
+    ensures short { IsShort (bytes_of result) }
+{
+    match told(alloc, window, reply, room) {
+        Ok(answer) => answer,
+        Err(_) => memory(),
+    }
+}
+
 /// Carries out a request, and tells the reply.
-fn answer_request(alloc: Global, replica: &mut Replica, asked: Asked) -> FrameAnswer
-    requires { IsInside asked.window }
+fn answer_request(alloc: Global, replica: &mut Replica, asked: Asked, room: String) -> FrameAnswer
+    requires inside { IsInside asked.window }
+    requires room { HasRoom room }
     ensures answers { AnswersAsked by_frames (Ok asked) replica.old (bytes_of result) replica.new }
     ensures long { 17 < length (bytes_of result) → AnswersAsked by_frames (Ok asked) replica.old (codes "memory") replica.new }
     ensures short { IsShort (bytes_of result) }
 {
-    let Ok(room) = room(alloc) else {
-        return memory();
-    };
-    let Asked { request, window } = asked;
-    let reply = replica.step(request);
-    match told(alloc, window, &reply, room) {
-        Ok(answer) => answer,
-        Err(_) => memory(),
-    }
+    let window = asked.window;
+    let reply = replica.step(asked.request);
+    answer_reply(alloc, window, &reply, room)
 }
 
 /// Tells why a frame asks for nothing.
@@ -63,8 +74,12 @@ pub fn answer_one(alloc: Global, replica: &mut Replica, frame: &[u8]) -> FrameAn
     ensures long { 17 < length (bytes_of result) → AnswersRequest by_frames replica.old frame.now (codes "memory") replica.new }
     ensures short { IsShort (bytes_of result) }
 {
+    // (taken before anything is read, so that nothing that was read stands where it is wanting)
+    let Ok(room) = room(alloc) else {
+        return memory();
+    };
     match read_frame(alloc, frame) {
-        Ok(asked) => answer_request(alloc, replica, asked),
+        Ok(asked) => answer_request(alloc, replica, asked, room),
         Err(LineError::Fault(fault)) => answer_fault(alloc, fault),
         Err(LineError::Memory) => memory(),
     }

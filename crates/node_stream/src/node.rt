@@ -5,10 +5,11 @@ ghost use Rattle.replica.specs.Parts.{empty_replica};
 ghost use Rattle.line_stream.specs.AnswerText.{text_of};
 ghost use Rattle.node_stream.specs.Answering.{AnswersAsked, IsAnswer, by_lines};
 ghost use Rattle.node_stream.specs.Asking.{IsInside};
-ghost use Rattle.node_stream.specs.Telling.{fault_line};
+ghost use Rattle.node_stream.specs.Room.{HasRoom};
+ghost use Rattle.node_stream.specs.Telling.{fault_line, line_of, TakesMemory};
 
 use crate::answers::told;
-use crate::asked::Asked;
+use crate::asked::{Asked, Window};
 use crate::faults::{LineError, LineFault};
 use crate::frozen::room;
 use crate::many::answer_frame;
@@ -17,27 +18,34 @@ use crate::wording::fault as fault_answer;
 use frame_stream::{FrameAnswer, FrameMachine};
 use line_stream::{Answer, LineMachine};
 use redo_core::Roster;
-use replica::Replica;
+use replica::{Replica, Reply};
 use std::alloc::{AllocError, Global};
 use std::marker::Model;
 
 /// The answer where memory was wanting.
 const MEMORY: &str = "memory\n";
 
-/// Carries out a request, and tells the reply.
-fn answer_request(alloc: Global, replica: &mut Replica, asked: Asked) -> Answer
-    requires { IsInside asked.window }
-    ensures { AnswersAsked by_lines (Ok asked) replica.old (text_of result) replica.new }
+/// The answer line of a reply, or where there is no memory for it, the one that says so.
+fn answer_reply(alloc: Global, window: Window, reply: &Reply, room: String) -> Answer
+    requires inside { IsInside window }
+    requires room { HasRoom room }
+    ensures { (text_of result ≡ line_of window reply.now) ⊎ ((text_of result ≡ codes "memory\n") × TakesMemory reply.now) }
 {
-    let Ok(room) = room(alloc) else {
-        return Answer::Fixed(MEMORY);
-    };
-    let Asked { request, window } = asked;
-    let reply = replica.step(request);
-    match told(alloc, window, &reply, room) {
+    match told(alloc, window, reply, room) {
         Ok(answer) => answer,
         Err(_) => Answer::Fixed(MEMORY),
     }
+}
+
+/// Carries out a request, and tells the reply.
+fn answer_request(alloc: Global, replica: &mut Replica, asked: Asked, room: String) -> Answer
+    requires inside { IsInside asked.window }
+    requires room { HasRoom room }
+    ensures { AnswersAsked by_lines (Ok asked) replica.old (text_of result) replica.new }
+{
+    let window = asked.window;
+    let reply = replica.step(asked.request);
+    answer_reply(alloc, window, &reply, room)
 }
 
 /// Tells why a line asks for nothing.
@@ -58,8 +66,12 @@ fn answer_fault(alloc: Global, fault: LineFault) -> Answer
 pub fn answer_line(alloc: Global, replica: &mut Replica, line: &[u8]) -> Answer
     ensures { IsAnswer replica.old line.now (text_of result) replica.new }
 {
+    // (taken before anything is read, so that nothing that was read stands where it is wanting)
+    let Ok(room) = room(alloc) else {
+        return Answer::Fixed(MEMORY);
+    };
     match read_line(alloc, line) {
-        Ok(asked) => answer_request(alloc, replica, asked),
+        Ok(asked) => answer_request(alloc, replica, asked, room),
         Err(LineError::Fault(fault)) => answer_fault(alloc, fault),
         Err(LineError::Memory) => Answer::Fixed(MEMORY),
     }

@@ -1,19 +1,27 @@
-use Rattle.std.proofs.Common.{inl, inr, refl}
+use Rattle.std.proofs.Common.{inl, inr, refl, ⊎_elim}
 use Rattle.node_stream.proofs.Unchanged.{told_unchanged}
 use Rattle.node_stream.proofs.frame_node.answer_request.Goals as goal
 
 pub returns-clause-answers : goal.returns-clause-answers
-returns-clause-answers c = inl (record {
-  is = c.memory-in-Err.ensures.bytes;
-  unchanged = told_unchanged c.args.replica.now c.args.asked.request c.step-reply.result c.step-reply.new.self c.step-reply.ensures.replies
-      c.step-reply.ensures.refused c.in-Err.ensures.memory;
-  did = inr (c.step-reply.result, c.step-reply.ensures.replies);
-})
+returns-clause-answers c = ⊎_elim
+    (λ is. inr (record {
+      told = c.step-reply.result;
+      replies = c.step-reply.ensures.replies;
+      refused = c.step-reply.ensures.refused;
+      is = is;
+    }))
+    (λ lacks. inl (record {
+      is = lacks.0;
+      unchanged = told_unchanged c.args.replica.now c.args.asked.request c.step-reply.result c.step-reply.new.self c.step-reply.ensures.replies
+          c.step-reply.ensures.refused lacks.1;
+      did = inr (c.step-reply.result, c.step-reply.ensures.replies);
+    }))
+    c.answer_reply.ensures.bytes
 
-pub returns-in-Ok-told-clause-long : goal.returns-in-Ok-told-clause-long
-returns-in-Ok-told-clause-long c = λ lt. inl (record {
+pub returns-clause-long : goal.returns-clause-long
+returns-clause-long c = λ lt. inl (record {
   is = refl;
   unchanged = told_unchanged c.args.replica.now c.args.asked.request c.step-reply.result c.step-reply.new.self c.step-reply.ensures.replies
-      c.step-reply.ensures.refused (c.in-Ok-told.ensures.long lt);
+      c.step-reply.ensures.refused (c.answer_reply.ensures.long lt);
   did = inr (c.step-reply.result, c.step-reply.ensures.replies);
 })

@@ -1,11 +1,19 @@
-use Rattle.std.proofs.Common.{inl, inr, refl}
+use Rattle.std.proofs.Common.{inl, inr, refl, ⊎_elim}
 use Rattle.node_stream.proofs.Unchanged.{told_unchanged}
 use Rattle.node_stream.proofs.node.answer_request.Goals as goal
 
 pub returns : goal.returns
-returns c = inl (record {
-  is = refl;
-  unchanged = told_unchanged c.args.replica.now c.args.asked.request c.step-reply.result c.step-reply.new.self c.step-reply.ensures.replies
-      c.step-reply.ensures.refused c.in-Err.ensures.memory;
-  did = inr (c.step-reply.result, c.step-reply.ensures.replies);
-})
+returns c = ⊎_elim
+    (λ is. inr (record {
+      told = c.step-reply.result;
+      replies = c.step-reply.ensures.replies;
+      refused = c.step-reply.ensures.refused;
+      is = is;
+    }))
+    (λ lacks. inl (record {
+      is = lacks.0;
+      unchanged = told_unchanged c.args.replica.now c.args.asked.request c.step-reply.result c.step-reply.new.self c.step-reply.ensures.replies
+          c.step-reply.ensures.refused lacks.1;
+      did = inr (c.step-reply.result, c.step-reply.ensures.replies);
+    }))
+    c.answer_reply.ensures
