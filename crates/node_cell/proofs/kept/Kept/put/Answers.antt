@@ -1,6 +1,7 @@
 use Rattle.std.proofs.Common.{rules, arith, ◌≡◌, ◌∙◌, ◌<◌, ◌++◌, ◌∷◌, [], length, refl, subst, sym, ap}
 use Rattle.std.specs.Prelude.{vec_len}
 use Rattle.state_laws.specs.Means.{MeansAt}
+use Rattle.state_laws.specs.Promises.{TakesFact}
 use Rattle.node_cell.specs.Kept.{MeansTrail}
 use Rattle.node_cell.specs.Delivering.{IsFrontWith}
 use Rattle.node_cell.proofs.Places.{in_log}
@@ -77,3 +78,27 @@ pub returns-in-Memory-clause-refused : goal.returns-in-Memory-clause-refused
 returns-in-Memory-clause-refused g c =
     let count : length c.self.inside.trail.items ≡ vec_len c.self.inside.trail = search rules in
     subst (λ n. n < c.args.capacity) (ap (λ k. length k.trail) c.self.view_is) (omega (arith, c.len.ensures, c.if-len-capacity.false, count))
+
+pub returns-in-Ok-clause-takes : goal.returns-in-Ok-clause-takes
+returns-in-Ok-clause-takes g c =
+    let f = c.into_fact.result in (
+      f,
+      c.into_fact.ensures.stands,
+      subst (λ s. TakesFact s f c.take.new.self.segment) (ap (λ x. x.segment) c.deref_mut.ensures.value ∙ ap (λ k. k.segment) c.self.view_is) c.in-Ok.ensures.takes.means,
+    )
+
+pub invariant_of-self : goal.invariant_of-self
+invariant_of-self g c = subst (MeansTrail g.L.LogName.roster g.L.LogName.log c.self.inside.segment.value.segment) (sym c.reserve.ensures.items) c.self.invariant
+
+pub returns-then-is_err-clause-keeps : goal.returns-then-is_err-clause-keeps
+returns-then-is_err-clause-keeps g c = invariant_of-self g c
+
+pub invariant_of-self-in-Err : goal.invariant_of-self-in-Err
+invariant_of-self-in-Err g c =
+    let roster = g.L.LogName.roster in
+    let log = g.L.LogName.log in
+    subst (λ s. MeansTrail roster log s c.reserve.new.self.items) (sym (ap (λ x. x.segment) (c.in-Err.ensures.unchanged ∙ c.deref_mut.ensures.value)))
+    (subst (MeansTrail roster log c.self.inside.segment.value.segment) (sym c.reserve.ensures.items) c.self.invariant)
+
+pub returns-in-Memory-clause-keeps : goal.returns-in-Memory-clause-keeps
+returns-in-Memory-clause-keeps g c = invariant_of-self-in-Err g c
