@@ -1,4 +1,4 @@
-ghost use Rattle.std.specs.Prelude.{◌≡◌, ◌<◌, ◌≤◌, ◌+◌, ◌++◌, ◌∷◌, [], All, length, replicate, IfOk, OnOk};
+ghost use Rattle.std.specs.Prelude.{◌≡◌, ◌<◌, ◌≤◌, ◌+◌, [], All, length, replicate, IfOk, OnOk};
 ghost use Rattle.front_board.specs.Seat.{IsNode, new_seat};
 ghost use Rattle.node_cell.specs.Node.{IsPassOf};
 ghost use Rattle.node_threads.specs.Each.{Each};
@@ -56,58 +56,60 @@ pub fn open_floor<L: LogName>(
     ensures { IfOk result (λ f. length f.nodes.items ≡ count) }
 {
     let (board, seats) = Board::<L>::open(alloc, count, count)?;
+    let mut floor = Floor {
+        board,
+        nodes: Vec::new(alloc),
+        feeds: Vec::new(alloc),
+        inlets: Vec::new(alloc),
+    };
     let measure = Measure {
         dealt,
         facts,
         trail,
     };
-    open_stands(alloc, board, seats, count, measure)
+    open_stands(alloc, &mut floor, seats, count, measure)?;
+    Ok(floor)
 }
 
-// A stand for each seat of the board.
+// A stand for each seat of the board. The floor is lent, so that no want of memory lets it go here.
 fn open_stands<L: LogName>(
     alloc: Global,
-    board: Board<L>,
+    floor: &mut Floor<L>,
     seats: Vec<Seat<L>>,
     count: usize,
     measure: Measure,
-) -> Result<Floor<L>, AllocError>
-    requires words { board.words ≡ count }
-    requires seats { seats.items ≡ replicate count (new_seat board count) }
+) -> Result<(), AllocError>
+    requires words { floor.old.board.words ≡ count }
+    requires seats { seats.items ≡ replicate count (new_seat floor.old.board count) }
     requires count { count ≤ MAX_NODES }
-    ensures { IfOk result (λ f. length f.nodes.items ≡ count) }
+    requires none { floor.old.nodes.items ≡ [] }
+    ensures { OnOk result (length floor.new.nodes.items ≡ count) }
 {
-    let mut nodes = Vec::with_capacity(alloc, count)?;
-    let mut feeds = Vec::with_capacity(alloc, count)?;
-    let mut inlets = Vec::with_capacity(alloc, count)?;
     for seat in seats {
-        let number = nodes.len() + 1;
-        let stand = open_stand(alloc, seat, number, measure)?;
-        add(&mut nodes, &mut feeds, &mut inlets, stand)?;
+        add_stand(alloc, floor, seat, measure)?;
     }
-    Ok(Floor {
-        board,
-        nodes,
-        feeds,
-        inlets,
-    })
+    Ok(())
 }
 
-// Puts what makes up a stand behind what is there. The lists are lent, so that no want of memory lets them go here.
-fn add<L: LogName>(
-    nodes: &mut Vec<Node<L>>,
-    feeds: &mut Vec<Feed<L>>,
-    inlets: &mut Vec<Inlet<L>>,
-    stand: Stand<L>,
+fn add_stand<L: LogName>(
+    alloc: Global,
+    floor: &mut Floor<L>,
+    seat: Seat<L>,
+    measure: Measure,
 ) -> Result<(), AllocError>
-    ensures node { OnOk result (nodes.new.items ≡ nodes.old.items ++ stand.node ∷ []) }
-    ensures feed { OnOk result (feeds.new.items ≡ feeds.old.items ++ stand.feed ∷ []) }
-    ensures inlet { OnOk result (inlets.new.items ≡ inlets.old.items ++ stand.inlet ∷ []) }
+    requires room { (length floor.old.nodes.items < floor.old.board.words) × (floor.old.board.words ≤ MAX_NODES) }
+    requires seat { seat.board ≡ floor.old.board }
+    ensures board { floor.new.board ≡ floor.old.board }
+    ensures len { OnOk result (length floor.new.nodes.items ≡ length floor.old.nodes.items + 1) }
 {
-    let Stand { node, feed, inlet } = stand;
-    nodes.push(node)?;
-    feeds.push(feed)?;
-    inlets.push(inlet)?;
+    floor.nodes.reserve(1)?;
+    floor.feeds.reserve(1)?;
+    floor.inlets.reserve(1)?;
+    let number = floor.nodes.len() + 1;
+    let stand = open_stand(alloc, seat, number, measure)?;
+    floor.nodes.push_reserved(stand.node);
+    floor.feeds.push_reserved(stand.feed);
+    floor.inlets.push_reserved(stand.inlet);
     Ok(())
 }
 

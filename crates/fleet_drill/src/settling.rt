@@ -1,4 +1,4 @@
-ghost use Rattle.std.specs.Prelude.{◌≡◌, Some, is_some, true, length, map, OnOk, IfOk};
+ghost use Rattle.std.specs.Prelude.{◌≡◌, ◌+◌, ◌<◌, ◌++◌, ◌∷◌, [], Some, is_some, true, length, map, OnOk, IfOk};
 ghost use Rattle.node_cell.specs.Node.{IsPassOf};
 ghost use Rattle.node_threads.specs.Refusals.{AllStarted};
 ghost use Rattle.node_threads.specs.Work.{receipts_in};
@@ -17,37 +17,70 @@ use std::sync::Wait;
 pub fn close_all<L: LogName, R: Wait>(
     rt: &R,
     alloc: Global,
-    worked: Worked<L>,
+    mut worked: Worked<L>,
 ) -> Result<Vec<Closed<L>>, AllocError>
     ensures { IfOk result (λ closed. length closed.items ≡ length worked.nodes.items) }
 {
-    let Worked {
-        board: _,
-        mut nodes,
-        mut inlets,
-        mut answers,
-        refusals,
-    } = worked;
-    had_memory(refusals.as_slice())?;
-    let mut closed = Vec::with_capacity(alloc, nodes.len())?;
-    while let Some(node) = nodes.pop() {
-        let (Some(back), Some(list)) = (inlets.pop(), answers.pop()) else {
-            unreachable!()
-        };
-        let inlet = inlet_of(back);
-        closed.push(close_one(rt, alloc, node, inlet.pass, list)?)?;
-    }
+    let mut closed = Vec::with_capacity(alloc, worked.nodes.len())?;
+    close_each(rt, alloc, &mut worked, &mut closed)?;
     closed.as_mut_slice().reverse();
     Ok(closed)
 }
 
-// The inlet that came back.
-fn inlet_of<L: LogName>(back: Option<Inlet<L>>) -> Inlet<L>
+// Closes the nodes, the last first. They are lent, so that no want of memory lets them go here.
+fn close_each<L: LogName, R: Wait>(
+    rt: &R,
+    alloc: Global,
+    worked: &mut Worked<L>,
+    closed: &mut Vec<Closed<L>>,
+) -> Result<(), AllocError>
+    ensures { OnOk result (length closed.new.items ≡ length closed.old.items + length worked.old.nodes.items) }
+{
+    had_memory(worked.refusals.as_slice())?;
+    while !worked.nodes.is_empty() {
+        close_last(rt, alloc, worked, closed)?;
+    }
+    Ok(())
+}
+
+fn close_last<L: LogName, R: Wait>(
+    rt: &R,
+    alloc: Global,
+    worked: &mut Worked<L>,
+    closed: &mut Vec<Closed<L>>,
+) -> Result<(), AllocError>
+    requires started { AllStarted worked.old.refusals.items }
+    requires left { 0 < length worked.old.nodes.items }
+    ensures refusals { worked.new.refusals ≡ worked.old.refusals }
+    ensures left { OnOk result (length worked.old.nodes.items ≡ length worked.new.nodes.items + 1) }
+    ensures closed { OnOk result (length closed.new.items ≡ length closed.old.items + 1) }
+{
+    closed.reserve(1)?;
+    let list = take_last(&mut worked.answers);
+    let back = take_last(&mut worked.inlets);
+    let node = take_last(&mut worked.nodes);
+    let pass = pass_of(back);
+    closed.push_reserved(close_one(rt, alloc, node, pass, list)?);
+    Ok(())
+}
+
+fn take_last<T: Drop>(items: &mut Vec<T>) -> T
+    requires { 0 < length items.old.items }
+    ensures { items.old.items ≡ items.new.items ++ result ∷ [] }
+{
+    match items.pop() {
+        Some(item) => item,
+        None => unreachable!(),
+    }
+}
+
+// The pass of an inlet that came back.
+fn pass_of<L: LogName>(back: Option<Inlet<L>>) -> Pass<L>
     requires { is_some back ≡ true }
-    ensures { back ≡ Some result }
+    ensures { (i : _) × (back ≡ Some i) × (result ≡ i.pass) }
 {
     match back {
-        Some(inlet) => inlet,
+        Some(inlet) => inlet.pass,
         None => unreachable!(),
     }
 }
