@@ -1,5 +1,5 @@
 -- What a walk down a range has passed, and where it may end.
-use Rattle.std.proofs.Common.{◌≡◌, ℕ, ◌<◌, ◌≤◌, ◌⊎◌, ◌↔◌, inl, inr, ⊎_elim, List, [], ◌∷◌, ◌++◌, map, reverse, true, refl, sym, ap, ◌∙◌, subst, arith, rules}
+use Rattle.std.proofs.Common.{◌≡◌, ℕ, ◌<◌, ◌≤◌, ◌⊎◌, ◌↔◌, inl, inr, ⊎_elim, List, [], ◌∷◌, ◌++◌, map, reverse, true, refl, sym, ap, ◌∙◌, subst, arith, rules, length, length-append}
 use Rattle.std.specs.List.{Contains}
 use Rattle.std.proofs.lemmas.List.{append_assoc, map-append, reverse-append}
 use Rattle.std.proofs.lemmas.List.Elements.{Contains-append_right, Contains-append_cases}
@@ -141,6 +141,9 @@ pub record Descends (b : BookData) (es left : List Entry) (falling : List Record
 
 pub starts : (b : BookData) (es : List Entry) (falling : List RecordData) → falling ≡ [] → Descends b es es falling
 starts b es falling none = search rules
+
+pub one_fewer : (left rest : List Entry) (x : Entry) → left ≡ rest ++ x ∷ [] → length rest < length left
+one_fewer left rest x is = let same = ap (λ l. length l) is in let more = length-append rest (x ∷ []) in omega arith
 
 -- one step down
 abbrev pub walks_down : (m : Map) (page : ℕ) (above to : Key) (b : BookData) (es left rest : List Entry) (falling : List RecordData) (x : Entry) → IsPaged m

@@ -237,7 +237,13 @@ once_behind b held from limit back at top count x book is s c r h w =
 
 -- what was ahead is the record that the search looks at, or is still ahead behind it
 passes : (b : BookData) (held : List RecordData) (from back : ℕ) (at : Key) (x : RecordData) → IsNext b held back at x → (q : RecordData) → Ahead b held from back at q → (q ≡ x) ⊎ Ahead b held from back (key_of x) q
-passes b held from back at x c q h = search (rules, beside_at, above_at, ahead_cases)
+passes b held from back at x c q h = ⊎_elim
+    (λ (u : Beside b held back at q). ⊎_elim
+    (λ (e : q ≡ x). inl e)
+    (λ (p : KeyBefore (key_of x) (key_of q)). inr (beside_at b held from back (key_of x) q u.alive u.of p))
+    (c.first q u.alive u.of u.behind))
+    (λ (u : Above b held from back q). inr (above_at b held from back (key_of x) q u))
+    (ahead_cases b held from back at q h)
 
 all_skip : (b : BookData) (held : List RecordData) (from limit back : ℕ) (at : Key) (top count : ℕ) (x : RecordData) → IsBook b → IsHeld held → (s : Search b held from limit back at top count) → IsNext b held back at x → limit < x.number → (r : RecordData) → IsReached b held from limit r → Contains (x ∷ s.seen) r ⊎ ComesTo b held from back (key_of x) r
 all_skip b held from limit back at top count x book is s c over r reached =
@@ -472,6 +478,12 @@ looks b held from limit back at key top count book is s n =
 -- the measure falls by a record looked at, and by a climb
 pub falls_by_one : (h c d l x y : ℕ) → d ≡ c + 1 → c + 1 ≤ h → x ≤ l → (h - d) * (l + 1) + x < (h - c) * (l + 1) + y
 falls_by_one h c d l x y e le up = search rules
+
+add_less : (m x y : ℕ) → x < y → m + x < m + y
+add_less m x y lt = omega arith
+
+pub falls_by_climb : (h c l x y : ℕ) → x < y → (h - c) * (l + 1) + x < (h - c) * (l + 1) + y
+falls_by_climb h c l x y lt = add_less ((h - c) * (l + 1)) x y lt
 
 pub climbs_to : (b : BookData) (held : List RecordData) (from limit back : ℕ) (at : Key) (top count : ℕ) (u : RecordData) (e n k : ℕ) → IsBook b → IsHeld held → Search b held from limit back at top count → IsAliveOfBack b held back at None → IsHeldAlive b held u → u.number ≡ back → from < back → k ≡ u.back → e ≡ u.epoch → n ≡ u.number → Search b held from limit k (key_in e n) top count
 climbs_to b held from limit back at top count u e n k book is s none alive same lt p q r = search (rules, search_climb)

@@ -1,7 +1,8 @@
 -- What keeps an index the index of the held records.
 use Rattle.std.proofs.Common.{◌≡◌, ℕ, ◌⊎◌, ◌↔◌, inl, inr, ⊎_elim, List, refl, sym, ◌∙◌, ap, subst, Option, Some, None, Bool, true, false, Result, rules}
+use Rattle.std.proofs.lemmas.Bool.{false≢true}
 use Rattle.std.specs.Option.{is_some}
-use Rattle.std.specs.Result.{is_err, OnOk}
+use Rattle.std.specs.Result.{is_err, OnOk, OnErr}
 use Rattle.std.specs.List.{Contains}
 use Rattle.redo_core.specs.Data.{RecordData}
 use Rattle.redo_core.specs.Keys.{key_in, key_of, KeyBefore}
@@ -75,6 +76,9 @@ removes_none held e n none r = (λ h. (h, λ k. none r h k), λ h. h.0)
 pub on_ok : {T E : Type 0} (r : Result T E) (b : Bool) (P : Type 0) → b ≡ is_err r → b ≡ false → OnOk r P → P
 on_ok r b P e f h = search rules
 
+pub on_err : {T E : Type 0} (r : Result T E) (b : Bool) (P : Type 0) → b ≡ is_err r → b ≡ true → OnErr r P → P
+on_err r b P e f h = search rules
+
 pub none_for : (held : List RecordData) (e n a b : ℕ) → e ≡ a → n ≡ b → IsRecordAt held (key_in e n) None → IsRecordAt held (key_in a b) None
 none_for held e n a b p q none r h key = none r h (key.0 ∙ sym p, key.1 ∙ sym q)
 
@@ -147,6 +151,10 @@ pages_shrink old new keys less e n is removes loses = record {
 -- whether the key that was given a page had one
 pub had_page : (o : Option ℕ) (b : Bool) (old new : List (Key × ℕ)) (key : Key) (page : ℕ) → b ≡ is_some o → b ≡ true → AddsPage old key page new o → (p : ℕ) × Contains old (key, p)
 had_page o b old new key page e f h = search rules
+
+pub had_same : (o : Option ℕ) (b : Bool) (old new : List (Key × ℕ)) (key : Key) (page : ℕ) → b ≡ is_some o → b ≡ true → AddsPage old key page new o → new ≡ old
+had_same None b old new key page e f h = absurd (false≢true (sym e ∙ f))
+had_same (Some p) b old new key page e f h = h.1
 
 pub had_none : (o : Option ℕ) (b : Bool) (old new : List (Key × ℕ)) (key : Key) (page : ℕ) → b ≡ is_some o → b ≡ false → AddsPage old key page new o → IsPageOf old key None × GainsPage old key page new
 had_none None b old new key page e f h = h

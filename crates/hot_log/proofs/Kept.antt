@@ -1,8 +1,7 @@
 -- Going over the keys above one, and what is kept of them.
-use Rattle.std.proofs.Common.{◌≡◌, ℕ, ◌<◌, ◌≤◌, ◌⊎◌, ◌↔◌, inl, inr, ⊎_elim, List, [], ◌∷◌, ◌++◌, map, refl, sym, ap, ◌∙◌, subst, arith}
+use Rattle.std.proofs.Common.{◌≡◌, ℕ, ◌<◌, ◌≤◌, inl, inr, ⊎_elim, List, [], ◌∷◌, ◌++◌, map, refl, sym, ap, ◌∙◌, subst, arith, rules}
 use Rattle.std.proofs.lemmas.Grind.{common_steps}
 use Rattle.std.specs.List.{Contains, filter}
-use Rattle.std.proofs.lemmas.List.Elements.{Contains-append_right}
 use Rattle.std.specs.declared.cmp.Ordering.TheVariants.{Less}
 use Rattle.std.specs.declared.ops.Bound.TheVariants.{Excluded, Unbounded}
 use Rattle.std.specs.List.Sorted.{IsStrictlySortedBy}
@@ -23,7 +22,7 @@ use Rattle.hot_log.specs.Kept.{KeepsKey, IsKeptAbove, ListsKeysOf, IsKeyKept}
 use Rattle.hot_log.proofs.Indexed.{one_key}
 use Rattle.hot_log.proofs.Keyed.{Entry, Map}
 use Rattle.hot_log.proofs.Maps.{rising_entries, before_join, lt_true, lt_of}
-use Rattle.hot_log.proofs.Orders.{key_less, key_less_of}
+use Rattle.hot_log.proofs.Orders.{key_less, key_less_of, joins_last}
 
 -- ---- the walk over the entries of a range
 
@@ -33,6 +32,9 @@ KeptIn b point xs k = ((page : ℕ) × Contains xs (k, page)) × KeepsKey b poin
 
 abbrev pub ListsKept : BookData → ℕ → List Entry → List Key → Type 0
 ListsKept b point xs keys = Lists KeyBefore (KeptIn b point xs) keys
+
+pub kept_none : (b : BookData) (point : ℕ) (keys : List Key) → keys ≡ [] → ListsKept b point [] keys
+kept_none b point keys none = search rules
 
 -- the entries in front of one in a range have lower keys
 in_front : (m : Map) (above : Key) (es xs rest : List Entry) (x : Entry) → IsStrictlySortedBy key_cmp (keys_of m)
@@ -44,9 +46,6 @@ in_front m above es xs rest x ordered is split k page h =
     let rising : IsRising Before (xs ++ x ∷ rest) = subst (IsRising Before) (sym is ∙ split) (rising_filter Before test m (rising_entries key_cmp m ordered)) in
     key_less k x.0 (before_join Before xs rest x (k, page) rising h)
 
-joined : (xs : List Entry) (x y : Entry) → Contains (xs ++ x ∷ []) y ↔ (Contains xs y ⊎ (y ≡ x))
-joined xs x y = grind (arith, common_steps, Contains-append_right)
-
 pub kept_more : (b : BookData) (point : ℕ) (m : Map) (above : Key) (es xs rest : List Entry) (x : Entry) (keys : List Key) → IsStrictlySortedBy key_cmp (keys_of m)
     → es ≡ filter (λ (e : Entry). range_contains key_cmp (Excluded above) Unbounded e.0) m → es ≡ xs ++ x ∷ rest
     → ListsKept b point xs keys → KeepsKey b point x.0 → ListsKept b point (xs ++ x ∷ []) (keys ++ x.0 ∷ [])
@@ -57,10 +56,10 @@ kept_more b point m above es xs rest x keys ordered is split lists keeps =
       λ h. ⊎_elim
           (λ (u : Contains xs (k, h.0.0)). inl ((h.0.0, u), h.1))
           (λ (u : (k, h.0.0) ≡ x). inr (ap (λ (e : Entry). e.0) u))
-          ((joined xs x (k, h.0.0)).0 h.0.1),
+          ((joins_last xs x (k, h.0.0)).0 h.0.1),
       λ h. ⊎_elim
-          (λ (u : KeptIn b point xs k). ((u.0.0, (joined xs x (k, u.0.0)).1 (inl u.0.1)), u.1))
-          (λ (u : k ≡ x.0). subst (KeptIn b point (xs ++ x ∷ [])) (sym u) ((x.1, (joined xs x x).1 (inr refl)), keeps))
+          (λ (u : KeptIn b point xs k). ((u.0.0, (joins_last xs x (k, u.0.0)).1 (inl u.0.1)), u.1))
+          (λ (u : k ≡ x.0). subst (KeptIn b point (xs ++ x ∷ [])) (sym u) ((x.1, (joins_last xs x x).1 (inr refl)), keeps))
           h,
     ))
 
@@ -69,11 +68,11 @@ pub kept_left : (b : BookData) (point : ℕ) (xs : List Entry) (x : Entry) (keys
 kept_left b point xs x keys lists not =
     lists_as KeyBefore (KeptIn b point xs) (KeptIn b point (xs ++ x ∷ [])) keys
     (λ k. (
-      λ h. ((h.0.0, (joined xs x (k, h.0.0)).1 (inl h.0.1)), h.1),
+      λ h. ((h.0.0, (joins_last xs x (k, h.0.0)).1 (inl h.0.1)), h.1),
       λ h. ⊎_elim
           (λ (u : Contains xs (k, h.0.0)). ((h.0.0, u), h.1))
           (λ (u : (k, h.0.0) ≡ x). absurd (not (subst (KeepsKey b point) (ap (λ (e : Entry). e.0) u) h.1)))
-          ((joined xs x (k, h.0.0)).0 h.0.1),
+          ((joins_last xs x (k, h.0.0)).0 h.0.1),
     ))
     lists
 

@@ -1,5 +1,5 @@
 -- The order of keys in groups, and what stands first and last among the members of a rising list that pass a test.
-use Rattle.std.proofs.Common.{◌≡◌, ℕ, ◌<◌, ◌⊎◌, inl, inr, ⊎_elim, List, [], ◌∷◌, ◌++◌, sym, subst, arith, Bool, true, rules}
+use Rattle.std.proofs.Common.{◌≡◌, ℕ, ◌<◌, ◌⊎◌, inl, inr, ⊎_elim, List, [], ◌∷◌, ◌++◌, sym, subst, arith, Bool, true, rules, ◌↔◌}
 use Rattle.std.proofs.lemmas.Grind.{common_steps}
 use Rattle.std.specs.List.{Contains, filter}
 use Rattle.std.specs.List.Sorted.{IsStrictlySortedBy}
@@ -8,13 +8,13 @@ use Rattle.std.specs.Cmp.{IsTotalOrder, nat_cmp_total, then_total, on_total}
 use Rattle.std.specs.declared.cmp.Ordering.{Ordering}
 use Rattle.std.specs.declared.cmp.Ordering.TheVariants.{Less, Equal}
 use Rattle.std.proofs.lemmas.Map.Lookups.{CmpEqualImpliesEq, exact_pairs, exact_unsigned}
-use Rattle.std.proofs.lemmas.List.Elements.{Contains-append_cases}
+use Rattle.std.proofs.lemmas.List.Elements.{Contains-append_cases, Contains-append_left}
 use Rattle.redo_core.specs.Order.{IsRising}
 use Rattle.redo_core.specs.Keys.{key_cmp, KeyBefore}
 use Rattle.redo_core.specs.declared.keys.Key.{Key}
 use Rattle.hot_log.specs.Paged.{place_cmp}
 use Rattle.hot_log.proofs.Maps.{IsExact}
-use Rattle.redo_core.proofs.Members.{none_in, here, which, each, filtered, passed}
+use Rattle.redo_core.proofs.Members.{none_in, here, which, each, filtered, passed, only}
 use Rattle.redo_core.proofs.Rising.{rising_filter}
 
 pub key_total : IsTotalOrder key_cmp
@@ -76,6 +76,19 @@ none_kept {X} p xs is y h k = none_in y (subst (λ (l : List X). Contains l y) i
 
 at_end : {X : Type 0} (t : List X) (x : X) → Contains (t ++ x ∷ []) x
 at_end t x = grind (arith, common_steps)
+
+-- what joins a list at its end
+pub joins_last : {X : Type 0} (xs : List X) (x y : X) → Contains (xs ++ x ∷ []) y ↔ (Contains xs y ⊎ (y ≡ x))
+joins_last {X} xs x y = (
+  λ h. ⊎_elim
+      (λ (u : Contains xs y). inl u)
+      (λ (u : Contains (x ∷ []) y). inr (sym (only x y u)))
+      (Contains-append_cases xs (x ∷ []) y h),
+  λ h. ⊎_elim
+      (λ (u : Contains xs y). Contains-append_left xs (x ∷ []) y u)
+      (λ (e : y ≡ x). subst (λ (z : X). Contains (xs ++ x ∷ []) z) (sym e) (at_end xs x))
+      h,
+)
 
 before_last : {X : Type 0} (Before : X → X → Type 0) (t : List X) (x y : X) → IsRising Before (t ++ x ∷ []) → Contains t y → Before y x
 before_last Before [] x y r h = absurd (none_in y h)

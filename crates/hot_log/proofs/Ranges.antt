@@ -1,5 +1,6 @@
 -- What ranges of a map by page and key hold.
 use Rattle.std.proofs.Common.{◌≡◌, ℕ, ◌+◌, ◌<◌, ◌≤◌, ◌⊎◌, ◌↔◌, inl, inr, ⊎_elim, List, [], ◌∷◌, ◌++◌, sym, ◌∙◌, ap, subst, arith, Bool, true, Option, Some, None, rules}
+use Rattle.std.proofs.lemmas.List.{map-append}
 use Rattle.std.proofs.lemmas.Grind.{common_steps}
 use Rattle.std.specs.List.{Contains, filter}
 use Rattle.std.specs.declared.cmp.Ordering.TheVariants.{Less}
@@ -21,7 +22,7 @@ use Rattle.hot_log.specs.Found.{IsPageAbove, IsPageAfter}
 use Rattle.hot_log.specs.Indexing.{IsNextRecord, IsLastRecord, IsNextHeld, IsLastHeld}
 use Rattle.hot_log.specs.Paged.{place_cmp, place_of, records_in, IsPaged}
 use Rattle.hot_log.proofs.Maps.{keys_range, key_listed, rising_entries, before_join}
-use Rattle.hot_log.proofs.Orders.{rises}
+use Rattle.hot_log.proofs.Orders.{rises, joins_last}
 use Rattle.hot_log.proofs.Places.{Place, next_none, next_some, next_other, last_none, last_some, last_other, group_none, group_some, IsGroup}
 use Rattle.hot_log.proofs.Indexed.{next_held, last_held}
 use Rattle.hot_log.proofs.Views.{view_of, number_before}
@@ -133,8 +134,11 @@ AliveIn b es r = Contains (records_in es) r × IsAlive b.cuts b.complete r.epoch
 abbrev pub ListsAlive : BookData → List Entry → List RecordData → Type 0
 ListsAlive b es ys = Lists BeforeByNumber (AliveIn b es) ys
 
+pub alive_none : (b : BookData) (ys : List RecordData) → ys ≡ [] → ListsAlive b [] ys
+alive_none b ys none = search rules
+
 pub joined : (xs : List Entry) (x : Entry) (r : RecordData) → Contains (records_in (xs ++ x ∷ [])) r ↔ (Contains (records_in xs) r ⊎ (r ≡ x.1))
-joined xs x r = grind (arith, common_steps)
+joined xs x r = rw map-append (joins_last (records_in xs) x.1 r)
 
 -- within one page, a place below another is that of a record with a lower key
 pub same_page : (page : ℕ) (p q : Place) (r s : RecordData) → p ≡ place_of r → q ≡ place_of s → p.0 ≡ page → q.0 ≡ page → place_cmp p q ≡ Less → RecordBefore r s

@@ -44,7 +44,29 @@ not_both x y p q = not_itself x (place_before x y x p q)
 
 pub passes_one : (all : List RecordData) (x own : RecordData) (rest : List RecordData) (first : Option (Bor RecordData)) (left : List RecordData)
     → Passes all x (Some own) rest → PlaceBefore own x → TakesFirst deref rest first left → Passes all x (option_copied first) left
-passes_one all x own rest first left passes low takes = search (rules, ahead_of, there, which)
+passes_one all x own rest first left passes low takes =
+    let is = taken rest first left takes in record {
+      ahead = ahead_of rest first left takes passes.ahead.rising.1;
+      among = λ r h. passes.among r (there own rest r (subst (λ (l : List RecordData). Contains l r) is h));
+      before = λ r h. ⊎_elim
+          (λ (u : Contains (own ∷ rest) r). ⊎_elim
+          (λ (e : own ≡ r). inr (subst (λ (y : RecordData). PlaceBefore y x) e low))
+          (λ (v : Contains rest r). inl (subst (λ (l : List RecordData). Contains l r) (sym is) v))
+          (which own rest r u))
+          (λ (p : PlaceBefore r x). inr p)
+          (passes.before r h);
+    }
+
+-- where none is before a record, it is among them just where it comes next
+pub is_next : (all : List RecordData) (x own : RecordData) (rest : List RecordData) → own ∷ rest ≡ all → IsRising PlaceBefore (own ∷ rest)
+    → ((r : RecordData) → Contains all r → PlaceBefore r x → ⊥) → (own ≡ x) ↔ Contains all x
+is_next all x own rest is rising none_before = (
+  λ e. subst (λ (l : List RecordData). Contains l x) is (subst (Contains (own ∷ rest)) e (here own rest)),
+  λ h. ⊎_elim
+      (λ (u : own ≡ x). u)
+      (λ (u : Contains rest x). absurd (none_before own (subst (λ (l : List RecordData). Contains l own) is (here own rest)) (each (PlaceBefore own) rest x rising.0 u)))
+      (which own rest x (subst (λ (l : List RecordData). Contains l x) (sym is) h)),
+)
 
 -- where the one that comes next is not before a record, none that is left is
 pub passed_all : (all : List RecordData) (x own : RecordData) (rest : List RecordData) → Passes all x (Some own) rest → (PlaceBefore own x → ⊥)

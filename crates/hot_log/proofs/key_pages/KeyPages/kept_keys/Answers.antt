@@ -8,7 +8,7 @@ use Rattle.redo_core.specs.Keys.{KeyBefore}
 use Rattle.redo_core.specs.declared.keys.Key.{Key}
 use Rattle.hot_log.specs.Kept.{KeepsKey, IsKeyKept}
 use Rattle.hot_log.proofs.Keyed.{Entry}
-use Rattle.hot_log.proofs.Kept.{ListsKept, kept_more, kept_left, kept_all}
+use Rattle.hot_log.proofs.Kept.{ListsKept, kept_more, kept_left, kept_all, kept_none}
 use Rattle.hot_log.proofs.key_pages.KeyPages.kept_keys.Goals as goal
 
 pub loop-key-preserved-in-Continue-1 : goal.loop-key-preserved-in-Continue-1
@@ -17,7 +17,7 @@ loop-key-preserved-in-Continue-1 c =
     let xs : List Entry = map deref_pair c.loop-key.yielded in
     let x : Entry = (c.in-Some.key.now, c.in-Some.field-0-1.now) in
     let es = c.above-key-items.result in
-    let start : c.into_iter-key-iterator.result ≡ es = cc in
+    let start : c.into_iter-key-iterator.result ≡ es = c.into_iter-key-iterator.ensures.into_iter_gives in
     let split : es ≡ xs ++ x ∷ c.next.new.self =
     sym start ∙ rest_so_far deref_pair c.loop-key.yielded c.into_iter-key-iterator.result c.loop-key.key-iterator c.loop-key.yielded_by ∙ ap (λ (l : List Entry). xs ++ l) c.in-Some.ensures.steps in
     let more = kept_more b c.args.point m c.args.above es xs c.next.new.self x c.loop-key.kept.items c.self.invariant (sym c.above-key-items.ensures.above) split c.loop-key.invariant (c.is_kept.ensures.0 c.if-is_kept.true) in
@@ -40,9 +40,12 @@ returns c =
     let xs : List Entry = map deref_pair c.loop-key.yielded in
     let keys : List Key = c.loop-key.kept.items in
     let es = c.above-key-items.result in
-    let start : c.into_iter-key-iterator.result ≡ es = cc in
+    let start : c.into_iter-key-iterator.result ≡ es = c.into_iter-key-iterator.ensures.into_iter_gives in
     let all : es ≡ xs =
     sym start ∙ rest_so_far deref_pair c.loop-key.yielded c.into_iter-key-iterator.result c.loop-key.key-iterator c.loop-key.yielded_by ∙ ap (λ (l : List Entry). xs ++ l) c.in-None.ensures.steps.0 ∙ append-nil xs in
     subst (λ (l : List Entry). Lists KeyBefore (IsKeyKept b l c.args.above c.args.point) keys) c.self.view_is
     (kept_all b c.args.point m c.args.above es keys (sym c.above-key-items.ensures.above)
     (subst (λ (l : List Entry). ListsKept b c.args.point l keys) (sym all) c.loop-key.invariant))
+
+pub loop-key-init : goal.loop-key-init
+loop-key-init c = kept_none c.args.book.now c.args.point _ c.new-kept.ensures.items

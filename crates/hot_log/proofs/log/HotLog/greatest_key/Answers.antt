@@ -1,6 +1,10 @@
-use Rattle.std.proofs.Common.{rules}
+use Rattle.std.proofs.Common.{subst, List}
+use Rattle.redo_core.specs.Data.{RecordData}
+use Rattle.hot_log.specs.Held.{IsGreatestHeld}
 use Rattle.hot_log.proofs.Indexed.{greatest_held}
 use Rattle.hot_log.proofs.log.HotLog.greatest_key.Goals as goal
 
 pub returns-clause-greatest : goal.returns-clause-greatest
-returns-clause-greatest c = search (rules, greatest_held)
+returns-clause-greatest c =
+    subst (λ (l : List RecordData). IsGreatestHeld l c.greatest_key.result) c.self.view_is
+    (greatest_held c.self.inside.records c.self.inside.by_key c.greatest_key.result c.self.invariant.by_key c.greatest_key.ensures)

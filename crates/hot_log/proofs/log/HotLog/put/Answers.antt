@@ -1,12 +1,13 @@
-use Rattle.std.proofs.Common.{◌≡◌, ◌⊎◌, ◌↔◌, refl, sym, ◌∙◌, subst, List, None, IsTrue, false}
+use Rattle.std.proofs.Common.{◌≡◌, ◌⊎◌, ◌↔◌, refl, sym, ◌∙◌, subst, List, None, IsTrue, false, ℕ}
 use Rattle.std.specs.List.{Contains}
 use Rattle.std.proofs.lemmas.Bool.{false≢true}
 use Rattle.redo_core.specs.Data.{RecordData}
 use Rattle.redo_core.specs.Keys.{key_in, key_of}
+use Rattle.redo_core.specs.declared.keys.Key.{Key}
 use Rattle.hot_log.specs.Held.{IsRecordAt}
-use Rattle.hot_log.specs.Indexing.{IsKeyPages}
+use Rattle.hot_log.specs.Indexing.{IsKeyPages, IsIndexed}
 use Rattle.hot_log.specs.Putting.{RefusesPut}
-use Rattle.hot_log.proofs.Indexed.{none_for, unpaged, had_page, had_none, pages_grow, pages_undone}
+use Rattle.hot_log.proofs.Indexed.{none_for, unpaged, had_page, had_none, pages_grow, pages_undone, had_same}
 use Rattle.hot_log.proofs.Keys.{same_epoch, same_number}
 use Rattle.hot_log.proofs.log.HotLog.put.Goals as goal
 
@@ -84,3 +85,46 @@ returns-in-Err-clause-refused c =
       refused.0,
       subst (RefusesPut c.args.self.now redo) (sym refused.1) (subst (λ (l : List RecordData). IsRecordAt l (key_of redo) None) c.self.view_is free),
     )
+
+pub invariant_of-self : goal.invariant_of-self
+invariant_of-self c = subst (λ (l : List (Key × ℕ)). IsIndexed c.self.inside.records l c.self.inside.by_back) (sym c.in_default.ensures.unchanged) c.self.invariant
+
+pub invariant_of-self-then-has : goal.invariant_of-self-then-has
+invariant_of-self-then-has c =
+    let same = had_same c.in-Ok.page c.is_some.result c.self.inside.by_key c.add.new.self (key_in c.key-key.result.epoch c.key-key.result.number) c.page.result c.is_some.ensures c.if-is_some.true c.in-Ok.ensures.adds in
+    subst (λ (l : List (Key × ℕ)). IsIndexed c.self.inside.records l c.self.inside.by_back) (sym same) c.self.invariant
+
+pub invariant_of-self-then-is_some : goal.invariant_of-self-then-is_some
+invariant_of-self-then-is_some c =
+    let same = had_same c.in-Ok.page c.is_some.result c.self.inside.by_key c.add.new.self (key_in c.key-key.result.epoch c.key-key.result.number) c.page.result c.is_some.ensures c.if-is_some.true c.in-Ok.ensures.adds in
+    subst (λ (l : List (Key × ℕ)). IsIndexed c.self.inside.records l c.self.inside.by_back) (sym same) c.self.invariant
+
+pub returns-then-has-clause-put : goal.returns-then-has-clause-put
+returns-then-has-clause-put c = (subst (λ (l : List RecordData). Contains l c.args.redo) c.self.view_is (c.if-has.ensures.0 refl), c.self.view_is)
+
+pub returns-in_default-clause-unchanged : goal.returns-in_default-clause-unchanged
+returns-in_default-clause-unchanged c = c.self.view_is
+
+pub returns-then-is_some-clause-unchanged : goal.returns-then-is_some-clause-unchanged
+returns-then-is_some-clause-unchanged c = c.self.view_is
+
+pub returns-in-Err-clause-unchanged : goal.returns-in-Err-clause-unchanged
+returns-in-Err-clause-unchanged c = c.in-Err.ensures.unchanged ∙ c.self.view_is
+
+pub returns-in_default-clause-form : goal.returns-in_default-clause-form
+returns-in_default-clause-form c = c.self.invariant.form
+
+pub returns-then-has-clause-form : goal.returns-then-has-clause-form
+returns-then-has-clause-form c = c.self.invariant.form
+
+pub returns-then-is_some-clause-form : goal.returns-then-is_some-clause-form
+returns-then-is_some-clause-form c = c.self.invariant.form
+
+pub returns-in-Err-clause-form : goal.returns-in-Err-clause-form
+returns-in-Err-clause-form c = c.in-Err.ensures.form
+
+pub hold-requires-clause-listed : goal.hold-requires-clause-listed
+hold-requires-clause-listed c = c.self.invariant.by_back
+
+pub returns-in-Ok-hold-clause-form : goal.returns-in-Ok-hold-clause-form
+returns-in-Ok-hold-clause-form c = c.in-Ok-hold.ensures.form

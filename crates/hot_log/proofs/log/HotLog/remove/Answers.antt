@@ -1,7 +1,9 @@
-use Rattle.std.proofs.Common.{subst, List}
+use Rattle.std.proofs.Common.{subst, List, ℕ, sym, refl}
 use Rattle.redo_core.specs.Data.{RecordData}
+use Rattle.redo_core.specs.declared.keys.Key.{Key}
 use Rattle.hot_log.specs.Held.{HasKey}
 use Rattle.hot_log.specs.Removing.{Removes}
+use Rattle.hot_log.specs.Indexing.{IsIndexed}
 use Rattle.hot_log.proofs.Indexed.{index_shrinks, pages_shrink, unpaged, removes_none, removes_key}
 use Rattle.hot_log.proofs.log.HotLog.remove.Goals as goal
 
@@ -41,3 +43,9 @@ invariant_of-self-2 c =
 
 pub returns-clause-removes : goal.returns-clause-removes
 returns-clause-removes c = subst (λ (l : List RecordData). Removes (HasKey c.args.key) l c.remove-2.new.self) c.self.view_is (goes c)
+
+pub invariant_of-self : goal.invariant_of-self
+invariant_of-self c = subst (λ (l : List (Key × ℕ)). IsIndexed c.self.inside.records l c.self.inside.by_back) (sym (c.in_default.ensures.unchanged refl)) c.self.invariant
+
+pub returns-clause-form : goal.returns-clause-form
+returns-clause-form c = c.in-Some-remove.ensures.form

@@ -1,12 +1,13 @@
-use Rattle.std.proofs.Common.{◌≡◌, ℕ, sym, ◌∙◌, ap, subst, refl, List, ◌∷◌, map, reverse, Bor, rules}
+use Rattle.std.proofs.Common.{◌≡◌, ℕ, sym, ◌∙◌, ap, subst, refl, List, ◌∷◌, map, reverse, Bor}
 use Rattle.std.proofs.lemmas.List.{map-append}
+use Rattle.std.proofs.lemmas.Bool.{false≢true}
 use Rattle.redo_core.specs.Data.{RecordData}
 use Rattle.redo_core.specs.Standing.{IsAlive}
 use Rattle.hot_log.specs.Alive.{IsAliveBetween}
 use Rattle.hot_log.specs.Anew.{ListsAnew}
 use Rattle.hot_log.proofs.Paged.{Entry}
 use Rattle.hot_log.proofs.Ranges.{range_of}
-use Rattle.hot_log.proofs.Descending.{alive_front, ends_anew, ends_all, starts, steps_down, passes_down, turned, turned_all, walks_down}
+use Rattle.hot_log.proofs.Descending.{alive_front, ends_anew, ends_all, starts, steps_down, passes_down, one_fewer, turned, turned_all, walks_down}
 use Rattle.hot_log.proofs.records.PagedRecords.alive_anew.Goals as goal
 
 abbrev now : Bor RecordData → RecordData
@@ -27,7 +28,13 @@ loop-redo-preserved-else-init c =
     c.in-Some.ensures.steps c.loop-redo.invariant alive (rw (c.in_ok-push.ensures.items, map-append))
 
 pub loop-redo-preserved : goal.loop-redo-preserved
-loop-redo-preserved c = search (rules, passes_down)
+loop-redo-preserved c =
+    let b = c.args.book.now in
+    let x : Entry = (c.in-Some.field-0-0.now, c.in-Some.redo.now) in
+    let dead = λ (a : IsAlive b.cuts b.complete x.1.epoch x.1.number).
+    let is = c.if-is_alive.ensures.alive.1 (subst (λ (e : ℕ). IsAlive b.cuts b.complete e c.number.result) (sym c.epoch.ensures) (subst (λ (n : ℕ). IsAlive b.cuts b.complete x.1.epoch n) (sym c.number.ensures.value) a)) in
+    absurd (false≢true is) in
+    passes_down b c.range-left.result c.loop-redo.left c.next_back.new.self (map now c.loop-redo.found.items) x c.in-Some.ensures.steps c.loop-redo.invariant dead
 
 pub returns-then-init : goal.returns-then-init
 returns-then-init c =
@@ -53,3 +60,9 @@ returns c =
     let items : map now c.reversed-2.result.items ≡ reverse falling = turned_all now c.loop-redo.found.items c.reversed-2.result.items c.reversed-2.ensures in
     subst (λ (l : List RecordData). ListsAnew (IsAliveBetween b l c.args.page c.args.above c.args.to) (map now c.reversed-2.result.items)) c.self.view_is
     (subst (ListsAnew (IsAliveBetween b _ c.args.page c.args.above c.args.to)) (sym items) ends)
+
+pub loop-redo-smaller-else-init : goal.loop-redo-smaller-else-init
+loop-redo-smaller-else-init c = one_fewer c.loop-redo.left c.next_back.new.self _ c.in-Some.ensures.steps
+
+pub loop-redo-smaller : goal.loop-redo-smaller
+loop-redo-smaller c = one_fewer c.loop-redo.left c.next_back.new.self _ c.in-Some.ensures.steps

@@ -8,10 +8,10 @@ use Rattle.redo_core.specs.Order.{Lists, BeforeByNumber}
 use Rattle.redo_core.specs.Standing.{IsAlive}
 use Rattle.hot_log.specs.Alive.{IsAliveBetween}
 use Rattle.hot_log.proofs.Paged.{Entry}
-use Rattle.hot_log.proofs.Ranges.{ListsAlive, Walks, range_of, alive_more, alive_left, alive_all}
+use Rattle.hot_log.proofs.Ranges.{ListsAlive, Walks, range_of, alive_more, alive_left, alive_all, alive_none}
 use Rattle.hot_log.proofs.records.PagedRecords.alive_between.Goals as goal
 
-now : Bor RecordData → RecordData
+abbrev now : Bor RecordData → RecordData
 now x = x.now
 
 pub loop-redo-preserved-in-Continue-1 : goal.loop-redo-preserved-in-Continue-1
@@ -20,7 +20,7 @@ loop-redo-preserved-in-Continue-1 c =
     let xs : List Entry = map deref_pair c.loop-redo.yielded in
     let x : Entry = (c.in-Some.field-0-0.now, c.in-Some.redo.now) in
     let es = c.range-redo-items.result in
-    let start : c.into_iter-redo-iterator.result ≡ es = cc in
+    let start : c.into_iter-redo-iterator.result ≡ es = c.into_iter-redo-iterator.ensures.into_iter_gives in
     let split : es ≡ xs ++ x ∷ c.next.new.self =
     sym start ∙ rest_so_far deref_pair c.loop-redo.yielded c.into_iter-redo-iterator.result c.loop-redo.redo-iterator c.loop-redo.yielded_by ∙ ap (λ (l : List Entry). xs ++ l) c.in-Some.ensures.steps in
     let alive : IsAlive b.cuts b.complete x.1.epoch x.1.number =
@@ -55,10 +55,13 @@ returns c =
     let xs : List Entry = map deref_pair c.loop-redo.yielded in
     let ys : List RecordData = map (λ x. x.now) c.loop-redo.found.items in
     let es = c.range-redo-items.result in
-    let start : c.into_iter-redo-iterator.result ≡ es = cc in
+    let start : c.into_iter-redo-iterator.result ≡ es = c.into_iter-redo-iterator.ensures.into_iter_gives in
     let all : es ≡ xs =
     sym start ∙ rest_so_far deref_pair c.loop-redo.yielded c.into_iter-redo-iterator.result c.loop-redo.redo-iterator c.loop-redo.yielded_by ∙ ap (λ (l : List Entry). xs ++ l) c.in-None.ensures.steps.0 ∙ append-nil xs in
     subst (λ (l : List RecordData). Lists BeforeByNumber (IsAliveBetween b l c.args.page c.args.above c.args.to) ys) c.self.view_is
     (alive_all b m c.args.page c.args.above c.args.to es ys c.self.invariant
     (range_of m c.args.page c.args.above c.args.to es c.self.invariant (sym c.range-redo-items.ensures.between))
     (subst (λ (l : List Entry). ListsAlive b l ys) (sym all) c.loop-redo.invariant))
+
+pub loop-redo-init : goal.loop-redo-init
+loop-redo-init c = alive_none c.args.book.now _ (ap (map now) c.new-found.ensures.items)

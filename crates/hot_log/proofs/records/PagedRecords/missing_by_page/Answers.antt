@@ -34,7 +34,7 @@ loop-redo-preserved-in-Continue-1 c =
     let m = c.other.inside.map in
     let xs : List Entry = map deref_pair c.loop-redo.yielded in
     let x : Entry = (c.in-Some.field-0-0.now, c.in-Some.redo.now) in
-    let start : c.into_iter-redo-iterator.result ≡ m = cc in
+    let start : c.into_iter-redo-iterator.result ≡ m = c.into_iter-redo-iterator.ensures.into_iter_gives ∙ c.iter-redo-items.ensures.rest in
     let split : m ≡ xs ++ x ∷ c.next.new.self =
     sym start ∙ rest_so_far deref_pair c.loop-redo.yielded c.into_iter-redo-iterator.result c.loop-redo.redo-iterator c.loop-redo.yielded_by ∙ ap (λ (l : List Entry). xs ++ l) c.in-Some.ensures.steps in
     let before = before_next m (records_in xs) (records_in c.next.new.self) x.1 c.other.invariant (ap records_in split ∙ records_more xs c.next.new.self x) in
@@ -54,7 +54,7 @@ pub loop-redo-preserved : goal.loop-redo-preserved
 loop-redo-preserved c =
     let xs : List Entry = map deref_pair c.loop-redo.yielded in
     let x : Entry = (c.in-Some.field-0-0.now, c.in-Some.redo.now) in
-    let known : Contains c.args.self.now x.1 = ((c.loop-redo.invariant.0 x.1).0 ((c.pass_to.ensures x.1).0 (c.is_at.ensures.0 cc)).0).0 in
+    let known : Contains c.args.self.now x.1 = ((c.loop-redo.invariant.0 x.1).0 ((c.pass_to.ensures x.1).0 (c.is_at.ensures.0 c.if-not-is_at.false)).0).0 in
     let joined : map deref_pair (c.loop-redo.yielded ++ (c.in-Some.field-0-0, c.in-Some.redo) ∷ []) ≡ xs ++ x ∷ [] = rw map-append in
     let ends = sym (ap records_in joined ∙ records_more xs [] x) in (
       subst (λ (l : List RecordData). LeftOf c.args.self.now l c.pass_to.new.self) ends
@@ -67,8 +67,11 @@ pub returns : goal.returns
 returns c =
     let m = c.other.inside.map in
     let xs : List Entry = map deref_pair c.loop-redo.yielded in
-    let start : c.into_iter-redo-iterator.result ≡ m = cc in
+    let start : c.into_iter-redo-iterator.result ≡ m = c.into_iter-redo-iterator.ensures.into_iter_gives ∙ c.iter-redo-items.ensures.rest in
     let all : m ≡ xs =
     sym start ∙ rest_so_far deref_pair c.loop-redo.yielded c.into_iter-redo-iterator.result c.loop-redo.redo-iterator c.loop-redo.yielded_by ∙ ap (λ (l : List Entry). xs ++ l) c.in-None.ensures.steps.0 ∙ append-nil xs in
     subst (λ (l : List RecordData). Lists PlaceBefore (IsMissing c.args.self.now l) (map now c.loop-redo.missing.items)) c.other.view_is
     (lacks_all m c.args.self.now (records_in xs) (map now c.loop-redo.missing.items) (ap records_in all) c.loop-redo.invariant.1)
+
+pub is_at-requires : goal.is_at-requires
+is_at-requires c r h = ((c.pass_to.ensures r).0 h).1

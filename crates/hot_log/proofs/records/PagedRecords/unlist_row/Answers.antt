@@ -23,7 +23,7 @@ loop-redo-preserved-then-is_alive c =
     let xs : List Entry = map deref_pair c.loop-redo.yielded in
     let x : Entry = (c.in-Some.field-0-0.now, c.in-Some.redo.now) in
     let es = c.range-redo-items.result in
-    let start : c.into_iter-redo-iterator.result ≡ es = cc in
+    let start : c.into_iter-redo-iterator.result ≡ es = c.into_iter-redo-iterator.ensures.into_iter_gives in
     let split : es ≡ xs ++ x ∷ c.next.new.self =
     sym start ∙ rest_so_far deref_pair c.loop-redo.yielded c.into_iter-redo-iterator.result c.loop-redo.redo-iterator c.loop-redo.yielded_by ∙ ap (λ (l : List Entry). xs ++ l) c.in-Some.ensures.steps in
     let walk = walk_of m c.args.page c.args.above c.args.to es xs (x ∷ c.next.new.self) c.self.invariant (sym c.range-redo-items.ensures.between) split in
@@ -43,7 +43,7 @@ loop-redo-preserved c =
     let xs : List Entry = map deref_pair c.loop-redo.yielded in
     let x : Entry = (c.in-Some.field-0-0.now, c.in-Some.redo.now) in
     let es = c.range-redo-items.result in
-    let start : c.into_iter-redo-iterator.result ≡ es = cc in
+    let start : c.into_iter-redo-iterator.result ≡ es = c.into_iter-redo-iterator.ensures.into_iter_gives in
     let split : es ≡ xs ++ x ∷ c.next.new.self =
     sym start ∙ rest_so_far deref_pair c.loop-redo.yielded c.into_iter-redo-iterator.result c.loop-redo.redo-iterator c.loop-redo.yielded_by ∙ ap (λ (l : List Entry). xs ++ l) c.in-Some.ensures.steps in
     let walk = walk_of m c.args.page c.args.above c.args.to es xs (x ∷ c.next.new.self) c.self.invariant (sym c.range-redo-items.ensures.between) split in
@@ -65,7 +65,7 @@ returns-in-Some-last c =
     let xs : List Entry = map deref_pair c.loop-redo.yielded in
     let x : Entry = (c.in-Some.field-0-0.now, c.in-Some.redo.now) in
     let es = c.range-redo-items.result in
-    let start : c.into_iter-redo-iterator.result ≡ es = cc in
+    let start : c.into_iter-redo-iterator.result ≡ es = c.into_iter-redo-iterator.ensures.into_iter_gives in
     let split : es ≡ xs ++ x ∷ c.next.new.self =
     sym start ∙ rest_so_far deref_pair c.loop-redo.yielded c.into_iter-redo-iterator.result c.loop-redo.redo-iterator c.loop-redo.yielded_by ∙ ap (λ (l : List Entry). xs ++ l) c.in-Some.ensures.steps in
     let walk = walk_of m c.args.page c.args.above c.args.to es xs (x ∷ c.next.new.self) c.self.invariant (sym c.range-redo-items.ensures.between) split in
@@ -80,7 +80,7 @@ returns-in_err-last c =
     let b = c.args.book.now in let m = c.self.inside.map in
     let xs : List Entry = map deref_pair c.loop-redo.yielded in
     let es = c.range-redo-items.result in
-    let start : c.into_iter-redo-iterator.result ≡ es = cc in
+    let start : c.into_iter-redo-iterator.result ≡ es = c.into_iter-redo-iterator.ensures.into_iter_gives in
     let split : es ≡ xs ++ [] =
     sym start ∙ rest_so_far deref_pair c.loop-redo.yielded c.into_iter-redo-iterator.result c.loop-redo.redo-iterator c.loop-redo.yielded_by ∙ ap (λ (l : List Entry). xs ++ l) c.in-None.ensures.steps.0 in
     let walk = walk_of m c.args.page c.args.above c.args.to es xs [] c.self.invariant (sym c.range-redo-items.ensures.between) split in
@@ -95,7 +95,7 @@ returns c =
     let b = c.args.book.now in let m = c.self.inside.map in
     let xs : List Entry = map deref_pair c.loop-redo.yielded in
     let es = c.range-redo-items.result in
-    let start : c.into_iter-redo-iterator.result ≡ es = cc in
+    let start : c.into_iter-redo-iterator.result ≡ es = c.into_iter-redo-iterator.ensures.into_iter_gives in
     let split : es ≡ xs ++ [] =
     sym start ∙ rest_so_far deref_pair c.loop-redo.yielded c.into_iter-redo-iterator.result c.loop-redo.redo-iterator c.loop-redo.yielded_by ∙ ap (λ (l : List Entry). xs ++ l) c.in-None.ensures.steps.0 in
     let walk = walk_of m c.args.page c.args.above c.args.to es xs [] c.self.invariant (sym c.range-redo-items.ensures.between) split in

@@ -24,3 +24,6 @@ of_key b held number key (Some x) is found at =
 
 pub returns-clause-found : goal.returns-clause-found
 returns-clause-found c = of_key c.args.self.now.book.now c.args.self.now.held.now c.args.number c.in_ok-key.key (option_copied c.get.result) c.in_ok-key.ensures.form c.in_ok-key.ensures.found c.get.ensures
+
+pub returns-in_err-key-clause-found : goal.returns-in_err-key-clause-found
+returns-in_err-key-clause-found c = rw c.from_residual.ensures (λ r h. c.in_err-key.ensures.found r h.0 h.1)

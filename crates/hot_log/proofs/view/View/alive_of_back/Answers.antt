@@ -1,4 +1,5 @@
 use Rattle.std.proofs.Common.{◌≡◌, ℕ, ◌<◌, ◌≤◌, List, ⊎_elim, refl, sym, subst, arith, rules}
+use Rattle.std.proofs.lemmas.Bool.{false≢true}
 use Rattle.redo_core.specs.Data.{RecordData}
 use Rattle.redo_core.specs.Keys.{key_in, key_of, KeyBefore}
 use Rattle.redo_core.specs.declared.keys.Key.{Key}
@@ -67,7 +68,7 @@ loop-key-preserved c =
     let up : KeyBefore at key = subst (λ (e : ℕ). KeyBefore at (key_in e key.number)) t.3.0 (subst (λ (n : ℕ). KeyBefore at (key_in t.0.epoch n)) t.3.1 t.4) in
     record {
       above = λ form r h e p. ⊎_elim
-          (λ (k : HasKey key r). absurd (let yes = c.if-is_alive.ensures.alive.1 (key_alive c.args.self.now.book.now r key k h.1) in cc))
+          (λ (k : HasKey key r). absurd (let yes = c.if-is_alive.ensures.alive.1 (key_alive c.args.self.now.book.now r key k h.1) in false≢true yes))
           (λ (q : KeyBefore key (key_of r)). q)
           (c.in-Some.ensures.next.1 r h.0 e (c.loop-key.invariant.above form r h e p));
       later = λ e n p. c.loop-key.invariant.later e n (pair_trans at.epoch at.number key.epoch key.number e n up p);

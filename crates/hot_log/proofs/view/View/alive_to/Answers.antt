@@ -1,4 +1,4 @@
-use Rattle.std.proofs.Common.{◌≡◌, ℕ, ◌≤◌, refl, sym, ◌∙◌, subst, List, Some, rules}
+use Rattle.std.proofs.Common.{◌≡◌, ℕ, ◌≤◌, refl, sym, ◌∙◌, subst, List, Some, ◌<◌}
 use Rattle.std.proofs.lemmas.Bool.{false≢true}
 use Rattle.redo_core.specs.Data.{RecordData}
 use Rattle.redo_core.specs.Keys.{key_in, key_of}
@@ -7,7 +7,7 @@ use Rattle.redo_core.specs.Standing.{IsAlive}
 use Rattle.hot_log.specs.Held.{HasKey}
 use Rattle.hot_log.specs.Alive.{IsPageAlive}
 use Rattle.hot_log.specs.Indexing.{IsLastHeld}
-use Rattle.hot_log.proofs.Climb.{alive_as}
+use Rattle.hot_log.proofs.Climb.{alive_as, positive}
 use Rattle.hot_log.proofs.Descent.{LastUnder, under_start, under_step, under_found, up_to_falls}
 use Rattle.hot_log.proofs.Keys.{same_epoch, same_number}
 use Rattle.hot_log.proofs.view.View.alive_to.Goals as goal
@@ -27,7 +27,9 @@ returns-then-is_alive-clause-found c =
     (λ r h a q le. ((h, a, q), le)) (λ r p. (p.0.0, p.0.1, p.0.2, p.1))
 
 pub key_down-at-requires : goal.key_down-at-requires
-key_down-at-requires c = search rules
+key_down-at-requires c =
+    let x = c.in-Some.redo.now in
+    subst (λ (n : ℕ). 0 < n) (sym (same_number c.key-key.ensures.value)) (positive x (c.in-Some.ensures.form.shaped x c.in-Some.ensures.last.0))
 
 -- the key that was read off the record
 read : (e n epoch number : ℕ) (r : RecordData) → epoch ≡ e → number ≡ n → HasKey (key_in e n) r → HasKey (key_in epoch number) r

@@ -25,3 +25,33 @@ returns-then-is_alive-clause-some c =
       ((t.0, (t.1, a), t.2, t.3, t.4), λ r h e p. s.0.1 r h.0 e p),
       (None, none_second b held c.args.back first c.in_ok-first.second s.1 (c.is_none.ensures ∙ ap not c.if-is_none.true), refl),
     )
+
+pub returns-in_err-first-clause-some : goal.returns-in_err-first-clause-some
+returns-in_err-first-clause-some c = rw c.from_residual.ensures tt
+
+pub returns-in_err-first-2-clause-none : goal.returns-in_err-first-2-clause-none
+returns-in_err-first-2-clause-none c = λ _. c.in_err-first-2.ensures.found
+
+pub returns-in_err-first-2-clause-some : goal.returns-in_err-first-2-clause-some
+returns-in_err-first-2-clause-some c = rw c.from_residual-in_err-first-2.ensures tt
+
+pub returns-clause-some : goal.returns-clause-some
+returns-clause-some c = (c.in_ok-first-2.ensures.found, (c.alive_of_back-2.result, c.alive_of_back-2.ensures.found, c.is_some-is_second.ensures))
+
+pub returns-then-is_alive-clause-book : goal.returns-then-is_alive-clause-book
+returns-then-is_alive-clause-book c = c.if-is_alive.ensures.book
+
+pub returns-then-is_alive-clause-form : goal.returns-then-is_alive-clause-form
+returns-then-is_alive-clause-form c = c.in_ok-first.ensures.form
+
+pub returns-in_err-first-2-clause-book : goal.returns-in_err-first-2-clause-book
+returns-in_err-first-2-clause-book c = c.in_err-first-2.ensures.book
+
+pub returns-in_err-first-2-clause-form : goal.returns-in_err-first-2-clause-form
+returns-in_err-first-2-clause-form c = c.in_err-first-2.ensures.form
+
+pub returns-clause-book : goal.returns-clause-book
+returns-clause-book c = c.in_ok-first-2.ensures.book
+
+pub returns-clause-form : goal.returns-clause-form
+returns-clause-form c = c.in_ok-first-2.ensures.form

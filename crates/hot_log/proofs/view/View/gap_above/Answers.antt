@@ -1,4 +1,4 @@
-use Rattle.std.proofs.Common.{ℕ, ◌∙◌, sym, subst, rules}
+use Rattle.std.proofs.Common.{ℕ, ◌∙◌, sym, subst}
 use Rattle.hot_log.specs.Alive.{IsLinkedFrom}
 use Rattle.hot_log.proofs.Hanging.{hanging_first, hanging_down}
 use Rattle.hot_log.proofs.view.View.gap_above.Goals as goal
@@ -7,7 +7,9 @@ pub loop-below-init : goal.loop-below-init
 loop-below-init c = hanging_first c.args.self.now.book.now c.args.self.now.held.now c.args.number c.in_ok-redo.redo.now c.in_ok-redo.ensures.form c.in_ok-redo.ensures.found
 
 pub loop-below-preserved : goal.loop-below-preserved
-loop-below-preserved c = search (rules, hanging_down)
+loop-below-preserved c =
+    let found = c.in-Some.ensures.0 in
+    hanging_down c.args.self.now.book.now c.args.self.now.held.now c.args.number c.loop-below.redo.now c.in-Some.below.now c.opens_form.ensures.form found.0 (found.1 ∙ c.back.ensures.value) c.loop-below.invariant
 
 pub returns : goal.returns
 returns c =

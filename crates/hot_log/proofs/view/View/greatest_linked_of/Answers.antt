@@ -1,4 +1,5 @@
 use Rattle.std.proofs.Common.{◌≡◌, ◌<◌, ◌≤◌, ⊎_elim, sym, refl, subst, arith}
+use Rattle.std.proofs.lemmas.Bool.{false≢true}
 use Rattle.redo_core.specs.Data.{RecordData}
 use Rattle.hot_log.specs.Alive.{IsLinkedFrom}
 use Rattle.hot_log.proofs.view.View.greatest_linked_of.Goals as goal
@@ -24,7 +25,7 @@ loop-redo-preserved c = let view = c.args.self.now in
       none = λ r h. ⊎_elim
           (λ (e : r ≡ x). absurd (
           let linked : IsLinkedFrom view.book.now view.held.now c.args.from x.number = subst (λ (y : RecordData). IsLinkedFrom view.book.now view.held.now c.args.from y.number) e h.0.2 in
-          let yes = c.if-is_linked.ensures.1 (subst (IsLinkedFrom view.book.now view.held.now c.args.from) (sym c.number.ensures.value) linked) in cc))
+          let yes = c.if-is_linked.ensures.1 (subst (IsLinkedFrom view.book.now view.held.now c.args.from) (sym c.number.ensures.value) linked) in false≢true yes))
           (λ (l : r.number < x.number). omega arith)
           (t.1 r ((h.0.0, h.0.1, h.1), c.loop-redo.invariant.none r h));
     }

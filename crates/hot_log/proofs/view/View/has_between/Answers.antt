@@ -1,4 +1,5 @@
 use Rattle.std.proofs.Common.{◌≡◌, ℕ, ◌<◌, nat_lt, IsTrue, ⊎_elim, arith}
+use Rattle.std.proofs.lemmas.Bool.{false≢true}
 use Rattle.hot_log.specs.Held.{HasKey}
 use Rattle.hot_log.proofs.view.View.has_between.Goals as goal
 
@@ -23,3 +24,6 @@ returns-in-Some-clause-found c =
           (λ (u : key.number < h.0.number). omega arith)
           (found.1 h.0 h.1 h.2)),
     )
+
+pub returns-in-None-clause-found : goal.returns-in-None-clause-found
+returns-in-None-clause-found c = (λ h. absurd (false≢true h), λ h. absurd (c.in-None.ensures.found h.0 h.1 h.2))

@@ -1,13 +1,16 @@
-use Rattle.std.proofs.Common.{◌≡◌, ℕ, ◌<◌, nat_lt, IsTrue, arith, refl, sym, ◌∙◌, subst, rules}
+use Rattle.std.proofs.Common.{◌≡◌, ℕ, ◌<◌, nat_lt, IsTrue, arith, refl, sym, ◌∙◌, subst}
 use Rattle.std.proofs.lemmas.Bool.{false≢true}
 use Rattle.redo_core.specs.Data.{RecordData}
 use Rattle.redo_core.specs.Standing.{IsAlive}
-use Rattle.hot_log.proofs.Climb.{alive_key}
+use Rattle.hot_log.proofs.Climb.{alive_key, key_alive}
 use Rattle.hot_log.proofs.Indexed.{one_key}
 use Rattle.hot_log.proofs.view.View.is_below.Goals as goal
 
 pub returns-then-not-is_alive : goal.returns-then-not-is_alive
-returns-then-not-is_alive c = search rules
+returns-then-not-is_alive c = (
+  λ h. absurd (false≢true h),
+  λ h. let yes = c.if-not-is_alive.ensures.alive.1 (key_alive c.args.self.now.book.now h.0 c.args.key h.2 h.1.1) in absurd (false≢true yes),
+)
 
 lower : (a b n : ℕ) → a ≡ b → IsTrue (nat_lt a n) → b < n
 lower a b n e h = grind arith

@@ -17,7 +17,7 @@ loop-key-init c =
       above,
       c.keys_above-left.ensures.above,
       none_passed (IsKeptUnlisted b c.args.self.now.held.now point c.args.keys.now) above _
-          (λ r h. past_parts b point c.epoch_above.result (key_of r) c.epoch_above.ensures.parts c.epoch_above.ensures.known h.0.1) (let e = c.new-found.ensures.items in cc),
+          (λ r h. past_parts b point c.epoch_above.result (key_of r) c.epoch_above.ensures.parts c.epoch_above.ensures.known h.0.1) (ap (λ l. map (λ r. r.now) l) c.new-found.ensures.items),
     )
 
 pub loop-key-smaller : goal.loop-key-smaller
@@ -51,3 +51,6 @@ loop-key-preserved-in-Continue-1 c =
       subst (Lists RecordBefore (IsPassedBy P x.0)) (sym items)
           (one_more held w.0 x c.loop-key.left c.next.new.self c.in-Some.ensures.steps w.1 P _ c.keys_above-left.ensures.form (λ r h. h.0.0) w.2 c.in-Some-unlisted_at.redo.now c.in-Some-unlisted_at.ensures),
     )
+
+pub loop-key-smaller-in-Continue-1 : goal.loop-key-smaller-in-Continue-1
+loop-key-smaller-in-Continue-1 c = let e = ap (λ l. length l) c.in-Some.ensures.steps in omega (arith, e)

@@ -1,6 +1,6 @@
-use Rattle.std.proofs.Common.{◌+◌, ◌<◌, ◌≤◌, le_refl, sym, subst, arith, length, rules, ◌∙◌}
+use Rattle.std.proofs.Common.{◌+◌, ◌<◌, ◌≤◌, le_refl, sym, subst, arith, length, ◌∙◌, ℕ}
 use Rattle.std.proofs.lemmas.Bool.{false≢true}
-use Rattle.hot_log.proofs.Forks.{Search, alone_at_base, alone_below, search_start, search_end, search_counts, skip, down, looks, climbs_to, falls_by_one, has_record}
+use Rattle.hot_log.proofs.Forks.{Search, alone_at_base, alone_below, search_start, search_end, search_counts, skip, down, looks, climbs_to, falls_by_one, has_record, falls_by_climb}
 use Rattle.hot_log.proofs.view.View.linked_counted.Goals as goal
 use Rattle.hot_log.proofs.Keys.{same_epoch, same_number}
 use Rattle.redo_core.specs.Keys.{key_in}
@@ -38,7 +38,11 @@ loop-key-smaller-else-key-limit c = let view = c.args.self.now in
     falls_by_one (length view.held.now) c.loop-key.steps.count c.step.new.self.count c.args.limit c.loop-key.back c.loop-key.back c.step.ensures le s.back_bound
 
 pub loop-key-preserved-else-key-limit : goal.loop-key-preserved-else-key-limit
-loop-key-preserved-else-key-limit c = search (rules, skip)
+loop-key-preserved-else-key-limit c = record {
+  search = λ is.
+      skip c.args.self.now.book.now c.args.self.now.held.now c.args.from c.args.limit c.loop-key.back c.loop-key.at c.in-Some.key c.loop-key.top c.loop-key.steps.count c.step.new.self.count c.in-Some.ensures.book is (c.loop-key.invariant.search is) c.in-Some.ensures.found c.step.ensures (omega (arith, c.if-key-limit.false));
+  alone = c.loop-key.invariant.alone;
+}
 
 pub returns-then-back-from-clause-linked : goal.returns-then-back-from-clause-linked
 returns-then-back-from-clause-linked c = (c.loop-key.invariant.search c.in-None.ensures.form).top_linked
@@ -50,7 +54,9 @@ pub returns-then-back-from-clause-greatest : goal.returns-then-back-from-clause-
 returns-then-back-from-clause-greatest c = let view = c.args.self.now in search_end view.book.now view.held.now c.args.from c.args.limit c.loop-key.back c.loop-key.at c.loop-key.top c.loop-key.steps.count c.in-None.ensures.form (c.loop-key.invariant.search c.in-None.ensures.form) c.in-None.ensures.found (alone_at_base view.book.now view.held.now c.args.from c.loop-key.back c.if-back-from.true)
 
 pub returns-then-back-from-clause-counted : goal.returns-then-back-from-clause-counted
-returns-then-back-from-clause-counted c = search (rules, search_counts)
+returns-then-back-from-clause-counted c =
+    search_counts c.args.self.now.book.now c.args.self.now.held.now c.args.from c.args.limit c.loop-key.back c.loop-key.at c.loop-key.top c.loop-key.steps.count
+    (c.loop-key.invariant.search c.in-None.ensures.form) c.in-None.ensures.found (alone_at_base c.args.self.now.book.now c.args.self.now.held.now c.args.from c.loop-key.back c.if-back-from.true)
 
 pub returns-then-not-forked-clause-linked : goal.returns-then-not-forked-clause-linked
 returns-then-not-forked-clause-linked c = (c.loop-key.invariant.search c.in-None.ensures.form).top_linked
@@ -82,7 +88,9 @@ pub returns-in_default-clause-counted : goal.returns-in_default-clause-counted
 returns-in_default-clause-counted c = absurd (never c)
 
 pub loop-key-smaller : goal.loop-key-smaller
-loop-key-smaller c = search rules
+loop-key-smaller c =
+    let below : c.back-back.result < c.loop-key.back = subst (λ (n : ℕ). c.back-back.result < n) c.in-Some-alive_of.ensures.0.1 c.back-back.ensures.below in
+    falls_by_climb (length c.args.self.now.held.now) c.loop-key.steps.count c.args.limit c.back-back.result c.loop-key.back below
 
 pub loop-key-preserved : goal.loop-key-preserved
 loop-key-preserved c =

@@ -12,7 +12,7 @@ loop-key-smaller c = let e = ap (λ l. length l) c.in-Some.ensures.steps in omeg
 pub loop-key-preserved : goal.loop-key-preserved
 loop-key-preserved c =
     left_behind c.args.self.now.book.now c.args.self.now.held.now c.args.epoch c.args.number (c.in-Some.key.now, c.in-Some.page.now) c.loop-key.left c.next.new.self c.in-Some.ensures.steps c.loop-key.invariant
-    (λ r h k page. let t : IsTrue false = c.if-is_below.ensures.1 (r, h.0, k, page, h.2) in cc)
+    (λ r h k page. let t : IsTrue false = c.if-is_below.ensures.1 (r, h.0, k, page, h.2) in false≢true t)
 
 pub returns-then-key-complete : goal.returns-then-key-complete
 returns-then-key-complete c = (

@@ -3,7 +3,7 @@ use Rattle.redo_core.specs.Data.{RecordData}
 use Rattle.redo_core.specs.Keys.{key_in}
 use Rattle.hot_log.specs.Alive.{IsHeldOf, IsAliveBetween}
 use Rattle.hot_log.specs.Anew.{ListsAnew}
-use Rattle.hot_log.proofs.Pages.{if_ok, number_is, none_between}
+use Rattle.hot_log.proofs.Pages.{if_ok, number_is, none_between, key_rises}
 use Rattle.hot_log.proofs.Descending.{anew_as}
 use Rattle.hot_log.proofs.view.View.records_anew.Goals as goal
 
@@ -25,3 +25,6 @@ returns c =
     (anew_as (IsAliveBetween b held c.args.page (key_in c.epoch_above.result c.args.from) (key_in c.epoch_above-2.result c.args.to)) (IsHeldOf b held c.args.page c.args.from c.args.to) (map (λ x. x.now) v.items)
     (number_is b held c.args.page c.args.from c.args.to c.epoch_above.result c.epoch_above-2.result c.epoch_above.ensures.parts c.epoch_above-2.ensures.parts) h))
     c.alive_anew.ensures
+
+pub alive_anew-requires : goal.alive_anew-requires
+alive_anew-requires c = key_rises c.epoch_above.result c.args.from c.epoch_above-2.result c.args.to c.if-above-to.false c.if-from-to.false

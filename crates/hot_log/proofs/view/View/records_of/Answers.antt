@@ -2,7 +2,7 @@ use Rattle.std.proofs.Common.{◌<◌, ◌≤◌, ⊎_elim, ap, subst, arith, Li
 use Rattle.redo_core.specs.Data.{RecordData}
 use Rattle.redo_core.specs.Order.{Lists, BeforeByNumber}
 use Rattle.hot_log.specs.Alive.{IsHeldOf}
-use Rattle.hot_log.proofs.Pages.{if_ok, by_number, none_between}
+use Rattle.hot_log.proofs.Pages.{if_ok, by_number, none_between, key_rises}
 use Rattle.hot_log.proofs.view.View.records_of.Goals as goal
 
 pub returns-then-above-to : goal.returns-then-above-to
@@ -21,3 +21,6 @@ returns c =
     (λ v h. subst (λ (l : List RecordData). Lists BeforeByNumber (IsHeldOf c.args.self.now.book.now l c.args.page c.args.from c.args.to) (map (λ x. x.now) v.items)) c.held.view_is
     (by_number c.args.self.now.book.now c.held.inside.records c.args.page c.args.from c.args.to c.epoch_above.result c.epoch_above-2.result (map (λ x. x.now) v.items) c.epoch_above.ensures.parts c.epoch_above-2.ensures.parts h))
     c.alive_between.ensures
+
+pub alive_between-requires : goal.alive_between-requires
+alive_between-requires c = key_rises c.epoch_above.result c.args.from c.epoch_above-2.result c.args.to c.if-above-to.false c.if-from-to.false

@@ -1,5 +1,6 @@
 use Rattle.std.proofs.Common.{◌≡◌, ℕ, ◌<◌, List, Option, Some, None, true, false, IsTrue, refl, sym, ◌∙◌, subst, arith, rules}
 use Rattle.std.specs.Option.{is_some}
+use Rattle.std.proofs.lemmas.Bool.{false≢true}
 use Rattle.redo_core.specs.Data.{RecordData}
 use Rattle.redo_core.specs.Keys.{key_in, key_of, KeyBefore}
 use Rattle.redo_core.specs.declared.keys.Key.{Key}
@@ -83,7 +84,7 @@ returns-then-is_fork-clause-none c = λ _ n end.
     elim c.then-is_fork.branch [
       | then-is_fork-via-then-is_fork w ↦ some_second b held c.args.from top n key x second.0 e.book e.form c.loop-key.invariant.climbed step found.0.3 second.1 (sym second.2 ∙ w.if-is_fork.true) end
       | then-is_fork-via-else-is_fork+then-not-is_at w ↦
-          let other : w.next_alive.result ≡ Some key → ⊥ = λ q. (let t : IsTrue false = w.if-not-is_at.ensures.1 q in cc) in
+          let other : w.next_alive.result ≡ Some key → ⊥ = λ q. (let t : IsTrue false = w.if-not-is_at.ensures.1 q in false≢true t) in
           let y = stray_before b held e.book top c.loop-key.left w.next_alive.new.left key w.next_alive.result x c.loop-key.invariant.ahead w.next_alive.ensures other found.0.1 found.0.3 (step_up b held top x e.form step) in
           not_over_stray b held c.args.from top n x y.0 e.form c.loop-key.invariant.climbed step y.1 y.2 y.3 end
     ]

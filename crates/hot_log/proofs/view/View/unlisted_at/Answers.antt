@@ -1,5 +1,7 @@
-use Rattle.std.proofs.Common.{◌≡◌, ℕ, List, Option, Some, None, sym, subst, ◌∙◌, rules}
+use Rattle.std.proofs.Common.{◌≡◌, ℕ, List, Option, Some, None, sym, subst, ◌∙◌, refl}
 use Rattle.std.specs.List.{Contains}
+use Rattle.std.specs.Option.{option_copied}
+use Rattle.std.proofs.lemmas.Bool.{false≢true}
 use Rattle.redo_core.specs.Data.{RecordData}
 use Rattle.redo_core.specs.Keys.{key_of}
 use Rattle.redo_core.specs.declared.keys.Key.{Key}
@@ -24,4 +26,7 @@ found_at b held point keys page key (Some r) rising not keeps at =
     )
 
 pub returns : goal.returns
-returns c = search (rules, found_at)
+returns c =
+    let view = c.args.self.now in
+    found_at view.book.now view.held.now c.args.point c.args.keys.now c.args.page c.args.key (option_copied c.record_of.result) c.opens_form.ensures.form.rising
+    (λ has. false≢true (c.if-is_listed.ensures.1 has)) (c.if-not-is_kept.ensures.0 refl) c.record_of.ensures
