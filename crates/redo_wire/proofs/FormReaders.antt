@@ -56,3 +56,7 @@ within_again second absent lo hi n rest fits = search rules
 
 pub within_reads : (second : Bool) (absent lo hi : ℕ) → Reads (within_at second absent lo hi) (byte_in second) (IsWithin second absent lo hi)
 within_reads second absent lo hi = record { takes = within_takes second absent lo hi; again = within_again second absent lo hi }
+
+-- a byte that was read in its range, in either form, is no greater than the most
+pub within_most : (second : Bool) (absent lo hi : ℕ) (bytes : List ℕ) (x : ℕ × List ℕ) → absent ≤ hi → within_at second absent lo hi bytes ≡ Ok x → x.0 ≤ hi
+within_most second absent lo hi bytes x le e = search rules

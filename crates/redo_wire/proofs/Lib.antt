@@ -3,6 +3,8 @@ pub mod FieldReaders
 pub mod FormReaders
 pub mod ListReaders
 pub mod Loops
+pub mod Written
+pub mod Failures
 pub mod Bodies
 pub mod PatchReaders
 pub mod RecordReaders

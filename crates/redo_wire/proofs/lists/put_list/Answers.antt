@@ -12,3 +12,6 @@ loop-item-preserved g c = record {
 
 pub returns-clause-wire : goal.returns-clause-wire
 returns-clause-wire g c = search (rules, all_seen)
+
+pub returns-clause-ok : goal.returns-clause-ok
+returns-clause-ok g c = grind (arith, common_steps)

@@ -1,4 +1,5 @@
 use Rattle.std.proofs.Common.{arith, sym, ◌∙◌}
+use Rattle.std.proofs.lemmas.Option.{none-some}
 use Rattle.redo_wire.proofs.RecordReaders.{record_part_steps}
 use Rattle.redo_wire.proofs.records.read_record_part.Goals as goal
 
@@ -10,4 +11,4 @@ returns c =
     (c.in_ok-count.count, c.in_ok-count.rest.now) (c.in_ok-patches.patches.items, c.in_ok-patches.rest.now)
     (λ i. omega (arith, c.type_inv.bytes i)) c.in_ok-head.ensures c.in_ok-flags.ensures c.in_ok-count.ensures (omega arith) c.in_ok-patches.ensures
     (sym judged ∙ c.if-not-may_have_form.false) in
-    absurd (cc (s.1.0.shape, c.in-Err.ensures.fault.1))
+    absurd (none-some c.in-Err.field-0.fault (sym s.1.0.shape ∙ c.in-Err.ensures.fault.1))
