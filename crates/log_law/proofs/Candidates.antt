@@ -5,6 +5,7 @@ use Rattle.std.specs.List.{Contains}
 use Rattle.std.proofs.lemmas.Bool.{cases_lt, cases_eq}
 use Rattle.std.proofs.lemmas.Option.{none-some, same_Some, slice_get_within, get_or_from_slice_get}
 use Rattle.redo_core.specs.Data.{RecordData, CutData}
+use Rattle.redo_core.specs.Shape.{max_number}
 use Rattle.redo_core.specs.Standing.{IsAlive}
 use Rattle.redo_core.specs.Sound.{IsAliveBelow, counted}
 use Rattle.redo_core.specs.declared.facts.Fact.{Fact}
@@ -27,6 +28,9 @@ each_more log P p f at here each q g l h = search rules
 -- and so each member has, where the place is the end
 pub each_member : (log : List Fact) (P : Fact → Type 0) (p : ℕ) (f : Fact) → length log ≤ p → EachBefore log P p → Contains log f → P f
 each_member log P p f l each h = each h.0 f (let m : h.0 < length log = h.1 in omega arith) (place_of log f h.0 h.1 h.2)
+
+pub bound_last : (log : List Fact) (view e : ℕ) → view ≤ e → IsBoundTo log view e max_number
+bound_last log view e l n = (λ m. (m, λ c k a b. absurd (omega arith)), λ f. f.0)
 
 pub bound_step : (log : List Fact) (view e later bound : ℕ) (o : Option CutData) → first_cut log (e + 1) ≡ o → e + 1 ≤ view → IsBoundTo log view (e + 1) later
     → MatchOption o (bound ≡ later) (λ c. bound ≡ min c.lo later) → IsBoundTo log view e bound

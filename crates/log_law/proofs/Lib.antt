@@ -2,6 +2,7 @@ pub mod FirstCuts
 pub mod Reaching
 pub mod LastEpoch
 pub mod Stacks
+pub mod Tops
 pub mod Entered
 pub mod Least
 pub mod Judging

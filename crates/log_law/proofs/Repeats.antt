@@ -174,6 +174,10 @@ pub seen_past : (log : List Fact) (p : ℕ) (f : Fact) (seen : Seen) → slice_g
     → IsSeen log (p + 1) seen
 seen_past log p f seen at apart h e n = seen_other log p f e n (get is_same_key seen (key_in e n)) at (λ r q i j. apart r q) (h e n)
 
+-- a place after those that keep law 1, whose fact breaks it
+pub broken_at : (log : List Fact) (p : ℕ) (f : Fact) → slice_get log p ≡ Some f → KeepLaw1To log p → (Law1 (take p log) f → ⊥) → IsFirstKeyConflict log p
+broken_at log p f at kept broken = record { before = kept; breaks = λ g e law. broken (subst (Law1 (take p log)) (same_Some g f (sym e ∙ at)) law) }
+
 pub law1_advance : (earlier : List Fact) (a : AdvanceData) → Law1 earlier (Advance a)
 law1_advance earlier a = search rules
 

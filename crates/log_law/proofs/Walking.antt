@@ -1,5 +1,5 @@
 -- The walk over the items in key order, group by group.
-use Rattle.std.proofs.Common.{◌≡◌, ℕ, zero, suc, ◌-◌, ◌<◌, ◌≤◌, ⊎_elim, List, [], ◌∷◌, ◌++◌, length, get_or, take, drop, sym, ap, ◌∙◌, subst, arith, Option, rules}
+use Rattle.std.proofs.Common.{◌≡◌, ℕ, zero, suc, ◌+◌, ◌-◌, ◌<◌, ◌≤◌, ⊎_elim, List, [], ◌∷◌, ◌++◌, length, get_or, take, drop, sym, ap, ◌∙◌, subst, arith, Option, rules}
 use Rattle.std.proofs.lemmas.Grind.{common_steps}
 use Rattle.std.specs.List.{Contains}
 use Rattle.std.proofs.lemmas.Bool.{cases_lt}
@@ -25,6 +25,24 @@ take_part (suc start) (suc stop) [] l = take_nothing (suc stop - suc start)
 take_part (suc start) (suc stop) (x ∷ xs) l =
     ap (λ ys. x ∷ ys) (take_part start stop xs (omega (arith, l)) ∙ ap (λ n. take start xs ++ take n (drop start xs))
     (let q : stop - start ≡ suc stop - suc start = omega arith in q))
+
+-- one key at two places, whatever stands past the end
+pub same_key : (items : List Item) (i j : ℕ) (d e : Item) → i < length items → j < length items → SameItemKey (get_or items i d) (get_or items j d)
+    → SameItemKey (get_or items i e) (get_or items j e)
+same_key items i j d e l m same =
+    subst (λ x. SameItemKey x (get_or items j e)) (get_or_default items i d e l) (subst (SameItemKey (get_or items i d)) (get_or_default items j d e m) same)
+
+pub one_more_key : (items : List Item) (start stop : ℕ) → start < length items → stop < length items
+    → SameItemKey (get_or items stop zero_item) (get_or items start zero_item)
+    → ((k : ℕ) (d : Item) → start ≤ k → k < stop → SameItemKey (get_or items k d) (get_or items start d)) → (k : ℕ) (d : Item) → start ≤ k → k < stop + 1
+    → SameItemKey (get_or items k d) (get_or items start d)
+one_more_key items start stop inside l here same k d m n =
+    ⊎_elim
+    (λ (q : k < stop). same k d m q)
+    (λ (q : stop ≤ k).
+    let e : stop ≡ k = omega arith in
+    subst (λ i. SameItemKey (get_or items i d) (get_or items start d)) e (same_key items stop start zero_item d l inside here))
+    (cases_lt k stop)
 
 -- the walk has come to an item that has a greater key than all before it
 pub record IsWalked (log : List Fact) (items : List Item) (start : ℕ) (alive : AliveRecords) (least : Option BrokenLink) : Type 0 where

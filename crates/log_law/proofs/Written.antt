@@ -523,6 +523,15 @@ pub shape_of_plain : (e n b p bb : ℕ) (ws : List WriteData) → record_fault (
     → record_fault (record_of e n b p bb ws) ≡ None
 shape_of_plain e n b p bb ws h below le = search rules
 
+-- the shape of a record with the tops of the stack for backlinks
+pub shape_with_tops : {roster : ℕ} (log : List Fact) (s : AliveRecords) (last : ℕ) (points : List ℕ) (e n g b bb : ℕ) (ws : List WriteData)
+    → IsWritten roster log s last points → record_fault (plain_record n ws) ≡ None → last < n → b ≡ top_number (stack_of s) → bb ≡ page_top g (stack_of s)
+    → record_fault (record_of e n b g bb ws) ≡ None
+shape_with_tops log s last points e n g b bb ws w h above top page =
+    let highest : top_number (stack_of s) ≤ last = top_at_most log s last points w in
+    let within : page_top g (stack_of s) ≤ top_number (stack_of s) = page_at_most_top log s last points g w in
+    shape_of_plain e n b g bb ws h (omega arith) (omega arith)
+
 -- the same stack, in other memory
 pub written_same : {roster : ℕ} (log : List Fact) (s new : AliveRecords) (last : ℕ) (points : List ℕ) → IsWritten roster log s last points → IsStack new
     → stack_of new ≡ stack_of s → new.view ≡ s.view → IsWritten roster log new last points

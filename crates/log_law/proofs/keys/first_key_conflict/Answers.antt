@@ -1,20 +1,32 @@
-use Rattle.std.proofs.Common.{◌≡◌, ◌+◌, ◌∙◌, sym, ap, subst, refl, length, take, Some, rules}
+use Rattle.std.proofs.Common.{◌≡◌, ◌+◌, ◌∙◌, sym, ap, subst, refl, length, take, Some, true, false}
 use Rattle.std.specs.Prelude.{slice_get}
-use Rattle.std.proofs.lemmas.Bool.{MatchBool-at_false}
+use Rattle.std.proofs.lemmas.Bool.{MatchBool-at_false, MatchBool-at_true}
 use Rattle.std.proofs.lemmas.Option.{slice_get_read}
+use Rattle.std.proofs.lemmas.Result.{IfOk-from_err}
 use Rattle.redo_core.specs.Sound.{Law1}
 use Rattle.redo_core.specs.declared.facts.Fact.TheVariants.{Record, Cut, Advance}
-use Rattle.log_law.specs.Keys.{IsSeen}
+use Rattle.log_law.specs.Keys.{IsSeen, IsFirstKeyConflict}
 use Rattle.log_law.specs.Counted.{first_cut}
-use Rattle.log_law.proofs.Repeats.{kept_more, law1_first, law1_later, law1_advance, first_more, seen_past, none_further}
+use Rattle.log_law.proofs.Repeats.{kept_more, broken_at, law1_first, law1_later, law1_advance, first_more, seen_past, none_further}
 use Rattle.log_law.proofs.keys.first_key_conflict.Goals as goal
 use Rattle.log_law.proofs.keys.first_key_conflict.Goals.{in-Record+in_ok-is_other-in-Record+else-branch, in-Cut+else-not-counts, in-Advance}
 
 pub returns-then-branch : goal.returns-then-branch
-returns-then-branch c = search (rules, slice_get_read)
+returns-then-branch c =
+    let log = c.args.facts.now in let p = c.loop-place.place in let redo = c.in-Record.redo in
+    broken_at log p (Record redo)
+    (slice_get_read log (length log) p c.index-facts-place.result refl c.loop-place-test.true c.index-facts-place.is ∙ ap Some c.in-Record.is)
+    c.loop-place.invariant.kept
+    (MatchBool-at_true (Law1 (take p log) (Record redo) → ⊥) (Law1 (take p log) (Record redo)) c.if-branch.true c.in_ok-is_other-in-Record.ensures.law)
 
 pub returns-then-not-counts : goal.returns-then-not-counts
-returns-then-not-counts c = search (rules, slice_get_read, law1_later)
+returns-then-not-counts c =
+    let log = c.args.facts.now in let p = c.loop-place.place in let cut = c.in-Cut.cut in
+    let at : slice_get log p ≡ Some (Cut cut) = slice_get_read log (length log) p c.index-facts-place.result refl c.loop-place-test.true c.index-facts-place.is
+    ∙ ap Some c.in-Cut.is in
+    broken_at log p (Cut cut) at c.loop-place.invariant.kept
+    (law1_later log p cut at (λ first. let yes' : c.counts.result ≡ true = c.counts.ensures.1 (c.requires.table.at cut.epoch ∙ first) in
+    let clash : true ≡ false = sym yes' ∙ c.if-not-counts.true in cc))
 
 pub loop-place-preserved : goal.loop-place-preserved
 loop-place-preserved c =
@@ -55,3 +67,12 @@ loop-place-preserved c =
 
 pub returns : goal.returns
 returns c = none_further c.args.facts.now c.loop-place.place c.loop-place-test.false c.loop-place.invariant.kept
+
+pub is_other-requires-clause-at : goal.is_other-requires-clause-at
+is_other-requires-clause-at c =
+    let log = c.args.facts.now in
+    slice_get_read log (length log) c.loop-place.place c.index-facts-place.result refl c.loop-place-test.true c.index-facts-place.is ∙ ap Some c.in-Record.is
+
+pub returns-in_err-is_other-in-Record : goal.returns-in_err-is_other-in-Record
+returns-in_err-is_other-in-Record c =
+    IfOk-from_err c.from_residual-in_err-is_other-in-Record.result (IsFirstKeyConflict c.args.facts.now) c.from_residual-in_err-is_other-in-Record.ensures.0

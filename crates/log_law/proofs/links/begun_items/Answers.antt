@@ -1,4 +1,4 @@
-use Rattle.std.proofs.Common.{◌≡◌, ◌+◌, Some, sym, ◌∙◌, ap, subst, refl, ◌++◌, ◌∷◌, [], false}
+use Rattle.std.proofs.Common.{◌≡◌, ◌+◌, Some, sym, ◌∙◌, ap, subst, refl, ◌++◌, ◌∷◌, [], false, length, arith}
 use Rattle.std.specs.Prelude.{slice_get}
 use Rattle.std.proofs.lemmas.Option.{slice_get_read}
 use Rattle.redo_core.specs.Sound.{Law2}
@@ -34,3 +34,9 @@ loop-place-preserved c =
           subst (λ v. AreItemsTo log (p + 1) v.items) (sym w.items-is)
           (no_item log p c.loop-place.items.items f c.loop-place.invariant at (λ r e law. w.in_default.not-Record r e))
     ]
+
+pub returns : goal.returns
+returns c =
+    let log = c.args.facts.now in let p = c.loop-place.place in
+    let ends : p ≡ length log = omega (arith, c.loop-place.auto.place-end) in
+    subst (λ n. AreItemsTo log n c.loop-place.items.items) ends c.loop-place.invariant

@@ -1,6 +1,8 @@
-use Rattle.std.proofs.Common.{◌≡◌, ◌<◌, ◌-◌, List, take, drop, get_or, length, arith, ◌∙◌}
+use Rattle.std.proofs.Common.{◌≡◌, ◌<◌, ◌-◌, List, take, drop, get_or, length, arith, ◌∙◌, subst}
+use Rattle.std.proofs.lemmas.List.{take_all}
 use Rattle.redo_core.proofs.SoundFacts.{cut_facts}
 use Rattle.log_law.specs.Alive.{HoldsAlive}
+use Rattle.log_law.specs.Links.{IsLeastBroken}
 use Rattle.log_law.specs.declared.links.Item.{Item}
 use Rattle.log_law.proofs.Least.{zero_item}
 use Rattle.log_law.proofs.Judging.{IsGroup, judged, can_push}
@@ -29,3 +31,8 @@ loop-start-preserved c = record {
       (c.push_all.ensures.view ∙ view)
       (c.least_in-least.ensures log past w.broken (λ t m. judged log items past group c.enter.new.self g t m));
 }
+
+pub returns : goal.returns
+returns c log d are order =
+    let w = c.loop-start.invariant.walked log d are order in
+    subst (λ xs. IsLeastBroken log xs c.loop-start.least) (take_all c.loop-start.start c.args.items.now c.loop-start-test.false) w.broken

@@ -1,4 +1,5 @@
 use Rattle.std.proofs.Common.{◌+◌, ◌<◌, ◌∙◌, take, sym, subst}
+use Rattle.std.proofs.lemmas.List.{take_all}
 use Rattle.log_law.specs.Lows.{AreSteps}
 use Rattle.log_law.proofs.Reaching.{steps_more, steps_other, no_steps}
 use Rattle.log_law.proofs.lows.steps_of.Goals as goal
@@ -20,3 +21,8 @@ loop-fact-preserved c =
           (steps_other c.args.facts.now c.args.reader c.args.len c.loop-fact.fact-index c.fact-item.result c.loop-fact.tops.items c.loop-fact-test.true
           c.fact-item.is w.in_default.not-Advance c.loop-fact.invariant)
     ]
+
+pub returns : goal.returns
+returns c =
+    subst (λ fs. AreSteps fs c.args.reader c.args.len c.loop-fact.tops.items) (take_all c.loop-fact.fact-index c.args.facts.now c.loop-fact-test.false)
+    c.loop-fact.invariant

@@ -1,9 +1,10 @@
-use Rattle.std.proofs.Common.{◌≡◌, ◌≢◌, ◌+◌, ◌-◌, ◌<◌, ◌≤◌, get_or, set, length, arith, sym, ◌∙◌, subst, ⊎_elim, length-set, get_or-set_same, get_or-set_other}
+use Rattle.std.proofs.Common.{◌≡◌, ◌≢◌, ◌+◌, ◌-◌, ◌<◌, ◌≤◌, get_or, set, length, arith, ap, sym, ◌∙◌, subst, ⊎_elim, length-set, get_or-set_same, get_or-set_other}
 use Rattle.std.proofs.lemmas.Bool.{cases_eq}
 use Rattle.std.proofs.lemmas.List.{get_or_default}
+use Rattle.redo_core.specs.Shape.{max_number}
 use Rattle.log_law.specs.Counted.{first_cut}
 use Rattle.log_law.specs.Targets.{IsBoundTo}
-use Rattle.log_law.proofs.Candidates.{bound_step}
+use Rattle.log_law.proofs.Candidates.{bound_last, bound_step}
 use Rattle.log_law.proofs.targets.alive_bounds.Goals as goal
 
 pub loop-epoch-preserved : goal.loop-epoch-preserved
@@ -35,3 +36,14 @@ loop-epoch-preserved c = record {
 
 pub returns : goal.returns
 returns c log d = record { len = c.loop-epoch.invariant.len; each = λ e m. c.loop-epoch.invariant.each log d e (omega arith) m }
+
+pub loop-epoch-init : goal.loop-epoch-init
+loop-epoch-init c =
+    let bounds = c.in_ok-bounds.bounds.items in
+    let len : length c.in_ok-bounds.bounds.items ≡ c.args.view + 1 = c.in_ok-bounds.ensures.0 ∙ ap (λ n. n + 1) c.from.ensures in
+    record {
+      len = len;
+      within = omega arith;
+      each = λ log d e l m. subst (IsBoundTo log c.args.view e)
+          (sym (get_or_default bounds e 0 max_number (omega arith) ∙ c.in_ok-bounds.ensures.1 e)) (bound_last log c.args.view e l);
+    }

@@ -51,3 +51,8 @@ returns-clause-ok c =
       reader = ap (λ (x : AdvanceData). x.reader) c.in-Ok.ensures.ok;
       point = ap (λ (x : AdvanceData). x.point) c.in-Ok.ensures.ok;
     }
+
+pub invariant_of-self : goal.invariant_of-self
+invariant_of-self c =
+    subst (λ xs. IsWritten (length c.self.inside.points) xs c.self.inside.alive c.self.inside.last c.self.inside.points) (sym c.reserve.ensures.items)
+    c.self.invariant

@@ -1,4 +1,4 @@
-use Rattle.std.proofs.Common.{length, ◌≡◌, ◌≤◌, ◌++◌, ◌∷◌, [], subst, sym, ◌∙◌, ap, refl, arith, None}
+use Rattle.std.proofs.Common.{length, ◌≡◌, ◌++◌, ◌∷◌, [], subst, sym, ◌∙◌, ap, refl, arith, None}
 use Rattle.std.specs.Prelude.{is_ok}
 use Rattle.std.specs.List.{each_same}
 use Rattle.redo_core.specs.Data.{RecordData, record_of, plain}
@@ -7,9 +7,9 @@ use Rattle.redo_core.specs.Sets.{cuts}
 use Rattle.redo_core.specs.CompleteEpoch.{IsCompleteEpoch}
 use Rattle.redo_core.specs.Sound.{IsSound}
 use Rattle.redo_core.specs.declared.facts.Fact.TheVariants.{Record}
-use Rattle.log_law.specs.Alive.{stack_of, top_number, page_top}
+use Rattle.log_law.specs.Alive.{stack_of, page_top}
 use Rattle.log_law.specs.Writing.{IsWritten, IsBound, WriterData, writer_of, plain_record}
-use Rattle.log_law.proofs.Written.{written_record, written_same, complete_view, pushed, bound_of, top_at_most, page_at_most_top, shape_of_plain}
+use Rattle.log_law.proofs.Written.{written_record, written_same, complete_view, pushed, bound_of, shape_with_tops}
 use Rattle.log_law.proofs.writer.Writer.append.Goals as goal
 
 pub returns-then-number-self-clause-fault : goal.returns-then-number-self-clause-fault
@@ -65,17 +65,8 @@ record_with_links-kept-requires c =
     let none : record_fault (plain_record c.args.number c.args.writes.items) ≡ None = sym
     (c.shape_fault.ensures 0 0 ∙ ap (λ ws. record_fault (plain_record c.args.number ws)) c.deref.ensures.value) ∙ c.in_default.is in
     let copied : c.in-Ok.copied.items ≡ c.args.writes.items = each_same c.args.writes.items c.in-Ok.copied.items c.in-Ok.ensures.cases.0 in
-    let highest : top_number (stack_of c.self.inside.alive) ≤ c.self.inside.last = top_at_most log alive last top w in
-    let within : page_top c.args.page (stack_of c.self.inside.alive) ≤ top_number (stack_of c.self.inside.alive) =
-    page_at_most_top log alive last top c.args.page w in
-    let shape : record_fault (record_of c.view-epoch.result c.args.number c.top-back.result c.args.page c.top_of-block_back.result
-    c.in-Ok.copied.items) ≡ None =
-    shape_of_plain c.view-epoch.result c.args.number c.top-back.result c.args.page c.top_of-block_back.result c.in-Ok.copied.items
-    (ap (λ ws. record_fault (plain_record c.args.number ws)) copied ∙ none)
-    (let e : c.top-back.result ≡ top_number (stack_of c.self.inside.alive) = c.top-back.ensures in omega arith)
-    (let e : c.top-back.result ≡ top_number (stack_of c.self.inside.alive) = c.top-back.ensures in let f : c.top_of-block_back.result ≡ page_top c.args.page
-    (stack_of c.self.inside.alive) = c.top_of-block_back.ensures in omega arith) in
-    shape
+    shape_with_tops log alive last top c.view-epoch.result c.args.number c.args.page c.top-back.result c.top_of-block_back.result c.in-Ok.copied.items w
+    (ap (λ ws. record_fault (plain_record c.args.number ws)) copied ∙ none) c.if-number-self.false c.top-back.ensures c.top_of-block_back.ensures
 
 pub invariant_of-self-2 : goal.invariant_of-self-2
 invariant_of-self-2 c =
@@ -84,16 +75,10 @@ invariant_of-self-2 c =
     let none : record_fault (plain_record c.args.number c.args.writes.items) ≡ None = sym
     (c.shape_fault.ensures 0 0 ∙ ap (λ ws. record_fault (plain_record c.args.number ws)) c.deref.ensures.value) ∙ c.in_default.is in
     let copied : c.in-Ok.copied.items ≡ c.args.writes.items = each_same c.args.writes.items c.in-Ok.copied.items c.in-Ok.ensures.cases.0 in
-    let highest : top_number (stack_of c.self.inside.alive) ≤ c.self.inside.last = top_at_most log alive last top w in
-    let within : page_top c.args.page (stack_of c.self.inside.alive) ≤ top_number (stack_of c.self.inside.alive) =
-    page_at_most_top log alive last top c.args.page w in
     let shape : record_fault (record_of c.view-epoch.result c.args.number c.top-back.result c.args.page c.top_of-block_back.result
     c.in-Ok.copied.items) ≡ None =
-    shape_of_plain c.view-epoch.result c.args.number c.top-back.result c.args.page c.top_of-block_back.result c.in-Ok.copied.items
-    (ap (λ ws. record_fault (plain_record c.args.number ws)) copied ∙ none)
-    (let e : c.top-back.result ≡ top_number (stack_of c.self.inside.alive) = c.top-back.ensures in omega arith)
-    (let e : c.top-back.result ≡ top_number (stack_of c.self.inside.alive) = c.top-back.ensures in let f : c.top_of-block_back.result ≡ page_top c.args.page
-    (stack_of c.self.inside.alive) = c.top_of-block_back.ensures in omega arith) in
+    shape_with_tops log alive last top c.view-epoch.result c.args.number c.args.page c.top-back.result c.top_of-block_back.result c.in-Ok.copied.items w
+    (ap (λ ws. record_fault (plain_record c.args.number ws)) copied ∙ none) c.if-number-self.false c.top-back.ensures c.top_of-block_back.ensures in
     let kept = c.record_with_links-kept.result in
     let is : c.record_with_links-kept.result ≡ record_of c.view-epoch.result c.args.number c.top-back.result c.args.page c.top_of-block_back.result
     c.in-Ok.copied.items = c.record_with_links-kept.ensures in
@@ -120,16 +105,10 @@ returns-clause-ok c =
     let none : record_fault (plain_record c.args.number c.args.writes.items) ≡ None = sym
     (c.shape_fault.ensures 0 0 ∙ ap (λ ws. record_fault (plain_record c.args.number ws)) c.deref.ensures.value) ∙ c.in_default.is in
     let copied : c.in-Ok.copied.items ≡ c.args.writes.items = each_same c.args.writes.items c.in-Ok.copied.items c.in-Ok.ensures.cases.0 in
-    let highest : top_number (stack_of c.self.inside.alive) ≤ c.self.inside.last = top_at_most log alive last top w in
-    let within : page_top c.args.page (stack_of c.self.inside.alive) ≤ top_number (stack_of c.self.inside.alive) =
-    page_at_most_top log alive last top c.args.page w in
     let shape : record_fault (record_of c.view-epoch.result c.args.number c.top-back.result c.args.page c.top_of-block_back.result
     c.in-Ok.copied.items) ≡ None =
-    shape_of_plain c.view-epoch.result c.args.number c.top-back.result c.args.page c.top_of-block_back.result c.in-Ok.copied.items
-    (ap (λ ws. record_fault (plain_record c.args.number ws)) copied ∙ none)
-    (let e : c.top-back.result ≡ top_number (stack_of c.self.inside.alive) = c.top-back.ensures in omega arith)
-    (let e : c.top-back.result ≡ top_number (stack_of c.self.inside.alive) = c.top-back.ensures in let f : c.top_of-block_back.result ≡ page_top c.args.page
-    (stack_of c.self.inside.alive) = c.top_of-block_back.ensures in omega arith) in
+    shape_with_tops log alive last top c.view-epoch.result c.args.number c.args.page c.top-back.result c.top_of-block_back.result c.in-Ok.copied.items w
+    (ap (λ ws. record_fault (plain_record c.args.number ws)) copied ∙ none) c.if-number-self.false c.top-back.ensures c.top_of-block_back.ensures in
     let kept = c.record_with_links-kept.result in
     let is : c.record_with_links-kept.result ≡ record_of c.view-epoch.result c.args.number c.top-back.result c.args.page c.top_of-block_back.result
     c.in-Ok.copied.items = c.record_with_links-kept.ensures in
@@ -169,3 +148,16 @@ returns-in-Some-clause-fault c = (
   sym (c.shape_fault.ensures 0 0 ∙ ap (λ ws. record_fault (plain_record c.args.number ws)) c.deref.ensures.value)
       ∙ c.in-Some.is,
 )
+
+pub record_with_links-requires : goal.record_with_links-requires
+record_with_links-requires c =
+    let none : record_fault (plain_record c.args.number c.args.writes.items) ≡ None = sym
+    (c.shape_fault.ensures 0 0 ∙ ap (λ ws. record_fault (plain_record c.args.number ws)) c.deref.ensures.value) ∙ c.in_default.is in
+    shape_with_tops c.self.inside.log.items c.self.inside.alive c.self.inside.last c.self.inside.points c.view-epoch.result c.args.number c.args.page
+    c.top-back.result c.top_of-block_back.result c.args.writes.items c.self.invariant none c.if-number-self.false c.top-back.ensures
+    c.top_of-block_back.ensures
+
+pub invariant_of-self : goal.invariant_of-self
+invariant_of-self c =
+    subst (λ xs. IsWritten (length c.self.inside.points) xs c.self.inside.alive c.self.inside.last c.self.inside.points) (sym c.reserve.ensures.items)
+    c.self.invariant

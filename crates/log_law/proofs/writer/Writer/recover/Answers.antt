@@ -100,3 +100,8 @@ returns-clause-ok c =
       lo = lo;
       hi = hi;
     }
+
+pub invariant_of-self : goal.invariant_of-self
+invariant_of-self c =
+    subst (λ xs. IsWritten (length c.self.inside.points) xs c.self.inside.alive c.self.inside.last c.self.inside.points) (sym c.reserve.ensures.items)
+    c.self.invariant
