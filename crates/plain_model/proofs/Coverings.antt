@@ -1,9 +1,10 @@
 -- Meanings that cover each other.
-use Rattle.std.proofs.Common.{◌≡◌, ℕ, ◌<◌, ◌≤◌, ◌⊎◌, inl, inr, ⊎_elim, List, ◌++◌, sym, subst, arith}
+use Rattle.std.proofs.Common.{◌≡◌, ℕ, ◌<◌, ◌≤◌, ◌⊎◌, ◌↔◌, inl, inr, ⊎_elim, List, ◌++◌, refl, sym, subst, arith, Bool, true, false}
+use Rattle.std.specs.Prelude.{IsTrue, not}
 use Rattle.std.specs.List.{Contains, AllZip}
 use Rattle.redo_core.specs.Data.{RecordData, CutData, AdvanceData}
 use Rattle.redo_core.specs.Sets.{IsPart, SameSet, cuts}
-use Rattle.redo_core.specs.Standing.{IsDead}
+use Rattle.redo_core.specs.Standing.{IsAlive, IsDead}
 use Rattle.redo_core.specs.Position.{Position}
 use Rattle.redo_core.specs.Sound.{IsSound}
 use Rattle.redo_core.specs.CompleteEpoch.{HasCutsTo}
@@ -20,6 +21,19 @@ use Rattle.redo_laws.proofs.Meanings.{meaning_unique}
 use Rattle.redo_laws.proofs.SameSets.{same_meanings, turned}
 use Rattle.redo_laws.proofs.Union.{absorbed, covers_at, covers_of_parts}
 use Rattle.plain_model.specs.Comparing.{KeepsFact, Settles, CoversAll, IsCovering}
+
+-- a record of a begun epoch, by its number
+pub settled_low : (facts : List Fact) (p : Position) (r : RecordData) → r.epoch ≤ p.epoch → r.number ≤ p.anchor → Settles facts p (Record r)
+settled_low facts p r known low = inr (low, known)
+
+pub settled_if_dead : (facts : List Fact) (p : Position) (r : RecordData) (alive : Bool) → IsTrue alive ↔ IsAlive (cuts facts) p.epoch r.epoch r.number
+    → r.epoch ≤ p.epoch → p.anchor < r.number → IsTrue (not alive) ↔ Settles facts p (Record r)
+settled_if_dead facts p r true is known high = (
+  λ t. absurd (let clash : false ≡ true = t in cc),
+  λ s. ⊎_elim (λ (dead : IsDead (cuts facts) p.epoch r.epoch r.number). absurd (dead.1 (is.0 refl)))
+      (λ (low : (r.number ≤ p.anchor) × (r.epoch ≤ p.epoch)). absurd (let l : r.number ≤ p.anchor = low.0 in omega arith)) s,
+)
+settled_if_dead facts p r false is known high = (λ t. inl (known, λ alive. let clash : false ≡ true = is.1 alive in cc), λ s. refl)
 
 dead_by : (cs ds : List CutData) → SameSet cs ds → (k e n : ℕ) → IsDead cs k e n → IsDead ds k e n
 dead_by cs ds same k e n dead = (dead.0, λ alive. dead.1 (alive_by ds cs (same_sym cs ds same) k e n alive))
