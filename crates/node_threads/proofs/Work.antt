@@ -17,6 +17,14 @@ offered_none s facts = record {
   accepted = sym (append-nil (parcel_facts s.accepted));
 }
 
+-- nothing more was accepted
+pub offered_same : (old : SenderData) (facts : List PlacedFact) (s s' : SenderData) (rest rest' : List PlacedFact) → Offered old facts s rest → s' ≡ s → rest' ≡ rest → Offered old facts s' rest'
+offered_same old facts s s' rest rest' o is same = subst (λ u. Offered old facts u rest') (sym is) (subst (Offered old facts s) (sym same) o)
+
+-- a fact is put back
+pub put_back : (facts rest new : List PlacedFact) (f f' : PlacedFact) → facts ≡ rest ++ f ∷ [] → new ≡ rest ++ f' ∷ [] → f' ≡ f → new ≡ facts
+put_back facts rest new f f' was is same = is ∙ (ap (λ x. rest ++ x ∷ []) same ∙ sym was)
+
 -- one fact more was accepted
 pub offered_more : (old : SenderData) (facts : List PlacedFact) (s : SenderData) (rest : List PlacedFact) (s' : SenderData) (rest' : List PlacedFact) (p : ParcelData) → Offered old facts s rest
     → rest ≡ p.fact ∷ rest' → s' ≡ record s { accepted = s.accepted ++ p ∷ [] } → Offered old facts s' rest'

@@ -89,3 +89,18 @@ returns-in-Err-clause-err g c =
       }),
       c.no_memory-in-Err.ensures.plan,
     )
+
+pub run_in_scope-requires-clause-nodes : goal.run_in_scope-requires-clause-nodes
+run_in_scope-requires-clause-nodes g c κs within = c.requires.nodes
+
+pub rejoin-inlets-requires-clause-len : goal.rejoin-inlets-requires-clause-len
+rejoin-inlets-requires-clause-len g c =
+    let len = c.split-intakes.ensures.len in
+    len.0 ∙ sym (ap (λ v. length v.items) c.in-Err.ensures.err.1 ∙ len.1)
+
+pub returns-clause-len : goal.returns-clause-len
+returns-clause-len g c =
+    let ran = c.in-Ok-run_in_scope.ensures.len in
+    let whole = c.assemble-inlets.ensures.len in
+    let back = ran.1 ∙ c.split-intakes.ensures.len.1 in
+    (ran.0, whole.0 ∙ back, whole.1 ∙ back)
