@@ -20,7 +20,7 @@ use Rattle.segment_core.specs.Uniting.{Unites}
 use Rattle.segment_told.specs.Told.{AreTold}
 use Rattle.segment_told.specs.InOrder.{TakesEach}
 use Rattle.segment_join.specs.Joining.{IsBroughtIn, JoinsInto}
-use Rattle.segment_join.specs.Holding.{InOtherImage, IsNeedless, HoldsRest}
+use Rattle.segment_join.specs.Holding.{InOtherImage, IsNeedless, IsSpared, HoldsRest}
 use Rattle.segment_join.specs.Newer.{AreNewer}
 use Rattle.segment_core.proofs.Keys.{one_of_key}
 use Rattle.segment_told.proofs.TakingAll.{LeavesAll}
@@ -165,9 +165,41 @@ module _ (old other taken joined new : State) (facts : List Fact) (images : List
   own_joined : (r : RecordData) → Contains old.held r → Contains new.held r
   own_joined r h = (held_is r).0 (u.holds.before r ((told_all old other taken facts u.first).before r h))
 
+  older_of : (g : ℕ) → version_of old.store g ≤ version_of new.store g
+  older_of g =
+      ⊎_elim
+      (λ (s : SamePage old.store new.store g). let e : version_of new.store g ≡ version_of old.store g = s.0 in omega (arith, e))
+      (λ x. let lt : version_of old.store g < version_of new.store g = x.0 in omega (arith, lt))
+      (images_joined g)
+
+  -- what is not dead and needless after the facts is in the new state's image
+  needless_joined : (r : RecordData) → Matters new.book.cuts new.book.complete r → IsNeedless taken other r → IsInImage new r
+  needless_joined r mat needless =
+      let left = told_all old other taken facts u.first in
+      let same : taken.base ≡ old.base = left.base in
+      let own : version_of taken.store r.page ≡ version_of old.store r.page = ap (λ s. version_of s r.page) left.store in
+      let older = older_of r.page in let newest = newest_of r.page in
+      ⊎_elim
+      (λ (dead : IsDead taken.book.cuts taken.book.complete r.epoch r.number). absurd (⊎_elim
+      (λ (w : taken.book.complete < r.epoch). omega (arith, w, dead.0)) dead.1 (subst (λ b. Matters b.cuts b.complete r) book_is mat)))
+      (λ in_image. ⊎_elim
+      (λ (x : IsInImage taken r).
+      (subst (λ b. r.epoch ≤ b.complete) (sym book_is) x.0, omega (arith, x.1, same, base_joined.1), omega (arith, x.2, own, older)))
+      (λ (x : InOtherImage taken other r).
+      (subst (λ b. r.epoch ≤ b.complete) (sym book_is) x.0, omega (arith, x.1, base_joined.2), omega (arith, x.2, newest)))
+      in_image)
+      needless
+
   others_joined : (r : RecordData) → Contains other.held r → Matters new.book.cuts new.book.complete r
       → Contains new.held r ⊎ (IsInImage new r ⊎ HoldsOther old r)
-  others_joined r h mat = search (rules, held_before, newest_of)
+  others_joined r h mat =
+      ⊎_elim
+      (λ (x : Contains joined.held r). inl ((held_is r).0 x))
+      (λ (x : IsSpared taken other r). inr (⊎_elim
+      (λ (o : HoldsOther taken r). inr (held_before r h o))
+      (λ (n : IsNeedless taken other r). inl (needless_joined r mat n))
+      x))
+      (u.holds.each r h)
 
   pub joins_both : JoinsInto old other new
   joins_both = search (rules, book_is, book_joined, of_told, base_joined, own_joined, others_joined, brought_in, images_joined, newest_of)

@@ -1,6 +1,5 @@
 -- What a state holds after a loop over the other state's held records, and which images a loop has picked.
 use Rattle.std.proofs.Common.{◌≡◌, ◌↔◌, ℕ, ◌+◌, ◌<◌, ◌≤◌, ◌⊎◌, inl, inr, ⊎_elim, List, [], ◌∷◌, ◌++◌, length, get_or, take, Some, refl, sym, ap, subst, ◌∙◌, rules, arith}
-use Rattle.std.proofs.lemmas.Grind.{common_steps}
 use Rattle.std.specs.List.{Contains}
 use Rattle.std.proofs.lemmas.List.{take_more, take_all}
 use Rattle.std.proofs.lemmas.List.Elements.{Contains-append_left, Contains-append_right, Contains-append_cases}
@@ -9,21 +8,31 @@ use Rattle.redo_core.specs.Keys.{key_of}
 use Rattle.redo_core.specs.declared.keys.Key.{Key}
 use Rattle.redo_core.specs.Order.{IsRising, RecordBefore}
 use Rattle.redo_core.proofs.Members.{none_in, here, which}
+use Rattle.redo_core.specs.Standing.{IsDead}
+use Rattle.state_laws.specs.Means.{IsInImage}
 use Rattle.hot_log.specs.Held.{HasKey, IsRecordAt}
 use Rattle.state_laws.specs.State.{State, SameBase}
 use Rattle.segment_core.specs.Uniting.{HoldsRecord}
 use Rattle.segment_core.specs.Refusing.{HoldsOther}
-use Rattle.segment_join.specs.Holding.{IsNeedless, IsSpared, HoldsRest}
+use Rattle.segment_join.specs.Holding.{InOtherImage, IsNeedless, IsSpared, HoldsRest}
 use Rattle.segment_join.specs.Knowing.{HoldsAt}
 use Rattle.segment_core.proofs.Keys.{one_of_key}
 use Rattle.segment_join.proofs.Alike.{settled_record}
-use Rattle.redo_core.proofs.Rising.{up_to}
+use Rattle.redo_core.proofs.Rising.{up_to, front_to}
 
 -- the one there is, or one of those before it
 last_or : {X : Type 0} (xs : List X) (i : ℕ) (x r : X) → i < length xs → x ≡ get_or xs i x → Contains (take (i + 1) xs) r → Contains (take i xs) r ⊎ (r ≡ x)
-last_or xs i x r lt is has = grind (arith, common_steps)
+last_or xs i x r lt is has = ⊎_elim (λ (e : x ≡ r). inr (sym e)) (λ (h : Contains (take i xs) r). inl h) (front_to xs i x r lt is has)
 
 -- ---- one key
+
+-- a record that waits in the state's view is needed
+pub waits_needed : (s other : State) (r : RecordData) → s.book.complete < r.epoch → IsNeedless s other r → ⊥
+waits_needed s other r waits needless =
+    ⊎_elim
+    (λ (dead : IsDead s.book.cuts s.book.complete r.epoch r.number). omega (arith, waits, dead.0))
+    (λ in_image. ⊎_elim (λ (own : IsInImage s r). omega (arith, waits, own.0)) (λ (others : InOtherImage s other r). omega (arith, waits, others.0)) in_image)
+    needless
 
 pub holds_spared : (s other : State) (key : Key) (redo : RecordData) → IsRising RecordBefore other.held → IsRecordAt other.held key (Some redo)
     → IsNeedless s other redo → HoldsAt s other key s
@@ -123,6 +132,9 @@ first_all missing i old other new known end first = record {
 -- ---- the things with P among the first of a list
 abbrev pub Picks : {X : Type 0} (P : X → Type 0) → List X → ℕ → List X → Type 0
 Picks {X} P xs i picked = (y : X) → Contains picked y ↔ (Contains (take i xs) y × P y)
+
+pub picks_none : {X : Type 0} (P : X → Type 0) (xs : List X) → Picks P xs 0 []
+picks_none P xs y = (λ h. absurd (none_in y h), λ h. absurd (none_in y h.0))
 
 seen_next : {X : Type 0} (xs : List X) (i : ℕ) (x y : X) → i < length xs → Contains (take i xs) y → Contains (take (i + 1) xs) y
 seen_next xs i x y lt h = subst (λ ys. Contains ys y) (sym (take_more xs i x lt)) (Contains-append_left (take i xs) (get_or xs i x ∷ []) y h)

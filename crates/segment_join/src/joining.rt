@@ -3,6 +3,7 @@ ghost use Rattle.redo_core.specs.Order.{Lists};
 ghost use Rattle.redo_core.specs.Book.{roster_of};
 ghost use Rattle.hot_log.specs.Missing.{IsMissing};
 ghost use Rattle.hot_log.specs.Paged.{PlaceBefore};
+ghost use Rattle.segment_core.specs.Savepoint.{IsSavepointOf};
 ghost use Rattle.segment_core.specs.Union.{began, reached};
 ghost use Rattle.segment_core.specs.declared.answers.Refusal.TheVariants.{OtherRoster as OtherRosterOf, Memory as MemoryOf};
 ghost use Rattle.segment_join.specs.Joining.{MeansUnion, AreOfOneLog, JoinsInto, TakesTold, RefusesJoin};
@@ -11,7 +12,7 @@ ghost use Rattle.segment_join.specs.Knowing.{TakesAll, RefusesAll, IsJoined};
 use crate::holding::{hold_rest, newer_images};
 use crate::missing::kept_among;
 use redo_core::Record;
-use segment_core::{Refusal, Segment, Union};
+use segment_core::{Refusal, Savepoint, Segment, Union};
 use segment_told::{lent_book, take_told};
 
 /// Brings what another segment means into a segment, whatever each has folded and thrown away.
@@ -45,10 +46,22 @@ fn bring_in(segment: &mut Segment, other: &Segment) -> Result<(), Refusal>
     ensures refused { IfErr result (λ e. (e ≡ MemoryOf) ⊎ RefusesAll segment.old other.now e) }
     ensures unchanged { OnErr result (segment.new ≡ segment.old) }
 {
+    let mut saved = segment.savepoint()?;
+    join_saved(segment, &mut saved, other)
+}
+
+/// The same, of a segment of which a savepoint was taken just now.
+fn join_saved(segment: &mut Segment, saved: &mut Savepoint, other: &Segment) -> Result<(), Refusal>
+    requires roster { roster_of segment.old.book ≡ roster_of other.now.book }
+    requires saved { IsSavepointOf segment.old saved.old }
+    ensures joins { OnOk result (JoinsInto segment.old other.now segment.new) }
+    ensures takes { OnOk result (TakesTold segment.old other.now) }
+    ensures refused { IfErr result (λ e. (e ≡ MemoryOf) ⊎ RefusesAll segment.old other.now e) }
+    ensures unchanged { OnErr result (segment.new ≡ segment.old) }
+{
     segment.opens_form();
     let images = newer_images(segment, other)?;
-    let mut saved = segment.savepoint()?;
-    let mut union = Union::begin(segment, &mut saved);
+    let mut union = Union::begin(segment, saved);
     if let Err(why) = know_and_hold(&mut union, other) {
         return Err(why);
     }

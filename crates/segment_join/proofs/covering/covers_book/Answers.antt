@@ -1,4 +1,5 @@
-use Rattle.std.proofs.Common.{◌≡◌, ◌≤◌, true, false, sym, subst, ◌∙◌, rules}
+use Rattle.std.proofs.Common.{◌≤◌, sym, subst, ◌∙◌}
+use Rattle.std.proofs.lemmas.Bool.{false≢true}
 use Rattle.std.specs.List.{AllZip, Contains}
 use Rattle.redo_core.specs.declared.facts.Fact.TheVariants.{Advance}
 use Rattle.state_laws.specs.Known.{IsKnown}
@@ -8,13 +9,18 @@ use Rattle.segment_join.proofs.covering.covers_book.Goals as goal
 
 pub returns-then-not-has_cuts : goal.returns-then-not-has_cuts
 returns-then-not-has_cuts c = (
-  λ (h : false ≡ true). absurd (cc),
+  λ h. absurd (false≢true h),
   λ covers. sym c.if-not-has_cuts.true ∙ c.has_cuts.ensures.1
       (all_members _ c.cuts.result.now (λ x h. covers.cuts x (subst (λ xs. Contains xs x) c.cuts.ensures.value h))),
 )
 
 pub returns-then-not-are_at_most : goal.returns-then-not-are_at_most
-returns-then-not-are_at_most c = search rules
+returns-then-not-are_at_most c = (
+  λ h. absurd (false≢true h),
+  λ covers. sym c.if-not-are_at_most.true ∙ c.are_at_most.ensures.1
+      (subst (AllZip (λ p q. p ≤ q) c.points.result.now) (sym c.points-2.ensures.own)
+      (subst (λ ps. AllZip (λ p q. p ≤ q) ps c.args.upper.now.book.points) (sym c.points.ensures.own) covers.points)),
+)
 
 pub returns : goal.returns
 returns c = (

@@ -1,4 +1,5 @@
-use Rattle.std.proofs.Common.{◌≡◌, false, true, refl, subst}
+use Rattle.std.proofs.Common.{refl, subst}
+use Rattle.std.proofs.lemmas.Bool.{false≢true}
 use Rattle.std.specs.Option.{option_copied}
 use Rattle.hot_log.specs.Held.{IsRecordAt}
 use Rattle.segment_join.proofs.Keeping.{same_at}
@@ -19,6 +20,6 @@ returns-in-Some-get c =
 
 pub returns-in-None : goal.returns-in-None
 returns-in-None c = (
-  λ (h : false ≡ true). absurd (cc),
+  λ h. absurd (false≢true h),
   λ each. absurd (c.in-None.ensures c.in-Some.redo.now (each c.in-Some.redo.now c.in-Some.ensures.0 c.in-Some.ensures.1) c.in-Some.ensures.1),
 )

@@ -21,4 +21,12 @@ pub hold_one-requires-clause-taken : goal.hold_one-requires-clause-taken
 hold_one-requires-clause-taken c = search (rules, knows_more)
 
 pub returns-clause-holds : goal.returns-clause-holds
-returns-clause-holds c = search (rules, length-map, first_all)
+returns-clause-holds c =
+    let now : Bor RecordData → RecordData = λ r. r.now in let rs = c.args.missing.now in
+    first_all (map now rs) c.loop-redo.redo-index _ c.args.other.now _ c.requires.known (omega (arith, c.loop-redo-test.false, length-map rs now)) c.loop-redo.invariant.0
+
+pub hold_one-requires-clause-held : goal.hold_one-requires-clause-held
+hold_one-requires-clause-held c =
+    let now : Bor RecordData → RecordData = λ r. r.now in let rs = c.args.missing.now in let i = c.loop-redo.redo-index in let x = c.redo-item.result in
+    let is : x.now ≡ get_or (map now rs) i x.now = ap now c.redo-item.is ∙ sym (get_or-map now rs i x) in
+    c.requires.held x.now (item (map now rs) i x.now (omega (arith, c.loop-redo-test.true, length-map rs now)) is)

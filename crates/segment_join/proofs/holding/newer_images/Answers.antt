@@ -1,9 +1,14 @@
 use Rattle.std.proofs.Common.{◌≡◌, ◌+◌, ◌<◌, List, [], ◌∷◌, ◌++◌, ◌↔◌, ap, ◌∙◌, sym, subst, arith}
 use Rattle.std.specs.List.{Contains}
 use Rattle.state_laws.specs.State.{StoredImage, version_of}
-use Rattle.segment_join.proofs.Sparing.{Picks, picks_more, picks_left, picks_all}
+use Rattle.segment_join.proofs.Sparing.{Picks, picks_none, picks_more, picks_left, picks_all}
 use Rattle.segment_join.proofs.holding.newer_images.Goals as goal
 use Rattle.segment_join.proofs.holding.newer_images.Goals.{then-version+in_ok-copy+in_ok-push, else-version}
+
+pub loop-image-init : goal.loop-image-init
+loop-image-init c =
+    let P : StoredImage → Type 0 = λ i. version_of c.args.segment.now.store i.page < i.version in let xs = c.pages-image-items.result.now in
+    subst (λ (picked : List StoredImage). Picks P xs 0 picked) (sym c.new-newer.ensures.items) (picks_none P xs)
 
 pub loop-image-preserved : goal.loop-image-preserved
 loop-image-preserved c =

@@ -1,6 +1,7 @@
-use Rattle.std.proofs.Common.{◌≡◌, ◌+◌, ◌<◌, ◌≤◌, List, ◌∷◌, [], ◌++◌, length, get_or, take, map, true, sym, ap, subst, ◌∙◌, arith, Bor}
+use Rattle.std.proofs.Common.{◌≡◌, ◌+◌, ◌<◌, ◌≤◌, List, ◌∷◌, [], ◌++◌, length, get_or, take, map, sym, ap, subst, ◌∙◌, arith, Bor}
 use Rattle.std.proofs.Math.ListN.{get_or-map}
 use Rattle.std.proofs.lemmas.List.{length-map, map-append}
+use Rattle.std.proofs.lemmas.Bool.{false≢true}
 use Rattle.std.specs.List.{Contains}
 use Rattle.redo_core.specs.Data.{RecordData}
 use Rattle.redo_core.specs.Order.{Lists}
@@ -25,11 +26,11 @@ loop-redo-preserved c =
     let low = λ (y : RecordData) (h : Contains (take i rs) y) (p : P y). across PlaceBefore rs i y x.now c.requires.by_page h (item_drop rs i x.now lt is) in
     elim c.if-keeps.branch [
       | then-keeps+in_ok-push w ↦
-          let more : T (ys ++ x.now ∷ []) = lists_more PlaceBefore P rs ys i x.now lt is (tells.0 cc) low c.loop-redo.invariant in
+          let more : T (ys ++ x.now ∷ []) = lists_more PlaceBefore P rs ys i x.now lt is (tells.0 w.if-keeps.true) low c.loop-redo.invariant in
           let items : map (λ r. r.now) c.if-keeps.kept.items ≡ ys ++ x.now ∷ [] = rw (w.kept-is, w.in_ok-push.ensures.items, map-append) in
           subst T (sym items) more
       | else-keeps w ↦
-          let left : T ys = lists_left PlaceBefore P rs ys i x.now lt is (λ p. let e : c.keeps.result ≡ true = tells.1 p in absurd (cc)) c.loop-redo.invariant in
+          let left : T ys = lists_left PlaceBefore P rs ys i x.now lt is (λ p. absurd (false≢true (sym w.if-keeps.false ∙ tells.1 p))) c.loop-redo.invariant in
           subst (λ kept. T (map (λ r. r.now) kept.items)) (sym w.kept-is) left
     ]
 

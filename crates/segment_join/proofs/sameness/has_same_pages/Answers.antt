@@ -1,4 +1,5 @@
-use Rattle.std.proofs.Common.{ℕ, List, ◌++◌, subst, rules}
+use Rattle.std.proofs.Common.{ℕ, List, ◌++◌, sym, ◌∙◌, subst}
+use Rattle.std.proofs.lemmas.Bool.{false≢true}
 use Rattle.std.specs.List.{All, Contains}
 use Rattle.std.proofs.lemmas.List.Elements.{Contains-append_left, Contains-append_right}
 use Rattle.redo_core.specs.Data.{RecordData}
@@ -9,10 +10,10 @@ use Rattle.segment_join.proofs.Showing.{all_pages, stored_of_both}
 use Rattle.segment_join.proofs.sameness.has_same_pages.Goals as goal
 
 pub returns-then-not-branch : goal.returns-then-not-branch
-returns-then-not-branch c = search rules
+returns-then-not-branch c = (λ h. absurd (false≢true h), λ all. sym c.if-not-branch.true ∙ c.in_ok-has_same_written.ensures.1 (λ r h. all r.page))
 
 pub returns-then-not-branch-2 : goal.returns-then-not-branch-2
-returns-then-not-branch-2 c = search rules
+returns-then-not-branch-2 c = (λ h. absurd (false≢true h), λ all. sym c.if-not-branch-2.true ∙ c.in_ok-has_same_images.ensures.1 (λ i d lt none. all _))
 
 pub returns : goal.returns
 returns c =
