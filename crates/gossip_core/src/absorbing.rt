@@ -1,5 +1,6 @@
 ghost use Rattle.std.specs.Prelude.{◌≡◌, ◌⊎◌, map, IfOk, OnOk, IfErr, OnErr};
 ghost use Rattle.redo_core.specs.Book.{roster_of};
+ghost use Rattle.segment_core.specs.Savepoint.{IsSavepointOf};
 ghost use Rattle.segment_core.specs.Union.{began, reached};
 ghost use Rattle.segment_core.specs.declared.answers.Refusal.TheVariants.{Memory as MemoryOf};
 ghost use Rattle.segment_told.specs.Told.{facts_told};
@@ -12,7 +13,7 @@ use crate::answering::{Shown, uncovered};
 use messages::{Delta, PageImage, Summary};
 use page_base::BaseImage;
 use redo_core::Record;
-use segment_core::{Refusal, Segment, Union};
+use segment_core::{Refusal, Savepoint, Segment, Union};
 use segment_told::take_told;
 use std::alloc::{AllocError, Global};
 use thiserror::Error;
@@ -69,11 +70,22 @@ fn take_delta(segment: &mut Segment, delta: &Delta) -> Result<(), Refusal>
     ensures refused { IfErr result (λ e. (e ≡ MemoryOf) ⊎ RefusesOne segment.old (facts_told delta.now.book delta.now.records) e) }
     ensures unchanged { OnErr result (segment.new ≡ segment.old) }
 {
+    let mut saved = segment.savepoint()?;
+    take_saved(segment, &mut saved, delta)
+}
+
+/// The same, of a segment of which a savepoint was taken just now.
+fn take_saved(segment: &mut Segment, saved: &mut Savepoint, delta: &Delta) -> Result<(), Refusal>
+    requires roster { roster_of segment.old.book ≡ roster_of delta.now.book }
+    requires saved { IsSavepointOf segment.old saved.old }
+    ensures absorbs { OnOk result (AbsorbsInto segment.old delta.now segment.new) }
+    ensures refused { IfErr result (λ e. (e ≡ MemoryOf) ⊎ RefusesOne segment.old (facts_told delta.now.book delta.now.records) e) }
+    ensures unchanged { OnErr result (segment.new ≡ segment.old) }
+{
     segment.opens_form();
     let base = delta.base();
     let images = images_at(segment.allocator(), base, delta.pages())?;
-    let mut saved = segment.savepoint()?;
-    let mut union = Union::begin(segment, &mut saved);
+    let mut union = Union::begin(segment, saved);
     if let Err(why) = take_facts(&mut union, delta) {
         return Err(why);
     }

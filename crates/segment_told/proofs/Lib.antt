@@ -1,3 +1,4 @@
+pub mod Copied
 pub mod Scanning
 pub mod StoredCuts
 pub mod BarePages

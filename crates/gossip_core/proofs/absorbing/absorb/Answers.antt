@@ -8,7 +8,16 @@ use Rattle.gossip_core.proofs.absorbing.absorb.Goals as goal
 
 -- the two are of one roster
 pub take_delta-requires : goal.take_delta-requires
-take_delta-requires c = cc
+take_delta-requires c =
+    let shown : c.readers-shown.result ≡ roster_of c.args.delta.now.book = c.readers-shown.ensures.readers ∙ ap roster_of c.book.ensures.book in
+    omega (arith, c.readers-own.ensures, shown, c.if-own-shown.false)
+
+pub returns-in-Some-clause-refused : goal.returns-in-Some-clause-refused
+returns-in-Some-clause-refused c =
+    let anchor = c.anchor-anchor.result in let above = c.anchor-anchor.ensures.own in
+    let shown : c.readers-shown.result ≡ roster_of c.args.delta.now.book = c.readers-shown.ensures.readers ∙ ap roster_of c.book.ensures.book in
+    let same : roster_of c.args.segment.now.book ≡ roster_of c.args.delta.now.book = omega (arith, c.readers-own.ensures, shown, c.if-own-shown.false) in
+    (same, (anchor, above, c.in-Some.ensures.own anchor above))
 
 pub returns-in-Ok-clause-answers : goal.returns-in-Ok-clause-answers
 returns-in-Ok-clause-answers c =
