@@ -1,5 +1,5 @@
 -- What freezes a state is a snapshot, and all snapshots of a state have as many pieces.
-use Rattle.std.proofs.Common.{◌≡◌, ◌≢◌, ℕ, ◌≤◌, List, length, sym, ap, ◌∙◌, subst, arith, rules}
+use Rattle.std.proofs.Common.{◌≡◌, ◌≢◌, ℕ, ◌≤◌, List, length, sym, ap, ◌∙◌, subst, arith}
 use Rattle.redo_core.specs.Book.{BookData, IsBook}
 use Rattle.redo_core.specs.Data.{RecordData}
 use Rattle.redo_core.specs.Meaning.{ImageData, ImageBefore}
@@ -54,7 +54,9 @@ same_records s d anchor records frozen has lists =
 pub count_as : (s : State) (d : SnapshotData) (anchor : ℕ) (pages : List ImageData) (records : List RecordData) → Freezes s d → HasAnchor s anchor
     → Lists ImageBefore (λ i. Shows s i.page anchor i.bytes × (i.bytes ≢ zeros)) pages → Lists RecordBefore (IsKeptBy s anchor) records
     → IsPieceCount (length pages) (length records) d.total
-count_as s d anchor pages records frozen has shown kept = search (rules, same_pages, same_records)
+count_as s d anchor pages records frozen has shown kept =
+    subst (λ (ps : List ImageData). IsPieceCount (length ps) (length records) d.total) (same_pages s d anchor pages frozen has shown)
+    (subst (λ (rs : List RecordData). IsPieceCount (length d.pages) (length rs) d.total) (same_records s d anchor records frozen has kept) frozen.total)
 
 one_count : (pages records m n : ℕ) → IsPieceCount pages records m → IsPieceCount pages records n → m ≡ n
 one_count pages records m n a b = omega (arith, a.1.0, a.1.1, a.2, b.1.0, b.1.1, b.2)

@@ -1,5 +1,6 @@
 -- Whether a record is kept, and which pieces stand where they are.
-use Rattle.std.proofs.Common.{◌≡◌, ℕ, zero, suc, ◌+◌, ◌<◌, ◌≤◌, ⊎_elim, List, Some, subst, arith, rules}
+use Rattle.std.proofs.Common.{◌≡◌, ℕ, zero, suc, ◌+◌, ◌<◌, ◌≤◌, ⊎_elim, List, Some, None, sym, ◌∙◌, subst, arith, rules}
+use Rattle.std.proofs.lemmas.Option.{none-some}
 use Rattle.std.specs.List.{All}
 use Rattle.redo_core.specs.Data.{CutData, AdvanceData, RecordData}
 use Rattle.redo_core.specs.Book.{BookData, book_of}
@@ -35,6 +36,15 @@ stands st book anchor k (suc n) before here head e b h can =
 pub follows : (st : StagingData) (book : BookData) (anchor k index : ℕ) (before here : PieceData) → HasHead st book anchor → k + 1 ≡ index
     → piece_at st k ≡ Some before → piece_at st index ≡ Some here → CanStand st index → CanFollow book anchor before.content here.content
 follows st book anchor k index before here head e b h can = search rules
+
+-- where there is no piece before, or none there, none can stand
+pub none_before : (st : StagingData) (k index : ℕ) → k + 1 ≡ index → piece_at st k ≡ None → CanStand st index → ⊥
+none_before st k zero e none can = omega (arith, e)
+none_before st k (suc n) e none can = none-some can.2 (sym (subst (λ i. piece_at st i ≡ None) (omega (arith, e)) none) ∙ can.5)
+
+pub none_there : (st : StagingData) (index : ℕ) → 1 ≤ index → piece_at st index ≡ None → CanStand st index → ⊥
+none_there st zero above none can = omega (arith, above)
+none_there st (suc n) above none can = none-some can.3 (sym none ∙ can.6)
 
 -- one piece more can stand
 pub one_place_more : (st : StagingData) (n : ℕ) → ((below : ℕ) → below < n → IsMisplaced st below → ⊥) → CanStand st n → (below : ℕ) → below < n + 1

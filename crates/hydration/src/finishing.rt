@@ -9,6 +9,7 @@ ghost use Rattle.hydration.specs.Placing.{IsMisplaced, IsComplete, IsInOrder};
 ghost use Rattle.hydration.specs.Hydrating.{Hydrates, MeansFrozen, IsOfSoundState, BringsPage, BringsRecord, IsBrought, records_of, pages_of};
 ghost use Rattle.hydration.specs.declared.finishing.FinishFault.TheVariants.{Missing as MissingOf, Malformed as MalformedOf, Memory as MemoryOf};
 
+use crate::snapshot::add_copies;
 use crate::staging::Staging;
 use epoch_book::EpochBook;
 use messages::{Book, Piece, PieceContent};
@@ -112,9 +113,7 @@ fn add_records(records: &mut Vec<Record>, piece: &Piece) -> Result<(), AllocErro
     ensures { OnOk result (records.new.items ≡ records.old.items ++ records_of piece.now.content) }
 {
     if let PieceContent::Records(batch) = piece.content() {
-        for redo in batch.records() {
-            records.push(redo.copy()?)?;
-        }
+        add_copies(records, batch.records())?;
     }
     Ok(())
 }

@@ -1,4 +1,4 @@
-ghost use Rattle.std.specs.Prelude.{◌≡◌, ◌<◌, ◌≤◌, ◌+◌, ◌*◌, length, take, drop, IfOk};
+ghost use Rattle.std.specs.Prelude.{◌≡◌, ◌<◌, ◌≤◌, ◌+◌, ◌*◌, ◌++◌, length, take, drop, IfOk, OnOk};
 ghost use Rattle.messages.specs.Pieces.{max_batch};
 ghost use Rattle.hydration.specs.Snapshots.{snapshot_of, IsSnapshot, IsContentAt, IsPieceOf};
 
@@ -104,8 +104,15 @@ fn copies(alloc: Global, records: &[Record]) -> Result<Vec<Record>, AllocError>
     ensures { IfOk result (λ v. v.items ≡ records.now) }
 {
     let mut copied = Vec::with_capacity(alloc, records.len())?;
+    add_copies(&mut copied, records)?;
+    Ok(copied)
+}
+
+pub(crate) fn add_copies(copied: &mut Vec<Record>, records: &[Record]) -> Result<(), AllocError>
+    ensures { OnOk result (copied.new.items ≡ copied.old.items ++ records.now) }
+{
     for redo in records {
         copied.push(redo.copy()?)?;
     }
-    Ok(copied)
+    Ok(())
 }

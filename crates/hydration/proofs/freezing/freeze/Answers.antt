@@ -1,7 +1,21 @@
-use Rattle.std.proofs.Common.{length, refl, sym, ◌∙◌, subst}
+use Rattle.std.proofs.Common.{◌≡◌, length, refl, sym, ◌∙◌, subst}
 use Rattle.hydration.specs.Snapshots.{SnapshotData, snapshot_of, Freezes, IsPieceCount}
+use Rattle.hydration.specs.declared.freezing.FreezeFault.TheVariants.{Memory, TooMany}
 use Rattle.hydration.proofs.Frozen.{snapshot_form, count_as}
 use Rattle.hydration.proofs.freezing.freeze.Goals as goal
+
+-- want of memory is not too many pieces
+not_many : Memory ≡ TooMany → ⊥
+not_many e = cc
+
+pub returns-in_default-clause-many : goal.returns-in_default-clause-many
+returns-in_default-clause-many c = λ e. absurd (not_many e)
+
+pub returns-in_default-pages_at_anchor-clause-many : goal.returns-in_default-pages_at_anchor-clause-many
+returns-in_default-pages_at_anchor-clause-many c = λ e. absurd (not_many e)
+
+pub returns-in_default-kept_records-clause-many : goal.returns-in_default-kept_records-clause-many
+returns-in_default-kept_records-clause-many c = λ e. absurd (not_many e)
 
 pub new-requires : goal.new-requires
 new-requires c =

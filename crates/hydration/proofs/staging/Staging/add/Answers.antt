@@ -3,10 +3,10 @@ use Rattle.std.specs.Option.{option_copied, is_some}
 use Rattle.std.specs.Ordering.{nat_cmp}
 use Rattle.std.specs.BTreeMap.{is_at}
 use Rattle.std.specs.Map.{lookup}
-use Rattle.std.proofs.lemmas.Bool.{cases_eq}
+use Rattle.std.proofs.lemmas.Bool.{cases_eq, false≢true}
 use Rattle.std.proofs.lemmas.Grind.{common_steps}
 use Rattle.messages.specs.Pieces.{PieceData, IsPiece}
-use Rattle.hydration.specs.Stagings.{staging_of, IsStaging, IsStranger}
+use Rattle.hydration.specs.Stagings.{StagingData, staging_of, piece_at, IsStaging, IsStranger}
 use Rattle.hydration.proofs.staging.Staging.add.Goals as goal
 
 is_elsewhere : (a b : ℕ) → (a ≡ b → ⊥) → is_at (nat_cmp a) b ≡ false
@@ -38,6 +38,24 @@ returns-then-name-self-clause-form c = subst IsStaging c.self.view_is c.self.inv
 
 pub returns-then-is_some-clause-form : goal.returns-then-is_some-clause-form
 returns-then-is_some-clause-form c = subst IsStaging c.self.view_is c.self.invariant
+
+-- what is not found has not come
+not_yet : (found : Option (Bor PieceData)) → is_some found ≡ false → option_copied found ≡ None
+not_yet None is = refl
+not_yet (Some x) is = absurd (false≢true (sym is))
+
+pub returns-in-Ok-clause-adds : goal.returns-in-Ok-clause-adds
+returns-in-Ok-clause-adds c =
+    let k = c.index-index.result in let at : k ≡ c.args.piece.index = c.index-index.ensures.index in
+    let old = c.args.self.now in let u = c.in-Ok.ensures.updates in
+    record {
+      name = ap (λ (s : StagingData). s.name) c.self.view_is;
+      total = ap (λ (s : StagingData). s.total) c.self.view_is;
+      absent = ap (λ i. piece_at old i) (sym at) ∙ ap (λ (s : StagingData). piece_at s k) (sym c.self.view_is) ∙ sym c.get.ensures.value
+          ∙ not_yet c.get.result (sym c.is_some.ensures ∙ c.if-is_some.false);
+      there = subst (λ i. lookup (is_at (nat_cmp i)) c.insert.new.self.entries ≡ Some c.args.piece) at u.1;
+      others = λ i ne. u.2 i (is_elsewhere k i (λ e. ne (sym e ∙ at))) ∙ ap (λ (s : StagingData). piece_at s i) c.self.view_is;
+    }
 
 -- what is found has come
 already : (found : Option (Bor PieceData)) → is_some found ≡ true → (p : PieceData) × (option_copied found ≡ Some p)

@@ -1,10 +1,22 @@
 use Rattle.std.proofs.Common.{◌≡◌, ◌+◌, ◌-◌, Some, sym, subst, arith}
+use Rattle.std.proofs.lemmas.Bool.{false≢true}
 use Rattle.messages.specs.Pieces.{PieceData}
 use Rattle.hydration.specs.Stagings.{piece_at}
 use Rattle.hydration.specs.Placing.{CanFollow}
 use Rattle.messages.specs.declared.pieces.PieceContent.{PieceContent}
-use Rattle.hydration.proofs.Placed.{stands, follows}
+use Rattle.hydration.proofs.Placed.{stands, follows, none_before, none_there}
 use Rattle.hydration.proofs.staging.Staging.can_stand.Goals as goal
+
+pub returns-in_default : goal.returns-in_default
+returns-in_default c =
+    let index = c.args.index in let next : index - 1 + 1 ≡ index = omega (arith, c.requires.behind) in
+    (λ h. absurd (false≢true h), λ can. absurd (none_before c.args.self.now (index - 1) index next (sym c.in_default.ensures.value) can))
+
+pub returns-in_default-get : goal.returns-in_default-get
+returns-in_default-get c = (
+  λ h. absurd (false≢true h),
+  λ can. absurd (none_there c.args.self.now c.args.index c.requires.behind (sym c.in_default-get.ensures.value) can),
+)
 
 pub returns : goal.returns
 returns c =
