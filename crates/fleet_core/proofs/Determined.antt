@@ -1,9 +1,9 @@
 -- A step that was carried out has one reply, and a script has one list of replies.
 use Rattle.std.proofs.Common.{◌≡◌, ℕ, ◌+◌, ◌-◌, ◌≤◌, ◌⊎◌, ⊎_elim, ◌↔◌, Bool, IsTrue, List, [], rules}
 use Rattle.std.proofs.Common.{◌∷◌, ◌++◌, refl, sym, ap, ◌∙◌, subst, arith, Option, Some, None}
-use Rattle.std.proofs.lemmas.Grind.{common_steps}
 use Rattle.std.specs.Prelude.{MatchOption, length}
 use Rattle.std.specs.List.{Contains, AllByRecursion}
+use Rattle.std.proofs.lemmas.List.Elements.{Contains-append_cases}
 use Rattle.redo_core.specs.Sets.{IsPart}
 use Rattle.redo_core.specs.Keys.{KeyBefore}
 use Rattle.redo_core.specs.Position.{Position, IsPosition}
@@ -20,7 +20,7 @@ use Rattle.redo_core.proofs.Pairs.{pair_apart}
 use Rattle.state_laws.specs.Gossip.{AnswersFor}
 use Rattle.gossip_core.specs.declared.answering.Shown.{Shown}
 use Rattle.gossip_core.specs.declared.answering.Shown.TheVariants.{Anchor as OfAnchor, Key as OfKey}
-use Rattle.redo_core.proofs.Members.{none_in}
+use Rattle.redo_core.proofs.Members.{none_in, which}
 use Rattle.redo_core.proofs.Listing.{all_push}
 use Rattle.redo_laws.proofs.Union.{both}
 use Rattle.fleet_steps.specs.Nodes.{node_of, other_of, nodes_of, first_missing}
@@ -207,7 +207,11 @@ one_reply roster log m x r s sound of h k come came =
 -- ---- scripts
 
 with_one : (log facts : List Fact) (fact : Fact) → IsPart facts log → Contains log fact → IsPart (facts ++ fact ∷ []) log
-with_one log facts fact part among = grind (arith, common_steps)
+with_one log facts fact part among x h =
+    ⊎_elim
+    (part x)
+    (λ (y : Contains (fact ∷ []) x). ⊎_elim (λ (e : fact ≡ x). subst (Contains log) e among) (λ (none : Contains [] x). absurd (none_in x none)) (which fact [] x y))
+    (Contains-append_cases facts (fact ∷ []) x h)
 
 brought_part : (log : List Fact) (o : Option (List Fact × List Fact)) → ((x : List Fact × List Fact) → o ≡ Some x → IsPart x.0 log × IsPart x.1 log)
     → IsPart (brought_by o) log

@@ -1,5 +1,6 @@
 ghost use Rattle.std.specs.Prelude.{◌≡◌};
 ghost use Rattle.std.specs.Option.{option_copied, option_map};
+ghost use Rattle.fleet_core.specs.Machine.{numbered as message_numbered};
 ghost use Rattle.fleet_core.specs.Messages.{question_in, answer_in};
 
 use messages::{Delta, Summary};
@@ -17,7 +18,7 @@ pub enum Made {
 pub fn question(messages: &[Made], number: usize) -> Option<&Summary>
     ensures { option_copied result ≡ question_in messages.now number }
 {
-    match messages.get(number.checked_sub(1)?) {
+    match numbered(messages, number) {
         Some(Made::Question(summary)) => Some(summary),
         _ => None,
     }
@@ -27,7 +28,7 @@ pub fn question(messages: &[Made], number: usize) -> Option<&Summary>
 pub fn answer(messages: &[Made], number: usize) -> Option<(&Summary, &Delta)>
     ensures { option_map (λ x. (x.0.now, x.1.now)) result ≡ answer_in messages.now number }
 {
-    match messages.get(number.checked_sub(1)?) {
+    match numbered(messages, number) {
         Some(
             Made::Answer {
                 question: asked,
@@ -39,4 +40,11 @@ pub fn answer(messages: &[Made], number: usize) -> Option<(&Summary, &Delta)>
         },
         _ => None,
     }
+}
+
+/// The message of a number, counted from 1; None where there is none.
+fn numbered(messages: &[Made], number: usize) -> Option<&Made>
+    ensures { option_copied result ≡ message_numbered messages.now number }
+{
+    messages.get(number.checked_sub(1)?)
 }

@@ -1,4 +1,4 @@
-use Rattle.std.proofs.Common.{◌≡◌, ◌+◌, List, [], ◌∷◌, ◌++◌, take, sym, ap, ◌∙◌, subst, arith, rules, add-one}
+use Rattle.std.proofs.Common.{◌≡◌, ◌+◌, List, [], ◌∷◌, ◌++◌, take, take_all, sym, ap, ◌∙◌, subst, arith, rules, add-one}
 use Rattle.std.proofs.Math.Seq.{take-suc}
 use Rattle.std.proofs.lemmas.Grind.{common_steps}
 use Rattle.redo_core.specs.declared.facts.Fact.{Fact}
@@ -30,3 +30,13 @@ loop-step-preserved c =
       count = search rules;
       room = omega (arith, c.push.ensures.capacity, c.loop-step.invariant.room);
     }
+
+pub returns-clause-follows : goal.returns-clause-follows
+returns-clause-follows c =
+    subst (λ (xs : List (Step Fact)). FollowsMachine c.args.self.now xs c.loop-step.replies.items c.loop-step.self)
+    (take_all c.loop-step.step-index c.args.steps.now c.loop-step-test.false) c.loop-step.invariant.follows
+
+pub returns-clause-calls : goal.returns-clause-calls
+returns-clause-calls c =
+    subst (λ (xs : List (Step Fact)). RunCalls c.args.self.now xs c.loop-step.replies.items c.loop-step.self)
+    (take_all c.loop-step.step-index c.args.steps.now c.loop-step-test.false) c.loop-step.invariant.calls
