@@ -1,6 +1,12 @@
-use Rattle.std.proofs.Common.{rules}
 use Rattle.read_cache.proofs.Current.{after_commit}
 use Rattle.read_cache.proofs.cached.CachedSegment.commit_fold.Goals as goal
 
 pub invariant_of-self : goal.invariant_of-self
-invariant_of-self c = search (rules, after_commit)
+invariant_of-self c = let i = c.self.inside in
+    after_commit i.segment c.commit_fold.new.self c.args.folded i.top i.images c.forget.new.self c.in-Ok.ensures.commits c.forget.ensures.forgets c.self.invariant
+
+pub returns-in-Ok-clause-commits : goal.returns-in-Ok-clause-commits
+returns-in-Ok-clause-commits c = rw (← c.self.view_is) c.in-Ok.ensures.commits
+
+pub returns-in-Ok-clause-keeps : goal.returns-in-Ok-clause-keeps
+returns-in-Ok-clause-keeps c = rw (← c.self.view_is) c.in-Ok.ensures.keeps

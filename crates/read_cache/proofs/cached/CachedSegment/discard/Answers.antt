@@ -9,3 +9,9 @@ invariant_of-self c = let i = c.self.inside in
     c.clear_if.ensures.cleared c.clear_if.ensures.same
     (λ fresh. after_discard i.segment c.discard.new.self i.top c.front.result.complete i.images.entries c.discard.ensures.discards
     c.front.ensures.own.complete (ltb-false c.front.result.complete i.top fresh) c.self.invariant)
+
+pub returns-clause-discards : goal.returns-clause-discards
+returns-clause-discards c = rw (← c.self.view_is) c.discard.ensures.discards
+
+pub returns-clause-keeps : goal.returns-clause-keeps
+returns-clause-keeps c = rw (← c.self.view_is) c.discard.ensures.keeps

@@ -11,3 +11,9 @@ returns-in-Err-clause-broken c = rw (← c.self.view_is) c.in-Err.ensures.broken
 
 pub returns-in-Err-clause-refused : goal.returns-in-Err-clause-refused
 returns-in-Err-clause-refused c = rw (← c.self.view_is) c.in-Err.ensures.refused
+
+pub returns-in-Ok-clause-tidies : goal.returns-in-Ok-clause-tidies
+returns-in-Ok-clause-tidies c = rw (← c.self.view_is) c.in-Ok.ensures.tidies
+
+pub returns-in-Ok-clause-keeps : goal.returns-in-Ok-clause-keeps
+returns-in-Ok-clause-keeps c = rw (← c.self.view_is) c.in-Ok.ensures.keeps
