@@ -17,3 +17,6 @@ returns-in-Ok-clause-tidies c = rw (← c.self.view_is) c.in-Ok.ensures.tidies
 
 pub returns-in-Ok-clause-keeps : goal.returns-in-Ok-clause-keeps
 returns-in-Ok-clause-keeps c = rw (← c.self.view_is) c.in-Ok.ensures.keeps
+
+pub invariant_of-self-in-Err : goal.invariant_of-self-in-Err
+invariant_of-self-in-Err c = rw c.in-Err.ensures.unchanged c.self.invariant
