@@ -24,10 +24,16 @@ with_said front rest = within (λ xs. front ++ xs) rest
 one_more : {A : Type 0} (front : List A) (x : A) (r : Result (List A) ℕ) → with_said front (within (λ xs. x ∷ xs) r) ≡ with_said (front ++ x ∷ []) r
 one_more front x r = grind (arith, common_steps)
 
-pub said_next : {A : Type 0} (said : List ℕ → Option A) (count at : ℕ) (front : List A) (text line behind : List ℕ) (x : A)
+said_next : {A : Type 0} (said : List ℕ → Option A) (count at : ℕ) (front : List A) (text line behind : List ℕ) (x : A)
     → parts_at 10 text ≡ line ∷ parts_at 10 behind → count < most → said line ≡ Some x
     → with_said front (lines_from said count at (parts_at 10 text)) ≡ with_said (front ++ x ∷ []) (lines_from said (count + 1) (at + 1) (parts_at 10 behind))
 said_next said count at front text line behind x e few is = search (rules, some_parts, one_more)
+
+pub said_onto : {A : Type 0} (said : List ℕ → Option A) (at : ℕ) (front more : List A) (text line behind : List ℕ) (x : A)
+    → parts_at 10 text ≡ line ∷ parts_at 10 behind → length front < most → said line ≡ Some x → more ≡ front ++ x ∷ []
+    → with_said more (lines_from said (length more) (at + length more) (parts_at 10 behind)) ≡ with_said front
+    (lines_from said (length front) (at + length front) (parts_at 10 text))
+said_onto said at front more text line behind x e few is is_more = grind (arith, common_steps, said_next)
 
 -- a line that says nothing
 pub said_bad : {A : Type 0} (said : List ℕ → Option A) (count at : ℕ) (text line behind : List ℕ) → parts_at 10 text ≡ line ∷ parts_at 10 behind

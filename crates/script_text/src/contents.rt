@@ -7,7 +7,7 @@ ghost use Rattle.script_text.specs.Parts.{parts_at};
 ghost use Rattle.script_text.specs.Fields.{field_of};
 ghost use Rattle.script_text.specs.FactLine.{write_of, fill_of, patch_of, each_patch, contents_of, FitNoRecord, record_of_patches, record_of_contents};
 
-use crate::fields::first_part;
+use crate::fields::{first_part, is_word};
 use crate::hexed::{decoded, put_bytes};
 use crate::limits::{PAGE, SHORT};
 use crate::number::{number, number_before};
@@ -213,10 +213,12 @@ pub(crate) fn of_word(alloc: Global, head: Head, text: &[u8]) -> Result<Option<F
     requires { parts_at 44 text.now ≡ text.now ∷ [] }
     ensures { IfOk result (λ o. o ≡ record_of_contents head (contents_of text.now)) }
 {
-    match text {
-        b"-" => Ok(of_list(head, false, Vec::new(alloc))),
-        b"init" => Ok(of_list(head, true, Vec::new(alloc))),
-        _ => of_one(alloc, head, false, text),
+    if is_word(text, b"-") {
+        Ok(of_list(head, false, Vec::new(alloc)))
+    } else if is_word(text, b"init") {
+        Ok(of_list(head, true, Vec::new(alloc)))
+    } else {
+        of_one(alloc, head, false, text)
     }
 }
 
@@ -228,7 +230,7 @@ pub fn record_of(alloc: Global, head: Head, text: &[u8]) -> Result<Option<Fact>,
     let Some((front, behind)) = first_part(text, b',') else {
         return of_word(alloc, head, text);
     };
-    if front == b"init".as_slice() {
+    if is_word(front, b"init") {
         anew(alloc, head, behind)
     } else {
         of_many(alloc, head, false, text)

@@ -8,7 +8,7 @@ ghost use Rattle.script_text.specs.Fields.{numbers_then};
 ghost use Rattle.script_text.specs.FactLine.{shaped, head_numbers, record_limits, record_line, cut_line, advance_line, fact_line, fact_of};
 
 use crate::contents::{Head, of_word, record_of};
-use crate::fields::{first_part, is_one_part};
+use crate::fields::{first_part, is_one_part, is_word};
 use crate::limits::SHORT;
 use crate::number::{field, first_field, last_field, three_fields};
 use redo_core::{Advance, Cut, Fact, MAX_NUMBER, MAX_READERS};
@@ -93,11 +93,14 @@ fn advance_line(fields: &[u8]) -> Option<Fact>
 fn fact_line(alloc: Global, word: &[u8], fields: &[u8]) -> Result<Option<Fact>, AllocError>
     ensures { IfOk result (λ o. o ≡ fact_line (word.now ∷ parts_at 32 fields.now)) }
 {
-    match word {
-        b"rec" => record_line(alloc, fields),
-        b"cut" => Ok(cut_line(fields)),
-        b"min" => Ok(advance_line(fields)),
-        _ => Ok(None),
+    if is_word(word, b"rec") {
+        record_line(alloc, fields)
+    } else if is_word(word, b"cut") {
+        Ok(cut_line(fields))
+    } else if is_word(word, b"min") {
+        Ok(advance_line(fields))
+    } else {
+        Ok(None)
     }
 }
 

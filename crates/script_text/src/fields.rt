@@ -1,6 +1,6 @@
 //! The parts of a text round a separator: lines, fields, writes.
 
-ghost use Rattle.std.specs.Prelude.{◌≡◌, ◌↔◌, ◌<◌, ◌==◌, [], ◌∷◌, IfOk, IfSome, IfNone, IsTrue, length, map, position};
+ghost use Rattle.std.specs.Prelude.{bytes_eq, ◌≡◌, ◌↔◌, ◌<◌, ◌==◌, [], ◌∷◌, IfOk, IfSome, IfNone, IsTrue, length, map, position};
 ghost use Rattle.script_text.specs.Parts.{parts_at, first_parts};
 
 use memchr::{memchr, memchr2};
@@ -46,4 +46,11 @@ pub fn is_one_part(text: &[u8], separator: u8, other: u8) -> bool
     ensures { IsTrue result ↔ (parts_at separator text.now ≡ text.now ∷ []) × (parts_at other text.now ≡ text.now ∷ []) }
 {
     memchr2(separator, other, text).is_none()
+}
+
+/// Whether the text is that word.
+pub fn is_word(text: &[u8], word: &[u8]) -> bool
+    ensures { result ≡ bytes_eq text.now word.now }
+{
+    text == word
 }

@@ -5,7 +5,7 @@ ghost use Rattle.script_text.specs.Parts.{parts_at};
 ghost use Rattle.script_text.specs.Fields.{made_by};
 ghost use Rattle.script_text.specs.Script.{opening_with, opening_of, roster_form, roster_in_line};
 
-use crate::fields::first_part;
+use crate::fields::{first_part, is_word};
 use crate::number::last_field;
 use redo_core::{MAX_READERS, Roster};
 
@@ -31,7 +31,7 @@ fn roster(line: &[u8]) -> Option<Roster>
     ensures { result ≡ roster_in_line line.now }
 {
     let (word, field) = first_part(line, b' ')?;
-    if word == b"roster".as_slice() {
+    if is_word(word, b"roster") {
         readers(field)
     } else {
         None

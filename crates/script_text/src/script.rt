@@ -10,7 +10,7 @@ ghost use Rattle.script_text.specs.Outcome.{Gives, log_data, script_data, asked_
 ghost use Rattle.script_text.specs.declared.script.ScriptError.TheVariants.{Memory};
 
 use crate::fact_line::{fact, shared_fact};
-use crate::fields::first_part;
+use crate::fields::{first_part, is_word};
 use crate::number::last_field;
 use crate::opening::read_opening;
 use crate::step_line::step;
@@ -118,7 +118,7 @@ fn nodes(line: &[u8]) -> Option<u16>
     ensures { result ≡ nodes_in_line line.now }
 {
     let (word, field) = first_part(line, b' ')?;
-    if word == b"nodes".as_slice() {
+    if is_word(word, b"nodes") {
         count(field)
     } else {
         None
@@ -154,7 +154,7 @@ fn script_lines(alloc: Global, text: &[u8], at: usize) -> Result<Asked, ScriptEr
     let mut rest = text;
     while let Some((line, behind)) = first_part(rest, b'\n') {
         let here = at + facts.len();
-        if line == b"go".as_slice() {
+        if is_word(line, b"go") {
             return after_go(alloc, behind, facts, here + 1);
         }
         if facts.len() >= MOST {

@@ -3,10 +3,10 @@
 ghost use Rattle.std.specs.Prelude.{◌≡◌, ◌≤◌, ◌∷◌};
 ghost use Rattle.script_text.specs.Parts.{parts_at};
 ghost use Rattle.script_text.specs.Script.{most};
-ghost use Rattle.script_text.specs.Fields.{made_by};
-ghost use Rattle.script_text.specs.StepLine.{take_form, fold_form, discard_form, front_form, read_form, join_form, same_form, covers_form, wipe_form, ask_form, answer_form, absorb_form, step_line, step_of};
+ghost use Rattle.script_text.specs.Fields.{made_by, read_by};
+ghost use Rattle.script_text.specs.StepLine.{take_form, fold_form, discard_form, front_form, read_form, join_form, same_form, covers_form, wipe_form, ask_form, answer_form, absorb_form, message_forms, step_line, step_of};
 
-use crate::fields::first_part;
+use crate::fields::{first_part, is_word};
 use crate::limits::{MESSAGE, PAGE, SHORT};
 use crate::number::{field, last_field, three_fields, two_fields};
 use fleet_steps::Step;
@@ -135,38 +135,56 @@ fn absorb(fields: &[u8]) -> Option<Step<usize>>
     })
 }
 
+/// The step of a message, by its word and the fields behind it.
+fn message_line(word: &[u8], fields: &[u8]) -> Option<Step<usize>>
+    ensures { result ≡ read_by message_forms (word.now ∷ parts_at 32 fields.now) }
+{
+    if is_word(word, b"ask") {
+        ask(fields)
+    } else if is_word(word, b"answer") {
+        answer(fields)
+    } else if is_word(word, b"absorb") {
+        absorb(fields)
+    } else {
+        None
+    }
+}
+
+/// The step of a node that comes, goes, or is held against another, or of a message.
+fn node_line(word: &[u8], fields: &[u8]) -> Option<Step<usize>>
+    ensures { result ≡ read_by (join_form ∷ same_form ∷ covers_form ∷ wipe_form ∷ message_forms) (word.now ∷ parts_at 32 fields.now) }
+{
+    if is_word(word, b"join") {
+        join(fields)
+    } else if is_word(word, b"same") {
+        same(fields)
+    } else if is_word(word, b"covers") {
+        covers(fields)
+    } else if is_word(word, b"wipe") {
+        wipe(fields)
+    } else {
+        message_line(word, fields)
+    }
+}
+
 /// The step of a word and the fields behind it, behind that many facts.
 #[tactic(auto, unfolding(crate::specs::StepLine::step_line))]
 fn step_line(facts: usize, word: &[u8], fields: &[u8]) -> Option<Step<usize>>
     requires { facts ≤ most }
     ensures { result ≡ step_line facts (word.now ∷ parts_at 32 fields.now) }
 {
-    if word == b"take".as_slice() {
+    if is_word(word, b"take") {
         take(facts, fields)
-    } else if word == b"fold".as_slice() {
+    } else if is_word(word, b"fold") {
         fold(fields)
-    } else if word == b"discard".as_slice() {
+    } else if is_word(word, b"discard") {
         discard(fields)
-    } else if word == b"front".as_slice() {
+    } else if is_word(word, b"front") {
         front(fields)
-    } else if word == b"read".as_slice() {
+    } else if is_word(word, b"read") {
         read(fields)
-    } else if word == b"join".as_slice() {
-        join(fields)
-    } else if word == b"same".as_slice() {
-        same(fields)
-    } else if word == b"covers".as_slice() {
-        covers(fields)
-    } else if word == b"wipe".as_slice() {
-        wipe(fields)
-    } else if word == b"ask".as_slice() {
-        ask(fields)
-    } else if word == b"answer".as_slice() {
-        answer(fields)
-    } else if word == b"absorb".as_slice() {
-        absorb(fields)
     } else {
-        None
+        node_line(word, fields)
     }
 }
 

@@ -1,6 +1,6 @@
-use Rattle.std.proofs.Common.{arith}
+use Rattle.std.proofs.Common.{arith, rules}
 use Rattle.std.proofs.lemmas.Grind.{common_steps}
-use Rattle.script_text.proofs.Lines.{said_next, said_bad, said_past}
+use Rattle.script_text.proofs.Lines.{said_onto, said_bad, said_past}
 use Rattle.script_text.proofs.script.facts.Goals as goal
 
 pub returns-then-len-ge-MOST : goal.returns-then-len-ge-MOST
@@ -10,4 +10,4 @@ pub returns-in_default-2 : goal.returns-in_default-2
 returns-in_default-2 c = grind (arith, common_steps, said_bad)
 
 pub loop-line-preserved : goal.loop-line-preserved
-loop-line-preserved c = record { so_far = grind (arith, common_steps, said_next); few = grind (arith, common_steps) }
+loop-line-preserved c = search (rules, said_onto)
