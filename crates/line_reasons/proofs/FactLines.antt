@@ -18,6 +18,7 @@ use Rattle.line_reasons.specs.declared.reasons.NumberFault.{NumberFault}
 use Rattle.line_reasons.specs.declared.reasons.LineReason.{LineReason}
 use Rattle.line_reasons.specs.declared.reasons.LineReason.TheVariants.{CarriageReturn, UnknownWord, FieldCount, AdvanceFieldCount, Field, Zero, PastPage, ManyPatches, Patch, Shape}
 use Rattle.line_reasons.specs.FieldReasons.{IsFaultAt}
+use Rattle.line_reasons.specs.ContentsReasons.{IsContentsReason}
 use Rattle.line_reasons.specs.FactReasons.{IsShape, fault_with, IsRecordReason, IsCutReason, cut_limits, advance_limits, IsFaultyAdvance, IsAdvanceReason, IsFactReason}
 use Rattle.line_reasons.proofs.Faults.{number_fault, field_reason}
 use Rattle.line_reasons.proofs.FormLines.{unread_numbers}
@@ -199,6 +200,20 @@ pub record_judged : (fields : List (List ℕ)) (o : Option LineReason) (head : H
 record_judged fields None head c six numbers spelled h = rw (record_made fields head c six numbers spelled, h) refl
 record_judged fields (Some (Shape fault)) head c six numbers spelled h = record { head = head; contents = c; many = six; numbers = numbers; spelled = spelled; faulty = h }
 record_judged fields (Some _) head c six numbers spelled h = absurd h
+
+-- the contents of a record are wrong
+pub contents_judged : (fields : List (List ℕ)) (word : List ℕ) (reason : LineReason) → get_or fields 5 [] ≡ word → IsContentsReason word reason
+    → IsRecordReason fields reason
+contents_judged fields word ManyPatches e h = rw e h
+contents_judged fields word (Patch at fault) e h = rw e h
+contents_judged fields word (FieldCount wanted) e h = absurd h.1
+contents_judged fields word (Field at fault) e h = absurd h.1
+contents_judged fields word (Shape fault) e h = absurd h.1
+contents_judged fields word CarriageReturn e h = absurd h.1
+contents_judged fields word UnknownWord e h = absurd h.1
+contents_judged fields word AdvanceFieldCount e h = absurd h.1
+contents_judged fields word (Zero at) e h = absurd h.1
+contents_judged fields word PastPage e h = absurd h.1
 
 -- ---- by the word
 

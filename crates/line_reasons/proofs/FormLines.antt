@@ -16,10 +16,6 @@ pub unread_numbers : {A : Type 0} (limits : List ℕ) (fields : List (List ℕ))
     → (numbers_of limits fields >>= make) ≡ None
 unread_numbers limits fields make e = ap (λ (o : Option (List ℕ)). o >>= make) e
 
--- the test of a word against a constant
-pub same_test : (word other constant : List ℕ) (test is : Bool) → test ≡ bytes_eq word other → other ≡ constant → test ≡ is → bytes_eq word constant ≡ is
-same_test word other constant test is e same tested = rw (← same, ← e) tested
-
 -- what holds by a test, of the two sides
 pub by_test : {A : Type 0} (b : Bool) (P Q : Type 0) (x y : Option A) → (P → x ≡ None) → (Q → y ≡ None) → MatchBool b P Q → cond b x y ≡ None
 by_test b P Q x y p q h = search rules

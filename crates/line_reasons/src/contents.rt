@@ -4,6 +4,7 @@ ghost use Rattle.std.specs.Prelude.{◌≡◌, Some, IfOk, MatchResult, map};
 ghost use Rattle.script_text.specs.FactLine.{each_patch, contents, contents_of};
 ghost use Rattle.line_reasons.specs.ContentsReasons.{begins_anew, patch_words, IsListReason, IsContentsReason};
 
+use crate::forms::is_word;
 use crate::patches::patch_fault;
 use crate::reasons::LineReason;
 use redo_core::{MAX_PATCHES, Patch};
@@ -23,7 +24,7 @@ fn patch_words<'a>(parts: &'a [&'a [u8]]) -> (bool, &'a [&'a [u8]])
     ensures words { map (λ x. x.now) result.1.now ≡ patch_words (map (λ x. x.now) parts.now) }
 {
     match parts {
-        [word, words @ ..] if *word == b"init".as_slice() => (true, words),
+        [word, words @ ..] if is_word(word, b"init") => (true, words),
         _ => (false, parts),
     }
 }
@@ -47,7 +48,7 @@ fn patches(alloc: Global, words: &[&[u8]]) -> Result<Result<Vec<Patch>, LineReas
 pub fn read_contents(alloc: Global, word: &[u8]) -> Result<Result<Contents, LineReason>, AllocError>
     ensures { IfOk result (λ r. MatchResult r (λ c. contents_of word.now ≡ Some (contents c.init c.patches.items)) (IsContentsReason word.now)) }
 {
-    if word == b"-".as_slice() {
+    if is_word(word, b"-") {
         return Ok(Ok(Contents {
             init: false,
             patches: Vec::new(alloc),

@@ -7,6 +7,7 @@ ghost use Rattle.script_text.specs.FactLine.{record_line, cut_line, advance_line
 ghost use Rattle.line_reasons.specs.FactReasons.{IsShape, IsRecordReason, IsCutReason, IsAdvanceReason, IsFactReason};
 
 use crate::contents::{Contents, read_contents};
+use crate::forms::is_word;
 use crate::limits::{READERS, SHORT};
 use crate::numbers::numbers;
 use crate::reasons::LineReason;
@@ -98,11 +99,11 @@ pub fn fact(alloc: Global, word: &[u8], fields: &[&[u8]]) -> Result<Option<LineR
     ensures { IfOk result (λ o. MatchOption o (IsSome (fact_line (word.now ∷ map (λ x. x.now) fields.now)))
         (IsFactReason (word.now ∷ map (λ x. x.now) fields.now))) }
 {
-    if word == b"rec".as_slice() {
+    if is_word(word, b"rec") {
         record(alloc, fields)
-    } else if word == b"cut".as_slice() {
+    } else if is_word(word, b"cut") {
         Ok(cut(fields).err())
-    } else if word == b"min".as_slice() {
+    } else if is_word(word, b"min") {
         Ok(advance(fields).err())
     } else {
         Ok(Some(LineReason::UnknownWord))

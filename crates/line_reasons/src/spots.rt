@@ -4,6 +4,7 @@ ghost use Rattle.std.specs.Prelude.{◌≡◌, ◌≤◌, ◌<◌, ◌↔◌, le
 ghost use Rattle.script_text.specs.Parts.{parts_at};
 ghost use Rattle.line_reasons.specs.Spots.{go_with, IsSpot};
 
+use crate::forms::is_word;
 use script_text::first_part;
 
 /// A line of a text.
@@ -23,7 +24,7 @@ fn first_go(is_script: bool, go: Option<usize>, before: usize, line: &[u8]) -> O
     ensures { result ≡ (if is_script then go_with go before line.now else go) }
 {
     match go {
-        None if is_script && line == b"go".as_slice() => Some(before),
+        None if is_script && is_word(line, b"go") => Some(before),
         _ => go,
     }
 }

@@ -2,10 +2,10 @@
 
 ghost use Rattle.std.specs.Prelude.{◌∷◌, IsSome, MatchResult, map};
 ghost use Rattle.script_text.specs.Fields.{made_by, read_by};
-ghost use Rattle.script_text.specs.StepLine.{take_form, fold_form, discard_form, front_form, read_form, join_form, same_form, covers_form, wipe_form, ask_form, answer_form, absorb_form, step_forms};
+ghost use Rattle.script_text.specs.StepLine.{take_form, fold_form, discard_form, front_form, read_form, join_form, same_form, covers_form, wipe_form, ask_form, answer_form, absorb_form, message_forms, step_forms};
 ghost use Rattle.line_reasons.specs.FormReasons.{IsFormReason, IsReasonBy};
 
-use crate::forms::plain;
+use crate::forms::{is_word, plain};
 use crate::limits::{MESSAGE, PAGE, SHORT};
 use crate::numbers::numbers;
 use crate::reasons::LineReason;
@@ -94,36 +94,56 @@ fn absorb(fields: &[&[u8]]) -> Result<(), LineReason>
     plain([SHORT, MESSAGE], fields)
 }
 
+/// The fields of a message.
+fn message(word: &[u8], fields: &[&[u8]]) -> Result<(), LineReason>
+    ensures { MatchResult result (λ _. IsSome (read_by message_forms (word.now ∷ map (λ x. x.now) fields.now)))
+        (IsReasonBy message_forms (word.now ∷ map (λ x. x.now) fields.now)) }
+{
+    if is_word(word, b"ask") {
+        ask(fields)
+    } else if is_word(word, b"answer") {
+        answer(fields)
+    } else if is_word(word, b"absorb") {
+        absorb(fields)
+    } else {
+        Err(LineReason::UnknownWord)
+    }
+}
+
+/// The fields of a node that comes, goes, or is held against another, or of a message.
+fn node(word: &[u8], fields: &[&[u8]]) -> Result<(), LineReason>
+    ensures { MatchResult result (λ _. IsSome (read_by (join_form ∷ same_form ∷ covers_form ∷ wipe_form ∷ message_forms) (word.now ∷ map (λ x. x.now) fields.now)))
+        (IsReasonBy (join_form ∷ same_form ∷ covers_form ∷ wipe_form ∷ message_forms) (word.now ∷ map (λ x. x.now) fields.now)) }
+{
+    if is_word(word, b"join") {
+        join(fields)
+    } else if is_word(word, b"same") {
+        same(fields)
+    } else if is_word(word, b"covers") {
+        covers(fields)
+    } else if is_word(word, b"wipe") {
+        wipe(fields)
+    } else {
+        message(word, fields)
+    }
+}
+
 /// The fields of a step line behind that many facts.
 pub fn step(facts: u32, word: &[u8], fields: &[&[u8]]) -> Result<(), LineReason>
     ensures { MatchResult result (λ _. IsSome (read_by (step_forms facts) (word.now ∷ map (λ x. x.now) fields.now)))
         (IsReasonBy (step_forms facts) (word.now ∷ map (λ x. x.now) fields.now)) }
 {
-    if word == b"take".as_slice() {
+    if is_word(word, b"take") {
         take(facts, fields)
-    } else if word == b"fold".as_slice() {
+    } else if is_word(word, b"fold") {
         fold(fields)
-    } else if word == b"discard".as_slice() {
+    } else if is_word(word, b"discard") {
         discard(fields)
-    } else if word == b"front".as_slice() {
+    } else if is_word(word, b"front") {
         front(fields)
-    } else if word == b"read".as_slice() {
+    } else if is_word(word, b"read") {
         read(fields)
-    } else if word == b"join".as_slice() {
-        join(fields)
-    } else if word == b"same".as_slice() {
-        same(fields)
-    } else if word == b"covers".as_slice() {
-        covers(fields)
-    } else if word == b"wipe".as_slice() {
-        wipe(fields)
-    } else if word == b"ask".as_slice() {
-        ask(fields)
-    } else if word == b"answer".as_slice() {
-        answer(fields)
-    } else if word == b"absorb".as_slice() {
-        absorb(fields)
     } else {
-        Err(LineReason::UnknownWord)
+        node(word, fields)
     }
 }

@@ -6,7 +6,7 @@ ghost use Rattle.script_text.specs.Script.{roster_in_line, opening_of};
 ghost use Rattle.line_reasons.specs.TextReasons.{IsLineReason, IsReadInPlace, IsEndedReason, IsGoodEnded, IsRestReason, IsGoodRest, IsTextReason, IsGoodLine};
 ghost use Rattle.line_reasons.specs.LineReasons.{IsReadThere};
 
-use crate::forms::counted;
+use crate::forms::{counted, is_word};
 use crate::limits::{LINES, READERS};
 use crate::lines::{Place, line_reason};
 use crate::reasons::TextReason;
@@ -107,7 +107,7 @@ fn ended_reason(
     if let Some(go) = spot.go {
         return reason_behind(alloc, go, opening, spot.before, spot.line);
     }
-    if is_script && spot.line == b"go".as_slice() {
+    if is_script && is_word(spot.line, b"go") {
         return Ok(None);
     }
     if spot.before - opening >= LINES {

@@ -1,10 +1,9 @@
 use Rattle.std.proofs.Common.{◌≡◌, ℕ, List, [], Bor, Some, length, map, take, ap, ◌∙◌, arith}
-use Rattle.std.proofs.lemmas.Grind.{common_steps}
 use Rattle.std.proofs.lemmas.List.{length-map, take-map, get_or-map}
 use Rattle.script_text.specs.Fields.{numbers_of}
 use Rattle.script_text.specs.FactLine.{record_limits, contents_of}
 use Rattle.line_reasons.proofs.FormLines.{numbers_long, five_are}
-use Rattle.line_reasons.proofs.FactLines.{record_judged}
+use Rattle.line_reasons.proofs.FactLines.{record_judged, contents_judged}
 use Rattle.line_reasons.proofs.facts.record.Goals as goal
 
 pub returns-in-Ok-2 : goal.returns-in-Ok-2
@@ -19,4 +18,7 @@ returns-in-Ok-2 c =
     record_judged fields c.shaped_record.result _ _ six numbers (ap (λ (t : List ℕ). contents_of t) word ∙ (rw c.in-Ok-2.is at c.in_ok-contents.ensures)) c.shaped_record.ensures
 
 pub returns-in-Err-2 : goal.returns-in-Err-2
-returns-in-Err-2 c = grind (arith, common_steps)
+returns-in-Err-2 c =
+    let now = λ (x : Bor (List ℕ)). x.now in
+    contents_judged (map now c.args.fields.now) _ _ (get_or-map now c.args.fields.now 5 _ [] (omega (arith, c.if-fields-ne6.false)))
+    (rw c.in-Err-2.is at c.in_ok-contents.ensures)
