@@ -1,5 +1,6 @@
 -- Patches are read exactly where they are spelled.
 use Rattle.std.proofs.Common.{◌≡◌, ℕ, ◌<◌, ◌≤◌, inl, inr, Bool, true, false, eqb, List, [], ◌∷◌, ◌++◌, length, Some, Result, Ok, codes, refl, sym, ap, ◌∙◌, subst, arith, rules}
+use Rattle.std.proofs.lemmas.Option.{none-some}
 use Rattle.std.specs.Prelude.{bytes_eq}
 use Rattle.std.specs.Char.{is_ascii_digit}
 use Rattle.std.specs.Fmt.{decimal}
@@ -181,7 +182,7 @@ each_patch_is_read (t ∷ ts) (p ∷ ps) h = rw (patch_is_read t p h.0, each_pat
 -- the word init is no patch
 init_is_no_patch : (p : Patch) → patch_of (codes "init") ≡ Some p → ⊥
 unfolding patch_from
-init_is_no_patch p h = cc
+init_is_no_patch p h = none-some p h
 
 no_init : (text : List ℕ) (p : Patch) → SpellsPatch text p → bytes_eq text (codes "init") ≡ false
 no_init text p s = search (rules, init_is_no_patch, patch_is_read)

@@ -2,6 +2,7 @@
 use Rattle.std.proofs.Common.{◌≡◌, ℕ, ◌<◌, inl, inr, List, [], ◌∷◌, ◌++◌, length, Some, None, Result, Ok, codes, refl, sym, ap, ◌∙◌, subst, arith, rules}
 use Rattle.std.specs.List.{All, AllByRecursion, AllZip}
 use Rattle.std.proofs.lemmas.List.Elements.{All-from_recursion}
+use Rattle.std.proofs.lemmas.Option.{none-some}
 use Rattle.std.proofs.lemmas.Slice.Zip.{AllZip-long}
 use Rattle.redo_core.specs.declared.facts.Fact.{Fact}
 use Rattle.fleet_steps.specs.declared.steps.Step.{Step}
@@ -28,7 +29,7 @@ roster_is_read line roster h = count_is_read (codes "roster") line 15 roster (om
 
 roster_line_is_no_fact : (line : List ℕ) (roster : ℕ) (f : Fact) → Counts (codes "roster") 15 line roster → fact_of line ≡ Some f → ⊥
 unfolding fact_line
-roster_line_is_no_fact line roster f c h = cc
+roster_line_is_no_fact line roster f c h = none-some f (sym (ap fact_of c.0) ∙ h)
 
 fact_is_no_roster : (line : List ℕ) (f : Fact) → SpellsFact line f → roster_in_line line ≡ None
 fact_is_no_roster line f s =

@@ -4,6 +4,7 @@ use Rattle.std.proofs.lemmas.Grind.{common_steps}
 use Rattle.std.specs.Prelude.{bytes_eq}
 use Rattle.std.specs.List.{AllZip}
 use Rattle.std.proofs.lemmas.Bool.Decides.{nat_tests}
+use Rattle.std.proofs.lemmas.Option.{none-some}
 use Rattle.redo_core.specs.Shape.{max_number}
 use Rattle.redo_core.specs.declared.facts.Fact.{Fact}
 use Rattle.fleet_steps.specs.declared.steps.Step.{Step}
@@ -163,7 +164,7 @@ nodes_read facts at nodes line lines steps n h le =
 -- no fact line is go
 go_is_no_fact : (f : Fact) → fact_of (codes "go") ≡ Some f → ⊥
 unfolding fact_line
-go_is_no_fact f h = cc
+go_is_no_fact f h = none-some f h
 
 fact_is_not_go : (x : List ℕ) (f : Fact) → fact_of x ≡ Some f → bytes_eq x (codes "go") ≡ false
 fact_is_not_go x f h = no_test (bytes_eq x (codes "go")) (λ t. let e : x ≡ codes "go" = true_is x (codes "go") t in go_is_no_fact f (sym (ap fact_of e) ∙ h))
