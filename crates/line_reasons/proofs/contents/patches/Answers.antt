@@ -1,4 +1,4 @@
-use Rattle.std.proofs.Common.{List, ℕ, Bor, map, length, [], refl, sym, ap, ◌∙◌, arith}
+use Rattle.std.proofs.Common.{List, ℕ, Bor, map, [], refl, sym, ap, ◌∙◌, arith}
 use Rattle.std.proofs.lemmas.List.{length-map, get_or-map, take_all}
 use Rattle.script_text.specs.FactLine.{each_patch}
 use Rattle.line_reasons.proofs.PatchLists.{patches_next}

@@ -1,4 +1,5 @@
 use Rattle.std.proofs.Common.{◌≡◌, ℕ, List, [], Bor, Some, length, map, take, ap, ◌∙◌, arith}
+use Rattle.std.proofs.lemmas.Grind.{common_steps}
 use Rattle.std.proofs.lemmas.List.{length-map, take-map, get_or-map}
 use Rattle.script_text.specs.Fields.{numbers_of}
 use Rattle.script_text.specs.FactLine.{record_limits, contents_of}
@@ -22,3 +23,9 @@ returns-in-Err-2 c =
     let now = λ (x : Bor (List ℕ)). x.now in
     contents_judged (map now c.args.fields.now) _ _ (get_or-map now c.args.fields.now 5 _ [] (omega (arith, c.if-fields-ne6.false)))
     (rw c.in-Err-2.is at c.in_ok-contents.ensures)
+
+pub overflow_cast-page : goal.overflow_cast-page
+overflow_cast-page c = grind (arith, common_steps)
+
+pub overflow_cast-epoch : goal.overflow_cast-epoch
+overflow_cast-epoch c = grind (arith, common_steps)

@@ -12,3 +12,6 @@ returns-clause-value g c = grind (arith, common_steps)
 
 pub returns-clause-bound : goal.returns-clause-bound
 returns-clause-bound g c = search (rules, numbers_read, numbers_within)
+
+pub returns-in_err-numbers-clause-value : goal.returns-in_err-numbers-clause-value
+returns-in_err-numbers-clause-value g c = grind (arith, common_steps)
