@@ -4,11 +4,10 @@ ghost use Rattle.std.specs.Prelude.{◌≡◌, Some, IfOk, MatchResult, map};
 ghost use Rattle.script_text.specs.FactLine.{each_patch, contents, contents_of};
 ghost use Rattle.line_reasons.specs.ContentsReasons.{begins_anew, patch_words, IsListReason, IsContentsReason};
 
-use crate::forms::is_word;
 use crate::patches::patch_fault;
 use crate::reasons::LineReason;
 use redo_core::{MAX_PATCHES, Patch};
-use script_text::{first_parts, read_patch};
+use script_text::{first_parts, is_word, read_patch};
 use std::alloc::{AllocError, Global};
 
 /// Whether the page begins anew, and the patches.

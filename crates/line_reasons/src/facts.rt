@@ -7,11 +7,11 @@ ghost use Rattle.script_text.specs.FactLine.{record_line, cut_line, advance_line
 ghost use Rattle.line_reasons.specs.FactReasons.{IsShape, IsRecordReason, IsCutReason, IsAdvanceReason, IsFactReason};
 
 use crate::contents::{Contents, read_contents};
-use crate::forms::is_word;
 use crate::limits::{READERS, SHORT};
 use crate::numbers::numbers;
 use crate::reasons::LineReason;
 use redo_core::{Advance, Cut, MAX_NUMBER, Record};
+use script_text::is_word;
 use std::alloc::{AllocError, Global};
 
 /// The shape of a record.

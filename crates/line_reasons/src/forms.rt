@@ -1,6 +1,6 @@
 //! Lines of a word and numbers.
 
-ghost use Rattle.std.specs.Prelude.{bytes_eq, ◌≡◌, ◌<◌, ◌^◌, ◌∷◌, [], IsSome, MatchResult, map};
+ghost use Rattle.std.specs.Prelude.{◌≡◌, ◌<◌, ◌^◌, ◌∷◌, [], IsSome, MatchResult, map};
 ghost use Rattle.std.specs.List.{All};
 ghost use Rattle.script_text.specs.Fields.{numbers_of, made_by, read_by};
 ghost use Rattle.line_reasons.specs.FieldReasons.{IsFieldReason};
@@ -8,13 +8,6 @@ ghost use Rattle.line_reasons.specs.FormReasons.{count_form, IsFormReason, IsRea
 
 use crate::numbers::numbers;
 use crate::reasons::LineReason;
-
-/// Whether the text is that word.
-pub fn is_word(text: &[u8], word: &[u8]) -> bool
-    ensures { result ≡ bytes_eq text.now word.now }
-{
-    text == word
-}
 
 /// The fields behind a word that wants numbers alone.
 pub fn plain<const N: usize>(limits: [u64; N], fields: &[&[u8]]) -> Result<(), LineReason>

@@ -4,8 +4,7 @@ ghost use Rattle.std.specs.Prelude.{◌≡◌, ◌≤◌, ◌<◌, ◌↔◌, le
 ghost use Rattle.script_text.specs.Parts.{parts_at};
 ghost use Rattle.line_reasons.specs.Spots.{go_with, IsSpot};
 
-use crate::forms::is_word;
-use script_text::first_part;
+use script_text::{first_part, is_word};
 
 /// A line of a text.
 #[derive(Clone, Copy)]

@@ -6,12 +6,12 @@ ghost use Rattle.script_text.specs.Script.{roster_in_line, opening_of};
 ghost use Rattle.line_reasons.specs.TextReasons.{IsLineReason, IsReadInPlace, IsEndedReason, IsGoodEnded, IsRestReason, IsGoodRest, IsTextReason, IsGoodLine};
 ghost use Rattle.line_reasons.specs.LineReasons.{IsReadThere};
 
-use crate::forms::{counted, is_word};
+use crate::forms::counted;
 use crate::limits::{LINES, READERS};
 use crate::lines::{Place, line_reason};
 use crate::reasons::TextReason;
 use crate::spots::{Spot, find_spot};
-use script_text::{first_part, first_parts};
+use script_text::{first_part, first_parts, is_word};
 use std::alloc::{AllocError, Global};
 
 /// Whether the line is one like `roster 2`.

@@ -21,7 +21,7 @@ mod step_line;
 
 pub use contents::patch as read_patch;
 pub use fact_line::fact as read_fact;
-pub use fields::{first_part, first_parts};
+pub use fields::{first_part, first_parts, is_word};
 pub use hexed::decoded;
 pub use laws::{bad_lines_are_least, lines_are_spelled, numbers_are_decimals, scripts_are_spelled};
 pub use number::{number as read_number, numbers as read_numbers};
