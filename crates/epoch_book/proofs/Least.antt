@@ -1,5 +1,5 @@
 -- The least lo of the truncations above each epoch.
-use Rattle.std.proofs.Common.{◌≡◌, ℕ, zero, suc, ◌+◌, ◌-◌, ◌<◌, ◌≤◌, ◌⊎◌, inl, inr, ⊎_elim, List, [], ◌∷◌, length, get_or, set, min, refl, sym, ◌∙◌, ap, subst, arith, get_or-set_other, Option, Some, None, IfSome, IsNone, IsTrue, false}
+use Rattle.std.proofs.Common.{◌≡◌, ℕ, zero, suc, ◌+◌, ◌-◌, ◌<◌, ◌≤◌, ◌⊎◌, inl, inr, ⊎_elim, List, [], ◌∷◌, length, get_or, set, min, refl, sym, ◌∙◌, ap, subst, arith, get_or-set_other, Option, Some, None, IfSome, IsNone}
 use Rattle.std.specs.List.{Contains, All, insert}
 use Rattle.std.specs.List.Sorted.{IsPartitionPoint}
 use Rattle.std.proofs.lemmas.List.Elements.{All-contains}
@@ -224,6 +224,3 @@ last_cut b number i lows are bound below above = (
         (λ (u : w.0.epoch ≡ i). (w.0, w.1, u, omega arith, omega arith))
         (λ (u : i < w.0.epoch). absurd (late w.0 w.1 u le (omega arith)))
         (let t : (w.0.epoch ≡ i) ⊎ (i < w.0.epoch) = grind arith in t)
-
-pub never : {P : Type 0} → IsTrue false → P
-never h = cc

@@ -3,18 +3,13 @@ use Rattle.std.proofs.Common.{◌≡◌, ℕ, zero, suc, ◌+◌, ◌-◌, ◌<�
 use Rattle.std.specs.Prelude.{slice_get, slice_index_or, All, replicate}
 use Rattle.std.proofs.Math.ListN.{get_or-append}
 use Rattle.std.proofs.lemmas.Option.{slice_get_within}
+use Rattle.redo_core.proofs.ByPlace.{at_longer}
 use Rattle.node_threads.specs.Each.{Each}
 use Rattle.node_threads.proofs.Places.{at_more}
 
--- an item stands there also where more come
-before_more : {X : Type 0} (xs ys : List X) (k : ℕ) (y : X) → slice_get xs k ≡ Some y → slice_get (xs ++ ys) k ≡ Some y
-before_more [] ys k y e = absurd cc
-before_more (z ∷ xs) ys zero y e = e
-before_more (z ∷ xs) ys (suc k) y e = before_more xs ys k y e
-
 -- an item stood there before the last ones went
 pub was_at : {X : Type 0} (xs xs' ys : List X) (k : ℕ) (x : X) → xs ≡ xs' ++ ys → slice_get xs' k ≡ Some x → slice_get xs k ≡ Some x
-was_at xs xs' ys k x is e = subst (λ zs. slice_get zs k ≡ Some x) (sym is) (before_more xs' ys k x e)
+was_at xs xs' ys k x is e = subst (λ zs. slice_get zs k ≡ Some x) (sym is) (at_longer xs' ys k x e)
 
 -- what holds of all holds of those that stay
 pub all_before : {X : Type 0} (xs xs' ys : List X) (P : X → Type 0) → xs ≡ xs' ++ ys → All P xs → All P xs'
@@ -49,7 +44,7 @@ each_less xs xs' ys ys' x y R all len xis yis =
     let same : length ys' ≡ length xs' = omega (arith, lenx, leny, len) in
     let lastx : slice_get xs (length xs') ≡ Some x = subst (λ zs. slice_get zs (length xs') ≡ Some x) (sym xis) (last_at xs' x) in
     let lasty : slice_get ys (length xs') ≡ Some y = subst (λ n. slice_get ys n ≡ Some y) same (subst (λ zs. slice_get zs (length ys') ≡ Some y) (sym yis) (last_at ys' y)) in (
-      record { at = λ k a b ea eb. all.at k a b (subst (λ zs. slice_get zs k ≡ Some a) (sym xis) (before_more xs' (x ∷ []) k a ea)) (subst (λ zs. slice_get zs k ≡ Some b) (sym yis) (before_more ys' (y ∷ []) k b eb)) },
+      record { at = λ k a b ea eb. all.at k a b (subst (λ zs. slice_get zs k ≡ Some a) (sym xis) (at_longer xs' (x ∷ []) k a ea)) (subst (λ zs. slice_get zs k ≡ Some b) (sym yis) (at_longer ys' (y ∷ []) k b eb)) },
       all.at (length xs') x y lastx lasty,
     )
 

@@ -2,10 +2,8 @@
 use Rattle.std.proofs.Common.{◌≡◌, ℕ, ◌<◌, List, length, get_or, subst}
 use Rattle.std.specs.List.{Contains, All}
 use Rattle.std.proofs.lemmas.List.Elements.{All-contains}
-use Rattle.redo_core.specs.Data.{AdvanceData}
 use Rattle.redo_core.specs.Sound.{SameKey, Law1}
 use Rattle.redo_core.specs.declared.facts.Fact.{Fact}
-use Rattle.redo_core.specs.declared.facts.Fact.TheVariants.{Record, Cut, Advance}
 use Rattle.plain_model.proofs.Scanned.{IsSameOfKey}
 use Rattle.redo_core.proofs.Members.{item}
 
@@ -16,9 +14,3 @@ only_of_key earlier fact all f h key = All-contains (IsSameOfKey fact) earlier f
 pub other_of_key : (earlier : List Fact) (fact : Fact) (i : ℕ) (f g : Fact) → i < length earlier → f ≡ get_or earlier i f → f ≡ g → Law1 earlier fact
     → SameKey g fact → g ≡ fact
 other_of_key earlier fact i f g l e q law key = law g (subst (Contains earlier) q (item earlier i f l e)) key
-
--- an advance has no key
-pub law1_advance : (earlier : List Fact) (a : AdvanceData) → Law1 earlier (Advance a)
-law1_advance earlier a (Record r) h key = absurd key
-law1_advance earlier a (Cut c) h key = absurd key
-law1_advance earlier a (Advance b) h key = absurd key

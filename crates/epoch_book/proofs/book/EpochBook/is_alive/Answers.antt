@@ -1,9 +1,10 @@
 use Rattle.std.proofs.Common.{◌≡◌, ℕ, ◌≤◌, ◌<◌, List, length, get_or, refl, sym, subst, arith, IsTrue, false}
 use Rattle.std.specs.List.{Contains}
+use Rattle.std.proofs.lemmas.Bool.{false≢true}
 use Rattle.redo_core.specs.Data.{CutData}
 use Rattle.redo_core.specs.CompleteEpoch.{HasCutsTo}
 use Rattle.redo_core.specs.Standing.{IsAlive}
-use Rattle.epoch_book.proofs.Least.{spared_by, spared_low, never}
+use Rattle.epoch_book.proofs.Least.{spared_by, spared_low}
 use Rattle.redo_core.proofs.CompleteEpochs.{has_cuts}
 use Rattle.epoch_book.proofs.book.EpochBook.is_alive.Goals as goal
 
@@ -33,10 +34,10 @@ returns-then-is_begun c =
 pub returns-else-is_begun : goal.returns-else-is_begun
 returns-else-is_begun c =
     let cs = c.self.inside.cuts.items in let k = c.self.inside.complete in let e = c.args.epoch in let n = c.args.number in (
-      λ h. never (subst IsTrue c.if-is_begun.false h),
+      λ h. absurd (false≢true (subst IsTrue c.if-is_begun.false h)),
       λ h.
           let alive : IsAlive cs k e n = subst (λ b. IsAlive b.cuts b.complete e n) (sym c.self.view_is) h in
           let t : IsTrue false = c.if-is_begun.ensures.1
           (subst (λ cs. (d : CutData) → Contains cs d → d.epoch ≡ e → d.hi < n) (sym c.deref.ensures.value) alive.begun) in
-          never t,
+          absurd (false≢true t),
     )
