@@ -12,10 +12,10 @@ use Rattle.redo_core.proofs.CompleteEpochs.{has_cuts}
 use Rattle.epoch_book.proofs.book.EpochBook.add_cut.Goals as goal
 
 pub complete_epoch_from-complete-requires-clause-rising : goal.complete_epoch_from-complete-requires-clause-rising
-complete_epoch_from-complete-requires-clause-rising c = search (rules, cuts_rise)
+complete_epoch_from-complete-requires-clause-rising c = grind (arith, common_steps, cuts_rise)
 
 pub complete_epoch_from-complete-requires-clause-fits : goal.complete_epoch_from-complete-requires-clause-fits
-complete_epoch_from-complete-requires-clause-fits c = search (rules, epochs_fit)
+complete_epoch_from-complete-requires-clause-fits c = grind (arith, common_steps, epochs_fit)
 
 pub complete_epoch_from-complete-requires-clause-known : goal.complete_epoch_from-complete-requires-clause-known
 complete_epoch_from-complete-requires-clause-known c =
@@ -24,7 +24,7 @@ complete_epoch_from-complete-requires-clause-known c =
     (still_known b c.args.place c.args.cut c.self.invariant.0)
 
 pub raise-requires-clause-rising : goal.raise-requires-clause-rising
-raise-requires-clause-rising c = search (rules, cuts_rise)
+raise-requires-clause-rising c = grind (arith, common_steps, cuts_rise)
 
 pub raise-requires-clause-shaped : goal.raise-requires-clause-shaped
 raise-requires-clause-shaped c = search (rules, cuts_shaped)
@@ -89,3 +89,15 @@ returns-clause-book c =
 
 pub returns-in_default-clause-book : goal.returns-in_default-clause-book
 returns-in_default-clause-book c = (invariant_of-self-in_default c).0
+
+pub remove-requires : goal.remove-requires
+remove-requires c = grind (arith, common_steps)
+
+pub invariant_of-self : goal.invariant_of-self
+invariant_of-self c = grind (arith, common_steps)
+
+pub raise_points-requires : goal.raise_points-requires
+raise_points-requires c = grind (arith, common_steps)
+
+pub returns-in_default-clause-err : goal.returns-in_default-clause-err
+returns-in_default-clause-err c = grind (arith, common_steps)

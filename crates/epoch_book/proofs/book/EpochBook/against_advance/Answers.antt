@@ -1,3 +1,4 @@
+use Rattle.std.proofs.lemmas.Grind.{common_steps}
 use Rattle.std.proofs.Common.{length, subst, arith}
 use Rattle.std.specs.List.{Contains}
 use Rattle.redo_core.specs.Order.{CutBefore}
@@ -21,3 +22,21 @@ returns-in-Some-clause-some c =
     c.in-Some.ensures.first in
     let by_waits = subst (λ xs. IsFirst CutBefore (λ x. Contains cs x × CutsBelow c.self.inside.complete ps xs x a) d) c.deref-2.ensures.value by_cuts in
     subst (λ b. RefusesAdvance b a (Contradiction (Cut d))) c.self.view_is (mine, by_waits)
+
+pub returns-in-Some-clause-reader : goal.returns-in-Some-clause-reader
+returns-in-Some-clause-reader c = grind (arith, common_steps)
+
+pub returns-in-Some-clause-book : goal.returns-in-Some-clause-book
+returns-in-Some-clause-book c = grind (arith, common_steps)
+
+pub first_against-requires : goal.first_against-requires
+first_against-requires c = grind (arith, common_steps)
+
+pub returns-in-None-clause-book : goal.returns-in-None-clause-book
+returns-in-None-clause-book c = grind (arith, common_steps)
+
+pub returns-then-reader-own-clause-book : goal.returns-then-reader-own-clause-book
+returns-then-reader-own-clause-book c = grind (arith, common_steps)
+
+pub returns-in-None-clause-reader : goal.returns-in-None-clause-reader
+returns-in-None-clause-reader c = grind (arith, common_steps)

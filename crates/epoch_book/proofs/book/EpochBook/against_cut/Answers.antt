@@ -1,3 +1,4 @@
+use Rattle.std.proofs.lemmas.Grind.{common_steps}
 use Rattle.std.proofs.Common.{◌≤◌, ◌≡◌, subst, arith, refl, IfSome}
 use Rattle.std.specs.List.{Contains}
 use Rattle.redo_core.specs.Order.{AdvanceBefore}
@@ -30,3 +31,15 @@ returns-then-not-others_past-clause-book c = subst IsBook c.self.view_is c.self.
 
 pub returns-clause-book : goal.returns-clause-book
 returns-clause-book c = subst IsBook c.self.view_is c.self.invariant.0
+
+pub first_against-requires : goal.first_against-requires
+first_against-requires c = grind (arith, common_steps)
+
+pub returns-then-lo-min-clause-some : goal.returns-then-lo-min-clause-some
+returns-then-lo-min-clause-some c = grind (arith, common_steps)
+
+pub returns-then-lo-min-clause-book : goal.returns-then-lo-min-clause-book
+returns-then-lo-min-clause-book c = grind (arith, common_steps)
+
+pub returns-clause-none : goal.returns-clause-none
+returns-clause-none c = grind (arith, common_steps)

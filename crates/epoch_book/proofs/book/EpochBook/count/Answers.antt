@@ -1,4 +1,5 @@
-use Rattle.std.proofs.Common.{◌≤◌, sym, subst}
+use Rattle.std.proofs.lemmas.Grind.{common_steps}
+use Rattle.std.proofs.Common.{◌≤◌, sym, subst, arith}
 use Rattle.epoch_book.specs.Book.{book_of, IsBook}
 use Rattle.epoch_book.proofs.Books.{raised_book, raises_one}
 use Rattle.epoch_book.proofs.book.EpochBook.count.Goals as goal
@@ -23,3 +24,6 @@ returns-clause-book c =
 
 pub returns-then-point-of-clause-book : goal.returns-then-point-of-clause-book
 returns-then-point-of-clause-book c = subst IsBook c.self.view_is c.self.invariant.0
+
+pub returns-then-point-of-clause-ok : goal.returns-then-point-of-clause-ok
+returns-then-point-of-clause-ok c = grind (arith, common_steps)

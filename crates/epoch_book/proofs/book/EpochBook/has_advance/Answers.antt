@@ -1,3 +1,4 @@
+use Rattle.std.proofs.lemmas.Grind.{common_steps}
 use Rattle.std.proofs.Common.{◌<◌, ◌↔◌, sym, subst, arith, IsTrue}
 use Rattle.std.specs.List.{Contains}
 use Rattle.epoch_book.specs.Book.{book_of}
@@ -15,3 +16,9 @@ returns-then-self-epoch c =
       λ h. known.1 (subst (λ ws. Contains ws c.args.advance) c.deref.ensures.value (found.0 (subst IsTrue c.is_ok.ensures.value h))),
       λ h. subst IsTrue (sym c.is_ok.ensures.value) (found.1 (subst (λ ws. Contains ws c.args.advance) (sym c.deref.ensures.value) (known.0 h))),
     )
+
+pub returns-in-Some : goal.returns-in-Some
+returns-in-Some c = grind (arith, common_steps)
+
+pub returns-in-None : goal.returns-in-None
+returns-in-None c = grind (arith, common_steps)

@@ -1,3 +1,4 @@
+use Rattle.std.proofs.lemmas.Grind.{common_steps}
 use Rattle.std.proofs.Common.{◌≡◌, sym, subst, ap, ◌∙◌, arith, Err, OnOk}
 use Rattle.std.specs.List.{Contains}
 use Rattle.redo_core.specs.declared.facts.Fact.TheVariants.{Cut}
@@ -66,3 +67,51 @@ returns-after-eq-clause-refuses c = λ e h.
 
 pub returns-after-eq-clause-book : goal.returns-after-eq-clause-book
 returns-after-eq-clause-book c = subst IsBook c.self.view_is c.self.invariant.0
+
+pub returns-after-eq-clause-unchanged : goal.returns-after-eq-clause-unchanged
+returns-after-eq-clause-unchanged c = grind (arith, common_steps)
+
+pub returns-in_ok-add_cut-in-Err-clause-memory : goal.returns-in_ok-add_cut-in-Err-clause-memory
+returns-in_ok-add_cut-in-Err-clause-memory c = grind (arith, common_steps)
+
+pub returns-after-eq-clause-memory : goal.returns-after-eq-clause-memory
+returns-after-eq-clause-memory c = grind (arith, common_steps)
+
+pub returns-after-eq-clause-refused : goal.returns-after-eq-clause-refused
+returns-after-eq-clause-refused c = grind (arith, common_steps)
+
+pub returns-in_ok-add_cut-in-Err-clause-known : goal.returns-in_ok-add_cut-in-Err-clause-known
+returns-in_ok-add_cut-in-Err-clause-known c = grind (arith, common_steps)
+
+pub returns-in_ok-add_cut-in-Err-clause-book : goal.returns-in_ok-add_cut-in-Err-clause-book
+returns-in_ok-add_cut-in-Err-clause-book c = grind (arith, common_steps)
+
+pub add_cut-requires-clause-gap : goal.add_cut-requires-clause-gap
+add_cut-requires-clause-gap c = grind (arith, common_steps)
+
+pub add_cut-requires-clause-shaped : goal.add_cut-requires-clause-shaped
+add_cut-requires-clause-shaped c = grind (arith, common_steps)
+
+pub returns-after-eq-clause-err : goal.returns-after-eq-clause-err
+returns-after-eq-clause-err c = grind (arith, common_steps)
+
+pub returns-after-eq-clause-known : goal.returns-after-eq-clause-known
+returns-after-eq-clause-known c = grind (arith, common_steps)
+
+pub add_cut-requires-clause-within : goal.add_cut-requires-clause-within
+add_cut-requires-clause-within c = grind (arith, common_steps)
+
+pub returns-in_ok-add_cut-in-Err-clause-ok : goal.returns-in_ok-add_cut-in-Err-clause-ok
+returns-in_ok-add_cut-in-Err-clause-ok c = grind (arith, common_steps)
+
+pub returns-in-Some-clause-refused : goal.returns-in-Some-clause-refused
+returns-in-Some-clause-refused c = grind (arith, common_steps)
+
+pub returns-in-Some-clause-book : goal.returns-in-Some-clause-book
+returns-in-Some-clause-book c = grind (arith, common_steps)
+
+pub returns-in_ok-add_cut-in-Err-clause-refuses : goal.returns-in_ok-add_cut-in-Err-clause-refuses
+returns-in_ok-add_cut-in-Err-clause-refuses c = grind (arith, common_steps)
+
+pub returns-in-Some-clause-memory : goal.returns-in-Some-clause-memory
+returns-in-Some-clause-memory c = grind (arith, common_steps)
