@@ -1,5 +1,6 @@
 -- Parcels of one sender, and new senders.
-use Rattle.std.proofs.Common.{◌≡◌, ◌≢◌, ℕ, zero, suc, ◌+◌, List, [], ◌∷◌, ◌++◌, length, ◌⊎◌, inl, inr, ⊎_elim, refl, ap, ◌∙◌, Some, rules}
+use Rattle.std.proofs.Common.{◌≡◌, ◌≢◌, ℕ, zero, suc, ◌+◌, ◌<◌, List, [], ◌∷◌, ◌++◌, length, ◌⊎◌, inl, inr, ⊎_elim, refl, sym, ap, subst, ◌∙◌, Some, rules, arith}
+use Rattle.std.proofs.lemmas.Grind.{common_steps}
 use Rattle.std.specs.Prelude.{◌==◌, slice_get}
 use Rattle.std.specs.List.{Contains}
 use Rattle.std.proofs.lemmas.Bool.{eq-eqb, ne_eqb}
@@ -7,6 +8,8 @@ use Rattle.std.proofs.lemmas.List.{append-nil}
 use Rattle.std.proofs.lemmas.List.Elements.{filter-append}
 use Rattle.redo_core.proofs.Members.{here, there}
 use Rattle.redo_core.proofs.ByPlace.{at_longer}
+use Rattle.atomic_table.specs.Seated.{TableId}
+use Rattle.intake_queue.specs.Ends.{SenderData, new_sender, AreNewSenders}
 use Rattle.intake_queue.specs.Parcel.{ParcelData, sent_by, AreNumbered}
 
 pub sent_by-append : (p : ℕ) (xs ys : List ParcelData) → sent_by p (xs ++ ys) ≡ sent_by p xs ++ sent_by p ys
@@ -53,3 +56,13 @@ numbered_first taken x items all = search (rules, sent_by-append, mine, seam)
 -- those that stand before others
 pub numbered_before : (p : ℕ) (xs ys : List ParcelData) → AreNumbered (sent_by p (xs ++ ys)) → AreNumbered (sent_by p xs)
 numbered_before p xs ys all = search (rules, sent_by-append, at_longer)
+
+-- one more sender is handed out
+pub one_more : (intake : TableId) (senders count : ℕ) (made all : List SenderData) (new : SenderData) → AreNewSenders intake senders count made
+    → new ≡ new_sender intake senders (count + 1) → all ≡ made ++ new ∷ [] → AreNewSenders intake senders (count + 1) all
+one_more intake senders count made all new are is more = (
+  grind (arith, common_steps),
+  λ before lt. subst (λ l. slice_get l before ≡ Some (new_sender intake senders (before + 1))) (sym more)
+      (⊎_elim (λ (low : before < count). at_longer made (new ∷ []) before _ (are.1 before low))
+      (λ (last : before ≡ count). grind (arith, seam made new [])) (grind arith)),
+)

@@ -1,4 +1,3 @@
-use Rattle.std.proofs.lemmas.Grind.{common_steps}
 use Rattle.std.proofs.Common.{◌≡◌, ℕ, List, length, get_or, sym, ap, ◌∙◌, subst, arith, rules, vec_len}
 use Rattle.epoch_book.specs.Lows.{IsLow}
 use Rattle.epoch_book.proofs.lows.raise.Goals as goal
@@ -11,9 +10,3 @@ lower-requires-clause-before c = λ e l.
     ∙ c.in_ok-resize.ensures.by_index.0 e 0 (omega (arith, l, c.requires.later, c.from.ensures)) (omega (arith, l)) in
     subst (IsLow c.args.cuts.now c.len-from.result e) (sym same) (subst (λ k. IsLow c.args.cuts.now k e (get_or c.args.lows.now.items e 0)) (sym from)
     (c.requires.before.each e (omega (arith, l))))
-
-pub lower-requires-clause-known : goal.lower-requires-clause-known
-lower-requires-clause-known c = grind (arith, common_steps)
-
-pub returns-clause-ok : goal.returns-clause-ok
-returns-clause-ok c = grind (arith, common_steps)

@@ -1,4 +1,5 @@
-use Rattle.std.proofs.Common.{rules, ◌≡◌, ◌++◌, sym, ap, ◌∙◌}
+use Rattle.std.proofs.lemmas.Grind.{common_steps}
+use Rattle.std.proofs.Common.{rules, ◌≡◌, ◌++◌, sym, ap, ◌∙◌, arith}
 use Rattle.intake_queue.proofs.Closing.{at_end, as_taker}
 use Rattle.intake_queue.proofs.Moving.{takes, holds_rest}
 use Rattle.crossbeam_queue.specs.Passes.{view}
@@ -17,3 +18,24 @@ returns-in-None-pop_as g c =
     let is = c.loop.invariant.known ∙ ap (λ xs. taker (v.taken ++ xs) v.senders v.made v.ended v.accepted_counts) (sym kept) in
     let known = at_end v (view c.loop.pass) left held.0 is held.1 held.2 in
     record { whole = known.0; in_turn = known.1 }
+
+pub push_reserved-requires : goal.push_reserved-requires
+push_reserved-requires g c = grind (arith, common_steps)
+
+pub loop-preserved : goal.loop-preserved
+loop-preserved g c = grind (arith, common_steps)
+
+pub loop-init : goal.loop-init
+loop-init g c = grind (arith, common_steps)
+
+pub unreachable-requires : goal.unreachable-requires
+unreachable-requires g c = grind (arith, common_steps)
+
+pub loop-preserved-then-is_err : goal.loop-preserved-then-is_err
+loop-preserved-then-is_err g c = grind (arith, common_steps)
+
+pub pop_as-requires-clause-queue : goal.pop_as-requires-clause-queue
+pop_as-requires-clause-queue g c = grind (arith, common_steps)
+
+pub unreachable-unreachable : goal.unreachable-unreachable
+unreachable-unreachable g c = grind (arith, common_steps)

@@ -1,3 +1,4 @@
+use Rattle.std.proofs.lemmas.Grind.{common_steps}
 use Rattle.std.proofs.Common.{◌≡◌, ◌<◌, length, arith, sym, ap, ◌∙◌, subst}
 use Rattle.std.proofs.lemmas.Bool.Decides.{nat_tests}
 use Rattle.std.specs.Map.{lookup}
@@ -140,3 +141,18 @@ returns-in-Ok-clause-ordered g c = c.self.invariant.rising
 
 pub invariant_of-self-in-Ok : goal.invariant_of-self-in-Ok
 invariant_of-self-in-Ok g c = c.self.invariant
+
+pub returns-in_ok-len-in-Err-clause-unchanged : goal.returns-in_ok-len-in-Err-clause-unchanged
+returns-in_ok-len-in-Err-clause-unchanged g c = grind (arith, common_steps)
+
+pub returns-in_ok-len-in-Err-clause-absent : goal.returns-in_ok-len-in-Err-clause-absent
+returns-in_ok-len-in-Err-clause-absent g c = grind (arith, common_steps)
+
+pub index-requires : goal.index-requires
+index-requires g c = grind (arith, common_steps)
+
+pub run_for-r-requires-clause-some : goal.run_for-r-requires-clause-some
+run_for-r-requires-clause-some g c = grind (arith, common_steps)
+
+pub returns-in_ok-len-in-Err-clause-returned : goal.returns-in_ok-len-in-Err-clause-returned
+returns-in_ok-len-in-Err-clause-returned g c = grind (arith, common_steps)

@@ -1,3 +1,4 @@
+use Rattle.std.proofs.lemmas.Grind.{common_steps}
 use Rattle.std.proofs.Common.{◌<◌, length, arith, sym, subst}
 use Rattle.sorted_runs.specs.Places.{IsRunFor}
 use Rattle.sorted_runs.proofs.Lists.{firsts_rise, in_runs, found, missed, sorted_run}
@@ -27,3 +28,18 @@ pub returns-in-Err-clause-value : goal.returns-in-Err-clause-value
 returns-in-Err-clause-value g c =
     let at = subst (λ l. IsRunFor g.K.Ord.cmp l c.args.key.now c.run_for-r.result) c.deref.ensures.value c.run_for-r.ensures in
     rw (← c.self.view_is) (sym (missed g.met.K.Ord.total c.args.key.now _ _ _ c.self.invariant c.run_for-r.result at c.index-run.result.now c.index-run.ensures c.deref-2.result.now c.deref-2.ensures.value c.in-Err.field-0 c.in-Err.ensures.gap))
+
+pub run_for-r-requires-clause-some : goal.run_for-r-requires-clause-some
+run_for-r-requires-clause-some g c = grind (arith, common_steps)
+
+pub returns-then-is_empty-clause-ordered : goal.returns-then-is_empty-clause-ordered
+returns-then-is_empty-clause-ordered g c = grind (arith, common_steps)
+
+pub returns-in-Err-clause-ordered : goal.returns-in-Err-clause-ordered
+returns-in-Err-clause-ordered g c = grind (arith, common_steps)
+
+pub returns-in-Ok-clause-ordered : goal.returns-in-Ok-clause-ordered
+returns-in-Ok-clause-ordered g c = grind (arith, common_steps)
+
+pub returns-then-is_empty-clause-value : goal.returns-then-is_empty-clause-value
+returns-then-is_empty-clause-value g c = grind (arith, common_steps)

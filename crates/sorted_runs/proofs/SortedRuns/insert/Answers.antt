@@ -1,3 +1,4 @@
+use Rattle.std.proofs.lemmas.Grind.{common_steps}
 use Rattle.std.proofs.Common.{◌≡◌, ◌<◌, length, arith, sym, ap, ◌∙◌, subst}
 use Rattle.std.proofs.lemmas.Bool.Decides.{nat_tests}
 use Rattle.std.specs.Map.{lookup}
@@ -151,3 +152,15 @@ returns-in_err-open-clause-was_ordered g c = in_order g.K.Ord.cmp c.self.invaria
 
 pub returns-in_err-open-clause-ordered : goal.returns-in_err-open-clause-ordered
 returns-in_err-open-clause-ordered g c = in_order g.K.Ord.cmp c.self.invariant _ (sym c.in_err-open.ensures.unchanged)
+
+pub returns-in_ok-len-in-Err-clause-unchanged : goal.returns-in_ok-len-in-Err-clause-unchanged
+returns-in_ok-len-in-Err-clause-unchanged g c = grind (arith, common_steps)
+
+pub returns-in_ok-len-in-Err-clause-returned : goal.returns-in_ok-len-in-Err-clause-returned
+returns-in_ok-len-in-Err-clause-returned g c = grind (arith, common_steps)
+
+pub returns-in_ok-len-in-Err-clause-absent : goal.returns-in_ok-len-in-Err-clause-absent
+returns-in_ok-len-in-Err-clause-absent g c = grind (arith, common_steps)
+
+pub run_for-r-requires-clause-some : goal.run_for-r-requires-clause-some
+run_for-r-requires-clause-some g c = grind (arith, common_steps)

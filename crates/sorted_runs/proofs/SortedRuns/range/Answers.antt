@@ -1,3 +1,4 @@
+use Rattle.std.proofs.lemmas.Grind.{common_steps}
 use Rattle.std.proofs.Common.{sym, ap, ◌∙◌, subst, take, drop, ◌≡◌, ◌<◌, ◌≤◌, length, get_or, arith, List}
 use Rattle.std.specs.List.{filter}
 use Rattle.std.specs.BTreeMap.Range.{range_contains, is_from_start, is_past_end}
@@ -58,3 +59,9 @@ between-requires-clause-to_place g c d =
 
 pub returns-clause-ordered : goal.returns-clause-ordered
 returns-clause-ordered g c = in_order g.K.Ord.cmp c.self.invariant _ c.self.view_is
+
+pub start_of-begin-requires-clause-some : goal.start_of-begin-requires-clause-some
+start_of-begin-requires-clause-some g c = grind (arith, common_steps)
+
+pub end_of-end-requires-clause-some : goal.end_of-end-requires-clause-some
+end_of-end-requires-clause-some g c = grind (arith, common_steps)

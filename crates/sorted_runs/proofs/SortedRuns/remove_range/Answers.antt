@@ -1,3 +1,4 @@
+use Rattle.std.proofs.lemmas.Grind.{common_steps}
 use Rattle.std.proofs.Common.{ap, ◌∙◌, subst, not, List, ◌≡◌, ◌<◌, ◌≤◌, length, get_or, arith}
 use Rattle.std.specs.List.{filter}
 use Rattle.std.specs.BTreeMap.Range.{range_contains, is_from_start, is_past_end}
@@ -76,3 +77,9 @@ cut_out-self-inside-requires-clause-counted g c = c.self.invariant.counted
 
 pub returns-clause-was_ordered : goal.returns-clause-was_ordered
 returns-clause-was_ordered g c = in_order g.K.Ord.cmp c.self.invariant _ c.self.view_is
+
+pub end_of-end-requires-clause-some : goal.end_of-end-requires-clause-some
+end_of-end-requires-clause-some g c = grind (arith, common_steps)
+
+pub start_of-begin-requires-clause-some : goal.start_of-begin-requires-clause-some
+start_of-begin-requires-clause-some g c = grind (arith, common_steps)

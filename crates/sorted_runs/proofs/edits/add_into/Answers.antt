@@ -1,11 +1,12 @@
-use Rattle.std.proofs.Common.{arith, rules}
+use Rattle.std.proofs.lemmas.Grind.{common_steps}
+use Rattle.std.proofs.Common.{arith}
 use Rattle.sorted_runs.proofs.Lists.{as_many}
 use Rattle.sorted_runs.proofs.Shaped.{added_behind, added_first, added_gains, same_items, inserted_there, kept_there, always_err}
 use Rattle.sorted_runs.proofs.edits.add_into.Goals.{then-at-eq0, else-at-eq0}
 use Rattle.sorted_runs.proofs.edits.add_into.Goals as goal
 
 pub returns-in_err-put_in-clause-shape_stays : goal.returns-in_err-put_in-clause-shape_stays
-returns-in_err-put_in-clause-shape_stays g c = search (rules, same_items)
+returns-in_err-put_in-clause-shape_stays g c = grind (arith, common_steps, same_items)
 
 pub returns-in_err-put_in-clause-unchanged : goal.returns-in_err-put_in-clause-unchanged
 returns-in_err-put_in-clause-unchanged g c =
@@ -26,4 +27,4 @@ returns-clause-shaped g c =
     ]
 
 pub returns-clause-gains : goal.returns-clause-gains
-returns-clause-gains g c = search (rules, added_gains)
+returns-clause-gains g c = grind (arith, common_steps, added_gains)

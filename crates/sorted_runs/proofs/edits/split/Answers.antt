@@ -1,3 +1,4 @@
+use Rattle.std.proofs.lemmas.Grind.{common_steps}
 use Rattle.std.proofs.Common.{◌≡◌, length, length-drop, ap, arith, rules}
 use Rattle.sorted_runs.proofs.Lists.{as_many}
 use Rattle.sorted_runs.proofs.Shaped.{kept_ok, split_all, cut_in, split_failed}
@@ -63,3 +64,9 @@ pub returns-in_err-rest-clause-same : goal.returns-in_err-rest-clause-same
 returns-in_err-rest-clause-same g c =
     let kept : c.split_off.new.self.items ≡ c.index_mut-run.result.now.items = search rules in
     (split_failed c.reserve-2.new.self.items c.args.runs.now.items c.args.r c.index_mut-run.result.now c.reserve-2.ensures.items c.index_mut-run.ensures.value c.reserve.new.self.items c.args.firsts.now.items c.split_off.new.self c.requires.shaped c.reserve.ensures.items c.requires.within kept).1
+
+pub returns-in_err-reserve-2-clause-shaped : goal.returns-in_err-reserve-2-clause-shaped
+returns-in_err-reserve-2-clause-shaped g c = grind (arith, common_steps)
+
+pub put_in-requires-2 : goal.put_in-requires-2
+put_in-requires-2 g c = grind (arith, common_steps)

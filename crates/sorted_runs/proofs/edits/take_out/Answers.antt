@@ -1,3 +1,4 @@
+use Rattle.std.proofs.lemmas.Grind.{common_steps}
 use Rattle.std.proofs.Common.{◌≡◌, ◌<◌, length, arith, rules}
 use Rattle.std.proofs.lemmas.Bool.Decides.{nat_tests}
 use Rattle.sorted_runs.proofs.Lists.{as_many}
@@ -34,3 +35,15 @@ returns-then-is_empty-clause-shaped g c =
 
 pub returns-then-is_empty-clause-loses : goal.returns-then-is_empty-clause-loses
 returns-then-is_empty-clause-loses g c = search (rules, lost_last)
+
+pub returns-then-at-eq0-clause-value : goal.returns-then-at-eq0-clause-value
+returns-then-at-eq0-clause-value g c = grind (arith, common_steps)
+
+pub returns-else-at-eq0-clause-value : goal.returns-else-at-eq0-clause-value
+returns-else-at-eq0-clause-value g c = grind (arith, common_steps)
+
+pub returns-then-is_empty-clause-value : goal.returns-then-is_empty-clause-value
+returns-then-is_empty-clause-value g c = grind (arith, common_steps)
+
+pub index-requires : goal.index-requires
+index-requires g c = grind (arith, common_steps)

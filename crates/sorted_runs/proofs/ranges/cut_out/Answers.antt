@@ -1,3 +1,4 @@
+use Rattle.std.proofs.lemmas.Grind.{common_steps}
 use Rattle.std.proofs.Common.{arith}
 use Rattle.sorted_runs.specs.Edits.{offset}
 use Rattle.sorted_runs.proofs.Removed.{entry_there}
@@ -27,3 +28,9 @@ returns-then-from-to-2-clause-loses g c =
           let same = same_run vs from.run to.run 0 (omega arith) in
           omega arith
     ]
+
+pub cut_run-requires-clause-place : goal.cut_run-requires-clause-place
+cut_run-requires-clause-place g c = grind (arith, common_steps)
+
+pub returns-clause-loses : goal.returns-clause-loses
+returns-clause-loses g c = grind (arith, common_steps)

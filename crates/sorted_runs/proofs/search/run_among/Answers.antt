@@ -21,3 +21,9 @@ loop-end-preserved-then-is_lt g c =
 
 pub returns : goal.returns
 returns g c = one_run g.met.K.Ord.total c.args.key.now c.args.firsts.now c.loop-end.r c.loop-end.end (let done = c.loop-end-test.false in omega arith) c.loop-end.invariant
+
+pub loop-end-preserved : goal.loop-end-preserved
+loop-end-preserved g c = grind (arith, common_steps)
+
+pub loop-end-init : goal.loop-end-init
+loop-end-init g c = grind (arith, common_steps)

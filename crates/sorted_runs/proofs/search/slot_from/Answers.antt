@@ -1,3 +1,4 @@
+use Rattle.std.proofs.lemmas.Grind.{common_steps}
 use Rattle.std.proofs.Common.{sym, ap, ◌∙◌, ◌≡◌, arith}
 use Rattle.std.specs.declared.cmp.Ordering.TheVariants.{Greater}
 use Rattle.sorted_runs.proofs.Strides.{hit_it, gap_it, taken_more}
@@ -16,3 +17,6 @@ loop-at-preserved g c = record {
   within = omega arith;
   passed = taken_more (λ e. g.K.Ord.cmp c.args.key.now e.0 ≡ Greater) c.args.run.now c.loop-at.at c.index-run-at.result c.loop-at-test.true c.index-run-at.is (ap (λ z. g.K.Ord.cmp c.args.key.now z.0) c.index-run-at.is ∙ sym c.in-Greater.ensures) c.loop-at.invariant.passed;
 }
+
+pub returns-clause-gap : goal.returns-clause-gap
+returns-clause-gap g c = grind (arith, common_steps)

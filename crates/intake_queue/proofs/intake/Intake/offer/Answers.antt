@@ -1,4 +1,5 @@
-use Rattle.std.proofs.Common.{◌≡◌, sym, ap, ◌∙◌, ◌+◌, length}
+use Rattle.std.proofs.lemmas.Grind.{common_steps}
+use Rattle.std.proofs.Common.{◌≡◌, sym, ap, ◌∙◌, ◌+◌, length, arith}
 use Rattle.crossbeam_queue.specs.Passes.{view}
 use Rattle.intake_queue.proofs.Closing.{as_sender}
 use Rattle.intake_queue.proofs.Moving.{offers, holds_own}
@@ -14,3 +15,21 @@ push_as-requires-clause-rule g c =
           (ap (λ p. p.number) next ∙ ap (λ s. length s.accepted + 1) (sym c.sender.view_is)),
       holds_own _ v own,
     )
+
+pub invariant_of-sender-in-Err : goal.invariant_of-sender-in-Err
+invariant_of-sender-in-Err g c = grind (arith, common_steps)
+
+pub invariant_of-sender : goal.invariant_of-sender
+invariant_of-sender g c = grind (arith, common_steps)
+
+pub returns-in-Ok-clause-full : goal.returns-in-Ok-clause-full
+returns-in-Ok-clause-full g c = grind (arith, common_steps)
+
+pub returns-in-Err-clause-full : goal.returns-in-Err-clause-full
+returns-in-Err-clause-full g c = grind (arith, common_steps)
+
+pub returns-in-Err-clause-err : goal.returns-in-Err-clause-err
+returns-in-Err-clause-err g c = grind (arith, common_steps)
+
+pub returns-in-Ok-clause-ok : goal.returns-in-Ok-clause-ok
+returns-in-Ok-clause-ok g c = grind (arith, common_steps)

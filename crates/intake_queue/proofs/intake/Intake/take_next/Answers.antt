@@ -1,4 +1,5 @@
-use Rattle.std.proofs.Common.{subst}
+use Rattle.std.proofs.lemmas.Grind.{common_steps}
+use Rattle.std.proofs.Common.{subst, arith}
 use Rattle.std.specs.Prelude.{IfNone}
 use Rattle.crossbeam_queue.specs.Passes.{view}
 use Rattle.intake_queue.specs.Heard.{HasTakenAllHeard}
@@ -11,3 +12,12 @@ pop_as-requires-clause-rule g c = (takes _ _ c.taker.invariant.1, holds_rest _ _
 pub returns-clause-empty : goal.returns-clause-empty
 returns-clause-empty g c =
     subst (λ t. IfNone c.pop_as.result (HasTakenAllHeard t)) c.taker.view_is (nothing_left _ _ (view c.taker.inside.pass) c.pop_as.result c.pop_as.ensures.rule)
+
+pub returns-clause-some : goal.returns-clause-some
+returns-clause-some g c = grind (arith, common_steps)
+
+pub returns-clause-next : goal.returns-clause-next
+returns-clause-next g c = grind (arith, common_steps)
+
+pub returns-clause-none : goal.returns-clause-none
+returns-clause-none g c = grind (arith, common_steps)

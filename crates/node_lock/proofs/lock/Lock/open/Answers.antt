@@ -1,3 +1,4 @@
+use Rattle.std.proofs.lemmas.Grind.{common_steps}
 use Rattle.std.proofs.Common.{rules, arith, ◌≡◌, ◌+◌, ℕ, sym, ap, ◌∙◌, subst, length}
 use Rattle.node_lock.specs.Known.{out_of, list_in}
 use Rattle.node_lock.specs.Passes.{AreIdle, AreNew}
@@ -19,3 +20,21 @@ loop-number-preserved g c = let i = c.loop-number.invariant in let items = c.pus
           (ap (λ m. list_in m.0.parts) me)),
       search rules,
     )
+
+pub loop-number-init : goal.loop-number-init
+loop-number-init g c = grind (arith, common_steps)
+
+pub returns-clause-passes : goal.returns-clause-passes
+returns-clause-passes g c = grind (arith, common_steps)
+
+pub returns-clause-lock : goal.returns-clause-lock
+returns-clause-lock g c = grind (arith, common_steps)
+
+pub returns-clause-count : goal.returns-clause-count
+returns-clause-count g c = grind (arith, common_steps)
+
+pub push_reserved-requires : goal.push_reserved-requires
+push_reserved-requires g c = grind (arith, common_steps)
+
+pub deal-own-requires-clause-idle : goal.deal-own-requires-clause-idle
+deal-own-requires-clause-idle g c = grind (arith, common_steps)

@@ -1,3 +1,4 @@
+use Rattle.std.proofs.lemmas.Grind.{common_steps}
 use Rattle.std.proofs.Common.{arith, refl, rules}
 use Rattle.sorted_runs.proofs.Lists.{take_long}
 use Rattle.sorted_runs.proofs.Parts.{read_runs, read_same, between_none, read_long}
@@ -37,3 +38,12 @@ slice_bounds-result-end-then-from-to-2 g c =
     let place = c.requires.to_place a in
     let taken = take_long c.deref-then-from-to.result.now c.args.to.at (omega arith) in
     omega arith
+
+pub offset_bounds-deref-from-2 : goal.offset_bounds-deref-from-2
+offset_bounds-deref-from-2 g c = grind (arith, common_steps)
+
+pub offset_bounds-deref-from : goal.offset_bounds-deref-from
+offset_bounds-deref-from g c = grind (arith, common_steps)
+
+pub slice_bounds-result-end-2 : goal.slice_bounds-result-end-2
+slice_bounds-result-end-2 g c = grind (arith, common_steps)

@@ -1,4 +1,5 @@
-use Rattle.std.proofs.Common.{◌∙◌}
+use Rattle.std.proofs.lemmas.Grind.{common_steps}
+use Rattle.std.proofs.Common.{◌∙◌, arith}
 use Rattle.sorted_runs.proofs.Parts.{walked_back, last_of_back, last_of_front, none_more, one_less, longer_by_last}
 use Rattle.sorted_runs.proofs.entries.EntriesDoubleEndedIterator.next_back.Goals as goal
 
@@ -27,3 +28,6 @@ returns-clause-steps g c =
 
 pub returns-clause-goes : goal.returns-clause-goes
 returns-clause-goes g c = one_less _ _ _ (longer_by_last _ _ _ (returns-clause-steps g c))
+
+pub returns-in_err-entry-clause-steps : goal.returns-in_err-entry-clause-steps
+returns-in_err-entry-clause-steps g c = grind (arith, common_steps)

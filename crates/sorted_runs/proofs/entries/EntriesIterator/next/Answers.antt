@@ -1,4 +1,5 @@
-use Rattle.std.proofs.Common.{length, ap, ◌∙◌}
+use Rattle.std.proofs.lemmas.Grind.{common_steps}
+use Rattle.std.proofs.Common.{length, ap, ◌∙◌, arith}
 use Rattle.sorted_runs.proofs.Parts.{walked_on, first_of_front, first_of_back, none_more, one_less}
 use Rattle.sorted_runs.proofs.entries.EntriesIterator.next.Goals as goal
 
@@ -27,3 +28,6 @@ returns-clause-steps g c =
 
 pub returns-clause-goes : goal.returns-clause-goes
 returns-clause-goes g c = one_less _ _ _ (ap (λ l. length l) (returns-clause-steps g c))
+
+pub returns-in_err-entry-clause-steps : goal.returns-in_err-entry-clause-steps
+returns-in_err-entry-clause-steps g c = grind (arith, common_steps)

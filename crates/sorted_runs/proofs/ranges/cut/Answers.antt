@@ -1,0 +1,6 @@
+use Rattle.std.proofs.Common.{arith}
+use Rattle.std.proofs.lemmas.Grind.{common_steps}
+use Rattle.sorted_runs.proofs.ranges.cut.Goals as goal
+
+pub returns : goal.returns
+returns g c = grind (arith, common_steps)
