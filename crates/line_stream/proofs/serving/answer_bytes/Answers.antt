@@ -1,4 +1,5 @@
-use Rattle.std.proofs.Common.{◌++◌, ◌∙◌, [], refl, rules}
+use Rattle.std.proofs.lemmas.Grind.{common_steps}
+use Rattle.std.proofs.Common.{◌++◌, ◌∙◌, [], refl, arith}
 use Rattle.line_stream.specs.Served.{BreaksOff}
 use Rattle.line_stream.proofs.Going.{goes_start, goes_on, goes_off, on_err}
 use Rattle.line_stream.proofs.serving.answer_bytes.Goals as goal
@@ -51,4 +52,16 @@ loop-front-preserved g c =
     )
 
 pub returns-clause-ok : goal.returns-clause-ok
-returns-clause-ok g c = search rules
+returns-clause-ok g c = grind (arith, common_steps)
+
+pub returns-in_err-write_all-clause-limit : goal.returns-in_err-write_all-clause-limit
+returns-in_err-write_all-clause-limit g c = grind (arith, common_steps)
+
+pub loop-front-smaller-in_ok-write_all : goal.loop-front-smaller-in_ok-write_all
+loop-front-smaller-in_ok-write_all g c = grind (arith, common_steps)
+
+pub returns-in_err-write_all-clause-errors : goal.returns-in_err-write_all-clause-errors
+returns-in_err-write_all-clause-errors g c = grind (arith, common_steps)
+
+pub loop-front-smaller : goal.loop-front-smaller
+loop-front-smaller g c = grind (arith, common_steps)
