@@ -1,4 +1,5 @@
 -- The stack holds what is alive: at the start, in the view of the next epoch, and with one more record.
+use Rattle.std.proofs.lemmas.Grind.{common_steps}
 use Rattle.std.proofs.Common.{◌≡◌, ℕ, ◌+◌, ◌<◌, ◌≤◌, ⊎_elim, List, [], ◌∷◌, ◌++◌, sym, ap, ◌∙◌, subst, arith, Option, Some, None, rules}
 use Rattle.std.specs.List.{Contains}
 use Rattle.std.proofs.lemmas.Bool.{cases_lt}
@@ -124,7 +125,7 @@ holds_push log past old new t x num pg k v s a above h = record {
     only {u} p = ⊎_elim (λ (e : t ≡ u). e) (λ (n : Contains [] u). absurd (none_in u n)) (which t [] u p)
 
 pub same_but_view : (old new : AliveRecords) → IsStack old → new.entries ≡ old.entries → new.page_tops ≡ old.page_tops → IsStack new
-same_but_view old new s e t = search rules
+same_but_view old new s e t = grind (arith, common_steps)
 
 pub none_of : (o : Option CutData) → ((c : CutData) → o ≡ Some c → ⊥) → o ≡ None
 none_of o h = search rules

@@ -1,4 +1,5 @@
 -- Records and items that stand in the order of their keys.
+use Rattle.std.proofs.lemmas.Grind.{common_steps}
 use Rattle.std.proofs.Common.{◌≡◌, ℕ, zero, suc, ◌+◌, ◌-◌, ◌<◌, ◌≤◌, ◌↔◌, ⊎_elim, List, [], ◌∷◌, length, get_or, take, refl, ap, arith, Option, Some, None, rules}
 use Rattle.std.specs.Prelude.{slice_get}
 use Rattle.std.specs.List.{Contains}
@@ -47,7 +48,7 @@ rising_more log p r at above rising i j q s l m e f = search rules
 
 pub rising_past : (log : List Fact) (p : ℕ) (f : Fact) → slice_get log p ≡ Some f → ((r : RecordData) → f ≡ Record r → ⊥) → HasRisingKeysTo log p
     → HasRisingKeysTo log (p + 1)
-rising_past log p f at not' rising i j q s l m e g = search rules
+rising_past log p f at not' rising i j q s l m e g = grind (arith, common_steps)
 
 pub last_more : (log : List Fact) (p : ℕ) (r : RecordData) → slice_get log p ≡ Some (Record r) → IsAboveTo log p r
     → IsLastKey log (p + 1) (Some (key_of r))

@@ -1,3 +1,4 @@
+use Rattle.std.proofs.lemmas.Grind.{common_steps}
 use Rattle.std.proofs.Common.{◌≡◌, ℕ, List, ◌+◌, ◌*◌, ◌++◌, ◌≤◌, length, take, refl, ◌∙◌, subst, arith, length-append}
 use Rattle.std.specs.Prelude.{max}
 use Rattle.std.proofs.lemmas.List.{length-take}
@@ -53,3 +54,9 @@ loop-left-preserved g c =
       omega (arith, c.if-n-size.false, few, c.fill.auto.buffer, c.min-size.ensures, inv.0, inv.3, length-append inv.1 part, length-take c.in_ok-n.n c.fill.new.buffer, length-take c.min-size.result c.loop-left.chunk),
       subst (λ (l : List ℕ). Holds c.add.new.self c.args.length (inv.1 ++ l)) front (c.add.ensures.holds c.args.length inv.1 inv.4),
     )
+
+pub loop-left-init : goal.loop-left-init
+loop-left-init g c = grind (arith, common_steps)
+
+pub returns : goal.returns
+returns g c = grind (arith, common_steps)

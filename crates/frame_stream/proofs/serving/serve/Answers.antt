@@ -1,3 +1,4 @@
+use Rattle.std.proofs.lemmas.Grind.{common_steps}
 use Rattle.std.proofs.Common.{◌≡◌, [], ◌∷◌, ◌++◌, ◌∙◌, map, inl, refl, sym, subst, false, true, rules, arith, append-nil}
 use Rattle.std.specs.List.{concat}
 use Rattle.std.specs.Io.KnownBytes.{Consumes}
@@ -79,3 +80,9 @@ loop-preserved g c =
       answered_more _ _ _ inv.1 c.args.machine.now c.loop.machine c.answer-answer.new.machine c.args.writer.now c.loop.writer c.write_frame.new.writer came.0 _
           inv.4 _ (came.1.limit ∙ inv.0) (c.answer-answer.ensures.answers came.0 came.3) c.as_bytes.result.now c.as_bytes.ensures c.answer-answer.ensures.short c.in_ok-write_frame.ensures.ok,
     )
+
+pub returns : goal.returns
+returns g c = grind (arith, common_steps)
+
+pub write_frame-requires : goal.write_frame-requires
+write_frame-requires g c = grind (arith, common_steps)

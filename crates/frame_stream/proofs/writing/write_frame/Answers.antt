@@ -1,4 +1,5 @@
-use Rattle.std.proofs.Common.{◌≡◌, ℕ, List, ◌++◌, length, take, drop, sym, ap, ◌∙◌, take-append-drop}
+use Rattle.std.proofs.lemmas.Grind.{common_steps}
+use Rattle.std.proofs.Common.{◌≡◌, ℕ, List, ◌++◌, length, take, drop, sym, ap, ◌∙◌, take-append-drop, arith}
 use Rattle.std.specs.Io.KnownBytes.{Appends}
 use Rattle.line_stream.specs.Watching.{device_of}
 use Rattle.line_stream.proofs.Going.{on_err}
@@ -25,3 +26,12 @@ returns-clause-part g c =
     then_err c.write_all-2.result _ ((n : ℕ) × Appends (g.W.Write.contents (device_of c.args.writer.now)) (g.W.Write.contents (device_of c.write_all-2.new.writer)) (take n (framed c.args.bytes.now)))
     (second_part (take c.put-size.result c.put-size.new.chunk) (header (length c.args.bytes.now)) front behind c.args.bytes.now c.put-size.ensures.bytes all
     (g.W.Write.contents (device_of c.args.writer.now)) (g.W.Write.contents (device_of c.write_all.new.writer)) (g.W.Write.contents (device_of c.write_all-2.new.writer)) c.in_ok-write_all.ensures.ok) c.write_all-2.ensures.part
+
+pub returns-then-is_empty-clause-ok : goal.returns-then-is_empty-clause-ok
+returns-then-is_empty-clause-ok g c = grind (arith, common_steps)
+
+pub returns-in_err-write_all-clause-failed : goal.returns-in_err-write_all-clause-failed
+returns-in_err-write_all-clause-failed g c = grind (arith, common_steps)
+
+pub returns-clause-ok : goal.returns-clause-ok
+returns-clause-ok g c = grind (arith, common_steps)

@@ -1,3 +1,4 @@
+use Rattle.std.proofs.lemmas.Grind.{common_steps}
 use Rattle.std.proofs.Common.{◌≡◌, ◌∙◌, inl, inr, ap, arith}
 use Rattle.redo_core.specs.Book.{roster_of}
 use Rattle.segment_core.specs.declared.answers.Refusal.{Refusal}
@@ -41,3 +42,12 @@ pub returns-in-Err-clause-sound : goal.returns-in-Err-clause-sound
 returns-in-Err-clause-sound c = λ (one : IsOfOneLog c.args.segment.now c.args.summary.now c.args.delta.now).
     inl (ap (λ (why : Refusal). Refused why)
     (only_memory c.args.segment.now c.args.summary.now c.args.delta.now c.in-Err.why c.opens_form.ensures.form c.in-Err.ensures.refused one))
+
+pub returns-then-own-shown-clause-refused : goal.returns-then-own-shown-clause-refused
+returns-then-own-shown-clause-refused c = grind (arith, common_steps)
+
+pub returns-then-own-shown-clause-sound : goal.returns-then-own-shown-clause-sound
+returns-then-own-shown-clause-sound c = grind (arith, common_steps)
+
+pub returns-in-Some-clause-sound : goal.returns-in-Some-clause-sound
+returns-in-Some-clause-sound c = grind (arith, common_steps)

@@ -1,3 +1,4 @@
+use Rattle.std.proofs.lemmas.Grind.{common_steps}
 use Rattle.std.proofs.Common.{◌<◌, arith}
 use Rattle.std.proofs.lemmas.Result.{IfOk-weaker}
 use Rattle.gossip_core.proofs.Filling.{fills, answers_short, answers_whole}
@@ -24,3 +25,15 @@ returns-then-anchor-base_point-clause-broken c =
       λ e. (high, (c.with_pages.ensures.broken page n).0 e),
       λ h. (c.with_pages.ensures.broken page n).1 h.1,
     )
+
+pub returns-in-Ok-clause-broken : goal.returns-in-Ok-clause-broken
+returns-in-Ok-clause-broken c = grind (arith, common_steps)
+
+pub returns-in-Err-clause-broken : goal.returns-in-Err-clause-broken
+returns-in-Err-clause-broken c = grind (arith, common_steps)
+
+pub returns-in-Ok-clause-answers : goal.returns-in-Ok-clause-answers
+returns-in-Ok-clause-answers c = grind (arith, common_steps)
+
+pub returns-then-anchor-base_point-clause-refused : goal.returns-then-anchor-base_point-clause-refused
+returns-then-anchor-base_point-clause-refused c = grind (arith, common_steps)

@@ -1,3 +1,4 @@
+use Rattle.std.proofs.lemmas.Grind.{common_steps}
 use Rattle.std.proofs.Common.{◌≢◌, sym, subst, arith}
 use Rattle.std.specs.List.{AllByRecursion}
 use Rattle.redo_core.specs.Book.{IsBook}
@@ -15,3 +16,9 @@ new-requires-2 c = record {
   each_page = subst (AllByRecursion (λ (p : ImageData). p.bytes ≢ zeros)) (sym c.new.ensures.items) tt;
   records = c.in_ok-records.ensures.rising;
 }
+
+pub returns : goal.returns
+returns c = grind (arith, common_steps)
+
+pub unlisted-requires : goal.unlisted-requires
+unlisted-requires c = grind (arith, common_steps)

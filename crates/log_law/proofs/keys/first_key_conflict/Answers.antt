@@ -1,4 +1,5 @@
-use Rattle.std.proofs.Common.{◌≡◌, ◌+◌, ◌∙◌, sym, ap, subst, refl, length, take, Some, true, false}
+use Rattle.std.proofs.lemmas.Grind.{common_steps}
+use Rattle.std.proofs.Common.{◌≡◌, ◌+◌, ◌∙◌, sym, ap, subst, refl, length, take, Some, true, false, arith}
 use Rattle.std.specs.Prelude.{slice_get}
 use Rattle.std.proofs.lemmas.Bool.{MatchBool-at_false, MatchBool-at_true}
 use Rattle.std.proofs.lemmas.Option.{slice_get_read}
@@ -76,3 +77,9 @@ is_other-requires-clause-at c =
 pub returns-in_err-is_other-in-Record : goal.returns-in_err-is_other-in-Record
 returns-in_err-is_other-in-Record c =
     IfOk-from_err c.from_residual-in_err-is_other-in-Record.result (IsFirstKeyConflict c.args.facts.now) c.from_residual-in_err-is_other-in-Record.ensures.0
+
+pub first_cut_conflict-requires-clause-rising : goal.first_cut_conflict-requires-clause-rising
+first_cut_conflict-requires-clause-rising c = grind (arith, common_steps)
+
+pub loop-place-init : goal.loop-place-init
+loop-place-init c = grind (arith, common_steps)

@@ -1,3 +1,4 @@
+use Rattle.std.proofs.lemmas.Grind.{common_steps}
 use Rattle.std.proofs.Common.{arith}
 use Rattle.log_law.proofs.Least.{zero_item}
 use Rattle.log_law.proofs.Walking.{same_key, one_more_key}
@@ -18,3 +19,9 @@ returns-else-items-end-2-clause-apart c d l same =
 pub returns-else-items-end-clause-apart : goal.returns-else-items-end-clause-apart
 returns-else-items-end-clause-apart c d l same =
     c.if-items-end.false (same_key c.args.items.now c.loop-end.end c.args.start d zero_item l c.requires same).0
+
+pub returns-else-items-end-2-clause-same : goal.returns-else-items-end-2-clause-same
+returns-else-items-end-2-clause-same c = grind (arith, common_steps)
+
+pub returns-else-items-end-clause-same : goal.returns-else-items-end-clause-same
+returns-else-items-end-clause-same c = grind (arith, common_steps)

@@ -1,4 +1,5 @@
-use Rattle.std.proofs.Common.{refl, IsTrue}
+use Rattle.std.proofs.lemmas.Grind.{common_steps}
+use Rattle.std.proofs.Common.{refl, IsTrue, arith}
 use Rattle.std.proofs.lemmas.List.Elements.{All-contains}
 use Rattle.redo_core.specs.declared.facts.Fact.{Fact}
 use Rattle.redo_core.proofs.Scans.{whole, one_more}
@@ -24,3 +25,6 @@ returns c = (
       c.args.others.now c.loop-fact.fact-index c.loop-fact-test.false c.loop-fact.invariant) among,
   λ h. refl,
 )
+
+pub returns-then-not-is_covered : goal.returns-then-not-is_covered
+returns-then-not-is_covered c = grind (arith, common_steps)

@@ -1,11 +1,12 @@
-use Rattle.std.proofs.Common.{◌≢◌, IsTrue, false, refl, rules}
+use Rattle.std.proofs.lemmas.Grind.{common_steps}
+use Rattle.std.proofs.Common.{◌≢◌, IsTrue, false, refl, arith}
 use Rattle.std.proofs.lemmas.List.Elements.{All-contains}
 use Rattle.redo_core.specs.declared.facts.Fact.{Fact}
 use Rattle.redo_core.proofs.Scans.{whole, one_more}
 use Rattle.plain_model.proofs.comparing.is_among.Goals as goal
 
 pub returns-then-is_same : goal.returns-then-is_same
-returns-then-is_same c = search rules
+returns-then-is_same c = grind (arith, common_steps)
 
 pub loop-other-preserved : goal.loop-other-preserved
 loop-other-preserved c =

@@ -1,4 +1,5 @@
-use Rattle.std.proofs.Common.{◌≡◌, ◌≤◌, ◌<◌, ◌↔◌, sym, subst}
+use Rattle.std.proofs.lemmas.Grind.{common_steps}
+use Rattle.std.proofs.Common.{◌≡◌, ◌≤◌, ◌<◌, ◌↔◌, sym, subst, arith}
 use Rattle.std.specs.Prelude.{IsTrue, not}
 use Rattle.std.proofs.lemmas.Bool.{le-leb}
 use Rattle.redo_core.specs.Sets.{cuts}
@@ -28,3 +29,15 @@ returns-else-number-at c =
     subst (λ f. IsTrue (not alive) ↔ Settles facts at f) (sym c.in-Record.is)
     (settled_if_dead facts at redo alive is (subst (λ i. i ≤ at.epoch) c.epoch.ensures c.if-epoch-at.true)
     (subst (λ i. at.anchor < i) c.number.ensures.value c.if-number-at.false))
+
+pub returns-else-epoch-at-2 : goal.returns-else-epoch-at-2
+returns-else-epoch-at-2 c = grind (arith, common_steps)
+
+pub returns-then-epoch-at-2 : goal.returns-then-epoch-at-2
+returns-then-epoch-at-2 c = grind (arith, common_steps)
+
+pub returns-else-epoch-at : goal.returns-else-epoch-at
+returns-else-epoch-at c = grind (arith, common_steps)
+
+pub returns-in-Cut : goal.returns-in-Cut
+returns-in-Cut c = grind (arith, common_steps)

@@ -1,10 +1,11 @@
-use Rattle.std.proofs.Common.{rules}
+use Rattle.std.proofs.lemmas.Grind.{common_steps}
+use Rattle.std.proofs.Common.{rules, arith}
 use Rattle.redo_core.specs.declared.facts.Fact.TheVariants.{Cut}
 use Rattle.segment_told.proofs.Ordered.{takes_next, refuses_next, takes_whole}
 use Rattle.segment_told.proofs.told.take_cuts.Goals as goal
 
 pub loop-cut-preserved : goal.loop-cut-preserved
-loop-cut-preserved c = search (rules, takes_next)
+loop-cut-preserved c = grind (arith, common_steps, takes_next)
 
 pub returns-in-Err-clause-refused : goal.returns-in-Err-clause-refused
 returns-in-Err-clause-refused c = search (rules, refuses_next)

@@ -1,4 +1,4 @@
-use Rattle.std.proofs.Common.{◌∷◌, [], Bor, subst, rules, arith}
+use Rattle.std.proofs.Common.{◌∷◌, [], Bor, subst, arith}
 use Rattle.std.proofs.lemmas.Grind.{common_steps}
 use Rattle.redo_core.specs.Data.{RecordData}
 use Rattle.redo_core.specs.declared.facts.Fact.TheVariants.{Record}
@@ -8,7 +8,7 @@ use Rattle.segment_told.proofs.Ordered.{takes_next, refuses_next, memory_or}
 use Rattle.segment_told.proofs.told.take_records.Goals as goal
 
 pub loop-redo-preserved : goal.loop-redo-preserved
-loop-redo-preserved c = search (rules, takes_next)
+loop-redo-preserved c = grind (arith, common_steps, takes_next)
 
 pub returns-in-Err-clause-refused : goal.returns-in-Err-clause-refused
 returns-in-Err-clause-refused c =

@@ -1,11 +1,12 @@
-use Rattle.std.proofs.Common.{◌≡◌, ◌∙◌, ap, arith, ◌≤◌, get_or, rules}
+use Rattle.std.proofs.lemmas.Grind.{common_steps}
+use Rattle.std.proofs.Common.{◌≡◌, ◌∙◌, ap, arith, ◌≤◌, get_or}
 use Rattle.std.proofs.lemmas.Bool.{leb-true, le-leb}
 use Rattle.redo_core.specs.Roster.{IsReader}
 use Rattle.log_law.proofs.FirstCuts.{law5_at}
 use Rattle.log_law.proofs.counted.CountedCuts.spares.Goals as goal
 
 pub returns-then-reader-self-clause-law : goal.returns-then-reader-self-clause-law
-returns-then-reader-self-clause-law c roster log d g = search rules
+returns-then-reader-self-clause-law c roster log d g = grind (arith, common_steps)
 
 pub returns-then-epoch-self-clause-law : goal.returns-then-epoch-self-clause-law
 returns-then-epoch-self-clause-law c roster log d g = (

@@ -1,3 +1,4 @@
+use Rattle.std.proofs.lemmas.Grind.{common_steps}
 use Rattle.std.proofs.Common.{◌≡◌, ◌++◌, ◌∷◌, [], length, subst, sym, ◌∙◌, ap, arith}
 use Rattle.std.specs.Prelude.{is_ok}
 use Rattle.redo_core.specs.Data.{AdvanceData}
@@ -56,3 +57,12 @@ pub invariant_of-self : goal.invariant_of-self
 invariant_of-self c =
     subst (λ xs. IsWritten (length c.self.inside.points) xs c.self.inside.alive c.self.inside.last c.self.inside.points) (sym c.reserve.ensures.items)
     c.self.invariant
+
+pub unwrap-requires : goal.unwrap-requires
+unwrap-requires c = grind (arith, common_steps)
+
+pub raise-requires : goal.raise-requires
+raise-requires c = grind (arith, common_steps)
+
+pub returns-then-is_err-clause-unchanged : goal.returns-then-is_err-clause-unchanged
+returns-then-is_err-clause-unchanged c = grind (arith, common_steps)

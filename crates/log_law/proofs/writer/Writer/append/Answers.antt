@@ -1,3 +1,4 @@
+use Rattle.std.proofs.lemmas.Grind.{common_steps}
 use Rattle.std.proofs.Common.{length, ◌≡◌, ◌++◌, ◌∷◌, [], subst, sym, ◌∙◌, ap, refl, arith, None}
 use Rattle.std.specs.Prelude.{is_ok}
 use Rattle.std.specs.List.{each_same}
@@ -161,3 +162,18 @@ pub invariant_of-self : goal.invariant_of-self
 invariant_of-self c =
     subst (λ xs. IsWritten (length c.self.inside.points) xs c.self.inside.alive c.self.inside.last c.self.inside.points) (sym c.reserve.ensures.items)
     c.self.invariant
+
+pub top_of-block_back-requires : goal.top_of-block_back-requires
+top_of-block_back-requires c = grind (arith, common_steps)
+
+pub unwrap-requires : goal.unwrap-requires
+unwrap-requires c = grind (arith, common_steps)
+
+pub push-requires : goal.push-requires
+push-requires c = grind (arith, common_steps)
+
+pub returns-in-Err-clause-unchanged : goal.returns-in-Err-clause-unchanged
+returns-in-Err-clause-unchanged c = grind (arith, common_steps)
+
+pub returns-then-is_err-clause-unchanged : goal.returns-then-is_err-clause-unchanged
+returns-then-is_err-clause-unchanged c = grind (arith, common_steps)

@@ -1,3 +1,4 @@
+use Rattle.std.proofs.lemmas.Grind.{common_steps}
 use Rattle.std.proofs.Common.{length, ◌≡◌, ◌+◌, ◌++◌, ◌∷◌, [], subst, sym, ◌∙◌, ap, arith}
 use Rattle.std.specs.Prelude.{is_ok}
 use Rattle.redo_core.specs.Data.{CutData}
@@ -105,3 +106,18 @@ pub invariant_of-self : goal.invariant_of-self
 invariant_of-self c =
     subst (λ xs. IsWritten (length c.self.inside.points) xs c.self.inside.alive c.self.inside.last c.self.inside.points) (sym c.reserve.ensures.items)
     c.self.invariant
+
+pub unwrap-requires : goal.unwrap-requires
+unwrap-requires c = grind (arith, common_steps)
+
+pub returns-then-is_err-clause-unchanged : goal.returns-then-is_err-clause-unchanged
+returns-then-is_err-clause-unchanged c = grind (arith, common_steps)
+
+pub begin-requires-clause-stack : goal.begin-requires-clause-stack
+begin-requires-clause-stack c = grind (arith, common_steps)
+
+pub returns-in-Err-new-clause-fault : goal.returns-in-Err-new-clause-fault
+returns-in-Err-new-clause-fault c = grind (arith, common_steps)
+
+pub begin-requires-clause-epoch : goal.begin-requires-clause-epoch
+begin-requires-clause-epoch c = grind (arith, common_steps)

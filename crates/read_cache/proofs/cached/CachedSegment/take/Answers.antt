@@ -1,3 +1,5 @@
+use Rattle.std.proofs.Common.{arith}
+use Rattle.std.proofs.lemmas.Grind.{common_steps}
 use Rattle.read_cache.proofs.Current.{unless_stale, after_take}
 use Rattle.read_cache.proofs.cached.CachedSegment.take.Goals as goal
 
@@ -21,3 +23,18 @@ returns-clause-takes c =
       back = e.back;
       unchanged = e.unchanged;
     })
+
+pub returns-clause-sound : goal.returns-clause-sound
+returns-clause-sound c = grind (arith, common_steps)
+
+pub returns-clause-drops : goal.returns-clause-drops
+returns-clause-drops c = grind (arith, common_steps)
+
+pub returns-clause-idle : goal.returns-clause-idle
+returns-clause-idle c = grind (arith, common_steps)
+
+pub returns-clause-pages : goal.returns-clause-pages
+returns-clause-pages c = grind (arith, common_steps)
+
+pub returns-clause-tells : goal.returns-clause-tells
+returns-clause-tells c = grind (arith, common_steps)
