@@ -12,7 +12,7 @@ use crate::requests::read_line;
 use crate::values::{delta_in, fact_in, piece_in, summary_in};
 use memchr::memchr;
 use replica::Request;
-use script_text::read_number;
+use script_text::{is_word, read_number};
 use std::alloc::Global;
 
 /// The most bytes of a summary in front of its delta.
@@ -96,13 +96,13 @@ pub fn read_frame(alloc: Global, frame: &[u8]) -> Result<Asked, LineError>
     let Some((word, rest)) = halves(frame) else {
         return read_line(alloc, frame);
     };
-    if word == b"take".as_slice() {
+    if is_word(word, b"take".as_slice()) {
         take(alloc, rest)
-    } else if word == b"answer".as_slice() {
+    } else if is_word(word, b"answer".as_slice()) {
         answer(alloc, rest)
-    } else if word == b"add".as_slice() {
+    } else if is_word(word, b"add".as_slice()) {
         add(alloc, rest)
-    } else if word == b"absorb".as_slice() {
+    } else if is_word(word, b"absorb".as_slice()) {
         absorb(alloc, rest)
     } else {
         read_line(alloc, frame)

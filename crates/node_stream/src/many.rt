@@ -11,6 +11,7 @@ use crate::frame_node::{answer_one, memory};
 use crate::frame_requests::halves;
 use frame_stream::{AnswerFrames, FrameAnswer, count_frames, split_frame};
 use replica::Replica;
+use script_text::is_word;
 use std::alloc::Global;
 
 /// The most answers for which room is taken.
@@ -22,7 +23,7 @@ fn frames_in(frame: &[u8]) -> Option<&[u8]>
     ensures { option_map (λ r. r.now) result ≡ many_in frame.now }
 {
     let (word, rest) = halves(frame)?;
-    if word == b"many".as_slice() {
+    if is_word(word, b"many".as_slice()) {
         Some(rest)
     } else {
         None

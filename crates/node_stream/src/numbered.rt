@@ -9,7 +9,7 @@ ghost use Rattle.node_stream.specs.Reading.{piece_form, stage_form, next_form, n
 use crate::asked::{Asked, Window};
 use redo_core::{Key, MAX_NUMBER, MAX_READERS, Roster};
 use replica::Request;
-use script_text::read_numbers;
+use script_text::{is_word, read_numbers};
 
 /// An epoch or a page.
 const SHORT: u64 = 65535;
@@ -26,19 +26,19 @@ pub fn word(word: &[u8]) -> Option<Asked>
     ensures asks { result ≡ lone_word word.now }
     ensures inside { IfSome result (λ a. IsInside a.window) }
 {
-    let request = if word == b"front".as_slice() {
+    let request = if is_word(word, b"front".as_slice()) {
         Request::Front
-    } else if word == b"gap".as_slice() {
+    } else if is_word(word, b"gap".as_slice()) {
         Request::Gap
-    } else if word == b"state".as_slice() {
+    } else if is_word(word, b"state".as_slice()) {
         Request::State
-    } else if word == b"ask".as_slice() {
+    } else if is_word(word, b"ask".as_slice()) {
         Request::Ask
-    } else if word == b"discard".as_slice() {
+    } else if is_word(word, b"discard".as_slice()) {
         Request::Discard
-    } else if word == b"tidy".as_slice() {
+    } else if is_word(word, b"tidy".as_slice()) {
         Request::Tidy
-    } else if word == b"finish".as_slice() {
+    } else if is_word(word, b"finish".as_slice()) {
         Request::Finish
     } else {
         return None;
@@ -129,19 +129,19 @@ pub fn numbers(fields: &[&[u8]]) -> Option<Asked>
     ensures inside { IfSome result (λ a. IsInside a.window) }
 {
     let (word, rest) = fields.split_first()?;
-    if *word == b"open".as_slice() {
+    if is_word(word, b"open".as_slice()) {
         open(rest)
-    } else if *word == b"read".as_slice() {
+    } else if is_word(word, b"read".as_slice()) {
         read(rest)
-    } else if *word == b"fold".as_slice() {
+    } else if is_word(word, b"fold".as_slice()) {
         fold(rest)
-    } else if *word == b"freeze".as_slice() {
+    } else if is_word(word, b"freeze".as_slice()) {
         freeze(rest)
-    } else if *word == b"piece".as_slice() {
+    } else if is_word(word, b"piece".as_slice()) {
         piece(rest)
-    } else if *word == b"stage".as_slice() {
+    } else if is_word(word, b"stage".as_slice()) {
         stage(rest)
-    } else if *word == b"next".as_slice() {
+    } else if is_word(word, b"next".as_slice()) {
         next(rest)
     } else {
         None

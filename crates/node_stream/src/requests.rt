@@ -10,7 +10,7 @@ use crate::faults::{LineError, LineFault};
 use crate::numbered::{numbers, word};
 use crate::values::{delta, fact, piece, summary};
 use replica::Request;
-use script_text::first_parts;
+use script_text::{first_parts, is_word};
 use std::alloc::Global;
 
 #[tactic(auto, unfolding(crate::specs::Reading::take_line))]
@@ -67,11 +67,11 @@ fn with_field(alloc: Global, words: &[&[u8]], word: &[u8], field: &[u8]) -> Resu
     ensures asks { Gives (λ x. x) result (field_line word.now field.now) }
     ensures inside { IfOk result (λ a. IsInside a.window) }
 {
-    if word == b"take".as_slice() {
+    if is_word(word, b"take".as_slice()) {
         take(alloc, field)
-    } else if word == b"answer".as_slice() {
+    } else if is_word(word, b"answer".as_slice()) {
         answer(alloc, field)
-    } else if word == b"add".as_slice() {
+    } else if is_word(word, b"add".as_slice()) {
         add(alloc, field)
     } else {
         formed(numbers(words))
@@ -90,7 +90,7 @@ fn with_fields(
     ensures asks { Gives (λ x. x) result (fields_line word.now field.now next.now) }
     ensures inside { IfOk result (λ a. IsInside a.window) }
 {
-    if word == b"absorb".as_slice() {
+    if is_word(word, b"absorb".as_slice()) {
         absorb(alloc, field, next)
     } else {
         formed(numbers(words))
