@@ -6,4 +6,3 @@ pub mod PatchLists
 pub mod FactLines
 pub mod BadLines
 pub mod GoLines
-pub mod Openings

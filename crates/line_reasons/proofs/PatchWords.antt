@@ -1,12 +1,13 @@
 -- Patches, and their faults.
-use Rattle.std.proofs.Common.{◌≡◌, ◌≢◌, ℕ, ◌<◌, inl, inr, Bool, false, List, [], ◌∷◌, length, Option, Some, None, refl, sym, ap, ◌∙◌, arith, rules}
+use Rattle.std.proofs.Common.{◌≡◌, ◌≢◌, ℕ, ◌<◌, inl, inr, Bool, ◌&&◌, List, [], ◌∷◌, length, Option, Some, None, refl, sym, ap, ◌∙◌, arith, rules}
 use Rattle.std.specs.Prelude.{IsSome, is_some, MatchBool}
 use Rattle.hex.specs.Hex.{decode_of}
-use Rattle.script_text.specs.Parts.{◌>>=◌, parts_at, first_parts}
+use Rattle.script_text.specs.Parts.{◌>>=◌, parts_at}
+use Rattle.script_text.specs.Number.{decimal_value}
 use Rattle.script_text.specs.Fields.{numbers_of}
 use Rattle.script_text.specs.FactLine.{decoded, patch_at, patch_from, patch_of}
-use Rattle.script_text.proofs.FirstParts.{few_are_all}
-use Rattle.script_text.proofs.Forms.{numbers_apart}
+use Rattle.script_text.proofs.RecordContents.{read_whole}
+use Rattle.script_text.proofs.Split.{some_parts, parts_joined}
 use Rattle.script_text.proofs.Results.{found}
 use Rattle.line_reasons.specs.declared.reasons.PatchFault.{PatchFault}
 use Rattle.line_reasons.specs.declared.reasons.PatchFault.TheVariants.{Colon, Place, NoBytes, Digits, FillBytes}
@@ -50,17 +51,22 @@ faulty_word text FillBytes h = patch_read text h.place h.digits h.holds.bytes h.
 
 -- ---- what is found of a word
 
--- the numbers of the first parts of a place are those of all
-pub place_numbers : (limits : List ℕ) (word : List ℕ) (parts : List (List ℕ)) (r : Option (List ℕ)) → length limits < 66 → parts ≡ first_parts 42 word
-    → r ≡ numbers_of limits parts → r ≡ numbers_of limits (parts_at 42 word)
-unfolding first_parts
-place_numbers limits word parts r lt e read =
-    read ∙ ap (numbers_of limits) e ∙ few_are_all (numbers_of limits) None 66 (parts_at 42 word) (λ ys le. numbers_apart limits ys (λ f. omega (arith, f)))
+none_more : (limit : ℕ) (o : Option ℕ) (word : List ℕ) (words : List (List ℕ)) → (o >>= λ n. numbers_of [] (word ∷ words) >>= λ ns. Some (n ∷ ns)) ≡ None
+none_more limit o word words = search rules
 
--- what both readings of a place tell
-pub placed : (word : List ℕ) (b : Bool) (offset range : Option (List ℕ)) → is_some offset ≡ false → offset ≡ numbers_of offset_limits (parts_at 42 word)
-    → b ≡ is_some range → range ≡ numbers_of range_limits (parts_at 42 word) → MatchBool b (IsPatchPlace word) (IsNoPatchPlace word)
-placed word b offset range none e test f = search rules
+-- what stands behind the star is a length alone, or none
+length_behind : (len : List ℕ) (o : Option ℕ) (parts : List (List ℕ)) → decimal_value 4096 len ≡ o → parts_at 42 len ≡ parts
+    → numbers_of (4096 ∷ []) parts ≡ (o >>= λ n. Some (n ∷ []))
+length_behind len (Some n) parts e is = rw (← is, read_whole 4096 len n (omega arith) e, e) refl
+length_behind len None [] e is = refl
+length_behind len None (x ∷ []) e is =
+    ap (λ (o : Option ℕ). o >>= λ n. Some (n ∷ [])) (ap (decimal_value 4096) (sym (parts_joined 42 len (x ∷ []) is)) ∙ e)
+length_behind len None (x ∷ y ∷ rest) e is = none_more 4096 (decimal_value 4096 x) y rest
+
+-- a word with a star is an offset and a length, or no place
+pub starred : (word offset len : List ℕ) (b : Bool) → parts_at 42 word ≡ offset ∷ parts_at 42 len
+    → b ≡ (is_some (decimal_value 65535 offset) && is_some (decimal_value 4096 len)) → MatchBool b (IsPatchPlace word) (IsNoPatchPlace word)
+starred word offset len b e is = search (rules, length_behind, some_parts)
 
 no_write : (parts : List (List ℕ)) (bytes : List ℕ) → 0 < length bytes → patch_at parts bytes ≡ None → numbers_of offset_limits parts ≡ None
 no_write parts bytes some none = search rules

@@ -7,18 +7,18 @@ ghost use Rattle.line_reasons.specs.PatchFaults.{IsPatchPlace, IsNoPatchPlace, I
 
 use crate::limits::{PAGE, SHORT};
 use crate::reasons::PatchFault;
-use script_text::{decoded, first_part, first_parts, read_numbers};
+use script_text::{decoded, first_part, read_number};
 use std::alloc::{AllocError, Global};
 
 /// Whether the word is a place: an offset, or an offset and a length round a star.
-fn is_place(alloc: Global, word: &[u8]) -> Result<bool, AllocError>
-    ensures { IfOk result (λ b. MatchBool b (IsPatchPlace word.now) (IsNoPatchPlace word.now)) }
+fn is_place(word: &[u8]) -> bool
+    ensures { MatchBool result (IsPatchPlace word.now) (IsNoPatchPlace word.now) }
 {
-    let parts = first_parts(alloc, word, b'*')?;
-    if read_numbers([SHORT], &parts).is_some() {
-        return Ok(true);
+    match first_part(word, b'*') {
+        None => read_number(word, SHORT).is_some(),
+        Some((offset, len)) => read_number(offset, SHORT).is_some()
+            && read_number(len, PAGE).is_some(),
     }
-    Ok(read_numbers([SHORT, PAGE], &parts).is_some())
 }
 
 /// The place and the digits round the one colon of a word.
@@ -41,7 +41,7 @@ pub fn patch_fault(alloc: Global, word: &[u8]) -> Result<PatchFault, AllocError>
     let Some((place, digits)) = round_colon(word) else {
         return Ok(PatchFault::Colon);
     };
-    if !is_place(alloc, place)? {
+    if !is_place(place) {
         return Ok(PatchFault::Place);
     }
     let Some(bytes) = decoded(alloc, digits)? else {

@@ -1,30 +1,49 @@
-//! The reasons, and their words.
+//! The reasons, and their words, which `Debug` tells too: nobody prints the names of the variants.
 
 use redo_core::ShapeFault;
 use std::fmt;
 use thiserror::Error;
 
 /// Why a word is no number.
-#[derive(Clone, Copy, Debug, PartialEq, Eq, Error)]
+#[derive(Clone, Copy, PartialEq, Eq, Error)]
 pub enum NumberFault {
-    #[error("is empty: one space parts two fields, and none stands at an end")]
     Empty,
-    #[error("has a byte that is no decimal digit")]
     NotDigits,
-    #[error("has a leading zero")]
     LeadingZero,
-    #[error("is above {0}")]
     Above(u64),
 }
 
+impl fmt::Debug for NumberFault {
+    fn fmt<W: fmt::Write>(&self, f: &mut fmt::Formatter<W>) -> fmt::Result {
+        fmt::Display::fmt(self, f)
+    }
+}
+
+impl fmt::Display for NumberFault {
+    fn fmt<W: fmt::Write>(&self, f: &mut fmt::Formatter<W>) -> fmt::Result {
+        f.write_str(match self {
+            NumberFault::Above(limit) => return write!(f, "is above {limit}"),
+            NumberFault::Empty => "is empty: one space parts two fields, and none stands at an end",
+            NumberFault::NotDigits => "has a byte that is no decimal digit",
+            NumberFault::LeadingZero => "has a leading zero",
+        })
+    }
+}
+
 /// Why a word is no patch, OFF:HEX or OFF*LEN:HH.
-#[derive(Clone, Copy, Debug, PartialEq, Eq, Error)]
+#[derive(Clone, Copy, PartialEq, Eq, Error)]
 pub enum PatchFault {
     Colon,
     Place,
     Digits,
     NoBytes,
     FillBytes,
+}
+
+impl fmt::Debug for PatchFault {
+    fn fmt<W: fmt::Write>(&self, f: &mut fmt::Formatter<W>) -> fmt::Result {
+        fmt::Display::fmt(self, f)
+    }
 }
 
 impl fmt::Display for PatchFault {
@@ -41,43 +60,72 @@ impl fmt::Display for PatchFault {
 }
 
 /// Why a line is bad. Fields are numbered from 1, the word that begins the line first, and patches from 1.
-#[derive(Clone, Copy, Debug, PartialEq, Eq, Error)]
+#[derive(Clone, Copy, PartialEq, Eq, Error)]
 pub enum LineReason {
-    #[error("it ends with CR, and a line ends with LF alone")]
     CarriageReturn,
-    #[error("no line that begins with that word may stand here")]
     UnknownWord,
-    #[error("its word takes {wanted} fields behind it")]
     FieldCount { wanted: usize },
-    #[error("`min` takes 2 or 3 fields behind it")]
     AdvanceFieldCount,
-    #[error("field {at} {fault}")]
     Field { at: usize, fault: NumberFault },
-    #[error("field {at} is 0")]
     Zero { at: usize },
-    #[error("the bytes to read end past the page, at 4096")]
     PastPage,
-    #[error("field 7 has more than 64 patches")]
     ManyPatches,
-    #[error("patch {at} of field 7 {fault}")]
     Patch { at: usize, fault: PatchFault },
-    #[error(transparent)]
     Shape(ShapeFault),
 }
 
+impl fmt::Debug for LineReason {
+    fn fmt<W: fmt::Write>(&self, f: &mut fmt::Formatter<W>) -> fmt::Result {
+        fmt::Display::fmt(self, f)
+    }
+}
+
+impl fmt::Display for LineReason {
+    fn fmt<W: fmt::Write>(&self, f: &mut fmt::Formatter<W>) -> fmt::Result {
+        f.write_str(match self {
+            LineReason::FieldCount { wanted } => return write!(
+                f,
+                "its word takes {wanted} fields behind it"
+            ),
+            LineReason::Field { at, fault } => return write!(f, "field {at} {fault}"),
+            LineReason::Zero { at } => return write!(f, "field {at} is 0"),
+            LineReason::Patch { at, fault } => return write!(f, "patch {at} of field 7 {fault}"),
+            LineReason::Shape(fault) => return fmt::Display::fmt(fault, f),
+            LineReason::CarriageReturn => "it ends with CR, and a line ends with LF alone",
+            LineReason::UnknownWord => "no line that begins with that word may stand here",
+            LineReason::AdvanceFieldCount => "`min` takes 2 or 3 fields behind it",
+            LineReason::PastPage => "the bytes to read end past the page, at 4096",
+            LineReason::ManyPatches => "field 7 has more than 64 patches",
+        })
+    }
+}
+
 /// Why a line of a whole text is bad.
-#[derive(Clone, Copy, Debug, PartialEq, Eq, Error)]
+#[derive(Clone, Copy, PartialEq, Eq, Error)]
 pub enum TextReason {
-    #[error("the text ends before the line `go`")]
     NoGo,
-    #[error("the text ends before the line `nodes K`")]
     NoNodes,
-    #[error("no LF ends it")]
     NoLineEnd,
-    #[error("there are more than 1,000,000 fact lines")]
     ManyFacts,
-    #[error("there are more than 1,000,000 step lines")]
     ManySteps,
-    #[error(transparent)]
     Line(LineReason),
+}
+
+impl fmt::Debug for TextReason {
+    fn fmt<W: fmt::Write>(&self, f: &mut fmt::Formatter<W>) -> fmt::Result {
+        fmt::Display::fmt(self, f)
+    }
+}
+
+impl fmt::Display for TextReason {
+    fn fmt<W: fmt::Write>(&self, f: &mut fmt::Formatter<W>) -> fmt::Result {
+        f.write_str(match self {
+            TextReason::Line(reason) => return fmt::Display::fmt(reason, f),
+            TextReason::NoGo => "the text ends before the line `go`",
+            TextReason::NoNodes => "the text ends before the line `nodes K`",
+            TextReason::NoLineEnd => "no LF ends it",
+            TextReason::ManyFacts => "there are more than 1,000,000 fact lines",
+            TextReason::ManySteps => "there are more than 1,000,000 step lines",
+        })
+    }
 }

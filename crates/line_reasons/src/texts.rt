@@ -1,8 +1,8 @@
 //! A line of a whole text.
 
-ghost use Rattle.std.specs.Prelude.{◌≡◌, ◌<◌, ◌-◌, Some, IfOk, IfSome, MatchOption, is_some};
+ghost use Rattle.std.specs.Prelude.{◌≡◌, ◌<◌, ◌-◌, Some, IfOk, IfSome, MatchOption};
 ghost use Rattle.script_text.specs.Parts.{parts_at};
-ghost use Rattle.script_text.specs.Script.{roster_in_line, opening_of};
+ghost use Rattle.script_text.specs.Script.{opening_of};
 ghost use Rattle.line_reasons.specs.TextReasons.{IsLineReason, IsReadInPlace, IsEndedReason, IsGoodEnded, IsRestReason, IsGoodRest, IsTextReason, IsGoodLine};
 ghost use Rattle.line_reasons.specs.LineReasons.{IsReadThere};
 
@@ -11,33 +11,8 @@ use crate::limits::{LINES, READERS};
 use crate::lines::{Place, line_reason};
 use crate::reasons::TextReason;
 use crate::spots::{Spot, find_spot};
-use script_text::{first_part, first_parts, is_word};
+use script_text::{is_word, read_opening};
 use std::alloc::{AllocError, Global};
-
-/// Whether the line is one like `roster 2`.
-fn names_roster(alloc: Global, line: &[u8]) -> Result<bool, AllocError>
-    ensures { IfOk result (λ b. b ≡ is_some (roster_in_line line.now)) }
-{
-    let parts = first_parts(alloc, line, b' ')?;
-    let [word, fields @ ..] = parts.as_slice() else {
-        return Ok(false);
-    };
-    Ok(counted(b"roster", READERS, word, fields).is_ok())
-}
-
-/// How many lines of the text name its roster: one, or none.
-fn opening(alloc: Global, text: &[u8]) -> Result<usize, AllocError>
-    ensures { IfOk result (λ n. n ≡ (opening_of (parts_at 10 text.now)).lines) }
-{
-    let Some((first, _)) = first_part(text, b'\n') else {
-        return Ok(0);
-    };
-    if names_roster(alloc, first)? {
-        Ok(1)
-    } else {
-        Ok(0)
-    }
-}
 
 /// Why what stands behind the last LF is bad.
 fn rest_reason(is_script: bool, spot: Spot) -> Option<TextReason>
@@ -133,6 +108,6 @@ pub fn text_reason(
     if !spot.is_ended {
         return Ok(rest_reason(is_script, spot));
     }
-    let opening = opening(alloc, text)?;
-    ended_reason(alloc, is_script, opening, spot)
+    let opening = read_opening(text);
+    ended_reason(alloc, is_script, opening.lines, spot)
 }

@@ -58,7 +58,7 @@ colon : (text place digits : List ℕ) → parts_at 58 text ≡ place ∷ parts_
 colon text place digits e = ap patch_from e ∙ behind_colon place digits (decode_of digits) refl
 
 -- a number is one part
-read_whole : (limit : ℕ) (word : List ℕ) (n : ℕ) → limit < 2 ^ 64 → decimal_value limit word ≡ Some n → parts_at 42 word ≡ word ∷ []
+pub read_whole : (limit : ℕ) (word : List ℕ) (n : ℕ) → limit < 2 ^ 64 → decimal_value limit word ≡ Some n → parts_at 42 word ≡ word ∷ []
 read_whole limit word n lt e =
     let is = (numbers_are_decimals limit n word lt).0 e in
     joined_parts 42 word [] (subst (λ (t : List ℕ). lacks 42 t ≡ true) (sym is.0) (lacks_decimal 42 n (omega (arith, lt, is.1)) refl), tt)

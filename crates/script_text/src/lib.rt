@@ -25,5 +25,6 @@ pub use fields::{first_part, first_parts, is_word};
 pub use hexed::decoded;
 pub use laws::{bad_lines_are_least, lines_are_spelled, numbers_are_decimals, scripts_are_spelled};
 pub use number::{number as read_number, numbers as read_numbers};
+pub use opening::{Opening, read_opening};
 pub use script::{Log, Script, ScriptError, read_facts, read_script};
 pub use spelling::fact_text;
