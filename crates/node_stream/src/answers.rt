@@ -1,6 +1,7 @@
 //! From a reply to an answer.
 
-ghost use Rattle.std.specs.Prelude.{◌≡◌, IfOk, OnErr};
+ghost use Rattle.std.specs.Prelude.{◌≡◌, ℕ, IfOk, OnErr};
+ghost use Rattle.replica.specs.declared.replies.Reply.TheVariants.{Frozen};
 ghost use Rattle.line_stream.specs.AnswerText.{text_of};
 ghost use Rattle.node_stream.specs.Asking.{IsInside};
 ghost use Rattle.node_stream.specs.Room.{HasRoom};
@@ -9,10 +10,58 @@ ghost use Rattle.node_stream.specs.Telling.{line_of, TakesMemory};
 use crate::asked::Window;
 use crate::frozen::frozen;
 use crate::telling::{delta, page, piece, record, summary};
-use crate::wording::{front, gap, one, refusal, state, two, uncovered};
+use crate::wording::{front, gap, numbers, one, refusal, state, uncovered};
 use line_stream::Answer;
 use replica::Reply;
 use std::alloc::{AllocError, Global};
+
+/// The answer line of a reply that keeps no snapshot.
+fn unfrozen(alloc: Global, window: Window, reply: &Reply) -> Result<Answer, AllocError>
+    requires inside { IsInside window }
+    requires other { (pieces : ℕ) → reply.now ≡ Frozen pieces → ⊥ }
+    ensures line { IfOk result (λ a. text_of a ≡ line_of window reply.now) }
+    ensures memory { OnErr result (TakesMemory reply.now) }
+{
+    match reply {
+        Reply::Opened => Ok(Answer::Fixed("opened\n")),
+        Reply::Changed => Ok(Answer::Fixed("changed\n")),
+        Reply::Unchanged => Ok(Answer::Fixed("unchanged\n")),
+        Reply::Refused { why } => refusal(alloc, *why),
+        Reply::Front { front: at } => front(alloc, *at),
+        Reply::Gap { gap: waited } => gap(alloc, *waited),
+        Reply::NoGap => Ok(Answer::Fixed("no gap\n")),
+        Reply::State { status } => state(alloc, *status),
+        Reply::Page { image } => page(alloc, window, image),
+        Reply::Below { min } => one(alloc, "below", *min),
+        Reply::Above { complete } => one(alloc, "above", *complete),
+        Reply::BrokenBlockChain { page, number } => {
+            numbers(alloc, "broken", &[u64::from(*page), *number])
+        }
+        Reply::Summary { summary: told } => summary(alloc, told),
+        Reply::Delta { delta: told } => delta(alloc, told),
+        Reply::Absorbed => Ok(Answer::Fixed("absorbed\n")),
+        Reply::Uncovered { shown } => uncovered(alloc, *shown),
+        Reply::Folded => Ok(Answer::Fixed("folded\n")),
+        Reply::Discarded => Ok(Answer::Fixed("discarded\n")),
+        Reply::Tidied => Ok(Answer::Fixed("tidied\n")),
+        Reply::Frozen { .. } => unreachable!(),
+        Reply::TooMany => Ok(Answer::Fixed("too many\n")),
+        Reply::Piece { piece: told } => piece(alloc, told),
+        Reply::NoSnapshot => Ok(Answer::Fixed("no snapshot\n")),
+        Reply::NoPiece => Ok(Answer::Fixed("no piece\n")),
+        Reply::Staged => Ok(Answer::Fixed("staged\n")),
+        Reply::Added => Ok(Answer::Fixed("added\n")),
+        Reply::Stranger => Ok(Answer::Fixed("stranger\n")),
+        Reply::Double { index } => one(alloc, "double", u64::from(*index)),
+        Reply::NoStaging => Ok(Answer::Fixed("no staging\n")),
+        Reply::Restored => Ok(Answer::Fixed("restored\n")),
+        Reply::Missing { index } => one(alloc, "missing", u64::from(*index)),
+        Reply::Malformed { index } => one(alloc, "malformed", u64::from(*index)),
+        Reply::Next { redo } => record(alloc, redo),
+        Reply::NoNext => Ok(Answer::Fixed("none\n")),
+        Reply::Memory => Ok(Answer::Fixed("memory\n")),
+    }
+}
 
 /// The answer line of a reply; `room` is for that of a snapshot which is kept.
 ///
@@ -29,42 +78,7 @@ pub fn told(
     ensures memory { OnErr result (TakesMemory reply.now) }
 {
     match reply {
-        Reply::Opened => Ok(Answer::Fixed("opened\n")),
-        Reply::Changed => Ok(Answer::Fixed("changed\n")),
-        Reply::Unchanged => Ok(Answer::Fixed("unchanged\n")),
-        Reply::Refused { why } => refusal(alloc, *why),
-        Reply::Front { front: at } => front(alloc, *at),
-        Reply::Gap { gap: waited } => gap(alloc, *waited),
-        Reply::NoGap => Ok(Answer::Fixed("no gap\n")),
-        Reply::State { status } => state(alloc, *status),
-        Reply::Page { image } => page(alloc, window, image),
-        Reply::Below { min } => one(alloc, "below ", *min),
-        Reply::Above { complete } => one(alloc, "above ", *complete),
-        Reply::BrokenBlockChain { page, number } => {
-            two(alloc, "broken ", u64::from(*page), *number)
-        }
-        Reply::Summary { summary: told } => summary(alloc, told),
-        Reply::Delta { delta: told } => delta(alloc, told),
-        Reply::Absorbed => Ok(Answer::Fixed("absorbed\n")),
-        Reply::Uncovered { shown } => uncovered(alloc, *shown),
-        Reply::Folded => Ok(Answer::Fixed("folded\n")),
-        Reply::Discarded => Ok(Answer::Fixed("discarded\n")),
-        Reply::Tidied => Ok(Answer::Fixed("tidied\n")),
         Reply::Frozen { pieces } => Ok(frozen(room, *pieces)),
-        Reply::TooMany => Ok(Answer::Fixed("too many\n")),
-        Reply::Piece { piece: told } => piece(alloc, told),
-        Reply::NoSnapshot => Ok(Answer::Fixed("no snapshot\n")),
-        Reply::NoPiece => Ok(Answer::Fixed("no piece\n")),
-        Reply::Staged => Ok(Answer::Fixed("staged\n")),
-        Reply::Added => Ok(Answer::Fixed("added\n")),
-        Reply::Stranger => Ok(Answer::Fixed("stranger\n")),
-        Reply::Double { index } => one(alloc, "double ", u64::from(*index)),
-        Reply::NoStaging => Ok(Answer::Fixed("no staging\n")),
-        Reply::Restored => Ok(Answer::Fixed("restored\n")),
-        Reply::Missing { index } => one(alloc, "missing ", u64::from(*index)),
-        Reply::Malformed { index } => one(alloc, "malformed ", u64::from(*index)),
-        Reply::Next { redo } => record(alloc, redo),
-        Reply::NoNext => Ok(Answer::Fixed("none\n")),
-        Reply::Memory => Ok(Answer::Fixed("memory\n")),
+        _ => unfrozen(alloc, window, reply),
     }
 }

@@ -1,33 +1,60 @@
-//! Why a line asks for nothing.
+//! Why a line asks for nothing, in words that `Debug` tells too: nobody prints the names of the variants.
 
 ghost use Rattle.std.specs.Prelude.{◌≡◌};
 ghost use Rattle.node_stream.specs.declared.faults.LineError.TheVariants.{Memory};
 
 use redo_wire::WireFault;
 use std::alloc::AllocError;
+use std::fmt;
 use thiserror::Error;
 
 /// Why a line asks for nothing.
-#[derive(Clone, Copy, Debug, PartialEq, Eq, Error)]
+#[derive(Clone, Copy, PartialEq, Eq, Error)]
 pub enum LineFault {
     /// It has the form of no request.
-    #[error("bad line")]
     Form,
     /// It has the form of a request, but for digits that are no hexadecimal digits, or not an even number of them.
-    #[error("bad hex")]
     Hex,
     /// The digits stand for bytes that are no value of the kind that stands there.
-    #[error(transparent)]
     Wire(WireFault),
 }
 
+impl fmt::Debug for LineFault {
+    fn fmt<W: fmt::Write>(&self, f: &mut fmt::Formatter<W>) -> fmt::Result {
+        fmt::Display::fmt(self, f)
+    }
+}
+
+impl fmt::Display for LineFault {
+    fn fmt<W: fmt::Write>(&self, f: &mut fmt::Formatter<W>) -> fmt::Result {
+        f.write_str(match self {
+            LineFault::Wire(fault) => return fmt::Display::fmt(fault, f),
+            LineFault::Form => "bad line",
+            LineFault::Hex => "bad hex",
+        })
+    }
+}
+
 /// Why a line was not read.
-#[derive(Debug, Drop, Error)]
+#[derive(Drop, Error)]
 pub enum LineError {
-    #[error("out of memory")]
     Memory,
-    #[error(transparent)]
     Fault(LineFault),
+}
+
+impl fmt::Debug for LineError {
+    fn fmt<W: fmt::Write>(&self, f: &mut fmt::Formatter<W>) -> fmt::Result {
+        fmt::Display::fmt(self, f)
+    }
+}
+
+impl fmt::Display for LineError {
+    fn fmt<W: fmt::Write>(&self, f: &mut fmt::Formatter<W>) -> fmt::Result {
+        match self {
+            LineError::Memory => f.write_str("out of memory"),
+            LineError::Fault(fault) => fmt::Display::fmt(fault, f),
+        }
+    }
 }
 
 impl From<AllocError> for LineError {

@@ -1,8 +1,9 @@
 //! Answer lines of words and numbers.
 
-ghost use Rattle.std.specs.Prelude.{◌≡◌, ◌++◌, IfOk, codes, string_bytes};
+ghost use Rattle.std.specs.Prelude.{◌≡◌, ◌++◌, [], ◌∷◌, IfOk, codes};
 ghost use Rattle.line_stream.specs.AnswerText.{text_of};
-ghost use Rattle.node_stream.specs.Telling.{one_number, two_numbers, three_numbers, held_line, refusal_line, shown_line};
+ghost use Rattle.script_text.specs.Spelled.{worded_line};
+ghost use Rattle.node_stream.specs.Telling.{three_numbers, held_line, refusal_line, shown_line};
 ghost use Rattle.node_stream.specs.Telling.{gap_line, status_start, status_end, fault_line};
 
 use crate::faults::LineFault;
@@ -11,56 +12,41 @@ use gossip_core::Shown;
 use line_stream::Answer;
 use redo_core::Cut;
 use replica::Status;
+use script_text::{labelled, worded_line};
 use segment_core::{Front, Gap, Refusal};
 use std::alloc::{AllocError, Global};
 
-/// Words and a number.
+/// Words, and numbers behind them.
+pub fn numbers(alloc: Global, words: &str, numbers: &[u64]) -> Result<Answer, AllocError>
+    ensures { IfOk result (λ a. text_of a ≡ worded_line words.now numbers.now) }
+{
+    Ok(Answer::Made(worded_line(alloc, words, numbers)?))
+}
+
+/// Words, and a number behind them.
 pub fn one(alloc: Global, words: &str, number: u64) -> Result<Answer, AllocError>
-    ensures { IfOk result (λ a. text_of a ≡ one_number words.now number) }
+    ensures { IfOk result (λ a. text_of a ≡ worded_line words.now (number ∷ [])) }
 {
-    let text = format!(in alloc; "{words}{number}\n")?;
-    Ok(Answer::Made(text))
-}
-
-/// Words and two numbers.
-pub fn two(alloc: Global, words: &str, first: u64, second: u64) -> Result<Answer, AllocError>
-    ensures { IfOk result (λ a. text_of a ≡ two_numbers words.now first second) }
-{
-    let text = format!(in alloc; "{words}{first} {second}\n")?;
-    Ok(Answer::Made(text))
-}
-
-/// Words and three numbers.
-pub fn three(
-    alloc: Global,
-    words: &str,
-    first: u64,
-    second: u64,
-    third: u64,
-) -> Result<Answer, AllocError>
-    ensures { IfOk result (λ a. text_of a ≡ three_numbers words.now first second third) }
-{
-    let text = format!(in alloc; "{words}{first} {second} {third}\n")?;
-    Ok(Answer::Made(text))
+    numbers(alloc, words, &[number])
 }
 
 fn cut(alloc: Global, words: &str, cut: Cut) -> Result<Answer, AllocError>
-    ensures { IfOk result (λ a. text_of a ≡ three_numbers words.now cut.epoch cut.lo cut.hi) }
+    ensures { IfOk result (λ a. text_of a ≡ worded_line words.now (cut.epoch ∷ cut.lo ∷ cut.hi ∷ [])) }
 {
-    three(alloc, words, u64::from(cut.epoch()), cut.lo(), cut.hi())
+    numbers(alloc, words, &[u64::from(cut.epoch()), cut.lo(), cut.hi()])
 }
 
 fn held(alloc: Global, held: Held) -> Result<Answer, AllocError>
     ensures { IfOk result (λ a. text_of a ≡ held_line held) }
 {
     match held {
-        Held::Min(point) => one(alloc, "refused by least ", point),
+        Held::Min(point) => one(alloc, "refused by least", point),
         Held::Advance(advance) => {
             let epoch = u64::from(advance.epoch());
             let reader = u64::from(advance.reader());
-            three(alloc, "refused by min ", epoch, advance.point(), reader)
+            numbers(alloc, "refused by min", &[epoch, advance.point(), reader])
         }
-        Held::Cut(held) => cut(alloc, "refused by cut ", held),
+        Held::Cut(held) => cut(alloc, "refused by cut", held),
     }
 }
 
@@ -70,14 +56,13 @@ pub fn refusal(alloc: Global, why: Refusal) -> Result<Answer, AllocError>
 {
     match why {
         Refusal::OtherRoster { own, shown } => {
-            two(
+            numbers(
                 alloc,
-                "refused by roster ",
-                u64::from(own),
-                u64::from(shown),
+                "refused by roster",
+                &[u64::from(own), u64::from(shown)],
             )
         }
-        Refusal::OtherCut(other) => cut(alloc, "refused by other cut ", other),
+        Refusal::OtherCut(other) => cut(alloc, "refused by other cut", other),
         Refusal::Contradiction(what) => held(alloc, what),
         Refusal::OtherRecord => Ok(Answer::Fixed("refused by record\n")),
         Refusal::Memory => Ok(Answer::Fixed("refused by memory\n")),
@@ -89,8 +74,8 @@ pub fn uncovered(alloc: Global, shown: Shown) -> Result<Answer, AllocError>
     ensures { IfOk result (λ a. text_of a ≡ shown_line shown) }
 {
     match shown {
-        Shown::Anchor(anchor) => one(alloc, "uncovered anchor ", anchor),
-        Shown::Key(key) => two(alloc, "uncovered key ", u64::from(key.epoch), key.number),
+        Shown::Anchor(anchor) => one(alloc, "uncovered anchor", anchor),
+        Shown::Key(key) => numbers(alloc, "uncovered key", &[u64::from(key.epoch), key.number]),
     }
 }
 
@@ -98,12 +83,10 @@ pub fn uncovered(alloc: Global, shown: Shown) -> Result<Answer, AllocError>
 pub fn front(alloc: Global, front: Front) -> Result<Answer, AllocError>
     ensures { IfOk result (λ a. text_of a ≡ three_numbers (codes "front ") front.epoch front.complete front.min) }
 {
-    three(
+    numbers(
         alloc,
-        "front ",
-        u64::from(front.epoch),
-        front.complete,
-        front.min,
+        "front",
+        &[u64::from(front.epoch), front.complete, front.min],
     )
 }
 
@@ -112,41 +95,29 @@ pub fn gap(alloc: Global, gap: Gap) -> Result<Answer, AllocError>
     ensures { IfOk result (λ a. text_of a ≡ gap_line gap) }
 {
     match gap {
-        Gap::Record { number } => one(alloc, "gap record ", number),
-        Gap::Truncation { epoch } => one(alloc, "gap truncation ", u64::from(epoch)),
+        Gap::Record { number } => one(alloc, "gap record", number),
+        Gap::Truncation { epoch } => one(alloc, "gap truncation", u64::from(epoch)),
     }
-}
-
-fn status_start(alloc: Global, status: Status) -> Result<String, AllocError>
-    ensures { IfOk result (λ s. string_bytes s ≡ status_start status) }
-{
-    let epoch = status.epoch;
-    let complete = status.complete;
-    let min = status.min;
-    let anchor = status.anchor;
-    let base = status.base;
-    format!(in alloc;
-        "state epoch {epoch} complete {complete} min {min} anchor {anchor} base {base}"
-    )
-}
-
-fn status_end(alloc: Global, status: Status) -> Result<String, AllocError>
-    ensures { IfOk result (λ s. string_bytes s ≡ status_end status) }
-{
-    let held = status.held;
-    let kept = status.kept;
-    let images = status.images;
-    let cuts = status.truncations;
-    let waits = status.waiting;
-    format!(in alloc; " held {held} kept {kept} images {images} cuts {cuts} waits {waits}\n")
 }
 
 /// What is stored, in numbers.
 pub fn state(alloc: Global, status: Status) -> Result<Answer, AllocError>
     ensures { IfOk result (λ a. text_of a ≡ status_start status ++ status_end status) }
 {
-    let mut text = status_start(alloc, status)?;
-    text.push_str(&status_end(alloc, status)?)?;
+    let numbers = [
+        ("state epoch ", u64::from(status.epoch)),
+        (" complete ", status.complete),
+        (" min ", status.min),
+        (" anchor ", status.anchor),
+        (" base ", status.base),
+        (" held ", status.held as u64),
+        (" kept ", status.kept as u64),
+        (" images ", status.images as u64),
+        (" cuts ", status.truncations as u64),
+        (" waits ", status.waiting as u64),
+    ];
+    let mut text = labelled(alloc, &numbers)?;
+    text.push_str("\n")?;
     Ok(Answer::Made(text))
 }
 
@@ -157,6 +128,6 @@ pub fn fault(alloc: Global, fault: LineFault) -> Result<Answer, AllocError>
     match fault {
         LineFault::Form => Ok(Answer::Fixed("bad line\n")),
         LineFault::Hex => Ok(Answer::Fixed("bad hex\n")),
-        LineFault::Wire(wire) => one(alloc, "wire ", u64::from(wire.number())),
+        LineFault::Wire(wire) => one(alloc, "wire", u64::from(wire.number())),
     }
 }

@@ -1,13 +1,15 @@
 -- The lines that are written of facts spell them.
-use Rattle.std.proofs.Common.{◌≡◌, ℕ, ◌≤◌, ◌<◌, Bool, ◌||◌, false, List, [], ◌∷◌, ◌++◌, map, length, None, ap, append-nil, arith, rules}
+use Rattle.std.proofs.Common.{◌≡◌, ℕ, ◌≤◌, ◌<◌, Bool, ◌||◌, false, List, [], ◌∷◌, ◌++◌, map, length, None, refl, ap, ◌∙◌, append-nil, append_assoc, arith, rules}
 use Rattle.std.proofs.lemmas.Grind.{common_steps}
 use Rattle.std.specs.Prelude.{codes}
+use Rattle.std.specs.Borrow.{Bor}
+use Rattle.std.specs.Fmt.{decimal}
 use Rattle.std.specs.List.{AllByRecursion, AllZip, flat_map, list_any, join_by, join_with_byte}
 use Rattle.redo_core.specs.Data.{RecordData}
 use Rattle.redo_core.specs.Shape.{is_empty_patch, is_patch_off_page, record_fault}
 use Rattle.redo_core.specs.declared.patches.Patch.{Patch}
 use Rattle.script_text.specs.FactText.{patch_text, between_commas, contents_text, record_text, IsReadBack}
-use Rattle.script_text.specs.Spelled.{SpellsPatch, SpellsContents, SpellsRecord}
+use Rattle.script_text.specs.Spelled.{SpellsPatch, SpellsContents, SpellsRecord, worded, worded_line, labelled}
 
 patch_spelled : (p : Patch) → is_empty_patch p ≡ false → is_patch_off_page p ≡ false → IsReadBack p → SpellsPatch (patch_text p) p
 patch_spelled p some inside back = grind (arith, common_steps)
@@ -45,3 +47,19 @@ joined_between f (x ∷ xs) some = commas f x xs
 
 pub none_between : {X : Type 0} (f : X → List ℕ) (xs : List X) → length xs ≡ 0 → codes "-" ≡ between_commas (map f xs)
 none_between f xs none = grind (arith, common_steps)
+
+-- ---- words and numbers
+
+pub worded_behind : (word numbers : List ℕ) → word ++ flat_map (λ n. 32 ∷ decimal n) numbers ≡ worded word numbers
+worded_behind word [] = append-nil word
+worded_behind word (n ∷ ns) = ap (λ (t : List ℕ). word ++ (32 ∷ t)) (worded_behind (decimal n) ns)
+
+pub worded_ended : (word numbers : List ℕ) → worded word numbers ++ codes "\n" ≡ worded_line word numbers
+worded_ended word [] = refl
+worded_ended word (n ∷ ns) = append_assoc word (32 ∷ worded (decimal n) ns) (codes "\n") ∙ ap (λ (t : List ℕ). word ++ (32 ∷ t)) (worded_ended (decimal n) ns)
+
+pub labels_in_row : (numbers : List (Bor (List ℕ) × ℕ)) → flat_map (λ p. p.0.now ++ decimal p.1) numbers ≡ labelled numbers
+labels_in_row [] = refl
+labels_in_row (p ∷ []) = append-nil (p.0.now ++ decimal p.1)
+labels_in_row (p ∷ q ∷ ps) = append_assoc p.0.now (decimal p.1) (flat_map (λ r. r.0.now ++ decimal r.1) (q ∷ ps))
+    ∙ ap (λ (t : List ℕ). p.0.now ++ (decimal p.1 ++ t)) (labels_in_row (q ∷ ps))

@@ -1,6 +1,7 @@
 -- What lines and texts are, without their reader.
 use Rattle.std.specs.Prelude.{◌≡◌, ℕ, ◌+◌, ◌-◌, ◌≤◌, ◌<◌, ◌⊎◌, List, [], ◌∷◌, ◌++◌, map, length, take, Bool, false, None, Ok, codes}
 use Rattle.std.specs.List.{AllZip, join_with_byte}
+use Rattle.std.specs.Borrow.{Bor}
 use Rattle.std.specs.Fmt.{decimal}
 use Rattle.hex.specs.Hex.{decode_of}
 use Rattle.redo_core.specs.Data.{RecordData, CutData, AdvanceData}
@@ -28,6 +29,17 @@ spaced fields = join_with_byte 32 fields
 -- a word and numbers
 abbrev pub worded : List ℕ → List ℕ → List ℕ
 worded word numbers = spaced (word ∷ map decimal numbers)
+
+-- the same as a line, with its LF
+abbrev pub worded_line : List ℕ → List ℕ → List ℕ
+worded_line word [] = word ++ codes "\n"
+worded_line word (n ∷ ns) = word ++ (32 ∷ worded_line (decimal n) ns)
+
+-- numbers, each behind its label
+abbrev pub labelled : List (Bor (List ℕ) × ℕ) → List ℕ
+labelled [] = []
+labelled ((label, n) ∷ []) = label.now ++ decimal n
+labelled ((label, n) ∷ next ∷ others) = label.now ++ (decimal n ++ labelled (next ∷ others))
 
 -- an offset, a colon, and at least one byte in hex digits of either case
 pub record SpellsBytes (text : List ℕ) (w : WriteData) : Type 0 where

@@ -18,6 +18,7 @@ mod opening;
 mod script;
 mod spelling;
 mod step_line;
+mod wording;
 
 pub use contents::patch as read_patch;
 pub use fact_line::fact as read_fact;
@@ -28,3 +29,4 @@ pub use number::{number as read_number, numbers as read_numbers};
 pub use opening::{Opening, read_opening};
 pub use script::{Log, Script, ScriptError, read_facts, read_script};
 pub use spelling::fact_text;
+pub use wording::{labelled, worded, worded_line};

@@ -9,6 +9,7 @@ ghost use Rattle.redo_core.specs.declared.patches.Patch.TheVariants.{Bytes, Fill
 ghost use Rattle.script_text.specs.FactText.{patch_text, behind_init, between_commas, record_text, cut_text, advance_text, fact_text, IsReadBack};
 ghost use Rattle.script_text.specs.Spelled.{SpellsRecord, SpellsCut, SpellsAdvance, SpellsFact};
 
+use crate::wording::worded;
 use redo_core::{Advance, Body, Cut, Fact, Patch, Record, Write};
 use std::alloc::{AllocError, Global};
 
@@ -114,23 +115,20 @@ fn cut_text(alloc: Global, cut: &Cut) -> Result<String, AllocError>
     ensures text { IfOk result (λ s. string_bytes s ≡ cut_text cut.now) }
     ensures spelled { OnOk result (SpellsCut (cut_text cut.now) cut.now) }
 {
-    let epoch = cut.epoch();
-    let lo = cut.lo();
-    let hi = cut.hi();
-    format!(in alloc; "cut {epoch} {lo} {hi}")
+    worded(alloc, "cut", &[u64::from(cut.epoch()), cut.lo(), cut.hi()])
 }
 
 fn advance_text(alloc: Global, advance: &Advance) -> Result<String, AllocError>
     ensures text { IfOk result (λ s. string_bytes s ≡ advance_text advance.now) }
     ensures spelled { OnOk result (SpellsAdvance (advance_text advance.now) advance.now) }
 {
-    let epoch = advance.epoch();
+    let epoch = u64::from(advance.epoch());
     let point = advance.point();
     let reader = advance.reader();
     if reader == 1 {
-        format!(in alloc; "min {epoch} {point}")
+        worded(alloc, "min", &[epoch, point])
     } else {
-        format!(in alloc; "min {epoch} {point} {reader}")
+        worded(alloc, "min", &[epoch, point, u64::from(reader)])
     }
 }
 
