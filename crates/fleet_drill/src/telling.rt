@@ -1,9 +1,11 @@
 use crate::joining::Joined;
 use crate::rounds::PAGES;
 use named_log::LogName;
+use redo_core::Page;
 use segment_core::{ReadFault, Segment};
 use segment_join::same;
 use std::alloc::{AllocError, Global};
+use std::fmt::Write;
 
 /// How many bytes of a page are shown.
 const SHOWN: usize = 8;
@@ -16,49 +18,63 @@ pub fn tell<L: LogName>(
     facts: usize,
     joined: &[Joined<L>],
 ) -> Result<String, AllocError> {
-    let mut text = format!(in alloc; "facts {facts}\n")?;
+    let mut text = String::new(alloc);
+    put_all(alloc, &mut text, facts, joined)?;
+    Ok(text)
+}
+
+// Appends all of it: no error path has a text to let go.
+fn put_all<L: LogName>(
+    alloc: Global,
+    text: &mut String,
+    facts: usize,
+    joined: &[Joined<L>],
+) -> Result<(), AllocError> {
+    writeln!(text, "facts {facts}")?;
     for (before, one) in joined.iter().enumerate() {
-        text.push_str(&front_line(alloc, before, one.segment())?)?;
+        put_front(text, before, one.segment())?;
     }
     let Some((first, others)) = joined.split_first() else {
-        return Ok(text);
+        return Ok(());
     };
     for page in 0..PAGES {
-        text.push_str(&page_line(alloc, page, first)?)?;
+        put_page(alloc, text, page, first)?;
     }
     let answer = if are_same(first, others)? {
         "same yes\n"
     } else {
         "same no\n"
     };
-    text.push_str(answer)?;
-    Ok(text)
+    text.push_str(answer)
 }
 
-fn front_line(alloc: Global, before: usize, segment: &Segment) -> Result<String, AllocError> {
+fn put_front(text: &mut String, before: usize, segment: &Segment) -> Result<(), AllocError> {
     let node = before.saturating_add(1);
     let front = segment.front();
     let epoch = front.epoch;
     let complete = front.complete;
     let min = front.min;
-    format!(in alloc; "node {node} front {epoch} {complete} {min}\n")
+    writeln!(text, "node {node} front {epoch} {complete} {min}")
+}
+
+fn put_image(alloc: Global, text: &mut String, page: u16, image: &Page) -> Result<(), AllocError> {
+    let bytes = image.bytes();
+    let digits = hex::encode(alloc, &bytes[..SHOWN])?;
+    writeln!(text, "page {page} {digits}")
 }
 
 // A segment that means a part of a log answers a read of its complete point, but for want of memory, or says that it is too low.
-fn page_line<L: LogName>(
+fn put_page<L: LogName>(
     alloc: Global,
+    text: &mut String,
     page: u16,
     joined: &Joined<L>,
-) -> Result<String, AllocError> {
+) -> Result<(), AllocError> {
     let segment = joined.segment();
     match segment.read(page, segment.front().complete) {
-        Ok(image) => {
-            let bytes = image.bytes();
-            let digits = hex::encode(alloc, &bytes[..SHOWN])?;
-            format!(in alloc; "page {page} {digits}\n")
-        }
+        Ok(image) => put_image(alloc, text, page, &image),
         Err(fault) => match fault {
-            ReadFault::Below { min } => format!(in alloc; "page {page} below {min}\n"),
+            ReadFault::Below { min } => writeln!(text, "page {page} below {min}"),
             ReadFault::Memory => Err(AllocError),
             ReadFault::Above { .. } => unreachable!(),
             ReadFault::BrokenBlockChain { .. } => unreachable!(),

@@ -1,5 +1,5 @@
 use Rattle.fleet_drill.proofs.Parts.{never_above, never_broken}
-use Rattle.fleet_drill.proofs.telling.page_line.Goals as goal
+use Rattle.fleet_drill.proofs.telling.put_page.Goals as goal
 
 pub unreachable-requires : goal.unreachable-requires
 unreachable-requires g c =
