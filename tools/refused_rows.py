@@ -36,19 +36,14 @@ def alone(text, section):
     return b"".join(kept)
 
 
-def written(output):
-    """What a run wrote. A line that names no call is asked twice as well, so there, and nowhere else, memory may be wanting in the end."""
-    return output.replace(b" -> memory\n", b" -> ?\n")
-
-
 def is_whole(answer, ample):
     """Whether a run wrote the ample text."""
-    return (answer[0], written(answer[1])) == (ample[0], ample[1])
+    return answer[:2] == ample[:2]
 
 
 def is_good(answer, ample):
     """Whether a run wrote the ample text, or ended by an error with a beginning of it."""
-    return is_whole(answer, ample) or (answer[0] != 0 and ample[1].startswith(written(answer[1])))
+    return is_whole(answer, ample) or (answer[0] != 0 and ample[1].startswith(answer[1]))
 
 
 def judged(name, section, most, folder):

@@ -5,10 +5,12 @@ use std::io;
 /// What a call answers. It is printed at one place: a function that gives a plain value takes half as long to prove as one that prints.
 #[derive(Drop)]
 pub enum Answer {
-    /// For a name of no call.
+    /// For a name of no call, and for what is not there.
     Unknown,
     Word(&'static str),
     Number(u64),
+    /// The number of what a word names.
+    Numbered(&'static str, u64),
     Flag(bool),
     Found(Option<u64>),
     Key(Option<Key>),
@@ -21,6 +23,10 @@ pub enum Answer {
     Text(String),
 }
 
+fn print_word(rt: &HostRuntime, line: &str, word: &str) -> io::Result<()> {
+    println!(rt; "{line}: {word}")
+}
+
 fn print_one<T: Debug>(rt: &HostRuntime, line: &str, kind: &str, part: &T) -> io::Result<()> {
     println!(rt; "{line}: {kind}({part:?})")
 }
@@ -28,9 +34,10 @@ fn print_one<T: Debug>(rt: &HostRuntime, line: &str, kind: &str, part: &T) -> io
 /// Prints what the call of a line answers.
 pub fn print(rt: &HostRuntime, line: &str, answer: &Answer) -> io::Result<()> {
     match answer {
-        Answer::Unknown => println!(rt; "{line}: ?"),
-        Answer::Word(word) => println!(rt; "{line}: {word}"),
+        Answer::Unknown => print_word(rt, line, "?"),
+        Answer::Word(word) => print_word(rt, line, word),
         Answer::Number(number) => print_one(rt, line, "Number", number),
+        Answer::Numbered(word, number) => print_one(rt, line, word, number),
         Answer::Flag(flag) => print_one(rt, line, "Flag", flag),
         Answer::Found(found) => print_one(rt, line, "Found", found),
         Answer::Key(key) => print_one(rt, line, "Key", key),
@@ -38,6 +45,6 @@ pub fn print(rt: &HostRuntime, line: &str, answer: &Answer) -> io::Result<()> {
         Answer::Record(record) => print_one(rt, line, "Record", record),
         Answer::Numbers(numbers) => print_one(rt, line, "Numbers", numbers),
         Answer::Keys(keys) => print_one(rt, line, "Keys", keys),
-        Answer::Text(text) => println!(rt; "{line}: {text}"),
+        Answer::Text(text) => print_word(rt, line, text),
     }
 }

@@ -1,17 +1,24 @@
-//! Rows of calls that no text reaches: a line of the input names a call, and what it answers is printed.
+//! Rows of calls that no text reaches: a line of the input names a call, and is printed with what it answers.
 //!
-//! The input has a section for each kind of call, in the order of `Section`. A line that begins with "==" ends a section, and is printed.
+//! The input has a section for each kind of call, in the order of `Section`. A line that begins with "==" ends a section, and one that
+//! begins with '#' names a group of rows: both are printed as they are. A line that names no call answers '?'.
 #![tactic(auto)]
 
 mod answer;
 mod fact_calls;
 mod given;
+mod keeping;
 mod message_calls;
+mod outcomes;
 mod row;
 mod segment_calls;
 mod store_calls;
 
+use crate::answer::{Answer, print};
+use crate::keeping::boxed;
+use crate::row::Row;
 use redo_core::Roster;
+use row_words::ends_section;
 use std::alloc::{AllocError, Global};
 use std::io;
 
@@ -45,11 +52,20 @@ impl Section {
 
 fn new_benches(alloc: Global, roster: Roster) -> Result<Benches, AllocError> {
     Ok(Benches {
-        facts: fact_calls::new_bench(alloc, roster)?,
-        stores: store_calls::new_bench(alloc, roster)?,
-        segments: segment_calls::new_bench(alloc, roster)?,
-        messages: message_calls::new_bench(alloc, roster)?,
+        facts: boxed(alloc, fact_calls::new_bench(alloc, roster))?,
+        stores: boxed(alloc, store_calls::new_bench(alloc, roster))?,
+        segments: boxed(alloc, segment_calls::new_bench(alloc, roster))?,
+        messages: boxed(alloc, message_calls::new_bench(alloc, roster))?,
     })
+}
+
+fn called(benches: &mut Benches, section: Section, row: Row) -> Result<Answer, AllocError> {
+    match section {
+        Section::Facts => fact_calls::answer(&mut benches.facts, row),
+        Section::Stores => store_calls::answer(&mut benches.stores, row),
+        Section::Segments => segment_calls::answer(&mut benches.segments, row),
+        Section::Messages => message_calls::answer(&mut benches.messages, row),
+    }
 }
 
 fn print_row(
@@ -58,12 +74,11 @@ fn print_row(
     section: Section,
     line: &str,
 ) -> io::Result<()> {
-    match section {
-        Section::Facts => fact_calls::print_row(rt, &mut benches.facts, line),
-        Section::Stores => store_calls::print_row(rt, &mut benches.stores, line),
-        Section::Segments => segment_calls::print_row(rt, &mut benches.segments, line),
-        Section::Messages => message_calls::print_row(rt, &mut benches.messages, line),
+    if line.starts_with('#') || ends_section(line) {
+        return println!(rt; "{line}");
     }
+    let answer = called(benches, section, Row::of(rt.alloc(), line))?;
+    print(rt, line, &answer)
 }
 
 // One loop for all sections: a loop over the lines takes five seconds to prove.
@@ -71,11 +86,9 @@ fn print_rows(rt: &HostRuntime, benches: &mut Benches) -> io::Result<()> {
     let mut section = Section::Facts;
     for line in rt.lines(rt.alloc()) {
         let line = line?;
-        if line.as_str().starts_with("==") {
+        print_row(rt, benches, section, line.as_str())?;
+        if ends_section(line.as_str()) {
             section = section.next();
-            println!(rt; "{line}")?;
-        } else {
-            print_row(rt, benches, section, line.as_str())?;
         }
     }
     Ok(())

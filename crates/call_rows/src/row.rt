@@ -3,18 +3,29 @@ use redo_core::Key;
 use std::alloc::{AllocError, Global};
 use std::fmt::Debug;
 
-/// A line of the input: the name of a call and the words of its numbers.
+/// A line of the input: the name of a call, and the words behind it.
 #[derive(Clone, Copy)]
 pub struct Row<'a> {
     pub alloc: Global,
+    pub line: &'a str,
     pub name: &'a str,
-    words: &'a str,
+    pub words: &'a str,
 }
 
 impl<'a> Row<'a> {
     pub fn of(alloc: Global, line: &'a str) -> Row<'a> {
         let (name, words) = row_words::first(line);
-        Row { alloc, name, words }
+        Row {
+            alloc,
+            line,
+            name,
+            words,
+        }
+    }
+
+    /// The row that the words behind the name make.
+    pub fn behind(self) -> Row<'a> {
+        Row::of(self.alloc, self.words)
     }
 
     /// A number of the call by its place, 0 where there is none.
@@ -22,7 +33,7 @@ impl<'a> Row<'a> {
         row_words::number(self.words, place)
     }
 
-    /// A page or an epoch; the greatest one for a number past it.
+    /// A page, an epoch or a node; the greatest one for a number past it.
     pub fn short(self, place: usize) -> u16 {
         row_words::short(self.number(place))
     }
@@ -42,19 +53,24 @@ impl<'a> Row<'a> {
 
     /// An answer of one part.
     pub fn one<T: Debug>(self, kind: &str, part: &T) -> Result<Answer, AllocError> {
-        Ok(Answer::Text(format!(in self.alloc; "{kind}({part:?})")?))
+        format!(in self.alloc; "{kind}({part:?})").map(Answer::Text)
     }
 
     /// An answer whose parts are a tuple.
     pub fn parts<T: Debug>(self, kind: &str, parts: &T) -> Result<Answer, AllocError> {
-        Ok(Answer::Text(format!(in self.alloc; "{kind}{parts:?}")?))
+        format!(in self.alloc; "{kind}{parts:?}").map(Answer::Text)
     }
-}
 
-/// What a call answers that is done, if memory was not wanting.
-pub fn done<E: Drop>(outcome: Result<(), E>) -> Result<Answer, AllocError> {
-    match outcome {
-        Ok(()) => Ok(Answer::Word("Done")),
-        Err(_) => Err(AllocError),
+    /// Why a call did nothing, where it was not for want of memory.
+    pub fn refused<F: Debug + PartialEq>(
+        self,
+        kind: &str,
+        fault: &F,
+        memory: &F,
+    ) -> Result<Answer, AllocError> {
+        if fault == memory {
+            return Err(AllocError);
+        }
+        self.one(kind, fault)
     }
 }

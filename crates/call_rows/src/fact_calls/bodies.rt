@@ -1,6 +1,8 @@
 //! Calls over the facts that were kept: what their records do, and which of them are the same.
 
+use crate::answer::Answer;
 use crate::given::page_of;
+use crate::row::Row;
 use redo_core::{Body, Fact, Page, Patch, Record, Write, apply};
 use script_text::fact_text;
 use std::alloc::{AllocError, Global};
@@ -14,42 +16,30 @@ fn apply_all(facts: &[Fact], page: &mut Page) {
 }
 
 // The first four bytes of a page of ones after the records.
-fn applied(alloc: Global, facts: &[Fact]) -> Result<String, AllocError> {
-    let mut page = page_of(alloc, 1)?;
+fn applied(facts: &[Fact], row: Row) -> Result<Answer, AllocError> {
+    let mut page = page_of(row.alloc, 1)?;
     apply_all(facts, &mut page);
-    beginning(alloc, &page.copy()?)
-}
-
-fn beginning(alloc: Global, page: &Page) -> Result<String, AllocError> {
-    let bytes = page.bytes();
-    let (a, b, c, d) = (bytes[0], bytes[1], bytes[2], bytes[3]);
-    format!(in alloc; "{a:02x} {b:02x} {c:02x} {d:02x}")
-}
-
-fn put_place(alloc: Global, text: &mut String, place: u64) -> Result<(), AllocError> {
-    text.push_str(" ")?;
-    text.push_str(&place.to_string(alloc)?)
+    row.one("Bytes", &&page.copy()?.bytes()[..4])
 }
 
 // The places of the facts that are the same as a fact.
-fn same_places(alloc: Global, facts: &[Fact], fact: &Fact) -> Result<String, AllocError> {
-    let mut text = String::new(alloc);
+fn same_places(alloc: Global, facts: &[Fact], fact: &Fact) -> Result<Vec<u64>, AllocError> {
+    let mut places = Vec::new(alloc);
     for (place, other) in facts.iter().enumerate() {
         if fact.is_same(other) {
-            put_place(alloc, &mut text, place as u64 + 1)?;
+            places.push(place as u64 + 1)?;
         }
     }
-    Ok(text)
+    Ok(places)
 }
 
 // For each fact the places of those that are the same as it.
-fn same(alloc: Global, facts: &[Fact]) -> Result<String, AllocError> {
-    let mut text = String::from_str(alloc, "same")?;
+fn same(facts: &[Fact], row: Row) -> Result<Answer, AllocError> {
+    let mut same = Vec::new(row.alloc);
     for fact in facts {
-        text.push_str(&same_places(alloc, facts, fact)?)?;
-        text.push_str(",")?;
+        same.push(same_places(row.alloc, facts, fact)?)?;
     }
-    Ok(text)
+    row.one("Same", &same)
 }
 
 fn plain_patches(alloc: Global, writes: &[Write]) -> Result<Vec<Patch>, AllocError> {
@@ -81,14 +71,14 @@ fn writes_of(alloc: Global, redo: &Record) -> Result<Vec<Write>, AllocError> {
 fn made_of_writes(redo: &Record, writes: Vec<Write>) -> Option<Fact> {
     let (number, back, block_back) = (redo.number(), redo.back(), redo.block_back());
     let made = Record::new(redo.epoch(), number, back, redo.page(), block_back, writes);
-    Some(Fact::Record(made.ok()?))
+    made.ok().map(Fact::Record)
 }
 
 fn made_of_patches(redo: &Record, patches: Vec<Patch>) -> Option<Fact> {
     let (number, back, block_back) = (redo.number(), redo.back(), redo.block_back());
     let (epoch, page) = (redo.epoch(), redo.page());
     let made = Record::with(epoch, number, back, page, block_back, false, patches);
-    Some(Fact::Record(made.ok()?))
+    made.ok().map(Fact::Record)
 }
 
 // A copy of a copy that was shared, and is gone.
@@ -112,6 +102,10 @@ fn from_patches(alloc: Global, redo: &Record) -> Result<Option<Fact>, AllocError
     Ok(made_of_patches(redo, plain_patches(alloc, &writes)?))
 }
 
+fn have_one_line(alloc: Global, one: &Fact, two: &Fact) -> Result<bool, AllocError> {
+    Ok(fact_text(alloc, one)? == fact_text(alloc, two)?)
+}
+
 // Whether the record made of its writes and the one made of its patches are one fact, with one line.
 fn has_one_form(alloc: Global, redo: &Record) -> Result<bool, AllocError> {
     match from_writes(alloc, redo)? {
@@ -127,29 +121,21 @@ fn is_of_patches(alloc: Global, redo: &Record, one: &Fact) -> Result<bool, Alloc
     }
 }
 
-fn have_one_line(alloc: Global, one: &Fact, two: &Fact) -> Result<bool, AllocError> {
-    Ok(fact_text(alloc, one)? == fact_text(alloc, two)?)
-}
-
 // Whether the copies of a fact are the fact, also one of a copy that was shared.
 fn is_its_copies(fact: &Fact) -> Result<bool, AllocError> {
     are_one(&shared_copy(fact)?, fact)
 }
 
-pub fn answer(alloc: Global, facts: &[Fact], name: &str) -> Result<String, AllocError> {
+pub fn answer(facts: &[Fact], row: Row) -> Result<Answer, AllocError> {
     let [.., last] = facts else {
-        return String::from_str(alloc, "none");
+        return Ok(Answer::Unknown);
     };
-    match (name, last) {
-        ("apply", _) => applied(alloc, facts),
-        ("same", _) => same(alloc, facts),
-        ("last", _) => fact_text(alloc, last),
-        ("copies", _) => told(alloc, is_its_copies(last)?),
-        ("forms", Fact::Record(redo)) => told(alloc, has_one_form(alloc, redo)?),
-        _ => String::from_str(alloc, "?"),
+    match (row.name, last) {
+        ("apply", _) => applied(facts, row),
+        ("same", _) => same(facts, row),
+        ("last", _) => fact_text(row.alloc, last).map(Answer::Text),
+        ("copies", _) => is_its_copies(last).map(Answer::Flag),
+        ("forms", Fact::Record(redo)) => has_one_form(row.alloc, redo).map(Answer::Flag),
+        _ => Ok(Answer::Unknown),
     }
-}
-
-fn told(alloc: Global, is_so: bool) -> Result<String, AllocError> {
-    String::from_str(alloc, if is_so { "yes" } else { "no" })
 }

@@ -1,28 +1,30 @@
 //! The facts of drills, by their places.
 
+use crate::answer::Answer;
+use crate::row::Row;
 use drill_log::Drill;
 use named_log::LogFact;
-use row_words::eight;
+use redo_core::Fact;
 use script_text::fact_text;
-use std::alloc::{AllocError, Global};
+use std::alloc::AllocError;
 
-fn told<const N: u64>(alloc: Global, place: u64) -> Result<String, AllocError> {
-    match LogFact::<Drill<N>>::at(alloc, place)? {
-        Some(found) => {
-            let (place, line) = (found.place(), fact_text(alloc, &found.into_fact())?);
-            format!(in alloc; "{place} {line}")
-        }
-        None => String::from_str(alloc, "none"),
+fn told<const N: u64>(row: Row) -> Result<Answer, AllocError> {
+    match LogFact::<Drill<N>>::at(row.alloc, row.number(1))? {
+        Some(found) => placed(row, found.place(), &found.into_fact()),
+        None => Ok(Answer::Word("None")),
     }
 }
 
-pub fn answer(alloc: Global, rest: &str) -> Result<String, AllocError> {
-    let n = eight(rest);
-    match n[0] {
-        1 => told::<1>(alloc, n[1]),
-        64 => told::<64>(alloc, n[1]),
-        1048576 => told::<1048576>(alloc, n[1]),
-        1048577 => told::<1048577>(alloc, n[1]),
-        _ => String::from_str(alloc, "?"),
+fn placed(row: Row, place: u64, fact: &Fact) -> Result<Answer, AllocError> {
+    row.parts("Fact", &(place, fact_text(row.alloc, fact)?))
+}
+
+pub fn answer(row: Row) -> Result<Answer, AllocError> {
+    match row.number(0) {
+        1 => told::<1>(row),
+        64 => told::<64>(row),
+        1048576 => told::<1048576>(row),
+        1048577 => told::<1048577>(row),
+        _ => Ok(Answer::Unknown),
     }
 }

@@ -1,119 +1,125 @@
 //! The answers of the plain model over the facts that were kept, beside those of the checker.
 
-use crate::fact_calls::places::facts_at;
+use crate::answer::Answer;
+use crate::row::Row;
 use log_law::{CheckFault, check_log};
 use plain_model::{
-    Standing, anchor, complete_epoch, complete_point, covers, first_fault, is_alive, is_linked,
-    min_point, page_at, point, points, position, same, standing,
+    Position, Standing, anchor, complete_epoch, complete_point, covers, first_fault, is_alive,
+    is_linked, min_point, page_at, point, points, position, same, standing,
 };
 use redo_core::{Fact, LawFault, Roster};
-use row_words::{byte, eight, first, short, size};
+use row_words::{eight, nth, size, word};
 use std::alloc::{AllocError, Global};
 
-// The position of the first so many facts: complete epoch and point, the points, minimum and anchor.
-fn front(alloc: Global, facts: &[Fact], roster: Roster, count: u64) -> Result<String, AllocError> {
-    let len = facts.len();
-    let facts = &facts[..size(count).min(len)];
-    let p = position(alloc, facts, roster)?;
-    let (epoch, complete, min, anchor) = (p.epoch, p.complete, p.min, p.anchor);
-    let points = points(alloc, facts, roster, complete_epoch(facts))?;
-    let is_one = points == p.points;
-    format!(in alloc; "{epoch} {complete} {points:?} {is_one} {min} {anchor}")
+// The position of the first so many facts: complete epoch and point, the points, in two ways, minimum and anchor.
+fn front(facts: &[Fact], roster: Roster, row: Row) -> Result<Answer, AllocError> {
+    let facts = &facts[..size(row.number(1)).min(facts.len())];
+    let Position {
+        epoch,
+        complete,
+        points: own,
+        min,
+        anchor,
+    } = position(row.alloc, facts, roster)?;
+    let points = points(row.alloc, facts, roster, complete_epoch(facts))?;
+    row.parts("Front", &(epoch, complete, own, points, min, anchor))
 }
 
 // The first two bytes of a page.
-fn beginning(alloc: Global, facts: &[Fact], n: [u64; 8]) -> Result<String, AllocError> {
-    let page = page_at(alloc, facts, short(n[0]), short(n[1]), n[2])?;
-    let (one, two) = (page.bytes()[0], page.bytes()[1]);
-    format!(in alloc; "{one:02x} {two:02x}")
+fn beginning(facts: &[Fact], row: Row) -> Result<Answer, AllocError> {
+    let page = page_at(row.alloc, facts, row.short(0), row.short(1), row.number(2))?;
+    row.one("Bytes", &&page.bytes()[..2])
 }
 
-fn fault_text(alloc: Global, fault: Option<LawFault>) -> Result<String, AllocError> {
-    match fault {
-        Some(LawFault { law, place }) => {
-            let law = law.number();
-            format!(in alloc; "{place} law {law}")
-        }
-        None => String::from_str(alloc, "sound"),
+/// The first fault that the checker finds.
+pub fn checked(
+    alloc: Global,
+    facts: &[Fact],
+    roster: Roster,
+) -> Result<Option<LawFault>, AllocError> {
+    match check_log(alloc, facts, roster) {
+        Ok(()) => Ok(None),
+        Err(CheckFault::Unsound(fault)) => Ok(Some(fault)),
+        Err(CheckFault::Memory) => Err(AllocError),
     }
+}
+
+// The place of a fault, and the number of its law.
+fn placed(fault: Option<LawFault>) -> Option<(u64, u8)> {
+    let LawFault { law, place } = fault?;
+    Some((place, law.number()))
 }
 
 // The first fault that the model finds, and that the checker finds.
-fn faults(alloc: Global, facts: &[Fact], roster: Roster) -> Result<String, AllocError> {
-    let checked = match check_log(alloc, facts, roster) {
-        Ok(()) => None,
-        Err(CheckFault::Unsound(fault)) => Some(fault),
-        Err(CheckFault::Memory) => return Err(AllocError),
-    };
-    let one = fault_text(alloc, first_fault(facts, roster))?;
-    let other = fault_text(alloc, checked)?;
-    format!(in alloc; "{one}, {other}")
+fn faults(facts: &[Fact], roster: Roster, row: Row) -> Result<Answer, AllocError> {
+    let found = placed(first_fault(facts, roster));
+    let checked = placed(checked(row.alloc, facts, roster)?);
+    row.parts("Faults", &(found, checked))
+}
+
+/// The facts at places that a word lists, with commas between them.
+fn facts_at(alloc: Global, facts: &[Fact], word: &str) -> Result<Vec<Fact>, AllocError> {
+    let mut list = Vec::new(alloc);
+    for place in word.split(',') {
+        put_at(&mut list, facts, place.parse::<u64>().unwrap_or(0))?;
+    }
+    Ok(list)
+}
+
+fn put_at(list: &mut Vec<Fact>, facts: &[Fact], place: u64) -> Result<(), AllocError> {
+    if let Some(fact) = nth(facts, place) {
+        list.push(fact.copy()?)?;
+    }
+    Ok(())
 }
 
 // Whether the first list covers the second, the second the first, and whether they mean the same.
-fn compared(
-    alloc: Global,
-    facts: &[Fact],
-    roster: Roster,
-    rest: &str,
-) -> Result<String, AllocError> {
-    let (one, two) = first(rest);
-    let left = facts_at(alloc, facts, one)?;
-    relation(alloc, &left, &facts_at(alloc, facts, two)?, roster)
+fn compared(facts: &[Fact], roster: Roster, row: Row) -> Result<Answer, AllocError> {
+    let one = facts_at(row.alloc, facts, word(row.words, 1))?;
+    let two = facts_at(row.alloc, facts, word(row.words, 2))?;
+    relation(&one, &two, roster, row)
 }
 
-fn relation(
-    alloc: Global,
-    left: &[Fact],
-    right: &[Fact],
-    roster: Roster,
-) -> Result<String, AllocError> {
-    let there = covers(alloc, left, right, roster)?;
-    let back = covers(alloc, right, left, roster)?;
-    let is_same = same(alloc, left, right, roster)?;
-    format!(in alloc; "{there} {back} {is_same}")
+fn relation(one: &[Fact], two: &[Fact], roster: Roster, row: Row) -> Result<Answer, AllocError> {
+    let there = covers(row.alloc, one, two, roster);
+    let back = covers(row.alloc, two, one, roster);
+    let is_same = same(row.alloc, one, two, roster);
+    row.parts("Compared", &(there, back, is_same))
 }
 
 // What asks for a roster: the first word is its size.
-fn of_roster(
-    alloc: Global,
-    facts: &[Fact],
-    roster: Roster,
-    name: &str,
-    rest: &str,
-) -> Result<String, AllocError> {
-    match name {
-        "front" => front(alloc, facts, roster, eight(rest)[1]),
-        "faults" => faults(alloc, facts, roster),
-        "compare" => compared(alloc, facts, roster, first(rest).1),
-        _ => String::from_str(alloc, "?"),
+fn of_roster(facts: &[Fact], roster: Roster, row: Row) -> Result<Answer, AllocError> {
+    match row.name {
+        "front" => front(facts, roster, row),
+        "faults" => faults(facts, roster, row),
+        "compare" => compared(facts, roster, row),
+        _ => Ok(Answer::Unknown),
     }
 }
 
-fn number(facts: &[Fact], name: &str, n: [u64; 8]) -> Option<u64> {
-    let view = short(n[0]);
-    match name {
-        "complete_point" => Some(complete_point(facts, view)),
-        "anchor" => Some(anchor(facts, view, n[1])),
-        "point" => Some(point(facts, view, byte(n[1]))),
-        "min_point" => Some(min_point(&n)),
-        "is_linked" => Some(u64::from(is_linked(facts, view, n[1]))),
-        "is_alive" => Some(u64::from(is_alive(facts, view, short(n[1]), n[2]))),
-        "waits" => Some(u64::from(standing(facts, view, short(n[1]), n[2]) == Standing::Waiting)),
-        "is_dead" => Some(u64::from(standing(facts, view, short(n[1]), n[2]) == Standing::Dead)),
-        _ => None,
+// A number, or whether a record stands in some way, in the view of the epoch that the first word names.
+fn told(facts: &[Fact], row: Row) -> Answer {
+    let view = row.short(0);
+    let (epoch, number) = (row.short(1), row.number(2));
+    match row.name {
+        "complete_point" => Answer::Number(complete_point(facts, view)),
+        "anchor" => Answer::Number(anchor(facts, view, row.number(1))),
+        "point" => Answer::Number(point(facts, view, row.byte(1))),
+        "min_point" => Answer::Number(min_point(&eight(row.words))),
+        "is_linked" => Answer::Flag(is_linked(facts, view, row.number(1))),
+        "is_alive" => Answer::Flag(is_alive(facts, view, epoch, number)),
+        "waits" => Answer::Flag(standing(facts, view, epoch, number) == Standing::Waiting),
+        "is_dead" => Answer::Flag(standing(facts, view, epoch, number) == Standing::Dead),
+        _ => Answer::Unknown,
     }
 }
 
-pub fn answer(alloc: Global, facts: &[Fact], rest: &str) -> Result<String, AllocError> {
-    let (name, rest) = first(rest);
-    let n = eight(rest);
-    if name == "page" {
-        return beginning(alloc, facts, n);
+pub fn answer(facts: &[Fact], row: Row) -> Result<Answer, AllocError> {
+    if row.name == "page" {
+        return beginning(facts, row);
     }
-    match (number(facts, name, n), Roster::new(byte(n[0]))) {
-        (Some(number), _) => number.to_string(alloc),
-        (None, Ok(roster)) => of_roster(alloc, facts, roster, name, rest),
-        (None, Err(fault)) => fault.to_string(alloc),
+    match (told(facts, row), Roster::new(row.byte(0))) {
+        (Answer::Unknown, Ok(roster)) => of_roster(facts, roster, row),
+        (answer, _) => Ok(answer),
     }
 }

@@ -1,9 +1,11 @@
 //! Step lines, as they are read: what the step is, which nodes it names, and which of them a fleet lacks.
 
+use crate::answer::Answer;
+use crate::row::Row;
 use fleet_steps::Step;
-use row_words::{first, short};
+use row_words::{byte, number};
 use script_text::{ScriptError, read_script};
-use std::alloc::{AllocError, Global};
+use std::alloc::AllocError;
 
 /// Four facts, and the opening of the steps.
 const OPENING: &str = "min 0 1\nmin 0 2\nmin 0 3\nmin 0 4\ngo\nnodes 64\n";
@@ -18,27 +20,28 @@ fn letter(place: usize) -> Result<&'static str, usize> {
     }
 }
 
-fn told(alloc: Global, step: Step<usize>, nodes: u64) -> Result<String, AllocError> {
-    let nodes = usize::from(short(nodes));
-    let (node, other, missing) = (step.node(), step.other(), step.missing(nodes));
-    let named = step.naming(letter);
-    format!(in alloc; "{step:?} node {node} other {other} missing {missing:?} named {named:?}")
+// A step, the node and the other node that it names, which of them a fleet of so many nodes lacks, and the step with a letter for its
+// fact.
+fn told(row: Row, step: Step<usize>, nodes: u8) -> Result<Answer, AllocError> {
+    let (node, other) = (step.node(), step.other());
+    let (missing, named) = (step.missing(usize::from(nodes)), step.naming(letter));
+    row.parts("Step", &(step, node, other, missing, named))
 }
 
-fn of_steps(alloc: Global, steps: &[Step<usize>], nodes: &str) -> Result<String, AllocError> {
+fn of_steps(row: Row, steps: &[Step<usize>]) -> Result<Answer, AllocError> {
     match steps {
-        [step] => told(alloc, *step, nodes.parse::<u64>().unwrap_or(0)),
-        _ => String::from_str(alloc, "?"),
+        [step] => told(row, *step, byte(number(row.name, 0))),
+        _ => Ok(Answer::Unknown),
     }
 }
 
-/// The first word is how many nodes the fleet has, and the others are the step.
-pub fn answer(alloc: Global, rest: &str) -> Result<String, AllocError> {
-    let (nodes, line) = first(rest);
-    let text = format!(in alloc; "{OPENING}{line}\n")?;
-    match read_script(alloc, text.as_bytes()) {
-        Ok(script) => of_steps(alloc, &script.steps, nodes),
-        Err(ScriptError::BadLine(at)) => format!(in alloc; "bad line {at}"),
+/// The name is how many nodes the fleet has, and the words are the step.
+pub fn answer(row: Row) -> Result<Answer, AllocError> {
+    let line = row.words;
+    let text = format!(in row.alloc; "{OPENING}{line}\n")?;
+    match read_script(row.alloc, text.as_bytes()) {
+        Ok(script) => of_steps(row, &script.steps),
+        Err(ScriptError::BadLine(at)) => Ok(Answer::Numbered("BadLine", at as u64)),
         Err(ScriptError::Memory) => Err(AllocError),
     }
 }

@@ -1,31 +1,32 @@
 //! The decoders and encoders of the wire.
 
-use crate::fact_calls::words;
+use crate::answer::Answer;
+use crate::given;
+use crate::row::Row;
 use bytes::BytesMut;
 use redo_wire::{
     Book, PieceContent, WireError, WireValue, decode_delta, decode_fact, decode_piece,
     decode_summary, decode_value, encode_delta, encode_fact, encode_piece, encode_summary,
 };
-use row_words::first;
 use script_text::fact_text;
 use std::alloc::{AllocError, Global};
 
 // 0 for a value, else the fault's number.
-fn outcome<T: Drop>(decoded: Result<T, WireError>) -> Result<u8, AllocError> {
+fn outcome<T: Drop>(decoded: Result<T, WireError>) -> Result<u64, AllocError> {
     match decoded {
         Ok(_) => Ok(0),
         Err(WireError::Memory) => Err(AllocError),
-        Err(WireError::Fault(fault)) => Ok(fault.number()),
+        Err(WireError::Fault(fault)) => Ok(u64::from(fault.number())),
     }
 }
 
-fn judged(alloc: Global, name: &str, bytes: &[u8]) -> Result<u8, AllocError> {
-    match name {
-        "F" => outcome(decode_fact(alloc, bytes)),
-        "S" => outcome(decode_summary(alloc, bytes)),
-        "D" => outcome(decode_delta(alloc, bytes)),
-        "P" => outcome(decode_piece(alloc, bytes)),
-        _ => outcome(decode_value(alloc, bytes)),
+fn judged(row: Row, bytes: &[u8]) -> Result<u64, AllocError> {
+    match row.name {
+        "F" => outcome(decode_fact(row.alloc, bytes)),
+        "S" => outcome(decode_summary(row.alloc, bytes)),
+        "D" => outcome(decode_delta(row.alloc, bytes)),
+        "P" => outcome(decode_piece(row.alloc, bytes)),
+        _ => outcome(decode_value(row.alloc, bytes)),
     }
 }
 
@@ -39,30 +40,24 @@ fn put(out: &mut BytesMut, value: &WireValue) -> Result<(), WireError> {
     }
 }
 
-// Appends the value that bytes spell, as it is spelled again.
-fn spell_again(alloc: Global, bytes: &[u8], out: &mut BytesMut) -> Result<(), WireError> {
-    let value = decode_value(alloc, bytes)?;
-    put(out, &value)
+fn spelled(alloc: Global, value: &WireValue) -> Result<BytesMut, WireError> {
+    let mut out = BytesMut::new(alloc);
+    put(&mut out, value)?;
+    Ok(out)
 }
 
-// How long the value is that is spelled again as it was.
-fn again(alloc: Global, bytes: &[u8]) -> Result<String, AllocError> {
-    let mut out = BytesMut::new(alloc);
-    match spell_again(alloc, bytes, &mut out) {
-        Ok(()) => compared(alloc, bytes, out.as_slice()),
-        Err(error) => fault_text(alloc, error),
+// Whether the value is spelled again as it was, and how long that is.
+fn again(row: Row, bytes: &[u8], value: &WireValue) -> Result<Answer, AllocError> {
+    match spelled(row.alloc, value) {
+        Ok(out) => row.parts("Again", &(out.as_slice() == bytes, out.len())),
+        Err(error) => fault(row.alloc, error),
     }
 }
 
-fn compared(alloc: Global, bytes: &[u8], again: &[u8]) -> Result<String, AllocError> {
-    let (is_same, len) = (again == bytes, again.len());
-    format!(in alloc; "{is_same} {len}")
-}
-
-fn fault_text(alloc: Global, error: WireError) -> Result<String, AllocError> {
+fn fault(alloc: Global, error: WireError) -> Result<Answer, AllocError> {
     match error {
         WireError::Memory => Err(AllocError),
-        WireError::Fault(fault) => format!(in alloc; "{fault}"),
+        WireError::Fault(fault) => fault.to_string(alloc).map(Answer::Text),
     }
 }
 
@@ -80,27 +75,30 @@ fn book_of(value: &WireValue) -> Option<(&Book, u64)> {
 }
 
 // How many truncations, the complete epoch, the points, how many waiting advances, and the minimum; then the anchor or base.
-fn book_text(alloc: Global, book: &Book, anchor: u64) -> Result<String, AllocError> {
+fn told_book(row: Row, book: &Book, anchor: u64) -> Result<Answer, AllocError> {
     let (cuts, complete, points) = (book.cuts().len(), book.complete(), book.points());
     let (waits, min) = (book.waits().len(), book.min());
-    format!(in alloc; "{cuts} {complete} {points:?} {waits} {min} {anchor}")
+    row.parts("Book", &(cuts, complete, points, waits, min, anchor))
 }
 
-fn told(alloc: Global, value: &WireValue) -> Result<String, AllocError> {
+// The value as it is spelled again, or else a fact's line, or the numbers of a value's book.
+fn of_value(row: Row, bytes: &[u8], value: &WireValue) -> Result<Answer, AllocError> {
+    if row.name == "again" {
+        return again(row, bytes, value);
+    }
     if let WireValue::Fact(fact) = value {
-        return fact_text(alloc, fact);
+        return fact_text(row.alloc, fact).map(Answer::Text);
     }
     match book_of(value) {
-        Some((book, anchor)) => book_text(alloc, book, anchor),
-        None => String::from_str(alloc, "no book"),
+        Some((book, anchor)) => told_book(row, book, anchor),
+        None => Ok(Answer::Word("NoBook")),
     }
 }
 
-// A fact's line, or the numbers of a value's book.
-fn read(alloc: Global, bytes: &[u8]) -> Result<String, AllocError> {
-    match decode_value(alloc, bytes) {
-        Ok(value) => told(alloc, &value),
-        Err(error) => fault_text(alloc, error),
+fn read(row: Row, bytes: &[u8]) -> Result<Answer, AllocError> {
+    match decode_value(row.alloc, bytes) {
+        Ok(value) => of_value(row, bytes, &value),
+        Err(error) => fault(row.alloc, error),
     }
 }
 
@@ -108,23 +106,24 @@ fn read(alloc: Global, bytes: &[u8]) -> Result<String, AllocError> {
 fn beginnings(alloc: Global, bytes: &[u8]) -> Result<u64, AllocError> {
     let mut count: u64 = 0;
     for len in 0..bytes.len() {
-        if judged(alloc, "V", &bytes[..len])? == 1 {
+        if outcome(decode_value(alloc, &bytes[..len]))? == 1 {
             count = count.saturating_add(1);
         }
     }
     Ok(count)
 }
 
-fn of_bytes(alloc: Global, name: &str, bytes: &[u8]) -> Result<String, AllocError> {
-    match name {
-        "again" => again(alloc, bytes),
-        "read" => read(alloc, bytes),
-        "beginnings" => beginnings(alloc, bytes)?.to_string(alloc),
-        _ => judged(alloc, name, bytes)?.to_string(alloc),
+fn of_bytes(row: Row, bytes: &[u8]) -> Result<Answer, AllocError> {
+    match row.name {
+        "again" | "read" => read(row, bytes),
+        "beginnings" => beginnings(row.alloc, bytes).map(Answer::Number),
+        _ => judged(row, bytes).map(Answer::Number),
     }
 }
 
-pub fn answer(alloc: Global, rest: &str) -> Result<String, AllocError> {
-    let (name, rest) = first(rest);
-    of_bytes(alloc, name, &words::bytes(alloc, rest)?)
+pub fn answer(row: Row) -> Result<Answer, AllocError> {
+    match given::bytes(row.alloc, row.words)? {
+        Some(bytes) => of_bytes(row, bytes.as_slice()),
+        None => Ok(Answer::Unknown),
+    }
 }

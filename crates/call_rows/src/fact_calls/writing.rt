@@ -1,69 +1,61 @@
 //! The calls of a writer.
 
-use log_law::{CheckFault, Writer, WriterFault, check_log};
+use crate::answer::Answer;
+use crate::fact_calls::model::checked;
+use crate::keeping::or_fault;
+use crate::row::Row;
+use log_law::{Writer, WriterFault};
 use redo_core::{Fact, Roster};
-use row_words::{byte, eight, first, short};
 use script_text::fact_text;
-use std::alloc::{AllocError, Global};
+use std::alloc::AllocError;
 
-fn append(alloc: Global, writer: &mut Writer, n: [u64; 8]) -> Result<Fact, WriterFault> {
-    match writer.append(n[0], short(n[1]), Vec::new(alloc)) {
-        Ok(redo) => Ok(Fact::Record(redo)),
-        Err(refused) => Err(refused.fault),
-    }
+fn append(writer: &mut Writer, row: Row) -> Result<Fact, WriterFault> {
+    let written = writer.append(row.number(0), row.short(1), Vec::new(row.alloc));
+    or_fault(written).map(Fact::Record)
 }
 
 // What a call wrote, or why it was refused.
-fn called(
-    alloc: Global,
-    writer: &mut Writer,
-    name: &str,
-    n: [u64; 8],
-) -> Result<Fact, WriterFault> {
-    match name {
-        "append" => append(alloc, writer, n),
-        "recover" => Ok(Fact::Cut(writer.recover(n[0], n[1])?)),
-        "advance" => Ok(Fact::Advance(writer.advance(n[0])?)),
-        _ => Ok(Fact::Advance(writer.advance_of(byte(n[0]), n[1])?)),
+fn called(writer: &mut Writer, row: Row) -> Result<Fact, WriterFault> {
+    match row.name {
+        "append" => append(writer, row),
+        "recover" => writer.recover(row.number(0), row.number(1)).map(Fact::Cut),
+        "advance" => writer.advance(row.number(0)).map(Fact::Advance),
+        _ => writer
+            .advance_of(row.byte(0), row.number(1))
+            .map(Fact::Advance),
     }
 }
 
 // How many facts were written, and whether they are a sound log.
-fn written(alloc: Global, writer: &Writer, roster: Roster) -> Result<String, AllocError> {
-    let count = writer.log().len();
-    let is_sound = match check_log(alloc, writer.log(), roster) {
-        Ok(()) => true,
-        Err(CheckFault::Unsound(_)) => false,
-        Err(CheckFault::Memory) => return Err(AllocError),
-    };
-    format!(in alloc; "written {count} sound {is_sound}")
+fn written(writer: &Writer, roster: Roster, row: Row) -> Result<Answer, AllocError> {
+    let fault = checked(row.alloc, writer.log(), roster)?;
+    row.parts("Written", &(writer.log().len(), fault.is_none()))
 }
 
-// A writer anew where the name is `new`, and what was written.
-fn of_roster(
-    alloc: Global,
-    writer: &mut Writer,
-    name: &str,
-    roster: Roster,
-) -> Result<String, AllocError> {
-    if name == "new" {
-        *writer = Writer::new(alloc, roster)?;
-    }
-    written(alloc, writer, roster)
+fn begin_anew(writer: &mut Writer, roster: Roster, row: Row) -> Result<Answer, AllocError> {
+    *writer = Writer::new(row.alloc, roster)?;
+    written(writer, roster, row)
 }
 
-pub fn answer(alloc: Global, writer: &mut Writer, rest: &str) -> Result<String, AllocError> {
-    let (name, rest) = first(rest);
-    let n = eight(rest);
-    if name == "new" || name == "log" {
-        return match Roster::new(byte(n[0])) {
-            Ok(roster) => of_roster(alloc, writer, name, roster),
-            Err(fault) => fault.to_string(alloc),
-        };
+fn of_roster(writer: &mut Writer, row: Row) -> Result<Answer, AllocError> {
+    match Roster::new(row.byte(0)) {
+        Ok(roster) if row.name == "new" => begin_anew(writer, roster, row),
+        Ok(roster) => written(writer, roster, row),
+        Err(_) => Ok(Answer::Unknown),
     }
-    match called(alloc, writer, name, n) {
-        Ok(fact) => fact_text(alloc, &fact),
+}
+
+fn told(row: Row, written: Result<Fact, WriterFault>) -> Result<Answer, AllocError> {
+    match written {
+        Ok(fact) => fact_text(row.alloc, &fact).map(Answer::Text),
         Err(WriterFault::Memory) => Err(AllocError),
-        Err(fault) => fault.to_string(alloc),
+        Err(fault) => fault.to_string(row.alloc).map(Answer::Text),
+    }
+}
+
+pub fn answer(writer: &mut Writer, row: Row) -> Result<Answer, AllocError> {
+    match row.name {
+        "new" | "log" => of_roster(writer, row),
+        _ => told(row, called(writer, row)),
     }
 }

@@ -1,22 +1,23 @@
-use crate::message_calls::answers::{Answer, MEMORY, UNKNOWN, refusal, uncovered, yes};
-use crate::message_calls::rows::Row;
+use crate::answer::Answer;
+use crate::outcomes::{refused, unread};
+use crate::row::Row;
 use fleet_core::{Fleet, Reply, Step};
 use redo_core::Fact;
-use row_words::{nth, short, size};
+use row_words::{nth, size};
+use segment_core::ReadFault;
 use std::alloc::AllocError;
 
-fn plain_step(row: Row<'_>) -> Option<Step<Fact>> {
-    let node = short(row.numbers[0]);
-    let other = short(row.numbers[1]);
-    let message = size(row.numbers[1]);
-    match row.word {
+fn plain_step(row: Row) -> Option<Step<Fact>> {
+    let (node, other) = (row.short(0), row.short(1));
+    let message = size(row.number(1));
+    match row.name {
         "fold" => Some(Step::Fold { node, page: other }),
         "discard" => Some(Step::Discard { node }),
         "front" => Some(Step::Front { node }),
         "read" => Some(Step::Read {
             node,
             page: other,
-            point: row.numbers[2],
+            point: row.number(2),
             offset: 0,
             len: 1,
         }),
@@ -31,56 +32,61 @@ fn plain_step(row: Row<'_>) -> Option<Step<Fact>> {
     }
 }
 
-/// A reply as a word and numbers; of a page its first byte.
-fn reply_answer(reply: &Reply) -> Answer {
+/// What a reply tells; of a page its first byte.
+fn told(row: Row, reply: &Reply) -> Result<Answer, AllocError> {
     match reply {
-        Reply::Changed => Answer::Word("changed"),
-        Reply::Unchanged => Answer::Word("unchanged"),
-        Reply::Folded => Answer::Word("folded"),
-        Reply::Discarded => Answer::Word("discarded"),
-        Reply::Front(front) => Answer::Front(*front),
-        Reply::Page(image) => Answer::One("byte", u64::from(image.bytes()[0])),
-        Reply::Below(min) => Answer::One("below", *min),
-        Reply::Above(complete) => Answer::One("above", *complete),
-        Reply::Joined => Answer::Word("joined"),
-        Reply::Answer(holds) => yes(*holds),
-        Reply::Wiped => Answer::Word("wiped"),
-        Reply::Message(number) => Answer::One("message", *number as u64),
-        Reply::Absorbed => Answer::Word("absorbed"),
-        Reply::Uncovered(shown) => uncovered(*shown),
-        Reply::NoMessage(number) => Answer::One("no message", *number as u64),
-        Reply::NoNode(node) => Answer::One("no node", u64::from(*node)),
-        Reply::Refused(why) => refusal(*why),
+        Reply::Changed => Ok(Answer::Word("Changed")),
+        Reply::Unchanged => Ok(Answer::Word("Unchanged")),
+        Reply::Folded => Ok(Answer::Word("Folded")),
+        Reply::Discarded => Ok(Answer::Word("Discarded")),
+        Reply::Front(front) => row.one("Front", front),
+        Reply::Page(image) => Ok(Answer::Numbered("Byte", u64::from(image.bytes()[0]))),
+        Reply::Below(min) => Ok(Answer::Numbered("Below", *min)),
+        Reply::Above(complete) => Ok(Answer::Numbered("Above", *complete)),
+        Reply::Joined => Ok(Answer::Word("Joined")),
+        Reply::Answer(holds) => Ok(Answer::Flag(*holds)),
+        Reply::Wiped => Ok(Answer::Word("Wiped")),
+        Reply::Message(number) => Ok(Answer::Numbered("Message", *number as u64)),
+        Reply::Absorbed => Ok(Answer::Word("Absorbed")),
+        Reply::Uncovered(shown) => row.one("Uncovered", shown),
+        Reply::NoMessage(number) => Ok(Answer::Numbered("NoMessage", *number as u64)),
+        Reply::NoNode(node) => Ok(Answer::Numbered("NoNode", u64::from(*node))),
+        Reply::Refused(why) => refused(row, *why),
         Reply::BrokenBlockChain { page, number } => {
-            Answer::Two("broken", u64::from(*page), *number)
+            let (page, number) = (*page, *number);
+            unread(row, ReadFault::BrokenBlockChain { page, number })
         }
-        Reply::Memory => MEMORY,
+        Reply::Memory => Err(AllocError),
     }
 }
 
-/// Makes a step of a fleet; a take names its fact by number, and copies it.
-pub fn step(fleet: &mut Fleet, facts: &[Fact], row: Row<'_>) -> Result<Answer, AllocError> {
-    let named = if row.word == "take" {
-        match nth(facts, row.numbers[1]) {
-            Some(fact) => Some(Step::Take {
-                node: short(row.numbers[0]),
-                fact: fact.copy()?,
-            }),
-            None => None,
-        }
-    } else {
-        plain_step(row)
+/// Takes a fact, which is named by its number and copied.
+fn take(fleet: &mut Fleet, facts: &[Fact], row: Row) -> Result<Answer, AllocError> {
+    let Some(fact) = nth(facts, row.number(1)) else {
+        return Ok(Answer::Unknown);
     };
-    match named {
-        Some(step) => Ok(reply_answer(&fleet.step(&step))),
-        None => Ok(UNKNOWN),
+    let step = Step::Take {
+        node: row.short(0),
+        fact: fact.copy()?,
+    };
+    told(row, &fleet.step(&step))
+}
+
+/// Makes a step of a fleet.
+pub fn step(fleet: &mut Fleet, facts: &[Fact], row: Row) -> Result<Answer, AllocError> {
+    if row.name == "take" {
+        return take(fleet, facts, row);
+    }
+    match plain_step(row) {
+        Some(step) => told(row, &fleet.step(&step)),
+        None => Ok(Answer::Unknown),
     }
 }
 
 /// Gives a fact to a node of a fleet.
-pub fn give(fleet: &mut Fleet, facts: &[Fact], row: Row<'_>) -> Result<Answer, AllocError> {
-    match nth(facts, row.numbers[1]) {
-        Some(fact) => Ok(reply_answer(&fleet.take(short(row.numbers[0]), fact.copy()?))),
-        None => Ok(UNKNOWN),
+pub fn give(fleet: &mut Fleet, facts: &[Fact], row: Row) -> Result<Answer, AllocError> {
+    match nth(facts, row.number(1)) {
+        Some(fact) => told(row, &fleet.take(row.short(0), fact.copy()?)),
+        None => Ok(Answer::Unknown),
     }
 }

@@ -1,30 +1,30 @@
-use crate::message_calls::answers::{Answer, MEMORY, UNKNOWN};
-use crate::message_calls::segments::add_made;
+use crate::answer::Answer;
+use crate::keeping::{add, or_fault};
+use crate::row::Row;
 use bytes::BytesMut;
 use hydration::{AddFault, FinishFault, Snapshot, Staging, freeze};
-use redo_wire::{Piece, PieceContent, decode_piece, encode_piece};
+use redo_wire::{Piece, PieceContent, WireError, encode_piece};
 use segment_core::Segment;
 use std::alloc::{AllocError, Global};
 
-fn spelled_piece(alloc: Global, piece: &Piece) -> Result<BytesMut, AllocError> {
+fn spelled(alloc: Global, piece: &Piece) -> Result<BytesMut, WireError> {
     let mut bytes = BytesMut::new(alloc);
-    match encode_piece(&mut bytes, piece) {
-        Ok(()) => Ok(bytes),
-        Err(_) => Err(AllocError),
-    }
+    encode_piece(&mut bytes, piece)?;
+    Ok(bytes)
 }
 
-/// Appends the bytes of a piece.
 fn put_piece(alloc: Global, pieces: &mut Vec<BytesMut>, piece: &Piece) -> Result<(), AllocError> {
-    pieces.push(spelled_piece(alloc, piece)?)?;
-    Ok(())
+    match spelled(alloc, piece) {
+        Ok(bytes) => Ok(pieces.push(bytes)?),
+        Err(_) => Err(AllocError),
+    }
 }
 
 /// Appends the bytes of each piece of a snapshot.
 fn put_pieces(
     alloc: Global,
-    snapshot: &Snapshot,
     pieces: &mut Vec<BytesMut>,
+    snapshot: &Snapshot,
 ) -> Result<(), AllocError> {
     for index in 0..snapshot.pieces() {
         put_piece(alloc, pieces, &snapshot.piece(index)?)?;
@@ -33,73 +33,53 @@ fn put_pieces(
 }
 
 fn keep_pieces(
-    alloc: Global,
     snapshot: &Snapshot,
     messages: &mut Vec<BytesMut>,
+    row: Row,
 ) -> Result<Answer, AllocError> {
-    let mut pieces = Vec::new(alloc);
-    put_pieces(alloc, snapshot, &mut pieces)?;
+    let mut pieces = Vec::new(row.alloc);
+    put_pieces(row.alloc, &mut pieces, snapshot)?;
     messages.append(&mut pieces)?;
-    Ok(Answer::One("pieces", u64::from(snapshot.pieces())))
+    Ok(Answer::Numbered("Pieces", u64::from(snapshot.pieces())))
 }
 
 /// Freezes a segment under a name, keeps its pieces as messages, all or none, and tells how many there are.
 pub fn freeze_all(
-    alloc: Global,
     segment: &Segment,
-    name: u64,
     messages: &mut Vec<BytesMut>,
+    row: Row,
 ) -> Result<Answer, AllocError> {
-    match freeze(segment, name) {
-        Ok(snapshot) => keep_pieces(alloc, &snapshot, messages),
-        Err(_) => Ok(MEMORY),
+    match freeze(segment, row.number(1)) {
+        Ok(snapshot) => keep_pieces(&snapshot, messages, row),
+        Err(_) => Err(AllocError),
     }
 }
 
 /// The place of a piece, and what it brings: a head its anchor, a page its number, and records their count.
-pub fn told_piece(piece: &Piece) -> Answer {
-    let (index, total) = (piece.index(), piece.total());
-    match piece.content() {
-        PieceContent::Head { book: _, anchor } => Answer::Piece(index, total, "head", *anchor),
-        PieceContent::Page(image) => Answer::Piece(index, total, "page", u64::from(image.number())),
-        PieceContent::Records(batch) => {
-            Answer::Piece(index, total, "records", batch.records().len() as u64)
-        }
-    }
+pub fn told_piece(row: Row, piece: &Piece) -> Result<Answer, AllocError> {
+    let (kind, number) = match piece.content() {
+        PieceContent::Head { book: _, anchor } => ("Head", *anchor),
+        PieceContent::Page(image) => ("Page", u64::from(image.number())),
+        PieceContent::Records(batch) => ("Records", batch.records().len() as u64),
+    };
+    row.parts("Piece", &(piece.index(), piece.total(), kind, number))
 }
 
-fn unstaged(fault: AddFault) -> Answer {
-    match fault {
-        AddFault::Stranger => Answer::Word("stranger"),
-        AddFault::Double { index } => Answer::One("double", u64::from(index)),
-        AddFault::Memory => MEMORY,
-    }
-}
-
-fn stage_piece(staging: &mut Staging, piece: Piece) -> Answer {
-    match staging.add(piece) {
-        Ok(()) => Answer::Word("staged"),
-        Err(refused) => unstaged(refused.fault),
-    }
-}
-
-pub fn stage(alloc: Global, staging: &mut Staging, bytes: &[u8]) -> Answer {
-    match decode_piece(alloc, bytes) {
-        Ok(piece) => stage_piece(staging, piece),
-        Err(_) => UNKNOWN,
+pub fn stage(staging: &mut Staging, piece: Piece, row: Row) -> Result<Answer, AllocError> {
+    match or_fault(staging.add(piece)) {
+        Ok(()) => Ok(Answer::Word("Staged")),
+        Err(fault) => row.refused("Unstaged", &fault, &AddFault::Memory),
     }
 }
 
 /// Puts a segment together, or tells why there is none.
 pub fn finish(
-    alloc: Global,
     staging: &Staging,
-    segments: &mut Vec<Box<Segment>>,
+    segments: &mut Vec<Segment>,
+    row: Row,
 ) -> Result<Answer, AllocError> {
     match staging.finish() {
-        Ok(made) => add_made(alloc, segments, made),
-        Err(FinishFault::Missing { index }) => Ok(Answer::One("missing", u64::from(index))),
-        Err(FinishFault::Malformed { index }) => Ok(Answer::One("malformed", u64::from(index))),
-        Err(FinishFault::Memory) => Ok(MEMORY),
+        Ok(made) => add("Segment", segments, made),
+        Err(fault) => row.refused("Unfinished", &fault, &FinishFault::Memory),
     }
 }

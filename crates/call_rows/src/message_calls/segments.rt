@@ -1,51 +1,26 @@
-use crate::given::patches_of;
-use crate::message_calls::answers::{Answer, MEMORY, UNKNOWN, fault, refusal, yes};
-use crate::message_calls::rows::Row;
+use crate::answer::Answer;
+use crate::given::patch;
+use crate::keeping::add;
+use crate::outcomes::{discard, fold, is_same, taken};
+use crate::row::Row;
 use redo_core::{Fact, Record, Roster};
-use row_words::{nth, nth_mut, short};
-use segment_core::{Segment, Taken};
-use segment_join::same;
+use row_words::{nth, nth_mut};
+use segment_core::Segment;
 use std::alloc::{AllocError, Global};
 
-fn take(segment: &mut Segment, fact: &Fact) -> Result<Answer, AllocError> {
-    match segment.take(fact.copy()?) {
-        Ok(Taken::Changed) => Ok(Answer::Word("changed")),
-        Ok(Taken::Unchanged) => Ok(Answer::Word("unchanged")),
-        Err(refused) => Ok(refusal(refused.fault)),
-    }
-}
-
-fn fold(segment: &mut Segment, page: u16) -> Answer {
-    let folded = match segment.plan_fold(page) {
-        Ok(plan) => plan.fold(),
-        Err(why) => return fault(why),
-    };
-    match segment.commit_fold(folded) {
-        Ok(()) => Answer::Word("folded"),
-        Err(_) => MEMORY,
-    }
-}
-
-fn compare(one: &Segment, other: &Segment) -> Answer {
-    match same(one, other) {
-        Ok(answer) => yes(answer),
-        Err(why) => fault(why),
-    }
-}
-
 /// A record of one byte at the beginning of its page, which no other record writes.
-fn link(alloc: Global, number: u16) -> Result<Fact, AllocError> {
-    let patches = patches_of(alloc, 0, b'a', 1)?;
+fn link(alloc: Global, number: u16) -> Result<Option<Record>, AllocError> {
     let back = u64::from(number).saturating_sub(1);
-    match Record::with(0, u64::from(number), back, number, 0, false, patches) {
-        Ok(redo) => Ok(Fact::Record(redo)),
-        Err(_) => Err(AllocError),
-    }
+    let patch = patch(alloc, 0, b'a', 1)?;
+    Record::with_one(alloc, 0, u64::from(number), back, number, 0, false, patch)
 }
 
 /// Whether a segment took a record.
-fn has_taken(segment: &mut Segment, record: Fact) -> bool {
-    segment.take(record).is_ok()
+fn has_taken(segment: &mut Segment, record: Option<Record>) -> bool {
+    match record {
+        Some(redo) => segment.take(Fact::Record(redo)).is_ok(),
+        None => false,
+    }
 }
 
 /// Has a segment take the records 1 to a last one, each linked to the one before it and of a page of its own.
@@ -58,76 +33,53 @@ fn take_chain(alloc: Global, segment: &mut Segment, last: u16) -> Result<(), All
     Ok(())
 }
 
-fn boxed(alloc: Global, roster: Roster) -> Result<Box<Segment>, AllocError> {
-    Ok(Box::new(alloc, Segment::new(alloc, roster)?)?)
-}
-
-fn add(segments: &mut Vec<Box<Segment>>, made: Box<Segment>) -> Result<Answer, AllocError> {
-    segments.push(made)?;
-    Ok(Answer::One("segment", segments.len() as u64))
-}
-
 pub fn add_empty(
-    alloc: Global,
-    segments: &mut Vec<Box<Segment>>,
+    segments: &mut Vec<Segment>,
     roster: Roster,
+    row: Row,
 ) -> Result<Answer, AllocError> {
-    add(segments, boxed(alloc, roster)?)
+    add("Segment", segments, Segment::new(row.alloc, roster)?)
 }
 
 /// Adds a segment that took a chain of records.
 pub fn add_chain(
-    alloc: Global,
-    segments: &mut Vec<Box<Segment>>,
+    segments: &mut Vec<Segment>,
     roster: Roster,
-    row: Row<'_>,
+    row: Row,
 ) -> Result<Answer, AllocError> {
-    let mut made = boxed(alloc, roster)?;
-    take_chain(alloc, &mut made, short(row.numbers[0]))?;
-    add(segments, made)
+    let mut made = Segment::new(row.alloc, roster)?;
+    take_chain(row.alloc, &mut made, row.short(0))?;
+    add("Segment", segments, made)
 }
 
-/// Adds a segment that was put together.
-pub fn add_made(
-    alloc: Global,
-    segments: &mut Vec<Box<Segment>>,
-    made: Segment,
-) -> Result<Answer, AllocError> {
-    add(segments, Box::new(alloc, made)?)
+fn take(segment: &mut Segment, facts: &[Fact], row: Row) -> Result<Answer, AllocError> {
+    match nth(facts, row.number(1)) {
+        Some(fact) => taken(row, segment.take(fact.copy()?)),
+        None => Ok(Answer::Unknown),
+    }
 }
 
 /// What a call changes at the segment of a number.
-pub fn change(
-    segments: &mut [Box<Segment>],
-    facts: &[Fact],
-    row: Row<'_>,
-) -> Result<Answer, AllocError> {
-    let Some(segment) = nth_mut(segments, row.numbers[0]) else {
-        return Ok(UNKNOWN);
+pub fn change(segments: &mut [Segment], facts: &[Fact], row: Row) -> Result<Answer, AllocError> {
+    let Some(segment) = nth_mut(segments, row.number(0)) else {
+        return Ok(Answer::Unknown);
     };
-    match row.word {
-        "take" => match nth(facts, row.numbers[1]) {
-            Some(fact) => take(segment, fact),
-            None => Ok(UNKNOWN),
-        },
-        "fold" => Ok(fold(segment, short(row.numbers[1]))),
-        "discard" => {
-            segment.discard();
-            Ok(Answer::Word("discarded"))
-        }
-        _ => Ok(UNKNOWN),
+    match row.name {
+        "take" => take(segment, facts, row),
+        "fold" => fold(segment, row, row.short(1)),
+        _ => Ok(discard(segment)),
     }
 }
 
 /// What a call tells of the segment of a number.
-pub fn look(segments: &[Box<Segment>], row: Row<'_>) -> Result<Answer, AllocError> {
-    let Some(segment) = nth(segments, row.numbers[0]) else {
-        return Ok(UNKNOWN);
+pub fn look(segments: &[Segment], row: Row) -> Result<Answer, AllocError> {
+    let Some(segment) = nth(segments, row.number(0)) else {
+        return Ok(Answer::Unknown);
     };
-    match (row.word, nth(segments, row.numbers[1])) {
-        ("front", _) => Ok(Answer::Front(segment.front())),
-        ("base", _) => Ok(Answer::One("base", segment.base_point())),
-        ("same", Some(other)) => Ok(compare(segment, other)),
-        _ => Ok(UNKNOWN),
+    match (row.name, nth(segments, row.number(1))) {
+        ("front", _) => row.one("Front", &segment.front()),
+        ("base", _) => Ok(Answer::Numbered("Base", segment.base_point())),
+        ("same", Some(other)) => is_same(row, segment, other),
+        _ => Ok(Answer::Unknown),
     }
 }

@@ -1,33 +1,28 @@
 use crate::answer::Answer;
-use crate::given;
-use crate::row::{Row, done};
-use crate::segment_calls::answers::{Shown, committed, show, taken, tidied};
+use crate::given::{fact, give, images, page_of, pages};
+use crate::keeping::done;
+use crate::outcomes::{committed, discard, fold, taken, tidied};
+use crate::row::Row;
 use crate::segment_calls::bench::Bench;
-use crate::segment_calls::{facts, pairs};
+use crate::segment_calls::pairs;
+use crate::segment_calls::questions::{Shown, show};
 use redo_core::Fact;
-use segment_core::{Segment, Union};
+use segment_core::{Folded, Segment, Union};
 use std::alloc::AllocError;
 
-fn fold(segment: &mut Segment, row: Row) -> Result<Answer, AllocError> {
-    match segment.plan_fold(row.short(0)) {
-        Ok(plan) => committed(row, segment.commit_fold(plan.fold())),
-        Err(fault) => row.one("Unread", &fault),
-    }
-}
-
-fn discard(segment: &mut Segment) -> Answer {
-    segment.discard();
-    Answer::Word("Done")
-}
-
+/// Commits an image that no fold made: its page, its version and its byte.
 fn commit(segment: &mut Segment, row: Row) -> Result<Answer, AllocError> {
-    let folded = facts::folded(row)?;
+    let folded = Folded {
+        page: row.short(0),
+        version: row.number(1),
+        image: page_of(row.alloc, row.byte(2))?,
+    };
     committed(row, segment.commit_fold(folded))
 }
 
 fn adopt(segment: &mut Segment, row: Row, given: &[(u16, u64, u8)]) -> Result<Answer, AllocError> {
     let base = row.number(0);
-    let pages = given::pages(row.alloc, given)?;
+    let pages = pages(row.alloc, given)?;
     if segment.front().min < base {
         return Ok(Answer::Word("Unfit"));
     }
@@ -36,16 +31,11 @@ fn adopt(segment: &mut Segment, row: Row, given: &[(u16, u64, u8)]) -> Result<An
 
 fn unite(segment: &mut Segment, row: Row, given: &[(u16, u64, u8)]) -> Result<Answer, AllocError> {
     let base = row.number(0);
-    let images = given::images(row.alloc, given)?;
+    let images = images(row.alloc, given)?;
     if segment.front().min < base {
         return Ok(Answer::Word("Unfit"));
     }
     done(segment.unite(base, row.number(1), images))
-}
-
-fn give(given: &mut Vec<(u16, u64, u8)>, row: Row) -> Result<Answer, AllocError> {
-    given.push((row.short(0), row.number(1), row.byte(2)))?;
-    Ok(Answer::Word("Done"))
 }
 
 /// Takes three facts in a union, and what the segment then shows. The union is dropped, which rolls the segment back.
@@ -75,25 +65,24 @@ fn rolled_back(
     row.parts("RolledBack", &(after, show(segment)?))
 }
 
-fn roll_back(bench: &mut Bench, row: Row) -> Result<Answer, AllocError> {
-    let (third, second, first) = (bench.noted.pop(), bench.noted.pop(), bench.noted.pop());
+fn roll_back(segment: &mut Segment, row: Row, noted: &mut Vec<Fact>) -> Result<Answer, AllocError> {
+    let (third, second, first) = (noted.pop(), noted.pop(), noted.pop());
     match (first, second, third) {
-        (Some(first), Some(second), Some(third)) => {
-            rolled_back(&mut bench.segment, row, first, second, third)
-        }
+        (Some(first), Some(second), Some(third)) => rolled_back(segment, row, first, second, third),
         _ => Ok(Answer::Word("Unfit")),
     }
 }
 
-fn take(segment: &mut Segment, row: Row) -> Result<Answer, AllocError> {
-    match facts::of(row, row.name)? {
-        Some(fact) => taken(row, segment.take(fact)),
-        None => Ok(Answer::Unknown),
+/// Takes the fact that the row spells, where it spells one.
+fn take(bench: &mut Bench, row: Row) -> Result<Answer, AllocError> {
+    match fact(row, row.name)? {
+        Some(fact) => taken(row, bench.segment.take(fact)),
+        None => pairs::answer(bench, row),
     }
 }
 
 fn note(noted: &mut Vec<Fact>, row: Row, name: &str) -> Result<Answer, AllocError> {
-    match facts::of(row, name)? {
+    match fact(row, name)? {
         Some(fact) => {
             noted.push(fact)?;
             Ok(Answer::Word("Done"))
@@ -105,18 +94,17 @@ fn note(noted: &mut Vec<Fact>, row: Row, name: &str) -> Result<Answer, AllocErro
 /// What a change of the segment answers, or another call.
 pub fn answer(bench: &mut Bench, row: Row) -> Result<Answer, AllocError> {
     match row.name {
-        "record" | "record_init" | "cut" | "advance" => take(&mut bench.segment, row),
-        "fold" => fold(&mut bench.segment, row),
+        "fold" => fold(&mut bench.segment, row, row.short(0)),
         "discard" => Ok(discard(&mut bench.segment)),
         "tidy" => tidied(row, bench.segment.tidy()),
         "commit" => commit(&mut bench.segment, row),
         "give" => give(&mut bench.given, row),
         "adopt" => adopt(&mut bench.segment, row, &bench.given),
         "unite" => unite(&mut bench.segment, row, &bench.given),
-        "roll_back" => roll_back(bench, row),
+        "roll_back" => roll_back(&mut bench.segment, row, &mut bench.noted),
         _ => match row.name.strip_prefix("noted_") {
             Some(name) => note(&mut bench.noted, row, name),
-            None => pairs::answer(bench, row),
+            None => take(bench, row),
         },
     }
 }

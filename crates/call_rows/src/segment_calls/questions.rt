@@ -1,30 +1,44 @@
 use crate::answer::Answer;
+use crate::outcomes::{numbers, page, unread};
 use crate::row::Row;
-use crate::segment_calls::answers::{page, show};
-use segment_core::Segment;
+use redo_core::Key;
+use segment_core::{Front, Segment};
 use std::alloc::AllocError;
 
-fn numbers_of(segment: &Segment, row: Row) -> Result<Answer, AllocError> {
-    let mut numbers = Vec::new(row.alloc);
-    for redo in segment.records_of(row.short(0), row.number(1), row.number(2))? {
-        numbers.push(redo.number())?;
-    }
-    Ok(Answer::Numbers(numbers))
+/// What a segment has: its front and base point, how many records it holds, the least key of a held record, how many images it stores,
+/// and the versions of the pages 7 and 8.
+pub type Shown = (Front, u64, usize, Option<Key>, usize, (u64, u64));
+
+pub fn show(segment: &Segment) -> Result<Shown, AllocError> {
+    let held = segment.stored()?.len();
+    let (least, images) = (segment.key_after(None), segment.pages().len());
+    let versions = (segment.version(7), segment.version(8));
+    Ok((
+        segment.front(),
+        segment.base_point(),
+        held,
+        least,
+        images,
+        versions,
+    ))
 }
 
 fn plan(segment: &Segment, row: Row) -> Result<Answer, AllocError> {
     match segment.plan_fold(row.short(0)) {
         Ok(plan) => Ok(Answer::Number(plan.fold().version)),
-        Err(fault) => row.one("Unread", &fault),
+        Err(fault) => unread(row, fault),
     }
 }
 
-fn backlink(segment: &Segment, row: Row) -> Result<Answer, AllocError> {
-    let found = match segment.get(row.key()) {
-        Some(redo) => Some(redo.block_back()),
-        None => None,
-    };
-    row.one("BlockBack", &found)
+fn backlink(segment: &Segment, row: Row) -> Answer {
+    match segment.get(row.key()) {
+        Some(redo) => Answer::Found(Some(redo.block_back())),
+        None => Answer::Found(None),
+    }
+}
+
+fn told(segment: &Segment, row: Row) -> Result<Answer, AllocError> {
+    row.parts("Shown", &show(segment)?)
 }
 
 /// What the segment tells, or a number of it.
@@ -32,10 +46,12 @@ pub fn answer(segment: &Segment, row: Row) -> Result<Answer, AllocError> {
     match row.name {
         "read" => page(row, segment.read(row.short(0), row.number(1))),
         "plan" => plan(segment, row),
-        "get" => backlink(segment, row),
-        "stored" => Ok(Answer::Keys(segment.stored()?)),
-        "kept_keys" => Ok(Answer::Keys(segment.kept_keys(row.number(0))?)),
-        "records_of" => numbers_of(segment, row),
+        "stored" => segment.stored().map(Answer::Keys),
+        "kept_keys" => segment.kept_keys(row.number(0)).map(Answer::Keys),
+        "records_of" => {
+            let (page, from, to) = (row.short(0), row.number(1), row.number(2));
+            numbers(row, segment.records_of(page, from, to))
+        }
         _ => shown(segment, row),
     }
 }
@@ -48,7 +64,7 @@ fn shown(segment: &Segment, row: Row) -> Result<Answer, AllocError> {
         "points" => row.one("Numbers", &segment.points()),
         "cuts" => row.one("Cuts", &segment.cuts()),
         "waits" => row.one("Waits", &segment.waits()),
-        "shown" => row.one("Shown", &show(segment)?),
+        "shown" => told(segment, row),
         _ => Ok(number(segment, row)),
     }
 }
@@ -61,6 +77,7 @@ fn number(segment: &Segment, row: Row) -> Answer {
         "floor" => Answer::Number(segment.floor()),
         "version" => Answer::Number(segment.version(row.short(0))),
         "holds_key" => Answer::Flag(segment.holds_key(row.key())),
+        "get" => backlink(segment, row),
         "first_key" => Answer::Key(segment.key_after(None)),
         "key_after" => Answer::Key(segment.key_after(Some(row.key()))),
         "first_page" => Answer::Page(segment.page_after(None)),

@@ -1,10 +1,11 @@
 use crate::answer::Answer;
-use crate::given::{images, page_of, pages};
-use crate::row::{Row, done};
+use crate::given::{give, images, page_of, pages};
+use crate::keeping::{done, renew};
+use crate::row::Row;
 use crate::store_calls::bench::Bench;
 use crate::store_calls::log_answers;
 use page_base::BaseStore;
-use std::alloc::{AllocError, Global};
+use std::alloc::AllocError;
 use std::mem;
 
 fn raise(store: &mut BaseStore, row: Row) -> Result<Answer, AllocError> {
@@ -12,32 +13,18 @@ fn raise(store: &mut BaseStore, row: Row) -> Result<Answer, AllocError> {
     done(store.raise(row.short(0), row.number(1), image))
 }
 
-fn give(given: &mut Vec<(u16, u64, u8)>, row: Row) -> Result<Answer, AllocError> {
-    given.push((row.short(0), row.number(1), row.byte(2)))?;
-    Ok(Answer::Word("Done"))
-}
-
 // Adopts what was given, at one version.
 fn adopt(bench: &mut Bench, row: Row) -> Result<Answer, AllocError> {
     let pages = pages(row.alloc, &bench.given)?;
-    bench.given = Vec::new(row.alloc);
+    bench.given.clear();
     done(bench.store.adopt(row.number(0), pages))
 }
 
 // Merges what was given, over a floor.
 fn merge(bench: &mut Bench, row: Row) -> Result<Answer, AllocError> {
     let images = images(row.alloc, &bench.given)?;
-    bench.given = Vec::new(row.alloc);
+    bench.given.clear();
     done(bench.store.merge(row.number(0), images))
-}
-
-fn copy_store(
-    alloc: Global,
-    spare: &mut Box<BaseStore>,
-    store: &BaseStore,
-) -> Result<Answer, AllocError> {
-    *spare = Box::new(alloc, store.copy()?)?;
-    Ok(Answer::Word("Done"))
 }
 
 fn swap_stores(bench: &mut Bench) -> Answer {
@@ -52,7 +39,7 @@ pub fn answer(bench: &mut Bench, row: Row) -> Result<Answer, AllocError> {
         "give" => give(&mut bench.given, row),
         "adopt" => adopt(bench, row),
         "merge" => merge(bench, row),
-        "copy_store" => copy_store(row.alloc, &mut bench.spare, &bench.store),
+        "copy_store" => renew(&mut bench.spare, bench.store.copy()),
         "swap_stores" => Ok(swap_stores(bench)),
         _ => shown(bench, row),
     }
@@ -71,8 +58,10 @@ fn show_images(store: &BaseStore, row: Row) -> Result<Answer, AllocError> {
 // The version of a page, and the last byte of its image.
 fn show_image(store: &BaseStore, row: Row) -> Result<Answer, AllocError> {
     let page = row.short(0);
-    let last = store.image(page)?.bytes()[4095];
-    row.parts("Image", &(store.version(page), last))
+    row.parts(
+        "Image",
+        &(store.version(page), store.image(page)?.bytes()[4095]),
+    )
 }
 
 fn stored_version(store: &BaseStore, page: u16) -> Answer {

@@ -1,32 +1,20 @@
 use crate::answer::Answer;
+use crate::outcomes::numbers;
 use crate::row::Row;
 use crate::store_calls::bench::Bench;
 use crate::store_calls::book_calls;
 use hot_log::{Steps, View};
 use redo_core::Record;
-use std::alloc::{AllocError, Global};
+use std::alloc::AllocError;
 
 fn record(found: Option<&Record>) -> Answer {
     match found {
         Some(redo) => {
-            let (epoch, number, back, page) = (
-                redo.epoch(),
-                redo.number(),
-                redo.back(),
-                redo.page(),
-            );
-            Answer::Record(Some((epoch, number, back, page)))
+            let page = redo.page();
+            Answer::Record(Some((redo.epoch(), redo.number(), redo.back(), page)))
         }
         None => Answer::Record(None),
     }
-}
-
-fn numbers(alloc: Global, found: &[&Record]) -> Result<Answer, AllocError> {
-    let mut numbers = Vec::new(alloc);
-    for redo in found {
-        numbers.push(redo.number())?;
-    }
-    Ok(Answer::Numbers(numbers))
 }
 
 // The greatest linked number, and how many records the search for it looks at.
@@ -43,10 +31,10 @@ pub fn answer(bench: &Bench, row: Row) -> Result<Answer, AllocError> {
     let (page, from, to) = (row.short(0), row.number(1), row.number(2));
     match row.name {
         "linked" => linked(view, row),
-        "records_of" => numbers(alloc, &view.records_of(alloc, page, from, to)?),
-        "records_anew" => numbers(alloc, &view.records_anew(alloc, page, from, to)?),
-        "missing" => numbers(alloc, &view.held.missing_by_page(alloc, &bench.other)?),
-        "kept_keys" => Ok(Answer::Keys(view.kept_keys(alloc, row.number(0))?)),
+        "records_of" => numbers(row, view.records_of(alloc, page, from, to)),
+        "records_anew" => numbers(row, view.records_anew(alloc, page, from, to)),
+        "missing" => numbers(row, view.held.missing_by_page(alloc, &bench.other)),
+        "kept_keys" => view.kept_keys(alloc, row.number(0)).map(Answer::Keys),
         _ => plain(bench, row),
     }
 }

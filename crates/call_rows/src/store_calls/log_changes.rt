@@ -1,17 +1,17 @@
 use crate::answer::Answer;
+use crate::keeping::renew;
 use crate::row::Row;
 use crate::store_calls::bench::Bench;
 use crate::store_calls::book_calls;
 use epoch_book::EpochBook;
 use hot_log::{HotLog, PutFault};
 use redo_core::{Record, Refused};
-use std::alloc::{AllocError, Global};
+use std::alloc::AllocError;
 
 // Puts a record that writes nothing: epoch, number, segment backlink and page.
 fn put(log: &mut HotLog, row: Row, init: bool) -> Result<Answer, AllocError> {
     let (epoch, number, back, page) = (row.short(0), row.number(1), row.number(2), row.short(3));
-    let patches = Vec::new(row.alloc);
-    match Record::with(epoch, number, back, page, 0, init, patches) {
+    match Record::with(epoch, number, back, page, 0, init, Vec::new(row.alloc)) {
         Ok(redo) => put_record(log, row, redo),
         Err(_) => Ok(Answer::Word("Misshapen")),
     }
@@ -32,11 +32,6 @@ fn unput(row: Row, refused: &Refused<Record, PutFault>) -> Result<Answer, AllocE
     }
 }
 
-fn copy_log(alloc: Global, log: &mut Box<HotLog>) -> Result<Answer, AllocError> {
-    *log = Box::new(alloc, log.copy()?)?;
-    Ok(Answer::Word("Done"))
-}
-
 fn remove(log: &mut HotLog, row: Row) -> Answer {
     log.remove(row.key());
     Answer::Word("Done")
@@ -52,13 +47,18 @@ fn remove_folded(log: &mut HotLog, book: &EpochBook, row: Row) -> Answer {
     Answer::Word("Done")
 }
 
+fn copy_log(log: &mut HotLog) -> Result<Answer, AllocError> {
+    let copied = log.copy();
+    renew(log, copied)
+}
+
 /// What a change of a log answers, or another call.
 pub fn answer(bench: &mut Bench, row: Row) -> Result<Answer, AllocError> {
     match row.name {
         "put" => put(&mut bench.log, row, false),
         "put_init" => put(&mut bench.log, row, true),
         "put_other" => put(&mut bench.other, row, false),
-        "copy_log" => copy_log(row.alloc, &mut bench.log),
+        "copy_log" => copy_log(&mut bench.log),
         "remove" => Ok(remove(&mut bench.log, row)),
         "remove_dead" => Ok(remove_dead(&mut bench.log, &bench.book)),
         "remove_folded" => Ok(remove_folded(&mut bench.log, &bench.book, row)),
