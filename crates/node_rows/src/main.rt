@@ -4,12 +4,16 @@
 //! The input has a section for each kind of call, in the order of `print_row`. A line that begins with "==" ends a section, and is printed.
 #![tactic(auto)]
 
+mod common;
 mod intake_calls;
 mod node_calls;
 mod thread_calls;
 mod worker_calls;
 
 use drill_log::Drill;
+use intake_calls::diary::{Diaries, open_diaries};
+use intake_calls::lane::{Lane, open_lane};
+use node_calls::bench::{Bench, new_bench};
 use row_words::Row;
 use std::alloc::{AllocError, Global};
 use std::io;
@@ -22,14 +26,16 @@ pub type Log = Drill<64>;
 /// What the lines of the first two sections speak of. A line of the others speaks of nothing that an earlier one made.
 #[derive(Drop)]
 struct Benches {
-    nodes: Box<node_calls::bench::Bench>,
-    intakes: Box<intake_calls::bench::Bench>,
+    nodes: Box<Bench>,
+    lane: Box<Lane>,
+    diaries: Box<Diaries>,
 }
 
 fn open_benches(alloc: Global) -> Result<Benches, AllocError> {
     Ok(Benches {
-        nodes: node_calls::bench::new_bench(alloc)?,
-        intakes: intake_calls::bench::new_bench(alloc)?,
+        nodes: new_bench(alloc)?,
+        lane: open_lane(alloc, 1)?,
+        diaries: open_diaries(alloc)?,
     })
 }
 
@@ -37,11 +43,11 @@ fn print_row<R: Threads + Wait + Sync>(
     rt: &R,
     benches: &mut Benches,
     section: u64,
-    row: Row,
+    row: &Row,
 ) -> io::Result<()> {
     match section {
         0 => node_calls::bench::answer(rt, &mut benches.nodes, row),
-        1 => intake_calls::bench::answer(rt, &mut benches.intakes, row),
+        1 => intake_calls::answer(rt, &mut benches.lane, &mut benches.diaries, row),
         2 => thread_calls::answer(rt, row),
         _ => worker_calls::answer(rt, row),
     }
@@ -60,7 +66,7 @@ fn print_rows<R: Threads + Wait + Sync>(
             println!(host; "{line}")?;
             section = section.wrapping_add(1);
         } else {
-            print_row(rt, benches, section, Row::of(host, line))?;
+            print_row(rt, benches, section, &Row::of(host, line))?;
         }
     }
     Ok(())

@@ -2,7 +2,7 @@
 //! a task and its words, and is printed with what comes of it. With large numbers they are what `deliveries.py` and `waiting.py` measure.
 //!
 //! A line's words are deliver or turns, who takes, all or holder, the threads, the facts or turns of each, and the rounds of work in a turn.
-ghost use Rattle.std.specs.Prelude.{◌<◌, ◌≤◌};
+ghost use Rattle.std.specs.Prelude.{◌<◌, ◌≤◌, length};
 
 mod dealing;
 mod mutex;
@@ -12,6 +12,7 @@ mod turns;
 use crate::thread_calls::dealing::deal;
 use crate::thread_calls::turns::{Task, take_turns};
 use drill_log::Drill;
+use named_log::LogFact;
 use node_lock::MAX_PASSES;
 use row_words::{Row, size};
 use std::alloc::{AllocError, Global};
@@ -35,22 +36,34 @@ fn accepted<R: Threads + Wait + Sync>(
     requires { (0 < threads) × (threads ≤ MAX_PASSES) }
 {
     let dealt = deal::<Log>(alloc, threads, facts)?;
-    let counts = match taker {
-        "cell" => node::deliver(rt, alloc, dealt, facts as u64)?,
-        "mutex" => mutex::deliver(rt, alloc, dealt)?,
-        _ => Vec::new(alloc),
-    };
+    let counts = accepted_of_each(rt, alloc, taker, dealt, facts)?;
     let sum = counts
         .iter()
         .fold(0u64, |sum, count| sum.saturating_add(*count));
     Ok(sum)
 }
 
+fn accepted_of_each<R: Threads + Wait + Sync>(
+    rt: &R,
+    alloc: Global,
+    taker: &str,
+    dealt: Vec<Vec<LogFact<Log>>>,
+    facts: usize,
+) -> Result<Vec<u64>, AllocError>
+    requires { (0 < length dealt.items) × (length dealt.items ≤ MAX_PASSES) }
+{
+    match taker {
+        "cell" => node::deliver(rt, alloc, dealt, facts as u64),
+        "mutex" => mutex::deliver(rt, alloc, dealt),
+        _ => Ok(Vec::new(alloc)),
+    }
+}
+
 // Prints how many facts were accepted. No node has passes for more threads than a lock has passes.
-fn deliver<R: Threads + Wait + Sync>(rt: &R, row: Row) -> io::Result<()> {
+fn deliver<R: Threads + Wait + Sync>(rt: &R, row: &Row) -> io::Result<()> {
     let threads = row.number_or(2, 1);
     if threads == 0 || threads > MAX_PASSES {
-        return row.said("Unknown");
+        return row.unknown();
     }
     let facts = size(row.number_or(3, LOG_LEN as u64)).min(LOG_LEN);
     let sum = accepted(rt, row.alloc(), row.word(0), threads as usize, facts)?;
@@ -58,7 +71,7 @@ fn deliver<R: Threads + Wait + Sync>(rt: &R, row: Row) -> io::Result<()> {
 }
 
 // Prints how many threads ended.
-fn turn<R: Threads + Wait + Sync>(rt: &R, row: Row) -> io::Result<()> {
+fn turn<R: Threads + Wait + Sync>(rt: &R, row: &Row) -> io::Result<()> {
     let task = Task {
         threads: size(row.number_or(2, 1)),
         turns: row.number_or(3, LOG_LEN as u64),
@@ -69,7 +82,7 @@ fn turn<R: Threads + Wait + Sync>(rt: &R, row: Row) -> io::Result<()> {
     row.count(ended as u64, "threads")
 }
 
-pub fn answer<R: Threads + Wait + Sync>(rt: &R, row: Row) -> io::Result<()> {
+pub fn answer<R: Threads + Wait + Sync>(rt: &R, row: &Row) -> io::Result<()> {
     match row.name {
         "turns" => turn(rt, row),
         _ => deliver(rt, row),

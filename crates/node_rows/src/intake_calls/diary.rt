@@ -1,7 +1,8 @@
 //! A lock round a trail.
-ghost use Rattle.std.specs.Prelude.{◌≡◌, ◌<◌, ◌≤◌, ◌+◌, ◌^◌, ◌++◌, ◌∷◌, [], None, length, OnOk, OnErr, IfOk};
-ghost use Rattle.node_lock.specs.Passes.{IsIdlePass};
+ghost use Rattle.std.specs.Prelude.{◌≡◌, ◌<◌, ◌≤◌, ◌+◌, ◌^◌, ◌++◌, ◌∷◌, [], None, length, vec_capacity, OnOk, OnErr, IfOk};
+ghost use Rattle.node_lock.specs.Passes.{IsIdlePass, AreIdle};
 
+use crate::common::{both, boxed, with_fault_alone};
 use node_lock::{Lock, MAX_PASSES, Pass, Trailed};
 use row_words::Row;
 use std::alloc::{AllocError, Global};
@@ -53,13 +54,18 @@ impl Diary {
         self.looks
     }
 
-    // Whether the entries of a pass are those from `first` on, in order, and no others.
-    fn is_in_order(&self, pass: u64, first: u64, count: u64) -> bool {
-        self.trail
-            .iter()
-            .filter(|entry| entry.0 == pass)
-            .map(|entry| entry.1)
-            .eq(first..first.saturating_add(count))
+    // Whether the entries of a pass are those from `first` on, in order, up to the one before `end`, and no others.
+    fn is_in_order(&self, pass: u64, first: u64, end: u64) -> bool {
+        let mut next = first;
+        for entry in self.trail.as_slice() {
+            if entry.0 == pass {
+                if entry.1 != next {
+                    return false;
+                }
+                next = next.wrapping_add(1);
+            }
+        }
+        next == end
     }
 }
 
@@ -114,35 +120,37 @@ pub struct Diaries {
     ghost idle: { IsIdlePass lock.id one × IsIdlePass lock.id other },
 }
 
-pub fn open_diaries(alloc: Global) -> Result<Box<Diaries>, AllocError> {
-    Ok(Box::new(alloc, opened(alloc)?)?)
+type Opened = (Lock<Diary>, Vec<Pass<Diary>>);
+
+fn open_lock(alloc: Global, passes: u64) -> Result<Opened, AllocError>
+    requires { (0 < passes) × (passes ≤ MAX_PASSES) }
+    ensures idle { IfOk result (λ t. AreIdle t.0.id t.1.items) }
+    ensures count { IfOk result (λ t. length t.1.items ≡ passes) }
+{
+    with_fault_alone(Lock::open(alloc, Diary::new(alloc), passes))
 }
 
 fn opened(alloc: Global) -> Result<Diaries, AllocError> {
-    let (lock, mut passes) = match Lock::open(alloc, Diary::new(alloc), 2) {
-        Ok(opened) => opened,
-        Err(refused) => return Err(refused.fault),
-    };
-    let Some(other) = passes.pop() else {
-        return Err(AllocError);
-    };
-    let Some(one) = passes.pop() else {
-        return Err(AllocError);
-    };
+    let (lock, passes) = open_lock(alloc, 2)?;
+    let (one, other) = both(passes);
     Ok(Diaries { lock, one, other })
 }
 
+pub fn open_diaries(alloc: Global) -> Result<Box<Diaries>, AllocError> {
+    boxed(alloc, opened(alloc)?)
+}
+
 /// Appends an entry by a pass, 0 or another.
-pub fn note<R: Wait>(rt: &R, diaries: &mut Diaries, row: Row) -> io::Result<()> {
+pub fn note<R: Wait>(rt: &R, diaries: &mut Diaries, row: &Row) -> io::Result<()> {
     match row.number(0) {
         0 => append(rt, &diaries.lock, &mut diaries.one, row.number(1))?,
         _ => append(rt, &diaries.lock, &mut diaries.other, row.number(1))?,
     }
-    row.said("Done")
+    row.done()
 }
 
 /// Looks without a pass.
-pub fn look<R: Wait>(rt: &R, diaries: &Diaries, row: Row) -> io::Result<()> {
+pub fn look<R: Wait>(rt: &R, diaries: &Diaries, row: &Row) -> io::Result<()> {
     let mut visit = diaries.lock.visit(rt);
     let looks = visit.state.look();
     visit.leave();
@@ -150,7 +158,7 @@ pub fn look<R: Wait>(rt: &R, diaries: &Diaries, row: Row) -> io::Result<()> {
 }
 
 /// Looks by the second pass.
-pub fn look_by_pass<R: Wait>(rt: &R, diaries: &mut Diaries, row: Row) -> io::Result<()> {
+pub fn look_by_pass<R: Wait>(rt: &R, diaries: &mut Diaries, row: &Row) -> io::Result<()> {
     let mut turn = diaries.lock.take(rt, &mut diaries.other);
     let looks = turn.state.look();
     turn.give();
@@ -158,7 +166,7 @@ pub fn look_by_pass<R: Wait>(rt: &R, diaries: &mut Diaries, row: Row) -> io::Res
 }
 
 /// Looks in a call, by the first pass.
-pub fn look_in_a_call<R: Wait>(rt: &R, diaries: &mut Diaries, row: Row) -> io::Result<()> {
+pub fn look_in_a_call<R: Wait>(rt: &R, diaries: &mut Diaries, row: &Row) -> io::Result<()> {
     let looks = diaries
         .lock
         .read(rt, &mut diaries.one, |diary| diary.look());
@@ -167,75 +175,77 @@ pub fn look_in_a_call<R: Wait>(rt: &R, diaries: &mut Diaries, row: Row) -> io::R
 
 /// Closes the lock with the first pass alone, and opens one. The answer is the entries of the trail: the pass and the place in the log
 /// of each.
-pub fn close<R: Wait>(rt: &R, diaries: &mut Box<Diaries>, row: Row) -> io::Result<()> {
+pub fn close<R: Wait>(rt: &R, diaries: &mut Box<Diaries>, row: &Row) -> io::Result<()> {
     let closed = mem::replace(diaries, open_diaries(row.alloc())?);
-    let diary = closed_by_one(rt, row.alloc(), Box::into_inner(closed))?;
+    let room = Vec::with_capacity(row.alloc(), 1)?;
+    let diary = closed_by_one(rt, Box::into_inner(closed), room);
     row.one("Trail", &diary.trail)
 }
 
-fn closed_by_one<R: Wait>(rt: &R, alloc: Global, diaries: Diaries) -> Result<Diary, AllocError> {
+// The first pass goes into an empty list.
+fn closed_by_one<R: Wait>(rt: &R, diaries: Diaries, mut passes: Vec<Pass<Diary>>) -> Diary
+    requires { (passes.items ≡ []) × (0 < vec_capacity passes) }
+{
     let Diaries {
         lock,
         one,
         other: _,
     } = diaries;
-    let passes = Vec::from_array(alloc, [one])?;
-    Ok(lock.close(rt, passes))
+    passes.push_reserved(one);
+    lock.close(rt, passes)
 }
 
+// What a pass comes back with from a thread.
+type Back = Result<Pass<Diary>, AllocError>;
+
 // Two threads append 1000 entries each, by a pass of their own.
+fn append_twice<R: Threads + Wait + Sync>(
+    rt: &R,
+    lock: &Lock<Diary>,
+    one: Pass<Diary>,
+    other: Pass<Diary>,
+) -> (Back, Back)
+    requires { IsIdlePass lock.now.id one × IsIdlePass lock.now.id other }
+    ensures one { IfOk result.0 (λ p. IsIdlePass lock.now.id p) }
+    ensures other { IfOk result.1 (λ p. IsIdlePass lock.now.id p) }
+{
+    thread::join(
+        rt,
+        move || -> Back
+            requires { IsIdlePass lock.now.id one }
+            ensures { IfOk result (λ p. IsIdlePass lock.entry.now.id p) }
+        { append_all(rt, lock, one, 1, 1000) },
+        move || -> Back
+            requires { IsIdlePass lock.now.id other }
+            ensures { IfOk result (λ p. IsIdlePass lock.entry.now.id p) }
+        { append_all(rt, lock, other, 5001, 1000) },
+    )
+}
+
 fn appended_twice<R: Threads + Wait + Sync>(rt: &R, alloc: Global) -> Result<Diary, AllocError> {
     let Diaries { lock, one, other } = opened(alloc)?;
-    let shared = &lock;
-    let (one, other) = thread::join(
-        rt,
-        move || -> Result<Pass<Diary>, AllocError>
-            requires { IsIdlePass shared.now.id one }
-            ensures { IfOk result (λ p. IsIdlePass shared.entry.now.id p) }
-        { append_all(rt, shared, one, 1, 1000) },
-        move || -> Result<Pass<Diary>, AllocError>
-            requires { IsIdlePass shared.now.id other }
-            ensures { IfOk result (λ p. IsIdlePass shared.entry.now.id p) }
-        { append_all(rt, shared, other, 5001, 1000) },
-    );
+    let (one, other) = append_twice(rt, &lock, one, other);
     let passes = Vec::from_array(alloc, [one?, other?])?;
     Ok(lock.close(rt, passes))
 }
 
-/// How many entries a trail has, and whether those of each pass are in order.
-#[derive(Debug, Drop)]
-struct InOrder {
-    entries: usize,
-    first: bool,
-    second: bool,
-}
-
-pub fn append_in_two_threads<R: Threads + Wait + Sync>(rt: &R, row: Row) -> io::Result<()> {
+/// Prints how many entries the trail has, and whether those of each pass are in order.
+pub fn append_in_two_threads<R: Threads + Wait + Sync>(rt: &R, row: &Row) -> io::Result<()> {
     let diary = appended_twice(rt, row.alloc())?;
-    row.told(&InOrder {
-        entries: diary.trail.len(),
-        first: diary.is_in_order(0, 1, 1000),
-        second: diary.is_in_order(1, 5001, 1000),
-    })
+    let first = diary.is_in_order(0, 1, 1001);
+    let second = diary.is_in_order(1, 5001, 6001);
+    row.parts("InOrder", &(diary.count, first, second))
 }
 
-/// How many passes a lock has, and the number of the last.
-#[derive(Debug, Drop)]
-struct Passes(usize, Option<u64>);
-
-fn passes_of(alloc: Global, count: u64) -> Result<Passes, AllocError>
-    requires { (0 < count) × (count ≤ MAX_PASSES) }
-{
-    match Lock::open(alloc, Diary::new(alloc), count) {
-        Ok((_, dealt)) => Ok(Passes(dealt.len(), dealt.last().map(|pass| pass.number()))),
-        Err(refused) => Err(refused.fault),
-    }
-}
-
-pub fn print_passes(row: Row) -> io::Result<()> {
+/// Prints how many passes a lock has, and the number of the last.
+pub fn print_passes(row: &Row) -> io::Result<()> {
     let count = row.number(0);
     if count == 0 || count > MAX_PASSES {
-        return row.said("Unknown");
+        return row.unknown();
     }
-    row.told(&passes_of(row.alloc(), count)?)
+    let (_, passes) = open_lock(row.alloc(), count)?;
+    match passes.last() {
+        Some(last) => row.parts("Passes", &(passes.len(), last.number())),
+        None => row.said("None"),
+    }
 }

@@ -1,11 +1,14 @@
 //! An intake with one sender.
-ghost use Rattle.std.specs.Prelude.{◌≡◌, ◌≤◌, IfSome};
-ghost use Rattle.intake_queue.specs.Ends.{AreSendersOf};
+ghost use Rattle.std.specs.Prelude.{◌≡◌, ◌<◌, ◌≤◌, ◌++◌, [], IfOk, IfSome, vec_capacity};
+ghost use Rattle.intake_queue.specs.Ends.{next_parcel, AreSendersOf};
+ghost use Rattle.intake_queue.specs.Left.{IsLeft};
+ghost use Rattle.intake_queue.specs.Parcel.{AreInTurn};
 
 use crate::Log;
+use crate::common::{boxed, only, with_fault_alone};
 use crate::intake_calls::relay::pass_through;
 use intake_queue::{Intake, MAX_CAPACITY, Parcel, SenderPass, TakerPass};
-use named_log::LogFact;
+use named_log::{LogFact, LogName};
 use row_words::Row;
 use std::alloc::{AllocError, Global};
 use std::sync::Wait;
@@ -19,23 +22,26 @@ pub struct Lane {
     ghost own: { (sender.intake ≡ intake.id) × (taker.intake ≡ intake.id) },
 }
 
-pub fn open_lane(alloc: Global, capacity: usize) -> Result<Box<Lane>, AllocError>
+fn opened(alloc: Global, capacity: usize) -> Result<Lane, AllocError>
     requires { (1 ≤ capacity) × (capacity ≤ MAX_CAPACITY) }
 {
-    let (intake, mut senders, taker) = Intake::<Log>::open(alloc, 1, capacity)?;
-    let Some(sender) = senders.pop() else {
-        return Err(AllocError);
-    };
-    let lane = Lane {
+    let (intake, senders, taker) = Intake::open(alloc, 1, capacity)?;
+    let sender = only(senders);
+    Ok(Lane {
         intake,
         sender,
         taker,
-    };
-    Ok(Box::new(alloc, lane)?)
+    })
+}
+
+pub fn open_lane(alloc: Global, capacity: usize) -> Result<Box<Lane>, AllocError>
+    requires { (1 ≤ capacity) × (capacity ≤ MAX_CAPACITY) }
+{
+    boxed(alloc, opened(alloc, capacity)?)
 }
 
 // The capacity that a line gives, where an intake may have it.
-fn capacity(row: Row) -> Option<usize>
+fn capacity(row: &Row) -> Option<usize>
     ensures { IfSome result (λ n. (1 ≤ n) × (n ≤ MAX_CAPACITY)) }
 {
     let capacity = row.index(0);
@@ -45,25 +51,32 @@ fn capacity(row: Row) -> Option<usize>
     Some(capacity)
 }
 
-pub fn open_anew(lane: &mut Box<Lane>, row: Row) -> io::Result<()> {
+pub fn open_anew(lane: &mut Box<Lane>, row: &Row) -> io::Result<()> {
     let Some(capacity) = capacity(row) else {
-        return row.said("Unknown");
+        return row.unknown();
     };
     *lane = open_lane(row.alloc(), capacity)?;
-    row.said("Done")
+    row.done()
 }
 
-/// Offers the fact at a place. The answer to a full intake is the number of the parcel that came back.
-pub fn offer<R: Wait>(rt: &R, lane: &mut Lane, row: Row) -> io::Result<()> {
-    match LogFact::<Log>::at(row.alloc(), row.number(0))? {
-        Some(fact) => offer_fact(rt, lane, fact, row),
-        None => row.said("Unknown"),
+// The sender's next parcel, with the fact at a place.
+fn parcel_at(
+    alloc: Global,
+    sender: &SenderPass<Log>,
+    place: u64,
+) -> Result<Option<Parcel<Log>>, AllocError>
+    ensures { IfOk result (λ found. IfSome found (λ p. p ≡ next_parcel sender.now p.fact)) }
+{
+    match LogFact::at(alloc, place)? {
+        Some(fact) => Ok(sender.parcel(fact).ok()),
+        None => Ok(None),
     }
 }
 
-fn offer_fact<R: Wait>(rt: &R, lane: &mut Lane, fact: LogFact<Log>, row: Row) -> io::Result<()> {
-    let Ok(parcel) = lane.sender.parcel(fact) else {
-        return row.said("Unknown");
+/// Offers the fact at a place. The answer to a full intake is the number of the parcel that came back.
+pub fn offer<R: Wait>(rt: &R, lane: &mut Lane, row: &Row) -> io::Result<()> {
+    let Some(parcel) = parcel_at(row.alloc(), &lane.sender, row.number(0))? else {
+        return row.unknown();
     };
     match lane.intake.offer(rt, &mut lane.sender, parcel) {
         Ok(()) => row.said("Accepted"),
@@ -71,83 +84,94 @@ fn offer_fact<R: Wait>(rt: &R, lane: &mut Lane, fact: LogFact<Log>, row: Row) ->
     }
 }
 
-#[derive(Debug, Drop)]
-struct Taken {
-    sender: u64,
-    number: u64,
-    place: u64,
+// Prints a parcel: its sender, its number, and the place of its fact.
+fn print_parcel(row: &Row, parcel: &Parcel<Log>) -> io::Result<()> {
+    let place = parcel.fact().place();
+    row.parts("Parcel", &(parcel.sender(), parcel.number(), place))
 }
 
-pub fn take_next<R: Wait>(rt: &R, lane: &mut Lane, row: Row) -> io::Result<()> {
+// Prints parcels, a line each.
+fn print_parcels(row: &Row, parcels: &[Parcel<Log>]) -> io::Result<()> {
+    for parcel in parcels {
+        print_parcel(row, parcel)?;
+    }
+    Ok(())
+}
+
+pub fn take_next<R: Wait>(rt: &R, lane: &mut Lane, row: &Row) -> io::Result<()> {
     match lane.intake.take_next(rt, &mut lane.taker) {
-        Some(parcel) => row.told(&Taken {
-            sender: parcel.sender(),
-            number: parcel.number(),
-            place: parcel.fact().place(),
-        }),
+        Some(parcel) => print_parcel(row, &parcel),
         None => row.said("Empty"),
     }
 }
 
-/// Ends the intake, and opens one. The answer is the numbers of what was left, in order.
-pub fn end<R: Wait>(rt: &R, lane: &mut Box<Lane>, row: Row) -> io::Result<()> {
+/// Ends the intake, and opens one. The answer is what was left, in order.
+pub fn end<R: Wait>(rt: &R, lane: &mut Box<Lane>, row: &Row) -> io::Result<()> {
     let ended = mem::replace(lane, open_lane(row.alloc(), 1)?);
-    let left = left_of(rt, row.alloc(), Box::into_inner(ended))?;
-    print_numbers(left.as_slice(), row)
+    let room = Vec::with_capacity(row.alloc(), 1)?;
+    let left = left_of(rt, row.alloc(), Box::into_inner(ended), room)?;
+    print_parcels(row, left.as_slice())
 }
 
-fn left_of<R: Wait>(rt: &R, alloc: Global, lane: Lane) -> Result<Vec<Parcel<Log>>, AllocError> {
+// Ends the intake with its sender, which goes into an empty list: that is made before, so that no want of memory lets the intake go here.
+fn left_of<R: Wait>(
+    rt: &R,
+    alloc: Global,
+    lane: Lane,
+    mut senders: Vec<SenderPass<Log>>,
+) -> Result<Vec<Parcel<Log>>, AllocError>
+    requires { (senders.items ≡ []) × (0 < vec_capacity senders) }
+{
     let Lane {
         intake,
         sender,
         taker,
     } = lane;
-    let senders = Vec::from_array(alloc, [sender])?;
+    senders.push_reserved(sender);
     left_at_end(rt, alloc, intake, senders, taker)
 }
 
 /// What is left in an intake that is ended.
-pub fn left_at_end<R: Wait>(
+pub fn left_at_end<L: LogName, R: Wait>(
     rt: &R,
     alloc: Global,
-    intake: Intake<Log>,
-    senders: Vec<SenderPass<Log>>,
-    taker: TakerPass<Log>,
-) -> Result<Vec<Parcel<Log>>, AllocError>
+    intake: Intake<L>,
+    senders: Vec<SenderPass<L>>,
+    taker: TakerPass<L>,
+) -> Result<Vec<Parcel<L>>, AllocError>
     requires taker { taker.intake ≡ intake.id }
     requires senders { AreSendersOf intake.id senders.items }
+    ensures left { IfOk result (λ left. IsLeft senders.items taker.taken left.items) }
+    ensures in_turn { IfOk result (λ left. AreInTurn taker.senders (taker.taken ++ left.items)) }
 {
-    match intake.end(rt, alloc, senders, taker) {
-        Ok(left) => Ok(left),
-        Err(refused) => Err(refused.fault),
-    }
+    with_fault_alone(intake.end(rt, alloc, senders, taker))
 }
 
-// The facts at the first places.
-fn first_facts(alloc: Global, count: u64) -> Result<Vec<LogFact<Log>>, AllocError> {
+/// The facts at the first places, so many; after the last place of the log comes the first one again.
+pub fn first_facts(alloc: Global, count: u64) -> Result<Vec<LogFact<Log>>, AllocError> {
     let mut facts = Vec::new(alloc);
     for before in 0..count {
-        if let Some(fact) = LogFact::at(alloc, before + 1)? {
+        if let Some(fact) = LogFact::at(alloc, place_of(before))? {
             facts.push(fact)?;
         }
     }
     Ok(facts)
 }
 
-/// Sends the first facts, so many, through an intake with so much room. The answer is their numbers, in the order in which they were taken.
-pub fn print_relayed<R: Wait>(rt: &R, row: Row) -> io::Result<()> {
+/// The place of the fact behind so many.
+pub fn place_of(before: u64) -> u64 {
+    before % PLACES + 1
+}
+
+// How many places the log has.
+const PLACES: u64 = 130;
+
+/// Sends the first facts, so many, through an intake with so much room. The answer is the parcels, in the order in which they were taken.
+pub fn print_relayed<R: Wait>(rt: &R, row: &Row) -> io::Result<()> {
     let Some(capacity) = capacity(row) else {
-        return row.said("Unknown");
+        return row.unknown();
     };
     let facts = first_facts(row.alloc(), row.number(1))?;
     let all = pass_through(rt, row.alloc(), capacity, facts)?;
-    print_numbers(all.as_slice(), row)
-}
-
-fn print_numbers(parcels: &[Parcel<Log>], row: Row) -> io::Result<()> {
-    let mut numbers = Vec::new(row.alloc());
-    for parcel in parcels {
-        numbers.push(parcel.number())?;
-    }
-    row.one("Numbers", &numbers)
+    print_parcels(row, all.as_slice())
 }

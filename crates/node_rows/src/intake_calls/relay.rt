@@ -1,22 +1,27 @@
 //! A caller that knows the contracts alone: facts through an intake of one sender.
-ghost use Rattle.std.specs.Prelude.{◌≡◌, ◌+◌, ◌<◌, ◌≤◌, ◌^◌, ◌∷◌, ◌++◌, [], length, IfOk, IfSome, OnOk};
+ghost use Rattle.std.specs.Prelude.{◌≡◌, ◌+◌, ◌<◌, ◌≤◌, ◌^◌, ◌∷◌, ◌++◌, [], length, vec_capacity, IfOk, IfSome, OnOk};
 ghost use Rattle.intake_queue.specs.Parcel.{parcel_facts, AreInTurn};
 
+use crate::common::only;
+use crate::intake_calls::lane::left_at_end;
 use intake_queue::{Intake, MAX_CAPACITY, Parcel, SenderPass, TakerPass};
 use named_log::{LogFact, LogName};
 use std::alloc::{AllocError, Global};
 use std::sync::Wait;
 
-/// An intake with its only sender, its taker, and all that was taken.
+/// An intake with its only sender, its taker, and all that was taken; how many parcels wait to be taken, and how many may.
 #[derive(Drop)]
 struct Relay<L: LogName> {
     intake: Intake<L>,
     sender: SenderPass<L>,
     taker: TakerPass<L>,
     got: Vec<Parcel<L>>,
+    waiting: usize,
+    capacity: usize,
     ghost own: { (sender.intake ≡ intake.id) × (taker.intake ≡ intake.id) },
     ghost only: { (sender.number ≡ 1) × (sender.senders ≡ 1) × (taker.senders ≡ 1) },
-    ghost room: { 1 ≤ intake.capacity },
+    ghost room: { (1 ≤ capacity) × (capacity ≡ intake.capacity) × (waiting ≤ capacity) },
+    ghost waits: { length sender.accepted ≡ length taker.taken + waiting },
     ghost all: { got.items ≡ taker.taken },
     ghost in_turn: { AreInTurn 1 taker.taken },
 }
@@ -26,22 +31,23 @@ impl<L: LogName> Relay<L> {
         requires { (1 ≤ capacity) × (capacity ≤ MAX_CAPACITY) }
         ensures { IfOk result (λ r. r.sender.accepted ≡ []) }
     {
-        let (intake, mut senders, taker) = Intake::<L>::open(alloc, 1, capacity)?;
-        match senders.pop() {
-            Some(sender) => Ok(Relay {
-                intake,
-                sender,
-                taker,
-                got: Vec::new(alloc),
-            }),
-            None => unreachable!(),
-        }
+        let (intake, senders, taker) = Intake::<L>::open(alloc, 1, capacity)?;
+        let sender = only(senders);
+        Ok(Relay {
+            intake,
+            sender,
+            taker,
+            got: Vec::new(alloc),
+            waiting: 0,
+            capacity,
+        })
     }
 
-    // Takes one: where the taker has heard of a parcel that it did not take, it finds one.
+    // Takes one: the taker has heard of a parcel that it did not take, so it finds one.
     fn take<R: Wait>(&mut self, rt: &R) -> Result<(), AllocError>
-        requires { length self.old.taker.taken < length self.old.sender.accepted }
-        ensures { self.new.sender ≡ self.old.sender }
+        requires { 0 < self.old.waiting }
+        ensures sender { self.new.sender ≡ self.old.sender }
+        ensures waiting { OnOk result (self.new.waiting < self.new.capacity) }
     {
         self.got.reserve(1)?;
         let note = self.intake.note_of_sender(&mut self.sender);
@@ -50,43 +56,49 @@ impl<L: LogName> Relay<L> {
             Some(parcel) => self.got.push_reserved(parcel),
             None => unreachable!(),
         }
+        self.waiting -= 1;
         Ok(())
     }
 
-    // Offers the fact until it is accepted, and takes one each time that the intake is full.
-    fn put<R: Wait>(&mut self, rt: &R, fact: LogFact<L>) -> Result<(), AllocError>
-        requires { length self.old.sender.accepted + 1 < 2 ^ 64 }
-        ensures { OnOk result (parcel_facts self.new.sender.accepted ≡ parcel_facts self.old.sender.accepted ++ fact ∷ []) }
+    // Offers the fact: the sender has heard that there is room, so it is accepted.
+    fn put<R: Wait>(&mut self, rt: &R, fact: LogFact<L>)
+        requires room { self.old.waiting < self.old.capacity }
+        requires numbers { length self.old.sender.accepted + 1 < 2 ^ 64 }
+        ensures { parcel_facts self.new.sender.accepted ≡ parcel_facts self.old.sender.accepted ++ fact ∷ [] }
     {
-        let Ok(mut parcel) = self.sender.parcel(fact) else {
+        let note = self.intake.note_of_taker(&mut self.taker);
+        self.intake.tell_sender(&mut self.sender, note);
+        let Ok(parcel) = self.sender.parcel(fact) else {
             unreachable!()
         };
-        for _ in rt.forever() {
-            let note = self.intake.note_of_taker(&mut self.taker);
-            self.intake.tell_sender(&mut self.sender, note);
-            match self.intake.offer(rt, &mut self.sender, parcel) {
-                Ok(()) => return Ok(()),
-                Err(refused) => parcel = refused.value,
-            }
-            self.take(rt)?;
+        match self.intake.offer(rt, &mut self.sender, parcel) {
+            Ok(()) => self.waiting += 1,
+            Err(_) => unreachable!(),
         }
-        unreachable!()
     }
 
-    // Offers facts, in order.
-    fn put_all<R: Wait>(&mut self, rt: &R, mut facts: Vec<LogFact<L>>) -> Result<(), AllocError>
-        requires { self.old.sender.accepted ≡ [] }
+    // Offers facts, in order, and takes one each time that the intake is full.
+    fn put_all<R: Wait>(&mut self, rt: &R, facts: Vec<LogFact<L>>) -> Result<(), AllocError>
+        requires none { self.old.sender.accepted ≡ [] }
         ensures { OnOk result (parcel_facts self.new.sender.accepted ≡ facts.items) }
     {
-        facts.as_mut_slice().reverse();
-        while let Some(fact) = facts.pop() {
-            self.put(rt, fact)?;
+        for fact in facts {
+            self.put(rt, fact);
+            if self.waiting == self.capacity {
+                self.take(rt)?;
+            }
         }
         Ok(())
     }
 
-    // All that was accepted, in order.
-    fn finish<R: Wait>(self, rt: &R, alloc: Global) -> Result<Vec<Parcel<L>>, AllocError>
+    // All that was accepted, in order. The sender goes into an empty list.
+    fn finish<R: Wait>(
+        self,
+        rt: &R,
+        alloc: Global,
+        mut senders: Vec<SenderPass<L>>,
+    ) -> Result<Vec<Parcel<L>>, AllocError>
+        requires { (senders.items ≡ []) × (0 < vec_capacity senders) }
         ensures { IfOk result (λ all. all.items ≡ self.sender.accepted) }
     {
         let Relay {
@@ -94,16 +106,13 @@ impl<L: LogName> Relay<L> {
             sender,
             taker,
             mut got,
+            waiting: _,
+            capacity: _,
         } = self;
-        let mut senders = Vec::new(alloc);
-        senders.push(sender)?;
-        match intake.end(rt, alloc, senders, taker) {
-            Ok(mut left) => {
-                got.append(&mut left)?;
-                Ok(got)
-            }
-            Err(_) => Err(AllocError),
-        }
+        senders.push_reserved(sender);
+        let mut left = left_at_end(rt, alloc, intake, senders, taker)?;
+        got.append(&mut left)?;
+        Ok(got)
     }
 }
 
@@ -117,7 +126,8 @@ pub fn pass_through<L: LogName, R: Wait>(
     requires { (1 ≤ capacity) × (capacity ≤ MAX_CAPACITY) }
     ensures { IfOk result (λ all. parcel_facts all.items ≡ facts.items) }
 {
+    let room = Vec::with_capacity(alloc, 1)?;
     let mut relay = Relay::open(alloc, capacity)?;
     relay.put_all(rt, facts)?;
-    relay.finish(rt, alloc)
+    relay.finish(rt, alloc, room)
 }

@@ -3,7 +3,8 @@ ghost use Rattle.std.specs.Prelude.{◌≡◌};
 ghost use Rattle.std.specs.Thread.{IsSync};
 
 use crate::Log;
-use crate::intake_calls::lane::left_at_end;
+use crate::common::both;
+use crate::intake_calls::lane::{first_facts, left_at_end, place_of};
 use intake_queue::{Intake, Parcel, SenderPass, TakerPass};
 use named_log::LogFact;
 use row_words::Row;
@@ -14,67 +15,61 @@ use std::{io, thread};
 
 const EACH: u64 = 1000;
 
-// The place of the fact in a sender's parcel of a number.
-fn place_of(number: u64) -> u64 {
-    number % 130 + 1
-}
-
-fn facts(alloc: Global) -> Result<Vec<LogFact<Log>>, AllocError> {
-    let mut facts = Vec::new(alloc);
-    for before in 0..EACH {
-        if let Some(fact) = LogFact::at(alloc, place_of(before + 1))? {
-            facts.push(fact)?;
+// Offers a fact until it is accepted.
+fn offer<R: Wait>(rt: &R, intake: &Intake<Log>, sender: &mut SenderPass<Log>, fact: LogFact<Log>)
+    requires { sender.old.intake ≡ intake.now.id }
+    ensures { sender.new.intake ≡ intake.now.id }
+{
+    let Some(mut parcel) = sender.parcel(fact).ok() else {
+        return;
+    };
+    for _ in rt.forever() {
+        match intake.offer(rt, sender, parcel) {
+            Ok(()) => return,
+            Err(refused) => parcel = refused.value,
         }
+        thread::yield_now();
     }
-    Ok(facts)
 }
 
-// Offers each fact, again where the intake is full.
+// Offers facts, in order.
 fn offer_all<R: Wait>(
     rt: &R,
     intake: &Intake<Log>,
     mut sender: SenderPass<Log>,
-    mut facts: Vec<LogFact<Log>>,
+    facts: Vec<LogFact<Log>>,
 ) -> SenderPass<Log>
     requires { sender.intake ≡ intake.now.id }
     ensures { result.intake ≡ intake.now.id }
 {
-    facts.as_mut_slice().reverse();
-    for _ in rt.forever() {
-        let Some(fact) = facts.pop() else {
-            break;
-        };
-        let Ok(parcel) = sender.parcel(fact) else {
-            break;
-        };
-        if let Err(refused) = intake.offer(rt, &mut sender, parcel) {
-            facts.push_reserved(refused.value.into_fact());
-            thread::yield_now();
-        }
+    for fact in facts {
+        offer(rt, intake, &mut sender, fact);
     }
     sender
 }
 
-/// What the taker found: how many parcels of each sender, and how many that did not follow the one before of their sender; and how many
-/// were left in the end.
-#[derive(Debug, Drop)]
+// What the taker found: how many parcels of each sender, and how many that did not follow the one before of their sender.
+#[derive(Clone, Copy)]
 struct Tally {
     first: u64,
     second: u64,
     astray: u64,
-    left: usize,
 }
 
-fn note(tally: &mut Tally, parcel: Parcel<Log>) {
-    let (sender, number) = (parcel.sender(), parcel.number());
-    let last = if sender == 1 {
-        &mut tally.first
+// Whether a parcel follows so many of its sender, and has the fact that was sent there. It is counted.
+fn follows(count: &mut u64, parcel: &Parcel<Log>) -> bool {
+    let place = place_of(*count);
+    *count = count.wrapping_add(1);
+    parcel.number() == *count && parcel.fact().place() == place
+}
+
+fn note(tally: &mut Tally, parcel: &Parcel<Log>) {
+    let is_next = if parcel.sender() == 1 {
+        follows(&mut tally.first, parcel)
     } else {
-        &mut tally.second
+        follows(&mut tally.second, parcel)
     };
-    let follows = number == last.wrapping_add(1);
-    *last = number;
-    if !follows || sender > 2 || parcel.into_fact().place() != place_of(number) {
+    if !is_next {
         tally.astray = tally.astray.wrapping_add(1);
     }
 }
@@ -93,7 +88,6 @@ fn take_all<R: Wait>(
         first: 0,
         second: 0,
         astray: 0,
-        left: 0,
     };
     let mut taken = 0u64;
     for _ in rt.forever() {
@@ -102,7 +96,7 @@ fn take_all<R: Wait>(
         }
         match intake.take_next(rt, &mut taker) {
             Some(parcel) => {
-                note(&mut tally, parcel);
+                note(&mut tally, &parcel);
                 taken = taken.wrapping_add(1);
             }
             None => thread::yield_now(),
@@ -114,31 +108,6 @@ fn take_all<R: Wait>(
 type Senders = (SenderPass<Log>, SenderPass<Log>);
 
 type Facts = (Vec<LogFact<Log>>, Vec<LogFact<Log>>);
-
-#[derive(Drop)]
-struct Shared {
-    intake: Intake<Log>,
-    first: SenderPass<Log>,
-    second: SenderPass<Log>,
-    taker: TakerPass<Log>,
-    ghost own: { (first.intake ≡ intake.id) × (second.intake ≡ intake.id) × (taker.intake ≡ intake.id) },
-}
-
-fn open(alloc: Global) -> Result<Shared, AllocError> {
-    let (intake, mut senders, taker) = Intake::<Log>::open(alloc, 2, 3)?;
-    let Some(second) = senders.pop() else {
-        return Err(AllocError);
-    };
-    let Some(first) = senders.pop() else {
-        return Err(AllocError);
-    };
-    Ok(Shared {
-        intake,
-        first,
-        second,
-        taker,
-    })
-}
 
 // Both senders offer their facts, in a thread each.
 fn offer_both<R: Threads + Wait + Sync>(
@@ -191,27 +160,28 @@ fn offer_and_take<R: Threads + Wait + Sync>(
     )
 }
 
-fn tally_of_three<R: Threads + Wait + Sync>(rt: &R, alloc: Global) -> Result<Tally, AllocError> {
-    let facts = (facts(alloc)?, facts(alloc)?);
-    let Shared {
-        intake,
-        first,
-        second,
-        taker,
-    } = open(alloc)?;
-    let ((first, second), (taker, mut tally)) = offer_and_take(
+fn tally_of_three<R: Threads + Wait + Sync>(
+    rt: &R,
+    alloc: Global,
+) -> Result<(Tally, usize), AllocError> {
+    let facts = (first_facts(alloc, EACH)?, first_facts(alloc, EACH)?);
+    let mut ended = Vec::with_capacity(alloc, 2)?;
+    let (intake, senders, taker) = Intake::open(alloc, 2, 3)?;
+    let ((first, second), (taker, tally)) = offer_and_take(
         rt,
         &intake,
-        (first, second),
+        both(senders),
         taker,
         facts,
     );
-    let senders = Vec::from_array(alloc, [first, second])?;
-    tally.left = left_at_end(rt, alloc, intake, senders, taker)?.len();
-    Ok(tally)
+    ended.push_reserved(first);
+    ended.push_reserved(second);
+    let left = left_at_end(rt, alloc, intake, ended, taker)?;
+    Ok((tally, left.len()))
 }
 
-/// Prints what the taker found.
-pub fn in_three_threads<R: Threads + Wait + Sync>(rt: &R, row: Row) -> io::Result<()> {
-    row.told(&tally_of_three(rt, row.alloc())?)
+/// Prints what the taker found, and how many parcels were left in the end.
+pub fn in_three_threads<R: Threads + Wait + Sync>(rt: &R, row: &Row) -> io::Result<()> {
+    let (tally, left) = tally_of_three(rt, row.alloc())?;
+    row.parts("Tally", &(tally.first, tally.second, tally.astray, left))
 }

@@ -1,9 +1,9 @@
 //! A board of six nodes with two seats, over the log of a small drill.
-ghost use Rattle.std.specs.Prelude.{◌≡◌, ◌≤◌};
+ghost use Rattle.std.specs.Prelude.{◌≡◌, ◌<◌, ◌≤◌};
 ghost use Rattle.front_board.specs.Seat.{IsNode};
 
+use crate::common::{both, boxed};
 use crate::node_calls::answers::print_front;
-use crate::node_calls::host::boxed;
 use drill_log::Drill;
 use front_board::{Board, LogFront, Seat};
 use row_words::Row;
@@ -42,23 +42,14 @@ fn front_of(epoch: u64, number: u64) -> Option<LogFront<Small>> {
     }
 }
 
-#[derive(Clone, Copy, Debug)]
-struct Order {
-    less: bool,
-    same: bool,
-}
-
-// How two fronts compare.
-fn compare(row: Row) -> io::Result<()> {
+// Prints whether the first of two fronts is less than the second, and whether they are the same.
+fn compare(row: &Row) -> io::Result<()> {
     match (
         front_of(row.number(0), row.number(1)),
         front_of(row.number(2), row.number(3)),
     ) {
-        (Some(one), Some(other)) => row.told(&Order {
-            less: one < other,
-            same: one == other,
-        }),
-        _ => row.said("Unknown"),
+        (Some(one), Some(other)) => row.parts("Order", &(one < other, one == other)),
+        _ => row.unknown(),
     }
 }
 
@@ -72,10 +63,8 @@ pub struct Six {
 }
 
 fn opened(alloc: Global) -> Result<Six, AllocError> {
-    let (board, mut seats) = Board::<Small>::open(alloc, 6, 2)?;
-    let (Some(other), Some(one)) = (seats.pop(), seats.pop()) else {
-        return Err(AllocError);
-    };
+    let (board, seats) = Board::<Small>::open(alloc, 6, 2)?;
+    let (one, other) = both(seats);
     Ok(Six { board, one, other })
 }
 
@@ -83,43 +72,34 @@ pub fn open_six(alloc: Global) -> Result<Box<Six>, AllocError> {
     boxed(alloc, opened(alloc)?)
 }
 
-// Publishes a front at a node by the first seat. Another node, or no such front, is unknown.
-fn publish(six: &mut Six, row: Row) -> io::Result<()> {
-    let node = row.index(0);
+// Publishes a front at a node by the first seat.
+fn publish(six: &mut Six, node: usize, row: &Row) -> io::Result<()>
+    requires { (0 < node) × (node ≤ 6) }
+{
     match front_of(row.number(1), row.number(2)) {
-        Some(front) if 0 < node && node <= 6 => {
+        Some(front) => {
             six.board.publish(&mut six.one, node, front);
-            row.said("Done")
+            row.done()
         }
-        _ => row.said("Unknown"),
+        None => row.unknown(),
     }
 }
 
-// The front of a node, by the second seat.
-fn look(six: &mut Six, row: Row) -> io::Result<()> {
-    let node = row.index(0);
-    if node == 0 || node > 6 {
-        return row.said("Unknown");
+/// Prints what a call of the board answers. A look and a quorum are made by the second seat; there is no node, and no number of nodes,
+/// above six.
+pub fn answer(six: &mut Six, row: &Row) -> io::Result<()> {
+    if row.name == "order" {
+        return compare(row);
     }
-    print_front(row, six.board.front(&mut six.other, node))
-}
-
-// What so many nodes have reached, by the second seat.
-fn quorum(six: &mut Six, row: Row) -> io::Result<()> {
-    let need = row.index(0);
-    if need == 0 || need > 6 {
-        return row.said("Unknown");
+    let number = row.index(0);
+    if number == 0 || number > 6 {
+        return row.unknown();
     }
-    print_front(row, six.board.quorum(&mut six.other, need))
-}
-
-/// Prints what a call of the board answers.
-pub fn answer(six: &mut Six, row: Row) -> io::Result<()> {
     match row.name {
-        "publish" => publish(six, row),
-        "look" => look(six, row),
-        "quorum" => quorum(six, row),
-        _ => compare(row),
+        "publish" => publish(six, number, row),
+        "look" => print_front(row, six.board.front(&mut six.other, number)),
+        "quorum" => print_front(row, six.board.quorum(&mut six.other, number)),
+        _ => row.unknown(),
     }
 }
 

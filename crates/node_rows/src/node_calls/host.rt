@@ -1,14 +1,14 @@
 //! A node that one pass delivers to.
-ghost use Rattle.std.specs.Prelude.{◌≡◌, ◌∷◌, [], length, IfOk};
+ghost use Rattle.std.specs.Prelude.{◌≡◌, IfOk};
 ghost use Rattle.front_board.specs.Seat.{IsNode};
 ghost use Rattle.node_cell.specs.Node.{IsPassOf};
+ghost use Rattle.node_lock.specs.Passes.{AreIdle};
 
 use crate::Log;
+use crate::common::{boxed, boxed_both, with_fault_alone};
 use front_board::{Board, LogFront, Seat};
 use named_log::LogFact;
-use node_cell::{
-    AbsorbFault, Ack, Closed, DeliverFault, Folded, Mail, Node, Pass, ReadAfterFault, Receipt, View,
-};
+use node_cell::{AbsorbFault, Ack, Closed, DeliverFault, Folded, Mail, Node, Pass, View};
 use segment_core::{CommitFault, ReadFault};
 use std::alloc::{AllocError, Global};
 use std::sync::Wait;
@@ -26,103 +26,37 @@ pub struct Host {
     ghost seat_fits: { (seat.value.board ≡ board.value) × IsNode board.value.words node.value.number },
 }
 
-pub fn boxed<T: Drop>(alloc: Global, value: T) -> Result<Box<T>, AllocError>
-    ensures { IfOk result (λ b. b.value ≡ value) }
-{
-    Ok(Box::new(alloc, value)?)
-}
+pub type Dealt = (Box<Node<Log>>, Box<Pass<Log>>, Box<Pass<Log>>);
 
-// The two of a list, each in a box.
-fn both<T: Drop>(alloc: Global, items: Vec<T>) -> Result<(Box<T>, Box<T>), AllocError>
-    requires { length items.items ≡ 2 }
-    ensures { IfOk result (λ t. items.items ≡ t.0.value ∷ t.1.value ∷ []) }
-{
-    let mut items = items;
-    let other = boxed(alloc, items.pop().unwrap())?;
-    let one = boxed(alloc, items.pop().unwrap())?;
-    Ok((one, other))
-}
-
-type Dealt = (Box<Node<Log>>, Box<Pass<Log>>, Box<Pass<Log>>);
-
-// A node with two passes.
-fn open_node(alloc: Global, capacity: u64) -> Result<Dealt, AllocError>
+/// A node with two passes, whose trail has room for `capacity`.
+pub fn open_node(alloc: Global, capacity: u64) -> Result<Dealt, AllocError>
     ensures one { IfOk result (λ t. IsPassOf t.0.value t.1.value) }
     ensures other { IfOk result (λ t. IsPassOf t.0.value t.2.value) }
     ensures number { IfOk result (λ t. t.0.value.number ≡ 1) }
 {
     let (node, passes) = Node::open(alloc, 1, 2, capacity)?;
     let node = boxed(alloc, node)?;
-    let (one, other) = both(alloc, passes)?;
+    let (one, other) = boxed_both(alloc, passes)?;
     Ok((node, one, other))
 }
 
-type Seated = (Box<Board<Log>>, Box<Seat<Log>>, Box<Seat<Log>>);
+pub type Seated = (Box<Board<Log>>, Box<Seat<Log>>, Box<Seat<Log>>);
 
-// A board of one node with two seats.
-fn open_board(alloc: Global) -> Result<Seated, AllocError>
+/// A board of one node with two seats.
+pub fn open_board(alloc: Global) -> Result<Seated, AllocError>
     ensures one { IfOk result (λ t. t.1.value.board ≡ t.0.value) }
     ensures other { IfOk result (λ t. t.2.value.board ≡ t.0.value) }
     ensures words { IfOk result (λ t. t.0.value.words ≡ 1) }
 {
     let (board, seats) = Board::open(alloc, 1, 2)?;
     let board = boxed(alloc, board)?;
-    let (one, other) = both(alloc, seats)?;
+    let (one, other) = boxed_both(alloc, seats)?;
     Ok((board, one, other))
 }
 
-/// Who delivers to a node: a pass, a seat, and the receipts of its deliveries, in order.
-#[derive(Drop)]
-pub struct Hand {
-    pub pass: Box<Pass<Log>>,
-    pub seat: Box<Seat<Log>>,
-    pub receipts: Vec<Receipt<Log>>,
-}
-
-/// A node with two passes, and a board with two seats.
-#[derive(Drop)]
-pub struct Two {
-    pub node: Box<Node<Log>>,
-    pub board: Box<Board<Log>>,
-    pub one: Hand,
-    pub other: Hand,
-    ghost passes: { IsPassOf node.value one.pass.value × IsPassOf node.value other.pass.value },
-    ghost seats: { (one.seat.value.board ≡ board.value) × (other.seat.value.board ≡ board.value) },
-    ghost number: { IsNode board.value.words node.value.number },
-}
-
-/// A node whose trail has room for `capacity`, with two who may deliver to it.
-pub fn open_two(alloc: Global, capacity: u64) -> Result<Two, AllocError> {
-    let (node, one_pass, other_pass) = open_node(alloc, capacity)?;
-    let (board, one_seat, other_seat) = open_board(alloc)?;
-    Ok(Two {
-        node,
-        board,
-        one: Hand {
-            pass: one_pass,
-            seat: one_seat,
-            receipts: Vec::new(alloc),
-        },
-        other: Hand {
-            pass: other_pass,
-            seat: other_seat,
-            receipts: Vec::new(alloc),
-        },
-    })
-}
-
 pub fn open_host(alloc: Global, capacity: u64) -> Result<Host, AllocError> {
-    let Two {
-        node,
-        board,
-        one,
-        other: _,
-    } = open_two(alloc, capacity)?;
-    let Hand {
-        pass,
-        seat,
-        receipts: _,
-    } = one;
+    let (node, pass, _) = open_node(alloc, capacity)?;
+    let (board, seat, _) = open_board(alloc)?;
     Ok(Host {
         node,
         pass,
@@ -132,20 +66,21 @@ pub fn open_host(alloc: Global, capacity: u64) -> Result<Host, AllocError> {
     })
 }
 
-/// Delivers what was found at a place of the log. Where there is no fact, or no memory for it, memory is wanting.
-pub fn deliver_fact<R: Wait>(
+/// Delivers the fact at a place of the log. Where there is no fact, or no memory for it, memory is wanting.
+pub fn deliver_at<R: Wait>(
     rt: &R,
+    alloc: Global,
     node: &Node<Log>,
     pass: &mut Pass<Log>,
     board: &Board<Log>,
     seat: &mut Seat<Log>,
-    found: Result<Option<LogFact<Log>>, AllocError>,
+    place: u64,
 ) -> Result<Ack<Log>, DeliverFault>
     requires pass { IsPassOf node.now pass.old }
     requires seat { (seat.old.board ≡ board.now) × IsNode board.now.words node.now.number }
     ensures { IsPassOf node.now pass.new × (seat.new.board ≡ seat.old.board) }
 {
-    let Ok(Some(fact)) = found else {
+    let Ok(Some(fact)) = LogFact::at(alloc, place) else {
         return Err(DeliverFault::Memory);
     };
     match node.deliver(rt, pass, board, seat, fact) {
@@ -160,14 +95,14 @@ fn deliver_once<R: Wait>(
     host: &mut Host,
     place: u64,
 ) -> Result<Ack<Log>, DeliverFault> {
-    let found = LogFact::at(alloc, place);
-    deliver_fact(
+    deliver_at(
         rt,
+        alloc,
         &host.node,
         &mut host.pass,
         &host.board,
         &mut host.seat,
-        found,
+        place,
     )
 }
 
@@ -194,22 +129,7 @@ pub fn read<R: Wait>(
     page: u16,
     point: u64,
 ) -> Result<View<Log>, ReadFault> {
-    match host.node.read(rt, &mut host.pass, page, point) {
-        Err(ReadFault::Memory) => host.node.read(rt, &mut host.pass, page, point),
-        answer => answer,
-    }
-}
-
-/// Page 1 at point 1 after a receipt.
-pub fn read_after<R: Wait>(
-    rt: &R,
-    node: &Node<Log>,
-    receipt: &Receipt<Log>,
-) -> Result<View<Log>, ReadAfterFault> {
-    match node.read_after(rt, receipt, 1, 1) {
-        Err(ReadAfterFault::Read(ReadFault::Memory)) => node.read_after(rt, receipt, 1, 1),
-        answer => answer,
-    }
+    host.node.read(rt, &mut host.pass, page, point)
 }
 
 // A copy of what one node answers to a summary of another.
@@ -218,25 +138,8 @@ fn mail_for<R: Wait>(
     asker: &Node<Log>,
     answerer: &Node<Log>,
 ) -> Result<Mail<Log>, AllocError> {
-    match answerer.reply(rt, asker.summary(rt)?) {
-        Ok(sent) => sent.copy(),
-        Err(refused) => Err(refused.fault),
-    }
-}
-
-fn absorb_once<R: Wait>(
-    rt: &R,
-    node: &Node<Log>,
-    asker: &Node<Log>,
-    answerer: &Node<Log>,
-) -> Result<LogFront<Log>, AbsorbFault> {
-    let Ok(sent) = mail_for(rt, asker, answerer) else {
-        return Err(AbsorbFault::Memory);
-    };
-    match node.absorb(rt, sent) {
-        Ok(front) => Ok(front),
-        Err(refused) => Err(refused.fault),
-    }
+    let sent = with_fault_alone(answerer.reply(rt, asker.summary(rt)?))?;
+    sent.copy()
 }
 
 /// Absorbs what one node answers to a summary of another.
@@ -246,14 +149,10 @@ pub fn absorb<R: Wait>(
     asker: &Node<Log>,
     answerer: &Node<Log>,
 ) -> Result<LogFront<Log>, AbsorbFault> {
-    match absorb_once(rt, node, asker, answerer) {
-        Err(AbsorbFault::Memory) => absorb_once(rt, node, asker, answerer),
-        answer => answer,
-    }
-}
-
-fn folded_once<R: Wait>(rt: &R, node: &Node<Log>, page: u16) -> Result<Folded<Log>, AllocError> {
-    Ok(node.fold_plan(rt, page)?.fold())
+    let Ok(sent) = mail_for(rt, asker, answerer) else {
+        return Err(AbsorbFault::Memory);
+    };
+    with_fault_alone(node.absorb(rt, sent))
 }
 
 /// A fold of a page.
@@ -263,28 +162,15 @@ pub fn folded<R: Wait>(
     node: &Node<Log>,
     page: u16,
 ) -> Result<Box<Folded<Log>>, AllocError> {
-    match folded_once(rt, node, page) {
-        Ok(folded) => boxed(alloc, folded),
-        Err(AllocError) => boxed(alloc, folded_once(rt, node, page)?),
-    }
-}
-
-fn commit_once<R: Wait>(rt: &R, node: &Node<Log>, folded: &Folded<Log>) -> Result<(), CommitFault> {
-    let Ok(copy) = folded.copy() else {
-        return Err(CommitFault::Memory);
-    };
-    match node.fold_commit(rt, copy) {
-        Ok(()) => Ok(()),
-        Err(refused) => Err(refused.fault),
-    }
+    boxed(alloc, node.fold_plan(rt, page)?.fold())
 }
 
 /// Commits a copy of a fold.
 pub fn commit<R: Wait>(rt: &R, node: &Node<Log>, folded: &Folded<Log>) -> Result<(), CommitFault> {
-    match commit_once(rt, node, folded) {
-        Err(CommitFault::Memory) => commit_once(rt, node, folded),
-        answer => answer,
-    }
+    let Ok(copy) = folded.copy() else {
+        return Err(CommitFault::Memory);
+    };
+    with_fault_alone(node.fold_commit(rt, copy))
 }
 
 /// Closes a node with its pass.
@@ -300,17 +186,17 @@ pub fn close_host<R: Wait>(
         seat: _,
         folded: _,
     } = host;
-    closed_with(rt, alloc, node, pass)
+    let passes = Vec::from_array(alloc, [Box::into_inner(pass)])?;
+    closed_with(rt, alloc, node, passes)
 }
 
-fn closed_with<R: Wait>(
+pub fn closed_with<R: Wait>(
     rt: &R,
     alloc: Global,
     node: Box<Node<Log>>,
-    pass: Box<Pass<Log>>,
+    passes: Vec<Pass<Log>>,
 ) -> Result<Box<Closed<Log>>, AllocError>
-    requires { IsPassOf node.value pass.value }
+    requires { AreIdle node.value.lock passes.items }
 {
-    let passes = Vec::from_array(alloc, [Box::into_inner(pass)])?;
     boxed(alloc, Box::into_inner(node).close(rt, passes))
 }

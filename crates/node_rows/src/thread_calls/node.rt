@@ -71,16 +71,20 @@ fn hands<'a, L: LogName>(
 {
     let mut hands = Vec::new(alloc);
     for pass in passes {
-        let (Some(seat), Some(share)) = (seats.pop(), dealt.pop()) else {
+        hands.reserve(1)?;
+        let Some(seat) = seats.pop() else {
             break;
         };
-        hands.push(Hand {
+        let Some(share) = dealt.pop() else {
+            break;
+        };
+        hands.push_reserved(Hand {
             node,
             board,
             pass,
             seat,
             share,
-        })?;
+        });
     }
     Ok(hands)
 }

@@ -1,5 +1,6 @@
 ghost use Rattle.std.specs.Prelude.{◌≡◌};
 
+use crate::common::with_fault_alone;
 use node_lock::{Lock, Trailed};
 use std::alloc::{AllocError, Global};
 use std::hint::black_box;
@@ -117,10 +118,8 @@ fn opened(alloc: Global, name: &str) -> Result<Shared, AllocError> {
         trail: Vec::new(alloc),
         count: 0,
     };
-    match Lock::open(alloc, start, 1) {
-        Ok((lock, _)) => Ok(Shared::Node(lock)),
-        Err(refused) => Err(refused.fault),
-    }
+    let (lock, _) = with_fault_alone(Lock::open(alloc, start, 1))?;
+    Ok(Shared::Node(lock))
 }
 
 /// Threads take turns at a node's lock, or at a mutex where that is its name, as the task says. The answer is how many threads ended.

@@ -2,70 +2,70 @@ ghost use Rattle.std.specs.Prelude.{◌<◌, ◌≤◌};
 
 use crate::Log;
 use crate::worker_calls::FACTS;
-use fleet_drill::{MAX_NODES, Worked, close_all, join_all, make_plan, open_floor, tell, work};
+use fleet_drill::{
+    Floor, MAX_NODES, Worked, close_all, join_all, make_plan, open_floor, tell, work,
+};
 use node_cell::Closed;
 use node_threads::{Answer, Gate, Plan};
+use row_words::Row;
 use std::alloc::{AllocError, Global};
+use std::io;
 use std::sync::Wait;
 use std::thread::Threads;
 
-/// The plan of a drill of so many nodes and workers: the parcels of each drainer, and the rounds of each folder and each gossiper.
-pub fn plan_lines(alloc: Global, nodes: usize, workers: usize) -> Result<String, AllocError>
-    requires nodes { (0 < nodes) × (nodes ≤ MAX_NODES) }
-    requires workers { 0 < workers }
-{
-    let floor = open_floor::<Log>(alloc, nodes, nodes, FACTS as usize, FACTS)?;
-    let plan = make_plan(alloc, floor.feeds.as_slice(), nodes as u16, workers)?;
-    plan_text(alloc, &plan)
-}
-
-fn plan_text(alloc: Global, plan: &Plan) -> Result<String, AllocError> {
-    let (parcels, folds, gossip) = (&plan.parcels, &plan.folds, &plan.gossip);
-    format!(in alloc; "parcels {parcels:?}\nfolds {folds:?}\ngossip {gossip:?}\n")
-}
-
-/// A drill under a gate, with trails of at most so many entries: how many parcels of each node were refused, how many rounds, what the
-/// first node's own segment makes of the log beside all of them joined, and what all tell.
-pub fn ends_under<G: Gate + Sync, R: Threads + Wait + Sync>(
-    rt: &R,
+// A floor of so many nodes, and the plan of a drill of so many workers.
+fn planned(
     alloc: Global,
     nodes: usize,
     workers: usize,
     trail: u64,
-    gate: &G,
-) -> Result<String, AllocError>
+) -> Result<(Floor<Log>, Plan), AllocError>
     requires nodes { (0 < nodes) × (nodes ≤ MAX_NODES) }
     requires workers { 0 < workers }
 {
-    let floor = open_floor::<Log>(alloc, nodes, nodes, FACTS as usize, trail)?;
+    let floor = open_floor(alloc, nodes, nodes, FACTS as usize, trail)?;
     let plan = make_plan(alloc, floor.feeds.as_slice(), nodes as u16, workers)?;
-    let worked = work(rt, alloc, floor, plan, gate)?;
-    let refused = refused_line(alloc, &worked)?;
-    let closed = close_all(rt, alloc, worked)?;
-    told_below(alloc, refused, closed.as_slice())
+    Ok((floor, plan))
 }
 
-// What all nodes tell, below what stands in a text.
-fn told_below(
-    alloc: Global,
-    mut text: String,
-    closed: &[Closed<Log>],
-) -> Result<String, AllocError> {
-    let joined = join_all(alloc, closed)?;
-    text.push_str(&tell(alloc, FACTS as usize, joined.as_slice())?)?;
-    Ok(text)
+/// Prints the plan of a drill: the parcels of each drainer, and the rounds of each folder and each gossiper.
+pub fn print_plan(row: &Row, nodes: usize, workers: usize) -> io::Result<()>
+    requires nodes { (0 < nodes) × (nodes ≤ MAX_NODES) }
+    requires workers { 0 < workers }
+{
+    let (_, plan) = planned(row.alloc(), nodes, workers, FACTS)?;
+    row.one("Parcels", &plan.parcels)?;
+    row.one("Folds", &plan.folds)?;
+    row.one("Gossip", &plan.gossip)
 }
 
-// How many parcels of each node and how many rounds were refused.
-fn refused_line(alloc: Global, worked: &Worked<Log>) -> Result<String, AllocError> {
-    let rounds = worked.refusals.len();
-    let mut text = format!(in alloc; "refused rounds {rounds} parcels")?;
+/// Prints what comes of a drill under a gate, with trails of at most so many entries: what was refused, what the first node's own
+/// segment makes of the log beside all of them joined, and what all tell.
+pub fn print_ends<G: Gate + Sync, R: Threads + Wait + Sync>(
+    rt: &R,
+    row: &Row,
+    nodes: usize,
+    workers: usize,
+    trail: u64,
+    gate: &G,
+) -> io::Result<()>
+    requires nodes { (0 < nodes) × (nodes ≤ MAX_NODES) }
+    requires workers { 0 < workers }
+{
+    let (floor, plan) = planned(row.alloc(), nodes, workers, trail)?;
+    let worked = work(rt, row.alloc(), floor, plan, gate)?;
+    print_refused(row, &worked)?;
+    let closed = close_all(rt, row.alloc(), worked)?;
+    print_told(row, closed.as_slice())
+}
+
+// Prints how many rounds were refused, and how many parcels of each node.
+fn print_refused(row: &Row, worked: &Worked<Log>) -> io::Result<()> {
+    let mut parcels = Vec::new(row.alloc());
     for answers in worked.answers.as_slice() {
-        let parcels = refused_of(answers.as_slice());
-        text.push_str(&format!(in alloc; " {parcels}")?)?;
+        parcels.push(refused_of(answers.as_slice()))?;
     }
-    text.push_str("\n")?;
-    Ok(text)
+    row.parts("Refused", &(worked.refusals.len(), parcels))
 }
 
 fn refused_of(answers: &[Answer<Log>]) -> usize {
@@ -76,4 +76,11 @@ fn refused_of(answers: &[Answer<Log>]) -> usize {
         }
     }
     refused
+}
+
+// Prints what all nodes tell.
+fn print_told(row: &Row, closed: &[Closed<Log>]) -> io::Result<()> {
+    let joined = join_all(row.alloc(), closed)?;
+    let text = tell(row.alloc(), FACTS as usize, joined.as_slice())?;
+    row.lines(text.as_str())
 }

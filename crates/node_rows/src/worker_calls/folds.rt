@@ -1,8 +1,11 @@
 use crate::Log;
+use crate::common::first_number;
 use crate::worker_calls::rounds::early_at_the_first;
 use node_cell::{FoldPlan, Folded, Node};
 use node_threads::fold_many;
+use row_words::Row;
 use std::alloc::{AllocError, Global};
+use std::io;
 use std::sync::Wait;
 use std::thread::Threads;
 
@@ -20,32 +23,28 @@ fn plans_of<R: Wait>(
     Ok(plans)
 }
 
-/// The pages of a node with the early places, folded by many threads: of each its number, its version, and how it begins.
-pub fn fold_by_many<R: Threads + Wait + Sync>(rt: &R, alloc: Global) -> Result<String, AllocError> {
-    let worked = early_at_the_first(rt, alloc, 1)?;
+/// The pages of a node with the early places, folded by many threads.
+pub fn print_folds<R: Threads + Wait + Sync>(rt: &R, row: &Row) -> io::Result<()> {
+    let worked = early_at_the_first(rt, row.alloc(), 1)?;
     match worked.nodes.first() {
-        Some(node) => folds_of(rt, alloc, node),
-        None => String::from_str(alloc, "no nodes\n"),
+        Some(node) => print_folds_of(rt, row, node),
+        None => row.unknown(),
     }
 }
 
-fn folds_of<R: Threads + Wait + Sync>(
-    rt: &R,
-    alloc: Global,
-    node: &Node<Log>,
-) -> Result<String, AllocError> {
-    match fold_many(rt, alloc, plans_of(rt, alloc, node)?) {
-        Ok(folds) => folds_text(alloc, folds.as_slice()),
-        Err(_) => Err(AllocError),
+fn print_folds_of<R: Threads + Wait + Sync>(rt: &R, row: &Row, node: &Node<Log>) -> io::Result<()> {
+    let plans = plans_of(rt, row.alloc(), node)?;
+    match fold_many(rt, row.alloc(), plans) {
+        Ok(folds) => print_each(row, folds.as_slice()),
+        Err(_) => Err(AllocError.into()),
     }
 }
 
-fn folds_text(alloc: Global, folds: &[Folded<Log>]) -> Result<String, AllocError> {
-    let mut text = String::new(alloc);
+// Prints of each page its number, its version, and the number with which it begins.
+fn print_each(row: &Row, folds: &[Folded<Log>]) -> io::Result<()> {
     for folded in folds {
-        let (page, version) = (folded.page(), folded.version());
-        let start = hex::encode(alloc, &folded.image().bytes()[..8])?;
-        text.push_str(&format!(in alloc; "page {page} version {version} {start}\n")?)?;
+        let begins = first_number(folded.image().bytes());
+        row.parts("Fold", &(folded.page(), folded.version(), begins))?;
     }
-    Ok(text)
+    Ok(())
 }

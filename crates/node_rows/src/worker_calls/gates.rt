@@ -40,7 +40,7 @@ impl Tally {
 }
 
 /// When folders and gossipers go on.
-#[derive(Debug, Clone, Copy, PartialEq, Eq)]
+#[derive(Clone, Copy)]
 pub enum Order {
     /// A folder's round begins when a gossiper's has begun, and the other way round.
     AtOnce,

@@ -1,11 +1,13 @@
 ghost use Rattle.std.specs.Prelude.{◌<◌, ◌≤◌};
 
 use crate::Log;
-use fleet_drill::{Floor, Open, Worked, close_all, join_all, open_floor, tell, work};
+use fleet_drill::{Open, Worked, close_all, join_all, open_floor, tell, work};
 use node_cell::Closed;
 use node_threads::{Plan, Refusal, serve};
+use row_words::Row;
 use segment_core::Segment;
 use std::alloc::{AllocError, Global};
+use std::io;
 use std::sync::Wait;
 use std::thread::Threads;
 
@@ -21,35 +23,54 @@ fn one_worker(alloc: Global, rounds: &[Round]) -> Result<Vec<Vec<Round>>, AllocE
     Ok(workers)
 }
 
-// A plan in which the first inlet takes so many parcels, and there is one folder and one gossiper with these rounds.
+// A plan in which each inlet takes so many parcels, and there is one folder and one gossiper with these rounds.
 fn plan_of(
     alloc: Global,
-    parcels: u64,
+    parcels: &[u64],
     folds: &[Round],
     gossip: &[Round],
 ) -> Result<Plan, AllocError> {
     let folds = one_worker(alloc, folds)?;
     let gossip = one_worker(alloc, gossip)?;
+    let parcels = parcels.to_vec(alloc)?;
     Ok(Plan {
-        parcels: Vec::from_array(alloc, [parcels])?,
+        parcels,
         folds,
         gossip,
     })
 }
 
-// Runs the rounds of a plan at nodes that have worked: what was refused.
+// One folder and one gossiper run these rounds at nodes that have worked: what was refused.
 fn work_again<R: Threads + Wait + Sync>(
     rt: &R,
     alloc: Global,
     worked: &Worked<Log>,
-    plan: Plan,
+    folds: &[Round],
+    gossip: &[Round],
 ) -> Result<Vec<Refusal>, AllocError> {
+    let plan = plan_of(alloc, &[0], folds, gossip)?;
     let nodes = worked.nodes.as_slice();
     let (feeds, inlets) = (Vec::new(alloc), Vec::new(alloc));
     match serve(rt, alloc, nodes, feeds, inlets, &worked.board, plan, &Open) {
         Ok(served) => Ok(served.refusals),
         Err(_) => Err(AllocError),
     }
+}
+
+// One node or two that have taken so many parcels each; the early places are dealt to so many nodes in turn.
+fn early<R: Threads + Wait + Sync>(
+    rt: &R,
+    alloc: Global,
+    nodes: usize,
+    dealt: usize,
+    parcels: &[u64],
+) -> Result<Worked<Log>, AllocError>
+    requires nodes { (0 < nodes) × (nodes ≤ 2) }
+    requires dealt { 0 < dealt }
+{
+    let plan = plan_of(alloc, parcels, &[], &[])?;
+    let floor = open_floor(alloc, nodes, dealt, EARLY, EARLY as u64)?;
+    work(rt, alloc, floor, plan, &Open)
 }
 
 /// One node or two, of which the first has the early places.
@@ -60,20 +81,14 @@ pub fn early_at_the_first<R: Threads + Wait + Sync>(
 ) -> Result<Worked<Log>, AllocError>
     requires { (0 < nodes) × (nodes ≤ 2) }
 {
-    let plan = plan_of(alloc, EARLY as u64, &[], &[])?;
-    let floor: Floor<Log> = open_floor(alloc, nodes, 1, EARLY, EARLY as u64)?;
-    work(rt, alloc, floor, plan, &Open)
+    early(rt, alloc, nodes, 1, &[EARLY as u64])
 }
 
 /// The second asks the first, and then the first folds its first page.
-pub fn exchange_and_fold<R: Threads + Wait + Sync>(
-    rt: &R,
-    alloc: Global,
-) -> Result<String, AllocError> {
-    let worked = early_at_the_first(rt, alloc, 2)?;
-    let refused = ask_and_fold(rt, alloc, &worked)?;
-    let closed = close_all(rt, alloc, worked)?;
-    nodes_line(alloc, refused, closed.as_slice())
+pub fn exchange_and_fold<R: Threads + Wait + Sync>(rt: &R, row: &Row) -> io::Result<()> {
+    let worked = early_at_the_first(rt, row.alloc(), 2)?;
+    let refused = ask_and_fold(rt, row.alloc(), &worked)?;
+    print_nodes(rt, row, worked, refused)
 }
 
 // How many of the two rounds were refused.
@@ -82,66 +97,69 @@ fn ask_and_fold<R: Threads + Wait + Sync>(
     alloc: Global,
     worked: &Worked<Log>,
 ) -> Result<usize, AllocError> {
-    let asked = work_again(rt, alloc, worked, plan_of(alloc, 0, &[], &[(2, 1)])?)?;
-    let folded = work_again(rt, alloc, worked, plan_of(alloc, 0, &[(1, 0)], &[])?)?;
+    let asked = work_again(rt, alloc, worked, &[], &[(2, 1)])?;
+    let folded = work_again(rt, alloc, worked, &[(1, 0)], &[])?;
     Ok(asked.len() + folded.len())
 }
 
 /// Rounds that name no node: each is refused by name, and the others go on.
-pub fn strangers<R: Threads + Wait + Sync>(rt: &R, alloc: Global) -> Result<String, AllocError> {
-    let worked = early_at_the_first(rt, alloc, 2)?;
-    let refusals = name_strangers(rt, alloc, &worked)?;
-    let closed = close_all(rt, alloc, worked)?;
-    let line = nodes_line(alloc, refusals.len(), closed.as_slice())?;
-    format!(in alloc; "{refusals:?}\n{line}")
+pub fn strangers<R: Threads + Wait + Sync>(rt: &R, row: &Row) -> io::Result<()> {
+    let worked = early_at_the_first(rt, row.alloc(), 2)?;
+    let refused = name_strangers(rt, row, &worked)?;
+    print_nodes(rt, row, worked, refused)
 }
 
+// Prints each refusal. The answer is how many there are.
 fn name_strangers<R: Threads + Wait + Sync>(
     rt: &R,
-    alloc: Global,
+    row: &Row,
     worked: &Worked<Log>,
-) -> Result<Vec<Refusal>, AllocError> {
+) -> io::Result<usize> {
     let folds = [(0, 0), (3, 0), (1, 0)];
     let gossip = [(1, 3), (0, 1), (2, 1)];
-    work_again(rt, alloc, worked, plan_of(alloc, 0, &folds, &gossip)?)
+    let refusals = work_again(rt, row.alloc(), worked, &folds, &gossip)?;
+    row.one("Strangers", &refusals)?;
+    Ok(refusals.len())
 }
 
-// How many rounds were refused, the front of each node, and the base point of the first and how many keys it stores.
-fn nodes_line(alloc: Global, refused: usize, closed: &[Closed<Log>]) -> Result<String, AllocError> {
-    let mut text = format!(in alloc; "refused {refused}")?;
+// Closes the nodes, and prints how many rounds were refused, and what the nodes have.
+fn print_nodes<R: Wait>(rt: &R, row: &Row, worked: Worked<Log>, refused: usize) -> io::Result<()> {
+    let closed = close_all(rt, row.alloc(), worked)?;
+    row.one("Refused", &refused)?;
+    print_fronts(row, closed.as_slice())
+}
+
+// Prints the front of each node: the epoch, the complete point and the minimum read point; and the base point of the first and how many
+// keys it stores.
+fn print_fronts(row: &Row, closed: &[Closed<Log>]) -> io::Result<()> {
     for node in closed {
         let front = node.segment().front();
-        let (epoch, complete, min) = (front.epoch, front.complete, front.min);
-        text.push_str(&format!(in alloc; "; front {epoch} {complete} {min}")?)?;
+        row.parts("Front", &(front.epoch, front.complete, front.min))?;
     }
-    if let Some(first) = closed.first() {
-        text.push_str(&stored_line(alloc, first.segment())?)?;
+    match closed.first() {
+        Some(first) => print_stored(row, first.segment()),
+        None => row.unknown(),
     }
-    Ok(text)
 }
 
-fn stored_line(alloc: Global, segment: &Segment) -> Result<String, AllocError> {
-    let (base, keys) = (segment.base_point(), segment.stored()?.len());
-    format!(in alloc; "; base {base} keys {keys}\n")
+fn print_stored(row: &Row, segment: &Segment) -> io::Result<()> {
+    let keys = segment.stored()?.len();
+    row.parts("Stored", &(segment.base_point(), keys))
 }
 
 /// Two nodes that share two thirds of the early places and never meet: what they tell, each by itself, the second one first.
-pub fn apart<R: Threads + Wait + Sync>(rt: &R, alloc: Global) -> Result<String, AllocError> {
-    let plan = Plan {
-        parcels: Vec::from_array(alloc, [22, 22])?,
-        folds: Vec::new(alloc),
-        gossip: Vec::new(alloc),
-    };
-    let floor: Floor<Log> = open_floor(alloc, 2, 3, EARLY, EARLY as u64)?;
-    let closed = close_all(rt, alloc, work(rt, alloc, floor, plan, &Open)?)?;
-    told_alone(alloc, closed.as_slice())
+pub fn apart<R: Threads + Wait + Sync>(rt: &R, row: &Row) -> io::Result<()> {
+    let worked = early(rt, row.alloc(), 2, 3, &[22, 22])?;
+    let closed = close_all(rt, row.alloc(), worked)?;
+    print_alone(row, closed.as_slice())
 }
 
-fn told_alone(alloc: Global, closed: &[Closed<Log>]) -> Result<String, AllocError> {
-    let mut alone = Vec::new(alloc);
+fn print_alone(row: &Row, closed: &[Closed<Log>]) -> io::Result<()> {
+    let mut alone = Vec::new(row.alloc());
     for one in closed.chunks(1) {
-        alone.append(&mut join_all(alloc, one)?)?;
+        alone.append(&mut join_all(row.alloc(), one)?)?;
     }
     alone.as_mut_slice().reverse();
-    tell(alloc, EARLY, alone.as_slice())
+    let text = tell(row.alloc(), EARLY, alone.as_slice())?;
+    row.lines(text.as_str())
 }

@@ -1,4 +1,3 @@
-use Rattle.std.proofs.Common.{◌≡◌}
 use Rattle.node_lock.specs.Passes.{IsIdlePass}
 use Rattle.node_rows.proofs.intake_calls.diary.append_all.Given as goal
 

@@ -2,6 +2,4 @@ use Rattle.std.proofs.Common.{◌≡◌}
 use Rattle.node_rows.proofs.intake_calls.senders.take_all.Given as goal
 
 abbrev pub invariant-loop : goal.invariant-loop
-invariant-loop g l = record {
-  own : l.taker.intake ≡ l.intake.id;
-}
+invariant-loop g l = l.taker.intake ≡ l.intake.id

@@ -1,13 +1,10 @@
-use Rattle.std.proofs.Common.{◌≡◌, ◌+◌, ◌<◌, ◌^◌, ◌++◌, reverse, length}
-use Rattle.std.specs.Prelude.{vec_len}
+use Rattle.std.proofs.Common.{◌≡◌, ◌+◌, ◌<◌, ◌^◌, ◌++◌, length}
 use Rattle.intake_queue.specs.Parcel.{parcel_facts}
 use Rattle.node_rows.proofs.intake_calls.relay.Relay.put_all.Given as goal
 
 abbrev pub invariant-loop-fact : goal.invariant-loop-fact
 invariant-loop-fact g l = record {
-  done : parcel_facts l.self.sender.accepted ++ reverse l.facts.items ≡ l.fn.facts.items;
-  room : length l.self.sender.accepted + length l.facts.items < 2 ^ 64;
+  done : parcel_facts l.self.sender.accepted ++ l.fact-iterator.rest.items ≡ l.fn.facts.items;
+  numbers : length l.self.sender.accepted + length l.fact-iterator.rest.items < 2 ^ 64;
+  room : l.self.waiting < l.self.capacity;
 }
-
-abbrev pub decreases-loop-fact : goal.decreases-loop-fact
-decreases-loop-fact g l = vec_len l.facts
