@@ -1,5 +1,6 @@
 -- How the kept points move with what is held and known.
-use Rattle.std.proofs.Common.{◌≡◌, ℕ, ◌<◌, ◌≤◌, ◌⊎◌, ◌↔◌, inl, inr, ⊎_elim, List, refl, sym, subst, arith, IsTrue, rules}
+use Rattle.std.proofs.lemmas.Grind.{common_steps}
+use Rattle.std.proofs.Common.{◌≡◌, ℕ, ◌<◌, ◌≤◌, ◌⊎◌, ◌↔◌, inl, inr, ⊎_elim, List, refl, sym, subst, arith, IsTrue}
 use Rattle.std.specs.List.{Contains}
 use Rattle.std.proofs.lemmas.Bool.{cases_lt}
 use Rattle.redo_core.specs.Data.{RecordData}
@@ -38,7 +39,7 @@ of_top b held from n t = record { linked = t.linked; most = t.most }
 -- ---- over a straight chain the base point can rise to the anchor
 pub to_anchor : (b : BookData) (held : List RecordData) (base : ℕ) (p : Points) → HasPoints b held base p → IsTrue p.straight
     → HasPoints b held p.anchor p
-to_anchor b held base p has t = search (rules, as_top, top_from_base, link_trans, straight_from_base)
+to_anchor b held base p has t = grind (arith, common_steps, as_top, top_from_base, link_trans, straight_from_base)
 
 -- ---- two views of held records that agree on what is alive above a base point
 pub record Agree (b c : BookData) (old new : List RecordData) (base : ℕ) : Type 0 where

@@ -1,4 +1,5 @@
-use Rattle.std.proofs.Common.{◌≡◌, true, false, sym, ◌∙◌, subst}
+use Rattle.std.proofs.lemmas.Grind.{common_steps}
+use Rattle.std.proofs.Common.{◌≡◌, true, false, sym, ◌∙◌, subst, arith}
 use Rattle.std.proofs.lemmas.Bool.{false≢true}
 use Rattle.hot_log.specs.Putting.{Puts}
 use Rattle.hot_log.specs.declared.log.Put.TheVariants.{New}
@@ -34,3 +35,30 @@ returns-after-may_link-clause-points c =
           (λ may. let t : c.may_link-may_link.result ≡ true = c.may_link-may_link.ensures.1 may in let f : c.may_link-may_link.result ≡ false = w.if-may_link.false in absurd (false≢true (sym f ∙ t)))
           c.requires)
     ]
+
+pub returns-in-Known-clause-form : goal.returns-in-Known-clause-form
+returns-in-Known-clause-form c = grind (arith, common_steps)
+
+pub returns-in-Known-clause-put : goal.returns-in-Known-clause-put
+returns-in-Known-clause-put c = grind (arith, common_steps)
+
+pub returns-in_err-put-clause-points : goal.returns-in_err-put-clause-points
+returns-in_err-put-clause-points c = grind (arith, common_steps)
+
+pub returns-in-Known-clause-points : goal.returns-in-Known-clause-points
+returns-in-Known-clause-points c = grind (arith, common_steps)
+
+pub joined-requires-clause-anchor : goal.joined-requires-clause-anchor
+joined-requires-clause-anchor c = grind (arith, common_steps)
+
+pub returns-after-may_link-clause-put : goal.returns-after-may_link-clause-put
+returns-after-may_link-clause-put c = grind (arith, common_steps)
+
+pub returns-after-may_link-clause-form : goal.returns-after-may_link-clause-form
+returns-after-may_link-clause-form c = grind (arith, common_steps)
+
+pub anew-requires : goal.anew-requires
+anew-requires c = grind (arith, common_steps)
+
+pub joined-requires-clause-small : goal.joined-requires-clause-small
+joined-requires-clause-small c = grind (arith, common_steps)

@@ -1,4 +1,5 @@
-use Rattle.std.proofs.Common.{sym, ◌∙◌, ap, subst, max}
+use Rattle.std.proofs.lemmas.Grind.{common_steps}
+use Rattle.std.proofs.Common.{sym, ◌∙◌, ap, subst, max, arith}
 use Rattle.redo_core.specs.Store.{Store}
 use Rattle.page_base.specs.Adopting.{Adopts, StoresJust}
 use Rattle.state_laws.specs.State.{State}
@@ -16,3 +17,12 @@ returns-in-Ok-clause-adopts c =
       store = stored (λ old new. Adopts old c.args.base c.args.pages.items new) c.in-Ok.ensures.adopts;
       listed = stored (λ old new. StoresJust old c.args.base c.args.pages.items new) c.in-Ok.ensures.listed;
     }
+
+pub raise_base-requires : goal.raise_base-requires
+raise_base-requires c = grind (arith, common_steps)
+
+pub invariant_of-self : goal.invariant_of-self
+invariant_of-self c = grind (arith, common_steps)
+
+pub invariant_of-self-in-Err : goal.invariant_of-self-in-Err
+invariant_of-self-in-Err c = grind (arith, common_steps)

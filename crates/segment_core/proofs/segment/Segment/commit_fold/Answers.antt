@@ -1,4 +1,5 @@
-use Rattle.std.proofs.Common.{OnOk, sym, subst, rules}
+use Rattle.std.proofs.lemmas.Grind.{common_steps}
+use Rattle.std.proofs.Common.{OnOk, sym, subst, rules, arith}
 use Rattle.state_laws.specs.State.{State, state_of}
 use Rattle.state_laws.specs.HasMeaning.{HasAnchor}
 use Rattle.state_laws.specs.Promises.{KeepsMeaningWith}
@@ -29,7 +30,7 @@ returns-clause-keeps c =
 
 pub returns-clause-commits : goal.returns-clause-commits
 unfolding before after
-returns-clause-commits c = search rules
+returns-clause-commits c = grind (arith, common_steps)
 
 pub returns-clause-ahead : goal.returns-clause-ahead
 returns-clause-ahead c = not_ahead c.args.self.now c.args.folded c.anchor-anchor.result c.raise.result c.anchor-anchor.ensures.own c.if-anchor-folded.false
@@ -43,4 +44,4 @@ returns-clause-back c = raise_back c.self.inside.store c.args.folded c.raise.res
 
 pub returns-clause-unchanged : goal.returns-clause-unchanged
 unfolding before after
-returns-clause-unchanged c = search rules
+returns-clause-unchanged c = grind (arith, common_steps)

@@ -1,4 +1,5 @@
-use Rattle.std.proofs.Common.{◌≤◌, subst, arith, rules}
+use Rattle.std.proofs.lemmas.Grind.{common_steps}
+use Rattle.std.proofs.Common.{◌≤◌, subst, arith}
 use Rattle.redo_core.specs.Standing.{IsAlive}
 use Rattle.state_laws.specs.State.{State, state_of, version_of}
 use Rattle.state_laws.specs.HasMeaning.{HasAnchor}
@@ -22,7 +23,7 @@ own c = own_anchor c.self.inside.book c.self.inside.hot c.self.inside.base c.sel
 
 just : (c : goal.After-discard) → DiscardsJust (before c) (after c)
 unfolding before after
-just c = search rules
+just c = grind (arith, common_steps)
 
 pub invariant_of-self : goal.invariant_of-self
 invariant_of-self c =

@@ -1,4 +1,5 @@
-use Rattle.std.proofs.Common.{◌≡◌, ◌∙◌, Some, None, sym, ap, subst}
+use Rattle.std.proofs.lemmas.Grind.{common_steps}
+use Rattle.std.proofs.Common.{◌≡◌, ◌∙◌, Some, None, sym, ap, subst, arith}
 use Rattle.hot_log.specs.Found.{IsPageAfter}
 use Rattle.page_base.specs.Stored.{IsStored}
 use Rattle.state_laws.specs.State.{State}
@@ -42,3 +43,6 @@ pub returns-clause-folds : goal.returns-clause-folds
 returns-clause-folds c =
     folds_all c.args.self.now c.anchor-anchor.result c.loop-next.store c.loop-next.invariant.own
     (subst (λ next. FoldsTo c.args.self.now c.anchor-anchor.result next c.loop-next.store) c.in_default.is c.loop-next.invariant.folds)
+
+pub loop-next-smaller : goal.loop-next-smaller
+loop-next-smaller c = grind (arith, common_steps)

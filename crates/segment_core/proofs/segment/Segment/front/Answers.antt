@@ -1,4 +1,5 @@
-use Rattle.std.proofs.Common.{subst, rules}
+use Rattle.std.proofs.lemmas.Grind.{common_steps}
+use Rattle.std.proofs.Common.{subst, arith}
 use Rattle.segment_core.specs.Form.{IsSegment}
 use Rattle.segment_core.specs.Reading.{IsFrontOf}
 use Rattle.segment_core.proofs.Chain.{true_front, form_of}
@@ -6,7 +7,7 @@ use Rattle.segment_core.proofs.segment.Segment.front.Goals as goal
 
 own : (c : goal.After-min_point)
     → IsFrontOf c.args.self.now (record { epoch = c.complete_epoch.result; complete = c.self.inside.points.complete; min = c.min_point.result })
-own c = search rules
+own c = grind (arith, common_steps)
 
 pub returns-clause-front : goal.returns-clause-front
 returns-clause-front c = true_front c.args.self.now _ (own c)

@@ -1,4 +1,5 @@
-use Rattle.std.proofs.Common.{rules}
+use Rattle.std.proofs.lemmas.Grind.{common_steps}
+use Rattle.std.proofs.Common.{rules, arith}
 use Rattle.segment_core.proofs.segment.Segment.is_settled.Goals as goal
 
 pub returns-in-Dead : goal.returns-in-Dead
@@ -8,4 +9,4 @@ pub returns-in-Waiting : goal.returns-in-Waiting
 returns-in-Waiting c = search rules
 
 pub returns-in-Alive : goal.returns-in-Alive
-returns-in-Alive c = search rules
+returns-in-Alive c = grind (arith, common_steps)

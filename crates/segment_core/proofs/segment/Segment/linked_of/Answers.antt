@@ -1,4 +1,5 @@
-use Rattle.std.proofs.Common.{◌≡◌, ℕ, ◌≤◌, ◌<◌, rules}
+use Rattle.std.proofs.lemmas.Grind.{common_steps}
+use Rattle.std.proofs.Common.{◌≡◌, ℕ, ◌≤◌, ◌<◌, rules, arith}
 use Rattle.state_laws.specs.State.{State}
 use Rattle.segment_core.proofs.BlockChain.{only_low}
 use Rattle.segment_core.proofs.segment.Segment.linked_of.Goals as goal
@@ -17,4 +18,4 @@ pub returns-then-page : goal.returns-then-page
 returns-then-page c = search rules
 
 pub returns-else-page : goal.returns-else-page
-returns-else-page c = search rules
+returns-else-page c = grind (arith, common_steps)

@@ -1,4 +1,5 @@
-use Rattle.std.proofs.Common.{◌≡◌, ◌∙◌, ap, subst, map, List, IfOk}
+use Rattle.std.proofs.lemmas.Grind.{common_steps}
+use Rattle.std.proofs.Common.{◌≡◌, ◌∙◌, ap, subst, map, List, IfOk, arith}
 use Rattle.redo_core.specs.Data.{RecordData}
 use Rattle.redo_core.specs.Writing.{after_records}
 use Rattle.epoch_book.specs.Book.{IsBook}
@@ -20,3 +21,9 @@ returns-clause-image c =
     anew_shows s c.args.page c.args.point (after_records c.in_ok-image.field-0 c.in_ok-copies.field-0.items) written
     (subst (λ (t : State). IsBook t.book) c.self.view_is c.self.invariant.0) (subst (λ (t : State). IsHeld t.held) c.self.view_is c.self.invariant.1) lists
     (ap (λ i. after_records i c.in_ok-copies.field-0.items) image ∙ ap (after_records (image_of s.store c.args.page)) copied)
+
+pub returns-clause-version : goal.returns-clause-version
+returns-clause-version c = grind (arith, common_steps)
+
+pub returns-clause-page : goal.returns-clause-page
+returns-clause-page c = grind (arith, common_steps)

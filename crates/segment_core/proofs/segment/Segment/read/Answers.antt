@@ -1,4 +1,5 @@
-use Rattle.std.proofs.Common.{◌≡◌, Some, None, map, rules, sym, ◌∙◌}
+use Rattle.std.proofs.lemmas.Grind.{common_steps}
+use Rattle.std.proofs.Common.{◌≡◌, Some, None, map, rules, sym, ◌∙◌, arith}
 use Rattle.std.proofs.lemmas.Option.{none-some}
 use Rattle.segment_core.proofs.Reading.{below, above, shown, true_page}
 use Rattle.segment_core.proofs.BlockChain.{tells_broken, tells_whole, not_image, not_memory, within}
@@ -9,14 +10,14 @@ returns-then-point-front-clause-result c = λ roster log facts p sound means. be
     (c.front-front.ensures.front roster log facts p sound means) c.if-point-front.true
 
 pub returns-then-point-front-clause-broken : goal.returns-then-point-front-clause-broken
-returns-then-point-front-clause-broken c = search rules
+returns-then-point-front-clause-broken c = grind (arith, common_steps)
 
 pub returns-then-front-point-clause-result : goal.returns-then-front-point-clause-result
 returns-then-front-point-clause-result c = λ roster log facts p sound means. above p c.front-front.result c.args.point
     (c.front-front.ensures.front roster log facts p sound means) c.if-point-front.false c.if-front-point.true
 
 pub returns-then-front-point-clause-broken : goal.returns-then-front-point-clause-broken
-returns-then-front-point-clause-broken c = search rules
+returns-then-front-point-clause-broken c = grind (arith, common_steps)
 
 pub returns-in-Some-clause-result : goal.returns-in-Some-clause-result
 returns-in-Some-clause-result c = λ roster log facts p sound means.

@@ -1,4 +1,5 @@
-use Rattle.std.proofs.Common.{◌≡◌, ◌↔◌, List, subst, rules}
+use Rattle.std.proofs.lemmas.Grind.{common_steps}
+use Rattle.std.proofs.Common.{◌≡◌, ◌↔◌, List, subst, rules, arith}
 use Rattle.std.specs.List.{Contains}
 use Rattle.redo_core.specs.Data.{RecordData}
 use Rattle.redo_core.specs.Keys.{key_of}
@@ -27,7 +28,7 @@ whole c = search (rules, is_back)
 
 pub invariant_of-self : goal.invariant_of-self
 unfolding left
-invariant_of-self c = search (rules, whole)
+invariant_of-self c = grind (arith, common_steps, whole)
 
 pub returns : goal.returns
 unfolding left

@@ -1,5 +1,6 @@
+use Rattle.std.proofs.lemmas.Grind.{common_steps}
 use Rattle.state_laws.specs.State.{state_of}
-use Rattle.std.proofs.Common.{subst, rules}
+use Rattle.std.proofs.Common.{subst, rules, arith}
 use Rattle.redo_core.specs.declared.facts.Fact.TheVariants.{Advance}
 use Rattle.state_laws.proofs.Learnt.{takes_advance}
 use Rattle.segment_core.specs.Exactly.{TakesExactly}
@@ -20,4 +21,4 @@ pub invariant_of-self : goal.invariant_of-self
 invariant_of-self c = search (rules, advance_bound, advance_due)
 
 pub with_anchor-self-inside-requires : goal.with_anchor-self-inside-requires
-with_anchor-self-inside-requires c = search (rules, advance_lags)
+with_anchor-self-inside-requires c = grind (arith, common_steps, advance_lags)

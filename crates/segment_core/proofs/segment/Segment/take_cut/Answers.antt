@@ -1,5 +1,6 @@
+use Rattle.std.proofs.lemmas.Grind.{common_steps}
 use Rattle.state_laws.specs.State.{state_of}
-use Rattle.std.proofs.Common.{◌≡◌, ◌∙◌, sym, subst, rules}
+use Rattle.std.proofs.Common.{◌≡◌, ◌∙◌, sym, subst, arith}
 use Rattle.redo_core.specs.declared.facts.Fact.TheVariants.{Cut}
 use Rattle.state_laws.proofs.Learnt.{takes_cut}
 use Rattle.state_laws.proofs.Knowing.{takes_known}
@@ -25,7 +26,7 @@ returns c =
     c.learn_cut-learnt.result c.book_answer.result c.self.invariant.0 e.book e.ok e.known e.unchanged e.err e.refuses e.refused e.memory c.book_answer.ensures))
 
 pub after_opening-self-inside-requires : goal.after_opening-self-inside-requires
-after_opening-self-inside-requires c = search (rules, cut_had_points)
+after_opening-self-inside-requires c = grind (arith, common_steps, cut_had_points)
 
 pub invariant_of-self : goal.invariant_of-self
 invariant_of-self c =

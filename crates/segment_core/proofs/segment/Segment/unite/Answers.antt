@@ -1,3 +1,4 @@
+use Rattle.std.proofs.lemmas.Grind.{common_steps}
 use Rattle.std.proofs.Common.{◌≡◌, ◌≤◌, ◌∙◌, List, [], length, ap, sym, subst, arith}
 use Rattle.std.proofs.lemmas.List.{nil_from_length}
 use Rattle.redo_core.specs.Store.{Store, StoredImage}
@@ -22,3 +23,18 @@ returns-then-floor-clause-unites c =
           subst (Merges own c.args.floor c.args.images.items) (sym c.raise_base.ensures.store)
           (subst (λ (given : List StoredImage). Merges own c.args.floor given own) (sym (nil_from_length c.args.images.items given_none)) none);
     }
+
+pub returns-clause-unchanged : goal.returns-clause-unchanged
+returns-clause-unchanged c = grind (arith, common_steps)
+
+pub invariant_of-self-in-Err : goal.invariant_of-self-in-Err
+invariant_of-self-in-Err c = grind (arith, common_steps)
+
+pub invariant_of-self : goal.invariant_of-self
+invariant_of-self c = grind (arith, common_steps)
+
+pub raise_base-requires-in-Ok : goal.raise_base-requires-in-Ok
+raise_base-requires-in-Ok c = grind (arith, common_steps)
+
+pub returns-clause-unites : goal.returns-clause-unites
+returns-clause-unites c = grind (arith, common_steps)

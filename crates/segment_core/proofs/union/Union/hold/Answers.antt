@@ -1,4 +1,5 @@
-use Rattle.std.proofs.Common.{subst}
+use Rattle.std.proofs.lemmas.Grind.{common_steps}
+use Rattle.std.proofs.Common.{subst, arith}
 use Rattle.hot_log.specs.Putting.{Puts}
 use Rattle.redo_core.specs.declared.keys.Key.{Key}
 use Rattle.segment_core.specs.Savepoint.{NotesKey}
@@ -19,3 +20,18 @@ returns-in-Ok-New-clause-began c =
     more_began c.args.self.now.segment.ghost_name saved c.note.new.self s t r
     (subst (λ (k : Key). NotesKey saved k c.note.new.self) c.key.ensures.value c.in_ok-note.ensures.notes) c.put.ensures.rest
     c.opens_form.ensures.form.held c.put.ensures.form puts.0 puts.1
+
+pub returns-in-Ok-Known-clause-began : goal.returns-in-Ok-Known-clause-began
+returns-in-Ok-Known-clause-began c = grind (arith, common_steps)
+
+pub returns-in-OtherRecord-clause-began : goal.returns-in-OtherRecord-clause-began
+returns-in-OtherRecord-clause-began c = grind (arith, common_steps)
+
+pub returns-clause-began : goal.returns-clause-began
+returns-clause-began c = grind (arith, common_steps)
+
+pub returns-in-Ok-Known-clause-holds : goal.returns-in-Ok-Known-clause-holds
+returns-in-Ok-Known-clause-holds c = grind (arith, common_steps)
+
+pub returns-clause-unchanged : goal.returns-clause-unchanged
+returns-clause-unchanged c = grind (arith, common_steps)

@@ -1,4 +1,5 @@
-use Rattle.std.proofs.Common.{◌≡◌, subst}
+use Rattle.std.proofs.lemmas.Grind.{common_steps}
+use Rattle.std.proofs.Common.{◌≡◌, subst, arith}
 use Rattle.redo_core.specs.declared.facts.Fact.TheVariants.{Record}
 use Rattle.redo_core.specs.declared.keys.Key.{Key}
 use Rattle.state_laws.specs.Known.{IsKnown}
@@ -16,3 +17,18 @@ returns-in-Ok-Changed-clause-began c =
     (λ (known : IsKnown s (Record c.args.redo)). let e : c.in-Ok-Changed.field-0 ≡ Unchanged = c.in-Ok-Changed.ensures.known.1 known in
     let is : c.in-Ok-Changed.field-0 ≡ Changed = c.in-Ok-Changed.field-0-is in absurd (cc))
     (c.in-Ok-Changed.ensures.stores c.in-Ok-Changed.field-0-is)
+
+pub returns-in-Ok-Unchanged-clause-began : goal.returns-in-Ok-Unchanged-clause-began
+returns-in-Ok-Unchanged-clause-began c = grind (arith, common_steps)
+
+pub returns-in-Ok-Changed-clause-takes : goal.returns-in-Ok-Changed-clause-takes
+returns-in-Ok-Changed-clause-takes c = grind (arith, common_steps)
+
+pub returns-in-Err-clause-takes : goal.returns-in-Err-clause-takes
+returns-in-Err-clause-takes c = grind (arith, common_steps)
+
+pub returns-in-Ok-Unchanged-clause-takes : goal.returns-in-Ok-Unchanged-clause-takes
+returns-in-Ok-Unchanged-clause-takes c = grind (arith, common_steps)
+
+pub returns-in-Err-clause-began : goal.returns-in-Err-clause-began
+returns-in-Err-clause-began c = grind (arith, common_steps)
