@@ -43,6 +43,16 @@ fn begin(bench: &mut Bench, row: Row) -> Result<Answer, AllocError> {
     }
 }
 
+fn make_fleet(bench: &mut Bench, row: Row) -> Result<Answer, AllocError> {
+    let made = Fleet::new(row.alloc, bench.roster, row.short(0));
+    renew(&mut bench.fleet, made)
+}
+
+fn make_staging(staging: &mut Staging, row: Row) -> Result<Answer, AllocError> {
+    let made = Staging::new(row.alloc, row.number(0), long(row.number(1)));
+    renew(staging, Ok(made))
+}
+
 /// Carries out the call of a line.
 pub fn call(bench: &mut Bench, row: Row) -> Result<Answer, AllocError> {
     match row.name {
@@ -52,16 +62,10 @@ pub fn call(bench: &mut Bench, row: Row) -> Result<Answer, AllocError> {
         "chain" => add_chain(&mut bench.segments, bench.roster, row),
         "take" | "fold" | "discard" => change(&mut bench.segments, &bench.facts, row),
         "front" | "base" | "same" => look(&bench.segments, row),
-        "fleet" => {
-            let fleet = Fleet::new(row.alloc, bench.roster, row.short(0));
-            renew(&mut bench.fleet, fleet)
-        }
+        "fleet" => make_fleet(bench, row),
         "step" => step(&mut bench.fleet, &bench.facts, row.behind()),
         "give" => give(&mut bench.fleet, &bench.facts, row),
-        "staging" => {
-            let staging = Staging::new(row.alloc, row.number(0), long(row.number(1)));
-            renew(&mut bench.staging, Ok(staging))
-        }
+        "staging" => make_staging(&mut bench.staging, row),
         _ => exchanges::answer(bench, row),
     }
 }

@@ -1,6 +1,6 @@
 use crate::answer::Answer;
 use crate::given::patch;
-use crate::keeping::add;
+use crate::keeping::{add, boxed};
 use crate::outcomes::{discard, fold, is_same, taken};
 use crate::row::Row;
 use redo_core::{Fact, Record, Roster};
@@ -47,9 +47,9 @@ pub fn add_chain(
     roster: Roster,
     row: Row,
 ) -> Result<Answer, AllocError> {
-    let mut made = Segment::new(row.alloc, roster)?;
+    let mut made = boxed(row.alloc, Segment::new(row.alloc, roster))?;
     take_chain(row.alloc, &mut made, row.short(0))?;
-    add("Segment", segments, made)
+    add("Segment", segments, Box::into_inner(made))
 }
 
 fn take(segment: &mut Segment, facts: &[Fact], row: Row) -> Result<Answer, AllocError> {

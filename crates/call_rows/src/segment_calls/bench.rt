@@ -8,7 +8,7 @@ use segment_core::Segment;
 use std::alloc::{AllocError, Global};
 use std::mem;
 
-/// What the calls are made on. What is large stands in boxes: a segment that stands beside a `?` takes a minute to prove.
+/// What the calls are made on. The segments stand in boxes: made by value, each beside the `?` of the next, they take minutes to prove.
 #[derive(Drop)]
 pub struct Bench {
     pub segment: Box<Segment>,
