@@ -16,7 +16,7 @@ use crate::script_steps::answers;
 use fleet_core::Fleet;
 use log_law::{CheckFault, check_log};
 use redo_core::LawFault;
-use script_text::{Log, Script, ScriptError, read_facts, read_script};
+use script_text::{Log, Script, ScriptError, read_facts, read_script, worded_line};
 use std::alloc::{AllocError, Global};
 
 /// How an answered input ended, beside its text.
@@ -39,9 +39,8 @@ pub struct Answered {
 fn bad_line(alloc: Global, at: usize) -> Result<Answered, AllocError>
     ensures { IfOk result (λ a. SaysBadLine at (string_bytes a.text) a.verdict) }
 {
-    let text = format!(in alloc; "bad line {at}\n")?;
     Ok(Answered {
-        text,
+        text: worded_line(alloc, "bad line", &[at as u64])?,
         verdict: Verdict::BadLine,
     })
 }
@@ -104,9 +103,8 @@ fn count(alloc: Global, facts: usize) -> Result<Answered, AllocError>
     ensures text { IfOk result (λ a. string_bytes a.text ≡ codes "sound " ++ (decimal facts ++ codes "\n")) }
     ensures verdict { IfOk result (λ a. a.verdict ≡ Verdict.Done) }
 {
-    let text = format!(in alloc; "sound {facts}\n")?;
     Ok(Answered {
-        text,
+        text: worded_line(alloc, "sound", &[facts as u64])?,
         verdict: Verdict::Done,
     })
 }

@@ -9,53 +9,52 @@ ghost use Rattle.fleet_tool.specs.Inspect.{summary_text, delta_text, content_tex
 use redo_wire::{
     Delta, Piece, PieceContent, Summary, WireError, WireFault, WireValue, decode_value,
 };
-use script_text::{decoded, fact_text, first_part};
+use script_text::{decoded, fact_text, first_part, labelled, worded};
 use std::alloc::{AllocError, Global};
 
 fn fault_text(alloc: Global, fault: WireFault) -> Result<String, AllocError>
     ensures { IfOk result (λ s. string_bytes s ≡ codes "wire " ++ decimal (fault_number fault)) }
 {
-    let number = fault.number();
-    format!(in alloc; "wire {number}")
+    worded(alloc, "wire", &[u64::from(fault.number())])
 }
 
 fn summary_text(alloc: Global, summary: &Summary) -> Result<String, AllocError>
     ensures { IfOk result (λ s. string_bytes s ≡ summary_text summary.now) }
 {
-    let cuts = summary.book().cuts().len();
-    let min = summary.book().min();
-    let waits = summary.book().waits().len();
-    let anchor = summary.anchor();
-    let keys = summary.keys().len();
-    format!(in alloc; "summary cuts {cuts} min {min} waits {waits} anchor {anchor} keys {keys}")
+    let book = summary.book();
+    let numbers = [
+        ("summary cuts ", book.cuts().len() as u64),
+        (" min ", book.min()),
+        (" waits ", book.waits().len() as u64),
+        (" anchor ", summary.anchor()),
+        (" keys ", summary.keys().len() as u64),
+    ];
+    labelled(alloc, &numbers)
 }
 
 fn delta_text(alloc: Global, delta: &Delta) -> Result<String, AllocError>
     ensures { IfOk result (λ s. string_bytes s ≡ delta_text delta.now) }
 {
-    let cuts = delta.book().cuts().len();
-    let min = delta.book().min();
-    let waits = delta.book().waits().len();
-    let base = delta.base();
-    let pages = delta.pages().len();
-    let records = delta.records().len();
-    format!(in alloc;
-        "delta cuts {cuts} min {min} waits {waits} base {base} pages {pages} records {records}"
-    )
+    let book = delta.book();
+    let numbers = [
+        ("delta cuts ", book.cuts().len() as u64),
+        (" min ", book.min()),
+        (" waits ", book.waits().len() as u64),
+        (" base ", delta.base()),
+        (" pages ", delta.pages().len() as u64),
+        (" records ", delta.records().len() as u64),
+    ];
+    labelled(alloc, &numbers)
 }
 
 fn content_text(alloc: Global, content: &PieceContent) -> Result<String, AllocError>
     ensures { IfOk result (λ s. string_bytes s ≡ content_text content.now) }
 {
     match content {
-        PieceContent::Head { book: _, anchor: _ } => format!(in alloc; "head"),
-        PieceContent::Page(image) => {
-            let number = image.number();
-            format!(in alloc; "page {number}")
-        }
+        PieceContent::Head { book: _, anchor: _ } => String::from_str(alloc, "head"),
+        PieceContent::Page(image) => worded(alloc, "page", &[u64::from(image.number())]),
         PieceContent::Records(batch) => {
-            let count = batch.records().len();
-            format!(in alloc; "records {count}")
+            worded(alloc, "records", &[batch.records().len() as u64])
         }
     }
 }

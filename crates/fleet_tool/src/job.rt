@@ -3,8 +3,8 @@
 ghost use Rattle.std.specs.Prelude.{◌≡◌, ◌∷◌, [], IfOk, IfErr, Ok, codes, map};
 ghost use Rattle.std.specs.List.{list_any};
 ghost use Rattle.std.specs.Str.{bytes_eq};
-ghost use Rattle.clap.specs.Words.{app_of, shape_of, kind_of, Kinds, HasKind};
-ghost use Rattle.fleet_tool.specs.CommandLine.{fleet_app, lines_shape, line_faults, NameTask, NameExplained, AsksDrill, IsWhy};
+ghost use Rattle.clap.specs.Words.{app_of, shape_of, with_subcommand, kind_of, Kinds, HasKind};
+ghost use Rattle.fleet_tool.specs.CommandLine.{fleet_app, texts_app, top, lines_shape, line_faults, NameTask, NameExplained, AsksDrill, IsWhy};
 ghost use Rattle.fleet_tool.specs.DrillLine.{IsDrillTask};
 ghost use Rattle.fleet_tool.specs.TaskName.{name_of, as_text_task};
 
@@ -14,6 +14,7 @@ use clap::error::ErrorKind;
 use clap::{Arg, ArgAction, Command, Error};
 use std::alloc::{AllocError, Global};
 use std::convert::AsStr;
+use std::fmt;
 use thiserror::Error as ErrorTraits;
 
 /// An answer to a script, to a log, or to a capture.
@@ -52,15 +53,29 @@ pub enum Task {
 }
 
 /// Why the command line names no task.
-#[derive(Debug, Drop, ErrorTraits)]
+#[derive(Drop, ErrorTraits)]
 pub enum LineFault {
     /// The text of the help, or of the version.
-    #[error("{0}")]
     Help(String),
-    #[error("bad command line")]
     Bad,
-    #[error("out of memory")]
     Memory,
+}
+
+// (the words too: nobody prints the names of the variants)
+impl fmt::Debug for LineFault {
+    fn fmt<W: fmt::Write>(&self, f: &mut fmt::Formatter<W>) -> fmt::Result {
+        fmt::Display::fmt(self, f)
+    }
+}
+
+impl fmt::Display for LineFault {
+    fn fmt<W: fmt::Write>(&self, f: &mut fmt::Formatter<W>) -> fmt::Result {
+        f.write_str(match self {
+            LineFault::Help(text) => text.as_str(),
+            LineFault::Bad => "bad command line",
+            LineFault::Memory => "out of memory",
+        })
+    }
 }
 
 // A task over lines, which may be explained.
@@ -82,17 +97,45 @@ fn lines_command<'a>(
         .arg(explain)
 }
 
-fn command<'a>(alloc: Global) -> Result<Command<'a>, AllocError>
-    ensures { IfOk result (λ c. app_of c ≡ fleet_app) }
+// The program without its tasks.
+fn program<'a>(alloc: Global) -> Command<'a>
+    ensures { app_of result ≡ top }
 {
-    let run = lines_command(
+    Command::new(alloc, "fleet")
+        .about("Storage segments of a redo log")
+        .version(help::VERSION)
+        .after_help(help::STATUSES)
+        .subcommand_required(true)
+        .disable_help_subcommand(true)
+}
+
+// The command with a task over lines.
+fn with_lines<'a>(
+    alloc: Global,
+    command: Command<'a>,
+    name: &'a str,
+    about: &'a str,
+    forms: &'a str,
+) -> Result<Command<'a>, AllocError>
+    ensures { IfOk result (λ c. app_of c ≡ with_subcommand (app_of command.entry) (lines_shape name.entry.now)) }
+{
+    command.subcommand(lines_command(alloc, name, about, forms)?)
+}
+
+// The program with the tasks over standard input.
+fn texts_command<'a>(alloc: Global) -> Result<Command<'a>, AllocError>
+    ensures { IfOk result (λ c. app_of c ≡ texts_app) }
+{
+    let with_run = with_lines(
         alloc,
+        program(alloc),
         "run",
         "Answers the script on standard input",
         help::RUN,
     )?;
-    let check = lines_command(
+    let with_check = with_lines(
         alloc,
+        with_run,
         "check",
         "Tells whether the log on standard input is sound",
         help::CHECK,
@@ -100,16 +143,13 @@ fn command<'a>(alloc: Global) -> Result<Command<'a>, AllocError>
     let inspect = Command::new(alloc, "inspect")
         .about("Tells what each line of hexadecimal digits on standard input spells")
         .after_help(help::INSPECT);
-    Command::new(alloc, "fleet")
-        .about("Storage segments of a redo log")
-        .version(help::VERSION)
-        .after_help(help::STATUSES)
-        .subcommand_required(true)
-        .disable_help_subcommand(true)
-        .subcommand(run)?
-        .subcommand(check)?
-        .subcommand(inspect)?
-        .subcommand(drill_command(alloc)?)
+    with_check.subcommand(inspect)
+}
+
+fn command<'a>(alloc: Global) -> Result<Command<'a>, AllocError>
+    ensures { IfOk result (λ c. app_of c ≡ fleet_app) }
+{
+    texts_command(alloc)?.subcommand(drill_command(alloc)?)
 }
 
 fn fault_of(alloc: Global, error: Error) -> LineFault

@@ -1,16 +1,17 @@
 //! Answer lines.
 
-ghost use Rattle.std.specs.Prelude.{◌≡◌, ◌++◌, IfOk, OnOk, codes, string_bytes};
-ghost use Rattle.std.specs.Fmt.{decimal};
+ghost use Rattle.std.specs.Prelude.{◌≡◌, [], ◌∷◌, ◌++◌, OnOk, codes, string_bytes};
 ghost use Rattle.hex.specs.Hex.{encode_lower};
 ghost use Rattle.fleet_steps.specs.Shown.{ShowsInside};
 ghost use Rattle.fleet_core.specs.Replies.{HasCome};
+ghost use Rattle.script_text.specs.Spelled.{worded_line};
 ghost use Rattle.fleet_tool.specs.Lines.{shown_bytes, front_text, uncovered_text, line_of};
 
 use fleet_core::Reply;
 use fleet_steps::Step;
 use gossip_core::Shown;
 use redo_core::Page;
+use script_text::worded_line;
 use segment_core::Front;
 use std::alloc::{AllocError, Global};
 
@@ -38,41 +39,51 @@ fn put_page(alloc: Global, bytes: &[u8], text: &mut String) -> Result<(), AllocE
     text.push_str("\n")
 }
 
-fn front_line(alloc: Global, front: &Front) -> Result<String, AllocError>
-    ensures { IfOk result (λ s. string_bytes s ≡ front_text front.now) }
+/// Appends the line of a word and numbers.
+fn put_numbers(
+    alloc: Global,
+    word: &str,
+    numbers: &[u64],
+    text: &mut String,
+) -> Result<(), AllocError>
+    ensures { OnOk result (string_bytes text.new ≡ string_bytes text.old ++ worded_line word.now numbers.now) }
 {
-    let epoch = front.epoch;
-    let complete = front.complete;
-    let min = front.min;
-    format!(in alloc; "front {epoch} {complete} {min}\n")
+    text.push_str(&worded_line(alloc, word, numbers)?)
 }
 
-/// Appends the line of a word and a number.
+/// The same of one number.
 fn put_number(alloc: Global, word: &str, number: u64, text: &mut String) -> Result<(), AllocError>
-    ensures { OnOk result (string_bytes text.new ≡ string_bytes text.old ++ (word.now ++ (decimal number ++ codes "\n"))) }
+    ensures { OnOk result (string_bytes text.new ≡ string_bytes text.old ++ worded_line word.now (number ∷ [])) }
 {
-    text.push_str(&format!(in alloc; "{word}{number}\n")?)
+    put_numbers(alloc, word, &[number], text)
 }
 
-/// What of a summary a node does not answer for.
-fn uncovered_text(alloc: Global, shown: Shown) -> Result<String, AllocError>
-    ensures { IfOk result (λ s. string_bytes s ≡ uncovered_text shown) }
+fn put_front(alloc: Global, front: &Front, text: &mut String) -> Result<(), AllocError>
+    ensures { OnOk result (string_bytes text.new ≡ string_bytes text.old ++ front_text front.now) }
+{
+    put_numbers(
+        alloc,
+        "front",
+        &[u64::from(front.epoch), front.complete, front.min],
+        text,
+    )
+}
+
+/// Appends the line of what of a summary a node does not answer for.
+fn put_uncovered(alloc: Global, shown: Shown, text: &mut String) -> Result<(), AllocError>
+    ensures { OnOk result (string_bytes text.new ≡ string_bytes text.old ++ (codes "uncovered " ++ (uncovered_text shown ++ codes "\n"))) }
 {
     match shown {
-        Shown::Anchor(anchor) => format!(in alloc; "anchor {anchor}"),
+        Shown::Anchor(anchor) => put_number(alloc, "uncovered anchor", anchor, text),
         Shown::Key(key) => {
-            let epoch = key.epoch;
-            let number = key.number;
-            format!(in alloc; "key {epoch} {number}")
+            put_numbers(
+                alloc,
+                "uncovered key",
+                &[u64::from(key.epoch), key.number],
+                text,
+            )
         }
     }
-}
-
-fn uncovered_line(alloc: Global, shown: Shown) -> Result<String, AllocError>
-    ensures { IfOk result (λ s. string_bytes s ≡ codes "uncovered " ++ (uncovered_text shown ++ codes "\n")) }
-{
-    let shown = uncovered_text(alloc, shown)?;
-    format!(in alloc; "uncovered {shown}\n")
 }
 
 /// Appends the answer line of a reply to a step. A step that lacked memory is an error too.
@@ -91,19 +102,19 @@ pub fn put_line(
         Reply::Unchanged => text.push_str("unchanged\n"),
         Reply::Folded => text.push_str("folded\n"),
         Reply::Discarded => text.push_str("discarded\n"),
-        Reply::Front(front) => text.push_str(&front_line(alloc, front)?),
+        Reply::Front(front) => put_front(alloc, front, text),
         Reply::Page(page) => put_page(alloc, shown_bytes(step, page), text),
-        Reply::Below(min) => put_number(alloc, "below ", *min, text),
-        Reply::Above(complete) => put_number(alloc, "above ", *complete, text),
+        Reply::Below(min) => put_number(alloc, "below", *min, text),
+        Reply::Above(complete) => put_number(alloc, "above", *complete, text),
         Reply::Joined => text.push_str("joined\n"),
         Reply::Answer(true) => text.push_str("yes\n"),
         Reply::Answer(false) => text.push_str("no\n"),
         Reply::Wiped => text.push_str("wiped\n"),
-        Reply::Message(number) => put_number(alloc, "message ", *number as u64, text),
+        Reply::Message(number) => put_number(alloc, "message", *number as u64, text),
         Reply::Absorbed => text.push_str("absorbed\n"),
-        Reply::Uncovered(shown) => text.push_str(&uncovered_line(alloc, *shown)?),
-        Reply::NoMessage(number) => put_number(alloc, "no message ", *number as u64, text),
-        Reply::NoNode(node) => put_number(alloc, "no node ", u64::from(*node), text),
+        Reply::Uncovered(shown) => put_uncovered(alloc, *shown, text),
+        Reply::NoMessage(number) => put_number(alloc, "no message", *number as u64, text),
+        Reply::NoNode(node) => put_number(alloc, "no node", u64::from(*node), text),
         Reply::Refused(_) => Ok(()),
         Reply::BrokenBlockChain { .. } => Ok(()),
         Reply::Memory => Err(AllocError),
