@@ -11,11 +11,10 @@ use log_law::{Breach, CheckFault, breach_of, check_log};
 use redo_core::LawFault;
 use script_text::{Log, Script, ScriptError, read_facts, read_script};
 use std::alloc::{AllocError, Global};
-use std::fmt;
 use thiserror::Error;
 
 /// Why a text is not answered by what it asks for.
-#[derive(Clone, Copy, PartialEq, Eq, Error)]
+#[derive(Clone, Copy, Debug, PartialEq, Eq, Error)]
 pub enum Reason {
     /// The number of the bad line, from 1, and why it is bad.
     #[error("line {at}: {reason}")]
@@ -23,13 +22,6 @@ pub enum Reason {
     /// The first fault of the log, its place from 1, and with what else the fact breaks its law.
     #[error("fact {} breaks law {}: {breach}", fault.place, fault.law.number())]
     Unsound { fault: LawFault, breach: Breach },
-}
-
-// (the words too: nobody prints the names of the variants)
-impl fmt::Debug for Reason {
-    fn fmt<W: fmt::Write>(&self, f: &mut fmt::Formatter<W>) -> fmt::Result {
-        fmt::Display::fmt(self, f)
-    }
 }
 
 // The log of a text of the task: of a script what stands before `go`.

@@ -53,19 +53,12 @@ pub enum Task {
 }
 
 /// Why the command line names no task.
-#[derive(Drop, ErrorTraits)]
+#[derive(Debug, Drop, ErrorTraits)]
 pub enum LineFault {
     /// The text of the help, or of the version.
     Help(String),
     Bad,
     Memory,
-}
-
-// (the words too: nobody prints the names of the variants)
-impl fmt::Debug for LineFault {
-    fn fmt<W: fmt::Write>(&self, f: &mut fmt::Formatter<W>) -> fmt::Result {
-        fmt::Display::fmt(self, f)
-    }
 }
 
 impl fmt::Display for LineFault {

@@ -1,22 +1,16 @@
-//! The reasons, and their words, which `Debug` tells too: nobody prints the names of the variants.
+//! The reasons, and their words.
 
 use redo_core::ShapeFault;
 use std::fmt;
 use thiserror::Error;
 
 /// Why a word is no number.
-#[derive(Clone, Copy, PartialEq, Eq, Error)]
+#[derive(Clone, Copy, Debug, PartialEq, Eq, Error)]
 pub enum NumberFault {
     Empty,
     NotDigits,
     LeadingZero,
     Above(u64),
-}
-
-impl fmt::Debug for NumberFault {
-    fn fmt<W: fmt::Write>(&self, f: &mut fmt::Formatter<W>) -> fmt::Result {
-        fmt::Display::fmt(self, f)
-    }
 }
 
 impl fmt::Display for NumberFault {
@@ -31,19 +25,13 @@ impl fmt::Display for NumberFault {
 }
 
 /// Why a word is no patch, OFF:HEX or OFF*LEN:HH.
-#[derive(Clone, Copy, PartialEq, Eq, Error)]
+#[derive(Clone, Copy, Debug, PartialEq, Eq, Error)]
 pub enum PatchFault {
     Colon,
     Place,
     Digits,
     NoBytes,
     FillBytes,
-}
-
-impl fmt::Debug for PatchFault {
-    fn fmt<W: fmt::Write>(&self, f: &mut fmt::Formatter<W>) -> fmt::Result {
-        fmt::Display::fmt(self, f)
-    }
 }
 
 impl fmt::Display for PatchFault {
@@ -60,7 +48,7 @@ impl fmt::Display for PatchFault {
 }
 
 /// Why a line is bad. Fields are numbered from 1, the word that begins the line first, and patches from 1.
-#[derive(Clone, Copy, PartialEq, Eq, Error)]
+#[derive(Clone, Copy, Debug, PartialEq, Eq, Error)]
 pub enum LineReason {
     CarriageReturn,
     UnknownWord,
@@ -72,12 +60,6 @@ pub enum LineReason {
     ManyPatches,
     Patch { at: usize, fault: PatchFault },
     Shape(ShapeFault),
-}
-
-impl fmt::Debug for LineReason {
-    fn fmt<W: fmt::Write>(&self, f: &mut fmt::Formatter<W>) -> fmt::Result {
-        fmt::Display::fmt(self, f)
-    }
 }
 
 impl fmt::Display for LineReason {
@@ -101,7 +83,7 @@ impl fmt::Display for LineReason {
 }
 
 /// Why a line of a whole text is bad.
-#[derive(Clone, Copy, PartialEq, Eq, Error)]
+#[derive(Clone, Copy, Debug, PartialEq, Eq, Error)]
 pub enum TextReason {
     NoGo,
     NoNodes,
@@ -109,12 +91,6 @@ pub enum TextReason {
     ManyFacts,
     ManySteps,
     Line(LineReason),
-}
-
-impl fmt::Debug for TextReason {
-    fn fmt<W: fmt::Write>(&self, f: &mut fmt::Formatter<W>) -> fmt::Result {
-        fmt::Display::fmt(self, f)
-    }
 }
 
 impl fmt::Display for TextReason {
