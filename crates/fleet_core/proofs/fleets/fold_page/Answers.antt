@@ -1,4 +1,5 @@
-use Rattle.std.proofs.Common.{rules}
+use Rattle.std.proofs.lemmas.Grind.{common_steps}
+use Rattle.std.proofs.Common.{rules, arith}
 use Rattle.state_laws.specs.Promises.{KeepsMeaningWith}
 use Rattle.fleet_core.proofs.Following.{follows_fold, follows_no_plan}
 use Rattle.fleet_core.proofs.fleets.fold_page.Goals as goal
@@ -18,3 +19,12 @@ returns-in-Ok-commit_fold-clause-follows c = λ readers node other.
     let keeps : KeepsMeaningWith c.args.segment.now plan.page plan.version plan.image c.commit_fold.new.self =
     rw c.fold-folded.ensures at c.in-Ok-commit_fold.ensures.keeps in
     follows_fold readers other c.args.segment.now c.commit_fold.new.self node c.args.page plan c.in-Ok.ensures.result keeps
+
+pub returns-in-Memory-clause-follows : goal.returns-in-Memory-clause-follows
+returns-in-Memory-clause-follows c = grind (arith, common_steps)
+
+pub returns-in-Ok-commit_fold-clause-calls : goal.returns-in-Ok-commit_fold-clause-calls
+returns-in-Ok-commit_fold-clause-calls c = grind (arith, common_steps)
+
+pub returns-in-Memory-clause-calls : goal.returns-in-Memory-clause-calls
+returns-in-Memory-clause-calls c = grind (arith, common_steps)

@@ -1,4 +1,5 @@
-use Rattle.std.proofs.Common.{sym, subst}
+use Rattle.std.proofs.lemmas.Grind.{common_steps}
+use Rattle.std.proofs.Common.{sym, subst, arith}
 use Rattle.fleet_steps.specs.declared.steps.Step.TheVariants.{Wipe}
 use Rattle.fleet_core.specs.declared.replies.Reply.TheVariants.{Wiped}
 use Rattle.fleet_core.specs.AtNode.{OwnFollows}
@@ -9,3 +10,9 @@ pub returns-in-Ok-clause-follows : goal.returns-in-Ok-clause-follows
 returns-in-Ok-clause-follows c = λ node other.
     subst (λ s. OwnFollows c.args.roster c.args.segment.now other (Wipe node) Wiped s) (sym c.in-Ok.ensures.empty)
     (follows_wipe c.args.roster c.args.segment.now other node)
+
+pub returns-in-Ok-clause-calls : goal.returns-in-Ok-clause-calls
+returns-in-Ok-clause-calls c = grind (arith, common_steps)
+
+pub returns-in-Ok-clause-refused : goal.returns-in-Ok-clause-refused
+returns-in-Ok-clause-refused c = grind (arith, common_steps)

@@ -1,4 +1,5 @@
-use Rattle.std.proofs.Common.{sym, subst}
+use Rattle.std.proofs.lemmas.Grind.{common_steps}
+use Rattle.std.proofs.Common.{sym, subst, arith}
 use Rattle.std.specs.Option.{option_copied}
 use Rattle.fleet_steps.specs.declared.steps.Step.TheVariants.{Join}
 use Rattle.fleet_core.specs.declared.replies.Reply.TheVariants.{Joined}
@@ -17,3 +18,12 @@ pub returns-in-None-clause-follows : goal.returns-in-None-clause-follows
 returns-in-None-clause-follows c = λ readers node from.
     subst (λ o. OwnFollows readers c.args.segment.now (option_copied o) (Join node from) Joined c.args.segment.now) (sym c.in-None.is)
     (follows_own_join readers c.args.segment.now node from)
+
+pub returns-in-Some-clause-refused : goal.returns-in-Some-clause-refused
+returns-in-Some-clause-refused c = grind (arith, common_steps)
+
+pub returns-in-Some-clause-found : goal.returns-in-Some-clause-found
+returns-in-Some-clause-found c = grind (arith, common_steps)
+
+pub returns-in-Some-clause-named : goal.returns-in-Some-clause-named
+returns-in-Some-clause-named c = grind (arith, common_steps)

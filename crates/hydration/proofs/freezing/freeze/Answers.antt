@@ -1,4 +1,5 @@
-use Rattle.std.proofs.Common.{◌≡◌, length, refl, sym, ◌∙◌, subst}
+use Rattle.std.proofs.lemmas.Grind.{common_steps}
+use Rattle.std.proofs.Common.{◌≡◌, length, refl, sym, ◌∙◌, subst, arith}
 use Rattle.hydration.specs.Snapshots.{SnapshotData, snapshot_of, Freezes, IsPieceCount}
 use Rattle.hydration.specs.declared.freezing.FreezeFault.TheVariants.{Memory, TooMany}
 use Rattle.hydration.proofs.Frozen.{snapshot_form, count_as}
@@ -54,3 +55,9 @@ returns-in-None-clause-many c = λ _ d frozen.
     (c.in-Ok-kept_records.ensures d.anchor frozen.anchor) in
     c.in-None.ensures.none refl d.total (subst (λ n. IsPieceCount n c.len-2.result d.total) (sym (c.len.ensures ∙ c.in-Ok-pages_at_anchor.pages.ok.0))
     (subst (λ n. IsPieceCount (length pages) n d.total) (sym (c.len-2.ensures ∙ c.in-Ok-kept_records.records.ok.0)) count))
+
+pub returns-in-Some-clause-few : goal.returns-in-Some-clause-few
+returns-in-Some-clause-few c = grind (arith, common_steps)
+
+pub returns-in-Some-clause-name : goal.returns-in-Some-clause-name
+returns-in-Some-clause-name c = grind (arith, common_steps)

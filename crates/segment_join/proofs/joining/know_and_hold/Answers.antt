@@ -1,4 +1,5 @@
-use Rattle.std.proofs.Common.{inl, inr, ⊎_elim, List, map, sym, subst, Bor}
+use Rattle.std.proofs.lemmas.Grind.{common_steps}
+use Rattle.std.proofs.Common.{inl, inr, ⊎_elim, List, map, sym, subst, Bor, arith}
 use Rattle.std.specs.List.{Contains}
 use Rattle.redo_core.specs.Data.{RecordData}
 use Rattle.redo_core.specs.Order.{Lists}
@@ -37,3 +38,21 @@ hold_rest-requires-clause-held c = λ r h.
 
 pub hold_rest-requires-clause-taken : goal.hold_rest-requires-clause-taken
 hold_rest-requires-clause-taken c = knows_taken (reached c.args.union.now) _ (reached c.take_all.new.union) c.in_default.ensures.takes
+
+pub returns-in_err-hold_rest-clause-began : goal.returns-in_err-hold_rest-clause-began
+returns-in_err-hold_rest-clause-began c = grind (arith, common_steps)
+
+pub returns-clause-began : goal.returns-clause-began
+returns-clause-began c = grind (arith, common_steps)
+
+pub returns-in-Err-clause-began : goal.returns-in-Err-clause-began
+returns-in-Err-clause-began c = grind (arith, common_steps)
+
+pub returns-in_err-hold_rest-clause-refused : goal.returns-in_err-hold_rest-clause-refused
+returns-in_err-hold_rest-clause-refused c = grind (arith, common_steps)
+
+pub returns-clause-joined : goal.returns-clause-joined
+returns-clause-joined c = grind (arith, common_steps)
+
+pub returns-in-Err-clause-refused : goal.returns-in-Err-clause-refused
+returns-in-Err-clause-refused c = grind (arith, common_steps)

@@ -63,10 +63,22 @@ already (Some x) is = (x.now, refl)
 already None is = absurd (grind (arith, is))
 
 pub returns-then-is_some-clause-refused : goal.returns-then-is_some-clause-refused
-returns-then-is_some-clause-refused c = search (rules, already)
+returns-then-is_some-clause-refused c = grind (arith, common_steps, already)
 
 pub returns-in-Ok-clause-form : goal.returns-in-Ok-clause-form
 returns-in-Ok-clause-form c = invariant_of-self c
 
 pub returns-clause-form : goal.returns-clause-form
 returns-clause-form c = invariant_of-self-2 c
+
+pub returns-clause-refused : goal.returns-clause-refused
+returns-clause-refused c = grind (arith, common_steps)
+
+pub returns-clause-back : goal.returns-clause-back
+returns-clause-back c = grind (arith, common_steps)
+
+pub returns-then-name-self-clause-refused : goal.returns-then-name-self-clause-refused
+returns-then-name-self-clause-refused c = grind (arith, common_steps)
+
+pub returns-clause-unchanged : goal.returns-clause-unchanged
+returns-clause-unchanged c = grind (arith, common_steps)

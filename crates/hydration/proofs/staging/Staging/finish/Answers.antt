@@ -1,4 +1,5 @@
-use Rattle.std.proofs.Common.{subst}
+use Rattle.std.proofs.lemmas.Grind.{common_steps}
+use Rattle.std.proofs.Common.{subst, arith}
 use Rattle.redo_laws.proofs.Log.{log_of_sound}
 use Rattle.hydration.specs.Stagings.{IsStaging}
 use Rattle.hydration.proofs.AllPieces.{has_all}
@@ -30,3 +31,18 @@ returns-in-Ok-clause-form c = subst IsStaging c.self.view_is c.self.invariant
 
 pub returns-in-Err-clause-form : goal.returns-in-Err-clause-form
 returns-in-Err-clause-form c = subst IsStaging c.self.view_is c.self.invariant
+
+pub returns-in-Some-first_misplaced-clause-missing : goal.returns-in-Some-first_misplaced-clause-missing
+returns-in-Some-first_misplaced-clause-missing c = grind (arith, common_steps)
+
+pub returns-in-Err-clause-malformed : goal.returns-in-Err-clause-malformed
+returns-in-Err-clause-malformed c = grind (arith, common_steps)
+
+pub returns-in-Some-clause-missing : goal.returns-in-Some-clause-missing
+returns-in-Some-clause-missing c = grind (arith, common_steps)
+
+pub returns-in-Err-clause-missing : goal.returns-in-Err-clause-missing
+returns-in-Err-clause-missing c = grind (arith, common_steps)
+
+pub returns-in-Some-first_misplaced-clause-malformed : goal.returns-in-Some-first_misplaced-clause-malformed
+returns-in-Some-first_misplaced-clause-malformed c = grind (arith, common_steps)

@@ -1,4 +1,5 @@
-use Rattle.std.proofs.Common.{◌++◌, subst, sym, ap, ◌∙◌}
+use Rattle.std.proofs.lemmas.Grind.{common_steps}
+use Rattle.std.proofs.Common.{◌++◌, subst, sym, ap, ◌∙◌, arith}
 use Rattle.state_laws.specs.Means.{MeansAt}
 use Rattle.gossip_core.specs.Absorbing.{MeansBoth}
 use Rattle.node_cell.specs.Kept.{MeansTrail}
@@ -79,3 +80,30 @@ returns-in-Err-clause-refused g c =
     subst (λ f. RefusesMail roster log c.args.mail f) (sym c.absorb_fault.ensures)
     (refuses_mail roster log old trail c.args.mail c.summary.result.now c.delta.result.now c.in-Err.why g.met.L.LogName.sound k
     c.summary.ensures.value c.in-Err.ensures.refused)
+
+pub returns-clause-back : goal.returns-clause-back
+returns-clause-back g c = grind (arith, common_steps)
+
+pub same-mail : goal.same-mail
+same-mail g c = grind (arith, common_steps)
+
+pub invariant_of-self : goal.invariant_of-self
+invariant_of-self g c = grind (arith, common_steps)
+
+pub returns-in-Err-clause-keeps : goal.returns-in-Err-clause-keeps
+returns-in-Err-clause-keeps g c = grind (arith, common_steps)
+
+pub returns-clause-refused : goal.returns-clause-refused
+returns-clause-refused g c = grind (arith, common_steps)
+
+pub returns-clause-unchanged : goal.returns-clause-unchanged
+returns-clause-unchanged g c = grind (arith, common_steps)
+
+pub returns-clause-trail : goal.returns-clause-trail
+returns-clause-trail g c = grind (arith, common_steps)
+
+pub returns-in-Err-clause-trail : goal.returns-in-Err-clause-trail
+returns-in-Err-clause-trail g c = grind (arith, common_steps)
+
+pub returns-in-Err-clause-unchanged : goal.returns-in-Err-clause-unchanged
+returns-in-Err-clause-unchanged g c = grind (arith, common_steps)

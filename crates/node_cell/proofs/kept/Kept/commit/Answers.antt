@@ -1,4 +1,5 @@
-use Rattle.std.proofs.Common.{sym, ap, subst, IfErr}
+use Rattle.std.proofs.lemmas.Grind.{common_steps}
+use Rattle.std.proofs.Common.{sym, ap, subst, IfErr, arith}
 use Rattle.node_cell.specs.Kept.{MeansTrail}
 use Rattle.node_cell.specs.Folding.{RefusesFold}
 use Rattle.node_cell.proofs.Keeping.{final, keeps_still, refuses_fold}
@@ -31,3 +32,15 @@ returns-clause-refused g c =
           (refuses_fold roster log k.facts k.means.0 c.deref_mut.result.now.segment c.into_segment_fold.result w.in-Err.refused.fault g.met.L.LogName.sound
           k.means.1 w.in-Err.ensures.refused))
     ]
+
+pub returns-clause-commits : goal.returns-clause-commits
+returns-clause-commits g c = grind (arith, common_steps)
+
+pub new-requires : goal.new-requires
+new-requires g c = grind (arith, common_steps)
+
+pub returns-clause-unchanged : goal.returns-clause-unchanged
+returns-clause-unchanged g c = grind (arith, common_steps)
+
+pub returns-clause-back : goal.returns-clause-back
+returns-clause-back g c = grind (arith, common_steps)

@@ -1,3 +1,4 @@
+use Rattle.std.proofs.lemmas.Grind.{common_steps}
 use Rattle.std.proofs.Common.{rules, arith, ◌≡◌, ◌∙◌, ◌<◌, ◌++◌, ◌∷◌, [], length, refl, subst, sym, ap}
 use Rattle.std.specs.Prelude.{vec_len}
 use Rattle.state_laws.specs.Means.{MeansAt}
@@ -102,3 +103,21 @@ invariant_of-self-in-Err g c =
 
 pub returns-in-Memory-clause-keeps : goal.returns-in-Memory-clause-keeps
 returns-in-Memory-clause-keeps g c = invariant_of-self-in-Err g c
+
+pub returns-then-is_err-clause-unchanged : goal.returns-then-is_err-clause-unchanged
+returns-then-is_err-clause-unchanged g c = grind (arith, common_steps)
+
+pub returns-in-Memory-clause-back : goal.returns-in-Memory-clause-back
+returns-in-Memory-clause-back g c = grind (arith, common_steps)
+
+pub returns-then-len-capacity-clause-refused : goal.returns-then-len-capacity-clause-refused
+returns-then-len-capacity-clause-refused g c = grind (arith, common_steps)
+
+pub returns-then-len-capacity-clause-keeps : goal.returns-then-len-capacity-clause-keeps
+returns-then-len-capacity-clause-keeps g c = grind (arith, common_steps)
+
+pub new-requires-in-Err : goal.new-requires-in-Err
+new-requires-in-Err g c = grind (arith, common_steps)
+
+pub returns-in-Memory-clause-unchanged : goal.returns-in-Memory-clause-unchanged
+returns-in-Memory-clause-unchanged g c = grind (arith, common_steps)

@@ -1,4 +1,5 @@
-use Rattle.std.proofs.Common.{sym, refl, ap, subst, Result, Ok, ◌∙◌}
+use Rattle.std.proofs.lemmas.Grind.{common_steps}
+use Rattle.std.proofs.Common.{sym, refl, ap, subst, Result, Ok, ◌∙◌, arith}
 use Rattle.segment_core.specs.declared.answers.ReadFault.{ReadFault}
 use Rattle.state_laws.specs.Means.{MeansAt}
 use Rattle.node_cell.specs.View.{ViewData}
@@ -39,3 +40,9 @@ returns-clause-answer g c =
     ] in
     subst (λ t. TellsRead roster log t c.args.page c.args.point c.match-read.result) (ap (λ k. k.trail) c.self.view_is)
     (tells roster log c.self.inside.segment.value.segment c.self.inside.trail.items c.args.page c.args.point c.match-read.result k answer)
+
+pub returns-clause-keeps : goal.returns-clause-keeps
+returns-clause-keeps g c = grind (arith, common_steps)
+
+pub invariant_of-self : goal.invariant_of-self
+invariant_of-self g c = grind (arith, common_steps)
