@@ -1,7 +1,6 @@
 //! From a reply to an answer.
 
-ghost use Rattle.std.specs.Prelude.{◌≡◌, ℕ, IfOk, OnErr};
-ghost use Rattle.replica.specs.declared.replies.Reply.TheVariants.{Frozen};
+ghost use Rattle.std.specs.Prelude.{◌≡◌, IfOk, OnErr};
 ghost use Rattle.line_stream.specs.AnswerText.{text_of};
 ghost use Rattle.node_stream.specs.Asking.{IsInside};
 ghost use Rattle.node_stream.specs.Room.{HasRoom};
@@ -15,10 +14,17 @@ use line_stream::Answer;
 use replica::Reply;
 use std::alloc::{AllocError, Global};
 
-/// The answer line of a reply that keeps no snapshot.
-fn unfrozen(alloc: Global, window: Window, reply: &Reply) -> Result<Answer, AllocError>
+/// The answer line of a reply; `room` is for that of a snapshot which is kept.
+///
+/// Its only error is want of memory, and not for a reply to a request that has changed something.
+pub fn told(
+    alloc: Global,
+    window: Window,
+    reply: &Reply,
+    room: String,
+) -> Result<Answer, AllocError>
     requires inside { IsInside window }
-    requires other { (pieces : ℕ) → reply.now ≡ Frozen pieces → ⊥ }
+    requires room { HasRoom room }
     ensures line { IfOk result (λ a. text_of a ≡ line_of window reply.now) }
     ensures memory { OnErr result (TakesMemory reply.now) }
 {
@@ -44,7 +50,7 @@ fn unfrozen(alloc: Global, window: Window, reply: &Reply) -> Result<Answer, Allo
         Reply::Folded => Ok(Answer::Fixed("folded\n")),
         Reply::Discarded => Ok(Answer::Fixed("discarded\n")),
         Reply::Tidied => Ok(Answer::Fixed("tidied\n")),
-        Reply::Frozen { .. } => unreachable!(),
+        Reply::Frozen { pieces } => Ok(frozen(room, *pieces)),
         Reply::TooMany => Ok(Answer::Fixed("too many\n")),
         Reply::Piece { piece: told } => piece(alloc, told),
         Reply::NoSnapshot => Ok(Answer::Fixed("no snapshot\n")),
@@ -60,25 +66,5 @@ fn unfrozen(alloc: Global, window: Window, reply: &Reply) -> Result<Answer, Allo
         Reply::Next { redo } => record(alloc, redo),
         Reply::NoNext => Ok(Answer::Fixed("none\n")),
         Reply::Memory => Ok(Answer::Fixed("memory\n")),
-    }
-}
-
-/// The answer line of a reply; `room` is for that of a snapshot which is kept.
-///
-/// Its only error is want of memory, and not for a reply to a request that has changed something.
-pub fn told(
-    alloc: Global,
-    window: Window,
-    reply: &Reply,
-    room: String,
-) -> Result<Answer, AllocError>
-    requires inside { IsInside window }
-    requires room { HasRoom room }
-    ensures line { IfOk result (λ a. text_of a ≡ line_of window reply.now) }
-    ensures memory { OnErr result (TakesMemory reply.now) }
-{
-    match reply {
-        Reply::Frozen { pieces } => Ok(frozen(room, *pieces)),
-        _ => unfrozen(alloc, window, reply),
     }
 }

@@ -1,4 +1,4 @@
-//! Why a line asks for nothing, in words that `Debug` tells too: nobody prints the names of the variants.
+//! Why a line asks for nothing.
 
 ghost use Rattle.std.specs.Prelude.{◌≡◌};
 ghost use Rattle.node_stream.specs.declared.faults.LineError.TheVariants.{Memory};
@@ -9,7 +9,7 @@ use std::fmt;
 use thiserror::Error;
 
 /// Why a line asks for nothing.
-#[derive(Clone, Copy, PartialEq, Eq, Error)]
+#[derive(Clone, Copy, Debug, PartialEq, Eq, Error)]
 pub enum LineFault {
     /// It has the form of no request.
     Form,
@@ -17,12 +17,6 @@ pub enum LineFault {
     Hex,
     /// The digits stand for bytes that are no value of the kind that stands there.
     Wire(WireFault),
-}
-
-impl fmt::Debug for LineFault {
-    fn fmt<W: fmt::Write>(&self, f: &mut fmt::Formatter<W>) -> fmt::Result {
-        fmt::Display::fmt(self, f)
-    }
 }
 
 impl fmt::Display for LineFault {
@@ -36,16 +30,10 @@ impl fmt::Display for LineFault {
 }
 
 /// Why a line was not read.
-#[derive(Drop, Error)]
+#[derive(Debug, Drop, Error)]
 pub enum LineError {
     Memory,
     Fault(LineFault),
-}
-
-impl fmt::Debug for LineError {
-    fn fmt<W: fmt::Write>(&self, f: &mut fmt::Formatter<W>) -> fmt::Result {
-        fmt::Display::fmt(self, f)
-    }
 }
 
 impl fmt::Display for LineError {

@@ -1,3 +1,4 @@
+use Rattle.std.proofs.lemmas.Grind.{common_steps}
 use Rattle.std.proofs.Common.{rules, ◌≡◌, ◌∙◌, ◌+◌, ◌++◌, ◌∷◌, [], ap, sym, length, length-append, arith}
 use Rattle.front_board.specs.Seat.{IsNode}
 use Rattle.node_cell.specs.Node.{IsPassOf}
@@ -26,3 +27,42 @@ invariant_of-floor-2 g c =
           (λ k n d. (d.node ≡ k + 1) × (d.taker.intake ≡ d.intake.id) × (d.seat.board ≡ floor.board) × IsPassOf n d.pass × (d.pass.list ≡ [])) floor.inlets_fit floor.len.1 nodes inlets
           (omega (arith, e.inlet.0, index), e.inlet.1, ap (λ x. x.board) e.inlet.2 ∙ c.requires.seat, e.inlet.3, e.inlet.4);
     }
+
+pub invariant_of-floor-in-Break-branch-3 : goal.invariant_of-floor-in-Break-branch-3
+invariant_of-floor-in-Break-branch-3 g c = grind (arith, common_steps)
+
+pub invariant_of-floor-in-Break-branch-2 : goal.invariant_of-floor-in-Break-branch-2
+invariant_of-floor-in-Break-branch-2 g c = grind (arith, common_steps)
+
+pub same-seat : goal.same-seat
+same-seat g c = grind (arith, common_steps)
+
+pub push_reserved-requires-3 : goal.push_reserved-requires-3
+push_reserved-requires-3 g c = grind (arith, common_steps)
+
+pub returns-clause-board : goal.returns-clause-board
+returns-clause-board g c = grind (arith, common_steps)
+
+pub push_reserved-requires-2 : goal.push_reserved-requires-2
+push_reserved-requires-2 g c = grind (arith, common_steps)
+
+pub push_reserved-requires : goal.push_reserved-requires
+push_reserved-requires g c = grind (arith, common_steps)
+
+pub returns-clause-len : goal.returns-clause-len
+returns-clause-len g c = grind (arith, common_steps)
+
+pub invariant_of-floor-in-Break-branch-4 : goal.invariant_of-floor-in-Break-branch-4
+invariant_of-floor-in-Break-branch-4 g c = grind (arith, common_steps)
+
+pub returns-in_err-reserve-3-clause-board : goal.returns-in_err-reserve-3-clause-board
+returns-in_err-reserve-3-clause-board g c = grind (arith, common_steps)
+
+pub returns-in_err-stand-clause-board : goal.returns-in_err-stand-clause-board
+returns-in_err-stand-clause-board g c = grind (arith, common_steps)
+
+pub overflow_add-number : goal.overflow_add-number
+overflow_add-number g c = grind (arith, common_steps)
+
+pub invariant_of-floor : goal.invariant_of-floor
+invariant_of-floor g c = grind (arith, common_steps)

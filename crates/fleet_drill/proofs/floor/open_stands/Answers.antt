@@ -1,3 +1,4 @@
+use Rattle.std.proofs.lemmas.Grind.{common_steps}
 use Rattle.std.proofs.Common.{◌≡◌, ◌∙◌, ap, sym, length, arith, drop}
 use Rattle.std.specs.Prelude.{replicate}
 use Rattle.std.proofs.lemmas.Option.{slice_get_within}
@@ -40,3 +41,6 @@ loop-seat-preserved g c =
       within = omega (arith, len, within, size);
       board = c.add_stand.ensures.board ∙ i.board;
     }
+
+pub returns : goal.returns
+returns g c = grind (arith, common_steps)

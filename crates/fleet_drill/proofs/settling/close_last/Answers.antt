@@ -1,3 +1,4 @@
+use Rattle.std.proofs.lemmas.Grind.{common_steps}
 use Rattle.std.proofs.Common.{◌≡◌, ◌∙◌, ◌++◌, ap, subst, length, length-append, arith, Some, is_some, true, ◌∷◌, []}
 use Rattle.std.specs.Prelude.{slice_get}
 use Rattle.front_board.specs.Seat.{IsNode}
@@ -49,3 +50,21 @@ close_one-requires-clause-list g c =
     let last = subst (λ n. slice_get (c.take_last-list.new.items.items ++ c.take_last-list.result ∷ []) n ≡ Some c.take_last-list.result) same (last_at left list) in
     let there = slice_as worked.answers.items (c.take_last-list.new.items.items ++ c.take_last-list.result ∷ []) (length c.take_last-node.new.items.items) list c.take_last-list.ensures last in
     ap (λ x. x.list) p.2 ∙ (less.1.1 p.0 p.1).1 list there
+
+pub invariant_of-worked-clause-len : goal.invariant_of-worked-clause-len
+invariant_of-worked-clause-len g c = grind (arith, common_steps)
+
+pub returns-in_err-reserve-clause-closed : goal.returns-in_err-reserve-clause-closed
+returns-in_err-reserve-clause-closed g c = grind (arith, common_steps)
+
+pub returns-clause-left : goal.returns-clause-left
+returns-clause-left g c = grind (arith, common_steps)
+
+pub returns-in_err-close_one-clause-refusals : goal.returns-in_err-close_one-clause-refusals
+returns-in_err-close_one-clause-refusals g c = grind (arith, common_steps)
+
+pub returns-clause-closed : goal.returns-clause-closed
+returns-clause-closed g c = grind (arith, common_steps)
+
+pub returns-clause-refusals : goal.returns-clause-refusals
+returns-clause-refusals g c = grind (arith, common_steps)

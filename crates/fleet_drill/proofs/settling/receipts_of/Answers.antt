@@ -1,3 +1,4 @@
+use Rattle.std.proofs.lemmas.Grind.{common_steps}
 use Rattle.std.proofs.Common.{◌∙◌, ◌∷◌, ap, arith, length}
 use Rattle.node_threads.specs.Work.{receipts_in}
 use Rattle.fleet_drill.proofs.Receipts.{one_receipt, one_refusal, all_receipts}
@@ -40,3 +41,9 @@ pub returns : goal.returns
 returns g c =
     let i = c.loop-answer.invariant in
     all_receipts c.loop-answer.receipts.items c.loop-answer.answer-iterator.rest.items (receipts_in c.args.answers.items) i.all (i.fits ∙ c.in-None.ensures.steps.0)
+
+pub returns-in_err-push-in-Ok : goal.returns-in_err-push-in-Ok
+returns-in_err-push-in-Ok g c = grind (arith, common_steps)
+
+pub returns-then-eq : goal.returns-then-eq
+returns-then-eq g c = grind (arith, common_steps)
