@@ -1,5 +1,4 @@
-use Rattle.std.proofs.lemmas.Grind.{common_steps}
-use Rattle.std.proofs.Common.{◌-◌, arith}
+use Rattle.std.proofs.Common.{◌-◌}
 use Rattle.front_board.specs.Seat.{IsNode}
 use Rattle.node_threads.proofs.Work.{answered_none}
 use Rattle.node_threads.proofs.Lists.{all_at}
@@ -10,18 +9,3 @@ returns-in_default-clause-answered g c = answered_none _ _ _ c.requires.none
 
 pub drain_all-halt-requires-clause-node : goal.drain_all-halt-requires-clause-node
 drain_all-halt-requires-clause-node g c = all_at c.args.nodes.now (c.args.hold.node - 1) c.in-Some.node.now (λ n. IsNode c.args.board.now.words n.number) c.requires.nodes c.in-Some.ensures.1
-
-pub returns-clause-halt : goal.returns-clause-halt
-returns-clause-halt g c = grind (arith, common_steps)
-
-pub returns-clause-count : goal.returns-clause-count
-returns-clause-count g c = grind (arith, common_steps)
-
-pub returns-clause-seat : goal.returns-clause-seat
-returns-clause-seat g c = grind (arith, common_steps)
-
-pub returns-clause-node : goal.returns-clause-node
-returns-clause-node g c = grind (arith, common_steps)
-
-pub returns-clause-answered : goal.returns-clause-answered
-returns-clause-answered g c = grind (arith, common_steps)

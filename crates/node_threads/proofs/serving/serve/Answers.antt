@@ -1,5 +1,4 @@
-use Rattle.std.proofs.lemmas.Grind.{common_steps}
-use Rattle.std.proofs.Common.{◌≡◌, ◌∙◌, sym, ap, subst, ◌-◌, length, Some, arith}
+use Rattle.std.proofs.Common.{◌≡◌, ◌∙◌, sym, ap, subst, ◌-◌, length, Some}
 use Rattle.std.specs.Prelude.{slice_get}
 use Rattle.node_cell.specs.Node.{IsPassOf}
 use Rattle.node_threads.specs.Work.{Names, NamesItem}
@@ -105,24 +104,3 @@ returns-clause-len g c =
     let whole = c.assemble-inlets.ensures.len in
     let back = ran.1 ∙ c.split-intakes.ensures.len.1 in
     (ran.0, whole.0 ∙ back, whole.1 ∙ back)
-
-pub returns-in-Err-clause-len : goal.returns-in-Err-clause-len
-returns-in-Err-clause-len g c = grind (arith, common_steps)
-
-pub returns-in-Err-clause-feeds : goal.returns-in-Err-clause-feeds
-returns-in-Err-clause-feeds g c = grind (arith, common_steps)
-
-pub assemble-inlets-requires-clause-len : goal.assemble-inlets-requires-clause-len
-assemble-inlets-requires-clause-len g c = grind (arith, common_steps)
-
-pub returns-in_default-clause-err : goal.returns-in_default-clause-err
-returns-in_default-clause-err g c = grind (arith, common_steps)
-
-pub run_in_scope-requires-clause-intakes : goal.run_in_scope-requires-clause-intakes
-run_in_scope-requires-clause-intakes g c = grind (arith, common_steps)
-
-pub returns-clause-err : goal.returns-clause-err
-returns-clause-err g c = grind (arith, common_steps)
-
-pub returns-in-Err-clause-inlets : goal.returns-in-Err-clause-inlets
-returns-in-Err-clause-inlets g c = grind (arith, common_steps)
