@@ -44,11 +44,11 @@ def kit():
 RT = kit()
 
 
-def crates():
+def crates(root=ROOT):
     RT.rtlib.Crate = RT.Crate
-    RT.Crate.allowed = RT.handles_of(str(ROOT))
+    RT.Crate.allowed = RT.handles_of(str(root))
     RT.rtlib.guarded()
-    return RT.rtlib.crates_below(str(ROOT))
+    return RT.rtlib.crates_below(str(root))
 
 
 # Edits, and which of them share a check
@@ -448,6 +448,14 @@ def recorded():
     return dict(it.split() for it in TRIED.read_text().splitlines()) if TRIED.exists() else {}
 
 
+def record(known, results, listed):
+    """Writes the sums that are known of the crates that have edits, and those of the crates whose edits were now all refused."""
+    tried = {crate.name: sum_of(crate) for crate, (_, failed) in results.items() if not failed}
+    left = {name: known[name] for name in known.keys() - {it.name for it in results}}
+    names = {it.name for it in listed}
+    TRIED.write_text("".join(f"{name} {of}\n" for name, of in sorted({**left, **tried}.items()) if name in names))
+
+
 def is_turn(place, commit):
     """Whether the crate at a place of the list is tried at this commit whatever its sum says."""
     number = int(commit[:8], 16) if re.fullmatch("[0-9a-f]{8,}", commit) else 0
@@ -494,13 +502,8 @@ def main(words):
     chosen = list(due(listed, known, given.at)) if given.due else listed
     chosen = [it for it in chosen if not given.crates or it.name in given.crates]
     results = try_all(chosen, given.built)
-    for crate, (_, failed) in results.items():
-        known.pop(crate.name, None)
-        if not failed:
-            known[crate.name] = sum_of(crate)
     if given.record:
-        names = sorted(known.keys() & {it.name for it in listed})
-        TRIED.write_text("".join(f"{name} {known[name]}\n" for name in names))
+        record(known, results, listed)
     passed, failed = (sum(it[place] for it in results.values()) for place in (0, 1))
     print(f"{passed} passed, {failed} failed")
     return 1 if failed else 0
