@@ -14,7 +14,7 @@ from unittest import mock
 import edits_beside
 import wrong_bodies
 
-PLENTY, LITTLE = 10**12, 2 * edits_beside.CHECK_MEMORY
+PLENTY, FOR_ONE, FOR_NONE = 10**12, 2 * edits_beside.CHECK_MEMORY, edits_beside.CHECK_MEMORY
 
 
 class Crate:
@@ -86,11 +86,21 @@ def takes_half_of_the_processors_beside_proofs_and_all_behind_them():
         return is_half and is_all and {it.name: result for it, result in edits.results.items()} == dict.fromkeys("abcde", (1, 0))
 
 
-def leaves_memory_to_a_proof_and_tries_one_by_one_behind_them():
-    with trying(Crate("a"), Crate("b"), free=LITTLE) as (edits, tries):
+def leaves_memory_to_a_proof():
+    with trying(Crate("a"), Crate("b"), free=FOR_ONE) as (edits, tries):
         waits = tries.are()
         tries.may_end.set()
         return waits and sorted(it.name for it in edits.ended(True)) == ["a", "b"]
+
+
+def tries_one_by_one_where_memory_is_wanting_behind_the_proofs():
+    with trying(Crate("a"), Crate("b"), free=FOR_NONE) as (edits, tries):
+        ending = threading.Thread(target=edits.ended, args=(True,))
+        ending.start()
+        is_one = tries.are("a")
+        tries.may_end.set()
+        ending.join(20)
+        return is_one and tries.are("a", "b")
 
 
 def waits_for_all_proofs_where_memory_is_short():
@@ -124,7 +134,8 @@ def tells_of_a_try_that_breaks_down():
 TESTS = (
     begins_once_the_libraries_are_proved,
     takes_half_of_the_processors_beside_proofs_and_all_behind_them,
-    leaves_memory_to_a_proof_and_tries_one_by_one_behind_them,
+    leaves_memory_to_a_proof,
+    tries_one_by_one_where_memory_is_wanting_behind_the_proofs,
     waits_for_all_proofs_where_memory_is_short,
     begins_with_nothing_more_behind_a_proof_that_failed,
     tells_of_a_try_that_breaks_down,

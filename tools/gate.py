@@ -21,6 +21,7 @@ import archive_outside
 import build_archive
 import documents
 import edits_beside
+import edits_beside_tests
 import embedding_outside
 import fleet_script
 import gate_time
@@ -159,7 +160,7 @@ def main():
         print(f"{BY_RATTLE.name} is not there: Rattle's own compiler built no program, and what it would build is not tested")
     tests = (
         *(node_outside.tests, archive_outside.tests, embedding_outside.tests, refused_rows.tests),
-        *(wrong_bodies_tests.tests, waiting_model.tests, fleet_script.tests, documents.documents),
+        *(wrong_bodies_tests.tests, edits_beside_tests.tests, waiting_model.tests, fleet_script.tests, documents.documents),
     )
     for more_passed, more_failed in (*map(outside.outside, programs), hostile.judged(programs[0]), *(test() for test in tests)):
         passed, failed = passed + more_passed, failed + more_failed
