@@ -75,8 +75,8 @@ class EditsBeside:
         return None
 
     def may_try(self, crate):
-        """Whether the libraries below a crate stand, and there are a processor and memory for it."""
-        if any(it.name not in self.proved for it in crate.below()):
+        """Whether the libraries below a crate stand, as all do behind proofs that ended well, and there are a processor and memory for it."""
+        if self.is_beside and any(it.name not in self.proved for it in crate.below()):
             return False
         if not self.is_beside and not self.running:
             return True

@@ -110,6 +110,13 @@ def waits_for_all_proofs_where_memory_is_short():
         return waits and [it.name for it in edits.ended(True)] == ["a"]
 
 
+def waits_for_no_name_behind_the_proofs():
+    with trying(Crate("high", Crate("low"))) as (edits, tries):
+        waits = tries.are()
+        threading.Thread(target=edits.ended, args=(True,)).start()
+        return waits and tries.are("high")
+
+
 def begins_with_nothing_more_behind_a_proof_that_failed():
     with trying(Crate("a"), Crate("high", Crate("low"))) as (edits, tries):
         is_begun = tries.are("a")
@@ -137,6 +144,7 @@ TESTS = (
     leaves_memory_to_a_proof,
     tries_one_by_one_where_memory_is_wanting_behind_the_proofs,
     waits_for_all_proofs_where_memory_is_short,
+    waits_for_no_name_behind_the_proofs,
     begins_with_nothing_more_behind_a_proof_that_failed,
     tells_of_a_try_that_breaks_down,
 )
