@@ -1,7 +1,7 @@
 #!/usr/bin/env python3
 """Measures how fast threads deliver the facts of a log to a node, beside a mutex round the same segment.
 
-The program is the crate `node_rows`, proved and built over this tree's `node_cell`, of whose input the third section is used. It makes
+The program is the crate `thread_rows`, proved and built over this tree's `node_cell`, of whose input the first section is used. It makes
 the facts of a log, deals them to threads and lets those deliver them, each fact once. A round has a run that delivers to a node, one
 to the mutex, and one that makes and deals the facts and lets them go, whose wall and processor seconds are taken off those of both.
 The medians of the rounds are printed.
@@ -18,25 +18,23 @@ import time
 ROOT = pathlib.Path(__file__).resolve().parent.parent
 # the whole log of the program
 FACTS = 2_097_154
-# ends of the sections before that of threads
-SKIPPED = "==\n==\n"
 
 
 def built():
     """The program, over the libraries that are built already."""
-    crate = ROOT / "crates/node_rows"
+    crate = ROOT / "crates/thread_rows"
     subprocess.run(["rt", "run"], cwd=crate, stdin=subprocess.DEVNULL, stdout=sys.stderr, check=True)
-    return crate / "out/node_rows"
+    return crate / "out/thread_rows"
 
 
 def measured(program, taker, threads, facts):
     """Wall and processor seconds of a run."""
     before, start = resource.getrusage(resource.RUSAGE_CHILDREN), time.perf_counter()
     line = f"deliver {taker} all {threads} {facts}"
-    answer = subprocess.run([program], input=f"{SKIPPED}{line}\n".encode(), stdout=subprocess.PIPE, check=True).stdout.decode()
+    answer = subprocess.run([program], input=f"{line}\n".encode(), stdout=subprocess.PIPE, check=True).stdout.decode()
     wall, after = time.perf_counter() - start, resource.getrusage(resource.RUSAGE_CHILDREN)
     wanted = 0 if taker == "none" else facts
-    if answer != f"{SKIPPED}{line}: {wanted} accepted\n":
+    if answer != f"{line}: {wanted} accepted\n":
         sys.exit(f"{taker}, {threads} threads: {answer.strip()}, not {wanted}")
     return wall, after.ru_utime + after.ru_stime - before.ru_utime - before.ru_stime
 

@@ -1,8 +1,8 @@
 #!/usr/bin/env python3
 """Measures how threads wait at a node's lock, beside a mutex round the same work.
 
-The program is the crate `node_rows`, proved and built over this tree's `node_lock`, of whose input the third section is used. Each task
-is run a few times at each number of threads, with the lock and with the mutex, and the medians of the wall and processor seconds are
+The program is the crate `thread_rows`, proved and built over this tree's `node_lock`, of whose input the first section is used. Each
+task is run a few times at each number of threads, with the lock and with the mutex, and the medians of the wall and processor seconds are
 printed.
 """
 
@@ -25,9 +25,9 @@ TASKS = [
 
 def built():
     """The program, over the libraries that are built already."""
-    crate = ROOT / "crates/node_rows"
+    crate = ROOT / "crates/thread_rows"
     subprocess.run(["rt", "run"], cwd=crate, stdin=subprocess.DEVNULL, stdout=sys.stderr, check=True)
-    return crate / "out/node_rows"
+    return crate / "out/thread_rows"
 
 
 def measured(program, line):
@@ -53,7 +53,7 @@ def main(words):
     print("| task | threads | the lock, wall / processor seconds | a mutex |\n|---|---|---|---|")
     for name, kind, turns, rounds in TASKS:
         for threads in given.threads:
-            told = [median(program, given.runs, f"==\n==\nturns {lock} {kind} {threads} {turns} {rounds}\n") for lock in ("lock", "mutex")]
+            told = [median(program, given.runs, f"turns {lock} {kind} {threads} {turns} {rounds}\n") for lock in ("lock", "mutex")]
             print(f"| {name} | {threads} | {told[0]} | {told[1]} |", flush=True)
 
 

@@ -15,7 +15,7 @@ ROOT = pathlib.Path(__file__).resolve().parent.parent
 sys.path.insert(0, str(ROOT / "tools/fail_alloc"))
 import sweep
 
-SECTIONS = (("call_rows", "messages"),)
+SECTIONS = (("call_rows", "messages"), ("call_rows", "nodes and boards"))
 PROGRAMS = tuple(dict.fromkeys(name for name, _ in SECTIONS))
 END = b"== end of "
 MOST = 150  # how many allocations of a section are refused, spread evenly over its run

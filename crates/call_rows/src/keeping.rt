@@ -1,5 +1,6 @@
 //! How a bench keeps what calls make. Each is stated once for all types, since a function that has a large value in its hands proves all
 //! that the value is made of.
+ghost use Rattle.std.specs.Prelude.{◌≡◌, Ok, IfOk};
 
 use crate::answer::Answer;
 use redo_core::Refused;
@@ -30,7 +31,9 @@ pub fn done<E: Drop>(outcome: Result<(), E>) -> Result<Answer, AllocError> {
 }
 
 /// What was made, or why it was not: the value that came back is dropped.
-pub fn or_fault<T, V: Drop, F>(made: Result<T, Refused<V, F>>) -> Result<T, F> {
+pub fn or_fault<T, V: Drop, F>(made: Result<T, Refused<V, F>>) -> Result<T, F>
+    ensures { IfOk result (λ value. made ≡ Ok value) }
+{
     match made {
         Ok(made) => Ok(made),
         Err(refused) => Err(refused.fault),

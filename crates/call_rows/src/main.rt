@@ -5,22 +5,34 @@
 #![tactic(auto)]
 
 mod answer;
+mod common;
 mod fact_calls;
 mod given;
+mod intake_calls;
 mod keeping;
 mod message_calls;
+mod node_calls;
 mod outcomes;
 mod row;
 mod segment_calls;
 mod store_calls;
 
-use crate::answer::{Answer, print};
+use crate::answer::print;
+use crate::intake_calls::diary::{Diaries, open_diaries};
+use crate::intake_calls::lane::{Lane, open_lane};
 use crate::keeping::boxed;
+use crate::node_calls::bench::new_bench as new_nodes;
 use crate::row::Row;
+use drill_log::Drill;
 use redo_core::Roster;
 use row_words::ends_section;
 use std::alloc::{AllocError, Global};
 use std::io;
+use std::sync::Wait;
+use std::thread::Threads;
+
+/// The log of a small drill, of which the rows of nodes and intakes speak.
+pub type Log = Drill<64>;
 
 /// What the calls of each section are made on.
 #[derive(Drop)]
@@ -29,6 +41,9 @@ struct Benches {
     stores: Box<store_calls::Bench>,
     segments: Box<segment_calls::Bench>,
     messages: Box<message_calls::Bench>,
+    nodes: Box<node_calls::bench::Bench>,
+    lane: Box<Lane>,
+    diaries: Box<Diaries>,
 }
 
 #[derive(Clone, Copy)]
@@ -37,6 +52,8 @@ enum Section {
     Stores,
     Segments,
     Messages,
+    Nodes,
+    Intakes,
 }
 
 impl Section {
@@ -45,7 +62,9 @@ impl Section {
         match self {
             Section::Facts => Section::Stores,
             Section::Stores => Section::Segments,
-            Section::Segments | Section::Messages => Section::Messages,
+            Section::Segments => Section::Messages,
+            Section::Messages => Section::Nodes,
+            Section::Nodes | Section::Intakes => Section::Intakes,
         }
     }
 }
@@ -56,37 +75,58 @@ fn new_benches(alloc: Global, roster: Roster) -> Result<Benches, AllocError> {
         stores: boxed(alloc, store_calls::new_bench(alloc, roster))?,
         segments: boxed(alloc, segment_calls::new_bench(alloc, roster))?,
         messages: boxed(alloc, message_calls::new_bench(alloc, roster))?,
+        nodes: new_nodes(alloc)?,
+        lane: open_lane(alloc, 1)?,
+        diaries: open_diaries(alloc)?,
     })
 }
 
-fn called(benches: &mut Benches, section: Section, row: Row) -> Result<Answer, AllocError> {
-    match section {
-        Section::Facts => fact_calls::answer(&mut benches.facts, row),
-        Section::Stores => store_calls::answer(&mut benches.stores, row),
-        Section::Segments => segment_calls::answer(&mut benches.segments, row),
-        Section::Messages => message_calls::answer(&mut benches.messages, row),
-    }
+// The calls of nodes and intakes print what they answer, those of the other sections give it.
+fn print_call<R: Threads + Wait + Sync>(
+    rt: &R,
+    host: &HostRuntime,
+    benches: &mut Benches,
+    section: Section,
+    line: &str,
+) -> io::Result<()> {
+    let row = Row::of(host.alloc(), line);
+    let printed = row_words::Row::of(host, line);
+    let answer = match section {
+        Section::Facts => fact_calls::answer(&mut benches.facts, row)?,
+        Section::Stores => store_calls::answer(&mut benches.stores, row)?,
+        Section::Segments => segment_calls::answer(&mut benches.segments, row)?,
+        Section::Messages => message_calls::answer(&mut benches.messages, row)?,
+        Section::Nodes => return node_calls::bench::answer(rt, &mut benches.nodes, &printed),
+        Section::Intakes => {
+            return intake_calls::answer(rt, &mut benches.lane, &mut benches.diaries, &printed);
+        }
+    };
+    print(host, line, &answer)
 }
 
-fn print_row(
-    rt: &HostRuntime,
+fn print_row<R: Threads + Wait + Sync>(
+    rt: &R,
+    host: &HostRuntime,
     benches: &mut Benches,
     section: Section,
     line: &str,
 ) -> io::Result<()> {
     if line.starts_with('#') || ends_section(line) {
-        return println!(rt; "{line}");
+        return println!(host; "{line}");
     }
-    let answer = called(benches, section, Row::of(rt.alloc(), line))?;
-    print(rt, line, &answer)
+    print_call(rt, host, benches, section, line)
 }
 
 // One loop for all sections: a loop over the lines takes five seconds to prove.
-fn print_rows(rt: &HostRuntime, benches: &mut Benches) -> io::Result<()> {
+fn print_rows<R: Threads + Wait + Sync>(
+    rt: &R,
+    host: &HostRuntime,
+    benches: &mut Benches,
+) -> io::Result<()> {
     let mut section = Section::Facts;
-    for line in rt.lines(rt.alloc()) {
+    for line in host.lines(host.alloc()) {
         let line = line?;
-        print_row(rt, benches, section, line.as_str())?;
+        print_row(rt, host, benches, section, line.as_str())?;
         if ends_section(line.as_str()) {
             section = section.next();
         }
@@ -96,7 +136,7 @@ fn print_rows(rt: &HostRuntime, benches: &mut Benches) -> io::Result<()> {
 
 fn main(rt: HostRuntime) -> io::Result<()> {
     match Roster::new(1) {
-        Ok(roster) => print_rows(&rt, &mut new_benches(rt.alloc(), roster)?),
+        Ok(roster) => print_rows(&rt, &rt, &mut new_benches(rt.alloc(), roster)?),
         Err(_) => Ok(()),
     }
 }

@@ -79,6 +79,15 @@ pub fn long(number: u64) -> u32 {
     }
 }
 
+/// The number of the first eight bytes.
+pub fn first_number(bytes: &[u8]) -> u64 {
+    let mut number = 0u64;
+    for byte in bytes.iter().take(8) {
+        number = number.wrapping_mul(256).wrapping_add(u64::from(*byte));
+    }
+    number
+}
+
 /// A place in a list, or a count.
 pub fn size(number: u64) -> usize {
     number as usize
