@@ -1,4 +1,6 @@
 use redo_core::Key;
+use row_words::Row;
+use std::alloc::{AllocError, Global};
 use std::fmt::Debug;
 use std::io;
 
@@ -23,28 +25,45 @@ pub enum Answer {
     Text(String),
 }
 
-fn print_word(rt: &HostRuntime, line: &str, word: &str) -> io::Result<()> {
-    println!(rt; "{line}: {word}")
+impl Answer {
+    /// An answer of one part.
+    pub fn one<T: Debug>(alloc: Global, kind: &str, part: &T) -> Result<Answer, AllocError> {
+        format!(in alloc; "{kind}({part:?})").map(Answer::Text)
+    }
+
+    /// An answer whose parts are a tuple.
+    pub fn parts<T: Debug>(alloc: Global, kind: &str, parts: &T) -> Result<Answer, AllocError> {
+        format!(in alloc; "{kind}{parts:?}").map(Answer::Text)
+    }
+
+    /// Why a call did nothing, where it was not for want of memory.
+    pub fn refused<F: Debug + PartialEq>(
+        alloc: Global,
+        kind: &str,
+        fault: &F,
+        memory: &F,
+    ) -> Result<Answer, AllocError> {
+        if fault == memory {
+            return Err(AllocError);
+        }
+        Answer::one(alloc, kind, fault)
+    }
 }
 
-fn print_one<T: Debug>(rt: &HostRuntime, line: &str, kind: &str, part: &T) -> io::Result<()> {
-    println!(rt; "{line}: {kind}({part:?})")
-}
-
-/// Prints what the call of a line answers.
-pub fn print(rt: &HostRuntime, line: &str, answer: &Answer) -> io::Result<()> {
+/// Prints what the call of a row answers.
+pub fn print(row: &Row, answer: &Answer) -> io::Result<()> {
     match answer {
-        Answer::Unknown => print_word(rt, line, "?"),
-        Answer::Word(word) => print_word(rt, line, word),
-        Answer::Number(number) => print_one(rt, line, "Number", number),
-        Answer::Numbered(word, number) => print_one(rt, line, word, number),
-        Answer::Flag(flag) => print_one(rt, line, "Flag", flag),
-        Answer::Found(found) => print_one(rt, line, "Found", found),
-        Answer::Key(key) => print_one(rt, line, "Key", key),
-        Answer::Page(page) => print_one(rt, line, "Page", page),
-        Answer::Record(record) => print_one(rt, line, "Record", record),
-        Answer::Numbers(numbers) => print_one(rt, line, "Numbers", numbers),
-        Answer::Keys(keys) => print_one(rt, line, "Keys", keys),
-        Answer::Text(text) => print_word(rt, line, text),
+        Answer::Unknown => row.said("?"),
+        Answer::Word(word) => row.said(word),
+        Answer::Number(number) => row.one("Number", number),
+        Answer::Numbered(word, number) => row.one(word, number),
+        Answer::Flag(flag) => row.one("Flag", flag),
+        Answer::Found(found) => row.one("Found", found),
+        Answer::Key(key) => row.one("Key", key),
+        Answer::Page(page) => row.one("Page", page),
+        Answer::Record(record) => row.one("Record", record),
+        Answer::Numbers(numbers) => row.one("Numbers", numbers),
+        Answer::Keys(keys) => row.one("Keys", keys),
+        Answer::Text(text) => row.said(text),
     }
 }

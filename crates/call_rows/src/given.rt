@@ -2,10 +2,10 @@
 
 use crate::answer::Answer;
 use crate::keeping::add;
-use crate::row::Row;
 use bytes::BytesMut;
 use page_base::BaseImage;
-use redo_core::{Advance, Cut, Fact, Page, Patch, Record, SharedPage, Write};
+use redo_core::{Advance, Cut, Fact, Key, Page, Patch, Record, SharedPage, Write};
+use row_words::Row;
 use script_text::read_fact;
 use std::alloc::{AllocError, Global};
 
@@ -24,7 +24,7 @@ pub fn patch(alloc: Global, offset: u16, byte: u8, times: u8) -> Result<Patch, A
 }
 
 /// A record of one write: epoch, number, segment backlink, page, block backlink, offset, byte, and how many times the byte stands.
-fn record(row: Row, init: bool) -> Result<Option<Fact>, AllocError> {
+fn record(row: &Row, init: bool) -> Result<Option<Fact>, AllocError> {
     let patch = patch(row.alloc, row.short(5), row.byte(6), row.byte(7))?;
     let (epoch, number, back) = (row.short(0), row.number(1), row.number(2));
     let (page, block_back) = (row.short(3), row.number(4));
@@ -34,16 +34,24 @@ fn record(row: Row, init: bool) -> Result<Option<Fact>, AllocError> {
     Ok(made.map(Fact::Record))
 }
 
-pub fn cut(row: Row) -> Option<Cut> {
+/// The key that the row names first.
+pub fn key(row: &Row) -> Key {
+    Key {
+        epoch: row.short(0),
+        number: row.number(1),
+    }
+}
+
+pub fn cut(row: &Row) -> Option<Cut> {
     Cut::new(row.short(0), row.number(1), row.number(2)).ok()
 }
 
-pub fn advance(row: Row) -> Option<Advance> {
+pub fn advance(row: &Row) -> Option<Advance> {
     Advance::of_reader(row.byte(0), row.short(1), row.number(2)).ok()
 }
 
 /// The fact that a name and the row's numbers spell, or None where they spell none.
-pub fn fact(row: Row, name: &str) -> Result<Option<Fact>, AllocError> {
+pub fn fact(row: &Row, name: &str) -> Result<Option<Fact>, AllocError> {
     match name {
         "record" => record(row, false),
         "record_init" => record(row, true),
@@ -62,7 +70,7 @@ fn shared_page_of(alloc: Global, byte: u8) -> Result<SharedPage, AllocError> {
 }
 
 /// Notes an image of a row: its page, its version and its byte.
-pub fn give(given: &mut Vec<(u16, u64, u8)>, row: Row) -> Result<Answer, AllocError> {
+pub fn give(given: &mut Vec<(u16, u64, u8)>, row: &Row) -> Result<Answer, AllocError> {
     given.push((row.short(0), row.number(1), row.byte(2)))?;
     Ok(Answer::Word("Done"))
 }

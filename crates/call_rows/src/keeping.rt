@@ -3,11 +3,12 @@
 ghost use Rattle.std.specs.Prelude.{◌≡◌, Ok, IfOk};
 
 use crate::answer::Answer;
+use crate::common::in_box;
 use redo_core::Refused;
 use std::alloc::{AllocError, Global};
 
 pub fn boxed<T: Drop>(alloc: Global, made: Result<T, AllocError>) -> Result<Box<T>, AllocError> {
-    Ok(Box::new(alloc, made?)?)
+    in_box(alloc, made?)
 }
 
 /// Puts what was made in place of what is kept.

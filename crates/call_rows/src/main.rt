@@ -13,7 +13,6 @@ mod keeping;
 mod message_calls;
 mod node_calls;
 mod outcomes;
-mod row;
 mod segment_calls;
 mod store_calls;
 
@@ -22,10 +21,9 @@ use crate::intake_calls::diary::{Diaries, open_diaries};
 use crate::intake_calls::lane::{Lane, open_lane};
 use crate::keeping::boxed;
 use crate::node_calls::bench::new_bench as new_nodes;
-use crate::row::Row;
 use drill_log::Drill;
 use redo_core::Roster;
-use row_words::ends_section;
+use row_words::{Row, ends_section};
 use std::alloc::{AllocError, Global};
 use std::io;
 use std::sync::Wait;
@@ -84,24 +82,21 @@ fn new_benches(alloc: Global, roster: Roster) -> Result<Benches, AllocError> {
 // The calls of nodes and intakes print what they answer, those of the other sections give it.
 fn print_call<R: Threads + Wait + Sync>(
     rt: &R,
-    host: &HostRuntime,
     benches: &mut Benches,
     section: Section,
-    line: &str,
+    row: &Row,
 ) -> io::Result<()> {
-    let row = Row::of(host.alloc(), line);
-    let printed = row_words::Row::of(host, line);
     let answer = match section {
         Section::Facts => fact_calls::answer(&mut benches.facts, row)?,
         Section::Stores => store_calls::answer(&mut benches.stores, row)?,
         Section::Segments => segment_calls::answer(&mut benches.segments, row)?,
         Section::Messages => message_calls::answer(&mut benches.messages, row)?,
-        Section::Nodes => return node_calls::bench::answer(rt, &mut benches.nodes, &printed),
+        Section::Nodes => return node_calls::bench::answer(rt, &mut benches.nodes, row),
         Section::Intakes => {
-            return intake_calls::answer(rt, &mut benches.lane, &mut benches.diaries, &printed);
+            return intake_calls::answer(rt, &mut benches.lane, &mut benches.diaries, row);
         }
     };
-    print(host, line, &answer)
+    print(row, &answer)
 }
 
 fn print_row<R: Threads + Wait + Sync>(
@@ -114,7 +109,7 @@ fn print_row<R: Threads + Wait + Sync>(
     if line.starts_with('#') || ends_section(line) {
         return println!(host; "{line}");
     }
-    print_call(rt, host, benches, section, line)
+    print_call(rt, benches, section, &Row::of(host, line))
 }
 
 // One loop for all sections: a loop over the lines takes five seconds to prove.

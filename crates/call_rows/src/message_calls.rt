@@ -13,11 +13,11 @@ mod segments;
 use crate::answer::Answer;
 use crate::message_calls::bench::call;
 pub use crate::message_calls::bench::{Bench, new_bench};
-use crate::row::Row;
+use row_words::Row;
 use std::alloc::AllocError;
 
 /// What a call answers. Bytes that no memory was found for are unknown too.
-pub fn answer(bench: &mut Bench, row: Row) -> Result<Answer, AllocError> {
+pub fn answer(bench: &mut Bench, row: &Row) -> Result<Answer, AllocError> {
     match call(bench, row) {
         Ok(Answer::Unknown) | Err(AllocError) => call(bench, row),
         answered => answered,

@@ -2,22 +2,22 @@
 
 use crate::answer::Answer;
 use crate::keeping::or_fault;
-use crate::row::Row;
 use redo_core::{Fact, Page, Record, Refused};
+use row_words::Row;
 use segment_core::{CommitFault, Folded, ReadFault, Refusal, Segment, Taken};
 use segment_join::same;
 use std::alloc::{AllocError, Global};
 
-pub fn refused(row: Row, why: Refusal) -> Result<Answer, AllocError> {
-    row.refused("Refused", &why, &Refusal::Memory)
+pub fn refused(row: &Row, why: Refusal) -> Result<Answer, AllocError> {
+    Answer::refused(row.alloc, "Refused", &why, &Refusal::Memory)
 }
 
-pub fn unread(row: Row, fault: ReadFault) -> Result<Answer, AllocError> {
-    row.refused("Unread", &fault, &ReadFault::Memory)
+pub fn unread(row: &Row, fault: ReadFault) -> Result<Answer, AllocError> {
+    Answer::refused(row.alloc, "Unread", &fault, &ReadFault::Memory)
 }
 
 pub fn taken(
-    row: Row,
+    row: &Row,
     outcome: Result<Taken, Refused<Fact, Refusal>>,
 ) -> Result<Answer, AllocError> {
     match or_fault(outcome) {
@@ -28,14 +28,14 @@ pub fn taken(
 }
 
 /// The first two bytes of a page, or why it is not read.
-pub fn page(row: Row, read: Result<Page, ReadFault>) -> Result<Answer, AllocError> {
+pub fn page(row: &Row, read: Result<Page, ReadFault>) -> Result<Answer, AllocError> {
     match read {
-        Ok(page) => row.one("Bytes", &&page.bytes()[..2]),
+        Ok(page) => Answer::one(row.alloc, "Bytes", &&page.bytes()[..2]),
         Err(fault) => unread(row, fault),
     }
 }
 
-pub fn tidied(row: Row, outcome: Result<(), ReadFault>) -> Result<Answer, AllocError> {
+pub fn tidied(row: &Row, outcome: Result<(), ReadFault>) -> Result<Answer, AllocError> {
     match outcome {
         Ok(()) => Ok(Answer::Word("Done")),
         Err(fault) => unread(row, fault),
@@ -44,7 +44,7 @@ pub fn tidied(row: Row, outcome: Result<(), ReadFault>) -> Result<Answer, AllocE
 
 /// The version of a fold that came back, and why.
 pub fn committed(
-    row: Row,
+    row: &Row,
     outcome: Result<(), Refused<Folded, CommitFault>>,
 ) -> Result<Answer, AllocError> {
     match outcome {
@@ -53,14 +53,14 @@ pub fn committed(
     }
 }
 
-fn uncommitted(row: Row, refused: &Refused<Folded, CommitFault>) -> Result<Answer, AllocError> {
+fn uncommitted(row: &Row, refused: &Refused<Folded, CommitFault>) -> Result<Answer, AllocError> {
     match refused.fault {
         CommitFault::Memory => Err(AllocError),
-        fault => row.parts("Uncommitted", &(refused.value.version, fault)),
+        fault => Answer::parts(row.alloc, "Uncommitted", &(refused.value.version, fault)),
     }
 }
 
-pub fn fold(segment: &mut Segment, row: Row, page: u16) -> Result<Answer, AllocError> {
+pub fn fold(segment: &mut Segment, row: &Row, page: u16) -> Result<Answer, AllocError> {
     match segment.plan_fold(page) {
         Ok(plan) => committed(row, segment.commit_fold(plan.fold())),
         Err(fault) => unread(row, fault),
@@ -73,7 +73,7 @@ pub fn discard(segment: &mut Segment) -> Answer {
 }
 
 /// Whether two segments mean the same.
-pub fn is_same(row: Row, one: &Segment, other: &Segment) -> Result<Answer, AllocError> {
+pub fn is_same(row: &Row, one: &Segment, other: &Segment) -> Result<Answer, AllocError> {
     match same(one, other) {
         Ok(answer) => Ok(Answer::Flag(answer)),
         Err(fault) => unread(row, fault),
@@ -89,6 +89,6 @@ fn numbers_of(alloc: Global, records: &[&Record]) -> Result<Vec<u64>, AllocError
 }
 
 /// The numbers of the records that were found.
-pub fn numbers(row: Row, found: Result<Vec<&Record>, AllocError>) -> Result<Answer, AllocError> {
+pub fn numbers(row: &Row, found: Result<Vec<&Record>, AllocError>) -> Result<Answer, AllocError> {
     numbers_of(row.alloc, &found?).map(Answer::Numbers)
 }

@@ -1,4 +1,4 @@
-use crate::{number, number_or, short, size, word};
+use crate::{byte, number, number_or, short, size, word};
 use std::alloc::Global;
 use std::fmt::Debug;
 use std::io;
@@ -7,9 +7,10 @@ use std::io;
 #[derive(Clone, Copy)]
 pub struct Row<'a> {
     rt: &'a HostRuntime,
-    line: &'a str,
+    pub alloc: Global,
+    pub line: &'a str,
     pub name: &'a str,
-    words: &'a str,
+    pub words: &'a str,
 }
 
 impl<'a> Row<'a> {
@@ -17,14 +18,16 @@ impl<'a> Row<'a> {
         let (name, words) = crate::first(line);
         Row {
             rt,
+            alloc: rt.alloc(),
             line,
             name,
             words,
         }
     }
 
-    pub fn alloc(&self) -> Global {
-        self.rt.alloc()
+    /// The row that the words behind the name make.
+    pub fn behind(&self) -> Row<'a> {
+        Row::of(self.rt, self.words)
     }
 
     /// A word of the call by its place, counted from 0; an empty one where there is none.
@@ -42,7 +45,12 @@ impl<'a> Row<'a> {
         number(self.words, place)
     }
 
-    /// A page; the greatest one for a number past it.
+    /// A reader or a byte; the greatest one for a number past it.
+    pub fn byte(&self, place: usize) -> u8 {
+        byte(self.number(place))
+    }
+
+    /// A page, an epoch or a node; the greatest one for a number past it.
     pub fn short(&self, place: usize) -> u16 {
         short(self.number(place))
     }

@@ -66,7 +66,7 @@ fn deliver<R: Threads + Wait + Sync>(rt: &R, row: &Row) -> io::Result<()> {
         return row.unknown();
     }
     let facts = size(row.number_or(3, LOG_LEN as u64)).min(LOG_LEN);
-    let sum = accepted(rt, row.alloc(), row.word(0), threads as usize, facts)?;
+    let sum = accepted(rt, row.alloc, row.word(0), threads as usize, facts)?;
     row.count(sum, "accepted")
 }
 
@@ -78,7 +78,7 @@ fn turn<R: Threads + Wait + Sync>(rt: &R, row: &Row) -> io::Result<()> {
         rounds: row.number(4),
         has_holder: row.word(1) == "holder",
     };
-    let ended = take_turns(rt, row.alloc(), row.word(0), &task)?;
+    let ended = take_turns(rt, row.alloc, row.word(0), &task)?;
     row.count(ended as u64, "threads")
 }
 

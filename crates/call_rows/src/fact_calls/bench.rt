@@ -1,9 +1,9 @@
 use crate::answer::Answer;
 use crate::fact_calls::{bodies, drills, model, shapes, step_rows, wire, writing};
 use crate::given::keep_fact;
-use crate::row::Row;
 use log_law::Writer;
 use redo_core::{Fact, Roster};
+use row_words::Row;
 use std::alloc::{AllocError, Global};
 
 /// What the lines so far have left: facts, and a writer.
@@ -21,8 +21,8 @@ pub fn new_bench(alloc: Global, roster: Roster) -> Result<Bench, AllocError> {
 }
 
 /// What a line answers.
-pub fn answer(bench: &mut Bench, row: Row) -> Result<Answer, AllocError> {
-    let call = row.behind();
+pub fn answer(bench: &mut Bench, row: &Row) -> Result<Answer, AllocError> {
+    let call = &row.behind();
     match row.name {
         "clear" => {
             bench.facts.clear();

@@ -2,8 +2,8 @@
 
 use crate::answer::Answer;
 use crate::given::page_of;
-use crate::row::Row;
 use redo_core::{Body, Fact, Page, Patch, Record, Write, apply};
+use row_words::Row;
 use script_text::fact_text;
 use std::alloc::{AllocError, Global};
 
@@ -16,10 +16,10 @@ fn apply_all(facts: &[Fact], page: &mut Page) {
 }
 
 // The first four bytes of a page of ones after the records.
-fn applied(facts: &[Fact], row: Row) -> Result<Answer, AllocError> {
+fn applied(facts: &[Fact], row: &Row) -> Result<Answer, AllocError> {
     let mut page = page_of(row.alloc, 1)?;
     apply_all(facts, &mut page);
-    row.one("Bytes", &&page.copy()?.bytes()[..4])
+    Answer::one(row.alloc, "Bytes", &&page.copy()?.bytes()[..4])
 }
 
 // The places of the facts that are the same as a fact.
@@ -34,12 +34,12 @@ fn same_places(alloc: Global, facts: &[Fact], fact: &Fact) -> Result<Vec<u64>, A
 }
 
 // For each fact the places of those that are the same as it.
-fn same(facts: &[Fact], row: Row) -> Result<Answer, AllocError> {
+fn same(facts: &[Fact], row: &Row) -> Result<Answer, AllocError> {
     let mut same = Vec::new(row.alloc);
     for fact in facts {
         same.push(same_places(row.alloc, facts, fact)?)?;
     }
-    row.one("Same", &same)
+    Answer::one(row.alloc, "Same", &same)
 }
 
 fn plain_patches(alloc: Global, writes: &[Write]) -> Result<Vec<Patch>, AllocError> {
@@ -126,7 +126,7 @@ fn is_its_copies(fact: &Fact) -> Result<bool, AllocError> {
     are_one(&shared_copy(fact)?, fact)
 }
 
-pub fn answer(facts: &[Fact], row: Row) -> Result<Answer, AllocError> {
+pub fn answer(facts: &[Fact], row: &Row) -> Result<Answer, AllocError> {
     let [.., last] = facts else {
         return Ok(Answer::Unknown);
     };

@@ -1,18 +1,17 @@
 //! The answers of the plain model over the facts that were kept, beside those of the checker.
 
 use crate::answer::Answer;
-use crate::row::Row;
 use log_law::{CheckFault, check_log};
 use plain_model::{
     Position, Standing, anchor, complete_epoch, complete_point, covers, first_fault, is_alive,
     is_linked, min_point, page_at, point, points, position, same, standing,
 };
 use redo_core::{Fact, LawFault, Roster};
-use row_words::{eight, nth, size, word};
+use row_words::{Row, eight, nth, size, word};
 use std::alloc::{AllocError, Global};
 
 // The position of the first so many facts: complete epoch and point, the points, in two ways, minimum and anchor.
-fn front(facts: &[Fact], roster: Roster, row: Row) -> Result<Answer, AllocError> {
+fn front(facts: &[Fact], roster: Roster, row: &Row) -> Result<Answer, AllocError> {
     let facts = &facts[..size(row.number(1)).min(facts.len())];
     let Position {
         epoch,
@@ -22,13 +21,17 @@ fn front(facts: &[Fact], roster: Roster, row: Row) -> Result<Answer, AllocError>
         anchor,
     } = position(row.alloc, facts, roster)?;
     let points = points(row.alloc, facts, roster, complete_epoch(facts))?;
-    row.parts("Front", &(epoch, complete, own, points, min, anchor))
+    Answer::parts(
+        row.alloc,
+        "Front",
+        &(epoch, complete, own, points, min, anchor),
+    )
 }
 
 // The first two bytes of a page.
-fn beginning(facts: &[Fact], row: Row) -> Result<Answer, AllocError> {
+fn beginning(facts: &[Fact], row: &Row) -> Result<Answer, AllocError> {
     let page = page_at(row.alloc, facts, row.short(0), row.short(1), row.number(2))?;
-    row.one("Bytes", &&page.bytes()[..2])
+    Answer::one(row.alloc, "Bytes", &&page.bytes()[..2])
 }
 
 /// The first fault that the checker finds.
@@ -51,10 +54,10 @@ fn placed(fault: Option<LawFault>) -> Option<(u64, u8)> {
 }
 
 // The first fault that the model finds, and that the checker finds.
-fn faults(facts: &[Fact], roster: Roster, row: Row) -> Result<Answer, AllocError> {
+fn faults(facts: &[Fact], roster: Roster, row: &Row) -> Result<Answer, AllocError> {
     let found = placed(first_fault(facts, roster));
     let checked = placed(checked(row.alloc, facts, roster)?);
-    row.parts("Faults", &(found, checked))
+    Answer::parts(row.alloc, "Faults", &(found, checked))
 }
 
 /// The facts at places that a word lists, with commas between them.
@@ -74,21 +77,21 @@ fn put_at(list: &mut Vec<Fact>, facts: &[Fact], place: u64) -> Result<(), AllocE
 }
 
 // Whether the first list covers the second, the second the first, and whether they mean the same.
-fn compared(facts: &[Fact], roster: Roster, row: Row) -> Result<Answer, AllocError> {
+fn compared(facts: &[Fact], roster: Roster, row: &Row) -> Result<Answer, AllocError> {
     let one = facts_at(row.alloc, facts, word(row.words, 1))?;
     let two = facts_at(row.alloc, facts, word(row.words, 2))?;
     relation(&one, &two, roster, row)
 }
 
-fn relation(one: &[Fact], two: &[Fact], roster: Roster, row: Row) -> Result<Answer, AllocError> {
+fn relation(one: &[Fact], two: &[Fact], roster: Roster, row: &Row) -> Result<Answer, AllocError> {
     let there = covers(row.alloc, one, two, roster);
     let back = covers(row.alloc, two, one, roster);
     let is_same = same(row.alloc, one, two, roster);
-    row.parts("Compared", &(there, back, is_same))
+    Answer::parts(row.alloc, "Compared", &(there, back, is_same))
 }
 
 // What asks for a roster: the first word is its size.
-fn of_roster(facts: &[Fact], roster: Roster, row: Row) -> Result<Answer, AllocError> {
+fn of_roster(facts: &[Fact], roster: Roster, row: &Row) -> Result<Answer, AllocError> {
     match row.name {
         "front" => front(facts, roster, row),
         "faults" => faults(facts, roster, row),
@@ -98,7 +101,7 @@ fn of_roster(facts: &[Fact], roster: Roster, row: Row) -> Result<Answer, AllocEr
 }
 
 // A number, or whether a record stands in some way, in the view of the epoch that the first word names.
-fn told(facts: &[Fact], row: Row) -> Answer {
+fn told(facts: &[Fact], row: &Row) -> Answer {
     let view = row.short(0);
     let (epoch, number) = (row.short(1), row.number(2));
     match row.name {
@@ -114,7 +117,7 @@ fn told(facts: &[Fact], row: Row) -> Answer {
     }
 }
 
-pub fn answer(facts: &[Fact], row: Row) -> Result<Answer, AllocError> {
+pub fn answer(facts: &[Fact], row: &Row) -> Result<Answer, AllocError> {
     if row.name == "page" {
         return beginning(facts, row);
     }

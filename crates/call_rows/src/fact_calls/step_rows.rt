@@ -1,9 +1,8 @@
 //! Step lines, as they are read: what the step is, which nodes it names, and which of them a fleet lacks.
 
 use crate::answer::Answer;
-use crate::row::Row;
 use fleet_steps::Step;
-use row_words::{byte, number};
+use row_words::{Row, byte, number};
 use script_text::{ScriptError, read_script};
 use std::alloc::AllocError;
 
@@ -22,13 +21,13 @@ fn letter(place: usize) -> Result<&'static str, usize> {
 
 // A step, the node and the other node that it names, which of them a fleet of so many nodes lacks, and the step with a letter for its
 // fact.
-fn told(row: Row, step: Step<usize>, nodes: u8) -> Result<Answer, AllocError> {
+fn told(row: &Row, step: Step<usize>, nodes: u8) -> Result<Answer, AllocError> {
     let (node, other) = (step.node(), step.other());
     let (missing, named) = (step.missing(usize::from(nodes)), step.naming(letter));
-    row.parts("Step", &(step, node, other, missing, named))
+    Answer::parts(row.alloc, "Step", &(step, node, other, missing, named))
 }
 
-fn of_steps(row: Row, steps: &[Step<usize>]) -> Result<Answer, AllocError> {
+fn of_steps(row: &Row, steps: &[Step<usize>]) -> Result<Answer, AllocError> {
     match steps {
         [step] => told(row, *step, byte(number(row.name, 0))),
         _ => Ok(Answer::Unknown),
@@ -36,7 +35,7 @@ fn of_steps(row: Row, steps: &[Step<usize>]) -> Result<Answer, AllocError> {
 }
 
 /// The name is how many nodes the fleet has, and the words are the step.
-pub fn answer(row: Row) -> Result<Answer, AllocError> {
+pub fn answer(row: &Row) -> Result<Answer, AllocError> {
     let line = row.words;
     let text = format!(in row.alloc; "{OPENING}{line}\n")?;
     match read_script(row.alloc, text.as_bytes()) {

@@ -2,12 +2,12 @@
 
 use crate::answer::Answer;
 use crate::given;
-use crate::row::Row;
 use bytes::BytesMut;
 use redo_wire::{
     Book, PieceContent, WireError, WireValue, decode_delta, decode_fact, decode_piece,
     decode_summary, decode_value, encode_delta, encode_fact, encode_piece, encode_summary,
 };
+use row_words::Row;
 use script_text::fact_text;
 use std::alloc::{AllocError, Global};
 
@@ -20,7 +20,7 @@ fn outcome<T: Drop>(decoded: Result<T, WireError>) -> Result<u64, AllocError> {
     }
 }
 
-fn judged(row: Row, bytes: &[u8]) -> Result<u64, AllocError> {
+fn judged(row: &Row, bytes: &[u8]) -> Result<u64, AllocError> {
     match row.name {
         "F" => outcome(decode_fact(row.alloc, bytes)),
         "S" => outcome(decode_summary(row.alloc, bytes)),
@@ -47,9 +47,9 @@ fn spelled(alloc: Global, value: &WireValue) -> Result<BytesMut, WireError> {
 }
 
 // Whether the value is spelled again as it was, and how long that is.
-fn again(row: Row, bytes: &[u8], value: &WireValue) -> Result<Answer, AllocError> {
+fn again(row: &Row, bytes: &[u8], value: &WireValue) -> Result<Answer, AllocError> {
     match spelled(row.alloc, value) {
-        Ok(out) => row.parts("Again", &(out.as_slice() == bytes, out.len())),
+        Ok(out) => Answer::parts(row.alloc, "Again", &(out.as_slice() == bytes, out.len())),
         Err(error) => fault(row.alloc, error),
     }
 }
@@ -75,14 +75,18 @@ fn book_of(value: &WireValue) -> Option<(&Book, u64)> {
 }
 
 // How many truncations, the complete epoch, the points, how many waiting advances, and the minimum; then the anchor or base.
-fn told_book(row: Row, book: &Book, anchor: u64) -> Result<Answer, AllocError> {
+fn told_book(row: &Row, book: &Book, anchor: u64) -> Result<Answer, AllocError> {
     let (cuts, complete, points) = (book.cuts().len(), book.complete(), book.points());
     let (waits, min) = (book.waits().len(), book.min());
-    row.parts("Book", &(cuts, complete, points, waits, min, anchor))
+    Answer::parts(
+        row.alloc,
+        "Book",
+        &(cuts, complete, points, waits, min, anchor),
+    )
 }
 
 // The value as it is spelled again, or else a fact's line, or the numbers of a value's book.
-fn of_value(row: Row, bytes: &[u8], value: &WireValue) -> Result<Answer, AllocError> {
+fn of_value(row: &Row, bytes: &[u8], value: &WireValue) -> Result<Answer, AllocError> {
     if row.name == "again" {
         return again(row, bytes, value);
     }
@@ -95,7 +99,7 @@ fn of_value(row: Row, bytes: &[u8], value: &WireValue) -> Result<Answer, AllocEr
     }
 }
 
-fn read(row: Row, bytes: &[u8]) -> Result<Answer, AllocError> {
+fn read(row: &Row, bytes: &[u8]) -> Result<Answer, AllocError> {
     match decode_value(row.alloc, bytes) {
         Ok(value) => of_value(row, bytes, &value),
         Err(error) => fault(row.alloc, error),
@@ -113,7 +117,7 @@ fn beginnings(alloc: Global, bytes: &[u8]) -> Result<u64, AllocError> {
     Ok(count)
 }
 
-fn of_bytes(row: Row, bytes: &[u8]) -> Result<Answer, AllocError> {
+fn of_bytes(row: &Row, bytes: &[u8]) -> Result<Answer, AllocError> {
     match row.name {
         "again" | "read" => read(row, bytes),
         "beginnings" => beginnings(row.alloc, bytes).map(Answer::Number),
@@ -121,7 +125,7 @@ fn of_bytes(row: Row, bytes: &[u8]) -> Result<Answer, AllocError> {
     }
 }
 
-pub fn answer(row: Row) -> Result<Answer, AllocError> {
+pub fn answer(row: &Row) -> Result<Answer, AllocError> {
     match given::bytes(row.alloc, row.words)? {
         Some(bytes) => of_bytes(row, bytes.as_slice()),
         None => Ok(Answer::Unknown),

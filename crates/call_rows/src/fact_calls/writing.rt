@@ -3,19 +3,19 @@
 use crate::answer::Answer;
 use crate::fact_calls::model::checked;
 use crate::keeping::or_fault;
-use crate::row::Row;
 use log_law::{Writer, WriterFault};
 use redo_core::{Fact, Roster};
+use row_words::Row;
 use script_text::fact_text;
 use std::alloc::AllocError;
 
-fn append(writer: &mut Writer, row: Row) -> Result<Fact, WriterFault> {
+fn append(writer: &mut Writer, row: &Row) -> Result<Fact, WriterFault> {
     let written = writer.append(row.number(0), row.short(1), Vec::new(row.alloc));
     or_fault(written).map(Fact::Record)
 }
 
 // What a call wrote, or why it was refused.
-fn called(writer: &mut Writer, row: Row) -> Result<Fact, WriterFault> {
+fn called(writer: &mut Writer, row: &Row) -> Result<Fact, WriterFault> {
     match row.name {
         "append" => append(writer, row),
         "recover" => writer.recover(row.number(0), row.number(1)).map(Fact::Cut),
@@ -27,17 +27,17 @@ fn called(writer: &mut Writer, row: Row) -> Result<Fact, WriterFault> {
 }
 
 // How many facts were written, and whether they are a sound log.
-fn written(writer: &Writer, roster: Roster, row: Row) -> Result<Answer, AllocError> {
+fn written(writer: &Writer, roster: Roster, row: &Row) -> Result<Answer, AllocError> {
     let fault = checked(row.alloc, writer.log(), roster)?;
-    row.parts("Written", &(writer.log().len(), fault.is_none()))
+    Answer::parts(row.alloc, "Written", &(writer.log().len(), fault.is_none()))
 }
 
-fn begin_anew(writer: &mut Writer, roster: Roster, row: Row) -> Result<Answer, AllocError> {
+fn begin_anew(writer: &mut Writer, roster: Roster, row: &Row) -> Result<Answer, AllocError> {
     *writer = Writer::new(row.alloc, roster)?;
     written(writer, roster, row)
 }
 
-fn of_roster(writer: &mut Writer, row: Row) -> Result<Answer, AllocError> {
+fn of_roster(writer: &mut Writer, row: &Row) -> Result<Answer, AllocError> {
     match Roster::new(row.byte(0)) {
         Ok(roster) if row.name == "new" => begin_anew(writer, roster, row),
         Ok(roster) => written(writer, roster, row),
@@ -45,7 +45,7 @@ fn of_roster(writer: &mut Writer, row: Row) -> Result<Answer, AllocError> {
     }
 }
 
-fn told(row: Row, written: Result<Fact, WriterFault>) -> Result<Answer, AllocError> {
+fn told(row: &Row, written: Result<Fact, WriterFault>) -> Result<Answer, AllocError> {
     match written {
         Ok(fact) => fact_text(row.alloc, &fact).map(Answer::Text),
         Err(WriterFault::Memory) => Err(AllocError),
@@ -53,7 +53,7 @@ fn told(row: Row, written: Result<Fact, WriterFault>) -> Result<Answer, AllocErr
     }
 }
 
-pub fn answer(writer: &mut Writer, row: Row) -> Result<Answer, AllocError> {
+pub fn answer(writer: &mut Writer, row: &Row) -> Result<Answer, AllocError> {
     match row.name {
         "new" | "log" => of_roster(writer, row),
         _ => told(row, called(writer, row)),

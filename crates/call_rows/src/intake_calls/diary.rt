@@ -177,8 +177,8 @@ pub fn look_in_a_call<R: Wait>(rt: &R, diaries: &mut Diaries, row: &Row) -> io::
 /// Closes the lock with the first pass alone, and opens one. The answer is the entries of the trail: the pass and the place in the log
 /// of each.
 pub fn close<R: Wait>(rt: &R, diaries: &mut Box<Diaries>, row: &Row) -> io::Result<()> {
-    let closed = mem::replace(diaries, open_diaries(row.alloc())?);
-    let room = Vec::with_capacity(row.alloc(), 1)?;
+    let closed = mem::replace(diaries, open_diaries(row.alloc)?);
+    let room = Vec::with_capacity(row.alloc, 1)?;
     let diary = closed_by_one(rt, Box::into_inner(closed), room);
     row.one("Trail", &diary.trail)
 }
@@ -232,7 +232,7 @@ fn appended_twice<R: Threads + Wait + Sync>(rt: &R, alloc: Global) -> Result<Dia
 
 /// Prints how many entries the trail has, and whether those of each pass are in order.
 pub fn append_in_two_threads<R: Threads + Wait + Sync>(rt: &R, row: &Row) -> io::Result<()> {
-    let diary = appended_twice(rt, row.alloc())?;
+    let diary = appended_twice(rt, row.alloc)?;
     let first = diary.is_in_order(0, 1, 1001);
     let second = diary.is_in_order(1, 5001, 6001);
     row.parts("InOrder", &(diary.count, first, second))
@@ -244,7 +244,7 @@ pub fn print_passes(row: &Row) -> io::Result<()> {
     if count == 0 || count > MAX_PASSES {
         return row.unknown();
     }
-    let (_, passes) = open_lock(row.alloc(), count)?;
+    let (_, passes) = open_lock(row.alloc, count)?;
     match passes.last() {
         Some(last) => row.parts("Passes", &(passes.len(), last.number())),
         None => row.said("None"),

@@ -56,7 +56,7 @@ pub fn open_anew(lane: &mut Box<Lane>, row: &Row) -> io::Result<()> {
     let Some(capacity) = capacity(row) else {
         return row.unknown();
     };
-    *lane = open_lane(row.alloc(), capacity)?;
+    *lane = open_lane(row.alloc, capacity)?;
     row.done()
 }
 
@@ -76,7 +76,7 @@ fn parcel_at(
 
 /// Offers the fact at a place. The answer to a full intake is the number of the parcel that came back.
 pub fn offer<R: Wait>(rt: &R, lane: &mut Lane, row: &Row) -> io::Result<()> {
-    let Some(parcel) = parcel_at(row.alloc(), &lane.sender, row.number(0))? else {
+    let Some(parcel) = parcel_at(row.alloc, &lane.sender, row.number(0))? else {
         return row.unknown();
     };
     match lane.intake.offer(rt, &mut lane.sender, parcel) {
@@ -108,9 +108,9 @@ pub fn take_next<R: Wait>(rt: &R, lane: &mut Lane, row: &Row) -> io::Result<()> 
 
 /// Ends the intake, and opens one. The answer is what was left, in order.
 pub fn end<R: Wait>(rt: &R, lane: &mut Box<Lane>, row: &Row) -> io::Result<()> {
-    let ended = mem::replace(lane, open_lane(row.alloc(), 1)?);
-    let room = Vec::with_capacity(row.alloc(), 1)?;
-    let left = left_of(rt, row.alloc(), Box::into_inner(ended), room)?;
+    let ended = mem::replace(lane, open_lane(row.alloc, 1)?);
+    let room = Vec::with_capacity(row.alloc, 1)?;
+    let left = left_of(rt, row.alloc, Box::into_inner(ended), room)?;
     print_parcels(row, left.as_slice())
 }
 
@@ -172,7 +172,7 @@ pub fn print_relayed<R: Wait>(rt: &R, row: &Row) -> io::Result<()> {
     let Some(capacity) = capacity(row) else {
         return row.unknown();
     };
-    let facts = first_facts(row.alloc(), row.number(1))?;
-    let all = pass_through(rt, row.alloc(), capacity, facts)?;
+    let facts = first_facts(row.alloc, row.number(1))?;
+    let all = pass_through(rt, row.alloc, capacity, facts)?;
     print_parcels(row, all.as_slice())
 }

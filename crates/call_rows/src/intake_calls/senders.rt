@@ -182,6 +182,6 @@ fn tally_of_three<R: Threads + Wait + Sync>(
 
 /// Prints what the taker found, and how many parcels were left in the end.
 pub fn in_three_threads<R: Threads + Wait + Sync>(rt: &R, row: &Row) -> io::Result<()> {
-    let (tally, left) = tally_of_three(rt, row.alloc())?;
+    let (tally, left) = tally_of_three(rt, row.alloc)?;
     row.parts("Tally", &(tally.first, tally.second, tally.astray, left))
 }

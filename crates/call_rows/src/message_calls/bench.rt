@@ -4,12 +4,11 @@ use crate::keeping::renew;
 use crate::message_calls::exchanges;
 use crate::message_calls::fleets::{give, step};
 use crate::message_calls::segments::{add_chain, add_empty, change, look};
-use crate::row::Row;
 use bytes::BytesMut;
 use fleet_core::Fleet;
 use hydration::Staging;
 use redo_core::{Fact, Roster};
-use row_words::long;
+use row_words::{Row, long};
 use segment_core::Segment;
 use std::alloc::{AllocError, Global};
 
@@ -36,25 +35,25 @@ pub fn new_bench(alloc: Global, roster: Roster) -> Result<Bench, AllocError> {
 }
 
 /// Begins anew, for so many readers.
-fn begin(bench: &mut Bench, row: Row) -> Result<Answer, AllocError> {
+fn begin(bench: &mut Bench, row: &Row) -> Result<Answer, AllocError> {
     match Roster::new(row.byte(0)) {
         Ok(roster) => renew(bench, new_bench(row.alloc, roster)),
         Err(_) => Ok(Answer::Unknown),
     }
 }
 
-fn make_fleet(bench: &mut Bench, row: Row) -> Result<Answer, AllocError> {
+fn make_fleet(bench: &mut Bench, row: &Row) -> Result<Answer, AllocError> {
     let made = Fleet::new(row.alloc, bench.roster, row.short(0));
     renew(&mut bench.fleet, made)
 }
 
-fn make_staging(staging: &mut Staging, row: Row) -> Result<Answer, AllocError> {
+fn make_staging(staging: &mut Staging, row: &Row) -> Result<Answer, AllocError> {
     let made = Staging::new(row.alloc, row.number(0), long(row.number(1)));
     renew(staging, Ok(made))
 }
 
 /// Carries out the call of a line.
-pub fn call(bench: &mut Bench, row: Row) -> Result<Answer, AllocError> {
+pub fn call(bench: &mut Bench, row: &Row) -> Result<Answer, AllocError> {
     match row.name {
         "begin" => begin(bench, row),
         "fact" => keep_fact(row.alloc, &mut bench.facts, row.words),
@@ -63,7 +62,7 @@ pub fn call(bench: &mut Bench, row: Row) -> Result<Answer, AllocError> {
         "take" | "fold" | "discard" => change(&mut bench.segments, &bench.facts, row),
         "front" | "base" | "same" => look(&bench.segments, row),
         "fleet" => make_fleet(bench, row),
-        "step" => step(&mut bench.fleet, &bench.facts, row.behind()),
+        "step" => step(&mut bench.fleet, &bench.facts, &row.behind()),
         "give" => give(&mut bench.fleet, &bench.facts, row),
         "staging" => make_staging(&mut bench.staging, row),
         _ => exchanges::answer(bench, row),

@@ -6,14 +6,13 @@ use crate::keeping::add;
 use crate::message_calls::bench::Bench;
 use crate::message_calls::pieces::{finish, freeze_all, stage, told_piece};
 use crate::outcomes::{refused, unread};
-use crate::row::Row;
 use bytes::BytesMut;
 use gossip_core::{AbsorbRefusal, absorb, reply, summary};
 use hydration::Staging;
 use redo_wire::{
     Delta, Piece, Summary, decode_delta, decode_piece, decode_summary, encode_delta, encode_summary,
 };
-use row_words::{nth, nth_mut};
+use row_words::{Row, nth, nth_mut};
 use segment_core::{ReadFault, Segment};
 use std::alloc::{AllocError, Global};
 
@@ -31,7 +30,7 @@ fn piece_of(alloc: Global, messages: &[BytesMut], number: u64) -> Option<Piece> 
 }
 
 /// Keeps the message that words spell.
-fn take_in(messages: &mut Vec<BytesMut>, row: Row) -> Result<Answer, AllocError> {
+fn take_in(messages: &mut Vec<BytesMut>, row: &Row) -> Result<Answer, AllocError> {
     match given::bytes(row.alloc, row.words)? {
         Some(bytes) => add("Message", messages, bytes),
         None => Ok(Answer::Unknown),
@@ -39,7 +38,7 @@ fn take_in(messages: &mut Vec<BytesMut>, row: Row) -> Result<Answer, AllocError>
 }
 
 /// The hexadecimal digits of a message.
-fn spell(messages: &[BytesMut], row: Row) -> Result<Answer, AllocError> {
+fn spell(messages: &[BytesMut], row: &Row) -> Result<Answer, AllocError> {
     match nth(messages, row.number(0)) {
         Some(bytes) => hex::encode(row.alloc, bytes.as_slice()).map(Answer::Text),
         None => Ok(Answer::Unknown),
@@ -47,15 +46,19 @@ fn spell(messages: &[BytesMut], row: Row) -> Result<Answer, AllocError> {
 }
 
 /// How many truncations, which minimum read point, how many waiting advances, which base, how many pages and records there are.
-fn told_delta(row: Row, delta: &Delta) -> Result<Answer, AllocError> {
+fn told_delta(row: &Row, delta: &Delta) -> Result<Answer, AllocError> {
     let book = delta.book();
     let (cuts, min, waits) = (book.cuts().len(), book.min(), book.waits().len());
     let (pages, records) = (delta.pages().len(), delta.records().len());
-    row.parts("Delta", &(cuts, min, waits, delta.base(), pages, records))
+    Answer::parts(
+        row.alloc,
+        "Delta",
+        &(cuts, min, waits, delta.base(), pages, records),
+    )
 }
 
 /// What a delta or a piece tells.
-fn tell(messages: &[BytesMut], row: Row) -> Result<Answer, AllocError> {
+fn tell(messages: &[BytesMut], row: &Row) -> Result<Answer, AllocError> {
     if let Some(delta) = delta_of(row.alloc, messages, row.number(0)) {
         return told_delta(row, &delta);
     }
@@ -65,14 +68,18 @@ fn tell(messages: &[BytesMut], row: Row) -> Result<Answer, AllocError> {
     }
 }
 
-fn stage_one(staging: &mut Staging, messages: &[BytesMut], row: Row) -> Result<Answer, AllocError> {
+fn stage_one(
+    staging: &mut Staging,
+    messages: &[BytesMut],
+    row: &Row,
+) -> Result<Answer, AllocError> {
     match piece_of(row.alloc, messages, row.number(0)) {
         Some(piece) => stage(staging, piece, row),
         None => Ok(Answer::Unknown),
     }
 }
 
-fn ask(segment: &Segment, messages: &mut Vec<BytesMut>, row: Row) -> Result<Answer, AllocError> {
+fn ask(segment: &Segment, messages: &mut Vec<BytesMut>, row: &Row) -> Result<Answer, AllocError> {
     let mut bytes = BytesMut::new(row.alloc);
     match encode_summary(&mut bytes, &summary(segment)?) {
         Ok(()) => add("Message", messages, bytes),
@@ -84,7 +91,7 @@ fn ask(segment: &Segment, messages: &mut Vec<BytesMut>, row: Row) -> Result<Answ
 fn send(
     segments: &[Segment],
     messages: &mut Vec<BytesMut>,
-    row: Row,
+    row: &Row,
 ) -> Result<Answer, AllocError> {
     match nth(segments, row.number(0)) {
         Some(segment) if row.name == "ask" => ask(segment, messages, row),
@@ -106,7 +113,7 @@ fn replied(alloc: Global, segment: &Segment, asked: &Summary) -> Result<BytesMut
 fn answer_of(
     segments: &[Segment],
     messages: &[BytesMut],
-    row: Row,
+    row: &Row,
 ) -> Option<Result<BytesMut, ReadFault>> {
     let segment = nth(segments, row.number(0))?;
     let asked = summary_of(row.alloc, messages, row.number(1))?;
@@ -116,7 +123,7 @@ fn answer_of(
 fn keep_answer(
     segments: &[Segment],
     messages: &mut Vec<BytesMut>,
-    row: Row,
+    row: &Row,
 ) -> Result<Answer, AllocError> {
     match answer_of(segments, messages, row) {
         Some(Ok(bytes)) => add("Message", messages, bytes),
@@ -129,7 +136,7 @@ fn keep_answer(
 fn absorbed(
     segments: &mut [Segment],
     messages: &[BytesMut],
-    row: Row,
+    row: &Row,
 ) -> Option<Result<(), AbsorbRefusal>> {
     let segment = nth_mut(segments, row.number(0))?;
     let asked = summary_of(row.alloc, messages, row.number(1))?;
@@ -140,26 +147,30 @@ fn absorbed_for(
     segment: &mut Segment,
     asked: &Summary,
     messages: &[BytesMut],
-    row: Row,
+    row: &Row,
 ) -> Option<Result<(), AbsorbRefusal>> {
     let delta = delta_of(row.alloc, messages, row.number(2))?;
     Some(absorb(segment, asked, &delta))
 }
 
 fn told_absorbed(
-    row: Row,
+    row: &Row,
     outcome: Option<Result<(), AbsorbRefusal>>,
 ) -> Result<Answer, AllocError> {
     match outcome {
         Some(Ok(())) => Ok(Answer::Word("Absorbed")),
-        Some(Err(AbsorbRefusal::Uncovered { shown })) => row.one("Uncovered", &shown),
+        Some(Err(AbsorbRefusal::Uncovered { shown })) => Answer::one(
+            row.alloc,
+            "Uncovered",
+            &shown,
+        ),
         Some(Err(AbsorbRefusal::Refused(why))) => refused(row, why),
         None => Ok(Answer::Unknown),
     }
 }
 
 /// Carries out a call on messages.
-pub fn answer(bench: &mut Bench, row: Row) -> Result<Answer, AllocError> {
+pub fn answer(bench: &mut Bench, row: &Row) -> Result<Answer, AllocError> {
     match row.name {
         "message" => take_in(&mut bench.messages, row),
         "spell" => spell(&bench.messages, row),

@@ -1,13 +1,12 @@
 use crate::answer::Answer;
 use crate::outcomes::{refused, unread};
-use crate::row::Row;
 use fleet_core::{Fleet, Reply, Step};
 use redo_core::Fact;
-use row_words::{nth, size};
+use row_words::{Row, nth, size};
 use segment_core::ReadFault;
 use std::alloc::AllocError;
 
-fn plain_step(row: Row) -> Option<Step<Fact>> {
+fn plain_step(row: &Row) -> Option<Step<Fact>> {
     let (node, other) = (row.short(0), row.short(1));
     let message = size(row.number(1));
     match row.name {
@@ -33,13 +32,13 @@ fn plain_step(row: Row) -> Option<Step<Fact>> {
 }
 
 /// What a reply tells; of a page its first byte.
-fn told(row: Row, reply: &Reply) -> Result<Answer, AllocError> {
+fn told(row: &Row, reply: &Reply) -> Result<Answer, AllocError> {
     match reply {
         Reply::Changed => Ok(Answer::Word("Changed")),
         Reply::Unchanged => Ok(Answer::Word("Unchanged")),
         Reply::Folded => Ok(Answer::Word("Folded")),
         Reply::Discarded => Ok(Answer::Word("Discarded")),
-        Reply::Front(front) => row.one("Front", front),
+        Reply::Front(front) => Answer::one(row.alloc, "Front", front),
         Reply::Page(image) => Ok(Answer::Numbered("Byte", u64::from(image.bytes()[0]))),
         Reply::Below(min) => Ok(Answer::Numbered("Below", *min)),
         Reply::Above(complete) => Ok(Answer::Numbered("Above", *complete)),
@@ -48,7 +47,7 @@ fn told(row: Row, reply: &Reply) -> Result<Answer, AllocError> {
         Reply::Wiped => Ok(Answer::Word("Wiped")),
         Reply::Message(number) => Ok(Answer::Numbered("Message", *number as u64)),
         Reply::Absorbed => Ok(Answer::Word("Absorbed")),
-        Reply::Uncovered(shown) => row.one("Uncovered", shown),
+        Reply::Uncovered(shown) => Answer::one(row.alloc, "Uncovered", shown),
         Reply::NoMessage(number) => Ok(Answer::Numbered("NoMessage", *number as u64)),
         Reply::NoNode(node) => Ok(Answer::Numbered("NoNode", u64::from(*node))),
         Reply::Refused(why) => refused(row, *why),
@@ -61,7 +60,7 @@ fn told(row: Row, reply: &Reply) -> Result<Answer, AllocError> {
 }
 
 /// Takes a fact, which is named by its number and copied.
-fn take(fleet: &mut Fleet, facts: &[Fact], row: Row) -> Result<Answer, AllocError> {
+fn take(fleet: &mut Fleet, facts: &[Fact], row: &Row) -> Result<Answer, AllocError> {
     let Some(fact) = nth(facts, row.number(1)) else {
         return Ok(Answer::Unknown);
     };
@@ -73,7 +72,7 @@ fn take(fleet: &mut Fleet, facts: &[Fact], row: Row) -> Result<Answer, AllocErro
 }
 
 /// Makes a step of a fleet.
-pub fn step(fleet: &mut Fleet, facts: &[Fact], row: Row) -> Result<Answer, AllocError> {
+pub fn step(fleet: &mut Fleet, facts: &[Fact], row: &Row) -> Result<Answer, AllocError> {
     if row.name == "take" {
         return take(fleet, facts, row);
     }
@@ -84,7 +83,7 @@ pub fn step(fleet: &mut Fleet, facts: &[Fact], row: Row) -> Result<Answer, Alloc
 }
 
 /// Gives a fact to a node of a fleet.
-pub fn give(fleet: &mut Fleet, facts: &[Fact], row: Row) -> Result<Answer, AllocError> {
+pub fn give(fleet: &mut Fleet, facts: &[Fact], row: &Row) -> Result<Answer, AllocError> {
     match nth(facts, row.number(1)) {
         Some(fact) => told(row, &fleet.take(row.short(0), fact.copy()?)),
         None => Ok(Answer::Unknown),

@@ -1,9 +1,9 @@
 use crate::answer::Answer;
 use crate::keeping::{add, or_fault};
-use crate::row::Row;
 use bytes::BytesMut;
 use hydration::{AddFault, FinishFault, Snapshot, Staging, freeze};
 use redo_wire::{Piece, PieceContent, WireError, encode_piece};
+use row_words::Row;
 use segment_core::Segment;
 use std::alloc::{AllocError, Global};
 
@@ -35,7 +35,7 @@ fn put_pieces(
 fn keep_pieces(
     snapshot: &Snapshot,
     messages: &mut Vec<BytesMut>,
-    row: Row,
+    row: &Row,
 ) -> Result<Answer, AllocError> {
     let mut pieces = Vec::new(row.alloc);
     put_pieces(row.alloc, &mut pieces, snapshot)?;
@@ -47,7 +47,7 @@ fn keep_pieces(
 pub fn freeze_all(
     segment: &Segment,
     messages: &mut Vec<BytesMut>,
-    row: Row,
+    row: &Row,
 ) -> Result<Answer, AllocError> {
     match freeze(segment, row.number(1)) {
         Ok(snapshot) => keep_pieces(&snapshot, messages, row),
@@ -56,19 +56,23 @@ pub fn freeze_all(
 }
 
 /// The place of a piece, and what it brings: a head its anchor, a page its number, and records their count.
-pub fn told_piece(row: Row, piece: &Piece) -> Result<Answer, AllocError> {
+pub fn told_piece(row: &Row, piece: &Piece) -> Result<Answer, AllocError> {
     let (kind, number) = match piece.content() {
         PieceContent::Head { book: _, anchor } => ("Head", *anchor),
         PieceContent::Page(image) => ("Page", u64::from(image.number())),
         PieceContent::Records(batch) => ("Records", batch.records().len() as u64),
     };
-    row.parts("Piece", &(piece.index(), piece.total(), kind, number))
+    Answer::parts(
+        row.alloc,
+        "Piece",
+        &(piece.index(), piece.total(), kind, number),
+    )
 }
 
-pub fn stage(staging: &mut Staging, piece: Piece, row: Row) -> Result<Answer, AllocError> {
+pub fn stage(staging: &mut Staging, piece: Piece, row: &Row) -> Result<Answer, AllocError> {
     match or_fault(staging.add(piece)) {
         Ok(()) => Ok(Answer::Word("Staged")),
-        Err(fault) => row.refused("Unstaged", &fault, &AddFault::Memory),
+        Err(fault) => Answer::refused(row.alloc, "Unstaged", &fault, &AddFault::Memory),
     }
 }
 
@@ -76,10 +80,10 @@ pub fn stage(staging: &mut Staging, piece: Piece, row: Row) -> Result<Answer, Al
 pub fn finish(
     staging: &Staging,
     segments: &mut Vec<Segment>,
-    row: Row,
+    row: &Row,
 ) -> Result<Answer, AllocError> {
     match staging.finish() {
         Ok(made) => add("Segment", segments, made),
-        Err(fault) => row.refused("Unfinished", &fault, &FinishFault::Memory),
+        Err(fault) => Answer::refused(row.alloc, "Unfinished", &fault, &FinishFault::Memory),
     }
 }

@@ -2,9 +2,8 @@ use crate::answer::Answer;
 use crate::given::patch;
 use crate::keeping::{add, boxed};
 use crate::outcomes::{discard, fold, is_same, taken};
-use crate::row::Row;
 use redo_core::{Fact, Record, Roster};
-use row_words::{nth, nth_mut};
+use row_words::{Row, nth, nth_mut};
 use segment_core::Segment;
 use std::alloc::{AllocError, Global};
 
@@ -36,7 +35,7 @@ fn take_chain(alloc: Global, segment: &mut Segment, last: u16) -> Result<(), All
 pub fn add_empty(
     segments: &mut Vec<Segment>,
     roster: Roster,
-    row: Row,
+    row: &Row,
 ) -> Result<Answer, AllocError> {
     add("Segment", segments, Segment::new(row.alloc, roster)?)
 }
@@ -45,14 +44,14 @@ pub fn add_empty(
 pub fn add_chain(
     segments: &mut Vec<Segment>,
     roster: Roster,
-    row: Row,
+    row: &Row,
 ) -> Result<Answer, AllocError> {
     let mut made = boxed(row.alloc, Segment::new(row.alloc, roster))?;
     take_chain(row.alloc, &mut made, row.short(0))?;
     add("Segment", segments, Box::into_inner(made))
 }
 
-fn take(segment: &mut Segment, facts: &[Fact], row: Row) -> Result<Answer, AllocError> {
+fn take(segment: &mut Segment, facts: &[Fact], row: &Row) -> Result<Answer, AllocError> {
     match nth(facts, row.number(1)) {
         Some(fact) => taken(row, segment.take(fact.copy()?)),
         None => Ok(Answer::Unknown),
@@ -60,7 +59,7 @@ fn take(segment: &mut Segment, facts: &[Fact], row: Row) -> Result<Answer, Alloc
 }
 
 /// What a call changes at the segment of a number.
-pub fn change(segments: &mut [Segment], facts: &[Fact], row: Row) -> Result<Answer, AllocError> {
+pub fn change(segments: &mut [Segment], facts: &[Fact], row: &Row) -> Result<Answer, AllocError> {
     let Some(segment) = nth_mut(segments, row.number(0)) else {
         return Ok(Answer::Unknown);
     };
@@ -72,12 +71,12 @@ pub fn change(segments: &mut [Segment], facts: &[Fact], row: Row) -> Result<Answ
 }
 
 /// What a call tells of the segment of a number.
-pub fn look(segments: &[Segment], row: Row) -> Result<Answer, AllocError> {
+pub fn look(segments: &[Segment], row: &Row) -> Result<Answer, AllocError> {
     let Some(segment) = nth(segments, row.number(0)) else {
         return Ok(Answer::Unknown);
     };
     match (row.name, nth(segments, row.number(1))) {
-        ("front", _) => row.one("Front", &segment.front()),
+        ("front", _) => Answer::one(row.alloc, "Front", &segment.front()),
         ("base", _) => Ok(Answer::Numbered("Base", segment.base_point())),
         ("same", Some(other)) => is_same(row, segment, other),
         _ => Ok(Answer::Unknown),

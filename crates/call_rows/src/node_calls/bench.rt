@@ -40,12 +40,12 @@ pub fn new_bench(alloc: Global) -> Result<Box<Bench>, AllocError> {
 }
 
 fn begin_anew(bench: &mut Bench, row: &Row) -> io::Result<()> {
-    *bench = made(row.alloc())?;
+    *bench = made(row.alloc)?;
     row.done()
 }
 
 fn open(hosts: &mut Vec<Host>, row: &Row) -> io::Result<()> {
-    hosts.push(host::open_host(row.alloc(), row.number(0))?)?;
+    hosts.push(host::open_host(row.alloc, row.number(0))?)?;
     row.done()
 }
 
@@ -60,7 +60,7 @@ fn deliver_all<R: Wait>(
     let mut told = None;
     for place in first..=last.max(first) {
         receipts.reserve(1)?;
-        match host::deliver(rt, row.alloc(), host, place) {
+        match host::deliver(rt, row.alloc, host, place) {
             Ok(ack) => {
                 told = Some(delivery_of(&ack));
                 receipts.push_reserved(ack.receipt);
@@ -86,14 +86,14 @@ fn close<R: Wait>(rt: &R, bench: &mut Bench, row: &Row) -> io::Result<()> {
     if place >= bench.hosts.len() {
         return row.unknown();
     }
-    let ended = host::close_host(rt, row.alloc(), bench.hosts.remove(place))?;
+    let ended = host::close_host(rt, row.alloc, bench.hosts.remove(place))?;
     end(&mut bench.closed, ended, row)
 }
 
 // The first receipts are those of the first thread.
 fn two_threads<R: Threads + Wait + Sync>(rt: &R, bench: &mut Bench, row: &Row) -> io::Result<()> {
-    bench.receipts = Vec::new(row.alloc());
-    let ended = closed_after_two(rt, row.alloc(), &mut bench.receipts)?;
+    bench.receipts = Vec::new(row.alloc);
+    let ended = closed_after_two(rt, row.alloc, &mut bench.receipts)?;
     end(&mut bench.closed, ended, row)
 }
 
@@ -108,7 +108,7 @@ fn end(
 }
 
 fn two_seats<R: Threads + Sync>(rt: &R, bench: &mut Bench, row: &Row) -> io::Result<()> {
-    bench.six = publish_in_two_threads(rt, row.alloc())?;
+    bench.six = publish_in_two_threads(rt, row.alloc)?;
     row.done()
 }
 
@@ -178,7 +178,7 @@ fn read<R: Wait>(rt: &R, host: &mut Host, row: &Row) -> io::Result<()> {
 
 // Folds a page, and keeps the fold. The answer is the page and the version.
 fn fold_page<R: Wait>(rt: &R, host: &mut Host, row: &Row) -> io::Result<()> {
-    let folded = host::folded(rt, row.alloc(), &host.node, row.short(1))?;
+    let folded = host::folded(rt, row.alloc, &host.node, row.short(1))?;
     let told = (folded.page(), folded.version());
     host.folded = Some(folded);
     row.parts("Fold", &told)

@@ -84,10 +84,7 @@ pub fn deliver_at<R: Wait>(
     let Ok(Some(fact)) = LogFact::at(alloc, place) else {
         return Err(DeliverFault::Memory);
     };
-    match node.deliver(rt, pass, board, seat, fact) {
-        Ok(ack) => Ok(ack),
-        Err(refused) => Err(refused.fault),
-    }
+    or_fault(node.deliver(rt, pass, board, seat, fact))
 }
 
 fn deliver_once<R: Wait>(

@@ -1,9 +1,9 @@
 use crate::answer::Answer;
 use crate::keeping::{boxed, or_fault, renew};
-use crate::row::Row;
 use crate::segment_calls::{cache_calls, changes};
 use read_cache::CachedSegment;
 use redo_core::{Fact, Roster};
+use row_words::Row;
 use segment_core::Segment;
 use std::alloc::{AllocError, Global};
 use std::mem;
@@ -41,7 +41,7 @@ pub fn new_bench(alloc: Global, roster: Roster) -> Result<Bench, AllocError> {
     })
 }
 
-fn begin_anew(bench: &mut Bench, row: Row) -> Result<Answer, AllocError> {
+fn begin_anew(bench: &mut Bench, row: &Row) -> Result<Answer, AllocError> {
     let Ok(roster) = Roster::new(row.byte(0)) else {
         return Ok(Answer::Word("Unfit"));
     };
@@ -63,7 +63,7 @@ fn swap(bench: &mut Bench) -> Answer {
 }
 
 /// What a call answers. The calls here change which segment is which.
-pub fn answer(bench: &mut Bench, row: Row) -> Result<Answer, AllocError> {
+pub fn answer(bench: &mut Bench, row: &Row) -> Result<Answer, AllocError> {
     match row.name {
         "fresh" => begin_anew(bench, row),
         "swap" => Ok(swap(bench)),

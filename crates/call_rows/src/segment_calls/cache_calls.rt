@@ -1,11 +1,11 @@
 use crate::answer::Answer;
 use crate::given::fact;
 use crate::outcomes::{committed, discard, page, taken, tidied, unread};
-use crate::row::Row;
 use read_cache::CachedSegment;
+use row_words::Row;
 use std::alloc::AllocError;
 
-fn fold(cached: &mut CachedSegment, row: Row) -> Result<Answer, AllocError> {
+fn fold(cached: &mut CachedSegment, row: &Row) -> Result<Answer, AllocError> {
     match cached.plan_fold(row.short(0)) {
         Ok(plan) => committed(row, cached.commit_fold(plan.fold())),
         Err(fault) => unread(row, fault),
@@ -17,7 +17,7 @@ fn discard_behind(cached: &mut CachedSegment) -> Answer {
     Answer::Word("Done")
 }
 
-fn take(cached: &mut CachedSegment, row: Row, name: &str) -> Result<Answer, AllocError> {
+fn take(cached: &mut CachedSegment, row: &Row, name: &str) -> Result<Answer, AllocError> {
     match fact(row, name)? {
         Some(fact) => taken(row, cached.take(fact)),
         None => Ok(Answer::Unknown),
@@ -30,12 +30,12 @@ pub fn discard_lent(cached: &mut CachedSegment) -> Answer {
 }
 
 /// Reads from the segment, past its cache.
-pub fn read_past(cached: &CachedSegment, row: Row) -> Result<Answer, AllocError> {
+pub fn read_past(cached: &CachedSegment, row: &Row) -> Result<Answer, AllocError> {
     page(row, cached.segment().read(row.short(0), row.number(1)))
 }
 
 /// What a call of the segment with a cache answers, by its name behind `cached_`.
-pub fn answer(cached: &mut CachedSegment, row: Row, name: &str) -> Result<Answer, AllocError> {
+pub fn answer(cached: &mut CachedSegment, row: &Row, name: &str) -> Result<Answer, AllocError> {
     match name {
         "read" => page(row, cached.read(row.short(0), row.number(1))),
         "fold" => fold(cached, row),

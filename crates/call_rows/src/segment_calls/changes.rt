@@ -2,16 +2,16 @@ use crate::answer::Answer;
 use crate::given::{fact, give, images, page_of, pages};
 use crate::keeping::done;
 use crate::outcomes::{committed, discard, fold, taken, tidied};
-use crate::row::Row;
 use crate::segment_calls::bench::Bench;
 use crate::segment_calls::pairs;
 use crate::segment_calls::questions::{Shown, show};
 use redo_core::Fact;
+use row_words::Row;
 use segment_core::{Folded, Segment, Union};
 use std::alloc::AllocError;
 
 /// Commits an image that no fold made: its page, its version and its byte.
-fn commit(segment: &mut Segment, row: Row) -> Result<Answer, AllocError> {
+fn commit(segment: &mut Segment, row: &Row) -> Result<Answer, AllocError> {
     let folded = Folded {
         page: row.short(0),
         version: row.number(1),
@@ -20,7 +20,7 @@ fn commit(segment: &mut Segment, row: Row) -> Result<Answer, AllocError> {
     committed(row, segment.commit_fold(folded))
 }
 
-fn adopt(segment: &mut Segment, row: Row, given: &[(u16, u64, u8)]) -> Result<Answer, AllocError> {
+fn adopt(segment: &mut Segment, row: &Row, given: &[(u16, u64, u8)]) -> Result<Answer, AllocError> {
     let base = row.number(0);
     let pages = pages(row.alloc, given)?;
     if segment.front().min < base {
@@ -29,7 +29,7 @@ fn adopt(segment: &mut Segment, row: Row, given: &[(u16, u64, u8)]) -> Result<An
     done(segment.adopt(base, pages))
 }
 
-fn unite(segment: &mut Segment, row: Row, given: &[(u16, u64, u8)]) -> Result<Answer, AllocError> {
+fn unite(segment: &mut Segment, row: &Row, given: &[(u16, u64, u8)]) -> Result<Answer, AllocError> {
     let base = row.number(0);
     let images = images(row.alloc, given)?;
     if segment.front().min < base {
@@ -56,16 +56,20 @@ fn shown_in_union(
 /// Takes three facts in a union, and drops it: what shows before that, and after it.
 fn rolled_back(
     segment: &mut Segment,
-    row: Row,
+    row: &Row,
     first: Fact,
     second: Fact,
     third: Fact,
 ) -> Result<Answer, AllocError> {
     let after = shown_in_union(segment, first, second, third)?;
-    row.parts("RolledBack", &(after, show(segment)?))
+    Answer::parts(row.alloc, "RolledBack", &(after, show(segment)?))
 }
 
-fn roll_back(segment: &mut Segment, row: Row, noted: &mut Vec<Fact>) -> Result<Answer, AllocError> {
+fn roll_back(
+    segment: &mut Segment,
+    row: &Row,
+    noted: &mut Vec<Fact>,
+) -> Result<Answer, AllocError> {
     let (third, second, first) = (noted.pop(), noted.pop(), noted.pop());
     match (first, second, third) {
         (Some(first), Some(second), Some(third)) => rolled_back(segment, row, first, second, third),
@@ -74,14 +78,14 @@ fn roll_back(segment: &mut Segment, row: Row, noted: &mut Vec<Fact>) -> Result<A
 }
 
 /// Takes the fact that the row spells, where it spells one.
-fn take(bench: &mut Bench, row: Row) -> Result<Answer, AllocError> {
+fn take(bench: &mut Bench, row: &Row) -> Result<Answer, AllocError> {
     match fact(row, row.name)? {
         Some(fact) => taken(row, bench.segment.take(fact)),
         None => pairs::answer(bench, row),
     }
 }
 
-fn note(noted: &mut Vec<Fact>, row: Row, name: &str) -> Result<Answer, AllocError> {
+fn note(noted: &mut Vec<Fact>, row: &Row, name: &str) -> Result<Answer, AllocError> {
     match fact(row, name)? {
         Some(fact) => {
             noted.push(fact)?;
@@ -92,7 +96,7 @@ fn note(noted: &mut Vec<Fact>, row: Row, name: &str) -> Result<Answer, AllocErro
 }
 
 /// What a change of the segment answers, or another call.
-pub fn answer(bench: &mut Bench, row: Row) -> Result<Answer, AllocError> {
+pub fn answer(bench: &mut Bench, row: &Row) -> Result<Answer, AllocError> {
     match row.name {
         "fold" => fold(&mut bench.segment, row, row.short(0)),
         "discard" => Ok(discard(&mut bench.segment)),

@@ -1,7 +1,8 @@
 use crate::answer::Answer;
+use crate::given::key;
 use crate::outcomes::{numbers, page, unread};
-use crate::row::Row;
 use redo_core::Key;
+use row_words::Row;
 use segment_core::{Front, Segment};
 use std::alloc::AllocError;
 
@@ -23,26 +24,26 @@ pub fn show(segment: &Segment) -> Result<Shown, AllocError> {
     ))
 }
 
-fn plan(segment: &Segment, row: Row) -> Result<Answer, AllocError> {
+fn plan(segment: &Segment, row: &Row) -> Result<Answer, AllocError> {
     match segment.plan_fold(row.short(0)) {
         Ok(plan) => Ok(Answer::Number(plan.fold().version)),
         Err(fault) => unread(row, fault),
     }
 }
 
-fn backlink(segment: &Segment, row: Row) -> Answer {
-    match segment.get(row.key()) {
+fn backlink(segment: &Segment, row: &Row) -> Answer {
+    match segment.get(key(row)) {
         Some(redo) => Answer::Found(Some(redo.block_back())),
         None => Answer::Found(None),
     }
 }
 
-fn told(segment: &Segment, row: Row) -> Result<Answer, AllocError> {
-    row.parts("Shown", &show(segment)?)
+fn told(segment: &Segment, row: &Row) -> Result<Answer, AllocError> {
+    Answer::parts(row.alloc, "Shown", &show(segment)?)
 }
 
 /// What the segment tells, or a number of it.
-pub fn answer(segment: &Segment, row: Row) -> Result<Answer, AllocError> {
+pub fn answer(segment: &Segment, row: &Row) -> Result<Answer, AllocError> {
     match row.name {
         "read" => page(row, segment.read(row.short(0), row.number(1))),
         "plan" => plan(segment, row),
@@ -57,29 +58,33 @@ pub fn answer(segment: &Segment, row: Row) -> Result<Answer, AllocError> {
 }
 
 /// What the segment has, as a text, or a number of it.
-fn shown(segment: &Segment, row: Row) -> Result<Answer, AllocError> {
+fn shown(segment: &Segment, row: &Row) -> Result<Answer, AllocError> {
     match row.name {
-        "front" => row.one("Front", &segment.front()),
-        "stands" => row.one("Stands", &segment.stands(row.short(0), row.number(1))),
-        "points" => row.one("Numbers", &segment.points()),
-        "cuts" => row.one("Cuts", &segment.cuts()),
-        "waits" => row.one("Waits", &segment.waits()),
+        "front" => Answer::one(row.alloc, "Front", &segment.front()),
+        "stands" => Answer::one(
+            row.alloc,
+            "Stands",
+            &segment.stands(row.short(0), row.number(1)),
+        ),
+        "points" => Answer::one(row.alloc, "Numbers", &segment.points()),
+        "cuts" => Answer::one(row.alloc, "Cuts", &segment.cuts()),
+        "waits" => Answer::one(row.alloc, "Waits", &segment.waits()),
         "shown" => told(segment, row),
         _ => Ok(number(segment, row)),
     }
 }
 
 /// One number of the segment, or what is found by a key or a page.
-fn number(segment: &Segment, row: Row) -> Answer {
+fn number(segment: &Segment, row: &Row) -> Answer {
     match row.name {
         "base_point" => Answer::Number(segment.base_point()),
         "anchor" => Answer::Number(segment.anchor()),
         "floor" => Answer::Number(segment.floor()),
         "version" => Answer::Number(segment.version(row.short(0))),
-        "holds_key" => Answer::Flag(segment.holds_key(row.key())),
+        "holds_key" => Answer::Flag(segment.holds_key(key(row))),
         "get" => backlink(segment, row),
         "first_key" => Answer::Key(segment.key_after(None)),
-        "key_after" => Answer::Key(segment.key_after(Some(row.key()))),
+        "key_after" => Answer::Key(segment.key_after(Some(key(row)))),
         "first_page" => Answer::Page(segment.page_after(None)),
         "page_after" => Answer::Page(segment.page_after(Some(row.short(0)))),
         _ => Answer::Unknown,

@@ -1,11 +1,11 @@
 use crate::answer::Answer;
 use crate::keeping::renew;
-use crate::row::Row;
 use crate::store_calls::log_changes;
 use epoch_book::EpochBook;
 use hot_log::{HotLog, View};
 use page_base::BaseStore;
 use redo_core::Roster;
+use row_words::Row;
 use std::alloc::{AllocError, Global};
 
 /// What the calls are made on.
@@ -42,7 +42,7 @@ pub fn new_bench(alloc: Global, roster: Roster) -> Result<Bench, AllocError> {
     })
 }
 
-fn begin_anew(bench: &mut Bench, row: Row) -> Result<Answer, AllocError> {
+fn begin_anew(bench: &mut Bench, row: &Row) -> Result<Answer, AllocError> {
     match Roster::new(row.byte(0)) {
         Ok(roster) => renew(bench, new_bench(row.alloc, roster)),
         Err(_) => Ok(Answer::Word("Misshapen")),
@@ -50,7 +50,7 @@ fn begin_anew(bench: &mut Bench, row: Row) -> Result<Answer, AllocError> {
 }
 
 /// What a call answers.
-pub fn answer(bench: &mut Bench, row: Row) -> Result<Answer, AllocError> {
+pub fn answer(bench: &mut Bench, row: &Row) -> Result<Answer, AllocError> {
     match row.name {
         "fresh" => begin_anew(bench, row),
         _ => log_changes::answer(bench, row),

@@ -1,20 +1,20 @@
 use crate::answer::Answer;
 use crate::given::{advance, cut};
 use crate::keeping::renew;
-use crate::row::Row;
 use crate::store_calls::bench::Bench;
 use crate::store_calls::image_calls;
 use epoch_book::{BookRefusal, EpochBook, Learnt};
+use row_words::Row;
 use std::alloc::AllocError;
 
-fn learnt(row: Row, outcome: Result<Learnt, BookRefusal>) -> Result<Answer, AllocError> {
+fn learnt(row: &Row, outcome: Result<Learnt, BookRefusal>) -> Result<Answer, AllocError> {
     match outcome {
-        Ok(learnt) => row.one("Learnt", &learnt),
-        Err(refusal) => row.refused("BookRefused", &refusal, &BookRefusal::Memory),
+        Ok(learnt) => Answer::one(row.alloc, "Learnt", &learnt),
+        Err(refusal) => Answer::refused(row.alloc, "BookRefused", &refusal, &BookRefusal::Memory),
     }
 }
 
-fn with_cut(book: &mut EpochBook, row: Row) -> Result<Answer, AllocError> {
+fn with_cut(book: &mut EpochBook, row: &Row) -> Result<Answer, AllocError> {
     match cut(row) {
         Some(cut) if row.name == "has_cut" => Ok(Answer::Flag(book.has_cut(cut))),
         Some(cut) => learnt(row, book.learn_cut(cut)),
@@ -22,7 +22,7 @@ fn with_cut(book: &mut EpochBook, row: Row) -> Result<Answer, AllocError> {
     }
 }
 
-fn with_advance(book: &mut EpochBook, row: Row) -> Result<Answer, AllocError> {
+fn with_advance(book: &mut EpochBook, row: &Row) -> Result<Answer, AllocError> {
     match advance(row) {
         Some(advance) if row.name == "has_advance" => Ok(Answer::Flag(book.has_advance(advance))),
         Some(advance) => learnt(row, book.learn_advance(advance)),
@@ -36,7 +36,7 @@ fn copy_book(book: &mut EpochBook) -> Result<Answer, AllocError> {
 }
 
 /// What a change of the book answers, or another call.
-pub fn answer(bench: &mut Bench, row: Row) -> Result<Answer, AllocError> {
+pub fn answer(bench: &mut Bench, row: &Row) -> Result<Answer, AllocError> {
     match row.name {
         "cut" | "has_cut" => with_cut(&mut bench.book, row),
         "advance" | "has_advance" => with_advance(&mut bench.book, row),
@@ -46,25 +46,30 @@ pub fn answer(bench: &mut Bench, row: Row) -> Result<Answer, AllocError> {
 }
 
 // The complete epoch, the minimum read point, and how many advances wait.
-fn told(book: &EpochBook, row: Row) -> Result<Answer, AllocError> {
-    row.parts(
+fn told(book: &EpochBook, row: &Row) -> Result<Answer, AllocError> {
+    Answer::parts(
+        row.alloc,
         "Told",
         &(book.complete_epoch(), book.min_point(), book.waits().len()),
     )
 }
 
 /// What the book tells as a text.
-pub fn shown(book: &EpochBook, row: Row) -> Result<Answer, AllocError> {
+pub fn shown(book: &EpochBook, row: &Row) -> Result<Answer, AllocError> {
     match row.name {
-        "points" => row.one("Numbers", &book.points()),
+        "points" => Answer::one(row.alloc, "Numbers", &book.points()),
         "told" => told(book, row),
-        "stands" => row.one("Stands", &book.stands(row.short(0), row.number(1))),
+        "stands" => Answer::one(
+            row.alloc,
+            "Stands",
+            &book.stands(row.short(0), row.number(1)),
+        ),
         _ => Ok(number(book, row)),
     }
 }
 
 // A number that the book tells.
-fn number(book: &EpochBook, row: Row) -> Answer {
+fn number(book: &EpochBook, row: &Row) -> Answer {
     match row.name {
         "cuts" => Answer::Number(book.cuts().len() as u64),
         "least_lo" => Answer::Found(book.least_lo(row.short(0))),

@@ -1,27 +1,27 @@
 use crate::answer::Answer;
 use crate::given::{give, images, page_of, pages};
 use crate::keeping::{done, renew};
-use crate::row::Row;
 use crate::store_calls::bench::Bench;
 use crate::store_calls::log_answers;
 use page_base::BaseStore;
+use row_words::Row;
 use std::alloc::AllocError;
 use std::mem;
 
-fn raise(store: &mut BaseStore, row: Row) -> Result<Answer, AllocError> {
+fn raise(store: &mut BaseStore, row: &Row) -> Result<Answer, AllocError> {
     let image = page_of(row.alloc, row.byte(2))?;
     done(store.raise(row.short(0), row.number(1), image))
 }
 
 // Adopts what was given, at one version.
-fn adopt(bench: &mut Bench, row: Row) -> Result<Answer, AllocError> {
+fn adopt(bench: &mut Bench, row: &Row) -> Result<Answer, AllocError> {
     let pages = pages(row.alloc, &bench.given)?;
     bench.given.clear();
     done(bench.store.adopt(row.number(0), pages))
 }
 
 // Merges what was given, over a floor.
-fn merge(bench: &mut Bench, row: Row) -> Result<Answer, AllocError> {
+fn merge(bench: &mut Bench, row: &Row) -> Result<Answer, AllocError> {
     let images = images(row.alloc, &bench.given)?;
     bench.given.clear();
     done(bench.store.merge(row.number(0), images))
@@ -33,7 +33,7 @@ fn swap_stores(bench: &mut Bench) -> Answer {
 }
 
 /// What a change of a store answers, or another call.
-pub fn answer(bench: &mut Bench, row: Row) -> Result<Answer, AllocError> {
+pub fn answer(bench: &mut Bench, row: &Row) -> Result<Answer, AllocError> {
     match row.name {
         "raise" => raise(&mut bench.store, row),
         "give" => give(&mut bench.given, row),
@@ -46,19 +46,20 @@ pub fn answer(bench: &mut Bench, row: Row) -> Result<Answer, AllocError> {
 }
 
 // The page, the version and the first byte of each stored image.
-fn show_images(store: &BaseStore, row: Row) -> Result<Answer, AllocError> {
+fn show_images(store: &BaseStore, row: &Row) -> Result<Answer, AllocError> {
     let mut shown = Vec::new(row.alloc);
     for image in store.pages() {
         let first = image.image().page().bytes()[0];
         shown.push((image.page(), image.version(), first))?;
     }
-    row.one("Images", &shown)
+    Answer::one(row.alloc, "Images", &shown)
 }
 
 // The version of a page, and the last byte of its image.
-fn show_image(store: &BaseStore, row: Row) -> Result<Answer, AllocError> {
+fn show_image(store: &BaseStore, row: &Row) -> Result<Answer, AllocError> {
     let page = row.short(0);
-    row.parts(
+    Answer::parts(
+        row.alloc,
         "Image",
         &(store.version(page), store.image(page)?.bytes()[4095]),
     )
@@ -72,7 +73,7 @@ fn stored_version(store: &BaseStore, page: u16) -> Answer {
 }
 
 // What the store tells, or another answer.
-fn shown(bench: &Bench, row: Row) -> Result<Answer, AllocError> {
+fn shown(bench: &Bench, row: &Row) -> Result<Answer, AllocError> {
     let store = &bench.store;
     match row.name {
         "images" => show_images(store, row),

@@ -1,10 +1,11 @@
 use crate::answer::Answer;
+use crate::given::key;
 use crate::outcomes::numbers;
-use crate::row::Row;
 use crate::store_calls::bench::Bench;
 use crate::store_calls::book_calls;
 use hot_log::{Steps, View};
 use redo_core::Record;
+use row_words::Row;
 use std::alloc::AllocError;
 
 fn record(found: Option<&Record>) -> Answer {
@@ -18,15 +19,15 @@ fn record(found: Option<&Record>) -> Answer {
 }
 
 // The greatest linked number, and how many records the search for it looks at.
-fn linked(view: View, row: Row) -> Result<Answer, AllocError> {
+fn linked(view: View, row: &Row) -> Result<Answer, AllocError> {
     let (from, limit) = (row.number(0), row.number(1));
     let mut steps = Steps::new();
     let linked = view.linked_counted(from, limit.max(from), &mut steps);
-    row.parts("Linked", &(linked, steps.count))
+    Answer::parts(row.alloc, "Linked", &(linked, steps.count))
 }
 
 /// A list that a log gives, or what another call answers.
-pub fn answer(bench: &Bench, row: Row) -> Result<Answer, AllocError> {
+pub fn answer(bench: &Bench, row: &Row) -> Result<Answer, AllocError> {
     let (view, alloc) = (bench.view(), row.alloc);
     let (page, from, to) = (row.short(0), row.number(1), row.number(2));
     match row.name {
@@ -40,7 +41,7 @@ pub fn answer(bench: &Bench, row: Row) -> Result<Answer, AllocError> {
 }
 
 // What is held, or is linked, or what the book tells.
-fn plain(bench: &Bench, row: Row) -> Result<Answer, AllocError> {
+fn plain(bench: &Bench, row: &Row) -> Result<Answer, AllocError> {
     match held(bench, row) {
         Answer::Unknown => book_calls::shown(&bench.book, row),
         known => Ok(known),
@@ -48,15 +49,15 @@ fn plain(bench: &Bench, row: Row) -> Result<Answer, AllocError> {
 }
 
 // What is held, whatever stands, or what another call answers.
-fn held(bench: &Bench, row: Row) -> Answer {
+fn held(bench: &Bench, row: &Row) -> Answer {
     let log = &bench.log;
     match row.name {
         "len" => Answer::Number(log.len() as u64),
         "is_empty" => Answer::Flag(log.is_empty()),
-        "get" => record(log.get(row.key())),
-        "holds_key" => Answer::Flag(log.holds_key(row.key())),
+        "get" => record(log.get(key(row))),
+        "holds_key" => Answer::Flag(log.holds_key(key(row))),
         "first_key" => Answer::Key(log.key_after(None)),
-        "key_after" => Answer::Key(log.key_after(Some(row.key()))),
+        "key_after" => Answer::Key(log.key_after(Some(key(row)))),
         "first_page" => Answer::Page(log.page_after(None)),
         "page_after" => Answer::Page(log.page_after(Some(row.short(0)))),
         _ => chain(bench.view(), row),
@@ -64,7 +65,7 @@ fn held(bench: &Bench, row: Row) -> Answer {
 }
 
 // What is linked from a number on, or another answer.
-fn chain(view: View, row: Row) -> Answer {
+fn chain(view: View, row: &Row) -> Answer {
     let (first, second) = (row.number(0), row.number(1));
     match row.name {
         "linked_to" => Answer::Number(view.linked_to(first, second.max(first))),
@@ -79,7 +80,7 @@ fn chain(view: View, row: Row) -> Answer {
 }
 
 // The first or the last record of a page.
-fn of_page(view: View, row: Row) -> Answer {
+fn of_page(view: View, row: &Row) -> Answer {
     let (page, from, to) = (row.short(0), row.number(1), row.number(2));
     match row.name {
         "next_of" => record(view.next_of(page, from, to)),

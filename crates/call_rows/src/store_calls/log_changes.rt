@@ -1,15 +1,16 @@
 use crate::answer::Answer;
+use crate::given::key;
 use crate::keeping::renew;
-use crate::row::Row;
 use crate::store_calls::bench::Bench;
 use crate::store_calls::book_calls;
 use epoch_book::EpochBook;
 use hot_log::{HotLog, PutFault};
 use redo_core::{Record, Refused};
+use row_words::Row;
 use std::alloc::AllocError;
 
 // Puts a record that writes nothing: epoch, number, segment backlink and page.
-fn put(log: &mut HotLog, row: Row, init: bool) -> Result<Answer, AllocError> {
+fn put(log: &mut HotLog, row: &Row, init: bool) -> Result<Answer, AllocError> {
     let (epoch, number, back, page) = (row.short(0), row.number(1), row.number(2), row.short(3));
     match Record::with(epoch, number, back, page, 0, init, Vec::new(row.alloc)) {
         Ok(redo) => put_record(log, row, redo),
@@ -17,23 +18,27 @@ fn put(log: &mut HotLog, row: Row, init: bool) -> Result<Answer, AllocError> {
     }
 }
 
-fn put_record(log: &mut HotLog, row: Row, redo: Record) -> Result<Answer, AllocError> {
+fn put_record(log: &mut HotLog, row: &Row, redo: Record) -> Result<Answer, AllocError> {
     match log.put(redo) {
-        Ok(put) => row.one("Put", &put),
+        Ok(put) => Answer::one(row.alloc, "Put", &put),
         Err(refused) => unput(row, &refused),
     }
 }
 
 // The backlink of the record that came back, and why.
-fn unput(row: Row, refused: &Refused<Record, PutFault>) -> Result<Answer, AllocError> {
+fn unput(row: &Row, refused: &Refused<Record, PutFault>) -> Result<Answer, AllocError> {
     match refused.fault {
-        PutFault::OtherRecord => row.parts("PutRefused", &(refused.value.back(), refused.fault)),
+        PutFault::OtherRecord => Answer::parts(
+            row.alloc,
+            "PutRefused",
+            &(refused.value.back(), refused.fault),
+        ),
         PutFault::Memory => Err(AllocError),
     }
 }
 
-fn remove(log: &mut HotLog, row: Row) -> Answer {
-    log.remove(row.key());
+fn remove(log: &mut HotLog, row: &Row) -> Answer {
+    log.remove(key(row));
     Answer::Word("Done")
 }
 
@@ -42,7 +47,7 @@ fn remove_dead(log: &mut HotLog, book: &EpochBook) -> Answer {
     Answer::Word("Done")
 }
 
-fn remove_folded(log: &mut HotLog, book: &EpochBook, row: Row) -> Answer {
+fn remove_folded(log: &mut HotLog, book: &EpochBook, row: &Row) -> Answer {
     log.remove_folded(book, row.short(0), row.number(1), row.number(2));
     Answer::Word("Done")
 }
@@ -53,7 +58,7 @@ fn copy_log(log: &mut HotLog) -> Result<Answer, AllocError> {
 }
 
 /// What a change of a log answers, or another call.
-pub fn answer(bench: &mut Bench, row: Row) -> Result<Answer, AllocError> {
+pub fn answer(bench: &mut Bench, row: &Row) -> Result<Answer, AllocError> {
     match row.name {
         "put" => put(&mut bench.log, row, false),
         "put_init" => put(&mut bench.log, row, true),

@@ -33,7 +33,7 @@ pub fn print_plan(row: &Row, nodes: usize, workers: usize) -> io::Result<()>
     requires nodes { (0 < nodes) × (nodes ≤ MAX_NODES) }
     requires workers { 0 < workers }
 {
-    let (_, plan) = planned(row.alloc(), nodes, workers, FACTS)?;
+    let (_, plan) = planned(row.alloc, nodes, workers, FACTS)?;
     row.one("Parcels", &plan.parcels)?;
     row.one("Folds", &plan.folds)?;
     row.one("Gossip", &plan.gossip)
@@ -52,16 +52,16 @@ pub fn print_ends<G: Gate + Sync, R: Threads + Wait + Sync>(
     requires nodes { (0 < nodes) × (nodes ≤ MAX_NODES) }
     requires workers { 0 < workers }
 {
-    let (floor, plan) = planned(row.alloc(), nodes, workers, trail)?;
-    let worked = work(rt, row.alloc(), floor, plan, gate)?;
+    let (floor, plan) = planned(row.alloc, nodes, workers, trail)?;
+    let worked = work(rt, row.alloc, floor, plan, gate)?;
     print_refused(row, &worked)?;
-    let closed = close_all(rt, row.alloc(), worked)?;
+    let closed = close_all(rt, row.alloc, worked)?;
     print_told(row, closed.as_slice())
 }
 
 // Prints how many rounds were refused, and how many parcels of each node.
 fn print_refused(row: &Row, worked: &Worked<Log>) -> io::Result<()> {
-    let mut parcels = Vec::new(row.alloc());
+    let mut parcels = Vec::new(row.alloc);
     for answers in worked.answers.as_slice() {
         parcels.push(refused_of(answers.as_slice()))?;
     }
@@ -80,7 +80,7 @@ fn refused_of(answers: &[Answer<Log>]) -> usize {
 
 // Prints what all nodes tell.
 fn print_told(row: &Row, closed: &[Closed<Log>]) -> io::Result<()> {
-    let joined = join_all(row.alloc(), closed)?;
-    let text = tell(row.alloc(), FACTS as usize, joined.as_slice())?;
+    let joined = join_all(row.alloc, closed)?;
+    let text = tell(row.alloc, FACTS as usize, joined.as_slice())?;
     row.lines(text.as_str())
 }

@@ -24,7 +24,7 @@ fn plans_of<R: Wait>(
 
 /// The pages of a node with the early places, folded by many threads.
 pub fn print_folds<R: Threads + Wait + Sync>(rt: &R, row: &Row) -> io::Result<()> {
-    let worked = early_at_the_first(rt, row.alloc(), 1)?;
+    let worked = early_at_the_first(rt, row.alloc, 1)?;
     match worked.nodes.first() {
         Some(node) => print_folds_of(rt, row, node),
         None => row.unknown(),
@@ -32,8 +32,8 @@ pub fn print_folds<R: Threads + Wait + Sync>(rt: &R, row: &Row) -> io::Result<()
 }
 
 fn print_folds_of<R: Threads + Wait + Sync>(rt: &R, row: &Row, node: &Node<Log>) -> io::Result<()> {
-    let plans = plans_of(rt, row.alloc(), node)?;
-    match fold_many(rt, row.alloc(), plans) {
+    let plans = plans_of(rt, row.alloc, node)?;
+    match fold_many(rt, row.alloc, plans) {
         Ok(folds) => print_each(row, folds.as_slice()),
         Err(_) => Err(AllocError.into()),
     }

@@ -86,8 +86,8 @@ pub fn early_at_the_first<R: Threads + Wait + Sync>(
 
 /// The second asks the first, and then the first folds its first page.
 pub fn exchange_and_fold<R: Threads + Wait + Sync>(rt: &R, row: &Row) -> io::Result<()> {
-    let worked = early_at_the_first(rt, row.alloc(), 2)?;
-    let refused = ask_and_fold(rt, row.alloc(), &worked)?;
+    let worked = early_at_the_first(rt, row.alloc, 2)?;
+    let refused = ask_and_fold(rt, row.alloc, &worked)?;
     print_nodes(rt, row, worked, refused)
 }
 
@@ -104,7 +104,7 @@ fn ask_and_fold<R: Threads + Wait + Sync>(
 
 /// Rounds that name no node: each is refused by name, and the others go on.
 pub fn strangers<R: Threads + Wait + Sync>(rt: &R, row: &Row) -> io::Result<()> {
-    let worked = early_at_the_first(rt, row.alloc(), 2)?;
+    let worked = early_at_the_first(rt, row.alloc, 2)?;
     let refused = name_strangers(rt, row, &worked)?;
     print_nodes(rt, row, worked, refused)
 }
@@ -117,14 +117,14 @@ fn name_strangers<R: Threads + Wait + Sync>(
 ) -> io::Result<usize> {
     let folds = [(0, 0), (3, 0), (1, 0)];
     let gossip = [(1, 3), (0, 1), (2, 1)];
-    let refusals = work_again(rt, row.alloc(), worked, &folds, &gossip)?;
+    let refusals = work_again(rt, row.alloc, worked, &folds, &gossip)?;
     row.one("Strangers", &refusals)?;
     Ok(refusals.len())
 }
 
 // Closes the nodes, and prints how many rounds were refused, and what the nodes have.
 fn print_nodes<R: Wait>(rt: &R, row: &Row, worked: Worked<Log>, refused: usize) -> io::Result<()> {
-    let closed = close_all(rt, row.alloc(), worked)?;
+    let closed = close_all(rt, row.alloc, worked)?;
     row.one("Refused", &refused)?;
     print_fronts(row, closed.as_slice())
 }
@@ -149,17 +149,17 @@ fn print_stored(row: &Row, segment: &Segment) -> io::Result<()> {
 
 /// Two nodes that share two thirds of the early places and never meet: what they tell, each by itself, the second one first.
 pub fn apart<R: Threads + Wait + Sync>(rt: &R, row: &Row) -> io::Result<()> {
-    let worked = early(rt, row.alloc(), 2, 3, &[22, 22])?;
-    let closed = close_all(rt, row.alloc(), worked)?;
+    let worked = early(rt, row.alloc, 2, 3, &[22, 22])?;
+    let closed = close_all(rt, row.alloc, worked)?;
     print_alone(row, closed.as_slice())
 }
 
 fn print_alone(row: &Row, closed: &[Closed<Log>]) -> io::Result<()> {
-    let mut alone = Vec::new(row.alloc());
+    let mut alone = Vec::new(row.alloc);
     for one in closed.chunks(1) {
-        alone.append(&mut join_all(row.alloc(), one)?)?;
+        alone.append(&mut join_all(row.alloc, one)?)?;
     }
     alone.as_mut_slice().reverse();
-    let text = tell(row.alloc(), EARLY, alone.as_slice())?;
+    let text = tell(row.alloc, EARLY, alone.as_slice())?;
     row.lines(text.as_str())
 }
