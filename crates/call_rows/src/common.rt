@@ -1,4 +1,4 @@
-//! What rows of nodes and of intakes need: lists of one and of two, and boxes.
+//! Lists of one and of two, and boxes, of any type.
 ghost use Rattle.std.specs.Prelude.{◌≡◌, ◌∷◌, [], Ok, length, IfOk};
 
 use std::alloc::{AllocError, Global};
