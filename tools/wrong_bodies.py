@@ -282,9 +282,10 @@ def held(crate, batch):
 
 def with_open_answers(crate, texts, changed):
     """The texts, with an open answer for each function that an edit changes. The check then names the goals that are left, and does not
-    write out the file that could answer them, which nobody reads and which takes up to a fifth of the check."""
+    write out the file that could answer them, which nobody reads and which takes up to a fifth of the check. A function has one, however
+    many edits change it: a second of the name would read as a fault of the function's own."""
     made, there = dict(texts), lambda path: made[path] if path in made else read_if_there(crate, path)
-    for parts in filter(None, changed):
+    for parts in dict.fromkeys(map(tuple, filter(None, changed))):
         folders = [f"proofs/{'/'.join([*parts[:-1], name])}" for name in (f"+{parts[-1]}", parts[-1])]
         is_in_cycle = any(there(f"{folders[0]}/{it}.antt") for it in ("Answers", "Invariants", "Proof"))
         folder = folders[0 if is_in_cycle else 1]

@@ -89,7 +89,8 @@ EDITS = [
     ("weak", "most_is_below_the_first", "if x < y { y } else { x }", "if x < y { x } else { y }"),
     ("weak", "most_is_the_first", "if x < y { y } else { x }", "let _other = y; x"),
     ("weak", "counted_and_nothing", "counted(u64::from(to)) + 1", "counted(u64::from(to))"),
-    ("weak", "counted_in_a_block", "counted(u64::from(to)) + 1", "{ counted(u64::from(to)) + 1 }"),
+    # (it comes first, so it is the one that is made in the function and not in its twin)
+    ("weak", "a_block_that_counts", "counted(u64::from(to)) + 1", "{ counted(u64::from(to)) + 1 }"),
     ("weak", "stands_twice", "x", "y"),
 ]
 
@@ -98,7 +99,7 @@ SAID = [
     "firm: check 1: 5 of 5 edits refused",
     "weak: check 1: 2 of 4 edits refused",
     "weak/most_is_the_first.edit: NOT REFUSED; the check ended with 0",
-    "weak/counted_in_a_block.edit: NOT REFUSED; the check ended with 0",
+    "weak/a_block_that_counts.edit: NOT REFUSED; the check ended with 0",
     "weak/stands_twice.edit: NOT REFUSED; an 'old:' text is in src/lib.rt",
     "7 passed, 3 failed",
 ]
