@@ -3,3 +3,4 @@ pub mod Putting
 pub mod Shown
 pub mod Adoption
 pub mod Merged
+pub mod Stores

@@ -1,7 +1,8 @@
-//! What the contracts fix, so that no other body meets them: what is lent is the page's own, and what is taken in shows one way.
+//! What the contracts fix, so that no other body meets them: what is lent is the page's own, what is taken in shows one way, and
+//! nothing else is stored.
 //! Each function states its law and is called by nobody.
 
-ghost use Rattle.std.specs.Prelude.{◌≡◌, ℕ, IfSome, IsTrue};
+ghost use Rattle.std.specs.Prelude.{◌≡◌, ℕ, [], IfSome, IsTrue};
 ghost use Rattle.redo_core.specs.Store.{version_of, image_of};
 
 use crate::images::BaseImage;
@@ -25,6 +26,7 @@ fn image_is_raised_one_way(
     requires images { image.2 ≡ same }
     ensures versions { IsTrue result → (p : ℕ) → version_of one.new p ≡ version_of other.new p }
     ensures images { IsTrue result → (p : ℕ) → image_of one.new p ≡ image_of other.new p }
+    ensures stored { IsTrue result → one.new.images ≡ other.new.images }
 {
     let (page, version, image) = image;
     let first = one.raise(page, version, image).is_ok();
@@ -65,4 +67,26 @@ fn floor_is_merged_one_way(
     let first = one.merge(floor, own).is_ok();
     let second = other.merge(floor, others).is_ok();
     first && second
+}
+
+// Whether a store of no images took in pages, of which there are none.
+fn no_page_is_adopted_of_none(
+    store: &mut BaseStore,
+    base: u64,
+    pages: Vec<(u16, SharedPage)>,
+) -> bool
+    requires images { store.old.images ≡ [] }
+    requires pages { pages.items ≡ [] }
+    ensures { IsTrue result → store.new.images ≡ [] }
+{
+    store.adopt(base, pages).is_ok()
+}
+
+// Whether a store of no images took in images, of which there are none.
+fn no_image_is_merged_of_none(store: &mut BaseStore, floor: u64, images: Vec<BaseImage>) -> bool
+    requires store { store.old.images ≡ [] }
+    requires images { images.items ≡ [] }
+    ensures { IsTrue result → store.new.images ≡ [] }
+{
+    store.merge(floor, images).is_ok()
 }
