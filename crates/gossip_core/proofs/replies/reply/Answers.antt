@@ -1,5 +1,5 @@
 use Rattle.std.proofs.lemmas.Grind.{common_steps}
-use Rattle.std.proofs.Common.{◌<◌, arith}
+use Rattle.std.proofs.Common.{◌<◌, arith, rules}
 use Rattle.std.proofs.lemmas.Result.{IfOk-weaker}
 use Rattle.gossip_core.proofs.Filling.{fills, answers_short, answers_whole}
 use Rattle.gossip_core.proofs.replies.reply.Goals as goal
@@ -37,3 +37,6 @@ returns-in-Ok-clause-answers c = grind (arith, common_steps)
 
 pub returns-then-anchor-base_point-clause-refused : goal.returns-then-anchor-base_point-clause-refused
 returns-then-anchor-base_point-clause-refused c = grind (arith, common_steps)
+
+pub returns-then-anchor-base_point-clause-answers : goal.returns-then-anchor-base_point-clause-answers
+returns-then-anchor-base_point-clause-answers c = search rules

@@ -9,3 +9,9 @@ returns-in_default-clause-answered g c = answered_none _ _ _ c.requires.none
 
 pub drain_all-halt-requires-clause-node : goal.drain_all-halt-requires-clause-node
 drain_all-halt-requires-clause-node g c = all_at c.args.nodes.now (c.args.hold.node - 1) c.in-Some.node.now (λ n. IsNode c.args.board.now.words n.number) c.requires.nodes c.in-Some.ensures.1
+
+pub returns-clause-answered : goal.returns-clause-answered
+returns-clause-answered g c = c.drain_all-halt.ensures.answered
+
+pub returns-clause-count : goal.returns-clause-count
+returns-clause-count g c = λ _. c.drain_all-halt.ensures.count

@@ -32,3 +32,12 @@ returns-clause-sound c =
     IfErr-weaker c.bring_in.result (λ e. (e ≡ Memory) ⊎ RefusesAll own other e) (λ e. AreOfOneLog own other → e ≡ Memory)
     (λ (why : Refusal) h. only_memory own other why (memory_or why (RefusesAll own other why) _ (refused_told own other why same) h))
     c.bring_in.ensures.refused
+
+pub returns-clause-joins : goal.returns-clause-joins
+returns-clause-joins c = search rules
+
+pub returns-clause-takes : goal.returns-clause-takes
+returns-clause-takes c = search rules
+
+pub returns-clause-refused : goal.returns-clause-refused
+returns-clause-refused c = search rules

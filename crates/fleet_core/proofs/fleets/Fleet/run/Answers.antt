@@ -40,3 +40,6 @@ pub returns-clause-calls : goal.returns-clause-calls
 returns-clause-calls c =
     subst (λ (xs : List (Step Fact)). RunCalls c.args.self.now xs c.loop-step.replies.items c.loop-step.self)
     (take_all c.loop-step.step-index c.args.steps.now c.loop-step-test.false) c.loop-step.invariant.calls
+
+pub returns-clause-count : goal.returns-clause-count
+returns-clause-count c = search rules

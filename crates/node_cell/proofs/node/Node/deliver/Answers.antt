@@ -49,3 +49,6 @@ give-requires-clause-trail g c = grind (arith, common_steps)
 
 pub returns-in-Ok-clause-publishes : goal.returns-in-Ok-clause-publishes
 returns-in-Ok-clause-publishes g c = grind (arith, common_steps)
+
+pub returns-in-Ok-clause-list : goal.returns-in-Ok-clause-list
+returns-in-Ok-clause-list g c = search rules

@@ -1,3 +1,4 @@
+use Rattle.std.proofs.Common.{rules}
 use Rattle.read_cache.proofs.Hits.{hit_result, hit_outside, hit_broken}
 use Rattle.read_cache.proofs.cached.CachedSegment.read.Goals as goal
 
@@ -18,3 +19,6 @@ returns-in-None-clause-outside c = rw (← c.find.ensures.segment) c.read_anew.e
 
 pub returns-in-None-clause-broken : goal.returns-in-None-clause-broken
 returns-in-None-clause-broken c = rw (← c.find.ensures.segment) (record { only = λ g n. (c.read_anew.ensures.broken g n).0; unkept = λ _. c.read_anew.ensures.broken })
+
+pub returns-in-None-clause-own : goal.returns-in-None-clause-own
+returns-in-None-clause-own c = search rules

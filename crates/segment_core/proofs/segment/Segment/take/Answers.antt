@@ -7,3 +7,9 @@ returns-clause-tells c = take_tells unchanged_exactly c.args.self.now c.args.fac
 
 pub returns-clause-sound : goal.returns-clause-sound
 returns-clause-sound c = take_sound no_conflict c.args.self.now c.args.fact c.take_fact.result c.take_fact.ensures.refused
+
+pub returns-clause-known : goal.returns-clause-known
+returns-clause-known c = c.take_fact.ensures.known
+
+pub returns-clause-stores : goal.returns-clause-stores
+returns-clause-stores c = c.take_fact.ensures.stores

@@ -1,5 +1,5 @@
 use Rattle.std.proofs.lemmas.Grind.{common_steps}
-use Rattle.std.proofs.Common.{subst, arith}
+use Rattle.std.proofs.Common.{subst, arith, rules}
 use Rattle.hot_log.specs.Putting.{Puts}
 use Rattle.redo_core.specs.declared.keys.Key.{Key}
 use Rattle.segment_core.specs.Savepoint.{NotesKey}
@@ -35,3 +35,6 @@ returns-in-Ok-Known-clause-holds c = grind (arith, common_steps)
 
 pub returns-clause-unchanged : goal.returns-clause-unchanged
 returns-clause-unchanged c = grind (arith, common_steps)
+
+pub returns-clause-holds : goal.returns-clause-holds
+returns-clause-holds c = search rules
