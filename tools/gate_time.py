@@ -1,22 +1,34 @@
 """Where the gate's processor time goes: for each crate its proofs, its tests and its edits, in seconds.
 
-The processes below this one are looked at twice a second, so a process that lives less than that may be missed. How long a walk through
-memory takes is told beside, for it has been seen to take five times as long at one hour as at another, and a check twice as long.
+The processes below this one are looked at twice a second, so a process that lives less than that may be missed. How quiet the machine was
+is told beside, for one check has been seen to take twice as long at one hour as at another: how long a walk through memory takes, and how
+much of a core a processor has. Called by itself it tells that of each processor now.
 """
 
 import array
+import ctypes
 import os
 import pathlib
 import re
 import statistics
+import sys
+import tempfile
 import threading
 import time
+
+ROOT = pathlib.Path(__file__).resolve().parent.parent
+sys.path.insert(0, str(ROOT / "tools/fail_alloc"))
+import sweep
 
 TICK = os.sysconf("SC_CLK_TCK")
 KINDS = ("proofs", "tests", "edits")
 WALK = 1 << 22  # the places of a walk, of eight bytes each: more than a core's caches hold
 STEPS = 500_000
 LOOKS_A_WALK = 60
+LOOKS_OF_A_PROCESSOR = 10
+SOURCE = ROOT / "tools/core_share.c"
+TURNS = 1 << 21
+ADDITIONS = 16 * TURNS  # of one chain, each of which takes a cycle
 
 
 def stat_of(process):
@@ -38,22 +50,50 @@ def work_of(process):
     return words[words.index("--crate-name") + 1], kind
 
 
+def spread(taken, places):
+    """The least, the greatest and the middle of what was taken, and how often it was."""
+    middle = statistics.median(taken)
+    return f"{min(taken):.{places}f} to {max(taken):.{places}f}, {middle:.{places}f} in the middle, {len(taken)} times"
+
+
 class Walk:
     """A walk through memory in which each step waits for the one before."""
 
     def __init__(self):
         self.places = array.array("Q", (place * 2654435761 % WALK for place in range(WALK)))
-        self.seconds = []
+        self.taken = []
 
     def go(self):
         began, place = time.thread_time(), 0
         for step in range(STEPS):
             place = (self.places[place] + step) % WALK
-        self.seconds.append(time.thread_time() - began)
+        self.taken.append(time.thread_time() - began)
 
     def line(self):
-        middle, times = statistics.median(self.seconds), len(self.seconds)
-        return f"a walk through memory: {min(self.seconds):.2f} to {max(self.seconds):.2f} s, {middle:.2f} in the middle, {times} times"
+        return f"a walk through memory, in seconds: {spread(self.taken, 2)}"
+
+
+class Core:
+    """How many additions a processor makes in a cycle, of four side by side: four where it has its core alone, and down to two where the
+    core's other thread, which may be another machine's, computes too."""
+
+    def __init__(self):
+        with tempfile.TemporaryDirectory() as folder:
+            self.code = ctypes.CDLL(str(sweep.build_shim(folder, SOURCE)))
+        self.taken = []
+
+    def go(self):
+        one, four = self.seconds(self.code.one_by_one), self.seconds(self.code.side_by_side)
+        self.taken.append((4 * one / four, ADDITIONS / one / 1e9))
+
+    def seconds(self, code):
+        began = time.thread_time()
+        code(ctypes.c_ulong(TURNS))
+        return time.thread_time() - began
+
+    def line(self):
+        additions, clocks = zip(*self.taken)
+        return f"additions a cycle, 4 on a core of its own: {spread(additions, 1)}; at {statistics.median(clocks):.1f} GHz"
 
 
 class GateTime(threading.Thread):
@@ -63,7 +103,7 @@ class GateTime(threading.Thread):
         super().__init__(daemon=True)
         self.ended = threading.Event()
         self.seconds = {}
-        self.walk = Walk()
+        self.measures = Walk(), Core()
 
     def run(self):
         looks = 0
@@ -73,7 +113,8 @@ class GateTime(threading.Thread):
             except (OSError, ValueError, IndexError):
                 pass
             if looks % LOOKS_A_WALK == 0:
-                self.walk.go()
+                for measure in self.measures:
+                    measure.go()
             looks += 1
 
     def look(self):
@@ -114,9 +155,24 @@ class GateTime(threading.Thread):
             yield f"  {crate}: " + ", ".join(f"{by_kind[kind]:.0f}" for kind in KINDS)
         sums = {kind: sum(by_kind[kind] for by_kind in totals.values()) for kind in KINDS}
         yield f"  all: {', '.join(f'{sums[kind]:.0f}' for kind in KINDS)}, {sum(sums.values()) / 60:.1f} minutes"
-        if self.walk.seconds:
-            yield self.walk.line()
+        yield from (measure.line() for measure in self.measures if measure.taken)
 
     def stop(self):
         self.ended.set()
         self.join(timeout=5)
+
+
+def main():
+    """Tells how quiet each processor is now."""
+    measures = Walk(), Core()
+    for processor in sorted(os.sched_getaffinity(0)):
+        os.sched_setaffinity(0, {processor})
+        for measure in measures:
+            measure.taken.clear()
+            for _ in range(LOOKS_OF_A_PROCESSOR):
+                measure.go()
+        print(f"processor {processor}: " + "; ".join(measure.line() for measure in measures))
+
+
+if __name__ == "__main__":
+    main()
