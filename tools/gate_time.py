@@ -1,3 +1,4 @@
+#!/usr/bin/env python3
 """Where the gate's processor time goes: for each crate its proofs, its tests and its edits, in seconds.
 
 The processes below this one are looked at twice a second, so a process that lives less than that may be missed. How quiet the machine was
