@@ -75,8 +75,8 @@ class Walk:
 
 
 class Core:
-    """How many additions a processor makes in a cycle, of four side by side: four where it has its core alone, and down to two where the
-    core's other thread, which may be another machine's, computes too."""
+    """How many additions a processor makes in a cycle: four where it has its core alone, and down to two where the core's other thread,
+    which may be another machine's, computes too."""
 
     def __init__(self):
         with tempfile.TemporaryDirectory() as folder:
