@@ -75,8 +75,8 @@ class Walk:
 
 
 class Core:
-    """How many additions a processor makes in a cycle: four where it has its core alone, and down to two where the core's other thread,
-    which may be another machine's, computes too."""
+    """How many additions a processor makes in a cycle: four or more, by its kind, where it has its core alone, and down to two where the
+    core's other thread, which may be another machine's, computes too."""
 
     def __init__(self):
         with tempfile.TemporaryDirectory() as folder:
@@ -94,7 +94,7 @@ class Core:
 
     def line(self):
         additions, clocks = zip(*self.taken)
-        return f"additions a cycle, 4 on a core of its own: {spread(additions, 1)}; at {statistics.median(clocks):.1f} GHz"
+        return f"additions a cycle, 4 or more on a core of its own: {spread(additions, 1)}; at {statistics.median(clocks):.1f} GHz"
 
 
 class GateTime(threading.Thread):
