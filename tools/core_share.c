@@ -1,6 +1,6 @@
 /* Sixteen additions one behind the other, and eight such rows of eight side by side. A core that computes for nobody else makes four or
-   more of those in a cycle; where its other thread computes too, down to two. No header is included, so that the toolchain's own compiler builds it
-   on a machine that has no C headers. */
+   more of those in a cycle; where its other thread computes too, down to two. No header is included, so that the toolchain's own
+   compiler builds it on a machine that has no C headers. */
 
 #define EIGHT(it) it it it it it it it it
 
