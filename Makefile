@@ -1,0 +1,30 @@
+# `make help` lists the targets.
+PYTEST = /usr/bin/python3 -m pytest
+TASK ?= run
+INPUT ?= examples/first.txt
+
+.PHONY: build help try test bench prove pictures dist
+
+build: ## prove and build fleet and fleet-node (half an hour or more from nothing)
+	tools/build.py fleet fleet_node
+
+help: ## this page
+	@awk -F ':.*## ' '/^[a-z]+:.*## / { printf "make %-9s %s\n", $$1, $$2 }' Makefile
+
+try: ## run an example without proofs: make try TASK=run|check|inspect|node INPUT=FILE
+	@tools/try.sh $(TASK) $(INPUT)
+
+test: build ## every test from outside; builds what is missing
+	$(PYTEST) tests
+
+bench: build ## measure the programs: make bench PEER=PROGRAM writes bench/RESULTS.md
+	bench/measure.py $(if $(PEER),--peer $(PEER)) --results
+
+prove: ## prove one crate and those below it: make prove CRATE=segment_core
+	tools/build.py $(CRATE)
+
+pictures: ## draw docs/pictures again
+	tools/documents.py --pictures
+
+dist: build ## pack the proved programs, the archive and the help into one file
+	tools/dist.py
