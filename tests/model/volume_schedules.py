@@ -1,0 +1,587 @@
+"""Schedules of the volume model: a directed one for each wrong implementation, random ones, shrinking, and their text."""
+
+import itertools
+import time
+
+from .volume import Violation, World, replay
+
+
+class Schedule:
+    """A world, and the moves that brought it where it is. After a violation it makes no further move."""
+
+    def __init__(self, **world):
+        self.options, self.world, self.moves, self.violation = world, World(**world), [], None
+
+    def do(self, *move):
+        if self.violation is None and not self.world.gone:
+            self.moves.append(move)
+            try:
+                self.world.do(move)
+            except Violation as violation:
+                self.violation = violation
+
+    def start(self, generation, margin="lo"):
+        self.do("start", generation, margin)
+        return len(self.world.engines) - 1
+
+    def requests(self, engine, i, kind):
+        """The engine's requests of a kind to a node, the newest last."""
+        return [request for node, request in self.world.sent if node == i and request[0] == kind and request[1] == engine]
+
+    def give(self, engine, nodes, kind, fate="heard", having=lambda request: True):
+        """Delivers the engine's newest fitting request to each node."""
+        for i in nodes:
+            if fitting := [request for request in self.requests(engine, i, kind) if having(request)]:
+                self.do("deliver", i, fitting[-1], fate)
+
+    def hear_late(self, engine, i):
+        if answers := [late for late in self.world.late if late[:2] == (engine, i)]:
+            self.do("hear", *answers[-1])
+
+    def known(self, engine, nodes):
+        for kind in ("fence", "pull", "push"):
+            self.give(engine, nodes, kind)
+
+    def choose(self, engine, nodes):
+        """Proposes and takes truncations until the volume is open."""
+        for _ in range(3):
+            if self.world.engines[engine].phase != "open":
+                for kind in ("propose", "take", "push"):
+                    self.give(engine, nodes, kind)
+
+    def open(self, engine, nodes):
+        self.known(engine, nodes)
+        self.choose(engine, nodes)
+
+    def transaction(self, engine, nodes):
+        self.do("write", engine, 1, 0)
+        self.do("write", engine, 1, 0)
+        for number in self.world.engines[engine].last - 1, self.world.engines[engine].last:
+            self.give(engine, nodes, "take", having=lambda request: request[4][0] == "record" and request[4][2] == number)
+
+    def readmit(self, engine, i):
+        self.give(engine, [i], "gossip")
+        self.give(engine, [i], "admit")
+
+    def gossip_all(self, nodes, count=None):
+        for fact in list(self.world.gossip)[:count]:
+            for i in nodes:
+                self.do("fact", i, fact)
+
+    def end(self):
+        if self.violation is None and not self.world.gone:
+            try:
+                self.world.check()
+            except Violation as violation:
+                self.violation = violation
+        return self.violation
+
+
+def cut_of(epoch):
+    return lambda request: request[4][:2] == ("cut", epoch)
+
+
+# ---- directed schedules
+
+
+def torn_transaction(s):
+    """Half a transaction reaches node 0; the next engine recovers from it."""
+    a = s.start(2)
+    s.open(a, [0, 1])
+    s.do("write", a, 1, 0)
+    s.give(a, [0, 1], "take")
+    b = s.start(3)
+    s.open(b, [0, 1])
+    s.transaction(b, [0, 1])
+
+
+def fronts_of_two_epochs(s):
+    """Node 2 is ahead by epoch and behind by records."""
+    a = s.start(2)
+    s.open(a, [0, 1])
+    s.transaction(a, [0, 1])
+    s.give(a, [2], "fence")
+    s.give(a, [2], "take", having=cut_of(1))
+    b = s.start(3)
+    s.known(b, [0, 1])
+    s.give(b, [0, 1], "propose")
+    s.give(b, [2], "fence")
+    s.give(b, [2], "take")
+    c = s.start(4)
+    s.open(c, [1, 2])
+
+
+def two_proposals(s):
+    """Node 0 accepted one truncation, nodes 1 and 2 another of a greater generation."""
+    a = s.start(2)
+    s.known(a, [0, 1])
+    s.give(a, [0], "propose", "lost")
+    b = s.start(3, "more")
+    s.known(b, [1, 2])
+    s.give(b, [1, 2], "propose")
+    c = s.start(4)
+    s.open(c, [0, 1])
+
+
+def pending_ignored(s):
+    a = s.start(2)
+    s.known(a, [0, 1])
+    s.give(a, [0, 1], "propose")
+    b = s.start(3, "more")
+    s.open(b, [0, 1])
+
+
+def repaired_by_gossip(s):
+    a = s.start(2)
+    s.open(a, [0, 1])
+    s.transaction(a, [0, 1])
+    s.gossip_all([2], 2)
+    s.do("wipe", 1)
+    s.do("copy", 1, 2)
+    b = s.start(3)
+    s.open(b, [1, 2])
+
+
+def wiped_after_a_commit(s):
+    a = s.start(2)
+    s.open(a, [0, 1])
+    s.transaction(a, [0, 1])
+    s.do("wipe", 1)
+    b = s.start(3)
+    s.open(b, [1, 2])
+
+
+def last_record_alone(s):
+    """A commit's last record reaches two nodes, the record before it none."""
+    a = s.start(2)
+    s.open(a, [0, 1])
+    s.do("write", a, 1, 0)
+    s.do("write", a, 1, 0)
+    last = s.world.engines[a].last
+    s.give(a, [0, 1], "take", having=lambda request: request[4][0] == "record" and request[4][2] == last)
+    b = s.start(3)
+    s.open(b, [1, 2])
+
+
+def plain_fronts_after_a_fence(s):
+    """Gossip brings a dead engine's records to nodes that the next engine has already asked."""
+    a = s.start(2)
+    s.open(a, [0, 1])
+    s.transaction(a, [])
+    b = s.start(3)
+    s.known(b, [0, 1])
+    s.gossip_all([0, 1])
+    for i in 0, 1:
+        s.do("plain_front", a, i)
+        s.do("read", i)
+    s.choose(b, [0, 1])
+
+
+def reported_late(s):
+    """A pending truncation is finished by an engine that goes on before W nodes report it."""
+    a = s.start(2)
+    s.known(a, [0, 1])
+    s.give(a, [0], "propose", "lost")
+    b = s.start(3)
+    s.known(b, [0, 1])
+    s.give(b, [0, 1], "propose")
+    s.give(b, [0, 1], "propose", "lost")
+    c = s.start(4, "more")
+    s.open(c, [1, 2])
+
+
+def commits(s):
+    a = s.start(2)
+    s.open(a, [0, 1])
+    s.transaction(a, [0, 1])
+    s.transaction(a, [0, 1])
+    b = s.start(3)
+    s.open(b, [1, 2])
+
+
+def admitted_behind(s):
+    a = s.start(2)
+    s.open(a, [0, 1])
+    s.transaction(a, [0, 1])
+    s.do("wipe", 0)
+    b = s.start(3)
+    s.give(b, [0, 1, 2], "fence")
+    s.give(b, [1, 2], "pull")
+    s.give(b, [0], "admit")
+    c = s.start(4)
+    s.open(c, [0, 2])
+
+
+def old_admit(s):
+    """Create's admit reaches a node that lost its files."""
+    a = s.start(2)
+    s.open(a, [0, 1])
+    s.transaction(a, [0, 1])
+    s.do("wipe", 1)
+    s.do("deliver", 1, ("admit", -1, 1, 1, 0, 0, None), "lost")
+    b = s.start(3)
+    s.open(b, [1, 2])
+
+
+def birth_learnt_late(s):
+    """A stale engine admits a node that lost its files after a newer engine had fenced it."""
+    a = s.start(2)
+    s.give(a, [1, 2], "fence")
+    s.give(a, [1, 2], "pull")
+    s.give(a, [1], "push")
+    s.give(a, [2], "push", "late")
+    b = s.start(3, "more")
+    s.give(b, [0, 2], "fence")
+    s.give(b, [0, 2], "pull")
+    s.do("wipe", 0)
+    s.give(a, [0], "fence")
+    s.hear_late(a, 2)
+    s.readmit(a, 0)
+    s.give(a, [0], "fence")
+    s.give(a, [0, 1], "propose")
+    s.give(b, [1], "fence")
+    s.give(b, [1, 2], "push")
+    s.give(b, [1, 2], "propose")
+
+
+def old_proposal_again(s):
+    """The proposal of an earlier epoch of the same generation is delivered once more."""
+    a = s.start(2)
+    s.known(a, [0, 1])
+    s.give(a, [0], "propose", "lost")
+    b = s.start(3)
+    s.known(b, [0, 1])
+    s.give(b, [0, 1], "propose")
+    s.give(b, [0, 1], "take")
+    s.give(b, [0, 1], "push")
+    s.give(b, [0, 1], "propose", "lost", cut_of(2))
+    s.give(b, [0, 1], "propose", "lost", cut_of(1))
+    c = s.start(4, "more")
+    s.open(c, [0, 1])
+
+
+def old_acceptance(s):
+    """The acceptance of the pending truncation comes after the engine proposed the next one."""
+    a = s.start(2)
+    s.known(a, [0, 1])
+    s.give(a, [0], "propose", "lost")
+    b = s.start(3)
+    s.known(b, [0, 1])
+    s.give(b, [2], "fence")
+    s.give(b, [0, 2], "propose", "late")
+    s.give(b, [0, 1], "propose")
+    s.give(b, [0, 1], "take")
+    s.give(b, [0, 1], "push")
+    s.hear_late(b, 0)
+    s.hear_late(b, 2)
+    c = s.start(4, "more")
+    s.open(c, [1, 2])
+    s.give(b, [0], "propose", "lost", cut_of(2))
+    s.give(b, [0, 1, 2], "take", "lost", cut_of(2))
+
+
+def advance_ahead(s):
+    a = s.start(2)
+    s.open(a, [0, 1])
+    s.transaction(a, [])
+    s.do("advance", a, True)
+    b = s.start(3)
+    s.open(b, [0, 1])
+
+
+def asked_one_by_one(s):
+    """Each node is asked for its facts as soon as it is fenced."""
+    a = s.start(3)
+    s.give(a, [0], "fence")
+    s.give(a, [0], "pull")
+    s.do("wipe", 0)
+    c = s.start(2, "more")
+    s.give(c, [0], "fence")
+    s.known(c, [1, 2])
+    s.readmit(c, 0)
+    s.give(c, [0, 2], "propose")
+    s.give(a, [1], "fence")
+    s.give(a, [1], "pull")
+    s.give(a, [2], "fence")
+    s.give(a, [1, 2], "push")
+    s.give(a, [1, 2], "propose")
+
+
+def pulled_from_another_life(s):
+    """A node answers the question of step 2 in another life than the fence."""
+    a = s.start(3)
+    s.give(a, [0], "fence")
+    s.do("wipe", 0)
+    c = s.start(2)
+    s.give(c, [0], "fence")
+    s.known(c, [1, 2])
+    s.readmit(c, 0)
+    s.give(a, [1], "fence")
+    b = s.start(3, "more")
+    s.give(b, [0, 2], "fence")
+    for engine in a, b:
+        for kind in ("pull", "push", "propose"):
+            s.give(engine, s.world.engines[engine].quorum, kind)
+
+
+def second_create(s):
+    """A second Create hears of nodes that were fresh at different times."""
+    a = len(s.world.engines)
+    s.do("create")
+    s.give(a, [2], "status")
+    s.do("deliver", 2, ("admit", -1, 1, 2, 0, 0, None), "lost")
+    b = s.start(2)
+    s.open(b, [0, 1, 2])
+    s.transaction(b, [0, 1, 2])
+    for i in 0, 1:
+        s.do("wipe", i)
+        s.give(a, [i], "status")
+    s.give(a, [0, 1], "admit")
+    c = s.start(3)
+    s.open(c, [0, 1])
+
+
+def pair_lost_by_an_admission(s):
+    a = s.start(2)
+    s.known(a, [0, 1])
+    s.give(a, [0, 1], "propose")
+    s.do("wipe", 0)
+    b = s.start(3)
+    s.give(b, [0], "fence")
+    s.known(b, [1, 2])
+    s.readmit(b, 0)
+    c = s.start(4, "more")
+    s.open(c, [0, 2])
+
+
+def front_of_an_older_epoch(s):
+    """hi equals lo, so the numbers of two epochs overlap."""
+    a = s.start(2)
+    s.open(a, [0, 1])
+    s.transaction(a, [0, 1])
+    s.give(a, [2], "fence")
+    for number in 1, 2:
+        s.give(a, [2], "take", having=lambda request: request[4][2] == number)
+    s.give(a, [2], "take", having=cut_of(1))
+    s.transaction(a, [2])
+    b = s.start(3)
+    s.open(b, [0, 1])
+    s.give(b, [2], "fence")
+    s.transaction(b, [0])
+    s.give(b, [2], "front")
+    c = s.start(4)
+    s.open(c, [1, 2])
+
+
+def not_known_at_a_quorum(s):
+    """A truncation keeps a commit that only one living node has."""
+    a = s.start(2)
+    s.open(a, [0, 1])
+    s.transaction(a, [0])
+    b = s.start(3)
+    s.give(b, [0, 1], "fence")
+    s.give(b, [0, 1], "pull")
+    s.choose(b, [0, 1])
+    s.do("wipe", 0)
+    c = s.start(4)
+    s.give(c, [0], "fence")
+    s.open(c, [1, 2])
+
+
+SCHEDULES = {
+    "truncates_at_the_complete_point": torn_transaction,
+    "compares_fronts_without_a_union": fronts_of_two_epochs,
+    "adopts_a_pending_truncation_by_epoch": two_proposals,
+    "ignores_a_pending_truncation": pending_ignored,
+    "counts_unchanged": last_record_alone,
+    "counts_plain_fronts": plain_fronts_after_a_fence,
+    "fresh_node_answers_fenced": wiped_after_a_commit,
+    "repaired_node_counts": repaired_by_gossip,
+    "proposes_before_the_last_epoch_is_reported": reported_late,
+    "writes_before_the_truncation_is_chosen": torn_transaction,
+    "leaves_out_block_backlinks": commits,
+    "writes_page_0_first": torn_transaction,
+    "admits_a_node_that_is_behind": admitted_behind,
+    "admits_any_birth": old_admit,
+    "admits_a_birth_learnt_late": birth_learnt_late,
+    "overwrites_a_later_proposal": old_proposal_again,
+    "counts_an_old_acceptance": old_acceptance,
+    "advances_above_the_durable_point": advance_ahead,
+    "asks_before_the_quorum_is_fenced": asked_one_by_one,
+    "counts_an_answer_of_another_birth": pulled_from_another_life,
+    "creates_with_one_status_round": second_create,
+    "admits_without_the_accepted_pair": pair_lost_by_an_admission,
+    "counts_a_front_of_an_older_epoch": front_of_an_older_epoch,
+    "reader_counts_plain_fronts": plain_fronts_after_a_fence,
+    "skips_known_at_a_quorum": not_known_at_a_quorum,
+}
+OPTIONS = {"creates_with_one_status_round": {"created": (0, 1)}}
+
+
+# ---- random schedules
+
+
+class Random(Schedule):
+    """Blows of a random schedule: an engine's next requests to a node or a quorum, old messages, lost nodes, gossip, reads."""
+
+    def __init__(self, rng, **world):
+        super().__init__(**world)
+        self.rng, self.quorums = rng, {}
+        self.engines_left, self.wipes_left, self.writes_left = rng.randint(2, 5), rng.choice((0, 1, 1, 2, 2, 3)), rng.choice((2, 4, 6, 9))
+        self.odds = {
+            "wipe": rng.choice((0, 0.03, 0.08)),
+            "gossip": rng.choice((0, 0.02, 0.08)),
+            "start": rng.choice((0.03, 0.08, 0.15)),
+            "old": rng.choice((0, 0.03, 0.1)),
+            "skip": rng.choice((0, 0.02, 0.06)),
+        }
+
+    def fate(self):
+        return self.rng.choices(("heard", "lost", "late"), (0.92, 0.04, 0.04))[0]
+
+    def begin(self):
+        """Often a directed schedule with moves left out and put in, so that the rest of the run starts from a tense state."""
+        fitting = [schedule for name, schedule in SCHEDULES.items() if name not in OPTIONS]
+        if self.world.n != 3 or self.rng.random() < 0.4:
+            return
+        script = Schedule(**self.options)
+        self.rng.choice(fitting)(script)
+        for move in script.moves[: self.rng.choice((999, self.rng.randint(5, 40)))]:
+            if self.rng.random() >= self.odds["skip"]:
+                self.do(*move)
+            if self.rng.random() < self.odds["skip"]:
+                self.blow()
+
+    def start_engine(self):
+        self.engines_left -= 1
+        if self.rng.random() < 0.05:
+            self.do("create")
+            return
+        generations = [engine.generation for engine in self.world.engines] or [1]
+        newest = max(generations + [node.generation for node in self.world.nodes]) + 1
+        generation = self.rng.choices((newest, self.rng.choice(generations), self.rng.randint(2, newest)), (0.7, 0.2, 0.1))[0]
+        self.do("start", generation, self.rng.choice(("lo", "lo", "seen", "more")))
+
+    def blow(self):
+        rng, world = self.rng, self.world
+        if not world.engines or (self.engines_left and rng.random() < self.odds["start"]):
+            self.start_engine()
+        elif self.wipes_left and rng.random() < self.odds["wipe"]:
+            self.wipes_left -= 1
+            self.do("wipe", rng.randrange(world.n))
+        elif rng.random() < self.odds["gossip"]:
+            if world.gossip and rng.random() < 0.5:
+                self.do("fact", rng.randrange(world.n), rng.choice(list(world.gossip)[-8:]))
+            else:
+                self.do("copy", rng.randrange(world.n), rng.randrange(world.n))
+        elif rng.random() < self.odds["old"]:
+            node, request = rng.choice(list(world.sent)[-60:] if rng.random() < 0.5 else list(world.sent))
+            self.do("deliver", node, request, self.fate())
+        elif rng.random() < 0.05:
+            kind = rng.choice(("read", "read", "plain_front"))
+            for i in rng.sample(range(world.n), world.w):
+                self.do(*(("read", i) if kind == "read" else (kind, rng.randrange(len(world.engines)), i)))
+        elif world.late and rng.random() < 0.1:
+            self.do("hear", *rng.choice(list(world.late)))
+        else:
+            self.serve_engine(rng.choice((world.engines[-1], rng.choice(world.engines))))
+
+    def nodes_for(self, engine):
+        """Mostly a quorum that the engine keeps, else one node or any number."""
+        size = self.rng.choices((self.world.w, 1, self.rng.randint(1, self.world.n)), (0.6, 0.2, 0.2))[0]
+        nodes = self.rng.sample(range(self.world.n), size)
+        return self.quorums.setdefault(engine.number, nodes) if size == self.world.w and self.rng.random() < 0.75 else nodes
+
+    def serve_engine(self, engine):
+        rng, nodes = self.rng, self.nodes_for(engine)
+        if rng.random() < 0.15:
+            self.deliver(engine, "fence", nodes[:1])
+        elif rng.random() < 0.15:
+            self.readmit(engine.number, nodes[0])
+        elif engine.phase == "open":
+            self.use(engine, nodes)
+        else:
+            kinds = {"create": "status", "fence": "fence", "pull": "pull", "known": "push", "propose": "propose", "take": "take", "dead": "admit"}
+            self.deliver(engine, kinds[engine.phase], engine.quorum or nodes if engine.phase == "pull" else nodes)
+
+    def deliver(self, engine, kind, nodes):
+        for i in nodes:
+            self.give(engine.number, [i], kind, self.fate())
+
+    def use(self, engine, nodes):
+        """An open engine writes, advances, or asks for fronts."""
+        rng = self.rng
+        if self.writes_left and rng.random() < 0.6:
+            self.writes_left -= 1
+            self.do("write", engine.number, rng.choice((1, 1, 2)), rng.choice((0, 0, 0, 1)))
+            if rng.random() < 0.7:
+                self.deliver(engine, "take", nodes)
+            if rng.random() < 0.8:
+                self.do("write", engine.number, 1, 0)
+                self.deliver(engine, "take", nodes)
+        elif rng.random() < 0.1:
+            self.do("advance", engine.number, rng.random() < 0.3)
+        elif rng.random() < 0.4:
+            requests = self.requests(engine.number, nodes[0], "take")
+            if requests:
+                self.do("deliver", nodes[0], rng.choice(requests), self.fate())
+        else:
+            self.deliver(engine, "front", nodes)
+
+    def run(self, blows):
+        self.begin()
+        for _ in range(blows):
+            if self.violation or self.world.gone:
+                break
+            self.blow()
+        return self.end()
+
+
+def explore(rng, seconds, promise=None, **world):
+    """Random schedules for a time: how many schedules and moves, and the first that broke a promise, or None."""
+    end, schedules, moves = time.monotonic() + seconds, 0, 0
+    while time.monotonic() < end:
+        run = Random(rng, **world)
+        violation = run.run(rng.choice((30, 60, 100, 150)))
+        schedules, moves = schedules + 1, moves + len(run.moves)
+        if violation and promise in (None, violation.promise):
+            return schedules, moves, run
+    return schedules, moves, None
+
+
+def shrink(moves, promise, seconds=10, **world):
+    """Leaves out moves for as long as the same promise is broken."""
+    end, size = time.monotonic() + seconds, max(1, len(moves) // 2)
+    while size and time.monotonic() < end:
+        shorter = False
+        for start in range(len(moves) - size, -1, -size):
+            fewer = moves[:start] + moves[start + size :]
+            violation = replay(fewer, **world)
+            if violation and violation.promise == promise:
+                moves, shorter = fewer, True
+        size = size if shorter else size // 2
+    return moves
+
+
+def show(moves, **world):
+    """A schedule as text, with what changes at the engines; `moves_of` reads it again."""
+    run, lines = World(**world), []
+    for number, move in enumerate(moves, 1):
+        before = [(engine.phase, engine.durable) for engine in run.engines]
+        note = ""
+        try:
+            run.do(move)
+        except Violation as violation:
+            note = f"   ** {violation}"
+        for engine, old in itertools.zip_longest(run.engines, before, fillvalue=(None, 0)):
+            if engine.phase != old[0]:
+                note += f"   [engine {engine.number}: {engine.phase} lo {engine.lo} {engine.cut or ''}]"
+            if engine.durable != old[1]:
+                note += f"   [engine {engine.number}: durable {engine.durable} of epoch {engine.epoch}]"
+        lines.append(f"{move!r},  # {number}{note}")
+    return "\n".join([*lines, f"# ends with: {replay(moves, **world)}"])
+
+
+def moves_of(text):
+    """The moves of a schedule that `show` printed."""
+    return eval(f"[{text}\n]", {"__builtins__": {}, "frozenset": frozenset})
