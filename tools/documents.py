@@ -82,8 +82,8 @@ SHOWN = re.compile(r"!\[[^]]*\]\(([^)]*)\)")
 
 
 def pictures():
-    """The bytes of each picture, as the command makes it that docs/PICTURES.md has for it."""
-    commands = COMMAND.findall((ROOT / "docs/PICTURES.md").read_text())
+    """The bytes of each picture, as the command makes it that docs/CONCEPTS.md has for it."""
+    commands = COMMAND.findall((ROOT / "docs/CONCEPTS.md").read_text())
     return {ROOT / name: draw.picture_of(ROOT / text, int(after) if after else None).encode() for text, after, name in commands}
 
 
@@ -92,7 +92,7 @@ def pictures_are_made():
     made = pictures()
     for path in sorted({*made, *(ROOT / "docs/pictures").iterdir()}):
         if not path.exists() or path.read_bytes() != made.get(path):
-            yield f"{path.relative_to(ROOT)} is not what docs/PICTURES.md has a command for; --pictures makes it"
+            yield f"{path.relative_to(ROOT)} is not what docs/CONCEPTS.md has a command for; --pictures makes it"
     for page in documents_there():
         for name in SHOWN.findall(page.read_text()):
             if not (page.parent / name).exists():
