@@ -1,17 +1,23 @@
-"""Fixtures that every test file shares: the built programs, and the seed of random tests."""
+"""Fixtures that every test file shares: the built programs, the seed of random tests, and what refuses memory and devices."""
 
 import random
 import secrets
 import subprocess
+import warnings
 from pathlib import Path
 
 import pytest
 
+from harness import shims
+
 ROOT = Path(__file__).resolve().parents[1]
+PROGRAMS = {"fleet": "fleet", "fleet_node": "fleet_node", "call_rows": "call_rows", "archive": "node_c"}  # fixture: crate
 
 
 def pytest_addoption(parser):
     parser.addoption("--seed", type=int, default=None, help="seed of the random tests; drawn from the system by default")
+    parser.addoption("--seconds", type=float, default=10, help="how long each random test runs; 10 by default")
+    parser.addoption("--bin", type=Path, default=None, help="a folder with the programs to test, in place of crates/NAME/out")
 
 
 def pytest_configure(config):
@@ -21,6 +27,10 @@ def pytest_configure(config):
 
 def pytest_report_header(config):
     return f"seed: {config.getoption('--seed')} (give it again with --seed)"
+
+
+def pytest_terminal_summary(terminalreporter, config):
+    terminalreporter.write_line(f"seed: {config.getoption('--seed')}")
 
 
 @pytest.fixture
@@ -35,21 +45,71 @@ def rng(seed, request):
     return random.Random(f"{seed} {request.node.name}")
 
 
-def built_program(crate):
-    """The path of a built program; builds and proves the crate where it is missing."""
-    program = ROOT / "crates" / crate / "out" / crate
-    if not program.exists():
-        subprocess.run(["rt", "run", "--", "--help"], cwd=program.parents[1], stdin=subprocess.DEVNULL, check=False)
-    if not program.exists():
+@pytest.fixture
+def seconds(request):
+    """How long a random test is to run."""
+    return request.config.getoption("--seconds")
+
+
+# Programs
+
+
+def place_of(crate, ending=""):
+    return ROOT / "crates" / crate / "out" / (f"lib{crate}.a" if crate == "node_c" else f"{crate}{ending}")
+
+
+def pytest_generate_tests(metafunc):
+    """A program that Rattle's own compiler has built too is tested beside the one that LLVM built."""
+    for fixture, crate in PROGRAMS.items():
+        if fixture in metafunc.fixturenames and place_of(crate, ".by-rattle").exists() and not metafunc.config.getoption("--bin"):
+            metafunc.parametrize(fixture, ["", ".by-rattle"], ids=["llvm", "rattle"], indirect=True, scope="session")
+
+
+def program(request, crate):
+    """The path of a built program or archive. Builds and proves the crate where it is missing; warns where a source is newer."""
+    if request.config.getoption("--bin"):
+        return request.config.getoption("--bin").resolve() / place_of(crate).name
+    place = place_of(crate, getattr(request, "param", ""))
+    if not place.exists():
+        words = ["rt", "lib"] if crate == "node_c" else ["rt", "run", "--", "--help"]
+        subprocess.run(words, cwd=ROOT / "crates" / crate, stdin=subprocess.DEVNULL, stdout=subprocess.DEVNULL, check=False)
+    if not place.exists():
         pytest.fail(f"{crate} could not be built")
-    return program
+    if any(it.stat().st_mtime > place.stat().st_mtime for it in ROOT.glob("crates/*/src/*.rt")):
+        warnings.warn(f"{place.relative_to(ROOT)} is older than a source: rt run, or rt lib, in crates/{crate} builds it")
+    return place
 
 
 @pytest.fixture(scope="session")
-def fleet():
-    return built_program("fleet")
+def fleet(request):
+    return program(request, "fleet")
 
 
 @pytest.fixture(scope="session")
-def fleet_node():
-    return built_program("fleet_node")
+def fleet_node(request):
+    return program(request, "fleet_node")
+
+
+@pytest.fixture(scope="session")
+def call_rows(request):
+    return program(request, "call_rows")
+
+
+@pytest.fixture(scope="session")
+def archive(request):
+    return program(request, "node_c")
+
+
+# What refuses
+
+
+@pytest.fixture(scope="session")
+def refusing(tmp_path_factory):
+    """Refuses allocations and starts of threads."""
+    return shims.Refusing(tmp_path_factory.mktemp("refusing"))
+
+
+@pytest.fixture(scope="session")
+def devices(tmp_path_factory):
+    """Cuts reads and writes short, and has them fail."""
+    return shims.Devices(tmp_path_factory.mktemp("devices"))

@@ -1,0 +1,190 @@
+"""Nodes behind lines or frames, and scripts of nodes that gossip, played with a process or a segment for each node."""
+
+import contextlib
+import select
+import subprocess
+
+from harness import SECONDS
+from model import oracle
+from model.wire import fact_bytes, frame, framed
+
+LEFT_OUT = ("same", "covers", "join")  # steps that no request asks for
+FREEZE_EACH = 50  # one of so many steps comes after a freeze and a restart
+GAP_EACH = 3  # after one of so many steps the gap is asked for
+WITH_BYTES = (b"page", b"record", b"summary", b"delta", b"piece")  # the answers that end in bytes
+DIGITS = set("0123456789abcdefABCDEF")
+
+
+def as_frame(line):
+    """The bytes of the frame that asks what a request line asks."""
+    word, _, rest = line.partition(" ")
+    if word in ("take", "answer", "add"):
+        return f"{word} ".encode() + bytes.fromhex(rest)
+    if word == "absorb":
+        shown, answered = (bytes.fromhex(it) for it in rest.split(" "))
+        return f"absorb {len(shown)} ".encode() + shown + answered
+    return line.encode()
+
+
+def as_line(text):
+    """The answer line that says what the bytes of an answer frame say."""
+    word, _, rest = text.partition(b" ")
+    is_long = rest == b"too long" and word != b"page"
+    return f"{word.decode()} {rest.hex()}" if word in WITH_BYTES and not is_long else text.decode()
+
+
+def has_frame(line):
+    """Whether a frame asks the same: digits stand wherever the line's word takes bytes."""
+    word, *fields = line.split(" ")
+    wanted = {"take": 1, "answer": 1, "add": 1, "absorb": 2}.get(word)
+    return wanted is None or len(fields) == wanted and all(len(it) % 2 == 0 and set(it) <= DIGITS for it in fields)
+
+
+def frames_of(text):
+    """The bytes of each frame of a text that is made of whole ones."""
+    told = []
+    while text:
+        size = int.from_bytes(text[:4], "big")
+        assert len(text) >= 4 + size, f"no whole frame: {text[:80]}"
+        told.append(text[4 : 4 + size])
+        text = text[4 + size :]
+    return told
+
+
+def many(requests):
+    """The frame of many requests, or of none."""
+    return frame(b"many " + framed(requests))
+
+
+class Node:
+    """A process that answers lines. With an environment of its own it may well end early, and says nothing on standard error."""
+
+    words = ()  # of its command line
+
+    def __init__(self, program, settings=None):
+        said = None if settings is None else subprocess.DEVNULL
+        self.process = subprocess.Popen([program, *self.words], stdin=subprocess.PIPE, stdout=subprocess.PIPE, stderr=said, env=settings)
+
+    def ask(self, *words):
+        """The answer line to a request line, in whichever form both go."""
+        self.send(" ".join(map(str, words)))
+        self.process.stdin.flush()
+        if not select.select([self.process.stdout], [], [], SECONDS)[0]:
+            self.process.kill()
+            return "no answer"
+        return self.receive()
+
+    def send(self, line):
+        self.process.stdin.write(line.encode() + b"\n")
+
+    def receive(self):
+        answer = self.process.stdout.readline().decode()
+        return answer.removesuffix("\n") if answer.endswith("\n") else f"{answer} and an end"
+
+    def restart(self, name):
+        """Whether the node takes a snapshot, and is put together again from the pieces, which come in another order."""
+        total = int(self.ask("freeze", name).split()[1])
+        pieces = [self.ask("piece", index).split()[1] for index in range(total)]
+        told = [self.ask("open", 15), self.ask("stage", name, total), *(self.ask("add", it) for it in reversed(pieces)), self.ask("finish")]
+        return told == ["opened", "staged", *["added"] * total, "restored"]
+
+    def close(self):
+        """The status, and what it wrote that nobody asked for."""
+        with contextlib.suppress(BrokenPipeError):
+            self.process.stdin.close()
+        left = self.process.stdout.read()
+        self.process.stdout.close()
+        return self.process.wait(10), left
+
+
+class FramedNode(Node):
+    """The same behind frames."""
+
+    words = ("--frames",)
+
+    def __init__(self, program, settings=None):
+        super().__init__(program, settings)
+        self.asked, self.told = [], []  # the frames, each with its length in front
+
+    def send(self, line):
+        self.asked.append(frame(as_frame(line)))
+        self.process.stdin.write(self.asked[-1])
+
+    def receive(self):
+        size = self.process.stdout.read(4)
+        answer = self.process.stdout.read(int.from_bytes(size, "big"))
+        self.told.append(size + answer)
+        return as_line(answer) if answer and frame(answer) == self.told[-1] else f"{answer!r} and an end"
+
+
+class Repeater(FramedNode):
+    """A node that is asked what another one was asked, many requests in a frame."""
+
+    def repeats(self, node, choose):
+        """Whether it answers as that node did, of which it keeps nothing."""
+        asked, told = node.asked, node.told
+        node.asked, node.told = [], []
+        while asked:
+            count = choose.choice((0, 1, 2, 7, 30))
+            self.process.stdin.write(frame(b"many " + b"".join(asked[:count])))
+            self.process.stdin.flush()
+            wanted = frame(b"".join(told[:count]))
+            if self.process.stdout.read(len(wanted)) != wanted:
+                return False
+            asked, told = asked[count:], told[count:]
+        return True
+
+
+class Play:
+    """A script: what the oracle's fleet replies to each step, and what the nodes answer."""
+
+    def __init__(self, nodes, text):
+        reader = oracle.ScriptReader()
+        oracle.bad_line(text, reader.line)
+        self.nodes, self.facts, self.steps, self.roster = nodes, reader.facts, reader.steps, reader.roster
+        self.fleet = oracle.Fleet(reader.roster, self.facts, reader.nodes)
+        self.messages = []  # of each: the words that stand for it in a line
+        self.answers = []  # of the steps that were compared
+        for node in nodes[: reader.nodes]:
+            node.ask("open", reader.roster)
+
+    def told(self, kind, node, values):
+        """What the node answers to a step, in the oracle's words; a message that it makes is kept."""
+        if kind == "take":
+            return node.ask("take", fact_bytes(self.facts[values[0] - 1]).hex())
+        if kind == "ask":
+            return self.sent("summary", node.ask("ask"))
+        if kind == "answer":
+            return self.sent("delta", node.ask("answer", *self.messages[values[0] - 1]), *self.messages[values[0] - 1])
+        if kind == "absorb":
+            return node.ask("absorb", *self.messages[values[0] - 1])
+        if kind == "wipe":
+            return "wiped" if node.ask("open", self.roster) == "opened" else "no wipe"
+        if kind == "read" and values[3] == 0:
+            return None
+        return node.ask(kind, *values)
+
+    def sent(self, kind, answer, *before):
+        word, _, digits = answer.partition(" ")
+        self.messages.append((*before, digits))
+        return f"message {len(self.messages)}" if word == kind else answer
+
+    def difference(self, choose):
+        """The first difference in words, or nothing."""
+        for place, step in enumerate(self.steps):
+            kind, number, *values = step
+            wanted = "no " if kind in LEFT_OUT else self.fleet.step(step)
+            if wanted.startswith("no "):
+                continue
+            node = self.nodes[number - 1]
+            if choose.randrange(FREEZE_EACH) == 0 and not node.restart(place):
+                return f"node {number} is not restored before {step}"
+            answer = self.told(kind, node, values)
+            self.answers.append(answer)
+            if answer is not None and answer != wanted:
+                return f"{step}: {answer!r} in place of {wanted!r}"
+            if choose.randrange(GAP_EACH) == 0:
+                answer, wanted = node.ask("gap"), self.fleet.gap(number)
+                if answer != wanted:
+                    return f"the gap after {step}: {answer!r} in place of {wanted!r}"
+        return ""
