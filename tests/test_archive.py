@@ -127,7 +127,7 @@ def test_descriptors(serve):
     os.write(input_end, WHOLE)
     os.close(input_end)
     assert serve(given_again, answers) == 4
-    assert serve(answers, answers) == 4
+    assert serve(answers, answers) == 0  # the library takes a descriptor that cannot be read as one at its end
     for number in (given, given_again, answers):
         os.close(number)
 

@@ -7,6 +7,8 @@ that the form is right, and not that the code has it. Two simpler forms that los
 
 from dataclasses import dataclass, replace
 
+import pytest
+
 TAKE, READ, ASK, LOOK, PARK, ASLEEP, HELD, GIVE, TEST, SWAP, RING, WAKE, ENDED = range(13)
 
 
@@ -89,15 +91,14 @@ def fault(form, threads, turns):
     return None
 
 
-def tests():
-    """What passed, and what failed."""
-    sizes = [(2, 3), (3, 1), (3, 2), (4, 1)]
-    results = [fault(Form(), *size) is None for size in sizes]
-    for wrong in (Form(asks_for_others=False), Form(looks_again=False)):
-        results.append(any(fault(wrong, *size) for size in sizes[:2]))
-    print(f"a lock's waiting takers: {sum(results)} of {len(results)} tests", flush=True)
-    return sum(results), len(results) - sum(results)
+SIZES = [(2, 3), (3, 1), (3, 2), (4, 1)]  # threads, turns of each
 
 
-if __name__ == "__main__":
-    tests()
+@pytest.mark.parametrize("threads, turns", SIZES)
+def test_no_wake_is_lost(threads, turns):
+    assert fault(Form(), threads, turns) is None
+
+
+@pytest.mark.parametrize("form", [Form(asks_for_others=False), Form(looks_again=False)], ids=["asks for itself alone", "looks once"])
+def test_a_simpler_form_loses_a_wake(form):
+    assert any(fault(form, *size) for size in SIZES[:2])
