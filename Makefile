@@ -24,7 +24,7 @@ prove: ## prove one crate and those below it: make prove CRATE=segment_core
 	tools/build.py $(CRATE)
 
 pictures: ## draw docs/pictures again
-	tools/documents.py --pictures
+	tools/draw.py --documents
 
 dist: build ## pack the proved programs, the archive and the help into one file
 	tools/dist.py

@@ -23,14 +23,14 @@ import time
 import lines
 
 ROOT = pathlib.Path(__file__).resolve().parent.parent
-sys.path.insert(0, str(ROOT / "tools"))
-import archive_outside
-import compare_nodes
+sys.path.insert(0, str(ROOT / "tests"))
+from harness import archive
+from model.wire import frame
 
 SIZES = [100_000]
 BATCHES = [1, 64, 256]
 MOST = 256  # takes in a frame of those out of a file
-CHANGED = compare_nodes.frame(b"changed")
+CHANGED = frame(b"changed")
 
 
 def alone(frames):
@@ -40,14 +40,14 @@ def alone(frames):
 
 def together(frames):
     """One frame that holds them."""
-    return compare_nodes.frame(b"many " + alone(frames))
+    return frame(b"many " + alone(frames))
 
 
 def by_frames(serve, requests, batch, put):
     """Seconds, and processor seconds, until all is answered."""
-    segment = archive_outside.Segment(serve)
+    segment = archive.Segment(serve)
     parts = [(put(requests[at : at + batch]), min(batch, len(requests) - at)) for at in range(0, len(requests), batch)]
-    answers = {count: CHANGED * count if put is alone else compare_nodes.frame(CHANGED * count) for _, count in parts}
+    answers = {count: CHANGED * count if put is alone else frame(CHANGED * count) for _, count in parts}
     begun, used = time.perf_counter(), time.process_time()
     for part, count in parts:
         segment.own.sendall(part)
@@ -79,7 +79,7 @@ def of_segment(served, requests, put, folder):
 def beside_the_call(served, facts, runs, folder):
     """For each way to put takes into frames: seconds of takes and of refused ones, and what a take costs of the call itself."""
     for put, how in ((alone, "each in a frame"), (together, f"{MOST} in one")):
-        told = [[compare_nodes.frame(b"take " + fact + more) for fact in facts] for more in (b"", b"\0")]
+        told = [[frame(b"take " + fact + more) for fact in facts] for more in (b"", b"\0")]
         taken, refused = (statistics.median(of_segment(served, it, put, folder) for _ in range(runs)) for it in told)
         yield f"| {how} | {len(facts)} | {taken:.3f} | {refused:.3f} | {taken / max(taken - refused, 1e-3):.2f} |"
 
@@ -91,8 +91,8 @@ def row(name, size, ran):
 
 def main():
     parser = argparse.ArgumentParser(description=__doc__, formatter_class=argparse.RawDescriptionHelpFormatter)
-    parser.add_argument("--archive", type=pathlib.Path, default=archive_outside.ARCHIVE, help="the built archive")
-    parser.add_argument("--program", type=pathlib.Path, default=compare_nodes.PROGRAM, help="the built program of lines")
+    parser.add_argument("--archive", type=pathlib.Path, default=ROOT / "crates/node_c/out/libnode_c.a", help="the built archive")
+    parser.add_argument("--program", type=pathlib.Path, default=lines.PROGRAM, help="the built program of lines")
     parser.add_argument("--sizes", type=int, nargs="+", default=SIZES, help="how many takes")
     parser.add_argument("--batches", type=int, nargs="+", default=BATCHES, help="how many takes are sent at once, up to 256")
     parser.add_argument("--runs", type=int, default=3, help="how often each is measured")
@@ -100,17 +100,17 @@ def main():
     print(f"{os.cpu_count()} cores, median of {given.runs}\n")
     print("| takes | how many | s | processor s | a second | a processor second |\n|---|---|---|---|---|---|")
     with tempfile.TemporaryDirectory(prefix="frames-") as folder:
-        serve = archive_outside.library(given.archive.resolve(), folder)
+        serve = archive.library(given.archive.resolve(), pathlib.Path(folder))
         for size in given.sizes:
             facts = [bytes.fromhex(line.split(" ")[1]) for line in lines.takes(size)]
-            requests = [compare_nodes.frame(b"take " + fact) for fact in facts]
+            requests = [frame(b"take " + fact) for fact in facts]
             for batch, (put, how) in itertools.product(given.batches, ((alone, "at once"), (together, "in one"))):
                 ran = [by_frames(serve, requests, batch, put) for _ in range(given.runs)]
                 print(row(f"by frames, {batch} {how}", size, ran), flush=True)
             ran = [by_lines(given.program.resolve(), size, folder) for _ in range(given.runs)]
             print(row("by lines, all at once", size, ran), flush=True)
         print("\n| takes out of a file | how many | s | s refused | of the call |\n|---|---|---|---|---|")
-        served = archive_outside.program(given.archive.resolve(), folder)
+        served = archive.program(given.archive.resolve(), pathlib.Path(folder))
         for size in given.sizes:
             facts = [bytes.fromhex(line.split(" ")[1]) for line in lines.takes(size)]
             for told in beside_the_call(served, facts, given.runs, folder):

@@ -18,17 +18,18 @@ import tempfile
 import measure
 
 ROOT = pathlib.Path(__file__).resolve().parent.parent
-sys.path.insert(0, str(ROOT / "tools"))
-import compare_nodes
-import oracle
+sys.path.insert(0, str(ROOT / "tests"))
+from model.facts import fact_of
+from model.wire import fact_bytes
 
+PROGRAM = ROOT / "crates/fleet_node/out/fleet_node"
 SIZES = [10_000, 100_000]
 FOLD_EACH = 100  # reads between a fold and a discard
 
 
 def takes(size):
     for line in measure.sound_log(size):
-        yield f"take {compare_nodes.fact_bytes(oracle.fact_of(line)).hex()}"
+        yield f"take {fact_bytes(fact_of(line)).hex()}"
 
 
 def reads(size):
@@ -74,7 +75,7 @@ def row(program, name, size, runs, folder):
 
 def main():
     parser = argparse.ArgumentParser(description=__doc__, formatter_class=argparse.RawDescriptionHelpFormatter)
-    parser.add_argument("--program", type=pathlib.Path, default=compare_nodes.PROGRAM, help="the built program")
+    parser.add_argument("--program", type=pathlib.Path, default=PROGRAM, help="the built program")
     parser.add_argument("--only", default=",".join(TASKS), help="tasks, by name")
     parser.add_argument("--sizes", type=int, nargs="+", default=SIZES, help="how many lines, about")
     parser.add_argument("--runs", type=int, default=3, help="how often each text is read")

@@ -1,19 +1,15 @@
-#!/usr/bin/env python3
-"""Sees that each word of the definitions means one thing, and that each lemma stands once.
+"""Each word of the definitions means one thing, and each lemma is stated once.
 
-Tells each word that the definitions (`specs`) have more than once, unless the table in docs/DECISIONS.md lists it for exactly the crates
-that it stands in; each word that the table lists and that does not stand twice; and each statement of two arguments or more that `proofs`
-have more than once, under whatever names, unless the section of that table names the lemmas. How bound variables are named makes no
-difference, and the parameters of a module are arguments of its lemmas. Ends with status 1 where it tells any.
+A word that the definitions (`specs`) have more than once, is listed by the table in docs/DECISIONS.md for exactly the crates that have
+it. A statement of two arguments or more that `proofs` have more than once, under whatever names, is named by the section of that table.
+How bound variables are named makes no difference, and the parameters of a module are arguments of its lemmas.
 """
 
-import argparse
-import pathlib
 import re
-import sys
 from typing import NamedTuple
 
-ROOT = pathlib.Path(__file__).resolve().parent.parent
+from harness import ROOT
+
 PAGE = "docs/DECISIONS.md"
 SECTION = "\n## Words and lemmas that stand twice\n"
 LEAST_ARGUMENTS = 2  # of a lemma that is to stand once
@@ -140,20 +136,9 @@ def faults_of_lemmas(root, named):
             yield "one statement stands as " + ", ".join(f"`{it.name}` ({it.place})" for it in same)
 
 
-def faults(root=ROOT):
-    listed, named = section(root)
-    yield from faults_of_words(root, listed)
-    yield from faults_of_lemmas(root, named)
+def test_words_are_defined_once():
+    assert list(faults_of_words(ROOT, section(ROOT)[0])) == []
 
 
-def main():
-    parser = argparse.ArgumentParser(description=__doc__, formatter_class=argparse.RawDescriptionHelpFormatter)
-    parser.add_argument("--tree", type=pathlib.Path, default=ROOT, help="the repository to look at, where it is not this one")
-    told = list(faults(parser.parse_args().tree))
-    for fault in told:
-        print(fault)
-    sys.exit(1 if told else 0)
-
-
-if __name__ == "__main__":
-    main()
+def test_lemmas_are_stated_once():
+    assert list(faults_of_lemmas(ROOT, section(ROOT)[1])) == []

@@ -3,6 +3,7 @@
 
     draw.py FILE                a log (as `fleet check` reads it), or a script (as `fleet run` does) at its end
     draw.py FILE --after N      the script after its first N steps
+    draw.py --documents         makes each picture that a document has a command for, in its place
 
 From the top: the chain of the segment, with a lane for each epoch and what each truncation annuls; the chain of each page; the
 advances of each reader; and of each node what came to it, its anchor, and where its pages may be read. In place of nodes a log
@@ -15,11 +16,16 @@ answered with a line on standard error and status 2.
 
 import argparse
 import pathlib
+import re
 import sys
 
-import oracle
+ROOT = pathlib.Path(__file__).resolve().parents[1]
+sys.path.insert(0, str(ROOT / "tests"))
+
 import svg_forms as forms
-from rules import Advance, Cut, Meaning, Record, counted, first_fault, is_alive, of_kind
+from model import oracle
+from model.facts import Advance, Cut, Record, of_kind
+from model.rules import Meaning, counted, first_fault, is_alive
 
 MOST_FACTS = 400
 MARGIN, WIDTH = 16, 880  # at the edges; and what the whole is at least wide
@@ -398,6 +404,15 @@ def picture_of(path, after=None):
     return drawn(log, fleet.nodes, title, f"after {len(steps)} of {len(reader.steps)} steps{last}")
 
 
+COMMAND = re.compile(r"^    tools/draw\.py (examples/[a-z]+\.txt)(?: --after ([0-9]+))? > (docs/pictures/[a-z]+\.svg)$", re.M)
+
+
+def pictures():
+    """The bytes of each picture, as the command makes it that a document has for it."""
+    commands = [found for page in sorted(ROOT.glob("docs/*.md")) for found in COMMAND.findall(page.read_text())]
+    return {ROOT / name: picture_of(ROOT / text, int(after) if after else None).encode() for text, after, name in commands}
+
+
 class Parser(argparse.ArgumentParser):
     """One that says in one line what is wrong."""
 
@@ -407,9 +422,16 @@ class Parser(argparse.ArgumentParser):
 
 def main():
     parser = Parser(description=__doc__, formatter_class=argparse.RawDescriptionHelpFormatter)
-    parser.add_argument("file", type=pathlib.Path, help="the text of a log or of a script")
+    parser.add_argument("file", type=pathlib.Path, nargs="?", help="the text of a log or of a script")
+    parser.add_argument("--documents", action="store_true", help="make the pictures of the documents")
     parser.add_argument("--after", type=int, metavar="N", help="how many steps of the script go before")
     given = parser.parse_args()
+    if given.documents == (given.file is not None):
+        parser.error("a file, or --documents")
+    if given.documents:
+        for path, content in pictures().items():
+            path.write_bytes(content)
+        return
     try:
         picture = picture_of(given.file, given.after)
     except OSError as why:
