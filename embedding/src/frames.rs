@@ -2,6 +2,9 @@
 
 use std::io::{self, Read, Write};
 
+/// The most bytes of a frame that a segment reads. It answers a longer one `long frame`.
+pub const LONGEST: u32 = 1 << 26;
+
 /// Appends a frame of these parts, one behind the other, to a buffer.
 ///
 /// An error, and nothing appended, where they have 2^32 bytes or more.
@@ -20,16 +23,42 @@ pub fn write(writer: &mut impl Write, bytes: &[u8]) -> io::Result<()> {
     writer.write_all(&frame)
 }
 
-/// Reads the next frame into the buffer, in place of what it had, and says whether there was a whole one before the input ended.
+/// Reads the next frame into the buffer, in place of what it had. The result says whether there was a whole one before the input ended.
+///
+/// For a sender that is trusted: the frame may have any length.
 pub fn read(reader: &mut impl Read, frame: &mut Vec<u8>) -> io::Result<bool> {
+    Ok(matches!(read_within(reader, frame, u32::MAX)?, Next::Frame))
+}
+
+/// What comes next of frames that may be too long.
+#[derive(Debug, Clone, Copy, PartialEq, Eq)]
+pub enum Next {
+    /// A frame, which is in the buffer.
+    Frame,
+    /// A frame of so many bytes, which are not read: `skip` drops them.
+    TooLong(u32),
+    /// No whole frame: the input has ended.
+    End,
+}
+
+/// Reads the next frame into the buffer, in place of what it had, if it has at most so many bytes.
+pub fn read_within(reader: &mut impl Read, frame: &mut Vec<u8>, longest: u32) -> io::Result<Next> {
     frame.clear();
     reader.by_ref().take(4).read_to_end(frame)?;
     let Ok(length) = <[u8; 4]>::try_from(frame.as_slice()).map(u32::from_be_bytes) else {
-        return Ok(false);
+        return Ok(Next::End);
     };
     frame.clear();
+    if length > longest {
+        return Ok(Next::TooLong(length));
+    }
     let read = reader.by_ref().take(length.into()).read_to_end(frame)?;
-    Ok(read == length as usize)
+    Ok(if read == length as usize { Next::Frame } else { Next::End })
+}
+
+/// Reads so many bytes and drops them; fewer where the input ends.
+pub fn skip(reader: &mut impl Read, length: u32) -> io::Result<()> {
+    io::copy(&mut reader.by_ref().take(length.into()), &mut io::sink()).map(drop)
 }
 
 /// The frames that the bytes are, one behind the other; nothing where they are no whole frames.
@@ -72,6 +101,20 @@ mod tests {
         assert_eq!(inside(b""), Some(vec![]));
         assert_eq!(inside(b"\0\0\0\x02ab\0\0\0\0"), Some(vec![&b"ab"[..], b""]));
         assert_eq!(inside(b"\0\0\0\x02ab\0\0\0"), None);
+    }
+
+    #[test]
+    fn a_long_frame_is_not_read() {
+        let mut bytes: &[u8] = b"\xff\xff\xff\xffabc";
+        let mut frame = b"older".to_vec();
+        assert_eq!(read_within(&mut bytes, &mut frame, LONGEST).unwrap(), Next::TooLong(u32::MAX));
+        assert_eq!((bytes, frame.as_slice()), (&b"abc"[..], &b""[..]));
+        let mut bytes: &[u8] = b"\0\0\0\x03abc\0\0\0\x02de\0\0\0\x02f";
+        assert_eq!(read_within(&mut bytes, &mut frame, 2).unwrap(), Next::TooLong(3));
+        skip(&mut bytes, 3).unwrap();
+        assert_eq!(read_within(&mut bytes, &mut frame, 2).unwrap(), Next::Frame);
+        assert_eq!(frame, b"de");
+        assert_eq!(read_within(&mut bytes, &mut frame, 2).unwrap(), Next::End);
     }
 
     #[test]

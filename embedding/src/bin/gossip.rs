@@ -3,11 +3,12 @@
 //! where that is so and a page shows what a plain replay of the log shows.
 
 use std::io::BufReader;
-use std::net::{TcpListener, TcpStream};
+use std::net::{Shutdown, TcpListener, TcpStream};
 use std::process::Command;
 use std::time::Duration;
 use std::{env, process};
-use yieldcleat::{frames, Advance, Node, Patch, Record, Truncation, PAGE_LEN};
+use yieldcleat::frames::{self, Next};
+use yieldcleat::{Advance, Node, Patch, Record, Truncation, PAGE_LEN};
 
 type Failed = Box<dyn std::error::Error>;
 
@@ -16,6 +17,8 @@ const LAST: u64 = 1000;
 const LO: u64 = LAST - 2;
 const HI: u64 = LAST + 10;
 const ROUNDS: u32 = 5;
+/// How long a peer may be silent, or read nothing.
+const PATIENCE: Duration = Duration::from_secs(30);
 
 /// What a record writes to page 3, at an offset.
 fn written(number: u64) -> (u16, [u8; 2]) {
@@ -55,22 +58,28 @@ struct Peer {
 
 impl Peer {
     fn new(stream: TcpStream) -> Result<Peer, Failed> {
-        stream.set_read_timeout(Some(Duration::from_secs(30)))?;
+        stream.set_read_timeout(Some(PATIENCE))?;
+        stream.set_write_timeout(Some(PATIENCE))?;
         stream.set_nodelay(true)?;
         Ok(Peer { reader: BufReader::new(stream), frame: Vec::new() })
     }
 
-    /// Tells the peer something, and hears what it tells. (What is told here fits into what the connection holds, or the peer reads.)
+    /// Sends a frame and receives one, both at once: two peers that send first would stop each other where a frame is longer than what
+    /// the connection holds.
     fn exchange(&mut self, told: &[u8]) -> Result<Vec<u8>, Failed> {
         let mut writer = self.reader.get_ref().try_clone()?;
         std::thread::scope(|scope| {
-            let teller = scope.spawn(move || frames::write(&mut writer, told));
-            let whole = frames::read(&mut self.reader, &mut self.frame)?;
-            teller.join().map_err(|_| "the teller failed")??;
-            if whole {
-                Ok(self.frame.clone())
-            } else {
-                Err("the peer has ended".into())
+            let sender = scope.spawn(move || frames::write(&mut writer, told));
+            let next = frames::read_within(&mut self.reader, &mut self.frame, frames::LONGEST);
+            if !matches!(next, Ok(Next::Frame)) {
+                // So that the sender waits no longer. An error says that the connection has ended already.
+                let _ = self.reader.get_ref().shutdown(Shutdown::Both);
+            }
+            let sent = sender.join().map_err(|_| "the sender failed")?;
+            match next? {
+                Next::Frame => sent.map(|()| self.frame.clone()).map_err(Failed::from),
+                Next::TooLong(_) => Err("the frame is too long".into()),
+                Next::End => Err("the peer has left".into()),
             }
         })
     }

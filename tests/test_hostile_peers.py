@@ -1,0 +1,277 @@
+"""Peers that send no frames, or frames of no values, to the programs that gossip over TCP: the C program under AddressSanitizer, and the
+Rust program. Each ends by itself with a reason, and touches no memory that is not its own."""
+
+import contextlib
+import os
+import resource
+import shutil
+import socket
+import struct
+import subprocess
+import threading
+import time
+from pathlib import Path
+
+import pytest
+
+ROOT = Path(__file__).resolve().parents[1]
+PACKAGE = ROOT / "embedding"
+NODE = ROOT / "crates/node_c"
+LONGEST = 1 << 26  # bytes of a frame
+PATIENCE = 3  # seconds that the C program gives its peer
+SECONDS = 60  # after which a program hangs
+SANITIZERS = ["-fsanitize=address,undefined", "-fno-sanitize-recover=all", "-fno-omit-frame-pointer"]
+FLAGS = ["-std=gnu11", "-O1", "-g", "-Wall", "-Wextra", "-Wpedantic", "-Werror", "-pthread", f"-DSECONDS={PATIENCE}"]
+NOTHING = bytes([0x10]) + bytes(22)  # the summary of an empty segment
+
+
+def frame(body, length=None):
+    return struct.pack(">I", len(body) if length is None else length) + body
+
+
+# The programs
+
+
+def toolchain():
+    """The folder of the toolchain: the one above that of the file to which `rt` leads."""
+    command = shutil.which("rt")
+    if command is None:
+        pytest.fail("rt is not on the path")
+    return Path(command).resolve().parents[1]
+
+
+@pytest.fixture(scope="module")
+def node_archive():
+    """The archive with the segment; proved and built where it is missing."""
+    archive = NODE / "out/libnode_c.a"
+    if not archive.exists():
+        subprocess.run(["rt", "lib"], cwd=NODE, stdin=subprocess.DEVNULL, check=False)
+    if not archive.exists():
+        pytest.fail("rt lib in crates/node_c makes no archive")
+    return archive
+
+
+def c_compiler():
+    """A C compiler that finds the system's headers."""
+    for name in filter(None, map(shutil.which, ("gcc", "cc", "clang"))):
+        headers = b"#include <stdio.h>\n#include <pthread.h>\n"
+        if subprocess.run([name, "-E", "-x", "c", "-"], input=headers, capture_output=True, check=False).returncode == 0:
+            return name
+    return None
+
+
+@pytest.fixture(scope="module")
+def c_gossip(node_archive, tmp_path_factory):
+    compiler = c_compiler()
+    if compiler is None:
+        pytest.skip("no C compiler with headers is on the path")
+    made = tmp_path_factory.mktemp("c") / "gossip"
+    sources = [PACKAGE / "c/gossip.c", node_archive, toolchain() / "c/liblibc_c.a"]
+    subprocess.run([compiler, *FLAGS, *SANITIZERS, "-I", PACKAGE / "include", "-o", made, *sources], check=True)
+    return made
+
+
+@pytest.fixture(scope="module")
+def rust_gossip(node_archive, tmp_path_factory):
+    if shutil.which("cargo") is None:
+        pytest.skip("no cargo is on the path")
+    target = tmp_path_factory.mktemp("rust")
+    linked = {"YIELDCLEAT_ARCHIVE": node_archive.parent, "RATTLE_C": toolchain() / "c", "CARGO_TARGET_DIR": target}
+    settings = {**os.environ, **{name: str(path) for name, path in linked.items()}}
+    command = ["cargo", "build", "--release", "--bin", "gossip", "--offline", "--locked"]
+    subprocess.run(command, cwd=PACKAGE, env=settings, check=True, capture_output=True)
+    return target / "release/gossip"
+
+
+# Peers: each gets a connection, and may leave it open
+
+
+def silent(_peer):
+    pass
+
+
+def leaves(peer):
+    peer.close()
+
+
+def resets(peer):
+    peer.setsockopt(socket.SOL_SOCKET, socket.SO_LINGER, struct.pack("ii", 1, 0))
+    peer.close()
+
+
+def sends(*parts):
+    """A peer that sends these bytes, and reads nothing."""
+
+    def behave(peer):
+        for part in parts:
+            peer.sendall(part)
+
+    return behave
+
+
+def sends_and_leaves(*parts):
+    def behave(peer):
+        sends(*parts)(peer)
+        peer.close()
+
+    return behave
+
+
+def drips(peer):
+    """A frame that comes so slowly that it would take minutes."""
+    peer.sendall(frame(b"", 1000))
+    with contextlib.suppress(OSError):
+        for _ in range(20 * PATIENCE):
+            peer.sendall(b"\x10")
+            time.sleep(0.1)
+
+
+def floods(peer):
+    """Whole frames without an end, of summaries that are none of the other side's."""
+    with contextlib.suppress(OSError):
+        for number in range(1, 1000):
+            peer.sendall(frame(NOTHING[:-4] + bytes([0, 0, 0, 1, 0, 0]) + number.to_bytes(6, "big")))
+
+
+TOO_LONG = "the frame is too long"
+LEFT = "the peer has left"
+SLOW = "the peer is too slow"
+OTHERWISE = "the segment answers otherwise"
+PEERS = {
+    "a header of ones, and some bytes": (sends(b"\xff\xff\xff\xff" + bytes(64)), TOO_LONG),
+    "a header of ones, and many bytes": (sends(b"\xff\xff\xff\xff", bytes(100_000)), TOO_LONG),
+    "a header of ones alone": (sends(b"\xff\xff\xff\xff"), TOO_LONG),
+    "a header of ones, one byte at a time": (sends(b"\xff", b"\xff", b"\xff", b"\xff", b"\xff"), TOO_LONG),
+    "a length above the limit": (sends(frame(b"", LONGEST + 1)), TOO_LONG),
+    "a length with the highest bit": (sends(frame(b"", 1 << 31)), TOO_LONG),
+    "a length at the limit, and an end": (sends_and_leaves(frame(b"\x10", LONGEST)), LEFT),
+    "a delta's header of ones": (sends(frame(NOTHING), b"\xff\xff\xff\xff" + bytes(64)), TOO_LONG),
+    "an end at once": (leaves, LEFT),
+    "a reset at once": (resets, LEFT),
+    "an end within a header": (sends_and_leaves(b"\0\0"), LEFT),
+    "an end within a frame": (sends_and_leaves(frame(NOTHING, 100)), LEFT),
+    "an end behind a summary": (sends_and_leaves(frame(NOTHING)), LEFT),
+    "an empty summary": (sends(frame(b"")), OTHERWISE),
+    "a summary of another kind": (sends(frame(b"\x99" * 30)), OTHERWISE),
+    "a summary that promises many keys": (sends(frame(NOTHING[:-4] + b"\xff\xff\xff\xff")), OTHERWISE),
+    "an empty delta": (sends(frame(NOTHING), frame(b"")), OTHERWISE),
+    "a delta of another kind": (sends(frame(NOTHING), frame(b"\0" * 50)), OTHERWISE),
+    "silence": (silent, SLOW),
+    "silence behind a summary": (sends(frame(NOTHING)), SLOW),
+    "a frame that drips": (drips, SLOW),
+    "summaries without an end": (floods, OTHERWISE),
+}
+
+
+class Outcome:
+    def __init__(self, process, seconds):
+        self.told, self.said = process.communicate(timeout=SECONDS)
+        self.status, self.seconds = process.returncode, time.monotonic() - seconds
+
+    def is_unharmed(self):
+        return self.status == 1 and not any(word in self.said for word in ("Sanitizer", "runtime error", "panicked"))
+
+
+def limited():
+    """No core files."""
+    resource.setrlimit(resource.RLIMIT_CORE, (0, 0))
+
+
+@contextlib.contextmanager
+def listening():
+    with socket.create_server(("127.0.0.1", 0)) as listener:
+        listener.settimeout(SECONDS)
+        yield listener
+
+
+def run(words):
+    begun = time.monotonic()
+    piped = {"stdout": subprocess.PIPE, "stderr": subprocess.PIPE, "stdin": subprocess.DEVNULL, "text": True, "errors": "replace"}
+    return subprocess.Popen(list(map(str, words)), preexec_fn=limited, **piped), begun
+
+
+def met(words, behave):
+    """How a program ends that connects to a peer of this behaviour; {} is the place of the port."""
+    with listening() as listener:
+        process, begun = run([str(word).format(listener.getsockname()[1]) for word in words])
+        try:
+            peer, _ = listener.accept()
+            with contextlib.suppress(OSError):
+                behave(peer)
+            return Outcome(process, begun)
+        finally:
+            process.kill()
+            with contextlib.suppress(NameError):
+                peer.close()
+
+
+@pytest.mark.parametrize("name", PEERS)
+def test_the_c_program_survives_a_peer(c_gossip, name):
+    behave, wanted = PEERS[name]
+    outcome = met([c_gossip, "second", "{}"], behave)
+    assert outcome.is_unharmed(), outcome.said
+    assert wanted in outcome.said
+    assert outcome.seconds < PATIENCE + 20
+
+
+@pytest.mark.parametrize("place", range(10))
+def test_the_c_program_survives_noise(c_gossip, rng, place):
+    """Random cuts and changes of what an honest peer sends."""
+    for _ in range(3):
+        text = bytearray(frame(NOTHING) + frame(bytes([0x11]) + bytes(22)))
+        for _ in range(rng.randrange(1, 6)):
+            text[rng.randrange(len(text))] = rng.choice((0, 1, 0x10, 0x7F, 0x80, 0xFF, rng.randrange(256)))
+        cut = bytes(text[: rng.randrange(1, len(text) + 1)])
+        outcome = met([c_gossip, "second", "{}"], sends_and_leaves(cut))
+        assert outcome.is_unharmed(), (cut.hex(), outcome.said)
+
+
+def test_honest_c_programs_gossip(c_gossip):
+    process, begun = run([c_gossip])
+    outcome = Outcome(process, begun)
+    assert (outcome.status, outcome.said) == (0, "")
+    assert outcome.told.count(": front 0 1000 0") == 2
+
+
+def relay(source, target, step):
+    """Carries bytes from one connection to the other, a few at a time."""
+    with contextlib.suppress(OSError):
+        while data := source.recv(step):
+            target.sendall(data)
+        target.shutdown(socket.SHUT_WR)
+
+
+def test_frames_come_in_small_parts(c_gossip):
+    """Short reads: two honest programs whose bytes are carried 97 at a time."""
+    with listening() as listener:
+        port = listener.getsockname()[1]
+        runs = [run([c_gossip, name, port]) for name in ("first", "second")]
+        ends = [listener.accept()[0] for _ in runs]
+        for end in ends:
+            end.setsockopt(socket.IPPROTO_TCP, socket.TCP_NODELAY, 1)
+        carriers = [threading.Thread(target=relay, args=(*pair, 97), daemon=True) for pair in (ends, ends[::-1])]
+        for carrier in carriers:
+            carrier.start()
+        outcomes = [Outcome(*it) for it in runs]
+        for end in ends:
+            end.close()
+    assert [(it.status, it.said) for it in outcomes] == [(0, ""), (0, "")]
+
+
+def test_a_bad_command_line_is_refused(c_gossip):
+    for words in (["second"], ["third", "1"], ["second", "0"], ["second", "65536"], ["second", "1x"], ["second", ""], ["a", "b", "c"]):
+        process, begun = run([c_gossip, *words])
+        assert Outcome(process, begun).status == 2
+
+
+RUST = {name: peer for name, peer in PEERS.items() if peer[1] in (TOO_LONG, LEFT, OTHERWISE)}
+
+
+@pytest.mark.parametrize("name", RUST)
+def test_the_rust_program_survives_a_peer(rust_gossip, name):
+    """It waits for no more of a frame that is too long, and allocates nothing for it."""
+    outcome = met([rust_gossip, "127.0.0.1:{}"], RUST[name][0])
+    assert outcome.is_unharmed(), outcome.said
+    assert outcome.seconds < 20
+    if RUST[name][1] == TOO_LONG:
+        assert TOO_LONG in outcome.said
