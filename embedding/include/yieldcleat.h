@@ -29,7 +29,8 @@ enum {
  *
  * Descriptors. Both block (no O_NONBLOCK). They may be one and the same, as an end of a socket pair. They stay open: close them after
  * the call has returned, and never before. Close or shut down the other end to end the call. Nobody else writes to `output` meanwhile.
- * Let only so many requests go unanswered as the descriptors hold answers for: who writes and never reads stops both sides.
+ * Send no request before the answer to the last one is read, or read on another thread: who writes and does not read stops both sides.
+ * (A pipe holds 64 KB, but one page past a user's soft limit.)
  *
  * Signals. Ignore SIGPIPE, or the process ends where `output` has no reader any more; ignored, the call returns 4. A signal whose handler
  * was set without SA_RESTART may end the input or fail the output: set it, or block signals on the thread.
