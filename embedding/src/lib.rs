@@ -17,17 +17,20 @@
 //! # }
 //! ```
 //!
-//! What is durable is the server's: it writes the bytes of [`requests`] to a file before it answers anybody, as [`frames`] or in a form
-//! of its own, and tells them to a new node after a crash. `src/bin/durable.rs` does so.
+//! A node lives in memory. A [`Store`] is one that comes back after a crash: it writes the requests that have changed the node to a file
+//! before it answers. `src/bin/durable.rs` is a server with one.
 
 mod answers;
+mod crc32c;
 mod errors;
 mod facts;
 pub mod frames;
 mod node;
 pub mod requests;
+mod store;
 
 pub use answers::{Front, Gap, Held, Key, State, Taken};
 pub use errors::{Error, ReadFault, Refused, SnapshotFault, StagingFault, Status, Uncovered, WireFault};
 pub use facts::{Advance, Fact, Patch, Record, Shape, Truncation, MOST_NUMBER, PAGE_LEN};
 pub use node::Node;
+pub use store::{Recovery, Store, StoreError};

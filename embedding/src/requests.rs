@@ -1,10 +1,51 @@
-//! The bytes of requests, as a frame has them.
-//!
-//! A server that has to come back after a crash keeps those that change a node (`take`, `absorb`, and at the start `open`; or a snapshot
-//! as `stage`, an `add` for each piece, and `finish`), and tells them to a new one in order.
+//! The bytes of requests, as a frame has them, and which of them a server has to keep.
 
 use crate::frames;
 use std::io;
+
+/// What a request does to what a node has to come back with after a crash.
+#[derive(Debug, Clone, Copy, PartialEq, Eq)]
+pub enum Effect {
+    /// None, whatever its answer is. A fold, a discard and a tidy change no answer that depends on facts; a snapshot that is kept for
+    /// `piece` may be made again.
+    None,
+    /// It changes the facts, the roster or the staging, exactly where this is its answer. Asked again in the same order, such requests
+    /// bring a new node to the same facts and the same staging.
+    Changes { answer: &'static [u8] },
+    /// That of the requests that stand in it.
+    Many,
+}
+
+const READS: [&[u8]; 12] =
+    [b"front", b"gap", b"state", b"read", b"next", b"ask", b"answer", b"fold", b"discard", b"tidy", b"freeze", b"piece"];
+
+/// The requests that change something, each with the answer that says so.
+const CHANGES: [(&[u8], &[u8]); 7] = [
+    (b"open", b"opened"),
+    (b"take", b"changed"),
+    (b"absorb", b"absorbed"),
+    (b"stage", b"staged"),
+    (b"add", b"added"),
+    (b"finish", b"restored"),
+    (b"unite", b"united"),
+];
+
+/// The first word of a request.
+pub fn word(request: &[u8]) -> &[u8] {
+    request.split(|byte| *byte == b' ').next().unwrap_or_default()
+}
+
+/// The effect of a request, by its first word; nothing for a word that this package does not know, so that a server can refuse it.
+pub fn effect(request: &[u8]) -> Option<Effect> {
+    let word = word(request);
+    if word == b"many" {
+        return Some(Effect::Many);
+    }
+    if READS.contains(&word) {
+        return Some(Effect::None);
+    }
+    CHANGES.iter().find(|it| it.0 == word).map(|it| Effect::Changes { answer: it.1 })
+}
 
 /// An empty segment of so many readers, 1 to 15, in place of the segment.
 pub fn open(readers: u8) -> Vec<u8> {
@@ -47,6 +88,11 @@ pub fn finish() -> Vec<u8> {
     b"finish".to_vec()
 }
 
+/// The staged segment joined into the segment.
+pub fn unite() -> Vec<u8> {
+    b"unite".to_vec()
+}
+
 /// All of these requests in one: each is carried out as if it had come alone, and the answer is the frames of their answers
 /// (`frames::inside`). One that is of this kind itself is none of them.
 ///
@@ -59,6 +105,24 @@ pub fn many<'a>(requests: impl IntoIterator<Item = &'a [u8]>) -> io::Result<Vec<
 
 #[cfg(test)]
 mod tests {
+    use super::*;
+
+    #[test]
+    fn each_request_has_its_effect() {
+        let changes = |answer| Some(Effect::Changes { answer });
+        assert_eq!(effect(&take(b"\x03 \n")), changes(b"changed"));
+        assert_eq!(effect(&absorb(b" ", b"")), changes(b"absorbed"));
+        assert_eq!(effect(&open(3)), changes(b"opened"));
+        assert_eq!(effect(&finish()), changes(b"restored"));
+        assert_eq!(effect(&unite()), changes(b"united"));
+        assert_eq!(effect(&answer(b"\x10")), Some(Effect::None));
+        assert_eq!(effect(b"tidy"), Some(Effect::None));
+        assert_eq!(effect(b"many \0\0\0\0"), Some(Effect::Many));
+        for unknown in [&b""[..], b" ", b" take", b"taken", b"wipe", b"Take"] {
+            assert_eq!(effect(unknown), None);
+        }
+    }
+
     #[test]
     fn requests_stand_in_one() {
         assert_eq!(super::many([&b"front"[..], b""]).unwrap(), b"many \0\0\0\x05front\0\0\0\0");

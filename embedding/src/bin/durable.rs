@@ -1,128 +1,86 @@
-//! A node that comes back. The child keeps its requests in a file before it answers them, and now and then a snapshot in their place; its
-//! parent is the database, and kills it at random moments. Each time a new child comes back from the files, and the parent looks whether
-//! something is gone that was acknowledged. It ends by itself, with status 0 where nothing is, and at the end each page shows what a plain
-//! replay of the log shows.
+//! A node that comes back. The child is a server over a `Store`: what a request changes is on the disk before it is answered, and now and
+//! then a snapshot takes the place of the log. Its parent is the database, and kills it at random moments. Each time a new child comes
+//! back from the folder, and the parent looks whether something is gone that was acknowledged. It ends by itself, with status 0 where
+//! nothing is, and at the end each page shows what a plain replay of the log shows.
 //!
 //!     durable [SEED]            with the files in a new folder of the system's folder for such
-//!     durable --forgetful       a child that answers before its file has the request, so that something is lost: status 1
+//!     durable --forgetful       a child that keeps nothing, so that something is lost: status 1
+//!     durable serve FOLDER      the child: request frames on standard input, answer frames on standard output
 
 use std::collections::hash_map::RandomState;
-use std::fs::{self, File, OpenOptions};
+use std::fs;
 use std::hash::{BuildHasher, Hasher};
-use std::io::{self, BufReader, BufWriter, Read, Write};
-use std::path::{Path, PathBuf};
+use std::io::{self, BufReader, Read, Write};
+use std::path::Path;
 use std::process::{Child, ChildStdin, ChildStdout, Command, Stdio};
 use std::time::Duration;
 use std::{env, thread};
-use yieldcleat::{frames, requests, Advance, Node, Patch, Record, PAGE_LEN};
+use yieldcleat::frames::{self, Next};
+use yieldcleat::{requests, Advance, Node, Patch, Record, Store, StoreError, PAGE_LEN};
 
 type Failed = Box<dyn std::error::Error>;
 
 // What the child does
 
-/// So many requests are told from the file at most before a snapshot takes their place.
-const CHECKPOINT: usize = 100;
+/// So many requests come to the log at least before a snapshot takes their place.
+const CHECKPOINT: u64 = 100;
 
-/// The files that a node comes back from: request frames of a snapshot, and those of what has come since.
-struct Files {
-    folder: PathBuf,
-    tail: File,
-    told: usize,
-}
-
-impl Files {
-    /// Tells a new node what the files have.
-    fn restore(folder: &Path, node: &mut Node) -> Result<Files, Failed> {
-        tell(&folder.join("snapshot"), node)?;
-        let (told, whole) = tell(&folder.join("tail"), node)?;
-        let tail = OpenOptions::new().create(true).append(true).open(folder.join("tail"))?;
-        // A frame that the crash has torn would take what comes behind it for its own.
-        tail.set_len(whole)?;
-        Ok(Files { folder: folder.to_path_buf(), tail, told })
-    }
-
-    /// The requests are in the file when this returns.
-    fn keep(&mut self, batch: &[Vec<u8>]) -> Result<(), Failed> {
-        let mut bytes = Vec::new();
-        for request in batch {
-            frames::append(&mut bytes, &[request])?;
-        }
-        self.told += batch.len();
-        self.tail.write_all(&bytes)?;
-        Ok(self.tail.sync_data()?)
-    }
-
-    /// A snapshot of the node in place of all that is kept. A crash in between leaves the older snapshot, or the new one and the tail,
-    /// of which each fact is then told twice.
-    fn checkpoint(&mut self, node: &mut Node) -> Result<(), Failed> {
-        node.tidy()?;
-        let total = node.freeze(1)?;
-        let fresh = self.folder.join("fresh");
-        let mut writer = BufWriter::new(File::create(&fresh)?);
-        frames::write(&mut writer, &requests::stage(1, total))?;
-        for index in 0..total {
-            frames::write(&mut writer, &requests::add(&node.piece(index)?))?;
-        }
-        frames::write(&mut writer, &requests::finish())?;
-        writer.into_inner()?.sync_all()?;
-        fs::rename(&fresh, self.folder.join("snapshot"))?;
-        File::open(&self.folder)?.sync_all()?;
-        self.tail.set_len(0)?;
-        self.told = 0;
-        Ok(())
-    }
-}
-
-/// Tells a node the whole frames of a file: how many they are, and where the last one ends.
-fn tell(path: &Path, node: &mut Node) -> Result<(usize, u64), Failed> {
-    let (mut count, mut end, mut request) = (0, 0, Vec::new());
-    let Ok(file) = File::open(path) else {
-        return Ok((0, 0));
-    };
-    let mut reader = BufReader::new(file);
-    while frames::read(&mut reader, &mut request)? {
-        node.ask(&request)?;
-        (count, end) = (count + 1, end + request.len() as u64 + 4);
-    }
-    Ok((count, end))
-}
-
-/// The next request, and those that have come behind it already; none where the input has ended.
-fn batch(input: &mut BufReader<impl Read>) -> io::Result<Vec<Vec<u8>>> {
+/// The next request, and those that have come behind it already, each nothing where it is too long; none where the input has ended.
+fn batch(input: &mut BufReader<impl Read>) -> io::Result<Vec<Option<Vec<u8>>>> {
     let (mut batch, mut request) = (Vec::new(), Vec::new());
-    while (batch.is_empty() || frames::is_whole(input.buffer())) && frames::read(input, &mut request)? {
-        batch.push(request.clone());
+    while batch.is_empty() || frames::is_whole(input.buffer()) {
+        match frames::read_within(input, &mut request, frames::LONGEST)? {
+            Next::Frame => batch.push(Some(request.clone())),
+            Next::TooLong(length) => {
+                frames::skip(input, length)?;
+                batch.push(None);
+            }
+            Next::End => break,
+        }
     }
     Ok(batch)
 }
 
-/// Answers the requests of its input on its output, for a database that is told `changed` only of what the files have.
-fn serve(folder: &Path, is_forgetful: bool) -> Result<(), Failed> {
-    let mut node = Node::open(1)?;
-    let mut files = Files::restore(folder, &mut node)?;
+/// Answers the requests of its input on its output, a batch at a time.
+fn serve(mut answers_to: impl FnMut(&[&Vec<u8>]) -> Result<Vec<Vec<u8>>, StoreError>) -> Result<(), Failed> {
     let (mut input, mut output) = (BufReader::new(io::stdin()), io::stdout());
-    let mut forgotten = Vec::new();
     loop {
         let batch = batch(&mut input)?;
         if batch.is_empty() {
             return Ok(());
         }
-        let changing: Vec<_> = batch.iter().filter(|it| it.starts_with(b"take ")).cloned().collect();
-        if is_forgetful {
-            forgotten.extend(changing);
-        } else {
-            files.keep(&changing)?;
-        }
-        let mut answers = Vec::new();
+        let asked: Vec<_> = batch.iter().flatten().collect();
+        let (mut answers, mut bytes) = (answers_to(&asked)?.into_iter(), Vec::new());
         for request in &batch {
-            frames::append(&mut answers, &[node.ask(request)?])?;
+            let answer = request.as_ref().and_then(|_| answers.next()).unwrap_or_else(|| b"long frame".to_vec());
+            frames::append(&mut bytes, &[&answer])?;
         }
-        output.write_all(&answers)?;
+        output.write_all(&bytes)?;
         output.flush()?;
-        if files.told >= CHECKPOINT {
-            files.checkpoint(&mut node)?;
-        }
     }
+}
+
+/// A server that comes back from its folder.
+fn serve_durably(folder: &Path) -> Result<(), Failed> {
+    let (mut store, recovery) = Store::open(folder, Node::open(1)?, 1)?;
+    if recovery.torn > 0 {
+        eprintln!("durable: {} bytes of a request that was not answered are cut off", recovery.torn);
+    }
+    let mut until = CHECKPOINT;
+    serve(|batch| {
+        if store.logged() >= until {
+            // The log goes on without a snapshot: the disk may be full for now.
+            store.checkpoint().unwrap_or_else(|error| eprintln!("durable: no checkpoint: {error}"));
+            until = store.logged() + CHECKPOINT;
+        }
+        store.answer(batch)
+    })
+}
+
+/// A server that forgets all when it is killed.
+fn serve_forgetfully() -> Result<(), Failed> {
+    let mut node = Node::open(1)?;
+    serve(|batch| batch.iter().map(|request| Ok(node.ask(request)?.to_vec())).collect())
 }
 
 // What the parent does
@@ -145,7 +103,7 @@ fn facts(number: u64) -> Result<Vec<Vec<u8>>, Failed> {
     let patches = vec![Patch::write(offset, &bytes)];
     let record = Record { epoch: 0, number, back: number - 1, page, block_back, begins_anew: false, patches };
     let advance = Advance { epoch: 0, reader: 1, point: number / 2 };
-    Ok(if number % 50 == 0 { vec![record.encode()?, advance.encode()?] } else { vec![record.encode()?] })
+    Ok(if number.is_multiple_of(50) { vec![record.encode()?, advance.encode()?] } else { vec![record.encode()?] })
 }
 
 /// A page after all records.
@@ -158,19 +116,19 @@ fn page(page: u64) -> Vec<u8> {
 }
 
 /// A child, and its pipes.
-struct Store {
+struct Server {
     child: Child,
     input: ChildStdin,
     output: BufReader<ChildStdout>,
     answer: Vec<u8>,
 }
 
-impl Store {
-    fn start(folder: &Path, word: &str) -> Result<Store, Failed> {
+impl Server {
+    fn start(folder: &Path, word: &str) -> Result<Server, Failed> {
         let mut command = Command::new(env::current_exe()?);
         let mut child = command.arg(word).arg(folder).stdin(Stdio::piped()).stdout(Stdio::piped()).spawn()?;
         let (input, output) = (child.stdin.take().ok_or("no pipe")?, child.stdout.take().ok_or("no pipe")?);
-        Ok(Store { child, input, output: BufReader::new(output), answer: Vec::new() })
+        Ok(Server { child, input, output: BufReader::new(output), answer: Vec::new() })
     }
 
     fn answer(&mut self) -> Result<&[u8], Failed> {
@@ -186,12 +144,6 @@ impl Store {
         self.answer()
     }
 
-    /// The complete point.
-    fn complete(&mut self) -> Result<u64, Failed> {
-        let front = String::from_utf8(self.ask("front")?.to_vec())?;
-        Ok(front.split(' ').nth(2).ok_or("no front")?.parse()?)
-    }
-
     fn send(&mut self, number: u64) -> Result<u64, Failed> {
         let facts = facts(number)?;
         for fact in &facts {
@@ -200,25 +152,36 @@ impl Store {
         Ok(facts.len() as u64)
     }
 
-    /// Sends the records behind one that was acknowledged, some at once, until another one is.
-    fn take(&mut self, last: u64, until: u64) -> Result<(), Failed> {
-        let mut first = last + 1;
-        while first <= until {
-            let window = first..=until.min(first + WINDOW - 1);
+    /// Sends the records behind one that was acknowledged, some at once, until another one is. The front alone acknowledges them: an
+    /// answer `unchanged` comes for a record that is there and for one that no page will ever show.
+    fn take(&mut self, mut last: u64, until: u64) -> Result<u64, Failed> {
+        while last < until {
             let mut sent = 0;
-            for number in window.clone() {
+            for number in last + 1..=until.min(last + WINDOW) {
                 sent += self.send(number)?;
             }
+            frames::write(&mut self.input, b"front")?;
             for _ in 0..sent {
                 match self.answer()? {
                     b"changed" | b"unchanged" => {}
                     other => return Err(String::from_utf8_lossy(other).into()),
                 }
             }
-            first = window.end() + 1;
+            let complete = complete(self.answer()?)?;
+            if complete <= last {
+                return Err(format!("record {} was taken and is not there", last + 1).into());
+            }
+            last = complete;
         }
-        Ok(())
+        Ok(last)
     }
+}
+
+/// The complete point of a front.
+fn complete(front: &[u8]) -> Result<u64, Failed> {
+    let front = std::str::from_utf8(front)?;
+    let point = front.strip_prefix("front ").and_then(|rest| rest.split(' ').nth(1));
+    Ok(point.ok_or("no front")?.parse()?)
 }
 
 /// A random number below a bound, by Sebastiano Vigna's splitmix64.
@@ -234,47 +197,46 @@ impl Random {
 }
 
 /// Kills a child at a random moment, while it has requests to answer.
-fn kill(mut store: Store, last: u64, random: &mut Random) -> Result<(), Failed> {
+fn kill(mut server: Server, last: u64, random: &mut Random) -> Result<(), Failed> {
     for number in last + 1..=RECORDS.min(last + WINDOW) {
-        store.send(number)?;
+        server.send(number)?;
     }
     thread::sleep(Duration::from_micros(random.below(3000)));
-    store.child.kill()?;
-    store.child.wait()?;
+    server.child.kill()?;
+    server.child.wait()?;
     Ok(())
 }
 
 fn run(folder: &Path, word: &str, random: &mut Random) -> Result<(), Failed> {
     let mut last = 0;
     for place in 0..=KILLS {
-        let mut store = Store::start(folder, word)?;
-        let complete = store.complete()?;
+        let mut server = Server::start(folder, word)?;
+        let complete = complete(server.ask("front")?)?;
         println!("start {place}: {last} acknowledged, {complete} there");
         if complete < last {
             return Err(format!("{} acknowledged records are lost", last - complete).into());
         }
         if place == KILLS {
-            store.take(last, RECORDS)?;
-            return judge(store);
+            server.take(last, RECORDS)?;
+            return judge(server);
         }
         let until = last + 1 + random.below((RECORDS - last) / (KILLS - place));
-        store.take(last, until)?;
-        last = until;
-        kill(store, last, random)?;
+        last = server.take(last, until)?;
+        kill(server, last, random)?;
     }
     Ok(())
 }
 
 /// Each page at the complete point, and the end of the child.
-fn judge(mut store: Store) -> Result<(), Failed> {
+fn judge(mut server: Server) -> Result<(), Failed> {
     for number in 0..PAGES {
-        let answer = store.ask(&format!("read {number} {RECORDS} 0 4096"))?;
+        let answer = server.ask(&format!("read {number} {RECORDS} 0 4096"))?;
         if answer.strip_prefix(b"page ") != Some(&page(number)) {
             return Err(format!("page {number} differs").into());
         }
     }
-    drop(store.input);
-    if !store.child.wait()?.success() {
+    drop(server.input);
+    if !server.child.wait()?.success() {
         return Err("the child ended badly".into());
     }
     println!("{RECORDS} records, {KILLS} kills: nothing that was acknowledged is lost, and each page is that of a plain replay");
@@ -284,8 +246,8 @@ fn judge(mut store: Store) -> Result<(), Failed> {
 fn main() -> Result<(), Failed> {
     let words: Vec<String> = env::args().skip(1).collect();
     match words.iter().map(String::as_str).collect::<Vec<_>>()[..] {
-        ["serve", folder] => return serve(Path::new(folder), false),
-        ["forget", folder] => return serve(Path::new(folder), true),
+        ["serve", folder] => return serve_durably(Path::new(folder)),
+        ["forget", _] => return serve_forgetfully(),
         _ => {}
     }
     let is_forgetful = words.iter().any(|word| word == "--forgetful");

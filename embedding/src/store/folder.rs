@@ -1,0 +1,169 @@
+//! The folder of a store: a lock, and of each generation a log `log.N` and a snapshot `snapshot.N`, behind which that log begins.
+//!
+//! Generation 0 has no snapshot: its log begins with an empty segment. The store is at the newest generation that has a snapshot. A
+//! checkpoint writes the next log, then the next snapshot, each under the name of a draft until it is whole and on the disk; with the
+//! snapshot's own name the next generation begins, and then the older files go.
+
+use super::entries::{Header, Kind};
+use super::errors::StoreError;
+use std::fs::{self, File, OpenOptions, TryLockError};
+use std::io::{BufWriter, ErrorKind, Write};
+use std::path::{Path, PathBuf};
+
+/// The end of the name of a file that is not whole yet.
+const DRAFT: &str = ".draft";
+
+pub struct Folder {
+    path: PathBuf,
+    /// Held for as long as the store is open.
+    _lock: File,
+}
+
+impl Folder {
+    /// Opens a folder, or makes it, for this store alone.
+    ///
+    /// Errors: `Io` and `Locked`.
+    pub fn open(path: &Path) -> Result<Folder, StoreError> {
+        match fs::create_dir(path) {
+            Ok(()) => sync(path.parent().filter(|parent| !parent.as_os_str().is_empty()).unwrap_or(Path::new(".")))?,
+            Err(error) if error.kind() == ErrorKind::AlreadyExists => {}
+            Err(error) => return Err(StoreError::io(path)(error)),
+        }
+        let name = path.join("lock");
+        let lock = OpenOptions::new().create(true).truncate(false).write(true).open(&name).map_err(StoreError::io(&name))?;
+        match lock.try_lock() {
+            Ok(()) => Ok(Folder { path: path.to_path_buf(), _lock: lock }),
+            Err(TryLockError::WouldBlock) => Err(StoreError::Locked { folder: path.to_path_buf() }),
+            Err(TryLockError::Error(error)) => Err(StoreError::io(&name)(error)),
+        }
+    }
+
+    pub fn path(&self, kind: Kind, generation: u64) -> PathBuf {
+        self.path.join(format!("{}.{generation}", kind.name()))
+    }
+
+    /// The generation at which the store is, if it has one.
+    ///
+    /// Errors: `Io`, and `Missing` where the files that there are need one that is not there.
+    pub fn generation(&self) -> Result<Option<u64>, StoreError> {
+        let (mut logs, mut snapshots) = (Vec::new(), Vec::new());
+        for file in self.files()? {
+            match file {
+                Named::Log(generation) => logs.push(generation),
+                Named::Snapshot(generation) => snapshots.push(generation),
+                Named::Draft => {}
+            }
+        }
+        let newest = snapshots.iter().copied().max().unwrap_or(0);
+        // A checkpoint that did not end leaves the next log.
+        let later = logs.iter().copied().find(|log| *log > newest + 1);
+        if let Some(log) = later {
+            return Err(StoreError::Missing { path: self.path(Kind::Snapshot, log) });
+        }
+        match logs.contains(&newest) {
+            true => Ok(Some(newest)),
+            false if logs.is_empty() && snapshots.is_empty() => Ok(None),
+            false => Err(StoreError::Missing { path: self.path(Kind::Log, newest) }),
+        }
+    }
+
+    /// The files of stores that the folder has. It may have other ones.
+    fn files(&self) -> Result<Vec<Named>, StoreError> {
+        let names = fs::read_dir(&self.path).map_err(StoreError::io(&self.path))?;
+        let names: Result<Vec<_>, _> = names.map(|entry| entry.map(|it| it.file_name())).collect();
+        let names = names.map_err(StoreError::io(&self.path))?;
+        Ok(names.iter().filter_map(|name| Named::of(name.to_str()?)).collect())
+    }
+
+    /// Removes what does not belong to a generation.
+    pub fn remove_others(&self, generation: u64) -> Result<(), StoreError> {
+        for file in self.files()? {
+            let path = match file {
+                Named::Log(other) if other != generation => self.path(Kind::Log, other),
+                Named::Snapshot(other) if other != generation => self.path(Kind::Snapshot, other),
+                _ => continue,
+            };
+            fs::remove_file(&path).map_err(StoreError::io(&path))?;
+        }
+        Ok(())
+    }
+
+    /// Begins a file of a kind, in place of an older draft of it.
+    pub fn draft(&self, header: Header) -> Result<Draft, StoreError> {
+        let path = self.path(header.kind, header.generation);
+        let draft = PathBuf::from(format!("{}{DRAFT}", path.display()));
+        let file = File::create(&draft).map_err(StoreError::io(&draft))?;
+        let mut writer = BufWriter::new(file);
+        writer.write_all(&header.bytes()).map_err(StoreError::io(&draft))?;
+        Ok(Draft { path, draft, writer, header, place: 0, entry: Vec::new() })
+    }
+
+    /// The names of the files are on the disk when this returns.
+    pub fn sync(&self) -> Result<(), StoreError> {
+        sync(&self.path)
+    }
+}
+
+fn sync(folder: &Path) -> Result<(), StoreError> {
+    File::open(folder).and_then(|it| it.sync_all()).map_err(StoreError::io(folder))
+}
+
+/// What a file is by its name.
+enum Named {
+    Log(u64),
+    Snapshot(u64),
+    Draft,
+}
+
+impl Named {
+    fn of(name: &str) -> Option<Named> {
+        let (kind, rest) = name.split_once('.')?;
+        let (rest, is_draft) = rest.strip_suffix(DRAFT).map_or((rest, false), |rest| (rest, true));
+        let generation = rest.parse().ok().filter(|it: &u64| it.to_string() == rest)?;
+        match kind {
+            "log" | "snapshot" if is_draft => Some(Named::Draft),
+            "log" => Some(Named::Log(generation)),
+            "snapshot" => Some(Named::Snapshot(generation)),
+            _ => None,
+        }
+    }
+}
+
+/// A file that is not whole yet.
+pub struct Draft {
+    path: PathBuf,
+    draft: PathBuf,
+    writer: BufWriter<File>,
+    header: Header,
+    place: u64,
+    entry: Vec<u8>,
+}
+
+impl Draft {
+    /// Appends an entry of request frames.
+    pub fn put(&mut self, requests: &[u8]) -> Result<(), StoreError> {
+        self.entry.clear();
+        self.header.append_entry(&mut self.entry, self.place, requests)?;
+        self.place += 1;
+        self.writer.write_all(&self.entry).map_err(StoreError::io(&self.draft))
+    }
+
+    /// All of it is on the disk when this returns; its name is not.
+    pub fn sync(self) -> Result<Whole, StoreError> {
+        let file = self.writer.into_inner().map_err(|error| StoreError::io(&self.draft)(error.into_error()))?;
+        file.sync_all().map_err(StoreError::io(&self.draft))?;
+        Ok(Whole { path: self.path, draft: self.draft })
+    }
+}
+
+/// A file that is whole, under the name of its draft.
+pub struct Whole {
+    path: PathBuf,
+    draft: PathBuf,
+}
+
+impl Whole {
+    pub fn rename(self) -> Result<(), StoreError> {
+        fs::rename(&self.draft, &self.path).map_err(StoreError::io(&self.path))
+    }
+}

@@ -1,0 +1,241 @@
+//! The log of requests that have come since a snapshot.
+
+use super::entries::{Entries, Header, Kind, Next};
+use super::errors::StoreError;
+use std::fs::{File, OpenOptions};
+use std::io::Write;
+use std::path::{Path, PathBuf};
+
+/// A log whose entries are all on the disk, to which more are appended.
+pub struct Log {
+    path: PathBuf,
+    file: File,
+    header: Header,
+    /// The place of the next entry.
+    place: u64,
+    entry: Vec<u8>,
+}
+
+impl Log {
+    /// Opens a log, hands the requests of each entry to `each`, and cuts off what a crash has left of the last entry. The second result
+    /// is how many bytes that were.
+    ///
+    /// Errors: `Io`, `Damaged`, and those of `each`; nothing is cut off then.
+    pub fn recover<F>(path: &Path, generation: u64, mut each: F) -> Result<(Log, u64), StoreError>
+    where
+        F: FnMut(&[&[u8]]) -> Result<(), StoreError>,
+    {
+        let (mut entries, mut bytes) = (Entries::open(path, Kind::Log, generation)?, Vec::new());
+        let torn = loop {
+            match entries.next(&mut bytes)? {
+                Next::Entry => each(&entries.requests(&bytes)?)?,
+                Next::End => break 0,
+                Next::Spoiled => break entries.torn()?,
+            }
+        };
+        let file = OpenOptions::new().append(true).open(path).map_err(StoreError::io(path))?;
+        if torn > 0 {
+            file.set_len(entries.offset()).map_err(StoreError::io(path))?;
+        }
+        // The last entry may not be on the disk: its writer was killed before it could wait for that, and the system had the bytes.
+        file.sync_all().map_err(StoreError::io(path))?;
+        let (path, header, place) = (path.to_path_buf(), entries.header(), entries.place());
+        Ok((Log { path, file, header, place, entry: Vec::new() }, torn))
+    }
+
+    /// Appends an entry of request frames. It is on the disk when this returns; after an error the log is of no use any more.
+    pub fn append(&mut self, requests: &[u8]) -> Result<(), StoreError> {
+        self.entry.clear();
+        self.header.append_entry(&mut self.entry, self.place, requests)?;
+        self.file.write_all(&self.entry).and_then(|()| self.file.sync_data()).map_err(StoreError::io(&self.path))?;
+        self.place += 1;
+        Ok(())
+    }
+
+    /// Hands the requests of each entry to `each` once more.
+    pub fn replay<F>(&self, mut each: F) -> Result<(), StoreError>
+    where
+        F: FnMut(&[&[u8]]) -> Result<(), StoreError>,
+    {
+        let (mut entries, mut bytes) = (Entries::open(&self.path, Kind::Log, self.header.generation)?, Vec::new());
+        while entries.place() < self.place {
+            match entries.next(&mut bytes)? {
+                Next::Entry => each(&entries.requests(&bytes)?)?,
+                _ => return Err(entries.damaged()),
+            }
+        }
+        Ok(())
+    }
+}
+
+#[cfg(test)]
+pub(super) mod tests {
+    use super::*;
+    use crate::frames;
+    use crate::store::folder::Folder;
+    use std::{env, fs, process};
+
+    /// A folder of a test, which goes with it.
+    pub struct Place(PathBuf);
+
+    impl Place {
+        pub fn new(name: &str) -> Place {
+            let path = env::temp_dir().join(format!("yieldcleat-{}-{name}", process::id()));
+            let _ = fs::remove_dir_all(&path);
+            Place(path)
+        }
+
+        pub fn path(&self) -> &Path {
+            &self.0
+        }
+    }
+
+    impl Drop for Place {
+        fn drop(&mut self) {
+            let _ = fs::remove_dir_all(&self.0);
+        }
+    }
+
+    impl Log {
+        /// From now on the system refuses to write it.
+        pub fn refuse(&mut self) {
+            self.file = File::open(&self.path).unwrap();
+        }
+    }
+
+    fn framed(requests: &[&[u8]]) -> Vec<u8> {
+        let mut bytes = Vec::new();
+        requests.iter().for_each(|request| frames::append(&mut bytes, &[request]).unwrap());
+        bytes
+    }
+
+    const BATCHES: [&[&[u8]]; 3] = [&[b"open 1"], &[b"take a", b"take b"], &[b"take ccc"]];
+
+    /// A log of generation 4 with these batches, and where each entry ends.
+    fn written(place: &Place) -> (PathBuf, Vec<usize>) {
+        let folder = Folder::open(place.path()).unwrap();
+        folder.draft(Header::new(Kind::Log, 4, 0)).unwrap().sync().unwrap().rename().unwrap();
+        let path = folder.path(Kind::Log, 4);
+        let mut log = Log::recover(&path, 4, |_| panic!("no entry")).unwrap().0;
+        let mut ends = vec![fs::metadata(&path).unwrap().len() as usize];
+        for batch in BATCHES {
+            log.append(&framed(batch)).unwrap();
+            ends.push(fs::metadata(&path).unwrap().len() as usize);
+        }
+        (path, ends)
+    }
+
+    /// How many batches a log has, where these are the first ones, and how many bytes were torn.
+    fn recovered(path: &Path) -> Result<(usize, u64), StoreError> {
+        let mut count = 0;
+        let (_, torn) = Log::recover(path, 4, |requests| {
+            assert_eq!(requests, BATCHES[count]);
+            count += 1;
+            Ok(())
+        })?;
+        Ok((count, torn))
+    }
+
+    fn is_damaged(path: &Path) -> bool {
+        matches!(recovered(path), Err(StoreError::Damaged { .. }))
+    }
+
+    #[test]
+    fn batches_come_back() {
+        let place = Place::new("batches");
+        let (path, _) = written(&place);
+        assert_eq!(recovered(&path).unwrap(), (3, 0));
+        let mut log = Log::recover(&path, 4, |_| Ok(())).unwrap().0;
+        log.append(&framed(&[b"front"])).unwrap();
+        let mut replayed = Vec::new();
+        log.replay(|requests| {
+            replayed.push(framed(requests));
+            Ok(())
+        })
+        .unwrap();
+        assert_eq!(replayed, [framed(BATCHES[0]), framed(BATCHES[1]), framed(BATCHES[2]), framed(&[b"front"])]);
+    }
+
+    /// A crash leaves any beginning of the last entry, and the log goes on behind the entry before.
+    #[test]
+    fn a_torn_end_is_cut_off() {
+        let place = Place::new("torn");
+        let (path, ends) = written(&place);
+        let whole = fs::read(&path).unwrap();
+        for length in ends[2]..ends[3] {
+            fs::write(&path, &whole[..length]).unwrap();
+            assert_eq!(recovered(&path).unwrap(), (2, (length - ends[2]) as u64));
+            assert_eq!(fs::read(&path).unwrap(), whole[..ends[2]]);
+            let mut log = Log::recover(&path, 4, |_| Ok(())).unwrap().0;
+            log.append(&framed(BATCHES[2])).unwrap();
+            assert_eq!(fs::read(&path).unwrap(), whole);
+        }
+    }
+
+    /// A crash may leave any of the last entry's bytes as zeros, since the file is longer before they are there.
+    #[test]
+    fn zeros_are_no_entry() {
+        let place = Place::new("zeros");
+        let (path, ends) = written(&place);
+        let whole = fs::read(&path).unwrap();
+        for from in ends[2]..ends[3] {
+            for to in from + 1..=ends[3] {
+                let mut bytes = whole.clone();
+                bytes[from..to].fill(0);
+                if bytes == whole {
+                    continue;
+                }
+                fs::write(&path, &bytes).unwrap();
+                assert_eq!(recovered(&path).unwrap(), (2, (ends[3] - ends[2]) as u64), "zeros from {from} to {to}");
+            }
+        }
+        for count in [1, 4, 19, 20, 4096] {
+            fs::write(&path, [&whole[..], &vec![0; count]].concat()).unwrap();
+            assert_eq!(recovered(&path).unwrap(), (3, count as u64));
+        }
+    }
+
+    /// What has an entry behind it was on the disk, so that no crash explains another content.
+    #[test]
+    fn a_damaged_middle_is_refused() {
+        let place = Place::new("middle");
+        let (path, ends) = written(&place);
+        let whole = fs::read(&path).unwrap();
+        for at in 0..ends[2] {
+            for change in [1, 0x80, 0xff] {
+                let mut bytes = whole.clone();
+                bytes[at] ^= change;
+                fs::write(&path, &bytes).unwrap();
+                assert!(is_damaged(&path), "byte {at}");
+                assert_eq!(fs::read(&path).unwrap(), bytes, "nothing is cut off");
+            }
+        }
+        let missing = [&whole[..ends[0]], &whole[ends[1]..]].concat();
+        let longer = [&whole[..ends[1]], &[0; 3], &whole[ends[1]..]].concat();
+        let shorter = [&whole[..ends[1] - 1], &whole[ends[1]..]].concat();
+        let twice = [&whole[..], &whole[ends[2]..]].concat();
+        for bytes in [missing, longer, shorter, twice, vec![], whole[..10].to_vec(), vec![0; 100]] {
+            fs::write(&path, &bytes).unwrap();
+            assert!(is_damaged(&path));
+        }
+        fs::write(&path, &whole).unwrap();
+        assert!(matches!(Log::recover(&path, 5, |_| Ok(())), Err(StoreError::Damaged { offset: 0, .. })));
+    }
+
+    /// Bytes of a request that look like an entry do not make a torn end a damage.
+    #[test]
+    fn requests_imitate_no_entry() {
+        let place = Place::new("imitation");
+        let (path, ends) = written(&place);
+        let other = Header::new(Kind::Log, 4, 0);
+        let mut imitation = b"take ".to_vec();
+        other.append_entry(&mut imitation, 4, &framed(&[b"front"])).unwrap();
+        let mut log = Log::recover(&path, 4, |_| Ok(())).unwrap().0;
+        log.append(&framed(&[&imitation])).unwrap();
+        let whole = fs::read(&path).unwrap();
+        let mut bytes = whole.clone();
+        bytes[ends[3] + 3] ^= 1;
+        fs::write(&path, &bytes).unwrap();
+        assert_eq!(recovered(&path).unwrap(), (3, (whole.len() - ends[3]) as u64));
+    }
+}

@@ -1,0 +1,282 @@
+//! A node that comes back: what its requests change is on the disk before they are answered.
+//!
+//! `Store` keeps a folder (`folder`) with a log of the requests that have changed the node (`log`) and a snapshot in place of those
+//! before (`entries` has the bytes of both). A request that the node refuses, and one that changes nothing, is not kept. So each kept
+//! request has one answer, and a node that comes back is right only if it gives just these answers.
+
+mod entries;
+mod errors;
+mod folder;
+mod log;
+
+pub use errors::StoreError;
+
+use crate::requests::{self, Effect};
+use crate::{frames, Node};
+use entries::{Entries, Header, Kind, Next};
+use folder::Folder;
+use log::Log;
+use std::path::Path;
+
+/// A node, and the folder from which it comes back.
+///
+/// After an error of `answer` the store answers nothing more, since the node may have changes that the log does not have.
+pub struct Store {
+    node: Node,
+    folder: Folder,
+    generation: u64,
+    /// Nothing while a call changes the node and behind a call that has failed.
+    log: Option<Log>,
+    progress: Progress,
+    /// Whether the node keeps a snapshot that a checkpoint has made, and not one that a client asked for.
+    is_displaced: bool,
+}
+
+/// What a store has found in its folder.
+#[derive(Debug, Clone, Copy, PartialEq, Eq)]
+pub struct Recovery {
+    /// How many requests the node was asked: those of the snapshot and of the log.
+    pub requests: u64,
+    /// How many bytes a crash had left of the log's last entry. Nobody was answered for what they had.
+    pub torn: u64,
+}
+
+/// How far the log is.
+#[derive(Debug, Clone, Copy, Default)]
+struct Progress {
+    /// How many requests it has.
+    logged: u64,
+    /// Of these, the place of the `stage` that began the staging, where there is one.
+    staging: Option<u64>,
+}
+
+impl Progress {
+    fn count(&mut self, request: &[u8]) {
+        match requests::word(request) {
+            b"stage" => self.staging = Some(self.logged),
+            b"finish" | b"unite" => self.staging = None,
+            _ => {}
+        }
+        self.logged += 1;
+    }
+}
+
+impl Store {
+    /// Brings a node to what a folder has, or makes the folder for an empty segment of so many readers. Of the node nothing is left.
+    ///
+    /// Errors: `Io`, `Locked`, `Missing`, `Damaged`, and `Unexpected` where the node does not answer as it did. The files stay as they
+    /// are then, but for a torn end of the log, which is cut off.
+    pub fn open(folder: &Path, mut node: Node, readers: u8) -> Result<(Store, Recovery), StoreError> {
+        let folder = Folder::open(folder)?;
+        let generation = match folder.generation()? {
+            Some(generation) => generation,
+            None => begin(&folder, readers)?,
+        };
+        let (mut snapshot, mut progress) = (0, Progress::default());
+        if generation > 0 {
+            snapshot = restore(&folder.path(Kind::Snapshot, generation), generation, &mut node)?;
+        }
+        let (log, torn) = Log::recover(&folder.path(Kind::Log, generation), generation, |requests| {
+            requests.iter().for_each(|request| progress.count(request));
+            tell(&mut node, requests)
+        })?;
+        folder.sync()?;
+        folder.remove_others(generation)?;
+        let recovery = Recovery { requests: snapshot + progress.logged, torn };
+        Ok((Store { node, folder, generation, log: Some(log), progress, is_displaced: true }, recovery))
+    }
+
+    /// How many requests the log has: what is asked before the node is back, beside the snapshot.
+    pub fn logged(&self) -> u64 {
+        self.progress.logged
+    }
+
+    /// Asks requests in order, and returns the answer to each when all that they have changed is on the disk. A request whose first word
+    /// this package does not know is a `bad request`, and so is a `many` that has one.
+    ///
+    /// Errors: `Io`, `Node`, `TooLong`, and `Stopped` behind any error.
+    pub fn answer<R: AsRef<[u8]>>(&mut self, batch: &[R]) -> Result<Vec<Vec<u8>>, StoreError> {
+        let mut log = self.log.take().ok_or(StoreError::Stopped)?;
+        let (mut answers, mut changes) = (Vec::new(), Vec::new());
+        for request in batch {
+            answers.push(self.ask(request.as_ref(), &mut changes)?);
+        }
+        if !changes.is_empty() {
+            log.append(&changes)?;
+        }
+        self.log = Some(log);
+        Ok(answers)
+    }
+
+    /// Asks a request, and appends what it has changed to the frames of `changes`.
+    fn ask(&mut self, request: &[u8], changes: &mut Vec<u8>) -> Result<Vec<u8>, StoreError> {
+        if !is_known(request) {
+            return Ok(b"bad request".to_vec());
+        }
+        let answer = self.node.ask(request)?.to_vec();
+        let Some(inside) = request.strip_prefix(b"many ") else {
+            return self.settle(request, answer, changes);
+        };
+        match (frames::inside(inside), frames::inside(&answer)) {
+            (Some(requests), Some(answers)) if requests.len() == answers.len() => {
+                let mut settled = Vec::with_capacity(answer.len());
+                for (request, answer) in requests.into_iter().zip(answers) {
+                    let answer = self.settle(request, answer.to_vec(), changes)?;
+                    frames::append(&mut settled, &[&answer]).map_err(|_| StoreError::TooLong)?;
+                }
+                Ok(settled)
+            }
+            // It was not carried out.
+            _ => Ok(answer),
+        }
+    }
+
+    /// The answer that a client gets, and a request that has changed something among the changes.
+    fn settle(&mut self, request: &[u8], answer: Vec<u8>, changes: &mut Vec<u8>) -> Result<Vec<u8>, StoreError> {
+        if has_changed(request, &answer) {
+            self.progress.count(request);
+            frames::append(changes, &[request]).map_err(|_| StoreError::TooLong)?;
+        }
+        match requests::word(request) {
+            b"freeze" if answer.starts_with(b"frozen ") => self.is_displaced = false,
+            // The pieces of a checkpoint's snapshot are not those that the client began with.
+            b"piece" if self.is_displaced && answer != b"bad request" => return Ok(b"no snapshot".to_vec()),
+            _ => {}
+        }
+        Ok(answer)
+    }
+
+    /// Puts a snapshot in place of the log. A crash in between leaves the older generation, whole. A snapshot that a client has frozen
+    /// is lost: `piece` answers `no snapshot`.
+    ///
+    /// Its errors are those of `answer`. The store goes on behind an error, unless the log has become unsure: then all calls are
+    /// `Stopped`.
+    pub fn checkpoint(&mut self) -> Result<(), StoreError> {
+        let next = self.generation + 1;
+        let log = self.log.as_ref().ok_or(StoreError::Stopped)?;
+        let progress = begin_behind(&self.folder, next, log, self.progress)?;
+        self.is_displaced = true;
+        let snapshot = freeze(&self.folder, next, &mut self.node)?;
+        // The next log has its name on the disk before the snapshot has, with which the generation begins.
+        self.folder.sync()?;
+        self.log = None;
+        snapshot.rename()?;
+        self.folder.sync()?;
+        self.log = Some(Log::recover(&self.folder.path(Kind::Log, next), next, |_| Ok(()))?.0);
+        (self.generation, self.progress) = (next, progress);
+        self.folder.remove_others(next)
+    }
+}
+
+/// Whether the node may be asked: the package knows whether each request in it changes something.
+fn is_known(request: &[u8]) -> bool {
+    match (requests::effect(request), request.strip_prefix(b"many ")) {
+        (Some(Effect::Many), Some(inside)) => {
+            frames::inside(inside).is_none_or(|requests| requests.iter().all(|request| requests::effect(request).is_some()))
+        }
+        (effect, _) => effect.is_some(),
+    }
+}
+
+fn has_changed(request: &[u8], answer: &[u8]) -> bool {
+    matches!(requests::effect(request), Some(Effect::Changes { answer: wanted }) if wanted == answer)
+}
+
+/// Asks a node requests that have changed an earlier one.
+fn tell(node: &mut Node, asked: &[&[u8]]) -> Result<(), StoreError> {
+    let answers = node.ask_all(asked.iter().copied())?;
+    let differs = asked.iter().zip(&answers).find(|(request, answer)| !has_changed(request, answer));
+    differs.map_or(Ok(()), |(request, answer)| {
+        let told = |bytes: &[u8]| String::from_utf8_lossy(&bytes[..bytes.len().min(60)]).into_owned();
+        Err(StoreError::Unexpected { request: told(requests::word(request)), answer: told(answer) })
+    })
+}
+
+/// The first log, of an empty segment.
+fn begin(folder: &Folder, readers: u8) -> Result<u64, StoreError> {
+    let mut log = folder.draft(Header::new(Kind::Log, 0, 0))?;
+    log.put(&framed(&requests::open(readers))?)?;
+    log.sync()?.rename()?;
+    folder.sync()?;
+    Ok(0)
+}
+
+fn framed(request: &[u8]) -> Result<Vec<u8>, StoreError> {
+    let mut bytes = Vec::with_capacity(request.len() + 4);
+    frames::append(&mut bytes, &[request]).map_err(|_| StoreError::TooLong)?;
+    Ok(bytes)
+}
+
+/// The log of the next generation. It begins with the staging that is not at its end, which no snapshot has.
+fn begin_behind(folder: &Folder, generation: u64, log: &Log, before: Progress) -> Result<Progress, StoreError> {
+    let mut next = folder.draft(Header::new(Kind::Log, generation, 0))?;
+    let (mut place, mut progress) = (0, Progress::default());
+    if let Some(staging) = before.staging {
+        log.replay(|requests| {
+            for request in requests {
+                if place >= staging && matches!(requests::word(request), b"stage" | b"add") {
+                    next.put(&framed(request)?)?;
+                    progress.count(request);
+                }
+                place += 1;
+            }
+            Ok(())
+        })?;
+    }
+    next.sync()?.rename()?;
+    Ok(progress)
+}
+
+/// The snapshot with which a generation begins, as the requests that bring it back.
+fn freeze(folder: &Folder, generation: u64, node: &mut Node) -> Result<folder::Whole, StoreError> {
+    match node.tidy() {
+        // Only a log that is not sound has a broken chain; its snapshot is larger then.
+        Ok(()) | Err(crate::Error::Broken { .. }) => {}
+        Err(error) => return Err(error.into()),
+    }
+    let total = node.freeze(generation)?;
+    let mut snapshot = folder.draft(Header::new(Kind::Snapshot, generation, u64::from(total) + 2))?;
+    snapshot.put(&framed(&requests::stage(generation, total))?)?;
+    for index in 0..total {
+        snapshot.put(&framed(&requests::add(&node.piece(index)?))?)?;
+    }
+    snapshot.put(&framed(&requests::finish())?)?;
+    snapshot.sync()
+}
+
+/// Tells a node a snapshot; how many requests that were.
+fn restore(path: &Path, generation: u64, node: &mut Node) -> Result<u64, StoreError> {
+    let (mut entries, mut bytes) = (Entries::open(path, Kind::Snapshot, generation)?, Vec::new());
+    while entries.place() < entries.header().count {
+        match entries.next(&mut bytes)? {
+            Next::Entry => tell(node, &entries.requests(&bytes)?)?,
+            _ => return Err(entries.damaged()),
+        }
+    }
+    if entries.is_at_end()? {
+        Ok(entries.place())
+    } else {
+        Err(entries.damaged())
+    }
+}
+
+#[cfg(test)]
+mod tests {
+    use super::log::tests::Place;
+    use super::*;
+
+    #[test]
+    fn what_the_disk_refuses_is_not_answered() {
+        let place = Place::new("refused");
+        let advance = |point| requests::take(&crate::Advance { epoch: 0, reader: 1, point }.encode().unwrap());
+        let mut store = Store::open(place.path(), Node::open(1).unwrap(), 1).unwrap().0;
+        assert_eq!(store.answer(&[advance(1)]).unwrap(), [b"changed"]);
+        store.log.as_mut().unwrap().refuse();
+        assert_eq!(store.answer(&[b"front"]).unwrap(), [b"front 0 0 1"]);
+        assert!(matches!(store.answer(&[advance(2)]), Err(StoreError::Io { .. })));
+        assert!(matches!(store.answer(&[b"front"]), Err(StoreError::Stopped)));
+        drop(store);
+        let mut store = Store::open(place.path(), Node::open(1).unwrap(), 1).unwrap().0;
+        assert_eq!(store.answer(&[b"front"]).unwrap(), [b"front 0 0 1"]);
+    }
+}
