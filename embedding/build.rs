@@ -6,7 +6,7 @@ use std::path::{Path, PathBuf};
 fn main() {
     let crates = Path::new(env!("CARGO_MANIFEST_DIR")).join("../crates");
     link("YIELDCLEAT_ARCHIVE", "node_c", || Some(crates.join("node_c/out")), "`rt lib` in crates/node_c makes it");
-    link("RATTLE_C", "libc_c", heap_of_toolchain, "it stands in the folder c/ of the toolchain that `rt` belongs to");
+    link("RATTLE_C", "libc_c", heap_of_toolchain, "it is in the folder c/ of the toolchain, which is found where `rt` on the path leads");
     println!("cargo:rerun-if-env-changed=PATH");
 }
 
@@ -25,9 +25,12 @@ fn link(variable: &str, name: &str, usual: impl Fn() -> Option<PathBuf>, advice:
     println!("cargo:rustc-link-lib=static={name}");
 }
 
-/// The folder beside that of the command `rt`, which the path names.
+/// The folder c/ of the toolchain whose command `rt` is on the path, perhaps as a link.
 fn heap_of_toolchain() -> Option<PathBuf> {
     let path = env::var_os("PATH")?;
-    let command = env::split_paths(&path).map(|folder| folder.join("rt")).find(|it| it.is_file())?;
-    Some(command.canonicalize().ok()?.parent()?.parent()?.join("c"))
+    let folders = env::split_paths(&path).filter_map(|folder| {
+        let command = folder.join("rt").canonicalize().ok()?;
+        Some(command.parent()?.parent()?.join("c"))
+    });
+    folders.into_iter().find(|folder| folder.join("liblibc_c.a").is_file())
 }

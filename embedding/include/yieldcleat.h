@@ -1,7 +1,7 @@
 /* One storage segment of a protection group, inside a program in C or in any language that calls C.
  *
- * Link libnode_c.a, which `rt lib` in crates/node_c makes (in its folder out/), and behind it liblibc_c.a of the toolchain (the folder
- * c/ beside that of `rt`), which calls malloc, realloc and free. */
+ * Link libnode_c.a, which `rt lib` in crates/node_c makes (in its folder out/), and behind it liblibc_c.a of the toolchain (its folder
+ * c/; where `rt` on the path is a link, the toolchain is where the link leads), which calls malloc, realloc and free. */
 #ifndef YIELDCLEAT_H
 #define YIELDCLEAT_H
 
