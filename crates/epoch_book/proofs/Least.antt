@@ -1,20 +1,20 @@
--- The least lo of the truncations above each epoch.
-use Rattle.std.proofs.Common.{◌≡◌, ℕ, zero, suc, ◌+◌, ◌-◌, ◌<◌, ◌≤◌, ◌⊎◌, inl, inr, ⊎_elim, List, [], ◌∷◌, length, get_or, set, min, refl, sym, ◌∙◌, ap, subst, arith, get_or-set_other, Option, Some, None, IfSome, IsNone}
-use Rattle.std.specs.List.{Contains, All, insert}
+-- The truncations that cut lowest.
+use Rattle.std.proofs.Common.{◌≡◌, ℕ, zero, suc, ◌+◌, ◌<◌, ◌≤◌, ◌⊎◌, inl, inr, ⊎_elim, List, [], ◌∷◌, ◌++◌, length, get_or, take, drop, refl, sym, ◌∙◌, ap, subst, arith, Option, Some, None, leb, true, false}
+use Rattle.std.specs.List.{Contains, All, AllWithin, insert}
 use Rattle.std.specs.List.Sorted.{IsPartitionPoint}
-use Rattle.std.proofs.lemmas.List.Elements.{All-contains}
+use Rattle.std.proofs.lemmas.List.Elements.{All-contains, Contains-append_left, Contains-append_right, Contains-append_cases}
+use Rattle.std.proofs.lemmas.Bool.{leb-true, leb-false}
 use Rattle.std.proofs.lemmas.Bool.Decides.{nat_tests}
 use Rattle.redo_core.specs.Data.{CutData}
 use Rattle.redo_core.specs.Shape.{cut_fault, max_number}
 use Rattle.redo_core.specs.Order.{IsRising, IsGreatest, CutBefore}
 use Rattle.redo_core.specs.CompleteEpoch.{HasCutsTo}
-use Rattle.std.proofs.lemmas.Grind.{get_or-set_at}
-use Rattle.redo_core.proofs.Members.{none_in, here, which, each, item, contains_insert}
-use Rattle.redo_core.proofs.Rising.{rising_members}
+use Rattle.redo_core.proofs.Members.{none_in, here, there, which, only, each, all_of, all_members, item, contains_insert}
+use Rattle.redo_core.proofs.Rising.{rising_members, in_take, side, item_drop, rest_from, front_to, up_to, whole, across}
 use Rattle.redo_core.proofs.CompleteEpochs.{has_cuts}
 use Rattle.epoch_book.specs.Book.{BookData, IsBook}
-use Rattle.epoch_book.specs.Scanning.{IsLeastLo}
-use Rattle.epoch_book.specs.Lows.{IsLow, AreLows, CutsAt}
+use Rattle.epoch_book.specs.Scanning.{IsLeastLo, IsLeastAbove}
+use Rattle.epoch_book.specs.Lows.{AreLows, LowBefore, CutsAt}
 use Rattle.epoch_book.proofs.Scans.{no_cut}
 
 pub shaped_cut : (c : CutData) → cut_fault c ≡ None → (0 < c.epoch) × (c.lo ≤ c.hi) × (c.hi ≤ max_number)
@@ -69,158 +69,176 @@ one_of_epoch cs c d rising hc hd e =
 pub place_within : (cs : List CutData) (n i : ℕ) → IsRising CutBefore cs → All (λ c. cut_fault c ≡ None) cs → HasCutsTo cs n → i < n → i < length cs
 place_within cs n i rising shaped has l = (place_of_known cs n i (has (i + 1) (omega arith) (omega (arith, l))).0 rising shaped has l).0
 
--- one truncation more below those that the least is of
-low_step : (cs : List CutData) (n place p m : ℕ) (x : CutData) → IsRising CutBefore cs → Contains cs x → x.epoch ≡ place → p + 1 ≡ place → place ≤ n
-    → (place < n → IsLow cs n place m) → (place ≡ n → x.lo ≤ m) → IsLow cs n p (min m x.lo)
-low_step cs n place p m x rising inside at next l front last = record {
-  some = ⊎_elim
-      (λ (u : place < n).
-      let f = (front u).some in let a : place < f.0.epoch = f.2 in let b : f.0.lo ≡ m = f.4 in
-      ⊎_elim
-      (λ (v : x.lo ≤ m). (x, inside, omega arith, omega arith, omega arith))
-      (λ (v : m < x.lo). (f.0, f.1, omega arith, f.3, omega arith))
-      (let t : (x.lo ≤ m) ⊎ (m < x.lo) = grind arith in t))
-      (λ (u : place ≡ n). let v : x.lo ≤ m = last u in (x, inside, omega arith, omega arith, omega arith))
-      (let t : (place < n) ⊎ (place ≡ n) = grind arith in t);
-  least = λ c h above up. ⊎_elim
-      (λ (u : c.epoch ≡ place).
-      let q : c.lo ≡ x.lo = ap (λ (y : CutData). y.lo) (one_of_epoch cs c x rising h inside (u ∙ sym at)) in
-      omega arith)
-      (λ (u : place < c.epoch). let v : m ≤ c.lo = (front (omega (arith, up))).least c h u up in omega arith)
-      (let t : (c.epoch ≡ place) ⊎ (place < c.epoch) = grind arith in t);
-}
+-- where a search by a number parts a list
+pub parted_by : (n : CutData → ℕ) (xs : List CutData) (t i : ℕ) → IsPartitionPoint (λ y. leb (n y) t ≡ true) (λ y. leb (n y) t ≡ false) xs i
+    → IsPartitionPoint (λ y. n y ≤ t) (λ y. t < n y) xs i
+parted_by n xs t i parted = (
+  λ k d l m. leb-true (n (get_or xs k d)) t (parted.0 k d l m),
+  λ k d l m. leb-false (n (get_or xs k d)) t (parted.1 k d l m),
+)
 
--- the turn of a walk down the places
-pub low_turn : (cs : List CutData) (n place m lo less : ℕ) (x : CutData) → IsRising CutBefore cs → All (λ c. cut_fault c ≡ None) cs → HasCutsTo cs n → 0 < place → place ≤ n
-    → x ≡ get_or cs (place - 1) x → lo ≡ x.lo → less ≡ min m lo → (place < n → IsLow cs n place m) → (place ≡ n → m ≡ 18446744073709551615) → IsLow cs n (place - 1) less
-low_turn cs n place m lo less x rising shaped has up l is same least front last =
-    let at = place_of_known cs n (place - 1) x rising shaped has (omega (arith, up, l)) in
-    let inside = item cs (place - 1) x at.0 is in
-    let here' : (get_or cs (place - 1) x).epoch ≡ place - 1 + 1 = at.1 in
-    let same' : x.epoch ≡ (get_or cs (place - 1) x).epoch = ap (λ (y : CutData). y.epoch) is in
-    let f = shaped_cut x (All-contains (λ c. cut_fault c ≡ None) cs x shaped inside) in
-    let f1 : x.lo ≤ x.hi = f.1 in let f2 : x.hi ≤ 281474976710655 = f.2 in
-    subst (IsLow cs n (place - 1)) (sym (least ∙ ap (min m) same))
-    (low_step cs n place (place - 1) m x rising inside (omega (arith, up)) (omega (arith, up)) l front (λ q. let t = last q in omega arith))
-
--- where the least above one epoch stays, those above the lower ones stay
-pub low_stays : (cs : List CutData) (from n p e a b m : ℕ) → from ≤ n → p < from → e ≤ p → IsLow cs from p a → IsLow cs from e b → IsLow cs n p m → a ≤ m → IsLow cs n e b
-low_stays cs from n p e a b m le l below old low new stays = record {
-  some = let s = low.some in let k : s.0.epoch ≤ from = s.3 in (s.0, s.1, s.2, omega arith, s.4);
-  least = λ c h above up. ⊎_elim
-      (λ (u : c.epoch ≤ from). low.least c h above u)
-      (λ (u : from < c.epoch).
-      let w = old.some in let x : p < w.0.epoch = w.2 in let y : w.0.lo ≡ a = w.4 in
-      let s : b ≤ w.0.lo = low.least w.0 w.1 (omega arith) w.3 in
-      let t : m ≤ c.lo = new.least c h (omega arith) up in
-      omega arith)
-      (let t : (c.epoch ≤ from) ⊎ (from < c.epoch) = grind arith in t);
-}
-
--- a walk that stops
-pub low_stop : (cs : List CutData) (lows : List ℕ) (n from place m : ℕ) → length lows ≡ n → from ≤ n → 0 < place → place - 1 < from → IsLow cs n (place - 1) m
-    → get_or lows (place - 1) 0 ≤ m → ((e : ℕ) → place ≤ e → e < n → IsLow cs n e (get_or lows e 0))
-    → ((e : ℕ) → e < place → e < from → IsLow cs from e (get_or lows e 0)) → AreLows cs n lows
-low_stop cs lows n from place m count le up l new stays done rest = record {
-  count = count;
-  each = λ e in'. ⊎_elim
-      (λ (u : place ≤ e). done e u in')
-      (λ (u : e < place). low_stays cs from n (place - 1) e (get_or lows (place - 1) 0) (get_or lows e 0) m le l (omega arith)
-      (rest (place - 1) (omega arith) l) (rest e u (omega arith)) new stays)
-      (let t : (place ≤ e) ⊎ (e < place) = grind arith in t);
-}
-
--- one that goes on
-pub low_done : (cs : List CutData) (lows : List ℕ) (n place m : ℕ) → length lows ≡ n → 0 < place → place ≤ n → IsLow cs n (place - 1) m
-    → ((e : ℕ) → place ≤ e → e < n → IsLow cs n e (get_or lows e 0)) → (e : ℕ) → place - 1 ≤ e → e < n → IsLow cs n e (get_or (set lows (place - 1) m) e 0)
-low_done cs lows n place m count up l new done e from below =
+-- what holds in front of a place, and from there on
+pub in_front : {X : Type 0} (P : X → Type 0) (xs : List X) (i : ℕ) (y : X) → AllWithin P xs 0 i → Contains (take i xs) y → P y
+in_front P xs zero y all h = absurd (none_in y h)
+in_front P [] (suc i) y all h = absurd (none_in y h)
+in_front P (x ∷ xs) (suc i) y all h =
     ⊎_elim
-    (λ (u : e ≡ place - 1). subst (IsLow cs n e) (sym (get_or-set_at lows (place - 1) e m 0 u (omega (arith, up, l, count))))
-    (subst (λ i. IsLow cs n i m) (sym u) new))
-    (λ (u : place ≤ e). subst (IsLow cs n e) (sym (get_or-set_other lows (place - 1) e m 0 (λ q. absurd (omega (arith, q, u, up))))) (done e u below))
-    (let t : (e ≡ place - 1) ⊎ (place ≤ e) = grind arith in t)
+    (λ (e : x ≡ y). subst P e (all 0 x (omega arith) (omega arith)))
+    (λ (q : Contains (take i xs) y). in_front P xs i y (λ k d m n. all (suc k) d (omega arith) (omega (arith, n))) q)
+    (which x (take i xs) y h)
 
-pub low_rest : (cs : List CutData) (lows : List ℕ) (from place m : ℕ) → 0 < place → ((e : ℕ) → e < place → e < from → IsLow cs from e (get_or lows e 0)) → (e : ℕ)
-    → e < place - 1 → e < from → IsLow cs from e (get_or (set lows (place - 1) m) e 0)
-low_rest cs lows from place m up rest e l below =
-    subst (IsLow cs from e) (sym (get_or-set_other lows (place - 1) e m 0 (λ q. absurd (omega (arith, q, l))))) (rest e (omega (arith, l)) below)
+pub behind : {X : Type 0} (P : X → Type 0) (xs : List X) (i : ℕ) (y : X) → AllWithin P xs i (length xs) → Contains (drop i xs) y → P y
+behind P xs zero y all h = subst P h.2 (all h.0 y (omega arith) h.1)
+behind P [] (suc i) y all h = absurd (none_in y h)
+behind P (x ∷ xs) (suc i) y all h = behind P xs i y (λ k d m n. all (suc k) d (omega (arith, m)) (omega (arith, n))) h
 
--- the least rises with the epoch
-pub lows_rise : (cs : List CutData) (k : ℕ) (lows : List ℕ) → AreLows cs k lows → (i j : ℕ) → i ≤ j → j < length lows → get_or lows i 0 ≤ get_or lows j 0
-lows_rise cs k lows are i j le l =
-    let up : j < k = omega (arith, l, are.count) in
-    let w = (are.each j up).some in let x : j < w.0.epoch = w.2 in let y : w.0.lo ≡ get_or lows j 0 = w.4 in
-    let s : get_or lows i 0 ≤ w.0.lo = (are.each i (omega arith)).least w.0 w.1 (omega arith) w.3 in
-    omega arith
+-- the front of a rising list, and one more behind it
+rising_push : {X : Type 0} (Before : X → X → Type 0) (xs : List X) (i : ℕ) (x : X) → IsRising Before xs → ((y : X) → Contains (take i xs) y → Before y x)
+    → IsRising Before (take i xs ++ x ∷ [])
+rising_push Before xs zero x r low = (tt, tt)
+rising_push Before [] (suc i) x r low = (tt, tt)
+rising_push Before (z ∷ zs) (suc i) x r low = (
+  all_of (Before z) (take i zs ++ x ∷ []) (λ y h. ⊎_elim
+      (λ (q : Contains (take i zs) y). each (Before z) zs y r.0 (in_take i zs y q))
+      (λ (q : Contains (x ∷ []) y). subst (Before z) (only x y q) (low z (here z (take i zs))))
+      (Contains-append_cases (take i zs) (x ∷ []) y h)),
+  rising_push Before zs i x r.1 (λ y h. low y (there z (take i zs) y h)),
+)
+
+-- nothing cuts up to epoch 0
+pub no_lows : (cs : List CutData) → All (λ c. cut_fault c ≡ None) cs → AreLows cs 0 []
+no_lows cs shaped = record {
+  rising = tt;
+  held = λ i d l. absurd (omega (arith, l));
+  least = λ c h le. let p : 0 < c.epoch = (shaped_cut c (All-contains (λ x. cut_fault x ≡ None) cs c shaped h)).0 in absurd (omega arith);
+}
+
+-- the truncation of the next epoch, behind those that cut no higher
+pub next_lows : (cs : List CutData) (k stay : ℕ) (x : CutData) (lows : List CutData) → IsRising CutBefore cs → Contains cs x → x.epoch ≡ k + 1 → AreLows cs k lows
+    → IsPartitionPoint (λ c. c.lo ≤ x.lo) (λ c. x.lo < c.lo) lows stay → AreLows cs (k + 1) (take stay lows ++ x ∷ [])
+next_lows cs k stay x lows rising inside at are parted = record {
+  rising = rising_push LowBefore lows stay x are.rising
+      (λ y h. let e : y.epoch ≤ k = (old y (in_take stay lows y h)).1 in (omega arith, in_front (λ c. c.lo ≤ x.lo) lows stay y parted.0 h));
+  held = all_members (λ c. Contains cs c × (c.epoch ≤ k + 1)) (take stay lows ++ x ∷ []) (λ y h. ⊎_elim
+      (λ (q : Contains (take stay lows) y). let o = old y (in_take stay lows y q) in let e : y.epoch ≤ k = o.1 in (o.0, omega arith))
+      (λ (q : Contains (x ∷ []) y). subst (λ c. Contains cs c × (c.epoch ≤ k + 1)) (only x y q) (inside, omega arith))
+      (Contains-append_cases (take stay lows) (x ∷ []) y h));
+  least = λ c h le. ⊎_elim
+      (λ (e : c.epoch ≤ k). let o = are.least c h e in let lo : o.0.lo ≤ c.lo = o.3 in
+      ⊎_elim
+      (λ (q : Contains (take stay lows) o.0). (o.0, Contains-append_left (take stay lows) (x ∷ []) o.0 q, o.2, o.3))
+      (λ (q : Contains (drop stay lows) o.0). let high : x.lo < o.0.lo = behind (λ c. x.lo < c.lo) lows stay o.0 parted.1 q in
+      (x, last, omega arith, omega arith))
+      (side stay lows o.0 o.1))
+      (λ (e : c.epoch ≡ k + 1). let is : c ≡ x = one_of_epoch cs c x rising h inside (e ∙ sym at) in
+      let lo : x.lo ≡ c.lo = ap (λ (y : CutData). y.lo) (sym is) in (x, last, omega arith, omega arith))
+      (let t : (c.epoch ≤ k) ⊎ (c.epoch ≡ k + 1) = grind arith in t);
+}
+  where
+    old : (y : CutData) → Contains lows y → Contains cs y × (y.epoch ≤ k)
+    old y h = All-contains (λ c. Contains cs c × (c.epoch ≤ k)) lows y are.held h
+
+    last : Contains (take stay lows ++ x ∷ []) x
+    last = Contains-append_right (take stay lows) (x ∷ []) x (here x [])
 
 -- one truncation more of an epoch that is not known
-pub lows_kept : (b : BookData) (i : ℕ) (c : CutData) (lows : List ℕ) → IsBook b → IsPartitionPoint (λ d. d.epoch < c.epoch) (λ d. c.epoch < d.epoch) b.cuts i
+pub lows_kept : (b : BookData) (i : ℕ) (c : CutData) (lows : List CutData) → IsBook b → IsPartitionPoint (λ d. d.epoch < c.epoch) (λ d. c.epoch < d.epoch) b.cuts i
     → cut_fault c ≡ None → AreLows b.cuts b.complete lows → AreLows (insert b.cuts i c) b.complete lows
 lows_kept b i c lows book gap shaped are = record {
-  count = are.count;
-  each = λ e l.
-      let low = are.each e l in let s = low.some in record {
-        some = (s.0, (contains_insert b.cuts i c s.0).1 (inl s.1), s.2, s.3, s.4);
-        least = λ d h above up. ⊎_elim
-            (λ (u : Contains b.cuts d). low.least d u above up)
-            (λ (u : d ≡ c).
-            let q : d.epoch ≡ c.epoch = ap (λ (x : CutData). x.epoch) u in
-            let one : 0 < c.epoch = (shaped_cut c shaped).0 in
-            let t = has_cuts b.cuts b.complete book.complete c.epoch (omega arith) (omega (arith, up)) in
-            absurd (no_cut b.cuts c.epoch i gap t.0 t.1 t.2))
-            ((contains_insert b.cuts i c d).0 h);
-      };
+  rising = are.rising;
+  held = all_members (λ d. Contains (insert b.cuts i c) d × (d.epoch ≤ b.complete)) lows
+      (λ d h. let o = All-contains (λ d. Contains b.cuts d × (d.epoch ≤ b.complete)) lows d are.held h in ((contains_insert b.cuts i c d).1 (inl o.0), o.1));
+  least = λ d h up. ⊎_elim
+      (λ (u : Contains b.cuts d). are.least d u up)
+      (λ (u : d ≡ c).
+      let q : d.epoch ≡ c.epoch = ap (λ (x : CutData). x.epoch) u in
+      let one : 0 < c.epoch = (shaped_cut c shaped).0 in
+      let t = has_cuts b.cuts b.complete book.complete c.epoch (omega arith) (omega (arith, up)) in
+      absurd (no_cut b.cuts c.epoch i gap t.0 t.1 t.2))
+      ((contains_insert b.cuts i c d).0 h);
 }
 
+-- the first above an epoch cuts lowest of those above it
+pub first_above : (lows : List CutData) (e i : ℕ) (x : CutData) → IsRising LowBefore lows → i < length lows → x ≡ get_or lows i x
+    → IsPartitionPoint (λ c. c.epoch ≤ e) (λ c. e < c.epoch) lows i → IsLeastAbove lows e (Some x.lo)
+first_above lows e i x rising l is parted = (
+  (x, item lows i x l is, behind (λ c. e < c.epoch) lows i x parted.1 (item_drop lows i x l is), refl),
+  λ c h above. ⊎_elim
+      (λ (q : Contains (take i lows) c). let le : c.epoch ≤ e = in_front (λ d. d.epoch ≤ e) lows i c parted.0 q in absurd (omega arith))
+      (λ (q : Contains (drop i lows) c). ⊎_elim
+      (λ (u : x ≡ c). let lo : x.lo ≡ c.lo = ap (λ (y : CutData). y.lo) u in omega arith)
+      (λ (u : Contains (drop (i + 1) lows) c). (across LowBefore lows (i + 1) x c rising (up_to lows i x l is) u).1)
+      (rest_from lows i x c l is q))
+      (side i lows c h),
+)
+
+pub none_above : (lows : List CutData) (e i : ℕ) → length lows ≤ i → IsPartitionPoint (λ c. c.epoch ≤ e) (λ c. e < c.epoch) lows i → IsLeastAbove lows e None
+none_above lows e i l parted = λ c h above.
+    let le : c.epoch ≤ e = in_front (λ d. d.epoch ≤ e) lows i c parted.0 (whole lows i c l h) in omega (arith, le, above)
+
+-- the last that cuts at or below a number is of the greatest epoch that does
+pub last_place : (lows : List CutData) (number i : ℕ) (x : CutData) → IsRising LowBefore lows → i < length lows → x ≡ get_or lows i x
+    → IsPartitionPoint (λ c. c.lo ≤ number) (λ c. number < c.lo) lows (i + 1)
+    → IsGreatest (λ e. (c : CutData) × Contains lows c × (c.epoch ≡ e) × (c.lo ≤ number)) x.epoch
+last_place lows number i x rising l is parted = (
+  inr (x, item lows i x l is, refl, in_front (λ c. c.lo ≤ number) lows (i + 1) x parted.0 (up_to lows i x l is)),
+  λ m h.
+      let at : h.0.epoch ≡ m = h.2 in
+      ⊎_elim
+      (λ (q : Contains (take (i + 1) lows) h.0). ⊎_elim
+      (λ (u : x ≡ h.0). let e : x.epoch ≡ h.0.epoch = ap (λ (y : CutData). y.epoch) u in omega arith)
+      (λ (u : Contains (take i lows) h.0).
+      let b : h.0.epoch < x.epoch = (across LowBefore lows i h.0 x rising u (item_drop lows i x l is)).0 in omega arith)
+      (front_to lows i x h.0 l is q))
+      (λ (q : Contains (drop (i + 1) lows) h.0). let high : number < h.0.lo = behind (λ c. number < c.lo) lows (i + 1) h.0 parted.1 q in
+      let low : h.0.lo ≤ number = h.3 in absurd (omega arith))
+      (side (i + 1) lows h.0 h.1),
+)
+
+pub no_place : (lows : List CutData) (number : ℕ) → IsPartitionPoint (λ c. c.lo ≤ number) (λ c. number < c.lo) lows 0
+    → IsGreatest (λ e. (c : CutData) × Contains lows c × (c.epoch ≡ e) × (c.lo ≤ number)) 0
+no_place lows number parted = (
+  inl refl,
+  λ m h.
+      let high : number < h.0.lo = behind (λ c. number < c.lo) lows 0 h.0 parted.1 h.1 in let low : h.0.lo ≤ number = h.3 in absurd (omega arith),
+)
+
 -- a number that no later truncation annuls
-pub spared_by : (cs : List CutData) (k e n : ℕ) (lows : List ℕ) → AreLows cs k lows → (e < length lows → n ≤ get_or lows e 0) → (c : CutData) → Contains cs c → e < c.epoch
-    → c.epoch ≤ k → n ≤ c.lo
+pub spared_by : (cs : List CutData) (k e n : ℕ) (lows : List CutData) → AreLows cs k lows → All (λ c. e < c.epoch → n ≤ c.lo) lows → (c : CutData) → Contains cs c
+    → e < c.epoch → c.epoch ≤ k → n ≤ c.lo
 spared_by cs k e n lows are low c h above up =
-    let l : e < k = omega arith in
-    let a : n ≤ get_or lows e 0 = low (omega (arith, l, are.count)) in
-    let b : get_or lows e 0 ≤ c.lo = (are.each e l).least c h above up in
+    let o = are.least c h up in let le : c.epoch ≤ o.0.epoch = o.2 in let lo : o.0.lo ≤ c.lo = o.3 in
+    let a : n ≤ o.0.lo = All-contains (λ c. e < c.epoch → n ≤ c.lo) lows o.0 low o.1 (omega arith) in
     omega arith
 
-pub spared_low : (cs : List CutData) (k e n : ℕ) (lows : List ℕ) → AreLows cs k lows → ((c : CutData) → Contains cs c → e < c.epoch → c.epoch ≤ k → n ≤ c.lo) → e < length lows
-    → n ≤ get_or lows e 0
-spared_low cs k e n lows are spared l =
-    let w = (are.each e (omega (arith, l, are.count))).some in let y : w.0.lo ≡ get_or lows e 0 = w.4 in
-    let s : n ≤ w.0.lo = spared w.0 w.1 w.2 w.3 in
-    omega arith
+pub spared_low : (cs : List CutData) (k e n : ℕ) (lows : List CutData) → AreLows cs k lows → ((c : CutData) → Contains cs c → e < c.epoch → c.epoch ≤ k → n ≤ c.lo)
+    → All (λ c. e < c.epoch → n ≤ c.lo) lows
+spared_low cs k e n lows are spared = all_members (λ c. e < c.epoch → n ≤ c.lo) lows
+    (λ c h above. let o = All-contains (λ c. Contains cs c × (c.epoch ≤ k)) lows c are.held h in spared c o.0 above o.1)
 
--- what stands in an epoch's place is the least above it; where nothing does no truncation counts
-pub least_from : (cs : List CutData) (k e : ℕ) (lows : List ℕ) (least : Option ℕ) → AreLows cs k lows
-    → IfSome least (λ low. (e < length lows) × (get_or lows e 0 ≡ low)) → (IsNone least → length lows ≤ e) → IsLeastLo cs e k least
-least_from cs k e lows None are some none = λ c h above up. let l : length lows ≤ e = none refl in absurd (omega (arith, l, above, up, are.count))
-least_from cs k e lows (Some low) are some none =
-    let l : e < length lows = some.0 in
-    subst (λ n. IsLeastLo cs e k (Some n)) some.1 (let at = are.each e (omega (arith, l, are.count)) in (at.some, at.least))
+-- what is least above an epoch here is the least of all truncations above it
+pub least_from : (cs : List CutData) (k e : ℕ) (lows : List CutData) (least : Option ℕ) → AreLows cs k lows → IsLeastAbove lows e least → IsLeastLo cs e k least
+least_from cs k e lows None are none = λ c h above up. let o = are.least c h up in let le : c.epoch ≤ o.0.epoch = o.2 in none o.0 o.1 (omega arith)
+least_from cs k e lows (Some low) are some = (
+  let w = some.0 in let o = All-contains (λ c. Contains cs c × (c.epoch ≤ k)) lows w.0 are.held w.1 in (w.0, o.0, w.2, o.1, w.3),
+  λ c h above up.
+      let o = are.least c h up in let le : c.epoch ≤ o.0.epoch = o.2 in let lo : o.0.lo ≤ c.lo = o.3 in
+      let a : low ≤ o.0.lo = some.1 o.0 o.1 (omega arith) in
+      omega arith,
+)
 
--- how many are at or below a number is the last epoch that is cut there
-pub last_cut : (b : BookData) (number i : ℕ) (lows : List ℕ) → AreLows b.cuts b.complete lows → i ≤ length lows → ((e : ℕ) → e < i → get_or lows e 0 ≤ number)
-    → ((e : ℕ) → i ≤ e → e < length lows → number < get_or lows e 0) → IsGreatest (CutsAt b number) i
-last_cut b number i lows are bound below above = (
-  ⊎_elim (λ (z : i ≡ 0). inl z) (λ (z : 0 < i). inr (cut z)) (let t : (i ≡ 0) ⊎ (0 < i) = grind arith in t),
+-- the last epoch that cuts at or below a number
+pub last_cut : (b : BookData) (number i : ℕ) (lows : List CutData) → AreLows b.cuts b.complete lows
+    → IsGreatest (λ e. (c : CutData) × Contains lows c × (c.epoch ≡ e) × (c.lo ≤ number)) i → IsGreatest (CutsAt b number) i
+last_cut b number i lows are last = (
+  ⊎_elim (λ (z : i ≡ 0). inl z)
+      (λ (c : (c : CutData) × Contains lows c × (c.epoch ≡ i) × (c.lo ≤ number)).
+      let o = All-contains (λ d. Contains b.cuts d × (d.epoch ≤ b.complete)) lows c.0 are.held c.1 in
+      let at : c.0.epoch ≡ i = c.2 in let le : c.0.epoch ≤ b.complete = o.1 in inr (c.0, o.0, c.2, omega arith, c.3))
+      last.0,
   λ m h.
       let q : h.0.epoch ≡ m = h.2 in let le : m ≤ b.complete = h.3 in let low : h.0.lo ≤ number = h.4 in
-      ⊎_elim (λ (u : m ≤ i). u) (λ (u : i < m). absurd (late h.0 h.1 (omega arith) (omega arith) low)) (let t : (m ≤ i) ⊎ (i < m) = grind arith in t),
+      let o = are.least h.0 h.1 (omega arith) in let up : h.0.epoch ≤ o.0.epoch = o.2 in let lo : o.0.lo ≤ h.0.lo = o.3 in
+      let a : o.0.epoch ≤ i = last.1 o.0.epoch (o.0, o.1, refl, omega arith) in
+      omega arith,
 )
-  where
-    -- no truncation after it cuts at or below the number
-    late : (c : CutData) → Contains b.cuts c → i < c.epoch → c.epoch ≤ b.complete → c.lo ≤ number → ⊥
-    late c h up le low =
-        let l : i < b.complete = omega arith in
-        let x : get_or lows i 0 ≤ c.lo = (are.each i l).least c h up le in
-        let y : number < get_or lows i 0 = above i (omega arith) (omega (arith, l, are.count)) in
-        omega arith
-
-    cut : 0 < i → CutsAt b number i
-    cut z =
-        let l : i - 1 < b.complete = omega (arith, z, bound, are.count) in
-        let w = (are.each (i - 1) l).some in
-        let up : i - 1 < w.0.epoch = w.2 in let le : w.0.epoch ≤ b.complete = w.3 in let at : w.0.lo ≡ get_or lows (i - 1) 0 = w.4 in
-        let low : get_or lows (i - 1) 0 ≤ number = below (i - 1) (omega arith) in
-        ⊎_elim
-        (λ (u : w.0.epoch ≡ i). (w.0, w.1, u, omega arith, omega arith))
-        (λ (u : i < w.0.epoch). absurd (late w.0 w.1 u le (omega arith)))
-        (let t : (w.0.epoch ≡ i) ⊎ (i < w.0.epoch) = grind arith in t)

@@ -1,18 +1,20 @@
--- The least lo of the truncations above each epoch.
-use Rattle.std.specs.Prelude.{◌≡◌, ℕ, ◌<◌, ◌≤◌, List, length, slice_index}
-use Rattle.std.specs.List.{Contains}
+-- The truncations that cut lowest, by which a number's standing is judged.
+use Rattle.std.specs.Prelude.{◌≡◌, ℕ, ◌<◌, ◌≤◌, List}
+use Rattle.std.specs.List.{Contains, All}
 use Rattle.redo_core.specs.Data.{CutData}
+use Rattle.redo_core.specs.Order.{IsRising}
 use Rattle.redo_core.specs.Book.{BookData}
 
--- the least lo of the truncations above epoch e and up to k, of which there is one at least
-pub record IsLow (cs : List CutData) (k e low : ℕ) : Type 0 where
-  pub some : (c : CutData) × Contains cs c × (e < c.epoch) × (c.epoch ≤ k) × (c.lo ≡ low)
-  pub least : (c : CutData) → Contains cs c → e < c.epoch → c.epoch ≤ k → low ≤ c.lo
+-- an earlier truncation, which cuts no higher than a later one
+abbrev pub LowBefore : CutData → CutData → Type 0
+LowBefore c d = (c.epoch < d.epoch) × (c.lo ≤ d.lo)
 
--- that of each epoch below k, in order
-pub record AreLows (cs : List CutData) (k : ℕ) (lows : List ℕ) : Type 0 where
-  pub count : length lows ≡ k
-  pub each : (e : ℕ) → e < k → IsLow cs k e (slice_index lows e)
+-- They are truncations up to epoch k; their lo does not fall; and each truncation up to k has one among them that is not earlier and
+-- cuts no higher. So the least lo above an epoch is that of the first of them above it.
+pub record AreLows (cs : List CutData) (k : ℕ) (lows : List CutData) : Type 0 where
+  pub rising : IsRising LowBefore lows
+  pub held : All (λ c. Contains cs c × (c.epoch ≤ k)) lows
+  pub least : (c : CutData) → Contains cs c → c.epoch ≤ k → (d : CutData) × Contains lows d × (c.epoch ≤ d.epoch) × (d.lo ≤ c.lo)
 
 -- the truncation of an epoch up to the complete one has its lo at or below a number
 abbrev pub CutsAt : BookData → ℕ → ℕ → Type 0

@@ -31,8 +31,8 @@ use std::marker::Model;
 #[derive(Drop)]
 pub struct EpochBook {
     pub(crate) cuts: Vec<Cut>,
-    // Below the complete epoch, the least `lo` of the truncations above each epoch and up to it.
-    pub(crate) lows: Vec<u64>,
+    // Of the truncations up to the complete epoch those that cut lowest.
+    pub(crate) lows: Vec<Cut>,
     pub(crate) complete: u16,
     pub(crate) points: ReadPoints,
     pub(crate) waits: Vec<Advance>,
@@ -144,7 +144,7 @@ impl EpochBook {
     {
         put_in(&mut self.cuts, place, cut)?;
         let complete = cuts::complete_epoch_from(&self.cuts, self.complete);
-        let Ok(()) = lows::raise(&mut self.lows, &self.cuts, complete) else {
+        let Ok(()) = lows::raise(&mut self.lows, &self.cuts, self.complete, complete) else {
             let _ = self.cuts.remove(place);
             return Err(BookRefusal::Memory);
         };
@@ -320,7 +320,7 @@ impl EpochBook {
         ensures value { IsGreatest (CutsAt self.now number) result }
         ensures book { IsBook self.now }
     {
-        lows::count_to(&self.lows, number) as u16
+        lows::last_at(&self.lows, number)
     }
 
     /// The least `lo` of the truncations of the epochs above one and up to the complete one, or None where there is none.

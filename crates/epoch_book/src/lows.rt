@@ -1,81 +1,97 @@
-// The least `lo` of the truncations above each epoch, up to the complete one. They rise with the epoch, whatever the `lo`s are.
-ghost use Rattle.std.specs.Prelude.{◌≡◌, ℕ, ◌<◌, ◌≤◌, ◌↔◌, length, slice_index, IsTrue, IfSome, IsNone, OnOk, OnErr, None};
-ghost use Rattle.std.specs.List.{All};
-ghost use Rattle.redo_core.specs.Shape.{cut_fault, epoch_count};
-ghost use Rattle.redo_core.specs.Order.{IsRising, CutBefore};
+// The truncations that cut lowest, up to the complete epoch: of each later one the `lo` is not below. A truncation that cuts lower than
+// many before it takes them all out at once, so that each of them comes in once and goes once.
+ghost use Rattle.std.specs.Prelude.{◌≡◌, ℕ, ◌+◌, ◌<◌, ◌≤◌, ◌↔◌, length, IsTrue, OnOk, OnErr, None, vec_len, vec_capacity};
+ghost use Rattle.std.specs.List.{All, Contains};
+ghost use Rattle.std.specs.List.Sorted.{IsPartitionPoint};
+ghost use Rattle.redo_core.specs.Data.{CutData};
+ghost use Rattle.redo_core.specs.Shape.{cut_fault};
+ghost use Rattle.redo_core.specs.Order.{IsRising, IsGreatest, CutBefore};
 ghost use Rattle.redo_core.specs.CompleteEpoch.{HasCutsTo};
-ghost use Rattle.epoch_book.specs.Lows.{IsLow, AreLows};
+ghost use Rattle.epoch_book.specs.Lows.{AreLows, LowBefore};
+ghost use Rattle.epoch_book.specs.Scanning.{IsLeastAbove};
 
 use redo_core::Cut;
 use std::alloc::AllocError;
 
-// Brings the list up to a complete epoch. Its only error is want of memory; the list is then as it was.
-pub fn raise(lows: &mut Vec<u64>, cuts: &[Cut], complete: u16) -> Result<(), AllocError>
+// Brings the list from one epoch up to a complete one. Its only error is want of memory; the list is then as it was.
+pub fn raise(lows: &mut Vec<Cut>, cuts: &[Cut], from: u16, complete: u16) -> Result<(), AllocError>
     requires rising { IsRising CutBefore cuts.now }
     requires shaped { All (λ c. cut_fault c ≡ None) cuts.now }
     requires known { HasCutsTo cuts.now complete }
-    requires before { AreLows cuts.now (length lows.old.items) lows.old.items }
-    requires later { length lows.old.items ≤ complete }
+    requires before { AreLows cuts.now from lows.old.items }
+    requires later { from ≤ complete }
     ensures ok { OnOk result (AreLows cuts.now complete lows.new.items) }
     ensures err { OnErr result (lows.new.items ≡ lows.old.items) }
 {
-    let from = lows.len();
-    lows.resize(usize::from(complete), 0)?;
-    lower(lows, cuts, from);
+    lows.reserve(usize::from(complete - from))?;
+    for epoch in from..complete {
+        add_next(lows, cuts, epoch);
+    }
     Ok(())
 }
 
-// Lowers the list by the truncations from a place on. What stands below one that stays does stay.
-fn lower(lows: &mut [u64], cuts: &[Cut], from: usize)
+// Brings the list from one epoch to the next, whose truncation takes out those that cut higher.
+fn add_next(lows: &mut Vec<Cut>, cuts: &[Cut], epoch: u16)
     requires rising { IsRising CutBefore cuts.now }
     requires shaped { All (λ c. cut_fault c ≡ None) cuts.now }
-    requires known { HasCutsTo cuts.now (length lows.old) }
-    requires before { (e : ℕ) → e < from → IsLow cuts.now from e (slice_index lows.old e) }
-    requires later { from ≤ length lows.old }
-    requires fits { length lows.old < epoch_count }
-    ensures { AreLows cuts.now (length lows.old) lows.new }
+    requires known { HasCutsTo cuts.now (epoch + 1) }
+    requires before { AreLows cuts.now epoch lows.old.items }
+    requires room { vec_len lows.old < vec_capacity lows.old }
+    ensures after { AreLows cuts.now (epoch + 1) lows.new.items }
+    ensures longer { vec_len lows.new ≤ vec_len lows.old + 1 }
+    ensures capacity { vec_capacity lows.new ≡ vec_capacity lows.old }
 {
-    let mut least = u64::MAX;
-    let mut place = lows.len();
-    while place > 0 {
-        place -= 1;
-        least = least.min(cuts[place].lo());
-        if place < from && lows[place] <= least {
-            return;
-        }
-        lows[place] = least;
-    }
+    let next = cuts[usize::from(epoch)];
+    let stay = count_at(lows, next.lo());
+    lows.truncate(stay);
+    lows.push_reserved(next);
 }
 
-// The least `lo` above an epoch, or None from the complete one on.
-pub fn low_above(lows: &[u64], epoch: u16) -> Option<u64>
-    ensures some { IfSome result (λ low. (epoch < length lows.now) × (slice_index lows.now epoch ≡ low)) }
-    ensures none { IsNone result → length lows.now ≤ epoch }
+// How many of the list cut at or below a number: the first ones.
+fn count_at(lows: &[Cut], number: u64) -> usize
+    requires { IsRising LowBefore lows.now }
+    ensures bound { result ≤ length lows.now }
+    ensures parted { IsPartitionPoint (λ c. c.lo ≤ number) (λ c. number < c.lo) lows.now result }
 {
-    lows.get(usize::from(epoch)).copied()
+    lows.partition_point(|low| low.lo() <= number)
 }
 
-// Whether a number is at most the least `lo` above its epoch.
-pub fn spare(lows: &[u64], epoch: u16, number: u64) -> bool
-    ensures { IsTrue result ↔ (epoch < length lows.now → number ≤ slice_index lows.now epoch) }
+// How many of the list are of epochs up to one: the first ones.
+fn count_to(lows: &[Cut], epoch: u16) -> usize
+    requires { IsRising LowBefore lows.now }
+    ensures bound { result ≤ length lows.now }
+    ensures parted { IsPartitionPoint (λ c. c.epoch ≤ epoch) (λ c. epoch < c.epoch) lows.now result }
 {
-    match lows.get(usize::from(epoch)) {
-        Some(low) => number <= *low,
+    lows.partition_point(|low| low.epoch() <= epoch)
+}
+
+// The least `lo` of the list above an epoch, or None where none is above it.
+pub fn low_above(lows: &[Cut], epoch: u16) -> Option<u64>
+    requires { IsRising LowBefore lows.now }
+    ensures { IsLeastAbove lows.now epoch result }
+{
+    let next = lows.get(count_to(lows, epoch))?;
+    Some(next.lo())
+}
+
+// Whether none of the list above an epoch cuts below a number.
+pub fn spare(lows: &[Cut], epoch: u16, number: u64) -> bool
+    requires { IsRising LowBefore lows.now }
+    ensures { IsTrue result ↔ All (λ c. epoch < c.epoch → number ≤ c.lo) lows.now }
+{
+    match low_above(lows, epoch) {
+        Some(low) => number <= low,
         None => true,
     }
 }
 
-// How many of the list are at or below a number.
-pub fn count_to(lows: &[u64], number: u64) -> usize
-    requires { (i j : ℕ) → i ≤ j → j < length lows.now → slice_index lows.now i ≤ slice_index lows.now j }
-    ensures bound { result ≤ length lows.now }
-    ensures below { (e : ℕ) → e < result → slice_index lows.now e ≤ number }
-    ensures above { (e : ℕ) → result ≤ e → e < length lows.now → number < slice_index lows.now e }
+// The epoch of the last of the list that cuts at or below a number, or 0 where none does.
+pub fn last_at(lows: &[Cut], number: u64) -> u16
+    requires { IsRising LowBefore lows.now }
+    ensures { IsGreatest (λ e. (c : CutData) × Contains lows.now c × (c.epoch ≡ e) × (c.lo ≤ number)) result }
 {
-    // Most numbers that are asked for are of the last epoch.
-    let len = lows.len();
-    if len == 0 || lows[len - 1] <= number {
-        return len;
+    match count_at(lows, number).checked_sub(1) {
+        Some(place) => lows[place].epoch(),
+        None => 0,
     }
-    lows.partition_point(|low| *low <= number)
 }

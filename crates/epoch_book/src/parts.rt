@@ -25,7 +25,7 @@ impl EpochBook {
         ensures { IfOk result (λ b. b ≡ book_of cuts.items complete points waits.items) }
     {
         let mut least = Vec::new(alloc);
-        lows::raise(&mut least, &cuts, complete)?;
+        lows::raise(&mut least, &cuts, 0, complete)?;
         Ok(EpochBook {
             cuts,
             lows: least,

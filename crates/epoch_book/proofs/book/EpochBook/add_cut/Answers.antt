@@ -38,11 +38,10 @@ pub raise-requires-clause-before : goal.raise-requires-clause-before
 raise-requires-clause-before c =
     let b = book_of c.self.inside.cuts.items c.self.inside.complete c.self.inside.points c.self.inside.waits.items in
     let lows = c.self.inside.lows.items in
-    subst (λ cs. AreLows cs (length lows) lows) (sym (c.deref-2.ensures.value ∙ c.in_ok-put_in.ensures.items))
-    (subst (λ k. AreLows (insert b.cuts c.args.place c.args.cut) k lows) (sym c.self.invariant.1.count)
+    subst (λ cs. AreLows cs c.self.inside.complete lows) (sym (c.deref-2.ensures.value ∙ c.in_ok-put_in.ensures.items))
     (lows_kept b c.args.place c.args.cut lows c.self.invariant.0
     (subst (λ b. IsPartitionPoint (λ d. d.epoch < c.args.cut.epoch) (λ d. c.args.cut.epoch < d.epoch) b.cuts c.args.place) (sym c.self.view_is) c.requires.gap)
-    c.requires.shaped c.self.invariant.1))
+    c.requires.shaped c.self.invariant.1)
 
 pub raise-requires-clause-later : goal.raise-requires-clause-later
 raise-requires-clause-later c =
@@ -50,8 +49,7 @@ raise-requires-clause-later c =
     let k = c.complete_epoch_from-complete.result in
     let complete : IsCompleteEpoch (insert b.cuts c.args.place c.args.cut) k =
     subst (λ cs. IsCompleteEpoch cs k) (c.deref.ensures.value ∙ c.in_ok-put_in.ensures.items) c.complete_epoch_from-complete.ensures in
-    let up : c.self.inside.complete ≤ k = complete.1 c.self.inside.complete (still_known b c.args.place c.args.cut c.self.invariant.0) in
-    omega (arith, up, c.self.invariant.1.count)
+    complete.1 c.self.inside.complete (still_known b c.args.place c.args.cut c.self.invariant.0)
 
 pub invariant_of-self-in_default : goal.invariant_of-self-in_default
 invariant_of-self-in_default c = grind (arith, common_steps)

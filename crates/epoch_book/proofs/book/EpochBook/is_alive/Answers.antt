@@ -1,5 +1,5 @@
-use Rattle.std.proofs.Common.{◌≡◌, ℕ, ◌≤◌, ◌<◌, List, length, get_or, refl, sym, subst, arith, IsTrue, false}
-use Rattle.std.specs.List.{Contains}
+use Rattle.std.proofs.Common.{◌≡◌, ◌≤◌, ◌<◌, refl, sym, subst, arith, IsTrue, false}
+use Rattle.std.specs.List.{All, Contains}
 use Rattle.std.proofs.lemmas.Bool.{false≢true}
 use Rattle.redo_core.specs.Data.{CutData}
 use Rattle.redo_core.specs.CompleteEpoch.{HasCutsTo}
@@ -23,11 +23,11 @@ returns-then-is_begun c =
         known = up;
         begun = subst (λ cs. (d : CutData) → Contains cs d → d.epoch ≡ e → d.hi < n) c.deref.ensures.value (c.if-is_begun.ensures.0 refl);
         spared = spared_by cs k e n c.self.inside.lows.items c.self.invariant.1
-            (subst (λ (xs : List ℕ). e < length xs → n ≤ get_or xs e 0) c.deref-then-is_begun.ensures.value (c.spare.ensures.0 h));
+            (subst (All (λ d. e < d.epoch → n ≤ d.lo)) c.deref-then-is_begun.ensures.value (c.spare.ensures.0 h));
       }),
       λ h.
           let alive : IsAlive cs k e n = subst (λ b. IsAlive b.cuts b.complete e n) (sym c.self.view_is) h in
-          c.spare.ensures.1 (subst (λ (xs : List ℕ). e < length xs → n ≤ get_or xs e 0) (sym c.deref-then-is_begun.ensures.value)
+          c.spare.ensures.1 (subst (All (λ d. e < d.epoch → n ≤ d.lo)) (sym c.deref-then-is_begun.ensures.value)
           (spared_low cs k e n c.self.inside.lows.items c.self.invariant.1 alive.spared)),
     )
 
