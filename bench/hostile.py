@@ -136,6 +136,13 @@ def joins_of_falling(size):
     return script(facts, 3, *halves, *["wipe 3", "join 3 1", "join 3 2"] * TURNS)
 
 
+def cuts_below_all_before(size):
+    """Truncations that each cut lower than all before them, taken by one node, and joined and absorbed by another again and again."""
+    facts = [f"cut {epoch} {size - epoch} {size}" for epoch in range(1, size + 1)]
+    asked = ["ask 2", "answer 1 1"]
+    return script(facts, 2, *taken(facts), *asked, *["wipe 2", "absorb 2 2", "wipe 2", "join 2 1"] * TURNS)
+
+
 def deep_waits(size):
     """All of many crashes waits for the first truncation, which comes last, at a node and by a message that is absorbed late."""
     facts = crashes(size)
@@ -194,6 +201,7 @@ TASKS = {it.__name__: it for it in (
     comparisons_of_fills,
     falling_truncations,
     joins_of_falling,
+    cuts_below_all_before,
     deep_waits,
     late_mail,
     discards_over_images,
