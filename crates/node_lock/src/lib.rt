@@ -3,7 +3,8 @@
 //! Under the lock lies one state, with the property that its type keeps. Who takes it, by a pass or on a visit without one, has it alone
 //! and has to give it back: a `Turn` or a `Visit` is not `Drop`, so no path of a program lets it go but through `give`, `post` or
 //! `leave`, and it borrows its pass and the lock, so that neither can be used, closed or let go meanwhile. A read lends the state to a
-//! call and takes it back itself.
+//! call and takes it back itself. What comes back retains what was lent, in the sense that the state's type gives to the word: a type
+//! that remembers something chooses a relation in which forgetting is no way to give the state back.
 //!
 //! The trail grows under the numbers of the passes, by one entry a turn, and each entry names a place in the log. A pass's list of
 //! receipts is at every moment its entries of the trail, in order, with their places: whoever takes the state by the pass finds each of

@@ -1,7 +1,8 @@
 ghost use Rattle.std.specs.Prelude.{◌≡◌, ◌<◌, ◌≤◌, [], map, length, IfOk, IfErr, Some, None};
 ghost use Rattle.node_lock.specs.Trail.{receipts_of, HasReceipts};
 ghost use Rattle.node_lock.specs.Passes.{IsIdlePass, AreIdle, AreNew, AreTrue, receipt_count};
-ghost use Rattle.node_lock.specs.Visit.{taken_by};
+ghost use Rattle.node_lock.specs.Turn.{lent_to_turn};
+ghost use Rattle.node_lock.specs.Visit.{taken_by, lent_to_visit};
 ghost use Rattle.node_lock.specs.Known.{standing_for, new_parts, part_of};
 
 use crate::held::Held;
@@ -15,6 +16,7 @@ use atomic_table::Table;
 use redo_core::Refused;
 use std::alloc::{AllocError, Global};
 use std::marker::Model;
+use std::snapshot::Snapshot;
 use std::sync::Wait;
 
 /// The most passes of a lock.
@@ -77,13 +79,16 @@ impl<S: Trailed + Drop> Lock<S> {
         ensures same_pass { result.pass.ghost_name ≡ pass.entry.ghost_name }
         ensures pass { result.pass.now ≡ record pass.old { out = Some (S.trail result.state) } }
         ensures state { S.keeps result.state }
+        ensures lent { lent_to_turn result ≡ result.state }
         ensures list { pass.old.list ≡ receipts_of pass.old.number (S.trail result.state) }
         ensures has { HasReceipts (S.trail result.state) pass.old.number pass.old.list }
     {
         let state = pass.take(rt, &self.table.shared, &self.sleepers);
+        let lent = Snapshot::of(&state);
         Turn {
             pass,
             state,
+            lent,
             lock: self,
         }
     }
@@ -92,11 +97,14 @@ impl<S: Trailed + Drop> Lock<S> {
     pub fn visit<R: Wait>(&self, rt: &R) -> Visit<'_, S>
         ensures trail { taken_by result ≡ S.trail result.state }
         ensures state { S.keeps result.state }
+        ensures lent { lent_to_visit result ≡ result.state }
     {
         let mut seat = steps::new_seat(&self.table.shared);
         let state = steps::take(rt, &self.table.shared, &self.sleepers, &mut seat);
+        let lent = Snapshot::of(&state);
         Visit {
             state,
+            lent,
             lock: self,
             held: Held::new(seat),
         }

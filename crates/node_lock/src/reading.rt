@@ -10,13 +10,14 @@ use crate::rule::Trailed;
 use std::sync::Wait;
 
 impl<S: Trailed + Drop> Lock<S> {
-    /// Lends the state to a call that leaves the trail as it is. The state has every receipt of the pass.
+    /// Lends the state to a call that leaves the trail as it is and loses nothing that the type says is retained. The state has every
+    /// receipt of the pass.
     pub fn read<R: Wait, X, F: FnOnce(&mut S) -> X>(&self, rt: &R, pass: &mut Pass<S>, call: F) -> X
         requires pass { IsIdlePass self.now.id pass.old }
         requires callable { F.IsAlwaysCallable call }
-        requires keeps { KeepsTrail S.trail S.keeps (λ s x t. FnOnceReturnsAtMut F.FnOnce call s x t) }
+        requires keeps { KeepsTrail S.trail S.keeps S.retains (λ s x t. FnOnceReturnsAtMut F.FnOnce call s x t) }
         ensures pass { pass.new ≡ pass.old }
-        ensures answer { (s t : S) × S.keeps s × HasReceipts (S.trail s) pass.old.number pass.old.list × FnOnceReturnsAtMut F.FnOnce call s result t }
+        ensures answer { (s t : S) × S.keeps s × S.retains s t × HasReceipts (S.trail s) pass.old.number pass.old.list × FnOnceReturnsAtMut F.FnOnce call s result t }
     {
         let mut state = pass.take(rt, &self.table.shared, &self.sleepers);
         let answer = call(&mut state);

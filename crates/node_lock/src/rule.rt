@@ -6,13 +6,21 @@ use std::alloc::Global;
 use std::collections::LinkedList;
 use std::marker::PhantomData;
 
-/// A state with a trail, whose type keeps a property.
+/// A state with a trail, whose type keeps a property and says what no holder may lose of it.
 pub trait Trailed {
     /// The entries, in order: of each the number of the pass that appended it, and its place in the log.
     ghost trail: { Self → List Entry };
 
     /// What the type keeps of each of its values.
     ghost keeps: { Self → Type 0 };
+
+    /// The second state has all that the first one has. Each holder owes it of the state that it was lent and the one that it gives back.
+    ghost retains: { Self → Self → Type 0 };
+
+    /// With the next law: what any holder finds retains what each earlier one found.
+    ghost reflexive: { (s : Self) → retains s s };
+
+    ghost transitive: { (a b c : Self) → retains a b → retains b c → retains a c };
 }
 
 /// What a seat of the lock knows. No value of it is made.

@@ -15,6 +15,8 @@ returns-clause-answer g c = (
   c.take-state.result,
   c.call-answer.new.arg2,
   c.take-state.ensures.state,
+  (c.requires.keeps c.take-state.result c.call-answer.new.arg2 c.call-answer.result c.take-state.ensures.state
+      (record { shown = _; shows = refl; left = _; met = c.call-answer.ensures; leaves = refl })).2,
   c.take-state.ensures.has,
   record { shown = _; shows = refl; left = _; met = c.call-answer.ensures; leaves = refl },
 )
