@@ -1,5 +1,5 @@
 -- A call that fails hands on the first fault, and what stands behind it is not read.
-use Rattle.std.proofs.Common.{◌≡◌, Bool, Result, Ok, Err, IsErrAnd, refl, rules}
+use Rattle.std.proofs.Common.{◌≡◌, Bool, Result, IsErrAnd, refl, rules}
 use Rattle.redo_wire.specs.declared.faults.WireFault.{WireFault}
 use Rattle.redo_wire.specs.declared.faults.WireError.{WireError}
 use Rattle.redo_wire.specs.declared.faults.WireError.TheVariants.{Memory, Fault}

@@ -19,3 +19,4 @@ pub mod Spellings
 pub mod ValueReaders
 pub mod Locality
 pub mod ValueLaws
+pub mod Lengths

@@ -1,5 +1,5 @@
 -- What is appended piece by piece, and lists that are no longer than their count fields hold.
-use Rattle.std.proofs.Common.{◌≡◌, ◌<◌, ◌^◌, ◌||◌, ℕ, Bool, false, nat_le, List, ◌++◌, length, refl, append_assoc}
+use Rattle.std.proofs.Common.{◌≡◌, ◌<◌, ◌^◌, ◌||◌, ℕ, false, nat_le, List, ◌++◌, length, refl, append_assoc}
 use Rattle.std.proofs.lemmas.Bool.{leb-false, or_parts}
 use Rattle.messages.specs.Summaries.{SummaryData}
 use Rattle.messages.specs.Deltas.{DeltaData}

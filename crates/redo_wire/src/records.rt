@@ -114,7 +114,7 @@ pub fn read_record(alloc: Global, bytes: &[u8]) -> Result<(Record, &[u8]), WireE
 // ---- writing
 
 /// Whether the full form alone can say what the record does.
-fn is_full_record(redo: &Record) -> bool
+pub fn is_full_record(redo: &Record) -> bool
     ensures { result ≡ is_full redo.now }
 {
     redo.init() || body_has_fill(&redo.body())
