@@ -7,13 +7,12 @@ Each task is a text over a sound log, whose length grows as its size does. A row
 held, and for each the exponent of growth from the least size to the greatest, by the bytes of the text. With --peer another program
 reads the same texts, and the answers may not differ by a byte. With --most the status is 1 where an exponent is above it.
 
-The gate judges each task at two small sizes by the instructions of its runs (`judged`): they do not waver. Of texts that are bad from
-their first line on it judges the memory held, too.
+tests/test_growth.py judges each task at two small sizes by the instructions of its runs, which do not waver, and of texts that are bad
+from their first line on the memory held.
 """
 
 import functools
 import os
-import tempfile
 
 import growth
 import instructions
@@ -212,7 +211,7 @@ TASKS = {it.__name__: it for it in (
 )}
 
 
-JUDGED = (100, 400)  # the sizes that the gate tries
+JUDGED = (100, 400)  # the sizes that the test tries
 MOST = 1.2
 # What may grow faster, and why.
 SLOWER = {
@@ -231,18 +230,19 @@ def instructions_of(program, lines, folder, wanted=0):
     text = os.path.join(folder, "given")
     with open(text, "w") as given:
         given.writelines(line + "\n" for line in lines)
-    return instructions.count(program, "run", text, wanted)
+    counted = instructions.count(program, "run", text, wanted)
+    if counted is None:
+        raise RuntimeError(f"a run of {program} was not counted, or did not end with status {wanted}")
+    return counted
 
 
-def is_within(name, program, idle, folder):
-    """Whether a task's instructions grow no faster than is allowed; what a run costs that does nothing is taken off first."""
+def grown(program, name, folder):
+    """How fast a task's instructions grow, and how fast they may; what a run costs that does nothing is taken off first."""
+    status = BAD.get(name, 0)
+    idle = instructions_of(program, IDLE[status], folder, status)
     texts = [TASKS[name](size) for size in (BAD_JUDGED if name in BAD else JUDGED)]
-    counts = [instructions_of(program, text, folder, BAD.get(name, 0)) - idle for text in texts]
-    grown = growth.growth([growth.length(text) for text in texts], counts)
-    most, reason = SLOWER.get(name, (MOST, ""))
-    verdict = "" if grown <= most else " FAILED"
-    print(f"hostile: {name}: grows by {grown:.2f}, {most} at most{': ' * bool(reason)}{reason}{verdict}", flush=True)
-    return grown <= most
+    counts = [instructions_of(program, text, folder, status) - idle for text in texts]
+    return growth.growth([growth.length(text) for text in texts], counts), SLOWER.get(name, (MOST, ""))[0]
 
 
 def held_by(program, lines_of, folder, wanted=0):
@@ -251,29 +251,11 @@ def held_by(program, lines_of, folder, wanted=0):
     return int(peaks[0] * 1024 * 1024), os.path.getsize(os.path.join(folder, "given"))
 
 
-def is_light(name, program, idle, folder):
-    """Whether a bad text holds few times its own length; what a run holds that does nothing is taken off first."""
+def times_held(program, name, folder):
+    """How many times its own length a bad text holds; what a run holds that does nothing is taken off first."""
+    idle, _ = held_by(program, lambda: IDLE[0], folder)
     held, given = held_by(program, functools.partial(TASKS[name], BAD_JUDGED[-1]), folder, BAD[name])
-    times = (held - idle) / given
-    verdict = "" if times <= MOST_HELD else " FAILED"
-    print(f"hostile: {name}: holds {times:.1f} times its {given} bytes, {MOST_HELD} at most{verdict}", flush=True)
-    return times <= MOST_HELD
-
-
-def judged(program):
-    """How many tasks grow and hold as they may, and how many do not. Where nothing counts instructions, no growth is judged."""
-    found = instructions.counter()
-    with tempfile.TemporaryDirectory(prefix="fleet-hostile-") as folder:
-        idle, _ = held_by(program, lambda: IDLE[0], folder)
-        results = [is_light(name, program, idle, folder) for name in BAD]
-        if found is None:
-            print("hostile: growth is not judged, since neither perf nor callgrind counts instructions here")
-        else:
-            idles = {status: instructions_of(program, lines, folder, status) for status, lines in IDLE.items()}
-            results += [is_within(name, program, idles[BAD.get(name, 0)], folder) for name in TASKS]
-    by = f", by {found[0]}" if found else ""
-    print(f"hostile: {sum(results)} of {len(results)} judgements{by}")
-    return sum(results), len(results) - sum(results)
+    return (held - idle) / given
 
 
 if __name__ == "__main__":

@@ -60,8 +60,10 @@ def place_of(crate, ending=""):
 
 def pytest_generate_tests(metafunc):
     """A program that Rattle's own compiler has built too is tested beside the one that LLVM built."""
+    if metafunc.config.getoption("--bin") or metafunc.definition.get_closest_marker("llvm_only"):
+        return
     for fixture, crate in PROGRAMS.items():
-        if fixture in metafunc.fixturenames and place_of(crate, ".by-rattle").exists() and not metafunc.config.getoption("--bin"):
+        if fixture in metafunc.fixturenames and place_of(crate, ".by-rattle").exists():
             metafunc.parametrize(fixture, ["", ".by-rattle"], ids=["llvm", "rattle"], indirect=True, scope="session")
 
 
@@ -71,12 +73,11 @@ def program(request, crate):
         return request.config.getoption("--bin").resolve() / place_of(crate).name
     place = place_of(crate, getattr(request, "param", ""))
     if not place.exists():
-        words = ["rt", "lib"] if crate == "node_c" else ["rt", "run", "--", "--help"]
-        subprocess.run(words, cwd=ROOT / "crates" / crate, stdin=subprocess.DEVNULL, stdout=subprocess.DEVNULL, check=False)
+        subprocess.run([ROOT / "tools/build.py", crate], stdin=subprocess.DEVNULL, check=False)
     if not place.exists():
         pytest.fail(f"{crate} could not be built")
     if any(it.stat().st_mtime > place.stat().st_mtime for it in ROOT.glob("crates/*/src/*.rt")):
-        warnings.warn(f"{place.relative_to(ROOT)} is older than a source: rt run, or rt lib, in crates/{crate} builds it")
+        warnings.warn(f"{place.relative_to(ROOT)} is older than a source; tools/build.py {crate} builds it")
     return place
 
 
