@@ -41,9 +41,14 @@ def told(name, task, status, programs, given, folder):
     return max(by_time[0], by_held[0])
 
 
+def listed(tasks):
+    """The tasks with what they read, for a help text."""
+    return "tasks:\n" + "\n".join(f"  {name:<24}{((task.__doc__ or '').splitlines() or [''])[0]}" for name, task in tasks.items())
+
+
 def print_all(description, tasks, sizes, statuses):
     """The command line of a script with tasks; some of their runs end with another status than 0. Answers the script's own status."""
-    parser = argparse.ArgumentParser(description=description, formatter_class=argparse.RawDescriptionHelpFormatter)
+    parser = argparse.ArgumentParser(description=description, epilog=listed(tasks), formatter_class=argparse.RawDescriptionHelpFormatter)
     parser.add_argument("--program", type=pathlib.Path, default=measure.PROGRAM, help="the built program")
     parser.add_argument("--peer", type=pathlib.Path, help="a program of the same forms to compare with")
     parser.add_argument("--only", default=",".join(tasks), help="tasks, by name")

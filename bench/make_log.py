@@ -1,7 +1,12 @@
 #!/usr/bin/env python3
 """Writes a sound log as fact lines: records of several pages and epochs, truncations that annul records, advances of readers.
 
-The same arguments give the same log. bench/README.md says how it is used.
+    make_log.py --records 10000 --pages 64 > log.txt
+    make_log.py --records 10000 --pages 64 --epochs 8 --advances 20 --shuffle 7 > shuffled.txt
+    make_log.py --records 10000 --pages 64 --advances 30 --readers 3 --inits --fills > patches.txt
+
+The records are spread evenly over the epochs, and each writes its number at one offset. Each truncation annuls the last tenth of its
+epoch's records, at least one. The same arguments give the same log.
 """
 
 import argparse
@@ -88,7 +93,7 @@ def facts(records, pages, epochs, advances, readers=1, has_inits=False, has_fill
 
 
 def main():
-    parser = argparse.ArgumentParser(description=__doc__)
+    parser = argparse.ArgumentParser(description=__doc__, formatter_class=argparse.RawDescriptionHelpFormatter)
     parser.add_argument("--records", type=int, required=True, help="how many records")
     parser.add_argument("--pages", type=int, required=True, help="how many pages they are spread over, 1 to 65536")
     parser.add_argument("--epochs", type=int, default=0, help="how many truncations, 0 to 65535")

@@ -79,7 +79,10 @@ def test_page_is_short(page, lines, characters):
     assert text.count("\n") <= lines and len(text) <= characters
 
 
-@pytest.mark.parametrize("tool", sorted(it for folder in ("tools", "bench", "examples") for it in (ROOT / folder).glob("*.py") if it.stat().st_mode & 1), ids=lambda it: it.name)
+TOOLS = [it for folder in ("tools", "bench", "examples") for it in sorted((ROOT / folder).iterdir()) if it.is_file() and it.stat().st_mode & 1]
+
+
+@pytest.mark.parametrize("tool", TOOLS, ids=lambda it: it.name)
 def test_tool_answers_help(tool):
     done = subprocess.run([tool, "--help"], capture_output=True, text=True, timeout=60)
     assert (done.returncode, done.stderr) == (0, "") and done.stdout.startswith("usage: ")
