@@ -224,7 +224,10 @@ def play(program, text, choices):
     for form, choose in zip((Node, FramedNode), choices):
         nodes = [form(program) for _ in range(NODES)]
         run = Play(nodes, text)
-        differs = run.difference(choose)
+        try:
+            differs = run.difference(choose)
+        except OSError as fault:
+            return f"by {form.__name__}: {fault}"
         if form is FramedNode and not differs:
             repeaters = [Repeater(program) for _ in nodes]
             differs = "" if all(it.repeats(node, choose) for it, node in zip(repeaters, nodes)) else "many in a frame are answered otherwise"

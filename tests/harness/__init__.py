@@ -15,7 +15,7 @@ SECONDS = 60  # until a run counts as not ended
 
 
 class Answer(NamedTuple):
-    status: int
+    status: int  # None where the run did not end
     output: bytes
     said: bytes = b""  # on standard error
 
@@ -24,7 +24,10 @@ def answer(program, words, text=b"", **streams):
     """What a run of the program ends with; the text is its standard input, unless `stdin` is given."""
     given = {} if "stdin" in streams else {"input": text}
     outputs = {"stdout": subprocess.PIPE, "stderr": subprocess.PIPE}
-    done = subprocess.run([program, *words], timeout=SECONDS, **{**given, **outputs, **streams})
+    try:
+        done = subprocess.run([program, *words], timeout=SECONDS, **{**given, **outputs, **streams})
+    except subprocess.TimeoutExpired:
+        return Answer(None, b"", b"no end after %d seconds" % SECONDS)
     return Answer(done.returncode, done.stdout, done.stderr)
 
 
