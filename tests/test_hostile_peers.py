@@ -2,7 +2,6 @@
 Rust program. Each ends by itself with a reason, and touches no memory that is not its own."""
 
 import contextlib
-import os
 import resource
 import shutil
 import socket
@@ -10,13 +9,13 @@ import struct
 import subprocess
 import threading
 import time
-from pathlib import Path
 
 import pytest
 
-ROOT = Path(__file__).resolve().parents[1]
+from harness import ROOT, environment
+from harness.shims import kit
+
 PACKAGE = ROOT / "embedding"
-NODE = ROOT / "crates/node_c"
 LONGEST = 1 << 26  # bytes of a frame
 PATIENCE = 3  # seconds that the C program gives its peer
 SECONDS = 60  # after which a program hangs
@@ -32,25 +31,6 @@ def frame(body, length=None):
 # The programs
 
 
-def toolchain():
-    """The folder of the toolchain: the one above that of the file to which `rt` leads."""
-    command = shutil.which("rt")
-    if command is None:
-        pytest.fail("rt is not on the path")
-    return Path(command).resolve().parents[1]
-
-
-@pytest.fixture(scope="module")
-def node_archive():
-    """The archive with the segment; proved and built where it is missing."""
-    archive = NODE / "out/libnode_c.a"
-    if not archive.exists():
-        subprocess.run(["rt", "lib"], cwd=NODE, stdin=subprocess.DEVNULL, check=False)
-    if not archive.exists():
-        pytest.fail("rt lib in crates/node_c makes no archive")
-    return archive
-
-
 def c_compiler():
     """A C compiler that finds the system's headers."""
     for name in filter(None, map(shutil.which, ("gcc", "cc", "clang"))):
@@ -61,23 +41,22 @@ def c_compiler():
 
 
 @pytest.fixture(scope="module")
-def c_gossip(node_archive, tmp_path_factory):
+def c_gossip(archive, tmp_path_factory):
     compiler = c_compiler()
     if compiler is None:
         pytest.skip("no C compiler with headers is on the path")
     made = tmp_path_factory.mktemp("c") / "gossip"
-    sources = [PACKAGE / "c/gossip.c", node_archive, toolchain() / "c/liblibc_c.a"]
+    sources = [PACKAGE / "c/gossip.c", archive, kit() / "c/liblibc_c.a"]
     subprocess.run([compiler, *FLAGS, *SANITIZERS, "-I", PACKAGE / "include", "-o", made, *sources], check=True)
     return made
 
 
 @pytest.fixture(scope="module")
-def rust_gossip(node_archive, tmp_path_factory):
+def rust_gossip(archive, tmp_path_factory):
     if shutil.which("cargo") is None:
         pytest.skip("no cargo is on the path")
     target = tmp_path_factory.mktemp("rust")
-    linked = {"YIELDCLEAT_ARCHIVE": node_archive.parent, "RATTLE_C": toolchain() / "c", "CARGO_TARGET_DIR": target}
-    settings = {**os.environ, **{name: str(path) for name, path in linked.items()}}
+    settings = environment(YIELDCLEAT_ARCHIVE=archive.parent, RATTLE_C=kit() / "c", CARGO_TARGET_DIR=target)
     command = ["cargo", "build", "--release", "--bin", "gossip", "--offline", "--locked"]
     subprocess.run(command, cwd=PACKAGE, env=settings, check=True, capture_output=True)
     return target / "release/gossip"

@@ -4,15 +4,13 @@ import os
 import re
 import shutil
 import subprocess
-from pathlib import Path
 
 import pytest
 
-from test_hostile_peers import c_compiler, node_archive
+from harness import ROOT, environment
+from test_hostile_peers import c_compiler
 
-ROOT = Path(__file__).resolve().parents[1]
 SECONDS = 300
-__all__ = ["node_archive"]
 
 
 @pytest.fixture
@@ -24,10 +22,10 @@ def settings(tmp_path):
     folder = tmp_path / "bin"
     folder.mkdir()
     (folder / "rt").symlink_to(command)
-    return {**os.environ, "PATH": f"{folder}:{os.environ['PATH']}"}
+    return environment(PATH=f"{folder}:{os.environ['PATH']}")
 
 
-def test_the_commands_of_the_page(node_archive, settings, tmp_path):
+def test_the_commands_of_the_page(archive, settings, tmp_path):
     if c_compiler() is None or shutil.which("cc") is None:
         pytest.skip("no C compiler with headers is on the path")
     page = (ROOT / "docs/EMBEDDING.md").read_text()
@@ -39,14 +37,14 @@ def test_the_commands_of_the_page(node_archive, settings, tmp_path):
         (package / name).symlink_to(ROOT / "embedding" / name)
     built = tmp_path / "crates/node_c"
     built.mkdir(parents=True)
-    (built / "out").symlink_to(node_archive.parent)
+    (built / "out").symlink_to(archive.parent)
     script = "set -e\n" + commands[0] + "\n./gossip\n"
     done = subprocess.run(["sh", "-c", script], cwd=package, env=settings, capture_output=True, text=True, timeout=SECONDS, check=False)
     assert done.returncode == 0, done.stderr
     assert done.stdout.count(": front 0 1000 0") == 2
 
 
-def test_the_build_script(node_archive, settings, tmp_path):
+def test_the_build_script(archive, settings, tmp_path):
     if shutil.which("cargo") is None:
         pytest.skip("no cargo is on the path")
     other = tmp_path / "other"
@@ -54,7 +52,7 @@ def test_the_build_script(node_archive, settings, tmp_path):
     (other / "rt").write_text("#!/bin/sh\n")
     settings["PATH"] = f"{other}:{settings['PATH']}"
     settings.pop("RATTLE_C", None)
-    settings |= {"YIELDCLEAT_ARCHIVE": str(node_archive.parent), "CARGO_TARGET_DIR": str(tmp_path / "target")}
+    settings |= {"YIELDCLEAT_ARCHIVE": str(archive.parent), "CARGO_TARGET_DIR": str(tmp_path / "target")}
     words = ["cargo", "build", "--bin", "takes", "--offline", "--locked"]
     done = subprocess.run(words, cwd=ROOT / "embedding", env=settings, capture_output=True, text=True, timeout=SECONDS, check=False)
     assert done.returncode == 0, done.stderr

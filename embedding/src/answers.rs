@@ -137,6 +137,8 @@ pub fn error_of(answer: &[u8]) -> Error {
         b"bad request" => Error::BadRequest,
         b"long frame" => Error::LongFrame,
         b"summary too long" | b"delta too long" | b"piece too long" => Error::TooLong,
+        b"large" => Error::Large,
+        b"long" => Error::LongAnswer,
         b"too many" => Error::Snapshot(SnapshotFault::TooMany),
         b"no snapshot" => Error::Snapshot(SnapshotFault::NoSnapshot),
         b"no piece" => Error::Snapshot(SnapshotFault::NoPiece),
@@ -249,7 +251,7 @@ mod tests {
 
     #[test]
     fn each_fault_has_its_error() {
-        let faults: [(&[u8], Error); 23] = [
+        let faults: [(&[u8], Error); 25] = [
             (b"memory", Error::Memory),
             (b"bad request", Error::BadRequest),
             (b"long frame", Error::LongFrame),
@@ -266,6 +268,8 @@ mod tests {
             (b"above 9", Error::Read(ReadFault::Above { complete: 9 })),
             (b"broken 7 3", Error::Broken { page: 7, number: 3 }),
             (b"delta too long", Error::TooLong),
+            (b"large", Error::Large),
+            (b"long", Error::LongAnswer),
             (b"too many", Error::Snapshot(SnapshotFault::TooMany)),
             (b"no snapshot", Error::Snapshot(SnapshotFault::NoSnapshot)),
             (b"no piece", Error::Snapshot(SnapshotFault::NoPiece)),

@@ -103,6 +103,10 @@ pub enum Error {
     Staging(StagingFault),
     /// A list of the answer is longer than its count field holds.
     TooLong,
+    /// The delta has more bytes than were asked for.
+    Large,
+    /// The answer does not fit into a frame with those of the other requests. Asked alone, the request has its answer.
+    LongAnswer,
     /// The bytes that were given are no such value.
     Wire(WireFault),
     /// An argument is out of its range.
@@ -148,6 +152,8 @@ impl fmt::Display for Error {
             Error::Snapshot(why) => write!(f, "no such snapshot: {why:?}"),
             Error::Staging(why) => write!(f, "not restored: {why:?}"),
             Error::TooLong => f.write_str("the answer is too long"),
+            Error::Large => f.write_str("the delta is larger than was asked for"),
+            Error::LongAnswer => f.write_str("the answer does not fit beside others"),
             Error::Wire(fault) => write!(f, "no such value: {fault:?}"),
             Error::BadRequest => f.write_str("an argument out of its range"),
             Error::LongFrame => f.write_str("the request is too long"),

@@ -255,6 +255,13 @@ impl Node {
         answers::bytes(self.ask(&requests::answer(summary))?, "delta ")
     }
 
+    /// The same, if the reply has at most so many bytes. Where it has more, a snapshot brings the other segment what it lacks, by `unite`.
+    ///
+    /// Errors: those of `reply`, and `Large`.
+    pub fn reply_within(&mut self, summary: &[u8], most: u32) -> Result<Vec<u8>, Error> {
+        answers::bytes(self.ask(&requests::within(summary, most))?, "delta ")
+    }
+
     /// Takes the reply to a summary of this segment.
     ///
     /// Errors: `Uncovered` where the segment has lost since what the summary told, `Refused`, and `Wire`.
@@ -318,6 +325,13 @@ impl Node {
     /// Errors: `Staging`.
     pub fn finish(&mut self) -> Result<(), Error> {
         self.put(&requests::finish(), "restored")
+    }
+
+    /// Joins the segment of the staged pieces into the segment, which so loses nothing.
+    ///
+    /// Errors: `Staging`, and `Refused`.
+    pub fn unite(&mut self) -> Result<(), Error> {
+        self.put(&requests::unite(), "united")
     }
 }
 

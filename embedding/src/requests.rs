@@ -16,8 +16,8 @@ pub enum Effect {
     Many,
 }
 
-const READS: [&[u8]; 12] =
-    [b"front", b"gap", b"state", b"read", b"next", b"ask", b"answer", b"fold", b"discard", b"tidy", b"freeze", b"piece"];
+const READS: [&[u8]; 13] =
+    [b"front", b"gap", b"state", b"read", b"next", b"ask", b"answer", b"within", b"fold", b"discard", b"tidy", b"freeze", b"piece"];
 
 /// The requests that change something, each with the answer that says so.
 const CHANGES: [(&[u8], &[u8]); 7] = [
@@ -68,6 +68,11 @@ pub fn answer(summary: &[u8]) -> Vec<u8> {
     behind("answer ", &[summary])
 }
 
+/// The same, if the delta has at most so many bytes.
+pub fn within(summary: &[u8], most: u32) -> Vec<u8> {
+    behind(&format!("within {most} "), &[summary])
+}
+
 /// A summary that was told here, and the delta that answers it.
 pub fn absorb(summary: &[u8], delta: &[u8]) -> Vec<u8> {
     behind(&format!("absorb {} ", summary.len()), &[summary, delta])
@@ -116,6 +121,7 @@ mod tests {
         assert_eq!(effect(&finish()), changes(b"restored"));
         assert_eq!(effect(&unite()), changes(b"united"));
         assert_eq!(effect(&answer(b"\x10")), Some(Effect::None));
+        assert_eq!(effect(&within(b"\x10", 9)), Some(Effect::None));
         assert_eq!(effect(b"tidy"), Some(Effect::None));
         assert_eq!(effect(b"many \0\0\0\0"), Some(Effect::Many));
         for unknown in [&b""[..], b" ", b" take", b"taken", b"wipe", b"Take"] {
@@ -132,6 +138,7 @@ mod tests {
     fn bytes_stand_as_they_are() {
         assert_eq!(super::take(&[3, 10, 0]), b"take \x03\n\0");
         assert_eq!(super::absorb(&[1, 2], &[3]), b"absorb 2 \x01\x02\x03");
+        assert_eq!(super::within(&[1, 2], 8_000_000), b"within 8000000 \x01\x02");
         assert_eq!(super::stage(9, 3), b"stage 9 3");
     }
 }

@@ -71,7 +71,8 @@ fn serve_durably(folder: &Path) -> Result<(), Failed> {
         if store.logged() >= until {
             // The log goes on without a snapshot: the disk may be full for now.
             store.checkpoint().unwrap_or_else(|error| eprintln!("durable: no checkpoint: {error}"));
-            until = store.logged() + CHECKPOINT;
+            // Behind a checkpoint the log has the staging, if there is one: it doubles before it is written again.
+            until = 2 * store.logged() + CHECKPOINT;
         }
         store.answer(batch)
     })

@@ -62,7 +62,7 @@ impl Progress {
 }
 
 impl Store {
-    /// Brings a node to what a folder has, or makes the folder for an empty segment of so many readers. Of the node nothing is left.
+    /// Brings a new node to what a folder has, or makes the folder for an empty segment of so many readers.
     ///
     /// Errors: `Io`, `Locked`, `Missing`, `Damaged`, and `Unexpected` where the node does not answer as it did. The files stay as they
     /// are then, but for a torn end of the log, which is cut off.
@@ -126,7 +126,8 @@ impl Store {
                 }
                 Ok(settled)
             }
-            // It was not carried out.
+            (Some(_), Some(_)) => Err(unexpected(request, &answer)),
+            // Nothing of it was carried out.
             _ => Ok(answer),
         }
     }
@@ -186,10 +187,13 @@ fn has_changed(request: &[u8], answer: &[u8]) -> bool {
 fn tell(node: &mut Node, asked: &[&[u8]]) -> Result<(), StoreError> {
     let answers = node.ask_all(asked.iter().copied())?;
     let differs = asked.iter().zip(&answers).find(|(request, answer)| !has_changed(request, answer));
-    differs.map_or(Ok(()), |(request, answer)| {
-        let told = |bytes: &[u8]| String::from_utf8_lossy(&bytes[..bytes.len().min(60)]).into_owned();
-        Err(StoreError::Unexpected { request: told(requests::word(request)), answer: told(answer) })
-    })
+    differs.map_or(Ok(()), |(request, answer)| Err(unexpected(request, answer)))
+}
+
+/// The first words of a request and of its answer.
+fn unexpected(request: &[u8], answer: &[u8]) -> StoreError {
+    let beginning = |bytes: &[u8]| String::from_utf8_lossy(&bytes[..bytes.len().min(60)]).into_owned();
+    StoreError::Unexpected { request: beginning(requests::word(request)), answer: beginning(answer) }
 }
 
 /// The first log, of an empty segment.
