@@ -15,7 +15,6 @@ pub mod RecordContents
 pub mod StepSpelling
 pub mod FactSpelling
 pub mod FactTexts
-pub mod HexPairs
 pub mod Scripts
 pub mod Lines
 pub mod Rosters

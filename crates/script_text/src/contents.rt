@@ -35,7 +35,7 @@ fn short_write(alloc: Global, offset: u16, digits: &[u8]) -> Result<Option<Patch
 {
     let mut room = [0u8; SHORT_WRITE];
     let bytes = &mut room[..digits.len() / 2];
-    if digits.len() % 2 != 0 || !put_bytes(digits, bytes) || bytes.is_empty() {
+    if !put_bytes(digits, bytes) || bytes.is_empty() {
         return Ok(None);
     }
     let write = Write::of_slice(alloc, offset, bytes)?;
