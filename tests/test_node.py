@@ -1,5 +1,6 @@
 """The program `fleet-node`: request lines and frames, each answered before the next one is sent, and random scripts of nodes."""
 
+import contextlib
 import subprocess
 import sys
 
@@ -221,21 +222,21 @@ def test_node_help(fleet_node, word):
 def play(program, text, choices):
     """What differs from the oracle, or between lines, frames, and many in a frame; the generators are of one seed."""
     told = []
-    for form, choose in zip((Node, FramedNode), choices):
-        nodes = [form(program) for _ in range(NODES)]
-        run = Play(nodes, text)
-        try:
-            differs = run.difference(choose)
-        except OSError as fault:
-            return f"by {form.__name__}: {fault}"
-        if form is FramedNode and not differs:
-            repeaters = [Repeater(program) for _ in nodes]
-            differs = "" if all(it.repeats(node, choose) for it, node in zip(repeaters, nodes)) else "many in a frame are answered otherwise"
-            nodes += repeaters
-        ends = {node.close() for node in nodes}
-        if differs or ends != {(0, b"")}:
-            return f"by {form.__name__}: {differs or ends}"
-        told.append((run.answers, run.messages))
+    with contextlib.ExitStack() as stack:
+        for form, choose in zip((Node, FramedNode), choices):
+            nodes, repeaters = [form(program) for _ in range(NODES)], [Repeater(program) for _ in range(NODES * (form is FramedNode))]
+            for node in (*nodes, *repeaters):
+                stack.callback(node.process.kill)
+            run = Play(nodes, text)
+            try:
+                differs = run.difference(choose)
+            except OSError as fault:
+                return f"by {form.__name__}: {fault}"
+            if not differs and not all(it.repeats(node, choose) for it, node in zip(repeaters, nodes)):
+                differs = "many in a frame are answered otherwise"
+            if differs or {node.close() for node in (*nodes, *repeaters)} != {(0, b"")}:
+                return f"by {form.__name__}: {differs or 'a node does not end well'}"
+            told.append((run.answers, run.messages))
     return "" if told[0] == told[1] else "lines and frames are answered otherwise"
 
 
