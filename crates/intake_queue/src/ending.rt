@@ -72,7 +72,8 @@ fn drain<L: LogName, R: Wait>(
     ensures in_turn { AreInTurn (view pass.old).senders ((view pass.old).taken ++ result.items) }
 {
     for _ in rt.forever() {
-        // It has room for all that the queue holds. Only the type does not know that no thread offers any more.
+        // It always has room: it was made with room for more than the queue holds. Only the type does not know that no thread
+        // offers any more.
         if left.reserve(1).is_err() {
             thread::yield_now();
             continue;

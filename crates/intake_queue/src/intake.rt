@@ -125,7 +125,9 @@ impl<L: LogName> Intake<L> {
         ensures in_turn { IfOk result (λ left. AreInTurn taker.senders (taker.taken ++ left.items)) }
         ensures err { IfErr result (λ r. (r.value.intake ≡ self) × (r.value.senders ≡ senders) × (r.value.taker ≡ taker)) }
     {
-        let Ok(left) = Vec::with_capacity(alloc, self.line.capacity()) else {
+        // With room for one parcel more than the queue holds, so that taking them asks for no memory.
+        let room = self.line.capacity().saturating_add(1);
+        let Ok(left) = Vec::with_capacity(alloc, room) else {
             return Err(Refused {
                 value: Unended {
                     intake: self,
