@@ -1,10 +1,10 @@
-ghost use Rattle.std.specs.Prelude.{◌≡◌, ◌≢◌, ◌+◌, ◌-◌, ◌<◌, ◌≤◌, ◌++◌, ◌∷◌, [], All, length, IfSome, IfNone, MatchResult};
+ghost use Rattle.std.specs.Prelude.{◌≡◌, ◌≢◌, ◌+◌, ◌-◌, ◌<◌, ◌≤◌, ◌++◌, ◌∷◌, [], All, length, IfSome, IfNone, MatchResult, vec_len, vec_capacity};
 ghost use Rattle.front_board.specs.Seat.{IsNode};
 ghost use Rattle.node_cell.specs.Node.{IsPassOf};
 ghost use Rattle.node_threads.specs.Work.{Answered, Names, NamesItem, answered_place, receipt_in};
 
 use crate::gate::{Gate, Job, Kind};
-use crate::list::{numbered, push_waiting};
+use crate::list::numbered;
 use crate::stop::{Halt, Stop, told};
 use front_board::{Board, Seat};
 use intake_queue::{Intake, Parcel, TakerPass};
@@ -53,6 +53,7 @@ pub fn run_drainer<'s, L: LogName, G: Gate, R: Wait>(
     requires pass { (n : _) → NamesItem hold.node nodes.now n → IsPassOf n hold.pass }
     requires nodes { All (λ n. IsNode board.now.words n.number) nodes.now }
     requires none { hold.answers.items ≡ [] }
+    requires room { count ≤ vec_capacity hold.answers }
     ensures seat { result.hold.seat.board ≡ hold.seat.board }
     ensures node { result.hold.node ≡ hold.node }
     ensures answered { Answered hold.taker result.hold.taker hold.pass result.hold.pass result.hold.answers.items }
@@ -92,6 +93,7 @@ fn drain_all<'s, L: LogName, G: Gate, R: Wait>(
     requires pass { IsPassOf node.now hold.old.pass }
     requires node { IsNode board.now.words node.now.number }
     requires none { hold.old.answers.items ≡ [] }
+    requires room { count ≤ vec_capacity hold.old.answers }
     ensures seat { hold.new.seat.board ≡ hold.old.seat.board }
     ensures node { hold.new.node ≡ hold.old.node }
     ensures answered { Answered hold.old.taker hold.new.taker hold.old.pass hold.new.pass hold.new.answers.items }
@@ -127,9 +129,11 @@ fn deliver<L: LogName, R: Wait>(
     requires seat { hold.old.seat.board ≡ board.now }
     requires pass { IsPassOf node.now hold.old.pass }
     requires node { IsNode board.now.words node.now.number }
+    requires room { vec_len hold.old.answers < vec_capacity hold.old.answers }
     ensures taker { hold.new.taker ≡ hold.old.taker }
     ensures seat { hold.new.seat.board ≡ hold.old.seat.board }
     ensures node { hold.new.node ≡ hold.old.node }
+    ensures room { vec_capacity hold.new.answers ≡ vec_capacity hold.old.answers }
     ensures answer { (a : _) × (hold.new.answers.items ≡ hold.old.answers.items ++ a ∷ []) × (answered_place a ≡ parcel.fact.place) × (hold.new.pass ≡ record hold.old.pass { list = hold.old.pass.list ++ receipt_in a }) }
 {
     let fact = parcel.into_fact();
@@ -137,7 +141,7 @@ fn deliver<L: LogName, R: Wait>(
         Ok(ack) => Ok(ack.receipt),
         Err(refused) => Err(refused),
     };
-    push_waiting(rt, &mut hold.answers, answer);
+    hold.answers.push_reserved(answer);
 }
 
 // Takes the next parcel, as soon as there is one, unless a worker could not be started.

@@ -19,6 +19,7 @@ mod join_feeders;
 mod join_rounds;
 mod list;
 mod refusal;
+mod rooms;
 mod rounds;
 mod run;
 mod serving;

@@ -1,7 +1,4 @@
-ghost use Rattle.std.specs.Prelude.{◌≡◌, ◌⊎◌, ◌-◌, ◌<◌, ◌++◌, ◌∷◌, [], length, MatchOption, Some, slice_get};
-
-use std::sync::Wait;
-use std::thread;
+ghost use Rattle.std.specs.Prelude.{◌≡◌, ◌⊎◌, ◌-◌, ◌<◌, length, MatchOption, Some, slice_get};
 
 /// The item of a number from 1.
 pub(crate) fn numbered<T>(items: &[T], number: usize) -> Option<&T>
@@ -11,17 +8,4 @@ pub(crate) fn numbered<T>(items: &[T], number: usize) -> Option<&T>
         return None;
     }
     items.get(number - 1)
-}
-
-/// Appends an item, as soon as there is memory.
-pub fn push_waiting<T: Drop, R: Wait>(rt: &R, items: &mut Vec<T>, item: T)
-    ensures { items.new.items ≡ items.old.items ++ item ∷ [] }
-{
-    for _ in rt.forever() {
-        if items.reserve(1).is_ok() {
-            break;
-        }
-        thread::yield_now();
-    }
-    items.push_reserved(item);
 }

@@ -1,6 +1,8 @@
+ghost use Rattle.std.specs.Prelude.{◌≡◌, ◌+◌, ◌<◌, ◌≤◌, length, vec_len, vec_capacity};
+
 use crate::folding::fold_many;
 use crate::gate::{Gate, Job, Kind};
-use crate::list::{numbered, push_waiting};
+use crate::list::numbered;
 use crate::refusal::Refusal;
 use named_log::LogName;
 use node_cell::{FoldPlan, Folded, Node};
@@ -8,7 +10,8 @@ use std::alloc::Global;
 use std::sync::Wait;
 use std::thread::Threads;
 
-/// Runs fold rounds of (node, page) in order, neighbouring ones of one node as one batch, and lists what was refused.
+/// Runs fold rounds of (node, page) in order, neighbouring ones of one node as one batch, and lists what was refused, at most one refusal
+/// for each round. `refusals` has room for them.
 pub fn run_folder<L: LogName + Send, G: Gate, R: Threads + Wait + Sync>(
     rt: &R,
     alloc: Global,
@@ -17,7 +20,10 @@ pub fn run_folder<L: LogName + Send, G: Gate, R: Threads + Wait + Sync>(
     worker: u64,
     rounds: &[(u16, u16)],
     mut refusals: Vec<Refusal>,
-) -> Vec<Refusal> {
+) -> Vec<Refusal>
+    requires room { vec_len refusals + length rounds.now ≤ vec_capacity refusals }
+    ensures room { vec_len result ≤ vec_len refusals + length rounds.now }
+{
     let mut turn = 1u64;
     for batch in rounds.chunk_by(|one: &(u16, u16), next: &(u16, u16)| one.0 == next.0) {
         let job = Job {
@@ -40,7 +46,10 @@ fn run_batch<L: LogName + Send, G: Gate, R: Threads + Wait + Sync>(
     job: Job,
     batch: &[(u16, u16)],
     refusals: &mut Vec<Refusal>,
-) {
+)
+    requires room { vec_len refusals.old + length batch.now ≤ vec_capacity refusals.old }
+    ensures room { (vec_len refusals.new ≤ vec_len refusals.old + length batch.now) × (vec_capacity refusals.new ≡ vec_capacity refusals.old) }
+{
     let Some((number, _)) = batch.first() else {
         return;
     };
@@ -54,7 +63,7 @@ fn run_batch<L: LogName + Send, G: Gate, R: Threads + Wait + Sync>(
         None => {
             for _ in batch {
                 let worker = job.worker;
-                push_waiting(rt, refusals, Refusal::NoSuchNode { worker, node });
+                refusals.push_reserved(Refusal::NoSuchNode { worker, node });
             }
         }
     }
@@ -69,35 +78,63 @@ fn fold_batch<L: LogName + Send, G: Gate, R: Threads + Wait + Sync>(
     job: Job,
     batch: &[(u16, u16)],
     refusals: &mut Vec<Refusal>,
-) {
-    let worker = job.worker;
-    let plans = plan_all(rt, alloc, node, worker, batch, refusals);
-    let folds = match fold_many(rt, alloc, plans) {
-        Ok(folds) => folds,
-        Err(_) => {
-            push_waiting(rt, refusals, Refusal::Memory { worker });
-            Vec::new(alloc)
-        }
-    };
+)
+    requires some { 0 < length batch.now }
+    requires room { vec_len refusals.old + length batch.now ≤ vec_capacity refusals.old }
+    ensures room { (vec_len refusals.new ≤ vec_len refusals.old + length batch.now) × (vec_capacity refusals.new ≡ vec_capacity refusals.old) }
+{
+    let folds = fold_pages(rt, alloc, node, job.worker, batch, refusals);
     gate.between(job);
-    commit_all(rt, node, worker, folds, refusals);
+    commit_all(rt, node, job.worker, folds, refusals);
     node.discard(rt);
 }
 
-// The plans of the rounds' pages, in order.
-fn plan_all<L: LogName, R: Wait>(
+// The pages of a batch folded, in order, but for those that found no memory, which are listed.
+fn fold_pages<L: LogName + Send, R: Threads + Wait + Sync>(
     rt: &R,
     alloc: Global,
     node: &Node<L>,
     worker: u64,
     batch: &[(u16, u16)],
     refusals: &mut Vec<Refusal>,
-) -> Vec<FoldPlan<L>> {
-    let mut plans = Vec::new(alloc);
+) -> Vec<Folded<L>>
+    requires some { 0 < length batch.now }
+    requires room { vec_len refusals.old + length batch.now ≤ vec_capacity refusals.old }
+    ensures count { vec_len result + vec_len refusals.new ≤ vec_len refusals.old + length batch.now }
+    ensures room { vec_capacity refusals.new ≡ vec_capacity refusals.old }
+{
+    let Ok(plans) = Vec::with_capacity(alloc, batch.len()) else {
+        refusals.push_reserved(Refusal::Memory { worker });
+        return Vec::new(alloc);
+    };
+    let plans = plan_all(rt, node, worker, batch, plans, refusals);
+    match fold_many(rt, alloc, plans) {
+        Ok(folds) => folds,
+        Err(_) => {
+            refusals.push_reserved(Refusal::Memory { worker });
+            Vec::new(alloc)
+        }
+    }
+}
+
+// The plans of the rounds' pages, in order.
+fn plan_all<L: LogName, R: Wait>(
+    rt: &R,
+    node: &Node<L>,
+    worker: u64,
+    batch: &[(u16, u16)],
+    mut plans: Vec<FoldPlan<L>>,
+    refusals: &mut Vec<Refusal>,
+) -> Vec<FoldPlan<L>>
+    requires plans { (vec_len plans ≡ 0) × (length batch.now ≤ vec_capacity plans) }
+    requires room { vec_len refusals.old + length batch.now ≤ vec_capacity refusals.old }
+    ensures count { vec_len result + vec_len refusals.new ≡ vec_len refusals.old + length batch.now }
+    ensures room { vec_capacity refusals.new ≡ vec_capacity refusals.old }
+{
     for (_, page) in batch {
         match node.fold_plan(rt, *page) {
-            Ok(plan) => push_waiting(rt, &mut plans, plan),
-            Err(_) => push_waiting(rt, refusals, Refusal::Memory { worker }),
+            Ok(plan) => plans.push_reserved(plan),
+            Err(_) => refusals.push_reserved(Refusal::Memory { worker }),
         }
     }
     plans
@@ -109,16 +146,20 @@ fn commit_all<L: LogName, R: Wait>(
     worker: u64,
     folds: Vec<Folded<L>>,
     refusals: &mut Vec<Refusal>,
-) {
+)
+    requires room { vec_len refusals.old + vec_len folds ≤ vec_capacity refusals.old }
+    ensures room { (vec_len refusals.new ≤ vec_len refusals.old + vec_len folds) × (vec_capacity refusals.new ≡ vec_capacity refusals.old) }
+{
     for folded in folds {
         if let Err(refused) = node.fold_commit(rt, folded) {
             let fault = refused.fault;
-            push_waiting(rt, refusals, Refusal::Commit { worker, fault });
+            refusals.push_reserved(Refusal::Commit { worker, fault });
         }
     }
 }
 
-/// Runs gossip rounds of (asker, answerer) in order, and lists what was refused.
+/// Runs gossip rounds of (asker, answerer) in order, and lists what was refused, at most one refusal for each round. `refusals` has
+/// room for them.
 pub fn run_gossiper<L: LogName, G: Gate, R: Wait>(
     rt: &R,
     nodes: &[Node<L>],
@@ -126,7 +167,10 @@ pub fn run_gossiper<L: LogName, G: Gate, R: Wait>(
     worker: u64,
     rounds: &[(u16, u16)],
     mut refusals: Vec<Refusal>,
-) -> Vec<Refusal> {
+) -> Vec<Refusal>
+    requires room { vec_len refusals + length rounds.now ≤ vec_capacity refusals }
+    ensures room { vec_len result ≤ vec_len refusals + length rounds.now }
+{
     let mut turn = 0u64;
     for (asker, answerer) in rounds {
         turn = turn.saturating_add(1);
@@ -143,7 +187,7 @@ pub fn run_gossiper<L: LogName, G: Gate, R: Wait>(
             *asker as usize,
             *answerer as usize,
         ) {
-            push_waiting(rt, &mut refusals, refusal);
+            refusals.push_reserved(refusal);
         }
     }
     refusals

@@ -1,4 +1,4 @@
-ghost use Rattle.std.specs.Prelude.{◌≡◌, ℕ, ◌+◌, ◌-◌, ◌<◌, ◌^◌, [], All, length, IfOk, IfErr, Some, slice_get};
+ghost use Rattle.std.specs.Prelude.{◌≡◌, ℕ, ◌+◌, ◌-◌, ◌<◌, ◌≤◌, ◌^◌, [], All, length, IfOk, IfErr, Some, slice_get, vec_len, vec_capacity};
 ghost use Rattle.node_threads.specs.Each.{Each};
 ghost use Rattle.node_threads.specs.Refusals.{AllStarted};
 ghost use Rattle.front_board.specs.Seat.{IsNode};
@@ -11,11 +11,11 @@ use crate::gate::Gate;
 use crate::join_drainers::join_drainers;
 use crate::join_feeders::join_feeders;
 use crate::join_rounds::join_rounds;
-use crate::list::push_waiting;
 use crate::refusal::Refusal;
-use crate::start_drainers::{Drainer, start_drainers};
-use crate::start_feeders::{Feeder, start_feeders};
-use crate::start_rounds::{Rounder, start_rounders};
+use crate::rooms::{Rooms, make_rooms};
+use crate::start_drainers::start_drainers;
+use crate::start_feeders::start_feeders;
+use crate::start_rounds::start_rounders;
 use crate::stop::{Halt, Stop};
 use front_board::Board;
 use intake_queue::Intake;
@@ -50,76 +50,17 @@ pub(crate) struct Ran<L: LogName> {
     pub refusals: Vec<Refusal>,
 }
 
-// Lists with room for all that comes.
-#[derive(Drop)]
-struct Rooms<'s, L: LogName> {
-    feeders: Vec<Feeder<'s, L>>,
-    drainers: Vec<Drainer<'s, L>>,
-    rounders: Vec<Rounder>,
-    lists: Vec<Vec<Refusal>>,
-    feeds: Vec<Option<Feed<L>>>,
-    holds: Vec<Option<Hold<L>>>,
-    refusals: Vec<Refusal>,
-}
-
-fn make_rooms<'s, L: LogName>(
-    alloc: Global,
-    feeds: usize,
-    holds: usize,
-    plan: &Plan,
-) -> Result<Rooms<'s, L>, AllocError>
-    ensures { IfOk result (λ r. (r.feeders.items ≡ []) × (r.drainers.items ≡ []) × (r.feeds.items ≡ []) × (r.holds.items ≡ [])) }
-{
-    let rounders = plan.folds.len().saturating_add(plan.gossip.len());
-    let workers = feeds.saturating_add(holds).saturating_add(rounders);
-    let rounds = count_rounds(&plan.folds).saturating_add(count_rounds(&plan.gossip));
-    Ok(Rooms {
-        feeders: Vec::with_capacity(alloc, feeds)?,
-        drainers: Vec::with_capacity(alloc, holds)?,
-        rounders: Vec::with_capacity(alloc, rounders)?,
-        lists: make_lists(alloc, plan)?,
-        feeds: Vec::with_capacity(alloc, feeds)?,
-        holds: Vec::with_capacity(alloc, holds)?,
-        refusals: Vec::with_capacity(alloc, workers.saturating_add(rounds))?,
-    })
-}
-
-fn count_rounds(lists: &[Vec<(u16, u16)>]) -> usize {
-    let mut count = 0usize;
-    for list in lists {
-        count = count.saturating_add(list.len());
-    }
-    count
-}
-
-// For each folder and gossiper a list with room for what is refused of it, the last first.
-fn make_lists(alloc: Global, plan: &Plan) -> Result<Vec<Vec<Refusal>>, AllocError> {
-    let mut lists = Vec::new(alloc);
-    add_lists(alloc, &plan.gossip, &mut lists)?;
-    add_lists(alloc, &plan.folds, &mut lists)?;
-    Ok(lists)
-}
-
-fn add_lists(
-    alloc: Global,
-    workers: &[Vec<(u16, u16)>],
-    lists: &mut Vec<Vec<Refusal>>,
-) -> Result<(), AllocError> {
-    for rounds in workers.iter().rev() {
-        lists.push(Vec::with_capacity(alloc, rounds.len())?)?;
-    }
-    Ok(())
-}
-
 // The last word of the stop flag: 0, unless a worker could not be started, which is then listed.
 fn last_word<'s, R: Wait>(rt: &R, stop: &'s Stop, refusals: &mut Vec<Refusal>) -> (Halt<'s>, u64)
+    requires room { vec_len refusals.old < vec_capacity refusals.old }
     ensures word { (result.0.of ≡ stop.entry.now.id) × (result.1 ≡ result.0.value) }
     ensures told { AllStarted refusals.new.items → result.0.value ≡ 0 }
+    ensures room { (vec_len refusals.new ≤ vec_len refusals.old + 1) × (vec_capacity refusals.new ≡ vec_capacity refusals.old) }
 {
     let word = stop.init(rt, || 0);
     let worker = *stop.value(&word);
     if worker != 0 {
-        push_waiting(rt, refusals, Refusal::NotStarted { worker });
+        refusals.push_reserved(Refusal::NotStarted { worker });
     }
     (word, worker)
 }
@@ -142,7 +83,7 @@ pub(crate) fn run_all<'s, E, L: LogName + Send + Sync, G: Gate + Sync, R: Thread
     requires intakes { length holds.items ≡ length intakes.now }
     requires own { (k : ℕ) (h : _) (i : _) → slice_get holds.items k ≡ Some h → slice_get intakes.now k ≡ Some i → h.taker.intake ≡ i.id }
     requires passes { (k : ℕ) (h : _) (n : _) → slice_get holds.items k ≡ Some h → NamesItem h.node nodes.now n → IsPassOf n h.pass }
-    requires fresh { (k : ℕ) (h : _) → slice_get holds.items k ≡ Some h → (h.seat.board ≡ board.now) × (h.answers.items ≡ []) }
+    requires fresh { (k : ℕ) (h : _) → slice_get holds.items k ≡ Some h → (h.seat.board ≡ board.now) × (h.answers.items ≡ []) × (count_of plan.now.parcels.items k ≤ vec_capacity h.answers) }
     requires nodes { All (λ n. IsNode board.now.words n.number) nodes.now }
     requires few { (length feeds.items < 2 ^ 61) × (length holds.items < 2 ^ 61) }
     ensures len { IfOk result (λ r. (length r.feeds.items ≡ length feeds.items) × (length r.holds.items ≡ length holds.items)) }
@@ -161,7 +102,8 @@ pub(crate) fn run_all<'s, E, L: LogName + Send + Sync, G: Gate + Sync, R: Thread
         feeders,
         drainers,
         rounders,
-        lists,
+        folds,
+        gossip,
         feeds: feeds_back,
         holds: holds_back,
         mut refusals,
@@ -174,7 +116,7 @@ pub(crate) fn run_all<'s, E, L: LogName + Send + Sync, G: Gate + Sync, R: Thread
         rt, scope, nodes, board, gate, stop, intakes, parcels, base, holds, drainers,
     );
     let rounders = start_rounders(
-        rt, alloc, scope, nodes, gate, stop, folders, plan, lists, rounders,
+        rt, alloc, scope, nodes, gate, stop, folders, folds, gossip, rounders,
     );
     let noted = &mut refusals;
     let (word, first) = last_word(rt, stop, noted);
@@ -205,7 +147,7 @@ pub(crate) fn run_in_scope<L: LogName + Send + Sync, G: Gate + Sync, R: Threads 
     requires intakes { length holds.items ≡ length intakes.now }
     requires own { (k : ℕ) (h : _) (i : _) → slice_get holds.items k ≡ Some h → slice_get intakes.now k ≡ Some i → h.taker.intake ≡ i.id }
     requires passes { (k : ℕ) (h : _) (n : _) → slice_get holds.items k ≡ Some h → NamesItem h.node nodes.now n → IsPassOf n h.pass }
-    requires fresh { (k : ℕ) (h : _) → slice_get holds.items k ≡ Some h → (h.seat.board ≡ board.now) × (h.answers.items ≡ []) }
+    requires fresh { (k : ℕ) (h : _) → slice_get holds.items k ≡ Some h → (h.seat.board ≡ board.now) × (h.answers.items ≡ []) × (count_of plan.now.parcels.items k ≤ vec_capacity h.answers) }
     requires nodes { All (λ n. IsNode board.now.words n.number) nodes.now }
     requires few { (length feeds.items < 2 ^ 61) × (length holds.items < 2 ^ 61) }
     ensures len { IfOk result (λ r. (length r.feeds.items ≡ length feeds.items) × (length r.holds.items ≡ length holds.items)) }
@@ -221,7 +163,7 @@ pub(crate) fn run_in_scope<L: LogName + Send + Sync, G: Gate + Sync, R: Threads 
             requires intakes { length holds.items ≡ length intakes.now }
             requires own { (k : ℕ) (h : _) (i : _) → slice_get holds.items k ≡ Some h → slice_get intakes.now k ≡ Some i → h.taker.intake ≡ i.id }
             requires passes { (k : ℕ) (h : _) (n : _) → slice_get holds.items k ≡ Some h → NamesItem h.node nodes.now n → IsPassOf n h.pass }
-            requires fresh { (k : ℕ) (h : _) → slice_get holds.items k ≡ Some h → (h.seat.board ≡ board.now) × (h.answers.items ≡ []) }
+            requires fresh { (k : ℕ) (h : _) → slice_get holds.items k ≡ Some h → (h.seat.board ≡ board.now) × (h.answers.items ≡ []) × (count_of plan.now.parcels.items k ≤ vec_capacity h.answers) }
             requires nodes { All (λ n. IsNode board.now.words n.number) nodes.now }
             requires few { (length feeds.items < 2 ^ 61) × (length holds.items < 2 ^ 61) }
             ensures len { IfOk result (λ r. (length r.feeds.items ≡ length feeds.items) × (length r.holds.items ≡ length holds.items)) }

@@ -1,4 +1,4 @@
-ghost use Rattle.std.specs.Prelude.{◌≡◌, ℕ, ◌+◌, ◌-◌, ◌<◌, ◌^◌, [], All, length, IfOk, IfErr, Some, slice_get};
+ghost use Rattle.std.specs.Prelude.{◌≡◌, ℕ, ◌+◌, ◌-◌, ◌<◌, ◌≤◌, ◌^◌, [], All, length, IfOk, IfErr, Some, slice_get, vec_capacity};
 ghost use Rattle.node_threads.specs.Each.{Each};
 ghost use Rattle.node_threads.specs.Refusals.{AllStarted};
 ghost use Rattle.front_board.specs.Seat.{IsNode};
@@ -53,7 +53,9 @@ fn make_space<L: LogName>(
     parcels: &[u64],
     count: usize,
 ) -> Result<Space<L>, AllocError>
-    ensures { IfOk result (λ s. (s.halves.intakes.items ≡ []) × (s.halves.holds.items ≡ []) × (s.whole.inlets.items ≡ []) × (s.whole.answers.items ≡ []) × (s.back.items ≡ [])) }
+    ensures none { IfOk result (λ s. (s.halves.intakes.items ≡ []) × (s.halves.holds.items ≡ []) × (s.whole.inlets.items ≡ []) × (s.whole.answers.items ≡ []) × (s.back.items ≡ [])) }
+    ensures room { IfOk result (λ s. (vec_capacity s.halves.intakes ≡ count) × (vec_capacity s.halves.holds ≡ count) × (vec_capacity s.whole.inlets ≡ count) × (vec_capacity s.whole.answers ≡ count) × (vec_capacity s.back ≡ count)) }
+    ensures answers { IfOk result (λ s. (length s.answers.items ≡ count) × ((k : ℕ) (a : _) → slice_get s.answers.items k ≡ Some a → (a.items ≡ []) × (vec_capacity a ≡ count_of parcels.now k))) }
 {
     Ok(Space {
         answers: make_answers(alloc, parcels, count)?,
@@ -69,13 +71,16 @@ fn make_space<L: LogName>(
     })
 }
 
+// For each inlet an empty list with room for the answers to its parcels.
 fn make_answers<L: LogName>(
     alloc: Global,
     parcels: &[u64],
     count: usize,
-) -> Result<Vec<Vec<Answer<L>>>, AllocError> {
+) -> Result<Vec<Vec<Answer<L>>>, AllocError>
+    ensures { IfOk result (λ rooms. (length rooms.items ≡ count) × ((k : ℕ) (a : _) → slice_get rooms.items k ≡ Some a → (a.items ≡ []) × (vec_capacity a ≡ count_of parcels.now k))) }
+{
     let mut rooms = Vec::with_capacity(alloc, count)?;
-    for index in (0..count).rev() {
+    for index in 0..count {
         let room = Vec::with_capacity(alloc, parcels_of(parcels, index) as usize)?;
         rooms.push(room)?;
     }
@@ -133,7 +138,7 @@ pub fn serve<L: LogName + Send + Sync, G: Gate + Sync, R: Threads + Wait + Sync>
         whole,
         back,
     } = space;
-    let Halves { intakes, holds } = split(rt, alloc, inlets, rooms, halves);
+    let Halves { intakes, holds } = split(inlets, rooms, halves);
     let stop: Stop = OnceLock::new();
     let shared = intakes.as_slice();
     let ran = match run_in_scope(
@@ -142,7 +147,7 @@ pub fn serve<L: LogName + Send + Sync, G: Gate + Sync, R: Threads + Wait + Sync>
         Ok(ran) => ran,
         Err(refused) => {
             let Parts { feeds, holds } = refused.value;
-            let inlets = rejoin(rt, intakes, holds, back);
+            let inlets = rejoin(intakes, holds, back);
             return Err(no_memory(feeds, inlets, plan));
         }
     };
@@ -151,7 +156,7 @@ pub fn serve<L: LogName + Send + Sync, G: Gate + Sync, R: Threads + Wait + Sync>
         holds,
         refusals,
     } = ran;
-    let Whole { inlets, answers } = assemble(rt, alloc, intakes, holds, whole);
+    let Whole { inlets, answers } = assemble(alloc, intakes, holds, whole);
     Ok(Served {
         feeds,
         inlets,

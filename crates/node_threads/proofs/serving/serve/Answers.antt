@@ -33,7 +33,9 @@ run_in_scope-requires-clause-fresh g c κs within = λ k h eh.
     let s = c.split-intakes.ensures in
     let x = also_at c.args.inlets.items c.split-intakes.result.holds.items k h s.len.1 eh in
     let t = s.holds.at k x.0 h x.1 eh in
-    (ap (λ n. n.board) t.3 ∙ (c.requires.inlets k x.0 x.1).1, t.4)
+    let room = (c.in-Ok.ensures.answers.1 k h.answers t.5).1 in
+    let count = ap (λ xs. count_of xs k) c.as_slice.ensures.value in
+    (ap (λ n. n.board) t.3 ∙ (c.requires.inlets k x.0 x.1).1, t.4, omega (arith, room, count))
 
 pub returns-clause-feeds : goal.returns-clause-feeds
 returns-clause-feeds g c = λ all.
