@@ -1,5 +1,6 @@
 pub mod Places
 pub mod Standing
+mod Retaining
 mod Keeping
 mod Uncovering
 mod Gossiped

@@ -1,12 +1,15 @@
 -- Folds of a log's pages.
-use Rattle.std.specs.Prelude.{◌≡◌, ℕ, ◌<◌, List}
+use Rattle.std.specs.Prelude.{◌≡◌, ℕ, ◌<◌, List, Result, MatchResult}
 use Rattle.redo_core.specs.Sets.{IsPart}
 use Rattle.redo_core.specs.Position.{Position, IsPosition}
 use Rattle.redo_core.specs.declared.facts.Fact.{Fact}
-use Rattle.segment_core.specs.Folding.{IsFoldOf}
+use Rattle.state_laws.specs.State.{State}
+use Rattle.segment_core.specs.Folding.{IsFoldOf, Commits}
+use Rattle.segment_core.specs.Forgetting.{DiscardsJust}
 use Rattle.segment_core.specs.declared.fold_plan.Folded.{Folded}
 use Rattle.segment_core.specs.declared.fold_plan.CommitFault.{CommitFault}
 use Rattle.segment_core.specs.declared.fold_plan.CommitFault.TheVariants.{Ahead, Memory}
+use Rattle.node_cell.specs.Kept.{KeepsParts}
 
 -- the page of a part of the log at the part's anchor
 pub record IsFoldOfLog (roster : ℕ) (log : List Fact) (folded : Folded) : Type 0 where
@@ -23,6 +26,14 @@ pub record IsAnchorOfPart (roster : ℕ) (log : List Fact) (n : ℕ) : Type 0 wh
   pub part : IsPart facts log
   pub position : IsPosition roster facts p
   pub anchor : n ≡ p.anchor
+
+-- a commit leaves what the segment means and takes the fold; one that is refused leaves the segment
+abbrev pub CommitsInto : {X E : Type 0} → ℕ → List Fact → Folded → Result X E → State → State → Type 0
+CommitsInto roster log folded result old new = MatchResult result (λ _. KeepsParts roster log old new × Commits old folded new) (λ _. new ≡ old)
+
+-- a discard leaves what the segment means, and just drops what is folded up to the anchor
+abbrev pub DiscardsInto : ℕ → List Fact → State → State → Type 0
+DiscardsInto roster log old new = KeepsParts roster log old new × DiscardsJust old new
 
 -- why a fold is not committed: its version is above the anchor of what the segment means, or memory is wanting
 abbrev pub RefusesFold : ℕ → List Fact → Folded → CommitFault → Type 0

@@ -1,5 +1,5 @@
 -- Summaries, mail, and what an absorb answers.
-use Rattle.std.specs.Prelude.{◌≡◌, ℕ, ◌<◌, ◌≤◌, List}
+use Rattle.std.specs.Prelude.{◌≡◌, ℕ, ◌<◌, ◌≤◌, List, Result, MatchResult}
 use Rattle.std.specs.List.{Contains}
 use Rattle.redo_core.specs.Sets.{IsPart}
 use Rattle.redo_core.specs.Keys.{KeyBefore}
@@ -10,11 +10,12 @@ use Rattle.redo_core.specs.Meaning.{Meaning, IsMeaning}
 use Rattle.redo_core.specs.declared.facts.Fact.{Fact}
 use Rattle.messages.specs.Summaries.{SummaryData}
 use Rattle.messages.specs.Deltas.{DeltaData}
+use Rattle.state_laws.specs.State.{State}
 use Rattle.state_laws.specs.Gossip.{Fills, IsAccounted}
 use Rattle.front_board.specs.FrontWord.{FrontData}
 use Rattle.gossip_core.specs.Summarizing.{IsSummaryOf}
 use Rattle.gossip_core.specs.Answering.{listing_of}
-use Rattle.gossip_core.specs.Absorbing.{filling_of}
+use Rattle.gossip_core.specs.Absorbing.{filling_of, MeansBoth}
 use Rattle.gossip_core.specs.declared.absorbing.AbsorbRefusal.{AbsorbRefusal}
 use Rattle.gossip_core.specs.declared.absorbing.AbsorbRefusal.TheVariants as refusal
 use Rattle.gossip_core.specs.declared.answering.Shown.{Shown}
@@ -77,6 +78,10 @@ pub record IsUncoveredOfLog (roster : ℕ) (log : List Fact) (summary : SummaryD
   pub part : IsPart facts log
   pub position : IsPosition roster facts p
   pub leaves : LeavesUncovered facts p summary shown
+
+-- an absorb makes the segment mean what it meant and the part that the mail is of; one that is refused leaves the segment
+abbrev pub AbsorbsMail : {X E : Type 0} → MailData → Result X E → State → State → Type 0
+AbsorbsMail mail result old new = MatchResult result (λ _. MeansBoth old mail.summary mail.delta new) (λ _. new ≡ old)
 
 -- why mail is not absorbed: the segment does not answer for the summary that the delta was made for, or memory is wanting
 abbrev pub RefusesMail : ℕ → List Fact → MailData → AbsorbFault → Type 0

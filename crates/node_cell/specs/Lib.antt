@@ -1,4 +1,5 @@
 pub mod Kept
+pub mod Retaining
 pub mod Receipt
 pub mod View
 pub mod Node

@@ -50,11 +50,18 @@ impl<L: LogName> Model for Kept<L> {
 }
 
 impl<L: LogName> Trailed for Kept<L> {
-    ghost use Rattle.node_cell.specs.Kept.{MeansTrail, KeepsParts};
+    ghost use Rattle.node_cell.specs.Kept.{MeansTrail};
+    ghost use Rattle.node_cell.specs.Retaining.{RetainsParts, retains_own, retains_on};
 
     ghost trail = { λ k. k.trail };
 
     ghost keeps = { λ k. MeansTrail L.roster L.log k.segment k.trail };
+
+    ghost retains = { λ old new. RetainsParts L.roster L.log old.segment new.segment };
+
+    ghost reflexive = { λ k. retains_own L.roster L.log k.segment };
+
+    ghost transitive = { λ a b c first next. retains_on L.roster L.log a.segment b.segment c.segment first next };
 }
 
 impl<L: LogName> Kept<L> {

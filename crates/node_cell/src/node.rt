@@ -1,12 +1,13 @@
-ghost use Rattle.std.specs.Prelude.{◌≡◌, ◌<◌, ◌≤◌, ◌++◌, ◌∷◌, [], length, IfOk, IfErr, OnErr};
+ghost use Rattle.std.specs.Prelude.{◌≡◌, ◌<◌, ◌≤◌, ◌++◌, ◌∷◌, [], length, IfOk, IfErr, OnErr, MatchResult};
 ghost use Rattle.node_lock.specs.Passes.{AreIdle, AreNew, AreTrue, receipt_count};
 ghost use Rattle.front_board.specs.FrontWord.{word_of};
 ghost use Rattle.front_board.specs.Seat.{IsNode, Publishes, seen_of};
 ghost use Rattle.node_cell.specs.Node.{IsPassOf};
+ghost use Rattle.node_cell.specs.Retaining.{RunsSection};
 ghost use Rattle.node_cell.specs.Reading.{TellsRead, TellsReadAfter};
-ghost use Rattle.node_cell.specs.Folding.{IsFoldOfLog, RefusesFold};
-ghost use Rattle.node_cell.specs.Gossiping.{IsSummaryOfLog, IsMail, IsFrontWithMail, RefusesMail};
-ghost use Rattle.node_cell.specs.Delivering.{IsFrontWith, RefusesDelivery};
+ghost use Rattle.node_cell.specs.Folding.{IsFoldOfLog, RefusesFold, CommitsInto, DiscardsInto};
+ghost use Rattle.node_cell.specs.Gossiping.{IsSummaryOfLog, IsMail, IsFrontWithMail, RefusesMail, AbsorbsMail};
+ghost use Rattle.node_cell.specs.Delivering.{IsFrontWith, RefusesDelivery, TakesPlace};
 
 use crate::answers::{AbsorbFault, DeliverFault, ReadAfterFault};
 use crate::closed::Closed;
@@ -92,6 +93,9 @@ impl<L: LogName> Node<L> {
         // The receipt is for the fact's place in the log, and joins the pass's list.
         ensures place { IfOk result (λ a. a.receipt.log_place ≡ fact.place) }
         ensures list { IfOk result (λ a. pass.new ≡ record pass.old { list = pass.old.list ++ (a.receipt.place, a.receipt.log_place) ∷ [] }) }
+        ensures section { MatchResult result
+            (λ a. RunsSection L.roster L.log ((pass.old.number, fact.place) ∷ []) (λ old new. TakesPlace L.log old fact.place new))
+            (λ e. RunsSection L.roster L.log [] (λ old new. new ≡ old)) }
         // The front is that of one part of the log, which has the fact and those of the pass's earlier receipts.
         ensures front { IfOk result (λ a. IsFrontWith L.roster L.log pass.old.list fact.place a.front) }
         ensures publishes { IfOk result (λ a. Publishes L.log seat.old.seen seat.new.seen self.now.number (word_of a.front)) }
@@ -197,6 +201,7 @@ impl<L: LogName> Node<L> {
         rt: &R,
         mail: Mail<L>,
     ) -> Result<LogFront<L>, Refused<Mail<L>, AbsorbFault>>
+        ensures section { RunsSection L.roster L.log [] (λ old new. AbsorbsMail mail result old new) }
         ensures front { IfOk result (IsFrontWithMail L.roster L.log mail) }
         ensures refused { IfErr result (λ e. RefusesMail L.roster L.log mail e.fault) }
         ensures back { IfErr result (λ e. e.value ≡ mail) }
@@ -218,7 +223,8 @@ impl<L: LogName> Node<L> {
         plan
     }
 
-    /// Takes a fold of the log, of this node or another, as its page's base image. A version not above the page's own changes nothing.
+    /// Takes a fold of the log, of this node or another, as its page's base image. What the node means stays as it is, and a version
+    /// not above the page's own changes nothing.
     ///
     /// Errors: `Ahead` where the version is above the anchor; `Memory`. The fold comes back.
     pub fn fold_commit<R: Wait>(
@@ -226,6 +232,7 @@ impl<L: LogName> Node<L> {
         rt: &R,
         folded: Folded<L>,
     ) -> Result<(), Refused<Folded<L>, CommitFault>>
+        ensures section { RunsSection L.roster L.log [] (λ old new. CommitsInto L.roster L.log folded result old new) }
         ensures refused { IfErr result (λ e. RefusesFold L.roster L.log folded e.fault) }
         ensures back { IfErr result (λ e. e.value ≡ folded) }
     {
@@ -235,8 +242,10 @@ impl<L: LogName> Node<L> {
         answer
     }
 
-    /// Forgets each record at or below the anchor that its page's base image has. It takes no memory.
-    pub fn discard<R: Wait>(&self, rt: &R) {
+    /// Drops each record at or below the anchor that its page's base image has. What the node means stays as it is. It takes no memory.
+    pub fn discard<R: Wait>(&self, rt: &R)
+        ensures { RunsSection L.roster L.log [] (λ old new. DiscardsInto L.roster L.log old new) }
+    {
         let mut visit = self.lock.visit(rt);
         visit.state.discard();
         visit.leave();

@@ -20,11 +20,18 @@ pub struct Diary {
 }
 
 impl Trailed for Diary {
-    ghost use Rattle.std.specs.Prelude.{◌≡◌, length};
+    ghost use Rattle.std.specs.Prelude.{◌≡◌, ◌≤◌, length};
+    ghost use Rattle.std.proofs.Common.{le_refl, le_trans};
 
     ghost trail = { λ d. d.trail.items };
 
     ghost keeps = { λ d. d.count ≡ length d.trail.items };
+
+    ghost retains = { λ old new. length old.trail.items ≤ length new.trail.items };
+
+    ghost reflexive = { λ d. le_refl (length d.trail.items) };
+
+    ghost transitive = { λ a b c first next. le_trans first next };
 }
 
 impl Diary {

@@ -19,6 +19,12 @@ impl Trailed for Count {
     ghost trail = { λ d. d.trail.items };
 
     ghost keeps = { λ d. Unit {0} };
+
+    ghost retains = { λ old new. Unit {0} };
+
+    ghost reflexive = { λ d. tt };
+
+    ghost transitive = { λ a b c first next. tt };
 }
 
 impl Count {
