@@ -1,17 +1,21 @@
 -- The pages that a state shows at a point, gathered from the least on.
-use Rattle.std.proofs.Common.{◌≡◌, ◌≢◌, ℕ, ◌<◌, ◌≤◌, ◌⊎◌, inl, inr, ⊎_elim, List, [], ◌∷◌, ◌++◌, Option, Some, None, sym, ◌∙◌, subst, arith, rules}
+use Rattle.std.proofs.Common.{◌≡◌, ◌≢◌, ℕ, ◌<◌, ◌≤◌, ◌⊎◌, inl, inr, ⊎_elim, List, [], ◌∷◌, ◌++◌, Option, Some, None, refl, sym, ◌∙◌, ap, length, ◌+◌, subst, arith, rules}
+use Rattle.std.specs.List.{AllByRecursion}
+use Rattle.std.proofs.lemmas.List.{length-append}
 use Rattle.redo_core.specs.Order.{Lists}
+use Rattle.redo_core.specs.Shape.{page_len}
 use Rattle.redo_core.specs.Writing.{zeros}
 use Rattle.redo_core.specs.Meaning.{ImageData, ImageBefore}
 use Rattle.redo_core.proofs.Members.{none_in}
 use Rattle.redo_core.proofs.Listing.{lists_push, lists_as}
 use Rattle.hot_log.specs.Found.{IsLeast, IsPageAbove}
 use Rattle.state_laws.specs.State.{State}
+use Rattle.state_laws.specs.HasMeaning.{HasAnchor}
 use Rattle.state_laws.specs.Shows.{Shows}
 use Rattle.segment_core.specs.Form.{IsSegment}
 use Rattle.segment_core.proofs.Pages.{IsPassed}
 use Rattle.segment_told.proofs.BarePages.{IsBare, bare_is_zeros}
-use Rattle.segment_told.specs.StoredPages.{IsStoredPage}
+use Rattle.segment_told.specs.StoredPages.{IsStoredPage, IsImageAtAnchor, CountsShown}
 use Rattle.segment_core.proofs.SamePages.{shows_one}
 use Rattle.redo_laws.proofs.Meanings.{same_image}
 
@@ -94,3 +98,71 @@ passed_more s point page next pages x form is at shown lists =
 pub passed_all : (s : State) (point : ℕ) (pages : List ImageData) → ListsPassed s point None pages → Lists ImageBefore (IsShown s point) pages
 passed_all s point pages lists =
     lists_as ImageBefore (λ i. IsShown s point i × IsPassed None i.page) (IsShown s point) pages (λ i. (λ h. h.0, λ h. (h, tt))) lists
+
+-- ---- their number
+-- no more pages are passed than there are numbers below the next one
+abbrev pub AreFew : Option ℕ → ℕ → Type 0
+AreFew None count = count ≤ 65536
+AreFew (Some next) count = count ≤ next
+
+abbrev pub AreLong : List ImageData → Type 0
+AreLong pages = AllByRecursion (λ i. length i.bytes ≡ page_len) pages
+
+-- so many pages are passed that are shown
+pub record CountsPassed (s : State) (next : Option ℕ) (count : ℕ) : Type 0 where
+  pub pages : List ImageData
+  pub lists : (anchor : ℕ) → HasAnchor s anchor → ListsPassed s anchor next pages
+  pub each : AreLong pages
+  pub number : length pages ≡ count
+  pub few : AreFew next count
+
+few_none : (next : Option ℕ) → AreFew next 0
+few_none None = omega arith
+few_none (Some next) = omega arith
+
+few_same : (s : State) (page count : ℕ) (next : Option ℕ) → IsLeast (λ n. IsStoredPage s n × IsPageAbove (Some page) n) next → count ≤ page → page < 65536
+    → AreFew next count
+few_same s page count next is le lt = search rules
+
+few_more : (s : State) (page count : ℕ) (next : Option ℕ) → IsLeast (λ n. IsStoredPage s n × IsPageAbove (Some page) n) next → count ≤ page → page < 65536
+    → AreFew next (count + 1)
+few_more s page count next is le lt = search rules
+
+long_more : (pages : List ImageData) (x : ImageData) → AreLong pages → length x.bytes ≡ page_len → AreLong (pages ++ x ∷ [])
+long_more [] x each long = (long, tt)
+long_more (p ∷ pages) x each long = (each.0, long_more pages x each.1 long)
+
+pub counts_none : (s : State) (next : Option ℕ) → IsSegment s → IsLeast (λ n. IsStoredPage s n × IsPageAbove None n) next → CountsPassed s next 0
+counts_none s next form is = record {
+  pages = [];
+  lists = λ anchor has. passed_none s anchor next form is;
+  each = tt;
+  number = refl;
+  few = few_none next;
+}
+
+pub counts_zeros : (s : State) (page count : ℕ) (next : Option ℕ) → IsSegment s → IsLeast (λ n. IsStoredPage s n × IsPageAbove (Some page) n) next → page < 65536
+    → IsImageAtAnchor s page None → CountsPassed s (Some page) count → CountsPassed s next count
+counts_zeros s page count next form is lt none before = record {
+  pages = before.pages;
+  lists = λ anchor has. passed_zeros s anchor page next before.pages form is (none anchor has) (before.lists anchor has);
+  each = before.each;
+  number = before.number;
+  few = few_same s page count next is before.few lt;
+}
+
+pub counts_more : (s : State) (page count : ℕ) (next : Option ℕ) (x : ImageData) → IsSegment s
+    → IsLeast (λ n. IsStoredPage s n × IsPageAbove (Some page) n) next → page < 65536 → IsImageAtAnchor s page (Some x) → length x.bytes ≡ page_len
+    → CountsPassed s (Some page) count → CountsPassed s next (count + 1)
+counts_more s page count next x form is lt at long before = record {
+  pages = before.pages ++ x ∷ [];
+  lists = λ anchor has.
+      let shown : IsShown s anchor x = (subst (λ g. Shows s g anchor x.bytes) (sym at.0) (at.2 anchor has), at.1) in
+      passed_more s anchor page next before.pages x form is at.0 shown (before.lists anchor has);
+  each = long_more before.pages x before.each long;
+  number = length-append before.pages (x ∷ []) ∙ ap (λ n. n + 1) before.number;
+  few = few_more s page count next is before.few lt;
+}
+
+pub counts_all : (s : State) (count : ℕ) → CountsPassed s None count → CountsShown s count
+counts_all s count passed = (passed.pages, λ anchor has. passed_all s anchor passed.pages (passed.lists anchor has), passed.each, passed.number)

@@ -1,8 +1,9 @@
 -- The pages that a state stores something of, and those that it shows at its anchor.
 use Rattle.std.specs.Prelude.{◌≡◌, ◌≢◌, ℕ, ◌<◌, ◌≤◌, ◌⊎◌, List, length, take, slice_index_or, Option, Some, None}
-use Rattle.std.specs.List.{Contains, All}
+use Rattle.std.specs.List.{Contains, All, AllByRecursion}
 use Rattle.redo_core.specs.Data.{RecordData}
 use Rattle.redo_core.specs.Order.{Lists}
+use Rattle.redo_core.specs.Shape.{page_len}
 use Rattle.redo_core.specs.Writing.{zeros}
 use Rattle.redo_core.specs.Meaning.{ImageData, ImageBefore}
 use Rattle.hot_log.specs.Found.{IsPageAbove}
@@ -32,3 +33,8 @@ IsImageAtAnchor s page (Some i) = (i.page ≡ page) × (i.bytes ≢ zeros) × ((
 -- these are the nonzero pages at the anchor
 abbrev pub AreShown : State → List ImageData → Type 0
 AreShown s pages = (anchor : ℕ) → HasAnchor s anchor → Lists ImageBefore (λ i. Shows s i.page anchor i.bytes × (i.bytes ≢ zeros)) pages
+
+-- so many pages at the anchor are not zeros, and each has the length of a page
+abbrev pub CountsShown : State → ℕ → Type 0
+CountsShown s count =
+    (pages : List ImageData) × AreShown s pages × AllByRecursion (λ i. length i.bytes ≡ page_len) pages × (length pages ≡ count)

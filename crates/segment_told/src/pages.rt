@@ -3,7 +3,7 @@ ghost use Rattle.std.specs.Prelude.{◌≡◌, ◌⊎◌, nat_le, IfOk, Some};
 ghost use Rattle.redo_core.specs.Order.{IsRising};
 ghost use Rattle.redo_core.specs.Store.{PageBefore};
 ghost use Rattle.hot_log.specs.Found.{IsLeast, IsPageAbove};
-ghost use Rattle.segment_told.specs.StoredPages.{AreShown, BeginsAbove, IsStoredPage, IsImageOf, IsImageAtAnchor};
+ghost use Rattle.segment_told.specs.StoredPages.{AreShown, CountsShown, BeginsAbove, IsStoredPage, IsImageOf, IsImageAtAnchor};
 
 use messages::PageImage;
 use segment_core::{BaseImage, Segment};
@@ -24,6 +24,25 @@ pub fn pages_at_anchor(segment: &Segment) -> Result<Vec<PageImage>, AllocError>
         next = stored_page_after(segment, Some(page));
     }
     Ok(pages)
+}
+
+/// How many pages at a segment's anchor are not zeros. They are made one at a time, and none is kept. Its only error is want of memory.
+pub fn count_at_anchor(segment: &Segment) -> Result<usize, AllocError>
+    ensures { IfOk result (CountsShown segment.now) }
+{
+    // The images rise by page.
+    segment.opens_form();
+    let mut count = 0;
+    let mut next = stored_page_after(segment, None);
+    while let Some(page) = next {
+        if let Some(image) = image_at_anchor(segment, page)? {
+            // It is called for what it ensures: the length of a page.
+            let _bytes = image.page().bytes();
+            count += 1;
+        }
+        next = stored_page_after(segment, Some(page));
+    }
+    Ok(count)
 }
 
 /// A page at the anchor, where it is not zeros.
