@@ -3,7 +3,8 @@
 
 A database writes redo records, truncates them once, and lets its readers advance. One node is killed and comes back from the files
 that this program keeps for it: its last snapshot and what it has taken since. Another one loses its files as well, and comes back
-empty, by gossip. In the end all three tell the same summary, byte for byte, and each page that may be read is that of a plain replay.
+empty: what it lacks is too large for one answer, so it stages the pieces of a peer's snapshot, and unites them with what it has taken
+meanwhile. In the end all three tell the same summary, byte for byte, and each page that may be read is that of a plain replay.
 
     examples/cluster.py                      with ./fleet-node, which is built where it is not there
     examples/cluster.py --program PROGRAM    with another program that answers the same lines
@@ -11,6 +12,7 @@ empty, by gossip. In the end all three tell the same summary, byte for byte, and
 """
 
 import argparse
+import itertools
 import pathlib
 import random
 import subprocess
@@ -21,6 +23,8 @@ ROOT = pathlib.Path(__file__).resolve().parent.parent
 PAGES = 6
 NODES = 3
 PAGE_LEN = 4096
+MOST = 2 * PAGE_LEN  # bytes of an answer that the network carries
+PATIENCE = 30  # moments until a node looks again whether all pieces have come
 
 
 # Facts as bytes, in hexadecimal digits
@@ -89,10 +93,10 @@ class Node:
     def __init__(self, program, folder, name):
         self.program, self.name = program, name
         self.snapshot, self.tail = folder / f"{name}.snapshot", folder / f"{name}.tail"
-        self.frozen = 0
         self.start()
 
     def start(self):
+        self.staging = None  # the name of the snapshot whose pieces it stages
         self.process = subprocess.Popen(self.program, stdin=subprocess.PIPE, stdout=subprocess.PIPE)
 
     def ask(self, *words):
@@ -111,17 +115,20 @@ class Node:
             print(*words, file=tail)
         return self.ask(*words)
 
-    def checkpoint(self):
-        """A snapshot takes the place of the older one and of the tail."""
-        self.frozen += 1
-        total = int(self.ask("freeze", self.frozen)[1])
-        pieces = [self.ask("piece", index)[1] for index in range(total)]
-        lines = [f"stage {self.frozen} {total}", *(f"add {it}" for it in pieces), "finish"]
+    def freeze(self, name):
+        """The pieces of a snapshot."""
+        total = int(self.ask("freeze", name)[1])
+        return [self.ask("piece", index)[1] for index in range(total)]
+
+    def checkpoint(self, name):
+        """A snapshot takes the place of the older one and of the tail; how many pieces it has."""
+        pieces = self.freeze(name)
+        lines = [f"stage {name} {len(pieces)}", *(f"add {it}" for it in pieces), "finish"]
         fresh = self.snapshot.with_suffix(".new")
         fresh.write_text("".join(f"{it}\n" for it in lines))
         fresh.replace(self.snapshot)
         self.tail.unlink(missing_ok=True)
-        return total
+        return len(pieces)
 
     def kill(self):
         self.process.kill()
@@ -161,6 +168,10 @@ class Network:
         self.repeated += copies - 1
         self.carried += [(moment + self.choose.randrange(1, 40), deliver) for _ in range(copies)]
 
+    def wake(self, moment, act):
+        """What a node means to do at a later moment goes over no network."""
+        self.carried.append((moment, act))
+
     def deliver(self, moment):
         due = [it for it in self.carried if it[0] <= moment]
         self.carried = [it for it in self.carried if it[0] > moment]
@@ -176,7 +187,8 @@ class Cluster:
         self.network = Network(self.choose)
         self.nodes = [Node(program, folder, f"node {number + 1}") for number in range(NODES)]
         self.moment = 0
-        self.counts = {"absorbed": 0, "uncovered": 0}
+        self.names = itertools.count(1)  # of snapshots: each of the cluster has its own
+        self.counts = {"absorbed": 0, "uncovered": 0, "large": 0, "united": 0}
 
     def write(self, fact):
         """A fact is written where at least two of the three nodes have it, however often it has to be sent; one may miss it."""
@@ -187,19 +199,50 @@ class Cluster:
             self.network.send(self.moment, lambda node=node: node.take("take", fact))
 
     def gossip(self):
-        """A node asks another one what it lacks. The answer comes late, twice or never, and perhaps when it is of no use."""
+        """A node asks another one what it lacks. The answer comes late, twice or never, and perhaps when it is of no use. Where it would
+        be too large, the pieces of a snapshot come in its place."""
         asking, asked = self.choose.sample(self.nodes, 2)
         summary = asking.ask("ask")[1]
 
         def answered():
-            delta = asked.ask("answer", summary)[1]
-            self.network.send(self.moment, lambda: absorbed(delta))
+            word, *delta = asked.ask("answer", summary, MOST)
+            if word == "large":
+                self.counts[word] += 1
+                self.hydrate(asking, asked)
+            else:
+                self.network.send(self.moment, lambda: absorbed(*delta))
 
         def absorbed(delta):
             outcome = asking.take("absorb", summary, delta)[0]
             self.counts[outcome] += 1
 
         self.network.send(self.moment, answered)
+
+    def hydrate(self, node, peer):
+        """Brings a node what a peer has, by the pieces of a snapshot. What the node takes meanwhile stays."""
+        if node.staging is not None:
+            return
+        name = node.staging = next(self.names)
+        pieces = peer.freeze(name)
+        node.take("stage", name, len(pieces))
+
+        def send(piece):
+            self.network.send(self.moment, lambda: node.take("add", piece))
+
+        def unite():
+            if node.staging != name:
+                return
+            word, *index = node.take("unite")
+            if word == "missing":
+                send(pieces[int(index[0])])
+                self.network.wake(self.moment + PATIENCE, unite)
+            else:
+                self.counts[word] += 1
+                node.staging = None
+
+        for piece in pieces:
+            send(piece)
+        self.network.wake(self.moment + PATIENCE, unite)
 
     def tend(self):
         """Work that changes no answer: a page is folded, and what is folded is thrown away."""
@@ -256,7 +299,7 @@ def show(cluster):
     print("moment what happens" + " " * 46 + "epoch, complete point and minimum read point of each node")
     cluster.run(120, database.write)
     cluster.told("120 records are written, each to two nodes or three")
-    cluster.told(f"{first.name}: a snapshot of {first.checkpoint()} pieces is kept")
+    cluster.told(f"{first.name}: a snapshot of {first.checkpoint(next(cluster.names))} pieces is kept")
     cluster.run(60, database.write)
     first.kill()
     came = first.restart()
@@ -274,6 +317,7 @@ def show(cluster):
     right, reads = is_right(cluster)
     network, counts = cluster.network, cluster.counts
     print(f"lost {network.lost}, repeated {network.repeated}; absorbed {counts['absorbed']} answers, {counts['uncovered']} came too late")
+    print(f"{counts['large']} answers were too large; {counts['united']} snapshots were united")
     print(f"{reads} reads are {'those of a plain replay' if right else 'NOT those of a plain replay'}")
     return right and all(node.close() == 0 for node in (first, second, third))
 
