@@ -8,7 +8,7 @@ from harness import SECONDS
 from model import oracle
 from model.wire import fact_bytes, frame, framed
 
-LEFT_OUT = ("same", "covers", "join")  # steps that no request asks for
+LEFT_OUT = ("same", "covers")  # steps that no request asks for
 FREEZE_EACH = 50  # one of so many steps comes after a freeze and a restart
 GAP_EACH = 3  # after one of so many steps the gap is asked for
 WITH_BYTES = (b"page", b"record", b"summary", b"delta", b"piece")  # the answers that end in bytes
@@ -18,8 +18,11 @@ DIGITS = set("0123456789abcdefABCDEF")
 def as_frame(line):
     """The bytes of the frame that asks what a request line asks."""
     word, _, rest = line.partition(" ")
-    if word in ("take", "answer", "add"):
+    if word in ("take", "add"):
         return f"{word} ".encode() + bytes.fromhex(rest)
+    if word == "answer":
+        digits, _, most = rest.partition(" ")
+        return (f"within {most} " if most else "answer ").encode() + bytes.fromhex(digits)
     if word == "absorb":
         shown, answered = (bytes.fromhex(it) for it in rest.split(" "))
         return f"absorb {len(shown)} ".encode() + shown + answered
@@ -81,12 +84,27 @@ class Node:
         answer = self.process.stdout.readline().decode()
         return answer.removesuffix("\n") if answer.endswith("\n") else f"{answer} and an end"
 
-    def restart(self, name):
-        """Whether the node takes a snapshot, and is put together again from the pieces, which come in another order."""
+    def snapshot(self, name):
+        """The pieces of a snapshot that the node takes."""
         total = int(self.ask("freeze", name).split()[1])
-        pieces = [self.ask("piece", index).split()[1] for index in range(total)]
-        told = [self.ask("open", 15), self.ask("stage", name, total), *(self.ask("add", it) for it in reversed(pieces)), self.ask("finish")]
-        return told == ["opened", "staged", *["added"] * total, "restored"]
+        return [self.ask("piece", index).split()[1] for index in range(total)]
+
+    def stage(self, name, pieces):
+        """Whether the node takes the pieces, which come in another order."""
+        told = [self.ask("stage", name, len(pieces)), *(self.ask("add", it) for it in reversed(pieces))]
+        return told == ["staged", *["added"] * len(pieces)]
+
+    def restart(self, name):
+        """Whether the node takes a snapshot, and is put together again from the pieces."""
+        pieces = self.snapshot(name)
+        return self.ask("open", 15) == "opened" and self.stage(name, pieces) and self.ask("finish") == "restored"
+
+    def unite(self, other, name):
+        """Joins another node into this one, by the pieces of its snapshot; the answer is that of a join."""
+        if not self.stage(name, other.snapshot(name)):
+            return "not staged"
+        answer = self.ask("unite")
+        return "joined" if answer == "united" else answer
 
     def close(self):
         """The status, and what it wrote that nobody asked for."""
@@ -155,7 +173,9 @@ class Play:
         if kind == "ask":
             return self.sent("summary", node.ask("ask"))
         if kind == "answer":
-            return self.sent("delta", node.ask("answer", *self.messages[values[0] - 1]), *self.messages[values[0] - 1])
+            return self.answered(node, *self.messages[values[0] - 1])
+        if kind == "join":
+            return node.unite(self.nodes[values[0] - 1], len(self.answers))
         if kind == "absorb":
             return node.ask("absorb", *self.messages[values[0] - 1])
         if kind == "wipe":
@@ -163,6 +183,13 @@ class Play:
         if kind == "read" and values[3] == 0:
             return None
         return node.ask(kind, *values)
+
+    def answered(self, node, summary):
+        """A delta. Within its size it is sent again, and within one byte less it is large."""
+        answer = node.ask("answer", summary)
+        size = len(answer.partition(" ")[2]) // 2
+        within = [node.ask("answer", summary, most) for most in (size, size - 1)]
+        return self.sent("delta", answer, summary) if within == [answer, "large"] else f"{within} within {size}"
 
     def sent(self, kind, answer, *before):
         word, _, digits = answer.partition(" ")
