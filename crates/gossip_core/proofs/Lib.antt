@@ -10,3 +10,4 @@ pub mod OneReply
 pub mod Absorbed
 pub mod InOneLog
 pub mod OwnMeaning
+pub mod SizesTold

@@ -1,5 +1,6 @@
 pub mod Summarizing
 pub mod Replying
+pub mod Sizes
 pub mod Answering
 pub mod Absorbing
 pub mod Laws
