@@ -39,6 +39,8 @@ def as_line(text):
 def has_frame(line):
     """Whether a frame asks the same: digits stand wherever the line's word takes bytes."""
     word, *fields = line.split(" ")
+    if word == "answer" and len(fields) == 2 and fields[1].isdigit():
+        fields.pop()  # a limit
     wanted = {"take": 1, "answer": 1, "add": 1, "absorb": 2}.get(word)
     return wanted is None or len(fields) == wanted and all(len(it) % 2 == 0 and set(it) <= DIGITS for it in fields)
 
