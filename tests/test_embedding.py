@@ -12,6 +12,7 @@ from harness.archive import heap
 PACKAGE = ROOT / "embedding"
 SECONDS = 300
 C_FLAGS = "-std=gnu11 -O2 -Wall -Wextra -Wpedantic -Werror -pthread".split()
+pytestmark = pytest.mark.xdist_group("embedding")  # which builds the package once
 needs_cargo = pytest.mark.skipif(not shutil.which("cargo"), reason="no cargo is on the path")
 
 
