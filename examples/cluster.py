@@ -19,33 +19,14 @@ import subprocess
 import sys
 import tempfile
 
+from client import Client, advance, record, truncation
+
 ROOT = pathlib.Path(__file__).resolve().parent.parent
 PAGES = 6
 NODES = 3
 PAGE_LEN = 4096
 MOST = 2 * PAGE_LEN  # bytes of an answer that the network carries
 PATIENCE = 30  # moments until a node looks again whether all pieces have come
-
-
-# Facts as bytes, in hexadecimal digits
-
-
-def digits(*fields):
-    """Numbers as (value, bytes) or bytes themselves, one behind the other."""
-    return b"".join(it if isinstance(it, bytes) else it[0].to_bytes(it[1], "big") for it in fields).hex()
-
-
-def record(epoch, number, back, page, block_back, offset, data):
-    links = (1, 1), (epoch, 2), (number, 6), (back, 6), (page, 2), (block_back, 6)
-    return digits(*links, (1, 1), (offset, 2), (len(data), 2), data)
-
-
-def truncation(epoch, lo, hi):
-    return digits((2, 1), (epoch, 2), (lo, 6), (hi, 6))
-
-
-def advance(epoch, point):
-    return digits((3, 1), (epoch, 2), (point, 6))
 
 
 class Database:
@@ -87,38 +68,22 @@ class Database:
 # A node, and what its owner keeps for it
 
 
-class Node:
+class Node(Client):
     """A process, and the files from which it comes back: the request lines of its last snapshot, and those taken since."""
 
     def __init__(self, program, folder, name):
-        self.program, self.name = program, name
-        self.snapshot, self.tail = folder / f"{name}.snapshot", folder / f"{name}.tail"
-        self.start()
+        self.name, self.snapshot, self.tail = name, folder / f"{name}.snapshot", folder / f"{name}.tail"
+        super().__init__(program)
 
     def start(self):
         self.staging = None  # the name of the snapshot whose pieces it stages
-        self.process = subprocess.Popen(self.program, stdin=subprocess.PIPE, stdout=subprocess.PIPE)
-
-    def ask(self, *words):
-        """One request line, and the words of its answer line."""
-        line = " ".join(map(str, words))
-        self.process.stdin.write(line.encode() + b"\n")
-        self.process.stdin.flush()
-        answer = self.process.stdout.readline().decode()
-        if not answer.endswith("\n"):
-            sys.exit(f"{self.name} ended at: {line[:80]}")
-        return answer.split()
+        super().start()
 
     def take(self, *words):
         """A request that changes the node is written down before it is answered to anybody."""
         with open(self.tail, "a") as tail:
             print(*words, file=tail)
         return self.ask(*words)
-
-    def freeze(self, name):
-        """The pieces of a snapshot."""
-        total = int(self.ask("freeze", name)[1])
-        return [self.ask("piece", index)[1] for index in range(total)]
 
     def checkpoint(self, name):
         """A snapshot takes the place of the older one and of the tail; how many pieces it has."""
@@ -129,10 +94,6 @@ class Node:
         fresh.replace(self.snapshot)
         self.tail.unlink(missing_ok=True)
         return len(pieces)
-
-    def kill(self):
-        self.process.kill()
-        self.process.communicate()
 
     def restart(self):
         """A new process, told all that is kept of the old one; how many lines that was."""
@@ -148,10 +109,6 @@ class Node:
 
     def front(self):
         return tuple(map(int, self.ask("front")[1:]))
-
-    def close(self):
-        self.process.stdin.close()
-        return self.process.wait(10)
 
 
 class Network:

@@ -11,7 +11,7 @@ import pytest
 from harness import shims
 
 ROOT = Path(__file__).resolve().parents[1]
-PROGRAMS = {"fleet": "fleet", "fleet_node": "fleet_node", "call_rows": "call_rows", "archive": "node_c"}  # fixture: crate
+PROGRAMS = {"fleet": "fleet", "fleet_node": "fleet_node", "call_rows": "call_rows", "thread_rows": "thread_rows", "archive": "node_c"}  # fixture: crate
 
 
 def pytest_addoption(parser):
@@ -94,6 +94,11 @@ def fleet_node(request):
 @pytest.fixture(scope="session")
 def call_rows(request):
     return program(request, "call_rows")
+
+
+@pytest.fixture(scope="session")
+def thread_rows(request):
+    return program(request, "thread_rows")
 
 
 @pytest.fixture(scope="session")

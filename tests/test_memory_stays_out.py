@@ -1,91 +1,40 @@
 """The programs where memory runs out and stays out, and where one request for memory is refused: every run ends, and says so."""
 
-import os
 import re
-import shutil
-import subprocess
 import time
 from concurrent.futures import ThreadPoolExecutor
-from pathlib import Path
 
 import pytest
 
-ROOT = Path(__file__).resolve().parents[1]
-SHIM = Path(__file__).parent / "harness/refuse_memory.c"
-LIMIT = 30  # seconds, many times what a run takes
+from harness import ROOT, answer
+
 BUDGET = 45  # seconds for the runs of a test
 AT_ONCE = 4  # runs at the same time
 ENDED = "fleet: out of memory\n"
 ROWS = b"== end of threads\nrounds\n"
+FOR_EVER = 2**63
 
 
-class Memory:
-    """Runs programs of whose requests for memory some are refused."""
+def sweep(refusing, command, text, rng, stays_out):
+    """The ample answer, and that of each run in which a request is refused, alone or with all later ones: of every request, or of a
+    sample where there are too many. An answer is none where the run did not end."""
+    started = time.monotonic()
+    counts, ample = refusing.counted(command, text)
+    numbers, most = range(1, counts.allocations + 1), max(1, int(BUDGET * AT_ONCE / (time.monotonic() - started)))
+    if len(numbers) > most:
+        numbers = sorted(rng.sample(numbers, most))
+        print(f"of {counts.allocations} requests these are refused: {numbers}")
 
-    def __init__(self, shim, folder):
-        self.shim = shim
-        self.folder = folder
+    def told(number):
+        seen = refusing.run(command, text, allocation=number, last=FOR_EVER if stays_out else 0)
+        return None if seen.status is None else words_of(seen)
 
-    def run(self, command, text, settings):
-        """The status and what was written, or none where the run did not end within the limit."""
-        kept = {**os.environ, "LD_PRELOAD": str(self.shim), **settings}
-        try:
-            done = subprocess.run(command, input=text, capture_output=True, env=kept, timeout=LIMIT)
-        except subprocess.TimeoutExpired:
-            return None
-        return done.returncode, done.stdout.decode(), done.stderr.decode()
-
-    def count(self, command, text):
-        """How many requests a run makes, how long it takes, and what it answers."""
-        counter = self.folder / "count"
-        counter.write_bytes(bytes(8))
-        started = time.monotonic()
-        answer = self.run(command, text, {"REFUSE_COUNT": str(counter)})
-        taken = time.monotonic() - started
-        requests = int.from_bytes(counter.read_bytes(), "little")
-        assert requests > 0, f"{command[0]} makes no request that the shim sees"
-        return requests, taken, answer
-
-    def sweep(self, command, text, rng, settings_of):
-        """The ample answer, and that of each run in which a request is refused: of every one, or of a sample where there are too many."""
-        requests, taken, ample = self.count(command, text)
-        numbers = list(range(1, requests + 1))
-        most = max(1, int(BUDGET * AT_ONCE / taken))
-        if len(numbers) > most:
-            numbers = sorted(rng.sample(numbers, most))
-            print(f"of {requests} requests these are refused: {numbers}")
-        with ThreadPoolExecutor(AT_ONCE) as pool:
-            answers = list(pool.map(lambda number: self.run(command, text, settings_of(number)), numbers))
-        return ample, dict(zip(numbers, answers))
+    with ThreadPoolExecutor(AT_ONCE) as pool:
+        return words_of(ample), dict(zip(numbers, pool.map(told, numbers)))
 
 
-def from_on(number):
-    return {"REFUSE_FROM": str(number)}
-
-
-def alone(number):
-    return {"REFUSE_FROM": str(number), "REFUSE_TO": str(number)}
-
-
-@pytest.fixture(scope="session")
-def memory(tmp_path_factory):
-    compiler = shutil.which("cc")
-    if compiler is None:
-        pytest.skip("no C compiler cc, which builds what refuses memory")
-    folder = tmp_path_factory.mktemp("memory")
-    shim = folder / "refuse_memory.so"
-    subprocess.run([compiler, "-O2", "-Wall", "-Wextra", "-shared", "-fPIC", "-o", shim, SHIM], check=True)
-    return Memory(shim, folder)
-
-
-@pytest.fixture(scope="session")
-def thread_rows():
-    program = ROOT / "crates/thread_rows/out/thread_rows"
-    if not program.exists():
-        subprocess.run(["rt", "run"], cwd=ROOT / "crates/thread_rows", stdin=subprocess.DEVNULL, check=False)
-    if not program.exists():
-        pytest.fail("thread_rows could not be built")
-    return program
+def words_of(seen):
+    return seen.status, seen.output.decode(), seen.said.decode()
 
 
 def bad(answers, is_good):
@@ -110,10 +59,10 @@ TASKS = [
 
 
 @pytest.mark.parametrize("words, text", TASKS, ids=["drill", "run", "run messages", "check"])
-def test_memory_stays_out(fleet, memory, rng, words, text):
+def test_memory_stays_out(fleet, refusing, rng, words, text):
     """Every request from one on is refused: the run ends with status 5 and its words, or gives the ample answer."""
     text = b"" if text is None else example(text)
-    ample, answers = memory.sweep([fleet, *words], text, rng, from_on)
+    ample, answers = sweep(refusing, [fleet, *words], text, rng, True)
     ended = (5, "", ENDED)
     assert bad(answers, lambda answer: answer in (ample, ended)) == {}
     assert ended in answers.values()
@@ -126,21 +75,21 @@ def pairs_of(lines, told):
     return [(line, answer) for line, answer in zip(lines, told.splitlines()) if answer != "memory"]
 
 
-def test_a_node_whose_memory_stays_out(fleet_node, memory, rng):
+def test_a_node_whose_memory_stays_out(fleet_node, refusing, rng):
     """It answers `memory` and goes on, or ends with status 5 and its words. Nothing has changed by a request that lacked memory: the others
     are answered as where that one was not made."""
     text = example("node.requests")
     lines = text.decode().splitlines()
-    _, answers = memory.sweep([fleet_node], text, rng, from_on)
+    _, answers = sweep(refusing, [fleet_node], text, rng, True)
 
-    def is_good(answer):
-        status, told, words = answer
+    def is_good(seen):
+        status, told, words = seen
         kept = pairs_of(lines, told)
         asked = "".join(line + "\n" for line, _ in kept).encode()
-        wanted = subprocess.run([fleet_node], input=asked, capture_output=True, timeout=LIMIT).stdout.decode()
+        wanted = answer(fleet_node, [], asked).output.decode()
         is_whole = status == 0 and words == "" and len(told.splitlines()) == len(lines)
         is_cut = status == 5 and words == ENDED.replace("fleet", "fleet-node")
-        return (is_whole or is_cut) and wanted.splitlines() == [answer for _, answer in kept]
+        return (is_whole or is_cut) and wanted.splitlines() == [it for _, it in kept]
 
     assert bad(answers, is_good) == {}
     assert any("memory" in told for _, told, _ in answers.values())
@@ -158,10 +107,10 @@ def rounds_of(told):
     return asked, folded, fronts[1] == "0, 64, 32", (64 - keys) // 4
 
 
-def test_a_round_that_lacks_memory_is_listed(thread_rows, memory, rng):
+def test_a_round_that_lacks_memory_is_listed(thread_rows, refusing, rng):
     """One request is refused. A round that was not carried out is listed with its worker, and no other; where the program itself lacked
     memory, it ends."""
-    ample, answers = memory.sweep([thread_rows], ROWS, rng, alone)
+    ample, answers = sweep(refusing, [thread_rows], ROWS, rng, False)
     assert rounds_of(ample[1]) == ([], [], True, 8)
     assert None not in answers.values()
     ended = {number: told for number, (status, told, _) in answers.items() if status == 0}

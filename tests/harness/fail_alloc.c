@@ -1,6 +1,7 @@
 /* Refuses one allocation of the program that it is preloaded into, or one thread, and tells how many there were of each.
 
-   FAIL_ALLOC=N refuses the N-th call that asks for memory, from 1, and FAIL_START=N the N-th start of a thread. With
+   FAIL_ALLOC=N refuses the N-th call that asks for memory, from 1, and with FAIL_ALLOC_LAST=M each of the N-th to the M-th.
+   FAIL_START=N refuses the N-th start of a thread. With
    FAIL_ALLOC_REPORT=PATH the number of calls that asked for memory, the most bytes that one of them asked for, and the number of
    starts are written to that file when the program ends. No header is included, so that the toolchain's own compiler builds it
    on a machine that has no C headers. */
@@ -25,6 +26,7 @@ enum { OUT_OF_MEMORY = 12, TRY_AGAIN = 11 };
 
 static unsigned long calls;
 static unsigned long refused;
+static unsigned long last_refused;
 static size_t greatest;
 static unsigned long starts;
 static unsigned long refused_start;
@@ -38,6 +40,7 @@ __attribute__((constructor)) static void read_setting(void) {
     greatest = 0;
     starts = 0;
     refused = number_of(getenv("FAIL_ALLOC"));
+    last_refused = number_of(getenv("FAIL_ALLOC_LAST"));
     refused_start = number_of(getenv("FAIL_START"));
 }
 
@@ -45,7 +48,7 @@ __attribute__((destructor)) static void write_report(void) {
     const char *path = getenv("FAIL_ALLOC_REPORT");
     unsigned long count = __atomic_load_n(&calls, __ATOMIC_SEQ_CST);
     size_t most = __atomic_load_n(&greatest, __ATOMIC_SEQ_CST);
-    refused = 0;
+    refused = last_refused = 0;
     int file = path == 0 ? -1 : creat(path, 0644);
     if (file >= 0) {
         dprintf(file, "%lu %lu %lu\n", count, most, __atomic_load_n(&starts, __ATOMIC_SEQ_CST));
@@ -58,7 +61,8 @@ static int is_refused(size_t size) {
     size_t seen = __atomic_load_n(&greatest, __ATOMIC_SEQ_CST);
     while (seen < size && !__atomic_compare_exchange_n(&greatest, &seen, size, 0, __ATOMIC_SEQ_CST, __ATOMIC_SEQ_CST)) {
     }
-    if (__atomic_add_fetch(&calls, 1, __ATOMIC_SEQ_CST) != refused)
+    unsigned long call = __atomic_add_fetch(&calls, 1, __ATOMIC_SEQ_CST);
+    if (call != refused && (call < refused || call > last_refused))
         return 0;
     *__errno_location() = OUT_OF_MEMORY;
     return 1;

@@ -8,7 +8,7 @@ import subprocess
 from pathlib import Path
 from typing import NamedTuple
 
-from harness import SECONDS, Answer, environment
+from harness import answer, environment
 
 FOLDER = Path(__file__).resolve().parent
 
@@ -43,14 +43,13 @@ class Refusing:
     def __init__(self, folder):
         self.library, self.report = built("fail_alloc", folder), folder / "report"
 
-    def environment(self, allocation=0, start=0):
-        named = {"FAIL_ALLOC": allocation, "FAIL_START": start, "FAIL_ALLOC_REPORT": self.report}
+    def environment(self, allocation=0, start=0, last=0):
+        """One allocation is refused, or with `last` each from one to another."""
+        named = {"FAIL_ALLOC": allocation, "FAIL_ALLOC_LAST": last, "FAIL_START": start, "FAIL_ALLOC_REPORT": self.report}
         return environment(LD_PRELOAD=self.library, **named)
 
     def run(self, command, text=b"", **refused):
-        settings = self.environment(**refused)
-        done = subprocess.run(command, input=text, capture_output=True, env=settings, timeout=SECONDS)
-        return Answer(done.returncode, done.stdout, done.stderr)
+        return answer(command[0], command[1:], text, env=self.environment(**refused))
 
     def counted(self, command, text=b""):
         """What the command asks for with ample memory, and how it ends then."""
@@ -75,9 +74,7 @@ class Devices:
 
     def run(self, command, text, steps, reading=0, writing=0):
         cut = {"READ_STEP": steps[0], "WRITE_STEP": steps[1], "FAIL_READ": reading, "FAIL_WRITE": writing}
-        settings = environment(LD_PRELOAD=self.library, DEVICE_REPORT=self.report, **cut)
-        done = subprocess.run(command, input=text, capture_output=True, env=settings, timeout=SECONDS)
-        return Answer(done.returncode, done.stdout, done.stderr)
+        return answer(command[0], command[1:], text, env=environment(LD_PRELOAD=self.library, DEVICE_REPORT=self.report, **cut))
 
     def calls(self):
         """How many reads and writes the last run made."""
