@@ -212,10 +212,4 @@ impl Entries {
         let most = self.place.saturating_add(bytes.len() as u64);
         bytes.windows(HEAD).any(|it| number(it, 0, 8) <= most && Head::of(it, self.header.salt).is_some())
     }
-
-    /// Whether nothing stands behind the entries of a snapshot, and none of them is missing.
-    pub fn is_at_end(&mut self) -> Result<bool, StoreError> {
-        let mut bytes = Vec::new();
-        Ok(self.place == self.header.count && self.next(&mut bytes)? == Next::End)
-    }
 }

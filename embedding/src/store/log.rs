@@ -214,7 +214,8 @@ pub(super) mod tests {
         let longer = [&whole[..ends[1]], &[0; 3], &whole[ends[1]..]].concat();
         let shorter = [&whole[..ends[1] - 1], &whole[ends[1]..]].concat();
         let twice = [&whole[..], &whole[ends[2]..]].concat();
-        for bytes in [missing, longer, shorter, twice, vec![], whole[..10].to_vec(), vec![0; 100]] {
+        let spoiled = [&whole[..ends[2] - 1], &[0; 51]].concat();
+        for bytes in [missing, longer, shorter, twice, spoiled, vec![], whole[..10].to_vec(), vec![0; 100]] {
             fs::write(&path, &bytes).unwrap();
             assert!(is_damaged(&path));
         }

@@ -257,10 +257,9 @@ fn restore(path: &Path, generation: u64, node: &mut Node) -> Result<u64, StoreEr
             _ => return Err(entries.damaged()),
         }
     }
-    if entries.is_at_end()? {
-        Ok(entries.place())
-    } else {
-        Err(entries.damaged())
+    match entries.next(&mut bytes)? {
+        Next::End => Ok(entries.place()),
+        _ => Err(entries.damaged()),
     }
 }
 
