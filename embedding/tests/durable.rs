@@ -173,6 +173,22 @@ fn a_restored_snapshot_comes_back() {
     comes_back("finish", &asked, "front 0 100 0");
 }
 
+/// A union loses nothing of what was there, and leaves no staging.
+#[test]
+fn a_union_comes_back() {
+    let asked = [takes(101..=110), staged(&mut other(100), 5), vec![requests::unite()], takes(111..=111)].concat();
+    comes_back("unite", &asked, "front 0 111 0");
+    let folder = Folder::new("unite-again");
+    let mut server = Server::start(&folder.0);
+    asked.iter().for_each(|request| drop(server.ask(request)));
+    server.take_all(112..=240);
+    let _ = folder.snapshot();
+    server.kill();
+    let mut server = Server::start(&folder.0);
+    server.expect("front", "front 0 240 0");
+    server.expect("unite", "no staging");
+}
+
 #[test]
 fn a_staging_comes_back() {
     let (folder, asked) = (Folder::new("staging"), staged(&mut other(300), 5));

@@ -114,6 +114,25 @@ fn snapshots() {
 }
 
 #[test]
+fn unions_and_replies_of_limited_size() {
+    let (mut large, mut node) = (opened(200), Node::open(1).unwrap());
+    (201..=210).for_each(|number| assert_eq!(node.take(&record(number)), Ok(Taken::Changed)));
+    let question = node.summary().unwrap();
+    let delta = large.reply(&question).unwrap();
+    assert_eq!(large.reply_within(&question, delta.len() as u32), Ok(delta.clone()));
+    assert_eq!(large.reply_within(&question, delta.len() as u32 - 1), Err(Error::Large));
+    assert_eq!(large.reply_within(&question[1..], 9), Err(Error::Wire(WireFault::UnknownTag)));
+    assert_eq!(node.unite(), Err(Error::Staging(StagingFault::NoStaging)));
+    let total = large.freeze(7).unwrap();
+    node.stage(7, total).unwrap();
+    assert_eq!(node.unite(), Err(Error::Staging(StagingFault::Missing { index: 0 })));
+    (0..total).for_each(|index| node.add(&large.piece(index).unwrap()).unwrap());
+    assert_eq!(node.unite(), Ok(()));
+    assert_eq!(node.front(), Ok(Front { epoch: 0, complete: 210, min: 0 }));
+    assert_eq!(node.unite(), Err(Error::Staging(StagingFault::NoStaging)));
+}
+
+#[test]
 fn batches_are_as_takes() {
     let mut node = opened(1000);
     let facts = [record(1001), vec![9], record(1), advance(0, 7), vec![1; 20_000]];
