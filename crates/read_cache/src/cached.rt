@@ -1,4 +1,4 @@
-ghost use Rattle.std.specs.Prelude.{◌≡◌, ℕ, ◌≤◌, List, [], true, false, Ok, IfOk, IfSome, OnOk, OnErr, IfErr, IsTrue, ◌↔◌, length, map};
+ghost use Rattle.std.specs.Prelude.{◌≡◌, ◌≢◌, ◌⊎◌, ℕ, ◌≤◌, List, [], true, false, Ok, IfOk, IfSome, OnOk, OnErr, IfErr, IsTrue, ◌↔◌, length, map};
 ghost use Rattle.std.specs.Borrow.{Lends, sem};
 ghost use Rattle.redo_core.specs.Data.{CutData};
 ghost use Rattle.redo_core.specs.Keys.{key_of};
@@ -23,6 +23,12 @@ ghost use Rattle.segment_core.specs.Taking.{TellsChange};
 ghost use Rattle.segment_core.specs.declared.answers.ReadFault.TheVariants.{Memory as OfMemory};
 ghost use Rattle.segment_core.specs.declared.answers.Refusal.TheVariants.{Memory as MemoryOf};
 ghost use Rattle.segment_core.specs.declared.answers.Taken.TheVariants.{Changed as ChangedOf, Unchanged as UnchangedOf};
+ghost use Rattle.redo_core.specs.Book.{roster_of};
+ghost use Rattle.segment_core.specs.declared.answers.Refusal.TheVariants.{OtherRoster as OtherRosterOf};
+ghost use Rattle.gossip_core.specs.declared.absorbing.AbsorbRefusal.TheVariants.{Refused as RefusedFor, Uncovered as UncoveredBy};
+ghost use Rattle.gossip_core.specs.declared.answering.Shown.{Shown as AnyShown};
+ghost use Rattle.gossip_core.specs.Absorbing.{MeansBoth, IsOfOneLog, Answers, AbsorbsInto, RefusesAbsorb, TellsRoster};
+ghost use Rattle.segment_join.specs.Joining.{MeansUnion, AreOfOneLog, JoinsInto, TakesTold, RefusesJoin};
 ghost use Rattle.lru.specs.LruCache.{lru_cache};
 ghost use Rattle.read_cache.specs.Cached.{IsCached, IsShown, cached};
 ghost use Rattle.read_cache.specs.Images.{kept_at};
@@ -30,6 +36,8 @@ ghost use Rattle.read_cache.specs.Reading.{TellsUnkeptBreak, IsHit};
 ghost use Rattle.read_cache.specs.UpToDate.{Touches};
 
 use crate::images::Images;
+use gossip_core::AbsorbRefusal;
+use messages::{Delta, Summary};
 use redo_core::{Fact, Key, Page, Refused};
 use segment_core::{CommitFault, FoldPlan, Folded, Front, ReadFault, Refusal, Segment, Taken};
 use std::alloc::AllocError;
@@ -266,6 +274,62 @@ impl CachedSegment {
 }
 
 impl CachedSegment {
+    /// Brings what a delta has beyond the summary that it was made for into the segment, as `gossip_core::absorb` does. Every image goes.
+    ///
+    /// Errors: `OtherRoster` exactly where the two rosters differ; else `Uncovered` exactly where the segment does not answer for the
+    /// summary; else as of the first fact that `take` would refuse; `Memory`; nothing has changed then, and every image stays.
+    pub fn absorb(&mut self, summary: &Summary, delta: &Delta) -> Result<(), AbsorbRefusal>
+        // Inside one sound log.
+        ensures means { OnOk result (MeansBoth self.old.segment summary.now delta.now self.new.segment) }
+        ensures sound { IfErr result (λ e. IsOfOneLog self.old.segment summary.now delta.now → (e ≡ RefusedFor MemoryOf) ⊎ ((shown : AnyShown) × (e ≡ UncoveredBy shown))) }
+
+        // Over any facts.
+        ensures absorbs { OnOk result (AbsorbsInto self.old.segment delta.now self.new.segment) }
+        ensures answers { OnOk result (Answers self.old.segment summary.now) }
+        ensures refused { IfErr result (RefusesAbsorb self.old.segment summary.now delta.now) }
+        ensures roster { TellsRoster self.old.segment delta.now result }
+        ensures drops { OnOk result (self.new.images ≡ []) }
+        ensures unchanged { OnErr result (self.new ≡ self.old) }
+        ensures pages { self.new.pages ≡ self.old.pages }
+    {
+        match gossip_core::absorb(&mut self.segment, summary, delta) {
+            Ok(()) => {
+                clear(&mut self.images, &mut self.top);
+                Ok(())
+            }
+            Err(why) => Err(why),
+        }
+    }
+
+    /// Brings what another segment means into the segment, as `segment_join::join` does. Every image goes.
+    ///
+    /// Errors: `OtherRoster` where the two rosters differ; else as of the first fact that `take` would refuse; `Memory`; nothing has
+    /// changed then, and every image stays.
+    pub fn join(&mut self, other: &Segment) -> Result<(), Refusal>
+        // Inside one sound log.
+        ensures means { OnOk result (MeansUnion self.old.segment other.now self.new.segment) }
+        ensures sound { IfErr result (λ e. AreOfOneLog self.old.segment other.now → e ≡ MemoryOf) }
+
+        // Over any facts.
+        ensures joins { OnOk result (JoinsInto self.old.segment other.now self.new.segment) }
+        ensures takes { OnOk result (TakesTold self.old.segment other.now) }
+        ensures refused { IfErr result (λ e. (e ≡ MemoryOf) ⊎ RefusesJoin self.old.segment other.now e) }
+        ensures roster { let own = roster_of self.old.segment.book in let shown = roster_of other.now.book in IfErr result (λ e. own ≢ shown → e ≡ OtherRosterOf own shown) }
+        ensures drops { OnOk result (self.new.images ≡ []) }
+        ensures unchanged { OnErr result (self.new ≡ self.old) }
+        ensures pages { self.new.pages ≡ self.old.pages }
+    {
+        match segment_join::join(&mut self.segment, other) {
+            Ok(()) => {
+                clear(&mut self.images, &mut self.top);
+                Ok(())
+            }
+            Err(why) => Err(why),
+        }
+    }
+}
+
+impl CachedSegment {
     /// What a read answers from the page's image, where one is kept that was read at the point, and the point may be read.
     pub(crate) fn find(&mut self, page: u16, point: u64) -> Option<Result<Page, ReadFault>>
         ensures hit { IfSome result (IsHit self.old page point) }
@@ -316,9 +380,17 @@ fn clear_if(stale: bool, images: &mut Images, top: &mut u64)
     ensures pages { images.new.cap ≡ images.old.cap }
 {
     if stale {
-        images.clear();
-        *top = 0;
+        clear(images, top);
     }
+}
+
+/// Drops every image.
+fn clear(images: &mut Images, top: &mut u64)
+    ensures images { images.new ≡ lru_cache [] images.old.cap }
+    ensures top { top.new ≡ 0 }
+{
+    images.clear();
+    *top = 0;
 }
 
 /// Whether a fact, where it is new, can change what is shown at points up to `top`.
