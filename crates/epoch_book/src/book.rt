@@ -116,8 +116,8 @@ impl EpochBook {
         }
     }
 
-    // What a truncation of an epoch without one contradicts.
-    fn against_cut(&self, cut: Cut) -> Option<Held>
+    /// What a truncation contradicts whose epoch has none, or None where it contradicts nothing.
+    pub fn against_cut(&self, cut: Cut) -> Option<Held>
         ensures some { IfSome result (λ h. LacksCut self.now.cuts cut.epoch → RefusesCut self.now cut (ContradictionOf h)) }
         ensures none { IsNone result → (h : AnyHeld) → RefusesCut self.now cut (ContradictionOf h) → ⊥ }
         ensures book { IsBook self.now }

@@ -19,6 +19,7 @@ pub mod Ends
 pub mod Growth
 pub mod Descending
 pub mod Sides
+pub mod Since
 pub mod Hanging
 pub mod Gone
 pub mod Rows

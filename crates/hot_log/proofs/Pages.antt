@@ -3,18 +3,19 @@ use Rattle.std.proofs.Common.{◌≡◌, ℕ, ◌<◌, ◌≤◌, ◌↔◌, ⊎
 use Rattle.std.proofs.lemmas.Bool.{cases_lt}
 use Rattle.redo_core.specs.Data.{RecordData}
 use Rattle.redo_core.specs.Keys.{key_in, key_of, KeyBefore}
+use Rattle.redo_core.specs.declared.keys.Key.{Key}
 use Rattle.redo_core.specs.Order.{Lists, BeforeByNumber, PairBefore}
 use Rattle.redo_core.proofs.Members.{none_in}
 use Rattle.redo_core.proofs.Listing.{lists_as}
 use Rattle.epoch_book.specs.Book.{BookData}
-use Rattle.hot_log.specs.Alive.{IsHeldOf, IsAliveBetween, PartsAt}
+use Rattle.hot_log.specs.Alive.{IsHeldOf, IsAliveBetween, PartsAt, PartsAtKey}
 
 -- what was answered, under another property
 pub if_ok : {T E : Type 0} (r : Result T E) (P Q : T → Type 0) → ((v : T) → P v → Q v) → IfOk r P → IfOk r Q
 if_ok r P Q f h = search rules
 
 -- the alive records between the keys that part them at two numbers are those between the numbers
-pub number_is : (b : BookData) (held : List RecordData) (page from to low high : ℕ) → PartsAt b from low → PartsAt b to high → (r : RecordData) → IsAliveBetween b held page (key_in low from) (key_in high to) r ↔ IsHeldOf b held page from to r
+pub number_is : (b : BookData) (held : List RecordData) (page from to low : ℕ) (high : Key) → PartsAt b from low → PartsAtKey b to high → (r : RecordData) → IsAliveBetween b held page (key_in low from) high r ↔ IsHeldOf b held page from to r
 number_is b held page from to low high above up r = (
   λ h. (
     h.0.0,
@@ -22,22 +23,22 @@ number_is b held page from to low high above up r = (
     h.0.2,
     (above.0 r.epoch r.number h.0.1).1 h.1,
     ⊎_elim
-        (λ (l : to < r.number). absurd (h.2 ((up.0 r.epoch r.number h.0.1).0 l)))
+        (λ (l : to < r.number). absurd (h.2 ((up r.epoch r.number h.0.1).0 l)))
         (λ (l : r.number ≤ to). l)
         (cases_lt to r.number),
   ),
   λ h. (
     (h.0, h.1, h.2),
     (above.0 r.epoch r.number h.1).0 h.3,
-    λ p. let l : to < r.number = (up.0 r.epoch r.number h.1).1 p in let le : r.number ≤ to = h.4 in omega arith,
+    λ p. let l : to < r.number = (up r.epoch r.number h.1).1 p in let le : r.number ≤ to = h.4 in omega arith,
   ),
 )
 
-pub by_number : (b : BookData) (held : List RecordData) (page from to low high : ℕ) (xs : List RecordData) → PartsAt b from low → PartsAt b to high → Lists BeforeByNumber (IsAliveBetween b held page (key_in low from) (key_in high to)) xs → Lists BeforeByNumber (IsHeldOf b held page from to) xs
+pub by_number : (b : BookData) (held : List RecordData) (page from to low : ℕ) (high : Key) (xs : List RecordData) → PartsAt b from low → PartsAtKey b to high → Lists BeforeByNumber (IsAliveBetween b held page (key_in low from) high) xs → Lists BeforeByNumber (IsHeldOf b held page from to) xs
 by_number b held page from to low high xs above up lists = search (rules, lists_as, number_is)
 
 -- there are none where the keys, or the numbers, do not rise
-pub none_between : (b : BookData) (held : List RecordData) (page from to low high : ℕ) (xs : List RecordData) → PartsAt b from low → PartsAt b to high → (low ≤ high → from < to → ⊥) → xs ≡ [] → Lists BeforeByNumber (IsHeldOf b held page from to) xs
+pub none_between : (b : BookData) (held : List RecordData) (page from to low : ℕ) (high : Key) (xs : List RecordData) → PartsAt b from low → PartsAtKey b to high → (low ≤ high.epoch → from < to → ⊥) → xs ≡ [] → Lists BeforeByNumber (IsHeldOf b held page from to) xs
 none_between b held page from to low high xs above up apart is =
     subst (λ (l : List RecordData). Lists BeforeByNumber (IsHeldOf b held page from to) l) (sym is)
     (record {
@@ -46,10 +47,10 @@ none_between b held page from to low high xs above up apart is =
         λ h. absurd (none_in r h),
         λ h.
             let over : KeyBefore (key_in low from) (key_of r) = (above.0 r.epoch r.number h.1).0 h.3 in
-            let under : KeyBefore (key_in high to) (key_of r) → ⊥ = λ p. let l : to < r.number = (up.0 r.epoch r.number h.1).1 p in let le : r.number ≤ to = h.4 in omega arith in
+            let under : KeyBefore high (key_of r) → ⊥ = λ p. let l : to < r.number = (up r.epoch r.number h.1).1 p in let le : r.number ≤ to = h.4 in omega arith in
             let lt : from < r.number = h.3 in
             let le : r.number ≤ to = h.4 in
-            absurd (apart (rise low from high to r.epoch r.number over under) (omega arith)),
+            absurd (apart (rise low from high.epoch high.number r.epoch r.number over under) (omega arith)),
       );
     })
   where

@@ -19,6 +19,10 @@ IsHeldAlive book held r = Contains held r × IsAlive book.cuts book.complete r.e
 abbrev pub HasNoneAbove : BookData → List RecordData → ℕ → Type 0
 HasNoneAbove book held number = (r : RecordData) → IsHeldAlive book held r → number < r.number → ⊥
 
+-- no held record that is alive above a number is of an epoch before one
+abbrev pub HasNoneEarlier : BookData → List RecordData → ℕ → ℕ → Type 0
+HasNoneEarlier book held number since = (r : RecordData) → IsHeldAlive book held r → number < r.number → since ≤ r.epoch
+
 -- n is linked from a base by the held records
 abbrev pub IsLinkedFrom : BookData → List RecordData → ℕ → ℕ → Type 0
 IsLinkedFrom book held from n = Linked book.cuts held book.complete from n
@@ -52,6 +56,12 @@ PartsAt book number epoch =
 -- a key parts the alive records at a number: those with a higher number are those with a higher key
 abbrev pub PartsAtKey : BookData → ℕ → Key → Type 0
 PartsAtKey book number key = (e n : ℕ) → IsAlive book.cuts book.complete e n → (number < n) ↔ KeyBefore key (key_in e n)
+
+-- each alive record above a number, of an epoch at or above one, is above a key, and each alive record above the key is above the number
+abbrev pub StartsAbove : BookData → ℕ → ℕ → Key → Type 0
+StartsAbove book number since key =
+    ((e n : ℕ) → IsAlive book.cuts book.complete e n → number < n → since ≤ e → KeyBefore key (key_in e n))
+    × ((e n : ℕ) → IsAlive book.cuts book.complete e n → KeyBefore key (key_in e n) → number < n)
 
 -- each truncation of an epoch above one and up to the complete one has its lo at or above a number
 abbrev pub SparesAbove : BookData → ℕ → ℕ → Type 0

@@ -5,12 +5,12 @@ ghost use Rattle.redo_core.specs.Data.{RecordData};
 ghost use Rattle.redo_core.specs.Order.{Lists, RecordBefore};
 ghost use Rattle.hot_log.specs.Held.{IsHeld};
 ghost use Rattle.hot_log.specs.Ahead.{AreOnward, PassesToAlive};
-ghost use Rattle.hot_log.specs.Alive.{IsAliveOfBack, IsLinkedFrom, IsLinkedHeld, IsReached, IsStraight, IsStraightEnd};
+ghost use Rattle.hot_log.specs.Alive.{HasNoneEarlier, IsAliveOfBack, IsLinkedFrom, IsLinkedHeld, IsReached, IsStraight, IsStraightEnd};
 ghost use Rattle.hot_log.specs.Found.{IsGreatestRecord, IsOnlyRecord};
 ghost use Rattle.hot_log.specs.Gaps.{IsGapAbove};
 ghost use Rattle.hot_log.specs.Seen.{seen_in};
 
-use crate::search::{epoch_above, is_alive};
+use crate::search::{is_alive, start_above};
 use crate::steps::Steps;
 use crate::view::View;
 use epoch_book::EpochBook;
@@ -54,7 +54,7 @@ impl<'a> View<'a> {
         };
         let mut forked = false;
         loop {
-            match self.alive_of_back(back, at) {
+            match self.alive_of_back(back, at, 0) {
                 Some(key) => {
                     steps.step();
                     if key.number <= limit {
@@ -90,7 +90,7 @@ impl<'a> View<'a> {
     fn passes_fork(&self, back: u64, key: Key, forked: bool) -> bool
         ensures { result ≡ false → (forked ≡ false) × seen_in self.now IsAliveOfBack back key None }
     {
-        forked || self.alive_of_back(back, key).is_some()
+        forked || self.alive_of_back(back, key, 0).is_some()
     }
 
     /// Whether a number is linked, by a walk down the backlinks.
@@ -126,9 +126,18 @@ impl<'a> View<'a> {
         ensures some { IfSome result (seen_in self.now IsStraightEnd from) }
         ensures none { IsNone result → (n : ℕ) → seen_in self.now IsStraightEnd from n → ⊥ }
     {
+        self.straight_end_since(from, 0)
+    }
+
+    /// The same, where no alive record above the number is of an epoch before the one given: dead records of those epochs are not visited.
+    pub fn straight_end_since(&self, from: u64, since: u16) -> Option<u64>
+        requires { seen_in self.now HasNoneEarlier from since }
+        ensures some { IfSome result (seen_in self.now IsStraightEnd from) }
+        ensures none { IsNone result → (n : ℕ) → seen_in self.now IsStraightEnd from n → ⊥ }
+    {
         let mut top = from;
-        let mut left = self.keys_on(from);
-        while let Some((key, is_fork)) = self.first_of_back(top) {
+        let mut left = self.keys_on(from, since);
+        while let Some((key, is_fork)) = self.first_of_back(top, since) {
             if is_fork || !is_at(next_alive(self.book, &mut left), key) {
                 return None;
             }
@@ -137,14 +146,13 @@ impl<'a> View<'a> {
         Some(top)
     }
 
-    /// The held keys from the alive ones above a number on, with the pages of their records, rising.
-    fn keys_on(&self, number: u64) -> Entries<'a, Key, u16>
+    /// The held keys from the alive ones above a number on, with the pages of their records, rising, where no alive one is of an epoch
+    /// before the one given.
+    fn keys_on(&self, number: u64, since: u16) -> Entries<'a, Key, u16>
+        requires { seen_in self.now HasNoneEarlier number since }
         ensures { seen_in self.now AreOnward number result }
     {
-        self.held.keys_above(Key {
-            epoch: epoch_above(self.book, number),
-            number,
-        })
+        self.held.keys_above(start_above(self.book, number, since))
     }
 
     /// The number on which the first alive record above a number hangs: that record names it as its segment backlink, or names a held one

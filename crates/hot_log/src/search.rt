@@ -7,7 +7,7 @@ ghost use Rattle.redo_core.specs.Standing.{IsAlive};
 ghost use Rattle.epoch_book.specs.Book.{IsBook};
 ghost use Rattle.epoch_book.specs.Lows.{CutsAt};
 ghost use Rattle.hot_log.specs.Held.{IsHeld, HasKey};
-ghost use Rattle.hot_log.specs.Alive.{HasNoneAbove, HasSecond, IsAliveKey, IsAliveOfBack, IsHeldAlive, IsOpenedBelow, IsPageAlive, PartsAt, PartsAtKey, SparesAbove};
+ghost use Rattle.hot_log.specs.Alive.{HasNoneAbove, HasNoneEarlier, HasSecond, IsAliveKey, IsAliveOfBack, IsHeldAlive, IsOpenedBelow, IsPageAlive, PartsAt, PartsAtKey, SparesAbove, StartsAbove};
 ghost use Rattle.hot_log.specs.Found.{IsLeast, IsLeastRecord, IsGreatestRecord, IsOnlyRecord};
 ghost use Rattle.hot_log.specs.Kept.{KeepsKey};
 ghost use Rattle.hot_log.specs.Seen.{seen_in};
@@ -46,7 +46,7 @@ pub(crate) fn epoch_above(book: &EpochBook, number: u64) -> u16
 ///
 /// Its epoch is the one in which the number itself can be alive. The epoch that parts the alive records at the number is a later one
 /// where truncations have it as their `lo`, and from there a search would meet every dead record between the two.
-fn last_key_to(book: &EpochBook, number: u64) -> Key
+pub(crate) fn last_key_to(book: &EpochBook, number: u64) -> Key
     ensures parts { PartsAtKey book.now number result }
     ensures low { (epoch : ℕ) → SparesAbove book.now epoch number → result.epoch ≤ epoch }
     ensures number { result.number ≡ number }
@@ -84,6 +84,22 @@ fn key_down(book: &EpochBook, key: Key) -> Key
     }
 }
 
+/// A key that each alive record above a number is above where its epoch is at least the one given; no other alive record is above it.
+pub(crate) fn start_above(book: &EpochBook, number: u64, since: u16) -> Key
+    ensures starts { StartsAbove book.now number since result }
+    ensures book { IsBook book.now }
+{
+    let low = Key {
+        epoch: epoch_above(book, number),
+        number,
+    };
+    let first = Key {
+        epoch: since,
+        number: 0,
+    };
+    if is_up_to(first, low) { low } else { first }
+}
+
 /// Whether a key is at or below another one.
 fn is_up_to(key: Key, to: Key) -> bool
     ensures { IsTrue result ↔ (KeyBefore to key → ⊥) }
@@ -93,7 +109,7 @@ fn is_up_to(key: Key, to: Key) -> bool
 
 impl<'a> View<'a> {
     /// The alive record with this number.
-    pub(crate) fn alive_of(&self, number: u64) -> Option<&'a Record>
+    pub fn alive_of(&self, number: u64) -> Option<&'a Record>
         ensures { IsOnlyRecord (λ r. seen_in self.now IsHeldAlive r × (r.number ≡ number)) (option_copied result) }
     {
         self.held.opens_form();
@@ -147,20 +163,18 @@ impl<'a> View<'a> {
         ensures found { IsLeastRecord (λ r. seen_in self.now IsHeldAlive r × (number < r.number)) (option_copied result) }
         ensures form { IsHeld self.now.held.now }
     {
-        let key = self.alive_key(number)?;
+        let key = self.alive_key(number, 0)?;
         self.held.get(key)
     }
 
-    /// The key of the first alive record above a number.
-    fn alive_key(&self, number: u64) -> Option<Key>
+    /// The key of the first alive record above a number, where none is of an epoch before the one given.
+    fn alive_key(&self, number: u64, since: u16) -> Option<Key>
+        requires { seen_in self.now HasNoneEarlier number since }
         ensures found { seen_in self.now IsAliveKey number result }
         ensures book { IsBook self.now.book.now }
         ensures form { IsHeld self.now.held.now }
     {
-        let mut at = Key {
-            epoch: epoch_above(self.book, number),
-            number,
-        };
+        let mut at = start_above(self.book, number, since);
         while let Some(key) = self.held.next_key(at) {
             if is_alive(self.book, key.epoch, key.number) {
                 return Some(key);
@@ -170,47 +184,42 @@ impl<'a> View<'a> {
         None
     }
 
-    /// Whether an alive record has a number between two.
-    pub fn has_between(&self, above: u64, below: u64) -> bool
+    /// Whether an alive record has a number between two, where none above the lower one is of an epoch before the one given: dead records
+    /// of those epochs are not visited.
+    pub fn has_between(&self, above: u64, below: u64, since: u16) -> bool
+        requires { seen_in self.now HasNoneEarlier above since }
         ensures found { IsTrue result ↔ ((r : RecordData) × seen_in self.now IsHeldAlive r × (above < r.number) × (r.number < below)) }
         ensures form { IsHeld self.now.held.now }
     {
-        match self.alive_key(above) {
+        match self.alive_key(above, since) {
             Some(key) => key.number < below,
             None => false,
         }
     }
 
-    /// Whether no alive record is above a number, as one look at the greatest key tells. Where what is above is not alive, it may be
-    /// false too.
-    pub fn has_none_above(&self, number: u64) -> bool
+    /// Whether no alive record is above a number, as one look at the greatest key tells, where none there is of an epoch before the one
+    /// given. Where what is above is not alive, it may be false too.
+    pub fn has_none_above(&self, number: u64, since: u16) -> bool
+        requires { seen_in self.now HasNoneEarlier number since }
         ensures { IsTrue result → seen_in self.now HasNoneAbove number }
     {
         match self.held.greatest_key() {
-            Some(key) => {
-                let to = Key {
-                    epoch: epoch_above(self.book, number),
-                    number,
-                };
-                is_up_to(key, to)
-            }
+            Some(key) => is_up_to(key, start_above(self.book, number, since)),
             None => true,
         }
     }
 
-    /// The least key above the one given of the alive records with this segment backlink. An alive number is above its backlink, so its
-    /// key is above the one that parts the alive records there: dead records of earlier epochs are passed unseen. What waits has a key
-    /// above all that is alive, so the search ends there.
-    pub(crate) fn alive_of_back(&self, back: u64, after: Key) -> Option<Key>
+    /// The least key above the one given of the alive records with this segment backlink, where no alive record above that number is of an
+    /// epoch before `since`. An alive number is above its backlink, so its key is above the one that parts the alive records there: dead
+    /// records of earlier epochs are passed unseen. What waits has a key above all that is alive, so the search ends there.
+    pub(crate) fn alive_of_back(&self, back: u64, after: Key, since: u16) -> Option<Key>
+        requires { seen_in self.now HasNoneEarlier back since }
         ensures found { seen_in self.now IsAliveOfBack back after result }
         ensures book { IsBook self.now.book.now }
         ensures form { IsHeld self.now.held.now }
     {
         let complete = self.book.complete_epoch();
-        let low = Key {
-            epoch: epoch_above(self.book, back),
-            number: back,
-        };
+        let low = start_above(self.book, back, since);
         let mut at = if is_up_to(after, low) { low } else { after };
         while let Some(key) = self.held.next_of_back(back, at) {
             if key.epoch > complete {
@@ -224,25 +233,31 @@ impl<'a> View<'a> {
         None
     }
 
-    /// The least key of the alive records with this segment backlink, and whether another of them has it.
-    pub(crate) fn first_of_back(&self, back: u64) -> Option<(Key, bool)>
+    /// The least key of the alive records with this segment backlink, and whether another of them has it, where no alive record above that
+    /// number is of an epoch before the one given.
+    pub(crate) fn first_of_back(&self, back: u64, since: u16) -> Option<(Key, bool)>
+        requires { seen_in self.now HasNoneEarlier back since }
         ensures none { IsNone result → seen_in self.now IsAliveOfBack back (key_in 0 0) None }
         ensures some { IfSome result (λ t. seen_in self.now IsAliveOfBack back (key_in 0 0) (Some t.0) × seen_in self.now HasSecond back t.0 t.1) }
         ensures book { IsBook self.now.book.now }
         ensures form { IsHeld self.now.held.now }
     {
         self.book.opens_form();
-        let zero = Key {
-            epoch: 0,
+        let start = Key {
+            epoch: since,
             number: 0,
         };
-        let (first, second) = self.held.next_two_of_back(back, zero)?;
+        let (first, second) = self.held.next_two_of_back(back, start)?;
         // Over a sound log an alive record is mostly the only one with its backlink, and no look at the truncations is wanted.
         if second.is_none() && is_alive(self.book, first.epoch, first.number) {
             return Some((first, false));
         }
-        let first = self.alive_of_back(back, zero)?;
-        let is_second = self.alive_of_back(back, first).is_some();
+        let zero = Key {
+            epoch: 0,
+            number: 0,
+        };
+        let first = self.alive_of_back(back, zero, since)?;
+        let is_second = self.alive_of_back(back, first, since).is_some();
         Some((first, is_second))
     }
 
@@ -256,6 +271,7 @@ impl<'a> View<'a> {
                 epoch: 0,
                 number: 0,
             },
+            0,
         )?;
         Some(key.number)
     }

@@ -10,7 +10,7 @@ ghost use Rattle.hot_log.specs.Kept.{IsKeptAbove, ListsKeysOf};
 ghost use Rattle.hot_log.specs.Seen.{seen_in};
 
 use crate::log::HotLog;
-use crate::search::epoch_above;
+use crate::search::{epoch_above, last_key_to};
 use epoch_book::EpochBook;
 use redo_core::{Key, Record};
 use std::alloc::{AllocError, Global};
@@ -64,10 +64,7 @@ impl<'a> View<'a> {
             epoch: epoch_above(book, from),
             number: from,
         };
-        let to = Key {
-            epoch: epoch_above(book, to),
-            number: to,
-        };
+        let to = last_key_to(book, to);
         if above.epoch > to.epoch || from >= to.number {
             return Ok(Vec::new(alloc));
         }
@@ -90,10 +87,7 @@ impl<'a> View<'a> {
             epoch: epoch_above(book, from),
             number: from,
         };
-        let to = Key {
-            epoch: epoch_above(book, to),
-            number: to,
-        };
+        let to = last_key_to(book, to);
         if above.epoch > to.epoch || from >= to.number {
             return Ok(Vec::new(alloc));
         }

@@ -1,5 +1,5 @@
 -- The kept points where the book learns, and where records are removed.
-use Rattle.std.proofs.Common.{◌≡◌, ℕ, ◌<◌, ◌≤◌, ◌⊎◌, inl, inr, ⊎_elim, List, length, refl, sym, subst, arith, Result, Ok, Err, OnOk, OnErr, None, rules}
+use Rattle.std.proofs.Common.{IsTrue, ◌≡◌, ℕ, ◌<◌, ◌≤◌, ◌⊎◌, inl, inr, ⊎_elim, List, length, refl, sym, subst, arith, Result, Ok, Err, OnOk, OnErr, None, rules}
 use Rattle.std.specs.List.{Contains}
 use Rattle.std.proofs.lemmas.Bool.{cases_lt}
 use Rattle.std.proofs.lemmas.List.Elements.{All-contains}
@@ -19,8 +19,9 @@ use Rattle.epoch_book.specs.declared.refusals.Learnt.TheVariants as learnt
 use Rattle.epoch_book.specs.declared.refusals.BookRefusal.{BookRefusal}
 use Rattle.hot_log.specs.Alive.{IsHeldAlive}
 use Rattle.hot_log.specs.Removing.{Removes}
-use Rattle.segment_core.specs.Points.{HasPoints, HasLowAnchor, IsLaterBook, WerePoints}
+use Rattle.segment_core.specs.Points.{HasPoints, HasLowAnchor, IsLaterBook, IsSpared, WerePoints}
 use Rattle.segment_core.specs.declared.points.Points.{Points}
+use Rattle.segment_core.specs.declared.points.Spared.{Spared}
 use Rattle.segment_core.proofs.Moving.{Agree, points_over}
 use Rattle.segment_core.proofs.Taking.{cut_bound, advance_bound}
 
@@ -126,6 +127,13 @@ pub cut_is_later : (b c : BookData) (d : CutData) (answer : Result Learnt BookRe
 cut_is_later b c d (Ok l) is next learns same = grows b c d is next learns
 cut_is_later b c d (Err e) is next learns same = subst (IsLaterBook b) (sym same) (same_is_later b is)
 
-pub cut_had_points : (b c : BookData) (held : List RecordData) (base epoch : ℕ) (p : Points) (d : CutData) (answer : Result Learnt BookRefusal)
-    → IsBook b → IsBook c → OnOk answer (LearnsCut b d c) → OnErr answer (c ≡ b) → epoch ≡ b.complete → HasPoints b held base p → WerePoints c held base epoch p
-cut_had_points b c held base epoch p d answer is next learns same at has = search (rules, cut_is_later)
+pub cut_had_points : (b c : BookData) (held : List RecordData) (base epoch : ℕ) (p : Points) (s : Spared) (d : CutData) (answer : Result Learnt BookRefusal)
+    → IsBook b → IsBook c → OnOk answer (LearnsCut b d c) → OnErr answer (c ≡ b) → epoch ≡ b.complete → HasPoints b held base p
+    → (IsTrue p.straight → IsSpared b held base s) → WerePoints c held base epoch p s
+cut_had_points b c held base epoch p s d answer is next learns same at has stays = record {
+  earlier = b;
+  later = cut_is_later b c d answer is next learns same;
+  at = sym at;
+  had = has;
+  stays = stays;
+}

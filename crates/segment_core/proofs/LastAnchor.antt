@@ -62,7 +62,7 @@ last_found b held base to n p x low t is found at =
 -- ---- a record joins at the top, and no alive record was above
 pub at_end : (b : BookData) (held : List RecordData) (base number anchor : ℕ) (p : Points) → (j : JoinsOnTop b held base number p)
     → HasNoneAbove b j.earlier p.complete → (least b.points < number → anchor ≡ p.anchor) → (number ≤ least b.points → anchor ≡ number)
-    → HasPoints b held base (record { complete = number; anchor = anchor; straight = true })
+    → HasPoints b held base (record { complete = number; anchor = anchor; straight = true; since = p.since })
 at_end b held base number anchor p j none stay move =
     let only : (s : RecordData) → IsHeldAlive b held s → p.complete < s.number → s.number ≡ number = λ s h lt. ⊎_elim
     (λ (u : Contains j.earlier s). absurd (none s (u, h.1) lt))

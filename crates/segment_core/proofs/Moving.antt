@@ -9,7 +9,7 @@ use Rattle.redo_core.specs.Linked.Linked.{start, next}
 use Rattle.redo_core.specs.Roster.{least}
 use Rattle.epoch_book.specs.Book.{BookData}
 use Rattle.hot_log.specs.Held.{IsHeld}
-use Rattle.hot_log.specs.Alive.{IsLinkedFrom, IsHeldAlive, IsStraight}
+use Rattle.hot_log.specs.Alive.{HasNoneEarlier, IsLinkedFrom, IsHeldAlive, IsStraight}
 use Rattle.hot_log.proofs.Chain.{link_at_least}
 use Rattle.hot_log.proofs.Forks.{link_trans}
 use Rattle.hot_log.proofs.Growth.{Joins, Top, still_linked, newly_linked, top_of_gap, straight_over_gap, top_moves, straight_moves, top_from_base, straight_from_base}
@@ -17,7 +17,7 @@ use Rattle.hot_log.specs.Putting.{Puts}
 use Rattle.hot_log.specs.declared.log.Put.TheVariants.{New}
 use Rattle.redo_laws.proofs.Fronts.{settled_alive}
 use Rattle.redo_core.specs.Shape.{max_number}
-use Rattle.segment_core.specs.Points.{IsTop, MoveOn, HasPoints, HasLowAnchor, MayLink}
+use Rattle.segment_core.specs.Points.{IsTop, IsTopTo, MoveOn, HasPoints, HasLowAnchor, MayLink, Meets}
 use Rattle.segment_core.specs.declared.points.Points.{Points}
 use Rattle.segment_core.proofs.Chain.{linked_small, small_number}
 use Rattle.hot_log.proofs.Chain.{back_below}
@@ -28,6 +28,19 @@ pub top_of : (b : BookData) (held : List RecordData) (from n : ℕ) → IsHeld h
 top_of b held from n is low linked most = record {
   linked = linked;
   most = λ m l. most m l (linked_small b.cuts held b.complete from max_number m (λ r among. small_number r (is.shaped r among)) low l);
+}
+
+-- each point by itself
+pub moved_on : (b : BookData) (held : List RecordData) (p q : Points) → IsTop b held p.complete q.complete → IsTopTo b held p.anchor (least b.points) q.anchor
+    → (IsTrue q.straight → IsStraight b held p.complete q.complete) → HasNoneEarlier b held p.complete p.since → q.since ≡ p.since → MoveOn b held p q
+moved_on b held p q complete anchor straight none same = record {
+  complete = complete;
+  anchor = anchor;
+  straight = straight;
+  since = λ r h lt.
+      let up : p.complete ≤ q.complete = link_at_least b.cuts held b.complete p.complete q.complete complete.linked in
+      let le : p.since ≤ r.epoch = none r h (omega arith) in
+      omega arith;
 }
 
 as_top : (b : BookData) (held : List RecordData) (from n : ℕ) → IsTop b held from n → Top b held from n
@@ -75,6 +88,9 @@ low_over b c old new base p same bound has =
       anchor = links_over b c old new base base p.anchor low same.onto has.anchor.linked;
       bound = bound;
       straight = λ t. straight_over b c old new base p.complete same (has.straight t);
+      since = λ r h lt.
+          let up : base ≤ p.complete = link_at_least b.cuts old b.complete base p.complete has.complete.linked in
+          has.since r (same.back r h (omega arith)) lt;
     }
 
 -- where it is the same
@@ -90,6 +106,7 @@ points_over b c old new base p same minimum has =
         most = λ m l le. has.anchor.most m (links_over c b new old base base m low same.back l) (subst (λ x. m ≤ x) minimum le);
       };
       straight = it.straight;
+      since = it.since;
     }
 
 -- ---- one more record
@@ -110,8 +127,8 @@ beside b old new base p r members not = points_over b b old new base p (record {
 
 -- behind a gap
 pub over_gap : (b : BookData) (old new : List RecordData) (base : ℕ) (p : Points) (r : RecordData) → Joins b old new r → p.complete < r.back
-    → HasPoints b old base p → HasPoints b new base p
-over_gap b old new base p r j gap has =
+    → HasNoneEarlier b new p.complete p.since → HasPoints b old base p → HasPoints b new base p
+over_gap b old new base p r j gap late has =
     let top = as_top b old base p.complete has.complete in record {
       complete = of_top b new base p.complete (top_of_gap b old new r base p.complete j top gap);
       anchor = record {
@@ -124,6 +141,7 @@ over_gap b old new base p r j gap has =
             (newly_linked b old new r base m j l);
       };
       straight = λ t. straight_over_gap b old new r base p.complete j top gap (has.straight t);
+      since = late;
     }
 
 -- what is linked above a number of a straight chain is linked from there, where a record joins at the top
@@ -161,9 +179,33 @@ on_top b old new base p q r j back t has moved =
             (cases_lt p.anchor m);
       };
       straight = λ u. straight_moves b old new r base p.complete q.complete j top back later is (moved.straight u);
+      since = moved.since;
     }
 
 -- ---- what a put does to the points
+-- the points that a record has met
+pub has_met : (b : BookData) (held : List RecordData) (base : ℕ) (p q : Points) (r : RecordData) → Meets b r p q → HasPoints b held base p → HasPoints b held base q
+has_met b held base p q r met has = record {
+  complete = subst (IsTop b held base) (sym met.0) has.complete;
+  anchor = subst (IsTopTo b held base (least b.points)) (sym met.1) has.anchor;
+  straight = λ t. subst (IsStraight b held base) (sym met.0) (has.straight (subst IsTrue met.2 t));
+  since = λ s h lt.
+      let same : q.complete ≡ p.complete = met.0 in
+      let le : p.since ≤ s.epoch = has.since s h (omega arith) in
+      let low : q.since ≤ p.since = met.3 in
+      omega arith;
+}
+
+-- where the record has joined, too
+pub late_met : (b : BookData) (old new : List RecordData) (base : ℕ) (p q : Points) (r : RecordData) → Meets b r p q → Puts old r new New → HasPoints b old base p
+    → HasNoneEarlier b new q.complete q.since
+late_met b old new base p q r met puts has s h lt = ⊎_elim
+    (λ (u : Contains old s). (has_met b old base p q r met has).since s (u, h.1) lt)
+    (λ (e : s ≡ r).
+    let early : q.since ≤ r.epoch = met.4 (subst (λ (x : RecordData). IsAlive b.cuts b.complete x.epoch x.number) e h.1) in
+    subst (λ (x : RecordData). q.since ≤ x.epoch) (sym e) early)
+    ((puts.1 s).0 h.0)
+
 pub joins_of : (b : BookData) (old new : List RecordData) (r : RecordData) → IsHeld new → ((s : RecordData) → Contains new s ↔ (Contains old s ⊎ (s ≡ r)))
     → IsAlive b.cuts b.complete r.epoch r.number → Joins b old new r
 joins_of b old new r is members alive = record {
@@ -174,10 +216,10 @@ joins_of b old new r is members alive = record {
 }
 
 pub links_none : (b : BookData) (old new : List RecordData) (base : ℕ) (p : Points) (r : RecordData) → IsHeld new → Puts old r new New
-    → (MayLink b base p r → ⊥) → HasPoints b old base p → HasPoints b new base p
-links_none b old new base p r is puts not has = ⊎_elim
+    → (MayLink b base p r → ⊥) → HasNoneEarlier b new p.complete p.since → HasPoints b old base p → HasPoints b new base p
+links_none b old new base p r is puts not late has = ⊎_elim
     (λ (gap : p.complete < r.back). ⊎_elim
-    (λ (alive : IsAlive b.cuts b.complete r.epoch r.number). over_gap b old new base p r (joins_of b old new r is puts.1 alive) gap has)
+    (λ (alive : IsAlive b.cuts b.complete r.epoch r.number). over_gap b old new base p r (joins_of b old new r is puts.1 alive) gap late has)
     (λ (dead : IsAlive b.cuts b.complete r.epoch r.number → ⊥). beside b old new base p r puts.1 (λ a lt. dead a) has)
     (settled_alive b.cuts b.complete r.epoch r.number))
     (λ (le : r.back ≤ p.complete). beside b old new base p r puts.1 (λ a lt. not (a, lt, le)) has)

@@ -6,7 +6,7 @@ use Rattle.redo_core.specs.Data.{RecordData}
 use Rattle.redo_core.specs.Linked.Linked.{start, next}
 use Rattle.redo_core.specs.Roster.{least}
 use Rattle.epoch_book.specs.Book.{BookData}
-use Rattle.hot_log.specs.Alive.{IsHeldAlive, IsLinkedFrom, IsStraight, IsStraightEnd}
+use Rattle.hot_log.specs.Alive.{HasNoneEarlier, IsHeldAlive, IsLinkedFrom, IsStraight, IsStraightEnd}
 use Rattle.hot_log.proofs.Chain.{link_at_least}
 use Rattle.hot_log.proofs.Forks.{link_trans}
 use Rattle.hot_log.proofs.Growth.{Joins, still_linked, newly_linked}
@@ -21,6 +21,7 @@ pub record Topping (b : BookData) (old new : List RecordData) (base : ℕ) (p : 
   pub straight : IsStraight b old base p.complete
   pub between : (s : RecordData) → IsHeldAlive b new s → p.complete < s.number → r.number ≤ s.number
   pub end : IsStraightEnd b new r.number top
+  pub late : HasNoneEarlier b new p.complete p.since
 
 up : (b : BookData) (old new : List RecordData) (base : ℕ) (p : Points) (r : RecordData) (top : ℕ) → Topping b old new base p r top → p.complete < r.number
 up b old new base p r top t = let back : r.back ≡ p.complete = t.back in let below : r.back < r.number = t.joins.below in omega arith
@@ -71,7 +72,7 @@ straight_on b old new base p r top t =
 
 -- The complete point is the end of the chain from the record; the anchor goes on from the record where the minimum read point has come so far.
 end_of_chain : (b : BookData) (old new : List RecordData) (base top anchor : ℕ) (p : Points) (r : RecordData) → IsTrue p.straight → Topping b old new base p r top
-    → AnchorsOn b new r.number p.anchor anchor → HasPoints b new base (record { complete = top; anchor = anchor; straight = true })
+    → AnchorsOn b new r.number p.anchor anchor → HasPoints b new base (record { complete = top; anchor = anchor; straight = true; since = p.since })
 end_of_chain b old new base top anchor p r flag t on =
     let over : p.complete < r.number = up b old new base p r top t in
     let far : r.number ≤ top = link_at_least b.cuts new b.complete r.number top t.end.linked in
@@ -81,7 +82,7 @@ end_of_chain b old new base top anchor p r flag t on =
     let either = λ (m : ℕ) (l : IsLinkedFrom b new p.anchor m). newly_linked b old new r base m t.joins
     (link_trans b.cuts new b.complete base p.anchor m (still_linked b old new r base p.anchor t.joins t.has.anchor.linked) l) in
     let low : p.anchor ≤ p.complete = t.has.complete.most p.anchor t.has.anchor.linked in
-    let moved : MoveOn b new p (record { complete = top; anchor = anchor; straight = true }) = record {
+    let moved : MoveOn b new p (record { complete = top; anchor = anchor; straight = true; since = p.since }) = record {
       complete = record {
         linked = link_trans b.cuts new b.complete p.complete r.number top one t.end.linked;
         most = λ m l. ⊎_elim (λ (e : m ≡ p.complete). omega arith) (λ (u : IsLinkedFrom b new r.number m). t.end.most m u) (through b old new base p r top t m l);
@@ -113,13 +114,14 @@ end_of_chain b old new base top anchor p r flag t on =
           })
           (cases_lt (least b.points) r.number);
       straight = λ u. straight_on b old new base p r top t;
+      since = λ s h lt. t.late s h (omega arith);
     } in
-    on_top b old new base p (record { complete = top; anchor = anchor; straight = true }) r t.joins t.back flag t.has moved
+    on_top b old new base p (record { complete = top; anchor = anchor; straight = true; since = p.since }) r t.joins t.back flag t.has moved
 
 -- ---- from what the calls say
 pub ended : (b : BookData) (held : List RecordData) (base number top anchor : ℕ) (p : Points) → JoinsOnTop b held base number p
     → (((s : RecordData) × IsHeldAlive b held s × (p.complete < s.number) × (s.number < number)) → ⊥) → IsStraightEnd b held number top
-    → AnchorsOn b held number p.anchor anchor → HasPoints b held base (record { complete = top; anchor = anchor; straight = true })
+    → AnchorsOn b held number p.anchor anchor → HasPoints b held base (record { complete = top; anchor = anchor; straight = true; since = p.since })
 ended b held base number top anchor p j between end on =
     end_of_chain b j.earlier held base top anchor p j.redo j.straight (record {
       joins = joins_of b j.earlier held j.redo j.form j.puts.1 j.may.0;
@@ -129,6 +131,7 @@ ended b held base number top anchor p j between end on =
       between = λ s h lt. subst (λ n. n ≤ s.number) (sym j.at)
           (⊎_elim (λ (u : s.number < number). absurd (between (s, h, lt, u))) (λ (u : number ≤ s.number). u) (cases_lt s.number number));
       end = subst (λ n. IsStraightEnd b held n top) (sym j.at) end;
+      late = j.since;
     }) (subst (λ n. AnchorsOn b held n p.anchor anchor) (sym j.at) on)
 
 -- over a fork or a stray the points move on as over any chain

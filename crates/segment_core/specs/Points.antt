@@ -8,8 +8,9 @@ use Rattle.epoch_book.specs.Book.{BookData, IsBook}
 use Rattle.hot_log.specs.Held.{IsHeld}
 use Rattle.hot_log.specs.Putting.{Puts}
 use Rattle.hot_log.specs.declared.log.Put.TheVariants.{New}
-use Rattle.hot_log.specs.Alive.{IsHeldAlive, IsLinkedFrom, IsStraight}
+use Rattle.hot_log.specs.Alive.{HasNoneEarlier, IsHeldAlive, IsLinkedFrom, IsStraight}
 use Rattle.segment_core.specs.declared.points.Points.{Points}
+use Rattle.segment_core.specs.declared.points.Spared.{Spared}
 
 -- n is the greatest number that the held records link from a number on
 pub record IsTop (book : BookData) (held : List RecordData) (from n : ℕ) : Type 0 where
@@ -24,13 +25,15 @@ pub record IsTopTo (book : BookData) (held : List RecordData) (from limit n : �
 
 -- the points of a chain that is a number alone
 abbrev pub points_at : ℕ → Points
-points_at from = record { complete = from; anchor = from; straight = true }
+points_at from = record { complete = from; anchor = from; straight = true; since = 0 }
 
--- each point is the greatest number that is linked from where it stood; the anchor is not above the minimum read point
+-- Each point is the greatest number that is linked from where it stood; the anchor is not above the minimum read point, and no alive
+-- record above the complete point is of an epoch before `since`.
 pub record MoveOn (book : BookData) (held : List RecordData) (old new : Points) : Type 0 where
   pub complete : IsTop book held old.complete new.complete
   pub anchor : IsTopTo book held old.anchor (least book.points) new.anchor
   pub straight : IsTrue new.straight → IsStraight book held old.complete new.complete
+  pub since : HasNoneEarlier book held new.complete new.since
 
 -- The points of held records over a base point: the complete point is the greatest number linked from there, the anchor the
 -- greatest of them up to the minimum read point, and where the chain is called straight it is.
@@ -43,6 +46,7 @@ pub record HasLowAnchor (book : BookData) (held : List RecordData) (base : ℕ) 
   pub anchor : IsLinkedFrom book held base points.anchor
   pub bound : points.anchor ≤ least book.points
   pub straight : IsTrue points.straight → IsStraight book held base points.complete
+  pub since : HasNoneEarlier book held points.complete points.since
 
 -- a record that is alive above the base point, and whose backlink is not above the complete point
 abbrev pub MayLink : BookData → ℕ → Points → RecordData → Type 0
@@ -57,23 +61,32 @@ pub record IsLaterBook (old new : BookData) : Type 0 where
   pub complete : old.complete ≤ new.complete
   pub minimum : least old.points ≤ least new.points
 
--- the points were kept over an earlier book, whose complete epoch is given
-pub record WerePoints (book : BookData) (held : List RecordData) (base epoch : ℕ) (points : Points) : Type 0 where
+-- the greatest number up to a limit that is linked from the base point; the base point itself may be above the limit
+pub record IsSpared (book : BookData) (held : List RecordData) (base : ℕ) (spared : Spared) : Type 0 where
+  pub linked : IsLinkedFrom book held base spared.number
+  pub most : (m : ℕ) → IsLinkedFrom book held base m → m ≤ spared.limit → m ≤ spared.number
+
+-- the points were kept over an earlier book, whose complete epoch is given, and there this number was spared
+pub record WerePoints (book : BookData) (held : List RecordData) (base epoch : ℕ) (points : Points) (spared : Spared) : Type 0 where
   pub earlier : BookData
   pub later : IsLaterBook earlier book
   pub at : earlier.complete ≡ epoch
   pub had : HasPoints earlier held base points
+  pub stays : IsTrue points.straight → IsSpared earlier held base spared
 
--- The number of an alive record above the base point and at most the complete point, to which the epochs above one have done
--- nothing: none of their truncations cuts below it, and none of their records has a backlink below it.
-pub record IsUntouched (book : BookData) (held : List RecordData) (base epoch complete n : ℕ) : Type 0 where
-  pub by : RecordData
-  pub alive : IsHeldAlive book held by
-  pub number : by.number ≡ n
-  pub above : base < n
-  pub bound : n ≤ complete
-  pub spared : (c : CutData) → Contains book.cuts c → epoch < c.epoch → c.epoch ≤ book.complete → n ≤ c.lo
-  pub behind : (r : RecordData) → IsHeldAlive book held r → epoch < r.epoch → n ≤ r.back
+-- A number to which the epochs above one have done nothing: the limit is the least lo of their truncations, the number is not above it,
+-- and none of their alive records has a backlink below the number.
+pub record IsUntouched (book : BookData) (held : List RecordData) (epoch : ℕ) (spared : Spared) : Type 0 where
+  pub cut : (c : CutData) × Contains book.cuts c × (epoch < c.epoch) × (c.epoch ≤ book.complete) × (c.lo ≡ spared.limit)
+  pub least : (c : CutData) → Contains book.cuts c → epoch < c.epoch → c.epoch ≤ book.complete → spared.limit ≤ c.lo
+  pub low : spared.number ≤ spared.limit
+  pub behind : (r : RecordData) → IsHeldAlive book held r → epoch < r.epoch → spared.number ≤ r.back
+
+-- the same points, where an alive record may be of an earlier epoch
+abbrev pub Meets : BookData → RecordData → Points → Points → Type 0
+Meets book r old new =
+    (new.complete ≡ old.complete) × (new.anchor ≡ old.anchor) × (new.straight ≡ old.straight) × (new.since ≤ old.since)
+    × (IsAlive book.cuts book.complete r.epoch r.number → new.since ≤ r.epoch)
 
 -- a record of this number has joined the held ones at the complete point of a straight chain
 pub record JoinsOnTop (book : BookData) (held : List RecordData) (base number : ℕ) (points : Points) : Type 0 where
@@ -86,6 +99,7 @@ pub record JoinsOnTop (book : BookData) (held : List RecordData) (base number : 
   pub back : redo.back ≡ points.complete
   pub straight : IsTrue points.straight
   pub had : HasPoints book earlier base points
+  pub since : HasNoneEarlier book held points.complete points.since
 
 -- where the chain goes on from a number, the anchor goes on from there if the minimum read point has come so far, and else stays
 abbrev pub AnchorsOn : BookData → List RecordData → ℕ → ℕ → ℕ → Type 0

@@ -12,6 +12,7 @@
 mod answers;
 mod at_anchor;
 mod comparing;
+mod cutting;
 mod due;
 mod fixed;
 mod fold_plan;

@@ -1,12 +1,12 @@
-ghost use Rattle.std.specs.Prelude.{◌≡◌, ℕ, ◌≤◌, ◌↔◌, List, IsTrue, IfOk, IfErr, OnErr, IfSome};
+ghost use Rattle.std.specs.Prelude.{◌≡◌, ℕ, ◌+◌, ◌<◌, ◌≤◌, ◌↔◌, List, IsTrue, IfOk, IfErr, OnErr, IfSome};
 ghost use Rattle.redo_core.specs.Data.{RecordData};
 ghost use Rattle.redo_core.specs.Roster.{least};
 ghost use Rattle.redo_core.specs.Shape.{max_number};
 ghost use Rattle.epoch_book.specs.Book.{IsBook};
-ghost use Rattle.hot_log.specs.Alive.{HasNoneAbove, IsStraightEnd};
+ghost use Rattle.hot_log.specs.Alive.{HasNoneAbove, HasNoneEarlier, IsStraightEnd};
 ghost use Rattle.hot_log.specs.Held.{IsHeld};
 ghost use Rattle.hot_log.specs.Seen.{seen_in};
-ghost use Rattle.segment_core.specs.Points.{AnchorsOn, HasPoints, HasLowAnchor, IsTopTo, IsUntouched, JoinsOnTop, MayLink, MoveOn, WerePoints, points_at};
+ghost use Rattle.segment_core.specs.Points.{AnchorsOn, HasPoints, HasLowAnchor, IsSpared, IsTopTo, IsUntouched, JoinsOnTop, MayLink, Meets, MoveOn, WerePoints, points_at};
 
 use epoch_book::{EpochBook, Standing};
 use hot_log::View;
@@ -15,12 +15,21 @@ use redo_core::{MAX_NUMBER, Record};
 /// The complete point and the anchor of a segment, and whether the chain of its alive records is known to be straight from the
 /// base point to the complete point: without a fork and without a stray, as it is over a sound log.
 ///
-/// Over a straight chain the points move forward from where they stand; over any other they are taken anew.
+/// Over a straight chain the points move forward from where they stand; over any other they are taken anew. No alive record above the
+/// complete point is of an epoch before `since`: so no search above it visits the dead records of those epochs.
 #[derive(Clone, Copy)]
 pub(crate) struct Points {
     pub(crate) complete: u64,
     pub(crate) anchor: u64,
     pub(crate) straight: bool,
+    pub(crate) since: u16,
+}
+
+/// The last number of a chain that truncations down to a limit leave.
+#[derive(Clone, Copy)]
+pub(crate) struct Spared {
+    pub(crate) limit: u64,
+    pub(crate) number: u64,
 }
 
 impl Points {
@@ -34,6 +43,7 @@ impl Points {
             complete: base,
             anchor: base,
             straight: true,
+            since: 0,
         };
         start.onward(view)
     }
@@ -42,10 +52,11 @@ impl Points {
     fn onward(self, view: &View) -> Points
         requires complete { self.complete ≤ max_number }
         requires anchor { self.anchor ≤ least view.now.book.now.points }
+        requires since { seen_in view.now HasNoneEarlier self.complete self.since }
         ensures { seen_in view.now MoveOn self result }
     {
         // Over a sound log the chain is straight, and no fork is looked for.
-        let (complete, straight) = match view.straight_end(self.complete) {
+        let (complete, straight) = match view.straight_end_since(self.complete, self.since) {
             Some(end) => (end, true),
             None => (view.linked_to(self.complete, MAX_NUMBER), false),
         };
@@ -53,6 +64,7 @@ impl Points {
             complete,
             anchor: view.linked_to(self.anchor, view.book.min_point()),
             straight,
+            since: self.since,
         }
     }
 
@@ -96,49 +108,66 @@ impl Points {
         Points::anew(view, raised)
     }
 
+    /// What truncations down to a limit leave of a straight chain, by a walk down from its end: each record that is looked at is one that
+    /// they annul.
+    pub(crate) fn spared(self, view: &View, base: u64, limit: u64) -> Spared
+        requires { seen_in view.now HasPoints base self }
+        ensures { IsTrue self.straight → seen_in view.now IsSpared base result }
+    {
+        view.held.opens_form();
+        view.book.opens_form();
+        let mut number = self.complete;
+        if !self.straight {
+            return Spared { limit, number };
+        }
+        while base < number && limit < number {
+            match view.alive_of(number) {
+                Some(redo) => number = redo.back(),
+                None => return Spared { limit, number },
+            }
+        }
+        Spared { limit, number }
+    }
+
     /// The points where a truncation has opened the epochs above one: over a straight chain they go on from the last number to which
     /// those have done nothing.
-    pub(crate) fn after_opening(self, view: &View, base: u64, epoch: u16) -> Points
-        requires { seen_in view.now WerePoints base epoch self }
+    pub(crate) fn after_opening(self, view: &View, base: u64, epoch: u16, spared: Spared) -> Points
+        requires { seen_in view.now WerePoints base epoch self spared }
         ensures { seen_in view.now HasPoints base result }
     {
-        if !self.straight {
+        view.held.opens_form();
+        view.book.opens_form();
+        if !self.straight || !spared.is_untouched(view, epoch) {
             return Points::anew(view, base);
         }
-        let Some(from) = self.untouched(view, base, epoch) else {
-            return Points::anew(view, base);
-        };
         let start = Points {
-            complete: from,
-            anchor: self.anchor.min(from),
+            complete: spared.number,
+            anchor: self.anchor.min(spared.number),
             straight: true,
+            since: self.since_opening(epoch, spared.limit),
         };
         start.onward(view)
     }
 
-    /// The last number above the base point to which the epochs above one have done nothing.
-    fn untouched(self, view: &View, base: u64, epoch: u16) -> Option<u64>
-        ensures untouched { IfSome result (seen_in view.now IsUntouched base epoch self.complete) }
-        ensures form { IsHeld view.now.held.now }
-        ensures book { IsBook view.now.book.now }
+    /// The epoch before which no alive record is above the number that is spared: where the complete point has fallen, what was alive
+    /// above that is dead.
+    fn since_opening(self, epoch: u16, limit: u64) -> u16
+        ensures fell { limit < self.complete → result ≤ epoch + 1 }
+        ensures stood { self.complete ≤ limit → (result ≤ self.since) × (result ≤ epoch) }
     {
-        let to = match view.book.least_lo(epoch) {
-            Some(lo) => lo.min(self.complete),
-            None => self.complete,
-        };
-        let from = view.last_alive(to)?.number();
-        if base < from && !view.opens_below(epoch, from) {
-            Some(from)
+        if limit < self.complete {
+            epoch.saturating_add(1)
         } else {
-            None
+            self.since.min(epoch)
         }
     }
 
     /// Whether no alive record is above the complete point. It is asked only for a record that may link there.
     pub(crate) fn is_at_end(self, view: &View, may_link: bool, back: u64) -> bool
+        requires { seen_in view.now HasNoneEarlier self.complete self.since }
         ensures { IsTrue result → seen_in view.now HasNoneAbove self.complete }
     {
-        may_link && back == self.complete && view.has_none_above(self.complete)
+        may_link && back == self.complete && view.has_none_above(self.complete, self.since)
     }
 
     /// The points after a record of this number has joined at the top of a straight chain. Where no alive record was above that, the
@@ -146,6 +175,8 @@ impl Points {
     pub(crate) fn joined(self, view: &View, number: u64, at_end: bool) -> Points
         requires small { self.complete ≤ max_number }
         requires anchor { self.anchor ≤ least view.now.book.now.points }
+        requires since { seen_in view.now HasNoneEarlier self.complete self.since }
+        requires rises { self.complete < number }
         ensures { (base : ℕ) → (j : seen_in view.now JoinsOnTop base number self) → (IsTrue at_end → HasNoneAbove view.now.book.now j.earlier self.complete) → seen_in view.now HasPoints base result }
     {
         if at_end {
@@ -169,6 +200,7 @@ impl Points {
             complete: number,
             anchor,
             straight: true,
+            since: self.since,
         }
     }
 
@@ -176,12 +208,14 @@ impl Points {
     fn on_top(self, view: &View, number: u64) -> Points
         requires small { self.complete ≤ max_number }
         requires anchor { self.anchor ≤ least view.now.book.now.points }
+        requires since { seen_in view.now HasNoneEarlier self.complete self.since }
+        requires rises { self.complete < number }
         ensures { (base : ℕ) → seen_in view.now JoinsOnTop base number self → seen_in view.now HasPoints base result }
     {
-        if view.has_between(self.complete, number) {
+        if view.has_between(self.complete, number, self.since) {
             return self.onward(view);
         }
-        let Some(complete) = view.straight_end(number) else {
+        let Some(complete) = view.straight_end_since(number, self.since) else {
             return self.onward(view);
         };
         let anchor = self.anchor_on(view, number, complete);
@@ -189,6 +223,7 @@ impl Points {
             complete,
             anchor,
             straight: true,
+            since: self.since,
         }
     }
 
@@ -208,8 +243,23 @@ impl Points {
             complete: end,
             anchor: from,
             straight: true,
+            since: 0,
         };
         walked.anchor_of_last(view)
+    }
+
+    /// The same points, for a record that joins the held ones: it may be an alive one of an earlier epoch.
+    pub(crate) fn met(self, book: &EpochBook, redo: &Record) -> Points
+        ensures { Meets book.now redo.now self result }
+    {
+        if matches!(book.stands(redo.epoch(), redo.number()), Standing::Alive) {
+            Points {
+                since: self.since.min(redo.epoch()),
+                ..self
+            }
+        } else {
+            self
+        }
     }
 
     /// Whether a record that joins the held ones may link a number: it is alive above the base point, and behind no gap.
@@ -219,5 +269,16 @@ impl Points {
         base < redo.number()
             && redo.back() <= self.complete
             && matches!(book.stands(redo.epoch(), redo.number()), Standing::Alive)
+    }
+}
+
+impl Spared {
+    /// Whether the epochs above one have truncations down to the limit, and none of them has done anything to the number.
+    fn is_untouched(self, view: &View, epoch: u16) -> bool
+        ensures { IsTrue result → seen_in view.now IsUntouched epoch self }
+    {
+        view.book.least_lo(epoch) == Some(self.limit)
+            && self.number <= self.limit
+            && !view.opens_below(epoch, self.number)
     }
 }

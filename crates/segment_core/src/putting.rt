@@ -25,11 +25,13 @@ pub(crate) fn put_record(
     ensures points { HasPoints book.now hot.new base points.new }
 {
     let (number, back) = (redo.number(), redo.back());
-    let may_link = points.may_link(book, base, &redo);
-    let at_end = points.is_at_end(&View { book, held: hot }, may_link, back);
+    let met = points.met(book, &redo);
+    let may_link = met.may_link(book, base, &redo);
+    let at_end = met.is_at_end(&View { book, held: hot }, may_link, back);
     match hot.put(redo)? {
         Put::Known => Ok(Put::Known),
         Put::New => {
+            *points = met;
             if may_link {
                 let view = View { book, held: hot };
                 *points = if points.straight && back == points.complete {

@@ -30,6 +30,7 @@ ghost use Rattle.segment_core.specs.declared.answers.Refusal.TheVariants.{Memory
 ghost use Rattle.segment_core.specs.declared.answers.Taken.TheVariants.{Changed as ChangedOf, Unchanged as UnchangedOf};
 
 use crate::answers::{Front, ReadFault, Refusal, Taken};
+use crate::cutting::lo_opened_by;
 use crate::due::Due;
 use crate::points::Points;
 use crate::putting::put_record;
@@ -294,11 +295,17 @@ impl Segment {
         ensures { TakesExactly self.old (OfCut cut) result self.new }
     {
         let epoch = self.book.complete_epoch();
+        let limit = lo_opened_by(&self.book, cut);
+        let view = View {
+            book: &self.book,
+            held: &self.hot,
+        };
+        let spared = self.points.spared(&view, self.base, limit);
         let learnt = self.book.learn_cut(cut);
         if self.book.complete_epoch() != epoch {
             let (book, held) = (&self.book, &self.hot);
             let view = View { book, held };
-            self.points = self.points.after_opening(&view, self.base, epoch);
+            self.points = self.points.after_opening(&view, self.base, epoch, spared);
             self.due.add_opened(&self.book, epoch);
         }
         book_answer(Fact::Cut(cut), learnt)

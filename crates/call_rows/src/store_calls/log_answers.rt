@@ -74,7 +74,7 @@ fn chain(view: View, row: &Row) -> Answer {
         "linked_record" => record(view.linked_record(first, second)),
         "last_alive" => record(view.last_alive(first)),
         "opens_below" => Answer::Flag(view.opens_below(row.short(0), second)),
-        "has_none_above" => Answer::Flag(view.has_none_above(first)),
+        "has_none_above" => Answer::Flag(view.has_none_above(first, 0)),
         _ => of_page(view, row),
     }
 }

@@ -4,12 +4,13 @@ use Rattle.redo_core.specs.Data.{RecordData}
 use Rattle.redo_core.specs.Keys.{key_in, key_of, KeyBefore}
 use Rattle.redo_core.specs.Standing.{IsAlive}
 use Rattle.hot_log.specs.Held.{HasKey}
-use Rattle.hot_log.proofs.Climb.{rest_start, rest_step, above_falls, alive_key}
+use Rattle.hot_log.proofs.Climb.{rest_step, above_falls, alive_key}
+use Rattle.hot_log.proofs.Since.{rest_since}
 use Rattle.hot_log.proofs.Views.{view_of, number_before}
 use Rattle.hot_log.proofs.view.View.alive_key.Goals as goal
 
 pub loop-key-init : goal.loop-key-init
-loop-key-init c = rest_start c.args.self.now.book.now c.args.self.now.held.now (λ (r : RecordData). Unit {0}) c.args.number c.epoch_above.result c.epoch_above.ensures.parts
+loop-key-init c = rest_since c.args.self.now.book.now c.args.self.now.held.now c.args.number c.args.since c.start_above-at.result c.start_above-at.ensures.starts c.requires
 
 pub returns-then-is_alive-clause-found : goal.returns-then-is_alive-clause-found
 returns-then-is_alive-clause-found c =

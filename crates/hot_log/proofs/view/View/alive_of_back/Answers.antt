@@ -1,27 +1,18 @@
-use Rattle.std.proofs.Common.{◌≡◌, ℕ, ◌<◌, ◌≤◌, List, ⊎_elim, refl, sym, subst, arith, rules}
+use Rattle.std.proofs.Common.{◌≡◌, ℕ, ◌<◌, ◌≤◌, ⊎_elim, refl, sym, subst, arith, rules}
 use Rattle.std.proofs.lemmas.Bool.{false≢true}
-use Rattle.redo_core.specs.Data.{RecordData}
 use Rattle.redo_core.specs.Keys.{key_in, key_of, KeyBefore}
 use Rattle.redo_core.specs.declared.keys.Key.{Key}
 use Rattle.redo_core.specs.Standing.{IsAlive}
 use Rattle.redo_core.proofs.Pairs.{pair_trans}
 use Rattle.epoch_book.specs.Book.{BookData}
-use Rattle.hot_log.specs.Held.{IsHeld, HasKey}
-use Rattle.hot_log.specs.Alive.{IsHeldAlive, PartsAt}
+use Rattle.hot_log.specs.Held.{HasKey}
 use Rattle.hot_log.proofs.Climb.{above_falls, alive_key, key_alive}
-use Rattle.hot_log.proofs.Chain.{back_below}
+use Rattle.hot_log.proofs.Since.{over_start}
 use Rattle.hot_log.proofs.view.View.alive_of_back.Goals as goal
 use Rattle.hot_log.proofs.view.View.alive_of_back.Goals.{then-is_up_to, else-is_up_to}
 
--- each alive record with the backlink is above the key that parts the alive records there
-over_low : (b : BookData) (held : List RecordData) (back epoch : ℕ) (at : Key) → PartsAt b back epoch → at ≡ (key_in epoch back) → IsHeld held → (r : RecordData) → IsHeldAlive b held r → r.back ≡ back → KeyBefore at (key_of r)
-over_low b held back epoch at parts is form r h e =
-    let up : r.back < r.number = back_below r (form.shaped r h.0) in
-    let lt : back < r.number = omega arith in
-    subst (λ (p : Key). KeyBefore p (key_of r)) (sym is) ((parts.0 r.epoch r.number h.1).0 lt)
-
-over_after : (after at : Key) (epoch back e n : ℕ) → at ≡ (key_in epoch back) → (KeyBefore (key_in epoch back) after → ⊥) → KeyBefore at (key_in e n) → KeyBefore after (key_in e n)
-over_after after at epoch back e n is not p = search rules
+over_after : (after at low : Key) (e n : ℕ) → at ≡ low → (KeyBefore low after → ⊥) → KeyBefore at (key_in e n) → KeyBefore after (key_in e n)
+over_after after at low e n is not p = search rules
 
 waits : (b : BookData) (key : Key) (e n : ℕ) → b.complete < key.epoch → IsAlive b.cuts b.complete e n → (key.epoch ≡ e → ⊥) × (KeyBefore key (key_in e n) → ⊥)
 waits b key e n over a = let known : e ≤ b.complete = a.known in (λ p. omega arith, λ p. grind arith)
@@ -29,8 +20,9 @@ waits b key e n over a = let known : e ≤ b.complete = a.known in (λ p. omega 
 pub loop-key-init : goal.loop-key-init
 loop-key-init c = elim c.if-is_up_to.branch [
   | then-is_up_to w ↦ record {
-    above = λ form r h e p. over_low c.args.self.now.book.now c.args.self.now.held.now c.args.back c.epoch_above.result c.if-is_up_to.at c.epoch_above.ensures.parts w.at-is form r h e;
-    later = λ e n p. over_after c.args.after c.if-is_up_to.at c.epoch_above.result c.args.back e n w.at-is (c.is_up_to.ensures.0 w.if-is_up_to.true) p;
+    above = λ form r h e p. subst (λ (k : Key). KeyBefore k (key_of r)) (sym w.at-is)
+        (over_start c.args.self.now.book.now c.args.self.now.held.now c.args.back c.args.since c.start_above-low.result c.start_above-low.ensures.starts c.requires form r h e);
+    later = λ e n p. over_after c.args.after c.if-is_up_to.at c.start_above-low.result e n w.at-is (c.is_up_to.ensures.0 w.if-is_up_to.true) p;
   }
   | else-is_up_to w ↦ record {
     above = λ form r h e p. subst (λ (k : Key). KeyBefore k (key_of r)) (sym w.at-is) p;

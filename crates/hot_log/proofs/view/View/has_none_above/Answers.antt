@@ -10,8 +10,8 @@ none_over_greatest at number epoch greatest e n not up_to over = grind (arith, n
 pub returns-in-Some : goal.returns-in-Some
 returns-in-Some c = λ up r h lt.
     let key = c.in-Some.key in
-    none_over_greatest c.epoch_above.result c.args.number key.epoch key.number r.epoch r.number (c.is_up_to.ensures.0 up) (c.in-Some.ensures.greatest.1 r h.0)
-    ((c.epoch_above.ensures.parts.0 r.epoch r.number h.1).0 lt)
+    none_over_greatest c.start_above.result.epoch c.start_above.result.number key.epoch key.number r.epoch r.number (c.is_up_to.ensures.0 up) (c.in-Some.ensures.greatest.1 r h.0)
+    (c.start_above.ensures.starts.0 r.epoch r.number h.1 lt (c.requires r h lt))
 
 pub returns-in-None : goal.returns-in-None
 returns-in-None c = λ up r h lt. c.in-None.ensures.greatest r h.0

@@ -1,5 +1,7 @@
-use Rattle.hot_log.proofs.Beside.{ahead_of}
+use Rattle.hot_log.proofs.Since.{onward_since}
 use Rattle.hot_log.proofs.view.View.keys_on.Goals as goal
 
 pub returns : goal.returns
-returns c = ahead_of c.args.self.now.book.now c.args.self.now.held.now c.epoch_above.ensures.book c.args.number c.epoch_above.result c.keys_above.result c.epoch_above.ensures.parts c.keys_above.ensures.above
+returns c =
+    onward_since c.args.self.now.book.now c.args.self.now.held.now c.args.number c.args.since c.start_above.result c.keys_above.result c.start_above.ensures.starts c.requires
+    c.keys_above.ensures.above

@@ -7,11 +7,11 @@ use Rattle.hot_log.proofs.view.View.records_of.Goals as goal
 
 pub returns-then-above-to : goal.returns-then-above-to
 returns-then-above-to c =
-    none_between c.args.self.now.book.now c.args.self.now.held.now c.args.page c.args.from c.args.to c.epoch_above.result c.epoch_above-2.result (map (λ x. x.now) c.new.result.items)
-    c.epoch_above.ensures.parts c.epoch_above-2.ensures.parts
+    none_between c.args.self.now.book.now c.args.self.now.held.now c.args.page c.args.from c.args.to c.epoch_above.result c.last_key_to-to.result (map (λ x. x.now) c.new.result.items)
+    c.epoch_above.ensures.parts c.last_key_to-to.ensures.parts
     (λ le lt. ⊎_elim
-    (λ (u : c.epoch_above-2.result < c.epoch_above.result). omega arith)
-    (λ (u : (c.epoch_above.result ≤ c.epoch_above-2.result) × (c.args.to ≤ c.args.from)). omega (arith, u.1))
+    (λ (u : c.last_key_to-to.result.epoch < c.epoch_above.result). omega arith)
+    (λ (u : (c.epoch_above.result ≤ c.last_key_to-to.result.epoch) × (c.last_key_to-to.result.number ≤ c.args.from)). omega (arith, u.1, c.last_key_to-to.ensures.number))
     c.then-above-to.either)
     (ap (λ (l : List (Bor RecordData)). map (λ x. x.now) l) c.new.ensures.items)
 
@@ -19,8 +19,8 @@ pub returns : goal.returns
 returns c =
     if_ok c.alive_between.result _ _
     (λ v h. subst (λ (l : List RecordData). Lists BeforeByNumber (IsHeldOf c.args.self.now.book.now l c.args.page c.args.from c.args.to) (map (λ x. x.now) v.items)) c.held.view_is
-    (by_number c.args.self.now.book.now c.held.inside.records c.args.page c.args.from c.args.to c.epoch_above.result c.epoch_above-2.result (map (λ x. x.now) v.items) c.epoch_above.ensures.parts c.epoch_above-2.ensures.parts h))
+    (by_number c.args.self.now.book.now c.held.inside.records c.args.page c.args.from c.args.to c.epoch_above.result c.last_key_to-to.result (map (λ x. x.now) v.items) c.epoch_above.ensures.parts c.last_key_to-to.ensures.parts h))
     c.alive_between.ensures
 
 pub alive_between-requires : goal.alive_between-requires
-alive_between-requires c = key_rises c.epoch_above.result c.args.from c.epoch_above-2.result c.args.to c.if-above-to.false c.if-from-to.false
+alive_between-requires c = key_rises c.epoch_above.result c.args.from c.last_key_to-to.result.epoch c.last_key_to-to.result.number c.if-above-to.false c.if-from-to.false

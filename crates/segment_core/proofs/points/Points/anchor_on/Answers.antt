@@ -16,5 +16,6 @@ returns c = (
     anchor = start;
     bound = h;
     straight = λ t. c.requires.straight;
+    since = λ r h lt. omega arith;
   }) refl,
 )

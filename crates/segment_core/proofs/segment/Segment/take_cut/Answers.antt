@@ -26,7 +26,11 @@ returns c =
     c.learn_cut-learnt.result c.book_answer.result c.self.invariant.0 e.book e.ok e.known e.unchanged e.err e.refuses e.refused e.memory c.book_answer.ensures))
 
 pub after_opening-self-inside-requires : goal.after_opening-self-inside-requires
-after_opening-self-inside-requires c = grind (arith, common_steps, cut_had_points)
+after_opening-self-inside-requires c =
+    let e = c.learn_cut-learnt.ensures in
+    let i = c.self.inside in
+    cut_had_points i.book c.learn_cut-learnt.new.self i.hot i.base c.complete_epoch-epoch.result i.points c.spared-spared.result c.args.cut c.learn_cut-learnt.result
+    c.self.invariant.0 e.book e.ok e.err c.complete_epoch-epoch.ensures.value c.self.invariant.4 c.spared-spared.ensures
 
 pub invariant_of-self : goal.invariant_of-self
 invariant_of-self c =

@@ -1,7 +1,7 @@
 use Rattle.std.proofs.Common.{◌-◌}
 use Rattle.hot_log.specs.Ahead.{AreOnward}
 use Rattle.hot_log.proofs.Ends.{Climbed}
-use Rattle.hot_log.proofs.view.View.straight_end.Given as goal
+use Rattle.hot_log.proofs.view.View.straight_end_since.Given as goal
 
 abbrev pub invariant-loop-key : goal.invariant-loop-key
 invariant-loop-key l = record {

@@ -11,11 +11,13 @@ use Rattle.hot_log.specs.Held.{IsHeld, HasKey}
 use Rattle.hot_log.specs.Alive.{IsHeldAlive, IsAliveOfBack, IsStraightEnd}
 use Rattle.hot_log.specs.Ahead.{AreOnward}
 use Rattle.hot_log.proofs.Beside.{passed_to, stray_before}
+use Rattle.hot_log.proofs.Chain.{link_at_least}
 use Rattle.hot_log.proofs.Climb.{from_zero}
+use Rattle.hot_log.proofs.Since.{none_above}
 use Rattle.hot_log.proofs.Views.{view_of, number_before}
 use Rattle.hot_log.proofs.Ends.{Climbed, IsStep, step_up, climbed_none, climbed_next, climbed_end, not_over_stray, not_over_fork, step_of, key_after}
-use Rattle.hot_log.proofs.view.View.straight_end.Goals.{then-is_fork-via-then-is_fork, then-is_fork-via-else-is_fork+then-not-is_at}
-use Rattle.hot_log.proofs.view.View.straight_end.Goals as goal
+use Rattle.hot_log.proofs.view.View.straight_end_since.Goals.{then-is_fork-via-then-is_fork, then-is_fork-via-else-is_fork+then-not-is_at}
+use Rattle.hot_log.proofs.view.View.straight_end_since.Goals as goal
 
 small : (r : RecordData) → record_fault r ≡ None → r.number < 281474976710656
 small r h = grind arith
@@ -32,6 +34,11 @@ some_second b held from top n key x (Some next) book form c s k found more end =
     let y = found.0.0 in
     let before : RecordBefore x y = subst (λ (e : ℕ). KeyBefore (key_in e x.number) (key_of y)) (sym k.0) (subst (λ (m : ℕ). KeyBefore (key_in key.epoch m) (key_of y)) (sym k.1) found.0.4) in
     not_over_fork b held from top n x y book form c s found.0.1 found.0.2 (number_before b.cuts b.complete (view_of b book) x y s.alive.1 found.0.1.1 before) end
+
+pub first_of_back-requires : goal.first_of_back-requires
+first_of_back-requires c =
+    none_above c.args.self.now.book.now c.args.self.now.held.now c.args.from c.loop-key.top c.args.since
+    (link_at_least c.args.self.now.book.now.cuts c.args.self.now.held.now c.args.self.now.book.now.complete c.args.from c.loop-key.top c.loop-key.invariant.climbed.chain.linked) c.requires
 
 pub loop-key-init : goal.loop-key-init
 loop-key-init c = search (rules, climbed_none)
