@@ -85,14 +85,14 @@ record_reason fields (Field at fault) h = record_none fields (λ six. unread_num
 record_reason fields (Shape fault) h = record_made fields h.head h.contents h.many h.numbers h.spelled
     ∙ unless_fault (fault_with h.head h.contents) fault (Record (record_with h.head.epoch h.head.number h.head.back h.head.page h.head.block_back h.contents.init h.contents.patches)) h.faulty
 record_reason fields ManyPatches h = record_none fields (λ six. many_none (numbers_of record_limits (take 5 fields)) (contents_of (get_or fields 5 []))
-    (λ c e. many_contents (get_or fields 5 []) c h e))
+    (λ c e. many_contents (get_or fields 5 []) c h.1 e))
 record_reason fields (Patch at fault) h = record_none fields
-    (λ six. then_all (numbers_of record_limits (take 5 fields)) (contents_of (get_or fields 5 [])) _ (patchless_contents (get_or fields 5 []) at fault h))
-record_reason fields CarriageReturn h = absurd h.1
-record_reason fields UnknownWord h = absurd h.1
-record_reason fields AdvanceFieldCount h = absurd h.1
-record_reason fields (Zero at) h = absurd h.1
-record_reason fields PastPage h = absurd h.1
+    (λ six. then_all (numbers_of record_limits (take 5 fields)) (contents_of (get_or fields 5 [])) _ (patchless_contents (get_or fields 5 []) at fault h.1))
+record_reason fields CarriageReturn h = absurd h.1.1
+record_reason fields UnknownWord h = absurd h.1.1
+record_reason fields AdvanceFieldCount h = absurd h.1.1
+record_reason fields (Zero at) h = absurd h.1.1
+record_reason fields PastPage h = absurd h.1.1
 
 -- ---- truncations and advances
 
@@ -202,18 +202,18 @@ record_judged fields (Some (Shape fault)) head c six numbers spelled h = record 
 record_judged fields (Some _) head c six numbers spelled h = absurd h
 
 -- the contents of a record are wrong
-pub contents_judged : (fields : List (List ℕ)) (word : List ℕ) (reason : LineReason) → get_or fields 5 [] ≡ word → IsContentsReason word reason
-    → IsRecordReason fields reason
-contents_judged fields word ManyPatches e h = rw e h
-contents_judged fields word (Patch at fault) e h = rw e h
-contents_judged fields word (FieldCount wanted) e h = absurd h.1
-contents_judged fields word (Field at fault) e h = absurd h.1
-contents_judged fields word (Shape fault) e h = absurd h.1
-contents_judged fields word CarriageReturn e h = absurd h.1
-contents_judged fields word UnknownWord e h = absurd h.1
-contents_judged fields word AdvanceFieldCount e h = absurd h.1
-contents_judged fields word (Zero at) e h = absurd h.1
-contents_judged fields word PastPage e h = absurd h.1
+pub contents_judged : (fields : List (List ℕ)) (word : List ℕ) (reason : LineReason) → length fields ≡ 6 → get_or fields 5 [] ≡ word
+    → IsContentsReason word reason → IsRecordReason fields reason
+contents_judged fields word ManyPatches six e h = (six, rw e h)
+contents_judged fields word (Patch at fault) six e h = (six, rw e h)
+contents_judged fields word (FieldCount wanted) six e h = absurd h.1
+contents_judged fields word (Field at fault) six e h = absurd h.1
+contents_judged fields word (Shape fault) six e h = absurd h.1
+contents_judged fields word CarriageReturn six e h = absurd h.1
+contents_judged fields word UnknownWord six e h = absurd h.1
+contents_judged fields word AdvanceFieldCount six e h = absurd h.1
+contents_judged fields word (Zero at) six e h = absurd h.1
+contents_judged fields word PastPage six e h = absurd h.1
 
 -- ---- by the word
 

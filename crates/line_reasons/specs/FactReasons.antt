@@ -31,12 +31,12 @@ pub record IsFaultyRecord (fields : List (List ℕ)) (fault : ShapeFault) : Type
   pub spelled : contents_of (slice_index_or fields 5 []) ≡ Some contents
   pub faulty : fault_with head contents ≡ Some fault
 
--- the fields behind rec are not six, or a number, the contents or the shape is wrong
+-- the fields behind rec are not six, or a number, the contents or the shape is wrong; without a sixth there are no contents
 abbrev pub IsRecordReason : List (List ℕ) → LineReason → Type 0
 IsRecordReason fields (FieldCount wanted) = (wanted ≡ 6) × (length fields ≢ 6)
 IsRecordReason fields (Field at fault) = IsFaultAt record_limits fields at fault
 IsRecordReason fields (Shape fault) = IsFaultyRecord fields fault
-IsRecordReason fields reason = IsContentsReason (slice_index_or fields 5 []) reason
+IsRecordReason fields reason = (length fields ≡ 6) × IsContentsReason (slice_index_or fields 5 []) reason
 
 -- ---- truncations and advances
 

@@ -21,7 +21,8 @@ returns-in-Ok-2 c =
 pub returns-in-Err-2 : goal.returns-in-Err-2
 returns-in-Err-2 c =
     let now = λ (x : Bor (List ℕ)). x.now in
-    contents_judged (map now c.args.fields.now) _ _ (get_or-map now c.args.fields.now 5 _ [] (omega (arith, c.if-fields-ne6.false)))
+    contents_judged (map now c.args.fields.now) _ _ (omega (arith, length-map c.args.fields.now now, c.if-fields-ne6.false))
+    (get_or-map now c.args.fields.now 5 _ [] (omega (arith, c.if-fields-ne6.false)))
     (rw c.in-Err-2.is at c.in_ok-contents.ensures)
 
 pub overflow_cast-page : goal.overflow_cast-page
