@@ -53,9 +53,13 @@ def test_random_captures(fleet, seed, seconds):
             return answer(fleet, ["inspect"], text) != Answer(0, wire.inspected(text))
 
         if fails(lines):
+            if single := [it for it in lines if fails([it])]:
+                line = min(single, key=len)
+                digits = [line[at : at + 2] for at in range(0, len(line), 2)]
+                lines = [b"".join(shrunk(digits, lambda it: fails([b"".join(it)])))]
             least = b"\n".join(shrunk(lines, fails)) + ending
             seen, wanted = answer(fleet, ["inspect"], least), Answer(0, wire.inspected(least))
-            pytest.fail(f"seed {seed}, round {count}; the least capture that differs: {least}\n--- wanted: {wanted}\n--- seen: {seen}")
+            pytest.fail(f"seed {seed}, round {count}; the least capture that differs: {least[:4000]}\n--- wanted: {wanted}\n--- seen: {seen}")
         count += 1
     print(f"{count} captures agree")
 
