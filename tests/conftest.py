@@ -22,7 +22,13 @@ def pytest_addoption(parser):
 
 def pytest_configure(config):
     if config.getoption("--seed") is None:
-        config.option.seed = secrets.randbits(32)
+        config.option.seed = getattr(config, "workerinput", {}).get("seed") or secrets.randbits(32)
+
+
+@pytest.hookimpl(optionalhook=True)
+def pytest_configure_node(node):
+    """The workers of pytest-xdist have the seed that this process prints."""
+    node.workerinput["seed"] = node.config.getoption("--seed")
 
 
 def pytest_report_header(config):
