@@ -247,9 +247,7 @@ impl<L: LogName> Kept<L> {
         ensures back { IfErr result (λ e. e.value ≡ mail) }
         ensures unchanged { OnErr result (self.new ≡ self.old) }
     {
-        let segment = self.segment.segment_mut();
-        let absorbed = gossip_core::absorb(segment, mail.summary(), mail.delta());
-        if let Err(why) = absorbed {
+        if let Err(why) = self.segment.absorb(mail.summary(), mail.delta()) {
             return Err(Refused {
                 value: mail,
                 fault: absorb_fault(why),

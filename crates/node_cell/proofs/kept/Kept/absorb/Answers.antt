@@ -14,10 +14,9 @@ new-requires g c =
     let log = g.L.LogName.log in
     let sound = g.met.L.LogName.sound in
     let trail = c.self.inside.trail.items in
-    let old = c.segment_mut-segment.result.now in
-    let new = c.absorb-absorbed.new.segment in
-    let k : MeansTrail roster log old trail = subst (λ s. MeansTrail roster log s trail) (sym c.segment_mut-segment.ensures.lent)
-    (subst (λ x. MeansTrail roster log x.segment trail) (sym c.deref_mut.ensures.value) c.self.invariant) in
+    let old = c.deref_mut.result.now.segment in
+    let new = c.absorb.new.self.segment in
+    let k : MeansTrail roster log old trail = subst (λ x. MeansTrail roster log x.segment trail) (sym c.deref_mut.ensures.value) c.self.invariant in
     let own = c.summary.ensures.own in
     let m = both_meant roster log old new trail c.args.mail c.summary.result.now c.delta.result.now sound k own c.summary.ensures.value
     c.delta.ensures.value c.in_default.ensures.means in
@@ -31,10 +30,9 @@ invariant_of-self-2 g c =
     let log = g.L.LogName.log in
     let sound = g.met.L.LogName.sound in
     let trail = c.self.inside.trail.items in
-    let old = c.segment_mut-segment.result.now in
-    let new = c.absorb-absorbed.new.segment in
-    let k : MeansTrail roster log old trail = subst (λ s. MeansTrail roster log s trail) (sym c.segment_mut-segment.ensures.lent)
-    (subst (λ x. MeansTrail roster log x.segment trail) (sym c.deref_mut.ensures.value) c.self.invariant) in
+    let old = c.deref_mut.result.now.segment in
+    let new = c.absorb.new.self.segment in
+    let k : MeansTrail roster log old trail = subst (λ x. MeansTrail roster log x.segment trail) (sym c.deref_mut.ensures.value) c.self.invariant in
     let own = c.summary.ensures.own in
     let m = both_meant roster log old new trail c.args.mail c.summary.result.now c.delta.result.now sound k own c.summary.ensures.value
     c.delta.ensures.value c.in_default.ensures.means in
@@ -45,12 +43,12 @@ returns-clause-keeps g c = invariant_of-self-2 g c
 
 pub returns-clause-meaning : goal.returns-clause-meaning
 returns-clause-meaning g c =
-    let new = c.absorb-absorbed.new.segment in
+    let old = c.deref_mut.result.now in
+    let new = c.absorb.new.self.segment in
     subst (λ s. MeansBoth s c.args.mail.summary c.args.mail.delta new) (ap (λ k. k.segment) c.self.view_is)
     (subst (λ x. MeansBoth x.segment c.args.mail.summary c.args.mail.delta new) c.deref_mut.ensures.value
-    (subst (λ s. MeansBoth s c.args.mail.summary c.args.mail.delta new) c.segment_mut-segment.ensures.lent
-    (subst (λ x. MeansBoth c.segment_mut-segment.result.now x c.args.mail.delta new) c.summary.ensures.value
-    (subst (λ d. MeansBoth c.segment_mut-segment.result.now c.summary.result.now d new) c.delta.ensures.value c.in_default.ensures.means))))
+    (subst (λ x. MeansBoth old.segment x c.args.mail.delta new) c.summary.ensures.value
+    (subst (λ d. MeansBoth old.segment c.summary.result.now d new) c.delta.ensures.value c.in_default.ensures.means)))
 
 pub returns-clause-front : goal.returns-clause-front
 returns-clause-front g c =
@@ -58,10 +56,9 @@ returns-clause-front g c =
     let log = g.L.LogName.log in
     let sound = g.met.L.LogName.sound in
     let trail = c.self.inside.trail.items in
-    let old = c.segment_mut-segment.result.now in
-    let new = c.absorb-absorbed.new.segment in
-    let k : MeansTrail roster log old trail = subst (λ s. MeansTrail roster log s trail) (sym c.segment_mut-segment.ensures.lent)
-    (subst (λ x. MeansTrail roster log x.segment trail) (sym c.deref_mut.ensures.value) c.self.invariant) in
+    let old = c.deref_mut.result.now.segment in
+    let new = c.absorb.new.self.segment in
+    let k : MeansTrail roster log old trail = subst (λ x. MeansTrail roster log x.segment trail) (sym c.deref_mut.ensures.value) c.self.invariant in
     let own = c.summary.ensures.own in
     let m = both_meant roster log old new trail c.args.mail c.summary.result.now c.delta.result.now sound k own c.summary.ensures.value
     c.delta.ensures.value c.in_default.ensures.means in
@@ -74,9 +71,8 @@ returns-in-Err-clause-refused g c =
     let roster = g.L.LogName.roster in
     let log = g.L.LogName.log in
     let trail = c.self.inside.trail.items in
-    let old = c.segment_mut-segment.result.now in
-    let k : MeansTrail roster log old trail = subst (λ s. MeansTrail roster log s trail) (sym c.segment_mut-segment.ensures.lent)
-    (subst (λ x. MeansTrail roster log x.segment trail) (sym c.deref_mut.ensures.value) c.self.invariant) in
+    let old = c.deref_mut.result.now.segment in
+    let k : MeansTrail roster log old trail = subst (λ x. MeansTrail roster log x.segment trail) (sym c.deref_mut.ensures.value) c.self.invariant in
     subst (λ f. RefusesMail roster log c.args.mail f) (sym c.absorb_fault.ensures)
     (refuses_mail roster log old trail c.args.mail c.summary.result.now c.delta.result.now c.in-Err.why g.met.L.LogName.sound k
     c.summary.ensures.value c.in-Err.ensures.refused)
