@@ -1,3 +1,4 @@
 pub mod Means
 pub mod Restarts
 pub mod Folds
+pub mod Limited

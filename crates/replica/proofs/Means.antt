@@ -1,5 +1,5 @@
 -- What the segment means after each request.
-use Rattle.std.proofs.Common.{◌≡◌, ℕ, ⊎_elim, List, [], ◌∷◌, sym, subst, Option, Some, None, Result, Ok, Err, OnOk, OnErr, IfOk, rules}
+use Rattle.std.proofs.Common.{◌≡◌, ℕ, ⊎_elim, List, [], ◌∷◌, ap, sym, subst, Option, Some, None, Result, Ok, Err, OnOk, OnErr, IfOk, rules}
 use Rattle.std.specs.List.{Contains}
 use Rattle.redo_core.specs.Sound.{IsSound}
 use Rattle.redo_core.specs.declared.facts.Fact.{Fact}
@@ -24,9 +24,10 @@ use Rattle.replica.specs.declared.requests.Request.TheVariants as request
 use Rattle.replica.specs.declared.replies.Reply.{Reply}
 use Rattle.replica.specs.declared.replies.Reply.TheVariants as reply
 use Rattle.replica.specs.Parts.{ReplicaData}
-use Rattle.replica.specs.Replying.{taken_reply, refusal_reply, absorbed_reply, unfinished_reply}
+use Rattle.replica.specs.Replying.{taken_reply, refusal_reply, absorbed_reply, unfinished_reply, united_reply}
 use Rattle.replica.specs.AtSegment.{LacksMemory, Opens}
-use Rattle.replica.specs.Hydrating.{Finishes, StandsFor}
+use Rattle.segment_join.specs.Joining.{MeansUnion}
+use Rattle.replica.specs.Hydrating.{Finishes, StandsFor, Unites, UnitesMade}
 use Rattle.replica.specs.Meaning.{facts_after, BringsDelta, BringsStaging, ReplicaMeans, StepMeans, RunsMean}
 
 -- the facts, one sound log, and what the old segment means of it
@@ -77,6 +78,10 @@ absorbed roster log facts brought old new summary delta (Ok done) stood brings m
 absorbed roster log facts brought old new summary delta (Err why) stood brings means same =
     subst (λ l. Means roster log l new) (sym (refused_absorb facts brought summary delta why)) (stays roster log facts old new same stood.means)
 
+kept_segment : (answer : Result (Unit {0}) AbsorbRefusal) (old new : Cached) → OnErr answer (new ≡ old) → OnErr answer (new.segment ≡ old.segment)
+kept_segment (Ok done) old new same = tt
+kept_segment (Err why) old new same = ap (λ c. c.segment) same
+
 -- ---- tidy
 tidied : (roster : ℕ) (log facts : List Fact) (old new : Cached) (answer : Result (Unit {0}) ReadFault) → Stood roster log facts old.segment
     → OnOk answer (KeepsMeaning old.segment new.segment) → OnErr answer (new ≡ old) → Means roster log facts new.segment
@@ -106,6 +111,46 @@ finishes roster log facts brought old new None after told stood brings says =
 finishes roster log facts brought old new (Some st) after told stood brings says =
     finished roster log facts brought old new st after told says.answer stood brings says.makes.means says.stands
 
+-- ---- unite
+refused_union : (facts brought : List Fact) (why : Refusal) → facts_after facts brought request.Unite (refusal_reply why) ≡ facts
+refused_union facts brought why = search rules
+
+not_united : (facts brought : List Fact) (why : FinishFault) → facts_after facts brought request.Unite (unfinished_reply why) ≡ facts
+not_united facts brought why = search rules
+
+united : (roster : ℕ) (log facts brought : List Fact) (old new : State) (made : State) (answer : Result (Unit {0}) Refusal) → Stood roster log facts old
+    → Means roster log brought made → OnOk answer (MeansUnion old made new) → OnErr answer (new ≡ old)
+    → Means roster log (facts_after facts brought request.Unite (united_reply answer)) new
+united roster log facts brought old new made (Ok done) stood m union same = union roster log facts brought stood.sound stood.means m
+united roster log facts brought old new made (Err why) stood m union same =
+    subst (λ l. Means roster log l new) (sym (refused_union facts brought why)) (stays roster log facts old new same stood.means)
+
+same_segment : {A : Type 0} (answer : Result (Unit {0}) Refusal) (old new : Cached) (x y : A) → OnErr answer ((new ≡ old) × (x ≡ y))
+    → OnErr answer (new.segment ≡ old.segment)
+same_segment (Ok done) old new x y same = tt
+same_segment (Err why) old new x y same = ap (λ c. c.segment) same.0
+
+pub united_made : (roster : ℕ) (log facts brought : List Fact) (old new : Cached) (st : StagingData) (staging : Option StagingData) (told : Reply)
+    (answer : Result State FinishFault) → Stood roster log facts old.segment → BringsStaging roster log (Some st) brought → IfOk answer (MeansFrozen st)
+    → UnitesMade old st answer told new staging → Means roster log (facts_after facts brought request.Unite told) new.segment
+united_made roster log facts brought old new st staging told (Ok made) stood brings means says =
+    subst (λ r. Means roster log (facts_after facts brought request.Unite r) new.segment) (sym says.is)
+    (united roster log facts brought old.segment new.segment made says.answer stood (means brings.0 brings.1 brings.2 roster log brought stood.sound brings.3)
+    says.means (same_segment says.answer old new staging (Some st) says.unchanged))
+united_made roster log facts brought old new st staging told (Err why) stood brings means says =
+    subst (λ r. Means roster log (facts_after facts brought request.Unite r) new.segment) (sym says.0)
+    (subst (λ l. Means roster log l new.segment) (sym (not_united facts brought why))
+    (subst (λ c. Means roster log facts c.segment) (sym says.1) stood.means))
+
+unites : (roster : ℕ) (log facts brought : List Fact) (old new : Cached) (before after : Option StagingData) (told : Reply)
+    → Stood roster log facts old.segment → BringsStaging roster log before brought → Unites old before told new after
+    → Means roster log (facts_after facts brought request.Unite told) new.segment
+unites roster log facts brought old new None after told stood brings says =
+    subst (λ r. Means roster log (facts_after facts brought request.Unite r) new.segment) (sym says.0)
+    (subst (λ c. Means roster log facts c.segment) (sym says.1) stood.means)
+unites roster log facts brought old new (Some st) after told stood brings says =
+    united_made roster log facts brought old new st after told says.answer stood brings says.makes.means says.unites
+
 -- ---- each request
 same_replica : (roster : ℕ) (log facts : List Fact) (old new : ReplicaData) → new ≡ old → ReplicaMeans roster log facts old
     → ReplicaMeans roster log facts new
@@ -128,10 +173,13 @@ step_means roster log facts brought old (request.Read page point) told new sound
     stays roster log facts old.cached.segment new.cached.segment says.0.segment m
 step_means roster log facts brought old request.Ask told new sound brings says m = same_replica roster log facts old new says.1 m
 step_means roster log facts brought old (request.Answer summary) told new sound brings says m = same_replica roster log facts old new says.1 m
+step_means roster log facts brought old (request.AnswerWithin summary most) told new sound brings says m =
+    same_replica roster log facts old new says.1 m
 step_means roster log facts brought old (request.Absorb summary delta) told new sound brings says m =
     let t = says.0 in
     subst (λ r. Means roster log (facts_after facts brought (request.Absorb summary delta) r) new.cached.segment) (sym t.is)
-    (absorbed roster log facts brought old.cached.segment new.cached.segment summary delta t.answer (record { sound = sound; means = m }) brings t.means t.unchanged)
+    (absorbed roster log facts brought old.cached.segment new.cached.segment summary delta t.answer (record { sound = sound; means = m }) brings t.means
+    (kept_segment t.answer old.cached new.cached t.unchanged))
 step_means roster log facts brought old (request.Fold page) told new sound brings says m = says.0.keeps roster log facts sound m
 step_means roster log facts brought old request.Discard told new sound brings says m = says.0.keeps roster log facts sound m
 step_means roster log facts brought old request.Tidy told new sound brings says m =
@@ -143,6 +191,8 @@ step_means roster log facts brought old (request.Stage name total) told new soun
 step_means roster log facts brought old (request.Add piece) told new sound brings says m = same_cached roster log facts old.cached new.cached says.1 m
 step_means roster log facts brought old request.Finish told new sound brings says m =
     finishes roster log facts brought old.cached new.cached old.staging new.staging told (record { sound = sound; means = m }) brings says.0
+step_means roster log facts brought old request.Unite told new sound brings says m =
+    unites roster log facts brought old.cached new.cached old.staging new.staging told (record { sound = sound; means = m }) brings says.0
 step_means roster log facts brought old (request.Next after) told new sound brings says m = same_replica roster log facts old new says.1 m
 
 -- ---- any number of requests

@@ -1,5 +1,5 @@
 -- What the requests of gossip do, over any facts.
-use Rattle.std.specs.Prelude.{◌≡◌, ℕ, ◌<◌, ◌⊎◌, ◌↔◌, [], Result, Err, IfOk, IfErr, OnOk, OnErr}
+use Rattle.std.specs.Prelude.{◌≡◌, ℕ, ◌<◌, ◌⊎◌, ◌↔◌, [], Result, Err, IfOk, IfErr, OnOk, OnErr, nat_lt, if◌then◌else◌}
 use Rattle.redo_core.specs.Meaning.{Meaning}
 use Rattle.messages.specs.Summaries.{SummaryData}
 use Rattle.messages.specs.Deltas.{DeltaData}
@@ -10,12 +10,13 @@ use Rattle.segment_core.specs.declared.answers.ReadFault.{ReadFault}
 use Rattle.segment_core.specs.declared.answers.ReadFault.TheVariants as fault
 use Rattle.segment_core.specs.declared.answers.Refusal.TheVariants as refusal
 use Rattle.gossip_core.specs.Summarizing.{Summarizes, IsSummaryOf}
+use Rattle.gossip_core.specs.Sizes.{delta_len}
 use Rattle.gossip_core.specs.Replying.{AnswersSummary, FillsSummary, IsLeastBreak}
 use Rattle.gossip_core.specs.Absorbing.{MeansBoth, IsOfOneLog, Answers, AbsorbsInto, RefusesAbsorb, TellsRoster}
 use Rattle.gossip_core.specs.declared.absorbing.AbsorbRefusal.{AbsorbRefusal}
 use Rattle.gossip_core.specs.declared.absorbing.AbsorbRefusal.TheVariants as absorb
 use Rattle.gossip_core.specs.declared.answering.Shown.{Shown}
-use Rattle.read_cache.specs.Cached.{Cached, cached}
+use Rattle.read_cache.specs.Cached.{Cached}
 use Rattle.replica.specs.declared.replies.Reply.{Reply}
 use Rattle.replica.specs.declared.replies.Reply.TheVariants as reply
 use Rattle.replica.specs.Replying.{delta_reply, absorbed_reply}
@@ -40,7 +41,19 @@ pub record RepliesTo (s : State) (summary : SummaryData) (told : Reply) : Type 0
   pub broken : (page n : ℕ) → (answer ≡ Err (fault.BrokenBlockChain page n)) ↔ ((summary.anchor < s.base) × IsFirstBreak s page n)
   pub is : told ≡ delta_reply answer
 
--- the segment absorbs a delta that was made for a summary, and no image stays in the cache
+-- in the place of a delta of more than so many bytes on the wire stands `Large`
+abbrev pub within : ℕ → Reply → Reply
+within most (reply.Delta d) = if nat_lt most (delta_len d) then reply.Large else reply.Delta d
+within most told = told
+
+-- the segment replies to a summary as without a limit, but for a delta that is larger
+pub record RepliesWithin (s : State) (summary : SummaryData) (most : ℕ) (told : Reply) : Type 0 where
+  pub whole : Reply
+  pub replies : RepliesTo s summary whole
+  pub is : told ≡ within most whole
+
+-- The segment absorbs a delta that was made for a summary, and no image stays in the cache. Where it is refused nothing has changed, and
+-- each image stays.
 pub record Absorbs (old : Cached) (summary : SummaryData) (delta : DeltaData) (told : Reply) (new : Cached) : Type 0 where
   pub answer : Result (Unit {0}) AbsorbRefusal
   pub means : OnOk answer (MeansBoth old.segment summary delta new.segment)
@@ -49,6 +62,7 @@ pub record Absorbs (old : Cached) (summary : SummaryData) (delta : DeltaData) (t
   pub answers : OnOk answer (Answers old.segment summary)
   pub refused : IfErr answer (RefusesAbsorb old.segment summary delta)
   pub roster : TellsRoster old.segment delta answer
-  pub unchanged : OnErr answer (new.segment ≡ old.segment)
-  pub cleared : new ≡ cached new.segment old.pages []
+  pub drops : OnOk answer (new.images ≡ [])
+  pub unchanged : OnErr answer (new ≡ old)
+  pub pages : new.pages ≡ old.pages
   pub is : told ≡ absorbed_reply answer

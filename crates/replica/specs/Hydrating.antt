@@ -1,8 +1,12 @@
 -- What the requests of snapshots and stagings do, over any facts.
-use Rattle.std.specs.Prelude.{◌≡◌, ℕ, ◌<◌, ◌≤◌, ◌⊎◌, ◌↔◌, [], Option, Some, None, Result, Ok, Err, IfOk, IfErr}
+use Rattle.std.specs.Prelude.{◌≡◌, ℕ, ◌<◌, ◌≤◌, ◌⊎◌, ◌↔◌, [], Option, Some, None, Result, Ok, Err, IfOk, IfErr, OnOk, OnErr, ◌≢◌}
 use Rattle.messages.specs.Pieces.{PieceData}
 use Rattle.hot_log.specs.Found.{IsLeast}
+use Rattle.redo_core.specs.Book.{roster_of}
 use Rattle.state_laws.specs.State.{State}
+use Rattle.segment_core.specs.declared.answers.Refusal.{Refusal}
+use Rattle.segment_core.specs.declared.answers.Refusal.TheVariants as refusal
+use Rattle.segment_join.specs.Joining.{MeansUnion, AreOfOneLog, JoinsInto, TakesTold, RefusesJoin}
 use Rattle.read_cache.specs.Cached.{Cached, cached}
 use Rattle.hydration.specs.Snapshots.{SnapshotData, Freezes, IsPieceOf, max_total}
 use Rattle.hydration.specs.Stagings.{StagingData, staging_of, Adds, RefusesPiece, IsMissingPiece, IsStaging}
@@ -13,7 +17,7 @@ use Rattle.hydration.specs.declared.finishing.FinishFault.{FinishFault}
 use Rattle.hydration.specs.declared.finishing.FinishFault.TheVariants as finish
 use Rattle.replica.specs.declared.replies.Reply.{Reply}
 use Rattle.replica.specs.declared.replies.Reply.TheVariants as reply
-use Rattle.replica.specs.Replying.{unadded_reply, unfinished_reply}
+use Rattle.replica.specs.Replying.{unadded_reply, unfinished_reply, united_reply}
 use Rattle.replica.specs.AtSegment.{LacksMemory}
 
 -- ---- snapshots
@@ -86,3 +90,34 @@ pub record FinishesStaging (old : Cached) (st : StagingData) (told : Reply) (new
 abbrev pub Finishes : Cached → Option StagingData → Reply → Cached → Option StagingData → Type 0
 Finishes old None told new staging = (told ≡ reply.NoStaging) × (new ≡ old) × (staging ≡ None)
 Finishes old (Some st) told new staging = FinishesStaging old st told new staging
+
+-- ---- unions
+-- The segment that is made is joined into the old one, no image stays in the cache, and the staging is gone. Where the join is refused all
+-- stays as it was, the staging too.
+pub record JoinsStaged (old : Cached) (before : Option StagingData) (made : State) (told : Reply) (new : Cached) (after : Option StagingData) : Type 0 where
+  pub answer : Result (Unit {0}) Refusal
+  pub means : OnOk answer (MeansUnion old.segment made new.segment)
+  pub sound : IfErr answer (λ e. AreOfOneLog old.segment made → e ≡ refusal.Memory)
+  pub joins : OnOk answer (JoinsInto old.segment made new.segment)
+  pub takes : OnOk answer (TakesTold old.segment made)
+  pub refused : IfErr answer (λ e. (e ≡ refusal.Memory) ⊎ RefusesJoin old.segment made e)
+  pub roster : let own = roster_of old.segment.book in let shown = roster_of made.book in
+      IfErr answer (λ e. own ≢ shown → e ≡ refusal.OtherRoster own shown)
+  pub gone : OnOk answer ((new.images ≡ []) × (after ≡ None))
+  pub unchanged : OnErr answer ((new ≡ old) × (after ≡ before))
+  pub pages : new.pages ≡ old.pages
+  pub is : told ≡ united_reply answer
+
+-- where no segment is made all stays as it was
+abbrev pub UnitesMade : Cached → StagingData → Result State FinishFault → Reply → Cached → Option StagingData → Type 0
+UnitesMade old st (Ok made) told new staging = JoinsStaged old (Some st) made told new staging
+UnitesMade old st (Err why) told new staging = (told ≡ unfinished_reply why) × (new ≡ old) × (staging ≡ Some st)
+
+pub record UnitesStaging (old : Cached) (st : StagingData) (told : Reply) (new : Cached) (staging : Option StagingData) : Type 0 where
+  pub answer : Result State FinishFault
+  pub makes : MakesSegment st answer
+  pub unites : UnitesMade old st answer told new staging
+
+abbrev pub Unites : Cached → Option StagingData → Reply → Cached → Option StagingData → Type 0
+Unites old None told new staging = (told ≡ reply.NoStaging) × (new ≡ old) × (staging ≡ None)
+Unites old (Some st) told new staging = UnitesStaging old st told new staging

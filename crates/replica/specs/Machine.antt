@@ -5,8 +5,8 @@ use Rattle.replica.specs.declared.requests.Request.TheVariants as request
 use Rattle.replica.specs.declared.replies.Reply.{Reply}
 use Rattle.replica.specs.Parts.{ReplicaData, SameBeside}
 use Rattle.replica.specs.AtSegment.{Opens, Takes, Fronts, TellsGap, TellsStatus, Reads, Folds, Discards, TidiesUp, TellsNext}
-use Rattle.replica.specs.Gossiping.{Asks, RepliesTo, Absorbs}
-use Rattle.replica.specs.Hydrating.{FreezesAs, Pieces, Stages, AddsTo, Finishes}
+use Rattle.replica.specs.Gossiping.{Asks, RepliesTo, RepliesWithin, Absorbs}
+use Rattle.replica.specs.Hydrating.{FreezesAs, Pieces, Stages, AddsTo, Finishes, Unites}
 
 abbrev pub IsReply : ReplicaData → Request → Reply → ReplicaData → Type 0
 IsReply old (request.Open roster) told new = Opens old.cached roster told new.cached × SameBeside old new
@@ -17,6 +17,7 @@ IsReply old request.State told new = TellsStatus old.cached.segment told × (new
 IsReply old (request.Read page point) told new = Reads old.cached page point told new.cached × SameBeside old new
 IsReply old request.Ask told new = Asks old.cached.segment told × (new ≡ old)
 IsReply old (request.Answer summary) told new = RepliesTo old.cached.segment summary told × (new ≡ old)
+IsReply old (request.AnswerWithin summary most) told new = RepliesWithin old.cached.segment summary most told × (new ≡ old)
 IsReply old (request.Absorb summary delta) told new = Absorbs old.cached summary delta told new.cached × SameBeside old new
 IsReply old (request.Fold page) told new = Folds old.cached page told new.cached × SameBeside old new
 IsReply old request.Discard told new = Discards old.cached told new.cached × SameBeside old new
@@ -29,4 +30,5 @@ IsReply old (request.Stage name total) told new =
 IsReply old (request.Add piece) told new =
     AddsTo old.staging piece told new.staging × (new.cached ≡ old.cached) × (new.snapshot ≡ old.snapshot)
 IsReply old request.Finish told new = Finishes old.cached old.staging told new.cached new.staging × (new.snapshot ≡ old.snapshot)
+IsReply old request.Unite told new = Unites old.cached old.staging told new.cached new.staging × (new.snapshot ≡ old.snapshot)
 IsReply old (request.Next after) told new = TellsNext old.cached.segment after told × (new ≡ old)

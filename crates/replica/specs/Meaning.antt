@@ -24,13 +24,15 @@ use Rattle.replica.specs.Machine.{IsReply}
 
 -- ---- one request
 -- the facts that the segment means after a request and its reply, where `brought` are those that a delta or a staging brings: a fact
--- that was taken joins them, and so do those of an absorbed delta; a new segment means none, and a staged one those of its snapshot
+-- that was taken joins them, and so do those of an absorbed delta and of a united staging; a new segment means none, and one that stands
+-- in its place those of its snapshot
 abbrev pub facts_after : List Fact → List Fact → Request → Reply → List Fact
 facts_after facts brought (request.Open roster) reply.Opened = []
 facts_after facts brought (request.Take fact) reply.Changed = facts ++ fact ∷ []
 facts_after facts brought (request.Take fact) reply.Unchanged = facts ++ fact ∷ []
 facts_after facts brought (request.Absorb summary delta) reply.Absorbed = facts ++ brought
 facts_after facts brought request.Finish reply.Restored = brought
+facts_after facts brought request.Unite reply.United = facts ++ brought
 facts_after facts brought asked told = facts
 
 -- the delta has what these facts of the log have beyond the summary
@@ -49,6 +51,7 @@ Brings roster log old (request.Open readers) brought = readers ≡ roster
 Brings roster log old (request.Take fact) brought = Contains log fact
 Brings roster log old (request.Absorb summary delta) brought = BringsDelta roster log summary delta brought
 Brings roster log old request.Finish brought = BringsStaging roster log old.staging brought
+Brings roster log old request.Unite brought = BringsStaging roster log old.staging brought
 Brings roster log old asked brought = Unit {0}
 
 -- the segment of the replica means the facts

@@ -65,3 +65,7 @@ abbrev pub unfinished_reply : FinishFault → Reply
 unfinished_reply (finish.Missing index) = reply.Missing index
 unfinished_reply (finish.Malformed index) = reply.Malformed index
 unfinished_reply finish.Memory = reply.Memory
+
+abbrev pub united_reply : Result (Unit {0}) Refusal → Reply
+united_reply (Ok done) = reply.United
+united_reply (Err why) = refusal_reply why

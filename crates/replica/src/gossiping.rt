@@ -1,9 +1,9 @@
 //! The requests of gossip.
-ghost use Rattle.replica.specs.Gossiping.{Asks, RepliesTo, Absorbs};
+ghost use Rattle.replica.specs.Gossiping.{Asks, RepliesTo, RepliesWithin, Absorbs};
 
 use crate::replies::Reply;
-use crate::replying::{absorbed_reply, delta_reply};
-use gossip_core::{absorb, reply, summary};
+use crate::replying::{absorbed_reply, delta_reply, fault_reply};
+use gossip_core::{reply, reply_size, summary};
 use messages::{Delta, Summary};
 use read_cache::CachedSegment;
 use segment_core::Segment;
@@ -25,9 +25,20 @@ pub fn answer(segment: &Segment, summary: &Summary) -> Reply
     delta_reply(reply(segment, summary))
 }
 
+/// Tells what the segment has beyond a summary, where that has at most so many bytes. Its size is told before any of it is made.
+pub fn answer_within(segment: &Segment, summary: &Summary, most: u64) -> Reply
+    ensures replies { RepliesWithin segment.now summary.now most result }
+{
+    match reply_size(segment, summary) {
+        Ok(size) if size > u128::from(most) => Reply::Large,
+        Ok(_) => answer(segment, summary),
+        Err(fault) => fault_reply(fault),
+    }
+}
+
 /// Brings in what a delta has beyond the summary that it was made for.
 pub fn absorb_delta(cached: &mut CachedSegment, summary: &Summary, delta: &Delta) -> Reply
     ensures absorbs { Absorbs cached.old summary.now delta.now result cached.new }
 {
-    absorbed_reply(absorb(cached.segment_mut(), summary, delta))
+    absorbed_reply(cached.absorb(summary, delta))
 }

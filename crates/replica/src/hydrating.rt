@@ -1,9 +1,9 @@
 //! The requests of snapshots and stagings.
-ghost use Rattle.replica.specs.Hydrating.{FreezesAs, Pieces, AddsTo, Finishes};
+ghost use Rattle.replica.specs.Hydrating.{FreezesAs, Pieces, AddsTo, Finishes, Unites, JoinsStaged};
 
 use crate::at_segment::put;
 use crate::replies::Reply;
-use crate::replying::{unadded_reply, unfinished_reply};
+use crate::replying::{refusal_reply, unadded_reply, unfinished_reply};
 use hydration::{FreezeFault, Snapshot, Staging, freeze};
 use messages::Piece;
 use read_cache::CachedSegment;
@@ -68,5 +68,32 @@ pub fn finish(cached: &mut CachedSegment, staging: &mut Option<Staging>) -> Repl
             Reply::Restored
         }
         Err(fault) => unfinished_reply(fault),
+    }
+}
+
+/// Joins the segment that the staging's pieces make into the segment.
+pub fn unite(cached: &mut CachedSegment, staging: &mut Option<Staging>) -> Reply
+    ensures unites { Unites cached.old staging.old result cached.new staging.new }
+{
+    let made = match staging {
+        Some(staging) => staging.finish(),
+        None => return Reply::NoStaging,
+    };
+    match made {
+        Ok(segment) => join_staged(cached, &segment, staging),
+        Err(fault) => unfinished_reply(fault),
+    }
+}
+
+/// Joins the segment that a staging's pieces made into the segment. The staging is gone then, and stays where the join is refused.
+fn join_staged(cached: &mut CachedSegment, made: &Segment, staging: &mut Option<Staging>) -> Reply
+    ensures { JoinsStaged cached.old staging.old made.now result cached.new staging.new }
+{
+    match cached.join(made) {
+        Ok(()) => {
+            *staging = None;
+            Reply::United
+        }
+        Err(why) => refusal_reply(why),
     }
 }

@@ -3,7 +3,8 @@
 //! `Replica::step` carries out one request and gives one reply. What each reply says, and what the request leaves of the segment, of
 //! the snapshot that is told and of the staging that is filled, is `IsReply` (`specs/Machine`), by cases on the request, over any
 //! facts: each case is the contract of the call below that carries it out, and each refusal has a reply of its own, told exactly where
-//! that call is refused so. A refused request, and one that lacks memory, changes nothing but which images the cache keeps.
+//! that call is refused so. A refused request, and one that lacks memory, changes nothing; a read then may still change which images the
+//! cache keeps.
 #![tactic(auto)]
 
 mod at_segment;

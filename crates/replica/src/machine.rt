@@ -1,11 +1,11 @@
 ghost use Rattle.std.specs.Prelude.{◌≡◌, IfOk};
-ghost use Rattle.replica.specs.Refused.{IsRefusal};
-ghost use Rattle.replica.specs.Parts.{empty_replica, IsUnchanged};
+ghost use Rattle.replica.specs.Refused.{IsRefusal, IsLeft};
+ghost use Rattle.replica.specs.Parts.{empty_replica};
 ghost use Rattle.replica.specs.Machine.{IsReply};
 
 use crate::at_segment::{discard, fold, front, gap, next, open, read, state, take, tidy};
-use crate::gossiping::{absorb_delta, answer, ask};
-use crate::hydrating::{add, finish, freeze_as, piece};
+use crate::gossiping::{absorb_delta, answer, answer_within, ask};
+use crate::hydrating::{add, finish, freeze_as, piece, unite};
 use crate::replies::Reply;
 use crate::requests::Request;
 use hydration::{Snapshot, Staging};
@@ -48,11 +48,11 @@ impl Replica {
         }
     }
 
-    /// Carries out a request, and replies to it. A request that is refused, or lacks memory, changes nothing but which images the
-    /// cache keeps.
+    /// Carries out a request, and replies to it. One that is refused, or lacks memory, changes nothing; a read then may still change
+    /// which images the cache keeps.
     pub fn step(&mut self, request: Request) -> Reply
         ensures replies { IsReply self.old request result self.new }
-        ensures refused { IsRefusal result → IsUnchanged self.old self.new }
+        ensures refused { IsRefusal result → IsLeft request self.old self.new }
     {
         match request {
             Request::Open { roster } => open(&mut self.cached, roster),
@@ -63,6 +63,9 @@ impl Replica {
             Request::Read { page, point } => read(&mut self.cached, page, point),
             Request::Ask => ask(self.cached.segment()),
             Request::Answer { summary } => answer(self.cached.segment(), &summary),
+            Request::AnswerWithin { summary, most } => {
+                answer_within(self.cached.segment(), &summary, most)
+            }
             Request::Absorb { summary, delta } => {
                 absorb_delta(&mut self.cached, &summary, &delta)
             }
@@ -80,6 +83,7 @@ impl Replica {
             }
             Request::Add { piece } => add(&mut self.staging, piece),
             Request::Finish => finish(&mut self.cached, &mut self.staging),
+            Request::Unite => unite(&mut self.cached, &mut self.staging),
             Request::Next { after } => next(self.cached.segment(), after),
         }
     }

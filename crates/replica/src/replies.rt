@@ -12,7 +12,7 @@ pub enum Reply {
     Changed,
     /// The fact changed nothing.
     Unchanged,
-    /// The fact, or what the delta tells, does not fit what the segment knows. It does not come over a sound log.
+    /// The fact, or what the delta or the staged segment tells, does not fit what the segment knows. It does not come over a sound log.
     Refused { why: Refusal },
     Front { front: Front },
     Gap { gap: Gap },
@@ -28,6 +28,8 @@ pub enum Reply {
     BrokenBlockChain { page: u16, number: u64 },
     Summary { summary: Summary },
     Delta { delta: Delta },
+    /// The delta would have more bytes than were asked for.
+    Large,
     /// The segment means what it meant and what the answering one meant.
     Absorbed,
     /// The segment does not answer for the summary that the delta was made for: so much of it is uncovered.
@@ -54,6 +56,8 @@ pub enum Reply {
     NoStaging,
     /// The staged segment stands in place of the segment, and the staging is gone.
     Restored,
+    /// The segment means what it meant and what the staged one means, and the staging is gone.
+    United,
     /// The piece of this index has not come.
     Missing { index: u32 },
     /// The piece of this index cannot stand there after those before it.

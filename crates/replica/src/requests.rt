@@ -20,6 +20,8 @@ pub enum Request {
     Ask,
     /// What the segment has beyond the summary that another one told.
     Answer { summary: Summary },
+    /// The same, where it has at most so many bytes on the wire.
+    AnswerWithin { summary: Summary, most: u64 },
     /// What another replica answered to a summary that this one told.
     Absorb { summary: Summary, delta: Delta },
     /// A page is to be brought to the anchor.
@@ -38,6 +40,8 @@ pub enum Request {
     Add { piece: Piece },
     /// The segment that the staging's pieces make is to stand in place of the segment.
     Finish,
+    /// The segment that the staging's pieces make is to be joined into the segment.
+    Unite,
     /// The held record with the least key above this one, or above none.
     Next { after: Option<Key> },
 }
