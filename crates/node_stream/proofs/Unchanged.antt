@@ -21,11 +21,11 @@ use Rattle.hydration.specs.declared.finishing.FinishFault.{FinishFault}
 use Rattle.hydration.specs.declared.finishing.FinishFault.TheVariants as finish
 use Rattle.read_cache.specs.Cached.{Cached}
 use Rattle.replica.specs.AtSegment.{CommitsPlan, Opens}
-use Rattle.replica.specs.Hydrating.{FreezesAs, AddsTo, StandsFor, Finishes}
+use Rattle.replica.specs.Hydrating.{FreezesAs, AddsTo, StandsFor, Finishes, Unites, UnitesMade}
 use Rattle.replica.specs.Machine.{IsReply}
 use Rattle.replica.specs.Parts.{ReplicaData, IsUnchanged}
-use Rattle.replica.specs.Refused.{IsRefusal}
-use Rattle.replica.specs.Replying.{refusal_reply, taken_reply, fault_reply, tidied_reply, absorbed_reply, unadded_reply, unfinished_reply}
+use Rattle.replica.specs.Refused.{IsRefusal, IsLeft}
+use Rattle.replica.specs.Replying.{refusal_reply, taken_reply, fault_reply, tidied_reply, absorbed_reply, unadded_reply, unfinished_reply, united_reply}
 use Rattle.replica.specs.declared.requests.Request.{Request}
 use Rattle.replica.specs.declared.requests.Request.TheVariants as request
 use Rattle.replica.specs.declared.replies.Reply.{Reply}
@@ -59,6 +59,7 @@ refuses (reply.Above complete) h k = tt
 refuses (reply.BrokenBlockChain page number) h k = tt
 refuses (reply.Summary s) h k = absurd cc
 refuses (reply.Delta d) h k = absurd cc
+refuses reply.Large h k = absurd h
 refuses reply.Absorbed h k = absurd h
 refuses (reply.Uncovered s) h k = tt
 refuses reply.Folded h k = absurd h
@@ -75,6 +76,7 @@ refuses reply.Stranger h k = absurd h
 refuses (reply.Double index) h k = tt
 refuses reply.NoStaging h k = absurd h
 refuses reply.Restored h k = absurd h
+refuses reply.United h k = absurd h
 refuses (reply.Missing index) h k = tt
 refuses (reply.Malformed index) h k = tt
 refuses (reply.Next r) h k = absurd cc
@@ -147,6 +149,20 @@ finishes_tells : (old : Cached) (st : Option StagingData) (told : Reply) (new : 
 finishes_tells old None told new staging p = ap tells p.0
 finishes_tells old (Some st) told new staging p = stands_tells old st p.answer told new staging p.stands
 
+united_tells : (answer : Result (Unit {0}) Refusal) → tells (united_reply answer) ≡ false
+united_tells (Ok done) = refl
+united_tells (Err why) = refusal_tells why
+
+made_tells : (old : Cached) (st : StagingData) (answer : Result State FinishFault) (told : Reply) (new : Cached) (staging : Option StagingData)
+    → UnitesMade old st answer told new staging → tells told ≡ false
+made_tells old st (Ok made) told new staging p = ap tells p.is ∙ united_tells p.answer
+made_tells old st (Err why) told new staging p = ap tells p.0 ∙ unfinished_tells why
+
+unites_tells : (old : Cached) (st : Option StagingData) (told : Reply) (new : Cached) (staging : Option StagingData)
+    → Unites old st told new staging → tells told ≡ false
+unites_tells old None told new staging p = ap tells p.0
+unites_tells old (Some st) told new staging p = made_tells old st p.answer told new staging p.unites
+
 -- ---- each request
 same_is_unchanged : (old new : ReplicaData) → new ≡ old → IsUnchanged old new
 same_is_unchanged old new e = record {
@@ -155,27 +171,37 @@ same_is_unchanged old new e = record {
   staging = ap (λ r. r.staging) e;
 }
 
-pub told_unchanged : (old : ReplicaData) (asked : Request) (told : Reply) (new : ReplicaData) → IsReply old asked told new
+told_by : (old : ReplicaData) (asked : Request) (told : Reply) (new : ReplicaData) → IsReply old asked told new
     → (IsRefusal told → IsUnchanged old new) → TakesMemory told → IsUnchanged old new
-told_unchanged old (request.Open roster) told new h r t = r (refuses told t (opens_tells old.cached roster told new.cached h.0))
-told_unchanged old (request.Take fact) told new h r t = r (refuses told t (ap tells h.0.is ∙ taken_tells h.0.answer))
-told_unchanged old request.Front told new h r t = same_is_unchanged old new h.1
-told_unchanged old request.Gap told new h r t = same_is_unchanged old new h.1
-told_unchanged old request.State told new h r t = same_is_unchanged old new h.1
-told_unchanged old (request.Read page point) told new h r t = record {
+told_by old (request.Open roster) told new h r t = r (refuses told t (opens_tells old.cached roster told new.cached h.0))
+told_by old (request.Take fact) told new h r t = r (refuses told t (ap tells h.0.is ∙ taken_tells h.0.answer))
+told_by old request.Front told new h r t = same_is_unchanged old new h.1
+told_by old request.Gap told new h r t = same_is_unchanged old new h.1
+told_by old request.State told new h r t = same_is_unchanged old new h.1
+told_by old (request.Read page point) told new h r t = record {
   cached = record { segment = h.0.segment; pages = h.0.pages };
   snapshot = h.1.snapshot;
   staging = h.1.staging;
 }
-told_unchanged old request.Ask told new h r t = same_is_unchanged old new h.1
-told_unchanged old (request.Answer summary) told new h r t = same_is_unchanged old new h.1
-told_unchanged old (request.Absorb summary delta) told new h r t = r (refuses told t (ap tells h.0.is ∙ absorbed_tells h.0.answer))
-told_unchanged old (request.Fold page) told new h r t = r (refuses told t (commits_tells old.cached h.0.plan told new.cached h.0.commits))
-told_unchanged old request.Discard told new h r t = r (refuses told t (ap tells h.0.is))
-told_unchanged old request.Tidy told new h r t = r (refuses told t (ap tells h.0.is ∙ tidied_tells h.0.answer))
-told_unchanged old (request.Freeze name) told new h r t = r (refuses told t (freezes_tells old.cached.segment name old.snapshot told new.snapshot h.0))
-told_unchanged old (request.Piece index) told new h r t = same_is_unchanged old new h.1
-told_unchanged old (request.Stage name total) told new h r t = r (refuses told t (ap tells h.0.0))
-told_unchanged old (request.Add piece) told new h r t = r (refuses told t (adds_tells old.staging piece told new.staging h.0))
-told_unchanged old request.Finish told new h r t = r (refuses told t (finishes_tells old.cached old.staging told new.cached new.staging h.0))
-told_unchanged old (request.Next after) told new h r t = same_is_unchanged old new h.1
+told_by old request.Ask told new h r t = same_is_unchanged old new h.1
+told_by old (request.Answer summary) told new h r t = same_is_unchanged old new h.1
+told_by old (request.AnswerWithin summary most) told new h r t = same_is_unchanged old new h.1
+told_by old (request.Absorb summary delta) told new h r t = r (refuses told t (ap tells h.0.is ∙ absorbed_tells h.0.answer))
+told_by old (request.Fold page) told new h r t = r (refuses told t (commits_tells old.cached h.0.plan told new.cached h.0.commits))
+told_by old request.Discard told new h r t = r (refuses told t (ap tells h.0.is))
+told_by old request.Tidy told new h r t = r (refuses told t (ap tells h.0.is ∙ tidied_tells h.0.answer))
+told_by old (request.Freeze name) told new h r t = r (refuses told t (freezes_tells old.cached.segment name old.snapshot told new.snapshot h.0))
+told_by old (request.Piece index) told new h r t = same_is_unchanged old new h.1
+told_by old (request.Stage name total) told new h r t = r (refuses told t (ap tells h.0.0))
+told_by old (request.Add piece) told new h r t = r (refuses told t (adds_tells old.staging piece told new.staging h.0))
+told_by old request.Finish told new h r t = r (refuses told t (finishes_tells old.cached old.staging told new.cached new.staging h.0))
+told_by old request.Unite told new h r t = r (refuses told t (unites_tells old.cached old.staging told new.cached new.staging h.0))
+told_by old (request.Next after) told new h r t = same_is_unchanged old new h.1
+
+left_unchanged : (asked : Request) (old new : ReplicaData) → IsLeft asked old new → IsUnchanged old new
+left_unchanged (request.Read page point) old new left = left
+left_unchanged asked old new left = same_is_unchanged old new left
+
+pub told_unchanged : (old : ReplicaData) (asked : Request) (told : Reply) (new : ReplicaData) → IsReply old asked told new
+    → (IsRefusal told → IsLeft asked old new) → TakesMemory told → IsUnchanged old new
+told_unchanged old asked told new h r t = told_by old asked told new h (λ k. left_unchanged asked old new (r k)) t

@@ -4,7 +4,7 @@ use Rattle.line_stream.specs.Lines.{AnswersEach}
 use Rattle.frame_stream.specs.Inside.{AreInside}
 use Rattle.replica.specs.Machine.{IsReply}
 use Rattle.replica.specs.Parts.{ReplicaData, IsUnchanged}
-use Rattle.replica.specs.Refused.{IsRefusal}
+use Rattle.replica.specs.Refused.{IsRefusal, IsLeft}
 use Rattle.replica.specs.declared.replies.Reply.{Reply}
 use Rattle.node_stream.specs.Reading.{request_of}
 use Rattle.node_stream.specs.Telling.{line_of, fault_line}
@@ -31,11 +31,12 @@ by_lines = record { many = λ line. None; asks = request_of; reply = line_of; fa
 abbrev pub by_frames : Spoken
 by_frames = record { many = many_in; asks = request_in; reply = frame_of; fault = fault_frame; memory = codes "memory"; long = codes "long frame" }
 
--- the replica carries out the request, and the text is that of its reply; a refusal changes nothing but which images the cache keeps
+-- the replica carries out the request, and the text is that of its reply; a refused read may change which images the cache keeps, and any
+-- other refusal changes nothing
 pub record TellsReply (form : Spoken) (asked : Asked) (old : ReplicaData) (text : List ℕ) (new : ReplicaData) : Type 0 where
   pub told : Reply
   pub replies : IsReply old asked.request told new
-  pub refused : IsRefusal told → IsUnchanged old new
+  pub refused : IsRefusal told → IsLeft asked.request old new
   pub is : text ≡ form.reply asked.window told
 
 -- the replica may carry out what is asked with some reply

@@ -3,7 +3,7 @@ use Rattle.std.specs.Prelude.{ℕ, ◌+◌, ◌==◌, nat_lt, List, length, take
 use Rattle.replica.specs.declared.requests.Request.TheVariants as request
 use Rattle.script_text.specs.Number.{decimal_value}
 use Rattle.node_stream.specs.Asking.{asked}
-use Rattle.node_stream.specs.Reading.{◌>>=◌, fact_in, summary_in, delta_in, piece_in, request_of}
+use Rattle.node_stream.specs.Reading.{◌>>=◌, fact_in, summary_in, delta_in, piece_in, most_of, answer_within, request_of}
 use Rattle.node_stream.specs.declared.asked.Asked.{Asked}
 use Rattle.node_stream.specs.declared.faults.LineFault.{LineFault}
 use Rattle.node_stream.specs.declared.faults.LineFault.TheVariants as fault
@@ -18,6 +18,26 @@ take_frame bytes = fact_in bytes >>= (λ f. Ok (asked (request.Take f)))
 
 abbrev pub answer_frame : List ℕ → Result Asked LineFault
 answer_frame bytes = summary_in bytes >>= (λ s. Ok (asked (request.Answer s)))
+
+-- a number, and the bytes behind it and a space
+abbrev pub numbered : Option ℕ → List ℕ → Option (ℕ × List ℕ)
+numbered None bytes = None
+numbered (Some number) bytes = Some (number, bytes)
+
+abbrev pub limited_by : Option (List ℕ × List ℕ) → Option (ℕ × List ℕ)
+limited_by None = None
+limited_by (Some (digits, bytes)) = numbered (most_of digits) bytes
+
+abbrev pub limited : List ℕ → Option (ℕ × List ℕ)
+limited text = limited_by (halves text)
+
+-- the bytes of a summary, to be answered within so many
+abbrev pub within_both : Option (ℕ × List ℕ) → Result Asked LineFault
+within_both None = Err fault.Form
+within_both (Some (most, bytes)) = answer_within (Some most) (summary_in bytes)
+
+unfoldable pub within_frame : List ℕ → Result Asked LineFault
+within_frame text = within_both (limited text)
 
 abbrev pub add_frame : List ℕ → Result Asked LineFault
 add_frame bytes = piece_in bytes >>= (λ p. Ok (asked (request.Add p)))
@@ -50,6 +70,7 @@ halves_frame frame None = request_of frame
 halves_frame frame (Some (word, rest)) =
     if bytes_eq word (codes "take") then take_frame rest
     else if bytes_eq word (codes "answer") then answer_frame rest
+    else if bytes_eq word (codes "within") then within_frame rest
     else if bytes_eq word (codes "add") then add_frame rest
     else if bytes_eq word (codes "absorb") then absorb_frame rest
     else request_of frame

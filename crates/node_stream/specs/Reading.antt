@@ -12,6 +12,7 @@ use Rattle.redo_wire.specs.DeltaReading.{decoded_delta}
 use Rattle.redo_wire.specs.PieceReading.{decoded_piece}
 use Rattle.redo_wire.specs.declared.faults.WireFault.{WireFault}
 use Rattle.replica.specs.declared.requests.Request.TheVariants as request
+use Rattle.script_text.specs.Number.{decimal_value}
 use Rattle.script_text.specs.Parts.{parts_at}
 use Rattle.script_text.specs.FactLine.{decoded}
 use Rattle.script_text.specs.Fields.{Form, form, of_one, of_two, read_by}
@@ -48,6 +49,7 @@ lone_word word =
     else if bytes_eq word (codes "discard") then Some (asked request.Discard)
     else if bytes_eq word (codes "tidy") then Some (asked request.Tidy)
     else if bytes_eq word (codes "finish") then Some (asked request.Finish)
+    else if bytes_eq word (codes "unite") then Some (asked request.Unite)
     else None
 
 -- ---- a word and numbers
@@ -137,6 +139,18 @@ take_line digits = fact_of_digits digits >>= (λ f. Ok (asked (request.Take f)))
 unfoldable pub answer_line : List ℕ → Result Asked LineFault
 answer_line digits = summary_of_digits digits >>= (λ s. Ok (asked (request.Answer s)))
 
+-- how many bytes a delta may have
+abbrev pub most_of : List ℕ → Option ℕ
+most_of digits = decimal_value 4294967295 digits
+
+-- a summary to be answered within so many bytes
+abbrev pub answer_within : Option ℕ → Result SummaryData LineFault → Result Asked LineFault
+answer_within None read = Err fault.Form
+answer_within (Some most) read = read >>= (λ s. Ok (asked (request.AnswerWithin s most)))
+
+unfoldable pub within_line : List ℕ → List ℕ → Result Asked LineFault
+within_line digits limit = answer_within (most_of limit) (summary_of_digits digits)
+
 unfoldable pub add_line : List ℕ → Result Asked LineFault
 add_line digits = piece_of_digits digits >>= (λ p. Ok (asked (request.Add p)))
 
@@ -156,10 +170,12 @@ field_line word field =
     else if bytes_eq word (codes "add") then add_line field
     else formed (numbers_line (word ∷ field ∷ []))
 
--- a word and two fields: bytes of a summary and of the delta that answers it, or numbers
+-- a word and two fields: bytes of a summary and of the delta that answers it, or a number; or numbers
 unfoldable pub fields_line : List ℕ → List ℕ → List ℕ → Result Asked LineFault
 fields_line word field next =
-    if bytes_eq word (codes "absorb") then absorb_line field next else formed (numbers_line (word ∷ field ∷ next ∷ []))
+    if bytes_eq word (codes "absorb") then absorb_line field next
+    else if bytes_eq word (codes "answer") then within_line field next
+    else formed (numbers_line (word ∷ field ∷ next ∷ []))
 
 -- what the words of a line ask
 unfoldable pub words_line : List (List ℕ) → Result Asked LineFault

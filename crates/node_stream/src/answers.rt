@@ -45,6 +45,7 @@ pub fn told(
         }
         Reply::Summary { summary: told } => summary(alloc, told),
         Reply::Delta { delta: told } => delta(alloc, told),
+        Reply::Large => Ok(Answer::Fixed("large\n")),
         Reply::Absorbed => Ok(Answer::Fixed("absorbed\n")),
         Reply::Uncovered { shown } => uncovered(alloc, *shown),
         Reply::Folded => Ok(Answer::Fixed("folded\n")),
@@ -61,6 +62,7 @@ pub fn told(
         Reply::Double { index } => one(alloc, "double", u64::from(*index)),
         Reply::NoStaging => Ok(Answer::Fixed("no staging\n")),
         Reply::Restored => Ok(Answer::Fixed("restored\n")),
+        Reply::United => Ok(Answer::Fixed("united\n")),
         Reply::Missing { index } => one(alloc, "missing", u64::from(*index)),
         Reply::Malformed { index } => one(alloc, "malformed", u64::from(*index)),
         Reply::Next { redo } => record(alloc, redo),

@@ -3,20 +3,18 @@
 ghost use Rattle.std.specs.Prelude.{◌≡◌, ◌<◌, ◌==◌, length, position, option_map, IfOk, IfSome};
 ghost use Rattle.node_stream.specs.Asking.{IsInside};
 ghost use Rattle.node_stream.specs.Reading.{Gives};
-ghost use Rattle.node_stream.specs.FrameReading.{halves, absorbed, take_frame, answer_frame, add_frame, absorb_frame};
+ghost use Rattle.node_stream.specs.FrameReading.{halves, absorbed, limited, take_frame, answer_frame, within_frame, add_frame, absorb_frame};
 ghost use Rattle.node_stream.specs.FrameReading.{request_in};
 
 use crate::asked::Asked;
 use crate::faults::{LineError, LineFault};
+use crate::numbered::LONG;
 use crate::requests::read_line;
 use crate::values::{delta_in, fact_in, piece_in, summary_in};
 use memchr::memchr;
 use replica::Request;
 use script_text::{is_word, read_number};
 use std::alloc::Global;
-
-/// The most bytes of a summary in front of its delta.
-const LONG: u64 = 4294967295;
 
 /// The place of the first space.
 fn first_space(text: &[u8]) -> Option<usize>
@@ -50,6 +48,26 @@ fn answer(alloc: Global, bytes: &[u8]) -> Result<Asked, LineError>
 {
     let summary = summary_in(alloc, bytes)?;
     Ok(Asked::new(Request::Answer { summary }))
+}
+
+#[tactic(auto, unfolding(crate::specs::FrameReading::within_frame))]
+fn answer_within(alloc: Global, text: &[u8]) -> Result<Asked, LineError>
+    ensures asks { Gives (λ x. x) result (within_frame text.now) }
+    ensures inside { IfOk result (λ a. IsInside a.window) }
+{
+    let Some((most, bytes)) = limited(text) else {
+        return Err(LineError::Fault(LineFault::Form));
+    };
+    let summary = summary_in(alloc, bytes)?;
+    Ok(Asked::new(Request::AnswerWithin { summary, most }))
+}
+
+/// A number of bytes, and what stands behind it and a space.
+fn limited(text: &[u8]) -> Option<(u64, &[u8])>
+    ensures { option_map (λ p. (p.0, p.1.now)) result ≡ limited text.now }
+{
+    let (digits, behind) = halves(text)?;
+    Some((read_number(digits, LONG)?, behind))
 }
 
 fn add(alloc: Global, bytes: &[u8]) -> Result<Asked, LineError>
@@ -100,6 +118,8 @@ pub fn read_frame(alloc: Global, frame: &[u8]) -> Result<Asked, LineError>
         take(alloc, rest)
     } else if is_word(word, b"answer".as_slice()) {
         answer(alloc, rest)
+    } else if is_word(word, b"within".as_slice()) {
+        answer_within(alloc, rest)
     } else if is_word(word, b"add".as_slice()) {
         add(alloc, rest)
     } else if is_word(word, b"absorb".as_slice()) {

@@ -16,7 +16,7 @@ Input, a line each, ended by LF; words stand between single spaces:
   read G Q OFF LEN      LEN bytes from OFF on of page G at point Q
   next E N              the held record with the least key above epoch E and number N
   ask                   the summary of the segment
-  answer HEX            what the segment has beyond a summary
+  answer HEX [N]        what the segment has beyond a summary; with N large where that is more than N bytes
   absorb HEX HEX        a summary that was told here, and the delta that answers it
   fold G                page G is brought to the anchor
   discard, tidy         forget what is folded; fold all, and forget what is not needed
@@ -25,12 +25,14 @@ Input, a line each, ended by LF; words stand between single spaces:
   stage NAME T          a staging for the T pieces of a snapshot
   add HEX               a piece of it
   finish                the segment of its pieces stands in place of the segment
+  unite                 the segment of its pieces is joined into the segment
 
 Each line is answered by one line, before the next one is looked at. A line that asks for nothing is answered bad line, bad hex or wire N,
 one of more than 67108864 bytes long line; memory says that there was no memory, and then nothing has changed.
 
 With --frames each request and each answer is a frame: a length in four bytes, the highest first, and so many bytes, those of the line
-without its LF. Bytes stand there as they are in place of HEX; absorb has the number of the summary's bytes and a space in front of both.
+without its LF. Bytes stand there as they are in place of HEX; absorb has the number of the summary's bytes and a space in front of both,
+and answer HEX N is within, a space, N, a space and the summary's bytes.
 A frame that asks for nothing is answered bad request or wire N, one of more than 67108864 bytes long frame. Behind the word many and a
 space stand whole frames of requests; the answer is the frames of their answers.
 

@@ -14,8 +14,8 @@ use script_text::{is_word, read_numbers};
 /// An epoch or a page.
 const SHORT: u64 = 65535;
 
-/// The index of a piece, or a number of pieces.
-const LONG: u64 = 4294967295;
+/// The index of a piece, a number of pieces, or a number of bytes in a message.
+pub const LONG: u64 = 4294967295;
 
 /// The bytes of a page.
 const PAGE: u64 = 4096;
@@ -40,6 +40,8 @@ pub fn word(word: &[u8]) -> Option<Asked>
         Request::Tidy
     } else if is_word(word, b"finish".as_slice()) {
         Request::Finish
+    } else if is_word(word, b"unite".as_slice()) {
+        Request::Unite
     } else {
         return None;
     };

@@ -2,15 +2,15 @@
 
 ghost use Rattle.std.specs.Prelude.{◌≡◌, ◌∷◌, [], map, IfOk, IfSome};
 ghost use Rattle.node_stream.specs.Asking.{IsInside};
-ghost use Rattle.node_stream.specs.Reading.{Gives, formed as formed_of, take_line, answer_line, add_line, absorb_line};
+ghost use Rattle.node_stream.specs.Reading.{Gives, formed as formed_of, take_line, answer_line, within_line, add_line, absorb_line};
 ghost use Rattle.node_stream.specs.Reading.{field_line, fields_line, words_line, request_of};
 
 use crate::asked::Asked;
 use crate::faults::{LineError, LineFault};
-use crate::numbered::{numbers, word};
+use crate::numbered::{LONG, numbers, word};
 use crate::values::{delta, fact, piece, summary};
 use replica::Request;
-use script_text::{first_parts, is_word};
+use script_text::{first_parts, is_word, read_number};
 use std::alloc::Global;
 
 #[tactic(auto, unfolding(crate::specs::Reading::take_line))]
@@ -29,6 +29,18 @@ fn answer(alloc: Global, digits: &[u8]) -> Result<Asked, LineError>
 {
     let summary = summary(alloc, digits)?;
     Ok(Asked::new(Request::Answer { summary }))
+}
+
+#[tactic(auto, unfolding(crate::specs::Reading::within_line))]
+fn answer_within(alloc: Global, digits: &[u8], limit: &[u8]) -> Result<Asked, LineError>
+    ensures asks { Gives (λ x. x) result (within_line digits.now limit.now) }
+    ensures inside { IfOk result (λ a. IsInside a.window) }
+{
+    let Some(most) = read_number(limit, LONG) else {
+        return Err(LineError::Fault(LineFault::Form));
+    };
+    let summary = summary(alloc, digits)?;
+    Ok(Asked::new(Request::AnswerWithin { summary, most }))
 }
 
 #[tactic(auto, unfolding(crate::specs::Reading::add_line))]
@@ -92,6 +104,8 @@ fn with_fields(
 {
     if is_word(word, b"absorb".as_slice()) {
         absorb(alloc, field, next)
+    } else if is_word(word, b"answer".as_slice()) {
+        answer_within(alloc, field, next)
     } else {
         formed(numbers(words))
     }

@@ -1,4 +1,4 @@
-use Rattle.std.proofs.Common.{inl, inr, refl, ⊎_elim}
+use Rattle.std.proofs.Common.{inl, inr, ⊎_elim}
 use Rattle.node_stream.proofs.Unchanged.{told_unchanged}
 use Rattle.node_stream.proofs.node.answer_request.Goals as goal
 
