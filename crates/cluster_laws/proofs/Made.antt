@@ -1,5 +1,5 @@
 -- Snapshots of states that meant some facts, the pieces of such, and stagings of these.
-use Rattle.std.proofs.Common.{◌≡◌, ◌≢◌, ℕ, ⊎_elim, List, sym, ◌∙◌, subst, Option, Some, rules}
+use Rattle.std.proofs.Common.{◌≡◌, ◌≢◌, ℕ, ◌<◌, ◌⊎◌, inl, inr, ⊎_elim, List, [], refl, sym, ◌∙◌, subst, arith, Option, Some, None, rules}
 use Rattle.std.specs.List.{Contains}
 use Rattle.std.proofs.lemmas.Option.{same_Some}
 use Rattle.redo_core.specs.Sets.{SameSet}
@@ -12,7 +12,8 @@ use Rattle.state_laws.specs.State.{State}
 use Rattle.state_laws.specs.Means.{Means}
 use Rattle.hydration.specs.Snapshots.{SnapshotData, Freezes, IsContentAt, IsPieceOf}
 use Rattle.hydration.specs.Stagings.{StagingData, piece_at, IsStranger, IsStaging}
-use Rattle.hydration.specs.Hydrating.{Hydrates, IsOfState}
+use Rattle.hydration.specs.Placing.{IsComplete}
+use Rattle.hydration.specs.Hydrating.{Hydrates, IsOfState, IsOfSoundState}
 use Rattle.replica.specs.Meaning.{BringsStaging}
 use Rattle.cluster_laws.proofs.Alike.{means_same, same_snapshots}
 use Rattle.replica.proofs.Restarts.{same_or_not}
@@ -38,6 +39,11 @@ IsOfStaged roster log staged p = (facts : List Fact) × Contains staged facts ×
 abbrev pub KeepsStaged : ℕ → List Fact → List (List Fact) → Option StagingData → Type 0
 KeepsStaged roster log staged kept =
     (st : StagingData) → kept ≡ Some st → (index : ℕ) (p : PieceData) → piece_at st index ≡ Some p → IsOfStaged roster log staged p
+
+-- what such a staging brings, where its pieces are all of these facts
+pub record IsOfFacts (roster : ℕ) (log facts : List Fact) (staged : List (List Fact)) (st : StagingData) : Type 0 where
+  pub brings : (made : State) → Hydrates st made → BringsStaging roster log (Some st) facts
+  pub whole : IsComplete st → (staged ≡ []) ⊎ IsOfSoundState st
 
 -- ---- pieces of two snapshots that bring the same
 content_too : (d e : SnapshotData) (index : ℕ) (content : PieceContent) → e.pages ≡ d.pages → e.records ≡ d.records → index ≢ 0
@@ -75,10 +81,8 @@ module _ (roster : ℕ) (log : List Fact) (staged : List (List Fact)) (st : Stag
       })
       (same_or_not index 0)
 
-  pub brings_facts : (made : State) → Hydrates st made → BringsStaging roster log (Some st) facts
-  brings_facts made hydrates =
-      let first : PieceData = hydrates.head.0 in
-      let head : piece_at st 0 ≡ Some first = hydrates.head.1 in
+  brings_all : (first : PieceData) → piece_at st 0 ≡ Some first → BringsStaging roster log (Some st) facts
+  brings_all first head =
       let one = pieces 0 first head in
       let its = own_piece st first (form 0 first head).1 in
       let of_state : IsOfState one.2.1.state one.2.0 st = record {
@@ -88,3 +92,18 @@ module _ (roster : ℕ) (log : List Fact) (staged : List (List Fact)) (st : Stag
         pieces = of_first first head;
       } in
       (one.2.1.state, one.2.0, of_state, means_same roster log one.0 facts one.2.1.state (same one.0 one.1) one.2.1.means)
+
+  pub brings_facts : (made : State) → Hydrates st made → BringsStaging roster log (Some st) facts
+  brings_facts made hydrates = brings_all hydrates.head.0 hydrates.head.1
+
+  -- the pieces of a staging for some, if all have come, are of one snapshot of a state that means facts of the log
+  of_sound : (found : Option PieceData) → piece_at st 0 ≡ found → 0 < st.total → IsComplete st → IsOfSoundState st
+  of_sound None at some complete = absurd (complete 0 (some, at))
+  of_sound (Some first) at some complete =
+      let b = brings_all first at in (b.0, b.1, b.2, (roster, log, facts, sound, b.3))
+
+  pub whole_or_none : (st.total ≡ 0 → staged ≡ []) → IsComplete st → (staged ≡ []) ⊎ IsOfSoundState st
+  whole_or_none empty complete = ⊎_elim
+      (λ (none : st.total ≡ 0). inl (empty none))
+      (λ (some : 0 < st.total). inr (of_sound (piece_at st 0) refl some complete))
+      (let t : (st.total ≡ 0) ⊎ (0 < st.total) = grind arith in t)

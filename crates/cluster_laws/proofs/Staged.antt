@@ -1,10 +1,11 @@
 -- A node's snapshot and staging after a turn, where they were of snapshots of some facts.
-use Rattle.std.proofs.Common.{◌≡◌, ◌≢◌, ℕ, ⊎_elim, List, [], ◌∷◌, sym, ◌∙◌, subst, Option, Some, None, rules}
+use Rattle.std.proofs.Common.{◌≡◌, ◌≢◌, ℕ, ⊎_elim, List, [], ◌∷◌, ap, sym, ◌∙◌, subst, ◌<◌, arith, Option, Some, None, rules}
 use Rattle.std.proofs.lemmas.Option.{same_Some}
 use Rattle.redo_core.specs.declared.facts.Fact.{Fact}
 use Rattle.redo_core.proofs.Members.{here, there}
 use Rattle.state_laws.specs.Means.{Means}
-use Rattle.hydration.specs.Stagings.{StagingData, staging_of, piece_at}
+use Rattle.messages.specs.Pieces.{PieceData}
+use Rattle.hydration.specs.Stagings.{StagingData, IsStaging, staging_of, piece_at}
 use Rattle.replica.specs.declared.requests.Request.{Request}
 use Rattle.replica.specs.declared.requests.Request.TheVariants as request
 use Rattle.replica.specs.declared.replies.Reply.{Reply}
@@ -12,7 +13,7 @@ use Rattle.replica.specs.Parts.{ReplicaData}
 use Rattle.replica.specs.Machine.{IsReply}
 use Rattle.cluster_laws.specs.Turns.{frozen_after, staged_after}
 use Rattle.cluster_laws.proofs.Beside.{StagingStays, IsGone, IsBegun, HasMore, staging_goes}
-use Rattle.cluster_laws.proofs.Made.{IsTold, KeepsMade, KeepsStaged}
+use Rattle.cluster_laws.proofs.Made.{IsTold, KeepsMade, KeepsStaged, own_piece}
 use Rattle.replica.proofs.Restarts.{same_or_not}
 
 module _ (roster : ℕ) (log facts frozen : List Fact) (asked : Request) (told : Reply) (old new : ReplicaData) where
@@ -63,3 +64,30 @@ module _ (roster : ℕ) (log brought : List Fact) (staged : List (List Fact)) wh
       u)
       t)
       (staging_goes asked told old new says)
+
+-- ---- a staging for no pieces has none
+abbrev pub IsFilled : List (List Fact) → Option StagingData → Type 0
+IsFilled staged kept = (st : StagingData) → kept ≡ Some st → st.total ≡ 0 → staged ≡ []
+
+-- a piece that it has taken is one of some
+some_pieces : (later : StagingData) (p : PieceData) → IsStaging later → piece_at later p.index ≡ Some p → later.total ≡ 0 → ⊥
+some_pieces later p form there none =
+    let is = form p.index p there in
+    let total : p.total ≡ later.total = (own_piece later p is.1).1 in
+    let low : p.index < p.total = is.2.index in
+    omega (arith, none, total, low)
+
+pub still_filled : (staged : List (List Fact)) (brought : List Fact) (asked : Request) (told : Reply) (old new : ReplicaData) → IsFilled staged old.staging
+    → IsReply old asked told new → IsFilled (staged_after staged brought asked told) new.staging
+still_filled staged brought asked told old new had says = λ st is none. ⊎_elim
+    (λ (stays : StagingStays old.staging new.staging asked told). stays.1 staged brought ∙ had st (sym stays.0 ∙ is) none)
+    (λ t. ⊎_elim
+    (λ (gone : IsGone new.staging asked told). absurd (let no : new.staging ≡ None = gone.0 in cc))
+    (λ u. ⊎_elim
+    (λ (begun : IsBegun new.staging asked told). ap (λ (a : Request). staged_after staged brought a told) begun.2)
+    (λ (more : HasMore old.staging new.staging asked told).
+    absurd (some_pieces more.later more.piece more.form more.adds.there
+    (ap (λ (x : StagingData). x.total) (same_Some more.later st (sym more.has ∙ is)) ∙ none)))
+    u)
+    t)
+    (staging_goes asked told old new says)

@@ -21,10 +21,10 @@ use Rattle.hydration.specs.declared.finishing.FinishFault.{FinishFault}
 use Rattle.hydration.specs.declared.finishing.FinishFault.TheVariants as finish
 use Rattle.read_cache.specs.Cached.{Cached}
 use Rattle.replica.specs.AtSegment.{CommitsPlan, Opens}
-use Rattle.replica.specs.Hydrating.{FreezesAs, AddsTo, StandsFor, Finishes, Unites, UnitesMade}
+use Rattle.replica.specs.Hydrating.{FreezesAs, AddsTo, StandsFor, Finishes, EndsInUnion, UnitesMade}
 use Rattle.replica.specs.Machine.{IsReply}
 use Rattle.replica.specs.Parts.{ReplicaData, IsUnchanged}
-use Rattle.replica.specs.Refused.{IsRefusal, IsLeft}
+use Rattle.replica.specs.Refused.{IsRefusal, IsAfterRefusal}
 use Rattle.replica.specs.Replying.{refusal_reply, taken_reply, fault_reply, tidied_reply, absorbed_reply, unadded_reply, unfinished_reply, united_reply}
 use Rattle.replica.specs.declared.requests.Request.{Request}
 use Rattle.replica.specs.declared.requests.Request.TheVariants as request
@@ -159,7 +159,7 @@ made_tells old st (Ok made) told new staging p = ap tells p.is ∙ united_tells 
 made_tells old st (Err why) told new staging p = ap tells p.0 ∙ unfinished_tells why
 
 unites_tells : (old : Cached) (st : Option StagingData) (told : Reply) (new : Cached) (staging : Option StagingData)
-    → Unites old st told new staging → tells told ≡ false
+    → EndsInUnion old st told new staging → tells told ≡ false
 unites_tells old None told new staging p = ap tells p.0
 unites_tells old (Some st) told new staging p = made_tells old st p.answer told new staging p.unites
 
@@ -198,10 +198,10 @@ told_by old request.Finish told new h r t = r (refuses told t (finishes_tells ol
 told_by old request.Unite told new h r t = r (refuses told t (unites_tells old.cached old.staging told new.cached new.staging h.0))
 told_by old (request.Next after) told new h r t = same_is_unchanged old new h.1
 
-left_unchanged : (asked : Request) (old new : ReplicaData) → IsLeft asked old new → IsUnchanged old new
+left_unchanged : (asked : Request) (old new : ReplicaData) → IsAfterRefusal asked old new → IsUnchanged old new
 left_unchanged (request.Read page point) old new left = left
 left_unchanged asked old new left = same_is_unchanged old new left
 
 pub told_unchanged : (old : ReplicaData) (asked : Request) (told : Reply) (new : ReplicaData) → IsReply old asked told new
-    → (IsRefusal told → IsLeft asked old new) → TakesMemory told → IsUnchanged old new
+    → (IsRefusal told → IsAfterRefusal asked old new) → TakesMemory told → IsUnchanged old new
 told_unchanged old asked told new h r t = told_by old asked told new h (λ k. left_unchanged asked old new (r k)) t

@@ -4,7 +4,7 @@ use Rattle.line_stream.specs.Lines.{AnswersEach}
 use Rattle.frame_stream.specs.Inside.{AreInside}
 use Rattle.replica.specs.Machine.{IsReply}
 use Rattle.replica.specs.Parts.{ReplicaData, IsUnchanged}
-use Rattle.replica.specs.Refused.{IsRefusal, IsLeft}
+use Rattle.replica.specs.Refused.{IsRefusal, IsAfterRefusal}
 use Rattle.replica.specs.declared.replies.Reply.{Reply}
 use Rattle.node_stream.specs.Reading.{request_of}
 use Rattle.node_stream.specs.Telling.{line_of, fault_line}
@@ -36,7 +36,7 @@ by_frames = record { many = many_in; asks = request_in; reply = frame_of; fault 
 pub record TellsReply (form : Spoken) (asked : Asked) (old : ReplicaData) (text : List ℕ) (new : ReplicaData) : Type 0 where
   pub told : Reply
   pub replies : IsReply old asked.request told new
-  pub refused : IsRefusal told → IsLeft asked.request old new
+  pub refused : IsRefusal told → IsAfterRefusal asked.request old new
   pub is : text ≡ form.reply asked.window told
 
 -- the replica may carry out what is asked with some reply

@@ -20,13 +20,13 @@ abbrev pub answer_frame : List ℕ → Result Asked LineFault
 answer_frame bytes = summary_in bytes >>= (λ s. Ok (asked (request.Answer s)))
 
 -- a number, and the bytes behind it and a space
-abbrev pub numbered : Option ℕ → List ℕ → Option (ℕ × List ℕ)
-numbered None bytes = None
-numbered (Some number) bytes = Some (number, bytes)
+abbrev pub under_limit : Option ℕ → List ℕ → Option (ℕ × List ℕ)
+under_limit None bytes = None
+under_limit (Some number) bytes = Some (number, bytes)
 
 abbrev pub limited_by : Option (List ℕ × List ℕ) → Option (ℕ × List ℕ)
 limited_by None = None
-limited_by (Some (digits, bytes)) = numbered (most_of digits) bytes
+limited_by (Some (digits, bytes)) = under_limit (most_of digits) bytes
 
 abbrev pub limited : List ℕ → Option (ℕ × List ℕ)
 limited text = limited_by (halves text)

@@ -13,20 +13,20 @@ use Rattle.gossip_core.proofs.OneReply.{one_reply}
 use Rattle.replica.specs.declared.replies.Reply.{Reply}
 use Rattle.replica.specs.declared.replies.Reply.TheVariants as reply
 use Rattle.replica.specs.Replying.{delta_reply, fault_reply}
-use Rattle.replica.specs.Gossiping.{RepliesTo, RepliesWithin, within}
+use Rattle.replica.specs.Gossiping.{RepliesTo, RepliesWithin, limited_reply}
 
 -- a broken chain is told exactly where pages are to be sent and there is one
 abbrev pub TellsBroken : (A : Type 0) → State → SummaryData → Result A ReadFault → Type 0
 TellsBroken A s summary answer =
     (page n : ℕ) → (answer ≡ Err (fault.BrokenBlockChain page n)) ↔ ((summary.anchor < s.base) × IsFirstBreak s page n)
 
-is_large : (most : ℕ) (d : DeltaData) → most < delta_len d → reply.Large ≡ within most (reply.Delta d)
+is_large : (most : ℕ) (d : DeltaData) → most < delta_len d → reply.Large ≡ limited_reply most (reply.Delta d)
 is_large most d lt = let n = delta_len d in let t : ltb most n ≡ true = grind (arith, nat_tests) in rw t refl
 
-fits : (most : ℕ) (d : DeltaData) → delta_len d ≤ most → reply.Delta d ≡ within most (reply.Delta d)
+fits : (most : ℕ) (d : DeltaData) → delta_len d ≤ most → reply.Delta d ≡ limited_reply most (reply.Delta d)
 fits most d le = let n = delta_len d in let t : ltb most n ≡ false = grind (arith, nat_tests) in rw t refl
 
-no_delta : (most : ℕ) (f : ReadFault) → fault_reply f ≡ within most (fault_reply f)
+no_delta : (most : ℕ) (f : ReadFault) → fault_reply f ≡ limited_reply most (fault_reply f)
 no_delta most (fault.Below min) = refl
 no_delta most (fault.Above complete) = refl
 no_delta most (fault.BrokenBlockChain page number) = refl
@@ -53,7 +53,7 @@ too_large s summary most size is whole broken lt = record {
   is = is_large most is.delta (subst (λ n. most < n) is.is lt);
 }
 
-fits_by : (most : ℕ) (answer : Result DeltaData ReadFault) → IfOk answer (λ d. delta_len d ≤ most) → delta_reply answer ≡ within most (delta_reply answer)
+fits_by : (most : ℕ) (answer : Result DeltaData ReadFault) → IfOk answer (λ d. delta_len d ≤ most) → delta_reply answer ≡ limited_reply most (delta_reply answer)
 fits_by most (Ok d) le = fits most d le
 fits_by most (Err f) le = no_delta most f
 
@@ -69,7 +69,7 @@ pub not_large : (s : State) (summary : SummaryData) (most size : ℕ) (told : Re
 not_large s summary most size told is le replies = record {
   whole = told;
   replies = replies;
-  is = subst (λ r. r ≡ within most r) (sym replies.is) (fits_by most replies.answer (sized s summary most size replies.answer is le replies.answers));
+  is = subst (λ r. r ≡ limited_reply most r) (sym replies.is) (fits_by most replies.answer (sized s summary most size replies.answer is le replies.answers));
 }
 
 -- there is no delta

@@ -27,7 +27,7 @@ use Rattle.replica.specs.Parts.{ReplicaData}
 use Rattle.replica.specs.Replying.{taken_reply, refusal_reply, absorbed_reply, unfinished_reply, united_reply}
 use Rattle.replica.specs.AtSegment.{LacksMemory, Opens}
 use Rattle.segment_join.specs.Joining.{MeansUnion}
-use Rattle.replica.specs.Hydrating.{Finishes, StandsFor, Unites, UnitesMade}
+use Rattle.replica.specs.Hydrating.{Finishes, StandsFor, EndsInUnion, UnitesMade}
 use Rattle.replica.specs.Meaning.{facts_after, BringsDelta, BringsStaging, ReplicaMeans, StepMeans, RunsMean}
 
 -- the facts, one sound log, and what the old segment means of it
@@ -143,7 +143,7 @@ united_made roster log facts brought old new st staging told (Err why) stood bri
     (subst (λ c. Means roster log facts c.segment) (sym says.1) stood.means))
 
 unites : (roster : ℕ) (log facts brought : List Fact) (old new : Cached) (before after : Option StagingData) (told : Reply)
-    → Stood roster log facts old.segment → BringsStaging roster log before brought → Unites old before told new after
+    → Stood roster log facts old.segment → BringsStaging roster log before brought → EndsInUnion old before told new after
     → Means roster log (facts_after facts brought request.Unite told) new.segment
 unites roster log facts brought old new None after told stood brings says =
     subst (λ r. Means roster log (facts_after facts brought request.Unite r) new.segment) (sym says.0)

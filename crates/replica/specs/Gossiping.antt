@@ -42,15 +42,15 @@ pub record RepliesTo (s : State) (summary : SummaryData) (told : Reply) : Type 0
   pub is : told ≡ delta_reply answer
 
 -- in the place of a delta of more than so many bytes on the wire stands `Large`
-abbrev pub within : ℕ → Reply → Reply
-within most (reply.Delta d) = if nat_lt most (delta_len d) then reply.Large else reply.Delta d
-within most told = told
+abbrev pub limited_reply : ℕ → Reply → Reply
+limited_reply most (reply.Delta d) = if nat_lt most (delta_len d) then reply.Large else reply.Delta d
+limited_reply most told = told
 
 -- the segment replies to a summary as without a limit, but for a delta that is larger
 pub record RepliesWithin (s : State) (summary : SummaryData) (most : ℕ) (told : Reply) : Type 0 where
   pub whole : Reply
   pub replies : RepliesTo s summary whole
-  pub is : told ≡ within most whole
+  pub is : told ≡ limited_reply most whole
 
 -- The segment absorbs a delta that was made for a summary, and no image stays in the cache. Where it is refused nothing has changed, and
 -- each image stays.

@@ -118,6 +118,6 @@ pub record UnitesStaging (old : Cached) (st : StagingData) (told : Reply) (new :
   pub makes : MakesSegment st answer
   pub unites : UnitesMade old st answer told new staging
 
-abbrev pub Unites : Cached → Option StagingData → Reply → Cached → Option StagingData → Type 0
-Unites old None told new staging = (told ≡ reply.NoStaging) × (new ≡ old) × (staging ≡ None)
-Unites old (Some st) told new staging = UnitesStaging old st told new staging
+abbrev pub EndsInUnion : Cached → Option StagingData → Reply → Cached → Option StagingData → Type 0
+EndsInUnion old None told new staging = (told ≡ reply.NoStaging) × (new ≡ old) × (staging ≡ None)
+EndsInUnion old (Some st) told new staging = UnitesStaging old st told new staging

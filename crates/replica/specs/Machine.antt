@@ -6,7 +6,7 @@ use Rattle.replica.specs.declared.replies.Reply.{Reply}
 use Rattle.replica.specs.Parts.{ReplicaData, SameBeside}
 use Rattle.replica.specs.AtSegment.{Opens, Takes, Fronts, TellsGap, TellsStatus, Reads, Folds, Discards, TidiesUp, TellsNext}
 use Rattle.replica.specs.Gossiping.{Asks, RepliesTo, RepliesWithin, Absorbs}
-use Rattle.replica.specs.Hydrating.{FreezesAs, Pieces, Stages, AddsTo, Finishes, Unites}
+use Rattle.replica.specs.Hydrating.{FreezesAs, Pieces, Stages, AddsTo, Finishes, EndsInUnion}
 
 abbrev pub IsReply : ReplicaData → Request → Reply → ReplicaData → Type 0
 IsReply old (request.Open roster) told new = Opens old.cached roster told new.cached × SameBeside old new
@@ -30,5 +30,5 @@ IsReply old (request.Stage name total) told new =
 IsReply old (request.Add piece) told new =
     AddsTo old.staging piece told new.staging × (new.cached ≡ old.cached) × (new.snapshot ≡ old.snapshot)
 IsReply old request.Finish told new = Finishes old.cached old.staging told new.cached new.staging × (new.snapshot ≡ old.snapshot)
-IsReply old request.Unite told new = Unites old.cached old.staging told new.cached new.staging × (new.snapshot ≡ old.snapshot)
+IsReply old request.Unite told new = EndsInUnion old.cached old.staging told new.cached new.staging × (new.snapshot ≡ old.snapshot)
 IsReply old (request.Next after) told new = TellsNext old.cached.segment after told × (new ≡ old)

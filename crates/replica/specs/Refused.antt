@@ -29,6 +29,6 @@ IsRefusal reply.Memory = Unit {0}
 IsRefusal told = ⊥
 
 -- After a refused read the cache may keep other images. After any other refused request all is as it was, the cache too.
-abbrev pub IsLeft : Request → ReplicaData → ReplicaData → Type 0
-IsLeft (request.Read page point) old new = IsUnchanged old new
-IsLeft asked old new = new ≡ old
+abbrev pub IsAfterRefusal : Request → ReplicaData → ReplicaData → Type 0
+IsAfterRefusal (request.Read page point) old new = IsUnchanged old new
+IsAfterRefusal asked old new = new ≡ old

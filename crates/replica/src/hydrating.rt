@@ -1,5 +1,5 @@
 //! The requests of snapshots and stagings.
-ghost use Rattle.replica.specs.Hydrating.{FreezesAs, Pieces, AddsTo, Finishes, Unites, JoinsStaged};
+ghost use Rattle.replica.specs.Hydrating.{FreezesAs, Pieces, AddsTo, Finishes, EndsInUnion, JoinsStaged};
 
 use crate::at_segment::put;
 use crate::replies::Reply;
@@ -73,7 +73,7 @@ pub fn finish(cached: &mut CachedSegment, staging: &mut Option<Staging>) -> Repl
 
 /// Joins the segment that the staging's pieces make into the segment.
 pub fn unite(cached: &mut CachedSegment, staging: &mut Option<Staging>) -> Reply
-    ensures unites { Unites cached.old staging.old result cached.new staging.new }
+    ensures unites { EndsInUnion cached.old staging.old result cached.new staging.new }
 {
     let made = match staging {
         Some(staging) => staging.finish(),

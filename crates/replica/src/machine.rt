@@ -1,5 +1,5 @@
 ghost use Rattle.std.specs.Prelude.{◌≡◌, IfOk};
-ghost use Rattle.replica.specs.Refused.{IsRefusal, IsLeft};
+ghost use Rattle.replica.specs.Refused.{IsRefusal, IsAfterRefusal};
 ghost use Rattle.replica.specs.Parts.{empty_replica};
 ghost use Rattle.replica.specs.Machine.{IsReply};
 
@@ -52,7 +52,7 @@ impl Replica {
     /// which images the cache keeps.
     pub fn step(&mut self, request: Request) -> Reply
         ensures replies { IsReply self.old request result self.new }
-        ensures refused { IsRefusal result → IsLeft request self.old self.new }
+        ensures refused { IsRefusal result → IsAfterRefusal request self.old self.new }
     {
         match request {
             Request::Open { roster } => open(&mut self.cached, roster),
