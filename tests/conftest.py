@@ -11,7 +11,6 @@ import pytest
 from harness import shims
 
 ROOT = Path(__file__).resolve().parents[1]
-PROGRAMS = {"fleet": "fleet", "fleet_node": "fleet_node", "call_rows": "call_rows", "thread_rows": "thread_rows", "archive": "node_c"}  # fixture: crate
 
 
 def pytest_addoption(parser):
@@ -65,12 +64,10 @@ def place_of(crate, ending=""):
 
 
 def pytest_generate_tests(metafunc):
-    """A program that Rattle's own compiler has built too is tested beside the one that LLVM built."""
-    if metafunc.config.getoption("--bin") or metafunc.definition.get_closest_marker("llvm_only"):
-        return
-    for fixture, crate in PROGRAMS.items():
-        if fixture in metafunc.fixturenames and place_of(crate, ".by-rattle").exists():
-            metafunc.parametrize(fixture, ["", ".by-rattle"], ids=["llvm", "rattle"], indirect=True, scope="session")
+    """The program `fleet` that Rattle's own compiler has built too is tested beside the one that LLVM built."""
+    is_free = not metafunc.config.getoption("--bin") and not metafunc.definition.get_closest_marker("llvm_only")
+    if "fleet" in metafunc.fixturenames and is_free and place_of("fleet", ".by-rattle").exists():
+        metafunc.parametrize("fleet", ["", ".by-rattle"], ids=["llvm", "rattle"], indirect=True, scope="session")
 
 
 def program(request, crate):
