@@ -8,6 +8,7 @@ import pytest
 
 from harness import ROOT, environment
 from harness.archive import heap
+from harness.shims import c_compiler
 
 PACKAGE = ROOT / "embedding"
 SECONDS = 300
@@ -67,15 +68,6 @@ def test_rust_durable(package, rng, run):
 def test_rust_durable_can_fail(package):
     """A store that answers before its file has the request is found out."""
     assert "acknowledged records are lost" in package.program("durable", "--forgetful", "1", status=1)[1]
-
-
-def c_compiler():
-    """A C compiler of this machine that has headers, or None."""
-    for name in filter(None, map(shutil.which, ("cc", "gcc", "clang"))):
-        done = subprocess.run([name, "-E", "-x", "c", "-"], input=b"#include <stdio.h>\n#include <pthread.h>\n", capture_output=True)
-        if done.returncode == 0:
-            return name
-    return None
 
 
 def test_c_gossip(archive, tmp_path):

@@ -13,7 +13,7 @@ import time
 import pytest
 
 from harness import ROOT, environment
-from harness.shims import kit
+from harness.shims import c_compiler, kit
 
 PACKAGE = ROOT / "embedding"
 LONGEST = 1 << 26  # bytes of a frame
@@ -29,15 +29,6 @@ def frame(body, length=None):
 
 
 # The programs
-
-
-def c_compiler():
-    """A C compiler that finds the system's headers."""
-    for name in filter(None, map(shutil.which, ("gcc", "cc", "clang"))):
-        headers = b"#include <stdio.h>\n#include <pthread.h>\n"
-        if subprocess.run([name, "-E", "-x", "c", "-"], input=headers, capture_output=True, check=False).returncode == 0:
-            return name
-    return None
 
 
 @pytest.fixture(scope="module")

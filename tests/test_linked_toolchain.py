@@ -8,7 +8,7 @@ import subprocess
 import pytest
 
 from harness import ROOT, environment
-from test_hostile_peers import c_compiler
+from harness.shims import c_compiler
 
 SECONDS = 300
 

@@ -24,6 +24,15 @@ def compiler():
     return kit() / "toolchain/bin/clang"
 
 
+def c_compiler():
+    """A C compiler of this machine that finds the system's headers, or None."""
+    for name in filter(None, map(shutil.which, ("cc", "gcc", "clang"))):
+        headers = b"#include <stdio.h>\n#include <pthread.h>\n"
+        if subprocess.run([name, "-E", "-x", "c", "-"], input=headers, capture_output=True, check=False).returncode == 0:
+            return name
+    return None
+
+
 def built(name, folder):
     library = folder / f"{name}.so"
     flags = ["-O2", "-Wall", "-Werror", "-shared", "-fPIC", "-nostdlib", "-fuse-ld=lld"]
