@@ -2,7 +2,7 @@
 
 import pytest
 
-from harness import ROOT, Answer, answer
+from harness import ROOT, Answer, answer, cases
 from harness.nodes import FramedNode, Node, as_frame, frames_of, has_frame, many
 from model import oracle
 from model.wire import frame, framed
@@ -16,6 +16,13 @@ SWEPT = [  # example, task, what an allocation may ask for beyond the input's si
     ("gossip", "run", TABLES),
     ("unsound", "check", TABLES),
     ("capture", "inspect", SLACK),
+]
+CASES = [  # of tests/cases: joins, gossip, and the check of a sound log
+    "two_nodes: run joined into an empty one",
+    "two_nodes: run that heard other facts",
+    "gossip: run gap filled",
+    "gossip: run wiped before the answer",
+    "ends_of_texts: check rec 0 12 9 7 5 0:78",
 ]
 DRILL = ["drill", "--nodes", "2", "--workers", "2"]
 MOST = 300  # how many allocations of a node's run are refused, spread evenly over it
@@ -39,6 +46,15 @@ def test_each_allocation_refused(fleet, refusing, name, task, slack):
     counts, ample = refusing.counted([fleet, task], text)
     judge({n: refusing.run([fleet, task], text, allocation=n) for n in range(1, counts.allocations + 1)}, ample)
     assert counts.greatest <= len(text) + slack
+
+
+@pytest.mark.parametrize("name", CASES)
+def test_each_allocation_of_a_case_refused(fleet, refusing, name):
+    """And with ample memory the answer is the one that the case has."""
+    (case,) = [it for it in cases() if it.name == name]
+    counts, ample = refusing.counted([fleet, case.task], case.text)
+    assert ample == Answer(case.status, case.output)
+    judge({n: refusing.run([fleet, case.task], case.text, allocation=n) for n in range(1, counts.allocations + 1)}, ample)
 
 
 def test_the_swept_script_has_each_step():

@@ -21,7 +21,6 @@ mod inspect;
 mod job;
 pub mod laws;
 mod lines;
-mod named;
 mod program;
 mod run;
 mod script_steps;

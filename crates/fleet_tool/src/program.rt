@@ -7,15 +7,17 @@ use crate::drill_line::DrillTask;
 use crate::drilling::drill_text;
 use crate::ending::{status_of, words_of};
 use crate::job::{LineFault, LinesTask, Task, TextTask, complaint, job_of};
-use crate::named::Named;
 use crate::run::{check_text, explain_text, inspect_text, run_text};
-use line_stream::{RunFault, Watched};
+use line_stream::{Named, RunFault, Watched};
 use std::alloc::AllocError;
 use std::process::ExitCode;
 use std::rt::Env;
 use std::sync::Wait;
 use std::thread::Threads;
 use std::{env, io};
+
+/// What the program is called in its help, whatever path it was called by.
+const NAME: &[u8] = b"fleet";
 
 /// A bad command line.
 const BAD: u8 = 2;
@@ -100,7 +102,11 @@ fn run_drill<R: Print + Eprint + AllocGlobal + Threads + Wait + Sync>(
 pub fn run_program<R: Env + Input + Print + Eprint + AllocGlobal + Threads + Wait + Sync>(
     rt: &R,
 ) -> ExitCode {
-    let args = match env::args(&(Named(rt), rt.alloc())) {
+    let named = Named {
+        env: rt,
+        name: NAME,
+    };
+    let args = match env::args(&(named, rt.alloc())) {
         Ok(args) => args,
         Err(error) if error.kind() == io::ErrorKind::OutOfMemory => {
             return failed(rt, "out of memory", MEMORY);

@@ -17,13 +17,27 @@ bytes_put answers = answers.bytes.items
 abbrev pub room_in : AnswerFrames → ℕ
 room_in answers = vec_capacity answers.bytes
 
--- There is room for so many answers more of 17 bytes behind their lengths, and all of them fit in one frame.
+-- The bytes that a frame of an answer of so many bytes takes, the bytes put before it, and 21 bytes for each answer that comes after it.
+abbrev pub bytes_with : ℕ → ℕ → ℕ → ℕ
+bytes_with put len others = put + (4 + len) + 21 * others
+
+-- together these are within the limit, 64 MiB
+abbrev pub Fits : ℕ → ℕ → ℕ → Type 0
+Fits put len others = bytes_with put len others ≤ 2 ^ 26
+
+-- together these are above the limit
+abbrev pub Exceeds : ℕ → ℕ → ℕ → Type 0
+Exceeds put len others = 2 ^ 26 < bytes_with put len others
+
+-- There is room for so many more answers of 17 bytes behind their lengths, and with these all answers are within the limit.
 pub record HasRoomFor (answers : AnswerFrames) (count : ℕ) : Type 0 where
   pub free : length (bytes_put answers) + 21 * count ≤ room_in answers
-  pub fits : length (bytes_put answers) + 21 * count < 2 ^ 32
+  pub within : length (bytes_put answers) + 21 * count ≤ 2 ^ 26
 
--- a text stands behind the others, or, where it has more than 17 bytes, the word for want of memory
-abbrev pub PutsAnswer : AnswerFrames → List ℕ → AnswerFrames → Type 0
-PutsAnswer old text new =
-    (bytes_put new ≡ bytes_put old ++ framed text)
-    ⊎ ((17 < length text) × (bytes_put new ≡ bytes_put old ++ framed (codes "memory")))
+-- The answer is put behind the others where it fits, in front of so many that are not known yet; where it exceeds the limit, `long` is put in its
+-- place. An answer that fits may be replaced by `memory` where it has more than 17 bytes.
+abbrev pub PutsAnswer : AnswerFrames → List ℕ → ℕ → AnswerFrames → Type 0
+PutsAnswer old text others new =
+    (Fits (length (bytes_put old)) (length text) others × (bytes_put new ≡ bytes_put old ++ framed text))
+    ⊎ ((Fits (length (bytes_put old)) (length text) others × (17 < length text) × (bytes_put new ≡ bytes_put old ++ framed (codes "memory")))
+    ⊎ (Exceeds (length (bytes_put old)) (length text) others × (bytes_put new ≡ bytes_put old ++ framed (codes "long"))))

@@ -1,13 +1,13 @@
 //! Answer frames that are put together in one.
 
-ghost use Rattle.std.specs.Prelude.{◌≡◌, ◌++◌, ◌+◌, ◌*◌, ◌≤◌, ◌<◌, ◌^◌, [], length, true, false, IfOk};
+ghost use Rattle.std.specs.Prelude.{◌≡◌, ◌++◌, ◌+◌, ◌*◌, ◌≤◌, ◌<◌, ◌^◌, ◌↔◌, [], length, max, true, false, IfOk, IsTrue};
 ghost use Rattle.frame_stream.specs.Frames.{IsShort, framed};
-ghost use Rattle.frame_stream.specs.Inside.{HasRoomFor, PutsAnswer, bytes_put, room_in};
+ghost use Rattle.frame_stream.specs.Inside.{Fits, HasRoomFor, PutsAnswer, bytes_put, room_in};
 
 use std::alloc::{AllocError, Global};
 
-/// The most bytes of a frame.
-const LONGEST: usize = 4294967295;
+/// The most bytes of all answers together, with their lengths: 64 MiB.
+const LIMIT: usize = 67_108_864;
 
 /// The most bytes of an answer that always has room.
 const SURE: usize = 17;
@@ -15,7 +15,7 @@ const SURE: usize = 17;
 /// The same with its length in front.
 const SURE_FRAME: usize = SURE + 4;
 
-/// Answer frames, one behind the other, with room for answers that are not known yet.
+/// Answer frames, one behind the other, with room for answers that are not known yet. They take up to 64 MiB.
 #[derive(Drop)]
 pub struct AnswerFrames {
     bytes: Vec<u8>,
@@ -24,7 +24,7 @@ pub struct AnswerFrames {
 impl AnswerFrames {
     /// No answer, and room for so many, of 17 bytes at most. Its only error is want of memory.
     pub fn new(alloc: Global, count: usize) -> Result<Self, AllocError>
-        requires { 21 * count < 2 ^ 32 }
+        requires { 21 * count ≤ 2 ^ 26 }
         ensures none { IfOk result (λ a. bytes_put a ≡ []) }
         ensures room { IfOk result (λ a. HasRoomFor a count) }
     {
@@ -33,27 +33,32 @@ impl AnswerFrames {
         Ok(AnswerFrames { bytes })
     }
 
-    /// Whether there is room for an answer of so many bytes in front of so many short ones; where it is a long one, room is taken.
+    /// Whether an answer of so many bytes is within the limit, in front of so many short ones.
+    fn fits(&self, len: usize, others: usize) -> bool
+        requires { HasRoomFor self.now (others + 1) }
+        ensures { IsTrue result ↔ Fits (length (bytes_put self.now)) len others }
+    {
+        let begun = self.bytes.len() + others * SURE_FRAME;
+        len <= LIMIT - 4 - begun
+    }
+
+    /// Whether there is room for an answer that fits, in front of so many short ones; where it is a long one, room is taken.
     fn make_room(&mut self, len: usize, others: usize) -> bool
-        requires { HasRoomFor self.old (others + 1) }
+        requires room { HasRoomFor self.old (others + 1) }
+        requires fits { Fits (length (bytes_put self.old)) len others }
         ensures bytes { bytes_put self.new ≡ bytes_put self.old }
         ensures kept { HasRoomFor self.new (others + 1) }
         ensures free { result ≡ true → length (bytes_put self.old) + (4 + len) + 21 * others ≤ room_in self.new }
-        ensures fits { result ≡ true → length (bytes_put self.old) + (4 + len) + 21 * others < 2 ^ 32 }
         ensures long { result ≡ false → 17 < len }
+        ensures capped { room_in self.new ≤ max (room_in self.old) (2 ^ 26) }
     {
-        if len <= SURE {
-            return true;
-        }
-        let begun = self.bytes.len() + others * SURE_FRAME;
-        if len > LONGEST - 4 - begun {
-            return false;
-        }
         let more = others * SURE_FRAME + (4 + len);
-        if more <= self.bytes.capacity() - self.bytes.len() {
+        let len = self.bytes.len();
+        if more <= self.bytes.capacity() - len {
             return true;
         }
-        self.bytes.reserve_exact(more.max(self.bytes.len())).is_ok()
+        let twice = len.min(LIMIT - len);
+        self.bytes.reserve_exact(more.max(twice)).is_ok()
     }
 
     /// Appends a frame for which there is room.
@@ -69,14 +74,16 @@ impl AnswerFrames {
         self.bytes.extend_from_slice(text).unwrap();
     }
 
-    /// Puts an answer behind the others, in front of so many that are not known yet. One of more than 17 bytes is told as `memory`
-    /// where there is no room for it.
+    /// Puts an answer behind the others, in front of so many that are not known yet. Where all would exceed the limit, `long` is put in its
+    /// place; where there is no memory for one of more than 17 bytes, `memory`.
     pub fn put(&mut self, text: &[u8], others: usize)
         requires { HasRoomFor self.old (others + 1) }
-        ensures put { PutsAnswer self.old text.now self.new }
+        ensures put { PutsAnswer self.old text.now others self.new }
         ensures room { HasRoomFor self.new others }
     {
-        if self.make_room(text.len(), others) {
+        if !self.fits(text.len(), others) {
+            self.append("long".as_bytes());
+        } else if self.make_room(text.len(), others) {
             self.append(text);
         } else {
             self.append("memory".as_bytes());

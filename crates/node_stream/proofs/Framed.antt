@@ -2,12 +2,16 @@
 use Rattle.std.proofs.Common.{◌≡◌, ℕ, ◌-◌, ◌<◌, ◌≤◌, ◌^◌, Bool, true, List, [], ◌∷◌, ◌++◌, length, Result, Ok, Err, refl, sym, ap, ◌∙◌, arith, length-append}
 use Rattle.std.specs.Prelude.{codes, IfOk, OnErr, IsOk}
 use Rattle.std.specs.Fmt.{decimal}
-use Rattle.std.proofs.lemmas.Fmt.{length-decimal-le}
+use Rattle.std.proofs.lemmas.Fmt.{length-decimal-le, length-decimal-le_succ}
 use Rattle.std.proofs.lemmas.List.{length-take}
+use Rattle.redo_wire.specs.Faults.{fault_number}
+use Rattle.redo_wire.specs.declared.faults.WireFault.{WireFault}
+use Rattle.redo_wire.specs.declared.faults.WireFault.TheVariants.{Short, UnknownTag, Shape, Order, Rest, TooLong}
 use Rattle.frame_stream.specs.AnswerBytes.{bytes_of}
 use Rattle.frame_stream.specs.declared.answer.FrameAnswer.{FrameAnswer}
 use Rattle.node_stream.specs.FrameTelling.{unended, fitted, bytes_frame, value_frame}
-use Rattle.node_stream.specs.Telling.{one_number}
+use Rattle.node_stream.specs.Telling.{one_number, fault_line}
+use Rattle.node_stream.specs.declared.faults.LineFault.TheVariants as line
 use Rattle.node_stream.proofs.Long.{frame_of_bytes}
 
 pub no_error : {T E : Type 0} (x : T) (f : E) → Ok x ≡ Err f → ⊥
@@ -44,3 +48,21 @@ few_bytes (Ok a) text pieces short is h =
     let digits = length-decimal-le 10 pieces (omega arith) (omega (arith, short)) (omega (arith, short)) in
     omega (arith, ap length h, ap length is, digits, length-take (length text - 1) text, length-append (decimal pieces) (10 ∷ []))
 few_bytes (Err e) text pieces short is h = tt
+
+-- ---- faults
+few_faults : (f : WireFault) → fault_number f ≤ 6
+few_faults Short = omega arith
+few_faults UnknownTag = omega arith
+few_faults Shape = omega arith
+few_faults Order = omega arith
+few_faults Rest = omega arith
+few_faults TooLong = omega arith
+
+-- the answer that tells the number of a fault has 17 bytes at most
+pub fault_is_short : {E : Type 0} (r : Result FrameAnswer E) (text : List ℕ) (f : WireFault) → text ≡ fault_line (line.Wire f)
+    → IfOk r (λ a. bytes_of a ≡ unended text) → IfOk r (λ a. length (bytes_of a) ≤ 17)
+fault_is_short (Ok a) text f is h =
+    let few = few_faults f in
+    let digits = length-decimal-le_succ (fault_number f) (omega (arith, few)) in
+    omega (arith, few, ap length h, ap length is, digits, length-take (length text - 1) text, length-append (decimal (fault_number f)) (10 ∷ []))
+fault_is_short (Err e) text f is h = tt

@@ -1,18 +1,45 @@
 -- Frames that are answered one after another.
-use Rattle.std.proofs.Common.{◌≡◌, ℕ, ◌+◌, ◌<◌, List, [], ◌∷◌, ◌++◌, length, map, inl, inr, refl, sym, ap, ◌∙◌, append_assoc, append-nil, arith}
+use Rattle.std.proofs.Common.{◌≡◌, ℕ, ◌+◌, ◌*◌, ◌<◌, ◌≤◌, ◌^◌, List, [], ◌∷◌, ◌++◌, length, map, Result, Ok, Err, inl, inr, refl, sym, ap, ◌∙◌, subst, append_assoc, append-nil, zero-add, add-zero, arith, length-append}
 use Rattle.std.specs.Prelude.{codes}
 use Rattle.std.specs.List.{All, concat}
 use Rattle.std.proofs.lemmas.List.Elements.{All-nil, All-push}
-use Rattle.line_stream.specs.Lines.{AnswersEach}
-use Rattle.line_stream.proofs.Answered.{answers_more}
-use Rattle.frame_stream.specs.Frames.{framed, IsShort, IsBegun}
-use Rattle.frame_stream.specs.Inside.{AreInside, PutsAnswer, bytes_put}
+use Rattle.frame_stream.specs.Frames.{header, framed, IsShort, IsBegun}
+use Rattle.frame_stream.specs.Inside.{AreInside, Fits, HasRoomFor, PutsAnswer, bytes_put}
 use Rattle.frame_stream.specs.declared.answer_frames.AnswerFrames.{AnswerFrames}
 use Rattle.frame_stream.proofs.Answered.{joined}
+use Rattle.frame_stream.proofs.Headers.{length-header}
 use Rattle.frame_stream.proofs.Nested.{first_inside, none_inside}
 use Rattle.replica.specs.Parts.{ReplicaData}
-use Rattle.node_stream.specs.Answering.{by_frames, AnswersRequest, AnswersAll}
+use Rattle.node_stream.specs.Answering.{Spoken, by_frames, LacksMemory, AnswersAsked, AnswersRequest, OnlyReads, ReadsAsked, AnswersOneOf, AnswersInTurn, AnswersAll}
+use Rattle.node_stream.specs.declared.asked.Asked.{Asked}
+use Rattle.node_stream.specs.declared.faults.LineFault.{LineFault}
 
+-- ---- one answer more
+module _ (form : Spoken) (bytes text : List ℕ) where
+  one_at : (put put' others others' : ℕ) (old old' new : ReplicaData) → put ≡ put' → others ≡ others' → old ≡ old'
+      → AnswersOneOf form put others old bytes text new → AnswersOneOf form put' others' old' bytes text new
+  one_at put put' others others' old old' new e f g h =
+      subst (λ (p : ℕ). AnswersOneOf form p others' old' bytes text new) e
+      (subst (λ (n : ℕ). AnswersOneOf form put n old' bytes text new) f (subst (λ (r : ReplicaData). AnswersOneOf form put others r bytes text new) g h))
+
+  in_turn_more : (put behind : ℕ) (old : ReplicaData) (done texts : List (List ℕ)) (mid new : ReplicaData)
+      → AnswersInTurn form put (behind + 1) old done texts mid → AnswersOneOf form (put + length (concat (map framed texts))) behind mid bytes text new
+      → AnswersInTurn form put behind old (done ++ bytes ∷ []) (texts ++ text ∷ []) new
+  in_turn_more put behind old [] [] mid new h one =
+      (new, one_at (put + 0) put behind (0 + behind) mid old new (add-zero put) (sym (zero-add behind)) h one, refl)
+  in_turn_more put behind old (b ∷ bs) (t ∷ ts) mid new h one =
+      let others : length bs + (behind + 1) ≡ length (bs ++ bytes ∷ []) + behind = omega (arith, length-append bs (bytes ∷ [])) in
+      let front : put + length (concat (map framed (t ∷ ts))) ≡ put + (4 + length t) + length (concat (map framed ts)) =
+      omega (arith, length-append (framed t) (concat (map framed ts)), length-append (header (length t)) t, length-header (length t)) in (
+        h.0,
+        subst (λ (n : ℕ). AnswersOneOf form put n old b t h.0) others h.1,
+        in_turn_more (put + (4 + length t)) behind h.0 bs ts mid new h.2
+            (subst (λ (p : ℕ). AnswersOneOf form p behind mid bytes text new) front one),
+      )
+  in_turn_more put behind old [] (t ∷ ts) mid new h one = absurd h
+  in_turn_more put behind old (b ∷ bs) [] mid new h one = absurd h
+
+-- ---- the frames in front of the rest
 -- the frames in front of the rest are answered, and so many stand in the rest
 pub record Answered (old : ReplicaData) (bytes rest out : List ℕ) (left : ℕ) (new : ReplicaData) : Type 0 where
   pub done : List (List ℕ)
@@ -22,12 +49,13 @@ pub record Answered (old : ReplicaData) (bytes rest out : List ℕ) (left : ℕ)
   pub short : All IsShort done
   pub behind : AreInside rest others
   pub many : length others ≡ left
-  pub answered : AnswersEach (AnswersRequest by_frames) old done texts new
+  pub few : 21 * (length done + left) ≤ 2 ^ 26
+  pub answered : AnswersInTurn by_frames 0 left old done texts new
   pub told : AreInside out texts
 
 pub answered_none : (old : ReplicaData) (bytes out : List ℕ) (left : ℕ) (frames : List (List ℕ)) → AreInside bytes frames → length frames ≡ left → out ≡ []
-    → Answered old bytes bytes out left old
-answered_none old bytes out left frames inside many none = record {
+    → 21 * left ≤ 2 ^ 26 → Answered old bytes bytes out left old
+answered_none old bytes out left frames inside many none few = record {
   done = [];
   texts = [];
   others = frames;
@@ -35,6 +63,7 @@ answered_none old bytes out left frames inside many none = record {
   short = All-nil IsShort;
   behind = inside;
   many = many;
+  few = omega arith;
   answered = refl;
   told = record { spelled = none; short = All-nil IsShort };
 }
@@ -44,7 +73,8 @@ module _ (old : ReplicaData) (bytes rest out : List ℕ) (left : ℕ) (mid : Rep
   some_left frame behind e short = let first = first_inside rest frame behind h.others h.behind e short in omega (arith, h.many, ap length first.1)
 
   pub answered_more : (frame behind said out' : List ℕ) (left' : ℕ) (new : ReplicaData) → rest ≡ framed frame ++ behind → IsShort frame
-      → AnswersRequest by_frames mid frame said new → out' ≡ out ++ framed said → IsShort said → left' + 1 ≡ left → Answered old bytes behind out' left' new
+      → AnswersOneOf by_frames (length out) left' mid frame said new → out' ≡ out ++ framed said → IsShort said → left' + 1 ≡ left
+      → Answered old bytes behind out' left' new
   answered_more frame behind said out' left' new e short one put fits is =
       let first = first_inside rest frame behind h.others h.behind e short in record {
         done = h.done ++ frame ∷ [];
@@ -55,27 +85,45 @@ module _ (old : ReplicaData) (bytes rest out : List ℕ) (left : ℕ) (mid : Rep
         short = All-push IsShort h.done frame h.short short;
         behind = first.2;
         many = omega (arith, h.many, ap length first.1, is);
-        answered = answers_more (AnswersRequest by_frames) old h.done h.texts mid frame said new h.answered one;
+        few = omega (arith, h.few, length-append h.done (frame ∷ []), is);
+        answered = in_turn_more by_frames frame said 0 left' old h.done h.texts mid new
+            (subst (λ (n : ℕ). AnswersInTurn by_frames 0 n old h.done h.texts mid) (sym is) h.answered)
+            (subst (λ (p : ℕ). AnswersOneOf by_frames p left' mid frame said new) (omega (arith, ap length h.told.spelled)) one);
         told = record {
           spelled = put ∙ ap (λ (l : List ℕ). l ++ framed said) h.told.spelled ∙ sym (joined h.texts said);
           short = All-push IsShort h.texts said h.told.short fits;
         };
       }
 
-  pub answered_all : IsBegun rest → AnswersAll by_frames old bytes out mid
-  answered_all begun =
+  pub answered_all : IsBegun rest → length out ≤ 2 ^ 26 → AnswersAll by_frames old bytes out mid
+  answered_all begun within =
       let none : h.others ≡ [] = none_inside rest h.others h.behind begun in
       let empty : rest ≡ [] = h.behind.spelled ∙ ap (λ (l : List (List ℕ)). concat (map framed l)) none in record {
         frames = h.done;
         texts = h.texts;
         asked = record { spelled = h.spelled ∙ ap (λ (l : List ℕ). concat (map framed h.done) ++ l) empty ∙ append-nil (concat (map framed h.done)); short = h.short };
-        answered = h.answered;
+        few = omega (arith, h.few);
+        answered = subst (λ (n : ℕ). AnswersInTurn by_frames 0 n old h.done h.texts mid) (sym h.many ∙ ap length none) h.answered;
         told = h.told;
+        within = within;
       }
 
--- what was put is an answer
-pub said : (mid : ReplicaData) (frame text : List ℕ) (new : ReplicaData) (answers answers' : AnswerFrames) → AnswersRequest by_frames mid frame text new
-    → (17 < length text → AnswersRequest by_frames mid frame (codes "memory") new) → IsShort text → PutsAnswer answers text answers'
-    → (told : List ℕ) × AnswersRequest by_frames mid frame told new × (bytes_put answers' ≡ bytes_put answers ++ framed told) × IsShort told
-said mid frame text new answers answers' one lacks short (inl put) = (text, one, put, short)
-said mid frame text new answers answers' one lacks short (inr put) = (codes "memory", lacks put.0, put.1, omega arith)
+-- ---- what was put is an answer
+-- the reply of what only reads may be told as want of memory
+lacking : (old : ReplicaData) (asked : Result Asked LineFault) (text : List ℕ) (new : ReplicaData) → ReadsAsked by_frames asked old text new
+    → AnswersAsked by_frames asked old (codes "memory") new
+lacking old (Ok asked) text new h = inl (record { is = refl; unchanged = h.unchanged; did = inr (h.told, h.replies) })
+lacking old (Err fault) text new h = absurd h
+
+pub said : (mid : ReplicaData) (frame text : List ℕ) (new : ReplicaData) (answers answers' : AnswerFrames) (others : ℕ)
+    → AnswersRequest by_frames mid frame text new → (17 < length text → ReadsAsked by_frames (by_frames.asks frame) mid text new) → IsShort text
+    → HasRoomFor answers (others + 1) → PutsAnswer answers text others answers'
+    → (told : List ℕ) × AnswersOneOf by_frames (length (bytes_put answers)) others mid frame told new
+    × (bytes_put answers' ≡ bytes_put answers ++ framed told) × IsShort told
+said mid frame text new answers answers' others one reads short room (inl put) = (text, inl (put.0, one), put.1, short)
+said mid frame text new answers answers' others one reads short room (inr (inl put)) =
+    let fits : Fits (length (bytes_put answers)) 6 others = omega (arith, put.0, put.1) in
+    (codes "memory", inl (fits, lacking mid (by_frames.asks frame) text new (reads put.1)), put.2, omega arith)
+said mid frame text new answers answers' others one reads short room (inr (inr put)) =
+    let long : 17 < length text = omega (arith, put.0, room.within) in
+    (codes "long", inr (record { is = refl; answer = text; reads = reads long; exceeds = put.0 }), put.1, omega arith)

@@ -1,7 +1,6 @@
 -- How a replica answers a line, and how a frame.
-use Rattle.std.specs.Prelude.{◌≡◌, ℕ, ◌⊎◌, List, Option, Some, None, Result, Ok, Err, codes}
-use Rattle.line_stream.specs.Lines.{AnswersEach}
-use Rattle.frame_stream.specs.Inside.{AreInside}
+use Rattle.std.specs.Prelude.{◌≡◌, ℕ, ◌+◌, ◌*◌, ◌<◌, ◌≤◌, ◌^◌, ◌⊎◌, List, [], ◌∷◌, length, Option, Some, None, Result, Ok, Err, codes}
+use Rattle.frame_stream.specs.Inside.{AreInside, Fits, Exceeds}
 use Rattle.replica.specs.Machine.{IsReply}
 use Rattle.replica.specs.Parts.{ReplicaData, IsUnchanged}
 use Rattle.replica.specs.Refused.{IsRefusal, IsAfterRefusal}
@@ -16,7 +15,7 @@ use Rattle.node_stream.specs.declared.faults.LineFault.{LineFault}
 use Rattle.node_stream.specs.declared.faults.LineFault.TheVariants as fault
 
 -- A form of the stream: the bytes of many requests, where those of one hold many; what one request asks; and the texts of replies, of
--- faults, of want of memory, and for a request that is too long.
+-- faults, of want of memory, for a request that is too long, and for what exceeds the limit of the answer to many.
 pub record Spoken : Type 0 where
   pub many : List ℕ → Option (List ℕ)
   pub asks : List ℕ → Result Asked LineFault
@@ -24,12 +23,29 @@ pub record Spoken : Type 0 where
   pub fault : LineFault → List ℕ
   pub memory : List ℕ
   pub long : List ℕ
+  pub over : List ℕ
 
 abbrev pub by_lines : Spoken
-by_lines = record { many = λ line. None; asks = request_of; reply = line_of; fault = fault_line; memory = codes "memory\n"; long = codes "long line\n" }
+by_lines = record {
+  many = λ line. None;
+  asks = request_of;
+  reply = line_of;
+  fault = fault_line;
+  memory = codes "memory\n";
+  long = codes "long line\n";
+  over = codes "long\n";
+}
 
 abbrev pub by_frames : Spoken
-by_frames = record { many = many_in; asks = request_in; reply = frame_of; fault = fault_frame; memory = codes "memory"; long = codes "long frame" }
+by_frames = record {
+  many = many_in;
+  asks = request_in;
+  reply = frame_of;
+  fault = fault_frame;
+  memory = codes "memory";
+  long = codes "long frame";
+  over = codes "long";
+}
 
 -- the replica carries out the request, and the text is that of its reply; a refused read may change which images the cache keeps, and any
 -- other refusal changes nothing
@@ -63,20 +79,67 @@ AnswersAsked form asked old text new = LacksMemory form asked old text new ⊎ T
 abbrev pub AnswersRequest : Spoken → ReplicaData → List ℕ → List ℕ → ReplicaData → Type 0
 AnswersRequest form old bytes text new = AnswersAsked form (form.asks bytes) old text new
 
--- The bytes are the frames of requests, and the text is those of their answers, one behind the other.
+-- ---- many requests
+-- The text is that of the reply to what was asked, and nothing has changed but which images the cache keeps: asked again, it is answered again.
+pub record OnlyReads (form : Spoken) (asked : Asked) (old : ReplicaData) (text : List ℕ) (new : ReplicaData) : Type 0 where
+  pub told : Reply
+  pub replies : IsReply old asked.request told new
+  pub is : text ≡ form.reply asked.window told
+  pub unchanged : IsUnchanged old new
+
+-- what asks for nothing does not read
+abbrev pub ReadsAsked : Spoken → Result Asked LineFault → ReplicaData → List ℕ → ReplicaData → Type 0
+ReadsAsked form (Ok asked) old text new = OnlyReads form asked old text new
+ReadsAsked form (Err fault) old text new = ⊥
+
+-- The answer exceeds the limit, behind so many bytes of answers and in front of so many answers; nothing has changed but which images the
+-- cache keeps.
+pub record IsOver (form : Spoken) (put others : ℕ) (old : ReplicaData) (bytes text : List ℕ) (new : ReplicaData) : Type 0 where
+  pub is : text ≡ form.over
+  pub answer : List ℕ
+  pub reads : ReadsAsked form (form.asks bytes) old answer new
+  pub exceeds : Exceeds put (length answer) others
+
+-- the text answers one of many requests, as it would be answered alone; or it says that this answer exceeds the limit
+abbrev pub AnswersOneOf : Spoken → ℕ → ℕ → ReplicaData → List ℕ → List ℕ → ReplicaData → Type 0
+AnswersOneOf form put others old bytes text new =
+    (Fits put (length text) others × AnswersRequest form old bytes text new) ⊎ IsOver form put others old bytes text new
+
+-- the texts answer the requests, one after another, behind so many bytes of answers and in front of so many answers
+abbrev pub AnswersInTurn : Spoken → ℕ → ℕ → ReplicaData → List (List ℕ) → List (List ℕ) → ReplicaData → Type 0
+AnswersInTurn form put behind old [] [] new = new ≡ old
+AnswersInTurn form put behind old (bytes ∷ others) (text ∷ texts) new =
+    (next : ReplicaData) × AnswersOneOf form put (length others + behind) old bytes text next
+    × AnswersInTurn form (put + (4 + length text)) behind next others texts new
+AnswersInTurn form put behind old [] (text ∷ texts) new = ⊥
+AnswersInTurn form put behind old (bytes ∷ others) [] new = ⊥
+
+-- The bytes are the frames of requests, of which there are few enough, and the text is those of their answers, one behind the other.
 pub record AnswersAll (form : Spoken) (old : ReplicaData) (bytes text : List ℕ) (new : ReplicaData) : Type 0 where
   pub frames : List (List ℕ)
   pub texts : List (List ℕ)
   pub asked : AreInside bytes frames
-  pub answered : AnswersEach (AnswersRequest form) old frames texts new
+  pub few : 21 * length frames ≤ 2 ^ 26
+  pub answered : AnswersInTurn form 0 0 old frames texts new
   pub told : AreInside text texts
+  pub within : length text ≤ 2 ^ 26
 
--- many requests are answered one after another; where there was no room for their answers, or they are no frames, nothing changes
+-- The bytes are the frames of requests, of which there are too many for short answers within the limit. None is carried out.
+pub record AreTooMany (form : Spoken) (old : ReplicaData) (bytes text : List ℕ) (new : ReplicaData) : Type 0 where
+  pub frames : List (List ℕ)
+  pub asked : AreInside bytes frames
+  pub exceed : 2 ^ 26 < 21 * length frames
+  pub is : text ≡ form.over
+  pub same : new ≡ old
+
+-- many requests are answered one after another; where they are too many, or there was no room for their answers, or they are no frames,
+-- nothing changes
 abbrev pub AnswersMany : Spoken → ReplicaData → List ℕ → List ℕ → ReplicaData → Type 0
 AnswersMany form old bytes text new =
     ((text ≡ form.memory) × (new ≡ old))
     ⊎ ((((frames : List (List ℕ)) → AreInside bytes frames → ⊥) × (text ≡ form.fault fault.Form) × (new ≡ old))
-    ⊎ AnswersAll form old bytes text new)
+    ⊎ (AreTooMany form old bytes text new
+    ⊎ AnswersAll form old bytes text new))
 
 -- the text answers the bytes of one request, or of many
 abbrev pub AnswersThese : Spoken → Option (List ℕ) → ReplicaData → List ℕ → List ℕ → ReplicaData → Type 0

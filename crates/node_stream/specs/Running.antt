@@ -28,6 +28,17 @@ MakesNoTurn form bytes text = (text ≡ form.memory) ⊎ ((fault : LineFault) ×
 abbrev pub MakesRequest : Spoken → List ℕ → List ℕ → List Turn → Type 0
 MakesRequest form bytes text turns = ((turns ≡ []) × MakesNoTurn form bytes text) ⊎ ((t : Turn) × (turns ≡ t ∷ []) × IsTurn form bytes text t)
 
+-- The turn of one of many requests, whose answer exceeds the limit of the answer to all.
+pub record IsTurnOver (form : Spoken) (bytes text : List ℕ) (t : Turn) : Type 0 where
+  pub asked : Asked
+  pub asks : form.asks bytes ≡ Ok asked
+  pub is : t.asked ≡ asked.request
+  pub over : text ≡ form.over
+
+-- the turns of one of many requests
+abbrev pub MakesOneOf : Spoken → List ℕ → List ℕ → List Turn → Type 0
+MakesOneOf form bytes text turns = MakesRequest form bytes text turns ⊎ ((t : Turn) × (turns ≡ t ∷ []) × IsTurnOver form bytes text t)
+
 -- those of one request after another, by what is said of one and its text
 abbrev pub MakeEach : (List ℕ → List ℕ → List Turn → Type 0) → List (List ℕ) → List (List ℕ) → List Turn → Type 0
 MakeEach one [] [] turns = turns ≡ []
@@ -42,12 +53,13 @@ pub record MakesMany (form : Spoken) (bytes text : List ℕ) (turns : List Turn)
   pub texts : List (List ℕ)
   pub asked : AreInside bytes frames
   pub told : AreInside text texts
-  pub makes : MakeEach (MakesRequest form) frames texts turns
+  pub makes : MakeEach (MakesOneOf form) frames texts turns
 
--- those of one request, or of many; none where these are no frames
+-- those of one request, or of many; none where these are no frames, or too many
 abbrev pub MakesThese : Spoken → Option (List ℕ) → List ℕ → List ℕ → List Turn → Type 0
 MakesThese form None bytes text turns = MakesRequest form bytes text turns
-MakesThese form (Some inside) bytes text turns = ((turns ≡ []) × (text ≡ form.fault fault.Form)) ⊎ MakesMany form inside text turns
+MakesThese form (Some inside) bytes text turns =
+    ((turns ≡ []) × ((text ≡ form.fault fault.Form) ⊎ (text ≡ form.over))) ⊎ MakesMany form inside text turns
 
 -- those of what came; none where there was no memory for it, or it is longer than the limit
 abbrev pub MakesBelow : Spoken → ℕ → List ℕ → List ℕ → List Turn → Type 0

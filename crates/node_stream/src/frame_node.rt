@@ -1,12 +1,13 @@
 //! A replica that answers the frame of one request.
 
-ghost use Rattle.std.specs.Prelude.{◌≡◌, ◌<◌, ◌⊎◌, codes, length};
+ghost use Rattle.std.specs.Prelude.{◌≡◌, ◌<◌, ◌≤◌, ◌⊎◌, codes, length};
 ghost use Rattle.frame_stream.specs.AnswerBytes.{bytes_of};
 ghost use Rattle.frame_stream.specs.Frames.{IsShort};
-ghost use Rattle.node_stream.specs.Answering.{AnswersAsked, AnswersRequest, by_frames};
+ghost use Rattle.node_stream.specs.Answering.{AnswersAsked, AnswersRequest, ReadsAsked, by_frames};
 ghost use Rattle.node_stream.specs.Asking.{IsInside};
 ghost use Rattle.node_stream.specs.Room.{HasRoom};
 ghost use Rattle.node_stream.specs.Telling.{TakesMemory};
+ghost use Rattle.node_stream.specs.FrameReading.{request_in};
 ghost use Rattle.node_stream.specs.FrameTelling.{fault_frame, frame_of};
 
 use crate::asked::{Asked, Window};
@@ -45,7 +46,7 @@ fn answer_request(alloc: Global, replica: &mut Replica, asked: Asked, room: Stri
     requires inside { IsInside asked.window }
     requires room { HasRoom room }
     ensures answers { AnswersAsked by_frames (Ok asked) replica.old (bytes_of result) replica.new }
-    ensures long { 17 < length (bytes_of result) → AnswersAsked by_frames (Ok asked) replica.old (codes "memory") replica.new }
+    ensures long { 17 < length (bytes_of result) → ReadsAsked by_frames (Ok asked) replica.old (bytes_of result) replica.new }
     ensures short { IsShort (bytes_of result) }
 {
     let window = asked.window;
@@ -56,7 +57,7 @@ fn answer_request(alloc: Global, replica: &mut Replica, asked: Asked, room: Stri
 /// Tells why a frame asks for nothing.
 fn answer_fault(alloc: Global, fault: LineFault) -> FrameAnswer
     ensures bytes { (bytes_of result ≡ codes "memory") ⊎ (bytes_of result ≡ fault_frame fault) }
-    ensures short { IsShort (bytes_of result) }
+    ensures few { length (bytes_of result) ≤ 17 }
 {
     match fault_answer(alloc, fault) {
         Ok(answer) => answer,
@@ -67,11 +68,11 @@ fn answer_fault(alloc: Global, fault: LineFault) -> FrameAnswer
 /// Answers the bytes of the frame of one request: the reply where they ask something, else why they ask nothing, and then nothing has
 /// changed.
 ///
-/// The bytes `memory` stand for want of memory. Then, and where the reply is a refusal, nothing has changed but which images the cache
-/// keeps. They may stand for any answer of more than 17 bytes.
+/// The bytes `memory` stand for want of memory. Then, where the reply is a refusal, and where the answer has more than 17 bytes, nothing
+/// has changed but which images the cache keeps.
 pub fn answer_one(alloc: Global, replica: &mut Replica, frame: &[u8]) -> FrameAnswer
     ensures answers { AnswersRequest by_frames replica.old frame.now (bytes_of result) replica.new }
-    ensures long { 17 < length (bytes_of result) → AnswersRequest by_frames replica.old frame.now (codes "memory") replica.new }
+    ensures long { 17 < length (bytes_of result) → ReadsAsked by_frames (request_in frame.now) replica.old (bytes_of result) replica.new }
     ensures short { IsShort (bytes_of result) }
 {
     // (taken before anything is read, so that nothing that was read stands where it is wanting)

@@ -197,7 +197,7 @@ pub fn told(
 /// Why a frame asks for nothing.
 pub fn fault(alloc: Global, fault: LineFault) -> Result<FrameAnswer, AllocError>
     ensures bytes { IfOk result (λ a. bytes_of a ≡ fault_frame fault) }
-    ensures short { IfOk result (λ a. IsShort (bytes_of a)) }
+    ensures few { IfOk result (λ a. length (bytes_of a) ≤ 17) }
 {
     match fault {
         LineFault::Form | LineFault::Hex => Ok(FrameAnswer::Fixed("bad request".as_bytes())),

@@ -34,7 +34,8 @@ With --frames each request and each answer is a frame: a length in four bytes, t
 without its LF. Bytes stand there as they are in place of HEX; absorb has the number of the summary's bytes and a space in front of both,
 and answer HEX N is within, a space, N, a space and the summary's bytes.
 A frame that asks for nothing is answered bad request or wire N, one of more than 67108864 bytes long frame. Behind the word many and a
-space stand whole frames of requests; the answer is the frames of their answers.
+space stand whole frames of requests; the answer is the frames of their answers, 67108864 bytes of them at most. What exceeds these is
+answered long and has changed nothing: ask again in a frame of its own, or with fewer requests in one.
 
 Statuses: 0 the input has ended, 2 a bad command line, 4 a device that failed, 5 no memory.
 The lines, the frames and their answers stand in docs/EMBEDDING.md, the bytes in docs/FORMATS.md.

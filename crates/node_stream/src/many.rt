@@ -1,10 +1,10 @@
 //! A replica that answers the frames that one frame holds.
 
-ghost use Rattle.std.specs.Prelude.{◌≡◌, ◌++◌, ◌+◌, ℕ, List, [], length, option_map};
+ghost use Rattle.std.specs.Prelude.{◌≡◌, ◌++◌, ◌+◌, ◌≤◌, ◌^◌, ℕ, List, [], length, option_map};
 ghost use Rattle.frame_stream.specs.AnswerBytes.{bytes_of};
 ghost use Rattle.frame_stream.specs.Frames.{IsShort, framed};
 ghost use Rattle.frame_stream.specs.Inside.{AreInside, HasRoomFor, bytes_put};
-ghost use Rattle.node_stream.specs.Answering.{AnswersAll, AnswersMany, AnswersRequest, IsFrameAnswer, by_frames};
+ghost use Rattle.node_stream.specs.Answering.{AnswersAll, AnswersMany, AnswersOneOf, IsFrameAnswer, by_frames};
 ghost use Rattle.node_stream.specs.FrameReading.{many_in};
 
 use crate::frame_node::{answer_one, memory};
@@ -14,8 +14,8 @@ use replica::Replica;
 use script_text::is_word;
 use std::alloc::Global;
 
-/// The most answers for which room is taken.
-const MOST: usize = 204_000_000;
+/// The most requests in a frame: so many answers of 17 bytes, with their lengths, are within 64 MiB.
+const MOST: usize = 3_195_660;
 
 /// The bytes of the frames that a frame holds behind its word; None where it is of no such kind.
 #[tactic(auto, unfolding(crate::specs::FrameReading::behind_many))]
@@ -30,7 +30,7 @@ fn frames_in(frame: &[u8]) -> Option<&[u8]>
     }
 }
 
-/// Answers the frame of one request, and puts the answer behind the others.
+/// Answers the frame of one request, and puts the answer behind the others; where it exceeds the limit, `long`.
 fn put_answer(
     alloc: Global,
     replica: &mut Replica,
@@ -39,7 +39,7 @@ fn put_answer(
     others: usize,
 )
     requires { HasRoomFor answers.old (others + 1) }
-    ensures answers { (told : List ℕ) × AnswersRequest by_frames replica.old frame.now told replica.new
+    ensures answers { (told : List ℕ) × AnswersOneOf by_frames (length (bytes_put answers.old)) others replica.old frame.now told replica.new
         × (bytes_put answers.new ≡ bytes_put answers.old ++ framed told) × IsShort told }
     ensures room { HasRoomFor answers.new others }
 {
@@ -59,7 +59,7 @@ fn answer_each(
     requires none { bytes_put answers ≡ [] }
     requires room { HasRoomFor answers count }
     ensures answers { AnswersAll by_frames replica.old frames.now (bytes_put result) replica.new }
-    ensures short { IsShort (bytes_put result) }
+    ensures short { length (bytes_put result) ≤ 2 ^ 26 }
 {
     let mut rest = frames;
     let mut left = count;
@@ -71,17 +71,17 @@ fn answer_each(
     answers
 }
 
-/// Answers the frames that stand in the bytes, by frames; where they are no frames, or there is no room for as many short answers, by
-/// one that says so.
+/// Answers the frames that stand in the bytes, by frames; where they are no frames or too many, or there is no room for as many short
+/// answers, by one that says so, and then none is carried out.
 fn answer_many(alloc: Global, replica: &mut Replica, bytes: &[u8]) -> FrameAnswer
     ensures answers { AnswersMany by_frames replica.old bytes.now (bytes_of result) replica.new }
-    ensures short { IsShort (bytes_of result) }
+    ensures short { length (bytes_of result) ≤ 2 ^ 26 }
 {
     let Some(count) = count_frames(bytes) else {
         return FrameAnswer::Fixed("bad request".as_bytes());
     };
     if count > MOST {
-        return memory();
+        return FrameAnswer::Fixed("long".as_bytes());
     }
     match AnswerFrames::new(alloc, count) {
         Ok(answers) => {
@@ -93,10 +93,11 @@ fn answer_many(alloc: Global, replica: &mut Replica, bytes: &[u8]) -> FrameAnswe
 }
 
 /// Answers the bytes of a request frame by those of a frame: the reply where they ask something, else why they ask nothing, and then
-/// nothing has changed. Behind the word `many` stand whole frames of requests, and the answer is the frames of their answers.
+/// nothing has changed. Behind the word `many` stand whole frames of requests, and the answer is the frames of their answers, of up to
+/// 64 MiB together.
 ///
-/// The bytes `memory` stand for want of memory. Then, and where the reply is a refusal, nothing has changed but which images the cache
-/// keeps.
+/// The bytes `memory` stand for want of memory, and `long` for an answer that would exceed the limit of that to many. Then, and where the
+/// reply is a refusal, nothing has changed but which images the cache keeps.
 pub fn answer_frame(alloc: Global, replica: &mut Replica, frame: &[u8]) -> FrameAnswer
     ensures answers { IsFrameAnswer replica.old frame.now (bytes_of result) replica.new }
     ensures short { IsShort (bytes_of result) }

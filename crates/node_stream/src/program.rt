@@ -5,12 +5,15 @@ use crate::help::{HELP, VERSION};
 use crate::job::{Form, Job, job_of};
 use crate::node::Node;
 use crate::stream::{serve, serve_frames};
-use line_stream::{RunFault, Watched};
+use line_stream::{Named, RunFault, Watched};
 use redo_core::Roster;
 use std::alloc::{AllocError, Global};
 use std::process::ExitCode;
 use std::rt::Env;
 use std::{env, io};
+
+/// The program's name, whatever path it was called by.
+const NAME: &[u8] = b"fleet-node";
 
 /// A bad command line.
 const BAD: u8 = 2;
@@ -82,7 +85,11 @@ fn say(rt: &(impl Print + Eprint), text: &str) -> ExitCode {
 ///
 /// Statuses: 0 the input has ended, 2 a bad command line, 4 a device that failed, 5 no memory.
 pub fn run_program<R: Env + Input + Print + Eprint + AllocGlobal>(rt: &R) -> ExitCode {
-    let args = match env::args(rt) {
+    let named = Named {
+        env: rt,
+        name: NAME,
+    };
+    let args = match env::args(&(named, rt.alloc())) {
         Ok(args) => args,
         Err(error) if error.kind() == io::ErrorKind::OutOfMemory => {
             return failed(rt, "out of memory", MEMORY);

@@ -1,4 +1,4 @@
-use Rattle.std.proofs.Common.{inl, inr, refl, ⊎_elim}
+use Rattle.std.proofs.Common.{length, inl, inr, refl, ap, arith, ⊎_elim}
 use Rattle.node_stream.proofs.Unchanged.{told_unchanged}
 use Rattle.node_stream.proofs.frame_node.answer_request.Goals as goal
 
@@ -19,9 +19,13 @@ returns-clause-answers c = ⊎_elim
     c.answer_reply.ensures.bytes
 
 pub returns-clause-long : goal.returns-clause-long
-returns-clause-long c = λ lt. inl (record {
-  is = refl;
-  unchanged = told_unchanged c.args.replica.now c.args.asked.request c.step-reply.result c.step-reply.new.self c.step-reply.ensures.replies
-      c.step-reply.ensures.refused (c.answer_reply.ensures.long lt);
-  did = inr (c.step-reply.result, c.step-reply.ensures.replies);
-})
+returns-clause-long c = λ lt. ⊎_elim
+    (λ is. record {
+      told = c.step-reply.result;
+      replies = c.step-reply.ensures.replies;
+      is = is;
+      unchanged = told_unchanged c.args.replica.now c.args.asked.request c.step-reply.result c.step-reply.new.self c.step-reply.ensures.replies
+          c.step-reply.ensures.refused (c.answer_reply.ensures.long lt);
+    })
+    (λ lacks. absurd (omega (arith, lt, ap length lacks.0)))
+    c.answer_reply.ensures.bytes

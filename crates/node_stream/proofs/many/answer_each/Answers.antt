@@ -8,7 +8,7 @@ pub loop-frame-init : goal.loop-frame-init
 loop-frame-init c = (
   c.requires.room,
   answered_none c.args.replica.now c.args.frames.now (bytes_put c.args.answers) c.args.count c.requires.frames.0 c.requires.frames.1 c.requires.frames.2
-      c.requires.none,
+      c.requires.none (omega (arith, c.requires.room.within)),
 )
 
 pub overflow_sub-left : goal.overflow_sub-left
@@ -40,4 +40,4 @@ loop-frame-preserved c =
 
 pub returns-clause-answers : goal.returns-clause-answers
 returns-clause-answers c = answered_all c.args.replica.now c.args.frames.now c.loop-frame.rest.now (bytes_put c.loop-frame.answers) c.loop-frame.left
-    c.loop-frame.replica c.loop-frame.invariant.1 c.in_default.ensures.none
+    c.loop-frame.replica c.loop-frame.invariant.1 c.in_default.ensures.none (omega (arith, c.loop-frame.invariant.0.within))

@@ -1,0 +1,96 @@
+"""The answers to many requests in one frame: at most 64 MiB together; what exceeds them is answered `long`, and nothing of it is lost."""
+
+import os
+import subprocess
+
+import pytest
+
+from harness.nodes import frames_of, many
+from model.wire import frame, framed
+
+LIMIT = 2**26  # bytes of the answers to one frame, each with its length
+SURE = 21  # bytes that are kept for each answer that is not known yet
+MOST = LIMIT // SURE  # requests in a frame
+PAGES = 1000  # in a delta of 4 MB
+ASKED = 300  # deltas that a frame of 10 kB asks for: more than 1 GB
+SLACK = 16 * 1024  # kB that a run may hold beside the answers to one frame and what it holds without them
+EMPTY = bytes.fromhex("10 0000 000000000000 00000000 000000000000 00000000")  # the summary of a node that knows nothing
+
+
+def record(number, page=7):
+    """A take of a record in one chain, the first of its page, which writes `a` there."""
+    back = (number - 1).to_bytes(6, "big")
+    return b"take \1\0\0" + number.to_bytes(6, "big") + back + page.to_bytes(2, "big") + bytes(6) + b"\1\0\0\0\1a"
+
+
+def advance(point):
+    return b"take \3\0\0" + point.to_bytes(6, "big")
+
+
+def run(program, text, folder):
+    """The answers to the frames of a text, and the most kilobytes that the program held."""
+    (folder / "input").write_bytes(text)
+    with (folder / "input").open("rb") as given, (folder / "output").open("wb") as taken:
+        process = subprocess.Popen([program, "--frames"], stdin=given, stdout=taken)
+        _, status, usage = os.wait4(process.pid, 0)
+    process.returncode = os.waitstatus_to_exitcode(status)
+    assert process.returncode == 0
+    return frames_of((folder / "output").read_bytes()), usage.ru_maxrss
+
+
+def difference(told, wanted):
+    """Where two lists of answers differ first, and the beginnings of both there; None where they are the same."""
+    if told != wanted:
+        place = next((n for n, (one, other) in enumerate(zip(told, wanted)) if one != other), min(len(told), len(wanted)))
+        return place, [it[:20] for it in told[place : place + 1]], [it[:20] for it in wanted[place : place + 1]]
+    return None
+
+
+def cut_at_the_limit(answers):
+    """The answers in one frame, by the rule: one that would leave too few bytes for the later ones is `long`."""
+    put, told = 0, []
+    for place, answer in enumerate(answers):
+        later = SURE * (len(answers) - place - 1)
+        told.append(answer if put + 4 + len(answer) + later <= LIMIT else b"long")
+        put += 4 + len(told[-1])
+    return told
+
+
+def test_long_answers_are_bounded(fleet_node, tmp_path):
+    """A short answer always has room: behind answers that exceed the limit a take is carried out and acknowledged. What was answered
+    `long` is answered in a frame of its own."""
+    pages = range(1, PAGES + 1)
+    setup = many([*[record(page, page) for page in pages], advance(PAGES), *[b"fold %d" % page for page in pages], b"discard"])
+    ask = b"answer " + EMPTY
+    (_, delta), alone = run(fleet_node, setup + frame(ask), tmp_path)
+    requests = many([*[ask] * ASKED, record(PAGES + 1), b"front", ask])
+    assert len(requests) < 12_000 and ASKED * len(delta) > 10**9
+    (_, told, larger), held = run(fleet_node, setup + requests + frame(ask), tmp_path)
+    answers = [*[delta] * ASKED, b"changed", b"front 0 %d %d" % (PAGES + 1, PAGES), larger]
+    assert difference(frames_of(told), cut_at_the_limit(answers)) is None
+    assert len(larger) > len(delta) and frames_of(told)[-1] == b"long"
+    assert held <= alone + LIMIT // 1024 + SLACK, f"{held} kB, and {alone} kB without the answers"
+
+
+@pytest.mark.parametrize("more", [-1, 0], ids=["one fewer", "just too few bytes"])
+def test_the_last_byte_of_the_limit(fleet_node, tmp_path, more):
+    """As many pages as fit, and behind them a beginning of one that takes the bytes that are left, or one byte more."""
+    page = b"page a" + bytes(4095)
+    count, left = divmod(LIMIT, 4 + len(page))
+    size = left - 8 + more
+    requests = [*[b"read 7 1 0 4096"] * count, b"read 7 1 0 %d" % size]
+    (_, told), _ = run(fleet_node, frame(record(1)) + many(requests), tmp_path)
+    wanted = cut_at_the_limit([*[page] * count, page[: 5 + size]])
+    assert difference(frames_of(told), wanted) is None
+    assert (len(told), wanted[-1] == b"long") == ((LIMIT, False) if more else (LIMIT - left + 8, True))
+
+
+def test_as_many_requests_as_a_frame_has_room_for(fleet_node, tmp_path):
+    (told, front), _ = run(fleet_node, many([record(1), *[b""] * (MOST - 1)]) + frame(b"front"), tmp_path)
+    assert difference([told], [framed([b"changed", *[b"bad request"] * (MOST - 1)])]) is None
+    assert front == b"front 0 1 0"
+
+
+def test_too_many_requests_are_not_carried_out(fleet_node, tmp_path):
+    told, _ = run(fleet_node, many([record(1), *[b""] * MOST]) + frame(b"front"), tmp_path)
+    assert difference(told, [b"long", b"front 0 0 0"]) is None
