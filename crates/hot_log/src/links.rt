@@ -30,11 +30,11 @@ impl<'a> View<'a> {
         self.linked_counted(from, limit, &mut steps)
     }
 
-    /// The same; `steps`, handed in at 0, counts the records that it looks at: each alive one whose backlink is linked and at most
+    /// The same; `steps`, handed in at 0, counts the alive records that the search reaches: each whose backlink is linked and at most
     /// `limit`, once.
     ///
-    /// The search goes down each chain in turn, and where one ends it climbs back to the last fork, if there was one; no memory is taken.
-    /// What is dead or waits links nothing, and is no fork: where many such records share a backlink, none of them is walked.
+    /// It counts records and not look-ups. Over a log with forks the search also looks at a fork's sibling and at each record on its way
+    /// back to the last fork; these looks are not counted. No memory is taken, and dead or waiting records are not walked.
     pub fn linked_counted(&self, from: u64, limit: u64, steps: &mut Steps) -> u64
         requires ordered { from ≤ limit }
         requires fresh { steps.old.count ≡ 0 }
@@ -44,7 +44,7 @@ impl<'a> View<'a> {
         ensures counted { (xs : List RecordData) → Lists RecordBefore (seen_in self.now IsReached from limit) xs → steps.new.count ≡ length xs }
         ensures form { IsHeld self.now.held.now }
     {
-        // No more records are looked at than are held, so the count fits.
+        // No more records are reached than are held, so the count fits.
         let _held = self.held.len();
         let mut top = from;
         let mut back = from;
