@@ -37,7 +37,7 @@ pub record TellsFront (roster : ℕ) (facts : List Fact) (told : Reply) : Type 0
   pub is : told ≡ reply.Front front
 
 -- what the facts lack of the log
-pub record TellsGap (roster : ℕ) (log facts : List Fact) (told : Reply) : Type 0 where
+pub record TellsGapOf (roster : ℕ) (log facts : List Fact) (told : Reply) : Type 0 where
   pub p : Position
   pub position : IsPosition roster facts p
   pub gap : Option Gap
@@ -85,7 +85,7 @@ EndsStaging staged done told =
 abbrev pub RepliesAs : ℕ → List Fact → List Fact → List (List Fact) → Request → Reply → Type 0
 RepliesAs roster log facts staged (request.Take fact) told = (told ≡ reply.Memory) ⊎ TellsTake roster facts fact told
 RepliesAs roster log facts staged request.Front told = TellsFront roster facts told
-RepliesAs roster log facts staged request.Gap told = TellsGap roster log facts told
+RepliesAs roster log facts staged request.Gap told = TellsGapOf roster log facts told
 RepliesAs roster log facts staged (request.Read page point) told = TellsPage roster facts page point told
 RepliesAs roster log facts staged request.Ask told = (told ≡ reply.Memory) ⊎ TellsSummary roster facts told
 RepliesAs roster log facts staged (request.Answer summary) told = (told ≡ reply.Memory) ⊎ TellsDelta roster facts summary told

@@ -22,8 +22,8 @@ abbrev pub bytes_with : ℕ → ℕ → ℕ → ℕ
 bytes_with put len others = put + (4 + len) + 21 * others
 
 -- together these are within the limit, 64 MiB
-abbrev pub Fits : ℕ → ℕ → ℕ → Type 0
-Fits put len others = bytes_with put len others ≤ 2 ^ 26
+abbrev pub FitsFrame : ℕ → ℕ → ℕ → Type 0
+FitsFrame put len others = bytes_with put len others ≤ 2 ^ 26
 
 -- together these are above the limit
 abbrev pub Exceeds : ℕ → ℕ → ℕ → Type 0
@@ -38,6 +38,6 @@ pub record HasRoomFor (answers : AnswerFrames) (count : ℕ) : Type 0 where
 -- place. An answer that fits may be replaced by `memory` where it has more than 17 bytes.
 abbrev pub PutsAnswer : AnswerFrames → List ℕ → ℕ → AnswerFrames → Type 0
 PutsAnswer old text others new =
-    (Fits (length (bytes_put old)) (length text) others × (bytes_put new ≡ bytes_put old ++ framed text))
-    ⊎ ((Fits (length (bytes_put old)) (length text) others × (17 < length text) × (bytes_put new ≡ bytes_put old ++ framed (codes "memory")))
+    (FitsFrame (length (bytes_put old)) (length text) others × (bytes_put new ≡ bytes_put old ++ framed text))
+    ⊎ ((FitsFrame (length (bytes_put old)) (length text) others × (17 < length text) × (bytes_put new ≡ bytes_put old ++ framed (codes "memory")))
     ⊎ (Exceeds (length (bytes_put old)) (length text) others × (bytes_put new ≡ bytes_put old ++ framed (codes "long"))))

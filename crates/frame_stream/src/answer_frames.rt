@@ -2,7 +2,7 @@
 
 ghost use Rattle.std.specs.Prelude.{◌≡◌, ◌++◌, ◌+◌, ◌*◌, ◌≤◌, ◌<◌, ◌^◌, ◌↔◌, [], length, max, true, false, IfOk, IsTrue};
 ghost use Rattle.frame_stream.specs.Frames.{IsShort, framed};
-ghost use Rattle.frame_stream.specs.Inside.{Fits, HasRoomFor, PutsAnswer, bytes_put, room_in};
+ghost use Rattle.frame_stream.specs.Inside.{FitsFrame, HasRoomFor, PutsAnswer, bytes_put, room_in};
 
 use std::alloc::{AllocError, Global};
 
@@ -36,7 +36,7 @@ impl AnswerFrames {
     /// Whether an answer of so many bytes is within the limit, in front of so many short ones.
     fn fits(&self, len: usize, others: usize) -> bool
         requires { HasRoomFor self.now (others + 1) }
-        ensures { IsTrue result ↔ Fits (length (bytes_put self.now)) len others }
+        ensures { IsTrue result ↔ FitsFrame (length (bytes_put self.now)) len others }
     {
         let begun = self.bytes.len() + others * SURE_FRAME;
         len <= LIMIT - 4 - begun
@@ -45,7 +45,7 @@ impl AnswerFrames {
     /// Whether there is room for an answer that fits, in front of so many short ones; where it is a long one, room is taken.
     fn make_room(&mut self, len: usize, others: usize) -> bool
         requires room { HasRoomFor self.old (others + 1) }
-        requires fits { Fits (length (bytes_put self.old)) len others }
+        requires fits { FitsFrame (length (bytes_put self.old)) len others }
         ensures bytes { bytes_put self.new ≡ bytes_put self.old }
         ensures kept { HasRoomFor self.new (others + 1) }
         ensures free { result ≡ true → length (bytes_put self.old) + (4 + len) + 21 * others ≤ room_in self.new }

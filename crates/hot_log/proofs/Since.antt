@@ -13,13 +13,11 @@ use Rattle.hot_log.specs.Indexing.{AreHeldAbove}
 use Rattle.hot_log.proofs.Chain.{back_below}
 use Rattle.hot_log.proofs.Climb.{Rest, alive_key, positive}
 use Rattle.hot_log.proofs.Keyed.{Entry}
+use Rattle.hot_log.proofs.Places.{pair_or_not}
 
 -- ---- the key from which a search begins: that which parts the alive records at the number, or the first of the epoch
 pub parting_starts : (b : BookData) (number since epoch : ℕ) → PartsAt b number epoch → StartsAbove b number since (key_in epoch number)
 parting_starts b number since epoch parts = (λ e n a lt le. (parts.0 e n a).0 lt, λ e n a p. (parts.0 e n a).1 p)
-
-decided : (a b c d : ℕ) → PairBefore a b c d ⊎ (PairBefore a b c d → ⊥)
-decided a b c d = grind arith
 
 in_epoch : (since e n : ℕ) → since ≤ e → 0 < n → PairBefore since 0 e n
 in_epoch since e n le up = grind arith
@@ -30,7 +28,7 @@ first_starts b number since epoch parts up = (
   λ e n a p. (parts.0 e n a).1 (⊎_elim
       (λ (q : PairBefore epoch number since 0). pair_trans epoch number since 0 e n q p)
       (λ (no : PairBefore epoch number since 0 → ⊥). absurd (up no))
-      (decided epoch number since 0)),
+      (pair_or_not epoch number since 0)),
 )
 
 -- ---- what is alive above the number is above that key

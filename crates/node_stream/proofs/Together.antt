@@ -4,7 +4,7 @@ use Rattle.std.specs.Prelude.{codes}
 use Rattle.std.specs.List.{All, concat}
 use Rattle.std.proofs.lemmas.List.Elements.{All-nil, All-push}
 use Rattle.frame_stream.specs.Frames.{header, framed, IsShort, IsBegun}
-use Rattle.frame_stream.specs.Inside.{AreInside, Fits, HasRoomFor, PutsAnswer, bytes_put}
+use Rattle.frame_stream.specs.Inside.{AreInside, FitsFrame, HasRoomFor, PutsAnswer, bytes_put}
 use Rattle.frame_stream.specs.declared.answer_frames.AnswerFrames.{AnswerFrames}
 use Rattle.frame_stream.proofs.Answered.{joined}
 use Rattle.frame_stream.proofs.Headers.{length-header}
@@ -122,7 +122,7 @@ pub said : (mid : ReplicaData) (frame text : List ℕ) (new : ReplicaData) (answ
     × (bytes_put answers' ≡ bytes_put answers ++ framed told) × IsShort told
 said mid frame text new answers answers' others one reads short room (inl put) = (text, inl (put.0, one), put.1, short)
 said mid frame text new answers answers' others one reads short room (inr (inl put)) =
-    let fits : Fits (length (bytes_put answers)) 6 others = omega (arith, put.0, put.1) in
+    let fits : FitsFrame (length (bytes_put answers)) 6 others = omega (arith, put.0, put.1) in
     (codes "memory", inl (fits, lacking mid (by_frames.asks frame) text new (reads put.1)), put.2, omega arith)
 said mid frame text new answers answers' others one reads short room (inr (inr put)) =
     let long : 17 < length text = omega (arith, put.0, room.within) in

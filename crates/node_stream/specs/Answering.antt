@@ -1,6 +1,6 @@
 -- How a replica answers a line, and how a frame.
 use Rattle.std.specs.Prelude.{◌≡◌, ℕ, ◌+◌, ◌*◌, ◌<◌, ◌≤◌, ◌^◌, ◌⊎◌, List, [], ◌∷◌, length, Option, Some, None, Result, Ok, Err, codes}
-use Rattle.frame_stream.specs.Inside.{AreInside, Fits, Exceeds}
+use Rattle.frame_stream.specs.Inside.{AreInside, FitsFrame, Exceeds}
 use Rattle.replica.specs.Machine.{IsReply}
 use Rattle.replica.specs.Parts.{ReplicaData, IsUnchanged}
 use Rattle.replica.specs.Refused.{IsRefusal, IsAfterRefusal}
@@ -103,7 +103,7 @@ pub record IsOver (form : Spoken) (put others : ℕ) (old : ReplicaData) (bytes 
 -- the text answers one of many requests, as it would be answered alone; or it says that this answer exceeds the limit
 abbrev pub AnswersOneOf : Spoken → ℕ → ℕ → ReplicaData → List ℕ → List ℕ → ReplicaData → Type 0
 AnswersOneOf form put others old bytes text new =
-    (Fits put (length text) others × AnswersRequest form old bytes text new) ⊎ IsOver form put others old bytes text new
+    (FitsFrame put (length text) others × AnswersRequest form old bytes text new) ⊎ IsOver form put others old bytes text new
 
 -- the texts answer the requests, one after another, behind so many bytes of answers and in front of so many answers
 abbrev pub AnswersInTurn : Spoken → ℕ → ℕ → ReplicaData → List (List ℕ) → List (List ℕ) → ReplicaData → Type 0

@@ -87,10 +87,25 @@ pub(crate) fn start_rounders<
 {
     let gossipers = base.saturating_add(folds.len() as u64);
     start_folders(
-        rt, alloc, scope, nodes, gate, stop, base, folds, &mut started,
+        rt,
+        alloc,
+        scope,
+        nodes,
+        gate,
+        stop,
+        base,
+        folds,
+        &mut started,
     );
     start_gossipers(
-        rt, scope, nodes, gate, stop, gossipers, gossip, &mut started,
+        rt,
+        scope,
+        nodes,
+        gate,
+        stop,
+        gossipers,
+        gossip,
+        &mut started,
     );
     started
 }

@@ -19,7 +19,7 @@ use Rattle.epoch_book.specs.declared.refusals.Learnt.TheVariants as learnt
 use Rattle.epoch_book.specs.declared.refusals.BookRefusal.{BookRefusal}
 use Rattle.hot_log.specs.Alive.{IsHeldAlive}
 use Rattle.hot_log.specs.Removing.{Removes}
-use Rattle.segment_core.specs.Points.{HasPoints, HasLowAnchor, IsLaterBook, IsSpared, WerePoints}
+use Rattle.segment_core.specs.Points.{HasPoints, HasLowAnchor, IsLaterBook, IsSparedChain, WerePoints}
 use Rattle.segment_core.specs.declared.points.Points.{Points}
 use Rattle.segment_core.specs.declared.points.Spared.{Spared}
 use Rattle.segment_core.proofs.Moving.{Agree, points_over}
@@ -129,7 +129,7 @@ cut_is_later b c d (Err e) is next learns same = subst (IsLaterBook b) (sym same
 
 pub cut_had_points : (b c : BookData) (held : List RecordData) (base epoch : ℕ) (p : Points) (s : Spared) (d : CutData) (answer : Result Learnt BookRefusal)
     → IsBook b → IsBook c → OnOk answer (LearnsCut b d c) → OnErr answer (c ≡ b) → epoch ≡ b.complete → HasPoints b held base p
-    → (IsTrue p.straight → IsSpared b held base s) → WerePoints c held base epoch p s
+    → (IsTrue p.straight → IsSparedChain b held base s) → WerePoints c held base epoch p s
 cut_had_points b c held base epoch p s d answer is next learns same at has stays = record {
   earlier = b;
   later = cut_is_later b c d answer is next learns same;

@@ -1,5 +1,5 @@
 -- The kept points where epochs open.
-use Rattle.std.proofs.Common.{◌≡◌, ℕ, ◌+◌, ◌<◌, ◌≤◌, ◌⊎◌, ⊎_elim, List, sym, subst, arith, IsTrue, true, min, None, rules}
+use Rattle.std.proofs.Common.{◌≡◌, ℕ, ◌+◌, ◌<◌, ◌≤◌, ◌⊎◌, ⊎_elim, List, Bool, not, false, sym, subst, arith, IsTrue, true, min, None, rules}
 use Rattle.std.specs.List.{Contains}
 use Rattle.std.proofs.lemmas.Bool.{cases_lt}
 use Rattle.redo_core.specs.Data.{RecordData, CutData}
@@ -14,11 +14,14 @@ use Rattle.hot_log.specs.Alive.{HasNoneEarlier, IsHeldAlive, IsLinkedFrom, IsStr
 use Rattle.hot_log.proofs.Chain.{link_at_least, link_down}
 use Rattle.hot_log.proofs.Forks.{link_trans}
 use Rattle.hot_log.proofs.Views.{view_of}
-use Rattle.segment_core.specs.Points.{MoveOn, HasPoints, IsLaterBook, IsSpared, WerePoints, IsUntouched}
+use Rattle.segment_core.specs.Points.{MoveOn, HasPoints, IsLaterBook, IsSparedChain, WerePoints, IsUntouched}
 use Rattle.segment_core.specs.declared.points.Points.{Points}
 use Rattle.segment_core.specs.declared.points.Spared.{Spared}
 use Rattle.hot_log.proofs.Chain.{back_below}
 use Rattle.hot_log.proofs.Straight.{linked_above}
+
+pub flag_set : (b : Bool) → not b ≡ false → b ≡ true
+flag_set b h = search rules
 
 -- the points of a straight chain of book b, and a number that it links and that book c, which knows later epochs, leaves untouched
 pub record Opening (b c : BookData) (held : List RecordData) (base n : ℕ) (p : Points) : Type 0 where
@@ -254,12 +257,12 @@ none_earlier c held base epoch since p s were straight untouched fell stood r h 
 
 -- ---- the walk down from the end of a straight chain
 -- it is at a linked number, and what is linked up to the limit is not above it
-pub spared_start : (b : BookData) (held : List RecordData) (base limit : ℕ) (p : Points) → HasPoints b held base p → IsSpared b held base (record { limit = limit; number = p.complete })
+pub spared_start : (b : BookData) (held : List RecordData) (base limit : ℕ) (p : Points) → HasPoints b held base p → IsSparedChain b held base (record { limit = limit; number = p.complete })
 spared_start b held base limit p has = record { linked = has.complete.linked; most = λ m l le. has.complete.most m l }
 
 pub spared_step : (b : BookData) (held : List RecordData) (base limit n : ℕ) (p : Points) (r : RecordData) → IsBook b → IsHeld held → HasPoints b held base p → IsTrue p.straight
-    → base < n → limit < n → IsHeldAlive b held r → r.number ≡ n → IsSpared b held base (record { limit = limit; number = n })
-    → IsSpared b held base (record { limit = limit; number = r.back })
+    → base < n → limit < n → IsHeldAlive b held r → r.number ≡ n → IsSparedChain b held base (record { limit = limit; number = n })
+    → IsSparedChain b held base (record { limit = limit; number = r.back })
 spared_step b held base limit n p r book form has straight above over h at is =
     let down = λ (from : ℕ) (lt : from < r.number) (l : IsLinkedFrom b held from r.number). link_down b.cuts held b.complete from (view_of b book) form.rising r h.0 h.1 lt l in
     let linked : IsLinkedFrom b held base r.number = subst (IsLinkedFrom b held base) (sym at) is.linked in
@@ -271,6 +274,6 @@ spared_step b held base limit n p r book form has straight above over h at is =
     }
 
 -- a linked number above the base point is that of an alive record
-pub spared_record : (b : BookData) (held : List RecordData) (base limit n : ℕ) → base < n → IsSpared b held base (record { limit = limit; number = n })
+pub spared_record : (b : BookData) (held : List RecordData) (base limit n : ℕ) → base < n → IsSparedChain b held base (record { limit = limit; number = n })
     → (r : RecordData) × IsHeldAlive b held r × (r.number ≡ n)
 spared_record b held base limit n above is = linked_above b held base base (omega arith) n is.linked above

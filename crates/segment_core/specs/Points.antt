@@ -62,7 +62,7 @@ pub record IsLaterBook (old new : BookData) : Type 0 where
   pub minimum : least old.points ≤ least new.points
 
 -- the greatest number up to a limit that is linked from the base point; the base point itself may be above the limit
-pub record IsSpared (book : BookData) (held : List RecordData) (base : ℕ) (spared : Spared) : Type 0 where
+pub record IsSparedChain (book : BookData) (held : List RecordData) (base : ℕ) (spared : Spared) : Type 0 where
   pub linked : IsLinkedFrom book held base spared.number
   pub most : (m : ℕ) → IsLinkedFrom book held base m → m ≤ spared.limit → m ≤ spared.number
 
@@ -72,7 +72,7 @@ pub record WerePoints (book : BookData) (held : List RecordData) (base epoch : �
   pub later : IsLaterBook earlier book
   pub at : earlier.complete ≡ epoch
   pub had : HasPoints earlier held base points
-  pub stays : IsTrue points.straight → IsSpared earlier held base spared
+  pub stays : IsTrue points.straight → IsSparedChain earlier held base spared
 
 -- A number to which the epochs above one have done nothing: the limit is the least lo of their truncations, the number is not above it,
 -- and none of their alive records has a backlink below the number.

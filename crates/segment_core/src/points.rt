@@ -6,7 +6,7 @@ ghost use Rattle.epoch_book.specs.Book.{IsBook};
 ghost use Rattle.hot_log.specs.Alive.{HasNoneAbove, HasNoneEarlier, IsStraightEnd};
 ghost use Rattle.hot_log.specs.Held.{IsHeld};
 ghost use Rattle.hot_log.specs.Seen.{seen_in};
-ghost use Rattle.segment_core.specs.Points.{AnchorsOn, HasPoints, HasLowAnchor, IsSpared, IsTopTo, IsUntouched, JoinsOnTop, MayLink, Meets, MoveOn, WerePoints, points_at};
+ghost use Rattle.segment_core.specs.Points.{AnchorsOn, HasPoints, HasLowAnchor, IsSparedChain, IsTopTo, IsUntouched, JoinsOnTop, MayLink, Meets, MoveOn, WerePoints, points_at};
 
 use epoch_book::{EpochBook, Standing};
 use hot_log::View;
@@ -112,7 +112,7 @@ impl Points {
     /// they annul.
     pub(crate) fn spared(self, view: &View, base: u64, limit: u64) -> Spared
         requires { seen_in view.now HasPoints base self }
-        ensures { IsTrue self.straight → seen_in view.now IsSpared base result }
+        ensures { IsTrue self.straight → seen_in view.now IsSparedChain base result }
     {
         view.held.opens_form();
         view.book.opens_form();

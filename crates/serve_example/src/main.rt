@@ -1,5 +1,6 @@
 //! How `serve` is embedded: a node of a log is opened, fed and folded by threads, closed, and its receipts are settled.
 #![tactic(auto)]
+
 ghost use Rattle.std.specs.Prelude.{◌≡◌, ◌∷◌, [], length, IfOk};
 ghost use Rattle.front_board.specs.Seat.{IsNode};
 ghost use Rattle.node_cell.specs.Node.{IsPassOf};
@@ -142,7 +143,11 @@ fn main(rt: HostRuntime) -> io::Result<()> {
         }
     }
     let front = closed.segment().front();
-    println!(rt; "receipts {}, trail {}", receipts.len(), closed.trail().len())?;
+    println!(rt;
+        "receipts {}, trail {}",
+        receipts.len(),
+        closed.trail().len()
+    )?;
     println!(rt; "front {} {} {}", front.epoch, front.complete, front.min)?;
     match settle(&closed, receipts.as_slice()) {
         Ok(()) => println!(rt; "settled"),
