@@ -5,14 +5,14 @@ import subprocess
 
 import pytest
 
-from harness.nodes import frames_of, many
+from harness.nodes import many
 from model.wire import frame, framed
 
 LIMIT = 2**26  # bytes of the answers to one frame, each with its length
 SURE = 21  # bytes that are kept for each answer that is not known yet
 MOST = LIMIT // SURE  # requests in a frame
 PAGES = 1000  # in a delta of 4 MB
-ASKED = 300  # deltas that a frame of 10 kB asks for: more than 1 GB
+ASKED = 80  # deltas that a frame of 3 kB asks for: more than 320 MB
 SLACK = 16 * 1024  # kB that a run may hold beside the answers to one frame and what it holds without them
 EMPTY = bytes.fromhex("10 0000 000000000000 00000000 000000000000 00000000")  # the summary of a node that knows nothing
 
@@ -25,6 +25,17 @@ def record(number, page=7):
 
 def advance(point):
     return b"take \3\0\0" + point.to_bytes(6, "big")
+
+
+def frames_of(text):
+    """The frames of a text, in time that is linear in its bytes."""
+    told, at = [], 0
+    while at < len(text):
+        end = at + 4 + int.from_bytes(text[at : at + 4], "big")
+        told.append(text[at + 4 : end])
+        at = end
+    assert at == len(text)
+    return told
 
 
 def run(program, text, folder):
@@ -64,7 +75,7 @@ def test_long_answers_are_bounded(fleet_node, tmp_path):
     ask = b"answer " + EMPTY
     (_, delta), alone = run(fleet_node, setup + frame(ask), tmp_path)
     requests = many([*[ask] * ASKED, record(PAGES + 1), b"front", ask])
-    assert len(requests) < 12_000 and ASKED * len(delta) > 10**9
+    assert len(requests) < 4000 and ASKED * len(delta) > 320_000_000
     (_, told, larger), held = run(fleet_node, setup + requests + frame(ask), tmp_path)
     answers = [*[delta] * ASKED, b"changed", b"front 0 %d %d" % (PAGES + 1, PAGES), larger]
     assert difference(frames_of(told), cut_at_the_limit(answers)) is None
