@@ -25,7 +25,9 @@ pub fn run_folder<L: LogName + Send, G: Gate, R: Threads + Wait + Sync>(
     ensures room { vec_len result ≤ vec_len refusals + length rounds.now }
 {
     let mut turn = 1u64;
-    for batch in rounds.chunk_by(|one: &(u16, u16), next: &(u16, u16)| one.0 == next.0) {
+    let mut left = rounds;
+    while !left.is_empty() {
+        let (batch, rest) = left.split_at(batch_len(left));
         let job = Job {
             worker,
             kind: Kind::Fold,
@@ -33,8 +35,25 @@ pub fn run_folder<L: LogName + Send, G: Gate, R: Threads + Wait + Sync>(
         };
         run_batch(rt, alloc, nodes, gate, job, batch, &mut refusals);
         turn = turn.saturating_add(batch.len() as u64);
+        left = rest;
     }
     refusals
+}
+
+// How many rounds, from the first on, are of one node.
+fn batch_len(rounds: &[(u16, u16)]) -> usize
+    requires { 0 < length rounds.now }
+    ensures { (0 < result) × (result ≤ length rounds.now) }
+{
+    let (node, _) = rounds[0];
+    let mut count = 1usize;
+    for round in &rounds[1..] {
+        if round.0 != node {
+            break;
+        }
+        count += 1;
+    }
+    count
 }
 
 // Runs the rounds of a batch, all of one node.

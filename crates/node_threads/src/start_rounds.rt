@@ -83,7 +83,7 @@ pub(crate) fn start_rounders<
 ) -> Vec<Rounder>
     requires none { started.items ≡ [] }
     requires room { vec_len folds + vec_len gossip ≤ vec_capacity started }
-    ensures most { sum_by (most_listed (λ h. h.promise.rounds)) result.items ≤ sum_by (λ w. length w.rounds.now + 1) folds.items + sum_by (λ w. length w.rounds.now + 1) gossip.items }
+    ensures most { sum_by (most_listed (λ h. h.promise.rounds)) result.items ≤ sum_by (λ w. length w.rounds.now + 1) folds.entry.items + sum_by (λ w. length w.rounds.now + 1) gossip.entry.items }
 {
     let gossipers = base.saturating_add(folds.len() as u64);
     start_folders(
@@ -122,8 +122,8 @@ fn start_folders<'s, E, L: LogName + Send + Sync, G: Gate + Sync, R: Threads + W
     started: &mut Vec<Rounder>,
 )
     requires room { vec_len started.old + vec_len workers ≤ vec_capacity started.old }
-    ensures room { (vec_len started.new ≡ vec_len started.old + vec_len workers) × (vec_capacity started.new ≡ vec_capacity started.old) }
-    ensures most { sum_by (most_listed (λ h. h.promise.rounds)) started.new.items ≤ sum_by (most_listed (λ h. h.promise.rounds)) started.old.items + sum_by (λ w. length w.rounds.now + 1) workers.items }
+    ensures room { (vec_len started.new ≡ vec_len started.old + vec_len workers.entry) × (vec_capacity started.new ≡ vec_capacity started.old) }
+    ensures most { sum_by (most_listed (λ h. h.promise.rounds)) started.new.items ≤ sum_by (most_listed (λ h. h.promise.rounds)) started.old.items + sum_by (λ w. length w.rounds.now + 1) workers.entry.items }
 {
     let mut worker = base;
     for work in workers {
@@ -144,7 +144,7 @@ fn start_folder<'s, E, L: LogName + Send + Sync, G: Gate + Sync, R: Threads + Wa
     worker: u64,
     work: Rounds<'s>,
 ) -> Rounder
-    ensures { IfSome result (λ h. h.promise.rounds ≡ length work.rounds.now) }
+    ensures { IfSome result (λ h. h.promise.rounds ≡ length work.entry.rounds.now) }
 {
     let Rounds { rounds, refusals } = work;
     let promise = Lists {
@@ -172,7 +172,7 @@ fn start_gossipers<'s, E, L: LogName + Send + Sync, G: Gate + Sync, R: Wait + Sy
     started: &mut Vec<Rounder>,
 )
     requires room { vec_len started.old + vec_len workers ≤ vec_capacity started.old }
-    ensures most { sum_by (most_listed (λ h. h.promise.rounds)) started.new.items ≤ sum_by (most_listed (λ h. h.promise.rounds)) started.old.items + sum_by (λ w. length w.rounds.now + 1) workers.items }
+    ensures most { sum_by (most_listed (λ h. h.promise.rounds)) started.new.items ≤ sum_by (most_listed (λ h. h.promise.rounds)) started.old.items + sum_by (λ w. length w.rounds.now + 1) workers.entry.items }
 {
     let mut worker = base;
     for work in workers {
@@ -192,7 +192,7 @@ fn start_gossiper<'s, E, L: LogName + Send + Sync, G: Gate + Sync, R: Wait + Syn
     worker: u64,
     work: Rounds<'s>,
 ) -> Rounder
-    ensures { IfSome result (λ h. h.promise.rounds ≡ length work.rounds.now) }
+    ensures { IfSome result (λ h. h.promise.rounds ≡ length work.entry.rounds.now) }
 {
     let Rounds { rounds, refusals } = work;
     let promise = Lists {
