@@ -73,6 +73,29 @@ def dead_with_one_backlink(size):
     return script(facts, 1, *taken(facts))
 
 
+def reads_behind_dead(size):
+    """The same, and then as many reads of the page behind its annulled records."""
+    return [*dead_with_one_backlink(size), *["read 1 1 1 0 1"] * size]
+
+
+def cuts_below_dead(size):
+    """A database that fails again and again, each time with a truncation just below its one record since the last."""
+    facts = ["rec 0 1 0 1 0 -", "rec 0 3 1 1 1 -"]
+    for epoch in range(size):
+        facts += [f"cut {epoch + 1} {2 * epoch + 2} {2 * epoch + 3}", f"rec {epoch + 1} {2 * epoch + 5} 1 1 1 -"]
+    return script(facts, 1, *taken(facts))
+
+
+def cuts_below_two(size):
+    """The same with two records each time, of which the second one comes first."""
+    facts = ["rec 0 1 0 1 0 -"]
+    for epoch in range(size):
+        number = 4 * epoch + 3
+        facts += [f"rec {epoch} {number + 1} {number} 1 {number} -", f"rec {epoch} {number} 1 1 1 -"]
+        facts.append(f"cut {epoch + 1} {number - 1} {number + 1}")
+    return script(facts, 1, *taken(facts))
+
+
 def filled(pages):
     """A record that fills each page, and the advance that has them folded."""
     facts = [f"rec 0 {page + 1} {page} {page} 0 0:61" for page in range(pages)]
@@ -194,6 +217,9 @@ TASKS = {it.__name__: it for it in (
     absorbs_of_waiting,
     chain_of_dead,
     dead_with_one_backlink,
+    reads_behind_dead,
+    cuts_below_dead,
+    cuts_below_two,
     answers_again,
     images_joined,
     comparisons,
