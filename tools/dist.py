@@ -1,7 +1,7 @@
 #!/usr/bin/env python3
 """Packs the proved programs, the archive with its header, and the help pages into one file that runs without the toolchain.
 
-    dist.py [--to FOLDER]       dist/yieldcleat-VERSION-COMMIT-KIT.tar.gz
+    dist.py [--to FOLDER] [--as-built]      dist/yieldcleat-VERSION-COMMIT-KIT.tar.gz
 
 What is missing or older than its sources is built and proved first. Prints the path of the file.
 """
@@ -44,8 +44,10 @@ def add(archive, name, content, mode):
 def main():
     parser = argparse.ArgumentParser(description=__doc__, formatter_class=argparse.RawDescriptionHelpFormatter)
     parser.add_argument("--to", type=Path, default=ROOT / "dist", help="the folder of the packed file")
+    parser.add_argument("--as-built", action="store_true", help="pack what is there, whatever is newer")
     args = parser.parse_args()
-    subprocess.run([ROOT / "tools/build.py", "fleet", "fleet_node", "node_c"], check=True)
+    if not args.as_built:
+        subprocess.run([ROOT / "tools/build.py", "fleet", "fleet_node", "node_c"], check=True)
     version = printed(str(ROOT / FILES["bin/fleet"]), "--version").split()[-1]
     commit = printed("git", "describe", "--always", "--dirty")
     kit = printed("rt", "version")
