@@ -9,6 +9,8 @@ import pytest
 
 from harness import ROOT, answer
 
+pytestmark = pytest.mark.xdist_group("dist")  # which packs once
+
 
 @pytest.fixture(scope="module")
 def unpacked(request, tmp_path_factory):
