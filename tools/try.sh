@@ -4,8 +4,7 @@ here=$(CDPATH='' cd -- "$(dirname -- "$(readlink -f -- "$0")")/.." && pwd) || ex
 case $1 in
     run | check | inspect) crate=fleet arguments=$1 ;;
     node) crate=fleet_node arguments= ;;
-    --help) echo "usage: try.sh run|check|inspect|node FILE"; exit ;;
-    -h | --help) sed -n '2s/^# //p' "$0"; exit 0 ;;
+    -h | --help) echo "usage: try.sh run|check|inspect|node FILE"; exit ;;
     *) echo "usage: try.sh run|check|inspect|node FILE" >&2; exit 2 ;;
 esac
 input=$(readlink -f -- "$2") && [ -r "$input" ] || { echo "try.sh: cannot read $2" >&2; exit 2; }
