@@ -151,9 +151,12 @@ fn start_folder<'s, E, L: LogName + Send + Sync, G: Gate + Sync, R: Threads + Wa
         rounds: rounds.len(),
     };
     let handle = scope
-        .spawn_with(promise, move || {
-            run_folder(rt, alloc, nodes, gate, worker, rounds, refusals)
-        })
+        .spawn_with(
+            promise,
+            move || -> Vec<Refusal>
+                requires { vec_len refusals + length rounds.now ≤ vec_capacity refusals }
+            { run_folder(rt, alloc, nodes, gate, worker, rounds, refusals) },
+        )
         .ok();
     if handle.is_none() {
         let _ = stop.set(rt, worker);

@@ -1,7 +1,7 @@
-use Rattle.std.proofs.Common.{◌≡◌, ◌∙◌, sym, ap, subst, ◌-◌, length, Some}
+use Rattle.std.proofs.Common.{◌≡◌, ◌∙◌, sym, ap, subst, ◌-◌, length, Some, arith}
 use Rattle.std.specs.Prelude.{slice_get}
 use Rattle.node_cell.specs.Node.{IsPassOf}
-use Rattle.node_threads.specs.Work.{Names, NamesItem}
+use Rattle.node_threads.specs.Work.{Names, NamesItem, count_of}
 use Rattle.node_threads.proofs.Answers.{answered_same}
 use Rattle.node_threads.proofs.Places.{also_at, each_weaker, same_items}
 use Rattle.node_threads.proofs.serving.serve.Goals as goal
