@@ -1,0 +1,51 @@
+#!/usr/bin/env python3
+"""Builds the archive of `node_c` over the libraries that `rt ci` has built, and proves that crate on the way.
+
+    build_archive.py        crates/node_c/out/libnode_c.a
+
+`rt lib` in the crate's folder makes the same file, and proves again what is below it: `rt ci` keeps its proofs for itself.
+So this calls the prover as `rt` does, by the functions of `rt` itself. Status 1 where a library is missing or the crate is not proved.
+"""
+
+import importlib.machinery
+import importlib.util
+import os
+import shutil
+import sys
+from pathlib import Path
+
+ROOT = Path(__file__).resolve().parents[1]
+NAME = "node_c"
+
+
+def load_rt():
+    """The script `rt`, as a module."""
+    path = shutil.which("rt")
+    if path is None:
+        sys.exit("rt is not on the path; README.md says what is needed")
+    path = os.path.realpath(path)
+    sys.path.insert(0, os.path.dirname(path))
+    loader = importlib.machinery.SourceFileLoader("rt", path)
+    rt = importlib.util.module_from_spec(importlib.util.spec_from_loader("rt", loader))
+    loader.exec_module(rt)
+    return rt
+
+
+def main():
+    if sys.argv[1:]:
+        print(__doc__)
+        return 0
+    rt = load_rt()
+    rt.rtlib.Crate = rt.Crate
+    rt.Crate.allowed = rt.handles_of(str(ROOT))
+    rt.rtlib.guarded()
+    crate = next(it for it in rt.rtlib.crates_below(str(ROOT)) if it.name == NAME)
+    os.chdir(crate.folder)
+    os.makedirs("out", exist_ok=True)
+    words = [*crate.words(["--jobs", "1"], keeps=False), "--toolchain", f"{rt.KIT}/toolchain"]
+    status = crate.prove(["build", *words, "--backend", "llvm", "-o", f"out/lib{NAME}.a"])
+    return 1 if status else 0
+
+
+if __name__ == "__main__":
+    sys.exit(main())
