@@ -15,6 +15,8 @@ pytestmark = pytest.mark.xdist_group("dist")  # which packs once
 @pytest.fixture(scope="module")
 def unpacked(request, tmp_path_factory):
     """The folder that the packed file has, unpacked."""
+    if request.config.getoption("--bin"):
+        pytest.skip("packs what is in crates/, not what --bin names")
     for fixture in ("fleet", "fleet_node", "archive"):
         request.getfixturevalue(fixture)
     folder = tmp_path_factory.mktemp("dist")
