@@ -7,6 +7,7 @@
 So this calls the prover as `rt` does, by the functions of `rt` itself. Status 1 where a library is missing or the crate is not proved.
 """
 
+import argparse
 import importlib.machinery
 import importlib.util
 import os
@@ -32,9 +33,7 @@ def load_rt():
 
 
 def main():
-    if sys.argv[1:]:
-        print(__doc__)
-        return 0
+    argparse.ArgumentParser(description=__doc__, formatter_class=argparse.RawDescriptionHelpFormatter).parse_args()
     rt = load_rt()
     rt.rtlib.Crate = rt.Crate
     rt.Crate.allowed = rt.handles_of(str(ROOT))
