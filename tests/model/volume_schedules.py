@@ -59,6 +59,18 @@ class Schedule:
         for number in self.world.engines[engine].last - 1, self.world.engines[engine].last:
             self.give(engine, nodes, "take", having=lambda request: request[4][0] == "record" and request[4][2] == number)
 
+    def opened(self):
+        """An engine of generation 2 that has opened the volume over nodes 0 and 1."""
+        engine = self.start(2)
+        self.open(engine, [0, 1])
+        return engine
+
+    def committed(self, nodes=(0, 1)):
+        """The same, and a transaction of it whose records reached these nodes."""
+        engine = self.opened()
+        self.transaction(engine, nodes)
+        return engine
+
     def readmit(self, engine, i):
         self.give(engine, [i], "gossip")
         self.give(engine, [i], "admit")
@@ -86,8 +98,7 @@ def cut_of(epoch):
 
 def torn_transaction(s):
     """Half a transaction reaches node 0; the next engine recovers from it."""
-    a = s.start(2)
-    s.open(a, [0, 1])
+    a = s.opened()
     s.do("write", a, 1, 0)
     s.give(a, [0, 1], "take")
     b = s.start(3)
@@ -97,9 +108,7 @@ def torn_transaction(s):
 
 def fronts_of_two_epochs(s):
     """Node 2 is ahead by epoch and behind by records."""
-    a = s.start(2)
-    s.open(a, [0, 1])
-    s.transaction(a, [0, 1])
+    a = s.committed()
     s.give(a, [2], "fence")
     s.give(a, [2], "take", having=cut_of(1))
     b = s.start(3)
@@ -132,9 +141,7 @@ def pending_ignored(s):
 
 
 def repaired_by_gossip(s):
-    a = s.start(2)
-    s.open(a, [0, 1])
-    s.transaction(a, [0, 1])
+    s.committed()
     s.gossip_all([2], 2)
     s.do("wipe", 1)
     s.do("copy", 1, 2)
@@ -143,9 +150,7 @@ def repaired_by_gossip(s):
 
 
 def wiped_after_a_commit(s):
-    a = s.start(2)
-    s.open(a, [0, 1])
-    s.transaction(a, [0, 1])
+    s.committed()
     s.do("wipe", 1)
     b = s.start(3)
     s.open(b, [1, 2])
@@ -153,8 +158,7 @@ def wiped_after_a_commit(s):
 
 def last_record_alone(s):
     """A commit's last record reaches two nodes, the record before it none."""
-    a = s.start(2)
-    s.open(a, [0, 1])
+    a = s.opened()
     s.do("write", a, 1, 0)
     s.do("write", a, 1, 0)
     last = s.world.engines[a].last
@@ -165,9 +169,7 @@ def last_record_alone(s):
 
 def plain_fronts_after_a_fence(s):
     """Gossip brings a dead engine's records to nodes that the next engine has already asked."""
-    a = s.start(2)
-    s.open(a, [0, 1])
-    s.transaction(a, [])
+    a = s.committed([])
     b = s.start(3)
     s.known(b, [0, 1])
     s.gossip_all([0, 1])
@@ -191,18 +193,14 @@ def reported_late(s):
 
 
 def commits(s):
-    a = s.start(2)
-    s.open(a, [0, 1])
-    s.transaction(a, [0, 1])
+    a = s.committed()
     s.transaction(a, [0, 1])
     b = s.start(3)
     s.open(b, [1, 2])
 
 
 def admitted_behind(s):
-    a = s.start(2)
-    s.open(a, [0, 1])
-    s.transaction(a, [0, 1])
+    s.committed()
     s.do("wipe", 0)
     b = s.start(3)
     s.give(b, [0, 1, 2], "fence")
@@ -214,9 +212,7 @@ def admitted_behind(s):
 
 def old_admit(s):
     """Create's admit reaches a node that lost its files."""
-    a = s.start(2)
-    s.open(a, [0, 1])
-    s.transaction(a, [0, 1])
+    s.committed()
     s.do("wipe", 1)
     s.do("deliver", 1, ("admit", -1, 1, 1, 0, 0, None), "lost")
     b = s.start(3)
@@ -281,9 +277,7 @@ def old_acceptance(s):
 
 
 def advance_ahead(s):
-    a = s.start(2)
-    s.open(a, [0, 1])
-    s.transaction(a, [])
+    a = s.committed([])
     s.do("advance", a, True)
     b = s.start(3)
     s.open(b, [0, 1])
@@ -356,9 +350,7 @@ def pair_lost_by_an_admission(s):
 
 def front_of_an_older_epoch(s):
     """hi equals lo, so the numbers of two epochs overlap."""
-    a = s.start(2)
-    s.open(a, [0, 1])
-    s.transaction(a, [0, 1])
+    a = s.committed()
     s.give(a, [2], "fence")
     for number in 1, 2:
         s.give(a, [2], "take", having=lambda request: request[4][2] == number)
@@ -375,8 +367,7 @@ def front_of_an_older_epoch(s):
 
 def not_known_at_a_quorum(s):
     """A truncation keeps a commit that only one living node has."""
-    a = s.start(2)
-    s.open(a, [0, 1])
+    s.opened()
     s.transaction(a, [0])
     b = s.start(3)
     s.give(b, [0, 1], "fence")
