@@ -367,7 +367,7 @@ def front_of_an_older_epoch(s):
 
 def not_known_at_a_quorum(s):
     """A truncation keeps a commit that only one living node has."""
-    s.opened()
+    a = s.opened()
     s.transaction(a, [0])
     b = s.start(3)
     s.give(b, [0, 1], "fence")
