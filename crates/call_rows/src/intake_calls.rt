@@ -13,7 +13,7 @@ use std::io;
 use std::sync::Wait;
 use std::thread::Threads;
 
-/// Prints what a call answers, of an intake with one sender, a lock with two passes, or neither.
+/// Prints what a call answers, of an intake, a lock with two passes, or neither.
 pub fn answer<R: Threads + Wait + Sync>(
     rt: &R,
     lane: &mut Box<Lane>,

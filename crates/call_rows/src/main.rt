@@ -74,7 +74,7 @@ fn new_benches(alloc: Global, roster: Roster) -> Result<Benches, AllocError> {
         segments: boxed(alloc, segment_calls::new_bench(alloc, roster))?,
         messages: boxed(alloc, message_calls::new_bench(alloc, roster))?,
         nodes: new_nodes(alloc)?,
-        lane: open_lane(alloc, 1)?,
+        lane: open_lane(alloc, 1, 1)?,
         diaries: open_diaries(alloc)?,
     })
 }

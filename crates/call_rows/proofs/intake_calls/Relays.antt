@@ -1,11 +1,12 @@
 -- What is in turn from an only sender.
 use Rattle.std.proofs.Common.{◌≡◌, ℕ, ◌+◌, ◌<◌, ◌^◌, List, [], ◌∷◌, ◌++◌, length, sym, ap, subst, ◌∙◌, arith, Some, append_assoc, length-append}
-use Rattle.std.specs.Prelude.{slice_get}
+use Rattle.std.specs.Prelude.{slice_get, All}
 use Rattle.std.proofs.lemmas.List.{length-map}
 use Rattle.atomic_table.specs.Seated.{TableId}
 use Rattle.std.proofs.lemmas.List.Elements.{Contains-push}
 use Rattle.named_log.specs.Places.{PlacedFact}
 use Rattle.redo_core.proofs.Members.{none_in, here}
+use Rattle.redo_core.proofs.ByPlace.{index_of}
 use Rattle.intake_queue.specs.Parcel.{ParcelData, sent_by, parcel_facts, AreInTurn}
 use Rattle.intake_queue.specs.Ends.{SenderData, new_sender, AreNewSenders}
 use Rattle.intake_queue.specs.Heard.{HasAllHeard}
@@ -58,3 +59,9 @@ both_new intake made one other h is =
     let second : Some other ≡ Some (new_sender intake 2 2) = subst (λ xs. slice_get xs 1 ≡ Some (new_sender intake 2 2)) is (h.1 1 (omega arith)) in
     let one_is : one ≡ new_sender intake 2 1 = cc in
     let other_is : other ≡ new_sender intake 2 2 = cc in (ap (λ s. s.intake) one_is, ap (λ s. s.intake) other_is)
+
+-- all new senders are of the intake
+pub all_new : (intake : TableId) (senders : ℕ) (made : List SenderData) → AreNewSenders intake senders senders made → All (λ s. s.intake ≡ intake) made
+all_new intake senders made h k d within =
+    let here = h.1 k (omega (arith, within, h.0)) in
+    ap (λ s. s.intake) (index_of made k (new_sender intake senders (k + 1)) d here)

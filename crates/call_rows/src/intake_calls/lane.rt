@@ -1,16 +1,17 @@
-//! An intake with one sender.
-ghost use Rattle.std.specs.Prelude.{◌≡◌, ◌<◌, ◌≤◌, ◌++◌, [], IfOk, IfSome, vec_capacity};
+//! An intake with its senders and its taker.
+ghost use Rattle.std.specs.Prelude.{◌≡◌, ◌<◌, ◌≤◌, ◌++◌, All, length, IfOk, IfSome};
 ghost use Rattle.intake_queue.specs.Ends.{next_parcel, AreSendersOf};
 ghost use Rattle.intake_queue.specs.Left.{IsLeft};
 ghost use Rattle.intake_queue.specs.Parcel.{AreInTurn};
 
 use crate::Log;
-use crate::common::{in_box, only};
+use crate::common::in_box;
 use crate::intake_calls::relay::pass_through;
 use crate::keeping::or_fault;
-use intake_queue::{Intake, MAX_CAPACITY, Parcel, SenderPass, TakerPass};
+use intake_queue::{Full, Intake, MAX_CAPACITY, MAX_SENDERS, Parcel, SenderPass, TakerPass};
 use named_log::{LogFact, LogName};
-use row_words::Row;
+use redo_core::Refused;
+use row_words::{Row, size};
 use std::alloc::{AllocError, Global};
 use std::sync::Wait;
 use std::{io, mem};
@@ -18,27 +19,28 @@ use std::{io, mem};
 #[derive(Drop)]
 pub struct Lane {
     intake: Intake<Log>,
-    sender: SenderPass<Log>,
+    senders: Vec<SenderPass<Log>>,
     taker: TakerPass<Log>,
-    ghost own: { (sender.intake ≡ intake.id) × (taker.intake ≡ intake.id) },
+    ghost own: { All (λ s. s.intake ≡ intake.id) senders.items × (taker.intake ≡ intake.id) },
 }
 
-fn opened(alloc: Global, capacity: usize) -> Result<Lane, AllocError>
-    requires { (1 ≤ capacity) × (capacity ≤ MAX_CAPACITY) }
+fn opened(alloc: Global, senders: usize, capacity: usize) -> Result<Lane, AllocError>
+    requires senders { (1 ≤ senders) × (senders ≤ MAX_SENDERS) }
+    requires capacity { (1 ≤ capacity) × (capacity ≤ MAX_CAPACITY) }
 {
-    let (intake, senders, taker) = Intake::open(alloc, 1, capacity)?;
-    let sender = only(senders);
+    let (intake, senders, taker) = Intake::open(alloc, senders, capacity)?;
     Ok(Lane {
         intake,
-        sender,
+        senders,
         taker,
     })
 }
 
-pub fn open_lane(alloc: Global, capacity: usize) -> Result<Box<Lane>, AllocError>
-    requires { (1 ≤ capacity) × (capacity ≤ MAX_CAPACITY) }
+pub fn open_lane(alloc: Global, senders: usize, capacity: usize) -> Result<Box<Lane>, AllocError>
+    requires senders { (1 ≤ senders) × (senders ≤ MAX_SENDERS) }
+    requires capacity { (1 ≤ capacity) × (capacity ≤ MAX_CAPACITY) }
 {
-    in_box(alloc, opened(alloc, capacity)?)
+    in_box(alloc, opened(alloc, senders, capacity)?)
 }
 
 // The capacity that a line gives, where an intake may have it.
@@ -52,11 +54,16 @@ fn capacity(row: &Row) -> Option<usize>
     Some(capacity)
 }
 
+/// Opens an intake with the capacity and the number of senders that a line gives, one sender where it gives none.
 pub fn open_anew(lane: &mut Box<Lane>, row: &Row) -> io::Result<()> {
+    let senders = size(row.number_or(1, 1));
     let Some(capacity) = capacity(row) else {
         return row.unknown();
     };
-    *lane = open_lane(row.alloc, capacity)?;
+    if senders == 0 || senders > MAX_SENDERS {
+        return row.unknown();
+    }
+    *lane = open_lane(row.alloc, senders, capacity)?;
     row.done()
 }
 
@@ -74,62 +81,70 @@ fn parcel_at(
     }
 }
 
-/// Offers the fact at a place. The answer to a full intake is the number of the parcel that came back.
-pub fn offer<R: Wait>(rt: &R, lane: &mut Lane, row: &Row) -> io::Result<()> {
-    let Some(parcel) = parcel_at(row.alloc, &lane.sender, row.number(0))? else {
-        return row.unknown();
+type Offer = Result<(), Refused<Parcel<Log>, Full>>;
+
+// The sender offers the fact at a place; none where the log has no such place.
+fn offer_by<R: Wait>(
+    rt: &R,
+    alloc: Global,
+    intake: &Intake<Log>,
+    sender: &mut SenderPass<Log>,
+    place: u64,
+) -> Result<Option<Offer>, AllocError>
+    requires { sender.old.intake ≡ intake.now.id }
+    ensures { sender.new.intake ≡ intake.now.id }
+{
+    let Some(parcel) = parcel_at(alloc, sender, place)? else {
+        return Ok(None);
     };
-    match lane.intake.offer(rt, &mut lane.sender, parcel) {
-        Ok(()) => row.said("Accepted"),
-        Err(refused) => row.one("Full", &refused.value.number()),
+    Ok(Some(intake.offer(rt, sender, parcel)))
+}
+
+/// Offers the fact at a place by a sender, the first where the line gives none. The answer to a full intake is the parcel that came back.
+pub fn offer<R: Wait>(rt: &R, lane: &mut Lane, row: &Row) -> io::Result<()> {
+    let number = size(row.number_or(1, 1));
+    if number == 0 || number > lane.senders.len() {
+        return row.unknown();
+    }
+    let sender = &mut lane.senders[number - 1];
+    match offer_by(rt, row.alloc, &lane.intake, sender, row.number(0))? {
+        None => row.unknown(),
+        Some(Ok(())) => row.said("Accepted"),
+        Some(Err(refused)) => print_parcel(row, "Full", &refused.value),
     }
 }
 
 // Prints a parcel: its sender, its number, and the place of its fact.
-fn print_parcel(row: &Row, parcel: &Parcel<Log>) -> io::Result<()> {
+fn print_parcel(row: &Row, name: &str, parcel: &Parcel<Log>) -> io::Result<()> {
     let place = parcel.fact().place();
-    row.parts("Parcel", &(parcel.sender(), parcel.number(), place))
+    row.parts(name, &(parcel.sender(), parcel.number(), place))
 }
 
 // Prints parcels, a line each.
 fn print_parcels(row: &Row, parcels: &[Parcel<Log>]) -> io::Result<()> {
     for parcel in parcels {
-        print_parcel(row, parcel)?;
+        print_parcel(row, "Parcel", parcel)?;
     }
     Ok(())
 }
 
 pub fn take_next<R: Wait>(rt: &R, lane: &mut Lane, row: &Row) -> io::Result<()> {
     match lane.intake.take_next(rt, &mut lane.taker) {
-        Some(parcel) => print_parcel(row, &parcel),
+        Some(parcel) => print_parcel(row, "Parcel", &parcel),
         None => row.said("Empty"),
     }
 }
 
 /// Ends the intake, and opens one. The answer is what was left, in order.
 pub fn end<R: Wait>(rt: &R, lane: &mut Box<Lane>, row: &Row) -> io::Result<()> {
-    let ended = mem::replace(lane, open_lane(row.alloc, 1)?);
-    let room = Vec::with_capacity(row.alloc, 1)?;
-    let left = left_of(rt, row.alloc, Box::into_inner(ended), room)?;
-    print_parcels(row, left.as_slice())
-}
-
-// Ends the intake with its sender, which goes into an empty list: that is made before, so that no want of memory lets the intake go here.
-fn left_of<R: Wait>(
-    rt: &R,
-    alloc: Global,
-    lane: Lane,
-    mut senders: Vec<SenderPass<Log>>,
-) -> Result<Vec<Parcel<Log>>, AllocError>
-    requires { (senders.items ≡ []) × (0 < vec_capacity senders) }
-{
+    let ended = mem::replace(lane, open_lane(row.alloc, 1, 1)?);
     let Lane {
         intake,
-        sender,
+        senders,
         taker,
-    } = lane;
-    senders.push_reserved(sender);
-    left_at_end(rt, alloc, intake, senders, taker)
+    } = Box::into_inner(ended);
+    let left = left_at_end(rt, row.alloc, intake, senders, taker)?;
+    print_parcels(row, left.as_slice())
 }
 
 /// What is left in an intake that is ended.
