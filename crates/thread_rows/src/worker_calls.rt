@@ -1,14 +1,17 @@
 //! Rows of workers in threads: a line names a run and its numbers, and what comes of it is printed in several lines.
 ghost use Rattle.std.specs.Prelude.{◌<◌, ◌≤◌};
 
+mod diaries;
 mod floors;
 mod folds;
 mod gates;
+mod jobs;
 mod rounds;
 
 use crate::worker_calls::floors::{print_ends, print_plan};
 use crate::worker_calls::folds::print_folds;
 use crate::worker_calls::gates::{Order, Turnstile};
+use crate::worker_calls::jobs::{print_deliveries, print_jobs, print_rounds};
 use crate::worker_calls::rounds::{apart, exchange_and_fold, strangers};
 use fleet_drill::{MAX_NODES, MAX_WORKERS, Open};
 use row_words::Row;
@@ -26,6 +29,9 @@ pub fn answer<R: Threads + Wait + Sync>(rt: &R, row: &Row) -> io::Result<()> {
         "strangers" => strangers(rt, row),
         "apart" => apart(rt, row),
         "folds" => print_folds(rt, row),
+        "jobs" => print_jobs(rt, row),
+        "deliveries" => print_deliveries(rt, row),
+        "rounds" => print_rounds(rt, row),
         _ => of_floors(rt, row),
     }
 }

@@ -3,7 +3,7 @@ ghost use Rattle.std.specs.Prelude.{◌<◌, ◌≤◌};
 use crate::Log;
 use fleet_drill::{Open, Worked, close_all, join_all, open_floor, tell, work};
 use node_cell::Closed;
-use node_threads::{Plan, Refusal, serve};
+use node_threads::{Gate, Plan, Refusal, serve};
 use row_words::Row;
 use segment_core::Segment;
 use std::alloc::{AllocError, Global};
@@ -40,18 +40,19 @@ fn plan_of(
     })
 }
 
-// One folder and one gossiper run these rounds at nodes that have worked: what was refused.
-fn work_again<R: Threads + Wait + Sync>(
+/// One folder and one gossiper run these rounds under a gate, at nodes that have worked: what was refused.
+pub fn work_again<G: Gate + Sync, R: Threads + Wait + Sync>(
     rt: &R,
     alloc: Global,
     worked: &Worked<Log>,
     folds: &[Round],
     gossip: &[Round],
+    gate: &G,
 ) -> Result<Vec<Refusal>, AllocError> {
     let plan = plan_of(alloc, &[0], folds, gossip)?;
     let nodes = worked.nodes.as_slice();
     let (feeds, inlets) = (Vec::new(alloc), Vec::new(alloc));
-    match serve(rt, alloc, nodes, feeds, inlets, &worked.board, plan, &Open) {
+    match serve(rt, alloc, nodes, feeds, inlets, &worked.board, plan, gate) {
         Ok(served) => Ok(served.refusals),
         Err(_) => Err(AllocError),
     }
@@ -97,8 +98,8 @@ fn ask_and_fold<R: Threads + Wait + Sync>(
     alloc: Global,
     worked: &Worked<Log>,
 ) -> Result<usize, AllocError> {
-    let asked = work_again(rt, alloc, worked, &[], &[(2, 1)])?;
-    let folded = work_again(rt, alloc, worked, &[(1, 0)], &[])?;
+    let asked = work_again(rt, alloc, worked, &[], &[(2, 1)], &Open)?;
+    let folded = work_again(rt, alloc, worked, &[(1, 0)], &[], &Open)?;
     Ok(asked.len() + folded.len())
 }
 
@@ -117,13 +118,18 @@ fn name_strangers<R: Threads + Wait + Sync>(
 ) -> io::Result<usize> {
     let folds = [(0, 0), (3, 0), (1, 0)];
     let gossip = [(1, 3), (0, 1), (2, 1)];
-    let refusals = work_again(rt, row.alloc, worked, &folds, &gossip)?;
+    let refusals = work_again(rt, row.alloc, worked, &folds, &gossip, &Open)?;
     row.one("Strangers", &refusals)?;
     Ok(refusals.len())
 }
 
-// Closes the nodes, and prints how many rounds were refused, and what the nodes have.
-fn print_nodes<R: Wait>(rt: &R, row: &Row, worked: Worked<Log>, refused: usize) -> io::Result<()> {
+/// Closes the nodes, and prints how many rounds were refused, and what the nodes have.
+pub fn print_nodes<R: Wait>(
+    rt: &R,
+    row: &Row,
+    worked: Worked<Log>,
+    refused: usize,
+) -> io::Result<()> {
     let closed = close_all(rt, row.alloc, worked)?;
     row.one("Refused", &refused)?;
     print_fronts(row, closed.as_slice())
